@@ -1,0 +1,188 @@
+-- An evaluation as a whole goes on by every move.
+use Rattle.std.proofs.Common.{◌≡◌, ◌≢◌, ℕ, ◌+◌, ◌<◌, ◌≤◌, Bool, true, false, List, [], ◌∷◌, None, refl, sym, ◌∙◌, subst, arith}
+use Rattle.search_parts.specs.declared.context.Request.{Request}
+use Rattle.search_parts.specs.declared.context.Reply.{Reply}
+use Rattle.search_parts.specs.declared.context.Reply.TheVariants.{Begin}
+use Rattle.search_parts.specs.Rank.{frames_within}
+use Rattle.search_parts.specs.Run.{fault_after}
+use Rattle.evaluations.specs.Frames.{Frame, Outcome, fresh, stepped, replied, answered, refused, released, run_again, Asks, IsAllowed}
+use Rattle.evaluations.specs.Plain.{IsPlainTo, IsSafeOutcome, Leaves}
+use Rattle.evaluations.specs.Starts.{Spends}
+use Rattle.evaluations.specs.Price.{IsPriced}
+use Rattle.evaluations.specs.Evaluation.{State, at, Limits, IsStarted, Move, Pushed, Noted, Ignored, Answered, Refused, RunAgain, Popped, PoppedAtLimit, Moves, NoMove, MoreMoves, IsRooted, IsEvaluating, GoesOn, Ends, Stops}
+use Rattle.evaluations.proofs.Plains.{push_keeps_safe, step_keeps_safe, reply_keeps_safe, answer_keeps_safe, refusal_keeps_safe, release_keeps_safe, rerun_keeps_safe, pop_keeps_safe, left_is_safe, fitting_is_plain, push_keeps_room, room_is_enough}
+use Rattle.evaluations.proofs.Counts.{step_spends, question_spends, rerun_spends, pop_spends, first_stays_within, move_stays_within, starts_are_within}
+use Rattle.evaluations.proofs.Prices.{first_is_priced, push_keeps_priced, step_keeps_priced, reply_keeps_priced, answer_keeps_priced, release_keeps_priced, rerun_keeps_priced, pop_keeps_priced, later_keeps_priced, refusal_is_paid, last_run_is_paid}
+
+module _ {I R : Type 0} (scripts : I → List (Reply R) → Request I R) (limits : Limits) (is_counted : Type 0) (top : I) where
+  rooted_with : (f g : Frame I R) (below : List (Frame I R)) → g.goal ≡ f.goal → g.available ≡ f.available → IsRooted top limits.root (f ∷ below) → IsRooted top limits.root (g ∷ below)
+  rooted_with f g [] same deep h = (same ∙ h.0, deep ∙ h.1)
+  rooted_with f g (e ∷ below) same deep h = h
+
+  pub root_is_evaluating : (first now : ℕ) (met : Bool) → 1 ≤ limits.runs → first ≤ limits.width → IsStarted limits.last is_counted limits.before now → (is_counted → met ≡ false) → IsEvaluating scripts limits is_counted top (limits.before + frames_within limits.runs limits.width limits.root) (at (replied (fresh top limits.root first) Begin ∷ []) now met)
+  root_is_evaluating first now met some fits started unmet = record {
+    rooted = (refl, refl);
+    safe = reply_keeps_safe scripts (fresh top limits.root first) [] Begin tt (push_keeps_safe scripts [] top limits.root first tt tt);
+    room = λ n p enough. ((n, p, enough), tt);
+    within = first_stays_within I R limits.runs limits.width limits.before now top limits.root first some fits started.at_most;
+    priced = λ c. subst (λ m. IsPriced {I = I} {R = R} limits.runs limits.root limits.last limits.before now m (replied (fresh top limits.root first) Begin ∷ [])) (sym (unmet c))
+        (reply_keeps_priced I R limits.runs limits.root limits.last limits.before now false (fresh top limits.root first) [] Begin (first_is_priced I R limits.runs limits.root limits.last limits.before now top first (started.exactly c)));
+  }
+
+  popped_priced : (starts : ℕ) (met : Bool) (child f : Frame I R) (below : List (Frame I R)) (o : Outcome R) → Leaves scripts child o → IsPriced limits.runs limits.root limits.last limits.before starts met (child ∷ f ∷ below) → IsPriced limits.runs limits.root limits.last limits.before starts met (answered f o ∷ below)
+  popped_priced starts met child f below o leaves h =
+      let w = pop_keeps_priced I R limits.runs limits.root limits.last limits.before starts met child (f ∷ below) h in
+      answer_keeps_priced I R limits.runs limits.root limits.last limits.before starts met f below o (λ e. leaves.met_overflow ∙ w.1 e) w.0
+
+  module _ (bound : ℕ) (some : 1 ≤ limits.runs) where
+    pub move_goes_on : (old new : State I R) → Move scripts limits is_counted old new → IsEvaluating scripts limits is_counted top bound old → GoesOn scripts limits is_counted top bound old new
+    move_goes_on old new (Pushed {f = f} {below = below} {goal = goal} {depth = depth} {left = left} {first = first} {starts = starts} {now = now} {met = met} less asks allowed fits started) h =
+        let spent = question_spends I R limits.runs limits.width f below goal depth left first some allowed.is_less less fits in
+        let kept = step_keeps_safe scripts f below left h.safe in
+        let again : IsAllowed (stepped f left) depth = record { is_less = allowed.is_less; is_next = allowed.is_next } in
+        record {
+          evaluating = record {
+            rooted = rooted_with f (stepped f left) below refl refl h.rooted;
+            safe = reply_keeps_safe scripts (fresh goal depth first) (stepped f left ∷ below) Begin tt (push_keeps_safe scripts (stepped f left ∷ below) goal depth first (asks, again) kept);
+            room = λ n p enough. push_keeps_room scripts (stepped f left) below goal depth first asks again kept (h.room n p enough);
+            within = move_stays_within I R limits.runs limits.width bound starts now 1 (f ∷ below) (fresh goal depth first ∷ stepped f left ∷ below) spent started.at_most h.within;
+            priced = λ c. reply_keeps_priced I R limits.runs limits.root limits.last limits.before now met (fresh goal depth first) (stepped f left ∷ below) Begin
+                (push_keeps_priced I R limits.runs limits.root limits.last limits.before starts now met (stepped f left) below goal depth first again (started.exactly c)
+                (step_keeps_priced I R limits.runs limits.root limits.last limits.before starts met f below left (h.priced c)));
+          };
+          falls = spent.steps;
+        }
+    move_goes_on old new (Noted {f = f} {below = below} {left = left} {starts = starts} {met = met} {reply = reply} less fits) h =
+        let spent = step_spends I R limits.runs limits.width f below left less in
+        record {
+          evaluating = record {
+            rooted = rooted_with f (replied (stepped f left) reply) below refl refl h.rooted;
+            safe = reply_keeps_safe scripts (stepped f left) below reply fits (step_keeps_safe scripts f below left h.safe);
+            room = h.room;
+            within = move_stays_within I R limits.runs limits.width bound starts starts 0 (f ∷ below) (stepped f left ∷ below) spent (omega arith) h.within;
+            priced = λ c. reply_keeps_priced I R limits.runs limits.root limits.last limits.before starts met (stepped f left) below reply
+                (step_keeps_priced I R limits.runs limits.root limits.last limits.before starts met f below left (h.priced c));
+          };
+          falls = spent.steps;
+        }
+    move_goes_on old new (Ignored {f = f} {below = below} {left = left} {starts = starts} {met = met} {reply = reply} less fits) h =
+        let spent = step_spends I R limits.runs limits.width f below left less in
+        record {
+          evaluating = record {
+            rooted = rooted_with f (released (replied (stepped f left) reply)) below refl refl h.rooted;
+            safe = release_keeps_safe scripts (replied (stepped f left) reply) below (reply_keeps_safe scripts (stepped f left) below reply fits (step_keeps_safe scripts f below left h.safe));
+            room = h.room;
+            within = move_stays_within I R limits.runs limits.width bound starts starts 0 (f ∷ below) (stepped f left ∷ below) spent (omega arith) h.within;
+            priced = λ c. release_keeps_priced I R limits.runs limits.root limits.last limits.before starts met (replied (stepped f left) reply) below
+                (reply_keeps_priced I R limits.runs limits.root limits.last limits.before starts met (stepped f left) below reply
+                (step_keeps_priced I R limits.runs limits.root limits.last limits.before starts met f below left (h.priced c)));
+          };
+          falls = spent.steps;
+        }
+    move_goes_on old new (Answered {f = f} {below = below} {goal = goal} {depth = depth} {left = left} {starts = starts} {met = met} {o = o} less asks allowed outcome calm) h =
+        let spent = step_spends I R limits.runs limits.width f below left less in
+        record {
+          evaluating = record {
+            rooted = rooted_with f (answered (stepped f left) o) below refl refl h.rooted;
+            safe = answer_keeps_safe scripts (stepped f left) below goal depth o asks (record { is_less = allowed.is_less; is_next = allowed.is_next }) outcome (step_keeps_safe scripts f below left h.safe);
+            room = h.room;
+            within = move_stays_within I R limits.runs limits.width bound starts starts 0 (f ∷ below) (stepped f left ∷ below) spent (omega arith) h.within;
+            priced = λ c. answer_keeps_priced I R limits.runs limits.root limits.last limits.before starts met (stepped f left) below o (calm c)
+                (step_keeps_priced I R limits.runs limits.root limits.last limits.before starts met f below left (h.priced c));
+          };
+          falls = spent.steps;
+        }
+    move_goes_on old new (Refused {f = f} {below = below} {goal = goal} {left = left} {starts = starts} {met = met} {r = r} less asks none) h =
+        let spent = step_spends I R limits.runs limits.width f below left less in
+        record {
+          evaluating = record {
+            rooted = rooted_with f (refused (stepped f left) r) below refl refl h.rooted;
+            safe = refusal_keeps_safe scripts (stepped f left) below goal r asks none (step_keeps_safe scripts f below left h.safe);
+            room = h.room;
+            within = move_stays_within I R limits.runs limits.width bound starts starts 0 (f ∷ below) (stepped f left ∷ below) spent (omega arith) h.within;
+            priced = λ c. refusal_is_paid I R limits.runs limits.root limits.last limits.before starts met (stepped f left) below r none
+                (step_keeps_priced I R limits.runs limits.root limits.last limits.before starts met f below left (h.priced c));
+          };
+          falls = spent.steps;
+        }
+    move_goes_on old new (RunAgain {f = f} {below = below} {left = left} {first = first} {starts = starts} {now = now} {met = met} less again fits started) h =
+        let spent = rerun_spends I R limits.runs limits.width f below left first again less fits in
+        record {
+          evaluating = record {
+            rooted = rooted_with f (replied (run_again (stepped f left) first) Begin) below refl refl h.rooted;
+            safe = reply_keeps_safe scripts (run_again (stepped f left) first) below Begin tt (rerun_keeps_safe scripts (stepped f left) below first (step_keeps_safe scripts f below left h.safe));
+            room = h.room;
+            within = move_stays_within I R limits.runs limits.width bound starts now 1 (f ∷ below) (run_again (stepped f left) first ∷ below) spent started.at_most h.within;
+            priced = λ c. reply_keeps_priced I R limits.runs limits.root limits.last limits.before now met (run_again (stepped f left) first) below Begin
+                (rerun_keeps_priced I R limits.runs limits.root limits.last limits.before starts now met (stepped f left) below first (started.exactly c)
+                (step_keeps_priced I R limits.runs limits.root limits.last limits.before starts met f below left (h.priced c)));
+          };
+          falls = spent.steps;
+        }
+    move_goes_on old new (Popped {child = child} {f = f} {below = below} {left = left} {starts = starts} {met = met} {o = o} less leaves) h =
+        let spent = pop_spends I R limits.runs limits.width child (f ∷ below) left less in
+        record {
+          evaluating = record {
+            rooted = rooted_with f (answered f o) below refl refl h.rooted;
+            safe = pop_keeps_safe scripts child f below o leaves h.safe;
+            room = λ n p enough. (h.room n p enough).1;
+            within = move_stays_within I R limits.runs limits.width bound starts starts 0 (child ∷ f ∷ below) (f ∷ below) spent (omega arith) h.within;
+            priced = λ c. popped_priced starts met child f below o leaves (h.priced c);
+          };
+          falls = spent.steps;
+        }
+    move_goes_on old new (PoppedAtLimit {child = child} {f = f} {below = below} {left = left} {starts = starts} {met = met} {o = o} less leaves last_run) h =
+        let spent = pop_spends I R limits.runs limits.width child (f ∷ below) left less in
+        record {
+          evaluating = record {
+            rooted = rooted_with f (answered f o) below refl refl h.rooted;
+            safe = pop_keeps_safe scripts child f below o leaves h.safe;
+            room = λ n p enough. (h.room n p enough).1;
+            within = move_stays_within I R limits.runs limits.width bound starts starts 0 (child ∷ f ∷ below) (f ∷ below) spent (omega arith) h.within;
+            priced = λ c. popped_priced starts true child f below o leaves (last_run_is_paid I R limits.runs limits.root limits.last limits.before starts met child (f ∷ below) last_run (h.priced c));
+          };
+          falls = spent.steps;
+        }
+
+  pub last_frame_ends : (bound starts : ℕ) (met : Bool) (f : Frame I R) (o : Outcome R) → Leaves scripts f o → IsEvaluating scripts limits is_counted top bound (at (f ∷ []) starts met) → Ends scripts limits is_counted top bound starts met o
+  last_frame_ends bound starts met f o leaves h =
+      let safe = subst (λ d. IsSafeOutcome scripts top d o) h.rooted.1 (subst (λ g. IsSafeOutcome scripts g f.available o) h.rooted.0 (left_is_safe scripts f o leaves h.safe.0)) in
+      record {
+        safe = safe;
+        plain = λ n p fits. fitting_is_plain scripts top limits.root n o p fits safe;
+        within = starts_are_within I R limits.runs limits.width bound starts (f ∷ []) h.within;
+        paid = λ c e. (h.priced c).paid e;
+      }
+
+  pub last_run_ends : (bound starts : ℕ) (met : Bool) (f : Frame I R) (o : Outcome R) → limits.runs ≤ f.finished_runs + 1 → Leaves scripts f o → IsEvaluating scripts limits is_counted top bound (at (f ∷ []) starts met) → Ends scripts limits is_counted top bound starts true o
+  last_run_ends bound starts met f o last_run leaves h = last_frame_ends bound starts true f o leaves (record {
+    rooted = h.rooted;
+    safe = h.safe;
+    room = h.room;
+    within = h.within;
+    priced = λ c. last_run_is_paid I R limits.runs limits.root limits.last limits.before starts met f [] last_run (h.priced c);
+  })
+
+  pub evaluation_stops : (bound : ℕ) (s : State I R) → IsEvaluating scripts limits is_counted top bound s → Stops scripts limits is_counted bound s.starts s.limits_met
+  evaluation_stops bound s h = record { within = starts_are_within I R limits.runs limits.width bound s.starts s.frames h.within; paid = λ c e. (h.priced c).paid e }
+
+  pub failed_start_stops : (bound now : ℕ) (s : State I R) (new : List (Frame I R)) → Spends limits.runs limits.width 1 s.frames new → s.starts ≤ now → now ≤ s.starts + 1 → IsEvaluating scripts limits is_counted top bound s → Stops scripts limits is_counted bound now s.limits_met
+  failed_start_stops bound now s new spends more one h = record {
+    within = starts_are_within I R limits.runs limits.width bound now new (move_stays_within I R limits.runs limits.width bound s.starts now 1 s.frames new spends one h.within);
+    paid = λ c e. (later_keeps_priced I R limits.runs limits.root limits.last limits.before s.starts now s.limits_met s.frames more (h.priced c)).paid e;
+  }
+
+  pub moves_go_on : (bound : ℕ) → 1 ≤ limits.runs → (old new : State I R) → Moves scripts limits is_counted old new → IsEvaluating scripts limits is_counted top bound old → IsEvaluating scripts limits is_counted top bound new
+  moves_go_on bound some old new NoMove h = h
+  moves_go_on bound some old new (MoreMoves {t = t} moves move) h = (move_goes_on bound some t new move (moves_go_on bound some old t moves h)).evaluating
+
+  pub evaluation_ends : (first now starts : ℕ) (was met : Bool) (f : Frame I R) (o : Outcome R) → 1 ≤ limits.runs → first ≤ limits.width → IsStarted limits.last is_counted limits.before now → (is_counted → was ≡ false) → Moves scripts limits is_counted (at (replied (fresh top limits.root first) Begin ∷ []) now was) (at (f ∷ []) starts met) → Leaves scripts f o → Ends scripts limits is_counted top (limits.before + frames_within limits.runs limits.width limits.root) starts met o
+  evaluation_ends first now starts was met f o some fits started unmet moves leaves =
+      last_frame_ends (limits.before + frames_within limits.runs limits.width limits.root) starts met f o leaves
+      (moves_go_on (limits.before + frames_within limits.runs limits.width limits.root) some (at (replied (fresh top limits.root first) Begin ∷ []) now was) (at (f ∷ []) starts met) moves
+      (root_is_evaluating first now was some fits started unmet))
+
+  pub fitting_meets_no_limit : (bound n : ℕ) (f : Frame I R) (below : List (Frame I R)) (starts : ℕ) (met : Bool) → IsPlainTo scripts n top → n ≤ limits.root → IsEvaluating scripts limits is_counted top bound (at (f ∷ below) starts met) → ((goal : I) → Asks scripts f goal → 0 < f.available) × (f.in_cycle ≡ false) × (f.met_overflow ≡ false) × (fault_after (scripts f.goal) f.replies ≡ None)
+  fitting_meets_no_limit bound n f below starts met p fits h =
+      let w = room_is_enough scripts f h.safe.0 (h.room n p fits).0 in
+      (λ goal asks. let some : f.available ≢ 0 = w.0 goal asks in omega arith, w.3, w.1, w.4)

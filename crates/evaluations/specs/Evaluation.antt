@@ -1,0 +1,108 @@
+-- An evaluation as a whole: its moves, and what holds between them. In each state the newest frame is about to take a step,
+-- with its newest reply.
+use Rattle.std.specs.Prelude.{◌≡◌, ℕ, ◌+◌, ◌<◌, ◌≤◌, Bool, true, false, List, [], ◌∷◌}
+use Rattle.search_parts.specs.declared.context.Request.{Request}
+use Rattle.search_parts.specs.declared.context.Reply.{Reply}
+use Rattle.search_parts.specs.declared.context.Reply.TheVariants.{Begin}
+use Rattle.search_parts.specs.Delegate.{CountsOne}
+use Rattle.search_parts.specs.Rank.{IsPlainValue}
+use Rattle.search_parts.specs.Run.{request_after, IsReplyTo}
+use Rattle.evaluations.specs.Frames.{Frame, Outcome, fresh, stepped, replied, answered, refused, released, run_again, Asks, IsAllowed}
+use Rattle.evaluations.specs.Plain.{IsPlainTo, IsSafeOutcome, AreSafe, Leaves, HaveRoom}
+use Rattle.evaluations.specs.Starts.{StaysWithin, steps_ahead}
+use Rattle.evaluations.specs.Price.{IsPriced, IsPaid}
+
+pub record State (I R : Type 0) : Type 0 where
+  pub frames : List (Frame I R)
+  pub starts : ℕ
+  pub limits_met : Bool
+
+abbrev pub at : {I R : Type 0} → List (Frame I R) → ℕ → Bool → State I R
+at frames starts limits_met = record { frames = frames; starts = starts; limits_met = limits_met }
+
+-- the numbers of an evaluation: runs of a goal, steps of a frame, depth of the root, where the count of starts ends, and what
+-- it was before
+pub record Limits : Type 0 where
+  pub runs : ℕ
+  pub width : ℕ
+  pub root : ℕ
+  pub last : ℕ
+  pub before : ℕ
+
+-- a frame was started; where starts are counted, it counts one
+pub record IsStarted (last : ℕ) (is_counted : Type 0) (starts now : ℕ) : Type 0 where
+  pub at_most : now ≤ starts + 1
+  pub exactly : is_counted → CountsOne last starts now
+
+-- the oldest frame has this goal and this depth
+abbrev pub IsRooted : {I R : Type 0} → I → ℕ → List (Frame I R) → Type 0
+IsRooted top root [] = ⊥
+IsRooted top root (f ∷ []) = (f.goal ≡ top) × (f.available ≡ root)
+IsRooted top root (f ∷ g ∷ below) = IsRooted top root (g ∷ below)
+
+-- `is_counted`: each start counts one, and before the evaluation no limit was met and no overflow result was stored
+module _ {I R : Type 0} (scripts : I → List (Reply R) → Request I R) (limits : Limits) (is_counted : Type 0) where
+  pub data Move : State I R → State I R → Type 0 where
+    Pushed :
+        {f : Frame I R} {below : List (Frame I R)} {goal : I} {depth left first starts now : ℕ} {met : Bool}
+        → left < f.left → Asks scripts f goal → IsAllowed f depth → first ≤ limits.width → IsStarted limits.last is_counted starts now
+        → Move (at (f ∷ below) starts met) (at (replied (fresh goal depth first) Begin ∷ stepped f left ∷ below) now met)
+    Noted :
+        {f : Frame I R} {below : List (Frame I R)} {left starts : ℕ} {met : Bool} {reply : Reply R}
+        → left < f.left → IsReplyTo (λ _ _. ⊥) (request_after (scripts f.goal) f.replies) reply
+        → Move (at (f ∷ below) starts met) (at (replied (stepped f left) reply ∷ below) starts met)
+    Ignored :
+        {f : Frame I R} {below : List (Frame I R)} {left starts : ℕ} {met : Bool} {reply : Reply R}
+        → left < f.left → IsReplyTo (λ _ _. ⊥) (request_after (scripts f.goal) f.replies) reply
+        → Move (at (f ∷ below) starts met) (at (released (replied (stepped f left) reply) ∷ below) starts met)
+    Answered :
+        {f : Frame I R} {below : List (Frame I R)} {goal : I} {depth left starts : ℕ} {met : Bool} {o : Outcome R}
+        → left < f.left → Asks scripts f goal → IsAllowed f depth → IsSafeOutcome scripts goal depth o
+        → (is_counted → met ≡ false → o.met_overflow ≡ false)
+        → Move (at (f ∷ below) starts met) (at (answered (stepped f left) o ∷ below) starts met)
+    Refused :
+        {f : Frame I R} {below : List (Frame I R)} {goal : I} {left starts : ℕ} {met : Bool} {r : R}
+        → left < f.left → Asks scripts f goal → f.available ≡ 0
+        → Move (at (f ∷ below) starts met) (at (refused (stepped f left) r ∷ below) starts true)
+    RunAgain :
+        {f : Frame I R} {below : List (Frame I R)} {left first starts now : ℕ} {met : Bool}
+        → left < f.left → f.finished_runs + 1 < limits.runs → first ≤ limits.width → IsStarted limits.last is_counted starts now
+        → Move (at (f ∷ below) starts met) (at (replied (run_again (stepped f left) first) Begin ∷ below) now met)
+    Popped :
+        {child f : Frame I R} {below : List (Frame I R)} {left starts : ℕ} {met : Bool} {o : Outcome R}
+        → left < child.left → Leaves scripts child o
+        → Move (at (child ∷ f ∷ below) starts met) (at (answered f o ∷ below) starts met)
+    PoppedAtLimit :
+        {child f : Frame I R} {below : List (Frame I R)} {left starts : ℕ} {met : Bool} {o : Outcome R}
+        → left < child.left → Leaves scripts child o → limits.runs ≤ child.finished_runs + 1
+        → Move (at (child ∷ f ∷ below) starts met) (at (answered f o ∷ below) starts true)
+
+  -- a run of moves
+  pub data Moves : State I R → State I R → Type 0 where
+    NoMove : {s : State I R} → Moves s s
+    MoreMoves : {s t u : State I R} → Moves s t → Move t u → Moves s u
+
+  -- what holds between two moves of an evaluation of the goal `top`
+  pub record IsEvaluating (top : I) (bound : ℕ) (s : State I R) : Type 0 where
+    pub rooted : IsRooted top limits.root s.frames
+    pub safe : AreSafe scripts s.frames
+    pub room : (n : ℕ) → IsPlainTo scripts n top → n ≤ limits.root → HaveRoom scripts s.frames
+    pub within : StaysWithin limits.runs limits.width bound s.starts s.frames
+    pub priced : is_counted → IsPriced limits.runs limits.root limits.last limits.before s.starts s.limits_met s.frames
+
+  -- what a loop over the moves needs of each
+  pub record GoesOn (top : I) (bound : ℕ) (old new : State I R) : Type 0 where
+    pub evaluating : IsEvaluating top bound new
+    pub falls : steps_ahead limits.runs limits.width new.frames < steps_ahead limits.runs limits.width old.frames
+
+  -- the promises at the end
+  pub record Ends (top : I) (bound starts : ℕ) (limits_met : Bool) (o : Outcome R) : Type 0 where
+    pub safe : IsSafeOutcome scripts top limits.root o
+    pub plain : (n : ℕ) → IsPlainTo scripts n top → n ≤ limits.root → IsPlainValue scripts n top o.result × (o.met_overflow ≡ false) × (o.in_cycle ≡ false)
+    pub within : starts ≤ bound
+    pub paid : is_counted → limits_met ≡ true → IsPaid limits.runs limits.root limits.last limits.before starts
+
+  -- the promises of an evaluation that stops with a fault
+  pub record Stops (bound starts : ℕ) (limits_met : Bool) : Type 0 where
+    pub within : starts ≤ bound
+    pub paid : is_counted → limits_met ≡ true → IsPaid limits.runs limits.root limits.last limits.before starts

@@ -1,0 +1,76 @@
+-- The theorems on an evaluation as a whole.
+use Rattle.std.specs.Prelude.{◌≡◌, ℕ, ◌+◌, ◌<◌, ◌≤◌, Bool, true, false, List, [], ◌∷◌, None}
+use Rattle.search_parts.specs.declared.context.Request.{Request}
+use Rattle.search_parts.specs.declared.context.Reply.{Reply}
+use Rattle.search_parts.specs.declared.context.Reply.TheVariants.{Begin}
+use Rattle.search_parts.specs.Rank.{frames_within}
+use Rattle.search_parts.specs.Run.{fault_after}
+use Rattle.evaluations.specs.Frames.{Frame, Outcome, fresh, replied, Asks}
+use Rattle.evaluations.specs.Plain.{IsPlainTo, Leaves}
+use Rattle.evaluations.specs.Starts.{Spends}
+use Rattle.evaluations.specs.Evaluation.{State, at, Limits, IsStarted, Move, Moves, IsEvaluating, GoesOn, Ends, Stops}
+
+module _ {I R : Type 0} (scripts : I → List (Reply R) → Request I R) where
+  -- An evaluation begins with its root,
+  abbrev pub RootIsEvaluating : Type 0
+  RootIsEvaluating =
+      (limits : Limits) (counted : Bool) (top : I) (first now : ℕ) (met : Bool)
+      → 1 ≤ limits.runs → first ≤ limits.width → IsStarted limits.last (counted ≡ true) limits.before now
+      → (counted ≡ true → met ≡ false)
+      → IsEvaluating scripts limits (counted ≡ true) top (limits.before + frames_within limits.runs limits.width limits.root)
+      (at (replied (fresh top limits.root first) Begin ∷ []) now met)
+
+  -- and goes on by every move.
+  abbrev pub MoveGoesOn : Type 0
+  MoveGoesOn =
+      (limits : Limits) (counted : Bool) (top : I) (bound : ℕ) (old new : State I R)
+      → 1 ≤ limits.runs → Move scripts limits (counted ≡ true) old new
+      → IsEvaluating scripts limits (counted ≡ true) top bound old → GoesOn scripts limits (counted ≡ true) top bound old new
+
+  -- It ends with a safe outcome, which is the plain value of a root whose rank fits; with no more starts than the bound; and with
+  -- the price of a limit that was met.
+  abbrev pub LastFrameEnds : Type 0
+  LastFrameEnds =
+      (limits : Limits) (counted : Bool) (top : I) (bound starts : ℕ) (met : Bool) (f : Frame I R) (o : Outcome R)
+      → Leaves scripts f o → IsEvaluating scripts limits (counted ≡ true) top bound (at (f ∷ []) starts met)
+      → Ends scripts limits (counted ≡ true) top bound starts met o
+
+  -- Its last run may meet the limit.
+  abbrev pub LastRunEnds : Type 0
+  LastRunEnds =
+      (limits : Limits) (counted : Bool) (top : I) (bound starts : ℕ) (met : Bool) (f : Frame I R) (o : Outcome R)
+      → limits.runs ≤ f.finished_runs + 1 → Leaves scripts f o
+      → IsEvaluating scripts limits (counted ≡ true) top bound (at (f ∷ []) starts met)
+      → Ends scripts limits (counted ≡ true) top bound starts true o
+
+  -- A fault may come at any time,
+  abbrev pub EvaluationStops : Type 0
+  EvaluationStops =
+      (limits : Limits) (counted : Bool) (top : I) (bound : ℕ) (s : State I R)
+      → IsEvaluating scripts limits (counted ≡ true) top bound s → Stops scripts limits (counted ≡ true) bound s.starts s.limits_met
+
+  -- and by a start that fails.
+  abbrev pub FailedStartStops : Type 0
+  FailedStartStops =
+      (limits : Limits) (counted : Bool) (top : I) (bound now : ℕ) (s : State I R) (new : List (Frame I R))
+      → Spends limits.runs limits.width 1 s.frames new → s.starts ≤ now → now ≤ s.starts + 1
+      → IsEvaluating scripts limits (counted ≡ true) top bound s → Stops scripts limits (counted ≡ true) bound now s.limits_met
+
+  -- So whatever moves lead from the root to its end, the promises are kept.
+  abbrev pub EvaluationEnds : Type 0
+  EvaluationEnds =
+      (limits : Limits) (counted : Bool) (top : I) (first now starts : ℕ) (was met : Bool) (f : Frame I R) (o : Outcome R)
+      → 1 ≤ limits.runs → first ≤ limits.width → IsStarted limits.last (counted ≡ true) limits.before now
+      → (counted ≡ true → was ≡ false)
+      → Moves scripts limits (counted ≡ true) (at (replied (fresh top limits.root first) Begin ∷ []) now was) (at (f ∷ []) starts met)
+      → Leaves scripts f o
+      → Ends scripts limits (counted ≡ true) top (limits.before + frames_within limits.runs limits.width limits.root) starts met o
+
+  -- Where the root's rank fits its depth, no move meets a limit.
+  abbrev pub FittingMeetsNoLimit : Type 0
+  FittingMeetsNoLimit =
+      (limits : Limits) (counted : Bool) (top : I) (bound n : ℕ) (f : Frame I R) (below : List (Frame I R)) (starts : ℕ) (met : Bool)
+      → IsPlainTo scripts n top → n ≤ limits.root
+      → IsEvaluating scripts limits (counted ≡ true) top bound (at (f ∷ below) starts met)
+      → ((goal : I) → Asks scripts f goal → 0 < f.available) × (f.in_cycle ≡ false) × (f.met_overflow ≡ false)
+      × (fault_after (scripts f.goal) f.replies ≡ None)

@@ -1,0 +1,33 @@
+-- What it costs to meet a limit, where each start is counted: until then no frame met overflow, so depths fall by one from
+-- frame to frame, and each frame and each of its runs was counted.
+use Rattle.std.specs.Prelude.{◌≡◌, ℕ, ◌+◌, ◌≤◌, min, Bool, true, false, List, [], ◌∷◌, length, ◌⊎◌}
+use Rattle.evaluations.specs.Frames.{Frame}
+
+-- so many were counted since the count stood at `before`, unless it came to its end
+abbrev pub HasCounted : (last before now : ℕ) → ℕ → Type 0
+HasCounted last before now many = (before + many ≤ now) ⊎ (last ≤ now)
+
+-- the price of a limit: the runs of one goal, or the frames from the root to depth 0
+abbrev pub IsPaid : (runs root last before now : ℕ) → Type 0
+IsPaid runs root last before now = HasCounted last before now (min runs (root + 1))
+
+module _ {I R : Type 0} where
+  -- each frame met no overflow, and has the depth that its place on the stack leaves it
+  abbrev pub HaveFullDepths : (root : ℕ) → List (Frame I R) → Type 0
+  HaveFullDepths root [] = Unit {0}
+  HaveFullDepths root (f ∷ below) =
+      (f.available + length below ≡ root) × (f.met_overflow ≡ false) × (f.met_before ≡ false) × HaveFullDepths root below
+
+  -- the frames that were started for the goals on the stack
+  abbrev pub frames_started : List (Frame I R) → ℕ
+  frames_started [] = 0
+  frames_started (f ∷ below) = f.finished_runs + 1 + frames_started below
+
+  pub record IsUnlimited (root last before now : ℕ) (frames : List (Frame I R)) : Type 0 where
+    pub depths : HaveFullDepths root frames
+    pub counted : HasCounted last before now (frames_started frames)
+
+  -- What holds between two moves: before a limit is met no frame met overflow, and afterwards the price is paid.
+  pub record IsPriced (runs root last before now : ℕ) (limits_met : Bool) (frames : List (Frame I R)) : Type 0 where
+    pub not_yet : limits_met ≡ false → IsUnlimited root last before now frames
+    pub paid : limits_met ≡ true → IsPaid runs root last before now

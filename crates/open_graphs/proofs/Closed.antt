@@ -1,0 +1,67 @@
+-- A value without heads is a graph.
+use Rattle.std.proofs.Common.{ℕ, List, [], sym, subst, inl, inr}
+use Rattle.open_graphs.specs.Graph.{Verdict, Node, HasEdge, Walk, stay, go, IsGraph}
+use Rattle.open_graphs.specs.Stack.{Entry, IsLeaf}
+use Rattle.open_graphs.specs.Use.{Step, Heads, Use}
+use Rattle.open_graphs.specs.Laws.{UsesNo, ClosedIsGraph, GrowthKeepsGraph, GraphIsUse, CopyIsGraph}
+use Rattle.open_graphs.proofs.Verdicts.{edges_of, is_finished}
+use Rattle.open_graphs.proofs.Walks.{carried_on, carried, then_step}
+use Rattle.open_graphs.proofs.Paths.{covered_walk}
+use Rattle.open_graphs.proofs.Keep.{edge_before}
+
+module _ (nodes : List Node) (verdict : Verdict) (stack : List Entry) (from_head : ℕ → ℕ) (front a : ℕ) (heads : Heads) (none : (depth : ℕ) → UsesNo heads depth) (u : Use nodes verdict stack from_head front a heads) where
+  no_leaf : (b q : ℕ) → Walk (Step nodes verdict stack) a q b → ¬ IsLeaf stack b
+  no_leaf b q w l =
+      let h = covered_walk nodes verdict stack from_head front a heads u l.0 l.1 q l.2 (subst (λ x. Walk (Step nodes verdict stack) a q x) (sym l.3) w) in
+      none l.0 _ _ h.recorded
+
+  edge_steps : (b q k c : ℕ) → Walk (Step nodes verdict stack) a q b → HasEdge nodes verdict b k c → Step nodes verdict stack b k c
+  edge_steps b q k c w e = record { edge = e; inner = no_leaf b q w }
+
+  edge_walk : {p b q c : ℕ} → Walk (Step nodes verdict stack) a p b → Walk (HasEdge nodes verdict) b q c → Walk (Step nodes verdict stack) b q c
+  edge_walk v w = carried_on (Step nodes verdict stack) (HasEdge nodes verdict) a edge_steps v w
+
+  pub without_heads : IsGraph nodes verdict a
+  without_heads = record {
+    finished = λ b q w. let v = edge_walk stay w in elim (u.settled.placed b q v) [ inl l ↦ absurd (no_leaf b q v l) | inr f ↦ is_finished nodes verdict b f ];
+    closed = λ b q k c r w e x. let v = edge_walk stay w in let e' = edge_steps b q k c v e in
+        u.settled.closed b q k c r v e' (edge_walk (then_step (Step nodes verdict stack) v e') x);
+  }
+
+pub closed_is_graph : ClosedIsGraph
+closed_is_graph nodes verdict stack from_head front a heads none u = without_heads nodes verdict stack from_head front a heads none u
+
+pub growth_keeps_graph : GrowthKeepsGraph
+growth_keeps_graph before after verdict a grown g =
+    let back = λ (b q k c : ℕ) (w : Walk (HasEdge before verdict) a q b) (e : HasEdge after verdict b k c). edge_before before after verdict b k c grown (edges_of before verdict b (g.finished b q w)) e in
+    record {
+      finished = λ b q w. let f = edges_of before verdict b (g.finished b q (carried_on (HasEdge before verdict) (HasEdge after verdict) a back stay w)) in is_finished after verdict b (f.0, grown b verdict f.0 f.1);
+      closed = λ b q k c r w e x.
+          let v = carried_on (HasEdge before verdict) (HasEdge after verdict) a back stay w in
+          let e' = back b q k c v e in
+          g.closed b q k c r v e' (carried_on (HasEdge before verdict) (HasEdge after verdict) a back (then_step (HasEdge before verdict) v e') x);
+    }
+
+edges_only : (nodes : List Node) (verdict : Verdict) (stack : List Entry) {a q b : ℕ} → Walk (Step nodes verdict stack) a q b → Walk (HasEdge nodes verdict) a q b
+edges_only nodes verdict stack w = carried (HasEdge nodes verdict) (Step nodes verdict stack) (λ b. Unit {0}) (λ b k c h e. e.edge) (λ b k c h e. tt) tt w
+
+pub graph_is_use : GraphIsUse
+graph_is_use nodes verdict from_head front a heads g = record {
+  settled = record {
+    placed = λ b q w. inr (edges_of nodes verdict b (g.finished b q (edges_only nodes verdict [] w)));
+    closed = λ b q k c r w e x. g.closed b q k c r (edges_only nodes verdict [] w) e.edge (edges_only nodes verdict [] x);
+  };
+  covered = λ depth entry q on at w. absurd (cc);
+}
+
+pub renumbered : (copy step : ℕ → ℕ → ℕ → Type 0) (original : ℕ → ℕ) → ((a k b : ℕ) → copy a k b → step (original a) k (original b)) → {a q b : ℕ} → Walk copy a q b → Walk step (original a) q (original b)
+renumbered copy step original edge stay = stay
+renumbered copy step original edge (go {a = a} {k = k} {b = b} s w) = go (edge a k b s) (renumbered copy step original edge w)
+
+pub copy_is_graph : CopyIsGraph
+copy_is_graph nodes copy verdict original root edge finished g = record {
+  finished = λ b q w. finished b q w;
+  closed = λ b q k c r w e x.
+      let over = λ (a q b : ℕ) (w : Walk (HasEdge copy verdict) a q b). renumbered (HasEdge copy verdict) (HasEdge nodes verdict) original edge w in
+      g.closed (original b) q k (original c) r (over root q b w) (edge b k c e) (over c r b x);
+}

@@ -1,0 +1,127 @@
+-- The whole state of an evaluation, and what holds of it between two moves.
+use Rattle.std.specs.Prelude.{◌≡◌, ◌≢◌, ℕ, ◌<◌, max, List, [], ◌∷◌, ◌++◌, Some, None, false, slice_get, length, ◌⊎◌}
+use Rattle.open_graphs.specs.Graph.{Verdict, Neither, cycle_kind, Edge, Node}
+use Rattle.open_graphs.specs.Stack.{Entry, path_kind}
+use Rattle.open_graphs.specs.Use.{Heads, Recorded, Use, HeadsWithin, Stored}
+use Rattle.open_graphs.specs.Laws.{IncludesBelow, UsesNo, KeepsCycleKinds, TakesOver}
+use Rattle.open_graphs.specs.Run.{Running, IsStack}
+
+-- an entry with its run
+pub record Frame : Type 0 where
+  pub entry : Entry
+  pub own : ℕ
+  pub edges : Verdict → List Edge
+  pub kept : Heads
+  pub heads : Heads
+
+-- a provisional answer, and a final one
+pub record Kept : Type 0 where
+  pub verdict : Verdict
+  pub highest : ℕ
+  pub path : ℕ
+  pub node : ℕ
+  pub heads : Heads
+
+pub record Final : Type 0 where
+  pub verdict : Verdict
+  pub node : ℕ
+
+-- the frame of a first run, of a run under a result, and of a run with other answers
+abbrev pub first_frame : ℕ → ℕ → Heads → Frame
+first_frame step n heads = record {
+  entry = record { step = step; provisional = None; node = n };
+  own = n;
+  edges = λ verdict. [];
+  kept = heads;
+  heads = heads;
+}
+
+abbrev pub next_frame : Frame → Verdict → ℕ → ℕ → Frame
+next_frame f verdict a own = record {
+  entry = record { step = f.entry.step; provisional = Some verdict; node = a };
+  own = own;
+  edges = λ v. [];
+  kept = f.heads;
+  heads = f.heads;
+}
+
+abbrev pub answering : Frame → (Verdict → List Edge) → Heads → Frame
+answering f edges heads = record { entry = f.entry; own = f.own; edges = edges; kept = f.kept; heads = heads }
+
+-- the entries of frames, of which the newest stands first
+abbrev pub stack_of : List Frame → List Entry
+stack_of [] = []
+stack_of (f ∷ fs) = stack_of fs ++ f.entry ∷ []
+
+abbrev pub no_heads : Heads
+no_heads depth = record { paths = λ path. false; usages = λ cycle. 0 }
+
+abbrev pub AllRunning : List Node → List Frame → Type 0
+AllRunning nodes [] = Unit {0}
+AllRunning nodes (f ∷ fs) = Running nodes (stack_of fs) f.entry f.own f.edges f.kept f.heads × AllRunning nodes fs
+
+abbrev pub OwnsOther : ℕ → List Frame → Type 0
+OwnsOther own [] = Unit {0}
+OwnsOther own (f ∷ fs) = (own ≢ f.own) × OwnsOther own fs
+
+abbrev pub AllApart : List Frame → Type 0
+AllApart [] = Unit {0}
+AllApart (f ∷ fs) = OwnsOther f.own fs × AllApart fs
+
+abbrev pub AllStored : List Node → List Entry → List Kept → Type 0
+AllStored nodes stack kepts =
+    (i : ℕ) (k : Kept)
+    → slice_get kepts i ≡ Some k → Stored nodes k.verdict stack k.highest k.path k.node k.heads
+
+abbrev pub AllFinal : List Node → List Entry → List Final → Type 0
+AllFinal nodes stack finals =
+    (i : ℕ) (f : Final)
+    → slice_get finals i ≡ Some f → Use nodes f.verdict stack (λ depth. 0) 0 f.node no_heads
+
+-- The state of an evaluation: the list, the frames with the newest first, the provisional answers with a verdict, and the
+-- final ones.
+pub record IsSound (nodes : List Node) (frames : List Frame) (provisional : List Kept) (final : List Final) : Type 0 where
+  pub is_stack : IsStack nodes (stack_of frames)
+  pub running : AllRunning nodes frames
+  pub apart : AllApart frames
+  pub stored : AllStored nodes (stack_of frames) provisional
+  pub closed : AllFinal nodes (stack_of frames) final
+
+-- a provisional answer with new heads, and the path kind from the new highest one
+pub record IsMoved (below : List Entry) (top : Entry) (k after : Kept) : Type 0 where
+  pub was : k.highest ≡ length below
+  pub same_verdict : after.verdict ≡ k.verdict
+  pub same_node : after.node ≡ k.node
+  pub path : after.path ≡ max k.path (path_kind below top.step after.highest)
+  pub heads : IncludesBelow (length below) k.heads after.heads
+  pub within : HeadsWithin after.heads after.highest
+  pub on_stack : after.highest < length below
+
+-- the popped entry's cycles were answered with its verdict, as far as the heads record them
+abbrev pub IsFixpoint : Verdict → Entry → ℕ → Heads → Type 0
+IsFixpoint verdict top depth heads =
+    (top.provisional ≡ Some verdict)
+    ⊎ ((top.provisional ≡ None) × ((path cycle : ℕ) → Recorded heads depth path cycle → cycle ≡ cycle_kind verdict))
+
+-- none of them was answered with the verdict: the provisional result has another one, or there is none and no usage is
+-- recorded of the kind that gives the verdict
+pub record IsOther (verdict : Verdict) (top : Entry) (depth : ℕ) (heads : Heads) : Type 0 where
+  pub result : top.provisional ≢ Some verdict
+  pub kinds : top.provisional ≡ None → (path : ℕ) → Recorded heads depth path (cycle_kind verdict) → ⊥
+
+-- What a provisional answer is after the newest entry was popped: unchanged where its highest head lies lower; with other
+-- heads where it used the popped entry not at all, or only by cycles that were answered with another verdict than its own;
+-- and where the popped entry reached its fixpoint with a verdict, each cycle through it keeps its kind, and its heads are
+-- taken over.
+pub data AfterPop (below : List Entry) (top : Entry) (verdict : Verdict) (top_heads : Heads) : Kept → Kept → Type 0 where
+  Lower : {k : Kept} → k.highest < length below → AfterPop below top verdict top_heads k k
+  Unused :
+      {k after : Kept} → IsMoved below top k after → UsesNo k.heads (length below)
+      → AfterPop below top verdict top_heads k after
+  Fixpoint :
+      {k after : Kept} → IsMoved below top k after → verdict ≢ Neither → k.verdict ≢ Neither
+      → IsFixpoint verdict top (length below) k.heads → KeepsCycleKinds below top k.path k.heads top_heads
+      → TakesOver (length below) k.heads top_heads after.heads → AfterPop below top verdict top_heads k after
+  Other :
+      {k after : Kept} → IsMoved below top k after → IsOther k.verdict top (length below) k.heads
+      → AfterPop below top verdict top_heads k after

@@ -1,0 +1,96 @@
+-- The theorems on whole states: each move keeps a sound state sound.
+use Rattle.std.specs.Prelude.{◌≡◌, ◌≢◌, ℕ, ◌<◌, List, [], ◌∷◌, ◌++◌, Some, slice_get, length}
+use Rattle.open_graphs.specs.Graph.{Verdict, Neither, Edge, Node, Unfinished, IsGraph}
+use Rattle.open_graphs.specs.Stack.{Entry, path_kind}
+use Rattle.open_graphs.specs.Use.{Heads, Use, HeadsWithin, Stored}
+use Rattle.open_graphs.specs.Laws.{Includes, UsesNo, AllAnswered}
+use Rattle.open_graphs.specs.Run.{Answered}
+use Rattle.open_graphs.specs.State.{Frame, Kept, Final, first_frame, next_frame, answering, stack_of, IsSound, AfterPop, IsFixpoint}
+
+-- A popped head may have reached its fixpoint with an answer of either verdict: what is stored under it stays, also with
+-- the other verdict, if the cycle kinds do. Whatever its answer is, what its cycles weren't answered with stays too.
+abbrev pub FixpointKeepsStored : Type 0
+FixpointKeepsStored =
+    (nodes : List Node) (below : List Entry) (top : Entry) (verdict : Verdict) (top_heads : Heads) (k after : Kept)
+    → (verdict ≢ Neither → IsFixpoint verdict top (length below) k.heads
+    → Use nodes verdict below (path_kind below top.step) 0 top.node top_heads)
+    → AfterPop below top verdict top_heads k after
+    → Stored nodes k.verdict (below ++ top ∷ []) k.highest k.path k.node k.heads
+    → Stored nodes after.verdict below after.highest after.path after.node after.heads
+
+-- A goal is pushed and begins its first run.
+abbrev pub PushKeepsSound : Type 0
+PushKeepsSound =
+    (nodes : List Node) (frames : List Frame) (provisional : List Kept) (final : List Final) (step : ℕ)
+    (heads : Heads)
+    → IsSound nodes frames provisional final
+    → IsSound (nodes ++ Unfinished ∷ []) (first_frame step (length nodes) heads ∷ frames) provisional final
+
+-- The newest run gets other answers, each of which may be used and whose heads are among the run's.
+abbrev pub AnswersKeepSound : Type 0
+AnswersKeepSound =
+    (nodes : List Node) (f : Frame) (frames : List Frame) (provisional : List Kept) (final : List Final)
+    (edges : Verdict → List Edge) (heads : Heads)
+    → Includes f.kept heads
+    → ((verdict : Verdict) → AllAnswered nodes verdict (stack_of frames) f.entry (edges verdict) heads)
+    → IsSound nodes (f ∷ frames) provisional final
+    → IsSound nodes (answering f edges heads ∷ frames) provisional final
+
+-- The newest run ended, and its goal is done: an answer with a verdict may be used below. Of the provisional answers
+-- those are left that `AfterPop` leaves, and the answer itself may be kept, as a provisional one with heads or as a final
+-- one without.
+pub data IsLeft (below : List Entry) (top : Entry) (verdict : Verdict) (a : ℕ) (heads : Heads) (provisional : List Kept) :
+    Kept → Type 0 where
+  Survives :
+      {old k : Kept} (i : ℕ) → slice_get provisional i ≡ Some old → AfterPop below top verdict heads old k
+      → IsLeft below top verdict a heads provisional k
+  Added :
+      (highest : ℕ)
+      → verdict ≢ Neither → highest < length below → HeadsWithin heads highest
+      → IsLeft below top verdict a heads provisional (record { verdict = verdict; highest = highest; path = path_kind below top.step highest; node = a; heads = heads })
+
+pub data IsDone (verdict : Verdict) (a : ℕ) (heads : Heads) (final : List Final) : Final → Type 0 where
+  Before : {f : Final} (i : ℕ) → slice_get final i ≡ Some f → IsDone verdict a heads final f
+  Now :
+      verdict ≢ Neither → ((depth : ℕ) → UsesNo heads depth)
+      → IsDone verdict a heads final (record { verdict = verdict; node = a })
+
+abbrev pub PopKeepsSound : Type 0
+PopKeepsSound =
+    (nodes : List Node) (f : Frame) (frames : List Frame) (provisional left : List Kept) (final done : List Final)
+    (verdict : Verdict) (later : List Node) (a : ℕ)
+    → Answered nodes f.entry f.own f.edges verdict later a
+    → ((i : ℕ) (k : Kept) → slice_get left i ≡ Some k → IsLeft (stack_of frames) f.entry verdict a f.heads provisional k)
+    → ((i : ℕ) (x : Final) → slice_get done i ≡ Some x → IsDone verdict a f.heads final x)
+    → IsSound nodes (f ∷ frames) provisional final
+    → IsSound later frames left done
+    × (verdict ≢ Neither → Use later verdict (stack_of frames) (path_kind (stack_of frames) f.entry.step) 0 a f.heads)
+
+-- The newest run ended, and its goal is run again under the result, without the provisional answers that used the old
+-- one.
+abbrev pub LeftByRerun : List Entry → List Kept → List Kept → Type 0
+LeftByRerun below before after =
+    (i : ℕ) (k : Kept)
+    → slice_get after i ≡ Some k → (j : ℕ) × (slice_get before j ≡ Some k) × UsesNo k.heads (length below)
+
+abbrev pub RerunKeepsSound : Type 0
+RerunKeepsSound =
+    (nodes : List Node) (f : Frame) (frames : List Frame) (provisional left : List Kept) (final : List Final)
+    (verdict : Verdict) (later : List Node) (a : ℕ)
+    → Answered nodes f.entry f.own f.edges verdict later a → LeftByRerun (stack_of frames) provisional left
+    → IsSound nodes (f ∷ frames) provisional final
+    → IsSound (later ++ Unfinished ∷ []) (next_frame f verdict a (length later) ∷ frames) left final
+
+-- An evaluation begins with an empty stack and final values that have their graphs. At each moment, also after a fault,
+-- the final values have theirs.
+abbrev pub StartIsSound : Type 0
+StartIsSound =
+    (nodes : List Node) (final : List Final)
+    → ((i : ℕ) (x : Final) → slice_get final i ≡ Some x → IsGraph nodes x.verdict x.node)
+    → IsSound nodes [] [] final
+
+abbrev pub FinalIsGraph : Type 0
+FinalIsGraph =
+    (nodes : List Node) (frames : List Frame) (provisional : List Kept) (final : List Final) (i : ℕ) (x : Final)
+    → IsSound nodes frames provisional final
+    → slice_get final i ≡ Some x → IsGraph nodes x.verdict x.node

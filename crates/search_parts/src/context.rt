@@ -1,0 +1,310 @@
+//! What a goal search is told of goals: the context, the delegate, requests and replies.
+ghost use Rattle.std.specs.Prelude.{◌≡◌, ◌↔◌, ◌≤◌, ◌<◌, ◌+◌, ℕ, true, false, Bool, List, [], ◌∷◌, IsTrue, IsSome, IfOk, OnOk, Some, None, Option};
+ghost use Rattle.search_parts.specs.Question.{Question, IsWithin, Overlap};
+ghost use Rattle.search_parts.specs.Run.{EndsIn, progress_after, questions_answered};
+ghost use Rattle.search_parts.specs.Delegate.{IsNeither, IsCycleResult, CanTake, Steps, CountsOne};
+
+use crate::path::PathKind;
+use std::alloc::{AllocError, AllocFailed};
+use std::fmt::Debug;
+use std::hash::Hash;
+use thiserror::Error;
+
+/// What goals mean.
+pub trait Cx: Copy {
+    type Input: Debug + Eq + Hash + Copy;
+
+    type Result: Debug + Eq + Hash + Copy;
+
+    type AmbiguityInfo: Debug + Eq + Hash + Copy;
+
+    type DepNodeIndex: Copy;
+
+    /// The goal holds where these questions do.
+    ghost proves: { Self → Self.Input → List (Question Self.Input) → Type 0 };
+
+    /// The goal does not hold where none of these questions does.
+    ghost refutes: { Self → Self.Input → List (Question Self.Input) → Type 0 };
+
+    ghost is_yes: { Self.Result → Bool };
+
+    ghost is_no: { Self.Result → Bool };
+
+    /// A token that the cache keeps beside the goal's result.
+    fn dep_node(self, input: Self::Input) -> Self::DepNodeIndex;
+
+    /// The sort of a result.
+    fn sort(self, outcome: Self::Result) -> Verdict
+        ensures yes { (result ≡ Verdict.Yes) ↔ IsTrue (is_yes outcome) }
+        ensures no { (result ≡ Verdict.No) ↔ IsTrue (is_no outcome) };
+
+    ghost proves_more: { (cx : Self) (goal : Self.Input) (some more : List (Question Self.Input)) → IsWithin some more → proves cx goal some → proves cx goal more };
+
+    ghost refutes_more: { (cx : Self) (goal : Self.Input) (some more : List (Question Self.Input)) → IsWithin some more → refutes cx goal some → refutes cx goal more };
+
+    ghost clash: { (cx : Self) (goal : Self.Input) (held failed : List (Question Self.Input)) → proves cx goal held → refutes cx goal failed → Overlap held failed };
+
+    ghost one_sort: { (r : Self.Result) → is_yes r ≡ true → is_no r ≡ false };
+
+    ghost same_input: { (x y : Self.Input) → Self.Input.eq x y ≡ true → x ≡ y };
+
+    ghost same_result: { (x y : Self.Result) → Self.Result.eq x y ≡ true → x ≡ y };
+}
+
+/// A growth was refused.
+#[derive(Clone, Copy, Debug, PartialEq, Eq, Error)]
+#[error("out of memory")]
+pub struct NoMemory;
+
+impl From<AllocError> for NoMemory {
+    fn from(_error: AllocError) -> NoMemory {
+        NoMemory
+    }
+}
+
+impl<T: Drop> From<AllocFailed<T>> for NoMemory {
+    fn from(_error: AllocFailed<T>) -> NoMemory {
+        NoMemory
+    }
+}
+
+/// What a frame asks for.
+#[derive(Clone, Copy, Debug, PartialEq, Eq)]
+pub enum Request<I, R> {
+    /// The result of a goal, asked over a step of this kind.
+    Evaluate(PathKind, I),
+    /// A candidate begins.
+    EnterCandidate,
+    /// The open candidate ends.
+    FinishCandidate,
+    /// The finished candidate of this number no longer counts.
+    Ignore(usize),
+    /// The goal's result. The frame ends.
+    Done(R),
+}
+
+/// What a frame is told.
+#[derive(Clone, Copy, Debug, PartialEq, Eq)]
+pub enum Reply<R> {
+    /// The frame begins.
+    Begin,
+    /// The result of the goal that was asked.
+    Answer(R),
+    /// Anything else was done.
+    Noted,
+}
+
+/// Whether a result is definite.
+#[derive(Clone, Copy, Debug, PartialEq, Eq)]
+pub enum Verdict {
+    /// The goal holds.
+    Yes,
+    /// The goal does not hold.
+    No,
+    /// Neither is known.
+    Neither,
+}
+
+/// Why a call failed.
+#[derive(Clone, Copy, Debug, PartialEq, Eq, Error)]
+pub enum Fault<I, R> {
+    /// A growth was refused.
+    #[error("out of memory")]
+    Memory,
+    /// The cache holds another result for the goal in the same place.
+    #[error("another result is stored")]
+    Conflict { input: I, stored: R, found: R },
+    /// A scope was given for the goal, and its result differs from the stored one.
+    #[error("validation gave another result")]
+    Validation { input: I, stored: R, found: R },
+    /// A frame's request came out of order.
+    #[error("request out of order: {0}")]
+    Protocol(u8),
+}
+
+/// The number of a node of a cache's graph.
+#[derive(Clone, Copy, Debug, PartialEq, Eq, Hash)]
+pub struct NodeId(pub usize);
+
+/// A result, and for a definite one the node of its graph.
+#[derive(Clone, Copy, Debug, PartialEq, Eq)]
+pub struct Answer<R> {
+    pub result: R,
+    pub node: Option<NodeId>,
+}
+
+/// A question of a node's goal, and the node that answers it.
+#[derive(Clone, Copy, Debug, PartialEq, Eq)]
+pub struct Edge<I> {
+    pub kind: PathKind,
+    pub input: I,
+    pub target: usize,
+}
+
+/// One run of a goal: its replies, its result, and the questions that the result rests on.
+#[derive(Debug, Drop)]
+pub struct Node<I, R> {
+    pub input: I,
+    pub replies: Vec<Reply<R>>,
+    pub edges: Vec<Edge<I>>,
+    pub result: R,
+}
+
+/// The graph of an answer, its root first.
+#[derive(Drop)]
+pub struct ProofGraph<X: Cx> {
+    pub nodes: Vec<Node<X::Input, X::Result>>,
+}
+
+/// How goals are worked out: by frames, each of which makes one request after another.
+pub trait Delegate: Sized {
+    ghost use Rattle.search_parts.specs.declared.context.Reply.{Reply};
+    ghost use Rattle.search_parts.specs.declared.context.Request.{Request};
+    ghost use Rattle.search_parts.specs.declared.path.PathKind.{PathKind};
+
+    type Cx: Cx;
+
+    type ValidationScope: Drop;
+
+    type ProofTreeBuilder;
+
+    type Frame: Drop;
+
+    const ENABLE_PROVISIONAL_CACHE: bool;
+
+    const FIXPOINT_STEP_LIMIT: usize;
+
+    const DIVIDE_AVAILABLE_DEPTH_ON_OVERFLOW: usize;
+
+    ghost ENABLE_PROVISIONAL_CACHE: { Bool };
+
+    ghost FIXPOINT_STEP_LIMIT: { ℕ };
+
+    ghost DIVIDE_AVAILABLE_DEPTH_ON_OVERFLOW: { ℕ };
+
+    /// The request that follows these replies, of which the newest stands first.
+    ghost script: { Self.Cx → Self.Cx.Input → List (Reply Self.Cx.Result) → Request Self.Cx.Input Self.Cx.Result };
+
+    /// The frame is one of the goal that has had these replies.
+    ghost stands: { Self.Frame → Self.Cx → Self.Cx.Input → List (Reply Self.Cx.Result) → Type 0 };
+
+    /// How many steps the frame has left at most.
+    ghost left: { Self.Frame → ℕ };
+
+    /// How many steps a frame has at most.
+    ghost width: { Self.Cx → ℕ };
+
+    ghost initial_result: { Self.Cx → PathKind → Self.Cx.Input → Self.Cx.Result };
+
+    ghost initial_kind: { Self.Cx.Result → Option PathKind };
+
+    ghost stack_overflow: { Self.Cx → Self.Cx.Input → Self.Cx.Result };
+
+    ghost fixpoint_overflow: { Self.Cx → Self.Cx.Input → Self.Cx.Result };
+
+    ghost ambiguity: { Self.Cx.Result → Option Self.Cx.AmbiguityInfo };
+
+    ghost propagated: { Self.Cx → Self.Cx.Input → Self.Cx.AmbiguityInfo → Self.Cx.Result };
+
+    /// The frames that the builder knows to have started.
+    ghost starts: { Self.ProofTreeBuilder → ℕ };
+
+    /// Whether `start` counts each frame, up to `last`.
+    ghost counts: { Bool };
+
+    ghost last: { ℕ };
+
+    ghost noop: { Self.ProofTreeBuilder → Bool };
+
+    ghost scoped: { Self.Cx → Self.Cx.Input → Bool };
+
+    fn enter_validation_scope(
+        cx: Self::Cx,
+        input: <Self::Cx as Cx>::Input,
+    ) -> Option<Self::ValidationScope>
+        ensures { IsSome result ↔ IsTrue (scoped cx input) };
+
+    fn inspect_is_noop(inspect: &mut Self::ProofTreeBuilder) -> bool
+        ensures value { result ≡ noop inspect.old }
+        ensures same_noop { noop inspect.new ≡ noop inspect.old }
+        ensures same_starts { starts inspect.new ≡ starts inspect.old };
+
+    fn initial_provisional_result(
+        cx: Self::Cx,
+        kind: PathKind,
+        input: <Self::Cx as Cx>::Input,
+    ) -> <Self::Cx as Cx>::Result
+        ensures { result ≡ initial_result cx kind input };
+
+    fn is_initial_provisional_result(outcome: <Self::Cx as Cx>::Result) -> Option<PathKind>
+        ensures { result ≡ initial_kind outcome };
+
+    fn stack_overflow_result(
+        cx: Self::Cx,
+        input: <Self::Cx as Cx>::Input,
+    ) -> <Self::Cx as Cx>::Result
+        ensures { result ≡ stack_overflow cx input };
+
+    fn fixpoint_overflow_result(
+        cx: Self::Cx,
+        input: <Self::Cx as Cx>::Input,
+    ) -> <Self::Cx as Cx>::Result
+        ensures { result ≡ fixpoint_overflow cx input };
+
+    fn is_ambiguous_result(
+        outcome: <Self::Cx as Cx>::Result,
+    ) -> Option<<Self::Cx as Cx>::AmbiguityInfo>
+        ensures { result ≡ ambiguity outcome };
+
+    fn propagate_ambiguity(
+        cx: Self::Cx,
+        for_input: <Self::Cx as Cx>::Input,
+        ambiguity_info: <Self::Cx as Cx>::AmbiguityInfo,
+    ) -> <Self::Cx as Cx>::Result
+        ensures { result ≡ propagated cx for_input ambiguity_info };
+
+    /// A new frame of the goal.
+    fn start(
+        cx: Self::Cx,
+        input: <Self::Cx as Cx>::Input,
+        inspect: &mut Self::ProofTreeBuilder,
+    ) -> Result<Self::Frame, NoMemory>
+        ensures frame { IfOk result (λ frame. stands frame cx input []) }
+        ensures within { IfOk result (λ frame. left frame ≤ width cx) }
+        ensures at_least { starts inspect.old ≤ starts inspect.new }
+        ensures at_most { starts inspect.new ≤ starts inspect.old + 1 }
+        ensures counted { counts ≡ true → OnOk result (CountsOne last (starts inspect.old) (starts inspect.new)) }
+        ensures same_noop { noop inspect.new ≡ noop inspect.old };
+
+    /// The frame's next request. After a refusal nothing is known of the frame.
+    fn step(
+        frame: &mut Self::Frame,
+        reply: Reply<<Self::Cx as Cx>::Result>,
+        inspect: &mut Self::ProofTreeBuilder,
+    ) -> Result<Request<<Self::Cx as Cx>::Input, <Self::Cx as Cx>::Result>, NoMemory>
+        requires { CanTake stands script frame.old reply }
+        ensures request { IfOk result (λ request. Steps stands script frame.old reply request frame.new) }
+        ensures falls { OnOk result (left frame.new < left frame.old) }
+        ensures same_starts { starts inspect.new ≡ starts inspect.old }
+        ensures same_noop { noop inspect.new ≡ noop inspect.old };
+
+    /// A result of yes rests on the questions that were answered yes.
+    ghost yes_is_proved: { (cx : Self.Cx) (goal : Self.Cx.Input) (replies : List (Reply Self.Cx.Result)) (r : Self.Cx.Result) → EndsIn (script cx goal) replies r → Self.Cx.is_yes r ≡ true → Self.Cx.proves cx goal (questions_answered Self.Cx.is_yes (progress_after (script cx goal) replies)) };
+
+    /// A result of no rests on the questions that were answered no.
+    ghost no_is_refuted: { (cx : Self.Cx) (goal : Self.Cx.Input) (replies : List (Reply Self.Cx.Result)) (r : Self.Cx.Result) → EndsIn (script cx goal) replies r → Self.Cx.is_no r ≡ true → Self.Cx.refutes cx goal (questions_answered Self.Cx.is_no (progress_after (script cx goal) replies)) };
+
+    ghost initial_sort: { (cx : Self.Cx) (kind : PathKind) (goal : Self.Cx.Input) → IsCycleResult Self.Cx.is_yes Self.Cx.is_no kind (initial_result cx kind goal) };
+
+    ghost recognised_sort: { (r : Self.Cx.Result) (kind : PathKind) → initial_kind r ≡ Some kind → IsCycleResult Self.Cx.is_yes Self.Cx.is_no kind r };
+
+    ghost stack_overflow_is_neither: { (cx : Self.Cx) (goal : Self.Cx.Input) → IsNeither Self.Cx.is_yes Self.Cx.is_no (stack_overflow cx goal) };
+
+    ghost fixpoint_overflow_is_neither: { (cx : Self.Cx) (goal : Self.Cx.Input) → IsNeither Self.Cx.is_yes Self.Cx.is_no (fixpoint_overflow cx goal) };
+
+    ghost ambiguous_is_neither: { (r : Self.Cx.Result) (info : Self.Cx.AmbiguityInfo) → ambiguity r ≡ Some info → IsNeither Self.Cx.is_yes Self.Cx.is_no r };
+
+    ghost propagated_is_neither: { (cx : Self.Cx) (goal : Self.Cx.Input) (info : Self.Cx.AmbiguityInfo) → IsNeither Self.Cx.is_yes Self.Cx.is_no (propagated cx goal info) };
+
+    ghost divides: { 2 ≤ DIVIDE_AVAILABLE_DEPTH_ON_OVERFLOW };
+}

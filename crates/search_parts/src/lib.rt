@@ -1,0 +1,6 @@
+//! What a goal search stands on: kinds of paths, and what the search is told of goals.
+#![tactic(auto)]
+
+pub mod context;
+pub mod law;
+pub mod path;
