@@ -3,3 +3,6 @@ pub mod Graphs
 pub mod Runs
 pub mod Ranks
 pub mod Copies
+pub mod StackIndex
+pub mod LastState
+pub mod StackReads
