@@ -2,5 +2,6 @@
 #![tactic(auto)]
 
 pub mod context;
+pub mod global_cache;
 pub mod law;
 pub mod path;
