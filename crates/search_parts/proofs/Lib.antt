@@ -8,3 +8,6 @@ pub mod Slots
 pub mod Sound
 pub mod PathRanks
 pub mod Bridge
+pub mod StackIndex
+pub mod LastState
+pub mod StackReads

@@ -4,4 +4,5 @@
 pub mod context;
 pub mod global_cache;
 pub mod law;
+pub mod parts;
 pub mod path;

@@ -1,0 +1,17 @@
+-- What is read of a stack, whose first entry stands first.
+use Rattle.std.specs.Prelude.{ℕ, ◌-◌, ◌/◌, nat_eq, if◌then◌else◌, List, [], ◌∷◌, Option, Some, None}
+use Rattle.search_parts.specs.declared.parts.stack.StackEntry.{StackEntry}
+
+module _ {X I R A T : Type 0} where
+  -- the depth that a question of this goal gets, if any
+  abbrev pub depth_below : ℕ → StackEntry X I R A T → Option ℕ
+  depth_below divisor e =
+      if nat_eq e.available_depth.0 0 then None
+      else if e.state.encountered_overflow then Some (e.available_depth.0 / divisor)
+      else Some (e.available_depth.0 - 1)
+
+  -- the depth that the next question gets: that of the root on an empty stack, else what the last goal leaves
+  abbrev pub allowed_depth : (divisor root : ℕ) → List (StackEntry X I R A T) → Option ℕ
+  allowed_depth divisor root [] = Some root
+  allowed_depth divisor root (e ∷ []) = depth_below divisor e
+  allowed_depth divisor root (e ∷ f ∷ es) = allowed_depth divisor root (f ∷ es)
