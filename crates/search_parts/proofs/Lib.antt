@@ -3,6 +3,11 @@ pub mod Graphs
 pub mod Runs
 pub mod Ranks
 pub mod Copies
+pub mod Nodes
+pub mod Slots
+pub mod Sound
+pub mod PathRanks
+pub mod Bridge
 pub mod StackIndex
 pub mod LastState
 pub mod StackReads
