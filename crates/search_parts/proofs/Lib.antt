@@ -3,3 +3,5 @@ pub mod Graphs
 pub mod Runs
 pub mod Ranks
 pub mod Copies
+pub mod PathSets
+pub mod PathLaws
