@@ -5,3 +5,4 @@ pub mod Ranks
 pub mod Copies
 pub mod PathSets
 pub mod PathLaws
+pub mod Counts

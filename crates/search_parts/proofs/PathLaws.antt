@@ -1,6 +1,6 @@
 -- The laws of sets of paths, for bits that no flag has too: the flags are the five lowest bits.
 use Rattle.std.proofs.Common.{◌≡◌, ℕ, zero, suc, ◌+◌, ◌*◌, ◌/◌, ◌%◌, ◌^◌, ◌<◌, Bool, true, false, ◌||◌, not, ◌==◌, nat_lt, List, [], ◌∷◌, ◌++◌, map, filter, fold, if◌then◌else◌, Contains, IsTrue, ◌↔◌, refl, ap, sym, ◌∙◌, subst, ◌⊎◌, inl, inr, arith}
-use Rattle.std.proofs.lemmas.Bool.{eqb-true, false≢true, ltb-true}
+use Rattle.std.proofs.lemmas.Bool.{eqb-true, false≢true, or_cases, ltb-true}
 use Rattle.std.proofs.lemmas.Nat.{and_block, and_le_r, or_block, or_comm, or_mod, or_shr, or_shifted}
 use Rattle.std.specs.Int.RustNames.{bit_and, bit_or}
 use Rattle.search_parts.specs.declared.path.PathKind.{PathKind}
@@ -162,10 +162,6 @@ has_own_kind Unknown = refl
 has_own_kind Coinductive = refl
 has_own_kind ForcedAmbiguity = refl
 
-either : (a b : Bool) → (a || b) ≡ true → (a ≡ true) ⊎ (b ≡ true)
-either true b h = inl refl
-either false b h = inr h
-
 first_of_two : (a b : Bool) → a ≡ true → (a || b) ≡ true
 first_of_two a b h = rw h refl
 
@@ -182,7 +178,7 @@ only_joined : (kinds : List PathKind) (before : PathsToNested) (kind : PathKind)
 only_joined [] before kind h = inl h
 only_joined (first ∷ rest) before kind h =
     elim (only_joined rest (union before (paths_of first)) kind h) [
-      | inl joined ↦ elim (either _ _ (sym (has_kind-union before (paths_of first) kind) ∙ joined)) [
+      | inl joined ↦ elim (or_cases _ _ (sym (has_kind-union before (paths_of first) kind) ∙ joined)) [
         | inl old ↦ inl old
         | inr new ↦ inr (0, omega arith, has_kind-paths_of first kind new)
       ]
@@ -208,7 +204,7 @@ unfolding extended
 extended-kinds paths step kind =
     let joined = union_of (map paths_of (kinds_after paths step)) in
     let split = has_kind-union joined (unnamed_in paths) kind in (
-      λ h. elim (either _ _ (sym split ∙ h)) [
+      λ h. elim (or_cases _ _ (sym split ∙ h)) [
         | inl named ↦ elim (only_joined (kinds_after paths step) no_paths kind named) [
           | inl none ↦ absurd (false≢true (sym (has_kind-none kind) ∙ none))
           | inr there ↦ there

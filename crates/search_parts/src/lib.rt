@@ -3,4 +3,5 @@
 
 pub mod context;
 pub mod law;
+pub mod parts;
 pub mod path;
