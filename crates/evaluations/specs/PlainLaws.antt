@@ -83,6 +83,7 @@ module _ {I R : Type 0} (scripts : I → List (Reply R) → Request I R) where
       (goal : I) (depth : ℕ) (o : Outcome R)
       → IsSafeOutcome scripts goal depth o → o.met_overflow ≡ false → IsPlain scripts goal o.result
 
+  -- A plain success is safe where its required depth fits.
   abbrev pub SuccessIsSafe : Type 0
   SuccessIsSafe =
       (goal : I) (depth required : ℕ) (r : R)
@@ -95,6 +96,7 @@ module _ {I R : Type 0} (scripts : I → List (Reply R) → Request I R) where
       (goal : I) (depth : ℕ) (o : Outcome R)
       → IsSafeOutcome scripts goal depth o → o.met_overflow ≡ true → IsBelowRank scripts goal o.required
 
+  -- An overflow result with a key below the rank is safe where its key is the depth.
   abbrev pub OverflowIsSafe : Type 0
   OverflowIsSafe =
       (goal : I) (depth : ℕ) (r : R)
@@ -114,6 +116,7 @@ module _ {I R : Type 0} (scripts : I → List (Reply R) → Request I R) where
       (goal : I) (n : ℕ) (r other : R)
       → IsPlainTo scripts n goal → IsPlain scripts goal r → IsPlain scripts goal other → r ≡ other
 
+  -- No key of an overflow result below the rank is a depth that fits.
   abbrev pub KeyIsUnused : Type 0
   KeyIsUnused =
       (goal : I) (depth key n : ℕ)
