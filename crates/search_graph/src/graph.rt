@@ -5,11 +5,8 @@ ghost use Rattle.search_parts.specs.Rank.{IsPlainValue, frames_within};
 ghost use Rattle.evaluations.specs.Plain.{IsPlainTo};
 ghost use Rattle.evaluations.specs.Price.{IsPaid};
 
-
+mod evaluate;
 mod open_goals;
+mod question;
 
-
-pub use search_parts::context;
-
-pub use search_parts::parts;
-pub use search_parts::path;
+pub use search_parts::{context, parts, path};

@@ -11,3 +11,6 @@ pub mod Bridge
 pub mod StackIndex
 pub mod LastState
 pub mod StackReads
+pub mod PathSets
+pub mod PathLaws
+pub mod Counts

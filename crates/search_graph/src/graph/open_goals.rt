@@ -1,14 +1,21 @@
 //! The goals under evaluation, each with the run of its frame.
-ghost use Rattle.std.specs.Prelude.{◌≡◌, ℕ, ◌+◌, ◌^◌, ◌<◌, List, [], ◌∷◌, length, false, is_some, Some, OnOk, OnErr};
+ghost use Rattle.std.specs.Prelude.{◌≡◌, ℕ, ◌+◌, ◌^◌, ◌<◌, List, [], ◌∷◌, length, false, Some, OnOk, OnErr, IfOk, map, reverse};
 ghost use Rattle.std.specs.List.{list_any};
 ghost use Rattle.std.specs.Option.{option_map};
-ghost use Rattle.search_parts.specs.Stack.{allowed_depth, depth_below};
+ghost use Rattle.search_graph.specs.Evaluating.{CanStep, HasStepped};
 
 use search_parts::context::{Cx, Delegate, NoMemory, Reply, Request};
-use search_parts::parts::depth::AvailableDepth;
 use search_parts::parts::stack::{Stack, StackEntry};
 use std::alloc::Global;
 use std::marker::{Model, PhantomData};
+
+/// What comes after a request of the newest goal's frame.
+pub(crate) enum Next<R> {
+    /// The newest frame gets a reply.
+    Step(Reply<R>),
+    /// No goal is left, and this is the result of the last one.
+    Finished(R),
+}
 
 /// One run of a goal: the frame that works it out.
 #[derive(Drop)]
@@ -64,6 +71,13 @@ impl<X: Cx, F: Drop> OpenGoals<X, F> {
         ensures { result ≡ list_any (λ s. X.Input.eq input s.0.input) self.now }
     {
         self.stack.find(input).is_some()
+    }
+
+    /// The entries of the goals, from the first one up.
+    pub(crate) fn stack(&self) -> &Stack<X>
+        ensures { result.now ≡ reverse (map (λ s. s.0) self.now) }
+    {
+        &self.stack
     }
 
     /// The entry of the newest goal.
@@ -124,4 +138,21 @@ impl<X: Cx, F: Drop> OpenGoals<X, F> {
             let _ = self.pop();
         }
     }
+}
+
+/// Gives the newest frame its reply, and answers its request. After a refusal the goals may only be
+/// cleared.
+pub(crate) fn step<D: Delegate>(
+    goals: &mut OpenGoals<D::Cx, D::Frame>,
+    cx: D::Cx,
+    reply: Reply<<D::Cx as Cx>::Result>,
+    inspect: &mut D::ProofTreeBuilder,
+) -> Result<Request<<D::Cx as Cx>::Input, <D::Cx as Cx>::Result>, NoMemory>
+    requires { CanStep D.Delegate cx reply goals.old }
+    ensures stepped { IfOk result (λ request. HasStepped D.Delegate cx reply request goals.old goals.new) }
+    ensures same_starts { D.starts inspect.new ≡ D.starts inspect.old }
+{
+    let last = goals.runs.len() - 1;
+    let request = D::step(&mut goals.runs[last].frame, reply, inspect)?;
+    Ok(request)
 }

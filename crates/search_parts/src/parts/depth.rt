@@ -49,9 +49,7 @@ impl AvailableDepth {
         if depth == 0 {
             None
         } else if last.state.encountered_overflow {
-            Some(AvailableDepth(
-                depth / D::DIVIDE_AVAILABLE_DEPTH_ON_OVERFLOW,
-            ))
+            Some(AvailableDepth(depth / D::DIVIDE_AVAILABLE_DEPTH_ON_OVERFLOW))
         } else {
             Some(AvailableDepth(depth - 1))
         }

@@ -35,13 +35,15 @@ pub struct StackEntry<X: Cx> {
 }
 
 impl<X: Cx> StackEntry<X> {
+    ghost use Rattle.search_parts.specs.Stack.{fresh_entry};
+
     /// A goal of which nothing is known yet.
     pub fn new(
         input: X::Input,
         step_kind_from_parent: PathKind,
         available_depth: AvailableDepth,
     ) -> StackEntry<X>
-        ensures { result ≡ record { input = input; step_kind_from_parent = step_kind_from_parent; available_depth = available_depth; state = record { required_depth = 0; encountered_overflow = false; node = None } } }
+        ensures { result ≡ fresh_entry input step_kind_from_parent available_depth }
     {
         StackEntry {
             input,
