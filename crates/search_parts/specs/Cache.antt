@@ -19,6 +19,7 @@ pub record CacheNode (I R : Type 0) : Type 0 where
   pub goal : I
   pub run : Option (EndedRun I R)
 
+-- the context, and the nodes by their numbers
 pub record Cache (X I R : Type 0) : Type 0 where
   pub cx : X
   pub nodes : List (CacheNode I R)
@@ -77,5 +78,6 @@ pub record IsSound {X I R : Type 0} (is_yes is_no : R → Bool) (scripts : X →
 abbrev pub graph_node_of : {I R : Type 0} → CacheNode I R → GraphNode I
 graph_node_of n = record { goal = n.goal; edges = elim n.run [ None ↦ [] | Some run ↦ run.edges ] }
 
+-- the list as nodes of a graph
 abbrev pub graph_nodes_of : {I R : Type 0} → List (CacheNode I R) → List (GraphNode I)
 graph_nodes_of nodes = map graph_node_of nodes

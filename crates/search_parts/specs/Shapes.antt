@@ -6,15 +6,19 @@ use Rattle.search_parts.specs.declared.context.Edge.{Edge}
 use Rattle.search_parts.specs.Path.{rank_of}
 use Rattle.search_parts.specs.Cache.{EndedRun, CacheNode}
 
+-- what a result says of its goal
 abbrev pub verdict_of : {R : Type 0} → (R → Bool) → (R → Bool) → R → theory.Verdict
 verdict_of is_yes is_no r = if is_yes r then theory.Yes else if is_no r then theory.No else theory.Neither
 
+-- the kind of an edge as its rank, and its target
 abbrev pub edge_shape : {I : Type 0} → Edge I → theory.Edge
 edge_shape e = record { kind = rank_of e.kind; target = e.target }
 
+-- a run that has ended: its verdict, and the shapes of its edges
 abbrev pub run_shape : {I R : Type 0} → (R → Bool) → (R → Bool) → EndedRun I R → theory.Node
 run_shape is_yes is_no run = theory.Finished (verdict_of is_yes is_no run.outcome) (map edge_shape run.edges)
 
+-- a node: finished where its run has ended
 abbrev pub shape_of : {I R : Type 0} → (R → Bool) → (R → Bool) → CacheNode I R → theory.Node
 shape_of is_yes is_no n = elim n.run [ None ↦ theory.Unfinished | Some run ↦ run_shape is_yes is_no run ]
 

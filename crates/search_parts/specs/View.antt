@@ -9,9 +9,11 @@ use Rattle.search_parts.specs.Cache.{EndedRun, CacheNode, open_node}
 abbrev pub run_of : {I R : Type 0} → Node I R → EndedRun I R
 run_of n = record { replies = n.replies.items; edges = n.edges.items; outcome = n.result }
 
+-- a finished node as contracts see it
 abbrev pub ended_node : {I R : Type 0} → Node I R → CacheNode I R
 ended_node n = record { goal = n.input; run = Some (run_of n) }
 
+-- a slot as contracts see it
 abbrev pub node_of : {I R : Type 0} → Slot I R → CacheNode I R
 node_of (Open goal) = open_node goal
 node_of (Finished n) = ended_node n
