@@ -2,3 +2,4 @@ pub mod Newest
 pub mod Entries
 pub mod Evaluating
 pub mod Graph
+pub mod Progress
