@@ -1,7 +1,7 @@
 -- The record of a run is kept by each reply and request, and gives the run's faults and edges.
-use Rattle.std.proofs.Common.{◌≡◌, ℕ, zero, suc, ◌+◌, ◌<◌, IsTrue, IsSome, ◌==◌, Bool, true, false, not, ◌&&◌, ◌||◌, cond, if◌then◌else◌, nat_lt, List, [], ◌∷◌, ◌++◌, map, length, get_or, slice_set, Option, Some, None, inl, inr, refl, sym, ap, ap₂, ◌∙◌, arith}
+use Rattle.std.proofs.Common.{◌≡◌, ℕ, zero, suc, ◌+◌, ◌<◌, IsTrue, IsSome, ◌==◌, Bool, true, false, not, ◌&&◌, ◌||◌, cond, if◌then◌else◌, nat_lt, List, [], ◌∷◌, ◌++◌, map, length, get_or, slice_set, Option, Some, None, inl, inr, refl, sym, subst, ap, ap₂, ◌∙◌, arith}
 use Rattle.std.specs.List.{filter, list_any}
-use Rattle.std.proofs.lemmas.List.{map-append, append-nil, length-append, length-set, get_or-set_same, get_or-set_other}
+use Rattle.std.proofs.lemmas.List.{map-append, append-nil, reverse-append, length-append, length-set, get_or-set_same, get_or-set_other}
 use Rattle.std.proofs.lemmas.List.Elements.{filter-append}
 use Rattle.std.proofs.lemmas.Bool.Decides.{eqb_tells, nat_tests}
 use Rattle.search_parts.specs.declared.context.Request.{Request}
@@ -12,7 +12,7 @@ use Rattle.search_parts.specs.declared.context.Verdict.{Verdict}
 use Rattle.search_parts.specs.declared.context.Verdict.TheVariants.{Yes, No, Neither}
 use Rattle.search_parts.specs.declared.context.NodeId.{NodeId}
 use Rattle.search_parts.specs.declared.path.PathKind.{PathKind}
-use Rattle.search_parts.specs.Run.{Progress, Asked, request_after, progress_after, progress_with, order_fault, fault_after, is_ignored, open_candidate, Fits}
+use Rattle.search_parts.specs.Run.{Progress, Asked, request_after, progress_after, progress_with, order_fault, fault_after, IsInOrder, is_ignored, open_candidate, Fits}
 use Rattle.search_graph.specs.Progress.{RunRecord, no_record, is_marked, is_same_verdict, asked_of, asked_in, asked_with, open_number, edge_to, answers_with, received, requested, answered, fault_of, Agrees, Records, IsSortedAs, IsReplySorted}
 
 -- one more element at the end is kept if it passes the test
@@ -163,3 +163,31 @@ module _ {I R : Type 0} (is_yes is_no : R → Bool) where
     no = h.no;
   }
   agrees_replied p done request reply v target h orderly fits sorted = absurd fits
+
+  last_in_order : (script : List (Reply R) → Request I R) (replies : List (Reply R)) → IsInOrder script replies → fault_after script replies ≡ None
+  last_in_order script [] orderly = refl
+  last_in_order script (r ∷ earlier) orderly = orderly.0
+
+  module _ (script : List (Reply R) → Request I R) (p : RunRecord I R) (earlier : List (Reply R)) (reply : Reply R) (v : Verdict) (target : Option NodeId) (h : Records is_yes is_no script p earlier) (fits : Fits (request_after script earlier) reply) (sorted : IsReplySorted is_yes is_no reply v target) where
+    agrees_received : Agrees is_yes is_no (received p reply v target) (progress_after script (reply ∷ earlier))
+    agrees_received =
+        let before = agrees_replied p (progress_after script earlier) (request_after script earlier) reply v target h.agrees (last_in_order script earlier h.in_order) fits sorted in
+        let after = subst (λ request. Agrees is_yes is_no (answered p request v target) (progress_after script (reply ∷ earlier))) (sym h.request_is) before in
+        record { open_is = after.open_is; finished_are = after.finished_are; ignored_are = after.ignored_are; yes = after.yes; no = after.no }
+
+    -- the record with the reply tells the fault of the request that follows,
+    pub fault_is : (request : Request I R) → request ≡ script (reply ∷ earlier) → fault_of (received p reply v target) request ≡ fault_after script (reply ∷ earlier)
+    fault_is request is =
+        fault_agrees (received p reply v target) (progress_after script (reply ∷ earlier)) request agrees_received
+        ∙ ap (λ q. order_fault (progress_after script (reply ∷ earlier)) (Some q)) is
+
+    -- and where there is none, the request may be noted
+    pub records_received : (request : Request I R) → request ≡ script (reply ∷ earlier) → order_fault (progress_after script (reply ∷ earlier)) (Some request) ≡ None → Records is_yes is_no script (requested (received p reply v target) request) (reply ∷ earlier)
+    records_received request is orderly =
+        let now = agrees_received in
+        record {
+          replies_are = reverse-append p.replies (reply ∷ []) ∙ ap (λ l. reply ∷ l) h.replies_are;
+          request_is = ap Some is;
+          in_order = (sym (ap (λ q. order_fault (progress_after script (reply ∷ earlier)) (Some q)) is) ∙ orderly, h.in_order);
+          agrees = record { open_is = now.open_is; finished_are = now.finished_are; ignored_are = now.ignored_are; yes = now.yes; no = now.no };
+        }
