@@ -1,8 +1,9 @@
 -- The record of a run is kept by each reply and request, and gives the run's faults and edges.
-use Rattle.std.proofs.Common.{◌≡◌, ℕ, zero, suc, ◌+◌, ◌<◌, IsTrue, IsSome, ◌==◌, Bool, true, false, not, ◌&&◌, ◌||◌, cond, if◌then◌else◌, nat_lt, List, [], ◌∷◌, ◌++◌, map, length, get_or, slice_set, Option, Some, None, inl, inr, refl, sym, subst, ap, ap₂, ◌∙◌, arith}
-use Rattle.std.specs.List.{filter, list_any}
+use Rattle.std.proofs.Common.{◌≡◌, ℕ, zero, suc, ◌+◌, ◌<◌, IsTrue, IsSome, ◌==◌, Bool, true, false, not, ◌&&◌, ◌||◌, cond, if◌then◌else◌, nat_lt, List, [], ◌∷◌, ◌++◌, map, length, get_or, slice_set, slice_index_or, ◌⊎◌, Option, Some, None, inl, inr, refl, sym, subst, ap, ap₂, ◌∙◌, arith}
+use Rattle.std.specs.List.{filter, list_any, All, Contains}
 use Rattle.std.proofs.lemmas.List.{map-append, append-nil, reverse-append, length-append, length-set, get_or-set_same, get_or-set_other}
-use Rattle.std.proofs.lemmas.List.Elements.{filter-append}
+use Rattle.std.proofs.lemmas.List.Elements.{filter-append, filter_agree, filter_passes, All-filter, All-map, All-contains, All-contains_itself}
+use Rattle.std.proofs.lemmas.Simd.{map-map}
 use Rattle.std.proofs.lemmas.Bool.Decides.{eqb_tells, nat_tests}
 use Rattle.search_parts.specs.declared.context.Request.{Request}
 use Rattle.search_parts.specs.declared.context.Request.TheVariants.{Evaluate, EnterCandidate, FinishCandidate, Ignore, Done}
@@ -11,9 +12,13 @@ use Rattle.search_parts.specs.declared.context.Reply.TheVariants.{Begin, Answer,
 use Rattle.search_parts.specs.declared.context.Verdict.{Verdict}
 use Rattle.search_parts.specs.declared.context.Verdict.TheVariants.{Yes, No, Neither}
 use Rattle.search_parts.specs.declared.context.NodeId.{NodeId}
+use Rattle.search_parts.specs.declared.context.Edge.{Edge}
 use Rattle.search_parts.specs.declared.path.PathKind.{PathKind}
-use Rattle.search_parts.specs.Run.{Progress, Asked, request_after, progress_after, progress_with, order_fault, fault_after, IsInOrder, is_ignored, open_candidate, Fits}
-use Rattle.search_graph.specs.Progress.{RunRecord, no_record, is_marked, is_same_verdict, asked_of, asked_in, asked_with, open_number, edge_to, answers_with, received, requested, answered, fault_of, Agrees, Records, IsSortedAs, IsReplySorted}
+use Rattle.search_parts.specs.Run.{Progress, Asked, request_after, progress_after, progress_with, order_fault, fault_after, IsInOrder, is_ignored, is_counted, questions_answered, open_candidate, Fits}
+use Rattle.search_parts.specs.Question.{Question}
+use Rattle.search_parts.specs.Graph.{question_of}
+use Rattle.search_graph.specs.declared.graph.progress.DefiniteAnswer.{DefiniteAnswer}
+use Rattle.search_graph.specs.Progress.{RunRecord, no_record, is_marked, is_same_verdict, asked_of, asked_in, asked_with, open_number, edge_to, answers_with, answers_after, is_kept, rests_on, edges_of, KeepsAnswer, IsEdgeOfAnswer, received, requested, answered, fault_of, Agrees, Records, IsSortedAs, IsReplySorted}
 
 -- one more element at the end is kept if it passes the test
 kept_one : {A B : Type 0} (f : A → B) (x : A) (b : Bool) → map f (cond b (x ∷ []) []) ≡ cond b (f x ∷ []) []
@@ -191,3 +196,60 @@ module _ {I R : Type 0} (is_yes is_no : R → Bool) where
           in_order = (sym (ap (λ q. order_fault (progress_after script (reply ∷ earlier)) (Some q)) is) ∙ orderly, h.in_order);
           agrees = record { open_is = now.open_is; finished_are = now.finished_are; ignored_are = now.ignored_are; yes = now.yes; no = now.no };
         }
+
+  kept_as_counted : (p : RunRecord I R) (done : Progress I R) → Agrees is_yes is_no p done → (candidate : Option ℕ) → is_kept p.ignored candidate ≡ is_counted done.ignored candidate
+  kept_as_counted p done h None = refl
+  kept_as_counted p done h (Some n) = ap not (sym (h.ignored_are n))
+
+  -- the edges of the answers ask the questions whose results pass the test
+  questions_are : (w : Verdict) (test : R → Bool) (p : RunRecord I R) (done : Progress I R) → Agrees is_yes is_no p done → asked_with w p ≡ map asked_in (filter (λ a. test a.answer) done.asked) → map question_of (edges_of p w) ≡ questions_answered test done
+  questions_are w test p done h same =
+      map-map question_of (λ (d : DefiniteAnswer I). d.edge) (filter (rests_on p.ignored w) p.answers)
+      ∙ kept_twice asked_of (λ d. is_same_verdict d.verdict w) (is_kept p.ignored) p.answers
+      ∙ ap (λ (asked : List (Question I × Option ℕ)). map (λ q. q.0) (filter (λ q. is_kept p.ignored q.1) asked)) same
+      ∙ ap (map (λ (q : Question I × Option ℕ). q.0)) (filter_agree (λ q. is_kept p.ignored q.1) (λ q. is_counted done.ignored q.1) (λ q. kept_as_counted p done h q.1) (map asked_in (filter (λ (a : Asked I R). test a.answer) done.asked)))
+      ∙ sym (kept_twice asked_in (λ (a : Asked I R). test a.answer) (is_counted done.ignored) done.asked)
+
+  module _ (script : List (Reply R) → Request I R) (p : RunRecord I R) (replies : List (Reply R)) (h : Records is_yes is_no script p replies) where
+    -- a result of yes rests on the questions that were answered yes,
+    pub yes_edges_are : map question_of (edges_of p Yes) ≡ questions_answered is_yes (progress_after script replies)
+    yes_edges_are = questions_are Yes is_yes p (progress_after script replies) h.agrees h.agrees.yes
+
+    -- and one of no on those that were answered no
+    pub no_edges_are : map question_of (edges_of p No) ≡ questions_answered is_no (progress_after script replies)
+    no_edges_are = questions_are No is_no p (progress_after script replies) h.agrees h.agrees.no
+
+same_verdict : (v w : Verdict) (b : Bool) → (is_same_verdict v w && b) ≡ true → v ≡ w
+same_verdict Yes Yes b is = refl
+same_verdict No No b is = refl
+same_verdict Neither Neither b is = refl
+same_verdict Yes No b is = cc
+same_verdict Yes Neither b is = cc
+same_verdict No Yes b is = cc
+same_verdict No Neither b is = cc
+same_verdict Neither Yes b is = cc
+same_verdict Neither No b is = cc
+
+module _ {I R : Type 0} (p : RunRecord I R) (v : Verdict) where
+  -- each edge is that of an answer with the verdict
+  pub edge_is_of_answer : (e : Edge I) → Contains (edges_of p v) e → IsEdgeOfAnswer p.answers v e
+  edge_is_of_answer e there =
+      let some = filter (rests_on p.ignored v) p.answers in
+      let within = All-filter (rests_on p.ignored v) (Contains p.answers) p.answers (All-contains_itself p.answers) in
+      let passes = filter_passes (rests_on p.ignored v) p.answers in
+      let each : All (λ d. IsEdgeOfAnswer p.answers v d.edge) some =
+          λ k d below. record { answer = slice_index_or some k d; is_in = within k d below; verdict_is = same_verdict _ _ _ (passes k d below); edge_is = refl } in
+      All-contains (IsEdgeOfAnswer p.answers v) (edges_of p v) e (All-map (IsEdgeOfAnswer p.answers v) (λ d. d.edge) some each) there
+
+  answers_after_question : (kind : PathKind) (input : I) (w : Verdict) (target : Option NodeId) → p.request ≡ Some (Evaluate kind input) → (answers_after p kind input w target ≡ p.answers) ⊎ KeepsAnswer p w target (answers_after p kind input w target)
+  answers_after_question kind input Yes (Some node) is = inr (record { kind = kind; input = input; node = node; was = is; target_is = refl; kept = refl })
+  answers_after_question kind input No (Some node) is = inr (record { kind = kind; input = input; node = node; was = is; target_is = refl; kept = refl })
+  answers_after_question kind input w target is = inl refl
+
+  answers_after_request : (target : Option NodeId) (request : Option (Request I R)) → p.request ≡ request → ((answered p request v target).answers ≡ p.answers) ⊎ KeepsAnswer p v target (answered p request v target).answers
+  answers_after_request target (Some (Evaluate kind input)) is = answers_after_question kind input v target is
+  answers_after_request target request is = inl refl
+
+  -- a reply adds at most the answer to the last request
+  pub answers_received : (reply : Reply R) (target : Option NodeId) → ((received p reply v target).answers ≡ p.answers) ⊎ KeepsAnswer p v target (received p reply v target).answers
+  answers_received reply target = answers_after_request target p.request refl

@@ -1,5 +1,5 @@
 -- What a run has done so far, as its record keeps it. The replies stand with the oldest first.
-use Rattle.std.specs.Prelude.{◌≡◌, ◌↔◌, ℕ, nat_lt, IsTrue, IsSome, Bool, true, false, not, ◌&&◌, if◌then◌else◌, List, [], ◌∷◌, ◌++◌, map, filter, length, reverse, get_or, slice_set, Option, None, Some}
+use Rattle.std.specs.Prelude.{◌≡◌, ◌↔◌, ℕ, nat_lt, IsTrue, IsSome, Bool, true, false, not, ◌&&◌, if◌then◌else◌, List, [], ◌∷◌, ◌++◌, map, filter, length, reverse, get_or, slice_set, Option, None, Some, Contains}
 use Rattle.search_parts.specs.declared.context.Request.{Request}
 use Rattle.search_parts.specs.declared.context.Request.TheVariants.{Evaluate, EnterCandidate, FinishCandidate, Ignore}
 use Rattle.search_parts.specs.declared.context.Reply.{Reply}
@@ -132,3 +132,19 @@ pub record IsSortedAs {R : Type 0} (is_yes is_no : R → Bool) (r : R) (verdict 
 abbrev pub IsReplySorted : {R : Type 0} → (R → Bool) → (R → Bool) → Reply R → Verdict → Option NodeId → Type 0
 IsReplySorted is_yes is_no (Answer r) verdict target = IsSortedAs is_yes is_no r verdict target
 IsReplySorted is_yes is_no _ verdict target = Unit {0}
+
+-- the edge is that of an answer with this verdict
+pub record IsEdgeOfAnswer {I : Type 0} (answers : List (DefiniteAnswer I)) (verdict : Verdict) (e : Edge I) : Type 0 where
+  pub answer : DefiniteAnswer I
+  pub is_in : Contains answers answer
+  pub verdict_is : answer.verdict ≡ verdict
+  pub edge_is : answer.edge ≡ e
+
+-- the answers are those of the record and one more, to its last request
+pub record KeepsAnswer {I R : Type 0} (p : RunRecord I R) (verdict : Verdict) (target : Option NodeId) (answers : List (DefiniteAnswer I)) : Type 0 where
+  pub kind : PathKind
+  pub input : I
+  pub node : NodeId
+  pub was : p.request ≡ Some (Evaluate kind input)
+  pub target_is : target ≡ Some node
+  pub kept : answers ≡ answers_with p (edge_to kind input node) verdict
