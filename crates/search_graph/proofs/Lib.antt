@@ -8,3 +8,5 @@ pub mod Loops
 pub mod Promises
 pub mod Justified
 pub mod ProgressLaws
+pub mod Replies
+pub mod Finishing

@@ -44,6 +44,12 @@ pub record Outset {I : Type 0} (call : Call I) (input : I) (root starts : ℕ) (
   pub same_starts : call.starts ≡ starts
   pub same_limits : call.limits_met ≡ met
 
+-- the verdict is that of the answer, if the reply is one
+abbrev pub IsVerdict : {R : Type 0} → (R → Bool) → (R → Bool) → Reply R → Verdict → Type 0
+IsVerdict is_yes is_no Begin verdict = verdict ≡ Neither
+IsVerdict is_yes is_no Noted verdict = verdict ≡ Neither
+IsVerdict is_yes is_no (Answer r) verdict = ((verdict ≡ Yes) ↔ IsTrue (is_yes r)) × ((verdict ≡ No) ↔ IsTrue (is_no r))
+
 module _ {D C V P F I R A T : Type 0} (G : Delegate.Ghosts D C V P F I R A T) (X : Cx.Ghosts C I R A T) (cx : C) where
   -- a goal under evaluation with its run
   abbrev pub Item : Type 0
@@ -87,12 +93,6 @@ module _ {D C V P F I R A T : Type 0} (G : Delegate.Ghosts D C V P F I R A T) (X
   CanStep reply [] = ⊥
   CanStep reply (s ∷ below) = (replies : List (Reply R)) × G.stands s.1.frame cx s.0.input replies × IsFitting (G.script cx s.0.input) (reply ∷ replies)
 
-  -- the verdict is that of the answer, if the reply is one
-  abbrev pub IsVerdict : Reply R → Verdict → Type 0
-  IsVerdict Begin verdict = verdict ≡ Neither
-  IsVerdict Noted verdict = verdict ≡ Neither
-  IsVerdict (Answer r) verdict = ((verdict ≡ Yes) ↔ IsTrue (X.is_yes r)) × ((verdict ≡ No) ↔ IsTrue (X.is_no r))
-
   -- the run with the reply on record
   abbrev pub received_by : Run C F I R A T → Received R → Verdict → RunRecord I R
   received_by run given verdict = received run.progress given.reply verdict given.node
@@ -106,7 +106,7 @@ module _ {D C V P F I R A T : Type 0} (G : Delegate.Ghosts D C V P F I R A T) (X
     pub below : List Item
     pub was : old ≡ (entry, run) ∷ below
     pub is : new ≡ (entry, record { frame = frame; node = run.node; progress = requested (received_by run given verdict) request }) ∷ below
-    pub is_verdict : IsVerdict given.reply verdict
+    pub is_verdict : IsVerdict X.is_yes X.is_no given.reply verdict
     pub in_order : fault_of (received_by run given verdict) request ≡ None
     pub falls : G.left frame < G.left run.frame
     pub steps : Steps G.stands G.script run.frame given.reply request frame
@@ -116,7 +116,7 @@ module _ {D C V P F I R A T : Type 0} (G : Delegate.Ghosts D C V P F I R A T) (X
     NoMemoryLeft : fault ≡ Memory → IsStepFault given old fault
     OutOfOrder :
         (entry : StackEntry C I R A T) (run : Run C F I R A T) (frame : F) (verdict : Verdict) (below : List Item) (request : Request I R) (number : ℕ)
-        → old ≡ (entry, run) ∷ below → IsVerdict given.reply verdict → Steps G.stands G.script run.frame given.reply request frame
+        → old ≡ (entry, run) ∷ below → IsVerdict X.is_yes X.is_no given.reply verdict → Steps G.stands G.script run.frame given.reply request frame
         → fault_of (received_by run given verdict) request ≡ Some number → fault ≡ Protocol number → IsStepFault given old fault
 
   -- memory is out, or some goal's script makes a request out of order after replies that fit

@@ -14,3 +14,4 @@ pub mod StackReads
 pub mod PathSets
 pub mod PathLaws
 pub mod Counts
+pub mod Finished

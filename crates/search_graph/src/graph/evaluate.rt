@@ -62,7 +62,7 @@ fn advance<D: Delegate>(
     requires justified { AreJustified D.Cx.is_yes D.Cx.is_no cache.old.nodes (runs_of goals.old) }
     requires fits { IsFit D.Cx.is_yes D.Cx.is_no cache.old.nodes (runs_of goals.old) received.reply received.node }
     ensures leads { (call : Call D.Cx.Input) → IsWaiting D.Delegate D.Cx.Cx cache.old.cx call received.reply goals.old (D.starts inspect.old) limits_met.old →
-        IfOk result (λ next. Leads D.Delegate D.Cx.Cx cache.old.cx call (work_left D.Delegate D.Cx.Cx cache.old.cx goals.old) next goals.new (D.starts inspect.new) limits_met.new) }
+        IfOk result (λ next. Leads D.Delegate D.Cx.Cx cache.old.cx call (work_left D.Delegate D.Cx.Cx cache.old.cx goals.old) goals.old next goals.new (D.starts inspect.new) limits_met.new) }
     ensures stopped { (call : Call D.Cx.Input) → IsWaiting D.Delegate D.Cx.Cx cache.old.cx call received.reply goals.old (D.starts inspect.old) limits_met.old →
         IfErr result (λ fault. HasStopped D.Delegate D.Cx.Cx cache.old.cx call fault (D.starts inspect.new) limits_met.new) }
     ensures justified { IfOk result (λ next. IsJustifiedNext D.Cx.is_yes D.Cx.is_no cache.new.nodes goals.old goals.new next) }

@@ -2,7 +2,7 @@
 ghost use Rattle.std.specs.Prelude.{◌≡◌, ℕ, ◌+◌, ◌^◌, ◌<◌, List, [], ◌∷◌, length, false, Some, None, OnOk, OnErr, IfOk, IfErr, map, reverse};
 ghost use Rattle.std.specs.List.{list_any};
 ghost use Rattle.std.specs.Option.{option_map};
-ghost use Rattle.search_graph.specs.Evaluating.{CanStep, HasStepped, IsStepFault};
+ghost use Rattle.search_graph.specs.Evaluating.{CanStep, IsVerdict, HasStepped, IsStepFault};
 
 use crate::graph::progress::Progress;
 use search_parts::context::{Answer, Cx, Delegate, Fault, NoMemory, NodeId, Reply, Request, Verdict};
@@ -178,10 +178,7 @@ pub(crate) fn step<D: Delegate>(
     ensures fault { IfErr result (λ fault. IsStepFault D.Delegate D.Cx.Cx cx received goals.old fault) }
     ensures same_starts { D.starts inspect.new ≡ D.starts inspect.old }
 {
-    let verdict = match received.reply {
-        Reply::Answer(outcome) => cx.sort(outcome),
-        Reply::Begin | Reply::Noted => Verdict::Neither,
-    };
+    let verdict = sort_of(cx, received.reply);
     let last = goals.runs.len() - 1;
     let run = &mut goals.runs[last];
     run.progress
@@ -192,4 +189,15 @@ pub(crate) fn step<D: Delegate>(
     }
     run.progress.note_request(request);
     Ok(request)
+}
+
+/// The sort of an answer; any other reply has none.
+fn sort_of<X: Cx>(cx: X, reply: Reply<X::Result>) -> Verdict
+    ensures { IsVerdict X.is_yes X.is_no reply result }
+{
+    match reply {
+        Reply::Answer(outcome) => cx.sort(outcome),
+        Reply::Begin => Verdict::Neither,
+        Reply::Noted => Verdict::Neither,
+    }
 }
