@@ -40,6 +40,6 @@ marked_after_finish (b ∷ marks) (suc n) = marked_after_finish marks n
 pub marked_after_ignore : (marks : List Bool) (m n : ℕ) → m < length marks → is_marked (slice_set marks m true) n ≡ (m == n || is_marked marks n)
 marked_after_ignore marks m n within =
     elim (eqb_tells m n) [
-    | inl (same, e) ↦ rw same (rw (sym e) (get_or-set_same marks m true false within))
-    | inr (other, differ) ↦ rw other (get_or-set_other marks m n true false (λ e. differ (sym e)))
+      | inl (same, e) ↦ rw same (rw (sym e) (get_or-set_same marks m true false within))
+      | inr (other, differ) ↦ rw other (get_or-set_other marks m n true false (λ e. differ (sym e)))
     ]

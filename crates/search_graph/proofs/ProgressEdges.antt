@@ -1,5 +1,5 @@
 -- The edges that the record of a run gives, and the run that its node keeps.
-use Rattle.std.proofs.Common.{◌≡◌, ◌↔◌, ℕ, IsTrue, Bool, true, false, not, ◌&&◌, List, map, reverse, length, slice_get, slice_index_or, Option, Some, None, refl, sym, subst, ap, ◌∙◌}
+use Rattle.std.proofs.Common.{◌≡◌, ◌↔◌, ℕ, IsTrue, Bool, true, false, not, ◌&&◌, List, map, slice_index_or, Option, Some, None, refl, sym, subst, ap, ◌∙◌}
 use Rattle.std.specs.List.{filter, All, Contains}
 use Rattle.std.proofs.lemmas.List.Elements.{filter_agree, filter_passes, All-filter, All-map, All-contains, All-contains_itself}
 use Rattle.std.proofs.lemmas.Option.{slice_get_within, get_or_from_slice_get}
@@ -13,7 +13,7 @@ use Rattle.search_parts.specs.declared.context.Edge.{Edge}
 use Rattle.search_parts.specs.Question.{Question}
 use Rattle.search_parts.specs.Graph.{question_of}
 use Rattle.search_parts.specs.Cache.{CacheNode, IsRun, IsNodeOf}
-use Rattle.search_parts.specs.Run.{Progress, Asked, progress_after, is_counted, questions_answered, IsFitting, EndsIn}
+use Rattle.search_parts.specs.Run.{Progress, Asked, progress_after, is_counted, questions_answered, IsFitting}
 use Rattle.search_graph.specs.declared.graph.progress.DefiniteAnswer.{DefiniteAnswer}
 use Rattle.search_graph.specs.Progress.{RunRecord, is_same_verdict, asked_of, asked_in, asked_with, is_kept, rests_on, edges_of, IsEdgeOfAnswer, Agrees, Records}
 use Rattle.search_graph.proofs.Kept.{kept_twice}
@@ -31,7 +31,7 @@ module _ {I R : Type 0} (p : RunRecord I R) (v : Verdict) where
       let within = All-filter (rests_on p.ignored v) (Contains p.answers) p.answers (All-contains_itself p.answers) in
       let passes = filter_passes (rests_on p.ignored v) p.answers in
       let each : All (λ d. IsEdgeOfAnswer p.answers v d.edge) some =
-          λ k d below. record { answer = slice_index_or some k d; is_in = within k d below; verdict_is = same_verdict _ _ (first_true _ _ (passes k d below)); edge_is = refl } in
+      λ k d below. record { answer = slice_index_or some k d; is_in = within k d below; verdict_is = same_verdict _ _ (first_true _ _ (passes k d below)); edge_is = refl } in
       All-contains (IsEdgeOfAnswer p.answers v) (edges_of p v) e (All-map (IsEdgeOfAnswer p.answers v) (λ d. d.edge) some each) there
 
 module _ {I R : Type 0} (is_yes is_no : R → Bool) where

@@ -1,5 +1,5 @@
 -- Verdicts, and the tests of results that they stand for.
-use Rattle.std.proofs.Common.{◌≡◌, ◌↔◌, Bool, true, false, IsTrue, refl, ap}
+use Rattle.std.proofs.Common.{◌≡◌, ◌↔◌, Bool, true, false, IsTrue, refl}
 use Rattle.search_parts.specs.declared.context.Verdict.{Verdict}
 use Rattle.search_parts.specs.declared.context.Verdict.TheVariants.{Yes, No, Neither}
 use Rattle.search_graph.specs.Progress.{is_same_verdict}
