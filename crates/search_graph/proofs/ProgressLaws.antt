@@ -38,7 +38,7 @@ module _ {I R : Type 0} (test : R → Bool) (w : Verdict) (p : RunRecord I R) (d
   same_after_other : test r ≡ false → asked_with w p ≡ map asked_in (filter (λ a. test a.answer) (done.asked ++ latest ∷ []))
   same_after_other fails = same ∙ sym (append-nil _) ∙ sym (kept_more asked_in (λ (a : Asked I R). test a.answer) done.asked latest false fails)
 
--- the fault of a request that follows these replies is that of the run
+-- no request that was made is out of order, nor is the last
 last_in_order : {I R : Type 0} (script : List (Reply R) → Request I R) (replies : List (Reply R)) → IsInOrder script replies → fault_after script replies ≡ None
 last_in_order script [] orderly = refl
 last_in_order script (r ∷ earlier) orderly = orderly.0
