@@ -6,7 +6,7 @@ pub mod Moves
 pub mod Questions
 pub mod Loops
 pub mod Promises
-pub mod Kept
-pub mod Verdicts
 pub mod ProgressLaws
 pub mod ProgressEdges
+pub mod Kept
+pub mod Verdicts
