@@ -30,7 +30,7 @@ use Rattle.search_graph.specs.Justified.{OpenRun, in_theory, ArePlaced, AreEdges
 use Rattle.search_graph.specs.Runs.{run_of, runs_of, IsJustifiedNext, IsDone, EndsNewest, EndsRun, IsSettled, Ended, LeftOpen}
 use Rattle.search_graph.specs.Evaluating.{Leaves}
 use Rattle.search_graph.proofs.Justified.{pushed_is_justified, undone_is_justified, done_is_justified, done_may_answer, answer_fits, other_fits, answer_has_graph, neither_has_none}
-use Rattle.search_graph.proofs.ProgressLaws.{yes_edges_are, no_edges_are, edge_is_of_answer}
+use Rattle.search_graph.proofs.ProgressEdges.{yes_edges_are, no_edges_are, edge_is_of_answer}
 use Rattle.search_graph.proofs.Replies.{verdict_is, in_theory_definite}
 
 -- ---- places in a list

@@ -10,3 +10,6 @@ pub mod Justified
 pub mod ProgressLaws
 pub mod Replies
 pub mod Finishing
+pub mod ProgressEdges
+pub mod Kept
+pub mod Verdicts

@@ -94,9 +94,9 @@ pub record MayAnswer {I R : Type 0} (is_yes is_no : R → Bool) (nodes : List (C
 
 -- a definite answer for the newest goal comes with a node that may answer its question
 abbrev pub IsFit : {I R : Type 0} → (R → Bool) → (R → Bool) → List (CacheNode I R) → List (OpenRun I R) → Reply R → Option NodeId → Type 0
-IsFit is_yes is_no nodes goals reply node =
+IsFit is_yes is_no nodes goals reply target =
     (r : _) (kind : PathKind) (goal : _) → reply ≡ Answer r → Asks goals kind goal → verdict_of is_yes is_no r ≢ theory.Neither →
-    IsSomeAnd node (λ a. MayAnswer is_yes is_no nodes goals (verdict_of is_yes is_no r) kind goal a.0)
+    IsSomeAnd target (λ a. MayAnswer is_yes is_no nodes goals (verdict_of is_yes is_no r) kind goal a.0)
 
 -- a definite result of a goal comes with a node of the goal whose graph has its verdict; another result has none
 pub record HasGraph {I R : Type 0} (is_yes is_no : R → Bool) (nodes : List (CacheNode I R)) (goal : I) (r : R) (node : Option NodeId) : Type 0 where
