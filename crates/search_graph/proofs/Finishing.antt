@@ -10,7 +10,7 @@ use Rattle.search_parts.specs.declared.context.Edge.{Edge}
 use Rattle.search_parts.specs.declared.context.NodeId.{NodeId}
 use Rattle.search_parts.specs.declared.context.Request.{Request}
 use Rattle.search_parts.specs.declared.context.Reply.{Reply}
-use Rattle.search_parts.specs.declared.context.Reply.TheVariants.{Answer}
+use Rattle.search_parts.specs.declared.context.Reply.TheVariants.{Begin, Answer, Noted}
 use Rattle.search_parts.specs.declared.parts.depth.AvailableDepth.{AvailableDepth}
 use Rattle.search_parts.specs.declared.parts.stack.StackEntry.{StackEntry}
 use Rattle.search_parts.specs.Stack.{fresh_entry}
@@ -69,6 +69,13 @@ neither_is is_yes is_no r h = neither_at (is_yes r) (is_no r) h.not_yes h.not_no
 -- an answer that is neither yes nor no fits
 pub neither_fits : {I R : Type 0} (is_yes is_no : R → Bool) (nodes : List (CacheNode I R)) (goals : List (OpenRun I R)) (r : R) → verdict_of is_yes is_no r ≡ theory.Neither → IsFit is_yes is_no nodes goals (Answer r) None
 neither_fits is_yes is_no nodes goals r neither = other_fits is_yes is_no nodes goals (Answer r) None (λ s is. let same : r ≡ s = cc in ap (verdict_of is_yes is_no) (sym same) ∙ neither)
+
+-- a frame begins, and is noted, with no answer
+pub begin_fits : {I R : Type 0} (is_yes is_no : R → Bool) (nodes : List (CacheNode I R)) (goals : List (OpenRun I R)) → IsFit is_yes is_no nodes goals Begin None
+begin_fits is_yes is_no nodes goals = other_fits is_yes is_no nodes goals Begin None (λ s is. let e : Begin ≡ Answer s = is in absurd cc)
+
+pub noted_fits : {I R : Type 0} (is_yes is_no : R → Bool) (nodes : List (CacheNode I R)) (goals : List (OpenRun I R)) → IsFit is_yes is_no nodes goals Noted None
+noted_fits is_yes is_no nodes goals = other_fits is_yes is_no nodes goals Noted None (λ s is. let e : Noted ≡ Answer s = is in absurd cc)
 
 -- ---- the run that a node is finished with
 

@@ -1,5 +1,6 @@
-use Rattle.std.proofs.Common.{◌≡◌, ◌∙◌, ◌≤◌, [], ◌∷◌, false, sym, ap, subst}
+use Rattle.std.proofs.Common.{◌≡◌, ◌∙◌, ◌≤◌, [], ◌∷◌, ◌++◌, false, sym, ap, subst}
 use Rattle.std.specs.List.{list_any}
+use Rattle.search_parts.specs.Cache.{open_node}
 use Rattle.search_parts.proofs.Finished.{KeepsFinished-nodes}
 use Rattle.search_graph.specs.Justified.{AreJustified}
 use Rattle.search_graph.specs.Runs.{runs_of}
@@ -27,6 +28,6 @@ returns-clause-pushed g c = record {
 pub returns-clause-justified : goal.returns-clause-justified
 returns-clause-justified g c =
     subst (λ nodes. AreJustified g.D.Cx.Cx.is_yes g.D.Cx.Cx.is_no nodes (runs_of c.push.new.self)) (sym (ap (λ cache. cache.nodes) c.in_ok-node.ensures.opened))
-    (subst (λ goals. AreJustified g.D.Cx.Cx.is_yes g.D.Cx.Cx.is_no _ (runs_of goals)) (sym (c.in_ok-push.ensures.ok ∙ ap (λ e. (e, record { frame = c.in_ok-frame.frame; node = c.in_ok-node.node; progress = c.new-progress.result }) ∷ c.args.goals.now) c.new-entry.ensures))
+    (subst (λ goals. AreJustified g.D.Cx.Cx.is_yes g.D.Cx.Cx.is_no (c.args.cache.now.nodes ++ open_node c.args.input ∷ []) (runs_of goals)) (sym (c.in_ok-push.ensures.ok ∙ ap (λ e. (e, record { frame = c.in_ok-frame.frame; node = c.in_ok-node.node; progress = c.new-progress.result }) ∷ c.args.goals.now) c.new-entry.ensures))
     (pushed_goal_is_justified g.D.Cx.Cx.is_yes g.D.Cx.Cx.is_no c.args.cache.now.nodes c.args.input c.args.step_kind c.args.depth (record { frame = c.in_ok-frame.frame; node = c.in_ok-node.node; progress = c.new-progress.result }) c.args.goals.now
     c.in_ok-node.ensures.node c.new-progress.ensures c.requires.asks c.requires.justified))
