@@ -155,3 +155,35 @@ pub answer_is_fit : {X F I R A T : Type 0} (is_yes is_no : R → Bool) (before a
 answer_is_fit is_yes is_no before after entry run p below h r node (Ended ended outcome definite is edges) =
     answer_fits is_yes is_no after (run_of p) (runs_of below) r entry.step_kind_from_parent entry.input run.node h.asked.0 (λ d. may_answer is_yes is_no before after entry run (p ∷ below) h r ended outcome definite is edges)
 answer_is_fit is_yes is_no before after entry run p below h r node (LeftOpen neither is) = neither_fits is_yes is_no after (runs_of (p ∷ below)) r neither
+
+-- what comes after the newest goal was taken
+module _ {X F I R A T : Type 0} (is_yes is_no : R → Bool) (before after : List (CacheNode I R)) (s : StackEntry X I R A T × Run X F I R A T) (old rest new : List (StackEntry X I R A T × Run X F I R A T)) (was : old ≡ s ∷ rest) (r : R) (target : Option NodeId) where
+  pub finished_is_justified : length rest ≡ 0 → AreJustified is_yes is_no before (runs_of old) → IsSettled is_yes is_no before after s.1.node s.1.progress r target → IsJustifiedNext is_yes is_no after old new (Finished (record { result = r; node = target }))
+  finished_is_justified none h settled =
+      subst (λ v. IsJustifiedNext is_yes is_no after v new (Finished (record { result = r; node = target }))) (sym was)
+      (last_has_graph is_yes is_no before after s.0 s.1 (subst (λ v. AreJustified is_yes is_no before (runs_of v)) (was ∙ ap (λ l. s ∷ l) (nothing rest none)) h) r target settled)
+    where
+      nothing : (l : List (StackEntry X I R A T × Run X F I R A T)) → length l ≡ 0 → l ≡ []
+      nothing [] e = refl
+      nothing (x ∷ l) e = absurd (omega (arith, e))
+
+-- the goal below gets its result
+leaves_at : {X F I R A T : Type 0} (s : StackEntry X I R A T × Run X F I R A T) (rest : List (StackEntry X I R A T × Run X F I R A T)) (r : R) (target : Option NodeId) → length rest ≢ 0 → Leaves r (s ∷ rest) (Step (record { reply = Answer r; node = target })) (change_newest (λ t. (with_answer t.0 s.0.state.required_depth s.0.state.encountered_overflow, t.1)) rest)
+leaves_at s [] r target some = absurd (some refl)
+leaves_at s (p ∷ below) r target some = (target, refl, refl)
+
+step_fits_at : {X F I R A T : Type 0} (is_yes is_no : R → Bool) (before after : List (CacheNode I R)) (s : StackEntry X I R A T × Run X F I R A T) (rest : List (StackEntry X I R A T × Run X F I R A T)) (r : R) (target : Option NodeId) → length rest ≢ 0 → AreJustified is_yes is_no before (runs_of (s ∷ rest)) → IsSettled is_yes is_no before after s.1.node s.1.progress r target → AreJustified is_yes is_no after (runs_of rest) × IsFit is_yes is_no after (runs_of rest) (Answer r) target
+step_fits_at is_yes is_no before after s [] r target some h settled = absurd (some refl)
+step_fits_at is_yes is_no before after s (p ∷ below) r target some h settled =
+    (below_is_justified is_yes is_no before after s.0 s.1 (p ∷ below) h r target settled, answer_is_fit is_yes is_no before after s.0 s.1 p below h r target settled)
+
+module _ {X F I R A T : Type 0} (s : StackEntry X I R A T × Run X F I R A T) (old rest new : List (StackEntry X I R A T × Run X F I R A T)) (was : old ≡ s ∷ rest) (some : length rest ≢ 0) (r : R) (target : Option NodeId) (is : new ≡ change_newest (λ t. (with_answer t.0 s.0.state.required_depth s.0.state.encountered_overflow, t.1)) rest) where
+  pub leaves_step : Leaves r old (Step (record { reply = Answer r; node = target })) new
+  leaves_step =
+      subst (λ v. Leaves r v (Step (record { reply = Answer r; node = target })) new) (sym was)
+      (subst (λ v. Leaves r (s ∷ rest) (Step (record { reply = Answer r; node = target })) v) (sym is) (leaves_at s rest r target some))
+
+  pub step_is_fit : (is_yes is_no : R → Bool) (before after : List (CacheNode I R)) → AreJustified is_yes is_no before (runs_of old) → IsSettled is_yes is_no before after s.1.node s.1.progress r target → AreJustified is_yes is_no after (runs_of new) × IsFit is_yes is_no after (runs_of new) (Answer r) target
+  step_is_fit is_yes is_no before after h settled =
+      subst (λ runs. AreJustified is_yes is_no after runs × IsFit is_yes is_no after runs (Answer r) target) (runs_of-with_answer s.0.state.required_depth s.0.state.encountered_overflow rest ∙ ap runs_of (sym is))
+      (step_fits_at is_yes is_no before after s rest r target some (subst (λ v. AreJustified is_yes is_no before (runs_of v)) was h) settled)

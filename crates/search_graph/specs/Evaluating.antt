@@ -135,6 +135,10 @@ module _ {D C V P F I R A T : Type 0} (G : Delegate.Ghosts D C V P F I R A T) (X
     pub waits : Waits seen Stood (G.script cx) (limits call) (IsCounted call) call.top (bound call) reply goals starts met
     pub keeps : KeepsLimits call met
 
+  -- the same for each call of this goal at this depth
+  abbrev pub IsLoopWaiting : (input : I) (root before : ℕ) (unmet : Bool) (reply : Reply R) (goals : List Item) (starts : ℕ) (met : Bool) → Type 0
+  IsLoopWaiting input root before unmet reply goals starts met = (call : Call I) → Outset call input root before unmet → IsWaiting call reply goals starts met
+
   -- the steps that are left at most
   abbrev pub work_left : List Item → ℕ
   work_left goals = steps_ahead runs (G.width cx) (map seen goals)

@@ -60,7 +60,7 @@ fn finish_node<D: Delegate>(
     ensures kept { KeepsFinished cache.old.nodes cache.new.nodes }
 {
     let verdict = cache.cx().sort(outcome);
-    if verdict == Verdict::Neither {
+    if let Verdict::Neither = verdict {
         return Ok(None);
     }
     let edges = progress.edges(verdict)?;
