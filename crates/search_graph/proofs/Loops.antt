@@ -9,6 +9,7 @@ use Rattle.search_parts.specs.declared.path.PathKind.{PathKind}
 use Rattle.search_parts.specs.declared.parts.depth.AvailableDepth.{AvailableDepth}
 use Rattle.search_parts.specs.declared.parts.stack.StackEntry.{StackEntry}
 use Rattle.search_parts.specs.declared.context.Fault.{Fault}
+use Rattle.search_parts.specs.declared.context.Answer.{Answer}
 use Rattle.search_parts.specs.declared.context.Request.TheVariants.{Evaluate, Done}
 use Rattle.search_parts.specs.Delegate.{CountsOne}
 use Rattle.search_parts.specs.Cache.{CacheNode}
@@ -18,7 +19,7 @@ use Rattle.search_graph.specs.declared.graph.open_goals.Received.{Received}
 use Rattle.search_graph.specs.declared.graph.open_goals.Next.{Next}
 use Rattle.search_graph.specs.declared.graph.open_goals.Next.TheVariants.{Step, Finished}
 use Rattle.search_graph.specs.Progress.{requested, IsReplySorted}
-use Rattle.search_graph.specs.Justified.{Asks, AreJustified, IsFit}
+use Rattle.search_graph.specs.Justified.{Asks, AreJustified, IsFit, HasGraph}
 use Rattle.search_graph.specs.Runs.{runs_of, IsJustifiedNext}
 use Rattle.search_graph.specs.Evaluating.{Call, Outset, HasStepped, IsWaiting, HasAsked, HasStopped, IsStepFault, IsOnly, Leads, Leaves, Pushes, received_by, work_left}
 use Rattle.search_graph.proofs.Moves.{root_waits, failed_root_stopped, step_asks, step_stops, leave_leads}
@@ -97,3 +98,9 @@ module _ {D C V P F I R A T : Type 0} (G : Delegate.Ghosts D C V P F I R A T) (X
   pub step_asks_for : (read : C) (request : Request I R) → HasStepped G X read given request old new → (kind : PathKind) (goal : I) → request ≡ Evaluate kind goal → Asks (runs_of new) kind goal
   step_asks_for read request s kind goal is =
       subst (λ (v : List (StackEntry C I R A T × Run C F I R A T)). Asks (runs_of v) kind goal) (sym s.is) (ap Some is)
+
+-- the only goal's answer is that of the goal
+pub only_has_graph : {D C V P F I R A T : Type 0} (G : Delegate.Ghosts D C V P F I R A T) (X : Cx.Ghosts C I R A T) (cx : C) (nodes : List (CacheNode I R)) (old new : List (StackEntry C I R A T × Run C F I R A T)) (goal : I) (answer : Answer R) → IsOnly G X cx old goal → IsJustifiedNext X.is_yes X.is_no nodes old new (Finished answer) → HasGraph X.is_yes X.is_no nodes goal answer.result answer.node
+only_has_graph G X cx nodes [] new goal answer only h = absurd only
+only_has_graph G X cx nodes (s ∷ []) new goal answer only h = subst (λ input. HasGraph X.is_yes X.is_no nodes input answer.result answer.node) only h
+only_has_graph G X cx nodes (s ∷ p ∷ below) new goal answer only h = absurd only
