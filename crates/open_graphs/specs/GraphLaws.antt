@@ -1,6 +1,6 @@
 -- The theorems on the list of nodes and on graphs in it.
 use Rattle.std.specs.Prelude.{◌≡◌, ℕ, List, [], ◌∷◌, ◌++◌, Some, slice_get, slice_set, IsTrue}
-use Rattle.open_graphs.specs.Graph.{Verdict, Node, Unfinished, HasEdge, Walk, Grown, has_verdict, IsGraph}
+use Rattle.open_graphs.specs.Graph.{Verdict, Edge, Node, Unfinished, Finished, HasEdge, Walk, Grown, has_verdict, IsGraph}
 
 -- An unfinished node is appended: the list has grown.
 abbrev pub AppendGrows : Type 0
@@ -25,3 +25,11 @@ CopyIsGraph =
     → ((a k b : ℕ) → HasEdge copy verdict a k b → HasEdge nodes verdict (original a) k (original b))
     → ((a q : ℕ) → Walk (HasEdge copy verdict) root q a → IsTrue (has_verdict verdict (slice_get copy a)))
     → IsGraph nodes verdict (original root) → IsGraph copy verdict root
+
+-- An unfinished node whose edges all lead to graphs of a verdict is finished with it: it is the root of such a graph.
+abbrev pub FinishGivesGraph : Type 0
+FinishGivesGraph =
+    (nodes : List Node) (verdict : Verdict) (n : ℕ) (edges : List Edge)
+    → slice_get nodes n ≡ Some Unfinished
+    → ((i : ℕ) (edge : Edge) → slice_get edges i ≡ Some edge → IsGraph nodes verdict edge.target)
+    → IsGraph (slice_set nodes n (Finished verdict edges)) verdict n
