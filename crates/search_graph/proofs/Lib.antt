@@ -5,3 +5,4 @@ pub mod Steps
 pub mod Moves
 pub mod Questions
 pub mod Loops
+pub mod Promises

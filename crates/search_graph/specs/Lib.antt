@@ -1,3 +1,4 @@
 pub mod Newest
 pub mod Entries
 pub mod Evaluating
+pub mod Graph
