@@ -6,3 +6,4 @@ pub mod Moves
 pub mod Questions
 pub mod Loops
 pub mod Promises
+pub mod Justified

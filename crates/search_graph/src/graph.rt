@@ -8,6 +8,7 @@ ghost use Rattle.evaluations.specs.Price.{IsPaid};
 
 mod evaluate;
 mod open_goals;
+mod progress;
 mod question;
 
 use evaluate::evaluate;
