@@ -26,7 +26,7 @@ use Rattle.search_parts.specs.Cache.{EndedRun, CacheNode, open_node, open_goal, 
 use Rattle.search_parts.specs.Shapes.{verdict_of, edge_shape, shape_of, shapes_of}
 use Rattle.search_parts.proofs.Nodes.{KeepsNodes-appended, KeepsGoals-appended, before, with_run-is, KeepsGoals-ended}
 use Rattle.search_graph.specs.declared.graph.progress.DefiniteAnswer.{DefiniteAnswer}
-use Rattle.search_graph.specs.Justified.{OpenRun, in_theory, edges_with, frame_of, AreOpen, ArePlaced, AllPlaced, Asks, AreAsked, AreJustified, MayAnswer, IsFit, HasGraph}
+use Rattle.search_graph.specs.Justified.{OpenRun, in_theory, edges_with, frame_of, AreOpen, ArePlaced, AllPlaced, AreEdges, Asks, AreAsked, AreJustified, MayAnswer, IsFit, HasGraph}
 
 -- ---- open nodes
 
@@ -167,12 +167,6 @@ module _ {I R : Type 0} (is_yes is_no : R → Bool) (nodes : List (CacheNode I R
       }
 
   -- ---- the newest goal is done
-
-  -- the edges of a definite result are among those of the answers with its verdict
-  abbrev pub AreEdges : List (DefiniteAnswer I) → theory.Verdict → List (Edge I) → Type 0
-  AreEdges answers verdict edges =
-      (i : ℕ) (e : Edge I) → slice_get edges i ≡ Some e →
-      (j : ℕ) × (a : DefiniteAnswer I) × (slice_get answers j ≡ Some a) × (a.edge ≡ e) × (in_theory a.verdict ≡ verdict)
 
   -- the edges of the verdict give way to those of the result
   abbrev chosen_edges : theory.Verdict → List (Edge I) → List (DefiniteAnswer I) → theory.Verdict → List theory.Edge

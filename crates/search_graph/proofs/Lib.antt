@@ -7,3 +7,4 @@ pub mod Questions
 pub mod Loops
 pub mod Promises
 pub mod Justified
+pub mod ProgressLaws

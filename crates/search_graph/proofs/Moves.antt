@@ -57,12 +57,12 @@ some_frames runs width (suc depth) some = let more : runs * 1 ≤ runs * (1 + wi
 
 module _ {D C V P F I R A T : Type 0} (G : Delegate.Ghosts D C V P F I R A T) (cx : C) where
   -- what a popped goal leaves
-  leaving : (r : R) (s : StackEntry C I R A T × Run F) → ItemLeaves r (seen G cx s) (record { result = r; required = s.0.state.required_depth; met_overflow = s.0.state.encountered_overflow; in_cycle = false })
+  leaving : (r : R) (s : StackEntry C I R A T × Run C F I R A T) → ItemLeaves r (seen G cx s) (record { result = r; required = s.0.state.required_depth; met_overflow = s.0.state.encountered_overflow; in_cycle = false })
   leaving r s = record { result = inl refl; required = refl; met_overflow = sym (or_false s.0.state.encountered_overflow); in_cycle = λ c. absurd cc }
 
 module _ {D C V P F I R A T : Type 0} (G : Delegate.Ghosts D C V P F I R A T) (cx : C) (call : Call I) where
   abbrev Goal : Type 0
-  Goal = StackEntry C I R A T × Run F
+  Goal = StackEntry C I R A T × Run C F I R A T
 
   -- the newest frame can take its reply,
   pub can_step : (reply : Reply R) (goals : List Goal) (starts : ℕ) (met : Bool) → IsWaiting G cx call reply goals starts met → CanStep G cx reply goals

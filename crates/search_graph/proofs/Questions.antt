@@ -33,7 +33,7 @@ no_depth a divisor false false at is = absurd cc
 
 module _ {D C V P F I R A T : Type 0} (G : Delegate.Ghosts D C V P F I R A T) (cx : C) (call : Call I) (ahead : ℕ) (kind : PathKind) (goal : I) (starts : ℕ) (met : Bool) where
   abbrev Goals : Type 0
-  Goals = List (StackEntry C I R A T × Run F)
+  Goals = List (StackEntry C I R A T × Run C F I R A T)
 
   pub ask_refused : (r : R) (goals new : Goals) → 0 < length goals → None ≡ option_and_then (λ s. depth_below G.DIVIDE_AVAILABLE_DEPTH_ON_OVERFLOW s.0) (newest goals) → new ≡ change_newest (λ s. (overflowed s.0, s.1)) goals → HasAsked G cx call ahead (Evaluate kind goal) goals starts met → GoesOn G cx call ahead (Answer r) new starts true
   ask_refused r [] new some none is h = absurd (omega (arith, some))
@@ -42,7 +42,7 @@ module _ {D C V P F I R A T : Type 0} (G : Delegate.Ghosts D C V P F I R A T) (c
       subst (λ v. GoesOn G cx call ahead (Answer r) v starts true) (sym is) (refused_goes_on G cx call ahead kind goal r s below starts met at h)
 
   module _ (more : 2 ≤ G.DIVIDE_AVAILABLE_DEPTH_ON_OVERFLOW) (depth : AvailableDepth) where
-    may_ask : (s : StackEntry C I R A T × Run F) → Some depth.0 ≡ depth_below G.DIVIDE_AVAILABLE_DEPTH_ON_OVERFLOW s.0 → IsAllowed (seen G cx s) depth.0
+    may_ask : (s : StackEntry C I R A T × Run C F I R A T) → Some depth.0 ≡ depth_below G.DIVIDE_AVAILABLE_DEPTH_ON_OVERFLOW s.0 → IsAllowed (seen G cx s) depth.0
     may_ask s is = let a = allowed G.DIVIDE_AVAILABLE_DEPTH_ON_OVERFLOW depth.0 s.0 more is in record { is_less = a.0; is_next = a.1 }
 
     pub ask_in_cycle : (eq : I → I → Bool) → ((x y : I) → eq x y ≡ true → x ≡ y) → (r : R) (goals new : Goals) → Some depth.0 ≡ option_and_then (λ s. depth_below G.DIVIDE_AVAILABLE_DEPTH_ON_OVERFLOW s.0) (newest goals) → list_any (λ t. eq goal t.0.input) goals ≡ true → new ≡ change_newest (λ s. (with_answer s.0 0 false, s.1)) goals → HasAsked G cx call ahead (Evaluate kind goal) goals starts met → GoesOn G cx call ahead (Answer r) new starts met

@@ -12,11 +12,11 @@ use Rattle.search_graph.proofs.Pairs.{last_pair, length_of_view}
 
 module _ {D C V P F I R A T : Type 0} (G : Delegate.Ghosts D C V P F I R A T) (cx : C) (reply : Reply R) where
   -- a frame that can take a reply is there
-  pub some_item : (view : List (StackEntry C I R A T × Run F)) → CanStep G cx reply view → 0 < length view
+  pub some_item : (view : List (StackEntry C I R A T × Run C F I R A T)) → CanStep G cx reply view → 0 < length view
   some_item [] can = absurd can
   some_item (s ∷ below) can = omega arith
 
-  module _ (es : List (StackEntry C I R A T)) (fs : List (Run F)) (view : List (StackEntry C I R A T × Run F)) (same : length es ≡ length fs) (is : paired [] es fs ≡ view) (can : CanStep G cx reply view) where
+  module _ (es : List (StackEntry C I R A T)) (fs : List (Run F)) (view : List (StackEntry C I R A T × Run C F I R A T)) (same : length es ≡ length fs) (is : paired [] es fs ≡ view) (can : CanStep G cx reply view) where
     some_run : 0 < length fs
     some_run = omega (arith, (length_of_view es fs view same is).1, some_item view can)
 

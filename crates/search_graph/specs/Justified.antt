@@ -14,6 +14,7 @@ use Rattle.search_parts.specs.declared.context.Request.TheVariants.{Evaluate}
 use Rattle.search_parts.specs.declared.context.Reply.{Reply}
 use Rattle.search_parts.specs.declared.context.Reply.TheVariants.{Answer}
 use Rattle.search_parts.specs.declared.context.NodeId.{NodeId}
+use Rattle.search_parts.specs.declared.context.Edge.{Edge}
 use Rattle.search_parts.specs.Path.{rank_of}
 use Rattle.search_parts.specs.Cache.{CacheNode, open_goal, IsNodeOf}
 use Rattle.search_parts.specs.Shapes.{verdict_of, edge_shape, shapes_of}
@@ -57,6 +58,12 @@ AreOpen nodes (o ∷ below) = (open_goal nodes o.node ≡ Some o.goal) × AreOpe
 abbrev pub ArePlaced : {I R : Type 0} → List (CacheNode I R) → List (DefiniteAnswer I) → Type 0
 ArePlaced nodes answers =
     (i : ℕ) (a : DefiniteAnswer _) → slice_get answers i ≡ Some a → IsNodeOf nodes a.edge.target a.edge.input
+
+-- the edges are among those of the answers with this verdict
+abbrev pub AreEdges : {I : Type 0} → List (DefiniteAnswer I) → theory.Verdict → List (Edge I) → Type 0
+AreEdges {I} answers verdict edges =
+    (i : ℕ) (e : Edge I) → slice_get edges i ≡ Some e →
+    (j : ℕ) × (a : DefiniteAnswer I) × (slice_get answers j ≡ Some a) × (a.edge ≡ e) × (in_theory a.verdict ≡ verdict)
 
 -- the same for all goals
 abbrev pub AllPlaced : {I R : Type 0} → List (CacheNode I R) → List (OpenRun I R) → Type 0

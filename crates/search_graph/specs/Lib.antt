@@ -4,3 +4,4 @@ pub mod Evaluating
 pub mod Graph
 pub mod Justified
 pub mod Progress
+pub mod Runs

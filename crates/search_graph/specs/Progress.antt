@@ -1,8 +1,9 @@
 -- What a run has done so far, as its record keeps it. The replies stand with the oldest first.
-use Rattle.std.specs.Prelude.{◌≡◌, ℕ, nat_lt, Bool, true, false, not, ◌&&◌, if◌then◌else◌, List, [], ◌∷◌, ◌++◌, map, filter, length, reverse, get_or, slice_set, Option, None, Some}
+use Rattle.std.specs.Prelude.{◌≡◌, ◌↔◌, ℕ, nat_lt, IsTrue, IsSome, Bool, true, false, not, ◌&&◌, if◌then◌else◌, List, [], ◌∷◌, ◌++◌, map, filter, length, reverse, get_or, slice_set, Option, None, Some, Contains}
 use Rattle.search_parts.specs.declared.context.Request.{Request}
 use Rattle.search_parts.specs.declared.context.Request.TheVariants.{Evaluate, EnterCandidate, FinishCandidate, Ignore}
 use Rattle.search_parts.specs.declared.context.Reply.{Reply}
+use Rattle.search_parts.specs.declared.context.Reply.TheVariants.{Answer}
 use Rattle.search_parts.specs.declared.context.Verdict.{Verdict}
 use Rattle.search_parts.specs.declared.context.Verdict.TheVariants.{Yes, No, Neither}
 use Rattle.search_parts.specs.declared.context.NodeId.{NodeId}
@@ -10,7 +11,7 @@ use Rattle.search_parts.specs.declared.context.Edge.{Edge}
 use Rattle.search_parts.specs.declared.path.PathKind.{PathKind}
 use Rattle.search_parts.specs.Question.{Question}
 use Rattle.search_parts.specs.Graph.{question_of}
-use Rattle.search_parts.specs.Run.{Asked, request_after, progress_after, is_ignored, IsInOrder}
+use Rattle.search_parts.specs.Run.{Asked, Progress, request_after, progress_after, is_ignored, IsInOrder}
 use Rattle.search_graph.specs.declared.graph.progress.DefiniteAnswer.{DefiniteAnswer}
 
 -- the replies, the last request, the definite answers, whether a candidate is open, and for each finished candidate whether it is ignored
@@ -104,14 +105,46 @@ module _ {I R : Type 0} where
   abbrev pub asked_with : Verdict → RunRecord I R → List (Question I × Option ℕ)
   asked_with verdict p = map asked_of (filter (λ d. is_same_verdict d.verdict verdict) p.answers)
 
+-- the record says what the run did
+pub record Agrees {I R : Type 0} (is_yes is_no : R → Bool) (p : RunRecord I R) (done : Progress I R) : Type 0 where
+  pub open_is : p.is_open ≡ done.is_open
+  pub finished_are : length p.ignored ≡ done.finished
+  pub ignored_are : (n : ℕ) → is_ignored done.ignored n ≡ is_marked p.ignored n
+  pub yes : asked_with Yes p ≡ map asked_in (filter (λ a. is_yes a.answer) done.asked)
+  pub no : asked_with No p ≡ map asked_in (filter (λ a. is_no a.answer) done.asked)
+
 -- The record is that of a run of the script that has had these replies, the newest first, and has made no request out
 -- of order.
 pub record Records {I R : Type 0} (is_yes is_no : R → Bool) (script : List (Reply R) → Request I R) (p : RunRecord I R) (replies : List (Reply R)) : Type 0 where
   pub replies_are : reverse p.replies ≡ replies
   pub request_is : p.request ≡ request_after script replies
   pub in_order : IsInOrder script replies
-  pub open_is : p.is_open ≡ (progress_after script replies).is_open
-  pub finished_are : length p.ignored ≡ (progress_after script replies).finished
-  pub ignored_are : (n : ℕ) → is_ignored (progress_after script replies).ignored n ≡ is_marked p.ignored n
-  pub yes : asked_with Yes p ≡ map asked_in (filter (λ a. is_yes a.answer) (progress_after script replies).asked)
-  pub no : asked_with No p ≡ map asked_in (filter (λ a. is_no a.answer) (progress_after script replies).asked)
+  pub agrees : Agrees is_yes is_no p (progress_after script replies)
+
+-- the verdict is that of the result, and a definite one has its node
+pub record IsSortedAs {R : Type 0} (is_yes is_no : R → Bool) (r : R) (verdict : Verdict) (target : Option NodeId) : Type 0 where
+  pub yes : (verdict ≡ Yes) ↔ IsTrue (is_yes r)
+  pub no : (verdict ≡ No) ↔ IsTrue (is_no r)
+  pub yes_node : IsTrue (is_yes r) → IsSome target
+  pub no_node : IsTrue (is_no r) → IsSome target
+
+-- the same of a reply, if that is an answer
+abbrev pub IsReplySorted : {R : Type 0} → (R → Bool) → (R → Bool) → Reply R → Verdict → Option NodeId → Type 0
+IsReplySorted is_yes is_no (Answer r) verdict target = IsSortedAs is_yes is_no r verdict target
+IsReplySorted is_yes is_no _ verdict target = Unit {0}
+
+-- the edge is that of an answer with this verdict
+pub record IsEdgeOfAnswer {I : Type 0} (answers : List (DefiniteAnswer I)) (verdict : Verdict) (e : Edge I) : Type 0 where
+  pub answer : DefiniteAnswer I
+  pub is_in : Contains answers answer
+  pub verdict_is : answer.verdict ≡ verdict
+  pub edge_is : answer.edge ≡ e
+
+-- the answers are those of the record and one more, to its last request
+pub record KeepsAnswer {I R : Type 0} (p : RunRecord I R) (verdict : Verdict) (target : Option NodeId) (answers : List (DefiniteAnswer I)) : Type 0 where
+  pub kind : PathKind
+  pub input : I
+  pub node : NodeId
+  pub was : p.request ≡ Some (Evaluate kind input)
+  pub target_is : target ≡ Some node
+  pub kept : answers ≡ answers_with p (edge_to kind input node) verdict

@@ -1,12 +1,16 @@
 //! The search graph. It keeps the goals under evaluation in one list and works through them in one loop, so
 //! that no depth of goals takes native stack.
-ghost use Rattle.std.specs.Prelude.{◌≡◌, ◌≤◌, ◌+◌, ℕ, Bool, true, false, IsTrue, IfOk, IfErr, max};
+ghost use Rattle.std.specs.Prelude.{◌≡◌, ◌≤◌, ◌+◌, ℕ, Bool, true, false, None, IsTrue, IfOk, IfErr, max};
 ghost use Rattle.search_parts.specs.Rank.{IsPlainValue, frames_within};
 ghost use Rattle.search_parts.specs.declared.context.Fault.TheVariants.{Memory};
+ghost use Rattle.search_parts.specs.Cache.{KeepsFinished};
 ghost use Rattle.evaluations.specs.Plain.{IsPlainTo};
 ghost use Rattle.evaluations.specs.Price.{IsPaid};
+ghost use Rattle.search_graph.specs.Evaluating.{IsCaused};
+ghost use Rattle.search_graph.specs.Graph.{IsProved, IsRefuted};
 
 mod evaluate;
+mod finish;
 mod open_goals;
 mod progress;
 mod question;
@@ -74,24 +78,38 @@ impl<D: Delegate> SearchGraph<D> {
         self.limits_met
     }
 
-    /// The result of a goal, evaluated over the cache's context. `Fault::Memory` where a growth was refused or
-    /// a frame answered `NoMemory`; the graph can then be used again. Ports `SearchGraph::evaluate_goal`.
+    /// The answer to a goal, evaluated over the cache's context, which is asked by a step of this kind. A
+    /// definite answer names its node, the root of its graph in the cache's list.
     ///
-    /// The answer names no node of the cache yet.
+    /// `Fault::Memory` where a growth was refused or a frame answered `NoMemory`, `Fault::Protocol` where a
+    /// frame's request came out of order. After a fault the graph can be used again, and nodes that no
+    /// answer reaches may stay in the cache. Ports `SearchGraph::evaluate_goal`.
     pub fn evaluate_goal(
         &mut self,
         cache: &mut GlobalCache<D>,
         input: <D::Cx as Cx>::Input,
         step_kind_from_parent: PathKind,
         inspect: &mut D::ProofTreeBuilder,
-    ) -> Result<Answer<<D::Cx as Cx>::Result>, Fault<<D::Cx as Cx>::Input, <D::Cx as Cx>::Result>>
+    ) -> Result<
+        Answer<<D::Cx as Cx>::Result>,
+        Fault<<D::Cx as Cx>::Input, <D::Cx as Cx>::Result>,
+    >
+        // A definite answer has its graph, and the goal has none of the other sort.
+        ensures yes { IfOk result (λ answer. D.Cx.is_yes answer.result ≡ true → IsProved D.Cx.Cx cache.new input answer.node) }
+        ensures no { IfOk result (λ answer. D.Cx.is_no answer.result ≡ true → IsRefuted D.Cx.Cx cache.new input answer.node) }
+        ensures neither { IfOk result (λ answer. D.Cx.is_yes answer.result ≡ false → D.Cx.is_no answer.result ≡ false → answer.node ≡ None) }
+
         // A goal whose questions go no deeper than the root depth, and that is orderly with all goals below it,
-        // answers its plain value, and meets no limit.
+        // answers its plain value or that memory is out, and meets no limit.
         ensures plain { (n : ℕ) → IsPlainTo (D.script cache.old.cx) n input → n ≤ self.old.root_depth →
             IfOk result (λ answer. IsPlainValue (D.script cache.old.cx) n input answer.result) }
+        ensures plain_faults { (n : ℕ) → IsPlainTo (D.script cache.old.cx) n input → n ≤ self.old.root_depth →
+            IfErr result (λ fault. fault ≡ Memory) }
         ensures plain_limits { (n : ℕ) → IsPlainTo (D.script cache.old.cx) n input → n ≤ self.old.root_depth →
             self.new.limits_met ≡ self.old.limits_met }
-        ensures faults { IfErr result (λ fault. fault ≡ Memory) }
+
+        // A fault is want of memory, or some goal's script makes a request out of order.
+        ensures faults { IfErr result (IsCaused D.Delegate D.Cx.Cx cache.old.cx) }
 
         // The frames that are started are within a bound, and a limit has its price in frames.
         ensures frames { D.starts inspect.new ≤ D.starts inspect.old + frames_within (max 1 D.FIXPOINT_STEP_LIMIT) (D.width cache.old.cx) self.old.root_depth }
@@ -100,26 +118,23 @@ impl<D: Delegate> SearchGraph<D> {
 
         ensures same_depth { self.new.root_depth ≡ self.old.root_depth }
         ensures limits_stay { self.old.limits_met ≡ true → self.new.limits_met ≡ true }
-        ensures same_cache { cache.new ≡ cache.old }
+        ensures same_context { cache.new.cx ≡ cache.old.cx }
+        ensures kept { KeepsFinished cache.old.nodes cache.new.nodes }
     {
         let root_depth = self.root_depth;
-        match evaluate::<D>(
+        let outcome = evaluate::<D>(
             &mut self.goals,
             &mut self.limits_met,
-            cache.cx(),
+            cache,
             root_depth,
             step_kind_from_parent,
             input,
             inspect,
-        ) {
-            Ok(outcome) => Ok(Answer {
-                result: outcome,
-                node: None,
-            }),
-            Err(_) => {
-                self.goals.clear();
-                Err(Fault::Memory)
-            }
+        );
+        cache.has_runs();
+        if outcome.is_err() {
+            self.goals.clear();
         }
+        outcome
     }
 }

@@ -51,6 +51,10 @@ IsNodeOf nodes at goal = option_map (λ n. n.goal) (slice_get nodes at) ≡ Some
 abbrev pub KeepsNodes : {I R : Type 0} → List (CacheNode I R) → List (CacheNode I R) → Type 0
 KeepsNodes {I} {R} old new = (at : ℕ) (n : CacheNode I R) → slice_get old at ≡ Some n → slice_get new at ≡ Some n
 
+-- each node whose run has ended is still the same
+abbrev pub KeepsFinished : {I R : Type 0} → List (CacheNode I R) → List (CacheNode I R) → Type 0
+KeepsFinished {I} {R} old new = (at : ℕ) (n : CacheNode I R) → finished_node old at ≡ Some n → finished_node new at ≡ Some n
+
 -- each node still has its goal
 abbrev pub KeepsGoals : {I R : Type 0} → List (CacheNode I R) → List (CacheNode I R) → Type 0
 KeepsGoals {I} old new = (at : ℕ) (goal : I) → IsNodeOf old at goal → IsNodeOf new at goal

@@ -11,7 +11,7 @@ module _ {X I R A T : Type 0} where
     input = goal;
     step_kind_from_parent = kind;
     available_depth = depth;
-    state = record { required_depth = 0; encountered_overflow = false; node = None };
+    state = record { required_depth = 0; encountered_overflow = false };
   }
 
   -- the depth that a question of this goal gets, if any

@@ -140,6 +140,17 @@ pub enum Fault<I, R> {
     Protocol(u8),
 }
 
+impl<I, R> From<NoMemory> for Fault<I, R> {
+    ghost use Rattle.std.specs.Prelude.{◌≡◌};
+    ghost use Rattle.search_parts.specs.declared.context.Fault.TheVariants.{Memory};
+
+    ghost from_gives = { λ error fault. fault ≡ Memory };
+
+    fn from(_error: NoMemory) -> Fault<I, R> {
+        Fault::Memory
+    }
+}
+
 /// The number of a node in a cache's list.
 #[derive(Clone, Copy, Debug, PartialEq, Eq, Hash)]
 pub struct NodeId(pub usize);

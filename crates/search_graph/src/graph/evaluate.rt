@@ -1,37 +1,46 @@
 //! The evaluation of a goal: one loop over the goals under evaluation.
-ghost use Rattle.std.specs.Prelude.{◌≡◌, ◌<◌, ◌^◌, ◌∷◌, ℕ, [], length, IfOk, IfErr, OnOk};
-ghost use Rattle.search_parts.specs.declared.context.Request.TheVariants.{Done};
-ghost use Rattle.search_graph.specs.Newest.{newest};
-ghost use Rattle.search_graph.specs.Evaluating.{Call, Outset, CanStep, IsWaiting, HasAsked, Leads, HasEnded, HasStopped, CanLeave, Leaves, work_left};
+ghost use Rattle.std.specs.Prelude.{◌≡◌, ◌<◌, ◌^◌, ◌∷◌, ℕ, [], length, IfOk, IfErr, OnOk, Some};
+ghost use Rattle.search_parts.specs.Cache.{KeepsFinished};
+ghost use Rattle.search_graph.specs.Evaluating.{Call, Outset, IsWaiting, Leads, HasEnded, HasStopped, work_left};
+ghost use Rattle.search_graph.specs.Justified.{AreJustified, IsFit, HasGraph};
+ghost use Rattle.search_graph.specs.Runs.{runs_of, IsJustifiedNext};
 
-use crate::graph::open_goals::{Next, OpenGoals, step};
+use crate::graph::finish::finish_goal;
+use crate::graph::open_goals::{Next, OpenGoals, Received, step};
 use crate::graph::question::{ask, push_goal};
-use search_parts::context::{Cx, Delegate, NoMemory, Reply, Request};
-use search_parts::parts::depth::AvailableDepth;
+use search_parts::context::{Answer, Cx, Delegate, Fault, Reply, Request};
+use search_parts::global_cache::GlobalCache;
+use search_parts::parts::AvailableDepth;
 use search_parts::path::PathKind;
 
-/// Evaluates a goal, with the goals that it asks, to its result.
+/// Evaluates a goal, with the goals that it asks, to its answer.
 pub(crate) fn evaluate<D: Delegate>(
     goals: &mut OpenGoals<D::Cx, D::Frame>,
     limits_met: &mut bool,
-    cx: D::Cx,
+    cache: &mut GlobalCache<D>,
     root_depth: AvailableDepth,
     step_kind: PathKind,
     input: <D::Cx as Cx>::Input,
     inspect: &mut D::ProofTreeBuilder,
-) -> Result<<D::Cx as Cx>::Result, NoMemory>
+) -> Result<
+    Answer<<D::Cx as Cx>::Result>,
+    Fault<<D::Cx as Cx>::Input, <D::Cx as Cx>::Result>,
+>
     requires { goals.old ≡ [] }
     ensures empty { OnOk result (goals.new ≡ []) }
     ensures ended { (call : Call D.Cx.Input) → Outset call input root_depth.0 (D.starts inspect.old) limits_met.old →
-        IfOk result (λ answer. HasEnded D.Delegate cx call answer (D.starts inspect.new) limits_met.new) }
+        IfOk result (λ answer. HasEnded D.Delegate D.Cx.Cx cache.old.cx call answer.result (D.starts inspect.new) limits_met.new) }
     ensures stopped { (call : Call D.Cx.Input) → Outset call input root_depth.0 (D.starts inspect.old) limits_met.old →
-        IfErr result (λ _. HasStopped D.Delegate cx call (D.starts inspect.new) limits_met.new) }
+        IfErr result (λ fault. HasStopped D.Delegate D.Cx.Cx cache.old.cx call fault (D.starts inspect.new) limits_met.new) }
+    ensures has_graph { IfOk result (λ answer. HasGraph D.Cx.is_yes D.Cx.is_no cache.new.nodes input answer.result answer.node) }
+    ensures same_context { cache.new.cx ≡ cache.old.cx }
+    ensures kept { KeepsFinished cache.old.nodes cache.new.nodes }
 {
-    push_goal::<D>(goals, cx, step_kind, input, root_depth, inspect)?;
-    let mut reply = Reply::Begin;
+    push_goal::<D>(goals, cache, step_kind, input, root_depth, inspect)?;
+    let mut received = Received::without_node(Reply::Begin);
     loop {
-        match advance::<D>(goals, limits_met, cx, root_depth, reply, inspect)? {
-            Next::Step(next) => reply = next,
+        match advance::<D>(goals, limits_met, cache, root_depth, received, inspect)? {
+            Next::Step(next) => received = next,
             Next::Finished(answer) => return Ok(answer),
         }
     }
@@ -41,41 +50,37 @@ pub(crate) fn evaluate<D: Delegate>(
 fn advance<D: Delegate>(
     goals: &mut OpenGoals<D::Cx, D::Frame>,
     limits_met: &mut bool,
-    cx: D::Cx,
+    cache: &mut GlobalCache<D>,
     root_depth: AvailableDepth,
-    reply: Reply<<D::Cx as Cx>::Result>,
+    received: Received<<D::Cx as Cx>::Result>,
     inspect: &mut D::ProofTreeBuilder,
-) -> Result<Next<<D::Cx as Cx>::Result>, NoMemory>
-    requires { (call : Call D.Cx.Input) × IsWaiting D.Delegate cx call reply goals.old (D.starts inspect.old) limits_met.old }
-    ensures leads { (call : Call D.Cx.Input) → IsWaiting D.Delegate cx call reply goals.old (D.starts inspect.old) limits_met.old →
-        IfOk result (λ next. Leads D.Delegate cx call (work_left D.Delegate cx goals.old) next goals.new (D.starts inspect.new) limits_met.new) }
-    ensures stopped { (call : Call D.Cx.Input) → IsWaiting D.Delegate cx call reply goals.old (D.starts inspect.old) limits_met.old →
-        IfErr result (λ _. HasStopped D.Delegate cx call (D.starts inspect.new) limits_met.new) }
+) -> Result<
+    Next<<D::Cx as Cx>::Result>,
+    Fault<<D::Cx as Cx>::Input, <D::Cx as Cx>::Result>,
+>
+    requires waiting { (call : Call D.Cx.Input) × IsWaiting D.Delegate D.Cx.Cx cache.old.cx call received.reply goals.old (D.starts inspect.old) limits_met.old }
+    requires justified { AreJustified D.Cx.is_yes D.Cx.is_no cache.old.nodes (runs_of goals.old) }
+    requires fits { IsFit D.Cx.is_yes D.Cx.is_no cache.old.nodes (runs_of goals.old) received.reply received.node }
+    ensures leads { (call : Call D.Cx.Input) → IsWaiting D.Delegate D.Cx.Cx cache.old.cx call received.reply goals.old (D.starts inspect.old) limits_met.old →
+        IfOk result (λ next. Leads D.Delegate D.Cx.Cx cache.old.cx call (work_left D.Delegate D.Cx.Cx cache.old.cx goals.old) next goals.new (D.starts inspect.new) limits_met.new) }
+    ensures stopped { (call : Call D.Cx.Input) → IsWaiting D.Delegate D.Cx.Cx cache.old.cx call received.reply goals.old (D.starts inspect.old) limits_met.old →
+        IfErr result (λ fault. HasStopped D.Delegate D.Cx.Cx cache.old.cx call fault (D.starts inspect.new) limits_met.new) }
+    ensures justified { IfOk result (λ next. IsJustifiedNext D.Cx.is_yes D.Cx.is_no cache.new.nodes goals.old goals.new next) }
+    ensures same_context { cache.new.cx ≡ cache.old.cx }
+    ensures kept { KeepsFinished cache.old.nodes cache.new.nodes }
 {
-    match step::<D>(goals, cx, reply, inspect)? {
+    let cx = cache.cx();
+    match step::<D>(goals, cx, received, inspect)? {
         Request::Evaluate(kind, input) => {
-            let answer = ask::<D>(goals, limits_met, cx, root_depth, kind, input, inspect)?;
-            Ok(Next::Step(answer))
+            let next = ask::<D>(goals, limits_met, cache, root_depth, kind, input, inspect)?;
+            Ok(Next::Step(next))
         }
-        Request::EnterCandidate => Ok(Next::Step(Reply::Noted)),
-        Request::FinishCandidate => Ok(Next::Step(Reply::Noted)),
-        Request::Ignore(_) => Ok(Next::Step(Reply::Noted)),
-        Request::Done(answer) => Ok(leave::<D>(goals, answer)),
+        Request::EnterCandidate => Ok(Next::Step(Received::without_node(Reply::Noted))),
+        Request::FinishCandidate => Ok(Next::Step(Received::without_node(Reply::Noted))),
+        Request::Ignore(_) => Ok(Next::Step(Received::without_node(Reply::Noted))),
+        Request::Done(outcome) => {
+            let next = finish_goal::<D>(goals, cache, outcome)?;
+            Ok(next)
+        }
     }
-}
-
-/// Takes the newest goal, whose run ended with this result, and gives that to the goal below it.
-fn leave<D: Delegate>(
-    goals: &mut OpenGoals<D::Cx, D::Frame>,
-    answer: <D::Cx as Cx>::Result,
-) -> Next<<D::Cx as Cx>::Result>
-    requires { CanLeave goals.old }
-    ensures { Leaves answer goals.old result goals.new }
-{
-    let (entry, _run) = goals.pop();
-    if goals.len() == 0 {
-        return Next::Finished(answer);
-    }
-    goals.note_answer(entry.state.required_depth, entry.state.encountered_overflow);
-    Next::Step(Reply::Answer(answer))
 }

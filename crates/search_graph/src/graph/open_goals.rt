@@ -1,34 +1,52 @@
 //! The goals under evaluation, each with the run of its frame.
-ghost use Rattle.std.specs.Prelude.{◌≡◌, ℕ, ◌+◌, ◌^◌, ◌<◌, List, [], ◌∷◌, length, false, Some, OnOk, OnErr, IfOk, map, reverse};
+ghost use Rattle.std.specs.Prelude.{◌≡◌, ℕ, ◌+◌, ◌^◌, ◌<◌, List, [], ◌∷◌, length, false, Some, None, OnOk, OnErr, IfOk, IfErr, map, reverse};
 ghost use Rattle.std.specs.List.{list_any};
 ghost use Rattle.std.specs.Option.{option_map};
-ghost use Rattle.search_graph.specs.Evaluating.{CanStep, HasStepped};
+ghost use Rattle.search_graph.specs.Evaluating.{CanStep, HasStepped, IsStepFault};
 
-use search_parts::context::{Cx, Delegate, NoMemory, Reply, Request};
+use crate::graph::progress::Progress;
+use search_parts::context::{Answer, Cx, Delegate, Fault, NoMemory, NodeId, Reply, Request, Verdict};
 use search_parts::parts::stack::{Stack, StackEntry};
 use std::alloc::Global;
-use std::marker::{Model, PhantomData};
+use std::marker::Model;
+
+/// A reply for the newest frame, with the node of a definite answer.
+#[derive(Clone, Copy)]
+pub(crate) struct Received<R> {
+    pub reply: Reply<R>,
+    pub node: Option<NodeId>,
+}
+
+impl<R> Received<R> {
+    /// A reply that is no definite answer.
+    pub(crate) fn without_node(reply: Reply<R>) -> Received<R>
+        ensures { result ≡ record { reply = reply; node = None } }
+    {
+        Received { reply, node: None }
+    }
+}
 
 /// What comes after a request of the newest goal's frame.
 pub(crate) enum Next<R> {
     /// The newest frame gets a reply.
-    Step(Reply<R>),
-    /// No goal is left, and this is the result of the last one.
-    Finished(R),
+    Step(Received<R>),
+    /// No goal is left, and this is the answer to the last one.
+    Finished(Answer<R>),
 }
 
-/// One run of a goal: the frame that works it out.
+/// One run of a goal: the frame that works it out, the node that stands for it, and what it has done.
 #[derive(Drop)]
-pub(crate) struct Run<F: Drop> {
+pub(crate) struct Run<X: Cx, F: Drop> {
     pub frame: F,
+    pub node: NodeId,
+    pub progress: Progress<X::Input, X::Result>,
 }
 
 /// The goals under evaluation with their runs. Clauses see them with the newest first.
 #[derive(Drop)]
 pub(crate) struct OpenGoals<X: Cx, F: Drop> {
     stack: Stack<X>,
-    runs: Vec<Run<F>>,
-    of: PhantomData<X>,
+    runs: Vec<Run<X, F>>,
 }
 
 impl<X: Cx, F: Drop> Model for OpenGoals<X, F> {
@@ -37,7 +55,7 @@ impl<X: Cx, F: Drop> Model for OpenGoals<X, F> {
     ghost use Rattle.search_graph.specs.declared.graph.open_goals.Run.{Run};
     ghost use Rattle.search_graph.specs.Newest.{paired};
 
-    ghost Value = { List (StackEntry X X.Input X.Result X.AmbiguityInfo X.DepNodeIndex × Run F) };
+    ghost Value = { List (StackEntry X X.Input X.Result X.AmbiguityInfo X.DepNodeIndex × Run X F X.Input X.Result X.AmbiguityInfo X.DepNodeIndex) };
 
     ghost view = { λ t. paired [] t.stack t.runs.items };
 
@@ -55,7 +73,6 @@ impl<X: Cx, F: Drop> OpenGoals<X, F> {
         OpenGoals {
             stack: Stack::new(alloc),
             runs: Vec::new(alloc),
-            of: PhantomData,
         }
     }
 
@@ -89,7 +106,7 @@ impl<X: Cx, F: Drop> OpenGoals<X, F> {
     }
 
     /// Adds a goal that isn't under evaluation. A refusal leaves the goals as they were.
-    pub(crate) fn push(&mut self, entry: StackEntry<X>, run: Run<F>) -> Result<(), NoMemory>
+    pub(crate) fn push(&mut self, entry: StackEntry<X>, run: Run<X, F>) -> Result<(), NoMemory>
         requires { list_any (λ s. X.Input.eq entry.input s.0.input) self.old ≡ false }
         ensures ok { OnOk result (self.new ≡ (entry, run) ∷ self.old) }
         ensures err { OnErr result (self.new ≡ self.old) }
@@ -101,7 +118,7 @@ impl<X: Cx, F: Drop> OpenGoals<X, F> {
     }
 
     /// Takes the newest goal.
-    pub(crate) fn pop(&mut self) -> (StackEntry<X>, Run<F>)
+    pub(crate) fn pop(&mut self) -> (StackEntry<X>, Run<X, F>)
         requires { 0 < length self.old }
         ensures { self.old ≡ result ∷ self.new }
     {
@@ -130,6 +147,11 @@ impl<X: Cx, F: Drop> OpenGoals<X, F> {
         state.encountered_overflow |= encountered_overflow;
     }
 
+    /// What the goals take their memory from.
+    pub(crate) fn allocator(&self) -> Global {
+        *self.runs.allocator()
+    }
+
     /// Drops every goal with its run.
     pub(crate) fn clear(&mut self)
         ensures { self.new ≡ [] }
@@ -140,19 +162,34 @@ impl<X: Cx, F: Drop> OpenGoals<X, F> {
     }
 }
 
-/// Gives the newest frame its reply, and answers its request. After a refusal the goals may only be
-/// cleared.
+/// Gives the newest frame its reply, and answers its request. `Fault::Protocol` where that is out of order.
+/// After a fault the goals may only be cleared.
 pub(crate) fn step<D: Delegate>(
     goals: &mut OpenGoals<D::Cx, D::Frame>,
     cx: D::Cx,
-    reply: Reply<<D::Cx as Cx>::Result>,
+    received: Received<<D::Cx as Cx>::Result>,
     inspect: &mut D::ProofTreeBuilder,
-) -> Result<Request<<D::Cx as Cx>::Input, <D::Cx as Cx>::Result>, NoMemory>
-    requires { CanStep D.Delegate cx reply goals.old }
-    ensures stepped { IfOk result (λ request. HasStepped D.Delegate cx reply request goals.old goals.new) }
+) -> Result<
+    Request<<D::Cx as Cx>::Input, <D::Cx as Cx>::Result>,
+    Fault<<D::Cx as Cx>::Input, <D::Cx as Cx>::Result>,
+>
+    requires { CanStep D.Delegate D.Cx.Cx cx received.reply goals.old }
+    ensures stepped { IfOk result (λ request. HasStepped D.Delegate D.Cx.Cx cx received request goals.old goals.new) }
+    ensures fault { IfErr result (λ fault. IsStepFault D.Delegate D.Cx.Cx cx received goals.old fault) }
     ensures same_starts { D.starts inspect.new ≡ D.starts inspect.old }
 {
+    let verdict = match received.reply {
+        Reply::Answer(outcome) => cx.sort(outcome),
+        Reply::Begin | Reply::Noted => Verdict::Neither,
+    };
     let last = goals.runs.len() - 1;
-    let request = D::step(&mut goals.runs[last].frame, reply, inspect)?;
+    let run = &mut goals.runs[last];
+    run.progress
+        .receive(received.reply, verdict, received.node)?;
+    let request = D::step(&mut run.frame, received.reply, inspect)?;
+    if let Some(number) = run.progress.order_fault(request) {
+        return Err(Fault::Protocol(number));
+    }
+    run.progress.note_request(request);
     Ok(request)
 }

@@ -5,7 +5,7 @@ ghost use Rattle.std.specs.Option.{option_map};
 ghost use Rattle.std.specs.Slice.Iter.{iter_rest};
 ghost use Rattle.search_parts.specs.Path.{greatest_kind, greater_kind};
 
-use crate::context::{Cx, NoMemory, NodeId};
+use crate::context::{Cx, NoMemory};
 use crate::parts::depth::{AvailableDepth, StackDepth};
 use crate::path::PathKind;
 use std::alloc::Global;
@@ -21,8 +21,6 @@ pub struct EntryState {
     pub required_depth: usize,
     /// Whether a question was refused below this goal in this run.
     pub encountered_overflow: bool,
-    /// The node that stands for the goal; none until its first frame starts.
-    pub node: Option<NodeId>,
 }
 
 /// A goal under evaluation. Ports `StackEntry`.
@@ -52,7 +50,6 @@ impl<X: Cx> StackEntry<X> {
             state: EntryState {
                 required_depth: 0,
                 encountered_overflow: false,
-                node: None,
             },
         }
     }
