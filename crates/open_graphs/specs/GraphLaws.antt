@@ -1,6 +1,6 @@
 -- The theorems on the list of nodes and on graphs in it.
 use Rattle.std.specs.Prelude.{◌≡◌, ℕ, List, [], ◌∷◌, ◌++◌, Some, slice_get, slice_set}
-use Rattle.open_graphs.specs.Graph.{Verdict, Edge, Node, Unfinished, Finished, Grown, IsGraph}
+use Rattle.open_graphs.specs.Graph.{Verdict, Node, Unfinished, Grown, IsGraph}
 
 -- An unfinished node is appended: the list has grown.
 abbrev pub AppendGrows : Type 0
@@ -17,11 +17,3 @@ abbrev pub GrowthKeepsGraph : Type 0
 GrowthKeepsGraph =
     (before after : List Node) (verdict : Verdict) (a : ℕ)
     → Grown before after → IsGraph before verdict a → IsGraph after verdict a
-
--- An unfinished node whose edges all lead to graphs of a verdict is finished with it: it is the root of such a graph.
-abbrev pub FinishGivesGraph : Type 0
-FinishGivesGraph =
-    (nodes : List Node) (verdict : Verdict) (n : ℕ) (edges : List Edge)
-    → slice_get nodes n ≡ Some Unfinished
-    → ((i : ℕ) (edge : Edge) → slice_get edges i ≡ Some edge → IsGraph nodes verdict edge.target)
-    → IsGraph (slice_set nodes n (Finished verdict edges)) verdict n

@@ -1,5 +1,5 @@
 //! The list of nodes and the graphs in it.
-ghost use Rattle.open_graphs.specs.GraphLaws.{AppendGrows, FinishGrows, GrowthKeepsGraph, FinishGivesGraph};
+ghost use Rattle.open_graphs.specs.GraphLaws.{AppendGrows, FinishGrows, GrowthKeepsGraph};
 
 /// The list grows when an unfinished node is appended, and when one is finished.
 pub fn list_grows()
@@ -10,10 +10,4 @@ pub fn list_grows()
 /// A graph stays one while the list grows.
 pub fn graph_stays()
     ensures { GrowthKeepsGraph }
-{}
-
-/// Without cycles a node is finished when its questions are: where all its edges lead to graphs of one
-/// verdict, it is the root of one. So a search without cycles needs nothing else of this crate.
-pub fn finish_gives_graph()
-    ensures { FinishGivesGraph }
 {}

@@ -1,22 +1,17 @@
--- Definite results keep their graphs while the list of nodes grows, and a run whose edges lead to graphs gives its result one.
-use Rattle.std.proofs.Common.{◌≡◌, ℕ, Bool, true, false, if◌then◌else◌, List, map, Option, None, Some, option_map, slice_get, slice_set, refl, sym, ◌∙◌, ap, subst}
+-- Definite results keep their graphs while the list of nodes grows, and show what they say.
+use Rattle.std.proofs.Common.{◌≡◌, Bool, true, false, if◌then◌else◌, List, Option, None, Some, refl, sym, ◌∙◌, subst}
 use Rattle.std.specs.Option.{IsSomeAnd}
-use Rattle.std.proofs.lemmas.List.{map-set}
-use Rattle.std.proofs.lemmas.Option.{slice_get-map}
 use Rattle.open_graphs.specs.Graph as theory
 use Rattle.open_graphs.proofs.Closed.{growth_keeps_graph}
-use Rattle.open_graphs.proofs.Trees.{finish_gives_graph}
 use Rattle.search_parts.specs.declared.context.NodeId.{NodeId}
-use Rattle.search_parts.specs.declared.context.Edge.{Edge}
 use Rattle.search_parts.specs.declared.context.Request.{Request}
 use Rattle.search_parts.specs.declared.context.Reply.{Reply}
 use Rattle.search_parts.specs.Graph.{IsProofGraph, IsRefutationGraph}
 use Rattle.search_parts.specs.Question.{Question}
-use Rattle.search_parts.specs.Cache.{EndedRun, CacheNode, open_goal, with_run, IsNodeOf, KeepsGoals, AreRuns, graph_nodes_of}
-use Rattle.search_parts.specs.Shapes.{verdict_of, edge_shape, run_shape, shape_of, shapes_of}
-use Rattle.search_parts.specs.Definite.{HasGraph, LeadToGraphs}
+use Rattle.search_parts.specs.Cache.{CacheNode, IsNodeOf, KeepsGoals, AreRuns, graph_nodes_of}
+use Rattle.search_parts.specs.Shapes.{verdict_of, shapes_of}
+use Rattle.search_parts.specs.Definite.{HasGraph}
 use Rattle.search_parts.proofs.Bridge.{KeepsRule, yes_is_proof, no_is_refutation}
-use Rattle.search_parts.proofs.Nodes.{before, with_run-is, node_is}
 
 IsSomeAnd-weaker : {A : Type 0} (P Q : A → Type 0) → ((x : A) → P x → Q x) → (o : Option A) → IsSomeAnd o P → IsSomeAnd o Q
 IsSomeAnd-weaker P Q more None h = absurd h
@@ -24,51 +19,14 @@ IsSomeAnd-weaker P Q more (Some x) h = more x h
 
 module _ {I R : Type 0} (is_yes is_no : R → Bool) where
   pub HasGraph-kept : (old new : List (CacheNode I R)) → KeepsGoals old new → theory.Grown (shapes_of is_yes is_no old) (shapes_of is_yes is_no new) → (goal : I) (r : R) (node : Option NodeId) → HasGraph is_yes is_no old goal r node → HasGraph is_yes is_no new goal r node
-  HasGraph-kept old new goals grown goal r node h definite =
-      IsSomeAnd-weaker (λ n. IsNodeOf old n.0 goal × theory.IsGraph (shapes_of is_yes is_no old) (verdict_of is_yes is_no r) n.0)
-      (λ n. IsNodeOf new n.0 goal × theory.IsGraph (shapes_of is_yes is_no new) (verdict_of is_yes is_no r) n.0)
-      (λ n g. (goals n.0 goal g.0, growth_keeps_graph (shapes_of is_yes is_no old) (shapes_of is_yes is_no new) (verdict_of is_yes is_no r) n.0 grown g.1))
-      node (h definite)
-
-  edge_of_shape : (o : Option (Edge I)) (s : theory.Edge) → option_map edge_shape o ≡ Some s → (e : Edge I) × (o ≡ Some e) × (e.target ≡ s.target)
-  edge_of_shape None s h = absurd cc
-  edge_of_shape (Some e) s h = let same : edge_shape e ≡ s = cc in (e, refl, ap (λ x. x.target) same)
-
-  module _ (nodes : List (CacheNode I R)) (k : ℕ) (run : EndedRun I R) (goal : I) (is_open : open_goal nodes k ≡ Some goal) (lead : LeadToGraphs is_yes is_no nodes (verdict_of is_yes is_no run.outcome) run.edges) where
-    abbrev Is : I → Type 0
-    Is g = g ≡ goal
-
-    opened : IsSomeAnd (open_goal nodes k) Is
-    opened = subst (λ o. IsSomeAnd o Is) (sym is_open) refl
-
-    abbrev was : (n : CacheNode I R) × (slice_get nodes k ≡ Some n) × (n.run ≡ None) × (n.goal ≡ goal)
-    was = before nodes k run Is opened
-
-    pub node_of_goal : IsNodeOf (with_run nodes k run) k goal
-    node_of_goal = ap (option_map (λ n. n.goal)) (node_is nodes k run Is opened) ∙ ap Some was.3
-
-    unfinished : slice_get (shapes_of is_yes is_no nodes) k ≡ Some theory.Unfinished
-    unfinished =
-        slice_get-map (shape_of is_yes is_no) nodes k
-        ∙ (ap (option_map (shape_of is_yes is_no)) was.1
-        ∙ ap (λ r. Some (shape_of is_yes is_no (record { goal = was.0.goal; run = r }))) was.2)
-
-    shapes_after : slice_set (shapes_of is_yes is_no nodes) k (run_shape is_yes is_no run) ≡ shapes_of is_yes is_no (with_run nodes k run)
-    shapes_after =
-        sym (map-set (shape_of is_yes is_no) nodes k (record { goal = was.0.goal; run = Some run }))
-        ∙ ap (shapes_of is_yes is_no) (sym (with_run-is nodes k run Is opened))
-
-    pub finished_has_graph : theory.IsGraph (shapes_of is_yes is_no (with_run nodes k run)) (verdict_of is_yes is_no run.outcome) k
-    finished_has_graph =
-        subst (λ shapes. theory.IsGraph shapes (verdict_of is_yes is_no run.outcome) k) shapes_after
-        (finish_gives_graph (shapes_of is_yes is_no nodes) (verdict_of is_yes is_no run.outcome) k (map edge_shape run.edges) unfinished
-        (λ i s at.
-        let w = edge_of_shape (slice_get run.edges i) s (sym (slice_get-map edge_shape run.edges i) ∙ at) in
-        subst (theory.IsGraph (shapes_of is_yes is_no nodes) (verdict_of is_yes is_no run.outcome)) w.2 (lead i w.0 w.1)))
-
-    -- the result of a run whose edges lead to graphs has one
-    pub HasGraph-ended : HasGraph is_yes is_no (with_run nodes k run) goal run.outcome (Some (record { 0 = k }))
-    HasGraph-ended definite = (node_of_goal, finished_has_graph)
+  HasGraph-kept old new goals grown goal r node h = record {
+    definite = λ definite.
+        IsSomeAnd-weaker (λ n. IsNodeOf old n.0 goal × theory.IsGraph (shapes_of is_yes is_no old) (verdict_of is_yes is_no r) n.0)
+        (λ n. IsNodeOf new n.0 goal × theory.IsGraph (shapes_of is_yes is_no new) (verdict_of is_yes is_no r) n.0)
+        (λ n g. (goals n.0 goal g.0, growth_keeps_graph (shapes_of is_yes is_no old) (shapes_of is_yes is_no new) (verdict_of is_yes is_no r) n.0 grown g.1))
+        node (h.definite definite);
+    neither = h.neither;
+  }
 
 yes_verdict : (y n : Bool) → y ≡ true → (if y then theory.Yes else if n then theory.No else theory.Neither) ≡ theory.Yes
 yes_verdict true n e = refl
@@ -90,7 +48,7 @@ module _ {I R : Type 0} (is_yes is_no : R → Bool) (scripts : I → List (Reply
       IsSomeAnd-weaker (λ n. IsNodeOf nodes n.0 goal × theory.IsGraph (shapes_of is_yes is_no nodes) (verdict_of is_yes is_no r) n.0)
       (λ n. IsProofGraph proves (graph_nodes_of nodes) n.0 goal)
       (λ n g. yes_is_proof is_yes is_no scripts nodes runs n.0 goal g.0 proves law (subst (λ v. theory.IsGraph (shapes_of is_yes is_no nodes) v n.0) yes g.1))
-      node (has (definite (verdict_of is_yes is_no r) theory.Yes yes (λ e. cc)))
+      node (has.definite (definite (verdict_of is_yes is_no r) theory.Yes yes (λ e. cc)))
 
   -- a no shows that it does not
   pub no_is_shown : (refutes : I → List (Question I) → Type 0) → KeepsRule is_no scripts refutes → (is_yes r ≡ true → is_no r ≡ false) → is_no r ≡ true → IsSomeAnd node (λ n. IsRefutationGraph refutes (graph_nodes_of nodes) n.0 goal)
@@ -99,4 +57,4 @@ module _ {I R : Type 0} (is_yes is_no : R → Bool) (scripts : I → List (Reply
       IsSomeAnd-weaker (λ n. IsNodeOf nodes n.0 goal × theory.IsGraph (shapes_of is_yes is_no nodes) (verdict_of is_yes is_no r) n.0)
       (λ n. IsRefutationGraph refutes (graph_nodes_of nodes) n.0 goal)
       (λ n g. no_is_refutation is_yes is_no scripts nodes runs n.0 goal g.0 refutes law (subst (λ v. theory.IsGraph (shapes_of is_yes is_no nodes) v n.0) no g.1))
-      node (has (definite (verdict_of is_yes is_no r) theory.No no (λ e. cc)))
+      node (has.definite (definite (verdict_of is_yes is_no r) theory.No no (λ e. cc)))
