@@ -19,7 +19,8 @@ use Rattle.search_graph.specs.declared.graph.open_goals.Received.{Received}
 use Rattle.search_graph.specs.declared.graph.open_goals.Next.{Next}
 use Rattle.search_graph.specs.declared.graph.open_goals.Next.TheVariants.{Step, Finished}
 use Rattle.search_graph.specs.Progress.{requested, IsReplySorted}
-use Rattle.search_graph.specs.Justified.{Asks, AreJustified, IsFit, HasGraph}
+use Rattle.search_parts.specs.Definite.{HasGraph}
+use Rattle.search_graph.specs.Justified.{Asks, AreJustified, IsFit}
 use Rattle.search_graph.specs.Runs.{runs_of, IsJustifiedNext}
 use Rattle.search_graph.specs.Evaluating.{Call, Outset, HasStepped, IsWaiting, HasAsked, HasStopped, IsStepFault, IsOnly, Leads, Leaves, Pushes, received_by, work_left}
 use Rattle.search_graph.proofs.Moves.{root_waits, failed_root_stopped, step_asks, step_stops, leave_leads}

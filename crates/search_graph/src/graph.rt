@@ -90,10 +90,7 @@ impl<D: Delegate> SearchGraph<D> {
         input: <D::Cx as Cx>::Input,
         step_kind_from_parent: PathKind,
         inspect: &mut D::ProofTreeBuilder,
-    ) -> Result<
-        Answer<<D::Cx as Cx>::Result>,
-        Fault<<D::Cx as Cx>::Input, <D::Cx as Cx>::Result>,
-    >
+    ) -> Result<Answer<<D::Cx as Cx>::Result>, Fault<<D::Cx as Cx>::Input, <D::Cx as Cx>::Result>>
         // A definite answer has its graph, and the goal has none of the other sort.
         ensures yes { IfOk result (λ answer. D.Cx.is_yes answer.result ≡ true → IsProved D.Cx.Cx cache.new input answer.node) }
         ensures no { IfOk result (λ answer. D.Cx.is_no answer.result ≡ true → IsRefuted D.Cx.Cx cache.new input answer.node) }
@@ -122,7 +119,7 @@ impl<D: Delegate> SearchGraph<D> {
         ensures kept { KeepsFinished cache.old.nodes cache.new.nodes }
     {
         let root_depth = self.root_depth;
-        let outcome = evaluate::<D>(
+        match evaluate::<D>(
             &mut self.goals,
             &mut self.limits_met,
             cache,
@@ -130,11 +127,15 @@ impl<D: Delegate> SearchGraph<D> {
             step_kind_from_parent,
             input,
             inspect,
-        );
-        cache.has_runs();
-        if outcome.is_err() {
-            self.goals.clear();
+        ) {
+            Ok(answer) => {
+                cache.has_runs();
+                Ok(answer)
+            }
+            Err(fault) => {
+                self.goals.clear();
+                Err(fault)
+            }
         }
-        outcome
     }
 }

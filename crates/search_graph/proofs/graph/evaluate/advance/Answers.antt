@@ -18,7 +18,7 @@ pub returns-in_err-kind-clause-stopped : goal.returns-in_err-kind-clause-stopped
 returns-in_err-kind-clause-stopped g c = λ call h.
     if_err_and c.from_residual.result _ _ c.from_residual.ensures.1
     (λ e is. subst (λ fault. HasStopped g.D.Delegate g.D.Cx.Cx c.args.cache.now.cx call fault (g.D.Delegate.starts c.step.new.inspect) c.args.limits_met.now) (sym is)
-      (advance_stops g.D.Delegate g.D.Cx.Cx c.args.cache.now.cx c.args.received c.args.goals.now c.step.new.goals c.cx-cx.result c.cx-cx.ensures _ c.in_err-kind.ensures.fault _ _ c.args.limits_met.now c.step.ensures.same_starts c.args.cache.now.nodes c.requires.fits call h))
+    (advance_stops g.D.Delegate g.D.Cx.Cx c.args.cache.now.cx c.args.received c.args.goals.now c.step.new.goals c.cx-cx.result c.cx-cx.ensures _ c.in_err-kind.ensures.fault _ _ c.args.limits_met.now c.step.ensures.same_starts c.args.cache.now.nodes c.requires.fits call h))
 
 -- ---- a question
 
@@ -35,7 +35,7 @@ pub returns-in_err-next-in-Evaluate-clause-stopped : goal.returns-in_err-next-in
 returns-in_err-next-in-Evaluate-clause-stopped g c = λ call h.
     if_err_and c.from_residual-in_err-next-in-Evaluate.result _ _ c.from_residual-in_err-next-in-Evaluate.ensures.1
     (λ e is. subst (λ fault. HasStopped g.D.Delegate g.D.Cx.Cx c.args.cache.now.cx call fault (g.D.Delegate.starts c.ask.new.inspect) c.ask.new.limits_met) (sym is)
-      (c.in_err-next-in-Evaluate.ensures.stops call _ (advance_asks g.D.Delegate g.D.Cx.Cx c.args.cache.now.cx c.args.received _ c.args.goals.now c.step.new.goals _ _ c.args.limits_met.now c.cx-cx.result c.cx-cx.ensures c.in_ok-kind.field-0 c.in-Evaluate.is c.in_ok-kind.ensures.stepped c.step.ensures.same_starts c.args.cache.now.nodes c.requires.fits call h)))
+    (c.in_err-next-in-Evaluate.ensures.stops call _ (advance_asks g.D.Delegate g.D.Cx.Cx c.args.cache.now.cx c.args.received _ c.args.goals.now c.step.new.goals _ _ c.args.limits_met.now c.cx-cx.result c.cx-cx.ensures c.in_ok-kind.field-0 c.in-Evaluate.is c.in_ok-kind.ensures.stepped c.step.ensures.same_starts c.args.cache.now.nodes c.requires.fits call h)))
 
 pub returns-in_ok-next-in-Evaluate-clause-leads : goal.returns-in_ok-next-in-Evaluate-clause-leads
 returns-in_ok-next-in-Evaluate-clause-leads g c = λ call h.
@@ -58,7 +58,7 @@ pub returns-in_err-next-in-Done-clause-stopped : goal.returns-in_err-next-in-Don
 returns-in_err-next-in-Done-clause-stopped g c = λ call h.
     if_err_and c.from_residual-in_err-next-in-Done.result _ _ c.from_residual-in_err-next-in-Done.ensures.1
     (λ e is. subst (λ fault. HasStopped g.D.Delegate g.D.Cx.Cx c.args.cache.now.cx call fault (g.D.Delegate.starts c.step.new.inspect) c.args.limits_met.now) (sym is)
-      (asked_stopped g.D.Delegate g.D.Cx.Cx c.args.cache.now.cx call _ _ c.step.new.goals _ _ (advance_asks g.D.Delegate g.D.Cx.Cx c.args.cache.now.cx c.args.received _ c.args.goals.now c.step.new.goals _ _ c.args.limits_met.now c.cx-cx.result c.cx-cx.ensures c.in_ok-kind.field-0 c.in-Done.is c.in_ok-kind.ensures.stepped c.step.ensures.same_starts c.args.cache.now.nodes c.requires.fits call h)))
+    (asked_stopped g.D.Delegate g.D.Cx.Cx c.args.cache.now.cx call _ _ c.step.new.goals _ _ (advance_asks g.D.Delegate g.D.Cx.Cx c.args.cache.now.cx c.args.received _ c.args.goals.now c.step.new.goals _ _ c.args.limits_met.now c.cx-cx.result c.cx-cx.ensures c.in_ok-kind.field-0 c.in-Done.is c.in_ok-kind.ensures.stepped c.step.ensures.same_starts c.args.cache.now.nodes c.requires.fits call h)))
 
 pub returns-in_ok-next-in-Done-clause-leads : goal.returns-in_ok-next-in-Done-clause-leads
 returns-in_ok-next-in-Done-clause-leads g c = λ call h.
@@ -77,9 +77,10 @@ returns-in-EnterCandidate-clause-leads g c = λ call h.
     (noted_goes_on g.D.Delegate g.D.Cx.Cx c.args.cache.now.cx call _ _ c.step.new.goals _ _ tt (advance_asks g.D.Delegate g.D.Cx.Cx c.args.cache.now.cx c.args.received _ c.args.goals.now c.step.new.goals _ _ c.args.limits_met.now c.cx-cx.result c.cx-cx.ensures c.in_ok-kind.field-0 c.in-EnterCandidate.is c.in_ok-kind.ensures.stepped c.step.ensures.same_starts c.args.cache.now.nodes c.requires.fits call h))
 
 pub returns-in-EnterCandidate-clause-justified : goal.returns-in-EnterCandidate-clause-justified
-returns-in-EnterCandidate-clause-justified g c =
-    ((advance_justified g.D.Delegate g.D.Cx.Cx c.args.cache.now.cx c.args.received c.args.goals.now c.step.new.goals c.cx-cx.result c.in_ok-kind.field-0 c.in_ok-kind.ensures.stepped c.args.cache.now.nodes c.requires.fits c.requires.justified),
-    subst (λ given. IsFit g.D.Cx.Cx.is_yes g.D.Cx.Cx.is_no c.args.cache.now.nodes (runs_of c.step.new.goals) given.reply given.node) (sym c.without_node.ensures) (noted_fits g.D.Cx.Cx.is_yes g.D.Cx.Cx.is_no c.args.cache.now.nodes (runs_of c.step.new.goals)))
+returns-in-EnterCandidate-clause-justified g c = (
+  (advance_justified g.D.Delegate g.D.Cx.Cx c.args.cache.now.cx c.args.received c.args.goals.now c.step.new.goals c.cx-cx.result c.in_ok-kind.field-0 c.in_ok-kind.ensures.stepped c.args.cache.now.nodes c.requires.fits c.requires.justified),
+  subst (λ given. IsFit g.D.Cx.Cx.is_yes g.D.Cx.Cx.is_no c.args.cache.now.nodes (runs_of c.step.new.goals) given.reply given.node) (sym c.without_node.ensures) (noted_fits g.D.Cx.Cx.is_yes g.D.Cx.Cx.is_no c.args.cache.now.nodes (runs_of c.step.new.goals)),
+)
 
 pub returns-in-FinishCandidate-clause-leads : goal.returns-in-FinishCandidate-clause-leads
 returns-in-FinishCandidate-clause-leads g c = λ call h.
@@ -87,9 +88,10 @@ returns-in-FinishCandidate-clause-leads g c = λ call h.
     (noted_goes_on g.D.Delegate g.D.Cx.Cx c.args.cache.now.cx call _ _ c.step.new.goals _ _ tt (advance_asks g.D.Delegate g.D.Cx.Cx c.args.cache.now.cx c.args.received _ c.args.goals.now c.step.new.goals _ _ c.args.limits_met.now c.cx-cx.result c.cx-cx.ensures c.in_ok-kind.field-0 c.in-FinishCandidate.is c.in_ok-kind.ensures.stepped c.step.ensures.same_starts c.args.cache.now.nodes c.requires.fits call h))
 
 pub returns-in-FinishCandidate-clause-justified : goal.returns-in-FinishCandidate-clause-justified
-returns-in-FinishCandidate-clause-justified g c =
-    ((advance_justified g.D.Delegate g.D.Cx.Cx c.args.cache.now.cx c.args.received c.args.goals.now c.step.new.goals c.cx-cx.result c.in_ok-kind.field-0 c.in_ok-kind.ensures.stepped c.args.cache.now.nodes c.requires.fits c.requires.justified),
-    subst (λ given. IsFit g.D.Cx.Cx.is_yes g.D.Cx.Cx.is_no c.args.cache.now.nodes (runs_of c.step.new.goals) given.reply given.node) (sym c.without_node-in-FinishCandidate.ensures) (noted_fits g.D.Cx.Cx.is_yes g.D.Cx.Cx.is_no c.args.cache.now.nodes (runs_of c.step.new.goals)))
+returns-in-FinishCandidate-clause-justified g c = (
+  (advance_justified g.D.Delegate g.D.Cx.Cx c.args.cache.now.cx c.args.received c.args.goals.now c.step.new.goals c.cx-cx.result c.in_ok-kind.field-0 c.in_ok-kind.ensures.stepped c.args.cache.now.nodes c.requires.fits c.requires.justified),
+  subst (λ given. IsFit g.D.Cx.Cx.is_yes g.D.Cx.Cx.is_no c.args.cache.now.nodes (runs_of c.step.new.goals) given.reply given.node) (sym c.without_node-in-FinishCandidate.ensures) (noted_fits g.D.Cx.Cx.is_yes g.D.Cx.Cx.is_no c.args.cache.now.nodes (runs_of c.step.new.goals)),
+)
 
 pub returns-in-Ignore-clause-leads : goal.returns-in-Ignore-clause-leads
 returns-in-Ignore-clause-leads g c = λ call h.
@@ -97,6 +99,7 @@ returns-in-Ignore-clause-leads g c = λ call h.
     (noted_goes_on g.D.Delegate g.D.Cx.Cx c.args.cache.now.cx call _ _ c.step.new.goals _ _ tt (advance_asks g.D.Delegate g.D.Cx.Cx c.args.cache.now.cx c.args.received _ c.args.goals.now c.step.new.goals _ _ c.args.limits_met.now c.cx-cx.result c.cx-cx.ensures c.in_ok-kind.field-0 c.in-Ignore.is c.in_ok-kind.ensures.stepped c.step.ensures.same_starts c.args.cache.now.nodes c.requires.fits call h))
 
 pub returns-in-Ignore-clause-justified : goal.returns-in-Ignore-clause-justified
-returns-in-Ignore-clause-justified g c =
-    ((advance_justified g.D.Delegate g.D.Cx.Cx c.args.cache.now.cx c.args.received c.args.goals.now c.step.new.goals c.cx-cx.result c.in_ok-kind.field-0 c.in_ok-kind.ensures.stepped c.args.cache.now.nodes c.requires.fits c.requires.justified),
-    subst (λ given. IsFit g.D.Cx.Cx.is_yes g.D.Cx.Cx.is_no c.args.cache.now.nodes (runs_of c.step.new.goals) given.reply given.node) (sym c.without_node-in-Ignore.ensures) (noted_fits g.D.Cx.Cx.is_yes g.D.Cx.Cx.is_no c.args.cache.now.nodes (runs_of c.step.new.goals)))
+returns-in-Ignore-clause-justified g c = (
+  (advance_justified g.D.Delegate g.D.Cx.Cx c.args.cache.now.cx c.args.received c.args.goals.now c.step.new.goals c.cx-cx.result c.in_ok-kind.field-0 c.in_ok-kind.ensures.stepped c.args.cache.now.nodes c.requires.fits c.requires.justified),
+  subst (λ given. IsFit g.D.Cx.Cx.is_yes g.D.Cx.Cx.is_no c.args.cache.now.nodes (runs_of c.step.new.goals) given.reply given.node) (sym c.without_node-in-Ignore.ensures) (noted_fits g.D.Cx.Cx.is_yes g.D.Cx.Cx.is_no c.args.cache.now.nodes (runs_of c.step.new.goals)),
+)

@@ -17,7 +17,7 @@ pub returns-in_err-push_goal-clause-stopped : goal.returns-in_err-push_goal-clau
 returns-in_err-push_goal-clause-stopped g c = λ call at.
     if_err_and c.from_residual.result _ _ c.from_residual.ensures.1
     (λ e is. subst (λ fault. HasStopped g.D.Delegate g.D.Cx.Cx c.args.cache.now.cx call fault (g.D.Delegate.starts c.push_goal.new.inspect) c.args.limits_met.now) (sym is)
-      (first_stopped g.D.Delegate g.D.Cx.Cx c.args.cache.now.cx c.args.input c.args.step_kind c.args.root_depth _ _ c.args.limits_met.now c.push_goal.ensures.at_least c.push_goal.ensures.at_most call at))
+    (first_stopped g.D.Delegate g.D.Cx.Cx c.args.cache.now.cx c.args.input c.args.step_kind c.args.root_depth _ _ c.args.limits_met.now c.push_goal.ensures.at_least c.push_goal.ensures.at_most call at))
 
 pub loop-next-init : goal.loop-next-init
 loop-next-init g c = record {
@@ -41,8 +41,8 @@ pub returns-in_err-next-clause-stopped : goal.returns-in_err-next-clause-stopped
 returns-in_err-next-clause-stopped g c = λ call at.
     if_err_and c.from_residual-in_err-next.result _ _ c.from_residual-in_err-next.ensures.1
     (λ e is. subst (λ fault. HasStopped g.D.Delegate g.D.Cx.Cx c.args.cache.now.cx call fault (g.D.Delegate.starts c.advance.new.inspect) c.advance.new.limits_met) (sym is)
-      (subst (λ cx. HasStopped g.D.Delegate g.D.Cx.Cx cx call c.in_err-next.field-0.0 (g.D.Delegate.starts c.advance.new.inspect) c.advance.new.limits_met) c.loop-next.invariant.same_context
-      (c.in_err-next.ensures.stopped call (c.loop-next.invariant.waiting call at))))
+    (subst (λ cx. HasStopped g.D.Delegate g.D.Cx.Cx cx call c.in_err-next.field-0.0 (g.D.Delegate.starts c.advance.new.inspect) c.advance.new.limits_met) c.loop-next.invariant.same_context
+    (c.in_err-next.ensures.stopped call (c.loop-next.invariant.waiting call at))))
 
 pub returns-in_err-next-clause-kept : goal.returns-in_err-next-clause-kept
 returns-in_err-next-clause-kept g c = KeepsFinished-then c.args.cache.now.nodes c.loop-next.cache.nodes c.advance.new.cache.nodes c.loop-next.invariant.kept c.advance.ensures.kept
