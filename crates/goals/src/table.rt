@@ -1,0 +1,11 @@
+//! Tables of rules as a delegate of the goal search.
+pub mod builder;
+pub mod delegate;
+mod frame;
+pub mod outcome;
+pub mod rules;
+
+pub use builder::Builder;
+pub use delegate::TableDelegate;
+pub use outcome::Outcome;
+pub use rules::{Candidate, Goal, Rules};
