@@ -3,4 +3,8 @@ pub mod Outcome
 pub mod Rules
 pub mod Frame
 pub mod Standing
+pub mod Grammar
+pub mod Words
+pub mod Question
+pub mod Line
 pub mod Laws

@@ -3,6 +3,7 @@ pub mod builder;
 pub mod delegate;
 mod frame;
 pub mod outcome;
+mod reading;
 pub mod rules;
 
 pub use builder::Builder;

@@ -1,0 +1,4 @@
+//! Reading a table of rules.
+mod line;
+mod question;
+mod word;
