@@ -1,4 +1,5 @@
 pub mod Builder
+pub mod Names
 pub mod Outcome
 pub mod Rules
 pub mod Frame

@@ -2,6 +2,7 @@
 pub mod builder;
 pub mod delegate;
 mod frame;
+mod names;
 pub mod outcome;
 mod reading;
 pub mod rules;
