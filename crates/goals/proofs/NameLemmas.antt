@@ -1,5 +1,5 @@
 -- Names and their numbers.
-use Rattle.std.proofs.Common.{◌≡◌, ℕ, zero, suc, ◌+◌, ◌<◌, Bool, true, false, cond, ◌||◌, List, [], ◌∷◌, ◌++◌, length, map, Option, Some, None, Vec, refl, ap, sym, ◌∙◌, subst, arith, inl, inr, ◌⊎◌}
+use Rattle.std.proofs.Common.{◌≡◌, ℕ, zero, suc, Bool, true, false, ◌||◌, List, [], ◌∷◌, ◌++◌, length, map, Option, Some, None, Vec, refl, ap, sym, ◌∙◌, subst, arith, inl, inr, ◌⊎◌}
 use Rattle.std.specs.declared.alloc.Global.{Global}
 use Rattle.std.specs.Prelude.{slice_get, nat_eq, ◌↔◌}
 use Rattle.std.specs.List.{list_any}
@@ -15,7 +15,7 @@ use Rattle.goals.specs.Names.{Numbers, number_in, IsNumbered, with_name}
 same_name : (name : List ℕ) → bytes_eq name name ≡ true
 same_name name = (bytes_eq-Decides name name).1 refl
 
-some_same : {A : Type 0} (x y : A) → Some x ≡ Some y → x ≡ y
+pub some_same : {A : Type 0} (x y : A) → Some x ≡ Some y → x ≡ y
 some_same x y e = cc
 
 or_second : (a b : Bool) → b ≡ true → (a || b) ≡ true
@@ -27,7 +27,7 @@ or_first true b e = refl
 or_first false b e = absurd cc
 
 -- a name that has a place is among the names
-is_among : (names : List (List ℕ)) (name : List ℕ) (n : ℕ) → slice_get names n ≡ Some name → list_any (bytes_eq name) names ≡ true
+pub is_among : (names : List (List ℕ)) (name : List ℕ) (n : ℕ) → slice_get names n ≡ Some name → list_any (bytes_eq name) names ≡ true
 is_among [] name n e = absurd cc
 is_among (x ∷ names) name zero e = or_first (bytes_eq name x) (list_any (bytes_eq name) names) (ap (bytes_eq name) (some_same x name e) ∙ same_name name)
 is_among (x ∷ names) name (suc n) e = or_second (bytes_eq name x) (list_any (bytes_eq name) names) (is_among names name n e)
@@ -38,11 +38,11 @@ place_first : (names : List (List ℕ)) (x name : List ℕ) (b : Bool) → bytes
 place_first names x name true e rest h = (0, ap Some (sym ((bytes_eq-Decides name x).0 e)))
 place_first names x name false e rest h = let w = rest h in (suc w.0, w.1)
 
-has_place : (names : List (List ℕ)) (name : List ℕ) → list_any (bytes_eq name) names ≡ true → (n : ℕ) × (slice_get names n ≡ Some name)
+pub has_place : (names : List (List ℕ)) (name : List ℕ) → list_any (bytes_eq name) names ≡ true → (n : ℕ) × (slice_get names n ≡ Some name)
 has_place [] name h = absurd cc
 has_place (x ∷ names) name h = place_first names x name (bytes_eq name x) refl (has_place names name) h
 
-at_end : {A : Type 0} (xs : List A) (x : A) (n : ℕ) → n ≡ length xs → slice_get (xs ++ x ∷ []) n ≡ Some x
+pub at_end : {A : Type 0} (xs : List A) (x : A) (n : ℕ) → n ≡ length xs → slice_get (xs ++ x ∷ []) n ≡ Some x
 at_end [] x n e = rw e refl
 at_end (y ∷ xs) x zero e = absurd (omega arith)
 at_end (y ∷ xs) x (suc n) e = at_end xs x n (omega arith)
@@ -53,7 +53,7 @@ slice_get-append_left (y ∷ xs) ys zero x e = e
 slice_get-append_left (y ∷ xs) ys (suc n) x e = slice_get-append_left xs ys n x e
 
 -- what has a place in a longer list: it had it before, or it is the new one
-place_in_longer : {A : Type 0} (xs : List A) (y : A) (n : ℕ) (x : A) → slice_get (xs ++ y ∷ []) n ≡ Some x → (slice_get xs n ≡ Some x) ⊎ ((n ≡ length xs) × (x ≡ y))
+pub place_in_longer : {A : Type 0} (xs : List A) (y : A) (n : ℕ) (x : A) → slice_get (xs ++ y ∷ []) n ≡ Some x → (slice_get xs n ≡ Some x) ⊎ ((n ≡ length xs) × (x ≡ y))
 place_in_longer [] y zero x e = inr (omega arith, sym (some_same y x e))
 place_in_longer [] y (suc n) x e = absurd cc
 place_in_longer (z ∷ xs) y zero x e = inl e

@@ -1,6 +1,5 @@
 -- What a line that was read says, without where its names lie in memory.
-use Rattle.std.specs.Prelude.{List, map}
-use Rattle.goals.specs.declared.table.reading.question.Question.{Question}
+use Rattle.std.specs.Prelude.{map}
 use Rattle.goals.specs.declared.table.reading.line.Line.{Line}
 use Rattle.goals.specs.declared.table.reading.line.Line.TheVariants.{PassedOver, Rule, Ask}
 use Rattle.goals.specs.Grammar as grammar

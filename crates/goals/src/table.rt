@@ -10,4 +10,5 @@ pub mod rules;
 pub use builder::Builder;
 pub use delegate::TableDelegate;
 pub use outcome::Outcome;
+pub use reading::ReadFault;
 pub use rules::{Candidate, Goal, Rules};

@@ -8,6 +8,7 @@ ghost use Rattle.goals.specs.Words.{words_left};
 
 use crate::table::reading::question::{Question, question_of};
 use crate::table::reading::word::{Words, depth_of, is_name};
+use search_parts::context::NoMemory;
 use std::alloc::{AllocError, AllocFailed, Global};
 
 /// What a line says.
@@ -41,6 +42,16 @@ impl From<AllocError> for LineFault {
     ghost from_gives = { λ _ fault. fault ≡ Memory };
 
     fn from(_error: AllocError) -> LineFault {
+        LineFault::Memory
+    }
+}
+
+impl From<NoMemory> for LineFault {
+    ghost use Rattle.goals.specs.declared.table.reading.line.LineFault.TheVariants.{Memory};
+
+    ghost from_gives = { λ _ fault. fault ≡ Memory };
+
+    fn from(_error: NoMemory) -> LineFault {
         LineFault::Memory
     }
 }

@@ -1,4 +1,4 @@
-use Rattle.std.proofs.Common.{◌∙◌, subst, sym, ap, refl, is_ok, rules, ◌++◌, ◌∷◌, []}
+use Rattle.std.proofs.Common.{◌∙◌, subst, ap, refl, is_ok, rules, ◌++◌, ◌∷◌, []}
 use Rattle.std.proofs.ResultArms.{chosen}
 use Rattle.goals.specs.Names.{IsNumbered, texts_of}
 use Rattle.goals.proofs.NameLemmas.{number_is, with_known, Interned, interned}

@@ -1,4 +1,4 @@
-use Rattle.std.proofs.Common.{rules, refl, ◌∙◌, sym}
+use Rattle.std.proofs.Common.{rules, refl}
 use Rattle.goals.proofs.Digits.{read_more}
 use Rattle.goals.proofs.table.reading.word.depth_of.Goals as goal
 

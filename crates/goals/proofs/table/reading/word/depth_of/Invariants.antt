@@ -1,7 +1,3 @@
-use Rattle.std.proofs.Common.{◌≡◌, ◌<◌, ◌^◌, ◌≤◌, length, take}
-use Rattle.std.specs.Char.{is_ascii_digit}
-use Rattle.std.specs.List.{AllPass}
-use Rattle.std.specs.Str.Parse.{digits_value}
 use Rattle.goals.proofs.table.reading.word.depth_of.Given as goal
 use Rattle.goals.proofs.Digits.{IsReadTo}
 

@@ -1,4 +1,4 @@
-use Rattle.std.proofs.Common.{rules, ap, ◌∙◌, length, arith, sym}
+use Rattle.std.proofs.Common.{rules, ap, ◌∙◌, length, sym}
 use Rattle.goals.proofs.Words.{words_of-blank, words_of-first}
 use Rattle.goals.proofs.table.reading.word.WordsIterator.next.Goals as goal
 
