@@ -3,3 +3,14 @@ pub mod Graphs
 pub mod Runs
 pub mod Ranks
 pub mod Copies
+pub mod Nodes
+pub mod Slots
+pub mod Sound
+pub mod PathRanks
+pub mod Bridge
+pub mod StackIndex
+pub mod LastState
+pub mod StackReads
+pub mod PathSets
+pub mod PathLaws
+pub mod Counts

@@ -1,0 +1,5 @@
+pub mod Newest
+pub mod Entries
+pub mod Evaluating
+pub mod Graph
+pub mod Justified
