@@ -3,3 +3,4 @@ pub mod Entries
 pub mod Evaluating
 pub mod Graph
 pub mod Justified
+pub mod Progress
