@@ -10,4 +10,5 @@ pub mod Words
 pub mod Question
 pub mod Line
 pub mod Text
+pub mod Stop
 pub mod Laws

@@ -1,5 +1,7 @@
 //! The program: it reads a table, and answers its questions in order.
-ghost use Rattle.std.specs.Prelude.{◌≡◌, ◌≤◌, ℕ, IfOk, IfSome, OnOk};
+ghost use Rattle.std.specs.Prelude.{◌≡◌, ◌≤◌, ◌⊎◌, ℕ, IfOk, IfErr, IfSome, OnOk};
+ghost use Rattle.std.specs.Io.KnownBytes.{Keeps};
+ghost use Rattle.goals.specs.Text.{Reads, IsFirstBadLine};
 
 use crate::table::builder::Builder;
 use crate::table::delegate::{Table, TableDelegate};
@@ -10,7 +12,7 @@ use search_graph::graph::SearchGraph;
 use search_parts::context::{Cx, Delegate, Fault};
 use search_parts::global_cache::GlobalCache;
 use search_parts::path::PathKind;
-use std::alloc::Global;
+use std::alloc::{AllocError, Global};
 use std::io;
 use std::io::{Read, Write};
 use thiserror::Error;
@@ -33,9 +35,11 @@ enum Stop {
 }
 
 impl Stop {
+    ghost use Rattle.goals.specs.Stop.{status_of};
+
     // The exit status.
     fn status(self) -> u8
-        ensures { result ≤ 4 }
+        ensures { result ≡ status_of self }
     {
         match self {
             Stop::BadLine(_) => 2,
@@ -45,13 +49,31 @@ impl Stop {
     }
 }
 
+impl From<AllocError> for Stop {
+    ghost use Rattle.goals.specs.declared.table.program.Stop.TheVariants.{Memory};
+
+    ghost from_gives = { λ _ stop. stop ≡ Memory };
+
+    fn from(_error: AllocError) -> Stop {
+        Stop::Memory
+    }
+}
+
 impl From<io::Error> for Stop {
+    ghost use Rattle.goals.specs.declared.table.program.Stop.TheVariants.{InputOrOutput};
+
+    ghost from_gives = { λ _ stop. stop ≡ InputOrOutput };
+
     fn from(_error: io::Error) -> Stop {
         Stop::InputOrOutput
     }
 }
 
 impl From<ReadFault> for Stop {
+    ghost use Rattle.goals.specs.Stop.{stop_of};
+
+    ghost from_gives = { λ fault stop. stop ≡ stop_of fault };
+
     fn from(fault: ReadFault) -> Stop {
         match fault {
             ReadFault::BadLine(number) => Stop::BadLine(number),
@@ -75,7 +97,12 @@ pub fn run<R: Read + Drop, W: Write + Drop, E: Write + Drop>(
     mut out: W,
     mut err: E,
 ) -> u8
-    ensures { result ≤ 4 }
+    ensures status { result ≤ 4 }
+
+    // Where the reader's bytes are known: questions are asked only of a text that the grammar allows, and a
+    // malformed line is told only of another one.
+    ensures asked { result ≤ 1 → IfSome (R.remaining input) (λ text. (rules : Rules) × Reads text rules) }
+    ensures bad_line { result ≡ 2 → IfSome (R.remaining input) (λ text. (n : ℕ) × IsFirstBadLine text n) }
 {
     match answer_input(alloc, &mut input, &mut out) {
         Ok(true) => 0,
@@ -88,11 +115,11 @@ pub fn run<R: Read + Drop, W: Write + Drop, E: Write + Drop>(
 }
 
 // Whether each question was answered, and none met a fault.
-fn answer_input<R: Read, W: Write>(
-    alloc: Global,
-    input: &mut R,
-    out: &mut W,
-) -> Result<bool, Stop> {
+fn answer_input<R: Read, W: Write>(alloc: Global, input: &mut R, out: &mut W) -> Result<bool, Stop>
+    ensures asked { OnOk result (IfSome (R.remaining input.old) (λ text. (rules : Rules) × Reads text rules)) }
+    ensures bad_line { (n : ℕ) → result ≡ Err (Stop.BadLine n) → IfSome (R.remaining input.old) (λ text. IsFirstBadLine text n) }
+    ensures nothing_written { (n : ℕ) → result ≡ Err (Stop.BadLine n) → Keeps (W.contents out.old) (W.contents out.new) }
+{
     let text = read_input(alloc, input)?;
     let rules = Rules::read(alloc, text.as_slice())?;
     answer_questions::<Table<&Rules>, TableDelegate<'_, 8, 1>, W>(
@@ -104,7 +131,10 @@ fn answer_input<R: Read, W: Write>(
 }
 
 // The whole input.
-fn read_input<R: Read>(alloc: Global, input: &mut R) -> Result<Vec<u8>, Stop> {
+fn read_input<R: Read>(alloc: Global, input: &mut R) -> Result<Vec<u8>, Stop>
+    ensures whole { IfOk result (λ text. IfSome (R.remaining input.old) (λ bytes. text.items ≡ bytes)) }
+    ensures fault { IfErr result (λ stop. (stop ≡ Stop.InputOrOutput) ⊎ (stop ≡ Stop.Memory)) }
+{
     let mut text = Vec::new(alloc);
     let mut piece = [0; PIECE];
     for _ in 0..READS {
@@ -112,9 +142,7 @@ fn read_input<R: Read>(alloc: Global, input: &mut R) -> Result<Vec<u8>, Stop> {
         if count == 0 {
             return Ok(text);
         }
-        if text.extend_from_slice(&piece[..count]).is_err() {
-            return Err(Stop::Memory);
-        }
+        text.extend_from_slice(&piece[..count])?;
     }
     Err(Stop::InputOrOutput)
 }
@@ -125,6 +153,7 @@ where
     X: Cx<Input = Goal, Result = Outcome>,
     D: Delegate<Cx = X, ProofTreeBuilder = Builder>,
     W: Write,
+    ensures fault { IfErr result (λ stop. stop ≡ Stop.InputOrOutput) }
 {
     let mut cache = GlobalCache::<D>::new(alloc, cx);
     let mut all_answered = true;
