@@ -186,3 +186,6 @@ fn fault_word(fault: Fault<Goal, Outcome>) -> &'static str {
         Fault::Protocol(_) => "protocol",
     }
 }
+
+#[cfg(test)]
+mod tests;
