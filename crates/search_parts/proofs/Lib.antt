@@ -6,3 +6,4 @@ pub mod Copies
 pub mod PathSets
 pub mod PathLaws
 pub mod Counts
+pub mod HeadLists
