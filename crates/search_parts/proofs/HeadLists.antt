@@ -1,13 +1,15 @@
 -- Lists of what is recorded by depth.
-use Rattle.std.proofs.Common.{◌≡◌, ◌≢◌, ℕ, ◌<◌, ◌≤◌, true, false, List, [], ◌∷◌, get_or, All, Some, IsSome, cond, refl, ap, inl, inr, arith, lt-ltb, le-ltb, eq-eqb, ne_eqb}
+use Rattle.std.proofs.Common.{◌≡◌, ◌≢◌, ℕ, ◌<◌, ◌≤◌, true, false, List, [], ◌∷◌, get_or, All, Some, None, IsSome, cond, refl, ap, inl, inr, arith, lt-ltb, le-ltb, eq-eqb, ne_eqb}
 use Rattle.std.proofs.lemmas.Bool.{cases_lt, cases_eq, false≢true}
 use Rattle.std.proofs.lemmas.List.{get_or-map, length-map}
-use Rattle.std.proofs.lemmas.Map.Keys.{ge_from_not_lt}
+use Rattle.std.proofs.lemmas.Map.Keys.{ge_from_not_lt, sorted_head, sorted_tail}
+use Rattle.std.specs.List.{AllByRecursion}
+use Rattle.std.specs.declared.cmp.Ordering.TheVariants.{Less}
 use Rattle.std.specs.Ordering.{is_lt, is_eq, nat_cmp}
 use Rattle.std.specs.BTreeMap.{insert_entry, is_at}
 use Rattle.std.specs.Map.{keys_of, set_value}
 use Rattle.search_parts.specs.declared.parts.depth.StackDepth.{StackDepth}
-use Rattle.search_parts.specs.Heads.{at_depth, depth_cmp}
+use Rattle.search_parts.specs.Heads.{at_depth, depth_cmp, IsRising}
 
 -- where no depth is above a depth, each is at most that
 pub all_up_to : {A : Type 0} (entries : List (StackDepth × A)) (depth : StackDepth)
@@ -24,6 +26,31 @@ apart a b ne = elim (cases_lt a b) [
   | inl less ↦ rw (lt-ltb a b less) refl
   | inr at_least ↦ rw (le-ltb a b at_least, ne_eqb a b ne) refl
 ]
+
+-- a depth below all others is not among them
+absent_below : {A : Type 0} (entries : List (StackDepth × A)) (depth : StackDepth)
+    → AllByRecursion (λ other. depth_cmp depth other ≡ Less) (keys_of entries) → at_depth entries depth ≡ None
+absent_below [] depth below = refl
+absent_below (e ∷ es) depth below =
+    rw (ap is_eq below.0) (absent_below es depth below.1)
+
+-- the first depth of a rising list comes once
+pub absent_later : {A : Type 0} (depth : StackDepth) (value : A) (rest : List (StackDepth × A))
+    → IsRising ((depth, value) ∷ rest) → at_depth rest depth ≡ None
+absent_later depth value rest rising = absent_below rest depth (sorted_head depth_cmp depth (keys_of rest) rising)
+
+pub rising_later : {A : Type 0} (depth : StackDepth) (value : A) (rest : List (StackDepth × A))
+    → IsRising ((depth, value) ∷ rest) → IsRising rest
+rising_later depth value rest rising = sorted_tail depth_cmp depth (keys_of rest) rising
+
+-- the first of a list is found at its depth, and other depths are sought in the rest
+pub at_depth-first : {A : Type 0} (depth : StackDepth) (value : A) (rest : List (StackDepth × A))
+    → at_depth ((depth, value) ∷ rest) depth ≡ Some value
+at_depth-first depth value rest = rw (tied depth.0 depth.0 refl) refl
+
+pub at_depth-rest : {A : Type 0} (depth other : StackDepth) (value : A) (rest : List (StackDepth × A)) → other.0 ≢ depth.0
+    → at_depth ((depth, value) ∷ rest) other ≡ at_depth rest other
+at_depth-rest depth other value rest ne = rw (apart other.0 depth.0 ne) refl
 
 module _ {A : Type 0} (depth : StackDepth) (value : A) where
   placed_first : (e : StackDepth × A) (es : List (StackDepth × A)) → depth.0 < e.0.0

@@ -7,3 +7,4 @@ pub mod PathSets
 pub mod PathLaws
 pub mod Counts
 pub mod HeadLists
+pub mod MergedUsages
