@@ -8,3 +8,4 @@ pub mod PathLaws
 pub mod Counts
 pub mod HeadLists
 pub mod MergedUsages
+pub mod NestedLists

@@ -1,5 +1,5 @@
 //! The goals on the stack that an answer rests on.
-ghost use Rattle.std.specs.Prelude.{◌≡◌, ◌-◌, ◌<◌, ◌≤◌, ◌↔◌, [], ◌∷◌, ◌++◌, length, slice_get, All, IsTrue, IsSome, IsSomeAnd, IsOk, IfSome, OnOk, OnErr, Some};
+ghost use Rattle.std.specs.Prelude.{◌≡◌, ◌-◌, ◌^◌, ◌<◌, ◌≤◌, ◌↔◌, [], ◌∷◌, ◌++◌, length, slice_get, All, IsTrue, IsSome, IsSomeAnd, IsOk, IfSome, OnOk, OnErr, Some};
 ghost use Rattle.std.specs.Option.{option_map};
 ghost use Rattle.search_parts.specs.declared.parts.depth.StackDepth.{StackDepth};
 ghost use Rattle.search_parts.specs.declared.path.PathKind.{PathKind};
@@ -159,6 +159,7 @@ impl CycleHeads {
     pub fn iter(&self) -> btree_map::Iter<'_, StackDepth, CycleHead>
         ensures heads { result ≡ self.now }
         ensures rising { IsRising self.now }
+        ensures fits { length self.now < 2 ^ 63 }
     {
         self.heads.iter()
     }

@@ -1,0 +1,206 @@
+//! The goals that were asked below a goal.
+ghost use Rattle.std.specs.Prelude.{◌≡◌, ◌↔◌, ◌+◌, ◌^◌, ◌<◌, ◌≤◌, [], length, IsTrue, IsSome, is_some, IsOk, OnOk, OnErr};
+ghost use Rattle.std.specs.Option.{option_map};
+ghost use Rattle.std.specs.HashMap.{spare};
+ghost use Rattle.std.specs.List.{IsDistinct};
+ghost use Rattle.std.specs.Map.{keys_of};
+ghost use Rattle.search_parts.specs.Nested.{joined_paths, paths_at, JoinsPaths};
+ghost use Rattle.search_parts.specs.Paths.{extended};
+
+use crate::context::{Cx, NoMemory};
+use crate::path::{PathKind, PathsToNested};
+use bitflags::Flags;
+use std::alloc::Global;
+use std::collections::{HashMap, hash_map};
+use std::hash::Hash;
+use std::marker::Model;
+
+/// The goals that were asked below a goal, with the paths to each. Ports `NestedGoals`.
+#[derive(Drop)]
+pub struct NestedGoals<X: Cx> {
+    nested_goals: HashMap<X::Input, PathsToNested>,
+}
+
+impl<X: Cx> Model for NestedGoals<X> {
+    ghost use Rattle.search_parts.specs.Nested.{NestedPaths};
+
+    ghost Value = { NestedPaths X.Input };
+
+    ghost view = { λ g. g.nested_goals.entries };
+}
+
+impl<X: Cx> NestedGoals<X> {
+    /// No goals.
+    pub fn new(alloc: Global) -> NestedGoals<X>
+        ensures { result ≡ [] }
+    {
+        NestedGoals {
+            nested_goals: HashMap::new(alloc),
+        }
+    }
+
+    /// Whether there are no goals. Ports `NestedGoals::is_empty`.
+    pub fn is_empty(&self) -> bool
+        ensures { IsTrue result ↔ (self.now ≡ []) }
+    {
+        self.nested_goals.is_empty()
+    }
+
+    /// Whether the goal is there. Ports `NestedGoals::contains`.
+    pub fn contains(&self, input: X::Input) -> bool
+        ensures { result ≡ is_some (paths_at X.Input.eq self.now input) }
+    {
+        self.nested_goals.contains_key(&input)
+    }
+
+    /// The paths to the goal, where it is there.
+    pub fn get(&self, input: X::Input) -> Option<PathsToNested>
+        ensures { result ≡ paths_at X.Input.eq self.now input }
+    {
+        self.nested_goals.get(&input).copied()
+    }
+
+    /// Joins paths to the goal, which becomes one of the goals. Only a new goal takes memory, and a
+    /// refusal changes nothing. Ports `NestedGoals::insert`.
+    pub fn insert(&mut self, input: X::Input, paths: PathsToNested) -> Result<(), NoMemory>
+        ensures ok { OnOk result (JoinsPaths X.Input.eq self.old self.new input paths) }
+        ensures err { OnErr result (self.new ≡ self.old) }
+        ensures known { IsSome (paths_at X.Input.eq self.old input) → IsOk result }
+    {
+        join_paths(&mut self.nested_goals, input, paths)
+    }
+
+    /// Joins the goals of a child that was asked over the step: each path to one of them is that of
+    /// the child after the step. A refusal changes nothing. Ports `NestedGoals::extend_from_child`.
+    pub fn extend_from_child(
+        &mut self,
+        step: PathKind,
+        nested: &NestedGoals<X>,
+    ) -> Result<(), NoMemory>
+        ensures ok { OnOk result ((input : X.Input) → paths_at X.Input.eq self.new input
+            ≡ joined_paths (paths_at X.Input.eq self.old input) (option_map (λ paths. extended paths step) (paths_at X.Input.eq nested.now input))) }
+        ensures err { OnErr result (self.new ≡ self.old) }
+    {
+        self.nested_goals.reserve(nested.nested_goals.len())?;
+        for (input, paths) in nested.nested_goals.iter() {
+            // There is room for each of them.
+            join_paths(&mut self.nested_goals, *input, paths.extend_with(step))?;
+        }
+        Ok(())
+    }
+
+    /// The goals with the paths to them, in an order that is left open. Ports `NestedGoals::iter`.
+    pub fn iter(&self) -> hash_map::Iter<'_, X::Input, PathsToNested>
+        ensures goals { result ≡ self.now }
+        ensures distinct { IsDistinct X.Input.eq (keys_of self.now) }
+        ensures fits { length self.now < 2 ^ 63 }
+    {
+        self.nested_goals.iter()
+    }
+}
+
+// Joins paths to a goal. Where there is room for one more, it isn't refused.
+fn join_paths<I: Eq + Hash + Copy>(
+    goals: &mut HashMap<I, PathsToNested>,
+    input: I,
+    paths: PathsToNested,
+) -> Result<(), NoMemory>
+    ensures ok { OnOk result (JoinsPaths I.eq goals.old.entries goals.new.entries input paths) }
+    ensures err { OnErr result (goals.new.entries ≡ goals.old.entries) }
+    ensures known { IsSome (paths_at I.eq goals.old.entries input) → IsOk result }
+    ensures room { 0 < spare goals.old → IsOk result }
+    ensures left { spare goals.old ≤ spare goals.new + 1 }
+{
+    let joined = match goals.get(&input) {
+        Some(known) => known.union(paths),
+        None => paths,
+    };
+    goals.insert(input, joined)?;
+    Ok(())
+}
+
+#[cfg(test)]
+mod tests {
+    use super::*;
+    use crate::context::Verdict;
+    use std::test::Fail;
+
+    // Goals that are numbers. Nothing is known of them.
+    #[derive(Clone, Copy)]
+    struct Numbers;
+
+    impl Cx for Numbers {
+        ghost use Rattle.std.specs.Prelude.{false, refl};
+        ghost use Rattle.std.proofs.Common.{rules};
+
+        type Input = u32;
+
+        type Result = u8;
+
+        type AmbiguityInfo = ();
+
+        type DepNodeIndex = u32;
+
+        ghost proves = { λ cx goal held. ⊥ };
+
+        ghost refutes = { λ cx goal failed. ⊥ };
+
+        ghost is_yes = { λ outcome. false };
+
+        ghost is_no = { λ outcome. false };
+
+        ghost proves_more = { λ cx goal some more within proof. proof };
+
+        ghost refutes_more = { λ cx goal some more within refutation. refutation };
+
+        ghost clash = { λ cx goal held failed proof refutation. absurd proof };
+
+        ghost one_sort = { λ outcome yes. refl };
+
+        ghost same_input = { Prim.search rules };
+
+        ghost same_result = { Prim.search rules };
+
+        fn dep_node(self, input: u32) -> u32 {
+            input
+        }
+
+        fn sort(self, _outcome: u8) -> Verdict {
+            Verdict::Neither
+        }
+    }
+
+    #[test]
+    fn paths_to_a_goal_are_joined(rt: HostRuntime) -> Result<(), Fail> {
+        let mut goals = NestedGoals::<Numbers>::new(rt.alloc());
+        assert!(rt; goals.is_empty());
+        goals.insert(7, PathsToNested::EMPTY)?;
+        goals.insert(7, PathsToNested::UNKNOWN)?;
+        assert_eq!(rt;
+            goals.get(7),
+            Some(PathsToNested::EMPTY.union(PathsToNested::UNKNOWN))
+        );
+        assert!(rt; goals.contains(7));
+        assert!(rt; !goals.contains(8));
+        assert_eq!(rt; goals.get(8), None);
+        assert_eq!(rt; goals.iter().count(), 1);
+        assert!(rt; !goals.is_empty());
+        Ok(())
+    }
+
+    #[test]
+    fn a_child_adds_its_goals_after_the_step(rt: HostRuntime) -> Result<(), Fail> {
+        let mut child = NestedGoals::<Numbers>::new(rt.alloc());
+        child.insert(1, PathsToNested::EMPTY)?;
+        child.insert(2, PathsToNested::COINDUCTIVE)?;
+        let mut goals = NestedGoals::new(rt.alloc());
+        goals.insert(1, PathsToNested::INDUCTIVE)?;
+        goals.insert(3, PathsToNested::INDUCTIVE)?;
+        goals.extend_from_child(PathKind::Unknown, &child)?;
+        let joined = PathsToNested::INDUCTIVE.union(PathsToNested::UNKNOWN);
+        assert_eq!(rt; goals.get(1), Some(joined));
+        assert_eq!(rt; goals.get(2), Some(PathsToNested::COINDUCTIVE));
+        assert_eq!(rt; goals.get(3), Some(PathsToNested::INDUCTIVE));
+        Ok(())
+    }
+}
