@@ -1,5 +1,5 @@
 -- The goals on the stack that an answer rests on, by depth.
-use Rattle.std.specs.Prelude.{List, map, Option, Some, None}
+use Rattle.std.specs.Prelude.{◌-◌, List, length, map, slice_get, Option, Some, None}
 use Rattle.std.specs.Ordering.{nat_cmp}
 use Rattle.std.specs.declared.cmp.Ordering.{Ordering}
 use Rattle.std.specs.List.Sorted.{IsStrictlySortedBy}
@@ -27,6 +27,13 @@ at_depth entries depth = lookup (is_at (depth_cmp depth)) entries
 -- the depths rise, so none comes twice
 abbrev pub IsRising : {A : Type 0} → List (StackDepth × A) → Type 0
 IsRising entries = IsStrictlySortedBy depth_cmp (map (λ e. e.0) entries)
+
+-- the head of the least depth, and that of the greatest
+abbrev pub lowest : Heads → Option (StackDepth × CycleHead)
+lowest heads = slice_get heads 0
+
+abbrev pub highest : Heads → Option (StackDepth × CycleHead)
+highest heads = slice_get heads (length heads - 1)
 
 -- a head with paths and usages more: a new head has the usages as they are, and one that is there one more of each kind
 abbrev pub joined_head : Option CycleHead → PathsToNested → HeadUsages → CycleHead

@@ -62,13 +62,22 @@ impl CandidateHeadUsages {
         Ok(())
     }
 
-    /// Adds the counts of `other`, head by head. A refusal changes nothing. Ports
-    /// `CandidateHeadUsages::merge_usages`.
+    /// Adds the counts of `other`, head by head. Where one of the two is empty, that takes no memory.
+    /// A refusal changes nothing. Ports `CandidateHeadUsages::merge_usages`.
     pub fn merge_usages(&mut self, other: CandidateHeadUsages) -> Result<(), NoMemory>
         ensures ok { OnOk result
             ((head : StackDepth) → at_depth self.new head ≡ merged (at_depth self.old head) (at_depth other head)) }
         ensures err { OnErr result (self.new ≡ self.old) }
+        ensures into_none { self.old ≡ [] → IsOk result }
+        ensures of_none { other ≡ [] → IsOk result }
     {
+        if other.is_empty() {
+            return Ok(());
+        }
+        if self.is_empty() {
+            *self = other;
+            return Ok(());
+        }
         let mut sums = other;
         for (head, usages) in self.usages.iter() {
             sums.add(*head, *usages)?;
@@ -80,6 +89,7 @@ impl CandidateHeadUsages {
     // Adds the counts of one head.
     fn add(&mut self, head: StackDepth, usages: HeadUsages) -> Result<(), NoMemory>
         ensures ok { OnOk result (self.new ≡ with_added self.old head usages) }
+        ensures known { IsSome (at_depth self.old head) → IsOk result }
     {
         let mut sum = usages;
         if let Some(known) = self.get(head) {

@@ -1,9 +1,12 @@
 //! The goals on the stack that an answer rests on.
-ghost use Rattle.std.specs.Prelude.{◌≡◌, ◌-◌, ◌^◌, ◌<◌, ◌≤◌, ◌↔◌, [], ◌∷◌, ◌++◌, length, slice_get, All, IsTrue, IsSome, IsSomeAnd, IsOk, IfSome, OnOk, OnErr, Some};
+ghost use Rattle.std.specs.Prelude.{◌≡◌, ◌≢◌, ◌^◌, ◌<◌, ◌≤◌, ◌↔◌, [], ◌∷◌, ◌++◌, length, All, IsTrue, IsSome, IsSomeAnd, IsOk, IfSome, OnOk, OnErr, Some};
 ghost use Rattle.std.specs.Option.{option_map};
 ghost use Rattle.search_parts.specs.declared.parts.depth.StackDepth.{StackDepth};
+ghost use Rattle.search_parts.specs.declared.parts.heads.CycleHead.{CycleHead};
+ghost use Rattle.search_parts.specs.declared.parts.usages.HeadUsages.{HeadUsages};
 ghost use Rattle.search_parts.specs.declared.path.PathKind.{PathKind};
-ghost use Rattle.search_parts.specs.Heads.{at_depth, joined_head, replace_head, with_head, IsRising};
+ghost use Rattle.search_parts.specs.declared.path.PathsToNested.{PathsToNested};
+ghost use Rattle.search_parts.specs.Heads.{at_depth, highest, joined_head, lowest, replace_head, with_head, Heads, IsRising};
 ghost use Rattle.search_parts.specs.Usages.{count_of, without_usages};
 
 use crate::context::NoMemory;
@@ -43,11 +46,9 @@ pub struct CycleHeads {
 }
 
 impl Model for CycleHeads {
-    ghost use Rattle.std.specs.Prelude.{List};
-    ghost use Rattle.search_parts.specs.declared.parts.depth.StackDepth.{StackDepth};
-    ghost use Rattle.search_parts.specs.declared.parts.heads.CycleHead.{CycleHead};
+    ghost use Rattle.search_parts.specs.Heads.{Heads};
 
-    ghost Value = { List (StackDepth × CycleHead) };
+    ghost Value = { Heads };
 
     ghost view = { λ h. h.heads.entries };
 }
@@ -72,7 +73,7 @@ impl CycleHeads {
     /// The head of the greatest depth, with its depth. Ports `CycleHeads::highest_cycle_head`.
     pub fn highest_cycle_head(&self) -> (StackDepth, CycleHead)
         requires { 0 < length self.now }
-        ensures last { slice_get self.now (length self.now - 1) ≡ Some result }
+        ensures last { highest self.now ≡ Some result }
         ensures greatest { All (λ e. e.0.0 ≤ result.0.0) self.now }
     {
         let (depth, head) = self.heads.last_key_value().unwrap();
@@ -82,7 +83,7 @@ impl CycleHeads {
     /// The greatest depth of a head. Ports `CycleHeads::highest_cycle_head_index`.
     pub fn highest_cycle_head_index(&self) -> StackDepth
         requires { 0 < length self.now }
-        ensures last { option_map (λ e. e.0) (slice_get self.now (length self.now - 1)) ≡ Some result }
+        ensures last { option_map (λ e. e.0) (highest self.now) ≡ Some result }
         ensures greatest { All (λ e. e.0.0 ≤ result.0) self.now }
     {
         self.highest_cycle_head().0
@@ -100,7 +101,7 @@ impl CycleHeads {
     /// The depth of the head of the greatest depth, or `None` where there is none. Ports
     /// `CycleHeads::opt_highest_cycle_head_index`.
     pub fn opt_highest_cycle_head_index(&self) -> Option<StackDepth>
-        ensures { result ≡ option_map (λ e. e.0) (slice_get self.now (length self.now - 1)) }
+        ensures { result ≡ option_map (λ e. e.0) (highest self.now) }
     {
         self.heads.last_key_value().map(|(depth, _)| *depth)
     }
@@ -108,7 +109,7 @@ impl CycleHeads {
     /// The depth of the head of the least depth, or `None` where there is none. Ports
     /// `CycleHeads::opt_lowest_cycle_head_index`.
     pub fn opt_lowest_cycle_head_index(&self) -> Option<StackDepth>
-        ensures { result ≡ option_map (λ e. e.0) (slice_get self.now 0) }
+        ensures { result ≡ option_map (λ e. e.0) (lowest self.now) }
     {
         self.heads.first_key_value().map(|(depth, _)| *depth)
     }
@@ -164,6 +165,18 @@ impl CycleHeads {
         self.heads.iter()
     }
 }
+
+/// A head that is recorded, or replaced, is found at its depth, and other depths keep what they have.
+pub fn heads_are_found_by_depth()
+    ensures recorded { (heads : Heads) (depth : StackDepth) (paths : PathsToNested) (usages : HeadUsages)
+        → at_depth (with_head heads depth paths usages) depth ≡ Some (joined_head (at_depth heads depth) paths usages) }
+    ensures others { (heads : Heads) (depth other : StackDepth) (paths : PathsToNested) (usages : HeadUsages)
+        → other.0 ≢ depth.0 → at_depth (with_head heads depth paths usages) other ≡ at_depth heads other }
+    ensures replaced { (heads : Heads) (depth : StackDepth) (head : CycleHead)
+        → IsSome (at_depth heads depth) → at_depth (replace_head heads depth head) depth ≡ Some head }
+    ensures not_replaced { (heads : Heads) (depth other : StackDepth) (head : CycleHead)
+        → other.0 ≢ depth.0 → at_depth (replace_head heads depth head) other ≡ at_depth heads other }
+{}
 
 #[cfg(test)]
 mod tests {

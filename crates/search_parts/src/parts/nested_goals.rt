@@ -71,7 +71,8 @@ impl<X: Cx> NestedGoals<X> {
     }
 
     /// Joins the goals of a child that was asked over the step: each path to one of them is that of
-    /// the child after the step. A refusal changes nothing. Ports `NestedGoals::extend_from_child`.
+    /// the child after the step. A child without goals takes no memory, and a refusal changes nothing.
+    /// Ports `NestedGoals::extend_from_child`.
     pub fn extend_from_child(
         &mut self,
         step: PathKind,
@@ -80,6 +81,7 @@ impl<X: Cx> NestedGoals<X> {
         ensures ok { OnOk result ((input : X.Input) → paths_at X.Input.eq self.new input
             ≡ joined_paths (paths_at X.Input.eq self.old input) (option_map (λ paths. extended paths step) (paths_at X.Input.eq nested.now input))) }
         ensures err { OnErr result (self.new ≡ self.old) }
+        ensures none { nested.now ≡ [] → IsOk result }
     {
         self.nested_goals.reserve(nested.nested_goals.len())?;
         for (input, paths) in nested.nested_goals.iter() {
