@@ -12,11 +12,13 @@ use Rattle.evaluations.specs.Plain.{IsPlainTo, IsSafeOutcome, AreSafe, Leaves, H
 use Rattle.evaluations.specs.Starts.{StaysWithin, steps_ahead}
 use Rattle.evaluations.specs.Price.{IsPriced, IsPaid}
 
+-- the frames, the starts that were counted, and whether a limit was met
 pub record State (I R : Type 0) : Type 0 where
   pub frames : List (Frame I R)
   pub starts : ℕ
   pub limits_met : Bool
 
+-- the state with these
 abbrev pub at : {I R : Type 0} → List (Frame I R) → ℕ → Bool → State I R
 at frames starts limits_met = record { frames = frames; starts = starts; limits_met = limits_met }
 
@@ -42,6 +44,8 @@ IsRooted top root (f ∷ g ∷ below) = IsRooted top root (g ∷ below)
 
 -- `is_counted`: each start counts one, and before the evaluation no limit was met and no overflow result was stored
 module _ {I R : Type 0} (scripts : I → List (Reply R) → Request I R) (limits : Limits) (is_counted : Type 0) where
+  -- One move of an evaluation: a question is pushed, or answered, or refused at depth 0; a candidate begins, ends or is
+  -- ignored; a run ends, and its goal is run again or popped.
   pub data Move : State I R → State I R → Type 0 where
     Pushed :
         {f : Frame I R} {below : List (Frame I R)} {goal : I} {depth left first starts now : ℕ} {met : Bool}

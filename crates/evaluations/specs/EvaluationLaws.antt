@@ -11,7 +11,7 @@ use Rattle.evaluations.specs.Starts.{Spends}
 use Rattle.evaluations.specs.Evaluation.{State, at, Limits, IsStarted, Move, Moves, IsEvaluating, GoesOn, Ends, Stops}
 
 module _ {I R : Type 0} (scripts : I → List (Reply R) → Request I R) where
-  -- An evaluation begins with its root,
+  -- An evaluation begins with its root.
   abbrev pub RootIsEvaluating : Type 0
   RootIsEvaluating =
       (limits : Limits) (counted : Bool) (top : I) (first now : ℕ) (met : Bool)
@@ -20,7 +20,7 @@ module _ {I R : Type 0} (scripts : I → List (Reply R) → Request I R) where
       → IsEvaluating scripts limits (counted ≡ true) top (limits.before + frames_within limits.runs limits.width limits.root)
       (at (replied (fresh top limits.root first) Begin ∷ []) now met)
 
-  -- and goes on by every move.
+  -- It goes on by every move, with fewer steps ahead.
   abbrev pub MoveGoesOn : Type 0
   MoveGoesOn =
       (limits : Limits) (counted : Bool) (top : I) (bound : ℕ) (old new : State I R)
@@ -35,7 +35,7 @@ module _ {I R : Type 0} (scripts : I → List (Reply R) → Request I R) where
       → Leaves scripts f o → IsEvaluating scripts limits (counted ≡ true) top bound (at (f ∷ []) starts met)
       → Ends scripts limits (counted ≡ true) top bound starts met o
 
-  -- Its last run may meet the limit.
+  -- It keeps its promises also where its last run meets the limit.
   abbrev pub LastRunEnds : Type 0
   LastRunEnds =
       (limits : Limits) (counted : Bool) (top : I) (bound starts : ℕ) (met : Bool) (f : Frame I R) (o : Outcome R)
@@ -43,20 +43,20 @@ module _ {I R : Type 0} (scripts : I → List (Reply R) → Request I R) where
       → IsEvaluating scripts limits (counted ≡ true) top bound (at (f ∷ []) starts met)
       → Ends scripts limits (counted ≡ true) top bound starts true o
 
-  -- A fault may come at any time,
+  -- It keeps the bound and the price where it stops with a fault, at any time.
   abbrev pub EvaluationStops : Type 0
   EvaluationStops =
       (limits : Limits) (counted : Bool) (top : I) (bound : ℕ) (s : State I R)
       → IsEvaluating scripts limits (counted ≡ true) top bound s → Stops scripts limits (counted ≡ true) bound s.starts s.limits_met
 
-  -- and by a start that fails.
+  -- It keeps them where a start fails, whether that was counted or not.
   abbrev pub FailedStartStops : Type 0
   FailedStartStops =
       (limits : Limits) (counted : Bool) (top : I) (bound now : ℕ) (s : State I R) (new : List (Frame I R))
       → Spends limits.runs limits.width 1 s.frames new → s.starts ≤ now → now ≤ s.starts + 1
       → IsEvaluating scripts limits (counted ≡ true) top bound s → Stops scripts limits (counted ≡ true) bound now s.limits_met
 
-  -- So whatever moves lead from the root to its end, the promises are kept.
+  -- Whatever moves lead from the root to its end, the promises are kept.
   abbrev pub EvaluationEnds : Type 0
   EvaluationEnds =
       (limits : Limits) (counted : Bool) (top : I) (first now starts : ℕ) (was met : Bool) (f : Frame I R) (o : Outcome R)
@@ -66,7 +66,8 @@ module _ {I R : Type 0} (scripts : I → List (Reply R) → Request I R) where
       → Leaves scripts f o
       → Ends scripts limits (counted ≡ true) top (limits.before + frames_within limits.runs limits.width limits.root) starts met o
 
-  -- Where the root's rank fits its depth, no move meets a limit.
+  -- Where the root's rank fits its depth, no question comes at depth 0, no overflow and no cycle is met, and no request is
+  -- out of order.
   abbrev pub FittingMeetsNoLimit : Type 0
   FittingMeetsNoLimit =
       (limits : Limits) (counted : Bool) (top : I) (bound n : ℕ) (f : Frame I R) (below : List (Frame I R)) (starts : ℕ) (met : Bool)

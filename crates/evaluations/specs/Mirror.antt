@@ -8,6 +8,7 @@ use Rattle.evaluations.specs.Frames.{Frame, Outcome, stepped}
 use Rattle.evaluations.specs.Starts.{steps_ahead}
 use Rattle.evaluations.specs.Evaluation.{at, Limits, IsEvaluating}
 
+-- the frame with these replies
 abbrev pub with_replies : {I R : Type 0} → Frame I R → List (Reply R) → Frame I R
 with_replies f replies = record f { replies = replies }
 
@@ -23,11 +24,13 @@ module _ {E I R : Type 0} (seen : E → Frame I R) (stands : E → List (Reply R
     pub is : f ≡ with_replies (seen e) (reply ∷ earlier)
     pub stood : stands e earlier
 
+  -- each item is seen as its frame
   abbrev pub AreSeen : List E → List (Frame I R) → Type 0
   AreSeen [] [] = Unit {0}
   AreSeen (e ∷ es) (f ∷ fs) = IsSeen e f × AreSeen es fs
   AreSeen _ _ = ⊥
 
+  -- The items mirror the frames: the newest is yet to get the reply, and the others have had theirs.
   abbrev pub Mirror : Reply R → List E → List (Frame I R) → Type 0
   Mirror reply (e ∷ es) (f ∷ fs) = IsPending reply e f × AreSeen es fs
   Mirror reply _ _ = ⊥

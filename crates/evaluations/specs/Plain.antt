@@ -33,6 +33,8 @@ module _ {I R : Type 0} (scripts : I → List (Reply R) → Request I R) where
     pub cycle : o.in_cycle ≡ true → HasNoRank goal
     pub within : o.required ≤ depth
 
+  -- What holds of a frame: if its goal has a rank, its replies are plain values while it met no overflow, its depth is below
+  -- the rank if it did, and it is in no cycle.
   pub record IsSafe (f : Frame I R) : Type 0 where
     pub fitting : IsFitting (scripts f.goal) f.replies
     pub values : f.met_overflow ≡ false → IsAnswered IsPlain (scripts f.goal) f.replies
@@ -46,6 +48,7 @@ module _ {I R : Type 0} (scripts : I → List (Reply R) → Request I R) where
   AreSafe [] = Unit {0}
   AreSafe (f ∷ below) = IsSafe f × AsksAt scripts below f.goal f.available × AreSafe below
 
+  -- one of the frames is of this goal
   abbrev pub IsOnStack : I → List (Frame I R) → Type 0
   IsOnStack goal [] = ⊥
   IsOnStack goal (f ∷ below) = (f.goal ≡ goal) ⊎ IsOnStack goal below
@@ -61,6 +64,7 @@ module _ {I R : Type 0} (scripts : I → List (Reply R) → Request I R) where
   abbrev pub HasRoom : Frame I R → Type 0
   HasRoom f = (n : ℕ) × IsPlainTo scripts n f.goal × (n ≤ f.available)
 
+  -- each frame has room
   abbrev pub HaveRoom : List (Frame I R) → Type 0
   HaveRoom [] = Unit {0}
   HaveRoom (f ∷ below) = HasRoom f × HaveRoom below

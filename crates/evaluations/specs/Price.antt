@@ -23,6 +23,7 @@ module _ {I R : Type 0} where
   frames_started [] = 0
   frames_started (f ∷ below) = f.finished_runs + 1 + frames_started below
 
+  -- no frame met a limit, and each start of theirs was counted
   pub record IsUnlimited (root last before now : ℕ) (frames : List (Frame I R)) : Type 0 where
     pub depths : HaveFullDepths root frames
     pub counted : HasCounted last before now (frames_started frames)

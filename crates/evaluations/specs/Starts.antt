@@ -13,10 +13,12 @@ module _ {I R : Type 0} (runs width : ℕ) where
   abbrev pub frames_ahead_of : Frame I R → ℕ
   frames_ahead_of f = f.left * frames_below runs width f.available + (runs - (f.finished_runs + 1)) * (1 + width * frames_below runs width f.available)
 
+  -- the frames that may still be started
   abbrev pub frames_ahead : List (Frame I R) → ℕ
   frames_ahead [] = 0
   frames_ahead (f ∷ below) = frames_ahead_of f + frames_ahead below
 
+  -- the steps that are left of the present runs
   abbrev pub steps_in_runs : List (Frame I R) → ℕ
   steps_in_runs [] = 0
   steps_in_runs (f ∷ below) = f.left + steps_in_runs below

@@ -3,7 +3,7 @@ use Rattle.std.proofs.Common.{◌≡◌, ℕ, suc, max, ◌≤◌, List, Some, s
 use Rattle.open_graphs.specs.Graph.{Verdict, Node, Walk, stay, go}
 use Rattle.open_graphs.specs.Stack.{Entry, IsLeaf, Accepts, path_kind}
 use Rattle.open_graphs.specs.Use.{Step, Recorded}
-use Rattle.open_graphs.specs.Laws.{CycleGivesUse, UseGivesEdge}
+use Rattle.open_graphs.specs.UseLaws.{CycleGivesUse, UseGivesEdge}
 use Rattle.open_graphs.proofs.Paths.{to_walk}
 use Rattle.open_graphs.proofs.PathKinds.{step_le}
 use Rattle.open_graphs.proofs.Keep.{recorded_at, accepts_at}

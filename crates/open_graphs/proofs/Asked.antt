@@ -3,8 +3,8 @@ use Rattle.std.proofs.Common.{◌≡◌, ◌≢◌, ℕ, max, ◌≤◌, ◌<◌
 use native.Mathlib.Decide.{dec_lt}
 use Rattle.open_graphs.specs.Graph.{Verdict, Edge, Node, same_verdict}
 use Rattle.open_graphs.specs.Stack.{Entry, path_kind}
-use Rattle.open_graphs.specs.Use.{Head, Heads, Recorded}
-use Rattle.open_graphs.specs.Laws.{IncludesBelow, IsAnswered, AllAnswered}
+use Rattle.open_graphs.specs.Use.{Head, Heads, Recorded, IncludesBelow}
+use Rattle.open_graphs.specs.Run.{IsAnswered, AllAnswered}
 use Rattle.open_graphs.specs.State.{no_heads, stack_of}
 use Rattle.open_graphs.specs.AnswerLaws.{with_edge, OneAnswerKeepsSound, CycleIsAnswered, DoneIsAnswered, StoredIsAnswered, FinalIsAnswered}
 use Rattle.open_graphs.proofs.Lists.{get_cases}

@@ -3,10 +3,9 @@ use Rattle.std.proofs.Common.{◌≡◌, ◌≢◌, ℕ, max, List, Some, None, 
 use native.Mathlib.Decide.{ℕ_discrete}
 use Rattle.open_graphs.specs.Graph.{Verdict, Yes, No, Neither, cycle_kind}
 use Rattle.open_graphs.specs.Stack.{Entry}
-use Rattle.open_graphs.specs.Use.{Head, Heads}
+use Rattle.open_graphs.specs.Use.{Head, Heads, IncludesBelow}
 use Rattle.open_graphs.specs.State.{Kept, stack_of, IsMoved, IsFixpoint, IsOther, Lower, Unused, Fixpoint, Other}
 use Rattle.open_graphs.specs.Rebased.{Reason, NoCycleUsages, Ambiguity, Overflow, ReachedFixpoint, IsInitial, Inductive, Unknown, Coinductive, ForcedAmbiguity, IsTrueReason, HasResult, IsSingle, IsTakenOut, Stays, NotNeeded, Needed, IsRebasable, RebasedIsAfterPop, RebasedKeepsStored, IsLeftByRule, Rebased, Own, RebasedKeepsSound}
-use Rattle.open_graphs.specs.Laws.{IncludesBelow}
 use Rattle.open_graphs.specs.StateLaws.{IsLeft, Survives, Added}
 use Rattle.open_graphs.proofs.States.{verdict_cases, fixpoint_keeps_stored, pop_keeps_sound}
 

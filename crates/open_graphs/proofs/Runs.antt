@@ -4,7 +4,8 @@ use Rattle.open_graphs.specs.Graph.{Verdict, Neither, Edge, Node, Unfinished, Fi
 use Rattle.open_graphs.specs.Stack.{Entry, IsLeaf, path_kind}
 use Rattle.open_graphs.specs.Use.{Heads, Use}
 use Rattle.open_graphs.specs.Run.{Running, IsStack, Answered, Again, Anew, Without}
-use Rattle.open_graphs.specs.RunLaws.{FirstRunStarts, GrowthKeepsRunning, AnswersKeepRunning, RunGivesUse, NextRunStarts, RootIsGraph, ClosedGivesUse}
+use Rattle.open_graphs.specs.RunLaws.{FirstRunStarts, GrowthKeepsRunning, AnswersKeepRunning, RunGivesUse, NextRunStarts}
+use Rattle.open_graphs.specs.UseLaws.{RootIsGraph, ClosedGivesUse}
 use Rattle.open_graphs.proofs.Lists.{get_left, get_end, get_cases}
 use Rattle.open_graphs.proofs.Keep.{append_grows, finish_grows, growth_keeps_use, heads_keep_use}
 use Rattle.open_graphs.proofs.Finish.{finish_gives_use}

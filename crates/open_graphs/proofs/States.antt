@@ -1,9 +1,9 @@
 -- Each move keeps a sound state sound.
 use Rattle.std.proofs.Common.{◌≡◌, ◌≢◌, ℕ, ◌<◌, ◌≤◌, max, List, [], ◌∷◌, ◌++◌, Some, None, length, slice_get, slice_set, arith, refl, sym, subst, ◌∙◌, ◌⊎◌, inl, inr, length-set}
 use Rattle.open_graphs.specs.Graph.{Verdict, Yes, No, Neither, cycle_kind, Edge, Node, Unfinished, Finished, Grown}
-use Rattle.open_graphs.specs.Stack.{Entry, IsLeaf, path_kind}
-use Rattle.open_graphs.specs.Use.{Heads, Use, Unreached, Stored}
-use Rattle.open_graphs.specs.Laws.{UsesNo, IsSameOrFresh, KeepsCycleKinds, TakesOver}
+use Rattle.open_graphs.specs.Stack.{Entry, IsLeaf, path_kind, IsSameOrFresh}
+use Rattle.open_graphs.specs.Use.{Heads, Use, Unreached, Stored, UsesNo}
+use Rattle.open_graphs.specs.TakeOver.{KeepsCycleKinds, TakesOver}
 use Rattle.open_graphs.specs.Run.{Running, IsStack, Answered, Again, Anew, Without}
 use Rattle.open_graphs.specs.State.{Frame, Kept, Final, stack_of, no_heads, AllRunning, OwnsOther, AllStored, AllFinal, IsMoved, IsFixpoint, Lower, Unused, Fixpoint, Other}
 use Rattle.open_graphs.specs.StateLaws.{FixpointKeepsStored, PushKeepsSound, AnswersKeepSound, IsLeft, Survives, Added, IsDone, Before, Now, PopKeepsSound, RerunKeepsSound, StartIsSound, FinalIsGraph}

@@ -1,15 +1,17 @@
--- The theorems on the answers that a run gets: each of them keeps a sound state sound, where the heads of the newest entry
+-- The theorems on the answers that a run gets. Each of them keeps a sound state sound, where the heads of the newest entry
 -- take in those of the answer, with the step in front of their paths.
 use Rattle.std.specs.Prelude.{◌≡◌, ℕ, max, ◌<◌, List, [], ◌∷◌, ◌++◌, slice_get, length, Some, cond}
 use Rattle.open_graphs.specs.Graph.{Verdict, Edge, Node, same_verdict}
-use Rattle.open_graphs.specs.Stack.{Entry, Accepts, path_kind}
-use Rattle.open_graphs.specs.Use.{Heads, Recorded, Use, Stored}
-use Rattle.open_graphs.specs.Laws.{Includes, DistinctNodes, IsAnswered}
+use Rattle.open_graphs.specs.Stack.{Entry, Accepts, path_kind, DistinctNodes}
+use Rattle.open_graphs.specs.Use.{Heads, Recorded, Use, Stored, Includes}
+use Rattle.open_graphs.specs.Run.{IsAnswered}
 use Rattle.open_graphs.specs.State.{Frame, Kept, Final, answering, no_heads, stack_of, IsSound}
 
+-- the edges of one verdict with one more
 abbrev pub with_edge : (Verdict → List Edge) → Verdict → Edge → Verdict → List Edge
 with_edge edges verdict edge other = cond (same_verdict verdict other) (edges other ++ edge ∷ []) (edges other)
 
+-- The newest run gets one more answer with a verdict, over an edge.
 abbrev pub OneAnswerKeepsSound : Type 0
 OneAnswerKeepsSound =
     (nodes : List Node) (f : Frame) (frames : List Frame) (provisional : List Kept) (final : List Final)
@@ -24,7 +26,7 @@ TakesIn limit step answer heads =
     (depth path cycle : ℕ)
     → depth < limit → Recorded answer depth path cycle → Recorded heads depth (max step path) cycle
 
--- a goal on the stack was asked
+-- The asked goal stands on the stack.
 abbrev pub CycleIsAnswered : Type 0
 CycleIsAnswered =
     (nodes : List Node) (verdict : Verdict) (below : List Entry) (top : Entry) (depth : ℕ) (entry : Entry) (step : ℕ)
@@ -34,7 +36,7 @@ CycleIsAnswered =
     → (depth < length below → Recorded heads depth step (path_kind (below ++ top ∷ []) step depth))
     → IsAnswered nodes verdict below top (record { kind = step; target = entry.node }) heads
 
--- the asked goal was pushed, evaluated and popped
+-- The asked goal was pushed, evaluated and popped.
 abbrev pub DoneIsAnswered : Type 0
 DoneIsAnswered =
     (nodes : List Node) (verdict : Verdict) (below : List Entry) (top : Entry) (step a : ℕ) (answer heads : Heads)
@@ -42,7 +44,7 @@ DoneIsAnswered =
     → TakesIn (length below) step answer heads
     → IsAnswered nodes verdict below top (record { kind = step; target = a }) heads
 
--- the asked goal has a provisional answer whose path kind is right
+-- The asked goal has a provisional answer, and the path kind from its highest head is the stored one.
 abbrev pub StoredIsAnswered : Type 0
 StoredIsAnswered =
     (nodes : List Node) (verdict : Verdict) (below : List Entry) (top : Entry) (step highest path a : ℕ)
@@ -51,7 +53,7 @@ StoredIsAnswered =
     → Stored nodes verdict (below ++ top ∷ []) highest path a answer → TakesIn (length below) step answer heads
     → IsAnswered nodes verdict below top (record { kind = step; target = a }) heads
 
--- the asked goal has a final answer
+-- The asked goal has a final answer.
 abbrev pub FinalIsAnswered : Type 0
 FinalIsAnswered =
     (nodes : List Node) (verdict : Verdict) (below : List Entry) (top : Entry) (step a : ℕ) (heads : Heads)

@@ -11,6 +11,7 @@ Clash G proofs refutations proved refuted =
     → (i : ℕ) × (j : ℕ) × (x : Edge) × (y : Edge) × (slice_get yes_edges i ≡ Some x) × (slice_get no_edges j ≡ Some y)
     × (x.kind ≡ y.kind) × (proved x.target ≡ refuted y.target)
 
+-- So no goal has graphs of both verdicts.
 abbrev pub NeverBoth : (G : Type 0) → Type 0
 NeverBoth G =
     (proofs refutations : List Node) (proved refuted : ℕ → G) (a b : ℕ)

@@ -49,18 +49,20 @@ pub record IsJoined (first second : ℕ → Bool) (path : ℕ) : Type 0 where
   pub has_rest : IsTrue (second rest)
   pub whole : path ≡ max start rest
 
--- each head of the popped entry is inserted with no usage, or with the paths through the popped entry and its usages
+-- each head of the popped entry is inserted with no usage
 abbrev pub InsertsEmpty : ℕ → Heads → Heads → Type 0
 InsertsEmpty popped heads after =
     (depth : ℕ)
     → depth < popped → IsInserted (heads depth) (λ path. ⊥) (λ cycle. 0) (after depth)
 
+-- each head of the popped entry is inserted with the paths through the popped entry and its usages
 abbrev pub InsertsHeads : ℕ → Heads → Heads → Heads → Type 0
 InsertsHeads popped heads top_heads after =
     (depth : ℕ)
     → depth < popped
     → IsInserted (heads depth) (IsJoined (heads popped).paths (top_heads depth).paths) (top_heads depth).usages (after depth)
 
+-- each cycle through the popped entry has the same kind with the way over the answer in it
 abbrev pub PassesPathTest : List Entry → Entry → ℕ → Heads → Heads → Type 0
 PassesPathTest below top path heads top_heads =
     (depth top_path own_path : ℕ)
@@ -68,9 +70,11 @@ PassesPathTest below top path heads top_heads =
     → let from_head = path_kind below top.step depth in
     max from_head top_path ≡ max (max (max from_head path) own_path) top_path
 
+-- the head was not used
 abbrev pub IsZero : Head → Type 0
 IsZero head = (cycle : ℕ) → head.usages cycle ≡ 0
 
+-- the head was used by cycles of this kind alone
 abbrev pub IsSingle : ℕ → Head → Type 0
 IsSingle kind head = (other : ℕ) → other ≢ kind → head.usages other ≡ 0
 
@@ -119,6 +123,7 @@ pub record IsRebasable (reason : Reason) (below : List Entry) (top : Entry) (own
   pub top_within : (depth : ℕ) → IsTrue (others depth) → depth < length below
   pub on_stack : k.highest ≤ length below
 
+-- What the rule leaves with a verdict is a provisional answer after the pop.
 abbrev pub RebasedIsAfterPop : Type 0
 RebasedIsAfterPop =
     (reason : Reason) (below : List Entry) (top : Entry) (own others : ℕ → Bool) (verdict : Verdict)
@@ -127,7 +132,7 @@ RebasedIsAfterPop =
     → RebasedBy reason below top own others top_heads k after
     → AfterPop below top verdict top_heads k after
 
--- So each answer with a verdict that the rule leaves may be stored without the popped entry,
+-- Each answer with a verdict that the rule leaves may be stored without the popped entry.
 abbrev pub RebasedKeepsStored : Type 0
 RebasedKeepsStored =
     (nodes : List Node) (reason : Reason) (below : List Entry) (top : Entry) (own others : ℕ → Bool)
@@ -138,8 +143,7 @@ RebasedKeepsStored =
     → Stored nodes k.verdict (below ++ top ∷ []) k.highest k.path k.node k.heads
     → Stored nodes after.verdict below after.highest after.path after.node after.heads
 
--- and a sound state stays sound when the newest goal is done, the provisional answers are rebased, those without a verdict
--- are passed over, and the goal's own answer is perhaps added.
+-- The provisional answers with a verdict after the rule: those that it leaves, and perhaps the popped goal's own answer.
 pub data IsLeftByRule (reason : Reason) (below : List Entry) (top : Entry) (others : ℕ → Bool) (verdict : Verdict) (a : ℕ) (heads : Heads) (provisional : List Kept) :
     Kept → Type 0 where
   Rebased :
@@ -152,6 +156,7 @@ pub data IsLeftByRule (reason : Reason) (below : List Entry) (top : Entry) (othe
       → verdict ≢ Neither → highest < length below → HeadsWithin heads highest
       → IsLeftByRule reason below top others verdict a heads provisional (record { verdict = verdict; highest = highest; path = path_kind below top.step highest; node = a; heads = heads })
 
+-- A sound state stays sound when the newest goal is done and the rule is applied.
 abbrev pub RebasedKeepsSound : Type 0
 RebasedKeepsSound =
     (nodes : List Node) (f : Frame) (frames : List Frame) (provisional left : List Kept) (final done : List Final)

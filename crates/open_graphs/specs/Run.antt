@@ -1,9 +1,29 @@
 -- Runs of a goal on the stack, and what holds between their steps.
-use Rattle.std.specs.Prelude.{◌≡◌, ◌≢◌, ℕ, ◌<◌, List, Some, None, slice_get, slice_set, length, ◌⊎◌}
+use Rattle.std.specs.Prelude.{◌≡◌, ◌≢◌, ℕ, ◌<◌, List, [], ◌∷◌, ◌++◌, Some, None, slice_get, slice_set, length, ◌⊎◌}
 use Rattle.open_graphs.specs.Graph.{Verdict, Neither, Edge, Node, Unfinished, Finished}
-use Rattle.open_graphs.specs.Stack.{Entry, IsLeaf, path_kind}
-use Rattle.open_graphs.specs.Use.{Heads, Use}
-use Rattle.open_graphs.specs.Laws.{Includes, AllAnswered, DistinctNodes}
+use Rattle.open_graphs.specs.Stack.{Entry, path_kind, IsLeaf, DistinctNodes}
+use Rattle.open_graphs.specs.Use.{Heads, Use, Includes, IncludesBelow}
+
+-- The question over an edge was answered by its target: the answer may be used with the edge's step in front, and its
+-- heads below the top entry are among the run's.
+pub record IsAnswered (nodes : List Node) (verdict : Verdict) (below : List Entry) (top : Entry) (edge : Edge) (heads : Heads) : Type 0 where
+  pub answer : Heads
+  pub used :
+      Use nodes verdict (below ++ top ∷ []) (path_kind (below ++ top ∷ []) edge.kind) edge.kind edge.target answer
+  pub among : IncludesBelow (length below) answer heads
+
+-- each of the edges was answered so
+abbrev pub AllAnswered : List Node → Verdict → List Entry → Entry → List Edge → Heads → Type 0
+AllAnswered nodes verdict below top edges heads =
+    (i : ℕ) (edge : Edge)
+    → slice_get edges i ≡ Some edge → IsAnswered nodes verdict below top edge heads
+
+-- The node is the run's own: in the first run the one to which its cycles lead, later another one. The run then goes on under
+-- a provisional result of another verdict.
+abbrev pub IsRunsNode : Verdict → Entry → ℕ → Type 0
+IsRunsNode verdict top n =
+    ((top.node ≡ n) × (top.provisional ≡ None))
+    ⊎ ((top.node ≢ n) × (top.provisional ≢ None) × (top.provisional ≢ Some verdict))
 
 -- A run of the top entry with the node `own`: its answers so far, outside ignored candidates, by verdict, and the heads of
 -- all runs. In the first run cycles lead to `own`. In a later run they lead to the node of the provisional result, which

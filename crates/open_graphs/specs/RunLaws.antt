@@ -1,10 +1,9 @@
 -- The theorems on runs.
 use Rattle.std.specs.Prelude.{◌≡◌, ◌≢◌, ℕ, ◌<◌, List, [], ◌∷◌, ◌++◌, Some, None, slice_get, length}
-use Rattle.open_graphs.specs.Graph.{Verdict, Neither, Edge, Node, Unfinished, Grown, IsGraph}
-use Rattle.open_graphs.specs.Stack.{Entry, IsLeaf, path_kind}
-use Rattle.open_graphs.specs.Use.{Heads, Use}
-use Rattle.open_graphs.specs.Laws.{Includes, AllAnswered, UsesNo}
-use Rattle.open_graphs.specs.Run.{Running, IsStack, Answered}
+use Rattle.open_graphs.specs.Graph.{Verdict, Neither, Edge, Node, Unfinished, Grown}
+use Rattle.open_graphs.specs.Stack.{Entry, path_kind, IsLeaf}
+use Rattle.open_graphs.specs.Use.{Heads, Use, Includes}
+use Rattle.open_graphs.specs.Run.{Running, IsStack, Answered, AllAnswered}
 
 -- A new entry gets a new node and begins its first run.
 abbrev pub FirstRunStarts : Type 0
@@ -14,7 +13,7 @@ FirstRunStarts =
     → Running (nodes ++ Unfinished ∷ []) stack (record { step = step; provisional = None; node = length nodes }) (length nodes) (λ verdict. []) heads heads
     × IsStack (nodes ++ Unfinished ∷ []) (stack ++ record { step = step; provisional = None; node = length nodes } ∷ [])
 
--- A run goes on while other nodes are appended and finished,
+-- A run goes on while other nodes are appended and finished.
 abbrev pub GrowthKeepsRunning : Type 0
 GrowthKeepsRunning =
     (before after : List Node) (below : List Entry) (top : Entry) (own : ℕ) (edges : Verdict → List Edge)
@@ -22,7 +21,7 @@ GrowthKeepsRunning =
     → Grown before after → slice_get after own ≡ Some Unfinished → Running before below top own edges kept heads
     → Running after below top own edges kept heads
 
--- and with other answers, if each is among the heads.
+-- It goes on with other answers, if each is among the heads.
 abbrev pub AnswersKeepRunning : Type 0
 AnswersKeepRunning =
     (nodes : List Node) (below : List Entry) (top : Entry) (own : ℕ) (edges more : Verdict → List Edge)
@@ -47,16 +46,3 @@ NextRunStarts =
     → (verdict ≢ Neither → Use nodes verdict below (path_kind below top.step) 0 a heads)
     → Running (nodes ++ Unfinished ∷ []) below (record { step = top.step; provisional = Some verdict; node = a }) (length nodes) (λ verdict. []) heads heads
     × IsStack (nodes ++ Unfinished ∷ []) (below ++ record { step = top.step; provisional = Some verdict; node = a } ∷ [])
-
--- Under an empty stack the answer is a graph. A value that uses no head may be used with any heads.
-abbrev pub RootIsGraph : Type 0
-RootIsGraph =
-    (nodes : List Node) (verdict : Verdict) (from_head : ℕ → ℕ) (front a : ℕ) (heads : Heads)
-    → Use nodes verdict [] from_head front a heads → IsGraph nodes verdict a
-
-abbrev pub ClosedGivesUse : Type 0
-ClosedGivesUse =
-    (nodes : List Node) (verdict : Verdict) (stack : List Entry) (from_head other : ℕ → ℕ) (front step a : ℕ)
-    (heads any : Heads)
-    → ((depth : ℕ) → UsesNo heads depth) → Use nodes verdict stack from_head front a heads
-    → Use nodes verdict stack other step a any

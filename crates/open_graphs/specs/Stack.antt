@@ -1,6 +1,6 @@
 -- The stack of goals under evaluation, oldest first, and path kinds from its entries.
-use Rattle.std.specs.Prelude.{◌≡◌, ℕ, suc, max, List, [], ◌∷◌, Option, Some, None, drop, take, slice_get, ◌⊎◌}
-use Rattle.open_graphs.specs.Graph.{Verdict, cycle_kind}
+use Rattle.std.specs.Prelude.{◌≡◌, ℕ, suc, max, List, [], ◌∷◌, Option, Some, None, slice_get, drop, take, ◌⊎◌}
+use Rattle.open_graphs.specs.Graph.{Verdict, cycle_kind, Node, Unfinished}
 
 -- an entry: the step kind that asked it, the verdict of its last run (none in its first run), and
 -- the node to which the edges for its cycles' answers lead
@@ -9,6 +9,7 @@ pub record Entry : Type 0 where
   pub provisional : Option Verdict
   pub node : ℕ
 
+-- the greatest of a kind and the step kinds of some entries
 abbrev pub greatest : ℕ → List Entry → ℕ
 greatest kind [] = kind
 greatest kind (e ∷ es) = max e.step (greatest kind es)
@@ -31,3 +32,14 @@ IsLeaf stack a = (depth : ℕ) × (entry : Entry) × (slice_get stack depth ≡ 
 abbrev pub Accepts : Verdict → Entry → ℕ → Type 0
 Accepts verdict entry kind =
     (entry.provisional ≡ Some verdict) ⊎ ((entry.provisional ≡ None) × (kind ≡ cycle_kind verdict))
+
+-- no two entries have the same node
+abbrev pub DistinctNodes : List Entry → Type 0
+DistinctNodes stack =
+    (i j : ℕ) (x y : Entry)
+    → slice_get stack i ≡ Some x → slice_get stack j ≡ Some y → x.node ≡ y.node → i ≡ j
+
+-- the entry is run again with its old node, or with one that is neither finished nor an entry's
+abbrev pub IsSameOrFresh : List Node → List Entry → Entry → Entry → Type 0
+IsSameOrFresh nodes below top again =
+    (again.node ≡ top.node) ⊎ ((slice_get nodes again.node ≡ Some Unfinished) × ¬ IsLeaf below again.node)

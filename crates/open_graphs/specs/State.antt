@@ -2,11 +2,12 @@
 use Rattle.std.specs.Prelude.{◌≡◌, ◌≢◌, ℕ, ◌<◌, max, List, [], ◌∷◌, ◌++◌, Some, None, false, slice_get, length, ◌⊎◌}
 use Rattle.open_graphs.specs.Graph.{Verdict, Neither, cycle_kind, Edge, Node}
 use Rattle.open_graphs.specs.Stack.{Entry, path_kind}
-use Rattle.open_graphs.specs.Use.{Heads, Recorded, Use, HeadsWithin, Stored}
-use Rattle.open_graphs.specs.Laws.{IncludesBelow, UsesNo, KeepsCycleKinds, TakesOver}
+use Rattle.open_graphs.specs.Use.{Heads, Recorded, Use, HeadsWithin, Stored, IncludesBelow, UsesNo}
+use Rattle.open_graphs.specs.TakeOver.{KeepsCycleKinds, TakesOver}
 use Rattle.open_graphs.specs.Run.{Running, IsStack}
 
--- an entry with its run
+-- an entry with its run: the run's own node, its answered questions by verdict, the heads that the entry had as the run
+-- began, and those that it has now
 pub record Frame : Type 0 where
   pub entry : Entry
   pub own : ℕ
@@ -14,7 +15,7 @@ pub record Frame : Type 0 where
   pub kept : Heads
   pub heads : Heads
 
--- a provisional answer, and a final one
+-- a provisional answer: its highest head and the path kind from there, its node, and its heads
 pub record Kept : Type 0 where
   pub verdict : Verdict
   pub highest : ℕ
@@ -22,11 +23,12 @@ pub record Kept : Type 0 where
   pub node : ℕ
   pub heads : Heads
 
+-- a final answer
 pub record Final : Type 0 where
   pub verdict : Verdict
   pub node : ℕ
 
--- the frame of a first run, of a run under a result, and of a run with other answers
+-- the frame of a first run: its node is the run's own
 abbrev pub first_frame : ℕ → ℕ → Heads → Frame
 first_frame step n heads = record {
   entry = record { step = step; provisional = None; node = n };
@@ -36,6 +38,7 @@ first_frame step n heads = record {
   heads = heads;
 }
 
+-- the frame of a run under a result, with the node to which its cycles lead and the run's own
 abbrev pub next_frame : Frame → Verdict → ℕ → ℕ → Frame
 next_frame f verdict a own = record {
   entry = record { step = f.entry.step; provisional = Some verdict; node = a };
@@ -45,6 +48,7 @@ next_frame f verdict a own = record {
   heads = f.heads;
 }
 
+-- the frame with other answers, and the heads with theirs
 abbrev pub answering : Frame → (Verdict → List Edge) → Heads → Frame
 answering f edges heads = record { entry = f.entry; own = f.own; edges = edges; kept = f.kept; heads = heads }
 
@@ -53,26 +57,32 @@ abbrev pub stack_of : List Frame → List Entry
 stack_of [] = []
 stack_of (f ∷ fs) = stack_of fs ++ f.entry ∷ []
 
+-- the heads of a final answer
 abbrev pub no_heads : Heads
 no_heads depth = record { paths = λ path. false; usages = λ cycle. 0 }
 
+-- each frame runs above those below it
 abbrev pub AllRunning : List Node → List Frame → Type 0
 AllRunning nodes [] = Unit {0}
 AllRunning nodes (f ∷ fs) = Running nodes (stack_of fs) f.entry f.own f.edges f.kept f.heads × AllRunning nodes fs
 
+-- the node is not the own one of any of these runs
 abbrev pub OwnsOther : ℕ → List Frame → Type 0
 OwnsOther own [] = Unit {0}
 OwnsOther own (f ∷ fs) = (own ≢ f.own) × OwnsOther own fs
 
+-- no two runs have the same own node
 abbrev pub AllApart : List Frame → Type 0
 AllApart [] = Unit {0}
 AllApart (f ∷ fs) = OwnsOther f.own fs × AllApart fs
 
+-- each provisional answer is stored
 abbrev pub AllStored : List Node → List Entry → List Kept → Type 0
 AllStored nodes stack kepts =
     (i : ℕ) (k : Kept)
     → slice_get kepts i ≡ Some k → Stored nodes k.verdict stack k.highest k.path k.node k.heads
 
+-- each final answer may be used without heads
 abbrev pub AllFinal : List Node → List Entry → List Final → Type 0
 AllFinal nodes stack finals =
     (i : ℕ) (f : Final)

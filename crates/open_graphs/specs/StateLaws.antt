@@ -1,14 +1,13 @@
--- The theorems on whole states: each move keeps a sound state sound.
+-- The theorems on whole states: each move of an evaluation keeps a sound state sound.
 use Rattle.std.specs.Prelude.{◌≡◌, ◌≢◌, ℕ, ◌<◌, List, [], ◌∷◌, ◌++◌, Some, slice_get, length}
 use Rattle.open_graphs.specs.Graph.{Verdict, Neither, Edge, Node, Unfinished, IsGraph}
 use Rattle.open_graphs.specs.Stack.{Entry, path_kind}
-use Rattle.open_graphs.specs.Use.{Heads, Use, HeadsWithin, Stored}
-use Rattle.open_graphs.specs.Laws.{Includes, UsesNo, AllAnswered}
-use Rattle.open_graphs.specs.Run.{Answered}
+use Rattle.open_graphs.specs.Use.{Heads, Use, HeadsWithin, Stored, Includes, UsesNo}
+use Rattle.open_graphs.specs.Run.{AllAnswered, Answered}
 use Rattle.open_graphs.specs.State.{Frame, Kept, Final, first_frame, next_frame, answering, stack_of, IsSound, AfterPop, IsFixpoint}
 
--- A popped head may have reached its fixpoint with an answer of either verdict: what is stored under it stays, also with
--- the other verdict, if the cycle kinds do. Whatever its answer is, what its cycles weren't answered with stays too.
+-- What is stored under a popped head may be stored without it, where `AfterPop` leaves it. Where the head reached its fixpoint
+-- with a verdict, its own answer may be used below.
 abbrev pub FixpointKeepsStored : Type 0
 FixpointKeepsStored =
     (nodes : List Node) (below : List Entry) (top : Entry) (verdict : Verdict) (top_heads : Heads) (k after : Kept)
@@ -36,9 +35,7 @@ AnswersKeepSound =
     → IsSound nodes (f ∷ frames) provisional final
     → IsSound nodes (answering f edges heads ∷ frames) provisional final
 
--- The newest run ended, and its goal is done: an answer with a verdict may be used below. Of the provisional answers
--- those are left that `AfterPop` leaves, and the answer itself may be kept, as a provisional one with heads or as a final
--- one without.
+-- The provisional answers after a goal is done: those that `AfterPop` leaves, and perhaps the goal's own answer.
 pub data IsLeft (below : List Entry) (top : Entry) (verdict : Verdict) (a : ℕ) (heads : Heads) (provisional : List Kept) :
     Kept → Type 0 where
   Survives :
@@ -49,12 +46,14 @@ pub data IsLeft (below : List Entry) (top : Entry) (verdict : Verdict) (a : ℕ)
       → verdict ≢ Neither → highest < length below → HeadsWithin heads highest
       → IsLeft below top verdict a heads provisional (record { verdict = verdict; highest = highest; path = path_kind below top.step highest; node = a; heads = heads })
 
+-- The final answers are those from before, and the answer itself if it has no heads.
 pub data IsDone (verdict : Verdict) (a : ℕ) (heads : Heads) (final : List Final) : Final → Type 0 where
   Before : {f : Final} (i : ℕ) → slice_get final i ≡ Some f → IsDone verdict a heads final f
   Now :
       verdict ≢ Neither → ((depth : ℕ) → UsesNo heads depth)
       → IsDone verdict a heads final (record { verdict = verdict; node = a })
 
+-- The newest goal is done: the state stays sound, and a definite answer may be used below.
 abbrev pub PopKeepsSound : Type 0
 PopKeepsSound =
     (nodes : List Node) (f : Frame) (frames : List Frame) (provisional left : List Kept) (final done : List Final)
@@ -66,13 +65,13 @@ PopKeepsSound =
     → IsSound later frames left done
     × (verdict ≢ Neither → Use later verdict (stack_of frames) (path_kind (stack_of frames) f.entry.step) 0 a f.heads)
 
--- The newest run ended, and its goal is run again under the result, without the provisional answers that used the old
--- one.
+-- The provisional answers after a goal is run again: those that record no usage of it.
 abbrev pub LeftByRerun : List Entry → List Kept → List Kept → Type 0
 LeftByRerun below before after =
     (i : ℕ) (k : Kept)
     → slice_get after i ≡ Some k → (j : ℕ) × (slice_get before j ≡ Some k) × UsesNo k.heads (length below)
 
+-- The newest goal is run again: the state stays sound.
 abbrev pub RerunKeepsSound : Type 0
 RerunKeepsSound =
     (nodes : List Node) (f : Frame) (frames : List Frame) (provisional left : List Kept) (final : List Final)
@@ -81,14 +80,14 @@ RerunKeepsSound =
     → IsSound nodes (f ∷ frames) provisional final
     → IsSound (later ++ Unfinished ∷ []) (next_frame f verdict a (length later) ∷ frames) left final
 
--- An evaluation begins with an empty stack and final values that have their graphs. At each moment, also after a fault,
--- the final values have theirs.
+-- An evaluation begins with an empty stack and final answers that have their graphs.
 abbrev pub StartIsSound : Type 0
 StartIsSound =
     (nodes : List Node) (final : List Final)
     → ((i : ℕ) (x : Final) → slice_get final i ≡ Some x → IsGraph nodes x.verdict x.node)
     → IsSound nodes [] [] final
 
+-- At each moment, also after a fault, the final answers have their graphs.
 abbrev pub FinalIsGraph : Type 0
 FinalIsGraph =
     (nodes : List Node) (frames : List Frame) (provisional : List Kept) (final : List Final) (i : ℕ) (x : Final)

@@ -1,7 +1,7 @@
 -- What an answer that still depends on the stack promises.
-use Rattle.std.specs.Prelude.{◌≡◌, ◌≢◌, ℕ, max, ◌≤◌, List, Some, slice_get, ◌⊎◌, Bool, IsTrue, ◌<◌, length}
+use Rattle.std.specs.Prelude.{◌≡◌, ◌≢◌, ℕ, max, ◌≤◌, ◌<◌, List, Some, slice_get, length, ◌⊎◌, Bool, IsTrue}
 use Rattle.open_graphs.specs.Graph.{Verdict, cycle_kind, Node, IsFinished, HasEdge, Walk, Path}
-use Rattle.open_graphs.specs.Stack.{Entry, IsLeaf, Accepts, path_through}
+use Rattle.open_graphs.specs.Stack.{Entry, path_through, IsLeaf, Accepts}
 
 -- an edge whose source is no leaf
 pub record Step (nodes : List Node) (verdict : Verdict) (stack : List Entry) (source kind target : ℕ) : Type 0 where
@@ -22,12 +22,29 @@ pub record Head : Type 0 where
   pub paths : ℕ → Bool
   pub usages : ℕ → ℕ
 
+-- the head of each depth
 abbrev pub Heads : Type 0
 Heads = ℕ → Head
 
 -- a head is recorded with a path kind and with usages of a cycle kind
 abbrev pub Recorded : Heads → ℕ → ℕ → ℕ → Type 0
 Recorded heads depth path cycle = IsTrue ((heads depth).paths path) × ((heads depth).usages cycle ≢ 0)
+
+-- the second heads record all that the first do
+abbrev pub Includes : Heads → Heads → Type 0
+Includes smaller larger =
+    (depth path cycle : ℕ)
+    → Recorded smaller depth path cycle → Recorded larger depth path cycle
+
+-- the same at depths below a limit
+abbrev pub IncludesBelow : ℕ → Heads → Heads → Type 0
+IncludesBelow limit smaller larger =
+    (depth path cycle : ℕ)
+    → depth < limit → Recorded smaller depth path cycle → Recorded larger depth path cycle
+
+-- the heads record no usage of the entry at a depth
+abbrev pub UsesNo : Heads → ℕ → Type 0
+UsesNo heads depth = (path cycle : ℕ) → Recorded heads depth path cycle → ⊥
 
 -- The answer with node `a` holds where `from_head` is the path kind from each entry: each path from `a` to an entry's node
 -- is among the paths of that head, the kind of its cycle among the head's usages, and cycles of that kind were answered
@@ -40,9 +57,11 @@ pub record Use (nodes : List Node) (verdict : Verdict) (stack : List Entry) (fro
       → Recorded heads depth (max front q) (max (max front q) (from_head depth))
       × Accepts verdict entry (max (max front q) (from_head depth))
 
+-- no walk leads to the node
 abbrev pub Unreached : List Node → Verdict → List Entry → ℕ → ℕ → Type 0
 Unreached nodes verdict stack a b = (q : ℕ) → Walk (Step nodes verdict stack) a q b → ⊥
 
+-- no head above this depth is recorded
 abbrev pub HeadsWithin : Heads → ℕ → Type 0
 HeadsWithin heads highest = (depth path cycle : ℕ) → Recorded heads depth path cycle → depth ≤ highest
 

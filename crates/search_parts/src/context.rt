@@ -10,30 +10,40 @@ use std::fmt::Debug;
 use std::hash::Hash;
 use thiserror::Error;
 
-/// What goals mean.
+/// What goals and their results are, and what they mean. Ports `Cx`.
+///
+/// The ghost members say what is meant, and the laws at the end what may be relied on: a goal that is
+/// proved (refuted) by some questions is so by more; what proves a goal and what refutes it share a
+/// question; no result is both yes and no; and `==` of goals and of results is equality.
 pub trait Cx: Copy {
+    /// A goal.
     type Input: Debug + Eq + Hash + Copy;
 
+    /// What a goal is answered with.
     type Result: Debug + Eq + Hash + Copy;
 
+    /// Why a result is ambiguous, to be handed on to other goals.
     type AmbiguityInfo: Debug + Eq + Hash + Copy;
 
+    /// What a result's user may track it by.
     type DepNodeIndex: Copy;
 
-    /// The goal holds where these questions do.
+    /// The goal holds where each of these questions does.
     ghost proves: { Self → Self.Input → List (Question Self.Input) → Type 0 };
 
     /// The goal does not hold where none of these questions does.
     ghost refutes: { Self → Self.Input → List (Question Self.Input) → Type 0 };
 
+    /// The result says that its goal holds.
     ghost is_yes: { Self.Result → Bool };
 
+    /// The result says that its goal does not hold.
     ghost is_no: { Self.Result → Bool };
 
     /// A token that the cache keeps beside the goal's result.
     fn dep_node(self, input: Self::Input) -> Self::DepNodeIndex;
 
-    /// The sort of a result.
+    /// Whether a result is definite.
     fn sort(self, outcome: Self::Result) -> Verdict
         ensures yes { (result ≡ Verdict.Yes) ↔ IsTrue (is_yes outcome) }
         ensures no { (result ≡ Verdict.No) ↔ IsTrue (is_no outcome) };
@@ -49,6 +59,12 @@ pub trait Cx: Copy {
     ghost same_input: { (x y : Self.Input) → Self.Input.eq x y ≡ true → x ≡ y };
 
     ghost same_result: { (x y : Self.Result) → Self.Result.eq x y ≡ true → x ≡ y };
+}
+
+/// A result with the token that it is tracked by. Ports `Cx::Tracked`.
+pub struct Tracked<X: Cx> {
+    pub result: X::Result,
+    pub token: X::DepNodeIndex,
 }
 
 /// A growth was refused.
@@ -94,7 +110,7 @@ pub enum Reply<R> {
     Noted,
 }
 
-/// Whether a result is definite.
+/// The sort of a result.
 #[derive(Clone, Copy, Debug, PartialEq, Eq)]
 pub enum Verdict {
     /// The goal holds.
@@ -108,7 +124,7 @@ pub enum Verdict {
 /// Why a call failed.
 #[derive(Clone, Copy, Debug, PartialEq, Eq, Error)]
 pub enum Fault<I, R> {
-    /// A growth was refused.
+    /// A growth was refused, or a frame answered `NoMemory`.
     #[error("out of memory")]
     Memory,
     /// The cache holds another result for the goal in the same place.
@@ -117,12 +133,25 @@ pub enum Fault<I, R> {
     /// A scope was given for the goal, and its result differs from the stored one.
     #[error("validation gave another result")]
     Validation { input: I, stored: R, found: R },
-    /// A frame's request came out of order.
+    /// A frame's request came out of order: a candidate begins while one is open (1); none is open that
+    /// could end (2); the candidate to be ignored isn't finished (3), or is ignored already (4). Or a call
+    /// on candidates came while no goal is under evaluation (5).
     #[error("request out of order: {0}")]
     Protocol(u8),
 }
 
-/// The number of a node of a cache's graph.
+impl<I, R> From<NoMemory> for Fault<I, R> {
+    ghost use Rattle.std.specs.Prelude.{◌≡◌};
+    ghost use Rattle.search_parts.specs.declared.context.Fault.TheVariants.{Memory};
+
+    ghost from_gives = { λ error fault. fault ≡ Memory };
+
+    fn from(_error: NoMemory) -> Fault<I, R> {
+        Fault::Memory
+    }
+}
+
+/// The number of a node in a cache's list.
 #[derive(Clone, Copy, Debug, PartialEq, Eq, Hash)]
 pub struct NodeId(pub usize);
 
@@ -133,7 +162,7 @@ pub struct Answer<R> {
     pub node: Option<NodeId>,
 }
 
-/// A question of a node's goal, and the node that answers it.
+/// A question of a node's goal, and the place of the node that answers it.
 #[derive(Clone, Copy, Debug, PartialEq, Eq)]
 pub struct Edge<I> {
     pub kind: PathKind,
@@ -156,7 +185,15 @@ pub struct ProofGraph<X: Cx> {
     pub nodes: Vec<Node<X::Input, X::Result>>,
 }
 
-/// How goals are worked out: by frames, each of which makes one request after another.
+/// How goals are worked out: by frames. A frame is started, stepped with `Reply::Begin`, and then makes one
+/// request after another, each of which is replied to, until it gives its result by `Request::Done`. Ports
+/// `Delegate`, whose `compute_goal` calls back into the graph.
+///
+/// The ghost members say what the frames do: `script` gives each request from the goal and the replies so far, so
+/// that the builder has no part in it, and `left` falls at each step from at most `width` on. The laws at
+/// the end tie results to what goals mean: a result of yes (no) is proved (refuted) by the questions that were
+/// answered yes (no) outside ignored candidates; initial results have the sort of their cycle's kind; and
+/// overflow results and ambiguous ones are neither yes nor no.
 pub trait Delegate: Sized {
     ghost use Rattle.search_parts.specs.declared.context.Reply.{Reply};
     ghost use Rattle.search_parts.specs.declared.context.Request.{Request};
@@ -164,16 +201,22 @@ pub trait Delegate: Sized {
 
     type Cx: Cx;
 
+    /// Held while a stored result is validated.
     type ValidationScope: Drop;
 
+    /// Records how goals are worked out.
     type ProofTreeBuilder;
 
+    /// One run of a goal.
     type Frame: Drop;
 
+    /// Whether results are kept while a goal that they rest on is under evaluation.
     const ENABLE_PROVISIONAL_CACHE: bool;
 
+    /// The most runs of one goal; 0 allows one, as 1 does.
     const FIXPOINT_STEP_LIMIT: usize;
 
+    /// What a goal's depth is divided by for its next question, once it has met overflow; 2 at least.
     const DIVIDE_AVAILABLE_DEPTH_ON_OVERFLOW: usize;
 
     ghost ENABLE_PROVISIONAL_CACHE: { Bool };
@@ -212,23 +255,29 @@ pub trait Delegate: Sized {
     /// Whether `start` counts each frame, up to `last`.
     ghost counts: { Bool };
 
+    /// Where the count of frames ends.
     ghost last: { ℕ };
 
+    /// The builder records nothing.
     ghost noop: { Self.ProofTreeBuilder → Bool };
 
+    /// The goal's stored result is to be validated.
     ghost scoped: { Self.Cx → Self.Cx.Input → Bool };
 
+    /// A scope, if the goal's stored result is to be validated.
     fn enter_validation_scope(
         cx: Self::Cx,
         input: <Self::Cx as Cx>::Input,
     ) -> Option<Self::ValidationScope>
         ensures { IsSome result ↔ IsTrue (scoped cx input) };
 
+    /// Whether the builder records nothing.
     fn inspect_is_noop(inspect: &mut Self::ProofTreeBuilder) -> bool
         ensures value { result ≡ noop inspect.old }
         ensures same_noop { noop inspect.new ≡ noop inspect.old }
         ensures same_starts { starts inspect.new ≡ starts inspect.old };
 
+    /// What a goal's cycles of this kind are answered with in its first run.
     fn initial_provisional_result(
         cx: Self::Cx,
         kind: PathKind,
@@ -236,26 +285,31 @@ pub trait Delegate: Sized {
     ) -> <Self::Cx as Cx>::Result
         ensures { result ≡ initial_result cx kind input };
 
+    /// The kind of cycles that this result is the first answer of.
     fn is_initial_provisional_result(outcome: <Self::Cx as Cx>::Result) -> Option<PathKind>
         ensures { result ≡ initial_kind outcome };
 
+    /// What a question of a goal without depth is answered with.
     fn stack_overflow_result(
         cx: Self::Cx,
         input: <Self::Cx as Cx>::Input,
     ) -> <Self::Cx as Cx>::Result
         ensures { result ≡ stack_overflow cx input };
 
+    /// What a goal is answered with whose result is not stable after the most runs.
     fn fixpoint_overflow_result(
         cx: Self::Cx,
         input: <Self::Cx as Cx>::Input,
     ) -> <Self::Cx as Cx>::Result
         ensures { result ≡ fixpoint_overflow cx input };
 
+    /// Why the result is ambiguous, if it is.
     fn is_ambiguous_result(
         outcome: <Self::Cx as Cx>::Result,
     ) -> Option<<Self::Cx as Cx>::AmbiguityInfo>
         ensures { result ≡ ambiguity outcome };
 
+    /// The ambiguous result of another goal, for the same reason.
     fn propagate_ambiguity(
         cx: Self::Cx,
         for_input: <Self::Cx as Cx>::Input,

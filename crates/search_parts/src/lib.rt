@@ -2,6 +2,7 @@
 #![tactic(auto)]
 
 pub mod context;
+pub mod global_cache;
 pub mod law;
 pub mod parts;
 pub mod path;

@@ -1,5 +1,0 @@
-use Rattle.evaluations.proofs.Counts.{pop_spends}
-use Rattle.evaluations.proofs.pop_spends.Goals as goal
-
-pub returns : goal.returns
-returns g c = pop_spends _ _

@@ -1,0 +1,11 @@
+use Rattle.open_graphs.proofs.Rebased.{rebased_is_after_pop, rebased_keeps_stored, rebased_keeps_sound}
+use Rattle.open_graphs.proofs.rebasing.rebasing_keeps_sound.Goals as goal
+
+pub returns-clause-after_pop : goal.returns-clause-after_pop
+returns-clause-after_pop c = rebased_is_after_pop
+
+pub returns-clause-stored : goal.returns-clause-stored
+returns-clause-stored c = rebased_keeps_stored
+
+pub returns-clause-sound : goal.returns-clause-sound
+returns-clause-sound c = rebased_keeps_sound

@@ -1,0 +1,19 @@
+-- A stored answer whose highest head is popped, and that goes on with the popped entry's heads.
+use Rattle.std.specs.Prelude.{◌≡◌, ℕ, max, List, length}
+use Rattle.open_graphs.specs.Stack.{Entry, path_kind}
+use Rattle.open_graphs.specs.Use.{Heads, Recorded}
+
+-- each cycle through the popped entry has the same kind with the way over the stored answer in it
+abbrev pub KeepsCycleKinds : List Entry → Entry → ℕ → Heads → Heads → Type 0
+KeepsCycleKinds below top path heads top_heads =
+    (depth top_path top_cycle own_path own_cycle : ℕ)
+    → Recorded top_heads depth top_path top_cycle → Recorded heads (length below) own_path own_cycle
+    → let from_head = path_kind below top.step depth in
+    max from_head top_path ≡ max (max (max from_head path) own_path) top_path
+
+-- the heads of the popped entry are taken over, with the way to the popped entry in front of their paths
+abbrev pub TakesOver : ℕ → Heads → Heads → Heads → Type 0
+TakesOver popped heads top_heads rebased =
+    (depth top_path top_cycle own_path own_cycle : ℕ)
+    → Recorded top_heads depth top_path top_cycle → Recorded heads popped own_path own_cycle
+    → Recorded rebased depth (max own_path top_path) top_cycle

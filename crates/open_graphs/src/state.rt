@@ -1,0 +1,32 @@
+//! Whole states of an evaluation.
+ghost use Rattle.open_graphs.specs.AnswerLaws.{OneAnswerKeepsSound, CycleIsAnswered, DoneIsAnswered, StoredIsAnswered, FinalIsAnswered};
+ghost use Rattle.open_graphs.specs.StateLaws.{StartIsSound, PushKeepsSound, AnswersKeepSound, PopKeepsSound, RerunKeepsSound, FinalIsGraph};
+
+/// An evaluation begins in a sound state.
+pub fn start_is_sound()
+    ensures { StartIsSound }
+{}
+
+/// A sound state stays sound when a goal is pushed, when the newest run gets answers, when its goal is
+/// done, and when it is run again.
+pub fn moves_keep_sound()
+    ensures push { PushKeepsSound }
+    ensures answers { AnswersKeepSound }
+    ensures pop { PopKeepsSound }
+    ensures rerun { RerunKeepsSound }
+{}
+
+/// The newest run may be answered by a goal on the stack, by a goal that was just evaluated, by a
+/// provisional answer, and by a final one.
+pub fn answer_keeps_sound()
+    ensures one_more { OneAnswerKeepsSound }
+    ensures cycle { CycleIsAnswered }
+    ensures done { DoneIsAnswered }
+    ensures stored { StoredIsAnswered }
+    ensures final_answer { FinalIsAnswered }
+{}
+
+/// At each moment the final answers have their graphs.
+pub fn final_is_graph()
+    ensures { FinalIsGraph }
+{}

@@ -1,0 +1,87 @@
+-- The frames of goals that ask themselves: one question, and then the answer as the result.
+use Rattle.std.specs.Prelude.{◌≡◌, ℕ, true, List, [], ◌∷◌, Some, refl}
+use Rattle.std.proofs.Common.{sym, ap, subst, arith}
+use Rattle.search_parts.specs.declared.path.PathKind.{PathKind}
+use Rattle.search_parts.specs.declared.context.Request.{Request}
+use Rattle.search_parts.specs.declared.context.Request.TheVariants.{Evaluate, Done}
+use Rattle.search_parts.specs.declared.context.Reply.{Reply}
+use Rattle.search_parts.specs.declared.context.Reply.TheVariants.{Begin, Answer, Noted}
+use Rattle.search_parts.specs.Run.{EndsIn, Fits, progress_after, questions_answered}
+use Rattle.parts_tests.specs.declared.loops.Outcome.{Outcome}
+use Rattle.parts_tests.specs.declared.loops.Outcome.TheVariants.{Yes, No, Maybe}
+use Rattle.parts_tests.specs.declared.loops.Loops.{Loops}
+use Rattle.parts_tests.specs.declared.loops.Stage.{Stage}
+use Rattle.parts_tests.specs.declared.loops.Stage.TheVariants.{New, Asked, Done as Over}
+use Rattle.parts_tests.specs.declared.loops.Frame.{Frame}
+use Rattle.parts_tests.specs.Loops.{Asks, is_yes, is_no}
+
+abbrev pub answer_in : Reply Outcome → Outcome
+answer_in (Answer r) = r
+answer_in Begin = Maybe
+answer_in Noted = Maybe
+
+-- first the question, and then the answer as the result
+abbrev pub loop_script : Loops → PathKind → List (Reply Outcome) → Request PathKind Outcome
+loop_script cx goal [] = Done Maybe
+loop_script cx goal (r ∷ []) = Evaluate goal goal
+loop_script cx goal (r ∷ q ∷ earlier) = Done (answer_in r)
+
+abbrev pub next_stage : Stage → Stage
+next_stage New = Asked
+next_stage Asked = Over
+next_stage Over = Over
+
+-- the request of a frame that is given the reply
+abbrev pub request_at : PathKind → Stage → Reply Outcome → Request PathKind Outcome
+request_at goal New r = Evaluate goal goal
+request_at goal Asked r = Done (answer_in r)
+request_at goal Over r = Done (answer_in r)
+
+abbrev pub stage_after : List (Reply Outcome) → Stage
+stage_after [] = New
+stage_after (r ∷ []) = Asked
+stage_after (r ∷ q ∷ earlier) = Over
+
+abbrev pub steps_left : Stage → ℕ
+steps_left New = 2
+steps_left Asked = 1
+steps_left Over = 0
+
+pub record Stands (frame : Frame) (cx : Loops) (goal : PathKind) (replies : List (Reply Outcome)) : Type 0 where
+  pub same_goal : frame.goal ≡ goal
+  pub same_stage : frame.stage ≡ stage_after replies
+
+none_after_done : (a : Outcome) (x : Reply Outcome) → Fits {I = PathKind} (Some (Done a)) x → ⊥
+none_after_done a Begin h = h
+none_after_done a (Answer r) h = h
+none_after_done a Noted h = h
+
+abbrev done : Outcome → Request PathKind Outcome
+done r = Done r
+
+-- a run ends with the answer to its only question
+pub ends_by_answer : (cx : Loops) (goal : PathKind) (replies : List (Reply Outcome)) (r : Outcome) → EndsIn (loop_script cx goal) replies r → replies ≡ Answer r ∷ Begin ∷ []
+ends_by_answer cx goal [] r h = let e = h.is_done in absurd cc
+ends_by_answer cx goal (x ∷ []) r h = let e = h.is_done in absurd cc
+ends_by_answer cx goal (Answer a ∷ Begin ∷ []) r h = let e : Some (done a) ≡ Some (Done r) = h.is_done in let same : a ≡ r = cc in ap (λ v. Answer v ∷ Begin ∷ []) same
+ends_by_answer cx goal (Answer a ∷ y ∷ []) r h = absurd h.is_fitting.1.0
+ends_by_answer cx goal (x ∷ y ∷ []) r h = absurd h.is_fitting.0
+ends_by_answer cx goal (x ∷ y ∷ z ∷ earlier) r h = absurd (none_after_done (answer_in y) x h.is_fitting.0)
+
+yes_asks : (cx : Loops) (goal : PathKind) (r : Outcome) → is_yes r ≡ true → Asks goal (questions_answered is_yes (progress_after (loop_script cx goal) (Answer r ∷ Begin ∷ [])))
+yes_asks cx goal Yes is = (0, omega arith, refl)
+yes_asks cx goal No is = absurd cc
+yes_asks cx goal Maybe is = absurd cc
+
+no_asks : (cx : Loops) (goal : PathKind) (r : Outcome) → is_no r ≡ true → Asks goal (questions_answered is_no (progress_after (loop_script cx goal) (Answer r ∷ Begin ∷ [])))
+no_asks cx goal Yes is = absurd cc
+no_asks cx goal No is = (0, omega arith, refl)
+no_asks cx goal Maybe is = absurd cc
+
+pub yes_is_proved : (cx : Loops) (goal : PathKind) (replies : List (Reply Outcome)) (r : Outcome) → EndsIn (loop_script cx goal) replies r → is_yes r ≡ true → Asks goal (questions_answered is_yes (progress_after (loop_script cx goal) replies))
+yes_is_proved cx goal replies r h is =
+    subst (λ all. Asks goal (questions_answered is_yes (progress_after (loop_script cx goal) all))) (sym (ends_by_answer cx goal replies r h)) (yes_asks cx goal r is)
+
+pub no_is_refuted : (cx : Loops) (goal : PathKind) (replies : List (Reply Outcome)) (r : Outcome) → EndsIn (loop_script cx goal) replies r → is_no r ≡ true → Asks goal (questions_answered is_no (progress_after (loop_script cx goal) replies))
+no_is_refuted cx goal replies r h is =
+    subst (λ all. Asks goal (questions_answered is_no (progress_after (loop_script cx goal) all))) (sym (ends_by_answer cx goal replies r h)) (no_asks cx goal r is)

@@ -1,0 +1,15 @@
+pub mod Pairs
+pub mod Changes
+pub mod OldestFirst
+pub mod Steps
+pub mod Moves
+pub mod Questions
+pub mod Loops
+pub mod Promises
+pub mod Justified
+pub mod ProgressLaws
+pub mod Replies
+pub mod Finishing
+pub mod ProgressEdges
+pub mod Kept
+pub mod Verdicts

@@ -1,0 +1,61 @@
+-- What a question comes to, whichever goals are under evaluation.
+use Rattle.std.proofs.Common.{◌≡◌, ℕ, ◌+◌, ◌-◌, ◌/◌, ◌<◌, ◌≤◌, nat_eq, if◌then◌else◌, Bool, true, false, List, [], ◌∷◌, length, Option, Some, None, Result, Ok, Err, IfErr, refl, sym, ap, ◌∙◌, subst, arith}
+use Rattle.std.specs.List.{list_any}
+use Rattle.std.specs.Option.{option_and_then, option_map}
+use Rattle.std.proofs.lemmas.Bool.Decides.{nat_tests}
+use Rattle.search_parts.specs.declared.context.Delegate as Delegate
+use Rattle.search_parts.specs.declared.context.Cx as Cx
+use Rattle.search_parts.specs.declared.context.Request.TheVariants.{Evaluate}
+use Rattle.search_parts.specs.declared.context.Reply.TheVariants.{Begin, Answer}
+use Rattle.search_parts.specs.declared.context.Fault.TheVariants.{Memory}
+use Rattle.search_parts.specs.declared.path.PathKind.{PathKind}
+use Rattle.search_parts.specs.declared.parts.depth.AvailableDepth.{AvailableDepth}
+use Rattle.search_parts.specs.declared.parts.stack.StackEntry.{StackEntry}
+use Rattle.search_parts.specs.Stack.{depth_below}
+use Rattle.search_parts.specs.Delegate.{CountsOne}
+use Rattle.evaluations.specs.Frames.{IsAllowed}
+use Rattle.search_graph.specs.declared.graph.open_goals.Run.{Run}
+use Rattle.search_graph.specs.Newest.{newest, change_newest}
+use Rattle.search_graph.specs.Entries.{overflowed, with_answer}
+use Rattle.search_graph.specs.Evaluating.{Call, seen, HasAsked, GoesOn, HasStopped, Pushes}
+use Rattle.search_graph.proofs.Moves.{allowed, refused_goes_on, cycle_goes_on, pushed_goes_on, failed_push_stopped}
+
+pub if_err : {T E P : Type 0} (r : Result T E) → P → IfErr r (λ e. P)
+if_err (Ok x) p = tt
+if_err (Err e) p = p
+
+pub none_of : {A B : Type 0} (f : A → B) (o : Option A) → ((x : A) → o ≡ Some x → ⊥) → None ≡ option_map f o
+none_of f None never = refl
+none_of f (Some x) never = absurd (never x refl)
+
+no_depth : (a divisor : ℕ) (none overflow : Bool) → nat_eq a 0 ≡ none → (if none then None else if overflow then Some (a / divisor) else Some (a - 1)) ≡ None → a ≡ 0
+no_depth a divisor true overflow at is = grind (arith, nat_tests)
+no_depth a divisor false true at is = absurd cc
+no_depth a divisor false false at is = absurd cc
+
+module _ {D C V P F I R A T : Type 0} (G : Delegate.Ghosts D C V P F I R A T) (X : Cx.Ghosts C I R A T) (cx : C) (call : Call I) (ahead : ℕ) (kind : PathKind) (goal : I) (starts : ℕ) (met : Bool) where
+  abbrev Goals : Type 0
+  Goals = List (StackEntry C I R A T × Run C F I R A T)
+
+  pub ask_refused : (r : R) (goals new : Goals) → 0 < length goals → None ≡ option_and_then (λ s. depth_below G.DIVIDE_AVAILABLE_DEPTH_ON_OVERFLOW s.0) (newest goals) → new ≡ change_newest (λ s. (overflowed s.0, s.1)) goals → HasAsked G X cx call ahead (Evaluate kind goal) goals starts met → GoesOn G X cx call ahead (Answer r) new starts true
+  ask_refused r [] new some none is h = absurd (omega (arith, some))
+  ask_refused r (s ∷ below) new some none is h =
+      let at : s.0.available_depth.0 ≡ 0 = no_depth s.0.available_depth.0 G.DIVIDE_AVAILABLE_DEPTH_ON_OVERFLOW (nat_eq s.0.available_depth.0 0) s.0.state.encountered_overflow refl (sym none) in
+      subst (λ v. GoesOn G X cx call ahead (Answer r) v starts true) (sym is) (refused_goes_on G X cx call ahead kind goal r s below starts met at h)
+
+  module _ (more : 2 ≤ G.DIVIDE_AVAILABLE_DEPTH_ON_OVERFLOW) (depth : AvailableDepth) where
+    may_ask : (s : StackEntry C I R A T × Run C F I R A T) → Some depth.0 ≡ depth_below G.DIVIDE_AVAILABLE_DEPTH_ON_OVERFLOW s.0 → IsAllowed (seen G X cx s) depth.0
+    may_ask s is = let a = allowed G.DIVIDE_AVAILABLE_DEPTH_ON_OVERFLOW depth.0 s.0 more is in record { is_less = a.0; is_next = a.1 }
+
+    pub ask_in_cycle : (eq : I → I → Bool) → ((x y : I) → eq x y ≡ true → x ≡ y) → (r : R) (goals new : Goals) → Some depth.0 ≡ option_and_then (λ s. depth_below G.DIVIDE_AVAILABLE_DEPTH_ON_OVERFLOW s.0) (newest goals) → list_any (λ t. eq goal t.0.input) goals ≡ true → new ≡ change_newest (λ s. (with_answer s.0 0 false, s.1)) goals → HasAsked G X cx call ahead (Evaluate kind goal) goals starts met → GoesOn G X cx call ahead (Answer r) new starts met
+    ask_in_cycle eq exact r [] new may found is h = absurd cc
+    ask_in_cycle eq exact r (s ∷ below) new may found is h =
+        subst (λ v. GoesOn G X cx call ahead (Answer r) v starts met) (sym is) (cycle_goes_on G X cx call eq exact ahead kind goal r depth.0 s below starts met (may_ask s may) found h)
+
+    pub ask_pushes : (goals new : Goals) (now : ℕ) → Some depth.0 ≡ option_and_then (λ s. depth_below G.DIVIDE_AVAILABLE_DEPTH_ON_OVERFLOW s.0) (newest goals) → now ≤ starts + 1 → (G.counts ≡ true → CountsOne G.last starts now) → Pushes G X cx goal kind depth goals new → HasAsked G X cx call ahead (Evaluate kind goal) goals starts met → GoesOn G X cx call ahead Begin new now met
+    ask_pushes [] new now may one counted push h = absurd cc
+    ask_pushes (s ∷ below) new now may one counted push h = pushed_goes_on G X cx call ahead kind goal depth s below new starts now met (may_ask s may) one counted push h
+
+    pub ask_stops : (goals : Goals) (now : ℕ) → Some depth.0 ≡ option_and_then (λ s. depth_below G.DIVIDE_AVAILABLE_DEPTH_ON_OVERFLOW s.0) (newest goals) → starts ≤ now → now ≤ starts + 1 → HasAsked G X cx call ahead (Evaluate kind goal) goals starts met → HasStopped G X cx call Memory now met
+    ask_stops [] now may least one h = absurd cc
+    ask_stops (s ∷ below) now may least one h = failed_push_stopped G X cx call ahead kind goal depth.0 s below starts now met (may_ask s may) least one h

@@ -1,0 +1,156 @@
+-- A reply that fits is sorted as the record wants it, and keeps the goals justified.
+use Rattle.std.proofs.Common.{◌≡◌, ◌≢◌, ℕ, Bool, true, false, IsTrue, if◌then◌else◌, ◌↔◌, List, [], ◌∷◌, ◌++◌, map, Option, None, Some, IsSome, refl, sym, ap, ◌∙◌, subst, inl, inr}
+use Rattle.std.specs.Option.{IsSomeAnd}
+use Rattle.open_graphs.specs.Graph as theory
+use Rattle.search_parts.specs.declared.context.Delegate as Delegate
+use Rattle.search_parts.specs.declared.context.Cx as Cx
+use Rattle.search_parts.specs.declared.path.PathKind.{PathKind}
+use Rattle.search_parts.specs.declared.context.Verdict.{Verdict}
+use Rattle.search_parts.specs.declared.context.Verdict.TheVariants.{Yes, No, Neither}
+use Rattle.search_parts.specs.declared.context.NodeId.{NodeId}
+use Rattle.search_parts.specs.declared.context.Request.{Request}
+use Rattle.search_parts.specs.declared.context.Request.TheVariants.{Evaluate, EnterCandidate, FinishCandidate, Ignore, Done}
+use Rattle.search_parts.specs.declared.context.Reply.{Reply}
+use Rattle.search_parts.specs.declared.context.Reply.TheVariants.{Begin, Answer, Noted}
+use Rattle.search_parts.specs.declared.parts.stack.StackEntry.{StackEntry}
+use Rattle.search_parts.specs.Cache.{CacheNode}
+use Rattle.search_parts.specs.Shapes.{verdict_of}
+use Rattle.search_parts.specs.Run.{Fits, IsFitting, request_after}
+use Rattle.evaluations.specs.Frames.{Frame}
+use Rattle.evaluations.specs.Mirror.{Mirror}
+use Rattle.search_graph.specs.declared.graph.open_goals.Run.{Run}
+use Rattle.search_graph.specs.declared.graph.open_goals.Received.{Received}
+use Rattle.search_graph.specs.declared.graph.progress.DefiniteAnswer.{DefiniteAnswer}
+use Rattle.search_graph.specs.Progress.{RunRecord, received, requested, answered, answers_after, IsReplySorted, KeepsAnswer, open_number, edge_to}
+use Rattle.search_graph.specs.Justified.{OpenRun, in_theory, Asks, AreJustified, MayAnswer, IsFit}
+use Rattle.search_graph.specs.Runs.{run_of, runs_of}
+use Rattle.search_graph.specs.Evaluating.{Call, IsVerdict, HasStepped, IsWaiting, received_by}
+use Rattle.search_graph.proofs.Justified.{requested_is_justified, answered_is_justified}
+use Rattle.search_graph.proofs.Moves.{can_step_record}
+use Rattle.search_graph.proofs.ProgressLaws.{answers_received}
+
+-- ---- verdicts
+
+yes_at : (y n : Bool) → IsTrue y → (if y then theory.Yes else if n then theory.No else theory.Neither) ≡ theory.Yes
+yes_at true n is = refl
+yes_at false n is = absurd cc
+
+no_at : (y n : Bool) → (IsTrue y → ⊥) → IsTrue n → (if y then theory.Yes else if n then theory.No else theory.Neither) ≡ theory.No
+no_at true n never is = absurd (never refl)
+no_at false true never is = refl
+no_at false false never is = absurd cc
+
+definite_at : (y n : Bool) → IsTrue y → (if y then theory.Yes else if n then theory.No else theory.Neither) ≢ theory.Neither
+definite_at true n is e = cc
+definite_at false n is e = cc
+
+no_definite_at : (y n : Bool) → IsTrue n → (if y then theory.Yes else if n then theory.No else theory.Neither) ≢ theory.Neither
+no_definite_at true n is e = cc
+no_definite_at false true is e = cc
+no_definite_at false false is e = cc
+
+no_is_not_yes : No ≡ Yes → ⊥
+no_is_not_yes e = cc
+
+-- the verdict of an answer in the theory's words
+pub verdict_is : {R : Type 0} (is_yes is_no : R → Bool) (r : R) (v : Verdict) → ((v ≡ Yes) ↔ IsTrue (is_yes r)) → ((v ≡ No) ↔ IsTrue (is_no r)) → v ≢ Neither → in_theory v ≡ verdict_of is_yes is_no r
+verdict_is is_yes is_no r Yes holds fails d = sym (yes_at (is_yes r) (is_no r) (holds.0 refl))
+verdict_is is_yes is_no r No holds fails d = sym (no_at (is_yes r) (is_no r) (λ y. no_is_not_yes (holds.1 y)) (fails.0 refl))
+verdict_is is_yes is_no r Neither holds fails d = absurd (d refl)
+
+is_some_of : {A : Type 0} (o : Option A) (P : A → Type 0) → IsSomeAnd o P → IsSome o
+is_some_of None P h = absurd h
+is_some_of (Some x) P h = refl
+
+-- only a question is answered
+question_of_answer : {I R : Type 0} (request : Option (Request I R)) (r : R) → Fits request (Answer r) → (kind : PathKind) × (goal : I) × (request ≡ Some (Evaluate kind goal))
+question_of_answer None r fits = absurd fits
+question_of_answer (Some (Evaluate kind goal)) r fits = (kind, goal, refl)
+question_of_answer (Some EnterCandidate) r fits = absurd fits
+question_of_answer (Some FinishCandidate) r fits = absurd fits
+question_of_answer (Some (Ignore n)) r fits = absurd fits
+question_of_answer (Some (Done s)) r fits = absurd fits
+
+-- a reply that is no definite answer adds no answer
+unanswered_at : {I R : Type 0} (p : RunRecord I R) (kind : PathKind) (goal : I) (target : Option NodeId) → answers_after p kind goal Neither target ≡ p.answers
+unanswered_at p kind goal None = refl
+unanswered_at p kind goal (Some node) = refl
+
+unanswered : {I R : Type 0} (p : RunRecord I R) (request : Option (Request I R)) (target : Option NodeId) → (answered p request Neither target).answers ≡ p.answers
+unanswered p None target = refl
+unanswered p (Some (Evaluate kind goal)) target = unanswered_at p kind goal target
+unanswered p (Some EnterCandidate) target = refl
+unanswered p (Some FinishCandidate) target = refl
+unanswered p (Some (Ignore n)) target = refl
+unanswered p (Some (Done r)) target = refl
+
+yes_is_definite : Yes ≡ Neither → ⊥
+yes_is_definite e = cc
+
+no_is_definite : No ≡ Neither → ⊥
+no_is_definite e = cc
+
+pub in_theory_definite : (v : Verdict) → v ≢ Neither → in_theory v ≢ theory.Neither
+in_theory_definite Yes d e = cc
+in_theory_definite No d e = cc
+in_theory_definite Neither d e = d refl
+
+module _ {D C V P F I R A T : Type 0} (G : Delegate.Ghosts D C V P F I R A T) (X : Cx.Ghosts C I R A T) (cx : C) (nodes : List (CacheNode I R)) where
+  abbrev Goals : Type 0
+  Goals = List (StackEntry C I R A T × Run C F I R A T)
+
+  sorted_at : (s : StackEntry C I R A T × Run C F I R A T) (below : Goals) (earlier : List (Reply R)) (reply : Reply R) (node : Option NodeId) (v : Verdict) → s.1.progress.request ≡ request_after (G.script cx s.0.input) earlier → IsFitting (G.script cx s.0.input) (reply ∷ earlier) → IsFit X.is_yes X.is_no nodes (runs_of (s ∷ below)) reply node → IsVerdict X.is_yes X.is_no reply v → IsReplySorted X.is_yes X.is_no reply v node
+  sorted_at s below earlier Begin node v request fits fit verdict = tt
+  sorted_at s below earlier Noted node v request fits fit verdict = tt
+  sorted_at s below earlier (Answer r) node v request fits fit verdict =
+      let asked = question_of_answer (request_after (G.script cx s.0.input) earlier) r fits.0 in
+      let asks : s.1.progress.request ≡ Some (Evaluate asked.0 asked.1) = request ∙ asked.2 in
+      record {
+        yes = verdict.0;
+        no = verdict.1;
+        yes_node = λ y. is_some_of node _ (fit r asked.0 asked.1 refl asks (definite_at (X.is_yes r) (X.is_no r) y));
+        no_node = λ n. is_some_of node _ (fit r asked.0 asked.1 refl asks (no_definite_at (X.is_yes r) (X.is_no r) n));
+      }
+
+  -- a reply that fits the goals is sorted
+  pub replies_sorted : (call : Call I) (given : Received R) (goals : Goals) (starts : ℕ) (met : Bool) → IsWaiting G X cx call given.reply goals starts met → IsFit X.is_yes X.is_no nodes (runs_of goals) given.reply given.node → (v : Verdict) → IsVerdict X.is_yes X.is_no given.reply v → IsReplySorted X.is_yes X.is_no given.reply v given.node
+  replies_sorted call given [] starts met h fit v is = absurd h.waits.mirror
+  replies_sorted call given (s ∷ below) starts met h fit v is =
+      let can = can_step_record G X cx call given.reply s below starts met h in
+      sorted_at s below can.0 given.reply given.node v can.1.1.request_is can.2 fit is
+
+  -- ---- the step keeps the goals justified
+
+  -- an answer of the theory's verdict
+  answered_at : (entry : StackEntry C I R A T) (run : Run C F I R A T) (r : R) (node : Option NodeId) (v : Verdict) (below : Goals) → v ≢ Neither → IsVerdict X.is_yes X.is_no (Answer r) v → IsFit X.is_yes X.is_no nodes (runs_of ((entry, run) ∷ below)) (Answer r) node → AreJustified X.is_yes X.is_no nodes (runs_of ((entry, run) ∷ below)) → (answers : List (DefiniteAnswer I)) → KeepsAnswer run.progress v node answers → AreJustified X.is_yes X.is_no nodes (record (run_of (entry, run)) { answers = answers } ∷ runs_of below)
+  answered_at entry run r node v below definite verdict fit h answers keeps =
+      let same : in_theory v ≡ verdict_of X.is_yes X.is_no r = verdict_is X.is_yes X.is_no r v verdict.0 verdict.1 definite in
+      let never : verdict_of X.is_yes X.is_no r ≢ theory.Neither = λ e. in_theory_definite v definite (same ∙ e) in
+      let may = subst (λ (o : Option NodeId). IsSomeAnd o (λ a. MayAnswer X.is_yes X.is_no nodes (runs_of ((entry, run) ∷ below)) (verdict_of X.is_yes X.is_no r) keeps.kind keeps.input a.0)) keeps.target_is (fit r keeps.kind keeps.input refl keeps.was never) in
+      subst (λ (l : List (DefiniteAnswer I)). AreJustified X.is_yes X.is_no nodes (record (run_of (entry, run)) { answers = l } ∷ runs_of below)) (sym keeps.kept)
+      (answered_is_justified X.is_yes X.is_no nodes (record { edge = edge_to keeps.kind keeps.input keeps.node; verdict = v; candidate = open_number run.progress }) (run_of (entry, run)) (runs_of below)
+      (subst (λ w. MayAnswer X.is_yes X.is_no nodes (runs_of ((entry, run) ∷ below)) w keeps.kind keeps.input keeps.node.0) (sym same) may) h)
+
+  same_answers : (entry : StackEntry C I R A T) (run : Run C F I R A T) (below : Goals) (answers : List (DefiniteAnswer I)) → answers ≡ run.progress.answers → AreJustified X.is_yes X.is_no nodes (runs_of ((entry, run) ∷ below)) → AreJustified X.is_yes X.is_no nodes (record (run_of (entry, run)) { answers = answers } ∷ runs_of below)
+  same_answers entry run below answers is h = subst (λ (l : List (DefiniteAnswer I)). AreJustified X.is_yes X.is_no nodes (record (run_of (entry, run)) { answers = l } ∷ runs_of below)) (sym is) h
+
+  definite_at_reply : (entry : StackEntry C I R A T) (run : Run C F I R A T) (reply : Reply R) (node : Option NodeId) (v : Verdict) (below : Goals) → v ≢ Neither → IsVerdict X.is_yes X.is_no reply v → IsFit X.is_yes X.is_no nodes (runs_of ((entry, run) ∷ below)) reply node → AreJustified X.is_yes X.is_no nodes (runs_of ((entry, run) ∷ below)) → AreJustified X.is_yes X.is_no nodes (record (run_of (entry, run)) { answers = (received run.progress reply v node).answers } ∷ runs_of below)
+  definite_at_reply entry run Begin node v below definite verdict fit h = absurd (definite verdict)
+  definite_at_reply entry run Noted node v below definite verdict fit h = absurd (definite verdict)
+  definite_at_reply entry run (Answer r) node v below definite verdict fit h = elim (answers_received run.progress v (Answer r) node) [
+    | inl same ↦ same_answers entry run below (received run.progress (Answer r) v node).answers same h
+    | inr keeps ↦ answered_at entry run r node v below definite verdict fit h (received run.progress (Answer r) v node).answers keeps
+  ]
+
+  justified_at : (entry : StackEntry C I R A T) (run : Run C F I R A T) (reply : Reply R) (node : Option NodeId) (v : Verdict) (below : Goals) → IsVerdict X.is_yes X.is_no reply v → IsFit X.is_yes X.is_no nodes (runs_of ((entry, run) ∷ below)) reply node → AreJustified X.is_yes X.is_no nodes (runs_of ((entry, run) ∷ below)) → AreJustified X.is_yes X.is_no nodes (record (run_of (entry, run)) { answers = (received run.progress reply v node).answers } ∷ runs_of below)
+  justified_at entry run reply node Yes below verdict fit h = definite_at_reply entry run reply node Yes below (λ e. yes_is_definite e) verdict fit h
+  justified_at entry run reply node No below verdict fit h = definite_at_reply entry run reply node No below (λ e. no_is_definite e) verdict fit h
+  justified_at entry run reply node Neither below verdict fit h = same_answers entry run below (received run.progress reply Neither node).answers (unanswered run.progress run.progress.request node) h
+
+  pub step_is_justified : (given : Received R) (request : Request I R) (old new : Goals) (s : HasStepped G X cx given request old new) → IsFit X.is_yes X.is_no nodes (runs_of old) given.reply given.node → AreJustified X.is_yes X.is_no nodes (runs_of old) → AreJustified X.is_yes X.is_no nodes (runs_of new)
+  step_is_justified given request old new s fit h =
+      let was_fit : IsFit X.is_yes X.is_no nodes (runs_of ((s.entry, s.run) ∷ s.below)) given.reply given.node = subst (λ (v : Goals). IsFit X.is_yes X.is_no nodes (runs_of v) given.reply given.node) s.was fit in
+      let was : AreJustified X.is_yes X.is_no nodes (runs_of ((s.entry, s.run) ∷ s.below)) = subst (λ (v : Goals). AreJustified X.is_yes X.is_no nodes (runs_of v)) s.was h in
+      subst (λ (v : Goals). AreJustified X.is_yes X.is_no nodes (runs_of v)) (sym s.is)
+      (requested_is_justified X.is_yes X.is_no nodes (Some request) (record (run_of (s.entry, s.run)) { answers = (received s.run.progress given.reply s.verdict given.node).answers }) (runs_of s.below)
+      (justified_at s.entry s.run given.reply given.node s.verdict s.below s.is_verdict was_fit was))

@@ -1,0 +1,19 @@
+use Rattle.std.proofs.Common.{◌≡◌}
+use Rattle.search_parts.specs.Cache.{KeepsFinished}
+use Rattle.search_graph.specs.Justified.{AreJustified, IsFit}
+use Rattle.search_graph.specs.Runs.{runs_of}
+use Rattle.search_graph.specs.Evaluating.{IsLoopWaiting, work_left}
+use Rattle.search_graph.proofs.graph.evaluate.evaluate.Given as goal
+
+-- the newest goal waits for the reply, and each answer is justified
+abbrev pub invariant-loop-next : goal.invariant-loop-next
+invariant-loop-next g l = record {
+  waiting : IsLoopWaiting g.D.Delegate g.D.Cx.Cx l.cache.cx l.fn.input l.fn.root_depth.0 (g.D.Delegate.starts l.fn.inspect) l.fn.limits_met l.received.reply l.goals (g.D.Delegate.starts l.inspect) l.limits_met;
+  justified : AreJustified g.D.Cx.Cx.is_yes g.D.Cx.Cx.is_no l.cache.nodes (runs_of l.goals);
+  fits : IsFit g.D.Cx.Cx.is_yes g.D.Cx.Cx.is_no l.cache.nodes (runs_of l.goals) l.received.reply l.received.node;
+  same_context : l.cache.cx ≡ l.fn.cache.cx;
+  kept : KeepsFinished l.fn.cache.nodes l.cache.nodes;
+}
+
+abbrev pub decreases-loop-next : goal.decreases-loop-next
+decreases-loop-next g l = work_left g.D.Delegate g.D.Cx.Cx l.cache.cx l.goals

@@ -1,0 +1,28 @@
+use Rattle.std.proofs.Common.{refl, sym, ap, subst, ◌∙◌}
+use Rattle.std.specs.Option.{IsSomeAnd}
+use Rattle.search_parts.specs.Cache.{open_goal, with_run, IsRun, KeepsFinished}
+use Rattle.search_parts.proofs.Finished.{KeepsFinished-ended}
+use Rattle.search_graph.specs.Progress.{edges_of}
+use Rattle.search_graph.proofs.Finishing.{open_for_run, settled, left_open}
+use Rattle.search_graph.proofs.graph.finish.finish_node.Goals as goal
+
+pub returns-in-Neither-clause-settled : goal.returns-in-Neither-clause-settled
+returns-in-Neither-clause-settled g c = left_open g.D.Cx.Cx.is_yes g.D.Cx.Cx.is_no (g.D.Delegate.script c.args.cache.now.cx) c.args.cache.now.nodes c.args.node c.args.progress c.args.outcome c.requires c.sort-verdict.result c.sort-verdict.ensures.yes c.sort-verdict.ensures.no c.in-Neither.is c.args.cache.now.nodes refl
+
+pub finish_node-requires : goal.finish_node-requires
+finish_node-requires g c =
+    subst (λ replies. IsSomeAnd (open_goal c.args.cache.now.nodes c.args.node.0) (λ goal. IsRun g.D.Cx.Cx.is_yes g.D.Cx.Cx.is_no (g.D.Delegate.script c.args.cache.now.cx goal) c.args.cache.now.nodes (record { replies = replies; edges = c.in_ok-edges.edges.items; outcome = c.args.outcome }))) (sym c.into_replies-replies.ensures)
+    (subst (λ edges. IsSomeAnd (open_goal c.args.cache.now.nodes c.args.node.0) (λ goal. IsRun g.D.Cx.Cx.is_yes g.D.Cx.Cx.is_no (g.D.Delegate.script c.args.cache.now.cx goal) c.args.cache.now.nodes (record { replies = c.args.progress.replies; edges = edges; outcome = c.args.outcome }))) (sym c.in_ok-edges.ensures)
+    (open_for_run g.D.Cx.Cx.is_yes g.D.Cx.Cx.is_no (g.D.Delegate.script c.args.cache.now.cx) c.args.cache.now.nodes c.args.node c.args.progress c.args.outcome c.requires c.sort-verdict.result c.sort-verdict.ensures.yes c.sort-verdict.ensures.no))
+
+pub returns-clause-settled : goal.returns-clause-settled
+returns-clause-settled g c =
+    settled g.D.Cx.Cx.is_yes g.D.Cx.Cx.is_no (g.D.Delegate.script c.args.cache.now.cx) c.args.cache.now.nodes c.args.node c.args.progress c.args.outcome c.requires c.sort-verdict.result c.sort-verdict.ensures.yes c.sort-verdict.ensures.no c.in_default.not-Neither c.finish_node.new.self.nodes
+    (ap (λ cache. cache.nodes) c.finish_node.ensures.ended
+    ∙ ap (λ replies. with_run c.args.cache.now.nodes c.args.node.0 (record { replies = replies; edges = c.in_ok-edges.edges.items; outcome = c.args.outcome })) c.into_replies-replies.ensures
+    ∙ ap (λ edges. with_run c.args.cache.now.nodes c.args.node.0 (record { replies = c.args.progress.replies; edges = edges; outcome = c.args.outcome })) c.in_ok-edges.ensures)
+
+pub returns-clause-kept : goal.returns-clause-kept
+returns-clause-kept g c =
+    subst (KeepsFinished c.args.cache.now.nodes) (sym (ap (λ cache. cache.nodes) c.finish_node.ensures.ended))
+    (KeepsFinished-ended c.args.cache.now.nodes c.args.node.0 _ (λ goal. IsRun g.D.Cx.Cx.is_yes g.D.Cx.Cx.is_no (g.D.Delegate.script c.args.cache.now.cx goal) c.args.cache.now.nodes (record { replies = c.args.progress.replies; edges = edges_of c.args.progress c.sort-verdict.result; outcome = c.args.outcome })) (open_for_run g.D.Cx.Cx.is_yes g.D.Cx.Cx.is_no (g.D.Delegate.script c.args.cache.now.cx) c.args.cache.now.nodes c.args.node c.args.progress c.args.outcome c.requires c.sort-verdict.result c.sort-verdict.ensures.yes c.sort-verdict.ensures.no))

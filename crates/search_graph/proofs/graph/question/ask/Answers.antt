@@ -1,0 +1,56 @@
+use Rattle.std.proofs.Common.{◌∙◌, refl, sym, ap, subst, true, None}
+use Rattle.search_parts.specs.declared.context.Reply.TheVariants.{Answer}
+use Rattle.search_parts.specs.Shapes.{verdict_of}
+use Rattle.search_parts.proofs.Finished.{KeepsFinished-same}
+use Rattle.search_graph.specs.Justified.{AreJustified, IsFit}
+use Rattle.search_graph.specs.Evaluating.{GoesOn}
+use Rattle.search_graph.specs.Runs.{runs_of}
+use Rattle.search_graph.proofs.Finishing.{runs_of-overflowed, runs_of-with_answer, neither_is, neither_fits, begin_fits}
+use Rattle.search_graph.proofs.Questions.{if_err, none_of, ask_refused, ask_in_cycle, ask_pushes, ask_stops}
+use Rattle.search_graph.proofs.graph.question.ask.Goals as goal
+
+-- the question is refused
+pub returns-in_default-clause-goes_on : goal.returns-in_default-clause-goes_on
+returns-in_default-clause-goes_on g c = λ call ahead h.
+    subst (λ given. GoesOn g.D.Delegate g.D.Cx.Cx c.args.cache.now.cx call ahead given.reply c.note_overflow.new.self (g.D.Delegate.starts c.args.inspect.now) true) (sym c.without_node.ensures)
+    (ask_refused g.D.Delegate g.D.Cx.Cx c.args.cache.now.cx call ahead c.args.kind c.args.input _ c.args.limits_met.now c.stack_overflow_result-answer.result c.args.goals.now _ c.requires.some (none_of (λ d. d.0) c.allowed_depth.result c.in_default.not-Some ∙ c.allowed_depth.ensures) c.note_overflow.ensures h)
+
+pub returns-in_default-clause-justified : goal.returns-in_default-clause-justified
+returns-in_default-clause-justified g c =
+    subst (AreJustified g.D.Cx.Cx.is_yes g.D.Cx.Cx.is_no c.args.cache.now.nodes) (runs_of-overflowed c.args.goals.now ∙ ap runs_of (sym c.note_overflow.ensures)) c.requires.justified
+
+pub returns-in_default-clause-fits : goal.returns-in_default-clause-fits
+returns-in_default-clause-fits g c =
+    subst (λ given. IsFit g.D.Cx.Cx.is_yes g.D.Cx.Cx.is_no c.args.cache.now.nodes (runs_of c.note_overflow.new.self) given.reply given.node) (sym c.without_node.ensures)
+    (neither_fits g.D.Cx.Cx.is_yes g.D.Cx.Cx.is_no c.args.cache.now.nodes (runs_of c.note_overflow.new.self) c.stack_overflow_result-answer.result
+    (ap (verdict_of g.D.Cx.Cx.is_yes g.D.Cx.Cx.is_no) c.stack_overflow_result-answer.ensures ∙ neither_is g.D.Cx.Cx.is_yes g.D.Cx.Cx.is_no (g.D.Delegate.stack_overflow c.cx-cx.result c.args.input) (g.met.D.Delegate.stack_overflow_is_neither c.cx-cx.result c.args.input)))
+
+-- the goal is under evaluation
+pub returns-then-contains-clause-goes_on : goal.returns-then-contains-clause-goes_on
+returns-then-contains-clause-goes_on g c = λ call ahead h.
+    subst (λ given. GoesOn g.D.Delegate g.D.Cx.Cx c.args.cache.now.cx call ahead given.reply c.note_answer.new.self (g.D.Delegate.starts c.args.inspect.now) c.args.limits_met.now) (sym c.without_node-then-contains.ensures)
+    (ask_in_cycle g.D.Delegate g.D.Cx.Cx c.args.cache.now.cx call ahead c.args.kind c.args.input _ c.args.limits_met.now g.met.D.Delegate.divides c.in-Some.depth g.D.Cx.Input.PartialEq.eq g.met.D.Cx.Cx.same_input c.fixpoint_overflow_result-answer.result c.args.goals.now _ c.in-Some.ensures (sym c.contains.ensures ∙ c.if-contains.true) c.note_answer.ensures h)
+
+pub returns-then-contains-clause-justified : goal.returns-then-contains-clause-justified
+returns-then-contains-clause-justified g c =
+    subst (AreJustified g.D.Cx.Cx.is_yes g.D.Cx.Cx.is_no c.args.cache.now.nodes) (runs_of-with_answer 0 _ c.args.goals.now ∙ ap runs_of (sym c.note_answer.ensures)) c.requires.justified
+
+pub returns-then-contains-clause-fits : goal.returns-then-contains-clause-fits
+returns-then-contains-clause-fits g c =
+    subst (λ given. IsFit g.D.Cx.Cx.is_yes g.D.Cx.Cx.is_no c.args.cache.now.nodes (runs_of c.note_answer.new.self) given.reply given.node) (sym c.without_node-then-contains.ensures)
+    (neither_fits g.D.Cx.Cx.is_yes g.D.Cx.Cx.is_no c.args.cache.now.nodes (runs_of c.note_answer.new.self) c.fixpoint_overflow_result-answer.result
+    (ap (verdict_of g.D.Cx.Cx.is_yes g.D.Cx.Cx.is_no) c.fixpoint_overflow_result-answer.ensures ∙ neither_is g.D.Cx.Cx.is_yes g.D.Cx.Cx.is_no (g.D.Delegate.fixpoint_overflow c.cx-cx.result c.args.input) (g.met.D.Delegate.fixpoint_overflow_is_neither c.cx-cx.result c.args.input)))
+
+-- the goal is put on top
+pub returns-in_err-push_goal-clause-stops : goal.returns-in_err-push_goal-clause-stops
+returns-in_err-push_goal-clause-stops g c = λ call ahead h.
+    if_err c.from_residual.result (ask_stops g.D.Delegate g.D.Cx.Cx c.args.cache.now.cx call ahead c.args.kind c.args.input _ c.args.limits_met.now g.met.D.Delegate.divides c.in-Some.depth c.args.goals.now _ c.in-Some.ensures c.push_goal.ensures.at_least c.push_goal.ensures.at_most h)
+
+pub returns-clause-goes_on : goal.returns-clause-goes_on
+returns-clause-goes_on g c = λ call ahead h.
+    subst (λ given. GoesOn g.D.Delegate g.D.Cx.Cx c.args.cache.now.cx call ahead given.reply c.push_goal.new.goals (g.D.Delegate.starts c.push_goal.new.inspect) c.args.limits_met.now) (sym c.without_node-2.ensures)
+    (ask_pushes g.D.Delegate g.D.Cx.Cx c.args.cache.now.cx call ahead c.args.kind c.args.input _ c.args.limits_met.now g.met.D.Delegate.divides c.in-Some.depth c.args.goals.now _ _ c.in-Some.ensures c.push_goal.ensures.at_most c.in_ok-push_goal.ensures.counted c.in_ok-push_goal.ensures.pushed h)
+
+pub returns-clause-fits : goal.returns-clause-fits
+returns-clause-fits g c =
+    subst (λ given. IsFit g.D.Cx.Cx.is_yes g.D.Cx.Cx.is_no c.push_goal.new.cache.nodes (runs_of c.push_goal.new.goals) given.reply given.node) (sym c.without_node-2.ensures) (begin_fits g.D.Cx.Cx.is_yes g.D.Cx.Cx.is_no c.push_goal.new.cache.nodes (runs_of c.push_goal.new.goals))

@@ -1,0 +1,70 @@
+-- The goals under evaluation as runs with nodes, and what becomes of a run that is done.
+use Rattle.std.specs.Prelude.{◌≡◌, ◌≢◌, ℕ, Bool, true, List, [], ◌∷◌, map, reverse, length, Option, None, Some, slice_get}
+use Rattle.open_graphs.specs.Graph as theory
+use Rattle.search_parts.specs.declared.context.Delegate as Delegate
+use Rattle.search_parts.specs.declared.context.Cx as Cx
+use Rattle.search_parts.specs.declared.context.Verdict.{Verdict}
+use Rattle.search_parts.specs.declared.context.Verdict.TheVariants.{Yes, No, Neither}
+use Rattle.search_parts.specs.declared.context.NodeId.{NodeId}
+use Rattle.search_parts.specs.declared.context.Edge.{Edge}
+use Rattle.search_parts.specs.declared.context.Request.{Request}
+use Rattle.search_parts.specs.declared.context.Request.TheVariants.{Done}
+use Rattle.search_parts.specs.declared.context.Reply.{Reply}
+use Rattle.search_parts.specs.declared.parts.stack.StackEntry.{StackEntry}
+use Rattle.search_parts.specs.Run.{IsFitting, request_after}
+use Rattle.search_parts.specs.Cache.{EndedRun, CacheNode, open_goal, with_run, IsNodeOf}
+use Rattle.search_parts.specs.Shapes.{verdict_of}
+use Rattle.search_graph.specs.declared.graph.open_goals.Run.{Run}
+use Rattle.search_graph.specs.declared.graph.open_goals.Next.{Next}
+use Rattle.search_graph.specs.declared.graph.open_goals.Next.TheVariants.{Step, Finished}
+use Rattle.search_graph.specs.Progress.{RunRecord, edges_of, Records}
+use Rattle.search_graph.specs.Justified.{OpenRun, AreJustified, IsFit, HasGraph, ArePlaced, AreEdges}
+
+module _ {X F I R A T : Type 0} where
+  -- an item as a run with its node
+  abbrev pub run_of : StackEntry X I R A T × Run X F I R A T → OpenRun I R
+  run_of s = record {
+    goal = s.0.input;
+    step = s.0.step_kind_from_parent;
+    node = s.1.node.0;
+    request = s.1.progress.request;
+    answers = s.1.progress.answers;
+  }
+
+  -- the items as runs
+  abbrev pub runs_of : List (StackEntry X I R A T × Run X F I R A T) → List (OpenRun I R)
+  runs_of goals = map run_of goals
+
+  -- what comes next is justified: the reply for the goals, or the answer of the only goal
+  abbrev pub IsJustifiedNext : (R → Bool) → (R → Bool) → List (CacheNode I R) → List (StackEntry X I R A T × Run X F I R A T) → List (StackEntry X I R A T × Run X F I R A T) → Next R → Type 0
+  IsJustifiedNext is_yes is_no nodes old goals (Step given) = AreJustified is_yes is_no nodes (runs_of goals) × IsFit is_yes is_no nodes (runs_of goals) given.reply given.node
+  IsJustifiedNext is_yes is_no nodes [] goals (Finished answer) = ⊥
+  IsJustifiedNext is_yes is_no nodes (s ∷ below) goals (Finished answer) = HasGraph is_yes is_no nodes s.0.input answer.result answer.node
+
+-- the record is that of a run that came to this result
+pub record IsDone {I R : Type 0} (is_yes is_no : R → Bool) (script : List (Reply R) → Request I R) (p : RunRecord I R) (r : R) : Type 0 where
+  pub replies : List (Reply R)
+  pub is_fitting : IsFitting script replies
+  pub is_done : request_after script replies ≡ Some (Done r)
+  pub on_record : Records is_yes is_no script p replies
+
+-- the newest goal's run came to this result
+abbrev pub EndsNewest : {X F I R A T : Type 0} → (R → Bool) → (R → Bool) → (I → List (Reply R) → Request I R) → List (StackEntry X I R A T × Run X F I R A T) → R → Type 0
+EndsNewest is_yes is_no scripts [] r = ⊥
+EndsNewest is_yes is_no scripts (s ∷ below) r = IsDone is_yes is_no (scripts s.0.input) s.1.progress r
+
+-- the run of an open node came to this result
+pub record EndsRun {I R : Type 0} (is_yes is_no : R → Bool) (scripts : I → List (Reply R) → Request I R) (nodes : List (CacheNode I R)) (node : NodeId) (p : RunRecord I R) (r : R) : Type 0 where
+  pub goal : I
+  pub is_open : open_goal nodes node.0 ≡ Some goal
+  pub ends : IsDone is_yes is_no (scripts goal) p r
+  pub placed : ArePlaced nodes p.answers
+
+-- the node was finished with a definite result, by edges of the answers that have its verdict; it is left open by another
+-- result
+pub data IsSettled {I R : Type 0} (is_yes is_no : R → Bool) (before after : List (CacheNode I R)) (node : NodeId) (p : RunRecord I R) (r : R) : Option NodeId → Type 0 where
+  Ended :
+      (run : EndedRun I R)
+      → run.outcome ≡ r → verdict_of is_yes is_no r ≢ theory.Neither → after ≡ with_run before node.0 run → AreEdges p.answers (verdict_of is_yes is_no r) run.edges
+      → IsSettled is_yes is_no before after node p r (Some node)
+  LeftOpen : verdict_of is_yes is_no r ≡ theory.Neither → after ≡ before → IsSettled is_yes is_no before after node p r None

@@ -1,0 +1,140 @@
+//! The search graph. It keeps the goals under evaluation in one list and works through them in one loop, so
+//! that no depth of goals takes native stack.
+ghost use Rattle.std.specs.Prelude.{◌≡◌, ◌≤◌, ◌+◌, ℕ, Bool, true, false, None, IsTrue, IfOk, IfErr, max};
+ghost use Rattle.search_parts.specs.Rank.{IsPlainValue, frames_within};
+ghost use Rattle.search_parts.specs.declared.context.Fault.TheVariants.{Memory};
+ghost use Rattle.search_parts.specs.Cache.{KeepsFinished};
+ghost use Rattle.evaluations.specs.Plain.{IsPlainTo};
+ghost use Rattle.evaluations.specs.Price.{IsPaid};
+ghost use Rattle.search_graph.specs.Evaluating.{IsCaused};
+ghost use Rattle.search_graph.specs.Graph.{IsProved, IsRefuted};
+
+mod evaluate;
+mod finish;
+mod open_goals;
+mod progress;
+mod question;
+
+use evaluate::evaluate;
+use open_goals::OpenGoals;
+use search_parts::context::{Answer, Cx, Delegate, Fault};
+use search_parts::global_cache::GlobalCache;
+use search_parts::parts::AvailableDepth;
+use search_parts::path::PathKind;
+pub use search_parts::{context, global_cache, parts, path};
+use std::alloc::Global;
+use std::marker::Model;
+
+/// Evaluates goals. Between its calls no goal is under evaluation. Ports `SearchGraph`.
+#[derive(Drop)]
+pub struct SearchGraph<D: Delegate> {
+    root_depth: AvailableDepth,
+    limits_met: bool,
+    goals: OpenGoals<D::Cx, D::Frame>,
+}
+
+impl<D: Delegate> Model for SearchGraph<D> {
+    ghost use Rattle.std.specs.Prelude.{◌≡◌, []};
+    ghost use Rattle.search_graph.specs.Graph.{Graph};
+
+    ghost Value = { Graph };
+
+    ghost view = { λ g. record { root_depth = g.root_depth.0; limits_met = g.limits_met } };
+
+    ghost invariant = { λ g. g.goals ≡ [] };
+}
+
+impl<D: Delegate> SearchGraph<D> {
+    /// A graph without goals, which gives the goals that it is asked this depth. It takes no memory yet.
+    /// Ports `SearchGraph::new`.
+    pub fn new(alloc: Global, root_depth: usize) -> SearchGraph<D>
+        ensures { result ≡ record { root_depth = root_depth; limits_met = false } }
+    {
+        SearchGraph {
+            root_depth: AvailableDepth(root_depth),
+            limits_met: false,
+            goals: OpenGoals::new(alloc),
+        }
+    }
+
+    /// Whether no goal is under evaluation, which is so between calls. Ports `SearchGraph::is_empty`.
+    pub fn is_empty(&self) -> bool
+        ensures { IsTrue result }
+    {
+        self.goals.len() == 0
+    }
+
+    /// How many goals are under evaluation: none between calls. Ports `SearchGraph::debug_current_depth`.
+    pub fn debug_current_depth(&self) -> usize
+        ensures { result ≡ 0 }
+    {
+        self.goals.len()
+    }
+
+    /// Whether a goal without depth has asked a question since the graph was made. A fault does not reset it.
+    pub fn limits_met(&self) -> bool
+        ensures { result ≡ self.now.limits_met }
+    {
+        self.limits_met
+    }
+
+    /// The answer to a goal, evaluated over the cache's context, which is asked by a step of this kind. A
+    /// definite answer names its node, the root of its graph in the cache's list.
+    ///
+    /// `Fault::Memory` where a growth was refused or a frame answered `NoMemory`, `Fault::Protocol` where a
+    /// frame's request came out of order. After a fault the graph can be used again, and nodes that no
+    /// answer reaches may stay in the cache. Ports `SearchGraph::evaluate_goal`.
+    pub fn evaluate_goal(
+        &mut self,
+        cache: &mut GlobalCache<D>,
+        input: <D::Cx as Cx>::Input,
+        step_kind_from_parent: PathKind,
+        inspect: &mut D::ProofTreeBuilder,
+    ) -> Result<
+        Answer<<D::Cx as Cx>::Result>,
+        Fault<<D::Cx as Cx>::Input, <D::Cx as Cx>::Result>,
+    >
+        // A definite answer has its graph, and the goal has none of the other sort.
+        ensures yes { IfOk result (λ answer. D.Cx.is_yes answer.result ≡ true → IsProved D.Cx.Cx cache.new input answer.node) }
+        ensures no { IfOk result (λ answer. D.Cx.is_no answer.result ≡ true → IsRefuted D.Cx.Cx cache.new input answer.node) }
+        ensures neither { IfOk result (λ answer. D.Cx.is_yes answer.result ≡ false → D.Cx.is_no answer.result ≡ false → answer.node ≡ None) }
+
+        // A goal whose questions go no deeper than the root depth, and that is orderly with all goals below it,
+        // answers its plain value or that memory is out, and meets no limit.
+        ensures plain { (n : ℕ) → IsPlainTo (D.script cache.old.cx) n input → n ≤ self.old.root_depth →
+            IfOk result (λ answer. IsPlainValue (D.script cache.old.cx) n input answer.result) }
+        ensures plain_faults { (n : ℕ) → IsPlainTo (D.script cache.old.cx) n input → n ≤ self.old.root_depth →
+            IfErr result (λ fault. fault ≡ Memory) }
+        ensures plain_limits { (n : ℕ) → IsPlainTo (D.script cache.old.cx) n input → n ≤ self.old.root_depth →
+            self.new.limits_met ≡ self.old.limits_met }
+
+        // A fault is want of memory, or some goal's script makes a request out of order.
+        ensures faults { IfErr result (IsCaused D.Delegate D.Cx.Cx cache.old.cx) }
+
+        // The frames that are started are within a bound, and a limit has its price in frames.
+        ensures frames { D.starts inspect.new ≤ D.starts inspect.old + frames_within (max 1 D.FIXPOINT_STEP_LIMIT) (D.width cache.old.cx) self.old.root_depth }
+        ensures price { D.counts ≡ true → self.old.limits_met ≡ false → self.new.limits_met ≡ true →
+            IsPaid (max 1 D.FIXPOINT_STEP_LIMIT) self.old.root_depth D.last (D.starts inspect.old) (D.starts inspect.new) }
+
+        ensures same_depth { self.new.root_depth ≡ self.old.root_depth }
+        ensures limits_stay { self.old.limits_met ≡ true → self.new.limits_met ≡ true }
+        ensures same_context { cache.new.cx ≡ cache.old.cx }
+        ensures kept { KeepsFinished cache.old.nodes cache.new.nodes }
+    {
+        let root_depth = self.root_depth;
+        let outcome = evaluate::<D>(
+            &mut self.goals,
+            &mut self.limits_met,
+            cache,
+            root_depth,
+            step_kind_from_parent,
+            input,
+            inspect,
+        );
+        cache.has_runs();
+        if outcome.is_err() {
+            self.goals.clear();
+        }
+        outcome
+    }
+}

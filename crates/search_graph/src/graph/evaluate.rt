@@ -1,0 +1,86 @@
+//! The evaluation of a goal: one loop over the goals under evaluation.
+ghost use Rattle.std.specs.Prelude.{◌≡◌, ◌<◌, ◌^◌, ◌∷◌, ℕ, [], length, IfOk, IfErr, OnOk, Some};
+ghost use Rattle.search_parts.specs.Cache.{KeepsFinished};
+ghost use Rattle.search_graph.specs.Evaluating.{Call, Outset, IsWaiting, Leads, HasEnded, HasStopped, work_left};
+ghost use Rattle.search_graph.specs.Justified.{AreJustified, IsFit, HasGraph};
+ghost use Rattle.search_graph.specs.Runs.{runs_of, IsJustifiedNext};
+
+use crate::graph::finish::finish_goal;
+use crate::graph::open_goals::{Next, OpenGoals, Received, step};
+use crate::graph::question::{ask, push_goal};
+use search_parts::context::{Answer, Cx, Delegate, Fault, Reply, Request};
+use search_parts::global_cache::GlobalCache;
+use search_parts::parts::AvailableDepth;
+use search_parts::path::PathKind;
+
+/// Evaluates a goal, with the goals that it asks, to its answer.
+pub(crate) fn evaluate<D: Delegate>(
+    goals: &mut OpenGoals<D::Cx, D::Frame>,
+    limits_met: &mut bool,
+    cache: &mut GlobalCache<D>,
+    root_depth: AvailableDepth,
+    step_kind: PathKind,
+    input: <D::Cx as Cx>::Input,
+    inspect: &mut D::ProofTreeBuilder,
+) -> Result<
+    Answer<<D::Cx as Cx>::Result>,
+    Fault<<D::Cx as Cx>::Input, <D::Cx as Cx>::Result>,
+>
+    requires { goals.old ≡ [] }
+    ensures empty { OnOk result (goals.new ≡ []) }
+    ensures ended { (call : Call D.Cx.Input) → Outset call input root_depth.0 (D.starts inspect.old) limits_met.old →
+        IfOk result (λ answer. HasEnded D.Delegate D.Cx.Cx cache.old.cx call answer.result (D.starts inspect.new) limits_met.new) }
+    ensures stopped { (call : Call D.Cx.Input) → Outset call input root_depth.0 (D.starts inspect.old) limits_met.old →
+        IfErr result (λ fault. HasStopped D.Delegate D.Cx.Cx cache.old.cx call fault (D.starts inspect.new) limits_met.new) }
+    ensures has_graph { IfOk result (λ answer. HasGraph D.Cx.is_yes D.Cx.is_no cache.new.nodes input answer.result answer.node) }
+    ensures same_context { cache.new.cx ≡ cache.old.cx }
+    ensures kept { KeepsFinished cache.old.nodes cache.new.nodes }
+{
+    push_goal::<D>(goals, cache, step_kind, input, root_depth, inspect)?;
+    let mut received = Received::without_node(Reply::Begin);
+    loop {
+        match advance::<D>(goals, limits_met, cache, root_depth, received, inspect)? {
+            Next::Step(next) => received = next,
+            Next::Finished(answer) => return Ok(answer),
+        }
+    }
+}
+
+/// Gives the newest frame its reply, and does what it requests.
+fn advance<D: Delegate>(
+    goals: &mut OpenGoals<D::Cx, D::Frame>,
+    limits_met: &mut bool,
+    cache: &mut GlobalCache<D>,
+    root_depth: AvailableDepth,
+    received: Received<<D::Cx as Cx>::Result>,
+    inspect: &mut D::ProofTreeBuilder,
+) -> Result<
+    Next<<D::Cx as Cx>::Result>,
+    Fault<<D::Cx as Cx>::Input, <D::Cx as Cx>::Result>,
+>
+    requires waiting { (call : Call D.Cx.Input) × IsWaiting D.Delegate D.Cx.Cx cache.old.cx call received.reply goals.old (D.starts inspect.old) limits_met.old }
+    requires justified { AreJustified D.Cx.is_yes D.Cx.is_no cache.old.nodes (runs_of goals.old) }
+    requires fits { IsFit D.Cx.is_yes D.Cx.is_no cache.old.nodes (runs_of goals.old) received.reply received.node }
+    ensures leads { (call : Call D.Cx.Input) → IsWaiting D.Delegate D.Cx.Cx cache.old.cx call received.reply goals.old (D.starts inspect.old) limits_met.old →
+        IfOk result (λ next. Leads D.Delegate D.Cx.Cx cache.old.cx call (work_left D.Delegate D.Cx.Cx cache.old.cx goals.old) goals.old next goals.new (D.starts inspect.new) limits_met.new) }
+    ensures stopped { (call : Call D.Cx.Input) → IsWaiting D.Delegate D.Cx.Cx cache.old.cx call received.reply goals.old (D.starts inspect.old) limits_met.old →
+        IfErr result (λ fault. HasStopped D.Delegate D.Cx.Cx cache.old.cx call fault (D.starts inspect.new) limits_met.new) }
+    ensures justified { IfOk result (λ next. IsJustifiedNext D.Cx.is_yes D.Cx.is_no cache.new.nodes goals.old goals.new next) }
+    ensures same_context { cache.new.cx ≡ cache.old.cx }
+    ensures kept { KeepsFinished cache.old.nodes cache.new.nodes }
+{
+    let cx = cache.cx();
+    match step::<D>(goals, cx, received, inspect)? {
+        Request::Evaluate(kind, input) => {
+            let next = ask::<D>(goals, limits_met, cache, root_depth, kind, input, inspect)?;
+            Ok(Next::Step(next))
+        }
+        Request::EnterCandidate => Ok(Next::Step(Received::without_node(Reply::Noted))),
+        Request::FinishCandidate => Ok(Next::Step(Received::without_node(Reply::Noted))),
+        Request::Ignore(_) => Ok(Next::Step(Received::without_node(Reply::Noted))),
+        Request::Done(outcome) => {
+            let next = finish_goal::<D>(goals, cache, outcome)?;
+            Ok(next)
+        }
+    }
+}

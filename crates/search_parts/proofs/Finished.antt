@@ -1,0 +1,37 @@
+-- Nodes whose runs have ended stay as they are.
+use Rattle.std.proofs.Common.{◌≡◌, ℕ, Bool, List, Option, None, Some, slice_get, refl, sym, ap, ◌∙◌, subst}
+use native.Mathlib.Decide.{ℕ_discrete}
+use Rattle.std.specs.Option.{IsSomeAnd}
+use Rattle.search_parts.specs.Cache.{EndedRun, CacheNode, open_goal, finished_node, with_run, KeepsNodes, KeepsFinished}
+use Rattle.search_parts.proofs.Nodes.{before, others_are}
+
+-- the list stays, or stays twice
+pub KeepsFinished-same : {I R : Type 0} (nodes more : List (CacheNode I R)) → more ≡ nodes → KeepsFinished nodes more
+KeepsFinished-same nodes more same at n h = ap (λ l. finished_node l at) same ∙ h
+
+pub KeepsFinished-then : {I R : Type 0} (nodes more most : List (CacheNode I R)) → KeepsFinished nodes more → KeepsFinished more most → KeepsFinished nodes most
+KeepsFinished-then nodes more most first second at n h = second at n (first at n h)
+
+there_still : {I R : Type 0} (o p : Option (CacheNode I R)) (n : CacheNode I R) → ((m : CacheNode I R) → o ≡ Some m → p ≡ Some m) → elim o [ None ↦ None | Some m ↦ elim m.run [ None ↦ None | Some run ↦ Some m ] ] ≡ Some n → elim p [ None ↦ None | Some m ↦ elim m.run [ None ↦ None | Some run ↦ Some m ] ] ≡ Some n
+there_still None p n kept h = absurd cc
+there_still (Some m) p n kept h = ap (λ x. elim x [ None ↦ None | Some k ↦ elim k.run [ None ↦ None | Some run ↦ Some k ] ]) (kept m refl) ∙ h
+
+-- each node stays
+pub KeepsFinished-nodes : {I R : Type 0} (nodes more : List (CacheNode I R)) → KeepsNodes nodes more → KeepsFinished nodes more
+KeepsFinished-nodes nodes more kept at n h = there_still (slice_get nodes at) (slice_get more at) n (kept at) h
+
+open_is_not_finished : {I R : Type 0} (n m : CacheNode I R) (run : Option (EndedRun I R)) → run ≡ None → elim run [ None ↦ None | Some r ↦ Some n ] ≡ Some m → ⊥
+open_is_not_finished n m None e h = cc
+open_is_not_finished n m (Some r) e h = cc
+
+-- the run of an open node ends
+pub KeepsFinished-ended : {I R : Type 0} (nodes : List (CacheNode I R)) (k : ℕ) (run : EndedRun I R) (P : I → Type 0) → IsSomeAnd (open_goal nodes k) P → KeepsFinished nodes (with_run nodes k run)
+KeepsFinished-ended nodes k run P is_open at n h =
+    elim (ℕ_discrete at k) [
+      | yes e ↦
+          let w = before nodes k run P is_open in
+          let there : slice_get nodes at ≡ Some w.0 = ap (slice_get nodes) e ∙ w.1 in
+          let shown : elim w.0.run [ None ↦ None | Some r ↦ Some w.0 ] ≡ Some n = sym (ap (λ x. elim x [ None ↦ None | Some m ↦ elim m.run [ None ↦ None | Some r ↦ Some m ] ]) there) ∙ h in
+          absurd (open_is_not_finished w.0 n w.0.run w.2 shown)
+      | no d ↦ ap (λ x. elim x [ None ↦ None | Some m ↦ elim m.run [ None ↦ None | Some r ↦ Some m ] ]) (others_are nodes k run P is_open at d) ∙ h
+    ]

@@ -1,0 +1,203 @@
+//! The goals under evaluation, from the first one up.
+ghost use Rattle.std.specs.Prelude.{◌≡◌, ℕ, ◌+◌, ◌-◌, ◌<◌, List, [], ◌∷◌, ◌++◌, length, IfOk, OnErr, IfSome, is_some, IsTrue, ◌↔◌, None, false, slice_index_or, map};
+ghost use Rattle.std.specs.List.{position};
+ghost use Rattle.std.specs.Option.{option_map};
+ghost use Rattle.std.specs.Slice.Iter.{iter_rest};
+ghost use Rattle.search_parts.specs.Path.{greatest_kind, greater_kind};
+
+use crate::context::{Cx, NoMemory};
+use crate::parts::depth::{AvailableDepth, StackDepth};
+use crate::path::PathKind;
+use std::alloc::Global;
+use std::collections::HashMap;
+use std::marker::Model;
+use std::ops::Index;
+
+/// What changes of an entry while its goal is evaluated. Ports the fields of `StackEntry` that the search
+/// writes.
+#[derive(Drop)]
+pub struct EntryState {
+    /// How many goals are nested below this one so far.
+    pub required_depth: usize,
+    /// Whether a question was refused below this goal in this run.
+    pub encountered_overflow: bool,
+}
+
+/// A goal under evaluation. Ports `StackEntry`.
+#[derive(Drop)]
+pub struct StackEntry<X: Cx> {
+    input: X::Input,
+    step_kind_from_parent: PathKind,
+    available_depth: AvailableDepth,
+    pub state: EntryState,
+}
+
+impl<X: Cx> StackEntry<X> {
+    ghost use Rattle.search_parts.specs.Stack.{fresh_entry};
+
+    /// A goal of which nothing is known yet.
+    pub fn new(
+        input: X::Input,
+        step_kind_from_parent: PathKind,
+        available_depth: AvailableDepth,
+    ) -> StackEntry<X>
+        ensures { result ≡ fresh_entry input step_kind_from_parent available_depth }
+    {
+        StackEntry {
+            input,
+            step_kind_from_parent,
+            available_depth,
+            state: EntryState {
+                required_depth: 0,
+                encountered_overflow: false,
+            },
+        }
+    }
+
+    /// The goal.
+    pub fn input(&self) -> X::Input
+        ensures { result ≡ self.now.input }
+    {
+        self.input
+    }
+
+    /// The kind of the step by which the goal was asked.
+    pub fn step_kind_from_parent(&self) -> PathKind
+        ensures { result ≡ self.now.step_kind_from_parent }
+    {
+        self.step_kind_from_parent
+    }
+
+    /// How many goals may be nested below this one.
+    pub fn available_depth(&self) -> AvailableDepth
+        ensures { result ≡ self.now.available_depth }
+    {
+        self.available_depth
+    }
+}
+
+/// The goals under evaluation: a list of entries with distinct inputs, each of which is found by its
+/// input. Ports `Stack`.
+#[derive(Drop)]
+pub struct Stack<X: Cx> {
+    entries: Vec<StackEntry<X>>,
+    depths: HashMap<X::Input, usize>,
+}
+
+impl<X: Cx> Model for Stack<X> {
+    ghost use Rattle.std.specs.Prelude.{List, map};
+    ghost use Rattle.std.specs.HashMap as hash;
+    ghost use Rattle.search_parts.specs.declared.parts.stack.StackEntry.{StackEntry};
+    ghost use Rattle.search_parts.specs.StackIndex.{IsIndex};
+
+    ghost Value = { List (StackEntry X X.Input X.Result X.AmbiguityInfo X.DepNodeIndex) };
+
+    ghost view = { λ s. s.entries.items };
+
+    ghost invariant = { λ s. IsIndex X.Input.eq (hash.get X.Input.eq s.depths) (map (λ e. e.input) s.entries.items) };
+}
+
+impl<X: Cx> Stack<X> {
+    /// No goals.
+    pub fn new(alloc: Global) -> Stack<X>
+        ensures { result ≡ [] }
+    {
+        Stack {
+            entries: Vec::new(alloc),
+            depths: HashMap::new(alloc),
+        }
+    }
+
+    /// How many goals are under evaluation.
+    pub fn len(&self) -> usize
+        ensures { result ≡ length self.now }
+    {
+        self.entries.len()
+    }
+
+    /// Whether no goal is under evaluation.
+    pub fn is_empty(&self) -> bool
+        ensures { IsTrue result ↔ (self.now ≡ []) }
+    {
+        self.entries.is_empty()
+    }
+
+    /// The place that the next goal gets.
+    pub fn next_index(&self) -> StackDepth
+        ensures { result.0 ≡ length self.now }
+    {
+        StackDepth::new(self.entries.len())
+    }
+
+    /// The place of the entry with that input.
+    pub fn find(&self, input: X::Input) -> Option<StackDepth>
+        ensures found { option_map (λ d. d.0) result ≡ position (X.Input.eq input) (map (λ e. e.input) self.now) }
+        ensures present { is_some result ≡ is_some (position (X.Input.eq input) (map (λ e. e.input) self.now)) }
+        ensures on_stack { IfSome result (λ d. d.0 < length self.now) }
+    {
+        match self.depths.get(&input) {
+            Some(depth) => Some(StackDepth::new(*depth)),
+            None => None,
+        }
+    }
+
+    /// The last entry.
+    pub fn last(&self) -> &StackEntry<X>
+        requires { 0 < length self.now }
+        ensures { result.now ≡ slice_index_or self.now (length self.now - 1) result.now }
+    {
+        &self.entries[self.entries.len() - 1]
+    }
+
+    /// Appends an entry whose input isn't on the stack. A refusal leaves the stack as it was.
+    pub fn push(&mut self, entry: StackEntry<X>) -> Result<StackDepth, NoMemory>
+        requires { position (X.Input.eq entry.input) (map (λ e. e.input) self.old) ≡ None }
+        ensures ok { IfOk result (λ d. (d.0 ≡ length self.old) × (self.new ≡ self.old ++ entry ∷ [])) }
+        ensures err { OnErr result (self.new ≡ self.old) }
+    {
+        self.entries.reserve(1)?;
+        let depth = self.entries.len();
+        self.depths.insert(entry.input, depth)?;
+        self.entries.push_reserved(entry);
+        Ok(StackDepth::new(depth))
+    }
+
+    /// Takes the last entry. Takes no memory.
+    pub fn pop(&mut self) -> StackEntry<X>
+        requires { 0 < length self.old }
+        ensures { self.old ≡ self.new ++ result ∷ [] }
+    {
+        let entry = self.entries.pop().unwrap();
+        let _ = self.depths.remove(&entry.input);
+        entry
+    }
+}
+
+impl<X: Cx> Stack<X> {
+    ghost use Rattle.std.specs.Prelude.{◌≡◌, ◌<◌, ◌-◌, length, slice_index_or};
+    ghost use Rattle.std.specs.Borrow.{sem};
+    ghost use Rattle.search_parts.specs.Lent.{LendsLastState};
+
+    /// What may change of the last entry. Its input is not lent, so that it is found as before.
+    pub fn last_mut(&mut self) -> &mut EntryState
+        requires { 0 < length self.old }
+        ensures* writes_back { sem 𝓛 (LendsLastState X.row X.Input.row X.Result.row X.AmbiguityInfo.row X.DepNodeIndex.row X.Cx X.Input.Debug X.Input.PartialEq X.Input.Hash.own X.Result.Debug X.Result.PartialEq X.Result.Hash.own X.AmbiguityInfo.Debug X.AmbiguityInfo.PartialEq X.AmbiguityInfo.Hash.own self.entry result) }
+        ensures value { (d : _) → result.now ≡ (slice_index_or self.old (length self.old - 1) d).state }
+    {
+        let last = self.entries.len() - 1;
+        let entry = &mut self.entries[last];
+        &mut entry.state
+    }
+}
+
+impl<X: Cx> Index<StackDepth> for Stack<X> {
+    type Output = StackEntry<X>;
+
+    ghost can_index = { λ s d. d.0 < length s };
+
+    ghost index_gives = { λ s d e. e ≡ slice_index_or s d.0 e };
+
+    fn index(&self, depth: StackDepth) -> &StackEntry<X> {
+        &self.entries[depth.index()]
+    }
+}
