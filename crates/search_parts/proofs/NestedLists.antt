@@ -82,10 +82,13 @@ pub IsJoining-start : {I : Type 0} {same : I → I → Bool} (step : PathKind) (
     → length all ≤ room → IsDistinct same (keys_of all) → IsJoining same step start start all all room
 IsJoining-start step start all room fits distinct = record { agrees = λ input. refl; fits = fits; distinct = distinct }
 
-pub IsJoining-end : {I : Type 0} {same : I → I → Bool} (step : PathKind) (start goals all rest : NestedPaths I) (room : ℕ)
+pub IsJoining-end : {I : Type 0} {same : I → I → Bool} (step : PathKind) (old start goals child all rest : NestedPaths I) (room : ℕ)
     → rest ≡ [] → IsJoining same step start goals all rest room → (input : I)
-    → paths_at same goals input ≡ joined_paths (paths_at same start input) (option_map (λ paths. extended paths step) (paths_at same all input))
-IsJoining-end {same = same} step start goals all rest room none so_far input =
+    → paths_at same start input ≡ paths_at same old input → all ≡ child
+    → paths_at same goals input ≡ joined_paths (paths_at same old input) (option_map (λ paths. extended paths step) (paths_at same child input))
+IsJoining-end {same = same} step old start goals child all rest room none so_far input kept whole =
+    let after : Option PathsToNested → Option PathsToNested = option_map (λ paths. extended paths step) in
     sym (joined-None (paths_at same goals input))
-    ∙ ap (λ l. joined_paths (paths_at same goals input) (option_map (λ paths. extended paths step) (paths_at same l input))) (sym none)
+    ∙ ap (λ l. joined_paths (paths_at same goals input) (after (paths_at same l input))) (sym none)
     ∙ so_far.agrees input
+    ∙ (λ i. joined_paths (kept i) (after (paths_at same (whole i) input)))
