@@ -1,5 +1,5 @@
 -- Nodes whose runs have ended stay as they are.
-use Rattle.std.proofs.Common.{◌≡◌, ℕ, List, Option, None, Some, slice_get, refl, sym, ap, ◌∙◌}
+use Rattle.std.proofs.Common.{◌≡◌, ℕ, Bool, List, Option, None, Some, slice_get, refl, sym, ap, ◌∙◌, subst}
 use native.Mathlib.Decide.{ℕ_discrete}
 use Rattle.std.specs.Option.{IsSomeAnd}
 use Rattle.search_parts.specs.Cache.{EndedRun, CacheNode, open_goal, finished_node, with_run, KeepsNodes, KeepsFinished}
