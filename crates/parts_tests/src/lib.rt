@@ -1,7 +1,10 @@
-//! A delegate whose goals ask themselves, and the tests of the cache with it. A goal that asks itself
-//! has a node with an edge to itself, which is why a node is opened before its run begins.
+//! A delegate whose goals ask themselves, and tests with it: of the cache, and of the goals below a
+//! goal. A goal that asks itself has a node with an edge to itself, which is why a node is opened before
+//! its run begins.
 #![tactic(auto)]
 
 pub mod loops;
+#[cfg(test)]
+mod nested_goals;
 #[cfg(test)]
 mod tests;

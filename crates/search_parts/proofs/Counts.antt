@@ -1,5 +1,5 @@
 -- Usages are told by their four counts.
-use Rattle.std.proofs.Common.{◌≡◌, ◌≢◌, ◌↔◌, ℕ, ◌&&◌, ◌==◌, Bool, IsTrue, if◌then◌else◌, refl, sym, ◌∙◌, ap, inl, inr, arith, ne_eqb}
+use Rattle.std.proofs.Common.{◌≡◌, ◌≢◌, ◌≤◌, ◌↔◌, ℕ, ◌&&◌, ◌==◌, Bool, IsTrue, if◌then◌else◌, refl, sym, ◌∙◌, ap, inl, inr, arith, ne_eqb}
 use Rattle.std.proofs.lemmas.Grind.{common_steps}
 use Rattle.std.proofs.lemmas.Bool.Decides.{eqb_tells}
 use Rattle.search_parts.specs.declared.path.PathKind.{PathKind}
@@ -67,3 +67,12 @@ none_of_others usages kind =
         | inr apart ↦ rw apart.0 (h k (λ e. apart.1 (ap rank_of e)))
       ],
     )
+
+-- each count is at most the other, kind by kind
+pub counts_within : (some more : HeadUsages) → some.inductive ≤ more.inductive → some.unknown ≤ more.unknown
+    → some.coinductive ≤ more.coinductive → some.forced_ambiguity ≤ more.forced_ambiguity
+    → (kind : PathKind) → count_of some kind ≤ count_of more kind
+counts_within some more i u c f Inductive = i
+counts_within some more i u c f Unknown = u
+counts_within some more i u c f Coinductive = c
+counts_within some more i u c f ForcedAmbiguity = f

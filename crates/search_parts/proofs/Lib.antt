@@ -15,4 +15,7 @@ pub mod StackReads
 pub mod PathSets
 pub mod PathLaws
 pub mod Counts
+pub mod HeadLists
+pub mod MergedUsages
+pub mod NestedLists
 pub mod Finished

@@ -1,10 +1,16 @@
 //! The parts of a search: the goals under evaluation, how deep they may go, and what is kept of cycles
 //! through them.
 
+pub mod candidates;
 pub mod depth;
+pub mod heads;
+pub mod nested_goals;
 pub mod stack;
 pub mod usages;
 
+pub use candidates::CandidateHeadUsages;
 pub use depth::{AvailableDepth, StackDepth};
+pub use heads::{CycleHead, CycleHeads};
+pub use nested_goals::NestedGoals;
 pub use stack::{EntryState, Stack, StackEntry};
 pub use usages::HeadUsages;

@@ -1,0 +1,45 @@
+//! Tests of the goals below a goal.
+use crate::loops::Loops;
+use bitflags::Flags;
+use search_parts::parts::NestedGoals;
+use search_parts::path::{PathKind, PathsToNested};
+use std::test::Fail;
+
+#[test]
+fn paths_to_a_goal_are_joined(rt: HostRuntime) -> Result<(), Fail> {
+    let goal = PathKind::Unknown;
+    let other = PathKind::Inductive;
+    let mut goals = NestedGoals::<Loops>::new(rt.alloc());
+    assert!(rt; goals.is_empty());
+    goals.insert(goal, PathsToNested::EMPTY)?;
+    goals.insert(goal, PathsToNested::UNKNOWN)?;
+    let joined = PathsToNested::EMPTY.union(PathsToNested::UNKNOWN);
+    assert_eq!(rt; goals.get(goal), Some(joined));
+    assert!(rt; goals.contains(goal));
+    assert_eq!(rt; goals.get(other), None);
+    assert!(rt; !goals.contains(other));
+    assert_eq!(rt; goals.iter().count(), 1);
+    assert!(rt; !goals.is_empty());
+    Ok(())
+}
+
+#[test]
+fn a_child_adds_its_goals_after_the_step(rt: HostRuntime) -> Result<(), Fail> {
+    let [both, childs, own] = [
+        PathKind::Inductive,
+        PathKind::Unknown,
+        PathKind::Coinductive,
+    ];
+    let mut child = NestedGoals::<Loops>::new(rt.alloc());
+    child.insert(both, PathsToNested::EMPTY)?;
+    child.insert(childs, PathsToNested::COINDUCTIVE)?;
+    let mut goals = NestedGoals::<Loops>::new(rt.alloc());
+    goals.insert(both, PathsToNested::INDUCTIVE)?;
+    goals.insert(own, PathsToNested::INDUCTIVE)?;
+    goals.extend_from_child(PathKind::Unknown, &child)?;
+    let joined = PathsToNested::INDUCTIVE.union(PathsToNested::UNKNOWN);
+    assert_eq!(rt; goals.get(both), Some(joined));
+    assert_eq!(rt; goals.get(childs), Some(PathsToNested::COINDUCTIVE));
+    assert_eq!(rt; goals.get(own), Some(PathsToNested::INDUCTIVE));
+    Ok(())
+}
