@@ -6,8 +6,7 @@ ghost use Rattle.search_parts.specs.declared.context.Fault.TheVariants.{Memory};
 ghost use Rattle.search_parts.specs.Cache.{KeepsFinished};
 ghost use Rattle.evaluations.specs.Plain.{IsPlainTo};
 ghost use Rattle.evaluations.specs.Price.{IsPaid};
-ghost use Rattle.search_graph.specs.Evaluating.{IsCaused};
-ghost use Rattle.search_graph.specs.Graph.{IsProved, IsRefuted};
+ghost use Rattle.search_graph.specs.Graph.{IsCaused, IsProved, IsRefuted};
 
 mod evaluate;
 mod finish;
@@ -106,7 +105,7 @@ impl<D: Delegate> SearchGraph<D> {
             self.new.limits_met ≡ self.old.limits_met }
 
         // A fault is want of memory, or some goal's script makes a request out of order.
-        ensures faults { IfErr result (IsCaused D.Delegate D.Cx.Cx cache.old.cx) }
+        ensures faults { IfErr result (IsCaused (D.script cache.old.cx)) }
 
         // The frames that are started are within a bound, and a limit has its price in frames.
         ensures frames { D.starts inspect.new ≤ D.starts inspect.old + frames_within (max 1 D.FIXPOINT_STEP_LIMIT) (D.width cache.old.cx) self.old.root_depth }
