@@ -36,7 +36,7 @@ pub struct Table<T> {
 
 impl<T: LendsRules> Cx for Table<T> {
     ghost use Rattle.goals.specs.Outcome.{outcome_is_yes, outcome_is_no};
-    ghost use Rattle.goals.specs.Rules.{Proves, Refutes};
+    ghost use Rattle.goals.specs.Rules.{Proves, Refutes, number_of};
     ghost use Rattle.goals.specs.Laws.Meanings as meanings;
     ghost use Rattle.goals.specs.Laws.Sorts as sorts;
 
@@ -68,7 +68,9 @@ impl<T: LendsRules> Cx for Table<T> {
 
     ghost same_result = { Prim.search rules };
 
-    fn dep_node(self, input: Goal) -> usize {
+    fn dep_node(self, input: Goal) -> usize
+        ensures { result ≡ number_of input }
+    {
         input.number()
     }
 
