@@ -13,7 +13,8 @@
 //! - A list of frames *has room* if each goal's rank fits its depth. It *stays within* a bound if the frames
 //!   that were started and those that may still be are no more.
 //! - A limit is met where a question is asked at depth 0 or a goal has had all its runs. It is *paid* if as
-//!   many frames were counted as the shorter of the two ways there takes.
+//!   many frames were counted as the cheaper of these takes: one for each depth from the root's to 0, or one
+//!   for each run.
 //!
 //! | File of `specs/` | Has |
 //! |---|---|

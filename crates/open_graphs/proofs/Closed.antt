@@ -1,10 +1,10 @@
 -- A value without heads is a graph.
 use Rattle.std.proofs.Common.{ℕ, List, [], sym, subst, inl, inr}
-use Rattle.open_graphs.specs.Graph.{Verdict, Node, HasEdge, Walk, stay, go, IsGraph}
+use Rattle.open_graphs.specs.Graph.{Verdict, Node, HasEdge, Walk, stay, IsGraph}
 use Rattle.open_graphs.specs.Stack.{Entry, IsLeaf}
 use Rattle.open_graphs.specs.Use.{Step, Heads, Use, UsesNo}
 use Rattle.open_graphs.specs.UseLaws.{ClosedIsGraph, GraphIsUse}
-use Rattle.open_graphs.specs.GraphLaws.{GrowthKeepsGraph, CopyIsGraph}
+use Rattle.open_graphs.specs.GraphLaws.{GrowthKeepsGraph}
 use Rattle.open_graphs.proofs.Verdicts.{edges_of, is_finished}
 use Rattle.open_graphs.proofs.Walks.{carried_on, carried, then_step}
 use Rattle.open_graphs.proofs.Paths.{covered_walk}
@@ -53,16 +53,4 @@ graph_is_use nodes verdict from_head front a heads g = record {
     closed = λ b q k c r w e x. g.closed b q k c r (edges_only nodes verdict [] w) e.edge (edges_only nodes verdict [] x);
   };
   covered = λ depth entry q on at w. absurd (cc);
-}
-
-pub renumbered : (copy step : ℕ → ℕ → ℕ → Type 0) (original : ℕ → ℕ) → ((a k b : ℕ) → copy a k b → step (original a) k (original b)) → {a q b : ℕ} → Walk copy a q b → Walk step (original a) q (original b)
-renumbered copy step original edge stay = stay
-renumbered copy step original edge (go {a = a} {k = k} {b = b} s w) = go (edge a k b s) (renumbered copy step original edge w)
-
-pub copy_is_graph : CopyIsGraph
-copy_is_graph nodes copy verdict original root edge finished g = record {
-  finished = λ b q w. finished b q w;
-  closed = λ b q k c r w e x.
-      let over = λ (a q b : ℕ) (w : Walk (HasEdge copy verdict) a q b). renumbered (HasEdge copy verdict) (HasEdge nodes verdict) original edge w in
-      g.closed (original b) q k (original c) r (over root q b w) (edge b k c e) (over c r b x);
 }

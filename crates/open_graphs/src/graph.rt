@@ -1,6 +1,5 @@
 //! The list of nodes and the graphs in it.
-ghost use Rattle.open_graphs.specs.Clash.{NeverBoth};
-ghost use Rattle.open_graphs.specs.GraphLaws.{AppendGrows, FinishGrows, GrowthKeepsGraph, CopyIsGraph};
+ghost use Rattle.open_graphs.specs.GraphLaws.{AppendGrows, FinishGrows, GrowthKeepsGraph};
 
 /// The list grows when an unfinished node is appended, and when one is finished.
 pub fn list_grows()
@@ -8,13 +7,7 @@ pub fn list_grows()
     ensures finished { FinishGrows }
 {}
 
-/// A graph stays one while the list grows, and a copy of it with other numbers is one.
+/// A graph stays one while the list grows.
 pub fn graph_stays()
-    ensures growth { GrowthKeepsGraph }
-    ensures copy { CopyIsGraph }
-{}
-
-/// No goal has a graph of both verdicts.
-pub fn never_both<G>()
-    ensures { NeverBoth G }
+    ensures { GrowthKeepsGraph }
 {}

@@ -22,7 +22,7 @@
 //!
 //! | File of `specs/` | Has |
 //! |---|---|
-//! | `Graph`, `GraphLaws`, `Clash` | nodes, edges, walks and paths, the growing list, graphs; no goal has two |
+//! | `Graph`, `GraphLaws` | nodes, edges, walks and paths, the growing list, graphs |
 //! | `Stack` | entries, leaves, path kinds from an entry, and the verdict that its cycles get |
 //! | `Use`, `UseLaws` | heads; answers that may be used, how they come about and what they outlast |
 //! | `Use`, `TakeOver`, `StoredLaws` | answers that are stored, and what they outlast |

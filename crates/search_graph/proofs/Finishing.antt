@@ -26,7 +26,8 @@ use Rattle.search_graph.specs.declared.graph.progress.DefiniteAnswer.{DefiniteAn
 use Rattle.search_graph.specs.Newest.{change_newest}
 use Rattle.search_graph.specs.Entries.{overflowed, with_answer}
 use Rattle.search_graph.specs.Progress.{RunRecord, no_record, edges_of, Records}
-use Rattle.search_graph.specs.Justified.{OpenRun, in_theory, ArePlaced, AreEdges, Asks, AreJustified, MayAnswer, IsFit, HasGraph}
+use Rattle.search_parts.specs.Definite.{HasGraph}
+use Rattle.search_graph.specs.Justified.{OpenRun, in_theory, ArePlaced, AreEdges, Asks, AreJustified, MayAnswer, IsFit}
 use Rattle.search_graph.specs.Runs.{run_of, runs_of, IsJustifiedNext, IsDone, EndsNewest, EndsRun, IsSettled, Ended, LeftOpen}
 use Rattle.search_graph.specs.Evaluating.{Leaves}
 use Rattle.search_graph.proofs.Justified.{pushed_is_justified, undone_is_justified, done_is_justified, done_may_answer, answer_fits, other_fits, answer_has_graph, neither_has_none}

@@ -26,7 +26,8 @@ use Rattle.search_parts.specs.Cache.{EndedRun, CacheNode, open_node, open_goal, 
 use Rattle.search_parts.specs.Shapes.{verdict_of, edge_shape, shape_of, shapes_of}
 use Rattle.search_parts.proofs.Nodes.{KeepsNodes-appended, KeepsGoals-appended, before, with_run-is, KeepsGoals-ended}
 use Rattle.search_graph.specs.declared.graph.progress.DefiniteAnswer.{DefiniteAnswer}
-use Rattle.search_graph.specs.Justified.{OpenRun, in_theory, edges_with, frame_of, AreOpen, ArePlaced, AllPlaced, AreEdges, Asks, AreAsked, AreJustified, MayAnswer, IsFit, HasGraph}
+use Rattle.search_parts.specs.Definite.{HasGraph}
+use Rattle.search_graph.specs.Justified.{OpenRun, in_theory, edges_with, frame_of, AreOpen, ArePlaced, AllPlaced, AreEdges, Asks, AreAsked, AreJustified, MayAnswer, IsFit}
 
 -- ---- open nodes
 
@@ -159,10 +160,13 @@ module _ {I R : Type 0} (is_yes is_no : R → Bool) (nodes : List (CacheNode I R
             subst (λ edges. IsSound (shapes_of is_yes is_no nodes) (answering (frame_of o) edges no_heads ∷ map frame_of below) [] []) (λ i v. edges_append o.answers a v i)
             (one_answer_keeps_sound (shapes_of is_yes is_no nodes) (frame_of o) (map frame_of below) [] [] (in_theory a.verdict) (edge_shape a.edge) no_heads (λ depth path cycle recorded. recorded) answers h.sound);
         are_open = h.are_open;
-        placed = (λ i b is. elim (get_cases o.answers a i b is) [
-          | inl old ↦ h.placed.0 i b old
-          | inr new ↦ subst (λ d. IsNodeOf nodes d.edge.target d.edge.input) new.1 may.of_goal
-        ], h.placed.1);
+        placed = (
+          λ i b is. elim (get_cases o.answers a i b is) [
+            | inl old ↦ h.placed.0 i b old
+            | inr new ↦ subst (λ d. IsNodeOf nodes d.edge.target d.edge.input) new.1 may.of_goal
+          ],
+          h.placed.1,
+        );
         asked = h.asked;
       }
 
@@ -208,7 +212,6 @@ module _ {I R : Type 0} (is_yes is_no : R → Bool) (nodes : List (CacheNode I R
       abbrev verdict : theory.Verdict
       verdict = verdict_of is_yes is_no run.outcome
 
-
       -- the list with the run
       abbrev later : List (CacheNode I R)
       later = with_run nodes o.node run
@@ -228,13 +231,14 @@ module _ {I R : Type 0} (is_yes is_no : R → Bool) (nodes : List (CacheNode I R
       popped =
           let v = verdict_of is_yes is_no run.outcome in
           let answers = answers_keep_sound (shapes_of is_yes is_no nodes) (frame_of o) (map frame_of below) [] [] (chosen_edges v run.edges o.answers) no_heads (λ depth path cycle recorded. recorded)
-              (λ u. chosen_at (theory.same_verdict v u) v u run.edges o below refl edges h.sound.running.0.answered) h.sound in
+          (λ u. chosen_at (theory.same_verdict v u) v u run.edges o below refl edges h.sound.running.0.answered) h.sound in
           let pop = pop_keeps_sound (shapes_of is_yes is_no nodes) (answering (frame_of o) (chosen_edges v run.edges o.answers) no_heads) (map frame_of below) [] [] [] [] v
-              (slice_set (shapes_of is_yes is_no nodes) o.node (theory.Finished v (chosen_edges v run.edges o.answers v))) o.node (Anew (λ e. none_is_not_some e)) (λ i k is. absurd (no_answers i k is)) (λ i k is. absurd (no_answers i k is)) answers in
+          (slice_set (shapes_of is_yes is_no nodes) o.node (theory.Finished v (chosen_edges v run.edges o.answers v))) o.node (Anew (λ e. none_is_not_some e)) (λ i k is. absurd (no_answers i k is)) (λ i k is. absurd (no_answers i k is)) answers in
           let same : slice_set (shapes_of is_yes is_no nodes) o.node (theory.Finished v (chosen_edges v run.edges o.answers v)) ≡ shapes_of is_yes is_no (with_run nodes o.node run) =
-              ap (λ b. slice_set (shapes_of is_yes is_no nodes) o.node (theory.Finished v (cond b (map edge_shape run.edges) (edges_with o.answers v)))) (same_verdict-refl v) ∙ sym later_shapes in
-          (subst (λ more. IsSound more (map frame_of below) [] []) same pop.0,
-           subst (λ more. Use more v (stack_of (map frame_of below)) (path_kind (stack_of (map frame_of below)) (rank_of o.step)) 0 o.node no_heads) same (pop.1 definite))
+          ap (λ b. slice_set (shapes_of is_yes is_no nodes) o.node (theory.Finished v (cond b (map edge_shape run.edges) (edges_with o.answers v)))) (same_verdict-refl v) ∙ sym later_shapes in (
+            subst (λ more. IsSound more (map frame_of below) [] []) same pop.0,
+            subst (λ more. Use more v (stack_of (map frame_of below)) (path_kind (stack_of (map frame_of below)) (rank_of o.step)) 0 o.node no_heads) same (pop.1 definite),
+          )
 
       pub done_is_justified : AreJustified is_yes is_no (with_run nodes o.node run) below
       done_is_justified = record {

@@ -1,5 +1,5 @@
 -- The loop over the moves, whatever call it serves.
-use Rattle.std.proofs.Common.{◌≡◌, ℕ, ◌+◌, ◌<◌, ◌≤◌, ◌^◌, Bool, true, List, [], ◌∷◌, length, refl, sym, subst, arith}
+use Rattle.std.proofs.Common.{◌≡◌, ℕ, ◌+◌, ◌<◌, ◌≤◌, ◌^◌, Bool, true, List, [], ◌∷◌, length, Some, refl, sym, ap, subst, arith}
 use Rattle.search_parts.specs.declared.context.Delegate as Delegate
 use Rattle.search_parts.specs.declared.context.Cx as Cx
 use Rattle.search_parts.specs.declared.context.Request.{Request}
@@ -8,13 +8,23 @@ use Rattle.search_parts.specs.declared.context.Reply.TheVariants.{Begin}
 use Rattle.search_parts.specs.declared.path.PathKind.{PathKind}
 use Rattle.search_parts.specs.declared.parts.depth.AvailableDepth.{AvailableDepth}
 use Rattle.search_parts.specs.declared.parts.stack.StackEntry.{StackEntry}
+use Rattle.search_parts.specs.declared.context.Fault.{Fault}
+use Rattle.search_parts.specs.declared.context.Answer.{Answer}
+use Rattle.search_parts.specs.declared.context.Request.TheVariants.{Evaluate, Done}
 use Rattle.search_parts.specs.Delegate.{CountsOne}
+use Rattle.search_parts.specs.Cache.{CacheNode}
 use Rattle.search_parts.specs.declared.context.Fault.TheVariants.{Memory}
 use Rattle.search_graph.specs.declared.graph.open_goals.Run.{Run}
 use Rattle.search_graph.specs.declared.graph.open_goals.Received.{Received}
-use Rattle.search_graph.specs.Progress.{IsReplySorted}
-use Rattle.search_graph.specs.Evaluating.{Call, Outset, HasStepped, IsWaiting, HasAsked, HasStopped, Pushes, work_left}
-use Rattle.search_graph.proofs.Moves.{root_waits, failed_root_stopped, step_asks}
+use Rattle.search_graph.specs.declared.graph.open_goals.Next.{Next}
+use Rattle.search_graph.specs.declared.graph.open_goals.Next.TheVariants.{Step, Finished}
+use Rattle.search_graph.specs.Progress.{requested, IsReplySorted}
+use Rattle.search_parts.specs.Definite.{HasGraph}
+use Rattle.search_graph.specs.Justified.{Asks, AreJustified, IsFit}
+use Rattle.search_graph.specs.Runs.{runs_of, IsJustifiedNext}
+use Rattle.search_graph.specs.Evaluating.{Call, Outset, HasStepped, IsWaiting, HasAsked, HasStopped, IsStepFault, IsOnly, Leads, Leaves, Pushes, received_by, work_left}
+use Rattle.search_graph.proofs.Moves.{root_waits, failed_root_stopped, step_asks, step_stops, leave_leads}
+use Rattle.search_graph.proofs.Replies.{replies_sorted, step_is_justified}
 
 -- the call of a goal at a depth
 abbrev pub call_of : {I : Type 0} (input : I) (root starts : ℕ) (met : Bool) → root < 2 ^ 64 → Call I
@@ -44,3 +54,54 @@ module _ {D C V P F I R A T : Type 0} (G : Delegate.Ghosts D C V P F I R A T) (X
   pub asked_after : (made : Request I R) → made ≡ request → (s : HasStepped G X cx given made old new) → IsReplySorted X.is_yes X.is_no given.reply s.verdict given.node → now ≡ starts → (call : Call I) → IsWaiting G X cx call given.reply old starts met → HasAsked G X cx call (work_left G X cx old) request new now met
   asked_after made is s sorted same call h =
       rw same (subst (λ r. HasAsked G X cx call (work_left G X cx old) r new starts met) is (step_asks G X cx call given made old new starts met s sorted h))
+
+  -- the same, where the context was read and the reply fits
+  pub advance_asks : (read : C) → read ≡ cx → (made : Request I R) → made ≡ request → HasStepped G X read given made old new → now ≡ starts → (nodes : List (CacheNode I R)) → IsFit X.is_yes X.is_no nodes (runs_of old) given.reply given.node → (call : Call I) → IsWaiting G X cx call given.reply old starts met → HasAsked G X cx call (work_left G X cx old) request new now met
+  advance_asks read is_cx made is s same nodes fit call h =
+      let here : HasStepped G X cx given made old new = subst (λ x. HasStepped G X x given made old new) is_cx s in
+      asked_after made is here (replies_sorted G X cx nodes call given old starts met h fit here.verdict here.is_verdict) same call h
+
+module _ {D C V P F I R A T : Type 0} (G : Delegate.Ghosts D C V P F I R A T) (X : Cx.Ghosts C I R A T) (cx : C) (given : Received R) (old new : List (StackEntry C I R A T × Run C F I R A T)) where
+  -- a step that failed
+  pub advance_stops : (read : C) → read ≡ cx → (fault : Fault I R) → IsStepFault G X read given old fault → (starts now : ℕ) (met : Bool) → now ≡ starts → (nodes : List (CacheNode I R)) → IsFit X.is_yes X.is_no nodes (runs_of old) given.reply given.node → (call : Call I) → IsWaiting G X cx call given.reply old starts met → HasStopped G X cx call fault now met
+  advance_stops read is_cx fault failed starts now met same nodes fit call h =
+      rw same (step_stops G X cx call given old fault starts met (replies_sorted G X cx nodes call given old starts met h fit) (subst (λ x. IsStepFault G X x given old fault) is_cx failed) h)
+
+  pub advance_justified : (read : C) (request : Request I R) → HasStepped G X read given request old new → (nodes : List (CacheNode I R)) → IsFit X.is_yes X.is_no nodes (runs_of old) given.reply given.node → AreJustified X.is_yes X.is_no nodes (runs_of old) → AreJustified X.is_yes X.is_no nodes (runs_of new)
+  advance_justified read request s nodes fit h = step_is_justified G X read nodes given request old new s fit h
+
+  -- the step keeps the newest goal
+  only_at : (entry : StackEntry C I R A T) (run again : Run C F I R A T) (below : List (StackEntry C I R A T × Run C F I R A T)) (goal : I) → IsOnly G X cx ((entry, again) ∷ below) goal → IsOnly G X cx ((entry, run) ∷ below) goal
+  only_at entry run again [] goal h = h
+  only_at entry run again (p ∷ below) goal h = h
+
+  pub only_before : (read : C) (request : Request I R) → HasStepped G X read given request old new → (goal : I) → IsOnly G X cx new goal → IsOnly G X cx old goal
+  only_before read request s goal h =
+      subst (λ (v : List (StackEntry C I R A T × Run C F I R A T)). IsOnly G X cx v goal) (sym s.was)
+      (only_at s.entry s.run (record { frame = s.frame; node = s.run.node; progress = requested (received_by G X read s.run given s.verdict) request }) s.below goal (subst (λ (v : List (StackEntry C I R A T × Run C F I R A T)). IsOnly G X cx v goal) s.is h))
+
+  leads_at : (read : C) (request : Request I R) → HasStepped G X read given request old new → (call : Call I) (ahead : ℕ) (next : Next R) (later : List (StackEntry C I R A T × Run C F I R A T)) (starts : ℕ) (met : Bool) → Leads G X cx call ahead new next later starts met → Leads G X cx call ahead old next later starts met
+  leads_at read request s call ahead (Step given) later starts met h = h
+  leads_at read request s call ahead (Finished answer) later starts met h = (h.0, only_before read request s call.top h.1, h.2)
+
+  -- what follows the end of a run
+  pub done_leads : (read : C) (request : Request I R) → HasStepped G X read given request old new → (r : R) → (call : Call I) (next : Next R) (later : List (StackEntry C I R A T × Run C F I R A T)) (starts : ℕ) (met : Bool) → Leaves r new next later → HasAsked G X cx call (work_left G X cx old) (Done r) new starts met → Leads G X cx call (work_left G X cx old) old next later starts met
+  done_leads read request s r call next later starts met l h = leads_at read request s call (work_left G X cx old) next later starts met (leave_leads G X cx call (work_left G X cx old) r next new later starts met l h)
+
+  -- the answer of the only goal is its own
+  pub next_before : (read : C) (request : Request I R) → HasStepped G X read given request old new → (nodes : List (CacheNode I R)) (later : List (StackEntry C I R A T × Run C F I R A T)) (next : Next R) → IsJustifiedNext X.is_yes X.is_no nodes new later next → IsJustifiedNext X.is_yes X.is_no nodes old later next
+  next_before read request s nodes later (Step again) h = h
+  next_before read request s nodes later (Finished answer) h =
+      subst (λ (v : List (StackEntry C I R A T × Run C F I R A T)). IsJustifiedNext X.is_yes X.is_no nodes v later (Finished answer)) (sym s.was)
+      (subst (λ (v : List (StackEntry C I R A T × Run C F I R A T)). IsJustifiedNext X.is_yes X.is_no nodes v later (Finished answer)) s.is h)
+
+  -- the goals ask what was requested
+  pub step_asks_for : (read : C) (request : Request I R) → HasStepped G X read given request old new → (kind : PathKind) (goal : I) → request ≡ Evaluate kind goal → Asks (runs_of new) kind goal
+  step_asks_for read request s kind goal is =
+      subst (λ (v : List (StackEntry C I R A T × Run C F I R A T)). Asks (runs_of v) kind goal) (sym s.is) (ap Some is)
+
+-- the only goal's answer is that of the goal
+pub only_has_graph : {D C V P F I R A T : Type 0} (G : Delegate.Ghosts D C V P F I R A T) (X : Cx.Ghosts C I R A T) (cx : C) (nodes : List (CacheNode I R)) (old new : List (StackEntry C I R A T × Run C F I R A T)) (goal : I) (answer : Answer R) → IsOnly G X cx old goal → IsJustifiedNext X.is_yes X.is_no nodes old new (Finished answer) → HasGraph X.is_yes X.is_no nodes goal answer.result answer.node
+only_has_graph G X cx nodes [] new goal answer only h = absurd only
+only_has_graph G X cx nodes (s ∷ []) new goal answer only h = subst (λ input. HasGraph X.is_yes X.is_no nodes input answer.result answer.node) only h
+only_has_graph G X cx nodes (s ∷ p ∷ below) new goal answer only h = absurd only

@@ -93,9 +93,14 @@ module _ {D C V P F I R A T : Type 0} (G : Delegate.Ghosts D C V P F I R A T) (X
     record_after : fault_of (received_by G X cx run given verdict) request ≡ None → (earlier : List (Reply R)) → Stood G X cx (entry, run) earlier → IsFitting (G.script cx entry.input) (given.reply ∷ earlier) → (request ≡ G.script cx entry.input (given.reply ∷ earlier)) × Stood G X cx (entry, record { frame = frame; node = run.node; progress = requested (received_by G X cx run given verdict) request }) (given.reply ∷ earlier)
     record_after orderly earlier stood fits =
         let made = steps cx entry.input earlier stood.0 fits in
-        let told = fault_is X.is_yes X.is_no (G.script cx entry.input) run.progress earlier given.reply verdict given.node stood.1 fits.0 sorted request made.0 in
-        (made.0, (made.1, records_received X.is_yes X.is_no (G.script cx entry.input) run.progress earlier given.reply verdict given.node stood.1 fits.0 sorted request made.0
-        (ap (λ q. order_fault (progress_after (G.script cx entry.input) (given.reply ∷ earlier)) (Some q)) made.0 ∙ sym told ∙ orderly)))
+        let told = fault_is X.is_yes X.is_no (G.script cx entry.input) run.progress earlier given.reply verdict given.node stood.1 fits.0 sorted request made.0 in (
+          made.0,
+          (
+            made.1,
+            records_received X.is_yes X.is_no (G.script cx entry.input) run.progress earlier given.reply verdict given.node stood.1 fits.0 sorted request made.0
+                (ap (λ q. order_fault (progress_after (G.script cx entry.input) (given.reply ∷ earlier)) (Some q)) made.0 ∙ sym told ∙ orderly),
+          ),
+        )
 
     -- a fault of the order is one of the script
     fault_after_step : (number : ℕ) → fault_of (received_by G X cx run given verdict) request ≡ Some number → (earlier : List (Reply R)) → Stood G X cx (entry, run) earlier → IsFitting (G.script cx entry.input) (given.reply ∷ earlier) → fault_after (G.script cx entry.input) (given.reply ∷ earlier) ≡ Some number
@@ -109,7 +114,7 @@ module _ {D C V P F I R A T : Type 0} (G : Delegate.Ghosts D C V P F I R A T) (X
       let later : Run C F I R A T = record { frame = s.frame; node = s.run.node; progress = requested (received_by G X cx s.run given s.verdict) request } in
       let was : IsWaiting G X cx call given.reply ((s.entry, s.run) ∷ s.below) starts met = subst (λ v. IsWaiting G X cx call given.reply v starts met) s.was h in
       let takes : TakesStep (seen G X cx) (Stood G X cx) (G.script cx) given.reply request (s.entry, s.run) (s.entry, record { frame = s.frame; node = s.run.node; progress = requested (received_by G X cx s.run given s.verdict) request }) =
-          record { falls = s.falls; same = refl; steps = record_after s.entry s.run s.frame s.verdict given request s.steps sorted s.in_order } in
+      record { falls = s.falls; same = refl; steps = record_after s.entry s.run s.frame s.verdict given request s.steps sorted s.in_order } in
       let asks = step_requests (seen G X cx) (Stood G X cx) (G.script cx) (limits G X cx call) (IsCounted G X cx call) call.top (bound G X cx call) given.reply request (s.entry, s.run) (s.entry, record { frame = s.frame; node = s.run.node; progress = requested (received_by G X cx s.run given s.verdict) request }) s.below starts met takes was.waits in
       subst (λ v. HasAsked G X cx call (work_left G X cx v) request new starts met) (sym s.was)
       (subst (λ v. HasAsked G X cx call (work_left G X cx ((s.entry, s.run) ∷ s.below)) request v starts met) (sym s.is)
@@ -245,7 +250,7 @@ module _ {D C V P F I R A T : Type 0} (G : Delegate.Ghosts D C V P F I R A T) (X
       (l.2, only_top s h.asked.f h.asked.below (ap (λ g. g.goal) h.asked.mirror.0.is) h.asked.mirror.1 h.asked.evaluating.rooted, record { outcome = record { result = r; required = s.0.state.required_depth; met_overflow = s.0.state.encountered_overflow; in_cycle = false }; result_is = refl; ends = ends; keeps = h.keeps })
   leave_leads ahead r next (s ∷ p ∷ below) new starts met l h =
       let w = popped_waits (seen G X cx) (Stood G X cx) (G.script cx) (limits G X cx call) (IsCounted G X cx call) call.top (bound G X cx call) (some_runs G.FIXPOINT_STEP_LIMIT) ahead starts met s below r (record { result = r; required = s.0.state.required_depth; met_overflow = s.0.state.encountered_overflow; in_cycle = false }) p (with_answer p.0 s.0.state.required_depth s.0.state.encountered_overflow, p.1)
-          (leaving G X cx r s) (record { same = λ replies. refl; stood = λ replies stood. stood }) h.asked in
+      (leaving G X cx r s) (record { same = λ replies. refl; stood = λ replies stood. stood }) h.asked in
       subst (λ n. Leads G X cx call ahead (s ∷ p ∷ below) n new starts met) (sym l.1)
       (subst (λ v. GoesOn G X cx call ahead (Answer r) v starts met) (sym l.2)
       (record { waiting = record { waits = w.0; keeps = h.keeps }; falls = w.1 }))

@@ -1,5 +1,6 @@
 -- What a question comes to, whichever goals are under evaluation.
 use Rattle.std.proofs.Common.{◌≡◌, ℕ, ◌+◌, ◌-◌, ◌/◌, ◌<◌, ◌≤◌, nat_eq, if◌then◌else◌, Bool, true, false, List, [], ◌∷◌, length, Option, Some, None, Result, Ok, Err, IfErr, refl, sym, ap, ◌∙◌, subst, arith}
+use Rattle.std.specs.Result.{IsErrAnd}
 use Rattle.std.specs.List.{list_any}
 use Rattle.std.specs.Option.{option_and_then, option_map}
 use Rattle.std.proofs.lemmas.Bool.Decides.{nat_tests}
@@ -23,6 +24,11 @@ use Rattle.search_graph.proofs.Moves.{allowed, refused_goes_on, cycle_goes_on, p
 pub if_err : {T E P : Type 0} (r : Result T E) → P → IfErr r (λ e. P)
 if_err (Ok x) p = tt
 if_err (Err e) p = p
+
+-- an error that says what it is
+pub if_err_and : {T E : Type 0} (r : Result T E) (Q P : E → Type 0) → IsErrAnd r Q → ((e : E) → Q e → P e) → IfErr r P
+if_err_and (Ok x) Q P h from = tt
+if_err_and (Err e) Q P h from = from e h
 
 pub none_of : {A B : Type 0} (f : A → B) (o : Option A) → ((x : A) → o ≡ Some x → ⊥) → None ≡ option_map f o
 none_of f None never = refl

@@ -1,5 +1,5 @@
 -- What holds of the goals under evaluation between two moves of an evaluation.
-use Rattle.std.specs.Prelude.{◌≡◌, ℕ, ◌+◌, ◌<◌, ◌≤◌, ◌^◌, ◌↔◌, ◌⊎◌, max, Bool, true, false, IsTrue, List, [], ◌∷◌, map, Option, None, Some}
+use Rattle.std.specs.Prelude.{◌≡◌, ℕ, ◌+◌, ◌<◌, ◌≤◌, ◌^◌, ◌↔◌, max, Bool, true, false, IsTrue, List, [], ◌∷◌, map, Option, None, Some}
 use Rattle.search_parts.specs.declared.context.Delegate as Delegate
 use Rattle.search_parts.specs.declared.context.Cx as Cx
 use Rattle.search_parts.specs.declared.context.Request.{Request}
@@ -15,7 +15,7 @@ use Rattle.search_parts.specs.declared.parts.depth.AvailableDepth.{AvailableDept
 use Rattle.search_parts.specs.declared.parts.stack.StackEntry.{StackEntry}
 use Rattle.search_parts.specs.Stack.{fresh_entry}
 use Rattle.search_parts.specs.Rank.{frames_within}
-use Rattle.search_parts.specs.Run.{IsFitting, fault_after}
+use Rattle.search_parts.specs.Run.{IsFitting}
 use Rattle.search_parts.specs.Delegate.{Steps}
 use Rattle.evaluations.specs.Frames.{Frame, Outcome}
 use Rattle.evaluations.specs.Plain.{IsPlainTo}
@@ -23,6 +23,7 @@ use Rattle.evaluations.specs.Evaluation.{Limits, Ends, Stops}
 use Rattle.evaluations.specs.Starts.{steps_ahead}
 use Rattle.evaluations.specs.Mirror.{Waits, HasRequested}
 use Rattle.search_graph.specs.Entries.{with_answer}
+use Rattle.search_graph.specs.Graph.{IsCaused}
 use Rattle.search_graph.specs.Progress.{RunRecord, no_record, received, requested, fault_of, Records}
 use Rattle.search_graph.specs.declared.graph.open_goals.Received.{Received}
 use Rattle.search_graph.specs.declared.graph.open_goals.Run.{Run}
@@ -119,12 +120,6 @@ module _ {D C V P F I R A T : Type 0} (G : Delegate.Ghosts D C V P F I R A T) (X
         → old ≡ (entry, run) ∷ below → IsVerdict X.is_yes X.is_no given.reply verdict → Steps G.stands G.script run.frame given.reply request frame
         → fault_of (received_by run given verdict) request ≡ Some number → fault ≡ Protocol number → IsStepFault given old fault
 
-  -- memory is out, or some goal's script makes a request out of order after replies that fit
-  abbrev pub IsCaused : Fault I R → Type 0
-  IsCaused fault =
-      (fault ≡ Memory)
-      ⊎ ((goal : I) × (replies : List (Reply R)) × (number : ℕ) × IsFitting (G.script cx goal) replies × (fault_after (G.script cx goal) replies ≡ Some number) × (fault ≡ Protocol number))
-
   -- a limit that was met stays met, and none is met in a call whose goal's rank fits its depth
   pub record KeepsLimits (call : Call I) (met : Bool) : Type 0 where
     pub stays : call.limits_met ≡ true → met ≡ true
@@ -164,7 +159,7 @@ module _ {D C V P F I R A T : Type 0} (G : Delegate.Ghosts D C V P F I R A T) (X
   pub record HasStopped (call : Call I) (fault : Fault I R) (starts : ℕ) (met : Bool) : Type 0 where
     pub stops : Stops (G.script cx) (limits call) (IsCounted call) (bound call) starts met
     pub keeps : KeepsLimits call met
-    pub caused : IsCaused fault
+    pub caused : IsCaused (G.script cx) fault
     pub plain : (n : ℕ) → IsPlainTo (G.script cx) n call.top → n ≤ call.root → fault ≡ Memory
 
   -- the item is the only one, and of this goal

@@ -97,8 +97,3 @@ abbrev pub IsFit : {I R : Type 0} → (R → Bool) → (R → Bool) → List (Ca
 IsFit is_yes is_no nodes goals reply target =
     (r : _) (kind : PathKind) (goal : _) → reply ≡ Answer r → Asks goals kind goal → verdict_of is_yes is_no r ≢ theory.Neither →
     IsSomeAnd target (λ a. MayAnswer is_yes is_no nodes goals (verdict_of is_yes is_no r) kind goal a.0)
-
--- a definite result of a goal comes with a node of the goal whose graph has its verdict; another result has none
-pub record HasGraph {I R : Type 0} (is_yes is_no : R → Bool) (nodes : List (CacheNode I R)) (goal : I) (r : R) (node : Option NodeId) : Type 0 where
-  pub definite : verdict_of is_yes is_no r ≢ theory.Neither → IsSomeAnd node (λ a. IsNodeOf nodes a.0 goal × theory.IsGraph (shapes_of is_yes is_no nodes) (verdict_of is_yes is_no r) a.0)
-  pub neither : verdict_of is_yes is_no r ≡ theory.Neither → node ≡ None

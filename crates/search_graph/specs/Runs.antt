@@ -18,7 +18,8 @@ use Rattle.search_graph.specs.declared.graph.open_goals.Run.{Run}
 use Rattle.search_graph.specs.declared.graph.open_goals.Next.{Next}
 use Rattle.search_graph.specs.declared.graph.open_goals.Next.TheVariants.{Step, Finished}
 use Rattle.search_graph.specs.Progress.{RunRecord, edges_of, Records}
-use Rattle.search_graph.specs.Justified.{OpenRun, AreJustified, IsFit, HasGraph, ArePlaced, AreEdges}
+use Rattle.search_parts.specs.Definite.{HasGraph}
+use Rattle.search_graph.specs.Justified.{OpenRun, AreJustified, IsFit, ArePlaced, AreEdges}
 
 module _ {X F I R A T : Type 0} where
   -- an item as a run with its node

@@ -6,8 +6,7 @@ ghost use Rattle.search_parts.specs.declared.context.Fault.TheVariants.{Memory};
 ghost use Rattle.search_parts.specs.Cache.{KeepsFinished};
 ghost use Rattle.evaluations.specs.Plain.{IsPlainTo};
 ghost use Rattle.evaluations.specs.Price.{IsPaid};
-ghost use Rattle.search_graph.specs.Evaluating.{IsCaused};
-ghost use Rattle.search_graph.specs.Graph.{IsProved, IsRefuted};
+ghost use Rattle.search_graph.specs.Graph.{IsCaused, IsProved, IsRefuted};
 
 mod evaluate;
 mod finish;
@@ -90,10 +89,7 @@ impl<D: Delegate> SearchGraph<D> {
         input: <D::Cx as Cx>::Input,
         step_kind_from_parent: PathKind,
         inspect: &mut D::ProofTreeBuilder,
-    ) -> Result<
-        Answer<<D::Cx as Cx>::Result>,
-        Fault<<D::Cx as Cx>::Input, <D::Cx as Cx>::Result>,
-    >
+    ) -> Result<Answer<<D::Cx as Cx>::Result>, Fault<<D::Cx as Cx>::Input, <D::Cx as Cx>::Result>>
         // A definite answer has its graph, and the goal has none of the other sort.
         ensures yes { IfOk result (λ answer. D.Cx.is_yes answer.result ≡ true → IsProved D.Cx.Cx cache.new input answer.node) }
         ensures no { IfOk result (λ answer. D.Cx.is_no answer.result ≡ true → IsRefuted D.Cx.Cx cache.new input answer.node) }
@@ -109,7 +105,7 @@ impl<D: Delegate> SearchGraph<D> {
             self.new.limits_met ≡ self.old.limits_met }
 
         // A fault is want of memory, or some goal's script makes a request out of order.
-        ensures faults { IfErr result (IsCaused D.Delegate D.Cx.Cx cache.old.cx) }
+        ensures faults { IfErr result (IsCaused (D.script cache.old.cx)) }
 
         // The frames that are started are within a bound, and a limit has its price in frames.
         ensures frames { D.starts inspect.new ≤ D.starts inspect.old + frames_within (max 1 D.FIXPOINT_STEP_LIMIT) (D.width cache.old.cx) self.old.root_depth }
@@ -122,7 +118,7 @@ impl<D: Delegate> SearchGraph<D> {
         ensures kept { KeepsFinished cache.old.nodes cache.new.nodes }
     {
         let root_depth = self.root_depth;
-        let outcome = evaluate::<D>(
+        match evaluate::<D>(
             &mut self.goals,
             &mut self.limits_met,
             cache,
@@ -130,11 +126,15 @@ impl<D: Delegate> SearchGraph<D> {
             step_kind_from_parent,
             input,
             inspect,
-        );
-        cache.has_runs();
-        if outcome.is_err() {
-            self.goals.clear();
+        ) {
+            Ok(answer) => {
+                cache.has_runs();
+                Ok(answer)
+            }
+            Err(fault) => {
+                self.goals.clear();
+                Err(fault)
+            }
         }
-        outcome
     }
 }

@@ -143,7 +143,7 @@ no_case false true e = refl
 no_case false false e = absurd cc
 
 -- a rule that the questions of each run's answers keep
-abbrev KeepsRule : {I R : Type 0} → (R → Bool) → (I → List (Reply R) → Request I R) → (I → List (Question I) → Type 0) → Type 0
+abbrev pub KeepsRule : {I R : Type 0} → (R → Bool) → (I → List (Reply R) → Request I R) → (I → List (Question I) → Type 0) → Type 0
 KeepsRule {I} {R} test scripts rule =
     (goal : I) (replies : List (Reply R)) (r : R)
     → EndsIn (scripts goal) replies r → test r ≡ true → rule goal (questions_answered test (progress_after (scripts goal) replies))

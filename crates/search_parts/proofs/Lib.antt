@@ -8,6 +8,7 @@ pub mod Slots
 pub mod Sound
 pub mod PathRanks
 pub mod Bridge
+pub mod Definites
 pub mod StackIndex
 pub mod LastState
 pub mod StackReads

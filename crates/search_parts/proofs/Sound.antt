@@ -3,7 +3,8 @@ use Rattle.std.proofs.Common.{Bool, List, ℕ}
 use Rattle.std.specs.Option.{IsSomeAnd}
 use Rattle.search_parts.specs.declared.context.Request.{Request}
 use Rattle.search_parts.specs.declared.context.Reply.{Reply}
-use Rattle.search_parts.specs.Cache.{EndedRun, Cache, open_goal, with_run, IsRun, IsSound}
+use Rattle.search_parts.specs.Cache.{EndedRun, Cache, open_goal, with_run, IsRun}
+use Rattle.search_parts.specs.Sound.{IsSound}
 use Rattle.search_parts.proofs.Nodes.{appended, AreRuns-appended, AreRuns-ended}
 
 module _ {X I R : Type 0} (is_yes is_no : R → Bool) (scripts : X → I → List (Reply R) → Request I R) (cache : Cache X I R) (sound : IsSound is_yes is_no scripts cache) where

@@ -74,10 +74,6 @@ AreRuns {I} {R} is_yes is_no scripts nodes =
     (at : ℕ) (n : CacheNode I R) (run : EndedRun I R)
     → slice_get nodes at ≡ Some n → n.run ≡ Some run → IsRun is_yes is_no (scripts n.goal) nodes run
 
--- what holds of every cache
-pub record IsSound {X I R : Type 0} (is_yes is_no : R → Bool) (scripts : X → I → List (Reply R) → Request I R) (c : Cache X I R) : Type 0 where
-  pub runs : AreRuns is_yes is_no (scripts c.cx) c.nodes
-
 -- the list as the nodes of a graph of goals, at the same places; an open node has no edges
 abbrev pub graph_node_of : {I R : Type 0} → CacheNode I R → GraphNode I
 graph_node_of n = record { goal = n.goal; edges = elim n.run [ None ↦ [] | Some run ↦ run.edges ] }

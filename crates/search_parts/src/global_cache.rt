@@ -42,7 +42,8 @@ pub struct GlobalCache<D: Delegate> {
 
 impl<D: Delegate> Model for GlobalCache<D> {
     ghost use Rattle.std.specs.Prelude.{map};
-    ghost use Rattle.search_parts.specs.Cache.{Cache, IsSound};
+    ghost use Rattle.search_parts.specs.Cache.{Cache};
+    ghost use Rattle.search_parts.specs.Sound.{IsSound};
     ghost use Rattle.search_parts.specs.View.{node_of};
 
     ghost Value = { Cache D.Cx D.Cx.Input D.Cx.Result };

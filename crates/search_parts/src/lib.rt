@@ -1,4 +1,15 @@
-//! What a goal search stands on: kinds of paths, and what the search is told of goals.
+//! What a goal search stands on: kinds of paths, what the search is told of goals, and its parts.
+//!
+//! | File of `specs/` | Has |
+//! |---|---|
+//! | `Path`, `Paths` | kinds of paths, and sets of them |
+//! | `Question`, `Run` | what a goal asks; scripts, replies, and what counts as a run |
+//! | `Delegate` | words of the laws that contexts and delegates keep |
+//! | `Graph` | proof graphs and refutation graphs of goals |
+//! | `Rank` | goals without cycles, their plain values, and the bound on frames |
+//! | `Cache`, `View`, `Sound` | the cache's list of nodes, as contracts see it, and what holds of every cache |
+//! | `Shapes`, `Definite` | the nodes as the theory of open graphs sees them, and the graph of a definite result |
+//! | `Stack`, `StackIndex`, `Lent`, `Usages` | the goals under evaluation, how they are found and lent; counts |
 #![tactic(auto)]
 
 pub mod context;

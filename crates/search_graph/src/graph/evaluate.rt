@@ -2,7 +2,8 @@
 ghost use Rattle.std.specs.Prelude.{◌≡◌, ◌<◌, ◌^◌, ◌∷◌, ℕ, [], length, IfOk, IfErr, OnOk, Some};
 ghost use Rattle.search_parts.specs.Cache.{KeepsFinished};
 ghost use Rattle.search_graph.specs.Evaluating.{Call, Outset, IsWaiting, Leads, HasEnded, HasStopped, work_left};
-ghost use Rattle.search_graph.specs.Justified.{AreJustified, IsFit, HasGraph};
+ghost use Rattle.search_parts.specs.Definite.{HasGraph};
+ghost use Rattle.search_graph.specs.Justified.{AreJustified, IsFit};
 ghost use Rattle.search_graph.specs.Runs.{runs_of, IsJustifiedNext};
 
 use crate::graph::finish::finish_goal;
@@ -22,10 +23,7 @@ pub(crate) fn evaluate<D: Delegate>(
     step_kind: PathKind,
     input: <D::Cx as Cx>::Input,
     inspect: &mut D::ProofTreeBuilder,
-) -> Result<
-    Answer<<D::Cx as Cx>::Result>,
-    Fault<<D::Cx as Cx>::Input, <D::Cx as Cx>::Result>,
->
+) -> Result<Answer<<D::Cx as Cx>::Result>, Fault<<D::Cx as Cx>::Input, <D::Cx as Cx>::Result>>
     requires { goals.old ≡ [] }
     ensures empty { OnOk result (goals.new ≡ []) }
     ensures ended { (call : Call D.Cx.Input) → Outset call input root_depth.0 (D.starts inspect.old) limits_met.old →
@@ -54,10 +52,7 @@ fn advance<D: Delegate>(
     root_depth: AvailableDepth,
     received: Received<<D::Cx as Cx>::Result>,
     inspect: &mut D::ProofTreeBuilder,
-) -> Result<
-    Next<<D::Cx as Cx>::Result>,
-    Fault<<D::Cx as Cx>::Input, <D::Cx as Cx>::Result>,
->
+) -> Result<Next<<D::Cx as Cx>::Result>, Fault<<D::Cx as Cx>::Input, <D::Cx as Cx>::Result>>
     requires waiting { (call : Call D.Cx.Input) × IsWaiting D.Delegate D.Cx.Cx cache.old.cx call received.reply goals.old (D.starts inspect.old) limits_met.old }
     requires justified { AreJustified D.Cx.is_yes D.Cx.is_no cache.old.nodes (runs_of goals.old) }
     requires fits { IsFit D.Cx.is_yes D.Cx.is_no cache.old.nodes (runs_of goals.old) received.reply received.node }

@@ -37,10 +37,7 @@ pub(crate) fn finish_goal<D: Delegate>(
             node,
         }));
     }
-    goals.note_answer(
-        entry.state.required_depth,
-        entry.state.encountered_overflow,
-    );
+    goals.note_answer(entry.state.required_depth, entry.state.encountered_overflow);
     Ok(Next::Step(Received {
         reply: Reply::Answer(outcome),
         node,

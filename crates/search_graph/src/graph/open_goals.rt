@@ -5,7 +5,9 @@ ghost use Rattle.std.specs.Option.{option_map};
 ghost use Rattle.search_graph.specs.Evaluating.{CanStep, IsVerdict, HasStepped, IsStepFault};
 
 use crate::graph::progress::Progress;
-use search_parts::context::{Answer, Cx, Delegate, Fault, NoMemory, NodeId, Reply, Request, Verdict};
+use search_parts::context::{
+    Answer, Cx, Delegate, Fault, NoMemory, NodeId, Reply, Request, Verdict,
+};
 use search_parts::parts::stack::{Stack, StackEntry};
 use std::alloc::Global;
 use std::marker::Model;

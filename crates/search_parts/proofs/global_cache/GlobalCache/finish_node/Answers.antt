@@ -1,6 +1,7 @@
 use Rattle.std.proofs.Common.{sym, subst}
 use Rattle.open_graphs.specs.Graph.{Grown}
-use Rattle.search_parts.specs.Cache.{IsSound, KeepsGoals}
+use Rattle.search_parts.specs.Cache.{KeepsGoals}
+use Rattle.search_parts.specs.Sound.{IsSound}
 use Rattle.search_parts.specs.Shapes.{shapes_of}
 use Rattle.search_parts.proofs.Nodes.{KeepsGoals-ended, Grown-ended}
 use Rattle.search_parts.proofs.Slots.{nodes_ended, cache_ended}

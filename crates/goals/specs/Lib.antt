@@ -1,0 +1,14 @@
+pub mod Builder
+pub mod Names
+pub mod Outcome
+pub mod Rules
+pub mod Table
+pub mod Frame
+pub mod Standing
+pub mod Grammar
+pub mod Words
+pub mod Question
+pub mod Line
+pub mod Text
+pub mod Stop
+pub mod Laws

@@ -1,0 +1,105 @@
+use Rattle.std.proofs.Common.{◌≡◌, sym, ap, subst}
+use Rattle.search_parts.specs.declared.context.Fault.TheVariants.{Memory}
+use Rattle.search_graph.specs.Evaluating.{CanStep, GoesOn, HasStopped, work_left}
+use Rattle.search_graph.specs.Justified.{AreJustified, IsFit}
+use Rattle.search_graph.specs.Runs.{runs_of}
+use Rattle.search_graph.proofs.Moves.{can_step, noted_goes_on, asked_stopped, can_leave, ends_newest}
+use Rattle.search_graph.proofs.Questions.{if_err_and}
+use Rattle.search_graph.proofs.Finishing.{noted_fits}
+use Rattle.search_graph.proofs.Loops.{stepped_some, advance_asks, advance_stops, advance_justified, done_leads, next_before, step_asks_for}
+use Rattle.search_graph.proofs.graph.evaluate.advance.Goals as goal
+
+pub step-requires : goal.step-requires
+step-requires g c =
+    subst (λ x. CanStep g.D.Delegate g.D.Cx.Cx x c.args.received.reply c.args.goals.now) (sym c.cx-cx.ensures)
+    (can_step g.D.Delegate g.D.Cx.Cx c.args.cache.now.cx c.requires.waiting.0 c.args.received.reply c.args.goals.now _ _ c.requires.waiting.1)
+
+pub returns-in_err-kind-clause-stopped : goal.returns-in_err-kind-clause-stopped
+returns-in_err-kind-clause-stopped g c = λ call h.
+    if_err_and c.from_residual.result _ _ c.from_residual.ensures.1
+    (λ e is. subst (λ fault. HasStopped g.D.Delegate g.D.Cx.Cx c.args.cache.now.cx call fault (g.D.Delegate.starts c.step.new.inspect) c.args.limits_met.now) (sym is)
+    (advance_stops g.D.Delegate g.D.Cx.Cx c.args.cache.now.cx c.args.received c.args.goals.now c.step.new.goals c.cx-cx.result c.cx-cx.ensures _ c.in_err-kind.ensures.fault _ _ c.args.limits_met.now c.step.ensures.same_starts c.args.cache.now.nodes c.requires.fits call h))
+
+-- ---- a question
+
+pub ask-requires-clause-some : goal.ask-requires-clause-some
+ask-requires-clause-some g c = stepped_some g.D.Delegate g.D.Cx.Cx c.cx-cx.result c.args.received _ _ _ c.in_ok-kind.ensures.stepped
+
+pub ask-requires-clause-asks : goal.ask-requires-clause-asks
+ask-requires-clause-asks g c = step_asks_for g.D.Delegate g.D.Cx.Cx c.args.cache.now.cx c.args.received c.args.goals.now c.step.new.goals c.cx-cx.result c.in_ok-kind.field-0 c.in_ok-kind.ensures.stepped c.in-Evaluate.kind c.in-Evaluate.input c.in-Evaluate.is
+
+pub ask-requires-clause-justified : goal.ask-requires-clause-justified
+ask-requires-clause-justified g c = (advance_justified g.D.Delegate g.D.Cx.Cx c.args.cache.now.cx c.args.received c.args.goals.now c.step.new.goals c.cx-cx.result c.in_ok-kind.field-0 c.in_ok-kind.ensures.stepped c.args.cache.now.nodes c.requires.fits c.requires.justified)
+
+pub returns-in_err-next-in-Evaluate-clause-stopped : goal.returns-in_err-next-in-Evaluate-clause-stopped
+returns-in_err-next-in-Evaluate-clause-stopped g c = λ call h.
+    if_err_and c.from_residual-in_err-next-in-Evaluate.result _ _ c.from_residual-in_err-next-in-Evaluate.ensures.1
+    (λ e is. subst (λ fault. HasStopped g.D.Delegate g.D.Cx.Cx c.args.cache.now.cx call fault (g.D.Delegate.starts c.ask.new.inspect) c.ask.new.limits_met) (sym is)
+    (c.in_err-next-in-Evaluate.ensures.stops call _ (advance_asks g.D.Delegate g.D.Cx.Cx c.args.cache.now.cx c.args.received _ c.args.goals.now c.step.new.goals _ _ c.args.limits_met.now c.cx-cx.result c.cx-cx.ensures c.in_ok-kind.field-0 c.in-Evaluate.is c.in_ok-kind.ensures.stepped c.step.ensures.same_starts c.args.cache.now.nodes c.requires.fits call h)))
+
+pub returns-in_ok-next-in-Evaluate-clause-leads : goal.returns-in_ok-next-in-Evaluate-clause-leads
+returns-in_ok-next-in-Evaluate-clause-leads g c = λ call h.
+    c.in_ok-next-in-Evaluate.ensures.goes_on call _ (advance_asks g.D.Delegate g.D.Cx.Cx c.args.cache.now.cx c.args.received _ c.args.goals.now c.step.new.goals _ _ c.args.limits_met.now c.cx-cx.result c.cx-cx.ensures c.in_ok-kind.field-0 c.in-Evaluate.is c.in_ok-kind.ensures.stepped c.step.ensures.same_starts c.args.cache.now.nodes c.requires.fits call h)
+
+-- ---- the end of a run
+
+pub finish_goal-requires-clause-leaves : goal.finish_goal-requires-clause-leaves
+finish_goal-requires-clause-leaves g c =
+    can_leave g.D.Delegate g.D.Cx.Cx c.args.cache.now.cx c.requires.waiting.0 _ c.in-Done.outcome c.step.new.goals _ _ (advance_asks g.D.Delegate g.D.Cx.Cx c.args.cache.now.cx c.args.received _ c.args.goals.now c.step.new.goals _ _ c.args.limits_met.now c.cx-cx.result c.cx-cx.ensures c.in_ok-kind.field-0 c.in-Done.is c.in_ok-kind.ensures.stepped c.step.ensures.same_starts c.args.cache.now.nodes c.requires.fits c.requires.waiting.0 c.requires.waiting.1)
+
+pub finish_goal-requires-clause-ends : goal.finish_goal-requires-clause-ends
+finish_goal-requires-clause-ends g c =
+    ends_newest g.D.Delegate g.D.Cx.Cx c.args.cache.now.cx c.requires.waiting.0 _ c.in-Done.outcome c.step.new.goals _ _ (advance_asks g.D.Delegate g.D.Cx.Cx c.args.cache.now.cx c.args.received _ c.args.goals.now c.step.new.goals _ _ c.args.limits_met.now c.cx-cx.result c.cx-cx.ensures c.in_ok-kind.field-0 c.in-Done.is c.in_ok-kind.ensures.stepped c.step.ensures.same_starts c.args.cache.now.nodes c.requires.fits c.requires.waiting.0 c.requires.waiting.1)
+
+pub finish_goal-requires-clause-justified : goal.finish_goal-requires-clause-justified
+finish_goal-requires-clause-justified g c = (advance_justified g.D.Delegate g.D.Cx.Cx c.args.cache.now.cx c.args.received c.args.goals.now c.step.new.goals c.cx-cx.result c.in_ok-kind.field-0 c.in_ok-kind.ensures.stepped c.args.cache.now.nodes c.requires.fits c.requires.justified)
+
+pub returns-in_err-next-in-Done-clause-stopped : goal.returns-in_err-next-in-Done-clause-stopped
+returns-in_err-next-in-Done-clause-stopped g c = λ call h.
+    if_err_and c.from_residual-in_err-next-in-Done.result _ _ c.from_residual-in_err-next-in-Done.ensures.1
+    (λ e is. subst (λ fault. HasStopped g.D.Delegate g.D.Cx.Cx c.args.cache.now.cx call fault (g.D.Delegate.starts c.step.new.inspect) c.args.limits_met.now) (sym is)
+    (asked_stopped g.D.Delegate g.D.Cx.Cx c.args.cache.now.cx call _ _ c.step.new.goals _ _ (advance_asks g.D.Delegate g.D.Cx.Cx c.args.cache.now.cx c.args.received _ c.args.goals.now c.step.new.goals _ _ c.args.limits_met.now c.cx-cx.result c.cx-cx.ensures c.in_ok-kind.field-0 c.in-Done.is c.in_ok-kind.ensures.stepped c.step.ensures.same_starts c.args.cache.now.nodes c.requires.fits call h)))
+
+pub returns-in_ok-next-in-Done-clause-leads : goal.returns-in_ok-next-in-Done-clause-leads
+returns-in_ok-next-in-Done-clause-leads g c = λ call h.
+    done_leads g.D.Delegate g.D.Cx.Cx c.args.cache.now.cx c.args.received c.args.goals.now c.step.new.goals c.cx-cx.result c.in_ok-kind.field-0 c.in_ok-kind.ensures.stepped c.in-Done.outcome call c.in_ok-next-in-Done.next c.finish_goal.new.goals _ _ c.in_ok-next-in-Done.ensures.left
+    (advance_asks g.D.Delegate g.D.Cx.Cx c.args.cache.now.cx c.args.received _ c.args.goals.now c.step.new.goals _ _ c.args.limits_met.now c.cx-cx.result c.cx-cx.ensures c.in_ok-kind.field-0 c.in-Done.is c.in_ok-kind.ensures.stepped c.step.ensures.same_starts c.args.cache.now.nodes c.requires.fits call h)
+
+pub returns-in_ok-next-in-Done-clause-justified : goal.returns-in_ok-next-in-Done-clause-justified
+returns-in_ok-next-in-Done-clause-justified g c =
+    next_before g.D.Delegate g.D.Cx.Cx c.args.cache.now.cx c.args.received c.args.goals.now c.step.new.goals c.cx-cx.result c.in_ok-kind.field-0 c.in_ok-kind.ensures.stepped c.finish_goal.new.cache.nodes c.finish_goal.new.goals c.in_ok-next-in-Done.next c.in_ok-next-in-Done.ensures.justified
+
+-- ---- candidates
+
+pub returns-in-EnterCandidate-clause-leads : goal.returns-in-EnterCandidate-clause-leads
+returns-in-EnterCandidate-clause-leads g c = λ call h.
+    subst (λ given. GoesOn g.D.Delegate g.D.Cx.Cx c.args.cache.now.cx call (work_left g.D.Delegate g.D.Cx.Cx c.args.cache.now.cx c.args.goals.now) given.reply c.step.new.goals (g.D.Delegate.starts c.step.new.inspect) c.args.limits_met.now) (sym c.without_node.ensures)
+    (noted_goes_on g.D.Delegate g.D.Cx.Cx c.args.cache.now.cx call _ _ c.step.new.goals _ _ tt (advance_asks g.D.Delegate g.D.Cx.Cx c.args.cache.now.cx c.args.received _ c.args.goals.now c.step.new.goals _ _ c.args.limits_met.now c.cx-cx.result c.cx-cx.ensures c.in_ok-kind.field-0 c.in-EnterCandidate.is c.in_ok-kind.ensures.stepped c.step.ensures.same_starts c.args.cache.now.nodes c.requires.fits call h))
+
+pub returns-in-EnterCandidate-clause-justified : goal.returns-in-EnterCandidate-clause-justified
+returns-in-EnterCandidate-clause-justified g c = (
+  (advance_justified g.D.Delegate g.D.Cx.Cx c.args.cache.now.cx c.args.received c.args.goals.now c.step.new.goals c.cx-cx.result c.in_ok-kind.field-0 c.in_ok-kind.ensures.stepped c.args.cache.now.nodes c.requires.fits c.requires.justified),
+  subst (λ given. IsFit g.D.Cx.Cx.is_yes g.D.Cx.Cx.is_no c.args.cache.now.nodes (runs_of c.step.new.goals) given.reply given.node) (sym c.without_node.ensures) (noted_fits g.D.Cx.Cx.is_yes g.D.Cx.Cx.is_no c.args.cache.now.nodes (runs_of c.step.new.goals)),
+)
+
+pub returns-in-FinishCandidate-clause-leads : goal.returns-in-FinishCandidate-clause-leads
+returns-in-FinishCandidate-clause-leads g c = λ call h.
+    subst (λ given. GoesOn g.D.Delegate g.D.Cx.Cx c.args.cache.now.cx call (work_left g.D.Delegate g.D.Cx.Cx c.args.cache.now.cx c.args.goals.now) given.reply c.step.new.goals (g.D.Delegate.starts c.step.new.inspect) c.args.limits_met.now) (sym c.without_node-in-FinishCandidate.ensures)
+    (noted_goes_on g.D.Delegate g.D.Cx.Cx c.args.cache.now.cx call _ _ c.step.new.goals _ _ tt (advance_asks g.D.Delegate g.D.Cx.Cx c.args.cache.now.cx c.args.received _ c.args.goals.now c.step.new.goals _ _ c.args.limits_met.now c.cx-cx.result c.cx-cx.ensures c.in_ok-kind.field-0 c.in-FinishCandidate.is c.in_ok-kind.ensures.stepped c.step.ensures.same_starts c.args.cache.now.nodes c.requires.fits call h))
+
+pub returns-in-FinishCandidate-clause-justified : goal.returns-in-FinishCandidate-clause-justified
+returns-in-FinishCandidate-clause-justified g c = (
+  (advance_justified g.D.Delegate g.D.Cx.Cx c.args.cache.now.cx c.args.received c.args.goals.now c.step.new.goals c.cx-cx.result c.in_ok-kind.field-0 c.in_ok-kind.ensures.stepped c.args.cache.now.nodes c.requires.fits c.requires.justified),
+  subst (λ given. IsFit g.D.Cx.Cx.is_yes g.D.Cx.Cx.is_no c.args.cache.now.nodes (runs_of c.step.new.goals) given.reply given.node) (sym c.without_node-in-FinishCandidate.ensures) (noted_fits g.D.Cx.Cx.is_yes g.D.Cx.Cx.is_no c.args.cache.now.nodes (runs_of c.step.new.goals)),
+)
+
+pub returns-in-Ignore-clause-leads : goal.returns-in-Ignore-clause-leads
+returns-in-Ignore-clause-leads g c = λ call h.
+    subst (λ given. GoesOn g.D.Delegate g.D.Cx.Cx c.args.cache.now.cx call (work_left g.D.Delegate g.D.Cx.Cx c.args.cache.now.cx c.args.goals.now) given.reply c.step.new.goals (g.D.Delegate.starts c.step.new.inspect) c.args.limits_met.now) (sym c.without_node-in-Ignore.ensures)
+    (noted_goes_on g.D.Delegate g.D.Cx.Cx c.args.cache.now.cx call _ _ c.step.new.goals _ _ tt (advance_asks g.D.Delegate g.D.Cx.Cx c.args.cache.now.cx c.args.received _ c.args.goals.now c.step.new.goals _ _ c.args.limits_met.now c.cx-cx.result c.cx-cx.ensures c.in_ok-kind.field-0 c.in-Ignore.is c.in_ok-kind.ensures.stepped c.step.ensures.same_starts c.args.cache.now.nodes c.requires.fits call h))
+
+pub returns-in-Ignore-clause-justified : goal.returns-in-Ignore-clause-justified
+returns-in-Ignore-clause-justified g c = (
+  (advance_justified g.D.Delegate g.D.Cx.Cx c.args.cache.now.cx c.args.received c.args.goals.now c.step.new.goals c.cx-cx.result c.in_ok-kind.field-0 c.in_ok-kind.ensures.stepped c.args.cache.now.nodes c.requires.fits c.requires.justified),
+  subst (λ given. IsFit g.D.Cx.Cx.is_yes g.D.Cx.Cx.is_no c.args.cache.now.nodes (runs_of c.step.new.goals) given.reply given.node) (sym c.without_node-in-Ignore.ensures) (noted_fits g.D.Cx.Cx.is_yes g.D.Cx.Cx.is_no c.args.cache.now.nodes (runs_of c.step.new.goals)),
+)

@@ -1,0 +1,85 @@
+use Rattle.std.proofs.Common.{◌≡◌, ◌∙◌, ◌<◌, ◌^◌, [], sym, ap, subst, arith}
+use Rattle.search_parts.specs.declared.context.Reply.TheVariants.{Begin}
+use Rattle.search_parts.proofs.Finished.{KeepsFinished-then}
+use Rattle.search_graph.specs.Evaluating.{IsWaiting, HasEnded, HasStopped, Pushes, work_left}
+use Rattle.search_graph.specs.Justified.{AreJustified, IsFit}
+use Rattle.search_graph.specs.Runs.{runs_of}
+use Rattle.search_graph.proofs.Finishing.{begin_fits}
+use Rattle.search_graph.proofs.Justified.{nothing_is_justified}
+use Rattle.search_graph.proofs.Questions.{if_err_and}
+use Rattle.search_graph.proofs.Loops.{call_of, call_is_outset, first_waits, first_stopped, only_has_graph}
+use Rattle.search_graph.proofs.graph.evaluate.evaluate.Goals as goal
+
+pub push_goal-requires-clause-justified : goal.push_goal-requires-clause-justified
+push_goal-requires-clause-justified g c = subst (λ goals. AreJustified g.D.Cx.Cx.is_yes g.D.Cx.Cx.is_no c.args.cache.now.nodes (runs_of goals)) (sym c.requires) (nothing_is_justified g.D.Cx.Cx.is_yes g.D.Cx.Cx.is_no c.args.cache.now.nodes)
+
+pub returns-in_err-push_goal-clause-stopped : goal.returns-in_err-push_goal-clause-stopped
+returns-in_err-push_goal-clause-stopped g c = λ call at.
+    if_err_and c.from_residual.result _ _ c.from_residual.ensures.1
+    (λ e is. subst (λ fault. HasStopped g.D.Delegate g.D.Cx.Cx c.args.cache.now.cx call fault (g.D.Delegate.starts c.push_goal.new.inspect) c.args.limits_met.now) (sym is)
+    (first_stopped g.D.Delegate g.D.Cx.Cx c.args.cache.now.cx c.args.input c.args.step_kind c.args.root_depth _ _ c.args.limits_met.now c.push_goal.ensures.at_least c.push_goal.ensures.at_most call at))
+
+pub loop-next-init : goal.loop-next-init
+loop-next-init g c = record {
+  waiting = λ call at.
+      subst (λ given. IsWaiting g.D.Delegate g.D.Cx.Cx c.push_goal.new.cache.cx call given.reply c.push_goal.new.goals (g.D.Delegate.starts c.push_goal.new.inspect) c.args.limits_met.now) (sym c.without_node-received.ensures)
+      (subst (λ cx. IsWaiting g.D.Delegate g.D.Cx.Cx cx call Begin c.push_goal.new.goals (g.D.Delegate.starts c.push_goal.new.inspect) c.args.limits_met.now) (sym c.in_ok-push_goal.ensures.same_context)
+      (first_waits g.D.Delegate g.D.Cx.Cx c.args.cache.now.cx c.args.input c.args.step_kind c.args.root_depth _ _ c.args.limits_met.now c.push_goal.new.goals c.push_goal.ensures.at_most c.in_ok-push_goal.ensures.counted
+      (subst (λ goals. Pushes g.D.Delegate g.D.Cx.Cx c.args.cache.now.cx c.args.input c.args.step_kind c.args.root_depth goals c.push_goal.new.goals) c.requires c.in_ok-push_goal.ensures.pushed) call at));
+  justified = c.in_ok-push_goal.ensures.justified;
+  fits = subst (λ given. IsFit g.D.Cx.Cx.is_yes g.D.Cx.Cx.is_no c.push_goal.new.cache.nodes (runs_of c.push_goal.new.goals) given.reply given.node) (sym c.without_node-received.ensures) (begin_fits g.D.Cx.Cx.is_yes g.D.Cx.Cx.is_no c.push_goal.new.cache.nodes (runs_of c.push_goal.new.goals));
+  same_context = c.in_ok-push_goal.ensures.same_context;
+  kept = c.in_ok-push_goal.ensures.kept;
+}
+
+pub advance-requires-clause-waiting : goal.advance-requires-clause-waiting
+advance-requires-clause-waiting g c =
+    let fits : c.args.root_depth.0 < 2 ^ 64 = omega arith in
+    ((call_of c.args.input c.args.root_depth.0 (g.D.Delegate.starts c.args.inspect.now) c.args.limits_met.now fits), c.loop-next.invariant.waiting _ (call_is_outset c.args.input c.args.root_depth.0 (g.D.Delegate.starts c.args.inspect.now) c.args.limits_met.now fits))
+
+pub returns-in_err-next-clause-stopped : goal.returns-in_err-next-clause-stopped
+returns-in_err-next-clause-stopped g c = λ call at.
+    if_err_and c.from_residual-in_err-next.result _ _ c.from_residual-in_err-next.ensures.1
+    (λ e is. subst (λ fault. HasStopped g.D.Delegate g.D.Cx.Cx c.args.cache.now.cx call fault (g.D.Delegate.starts c.advance.new.inspect) c.advance.new.limits_met) (sym is)
+    (subst (λ cx. HasStopped g.D.Delegate g.D.Cx.Cx cx call c.in_err-next.field-0.0 (g.D.Delegate.starts c.advance.new.inspect) c.advance.new.limits_met) c.loop-next.invariant.same_context
+    (c.in_err-next.ensures.stopped call (c.loop-next.invariant.waiting call at))))
+
+pub returns-in_err-next-clause-kept : goal.returns-in_err-next-clause-kept
+returns-in_err-next-clause-kept g c = KeepsFinished-then c.args.cache.now.nodes c.loop-next.cache.nodes c.advance.new.cache.nodes c.loop-next.invariant.kept c.advance.ensures.kept
+
+pub loop-next-preserved : goal.loop-next-preserved
+loop-next-preserved g c = record {
+  waiting = λ call at.
+      subst (λ cx. IsWaiting g.D.Delegate g.D.Cx.Cx cx call c.in-Step.next.reply c.advance.new.goals (g.D.Delegate.starts c.advance.new.inspect) c.advance.new.limits_met) (sym c.advance.ensures.same_context)
+      (rw c.in-Step.is at (c.in_ok-next.ensures.leads call (c.loop-next.invariant.waiting call at))).waiting;
+  justified = (rw c.in-Step.is at c.in_ok-next.ensures.justified).0;
+  fits = (rw c.in-Step.is at c.in_ok-next.ensures.justified).1;
+  same_context = c.advance.ensures.same_context ∙ c.loop-next.invariant.same_context;
+  kept = KeepsFinished-then c.args.cache.now.nodes c.loop-next.cache.nodes c.advance.new.cache.nodes c.loop-next.invariant.kept c.advance.ensures.kept;
+}
+
+pub loop-next-smaller : goal.loop-next-smaller
+loop-next-smaller g c =
+    let fits : c.args.root_depth.0 < 2 ^ 64 = omega arith in
+    subst (λ cx. work_left g.D.Delegate g.D.Cx.Cx cx c.advance.new.goals < work_left g.D.Delegate g.D.Cx.Cx c.loop-next.cache.cx c.loop-next.goals) (sym c.advance.ensures.same_context)
+    (rw c.in-Step.is at (c.in_ok-next.ensures.leads (call_of c.args.input c.args.root_depth.0 (g.D.Delegate.starts c.args.inspect.now) c.args.limits_met.now fits) (c.loop-next.invariant.waiting _ (call_is_outset c.args.input c.args.root_depth.0 (g.D.Delegate.starts c.args.inspect.now) c.args.limits_met.now fits)))).falls
+
+pub returns-in-Finished-clause-empty : goal.returns-in-Finished-clause-empty
+returns-in-Finished-clause-empty g c =
+    let fits : c.args.root_depth.0 < 2 ^ 64 = omega arith in
+    (rw c.in-Finished.is at (c.in_ok-next.ensures.leads (call_of c.args.input c.args.root_depth.0 (g.D.Delegate.starts c.args.inspect.now) c.args.limits_met.now fits) (c.loop-next.invariant.waiting _ (call_is_outset c.args.input c.args.root_depth.0 (g.D.Delegate.starts c.args.inspect.now) c.args.limits_met.now fits)))).0
+
+pub returns-in-Finished-clause-ended : goal.returns-in-Finished-clause-ended
+returns-in-Finished-clause-ended g c = λ call at.
+    subst (λ cx. HasEnded g.D.Delegate g.D.Cx.Cx cx call c.in-Finished.answer.result (g.D.Delegate.starts c.advance.new.inspect) c.advance.new.limits_met) c.loop-next.invariant.same_context
+    (rw c.in-Finished.is at (c.in_ok-next.ensures.leads call (c.loop-next.invariant.waiting call at))).2
+
+pub returns-in-Finished-clause-has_graph : goal.returns-in-Finished-clause-has_graph
+returns-in-Finished-clause-has_graph g c =
+    let fits : c.args.root_depth.0 < 2 ^ 64 = omega arith in
+    only_has_graph g.D.Delegate g.D.Cx.Cx c.loop-next.cache.cx c.advance.new.cache.nodes c.loop-next.goals c.advance.new.goals c.args.input c.in-Finished.answer
+    (rw c.in-Finished.is at (c.in_ok-next.ensures.leads (call_of c.args.input c.args.root_depth.0 (g.D.Delegate.starts c.args.inspect.now) c.args.limits_met.now fits) (c.loop-next.invariant.waiting _ (call_is_outset c.args.input c.args.root_depth.0 (g.D.Delegate.starts c.args.inspect.now) c.args.limits_met.now fits)))).1
+    (rw c.in-Finished.is at c.in_ok-next.ensures.justified)
+
+pub returns-in-Finished-clause-kept : goal.returns-in-Finished-clause-kept
+returns-in-Finished-clause-kept g c = KeepsFinished-then c.args.cache.now.nodes c.loop-next.cache.nodes c.advance.new.cache.nodes c.loop-next.invariant.kept c.advance.ensures.kept

@@ -1,0 +1,60 @@
+-- Definite results keep their graphs while the list of nodes grows, and show what they say.
+use Rattle.std.proofs.Common.{◌≡◌, Bool, true, false, if◌then◌else◌, List, Option, None, Some, refl, sym, ◌∙◌, subst}
+use Rattle.std.specs.Option.{IsSomeAnd}
+use Rattle.open_graphs.specs.Graph as theory
+use Rattle.open_graphs.proofs.Closed.{growth_keeps_graph}
+use Rattle.search_parts.specs.declared.context.NodeId.{NodeId}
+use Rattle.search_parts.specs.declared.context.Request.{Request}
+use Rattle.search_parts.specs.declared.context.Reply.{Reply}
+use Rattle.search_parts.specs.Graph.{IsProofGraph, IsRefutationGraph}
+use Rattle.search_parts.specs.Question.{Question}
+use Rattle.search_parts.specs.Cache.{CacheNode, IsNodeOf, KeepsGoals, AreRuns, graph_nodes_of}
+use Rattle.search_parts.specs.Shapes.{verdict_of, shapes_of}
+use Rattle.search_parts.specs.Definite.{HasGraph}
+use Rattle.search_parts.proofs.Bridge.{KeepsRule, yes_is_proof, no_is_refutation}
+
+IsSomeAnd-weaker : {A : Type 0} (P Q : A → Type 0) → ((x : A) → P x → Q x) → (o : Option A) → IsSomeAnd o P → IsSomeAnd o Q
+IsSomeAnd-weaker P Q more None h = absurd h
+IsSomeAnd-weaker P Q more (Some x) h = more x h
+
+module _ {I R : Type 0} (is_yes is_no : R → Bool) where
+  pub HasGraph-kept : (old new : List (CacheNode I R)) → KeepsGoals old new → theory.Grown (shapes_of is_yes is_no old) (shapes_of is_yes is_no new) → (goal : I) (r : R) (node : Option NodeId) → HasGraph is_yes is_no old goal r node → HasGraph is_yes is_no new goal r node
+  HasGraph-kept old new goals grown goal r node h = record {
+    definite = λ definite.
+        IsSomeAnd-weaker (λ n. IsNodeOf old n.0 goal × theory.IsGraph (shapes_of is_yes is_no old) (verdict_of is_yes is_no r) n.0)
+        (λ n. IsNodeOf new n.0 goal × theory.IsGraph (shapes_of is_yes is_no new) (verdict_of is_yes is_no r) n.0)
+        (λ n g. (goals n.0 goal g.0, growth_keeps_graph (shapes_of is_yes is_no old) (shapes_of is_yes is_no new) (verdict_of is_yes is_no r) n.0 grown g.1))
+        node (h.definite definite);
+    neither = h.neither;
+  }
+
+yes_verdict : (y n : Bool) → y ≡ true → (if y then theory.Yes else if n then theory.No else theory.Neither) ≡ theory.Yes
+yes_verdict true n e = refl
+yes_verdict false n e = absurd cc
+
+no_verdict : (y n : Bool) → (y ≡ true → n ≡ false) → n ≡ true → (if y then theory.Yes else if n then theory.No else theory.Neither) ≡ theory.No
+no_verdict true n one e = let other : n ≡ false = one refl in absurd cc
+no_verdict false true one e = refl
+no_verdict false false one e = absurd cc
+
+definite : (v w : theory.Verdict) → v ≡ w → (w ≡ theory.Neither → ⊥) → v ≡ theory.Neither → ⊥
+definite v w same other none = other (sym same ∙ none)
+
+module _ {I R : Type 0} (is_yes is_no : R → Bool) (scripts : I → List (Reply R) → Request I R) (nodes : List (CacheNode I R)) (runs : AreRuns is_yes is_no scripts nodes) (goal : I) (r : R) (node : Option NodeId) (has : HasGraph is_yes is_no nodes goal r node) where
+  -- a yes shows that its goal holds
+  pub yes_is_shown : (proves : I → List (Question I) → Type 0) → KeepsRule is_yes scripts proves → is_yes r ≡ true → IsSomeAnd node (λ n. IsProofGraph proves (graph_nodes_of nodes) n.0 goal)
+  yes_is_shown proves law is =
+      let yes : verdict_of is_yes is_no r ≡ theory.Yes = yes_verdict (is_yes r) (is_no r) is in
+      IsSomeAnd-weaker (λ n. IsNodeOf nodes n.0 goal × theory.IsGraph (shapes_of is_yes is_no nodes) (verdict_of is_yes is_no r) n.0)
+      (λ n. IsProofGraph proves (graph_nodes_of nodes) n.0 goal)
+      (λ n g. yes_is_proof is_yes is_no scripts nodes runs n.0 goal g.0 proves law (subst (λ v. theory.IsGraph (shapes_of is_yes is_no nodes) v n.0) yes g.1))
+      node (has.definite (definite (verdict_of is_yes is_no r) theory.Yes yes (λ e. cc)))
+
+  -- a no shows that it does not
+  pub no_is_shown : (refutes : I → List (Question I) → Type 0) → KeepsRule is_no scripts refutes → (is_yes r ≡ true → is_no r ≡ false) → is_no r ≡ true → IsSomeAnd node (λ n. IsRefutationGraph refutes (graph_nodes_of nodes) n.0 goal)
+  no_is_shown refutes law one is =
+      let no : verdict_of is_yes is_no r ≡ theory.No = no_verdict (is_yes r) (is_no r) one is in
+      IsSomeAnd-weaker (λ n. IsNodeOf nodes n.0 goal × theory.IsGraph (shapes_of is_yes is_no nodes) (verdict_of is_yes is_no r) n.0)
+      (λ n. IsRefutationGraph refutes (graph_nodes_of nodes) n.0 goal)
+      (λ n g. no_is_refutation is_yes is_no scripts nodes runs n.0 goal g.0 refutes law (subst (λ v. theory.IsGraph (shapes_of is_yes is_no nodes) v n.0) no g.1))
+      node (has.definite (definite (verdict_of is_yes is_no r) theory.No no (λ e. cc)))
