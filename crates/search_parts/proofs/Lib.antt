@@ -14,6 +14,7 @@ pub mod LastState
 pub mod StackReads
 pub mod PathSets
 pub mod PathLaws
+pub mod PathMembers
 pub mod Counts
 pub mod HeadLists
 pub mod MergedUsages

@@ -127,7 +127,7 @@ has_kind-union some more kind =
     ∙ same_from_test _ _ (passes (keeps_kind kind (a % 32)) 32 (low_keeps_kind kind (a % 32) (omega arith)) (b % 32) (omega arith))
     ∙ (λ i. sym (same_kind a kind) i || sym (same_kind b kind) i)
 
-has_kind-none : (kind : PathKind) → has_kind no_paths kind ≡ false
+pub has_kind-none : (kind : PathKind) → has_kind no_paths kind ≡ false
 has_kind-none Inductive = refl
 has_kind-none Unknown = refl
 has_kind-none Coinductive = refl
@@ -169,47 +169,56 @@ second_of_two : (a b : Bool) → b ≡ true → (a || b) ≡ true
 second_of_two true b h = refl
 second_of_two false b h = h
 
-contains_later : (kind first : PathKind) (rest : List PathKind) → Contains rest kind → Contains (first ∷ rest) kind
+pub contains_later : (kind first : PathKind) (rest : List PathKind) → Contains rest kind → Contains (first ∷ rest) kind
 contains_later kind first rest (k, l, e) = (suc k, omega arith, e)
 
--- a union of sets of one kind each has those kinds alone
-only_joined : (kinds : List PathKind) (before : PathsToNested) (kind : PathKind)
-    → has_kind (fold union before (map paths_of kinds)) kind ≡ true → (has_kind before kind ≡ true) ⊎ Contains kinds kind
-only_joined [] before kind h = inl h
-only_joined (first ∷ rest) before kind h =
-    elim (only_joined rest (union before (paths_of first)) kind h) [
-      | inl joined ↦ elim (or_cases _ _ (sym (has_kind-union before (paths_of first) kind) ∙ joined)) [
+pub first_or_later : (y x : PathKind) (xs : List PathKind) → Contains (y ∷ xs) x → (y ≡ x) ⊎ Contains xs x
+first_or_later y x xs (zero, l, e) = inl e
+first_or_later y x xs (suc k, l, e) = inr (k, omega arith, e)
+
+-- what a union of sets has, one of them has
+pub some_set : (f : PathKind → PathsToNested) (steps : List PathKind) (before : PathsToNested) (kind : PathKind)
+    → has_kind (fold union before (map f steps)) kind ≡ true
+    → (has_kind before kind ≡ true) ⊎ ((step : PathKind) × Contains steps step × (has_kind (f step) kind ≡ true))
+some_set f [] before kind h = inl h
+some_set f (first ∷ rest) before kind h =
+    elim (some_set f rest (union before (f first)) kind h) [
+      | inl joined ↦ elim (or_cases _ _ (sym (has_kind-union before (f first) kind) ∙ joined)) [
         | inl old ↦ inl old
-        | inr new ↦ inr (0, omega arith, has_kind-paths_of first kind new)
+        | inr new ↦ inr (first, (0, omega arith, refl), new)
       ]
-      | inr later ↦ inr (contains_later kind first rest later)
+      | inr later ↦ inr (later.0, contains_later later.0 first rest later.1, later.2)
     ]
 
-all_joined : (kinds : List PathKind) (before : PathsToNested) (kind : PathKind)
-    → (has_kind before kind ≡ true) ⊎ Contains kinds kind → has_kind (fold union before (map paths_of kinds)) kind ≡ true
-all_joined [] before kind (inl h) = h
-all_joined [] before kind (inr (k, l, e)) = absurd (omega arith)
-all_joined (first ∷ rest) before kind (inl h) =
-    all_joined rest (union before (paths_of first)) kind (inl (has_kind-union before (paths_of first) kind ∙ first_of_two _ _ h))
-all_joined (first ∷ rest) before kind (inr (zero, l, e)) =
-    let own = subst (λ k. has_kind (paths_of k) kind ≡ true) (sym e) (has_own_kind kind) in
-    all_joined rest (union before (paths_of first)) kind (inl (has_kind-union before (paths_of first) kind ∙ second_of_two _ _ own))
-all_joined (first ∷ rest) before kind (inr (suc k, l, e)) =
-    all_joined rest (union before (paths_of first)) kind (inr (k, omega arith, e))
+kept : (f : PathKind → PathsToNested) (steps : List PathKind) (before : PathsToNested) (kind : PathKind)
+    → has_kind before kind ≡ true → has_kind (fold union before (map f steps)) kind ≡ true
+kept f [] before kind h = h
+kept f (first ∷ rest) before kind h =
+    kept f rest (union before (f first)) kind (has_kind-union before (f first) kind ∙ first_of_two _ _ h)
+
+pub each_set : (f : PathKind → PathsToNested) (steps : List PathKind) (before : PathsToNested) (kind step : PathKind)
+    → Contains steps step → has_kind (f step) kind ≡ true → has_kind (fold union before (map f steps)) kind ≡ true
+each_set f [] before kind step (k, l, e) h = absurd (omega arith)
+each_set f (first ∷ rest) before kind step there h = elim (first_or_later first step rest there) [
+  | inl here ↦
+      let own : has_kind (f first) kind ≡ true = subst (λ k. has_kind (f k) kind ≡ true) (sym here) h in
+      kept f rest (union before (f first)) kind (has_kind-union before (f first) kind ∙ second_of_two _ _ own)
+  | inr later ↦ each_set f rest (union before (f first)) kind step later h
+]
 
 -- the kinds of a set after a step are those of its paths after the step
 pub extended-kinds : (paths : PathsToNested) (step kind : PathKind)
     → IsTrue (has_kind (extended paths step) kind) ↔ Contains (kinds_after paths step) kind
 unfolding extended
 extended-kinds paths step kind =
-    let joined = union_of (map paths_of (kinds_after paths step)) in
-    let split = has_kind-union joined (unnamed_in paths) kind in (
+    let kinds = kinds_after paths step in
+    let split = has_kind-union (union_of (map paths_of kinds)) (unnamed_in paths) kind in (
       λ h. elim (or_cases _ _ (sym split ∙ h)) [
-        | inl named ↦ elim (only_joined (kinds_after paths step) no_paths kind named) [
+        | inl named ↦ elim (some_set paths_of kinds no_paths kind named) [
           | inl none ↦ absurd (false≢true (sym (has_kind-none kind) ∙ none))
-          | inr there ↦ there
+          | inr some ↦ subst (Contains kinds) (has_kind-paths_of some.0 kind some.2) some.1
         ]
         | inr unnamed ↦ absurd (false≢true (sym (has_kind-unnamed paths kind) ∙ unnamed))
       ],
-      λ there. split ∙ first_of_two _ _ (all_joined (kinds_after paths step) no_paths kind (inr there)),
+      λ there. split ∙ first_of_two _ _ (each_set paths_of kinds no_paths kind kind there (has_own_kind kind)),
     )

@@ -165,13 +165,18 @@ impl From<PathKind> for PathsToNested {
 }
 
 /// The laws of `extend_with`: it goes through unions and keeps the empty set empty, and a path of
-/// the new set is one of the old set after the step.
+/// the new set is one of the old set after the step. `extend_with_paths` has the paths after each step.
 pub fn extend_with_keeps_its_laws()
     ensures union { (some more : PathsToNested) (step : PathKind)
         → extended (union some more) step ≡ union (extended some step) (extended more step) }
     ensures empty_set { (step : PathKind) → extended no_paths step ≡ no_paths }
     ensures members { (paths : PathsToNested) (step kind : PathKind)
         → IsTrue (has_kind (extended paths step) kind) ↔ Contains (kinds_after paths step) kind }
+    ensures raised { (paths : PathsToNested) (step kind : PathKind)
+        → IsTrue (has_kind paths kind) → IsTrue (has_kind (extended paths step) (greater_kind step kind)) }
+    ensures each_step { (paths more : PathsToNested) (kind : PathKind)
+        → IsTrue (has_kind (extended_by_each paths more) kind)
+        ↔ ((step : PathKind) × IsTrue (has_kind more step) × IsTrue (has_kind (extended paths step) kind)) }
     ensures some_step { (paths : PathsToNested) (step : PathKind) → has_empty (extended paths step) ≡ false }
 {}
 
@@ -181,9 +186,11 @@ pub fn union_has_both()
         → has_kind (union some more) kind ≡ (has_kind some kind || has_kind more kind) }
 {}
 
-/// `iter_paths` ends after four kinds at most.
-pub fn iter_paths_ends()
-    ensures { (paths : PathsToNested) → length (kinds_in paths) ≤ 4 }
+/// The laws of `iter_paths`: it ends after four kinds at most, and gives exactly those of the set.
+pub fn iter_paths_keeps_its_laws()
+    ensures ends { (paths : PathsToNested) → length (kinds_in paths) ≤ 4 }
+    ensures members { (paths : PathsToNested) (kind : PathKind)
+        → Contains (kinds_in paths) kind ↔ IsTrue (has_kind paths kind) }
 {}
 
 /// The kinds of the paths of a set, rising.

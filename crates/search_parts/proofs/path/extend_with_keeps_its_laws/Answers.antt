@@ -1,4 +1,5 @@
 use Rattle.search_parts.proofs.PathLaws.{extended-union, extended-none, extended-kinds, extended-no_empty}
+use Rattle.search_parts.proofs.PathMembers.{extended-has, extended_by_each-kinds}
 use Rattle.search_parts.proofs.path.extend_with_keeps_its_laws.Goals as goal
 
 pub returns-clause-union : goal.returns-clause-union
@@ -12,3 +13,9 @@ returns-clause-members c = extended-kinds
 
 pub returns-clause-some_step : goal.returns-clause-some_step
 returns-clause-some_step c = extended-no_empty
+
+pub returns-clause-each_step : goal.returns-clause-each_step
+returns-clause-each_step c = extended_by_each-kinds
+
+pub returns-clause-raised : goal.returns-clause-raised
+returns-clause-raised c = extended-has
