@@ -14,3 +14,6 @@ pub use outcome::Outcome;
 pub use program::run;
 pub use reading::ReadFault;
 pub use rules::{Candidate, Goal, Rules};
+
+#[cfg(test)]
+mod tests;

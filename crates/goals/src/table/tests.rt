@@ -1,0 +1,251 @@
+//! The nodes that answers name, laid beside graphs that are worked out by hand.
+
+use crate::table::builder::Builder;
+use crate::table::delegate::{Table, TableDelegate};
+use crate::table::outcome::Outcome;
+use crate::table::rules::{Goal, Rules};
+use search_graph::graph::SearchGraph;
+use search_parts::context::{Cx, Delegate, Edge, Node, NodeId, Reply};
+use search_parts::global_cache::GlobalCache;
+use search_parts::path::PathKind;
+use std::alloc::Global;
+use std::io::Write;
+use std::test::Fail;
+
+/// More nodes than any graph below has, each counted as often as an edge leads to it.
+const MOST_NODES: usize = 32;
+
+/// A table with one question, and the graph of its answer. A line stands for a node: the question that leads
+/// to it, its result, and its replies, the oldest first. The nodes that its edges lead to follow in the
+/// edges' order, each with one more space in front. An answer without a node is its result alone.
+const GRAPHS: &str = "\
+ask 0 Z
+gives
+i:Z no: begin
+
+rule A =
+ask 0 A
+gives
+i:A yes: begin noted noted
+
+rule A = i:B
+rule B =
+ask 4 A
+gives
+i:A yes: begin noted yes noted
+ i:B yes: begin noted noted
+
+rule A = c:P
+rule P = u:Q f:R
+ask 4 A
+gives
+i:A no: begin noted no noted
+ c:P no: begin noted no no noted
+  u:Q no: begin
+  f:R no: begin
+
+rule A = i:B c:Q
+rule B =
+ask 4 A
+gives
+i:A no: begin noted yes no noted
+ c:Q no: begin
+
+rule A = i:Q
+rule A = f:B
+rule B =
+ask 4 A
+gives
+i:A yes: begin noted no noted noted yes noted
+ f:B yes: begin noted noted
+
+rule ~A = i:B
+rule A =
+rule B =
+ask 4 A
+gives
+i:A yes: begin noted yes noted noted noted noted
+
+rule ~A = i:B
+rule A = i:Q
+rule B =
+ask 4 A
+gives
+i:A yes: begin noted yes noted noted no noted
+ i:B yes: begin noted noted
+
+rule ~A = u:B
+rule A = i:B
+rule B =
+ask 4 A
+gives
+i:A yes: begin noted yes noted noted yes noted noted
+ i:B yes: begin noted noted
+
+rule A = i:B
+rule A = i:B
+rule B =
+ask 4 A
+gives
+i:A yes: begin noted yes noted noted yes noted
+ i:B yes: begin noted noted
+ i:B yes: begin noted noted
+
+rule A = i:Q
+rule A = c:Q i:Q
+ask 4 A
+gives
+i:A no: begin noted no noted noted no no noted
+ i:Q no: begin
+ c:Q no: begin
+ i:Q no: begin
+
+rule A = i:B c:C
+rule B = u:D
+rule C = f:D
+rule D =
+ask 2 A
+gives
+i:A yes: begin noted yes yes noted
+ i:B yes: begin noted yes noted
+  u:D yes: begin noted noted
+ c:C yes: begin noted yes noted
+  f:D yes: begin noted noted
+
+rule A = i:B
+rule B =
+ask 0 A
+gives
+i:A maybe
+
+rule A = i:B
+rule A =
+rule B =
+ask 0 A
+gives
+i:A yes: begin noted overflow noted noted noted
+
+rule A = i:B i:Q
+rule B = i:C
+rule C =
+ask 1 A
+gives
+i:A no: begin noted maybe no noted
+ i:Q no: begin";
+
+#[test]
+fn answers_name_their_graphs(rt: HostRuntime) -> Result<(), Fail> {
+    let mut count = 0u32;
+    for case in GRAPHS.split("\n\n") {
+        let (text, graph) = case
+            .split_once("\ngives\n")
+            .ok_or("a case without a graph")?;
+        let rules = Rules::read(rt.alloc(), text.as_bytes())?;
+        let cx = Table { lender: &rules };
+        let drawn = draw_answer::<Table<&Rules>, TableDelegate<'_, 8, 1>>(rt.alloc(), cx, &rules)?;
+        assert_eq!(rt; drawn.as_slice(), graph.as_bytes(), "the graph of {text}");
+        count = count.saturating_add(1);
+    }
+    assert_eq!(rt; count, 15);
+    Ok(())
+}
+
+/// The graph of the answer to the table's question, drawn as above.
+fn draw_answer<X, D>(alloc: Global, cx: X, rules: &Rules) -> Result<Vec<u8>, Fail>
+where
+    X: Cx<Input = Goal, Result = Outcome>,
+    D: Delegate<Cx = X, ProofTreeBuilder = Builder>,
+{
+    let (depth, goal) = *rules.questions().first().ok_or("no question")?;
+    let mut cache = GlobalCache::<D>::new(alloc, cx);
+    let mut graph = SearchGraph::<D>::new(alloc, depth);
+    let mut builder = Builder::new(true);
+    let answer = graph.evaluate_goal(&mut cache, goal, PathKind::Inductive, &mut builder)?;
+    let mut drawn = Vec::new(alloc);
+    match answer.node {
+        Some(root) => {
+            let question = Edge {
+                kind: PathKind::Inductive,
+                input: goal,
+                target: root.0,
+            };
+            draw_graph(&mut drawn, &cache, rules, question)?;
+        }
+        None => draw_result(&mut drawn, rules, PathKind::Inductive, goal, answer.result)?,
+    }
+    Ok(drawn)
+}
+
+/// The node that the edge leads to, and those that it reaches.
+fn draw_graph<X, D>(
+    drawn: &mut Vec<u8>,
+    cache: &GlobalCache<D>,
+    rules: &Rules,
+    root: Edge<Goal>,
+) -> Result<(), Fail>
+where
+    X: Cx<Input = Goal, Result = Outcome>,
+    D: Delegate<Cx = X>,
+{
+    let mut left = vec![in *drawn.allocator(); (0usize, root)]?;
+    for _ in 0..MOST_NODES {
+        let Some((depth, edge)) = left.pop() else {
+            return Ok(());
+        };
+        let node = cache.node(NodeId(edge.target)).ok_or("an open node")?;
+        draw_node(drawn, rules, depth, edge, node)?;
+        for next in node.edges.iter().rev() {
+            left.push((depth.saturating_add(1), *next))?;
+        }
+    }
+    Err("more nodes than expected")?
+}
+
+/// A line for the node that the edge leads to.
+fn draw_node(
+    drawn: &mut Vec<u8>,
+    rules: &Rules,
+    depth: usize,
+    edge: Edge<Goal>,
+    node: &Node<Goal, Outcome>,
+) -> Result<(), Fail> {
+    if node.input != edge.input {
+        return Err("a node of another goal")?;
+    }
+    if !drawn.is_empty() {
+        drawn.push(b'\n')?;
+    }
+    for _ in 0..depth {
+        drawn.push(b' ')?;
+    }
+    draw_result(drawn, rules, edge.kind, edge.input, node.result)?;
+    drawn.push(b':')?;
+    for reply in &node.replies {
+        match reply {
+            Reply::Begin => write!(drawn, " begin")?,
+            Reply::Answer(outcome) => write!(drawn, " {outcome}")?,
+            Reply::Noted => write!(drawn, " noted")?,
+        }
+    }
+    Ok(())
+}
+
+/// A question and its result.
+fn draw_result(
+    drawn: &mut Vec<u8>,
+    rules: &Rules,
+    kind: PathKind,
+    goal: Goal,
+    outcome: Outcome,
+) -> Result<(), Fail> {
+    let letter = match kind {
+        PathKind::Inductive => "i",
+        PathKind::Unknown => "u",
+        PathKind::Coinductive => "c",
+        PathKind::ForcedAmbiguity => "f",
+    };
+    write!(drawn, "{letter}:")?;
+    drawn.extend_from_slice(rules.name(goal).ok_or("no name")?)?;
+    write!(drawn, " {outcome}")?;
+    Ok(())
+}
