@@ -7,4 +7,6 @@ pub mod loops;
 #[cfg(test)]
 mod nested_goals;
 #[cfg(test)]
+mod stack;
+#[cfg(test)]
 mod tests;

@@ -19,3 +19,4 @@ pub mod HeadLists
 pub mod MergedUsages
 pub mod NestedLists
 pub mod Finished
+pub mod Cycles
