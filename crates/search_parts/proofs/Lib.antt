@@ -20,3 +20,4 @@ pub mod MergedUsages
 pub mod NestedLists
 pub mod Finished
 pub mod Cycles
+pub mod ProvisionalLists
