@@ -13,6 +13,6 @@ pub use candidates::CandidateHeadUsages;
 pub use depth::{AvailableDepth, StackDepth};
 pub use heads::{CycleHead, CycleHeads};
 pub use nested_goals::NestedGoals;
-pub use provisional_cache::{ProvisionalCache, ProvisionalCacheEntry};
+pub use provisional_cache::{ProvisionalCache, ProvisionalCacheEntry, RebaseReason};
 pub use stack::{EntryState, Stack, StackEntry};
 pub use usages::HeadUsages;

@@ -25,6 +25,20 @@ pub struct ProvisionalCacheEntry<X: Cx> {
     pub node: Option<NodeId>,
 }
 
+/// Why the entries that rest on a goal are settled anew once it is done. Ports `RebaseReason`.
+#[derive(Drop)]
+pub enum RebaseReason<X: Cx> {
+    /// No cycle through the goal was used.
+    NoCycleUsages,
+    /// The goal's result is ambiguous.
+    Ambiguity(X::AmbiguityInfo),
+    /// The goal had its most runs, and its result isn't stable.
+    Overflow,
+    /// The goal's result is stable: in its first run, which took it for the first answer of cycles of
+    /// this kind, or in a later one (`None`).
+    ReachedFixpoint(Option<PathKind>),
+}
+
 /// The answers that rest on goals on the stack, by goal: for each goal a list of entries, the oldest
 /// first. Ports the field `provisional_cache` of `SearchGraph`.
 #[derive(Drop)]
