@@ -7,4 +7,8 @@ pub mod loops;
 #[cfg(test)]
 mod nested_goals;
 #[cfg(test)]
+mod provisional_cache;
+#[cfg(test)]
+mod stack;
+#[cfg(test)]
 mod tests;

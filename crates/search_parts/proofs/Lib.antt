@@ -20,3 +20,5 @@ pub mod HeadLists
 pub mod MergedUsages
 pub mod NestedLists
 pub mod Finished
+pub mod Cycles
+pub mod ProvisionalLists

@@ -10,6 +10,7 @@
 //! | `Cache`, `View`, `Sound` | the cache's list of nodes, as contracts see it, and what holds of every cache |
 //! | `Shapes`, `Definite` | the nodes as the theory of open graphs sees them, and the graph of a definite result |
 //! | `Stack`, `StackIndex`, `Lent`, `Usages` | the goals under evaluation, how they are found and lent; counts |
+//! | `Cycle`, `Provisional` | kinds of the cycles through a goal under evaluation; answers that rest on such goals |
 #![tactic(auto)]
 
 pub mod context;

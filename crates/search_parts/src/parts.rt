@@ -5,6 +5,7 @@ pub mod candidates;
 pub mod depth;
 pub mod heads;
 pub mod nested_goals;
+pub mod provisional_cache;
 pub mod stack;
 pub mod usages;
 
@@ -12,5 +13,6 @@ pub use candidates::CandidateHeadUsages;
 pub use depth::{AvailableDepth, StackDepth};
 pub use heads::{CycleHead, CycleHeads};
 pub use nested_goals::NestedGoals;
+pub use provisional_cache::{ProvisionalCache, ProvisionalCacheEntry, RebaseReason};
 pub use stack::{EntryState, Stack, StackEntry};
 pub use usages::HeadUsages;

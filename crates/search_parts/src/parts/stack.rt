@@ -12,6 +12,7 @@ use std::alloc::Global;
 use std::collections::HashMap;
 use std::marker::Model;
 use std::ops::Index;
+use std::slice;
 
 /// What changes of an entry while its goal is evaluated. Ports the fields of `StackEntry` that the search
 /// writes.
@@ -199,5 +200,71 @@ impl<X: Cx> Index<StackDepth> for Stack<X> {
 
     fn index(&self, depth: StackDepth) -> &StackEntry<X> {
         &self.entries[depth.index()]
+    }
+}
+
+impl<X: Cx> Stack<X> {
+    ghost use Rattle.std.specs.Prelude.{◌≡◌, ◌<◌, length};
+    ghost use Rattle.std.specs.Slice.Iter.{iter_rest};
+    ghost use Rattle.search_parts.specs.Cycle.{step_kinds_above, path_kind_from};
+
+    /// The entries, from the first goal up.
+    pub fn iter(&self) -> slice::Iter<'_, StackEntry<X>>
+        ensures { iter_rest result ≡ self.now }
+    {
+        self.entries.iter()
+    }
+
+    /// The kinds of the steps above `head`, from below: of a cycle that ends at the head, each step but
+    /// the one that closes it. Ports `Stack::cycle_step_kinds`.
+    pub fn cycle_step_kinds(&self, head: StackDepth) -> CycleStepKinds<'_, X>
+        requires { head.0 < length self.now }
+        ensures { result ≡ step_kinds_above self.now head.0 }
+    {
+        CycleStepKinds {
+            above: &self.entries[head.index() + 1..],
+        }
+    }
+
+    /// The kind of the path from `head` to the last goal and on over `step`: the greatest of the steps
+    /// above the head and this one. The step by which the head itself was asked has no part in it. Ports
+    /// `cycle_path_kind`.
+    pub fn path_kind(&self, step: PathKind, head: StackDepth) -> PathKind
+        requires { head.0 < length self.now }
+        ensures { result ≡ path_kind_from self.now head.0 step }
+    {
+        self.cycle_step_kinds(head)
+            .fold(step, |path, kind| path.extend(kind))
+    }
+}
+
+/// The kinds of the steps above a goal on the stack, from below.
+#[derive(Drop)]
+pub struct CycleStepKinds<'a, X: Cx> {
+    above: &'a [StackEntry<X>],
+}
+
+impl<'a, X: Cx> Model for CycleStepKinds<'a, X> {
+    ghost use Rattle.std.specs.Prelude.{List, map};
+    ghost use Rattle.search_parts.specs.declared.path.PathKind.{PathKind};
+
+    ghost Value = { List PathKind };
+
+    ghost view = { λ s. map (λ e. e.step_kind_from_parent) s.above.now };
+}
+
+impl<'a, X: Cx> Iterator for CycleStepKinds<'a, X> {
+    ghost use Rattle.std.specs.Iterator.{YieldsFirst, item_count};
+
+    type Item = PathKind;
+
+    ghost next_gives = { YieldsFirst (λ kinds. kinds) };
+
+    ghost remaining = { item_count (λ kinds. kinds) };
+
+    fn next(&mut self) -> Option<PathKind> {
+        let (first, above) = self.above.split_first()?;
+        self.above = above;
+        Some(first.step_kind_from_parent)
     }
 }

@@ -1,0 +1,94 @@
+-- Lists of entries by goal: what is read of a map of lists, and how one of them grows.
+use Rattle.std.proofs.Common.{◌≡◌, ◌≢◌, Bool, true, false, cond, List, [], ◌∷◌, ◌++◌, All, Option, Some, None, Result, Ok, Err, OnOk, OnErr, refl, sym, ap, ◌∙◌, subst}
+use Rattle.std.proofs.lemmas.Map.Made.{lookup-map_values}
+use Rattle.std.proofs.lemmas.List.Elements.{All-nil, All-push}
+use Rattle.std.specs.Cmp.{IsEquivalence}
+use Rattle.std.specs.Global.{Vec}
+use Rattle.std.specs.Option.{option_map, unwrap_or, IfSome}
+use Rattle.std.specs.Map.{lookup, set_value}
+use Rattle.search_parts.specs.declared.parts.provisional_cache.ProvisionalCacheEntry.{ProvisionalCacheEntry}
+use Rattle.search_parts.specs.Provisional.{Lists, lists_of, entries_at, PutsLast, Appends, IsKept, AreKept}
+
+some_at_end : {E : Type 0} (es : List E) (e : E) → es ++ e ∷ [] ≢ []
+some_at_end [] e none = cc
+some_at_end (x ∷ es) e none = cc
+
+module _ {I E : Type 0} where
+  -- the list that is found is that of the vector that is found
+  pub list_found : (test : I → Bool) (entries : List (I × Vec E)) → lookup test (lists_of entries) ≡ option_map (λ v. v.items) (lookup test entries)
+  list_found test entries = lookup-map_values (λ v. v.items) test entries
+
+  -- a vector in the place of one with the same items leaves the lists as they are
+  pub lists-set_same : (test : I → Bool) (entries : List (I × Vec E)) (v w : Vec E)
+      → lookup test entries ≡ Some v → w.items ≡ v.items → lists_of (set_value test entries w) ≡ lists_of entries
+  lists-set_same test [] v w found same = refl
+  lists-set_same test (e ∷ es) v w found same =
+      let P : Bool → Type 0 = λ b. cond b (Some e.1) (lookup test es) ≡ Some v → lists_of (cond b ((e.0, w) ∷ es) (e ∷ set_value test es w)) ≡ lists_of (e ∷ es) in
+      let cases : (b : Bool) → P b = λ b. elim b as P [
+        | true ↦ λ here. let it : e.1 ≡ v = cc in ap (λ list. (e.0, list) ∷ lists_of es) (same ∙ ap (λ u. u.items) (sym it))
+        | false ↦ λ later. ap (λ lists. (e.0, e.1.items) ∷ lists) (lists-set_same test es v w later same)
+      ] in
+      cases (test e.0) found
+
+  -- a list that gets one entry more
+  pub appends : {same : I → I → Bool} (laws : IsEquivalence same) (old new : Lists I E) (input : I) (entry : E)
+      → PutsLast same old new input entry → Appends same old new input entry
+  appends {same} laws old new input entry puts = record {
+    here = ap (λ list. unwrap_or list []) (puts input ∙ ap (λ b. cond b (Some (entries_at same old input ++ entry ∷ [])) (lookup (same input) old)) (laws.refl input));
+    others = λ other apart. ap (λ list. unwrap_or list []) (puts other ∙ ap (λ b. cond b (Some (entries_at same old input ++ entry ∷ [])) (lookup (same other) old)) apart);
+  }
+
+module _ {X I R A T : Type 0} (same : I → I → Bool) where
+  -- the entries of a goal rest on heads
+  pub heads_at : (lists : Lists I (ProvisionalCacheEntry X I R A T)) (input : I) → AreKept same lists → All (λ e. e.heads ≢ []) (entries_at same lists input)
+  heads_at lists input kept =
+      let P : Option (List (ProvisionalCacheEntry X I R A T)) → Type 0 = λ list. IfSome list IsKept → All (λ e. e.heads ≢ []) (unwrap_or list []) in
+      let cases : (list : Option (List (ProvisionalCacheEntry X I R A T))) → P list = λ list. elim list as P [
+        | Some es ↦ λ is_kept. is_kept.heads
+        | None ↦ λ _. All-nil (λ e. e.heads ≢ [])
+      ] in
+      cases (lookup (same input) lists) (kept input)
+
+  -- a list with one entry more is kept, as the others are
+  pub kept_with : (old new : Lists I (ProvisionalCacheEntry X I R A T)) (input : I) (entry : ProvisionalCacheEntry X I R A T)
+      → entry.heads ≢ [] → AreKept same old → PutsLast same old new input entry → AreKept same new
+  kept_with old new input entry heads kept puts = λ other.
+      let before = entries_at same old input in
+      let longer : IsKept (before ++ entry ∷ []) = record { some = some_at_end before entry; heads = All-push (λ e. e.heads ≢ []) before entry (heads_at old input kept) heads } in
+      let P : Bool → Type 0 = λ b. IfSome (cond b (Some (before ++ entry ∷ [])) (lookup (same other) old)) IsKept in
+      let cases : (b : Bool) → P b = λ b. elim b as P [ true ↦ longer | false ↦ kept other ] in
+      subst (λ list. IfSome list IsKept) (sym (puts other)) (cases (same input other))
+
+-- the vector at the input gets a new item at its end
+pub puts_last : {I E : Type 0} (same : I → I → Bool) (old new : List (I × Vec E)) (input : I) (entry : E) (items : List E) (w : Vec E)
+    → unwrap_or (option_map (λ v. v.items) (lookup (same input) old)) [] ≡ items → w.items ≡ items ++ entry ∷ []
+    → ((q : I) → lookup (same q) new ≡ cond (same input q) (Some w) (lookup (same q) old))
+    → PutsLast same (lists_of old) (lists_of new) input entry
+puts_last same old new input entry items w was is updates = λ other.
+    let before = entries_at same (lists_of old) input in
+    let now : before ≡ items = ap (λ list. unwrap_or list []) (list_found (same input) old) ∙ was in
+    let P : Bool → Type 0 = λ b. option_map (λ v. v.items) (cond b (Some w) (lookup (same other) old)) ≡ cond b (Some (before ++ entry ∷ [])) (lookup (same other) (lists_of old)) in
+    let cases : (b : Bool) → P b = λ b. elim b as P [
+      | true ↦ ap Some (is ∙ ap (λ list. list ++ entry ∷ []) (sym now))
+      | false ↦ sym (list_found (same other) old)
+    ] in
+    list_found (same other) new ∙ ap (option_map (λ v. v.items)) (updates other) ∙ cases (same input other)
+
+-- a refused growth keeps what is kept, too
+pub kept_after : {X I R A T E : Type 0} (same : I → I → Bool) (old new : Lists I (ProvisionalCacheEntry X I R A T)) (input : I) (entry : ProvisionalCacheEntry X I R A T)
+    → entry.heads ≢ [] → AreKept same old → (r : Result (Unit {0}) E) → OnOk r (PutsLast same old new input entry) → OnErr r (new ≡ old) → AreKept same new
+kept_after {E = E} same old new input entry heads kept r ok err =
+    let P : Result (Unit {0}) E → Type 0 = λ r. OnOk r (PutsLast same old new input entry) → OnErr r (new ≡ old) → AreKept same new in
+    let cases : (r : Result (Unit {0}) E) → P r = λ r. elim r as P [
+      | Ok _ ↦ λ puts _. kept_with same old new input entry heads kept puts
+      | Err _ ↦ λ _ unchanged. subst (AreKept same) (sym unchanged) kept
+    ] in
+    cases r ok err
+
+-- what is found at a goal
+pub found_at : {I E : Type 0} (same : I → I → Bool) (entries : List (I × Vec E)) (lists : Lists I E) (input : I) (o : Option (Vec E)) → lists_of entries ≡ lists → o ≡ lookup (same input) entries
+    → unwrap_or (option_map (λ v. v.items) o) [] ≡ entries_at same lists input
+found_at same entries lists input o view found =
+    ap (λ o. unwrap_or (option_map (λ v. v.items) o) []) found
+    ∙ ap (λ list. unwrap_or list []) (sym (list_found (same input) entries))
+    ∙ ap (λ ls. entries_at same ls input) view

@@ -1,0 +1,123 @@
+//! What is kept of answers while goals that they rest on are still under evaluation.
+ghost use Rattle.std.specs.Prelude.{◌≡◌, ◌≢◌, ◌↔◌, [], All, IsTrue, OnOk, OnErr};
+ghost use Rattle.search_parts.specs.Provisional.{entries_at, lists_of, Appends, PutsLast};
+
+use crate::context::{Cx, Delegate, NoMemory, NodeId};
+use crate::parts::heads::CycleHeads;
+use crate::path::PathKind;
+use std::alloc::Global;
+use std::collections::HashMap;
+use std::hash::Hash;
+use std::marker::Model;
+
+/// An answer that rests on goals on the stack. Ports `ProvisionalCacheEntry`.
+#[derive(Drop)]
+pub struct ProvisionalCacheEntry<X: Cx> {
+    /// Whether a question was refused below the answer's goal.
+    pub encountered_overflow: bool,
+    /// The goals on the stack that the answer rests on: one at least, in a cache.
+    pub heads: CycleHeads,
+    /// The kind of the path from the highest head to the answer's goal.
+    pub path_from_head: PathKind,
+    /// The answer.
+    pub result: X::Result,
+    /// The node of a definite answer.
+    pub node: Option<NodeId>,
+}
+
+/// Why the entries that rest on a goal are settled anew once it is done. Ports `RebaseReason`.
+#[derive(Drop)]
+pub enum RebaseReason<X: Cx> {
+    /// No cycle through the goal was used.
+    NoCycleUsages,
+    /// The goal's result is ambiguous.
+    Ambiguity(X::AmbiguityInfo),
+    /// The goal had its most runs, and its result isn't stable.
+    Overflow,
+    /// The goal's result is stable: in its first run, which took it for the first answer of cycles of
+    /// this kind, or in a later one (`None`).
+    ReachedFixpoint(Option<PathKind>),
+}
+
+/// The answers that rest on goals on the stack, by goal: for each goal a list of entries, the oldest
+/// first. Ports the field `provisional_cache` of `SearchGraph`.
+#[derive(Drop)]
+pub struct ProvisionalCache<D: Delegate> {
+    alloc: Global,
+    lists: HashMap<<D::Cx as Cx>::Input, Vec<ProvisionalCacheEntry<D::Cx>>>,
+}
+
+impl<D: Delegate> Model for ProvisionalCache<D> {
+    ghost use Rattle.search_parts.specs.Provisional.{lists_of, Lists, AreKept};
+    ghost use Rattle.search_parts.specs.declared.parts.provisional_cache.ProvisionalCacheEntry.{ProvisionalCacheEntry};
+
+    ghost Value = { Lists D.Cx.Input (ProvisionalCacheEntry D.Cx D.Cx.Input D.Cx.Result D.Cx.AmbiguityInfo D.Cx.DepNodeIndex) };
+
+    ghost view = { λ c. lists_of c.lists.entries };
+
+    ghost invariant = { λ c. AreKept D.Cx.Input.eq (lists_of c.lists.entries) };
+}
+
+impl<D: Delegate> ProvisionalCache<D> {
+    /// A cache without entries. It takes no memory yet.
+    pub fn new(alloc: Global) -> ProvisionalCache<D>
+        ensures { result ≡ [] }
+    {
+        ProvisionalCache {
+            alloc,
+            lists: HashMap::new(alloc),
+        }
+    }
+
+    /// Whether no goal has an entry.
+    pub fn is_empty(&self) -> bool
+        ensures { IsTrue result ↔ (self.now ≡ []) }
+    {
+        self.lists.is_empty()
+    }
+
+    /// The entries of the goal, the oldest first; none where it has none.
+    pub fn entries_of(&self, input: <D::Cx as Cx>::Input) -> &[ProvisionalCacheEntry<D::Cx>]
+        ensures entries { result.now ≡ entries_at D.Cx.Input.eq self.now input }
+        ensures heads { All (λ entry. entry.heads ≢ []) result.now }
+    {
+        match self.lists.get(&input) {
+            Some(entries) => entries.as_slice(),
+            None => &[],
+        }
+    }
+
+    /// Appends an entry, which rests on a head, to the list of the goal. A refusal leaves the cache as
+    /// it was.
+    pub fn push(
+        &mut self,
+        input: <D::Cx as Cx>::Input,
+        entry: ProvisionalCacheEntry<D::Cx>,
+    ) -> Result<(), NoMemory>
+        requires { entry.heads ≢ [] }
+        ensures ok { OnOk result (Appends D.Cx.Input.eq self.old self.new input entry) }
+        ensures err { OnErr result (self.new ≡ self.old) }
+    {
+        append(&mut self.lists, self.alloc, input, entry)
+    }
+}
+
+// Appends an entry to the list of the input.
+fn append<I: Eq + Hash + Copy, E: Drop>(
+    lists: &mut HashMap<I, Vec<E>>,
+    alloc: Global,
+    input: I,
+    entry: E,
+) -> Result<(), NoMemory>
+    ensures ok { OnOk result (PutsLast I.eq (lists_of lists.old.entries) (lists_of lists.new.entries) input entry) }
+    ensures err { OnErr result (lists_of lists.new.entries ≡ lists_of lists.old.entries) }
+{
+    if let Some(entries) = lists.get_mut(&input) {
+        entries.push(entry)?;
+        return Ok(());
+    }
+    let mut entries = Vec::new(alloc);
+    entries.push(entry)?;
+    lists.insert(input, entries)?;
+    Ok(())
+}
