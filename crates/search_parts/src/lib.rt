@@ -9,7 +9,8 @@
 //! | `Rank` | goals without cycles, their plain values, and the bound on frames |
 //! | `Cache`, `View`, `Sound` | the cache's list of nodes, as contracts see it, and what holds of every cache |
 //! | `Shapes`, `Definite` | the nodes as the theory of open graphs sees them, and the graph of a definite result |
-//! | `Stack`, `StackIndex`, `Lent`, `Usages` | the goals under evaluation, how they are found and lent; counts |
+//! | `Stack`, `StackIndex`, `Lent` | the goals under evaluation, how they are found and lent |
+//! | `Usages`, `Heads`, `Candidates`, `Nested` | counts of usages, and the maps of heads, candidates and goals below |
 //! | `Cycle`, `Provisional` | kinds of the cycles through a goal under evaluation; answers that rest on such goals |
 #![tactic(auto)]
 
