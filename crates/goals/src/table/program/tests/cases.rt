@@ -110,31 +110,31 @@ rule G =
 ask 26 A
 > A yes 3
 
-rule O1 = i:P1
-rule P1 = i:Q1
-rule Q1 =
-ask 53 O1
-> O1 yes 3
+rule Oa = i:Pa
+rule Pa = i:Qa
+rule Qa =
+ask 53 Oa
+> Oa yes 3
 
-rule A1 = i:B1
-rule B1 = i:C1
-rule C1 = u:D1
-rule D1 = i:E1
-rule E1 = c:F1
-rule F1 =
-ask 2 A1
-> A1 maybe 3
+rule Aa = i:Ba
+rule Ba = i:Ca
+rule Ca = u:Da
+rule Da = i:Ea
+rule Ea = c:Fa
+rule Fa =
+ask 2 Aa
+> Aa maybe 3
 
-rule N1 = c:O1
-rule O1 = c:P1
-rule P1 = c:Q1
-rule Q1 = i:R1
-rule R1 = c:S1
-rule S1 = c:T1
-rule T1 = c:U1
-rule U1 = c:V1
-ask 2 N1
-> N1 maybe 3
+rule Na = c:Oa
+rule Oa = c:Pa
+rule Pa = c:Qa
+rule Qa = i:Ra
+rule Ra = c:Sa
+rule Sa = c:Ta
+rule Ta = c:Ua
+rule Ua = c:Va
+ask 2 Na
+> Na maybe 3
 
 rule A =
 rule A = i:F
