@@ -8,7 +8,7 @@ use Rattle.search_parts.specs.declared.context.Reply.{Reply}
 use Rattle.search_parts.specs.declared.context.Reply.TheVariants.{Begin, Answer, Noted}
 use Rattle.search_parts.specs.Run.{EndsIn, Fits, progress_after, questions_answered}
 use Rattle.parts_tests.specs.declared.loops.Outcome.{Outcome}
-use Rattle.parts_tests.specs.declared.loops.Outcome.TheVariants.{Yes, No, Maybe}
+use Rattle.parts_tests.specs.declared.loops.Outcome.TheVariants.{Yes, No, Maybe, Overflow}
 use Rattle.parts_tests.specs.declared.loops.Loops.{Loops}
 use Rattle.parts_tests.specs.declared.loops.Stage.{Stage}
 use Rattle.parts_tests.specs.declared.loops.Stage.TheVariants.{New, Asked, Done as Over}
@@ -72,11 +72,13 @@ yes_asks : (cx : Loops) (goal : PathKind) (r : Outcome) → is_yes r ≡ true �
 yes_asks cx goal Yes is = (0, omega arith, refl)
 yes_asks cx goal No is = absurd cc
 yes_asks cx goal Maybe is = absurd cc
+yes_asks cx goal Overflow is = absurd cc
 
 no_asks : (cx : Loops) (goal : PathKind) (r : Outcome) → is_no r ≡ true → Asks goal (questions_answered is_no (progress_after (loop_script cx goal) (Answer r ∷ Begin ∷ [])))
 no_asks cx goal Yes is = absurd cc
 no_asks cx goal No is = (0, omega arith, refl)
 no_asks cx goal Maybe is = absurd cc
+no_asks cx goal Overflow is = absurd cc
 
 pub yes_is_proved : (cx : Loops) (goal : PathKind) (replies : List (Reply Outcome)) (r : Outcome) → EndsIn (loop_script cx goal) replies r → is_yes r ≡ true → Asks goal (questions_answered is_yes (progress_after (loop_script cx goal) replies))
 yes_is_proved cx goal replies r h is =

@@ -7,7 +7,7 @@ use Rattle.search_parts.specs.Cache.{EndedRun}
 use Rattle.search_parts.specs.Delegate.{IsNeither, IsCycleResult}
 use Rattle.search_parts.specs.Question.{Question, IsWithin, Overlap}
 use Rattle.parts_tests.specs.declared.loops.Outcome.{Outcome}
-use Rattle.parts_tests.specs.declared.loops.Outcome.TheVariants.{Yes, No, Maybe}
+use Rattle.parts_tests.specs.declared.loops.Outcome.TheVariants.{Yes, No, Maybe, Overflow}
 
 -- the goal's only question
 abbrev pub its_question : PathKind → Question PathKind
@@ -27,16 +27,19 @@ abbrev pub is_yes : Outcome → Bool
 is_yes Yes = true
 is_yes No = false
 is_yes Maybe = false
+is_yes Overflow = false
 
 abbrev pub is_no : Outcome → Bool
 is_no Yes = false
 is_no No = true
 is_no Maybe = false
+is_no Overflow = false
 
 pub one_sort : (r : Outcome) → is_yes r ≡ true → is_no r ≡ false
 one_sort Yes h = λ i. false
 one_sort No h = absurd cc
 one_sort Maybe h = λ i. false
+one_sort Overflow h = λ i. false
 
 abbrev pub initial_outcome : PathKind → Outcome
 initial_outcome Inductive = No
@@ -48,11 +51,13 @@ abbrev pub kind_of : Outcome → Option PathKind
 kind_of Yes = Some Coinductive
 kind_of No = Some Inductive
 kind_of Maybe = None
+kind_of Overflow = None
 
 abbrev pub ambiguity_of : Outcome → Option (Unit {0})
 ambiguity_of Yes = None
 ambiguity_of No = None
 ambiguity_of Maybe = Some tt
+ambiguity_of Overflow = Some tt
 
 pub initial_sort : (kind : PathKind) → IsCycleResult is_yes is_no kind (initial_outcome kind)
 initial_sort Inductive = record { yes = λ i. false; no = λ i. true }
@@ -68,8 +73,12 @@ recognised_sort _ _ h = absurd cc
 pub maybe_is_neither : IsNeither is_yes is_no Maybe
 maybe_is_neither = record { not_yes = λ i. false; not_no = λ i. false }
 
+pub overflow_is_neither : IsNeither is_yes is_no Overflow
+overflow_is_neither = record { not_yes = λ i. false; not_no = λ i. false }
+
 pub ambiguous_is_neither : (r : Outcome) (info : Unit {0}) → ambiguity_of r ≡ Some info → IsNeither is_yes is_no r
 ambiguous_is_neither Maybe info h = record { not_yes = λ i. false; not_no = λ i. false }
+ambiguous_is_neither Overflow info h = record { not_yes = λ i. false; not_no = λ i. false }
 ambiguous_is_neither Yes info h = absurd cc
 ambiguous_is_neither No info h = absurd cc
 

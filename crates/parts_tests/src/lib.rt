@@ -1,14 +1,29 @@
-//! A delegate whose goals ask themselves, and tests with it: of the cache, and of the goals below a
-//! goal. A goal that asks itself has a node with an edge to itself, which is why a node is opened before
-//! its run begins.
+//! Delegates for tests, and tests with them: of the cache, and of the parts of a search. A goal that asks
+//! itself has a node with an edge to itself, which is why a node is opened before its run begins. Goals that
+//! count down go as deep as one likes.
 #![tactic(auto)]
 
+pub mod countdown;
+#[cfg(test)]
+mod depth;
+#[cfg(test)]
+mod faults;
+#[cfg(test)]
+mod kept;
 pub mod loops;
 #[cfg(test)]
 mod nested_goals;
 #[cfg(test)]
 mod provisional_cache;
 #[cfg(test)]
+mod rebasing;
+#[cfg(test)]
+mod result;
+#[cfg(test)]
+mod reuse;
+#[cfg(test)]
 mod stack;
+#[cfg(test)]
+mod stored_results;
 #[cfg(test)]
 mod tests;

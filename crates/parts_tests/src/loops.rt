@@ -15,6 +15,8 @@ pub enum Outcome {
     Yes,
     No,
     Maybe,
+    /// Neither is known, since a limit was met.
+    Overflow,
 }
 
 /// The context of goals that ask themselves.
@@ -59,7 +61,7 @@ impl Cx for Loops {
         match outcome {
             Outcome::Yes => Verdict::Yes,
             Outcome::No => Verdict::No,
-            Outcome::Maybe => Verdict::Neither,
+            Outcome::Maybe | Outcome::Overflow => Verdict::Neither,
         }
     }
 }
@@ -113,7 +115,7 @@ pub enum NoScope {}
 impl Delegate for Loops {
     ghost use Rattle.std.proofs.Common.{rules};
     ghost use Rattle.std.specs.Prelude.{false, true};
-    ghost use Rattle.parts_tests.specs.declared.loops.Outcome.TheVariants.{Maybe};
+    ghost use Rattle.parts_tests.specs.declared.loops.Outcome.TheVariants.{Maybe, Overflow};
     ghost use Rattle.parts_tests.specs.Frames.{loop_script, Stands, steps_left, yes_is_proved, no_is_refuted};
     ghost use Rattle.parts_tests.specs.Loops as loops;
     ghost use Rattle.search_parts.specs.Delegate.{CanTake, Steps};
@@ -150,9 +152,9 @@ impl Delegate for Loops {
 
     ghost initial_kind = { loops.kind_of };
 
-    ghost stack_overflow = { λ cx goal. Maybe };
+    ghost stack_overflow = { λ cx goal. Overflow };
 
-    ghost fixpoint_overflow = { λ cx goal. Maybe };
+    ghost fixpoint_overflow = { λ cx goal. Overflow };
 
     ghost ambiguity = { loops.ambiguity_of };
 
@@ -176,9 +178,9 @@ impl Delegate for Loops {
 
     ghost recognised_sort = { loops.recognised_sort };
 
-    ghost stack_overflow_is_neither = { λ cx goal. loops.maybe_is_neither };
+    ghost stack_overflow_is_neither = { λ cx goal. loops.overflow_is_neither };
 
-    ghost fixpoint_overflow_is_neither = { λ cx goal. loops.maybe_is_neither };
+    ghost fixpoint_overflow_is_neither = { λ cx goal. loops.overflow_is_neither };
 
     ghost ambiguous_is_neither = { loops.ambiguous_is_neither };
 
@@ -206,21 +208,21 @@ impl Delegate for Loops {
         match outcome {
             Outcome::Yes => Some(PathKind::Coinductive),
             Outcome::No => Some(PathKind::Inductive),
-            Outcome::Maybe => None,
+            Outcome::Maybe | Outcome::Overflow => None,
         }
     }
 
     fn stack_overflow_result(_cx: Loops, _input: PathKind) -> Outcome {
-        Outcome::Maybe
+        Outcome::Overflow
     }
 
     fn fixpoint_overflow_result(_cx: Loops, _input: PathKind) -> Outcome {
-        Outcome::Maybe
+        Outcome::Overflow
     }
 
     fn is_ambiguous_result(outcome: Outcome) -> Option<()> {
         match outcome {
-            Outcome::Maybe => Some(()),
+            Outcome::Maybe | Outcome::Overflow => Some(()),
             Outcome::Yes | Outcome::No => None,
         }
     }

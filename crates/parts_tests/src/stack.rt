@@ -13,7 +13,8 @@ fn the_greatest_step_above_the_head_is_the_kind(rt: HostRuntime) -> Result<(), F
         (PathKind::Coinductive, PathKind::Inductive),
     ] {
         if stack.find(goal).is_none() {
-            stack.push(StackEntry::new(goal, step, AvailableDepth(4)))?;
+            let entry = StackEntry::new(rt.alloc(), goal, step, AvailableDepth(4));
+            stack.push(entry)?;
         }
     }
     assert_eq!(rt; stack.len(), 3);
@@ -34,5 +35,34 @@ fn the_greatest_step_above_the_head_is_the_kind(rt: HostRuntime) -> Result<(), F
         let from_last = stack.path_kind(PathKind::Inductive, StackDepth::new(2));
         assert_eq!(rt; from_last, PathKind::Inductive);
     }
+    Ok(())
+}
+
+#[test]
+fn goals_are_found_at_their_places(rt: HostRuntime) -> Result<(), Fail> {
+    let [first, second] = [PathKind::Inductive, PathKind::Unknown];
+    let step = PathKind::Coinductive;
+    let mut stack = Stack::<Loops>::new(rt.alloc());
+    assert!(rt; stack.is_empty());
+    for (place, goal) in [(0, first), (1, second)] {
+        assert_eq!(rt; stack.next_index(), StackDepth::new(place));
+        assert_eq!(rt; stack.find(goal), None);
+        if stack.find(goal).is_none() {
+            let entry = StackEntry::new(rt.alloc(), goal, step, AvailableDepth(4));
+            assert_eq!(rt; stack.push(entry)?, StackDepth::new(place));
+        }
+        assert_eq!(rt; stack.find(goal), Some(StackDepth::new(place)));
+    }
+    assert_eq!(rt; stack.len(), 2);
+    if stack.len() == 2 {
+        assert_eq!(rt; stack[StackDepth::new(0)].input(), first);
+        let last = stack.last();
+        assert_eq!(rt; last.input(), second);
+        assert_eq!(rt; last.step_kind_from_parent(), step);
+        assert_eq!(rt; last.available_depth(), AvailableDepth(4));
+        assert_eq!(rt; stack.pop().input(), second);
+    }
+    assert_eq!(rt; stack.find(second), None);
+    assert_eq!(rt; stack.find(first), Some(StackDepth::new(0)));
     Ok(())
 }

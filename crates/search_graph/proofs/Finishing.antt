@@ -1,5 +1,5 @@
 -- A run that is done, and its node.
-use Rattle.std.proofs.Common.{◌≡◌, ◌≢◌, ℕ, zero, suc, ◌<◌, Bool, true, false, IsTrue, if◌then◌else◌, ◌↔◌, List, [], ◌∷◌, map, reverse, ◌++◌, length, get_or, Contains, Option, None, Some, slice_get, refl, sym, ap, ap₂, ◌∙◌, subst, arith}
+use Rattle.std.proofs.Common.{◌≡◌, ◌≢◌, ℕ, zero, suc, ◌<◌, Bool, true, false, IsTrue, if◌then◌else◌, ◌↔◌, List, [], ◌∷◌, map, reverse, ◌++◌, length, get_or, Contains, max, ◌==◌, ne_eqb, Option, None, Some, option_map, slice_get, refl, sym, ap, ap₂, ◌∙◌, subst, arith}
 use Rattle.std.specs.Option.{IsSomeAnd}
 use Rattle.std.proofs.lemmas.Option.{slice_get_within, get_or_from_slice_get, slice_get-get_or}
 use Rattle.open_graphs.specs.Graph as theory
@@ -13,7 +13,6 @@ use Rattle.search_parts.specs.declared.context.Reply.{Reply}
 use Rattle.search_parts.specs.declared.context.Reply.TheVariants.{Begin, Answer, Noted}
 use Rattle.search_parts.specs.declared.parts.depth.AvailableDepth.{AvailableDepth}
 use Rattle.search_parts.specs.declared.parts.stack.StackEntry.{StackEntry}
-use Rattle.search_parts.specs.Stack.{fresh_entry}
 use Rattle.search_parts.specs.Delegate.{IsNeither}
 use Rattle.search_parts.specs.Graph.{question_of}
 use Rattle.search_parts.specs.Run.{IsFitting, IsInOrder, EndsIn, progress_after, questions_answered}
@@ -24,13 +23,26 @@ use Rattle.search_graph.specs.declared.graph.open_goals.Next.{Next}
 use Rattle.search_graph.specs.declared.graph.open_goals.Next.TheVariants.{Step, Finished}
 use Rattle.search_graph.specs.declared.graph.progress.DefiniteAnswer.{DefiniteAnswer}
 use Rattle.search_graph.specs.Newest.{change_newest}
-use Rattle.search_graph.specs.Entries.{overflowed, with_answer}
+use Rattle.search_graph.specs.Entries.{first_entry, joined_over, overflowed, with_depth, TakesAnswer}
+use Rattle.search_graph.specs.Items.{AnswersNewest}
 use Rattle.search_graph.specs.Progress.{RunRecord, no_record, edges_of, Records}
 use Rattle.search_parts.specs.Definite.{HasGraph}
 use Rattle.search_graph.specs.Justified.{OpenRun, in_theory, ArePlaced, AreEdges, Asks, AreJustified, MayAnswer, IsFit}
-use Rattle.search_graph.specs.Runs.{run_of, runs_of, IsJustifiedNext, IsDone, EndsNewest, EndsRun, IsSettled, Ended, LeftOpen}
-use Rattle.search_graph.specs.Evaluating.{Leaves}
-use Rattle.search_graph.proofs.Justified.{pushed_is_justified, undone_is_justified, done_is_justified, done_may_answer, answer_fits, other_fits, answer_has_graph, neither_has_none}
+use Rattle.search_parts.specs.Definite.{IsDefinite}
+use Rattle.search_parts.specs.Heads.{Heads, at_depth}
+use Rattle.search_parts.specs.HeadShapes.{heads_shape}
+use Rattle.search_parts.specs.Path.{rank_of}
+use Rattle.search_parts.specs.Paths.{extended}
+use Rattle.search_parts.specs.declared.parts.depth.StackDepth.{StackDepth}
+use Rattle.search_parts.specs.declared.parts.heads.CycleHead.{CycleHead}
+use Rattle.search_parts.specs.declared.parts.stack.EntryState.{EntryState}
+use Rattle.search_parts.specs.declared.context.Request.TheVariants.{Evaluate}
+use Rattle.search_parts.proofs.HeadShapes.{IsIn, joined_after, joined_keeps}
+use Rattle.open_graphs.specs.Use.{Includes}
+use Rattle.open_graphs.specs.AnswerLaws.{TakesIn}
+use Rattle.search_graph.specs.Runs.{run_of, runs_of, IsJustifiedNext, IsDone, EndsNewest, EndsRun, IsSettled, Again, Ended, LeftOpen}
+use Rattle.search_graph.specs.Moves.{Leaves}
+use Rattle.search_graph.proofs.Justified.{Settles, pushed_is_justified, grown_is_justified, again_settles, neither_settles, ended_settles}
 use Rattle.search_graph.proofs.ProgressEdges.{yes_edges_are, no_edges_are, edge_is_of_answer}
 use Rattle.search_graph.proofs.Replies.{verdict_is, in_theory_definite}
 
@@ -44,20 +56,51 @@ place_of xs x has = (has.0, slice_get-get_or xs has.0 x has.1 ∙ ap Some has.2)
 
 -- ---- goals that are pushed, or only change their entries
 
-pub pushed_goal_is_justified : {X F I R A T : Type 0} (is_yes is_no : R → Bool) (nodes : List (CacheNode I R)) (input : I) (kind : PathKind) (depth : AvailableDepth) (run : Run X F I R A T) (goals : List (StackEntry X I R A T × Run X F I R A T)) → run.node.0 ≡ length nodes → run.progress ≡ no_record → Asks (runs_of goals) kind input → AreJustified is_yes is_no nodes (runs_of goals) → AreJustified is_yes is_no (nodes ++ open_node input ∷ []) (runs_of ((fresh_entry input kind depth, run) ∷ goals))
-pushed_goal_is_justified is_yes is_no nodes input kind depth run goals node unused asks h =
-    subst (λ o. AreJustified is_yes is_no (nodes ++ open_node input ∷ []) (o ∷ runs_of goals))
-    (ap₂ (λ n (p : RunRecord _ _). record { goal = input; step = kind; node = n; request = p.request; answers = p.answers }) (sym node) (sym unused))
-    (pushed_is_justified is_yes is_no nodes input kind (runs_of goals) asks h)
+pub pushed_goal_is_justified : {X F I R A T : Type 0} (is_yes is_no : R → Bool) (nodes : List (CacheNode I R)) (input : I) (kind : PathKind) (depth : AvailableDepth) (own : NodeId) (frame : F) (goals : List (StackEntry X I R A T × Run X F I R A T)) → own.0 ≡ length nodes → Asks (runs_of goals) kind input → AreJustified is_yes is_no nodes (runs_of goals) → AreJustified is_yes is_no (nodes ++ open_node input ∷ []) (runs_of ((first_entry input kind depth own, record { frame = frame; node = own; progress = no_record; finished_runs = 0; met_overflow_before = false }) ∷ goals))
+pushed_goal_is_justified is_yes is_no nodes input kind depth own frame goals at asks h = pushed_is_justified is_yes is_no nodes input kind own (runs_of goals) at asks h
 
 module _ {X F I R A T : Type 0} where
   pub runs_of-overflowed : (goals : List (StackEntry X I R A T × Run X F I R A T)) → runs_of goals ≡ runs_of (change_newest (λ s. (overflowed s.0, s.1)) goals)
   runs_of-overflowed [] = refl
   runs_of-overflowed (s ∷ below) = refl
 
-  pub runs_of-with_answer : (required : ℕ) (overflow : Bool) (goals : List (StackEntry X I R A T × Run X F I R A T)) → runs_of goals ≡ runs_of (change_newest (λ s. (with_answer s.0 required overflow, s.1)) goals)
-  runs_of-with_answer required overflow [] = refl
-  runs_of-with_answer required overflow (s ∷ below) = refl
+-- ---- heads that are taken over
+
+stays_at : (b : Bool) (step : PathKind) (own used : Option CycleHead) (path cycle : ℕ) → IsIn own path cycle → IsIn (if b then own else joined_over step own used) path cycle
+stays_at true step own used path cycle is = is
+stays_at false step own None path cycle is = is
+stays_at false step own (Some head) path cycle is = joined_keeps own (extended head.paths_to_head step) head.usages path cycle is
+
+comes_at : (b : Bool) (step : PathKind) (own used : Option CycleHead) (path cycle : ℕ) → b ≡ false → IsIn used path cycle → IsIn (if b then own else joined_over step own used) (max (rank_of step) path) cycle
+comes_at true step own used path cycle other is = absurd cc
+comes_at false step own None path cycle other is = absurd (is.1 refl)
+comes_at false step own (Some head) path cycle other is = joined_after own head step path cycle is
+
+module _ {X I R A T : Type 0} (parent : StackDepth) (step : PathKind) (required : ℕ) (overflow : Bool) (answer : Heads) (old new : EntryState X I R A T) (t : TakesAnswer parent step required overflow answer old new) where
+  pub heads_stay : Includes (heads_shape old.heads) (heads_shape new.heads)
+  heads_stay depth path cycle recorded =
+      let d : StackDepth = record { 0 = depth } in
+      subst (λ o. IsIn o path cycle) (sym (t.heads (record { 0 = depth })))
+      (stays_at (depth == parent.0) step (at_depth old.heads (record { 0 = depth })) (at_depth answer (record { 0 = depth })) path cycle recorded)
+
+  pub heads_come : TakesIn parent.0 (rank_of step) (heads_shape answer) (heads_shape new.heads)
+  heads_come depth path cycle lower recorded =
+      subst (λ o. IsIn o (max (rank_of step) path) cycle) (sym (t.heads (record { 0 = depth })))
+      (comes_at (depth == parent.0) step (at_depth old.heads (record { 0 = depth })) (at_depth answer (record { 0 = depth })) path cycle (ne_eqb depth parent.0 (omega (arith, lower))) recorded)
+
+  -- but for its heads, the goal's run is the same
+  pub same_run : {F : Type 0} (entry : StackEntry X I R A T) (run : Run X F I R A T) → entry.state ≡ old → run_of (record entry { state = new }, run) ≡ record (run_of (entry, run)) { heads = new.heads }
+  same_run entry run is =
+      ap (λ (s : EntryState X I R A T). record (run_of (record entry { state = s }, run)) { heads = new.heads }) (t.others ∙ ap (λ (s : EntryState X I R A T). record (with_depth s required overflow) { heads = new.heads; usages = new.usages }) (sym is))
+
+-- the newest goal that takes an answer over stays justified
+pub answered_newest_is_justified : {X F I R A T : Type 0} (is_yes is_no : R → Bool) (nodes : List (CacheNode I R)) (step : PathKind) (required : ℕ) (overflow : Bool) (answer : Heads) (old new : List (StackEntry X I R A T × Run X F I R A T)) → AnswersNewest step required overflow answer old new → AreJustified is_yes is_no nodes (runs_of old) → AreJustified is_yes is_no nodes (runs_of new)
+answered_newest_is_justified is_yes is_no nodes step required overflow answer old new a h =
+    let parent : StackDepth = record { 0 = length a.below } in
+    let was : AreJustified is_yes is_no nodes (run_of (a.entry, a.run) ∷ runs_of a.below) = subst (λ l. AreJustified is_yes is_no nodes (runs_of l)) a.was h in
+    subst (λ l. AreJustified is_yes is_no nodes (runs_of l)) (sym a.is)
+    (subst (λ o. AreJustified is_yes is_no nodes (o ∷ runs_of a.below)) (sym (same_run (record { 0 = length a.below }) step required overflow answer a.entry.state a.state a.takes a.entry a.run refl))
+    (grown_is_justified is_yes is_no nodes a.state.heads (run_of (a.entry, a.run)) (runs_of a.below) (heads_stay (record { 0 = length a.below }) step required overflow answer a.entry.state a.state a.takes) was))
 
 neither_at : (y n : Bool) → y ≡ false → n ≡ false → (if y then theory.Yes else if n then theory.No else theory.Neither) ≡ theory.Neither
 neither_at true n not_yes not_no = absurd cc
@@ -67,9 +110,14 @@ neither_at false false not_yes not_no = refl
 pub neither_is : {R : Type 0} (is_yes is_no : R → Bool) (r : R) → IsNeither is_yes is_no r → verdict_of is_yes is_no r ≡ theory.Neither
 neither_is is_yes is_no r h = neither_at (is_yes r) (is_no r) h.not_yes h.not_no
 
+-- a reply that is no definite answer fits
+other_fits : {I R : Type 0} (is_yes is_no : R → Bool) (nodes : List (CacheNode I R)) (goals : List (OpenRun I R)) (reply : Reply R) (target : Option NodeId) → ((r : R) → reply ≡ Answer r → verdict_of is_yes is_no r ≡ theory.Neither) → IsFit is_yes is_no nodes goals reply target
+other_fits is_yes is_no nodes [] reply target neither = tt
+other_fits is_yes is_no nodes (o ∷ below) reply target neither = λ r kind goal is asks definite. absurd (definite (neither r is))
+
 -- an answer that is neither yes nor no fits
-pub neither_fits : {I R : Type 0} (is_yes is_no : R → Bool) (nodes : List (CacheNode I R)) (goals : List (OpenRun I R)) (r : R) → verdict_of is_yes is_no r ≡ theory.Neither → IsFit is_yes is_no nodes goals (Answer r) None
-neither_fits is_yes is_no nodes goals r neither = other_fits is_yes is_no nodes goals (Answer r) None (λ s is. let same : r ≡ s = cc in ap (verdict_of is_yes is_no) (sym same) ∙ neither)
+pub neither_fits : {I R : Type 0} (is_yes is_no : R → Bool) (nodes : List (CacheNode I R)) (goals : List (OpenRun I R)) (r : R) (target : Option NodeId) → verdict_of is_yes is_no r ≡ theory.Neither → IsFit is_yes is_no nodes goals (Answer r) target
+neither_fits is_yes is_no nodes goals r target neither = other_fits is_yes is_no nodes goals (Answer r) target (λ s is. let same : r ≡ s = cc in ap (verdict_of is_yes is_no) (sym same) ∙ neither)
 
 -- a frame begins, and is noted, with no answer
 pub begin_fits : {I R : Type 0} (is_yes is_no : R → Bool) (nodes : List (CacheNode I R)) (goals : List (OpenRun I R)) → IsFit is_yes is_no nodes goals Begin None
@@ -77,6 +125,18 @@ begin_fits is_yes is_no nodes goals = other_fits is_yes is_no nodes goals Begin 
 
 pub noted_fits : {I R : Type 0} (is_yes is_no : R → Bool) (nodes : List (CacheNode I R)) (goals : List (OpenRun I R)) → IsFit is_yes is_no nodes goals Noted None
 noted_fits is_yes is_no nodes goals = other_fits is_yes is_no nodes goals Noted None (λ s is. let e : Noted ≡ Answer s = is in absurd cc)
+
+-- the newest goal gets the answer that its question has
+pub answer_fits : {I R : Type 0} (is_yes is_no : R → Bool) (nodes : List (CacheNode I R)) (p : OpenRun I R) (below : List (OpenRun I R)) (r : R) (step : PathKind) (goal : I) (target : Option NodeId) → Asks (p ∷ below) step goal → (verdict_of is_yes is_no r ≢ theory.Neither → IsSomeAnd target (λ n. MayAnswer is_yes is_no nodes p below (verdict_of is_yes is_no r) step goal n.0)) → IsFit is_yes is_no nodes (p ∷ below) (Answer r) target
+answer_fits is_yes is_no nodes p below r step goal target asks may s kind asked is asks_too definite =
+    let same : r ≡ s = cc in
+    let requests : Some (Evaluate step goal) ≡ Some (Evaluate kind asked) = sym asks ∙ asks_too in
+    let kinds : step ≡ kind = cc in
+    let goals : goal ≡ asked = cc in
+    subst (λ x. IsSomeAnd target (λ n. MayAnswer is_yes is_no nodes p below (verdict_of is_yes is_no x) kind asked n.0)) same
+    (subst (λ k. IsSomeAnd target (λ n. MayAnswer is_yes is_no nodes p below (verdict_of is_yes is_no r) k asked n.0)) kinds
+    (subst (λ g. IsSomeAnd target (λ n. MayAnswer is_yes is_no nodes p below (verdict_of is_yes is_no r) step g n.0)) goals
+    (may (λ neither. definite (ap (verdict_of is_yes is_no) (sym same) ∙ neither)))))
 
 -- ---- the run that a node is finished with
 
@@ -106,11 +166,18 @@ module _ {I R : Type 0} (is_yes is_no : R → Bool) (scripts : I → List (Reply
   open_for_run = subst (λ o. IsSomeAnd o (λ goal. IsRun is_yes is_no (scripts goal) nodes (record { replies = p.replies; edges = edges_of p v; outcome = r }))) (sym h.is_open) is_run
 
   -- a definite result settles the node
-  pub settled : v ≢ Neither → (after : List (CacheNode I R)) → after ≡ with_run nodes node.0 (record { replies = p.replies; edges = edges_of p v; outcome = r }) → IsSettled is_yes is_no nodes after node p r (Some node)
-  settled definite after is =
+  pub settled : v ≢ Neither → (earlier : Option R) (lead : Option NodeId) → (option_map (verdict_of is_yes is_no) earlier ≡ Some (in_theory v) → ⊥) → (after : List (CacheNode I R)) → after ≡ with_run nodes node.0 (record { replies = p.replies; edges = edges_of p v; outcome = r }) → IsSettled is_yes is_no nodes after earlier node lead p r (Some node)
+  settled definite earlier lead anew after is =
       let same : in_theory v ≡ verdict_of is_yes is_no r = verdict_is is_yes is_no r v holds fails definite in
-      Ended (record { replies = p.replies; edges = edges_of p v; outcome = r }) refl (λ e. in_theory_definite v definite (same ∙ e)) is
+      Ended (record { replies = p.replies; edges = edges_of p v; outcome = r }) refl (λ e. in_theory_definite v definite (same ∙ e)) (λ says. anew (says ∙ ap Some (sym same))) is
       (λ i e at. let w = edge_placed i e at in (w.0, w.1, w.2, w.3, ap in_theory w.4 ∙ same))
+
+module _ {I R : Type 0} (is_yes is_no : R → Bool) (nodes : List (CacheNode I R)) (earlier : Option R) (node : NodeId) (lead : Option NodeId) (p : RunRecord I R) (r : R) (v : Verdict) (holds : (v ≡ Yes) ↔ IsTrue (is_yes r)) (fails : (v ≡ No) ↔ IsTrue (is_no r)) where
+  -- one that says what the provisional result said has that one's node
+  pub again : v ≢ Neither → option_map (verdict_of is_yes is_no) earlier ≡ Some (in_theory v) → IsSettled is_yes is_no nodes nodes earlier node lead p r lead
+  again definite says =
+      let same : in_theory v ≡ verdict_of is_yes is_no r = verdict_is is_yes is_no r v holds fails definite in
+      Again (λ e. in_theory_definite v definite (same ∙ e)) (says ∙ ap Some same) refl
 
   not_true : (b : Bool) → (IsTrue b → ⊥) → b ≡ false
   not_true true never = absurd (never refl)
@@ -123,68 +190,30 @@ module _ {I R : Type 0} (is_yes is_no : R → Bool) (scripts : I → List (Reply
   neither_is_no_no is also = let e : Neither ≡ No = sym is ∙ also in cc
 
   -- any other leaves it open
-  pub left_open : v ≡ Neither → (after : List (CacheNode I R)) → after ≡ nodes → IsSettled is_yes is_no nodes after node p r None
-  left_open is after same = LeftOpen (neither_at (is_yes r) (is_no r) (not_true (is_yes r) (λ t. neither_is_no_yes is (holds.1 t))) (not_true (is_no r) (λ t. neither_is_no_no is (fails.1 t)))) same
+  pub left_open : v ≡ Neither → IsSettled is_yes is_no nodes nodes earlier node lead p r None
+  left_open is = LeftOpen (neither_at (is_yes r) (is_no r) (not_true (is_yes r) (λ t. neither_is_no_yes is (holds.1 t))) (not_true (is_no r) (λ t. neither_is_no_no is (fails.1 t)))) refl
 
--- ---- the goal is taken
+  -- where the result is definite, so is its verdict
+  pub definite_result : v ≢ Neither → IsDefinite is_yes is_no r
+  definite_result definite e = in_theory_definite v definite (verdict_is is_yes is_no r v holds fails definite ∙ e)
+
+-- ---- the newest goal's run has ended
 
 module _ {X F I R A T : Type 0} (is_yes is_no : R → Bool) (before after : List (CacheNode I R)) (entry : StackEntry X I R A T) (run : Run X F I R A T) (below : List (StackEntry X I R A T × Run X F I R A T)) (h : AreJustified is_yes is_no before (runs_of ((entry, run) ∷ below))) where
   pub ends_run : (scripts : I → List (Reply R) → Request I R) (r : R) → EndsNewest is_yes is_no scripts ((entry, run) ∷ below) r → EndsRun is_yes is_no scripts before run.node run.progress r
   ends_run scripts r ends = record { goal = entry.input; is_open = h.are_open.0; ends = ends; placed = h.placed.0 }
 
-  -- and the goals below stay justified
-  pub below_is_justified : (r : R) (node : Option NodeId) → IsSettled is_yes is_no before after run.node run.progress r node → AreJustified is_yes is_no after (runs_of below)
-  below_is_justified r node (Ended ended outcome definite is edges) =
-      subst (λ l. AreJustified is_yes is_no l (runs_of below)) (sym is)
-      (done_is_justified is_yes is_no before (run_of (entry, run)) (runs_of below) h ended (λ e. definite (ap (verdict_of is_yes is_no) (sym outcome) ∙ e)) (subst (λ x. AreEdges run.progress.answers (verdict_of is_yes is_no x) ended.edges) (sym outcome) edges))
-  below_is_justified r node (LeftOpen neither is) = subst (λ l. AreJustified is_yes is_no l (runs_of below)) (sym is) (undone_is_justified is_yes is_no before (run_of (entry, run)) (runs_of below) h)
-
-  may_answer : (r : R) (ended : EndedRun I R) → ended.outcome ≡ r → verdict_of is_yes is_no r ≢ theory.Neither → after ≡ with_run before run.node.0 ended → AreEdges run.progress.answers (verdict_of is_yes is_no r) ended.edges → MayAnswer is_yes is_no after (runs_of below) (verdict_of is_yes is_no r) entry.step_kind_from_parent entry.input run.node.0
-  may_answer r ended outcome definite is edges =
-      subst (λ l. MayAnswer is_yes is_no l (runs_of below) (verdict_of is_yes is_no r) entry.step_kind_from_parent entry.input run.node.0) (sym is)
-      (subst (λ x. MayAnswer is_yes is_no (with_run before run.node.0 ended) (runs_of below) (verdict_of is_yes is_no x) entry.step_kind_from_parent entry.input run.node.0) outcome
-      (done_may_answer is_yes is_no before (run_of (entry, run)) (runs_of below) h ended (λ e. definite (ap (verdict_of is_yes is_no) (sym outcome) ∙ e)) (subst (λ x. AreEdges run.progress.answers (verdict_of is_yes is_no x) ended.edges) (sym outcome) edges)))
-
--- the last goal's answer
-pub last_has_graph : {X F I R A T : Type 0} (is_yes is_no : R → Bool) (before after : List (CacheNode I R)) (entry : StackEntry X I R A T) (run : Run X F I R A T) → AreJustified is_yes is_no before (runs_of ((entry, run) ∷ [])) → (r : R) (node : Option NodeId) → IsSettled is_yes is_no before after run.node run.progress r node → HasGraph is_yes is_no after entry.input r node
-last_has_graph is_yes is_no before after entry run h r node (Ended ended outcome definite is edges) =
-    answer_has_graph is_yes is_no after r entry.step_kind_from_parent entry.input run.node definite (may_answer is_yes is_no before after entry run [] h r ended outcome definite is edges)
-last_has_graph is_yes is_no before after entry run h r node (LeftOpen neither is) = neither_has_none is_yes is_no after r entry.input neither
-
--- the answer for the goal below
-pub answer_is_fit : {X F I R A T : Type 0} (is_yes is_no : R → Bool) (before after : List (CacheNode I R)) (entry : StackEntry X I R A T) (run : Run X F I R A T) (p : StackEntry X I R A T × Run X F I R A T) (below : List (StackEntry X I R A T × Run X F I R A T)) → AreJustified is_yes is_no before (runs_of ((entry, run) ∷ p ∷ below)) → (r : R) (node : Option NodeId) → IsSettled is_yes is_no before after run.node run.progress r node → IsFit is_yes is_no after (runs_of (p ∷ below)) (Answer r) node
-answer_is_fit is_yes is_no before after entry run p below h r node (Ended ended outcome definite is edges) =
-    answer_fits is_yes is_no after (run_of p) (runs_of below) r entry.step_kind_from_parent entry.input run.node h.asked.0 (λ d. may_answer is_yes is_no before after entry run (p ∷ below) h r ended outcome definite is edges)
-answer_is_fit is_yes is_no before after entry run p below h r node (LeftOpen neither is) = neither_fits is_yes is_no after (runs_of (p ∷ below)) r neither
-
--- what comes after the newest goal was taken
-module _ {X F I R A T : Type 0} (is_yes is_no : R → Bool) (before after : List (CacheNode I R)) (s : StackEntry X I R A T × Run X F I R A T) (old rest new : List (StackEntry X I R A T × Run X F I R A T)) (was : old ≡ s ∷ rest) (r : R) (target : Option NodeId) where
-  pub finished_is_justified : length rest ≡ 0 → AreJustified is_yes is_no before (runs_of old) → IsSettled is_yes is_no before after s.1.node s.1.progress r target → IsJustifiedNext is_yes is_no after old new (Finished (record { result = r; node = target }))
-  finished_is_justified none h settled =
-      subst (λ v. IsJustifiedNext is_yes is_no after v new (Finished (record { result = r; node = target }))) (sym was)
-      (last_has_graph is_yes is_no before after s.0 s.1 (subst (λ v. AreJustified is_yes is_no before (runs_of v)) (was ∙ ap (λ l. s ∷ l) (nothing rest none)) h) r target settled)
-    where
-      nothing : (l : List (StackEntry X I R A T × Run X F I R A T)) → length l ≡ 0 → l ≡ []
-      nothing [] e = refl
-      nothing (x ∷ l) e = absurd (omega (arith, e))
-
--- the goal below gets its result
-leaves_at : {X F I R A T : Type 0} (s : StackEntry X I R A T × Run X F I R A T) (rest : List (StackEntry X I R A T × Run X F I R A T)) (r : R) (target : Option NodeId) → length rest ≢ 0 → Leaves r (s ∷ rest) (Step (record { reply = Answer r; node = target })) (change_newest (λ t. (with_answer t.0 s.0.state.required_depth s.0.state.encountered_overflow, t.1)) rest)
-leaves_at s [] r target some = absurd (some refl)
-leaves_at s (p ∷ below) r target some = (target, refl, refl)
-
-step_fits_at : {X F I R A T : Type 0} (is_yes is_no : R → Bool) (before after : List (CacheNode I R)) (s : StackEntry X I R A T × Run X F I R A T) (rest : List (StackEntry X I R A T × Run X F I R A T)) (r : R) (target : Option NodeId) → length rest ≢ 0 → AreJustified is_yes is_no before (runs_of (s ∷ rest)) → IsSettled is_yes is_no before after s.1.node s.1.progress r target → AreJustified is_yes is_no after (runs_of rest) × IsFit is_yes is_no after (runs_of rest) (Answer r) target
-step_fits_at is_yes is_no before after s [] r target some h settled = absurd (some refl)
-step_fits_at is_yes is_no before after s (p ∷ below) r target some h settled =
-    (below_is_justified is_yes is_no before after s.0 s.1 (p ∷ below) h r target settled, answer_is_fit is_yes is_no before after s.0 s.1 p below h r target settled)
-
-module _ {X F I R A T : Type 0} (s : StackEntry X I R A T × Run X F I R A T) (old rest new : List (StackEntry X I R A T × Run X F I R A T)) (was : old ≡ s ∷ rest) (some : length rest ≢ 0) (r : R) (target : Option NodeId) (is : new ≡ change_newest (λ t. (with_answer t.0 s.0.state.required_depth s.0.state.encountered_overflow, t.1)) rest) where
-  pub leaves_step : Leaves r old (Step (record { reply = Answer r; node = target })) new
-  leaves_step =
-      subst (λ v. Leaves r v (Step (record { reply = Answer r; node = target })) new) (sym was)
-      (subst (λ v. Leaves r (s ∷ rest) (Step (record { reply = Answer r; node = target })) v) (sym is) (leaves_at s rest r target some))
-
-  pub step_is_fit : (is_yes is_no : R → Bool) (before after : List (CacheNode I R)) → AreJustified is_yes is_no before (runs_of old) → IsSettled is_yes is_no before after s.1.node s.1.progress r target → AreJustified is_yes is_no after (runs_of new) × IsFit is_yes is_no after (runs_of new) (Answer r) target
-  step_is_fit is_yes is_no before after h settled =
-      subst (λ runs. AreJustified is_yes is_no after runs × IsFit is_yes is_no after runs (Answer r) target) (runs_of-with_answer s.0.state.required_depth s.0.state.encountered_overflow rest ∙ ap runs_of (sym is))
-      (step_fits_at is_yes is_no before after s rest r target some (subst (λ v. AreJustified is_yes is_no before (runs_of v)) was h) settled)
+  pub settles : (r : R) (target : Option NodeId) → IsSettled is_yes is_no before after entry.state.provisional_result run.node entry.state.node run.progress r target → Settles is_yes is_no before after (run_of (entry, run)) (runs_of below) r target
+  settles r target (Again definite says is) =
+      subst (λ l. Settles is_yes is_no before l (run_of (entry, run)) (runs_of below) r entry.state.node) (sym is)
+      (again_settles is_yes is_no before (run_of (entry, run)) (runs_of below) h r definite says)
+  settles r target (Ended ended outcome definite anew is edges) =
+      subst (λ l. Settles is_yes is_no before l (run_of (entry, run)) (runs_of below) r (Some run.node)) (sym is)
+      (subst (λ x. Settles is_yes is_no before (with_run before run.node.0 ended) (run_of (entry, run)) (runs_of below) x (Some run.node)) outcome
+      (ended_settles is_yes is_no before (run_of (entry, run)) (runs_of below) h run.node refl ended
+      (λ e. definite (ap (verdict_of is_yes is_no) (sym outcome) ∙ e))
+      (λ says. anew (says ∙ ap (λ x. Some (verdict_of is_yes is_no x)) outcome))
+      (subst (λ x. AreEdges run.progress.answers (verdict_of is_yes is_no x) ended.edges) (sym outcome) edges)))
+  settles r target (LeftOpen neither is) =
+      subst (λ l. Settles is_yes is_no before l (run_of (entry, run)) (runs_of below) r None) (sym is)
+      (neither_settles is_yes is_no before (run_of (entry, run)) (runs_of below) h r neither)

@@ -1,18 +1,21 @@
 -- Each move of the driver keeps the goals under evaluation justified.
 use Rattle.std.proofs.Common.{◌≡◌, ◌≢◌, ℕ, zero, suc, ◌+◌, ◌<◌, Bool, true, false, cond, List, [], ◌∷◌, ◌++◌, map, filter, length, Option, None, Some, option_map, slice_get, slice_set, Contains, append-nil, refl, sym, ap, ◌∙◌, subst, inl, inr, arith}
-use Rattle.std.specs.Option.{IsSomeAnd}
+use Rattle.std.specs.Option.{IsSomeAnd, option_or}
 use Rattle.std.proofs.lemmas.List.{map-append, map-set, length-map}
 use Rattle.std.proofs.lemmas.List.Elements.{filter-append}
 use Rattle.open_graphs.specs.Graph as theory
 use Rattle.open_graphs.specs.Stack.{path_kind}
-use Rattle.open_graphs.specs.Use.{Use, Includes, Recorded}
-use Rattle.open_graphs.specs.State.{Frame, no_heads, stack_of, first_frame, answering, OwnsOther, IsSound}
+use Rattle.open_graphs.specs.Graph.{IsGraph}
+use Rattle.open_graphs.specs.Use.{Use, Includes, Recorded, UsesNo}
+use Rattle.open_graphs.specs.State.{Frame, Kept, Final, stack_of, first_frame, next_frame, answering, OwnsOther, IsSound}
 use Rattle.open_graphs.specs.AnswerLaws.{with_edge, TakesIn}
-use Rattle.open_graphs.specs.Run.{Answered, Anew, Without, IsAnswered, AllAnswered}
+use Rattle.open_graphs.specs.Run.{Answered, Again, Anew, Without, IsAnswered, AllAnswered}
 use Rattle.open_graphs.proofs.Lists.{get_left, get_cases, get_set_other}
-use Rattle.open_graphs.proofs.States.{push_keeps_sound, answers_keep_sound, pop_keeps_sound, start_is_sound, none_used}
+use Rattle.open_graphs.proofs.States.{push_keeps_sound, answers_keep_sound, pop_keeps_sound, rerun_keeps_sound, start_is_sound, verdict_cases}
 use Rattle.open_graphs.proofs.Asked.{done_is_answered, one_answer_keeps_sound}
 use Rattle.open_graphs.proofs.Runs.{root_is_graph}
+use Rattle.open_graphs.proofs.Closed.{closed_is_graph}
+use Rattle.open_graphs.proofs.Keep.{heads_keep_use}
 use Rattle.search_parts.specs.declared.path.PathKind.{PathKind}
 use Rattle.search_parts.specs.declared.context.Verdict.{Verdict}
 use Rattle.search_parts.specs.declared.context.Edge.{Edge}
@@ -21,13 +24,16 @@ use Rattle.search_parts.specs.declared.context.Request.TheVariants.{Evaluate}
 use Rattle.search_parts.specs.declared.context.Reply.{Reply}
 use Rattle.search_parts.specs.declared.context.Reply.TheVariants.{Answer}
 use Rattle.search_parts.specs.declared.context.NodeId.{NodeId}
+use Rattle.search_parts.specs.HeadShapes.{heads_shape}
+use Rattle.search_parts.specs.Heads.{Heads}
 use Rattle.search_parts.specs.Path.{rank_of}
 use Rattle.search_parts.specs.Cache.{EndedRun, CacheNode, open_node, open_goal, with_run, IsNodeOf, KeepsNodes, KeepsGoals}
 use Rattle.search_parts.specs.Shapes.{verdict_of, edge_shape, shape_of, shapes_of}
 use Rattle.search_parts.proofs.Nodes.{KeepsNodes-appended, KeepsGoals-appended, before, with_run-is, KeepsGoals-ended}
 use Rattle.search_graph.specs.declared.graph.progress.DefiniteAnswer.{DefiniteAnswer}
 use Rattle.search_parts.specs.Definite.{HasGraph}
-use Rattle.search_graph.specs.Justified.{OpenRun, in_theory, edges_with, frame_of, AreOpen, ArePlaced, AllPlaced, AreEdges, Asks, AreAsked, AreJustified, MayAnswer, IsFit}
+use Rattle.search_graph.specs.Justified.{OpenRun, in_theory, edges_with, leads_to, frame_of, frames_of, AreOpen, LeadHome, ArePlaced, AllPlaced, AreEdges, Asks, AreAsked, AreJustified, MayAnswer, IsFit}
+use Rattle.search_graph.specs.Runs.{SaysAgain}
 
 -- ---- open nodes
 
@@ -52,7 +58,15 @@ module _ {I R : Type 0} (nodes more : List (CacheNode I R)) where
 
   AreOpen-kept : KeepsNodes nodes more → (goals : List (OpenRun I R)) → AreOpen nodes goals → AreOpen more goals
   AreOpen-kept kept [] h = tt
-  AreOpen-kept kept (o ∷ below) h = (open_kept o.node o.goal (kept o.node) h.0, AreOpen-kept kept below h.1)
+  AreOpen-kept kept (o ∷ below) h = (open_kept o.own o.goal (kept o.own) h.0, AreOpen-kept kept below h.1)
+
+  home_kept : (o : OpenRun I R) (lead : Option NodeId) → KeepsGoals nodes more → IsSomeAnd lead (λ n. IsNodeOf nodes n.0 o.goal) → IsSomeAnd lead (λ n. IsNodeOf more n.0 o.goal)
+  home_kept o None kept h = absurd h
+  home_kept o (Some n) kept h = kept n.0 o.goal h
+
+  LeadHome-kept : KeepsGoals nodes more → (goals : List (OpenRun I R)) → LeadHome nodes goals → LeadHome more goals
+  LeadHome-kept kept [] h = tt
+  LeadHome-kept kept (o ∷ below) h = (home_kept o o.cycles_lead kept h.0, LeadHome-kept kept below h.1)
 
   AllPlaced-kept : KeepsGoals nodes more → (goals : List (OpenRun I R)) → AllPlaced nodes goals → AllPlaced more goals
   AllPlaced-kept kept [] h = tt
@@ -117,60 +131,101 @@ none_is_not_some is = cc
 no_answers : {A : Type 0} (i : ℕ) (a : A) → slice_get [] i ≡ Some a → ⊥
 no_answers i a is = cc
 
-module _ {I R : Type 0} (is_yes is_no : R → Bool) (nodes : List (CacheNode I R)) where
-  abbrev Shapes : List theory.Node
-  Shapes = shapes_of is_yes is_no nodes
+-- a frame may forget which heads its run began with
+settled_kept : (nodes : List theory.Node) (f : Frame) (frames : List Frame) (provisional : List Kept) (final : List Final) → IsSound nodes (f ∷ frames) provisional final → IsSound nodes (record f { kept = f.heads } ∷ frames) provisional final
+settled_kept nodes f frames provisional final h =
+    let r = h.running.0 in
+    record {
+      is_stack = h.is_stack;
+      running = (
+        record {
+          unfinished = r.unfinished;
+          lower = r.lower;
+          which_run = r.which_run;
+          earlier = λ v definite says. heads_keep_use nodes v (stack_of frames) (path_kind (stack_of frames) f.entry.step) (path_kind (stack_of frames) f.entry.step) 0 f.entry.node f.kept f.heads r.still (λ depth path cycle recorded. refl) (r.earlier v definite says);
+          still = λ depth path cycle recorded. recorded;
+          answered = r.answered;
+        },
+        h.running.1,
+      );
+      apart = h.apart;
+      stored = h.stored;
+      closed = h.closed;
+    }
 
+-- a run that begins
+abbrev pub new_run : {I R : Type 0} → I → PathKind → NodeId → Option NodeId → Option R → Heads → OpenRun I R
+new_run goal step own lead earlier heads = record { goal = goal; step = step; own = own.0; cycles_lead = lead; provisional = earlier; heads = heads; request = None; answers = [] }
+
+module _ {I R : Type 0} (is_yes is_no : R → Bool) (nodes : List (CacheNode I R)) where
   -- nothing is under evaluation
   pub nothing_is_justified : AreJustified is_yes is_no nodes []
   nothing_is_justified = record {
     sound = start_is_sound (shapes_of is_yes is_no nodes) [] (λ i x is. absurd (no_answers i x is));
     are_open = tt;
+    lead_home = tt;
     placed = tt;
     asked = tt;
   }
 
+  shapes_opened : (goal : I) → shapes_of is_yes is_no (nodes ++ open_node goal ∷ []) ≡ shapes_of is_yes is_no nodes ++ theory.Unfinished ∷ []
+  shapes_opened goal = map-append (shape_of is_yes is_no) nodes (open_node goal ∷ [])
+
+  new_node_is : (goal : I) → IsNodeOf (nodes ++ open_node goal ∷ []) (length nodes) goal
+  new_node_is goal = ap (option_map (λ n. n.goal)) (get_last nodes (open_node goal))
+
   -- the goal that was asked is pushed
-  pub pushed_is_justified : (goal : I) (step : PathKind) (goals : List (OpenRun I R)) → Asks goals step goal → AreJustified is_yes is_no nodes goals → AreJustified is_yes is_no (nodes ++ open_node goal ∷ []) (record { goal = goal; step = step; node = length nodes; request = None; answers = [] } ∷ goals)
-  pushed_is_justified goal step goals asks h =
-      let shapes : shapes_of is_yes is_no (nodes ++ open_node goal ∷ []) ≡ shapes_of is_yes is_no nodes ++ theory.Unfinished ∷ [] = map-append (shape_of is_yes is_no) nodes (open_node goal ∷ []) in
-      let many : length (shapes_of is_yes is_no nodes) ≡ length nodes = length-map nodes (shape_of is_yes is_no) in
-      let at : slice_get (nodes ++ open_node goal ∷ []) (length nodes) ≡ Some (open_node goal) = get_last nodes (open_node goal) in
+  pub pushed_is_justified : (goal : I) (step : PathKind) (own : NodeId) (goals : List (OpenRun I R)) → own.0 ≡ length nodes → Asks goals step goal → AreJustified is_yes is_no nodes goals → AreJustified is_yes is_no (nodes ++ open_node goal ∷ []) (new_run goal step own (Some own) None [] ∷ goals)
+  pushed_is_justified goal step own goals at asks h =
+      let many : length (shapes_of is_yes is_no nodes) ≡ own.0 = length-map nodes (shape_of is_yes is_no) ∙ sym at in
+      let last : slice_get (nodes ++ open_node goal ∷ []) own.0 ≡ Some (open_node goal) = ap (slice_get (nodes ++ open_node goal ∷ [])) at ∙ get_last nodes (open_node goal) in
       record {
         sound =
-            subst (λ more. IsSound more (map frame_of (record { goal = goal; step = step; node = length nodes; request = None; answers = [] } ∷ goals)) [] []) (sym shapes)
-            (subst (λ n. IsSound (shapes_of is_yes is_no nodes ++ theory.Unfinished ∷ []) (first_frame (rank_of step) n no_heads ∷ map frame_of goals) [] []) many
-            (push_keeps_sound (shapes_of is_yes is_no nodes) (map frame_of goals) [] [] (rank_of step) no_heads h.sound));
-        are_open = (goal_open (nodes ++ open_node goal ∷ []) (length nodes) (open_node goal) goal at refl refl, AreOpen-kept nodes (nodes ++ open_node goal ∷ []) (KeepsNodes-appended true nodes goal) goals h.are_open);
+            subst (λ more. IsSound more (frames_of is_yes is_no (new_run goal step own (Some own) None [] ∷ goals)) [] []) (sym (shapes_opened goal))
+            (subst (λ n. IsSound (shapes_of is_yes is_no nodes ++ theory.Unfinished ∷ []) (first_frame (rank_of step) n (heads_shape []) ∷ frames_of is_yes is_no goals) [] []) many
+            (push_keeps_sound (shapes_of is_yes is_no nodes) (frames_of is_yes is_no goals) [] [] (rank_of step) (heads_shape []) h.sound));
+        are_open = (goal_open (nodes ++ open_node goal ∷ []) own.0 (open_node goal) goal last refl refl, AreOpen-kept nodes (nodes ++ open_node goal ∷ []) (KeepsNodes-appended true nodes goal) goals h.are_open);
+        lead_home = (subst (λ n. IsNodeOf (nodes ++ open_node goal ∷ []) n goal) (sym at) (new_node_is goal), LeadHome-kept nodes (nodes ++ open_node goal ∷ []) (KeepsGoals-appended true nodes goal) goals h.lead_home);
         placed = (λ i a is. absurd (no_answers i a is), AllPlaced-kept nodes (nodes ++ open_node goal ∷ []) (KeepsGoals-appended true nodes goal) goals h.placed);
         asked = (asks, h.asked);
       }
 
   -- the newest goal makes another request
   pub requested_is_justified : (request : Option (Request I R)) (o : OpenRun I R) (below : List (OpenRun I R)) → AreJustified is_yes is_no nodes (o ∷ below) → AreJustified is_yes is_no nodes (record o { request = request } ∷ below)
-  requested_is_justified request o below h = record { sound = h.sound; are_open = h.are_open; placed = h.placed; asked = h.asked }
+  requested_is_justified request o below h = record { sound = h.sound; are_open = h.are_open; lead_home = h.lead_home; placed = h.placed; asked = h.asked }
 
   -- the newest goal gets a definite answer
-  pub answered_is_justified : (a : DefiniteAnswer I) (o : OpenRun I R) (below : List (OpenRun I R)) → MayAnswer is_yes is_no nodes (o ∷ below) (in_theory a.verdict) a.edge.kind a.edge.input a.edge.target → AreJustified is_yes is_no nodes (o ∷ below) → AreJustified is_yes is_no nodes (record o { answers = o.answers ++ a ∷ [] } ∷ below)
-  answered_is_justified a o below may h =
-      let stack = stack_of (map frame_of below) in
-      let answers = done_is_answered (shapes_of is_yes is_no nodes) (in_theory a.verdict) stack (frame_of o).entry (rank_of a.edge.kind) a.edge.target no_heads no_heads may.used (λ depth path cycle lower recorded. absurd (none_used depth path cycle recorded)) in
+  pub answered_is_justified : (a : DefiniteAnswer I) (o : OpenRun I R) (below : List (OpenRun I R)) → MayAnswer is_yes is_no nodes o below (in_theory a.verdict) a.edge.kind a.edge.input a.edge.target → AreJustified is_yes is_no nodes (o ∷ below) → AreJustified is_yes is_no nodes (record o { answers = o.answers ++ a ∷ [] } ∷ below)
+  answered_is_justified a o below may h = record {
+    sound =
+        subst (λ edges. IsSound (shapes_of is_yes is_no nodes) (answering (frame_of is_yes is_no o) edges (heads_shape o.heads) ∷ frames_of is_yes is_no below) [] []) (λ i v. edges_append o.answers a v i)
+        (one_answer_keeps_sound (shapes_of is_yes is_no nodes) (frame_of is_yes is_no o) (frames_of is_yes is_no below) [] [] (in_theory a.verdict) (edge_shape a.edge) (heads_shape o.heads) (λ depth path cycle recorded. recorded) may.answered h.sound);
+    are_open = h.are_open;
+    lead_home = h.lead_home;
+    placed = (
+      λ i b is. elim (get_cases o.answers a i b is) [
+        | inl old ↦ h.placed.0 i b old
+        | inr new ↦ subst (λ d. IsNodeOf nodes d.edge.target d.edge.input) new.1 may.of_goal
+      ],
+      h.placed.1,
+    );
+    asked = h.asked;
+  }
+
+  -- it takes over heads
+  pub grown_is_justified : (heads : Heads) (o : OpenRun I R) (below : List (OpenRun I R)) → Includes (heads_shape o.heads) (heads_shape heads) → AreJustified is_yes is_no nodes (o ∷ below) → AreJustified is_yes is_no nodes (record o { heads = heads } ∷ below)
+  grown_is_justified heads o below more h =
+      let grown = answers_keep_sound (shapes_of is_yes is_no nodes) (frame_of is_yes is_no o) (frames_of is_yes is_no below) [] [] (edges_with o.answers) (heads_shape heads) more
+      (λ v i edge at. let a = h.sound.running.0.answered v i edge at in record { answer = a.answer; used = a.used; among = λ depth path cycle lower recorded. more depth path cycle (a.among depth path cycle lower recorded) }) h.sound in
       record {
-        sound =
-            subst (λ edges. IsSound (shapes_of is_yes is_no nodes) (answering (frame_of o) edges no_heads ∷ map frame_of below) [] []) (λ i v. edges_append o.answers a v i)
-            (one_answer_keeps_sound (shapes_of is_yes is_no nodes) (frame_of o) (map frame_of below) [] [] (in_theory a.verdict) (edge_shape a.edge) no_heads (λ depth path cycle recorded. recorded) answers h.sound);
+        sound = settled_kept (shapes_of is_yes is_no nodes) (answering (frame_of is_yes is_no o) (edges_with o.answers) (heads_shape heads)) (frames_of is_yes is_no below) [] [] grown;
         are_open = h.are_open;
-        placed = (
-          λ i b is. elim (get_cases o.answers a i b is) [
-            | inl old ↦ h.placed.0 i b old
-            | inr new ↦ subst (λ d. IsNodeOf nodes d.edge.target d.edge.input) new.1 may.of_goal
-          ],
-          h.placed.1,
-        );
+        lead_home = h.lead_home;
+        placed = h.placed;
         asked = h.asked;
       }
 
-  -- ---- the newest goal is done
+  -- ---- the newest goal's run has ended
 
   -- the edges of the verdict give way to those of the result
   abbrev chosen_edges : theory.Verdict → List (Edge I) → List (DefiniteAnswer I) → theory.Verdict → List theory.Edge
@@ -181,104 +236,196 @@ module _ {I R : Type 0} (is_yes is_no : R → Bool) (nodes : List (CacheNode I R
   edge_in (e ∷ es) zero edge at = (e, refl, cc)
   edge_in (e ∷ es) (suc i) edge at = edge_in es i edge at
 
-  chosen_at : (b : Bool) (verdict other : theory.Verdict) (edges : List (Edge I)) (o : OpenRun I R) (below : List (OpenRun I R)) → theory.same_verdict verdict other ≡ b → AreEdges o.answers verdict edges → ((v : theory.Verdict) → AllAnswered (shapes_of is_yes is_no nodes) v (stack_of (map frame_of below)) (frame_of o).entry (edges_with o.answers v) no_heads) → AllAnswered (shapes_of is_yes is_no nodes) other (stack_of (map frame_of below)) (frame_of o).entry (cond b (map edge_shape edges) (edges_with o.answers other)) no_heads
+  chosen_at : (b : Bool) (verdict other : theory.Verdict) (edges : List (Edge I)) (o : OpenRun I R) (below : List (OpenRun I R)) → theory.same_verdict verdict other ≡ b → AreEdges o.answers verdict edges → ((v : theory.Verdict) → AllAnswered (shapes_of is_yes is_no nodes) v (stack_of (frames_of is_yes is_no below)) (frame_of is_yes is_no o).entry (edges_with o.answers v) (heads_shape o.heads)) → AllAnswered (shapes_of is_yes is_no nodes) other (stack_of (frames_of is_yes is_no below)) (frame_of is_yes is_no o).entry (cond b (map edge_shape edges) (edges_with o.answers other)) (heads_shape o.heads)
   chosen_at false verdict other edges o below same are answered = answered other
   chosen_at true verdict other edges o below same are answered = λ i edge at.
       let e = edge_in edges i edge at in
       let from = are i e.0 e.1 in
       let place = edge_of_answer o.answers from.0 from.1 other from.2 (from.4 ∙ verdicts_same verdict other same) in
-      subst (λ x. IsAnswered (shapes_of is_yes is_no nodes) other (stack_of (map frame_of below)) (frame_of o).entry x no_heads) (ap edge_shape from.3 ∙ e.2)
+      subst (λ x. IsAnswered (shapes_of is_yes is_no nodes) other (stack_of (frames_of is_yes is_no below)) (frame_of is_yes is_no o).entry x (heads_shape o.heads)) (ap edge_shape from.3 ∙ e.2)
       (answered other place.0 (edge_shape from.1.edge) place.1)
 
   -- other goals' nodes are still open
-  AreOpen-ended : (run : EndedRun I R) (k : ℕ) (goal : I) → open_goal nodes k ≡ Some goal → (goals : List (OpenRun I R)) → OwnsOther k (map frame_of goals) → AreOpen nodes goals → AreOpen (with_run nodes k run) goals
+  AreOpen-ended : (run : EndedRun I R) (k : ℕ) (goal : I) → open_goal nodes k ≡ Some goal → (goals : List (OpenRun I R)) → OwnsOther k (frames_of is_yes is_no goals) → AreOpen nodes goals → AreOpen (with_run nodes k run) goals
   AreOpen-ended run k goal is [] apart h = tt
   AreOpen-ended run k goal is (o ∷ below) apart h =
       let w = open_is (slice_get nodes k) goal is in
-      let other : (o.node ≡ k) → ⊥ = λ e. apart.0 (sym e) in (
-        open_kept nodes (with_run nodes k run) o.node o.goal (λ n at. ap (λ more. slice_get more o.node) (ap (λ x. elim x [ None ↦ nodes | Some m ↦ slice_set nodes k (record { goal = m.goal; run = Some run }) ]) w.1) ∙ get_set_other nodes k (record { goal = w.0.goal; run = Some run }) o.node other ∙ at) h.0,
+      let other : (o.own ≡ k) → ⊥ = λ e. apart.0 (sym e) in (
+        open_kept nodes (with_run nodes k run) o.own o.goal (λ n at. ap (λ more. slice_get more o.own) (ap (λ x. elim x [ None ↦ nodes | Some m ↦ slice_set nodes k (record { goal = m.goal; run = Some run }) ]) w.1) ∙ get_set_other nodes k (record { goal = w.0.goal; run = Some run }) o.own other ∙ at) h.0,
         AreOpen-ended run k goal is below apart.1 h.1,
       )
 
-  module _ (o : OpenRun I R) (below : List (OpenRun I R)) (h : AreJustified is_yes is_no nodes (o ∷ below)) where
-    -- it has no definite result: its node stays open
-    pub undone_is_justified : AreJustified is_yes is_no nodes below
-    undone_is_justified =
-        let pop = pop_keeps_sound (shapes_of is_yes is_no nodes) (frame_of o) (map frame_of below) [] [] [] [] theory.Neither (shapes_of is_yes is_no nodes) o.node (Without refl) (λ i k is. absurd (no_answers i k is)) (λ i k is. absurd (no_answers i k is)) h.sound in
-        record { sound = pop.0; are_open = h.are_open.1; placed = h.placed.1; asked = h.asked.1 }
+-- The run of the newest goal came to a result: in the theory's words, with the edges that the result rests on and the place of the
+-- answer's node.
+pub record Settles {I R : Type 0} (is_yes is_no : R → Bool) (nodes after : List (CacheNode I R)) (o : OpenRun I R) (below : List (OpenRun I R)) (r : R) (target : Option NodeId) : Type 0 where
+  pub edges : theory.Verdict → List theory.Edge
+  pub place : ℕ
+  pub sound : IsSound (shapes_of is_yes is_no nodes) (answering (frame_of is_yes is_no o) edges (heads_shape o.heads) ∷ frames_of is_yes is_no below) [] []
+  pub answered : Answered (shapes_of is_yes is_no nodes) (frame_of is_yes is_no o).entry o.own edges (verdict_of is_yes is_no r) (shapes_of is_yes is_no after) place
+  pub goals_kept : KeepsGoals nodes after
+  pub open_below : AreOpen after below
+  pub definite : verdict_of is_yes is_no r ≢ theory.Neither → IsSomeAnd target (λ n. (n.0 ≡ place) × IsNodeOf after n.0 o.goal)
+  pub neither : verdict_of is_yes is_no r ≡ theory.Neither → (target ≡ None) × (leads_to o ≡ place)
 
-    -- it has one: its node is finished with the run
-    module _ (run : EndedRun I R) (definite : verdict_of is_yes is_no run.outcome ≢ theory.Neither) (edges : AreEdges o.answers (verdict_of is_yes is_no run.outcome) run.edges) where
-      abbrev verdict : theory.Verdict
-      verdict = verdict_of is_yes is_no run.outcome
+module _ {I R : Type 0} (is_yes is_no : R → Bool) (nodes : List (CacheNode I R)) (o : OpenRun I R) (below : List (OpenRun I R)) (h : AreJustified is_yes is_no nodes (o ∷ below)) where
+  home : (lead : Option NodeId) → o.cycles_lead ≡ lead → IsSomeAnd lead (λ n. IsNodeOf nodes n.0 o.goal) → IsSomeAnd lead (λ n. (n.0 ≡ leads_to o) × IsNodeOf nodes n.0 o.goal)
+  home None is at = absurd at
+  home (Some n) is at = (ap (λ l. elim l [ None ↦ o.own | Some m ↦ m.0 ]) (sym is), at)
 
-      -- the list with the run
-      abbrev later : List (CacheNode I R)
-      later = with_run nodes o.node run
+  -- it says what the provisional result said
+  pub again_settles : (r : R) → verdict_of is_yes is_no r ≢ theory.Neither → SaysAgain is_yes is_no o.provisional r → Settles is_yes is_no nodes nodes o below r o.cycles_lead
+  again_settles r definite says = record {
+    edges = edges_with o.answers;
+    place = leads_to o;
+    sound = h.sound;
+    answered = Again says;
+    goals_kept = λ at goal is. is;
+    open_below = h.are_open.1;
+    definite = λ d. home o.cycles_lead refl h.lead_home.0;
+    neither = λ n. absurd (definite n);
+  }
 
-      is_open : IsSomeAnd (open_goal nodes o.node) (λ goal. goal ≡ o.goal)
-      is_open = subst (λ x. IsSomeAnd x (λ goal. goal ≡ o.goal)) (sym h.are_open.0) refl
+  -- it isn't definite
+  pub neither_settles : (r : R) → verdict_of is_yes is_no r ≡ theory.Neither → Settles is_yes is_no nodes nodes o below r None
+  neither_settles r neither = record {
+    edges = edges_with o.answers;
+    place = leads_to o;
+    sound = h.sound;
+    answered = Without neither;
+    goals_kept = λ at goal is. is;
+    open_below = h.are_open.1;
+    definite = λ d. absurd (d neither);
+    neither = λ n. (refl, refl);
+  }
 
-      later_shapes : shapes_of is_yes is_no (with_run nodes o.node run) ≡ slice_set (shapes_of is_yes is_no nodes) o.node (theory.Finished (verdict_of is_yes is_no run.outcome) (map edge_shape run.edges))
-      later_shapes =
-          ap (shapes_of is_yes is_no) (with_run-is nodes o.node run (λ goal. goal ≡ o.goal) is_open)
-          ∙ map-set (shape_of is_yes is_no) nodes o.node (record { goal = (before nodes o.node run (λ goal. goal ≡ o.goal) is_open).0.goal; run = Some run })
+  -- its node is finished with the run
+  module _ (node : NodeId) (same_node : node.0 ≡ o.own) (run : EndedRun I R) (definite : verdict_of is_yes is_no run.outcome ≢ theory.Neither) (anew : SaysAgain is_yes is_no o.provisional run.outcome → ⊥) (edges : AreEdges o.answers (verdict_of is_yes is_no run.outcome) run.edges) where
+    is_open : IsSomeAnd (open_goal nodes o.own) (λ goal. goal ≡ o.goal)
+    is_open = subst (λ x. IsSomeAnd x (λ goal. goal ≡ o.goal)) (sym h.are_open.0) refl
 
-      done_frame : theory.Verdict → Frame
-      done_frame v = answering (frame_of o) (chosen_edges v run.edges o.answers) no_heads
+    later_shapes : shapes_of is_yes is_no (with_run nodes o.own run) ≡ slice_set (shapes_of is_yes is_no nodes) o.own (theory.Finished (verdict_of is_yes is_no run.outcome) (map edge_shape run.edges))
+    later_shapes =
+        ap (shapes_of is_yes is_no) (with_run-is nodes o.own run (λ goal. goal ≡ o.goal) is_open)
+        ∙ map-set (shape_of is_yes is_no) nodes o.own (record { goal = (before nodes o.own run (λ goal. goal ≡ o.goal) is_open).0.goal; run = Some run })
 
-      popped : IsSound (shapes_of is_yes is_no (with_run nodes o.node run)) (map frame_of below) [] [] × Use (shapes_of is_yes is_no (with_run nodes o.node run)) (verdict_of is_yes is_no run.outcome) (stack_of (map frame_of below)) (path_kind (stack_of (map frame_of below)) (rank_of o.step)) 0 o.node no_heads
-      popped =
-          let v = verdict_of is_yes is_no run.outcome in
-          let answers = answers_keep_sound (shapes_of is_yes is_no nodes) (frame_of o) (map frame_of below) [] [] (chosen_edges v run.edges o.answers) no_heads (λ depth path cycle recorded. recorded)
-          (λ u. chosen_at (theory.same_verdict v u) v u run.edges o below refl edges h.sound.running.0.answered) h.sound in
-          let pop = pop_keeps_sound (shapes_of is_yes is_no nodes) (answering (frame_of o) (chosen_edges v run.edges o.answers) no_heads) (map frame_of below) [] [] [] [] v
-          (slice_set (shapes_of is_yes is_no nodes) o.node (theory.Finished v (chosen_edges v run.edges o.answers v))) o.node (Anew (λ e. none_is_not_some e)) (λ i k is. absurd (no_answers i k is)) (λ i k is. absurd (no_answers i k is)) answers in
-          let same : slice_set (shapes_of is_yes is_no nodes) o.node (theory.Finished v (chosen_edges v run.edges o.answers v)) ≡ shapes_of is_yes is_no (with_run nodes o.node run) =
-          ap (λ b. slice_set (shapes_of is_yes is_no nodes) o.node (theory.Finished v (cond b (map edge_shape run.edges) (edges_with o.answers v)))) (same_verdict-refl v) ∙ sym later_shapes in (
-            subst (λ more. IsSound more (map frame_of below) [] []) same pop.0,
-            subst (λ more. Use more v (stack_of (map frame_of below)) (path_kind (stack_of (map frame_of below)) (rank_of o.step)) 0 o.node no_heads) same (pop.1 definite),
-          )
+    later_same : slice_set (shapes_of is_yes is_no nodes) o.own (theory.Finished (verdict_of is_yes is_no run.outcome) (chosen_edges is_yes is_no nodes (verdict_of is_yes is_no run.outcome) run.edges o.answers (verdict_of is_yes is_no run.outcome))) ≡ shapes_of is_yes is_no (with_run nodes o.own run)
+    later_same =
+        let v = verdict_of is_yes is_no run.outcome in
+        ap (λ b. slice_set (shapes_of is_yes is_no nodes) o.own (theory.Finished v (cond b (map edge_shape run.edges) (edges_with o.answers v)))) (same_verdict-refl v) ∙ sym later_shapes
 
-      pub done_is_justified : AreJustified is_yes is_no (with_run nodes o.node run) below
-      done_is_justified = record {
-        sound = popped.0;
-        are_open = AreOpen-ended run o.node o.goal h.are_open.0 below h.sound.apart.0 h.are_open.1;
-        placed = AllPlaced-kept nodes (with_run nodes o.node run) (KeepsGoals-ended nodes o.node run (λ goal. goal ≡ o.goal) is_open) below h.placed.1;
-        asked = h.asked.1;
-      }
+    own_node_is : IsNodeOf (with_run nodes o.own run) o.own o.goal
+    own_node_is =
+        let w = open_is (slice_get nodes o.own) o.goal h.are_open.0 in
+        KeepsGoals-ended nodes o.own run (λ goal. goal ≡ o.goal) is_open o.own o.goal (ap (option_map (λ n. n.goal)) w.1 ∙ ap Some w.3)
 
-      -- its node may answer for it
-      pub done_may_answer : MayAnswer is_yes is_no (with_run nodes o.node run) below (verdict_of is_yes is_no run.outcome) o.step o.goal o.node
-      done_may_answer =
-          let w = open_is (slice_get nodes o.node) o.goal h.are_open.0 in
-          record {
-            of_goal = KeepsGoals-ended nodes o.node run (λ goal. goal ≡ o.goal) is_open o.node o.goal (ap (option_map (λ n. n.goal)) w.1 ∙ ap Some w.3);
-            used = popped.1;
-          }
+    pub ended_settles : Settles is_yes is_no nodes (with_run nodes o.own run) o below run.outcome (Some node)
+    ended_settles =
+        let v = verdict_of is_yes is_no run.outcome in
+        record {
+          edges = chosen_edges is_yes is_no nodes v run.edges o.answers;
+          place = o.own;
+          sound = answers_keep_sound (shapes_of is_yes is_no nodes) (frame_of is_yes is_no o) (frames_of is_yes is_no below) [] [] (chosen_edges is_yes is_no nodes v run.edges o.answers) (heads_shape o.heads) (λ depth path cycle recorded. recorded)
+              (λ u. chosen_at is_yes is_no nodes (theory.same_verdict v u) v u run.edges o below refl edges h.sound.running.0.answered) h.sound;
+          answered = subst (λ more. Answered (shapes_of is_yes is_no nodes) (frame_of is_yes is_no o).entry o.own (chosen_edges is_yes is_no nodes v run.edges o.answers) v more o.own) later_same (Anew anew);
+          goals_kept = KeepsGoals-ended nodes o.own run (λ goal. goal ≡ o.goal) is_open;
+          open_below = AreOpen-ended is_yes is_no nodes run o.own o.goal h.are_open.0 below h.sound.apart.0 h.are_open.1;
+          definite = λ d. (same_node, subst (λ n. IsNodeOf (with_run nodes o.own run) n o.goal) (sym same_node) own_node_is);
+          neither = λ n. absurd (definite n);
+        }
 
--- the newest goal gets the answer that its question has
-pub answer_fits : {I R : Type 0} (is_yes is_no : R → Bool) (nodes : List (CacheNode I R)) (p : OpenRun I R) (below : List (OpenRun I R)) (r : R) (step : PathKind) (goal : I) (node : NodeId) → Asks (p ∷ below) step goal → (verdict_of is_yes is_no r ≢ theory.Neither → MayAnswer is_yes is_no nodes (p ∷ below) (verdict_of is_yes is_no r) step goal node.0) → IsFit is_yes is_no nodes (p ∷ below) (Answer r) (Some node)
-answer_fits is_yes is_no nodes p below r step goal node asks may s kind asked is asks_too definite =
-    let same : r ≡ s = cc in
-    let requests : Some (Evaluate step goal) ≡ Some (Evaluate kind asked) = sym asks ∙ asks_too in
-    let kinds : step ≡ kind = cc in
-    let goals : goal ≡ asked = cc in
-    subst (λ x. MayAnswer is_yes is_no nodes (p ∷ below) (verdict_of is_yes is_no x) kind asked node.0) same
-    (subst (λ k. MayAnswer is_yes is_no nodes (p ∷ below) (verdict_of is_yes is_no r) k asked node.0) kinds
-    (subst (λ g. MayAnswer is_yes is_no nodes (p ∷ below) (verdict_of is_yes is_no r) step g node.0) goals
-    (may (λ neither. definite (ap (verdict_of is_yes is_no) (sym same) ∙ neither)))))
+-- what follows once the run is settled
+module _ {I R : Type 0} (is_yes is_no : R → Bool) (nodes after : List (CacheNode I R)) (o : OpenRun I R) (below : List (OpenRun I R)) (h : AreJustified is_yes is_no nodes (o ∷ below)) (r : R) (target : Option NodeId) (s : Settles is_yes is_no nodes after o below r target) where
+  popped : IsSound (shapes_of is_yes is_no after) (frames_of is_yes is_no below) [] [] × (verdict_of is_yes is_no r ≢ theory.Neither → Use (shapes_of is_yes is_no after) (verdict_of is_yes is_no r) (stack_of (frames_of is_yes is_no below)) (path_kind (stack_of (frames_of is_yes is_no below)) (rank_of o.step)) 0 s.place (heads_shape o.heads))
+  popped =
+      pop_keeps_sound (shapes_of is_yes is_no nodes) (answering (frame_of is_yes is_no o) s.edges (heads_shape o.heads)) (frames_of is_yes is_no below) [] [] [] [] (verdict_of is_yes is_no r) (shapes_of is_yes is_no after) s.place s.answered
+      (λ i k is. absurd (no_answers i k is)) (λ i k is. absurd (no_answers i k is)) s.sound
 
--- a reply that is no definite answer fits
-pub other_fits : {I R : Type 0} (is_yes is_no : R → Bool) (nodes : List (CacheNode I R)) (goals : List (OpenRun I R)) (reply : Reply R) (with_node : Option NodeId) → ((r : R) → reply ≡ Answer r → verdict_of is_yes is_no r ≡ theory.Neither) → IsFit is_yes is_no nodes goals reply with_node
-other_fits is_yes is_no nodes goals reply with_node neither r kind goal is asks definite = absurd (definite (neither r is))
+  -- the goal is taken: those below stay justified,
+  pub below_is_justified : AreJustified is_yes is_no after below
+  below_is_justified = record {
+    sound = popped.0;
+    are_open = s.open_below;
+    lead_home = LeadHome-kept nodes after s.goals_kept below h.lead_home.1;
+    placed = AllPlaced-kept nodes after s.goals_kept below h.placed.1;
+    asked = h.asked.1;
+  }
 
--- the last goal's answer has its graph
-pub answer_has_graph : {I R : Type 0} (is_yes is_no : R → Bool) (nodes : List (CacheNode I R)) (r : R) (step : PathKind) (goal : I) (node : NodeId) → verdict_of is_yes is_no r ≢ theory.Neither → MayAnswer is_yes is_no nodes [] (verdict_of is_yes is_no r) step goal node.0 → HasGraph is_yes is_no nodes goal r (Some node)
-answer_has_graph is_yes is_no nodes r step goal node definite may = record {
-  definite = λ d. (may.of_goal, root_is_graph (shapes_of is_yes is_no nodes) (verdict_of is_yes is_no r) (path_kind [] (rank_of step)) 0 node.0 no_heads may.used);
-  neither = λ n. absurd (definite n);
-}
+  used_at : (t : Option NodeId) → verdict_of is_yes is_no r ≢ theory.Neither → IsSomeAnd t (λ n. (n.0 ≡ s.place) × IsNodeOf after n.0 o.goal) → (P : ℕ → Type 0) → (IsNodeOf after s.place o.goal → P s.place) → IsSomeAnd t (λ n. P n.0)
+  used_at None definite at P from = absurd at
+  used_at (Some n) definite at P from = subst P (sym at.0) (from (subst (λ m. IsNodeOf after m o.goal) at.0 at.1))
 
-pub neither_has_none : {I R : Type 0} (is_yes is_no : R → Bool) (nodes : List (CacheNode I R)) (r : R) (goal : I) → verdict_of is_yes is_no r ≡ theory.Neither → HasGraph is_yes is_no nodes goal r None
-neither_has_none is_yes is_no nodes r goal neither = record { definite = λ d. absurd (d neither); neither = λ n. refl }
+  -- its node may answer the goal below, whose heads take in its own,
+  pub may_answer_parent : (p : OpenRun I R) (rest : List (OpenRun I R)) (heads : Heads) → below ≡ p ∷ rest → TakesIn (length (stack_of (frames_of is_yes is_no rest))) (rank_of o.step) (heads_shape o.heads) (heads_shape heads) → verdict_of is_yes is_no r ≢ theory.Neither → IsSomeAnd target (λ n. MayAnswer is_yes is_no after (record p { heads = heads }) rest (verdict_of is_yes is_no r) o.step o.goal n.0)
+  may_answer_parent p rest heads is takes definite =
+      let v = verdict_of is_yes is_no r in
+      used_at target definite (s.definite definite) (λ n. MayAnswer is_yes is_no after (record p { heads = heads }) rest v o.step o.goal n) (λ of_goal. record {
+        of_goal = of_goal;
+        answered = done_is_answered (shapes_of is_yes is_no after) v (stack_of (frames_of is_yes is_no rest)) (frame_of is_yes is_no p).entry (rank_of o.step) s.place (heads_shape o.heads) (heads_shape heads)
+            (subst (λ b. Use (shapes_of is_yes is_no after) v (stack_of (frames_of is_yes is_no b)) (path_kind (stack_of (frames_of is_yes is_no b)) (rank_of o.step)) 0 s.place (heads_shape o.heads)) is (popped.1 definite)) takes;
+      })
+
+  -- and has its graph where no goal is below it, or where it rests on none.
+  pub last_has_graph : below ≡ [] → HasGraph is_yes is_no after o.goal r target
+  last_has_graph none = record {
+    definite = λ d. used_at target d (s.definite d) (λ n. IsNodeOf after n o.goal × IsGraph (shapes_of is_yes is_no after) (verdict_of is_yes is_no r) n) (λ of_goal. (
+      of_goal,
+      root_is_graph (shapes_of is_yes is_no after) (verdict_of is_yes is_no r) (path_kind [] (rank_of o.step)) 0 s.place (heads_shape o.heads)
+          (subst (λ b. Use (shapes_of is_yes is_no after) (verdict_of is_yes is_no r) (stack_of (frames_of is_yes is_no b)) (path_kind (stack_of (frames_of is_yes is_no b)) (rank_of o.step)) 0 s.place (heads_shape o.heads)) none (popped.1 d)),
+    ));
+    neither = λ n. (s.neither n).0;
+  }
+
+  pub headless_has_graph : o.heads ≡ [] → HasGraph is_yes is_no after o.goal r target
+  headless_has_graph none = record {
+    definite = λ d. used_at target d (s.definite d) (λ n. IsNodeOf after n o.goal × IsGraph (shapes_of is_yes is_no after) (verdict_of is_yes is_no r) n) (λ of_goal. (
+      of_goal,
+      closed_is_graph (shapes_of is_yes is_no after) (verdict_of is_yes is_no r) (stack_of (frames_of is_yes is_no below)) (path_kind (stack_of (frames_of is_yes is_no below)) (rank_of o.step)) 0 s.place (heads_shape o.heads)
+          (subst (λ heads. (depth : ℕ) → UsesNo (heads_shape heads) depth) (sym none) (λ depth path cycle recorded. recorded.1 refl)) (popped.1 d),
+    ));
+    neither = λ n. (s.neither n).0;
+  }
+
+  or_first : {A : Type 0} (Q : A → Type 0) (t lead : Option A) → IsSomeAnd t Q → IsSomeAnd (option_or t lead) Q
+  or_first Q None lead at = absurd at
+  or_first Q (Some n) lead at = at
+
+  home_then : (lead : Option NodeId) → leads_to o ≡ s.place → IsSomeAnd lead (λ n. (n.0 ≡ leads_to o) × IsNodeOf nodes n.0 o.goal) → IsSomeAnd lead (λ n. (n.0 ≡ s.place) × IsNodeOf after n.0 o.goal)
+  home_then None same at = absurd at
+  home_then (Some n) same at = (at.0 ∙ same, s.goals_kept n.0 o.goal at.1)
+
+  -- the node to which the answers of the goal's cycles lead from then on
+  lead_is : IsSomeAnd (option_or target o.cycles_lead) (λ n. (n.0 ≡ s.place) × IsNodeOf after n.0 o.goal)
+  lead_is = elim (verdict_cases (verdict_of is_yes is_no r) theory.Neither) [
+    | inl neither ↦
+        let n = s.neither neither in
+        subst (λ t. IsSomeAnd (option_or t o.cycles_lead) (λ n. (n.0 ≡ s.place) × IsNodeOf after n.0 o.goal)) (sym n.0)
+        (home_then o.cycles_lead n.1 (home is_yes is_no nodes o below h o.cycles_lead refl h.lead_home.0))
+    | inr definite ↦ or_first (λ n. (n.0 ≡ s.place) × IsNodeOf after n.0 o.goal) target o.cycles_lead (s.definite definite)
+  ]
+
+  -- The goal is run again under the result.
+  module _ (own : NodeId) (at : own.0 ≡ length after) where
+    leads_there : (lead : Option NodeId) → IsSomeAnd lead (λ n. (n.0 ≡ s.place) × IsNodeOf after n.0 o.goal) → elim lead [ None ↦ own.0 | Some n ↦ n.0 ] ≡ s.place
+    leads_there None is = absurd is
+    leads_there (Some n) is = is.0
+
+    leads_home : (lead : Option NodeId) → IsSomeAnd lead (λ n. (n.0 ≡ s.place) × IsNodeOf after n.0 o.goal) → IsSomeAnd lead (λ n. IsNodeOf (after ++ open_node o.goal ∷ []) n.0 o.goal)
+    leads_home None is = absurd is
+    leads_home (Some n) is = KeepsGoals-appended true after o.goal n.0 o.goal is.1
+
+    pub rerun_is_justified : AreJustified is_yes is_no (after ++ open_node o.goal ∷ []) (new_run o.goal o.step own (option_or target o.cycles_lead) (Some r) o.heads ∷ below)
+    rerun_is_justified =
+        let v = verdict_of is_yes is_no r in
+        let many : length (shapes_of is_yes is_no after) ≡ own.0 = length-map after (shape_of is_yes is_no) ∙ sym at in
+        let last : slice_get (after ++ open_node o.goal ∷ []) own.0 ≡ Some (open_node o.goal) = ap (slice_get (after ++ open_node o.goal ∷ [])) at ∙ get_last after (open_node o.goal) in
+        let again = rerun_keeps_sound (shapes_of is_yes is_no nodes) (answering (frame_of is_yes is_no o) s.edges (heads_shape o.heads)) (frames_of is_yes is_no below) [] [] [] v (shapes_of is_yes is_no after) s.place s.answered (λ i k is. absurd (no_answers i k is)) s.sound in
+        record {
+          sound =
+              subst (λ more. IsSound more (frames_of is_yes is_no (new_run o.goal o.step own (option_or target o.cycles_lead) (Some r) o.heads ∷ below)) [] []) (sym (shapes_opened is_yes is_no after o.goal))
+              (subst (λ p. IsSound (shapes_of is_yes is_no after ++ theory.Unfinished ∷ []) (next_frame (frame_of is_yes is_no o) v p own.0 ∷ frames_of is_yes is_no below) [] []) (sym (leads_there (option_or target o.cycles_lead) lead_is))
+              (subst (λ n. IsSound (shapes_of is_yes is_no after ++ theory.Unfinished ∷ []) (next_frame (frame_of is_yes is_no o) v s.place n ∷ frames_of is_yes is_no below) [] []) many again));
+          are_open = (goal_open (after ++ open_node o.goal ∷ []) own.0 (open_node o.goal) o.goal last refl refl, AreOpen-kept after (after ++ open_node o.goal ∷ []) (KeepsNodes-appended true after o.goal) below s.open_below);
+          lead_home = (leads_home (option_or target o.cycles_lead) lead_is, LeadHome-kept after (after ++ open_node o.goal ∷ []) (KeepsGoals-appended true after o.goal) below (LeadHome-kept nodes after s.goals_kept below h.lead_home.1));
+          placed = (λ i a is. absurd (no_answers i a is), AllPlaced-kept after (after ++ open_node o.goal ∷ []) (KeepsGoals-appended true after o.goal) below (AllPlaced-kept nodes after s.goals_kept below h.placed.1));
+          asked = h.asked;
+        }

@@ -22,8 +22,11 @@ use Rattle.search_graph.specs.Progress.{requested, IsReplySorted}
 use Rattle.search_parts.specs.Definite.{HasGraph}
 use Rattle.search_graph.specs.Justified.{Asks, AreJustified, IsFit}
 use Rattle.search_graph.specs.Runs.{runs_of, IsJustifiedNext}
-use Rattle.search_graph.specs.Evaluating.{Call, Outset, HasStepped, IsWaiting, HasAsked, HasStopped, IsStepFault, IsOnly, Leads, Leaves, Pushes, received_by, work_left}
-use Rattle.search_graph.proofs.Moves.{root_waits, failed_root_stopped, step_asks, step_stops, leave_leads}
+use Rattle.search_graph.specs.Calls.{Call, Outset}
+use Rattle.search_graph.specs.Steps.{HasStepped, IsStepFault, received_by}
+use Rattle.search_graph.specs.Moves.{Pushes}
+use Rattle.search_graph.specs.Evaluating.{IsWaiting, HasAsked, HasStopped, IsOnly, Leads, work_left}
+use Rattle.search_graph.proofs.Moves.{root_waits, failed_root_stopped, step_asks, step_stops}
 use Rattle.search_graph.proofs.Replies.{replies_sorted, step_is_justified}
 
 -- the call of a goal at a depth
@@ -78,15 +81,15 @@ module _ {D C V P F I R A T : Type 0} (G : Delegate.Ghosts D C V P F I R A T) (X
   pub only_before : (read : C) (request : Request I R) → HasStepped G X read given request old new → (goal : I) → IsOnly G X cx new goal → IsOnly G X cx old goal
   only_before read request s goal h =
       subst (λ (v : List (StackEntry C I R A T × Run C F I R A T)). IsOnly G X cx v goal) (sym s.was)
-      (only_at s.entry s.run (record { frame = s.frame; node = s.run.node; progress = requested (received_by G X read s.run given s.verdict) request }) s.below goal (subst (λ (v : List (StackEntry C I R A T × Run C F I R A T)). IsOnly G X cx v goal) s.is h))
+      (only_at s.entry s.run (record s.run { frame = s.frame; progress = requested (received_by G X read s.run given s.verdict) request }) s.below goal (subst (λ (v : List (StackEntry C I R A T × Run C F I R A T)). IsOnly G X cx v goal) s.is h))
 
   leads_at : (read : C) (request : Request I R) → HasStepped G X read given request old new → (call : Call I) (ahead : ℕ) (next : Next R) (later : List (StackEntry C I R A T × Run C F I R A T)) (starts : ℕ) (met : Bool) → Leads G X cx call ahead new next later starts met → Leads G X cx call ahead old next later starts met
   leads_at read request s call ahead (Step given) later starts met h = h
   leads_at read request s call ahead (Finished answer) later starts met h = (h.0, only_before read request s call.top h.1, h.2)
 
   -- what follows the end of a run
-  pub done_leads : (read : C) (request : Request I R) → HasStepped G X read given request old new → (r : R) → (call : Call I) (next : Next R) (later : List (StackEntry C I R A T × Run C F I R A T)) (starts : ℕ) (met : Bool) → Leaves r new next later → HasAsked G X cx call (work_left G X cx old) (Done r) new starts met → Leads G X cx call (work_left G X cx old) old next later starts met
-  done_leads read request s r call next later starts met l h = leads_at read request s call (work_left G X cx old) next later starts met (leave_leads G X cx call (work_left G X cx old) r next new later starts met l h)
+  pub done_leads : (read : C) (request : Request I R) → HasStepped G X read given request old new → (call : Call I) (next : Next R) (later : List (StackEntry C I R A T × Run C F I R A T)) (starts : ℕ) (met : Bool) → Leads G X cx call (work_left G X cx old) new next later starts met → Leads G X cx call (work_left G X cx old) old next later starts met
+  done_leads read request s call next later starts met h = leads_at read request s call (work_left G X cx old) next later starts met h
 
   -- the answer of the only goal is its own
   pub next_before : (read : C) (request : Request I R) → HasStepped G X read given request old new → (nodes : List (CacheNode I R)) (later : List (StackEntry C I R A T × Run C F I R A T)) (next : Next R) → IsJustifiedNext X.is_yes X.is_no nodes new later next → IsJustifiedNext X.is_yes X.is_no nodes old later next

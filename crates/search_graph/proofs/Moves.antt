@@ -1,5 +1,5 @@
 -- Each move of the driver is a move of the theory of evaluations.
-use Rattle.std.proofs.Common.{◌≡◌, ℕ, zero, suc, ◌+◌, ◌-◌, ◌*◌, ◌/◌, ◌^◌, ◌<◌, ◌≤◌, max, nat_eq, if◌then◌else◌, Bool, true, false, List, [], ◌∷◌, length, Option, Some, None, refl, sym, ap, ◌∙◌, subst, arith, inl, inr, ◌||◌, mul-le-mul_left, mul-le-mul_right}
+use Rattle.std.proofs.Common.{◌≡◌, ℕ, zero, suc, ◌+◌, ◌-◌, ◌*◌, ◌/◌, ◌^◌, ◌<◌, ◌≤◌, max, nat_eq, if◌then◌else◌, Bool, true, false, List, [], ◌∷◌, length, map, reverse, Option, Some, None, IfSome, unwrap_or, refl, sym, ap, ◌∙◌, subst, arith, ap₂, inl, inr, ◌||◌, ◌⊎◌, is_some, mul-le-mul_left, mul-le-mul_right}
 use Rattle.std.specs.List.{list_any}
 use Rattle.std.proofs.lemmas.Bool.Decides.{nat_tests}
 use Rattle.search_parts.specs.declared.context.Delegate as Delegate
@@ -9,35 +9,47 @@ use Rattle.search_parts.specs.declared.context.Request.TheVariants.{Evaluate, Do
 use Rattle.search_parts.specs.declared.context.Reply.{Reply}
 use Rattle.search_parts.specs.declared.context.Reply.TheVariants.{Begin, Answer, Noted}
 use Rattle.search_parts.specs.declared.path.PathKind.{PathKind}
+use Rattle.search_parts.specs.declared.context.NodeId.{NodeId}
 use Rattle.search_parts.specs.declared.parts.depth.AvailableDepth.{AvailableDepth}
+use Rattle.search_parts.specs.declared.parts.depth.StackDepth.{StackDepth}
+use Rattle.search_parts.specs.declared.parts.stack.EntryState.{EntryState}
+use Rattle.search_parts.specs.Heads.{Heads}
 use Rattle.search_parts.specs.declared.parts.stack.StackEntry.{StackEntry}
-use Rattle.search_parts.specs.Stack.{depth_below, fresh_entry}
+use Rattle.search_parts.specs.Stack.{depth_below}
 use Rattle.search_parts.specs.Rank.{frames_within}
 use Rattle.search_parts.specs.declared.context.Verdict.{Verdict}
 use Rattle.search_parts.specs.declared.context.Fault.{Fault}
 use Rattle.search_parts.specs.declared.context.Fault.TheVariants.{Memory, Protocol}
 use Rattle.search_parts.specs.Run.{IsReplyTo, IsFitting, progress_after, order_fault, fault_after}
-use Rattle.search_parts.specs.Delegate.{CountsOne, Steps}
-use Rattle.evaluations.specs.Frames.{Frame, Outcome, replied, answered, refused, IsAllowed}
+use Rattle.search_parts.specs.Delegate.{CountsOne, Steps, IsCycleResult}
+use Rattle.evaluations.specs.Frames.{Frame, Outcome, replied, answered, refused, run_again, IsAllowed}
 use Rattle.evaluations.specs.Plain.{AreSafe, HasNoRank, IsPlainTo, IsSafeOutcome}
-use Rattle.evaluations.specs.Evaluation.{IsRooted, IsEvaluating, at, Stops}
-use Rattle.evaluations.specs.Mirror.{TakesStep, TakesReply, ItemLeaves, IsAmong, AreSeen, Mirror, HasRequested, Waits}
-use Rattle.evaluations.proofs.Mirrors.{step_requests, can_take, noted_waits, refused_waits, answered_waits, pushed_waits, popped_waits, last_item_ends, first_waits, waits_stops, requested_stops, failed_push_stops, cycle_found, requested_fits, requested_by}
+use Rattle.evaluations.specs.Evaluation.{IsRooted, IsEvaluating, at, Ends, Stops}
+use Rattle.evaluations.specs.Mirror.{with_replies, TakesStep, TakesReply, ItemLeaves, IsAmong, AreSeen, Mirror, HasRequested, Waits}
+use Rattle.evaluations.proofs.Mirrors.{step_requests, can_take, noted_waits, refused_waits, answered_waits, pushed_waits, rerun_waits, popped_waits, popped_at_limit_waits, last_item_ends, last_item_ends_at_limit, last_run_stops, failed_rerun_stops, WaitsWithLess, first_waits, waits_stops, requested_stops, failed_push_stops, cycle_found, requested_fits, requested_by}
 use Rattle.evaluations.proofs.Evaluations.{evaluation_stops, fitting_meets_no_limit}
 use Rattle.evaluations.proofs.Plains.{unranked_is_safe}
 use Rattle.search_graph.specs.declared.graph.open_goals.Run.{Run}
 use Rattle.search_graph.specs.declared.graph.open_goals.Next.{Next}
 use Rattle.search_graph.specs.declared.graph.open_goals.Next.TheVariants.{Step, Finished}
 use Rattle.search_graph.specs.declared.graph.open_goals.Received.{Received}
-use Rattle.search_graph.specs.Entries.{overflowed, with_answer}
-use Rattle.search_graph.specs.Progress.{RunRecord, no_record, requested, fault_of, Records, IsReplySorted}
+use Rattle.search_graph.specs.Entries.{overflowed, first_entry, is_in_cycle, cycle_head, some_heads, TakesAnswer}
+use Rattle.search_graph.specs.Progress.{RunRecord, requested, fault_of, Records, IsReplySorted}
 use Rattle.search_graph.specs.Runs.{EndsNewest}
 use Rattle.search_graph.proofs.ProgressLaws.{records_new, records_received, fault_is}
-use Rattle.search_graph.specs.Evaluating.{Call, Outset, Item, runs, limits, bound, IsCounted, seen, Stood, CanStep, IsVerdict, received_by, HasStepped, IsStepFault, NoMemoryLeft, OutOfOrder, KeepsLimits, IsWaiting, work_left, HasAsked, GoesOn, HasEnded, HasStopped, Leads, Pushes, CanLeave, Leaves}
+use Rattle.search_graph.specs.Calls.{Call, runs, limits, bound, IsCounted, KeepsLimits}
+use Rattle.search_graph.specs.Steps.{Stood, CanStep, IsVerdict, received_by, HasStepped, IsStepFault, NoMemoryLeft, OutOfOrder}
+use Rattle.search_parts.specs.Cycle.{path_kind_from}
+use Rattle.search_parts.specs.Decisive.{IsDecidedKind, AreDecided, IsDecisive}
+use Rattle.search_parts.specs.Definite.{IsDefinite}
+use Rattle.search_graph.specs.Decided.{IsDecided, AllDecided}
+use Rattle.search_graph.proofs.DecidedGoals.{below_decided, changed_decided, cycle_decided, newest_decided, pushed_decided, replied_decided}
+use Rattle.search_graph.specs.Evaluating.{Decidedly, seen, IsWaiting, work_left, HasAsked, GoesOn, HasEnded, HasStopped, Leads}
+use Rattle.search_graph.specs.Items.{AnswersNewest, rerun_with, with_no_record}
+use Rattle.search_graph.specs.Moves.{first_run, IsFresh, Pushes, Reruns, CanLeave, Leaves, ClosesCycle}
 
-or_false : (a : Bool) → (a || false) ≡ a
-or_false true = refl
-or_false false = refl
+true_is_not_false : true ≡ false → ⊥
+true_is_not_false is = cc
 
 some_runs : (n : ℕ) → 1 ≤ max 1 n
 some_runs n = omega arith
@@ -65,17 +77,21 @@ some_frames runs width zero some = some
 some_frames runs width (suc depth) some = let more : runs * 1 ≤ runs * (1 + width * frames_within runs width depth) = mul-le-mul_left runs (omega arith) in omega arith
 
 module _ {D C V P F I R A T : Type 0} (G : Delegate.Ghosts D C V P F I R A T) (X : Cx.Ghosts C I R A T) (cx : C) where
-  -- what a popped goal leaves
-  leaving : (r : R) (s : StackEntry C I R A T × Run C F I R A T) → ItemLeaves r (seen G X cx s) (record { result = r; required = s.0.state.required_depth; met_overflow = s.0.state.encountered_overflow; in_cycle = false })
-  leaving r s = record { result = inl refl; required = refl; met_overflow = sym (or_false s.0.state.encountered_overflow); in_cycle = λ c. absurd cc }
+  -- the outcome of a popped goal
+  abbrev pub outcome_of : R → StackEntry C I R A T × Run C F I R A T → Outcome R
+  outcome_of r s = record { result = r; required = s.0.state.required_depth; met_overflow = s.0.state.encountered_overflow || s.1.met_overflow_before; in_cycle = some_heads s.0.state.heads }
+
+  in_cycle_of : (used : Bool) (heads : Heads) → some_heads heads ≡ true → (used || some_heads heads) ≡ true
+  in_cycle_of true heads some = refl
+  in_cycle_of false heads some = some
+
+  -- what a popped goal leaves: its run's result, or, of a goal in a cycle, any result
+  leaving : (done r : R) (s : StackEntry C I R A T × Run C F I R A T) → (r ≡ done) ⊎ (is_in_cycle s.0.state ≡ true) → ItemLeaves done (seen G X cx s) (outcome_of r s)
+  leaving done r s result = record { result = result; required = refl; met_overflow = refl; in_cycle = in_cycle_of (is_some s.0.state.usages) s.0.state.heads }
 
 module _ {D C V P F I R A T : Type 0} (G : Delegate.Ghosts D C V P F I R A T) (X : Cx.Ghosts C I R A T) (cx : C) (call : Call I) where
   abbrev Goal : Type 0
   Goal = StackEntry C I R A T × Run C F I R A T
-
-  -- a run that begins has a new record
-  new_record : (run : Run C F I R A T) (script : List (Reply R) → Request I R) → run.progress ≡ no_record → Records X.is_yes X.is_no script run.progress []
-  new_record run script unused = subst (λ p. Records X.is_yes X.is_no script p []) (sym unused) (records_new X.is_yes X.is_no script)
 
   -- the newest frame can take its reply,
   pub can_step : (reply : Reply R) (goals : List Goal) (starts : ℕ) (met : Bool) → IsWaiting G X cx call reply goals starts met → CanStep G X cx reply goals
@@ -90,7 +106,7 @@ module _ {D C V P F I R A T : Type 0} (G : Delegate.Ghosts D C V P F I R A T) (X
 
   -- the record of a step
   module _ (entry : StackEntry C I R A T) (run : Run C F I R A T) (frame : F) (verdict : Verdict) (given : Received R) (request : Request I R) (steps : Steps G.stands G.script run.frame given.reply request frame) (sorted : IsReplySorted X.is_yes X.is_no given.reply verdict given.node) where
-    record_after : fault_of (received_by G X cx run given verdict) request ≡ None → (earlier : List (Reply R)) → Stood G X cx (entry, run) earlier → IsFitting (G.script cx entry.input) (given.reply ∷ earlier) → (request ≡ G.script cx entry.input (given.reply ∷ earlier)) × Stood G X cx (entry, record { frame = frame; node = run.node; progress = requested (received_by G X cx run given verdict) request }) (given.reply ∷ earlier)
+    record_after : fault_of (received_by G X cx run given verdict) request ≡ None → (earlier : List (Reply R)) → Stood G X cx (entry, run) earlier → IsFitting (G.script cx entry.input) (given.reply ∷ earlier) → (request ≡ G.script cx entry.input (given.reply ∷ earlier)) × Stood G X cx (entry, record run { frame = frame; progress = requested (received_by G X cx run given verdict) request }) (given.reply ∷ earlier)
     record_after orderly earlier stood fits =
         let made = steps cx entry.input earlier stood.0 fits in
         let told = fault_is X.is_yes X.is_no (G.script cx entry.input) run.progress earlier given.reply verdict given.node stood.1 fits.0 sorted request made.0 in (
@@ -111,14 +127,21 @@ module _ {D C V P F I R A T : Type 0} (G : Delegate.Ghosts D C V P F I R A T) (X
   -- and then has made a request
   pub step_asks : (given : Received R) (request : Request I R) (old new : List Goal) (starts : ℕ) (met : Bool) (s : HasStepped G X cx given request old new) → IsReplySorted X.is_yes X.is_no given.reply s.verdict given.node → IsWaiting G X cx call given.reply old starts met → HasAsked G X cx call (work_left G X cx old) request new starts met
   step_asks given request old new starts met s sorted h =
-      let later : Run C F I R A T = record { frame = s.frame; node = s.run.node; progress = requested (received_by G X cx s.run given s.verdict) request } in
+      let later : Run C F I R A T = record s.run { frame = s.frame; progress = requested (received_by G X cx s.run given s.verdict) request } in
       let was : IsWaiting G X cx call given.reply ((s.entry, s.run) ∷ s.below) starts met = subst (λ v. IsWaiting G X cx call given.reply v starts met) s.was h in
-      let takes : TakesStep (seen G X cx) (Stood G X cx) (G.script cx) given.reply request (s.entry, s.run) (s.entry, record { frame = s.frame; node = s.run.node; progress = requested (received_by G X cx s.run given s.verdict) request }) =
+      let takes : TakesStep (seen G X cx) (Stood G X cx) (G.script cx) given.reply request (s.entry, s.run) (s.entry, record s.run { frame = s.frame; progress = requested (received_by G X cx s.run given s.verdict) request }) =
       record { falls = s.falls; same = refl; steps = record_after s.entry s.run s.frame s.verdict given request s.steps sorted s.in_order } in
-      let asks = step_requests (seen G X cx) (Stood G X cx) (G.script cx) (limits G X cx call) (IsCounted G X cx call) call.top (bound G X cx call) given.reply request (s.entry, s.run) (s.entry, record { frame = s.frame; node = s.run.node; progress = requested (received_by G X cx s.run given s.verdict) request }) s.below starts met takes was.waits in
+      let asks = step_requests (seen G X cx) (Stood G X cx) (G.script cx) (limits G X cx call) (IsCounted G X cx call) call.top (bound G X cx call) given.reply request (s.entry, s.run) (s.entry, record s.run { frame = s.frame; progress = requested (received_by G X cx s.run given s.verdict) request }) s.below starts met takes was.waits in
       subst (λ v. HasAsked G X cx call (work_left G X cx v) request new starts met) (sym s.was)
       (subst (λ v. HasAsked G X cx call (work_left G X cx ((s.entry, s.run) ∷ s.below)) request v starts met) (sym s.is)
-      (record { asked = asks; keeps = h.keeps }))
+      (record {
+        asked = asks;
+        keeps = h.keeps;
+        decided = λ decisive unmet.
+            let d = was.decided decisive unmet in
+            changed_decided X.is_yes X.is_no (s.entry, s.run) (s.entry, record s.run { frame = s.frame; progress = requested (received_by G X cx s.run given s.verdict) request }) s.below refl
+            (λ here. record { replies = replied_decided X.is_yes X.is_no s.run.progress.replies given.reply d.1 here.replies; provisional = here.provisional }) d.0;
+      }))
 
   -- or has failed: a fault of the order is one of a script, and comes not where the root's rank fits
   disorder_stops : (given : Received R) (entry : StackEntry C I R A T) (run : Run C F I R A T) (frame : F) (verdict : Verdict) (below : List Goal) (request : Request I R) (number : ℕ) (fault : Fault I R) (starts : ℕ) (met : Bool) (frames : List (Frame I R)) → Steps G.stands G.script run.frame given.reply request frame → IsReplySorted X.is_yes X.is_no given.reply verdict given.node → fault_of (received_by G X cx run given verdict) request ≡ Some number → fault ≡ Protocol number → Mirror (seen G X cx) (Stood G X cx) given.reply ((entry, run) ∷ below) frames → IsEvaluating (G.script cx) (limits G X cx call) (IsCounted G X cx call) call.top (bound G X cx call) (at frames starts met) → KeepsLimits G X cx call met → HasStopped G X cx call fault starts met
@@ -152,12 +175,34 @@ module _ {D C V P F I R A T : Type 0} (G : Delegate.Ghosts D C V P F I R A T) (X
       let there : IsWaiting G X cx call given.reply ((entry, run) ∷ below) starts met = subst (λ v. IsWaiting G X cx call given.reply v starts met) was h in
       disorder_stops given entry run frame verdict below request number fault starts met there.waits.frames steps (sorts verdict is_verdict) disorderly is there.waits.mirror there.waits.evaluating there.keeps
 
+  -- where the delegate is decisive, the newest goal's questions and its result are decided
+  asked_kind : (ahead : ℕ) (kind : PathKind) (goal : I) (goals : List Goal) (starts : ℕ) (met : Bool) → HasAsked G X cx call ahead (Evaluate kind goal) goals starts met → IsDecisive X.is_yes X.is_no (G.script cx) → IsDecidedKind kind
+  asked_kind ahead kind goal [] starts met h decisive = absurd h.asked.mirror
+  asked_kind ahead kind goal (s ∷ below) starts met h decisive =
+      let by = requested_by (seen G X cx) (Stood G X cx) (G.script cx) (limits G X cx call) (IsCounted G X cx call) call.top (bound G X cx call) ahead (Evaluate kind goal) s below starts met h.asked in
+      decisive.asks s.0.input goal by.0 kind by.2 by.3
+
+  done_definite : (ahead : ℕ) (done : R) (goals : List Goal) (starts : ℕ) (met : Bool) → HasAsked G X cx call ahead (Done done) goals starts met → Decidedly G X cx met (IsDefinite X.is_yes X.is_no done)
+  done_definite ahead done [] starts met h decisive unmet = absurd h.asked.mirror
+  done_definite ahead done (s ∷ below) starts met h decisive unmet =
+      let by = requested_by (seen G X cx) (Stood G X cx) (G.script cx) (limits G X cx call) (IsCounted G X cx call) call.top (bound G X cx call) ahead (Done done) s below starts met h.asked in
+      let here = (newest_decided X.is_yes X.is_no s below (h.decided decisive unmet)).replies in
+      decisive.ends s.0.input by.0 done by.2 (subst (AreDecided X.is_yes X.is_no) by.1.1.replies_are here) by.3
+
+  -- a goal that takes an answer over stays decided
+  answered_decided : (step : PathKind) (required : ℕ) (overflow : Bool) (answer : Heads) (old new : List Goal) → AnswersNewest step required overflow answer old new → AllDecided X.is_yes X.is_no old → AllDecided X.is_yes X.is_no new
+  answered_decided step required overflow answer old new a h =
+      subst (AllDecided X.is_yes X.is_no) (sym a.is)
+      (changed_decided X.is_yes X.is_no (a.entry, a.run) (record a.entry { state = a.state }, a.run) a.below refl
+      (λ here. record { replies = here.replies; provisional = subst (λ (o : Option R). IfSome o (IsDefinite X.is_yes X.is_no)) (sym (ap (λ (s : EntryState C I R A T). s.provisional_result) a.takes.others)) here.provisional })
+      (subst (AllDecided X.is_yes X.is_no) a.was h))
+
   -- what was requested is no question: it is noted
   pub noted_goes_on : (ahead : ℕ) (request : Request I R) (goals : List Goal) (starts : ℕ) (met : Bool) → IsReplyTo (λ _ _. ⊥) (Some request) Noted → HasAsked G X cx call ahead request goals starts met → GoesOn G X cx call ahead Noted goals starts met
   noted_goes_on ahead request [] starts met fits h = absurd h.asked.mirror
   noted_goes_on ahead request (s ∷ below) starts met fits h =
       let w = noted_waits (seen G X cx) (Stood G X cx) (G.script cx) (limits G X cx call) (IsCounted G X cx call) call.top (bound G X cx call) (some_runs G.FIXPOINT_STEP_LIMIT) ahead starts met s below request Noted s fits (record { same = λ replies. refl; stood = λ replies stood. stood }) h.asked in
-      record { waiting = record { waits = w.0; keeps = h.keeps }; falls = w.1 }
+      record { waiting = record { waits = w.0; keeps = h.keeps; decided = λ decisive unmet. (h.decided decisive unmet, tt) }; falls = w.1 }
 
   -- a goal without depth asks: the question is refused
   pub refused_goes_on : (ahead : ℕ) (kind : PathKind) (goal : I) (r : R) (s : Goal) (below : List Goal) (starts : ℕ) (met : Bool) → s.0.available_depth.0 ≡ 0 → HasAsked G X cx call ahead (Evaluate kind goal) (s ∷ below) starts met → GoesOn G X cx call ahead (Answer r) ((overflowed s.0, s.1) ∷ below) starts true
@@ -173,6 +218,7 @@ module _ {D C V P F I R A T : Type 0} (G : Delegate.Ghosts D C V P F I R A T) (X
                 let deep : 0 < s.0.available_depth.0 = (requested_fits (seen G X cx) (Stood G X cx) (G.script cx) (limits G X cx call) (IsCounted G X cx call) call.top (bound G X cx call) ahead (Evaluate kind goal) s below starts met n p fits h.asked).1 kind goal refl in
                 absurd (omega arith);
           };
+          decided = λ decisive unmet. absurd (true_is_not_false unmet);
         };
         falls = w.1;
       }
@@ -185,21 +231,111 @@ module _ {D C V P F I R A T : Type 0} (G : Delegate.Ghosts D C V P F I R A T) (X
   among eq exact goal [] is = absurd cc
   among eq exact goal (s ∷ below) is = among_at eq goal s below (eq goal s.0.input) refl exact is (among eq exact goal below)
 
+  -- an answer is taken over
+  takes_answer : (r : R) (step : PathKind) (required : ℕ) (overflow : Bool) (answer : Heads) (entry : StackEntry C I R A T) (run : Run C F I R A T) (parent : StackDepth) (state : EntryState C I R A T) → TakesAnswer parent step required overflow answer entry.state state → TakesReply (seen G X cx) (Stood G X cx) (G.script cx) (λ g. answered g (record { result = r; required = required; met_overflow = overflow; in_cycle = some_heads answer })) (Answer r) (entry, run) (record entry { state = state }, run)
+  takes_answer r step required overflow answer entry run parent state takes = record {
+    same = λ replies.
+        ap (λ b. record (with_replies (answered (seen G X cx (entry, run)) (record { result = r; required = required; met_overflow = overflow; in_cycle = some_heads answer })) (Answer r ∷ replies)) { in_cycle = b }) (sym takes.in_cycle)
+        ∙ ap (λ s. record (with_replies (seen G X cx (record entry { state = s }, run)) (Answer r ∷ replies)) { in_cycle = is_in_cycle state }) (sym takes.others);
+    stood = λ replies stood. stood;
+  }
+
   -- a goal that is under evaluation is asked: it has no rank, so that any answer is safe
-  pub cycle_goes_on : (eq : I → I → Bool) → ((x y : I) → eq x y ≡ true → x ≡ y) → (ahead : ℕ) (kind : PathKind) (goal : I) (r : R) (depth : ℕ) (s : Goal) (below : List Goal) (starts : ℕ) (met : Bool) → IsAllowed (seen G X cx s) depth → list_any (λ t. eq goal t.0.input) (s ∷ below) ≡ true → HasAsked G X cx call ahead (Evaluate kind goal) (s ∷ below) starts met → GoesOn G X cx call ahead (Answer r) ((with_answer s.0 0 false, s.1) ∷ below) starts met
-  cycle_goes_on eq exact ahead kind goal r depth s below starts met may found h =
-      let outcome : Outcome R = record { result = r; required = 0; met_overflow = false; in_cycle = false } in
-      let no_rank = cycle_found (seen G X cx) (Stood G X cx) (G.script cx) (limits G X cx call) (IsCounted G X cx call) call.top (bound G X cx call) ahead kind goal (s ∷ below) starts met h.asked (among eq exact goal (s ∷ below) found) in
-      let w = answered_waits (seen G X cx) (Stood G X cx) (G.script cx) (limits G X cx call) (IsCounted G X cx call) call.top (bound G X cx call) (some_runs G.FIXPOINT_STEP_LIMIT) ahead starts met s below kind goal depth (record { result = r; required = 0; met_overflow = false; in_cycle = false }) (with_answer s.0 0 false, s.1) may
-      (unranked_is_safe (G.script cx) goal depth (record { result = r; required = 0; met_overflow = false; in_cycle = false }) no_rank (omega arith)) (λ c unmet. refl) (record { same = λ replies. refl; stood = λ replies stood. stood }) h.asked in
-      record { waiting = record { waits = w.0; keeps = h.keeps }; falls = w.1 }
+  pub cycle_goes_on : (eq : I → I → Bool) → ((x y : I) → eq x y ≡ true → x ≡ y) → ((kind : PathKind) (goal : I) → IsCycleResult X.is_yes X.is_no kind (G.initial_result cx kind goal)) → (ahead : ℕ) (kind : PathKind) (goal : I) (reply : Reply R) (depth : ℕ) (head : StackDepth) (old new : List Goal) (starts : ℕ) (met : Bool) → ((s : Goal) (below : List Goal) → old ≡ s ∷ below → IsAllowed (seen G X cx s) depth) → list_any (λ t. eq goal t.0.input) old ≡ true → ClosesCycle G X cx kind goal head reply old new → HasAsked G X cx call ahead (Evaluate kind goal) old starts met → GoesOn G X cx call ahead reply new starts met
+  cycle_goes_on eq exact sorts ahead kind goal reply depth head old new starts met may found c h =
+      let t = c.takes in
+      let cycle : PathKind = path_kind_from (reverse (map (λ s. s.0) old)) head.0 kind in
+      let r : R = unwrap_or c.entry.state.provisional_result (G.initial_result cx (path_kind_from (reverse (map (λ s. s.0) old)) head.0 kind) goal) in
+      let was : HasAsked G X cx call ahead (Evaluate kind goal) ((t.entry, t.run) ∷ t.below) starts met = subst (λ v. HasAsked G X cx call ahead (Evaluate kind goal) v starts met) t.was h in
+      let no_rank = cycle_found (seen G X cx) (Stood G X cx) (G.script cx) (limits G X cx call) (IsCounted G X cx call) call.top (bound G X cx call) ahead kind goal ((t.entry, t.run) ∷ t.below) starts met was.asked
+      (among eq exact goal ((t.entry, t.run) ∷ t.below) (subst (λ v. list_any (λ (u : Goal). eq goal u.0.input) v ≡ true) t.was found)) in
+      let w = answered_waits (seen G X cx) (Stood G X cx) (G.script cx) (limits G X cx call) (IsCounted G X cx call) call.top (bound G X cx call) (some_runs G.FIXPOINT_STEP_LIMIT) ahead starts met (t.entry, t.run) t.below kind goal depth (record { result = r; required = 0; met_overflow = false; in_cycle = true }) (record t.entry { state = t.state }, t.run)
+      (may (t.entry, t.run) t.below t.was) (unranked_is_safe (G.script cx) goal depth (record { result = r; required = 0; met_overflow = false; in_cycle = true }) no_rank (omega arith)) (λ c unmet. refl)
+      (takes_answer r kind 0 false ((head, cycle_head kind cycle) ∷ []) t.entry t.run (record { 0 = length t.below }) t.state t.takes) was.asked in
+      subst (λ given. GoesOn G X cx call ahead given new starts met) (sym c.is_answer)
+      (record {
+        waiting = record {
+          waits = subst (λ v. Waits (seen G X cx) (Stood G X cx) (G.script cx) (limits G X cx call) (IsCounted G X cx call) call.top (bound G X cx call) (Answer r) v starts met) (sym t.is) w.0;
+          keeps = h.keeps;
+          decided = λ decisive unmet.
+              let d = h.decided decisive unmet in (
+                answered_decided kind 0 false ((head, cycle_head kind (path_kind_from (reverse (map (λ s. s.0) old)) head.0 kind)) ∷ []) old new t d,
+                cycle_decided X.is_yes X.is_no old head.0 kind c.entry (G.initial_result cx (path_kind_from (reverse (map (λ s. s.0) old)) head.0 kind) goal) d (asked_kind ahead kind goal old starts met h decisive) c.is_at (sorts (path_kind_from (reverse (map (λ s. s.0) old)) head.0 kind) goal),
+              );
+        };
+        falls = subst (λ v. work_left G X cx v < ahead) (sym t.is) w.1;
+      })
 
   -- the asked goal was put on top
   pub pushed_goes_on : (ahead : ℕ) (kind : PathKind) (goal : I) (depth : AvailableDepth) (s : Goal) (below new : List Goal) (starts now : ℕ) (met : Bool) → IsAllowed (seen G X cx s) depth.0 → now ≤ starts + 1 → (G.counts ≡ true → CountsOne G.last starts now) → Pushes G X cx goal kind depth (s ∷ below) new → HasAsked G X cx call ahead (Evaluate kind goal) (s ∷ below) starts met → GoesOn G X cx call ahead Begin new now met
   pushed_goes_on ahead kind goal depth s below new starts now met may one counted push h =
-      let w = pushed_waits (seen G X cx) (Stood G X cx) (G.script cx) (limits G X cx call) (IsCounted G X cx call) call.top (bound G X cx call) (some_runs G.FIXPOINT_STEP_LIMIT) ahead starts met s below kind goal depth.0 now (fresh_entry goal kind depth, push.run) may push.within refl (push.stood, new_record push.run (G.script cx goal) push.unused) (record { at_most = one; exactly = λ c. counted c.0 }) h.asked in
+      let w = pushed_waits (seen G X cx) (Stood G X cx) (G.script cx) (limits G X cx call) (IsCounted G X cx call) call.top (bound G X cx call) (some_runs G.FIXPOINT_STEP_LIMIT) ahead starts met s below kind goal depth.0 now (first_entry goal kind depth push.own, first_run G X cx push.frame push.own) may push.fresh.within refl (push.fresh.stood, records_new X.is_yes X.is_no (G.script cx goal)) (record { at_most = one; exactly = λ c. counted c.0 }) h.asked in
       subst (λ v. GoesOn G X cx call ahead Begin v now met) (sym push.is)
-      (record { waiting = record { waits = w.0; keeps = h.keeps }; falls = w.1 })
+      (record {
+        waiting = record {
+          waits = w.0;
+          keeps = h.keeps;
+          decided = λ decisive unmet. (pushed_decided X.is_yes X.is_no (first_entry goal kind depth push.own, first_run G X cx push.frame push.own) (s ∷ below) (record { replies = tt; provisional = tt }) (asked_kind ahead kind goal (s ∷ below) starts met h decisive) (h.decided decisive unmet), tt);
+        };
+        falls = w.1;
+      })
+
+  -- the newest goal is run again, which is in a cycle and hasn't had its most runs
+  again_seen : (item : Goal) (r : R) (target : Option NodeId) (frame : F) (own : NodeId) → is_in_cycle item.0.state ≡ true → seen G X cx (rerun_with r target frame own (with_no_record item)) ≡ run_again (seen G X cx item) (G.left frame)
+  again_seen item r target frame own cycle =
+      let next : item.1.finished_runs + 1 ≡ suc item.1.finished_runs = omega arith in
+      ap₂ (λ b n. record (seen G X cx item) { left = G.left frame; finished_runs = n; met_overflow = false; met_before = item.1.met_overflow_before || item.0.state.encountered_overflow; in_cycle = b }) (sym cycle) next
+
+  pub rerun_goes_on : (ahead : ℕ) (done : R) (old new : List Goal) (starts now : ℕ) (met : Bool) → ((s : Goal) (below : List Goal) → old ≡ s ∷ below → (is_in_cycle s.0.state ≡ true) × (s.1.finished_runs + 1 < runs G X cx)) → now ≤ starts + 1 → (G.counts ≡ true → CountsOne G.last starts now) → Reruns G X cx done old new → HasAsked G X cx call ahead (Done done) old starts met → GoesOn G X cx call ahead Begin new now met
+  rerun_goes_on ahead done old new starts now met may one counted again h =
+      let was : HasAsked G X cx call ahead (Done done) (again.item ∷ again.below) starts met = subst (λ v. HasAsked G X cx call ahead (Done done) v starts met) again.was h in
+      let can = may again.item again.below again.was in
+      let w = rerun_waits (seen G X cx) (Stood G X cx) (G.script cx) (limits G X cx call) (IsCounted G X cx call) call.top (bound G X cx call) (some_runs G.FIXPOINT_STEP_LIMIT) ahead starts met again.item again.below done now (rerun_with done again.target again.frame again.own (with_no_record again.item))
+      can.1 again.fresh.within (again_seen again.item done again.target again.frame again.own can.0) (again.fresh.stood, records_new X.is_yes X.is_no (G.script cx again.item.0.input)) (record { at_most = one; exactly = λ c. counted c.0 }) was.asked in
+      subst (λ v. GoesOn G X cx call ahead Begin v now met) (sym again.is)
+      (record {
+        waiting = record {
+          waits = w.0;
+          keeps = h.keeps;
+          decided = λ decisive unmet. (
+            changed_decided X.is_yes X.is_no again.item (rerun_with done again.target again.frame again.own (with_no_record again.item)) again.below refl (λ here. record { replies = tt; provisional = done_definite ahead done old starts met h decisive unmet }) (was.decided decisive unmet),
+            tt,
+          );
+        };
+        falls = w.1;
+      })
+
+  -- its further run failed to start
+  pub failed_rerun_stopped : (ahead : ℕ) (done : R) (goals : List Goal) (starts now : ℕ) (met : Bool) → ((s : Goal) (below : List Goal) → goals ≡ s ∷ below → s.1.finished_runs + 1 < runs G X cx) → starts ≤ now → now ≤ starts + 1 → HasAsked G X cx call ahead (Done done) goals starts met → HasStopped G X cx call Memory now met
+  failed_rerun_stopped ahead done [] starts now met may more one h = absurd h.asked.mirror
+  failed_rerun_stopped ahead done (s ∷ below) starts now met may more one h = record {
+    stops = failed_rerun_stops (seen G X cx) (Stood G X cx) (G.script cx) (limits G X cx call) (IsCounted G X cx call) call.top (bound G X cx call) ahead (Done done) now s below starts met (may s below refl) more one h.asked;
+    keeps = h.keeps;
+    caused = inl refl;
+    plain = λ n p room. refl;
+  }
+
+  -- a limit was met by a goal in a cycle
+  limit_kept : (ahead : ℕ) (request : Request I R) (s : Goal) (below : List Goal) (starts : ℕ) (met : Bool) → is_in_cycle s.0.state ≡ true → HasAsked G X cx call ahead request (s ∷ below) starts met → KeepsLimits G X cx call true
+  limit_kept ahead request s below starts met cycle h = record {
+    stays = λ was. refl;
+    plain = λ n p fits.
+        let calm : is_in_cycle s.0.state ≡ false = (requested_fits (seen G X cx) (Stood G X cx) (G.script cx) (limits G X cx call) (IsCounted G X cx call) call.top (bound G X cx call) ahead request s below starts met n p fits h.asked).2 in
+        let clash : true ≡ false = sym cycle ∙ calm in
+        absurd cc;
+  }
+
+  -- there was no memory once it was
+  pub limited_stopped : (ahead : ℕ) (done : R) (goals : List Goal) (starts : ℕ) (met : Bool) → ((s : Goal) (below : List Goal) → goals ≡ s ∷ below → (is_in_cycle s.0.state ≡ true) × (runs G X cx ≤ s.1.finished_runs + 1)) → HasAsked G X cx call ahead (Done done) goals starts met → HasStopped G X cx call Memory starts true
+  limited_stopped ahead done [] starts met may h = absurd h.asked.mirror
+  limited_stopped ahead done (s ∷ below) starts met may h =
+      let can = may s below refl in
+      record {
+        stops = last_run_stops (seen G X cx) (Stood G X cx) (G.script cx) (limits G X cx call) (IsCounted G X cx call) call.top (bound G X cx call) ahead (Done done) s below starts met can.1 h.asked;
+        keeps = limit_kept ahead (Done done) s below starts met can.0 h;
+        caused = inl refl;
+        plain = λ n p room. refl;
+      }
 
   -- its start failed
   pub failed_push_stopped : (ahead : ℕ) (kind : PathKind) (goal : I) (depth : ℕ) (s : Goal) (below : List Goal) (starts now : ℕ) (met : Bool) → IsAllowed (seen G X cx s) depth → starts ≤ now → now ≤ starts + 1 → HasAsked G X cx call ahead (Evaluate kind goal) (s ∷ below) starts met → HasStopped G X cx call Memory now met
@@ -242,18 +378,55 @@ module _ {D C V P F I R A T : Type 0} (G : Delegate.Ghosts D C V P F I R A T) (X
   only_top s f (q ∷ rest) same m rooted = absurd m
 
   -- and what comes then
-  pub leave_leads : (ahead : ℕ) (r : R) (next : Next R) (old new : List Goal) (starts : ℕ) (met : Bool) → Leaves r old next new → HasAsked G X cx call ahead (Done r) old starts met → Leads G X cx call ahead old next new starts met
-  leave_leads ahead r next [] new starts met l h = absurd l
-  leave_leads ahead r next (s ∷ []) new starts met l h =
-      let ends = last_item_ends (seen G X cx) (Stood G X cx) (G.script cx) (limits G X cx call) (IsCounted G X cx call) call.top (bound G X cx call) r (record { result = r; required = s.0.state.required_depth; met_overflow = s.0.state.encountered_overflow; in_cycle = false }) ahead starts met s (leaving G X cx r s) h.asked in
-      subst (λ n. Leads G X cx call ahead (s ∷ []) n new starts met) (sym l.1)
-      (l.2, only_top s h.asked.f h.asked.below (ap (λ g. g.goal) h.asked.mirror.0.is) h.asked.mirror.1 h.asked.evaluating.rooted, record { outcome = record { result = r; required = s.0.state.required_depth; met_overflow = s.0.state.encountered_overflow; in_cycle = false }; result_is = refl; ends = ends; keeps = h.keeps })
-  leave_leads ahead r next (s ∷ p ∷ below) new starts met l h =
-      let w = popped_waits (seen G X cx) (Stood G X cx) (G.script cx) (limits G X cx call) (IsCounted G X cx call) call.top (bound G X cx call) (some_runs G.FIXPOINT_STEP_LIMIT) ahead starts met s below r (record { result = r; required = s.0.state.required_depth; met_overflow = s.0.state.encountered_overflow; in_cycle = false }) p (with_answer p.0 s.0.state.required_depth s.0.state.encountered_overflow, p.1)
-      (leaving G X cx r s) (record { same = λ replies. refl; stood = λ replies stood. stood }) h.asked in
-      subst (λ n. Leads G X cx call ahead (s ∷ p ∷ below) n new starts met) (sym l.1)
-      (subst (λ v. GoesOn G X cx call ahead (Answer r) v starts met) (sym l.2)
-      (record { waiting = record { waits = w.0; keeps = h.keeps }; falls = w.1 }))
+  module _ (ahead : ℕ) (done r : R) (next : Next R) where
+    popped_leads : (s p : Goal) (below new : List Goal) (starts : ℕ) (met after : Bool) (target : Option NodeId) → next ≡ Step (record { reply = Answer r; node = target }) → KeepsLimits G X cx call after → Decidedly G X cx after (AllDecided X.is_yes X.is_no (p ∷ below) × IsDefinite X.is_yes X.is_no r)
+        → (t : AnswersNewest s.0.step_kind_from_parent s.0.state.required_depth (s.0.state.encountered_overflow || s.1.met_overflow_before) s.0.state.heads (p ∷ below) new)
+        → ((later : Goal) → TakesReply (seen G X cx) (Stood G X cx) (G.script cx) (λ g. answered g (outcome_of G X cx r s)) (Answer r) (t.entry, t.run) later → WaitsWithLess (seen G X cx) (Stood G X cx) (G.script cx) (limits G X cx call) (IsCounted G X cx call) call.top (bound G X cx call) ahead (Answer r) (later ∷ t.below) starts after)
+        → Leads G X cx call ahead (s ∷ p ∷ below) next new starts after
+    popped_leads s p below new starts met after target is keeps decided t waits =
+        let w = waits (record t.entry { state = t.state }, t.run) (takes_answer r s.0.step_kind_from_parent s.0.state.required_depth (s.0.state.encountered_overflow || s.1.met_overflow_before) s.0.state.heads t.entry t.run (record { 0 = length t.below }) t.state t.takes) in
+        subst (λ n. Leads G X cx call ahead (s ∷ p ∷ below) n new starts after) (sym is)
+        (subst (λ v. GoesOn G X cx call ahead (Answer r) v starts after) (sym t.is) (record {
+          waiting = record {
+            waits = w.0;
+            keeps = keeps;
+            decided = λ decisive unmet.
+                let d = decided decisive unmet in
+                (subst (AllDecided X.is_yes X.is_no) t.is (answered_decided s.0.step_kind_from_parent s.0.state.required_depth (s.0.state.encountered_overflow || s.1.met_overflow_before) s.0.state.heads (p ∷ below) new t d.0), d.1);
+          };
+          falls = w.1;
+        }))
+
+    ended_leads : (s : Goal) (new : List Goal) (starts : ℕ) (met after : Bool) (target : Option NodeId) → next ≡ Finished (record { result = r; node = target }) → new ≡ [] → KeepsLimits G X cx call after → Decidedly G X cx after (IsDefinite X.is_yes X.is_no r) → HasAsked G X cx call ahead (Done done) (s ∷ []) starts met → Ends (G.script cx) (limits G X cx call) (IsCounted G X cx call) call.top (bound G X cx call) starts after (outcome_of G X cx r s) → Leads G X cx call ahead (s ∷ []) next new starts after
+    ended_leads s new starts met after target is none keeps decided h ends =
+        subst (λ n. Leads G X cx call ahead (s ∷ []) n new starts after) (sym is)
+        (none, only_top s h.asked.f h.asked.below (ap (λ g. g.goal) h.asked.mirror.0.is) h.asked.mirror.1 h.asked.evaluating.rooted, record { outcome = outcome_of G X cx r s; result_is = refl; ends = ends; keeps = keeps; decided = decided })
+
+    -- where the run's result stands,
+    pub leave_leads : (old new : List Goal) (starts : ℕ) (met : Bool) → r ≡ done → Leaves r old next new → HasAsked G X cx call ahead (Done done) old starts met → Leads G X cx call ahead old next new starts met
+    leave_leads [] new starts met same l h = absurd l
+    leave_leads (s ∷ []) new starts met same l h =
+        ended_leads s new starts met met l.0 l.1 l.2 h.keeps (λ decisive unmet. subst (IsDefinite X.is_yes X.is_no) (sym same) (done_definite ahead done (s ∷ []) starts met h decisive unmet)) h
+        (last_item_ends (seen G X cx) (Stood G X cx) (G.script cx) (limits G X cx call) (IsCounted G X cx call) call.top (bound G X cx call) done (outcome_of G X cx r s) ahead starts met s (leaving G X cx done r s (inl same)) h.asked)
+    leave_leads (s ∷ p ∷ below) new starts met same l h =
+        let t = l.2 in
+        let was : HasAsked G X cx call ahead (Done done) (s ∷ (t.entry, t.run) ∷ t.below) starts met = subst (λ v. HasAsked G X cx call ahead (Done done) (s ∷ v) starts met) t.was h in
+        popped_leads s p below new starts met met l.0 l.1 h.keeps (λ decisive unmet. (below_decided X.is_yes X.is_no s (p ∷ below) (h.decided decisive unmet), subst (IsDefinite X.is_yes X.is_no) (sym same) (done_definite ahead done (s ∷ p ∷ below) starts met h decisive unmet))) t
+        (λ later takes. popped_waits (seen G X cx) (Stood G X cx) (G.script cx) (limits G X cx call) (IsCounted G X cx call) call.top (bound G X cx call) (some_runs G.FIXPOINT_STEP_LIMIT) ahead starts met s t.below done (outcome_of G X cx r s) (t.entry, t.run) later (leaving G X cx done r s (inl same)) takes was.asked)
+
+    -- and where the goal had its most runs
+    pub limited_leads : (old new : List Goal) (starts : ℕ) (met : Bool) → ((s : Goal) (below : List Goal) → old ≡ s ∷ below → (is_in_cycle s.0.state ≡ true) × (runs G X cx ≤ s.1.finished_runs + 1)) → Leaves r old next new → HasAsked G X cx call ahead (Done done) old starts met → Leads G X cx call ahead old next new starts true
+    limited_leads [] new starts met may l h = absurd l
+    limited_leads (s ∷ []) new starts met may l h =
+        let can = may s [] refl in
+        ended_leads s new starts met true l.0 l.1 l.2 (limit_kept ahead (Done done) s [] starts met can.0 h) (λ decisive unmet. absurd (true_is_not_false unmet)) h
+        (last_item_ends_at_limit (seen G X cx) (Stood G X cx) (G.script cx) (limits G X cx call) (IsCounted G X cx call) call.top (bound G X cx call) done (outcome_of G X cx r s) ahead starts met s can.1 (leaving G X cx done r s (inr can.0)) h.asked)
+    limited_leads (s ∷ p ∷ below) new starts met may l h =
+        let can = may s (p ∷ below) refl in
+        let t = l.2 in
+        let was : HasAsked G X cx call ahead (Done done) (s ∷ (t.entry, t.run) ∷ t.below) starts met = subst (λ v. HasAsked G X cx call ahead (Done done) (s ∷ v) starts met) t.was h in
+        popped_leads s p below new starts met true l.0 l.1 (limit_kept ahead (Done done) s (p ∷ below) starts met can.0 h) (λ decisive unmet. absurd (true_is_not_false unmet)) t
+        (λ later takes. popped_at_limit_waits (seen G X cx) (Stood G X cx) (G.script cx) (limits G X cx call) (IsCounted G X cx call) call.top (bound G X cx call) (some_runs G.FIXPOINT_STEP_LIMIT) ahead starts met s t.below done (outcome_of G X cx r s) (t.entry, t.run) later can.1 (leaving G X cx done r s (inr can.0)) takes was.asked)
 
   -- the run that ended is on record
   pub ends_newest : (ahead : ℕ) (r : R) (goals : List Goal) (starts : ℕ) (met : Bool) → HasAsked G X cx call ahead (Done r) goals starts met → EndsNewest X.is_yes X.is_no (G.script cx) goals r
@@ -268,11 +441,13 @@ module _ {D C V P F I R A T : Type 0} (G : Delegate.Ghosts D C V P F I R A T) (X
   -- the root was put on top of nothing
   pub root_waits : (kind : PathKind) (depth : AvailableDepth) (new : List Goal) (now : ℕ) → depth.0 ≡ call.root → now ≤ call.starts + 1 → (G.counts ≡ true → CountsOne G.last call.starts now) → Pushes G X cx call.top kind depth [] new → IsWaiting G X cx call Begin new now call.limits_met
   root_waits kind depth new now same one counted push =
+      let item : Goal = (first_entry call.top kind depth push.own, first_run G X cx push.frame push.own) in
       subst (λ v. IsWaiting G X cx call Begin v now call.limits_met) (sym push.is)
       (record {
-        waits = first_waits (seen G X cx) (Stood G X cx) (G.script cx) (limits G X cx call) (IsCounted G X cx call) call.top (bound G X cx call) now call.limits_met (fresh_entry call.top kind depth, push.run) refl (some_runs G.FIXPOINT_STEP_LIMIT) push.within
-            (ap (λ n. record (seen G X cx (fresh_entry call.top kind depth, push.run)) { available = n }) same) (push.stood, new_record push.run (G.script cx call.top) push.unused) (record { at_most = one; exactly = λ c. counted c.0 }) (λ c. c.1);
+        waits = first_waits (seen G X cx) (Stood G X cx) (G.script cx) (limits G X cx call) (IsCounted G X cx call) call.top (bound G X cx call) now call.limits_met (first_entry call.top kind depth push.own, first_run G X cx push.frame push.own) refl (some_runs G.FIXPOINT_STEP_LIMIT) push.fresh.within
+            (ap (λ n. record (seen G X cx (first_entry call.top kind depth push.own, first_run G X cx push.frame push.own)) { available = n }) same) (push.fresh.stood, records_new X.is_yes X.is_no (G.script cx call.top)) (record { at_most = one; exactly = λ c. counted c.0 }) (λ c. c.1);
         keeps = kept now;
+        decided = λ decisive unmet. (record { replies = tt; provisional = tt }, tt);
       })
 
   -- its start failed

@@ -17,7 +17,8 @@ use Rattle.search_parts.specs.declared.context.Fault.{Fault}
 use Rattle.search_parts.specs.Rank.{IsPlainValue, frames_within}
 use Rattle.evaluations.specs.Plain.{IsPlainTo}
 use Rattle.evaluations.specs.Price.{IsPaid}
-use Rattle.search_graph.specs.Evaluating.{Call, runs, HasEnded, HasStopped}
+use Rattle.search_graph.specs.Calls.{Call, runs}
+use Rattle.search_graph.specs.Evaluating.{HasEnded, HasStopped}
 
 module _ {D C V P F I R A T : Type 0} (G : Delegate.Ghosts D C V P F I R A T) (X : Cx.Ghosts C I R A T) (cx : C) (call : Call I) (now : ℕ) (met : Bool) where
   pub ended_plain : (r : R) → HasEnded G X cx call r now met → (n : ℕ) → IsPlainTo (G.script cx) n call.top → n ≤ call.root → IsPlainValue (G.script cx) n call.top r
@@ -36,7 +37,7 @@ module _ {D C V P F I R A T : Type 0} (G : Delegate.Ghosts D C V P F I R A T) (X
   stopped_paid fault h counted unmet is_met = h.stops.paid (counted, unmet) is_met
 
 -- A definite answer over a list of runs has its graph, and its goal has none of the other sort.
-module _ {D C V P F I R A T : Type 0} (G : Delegate.Ghosts D C V P F I R A T) (X : Cx.Ghosts C I R A T) (cache : Cache C I R) (runs_are : AreRuns X.is_yes X.is_no (G.script cache.cx) cache.nodes) (clash : (goal : I) (held failed : List (Question I)) → X.proves cache.cx goal held → X.refutes cache.cx goal failed → Overlap held failed) (goal : I) (r : R) (target : Option NodeId) (has : HasGraph X.is_yes X.is_no cache.nodes goal r target) where
+module _ {D C V P F I R A T : Type 0} (G : Delegate.Ghosts D C V P F I R A T) (X : Cx.Ghosts C I R A T) (cache : Cache C I R A T) (runs_are : AreRuns X.is_yes X.is_no (G.script cache.cx) cache.nodes) (clash : (goal : I) (held failed : List (Question I)) → X.proves cache.cx goal held → X.refutes cache.cx goal failed → Overlap held failed) (goal : I) (r : R) (target : Option NodeId) (has : HasGraph X.is_yes X.is_no cache.nodes goal r target) where
   never_refuted_at : (o : Option NodeId) → IsSomeAnd o (λ n. IsProofGraph (X.proves cache.cx) (graph_nodes_of cache.nodes) n.0 goal) → (others : List (GraphNode I)) (top : ℕ) → IsRefutationGraph (X.refutes cache.cx) others top goal → ⊥
   never_refuted_at None h others top refutation = absurd h
   never_refuted_at (Some n) h others top refutation = never_both (X.proves cache.cx) (X.refutes cache.cx) clash (graph_nodes_of cache.nodes) others n.0 top goal h refutation

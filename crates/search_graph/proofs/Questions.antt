@@ -1,5 +1,5 @@
 -- What a question comes to, whichever goals are under evaluation.
-use Rattle.std.proofs.Common.{◌≡◌, ℕ, ◌+◌, ◌-◌, ◌/◌, ◌<◌, ◌≤◌, nat_eq, if◌then◌else◌, Bool, true, false, List, [], ◌∷◌, length, Option, Some, None, Result, Ok, Err, IfErr, refl, sym, ap, ◌∙◌, subst, arith}
+use Rattle.std.proofs.Common.{◌≡◌, ℕ, ◌+◌, ◌-◌, ◌/◌, ◌<◌, ◌≤◌, nat_eq, if◌then◌else◌, Bool, true, false, List, [], ◌∷◌, length, Option, Some, None, Result, Ok, Err, IfErr, IfOk, refl, sym, ap, ◌∙◌, subst, arith}
 use Rattle.std.specs.Result.{IsErrAnd}
 use Rattle.std.specs.List.{list_any}
 use Rattle.std.specs.Option.{option_and_then, option_map}
@@ -13,17 +13,26 @@ use Rattle.search_parts.specs.declared.path.PathKind.{PathKind}
 use Rattle.search_parts.specs.declared.parts.depth.AvailableDepth.{AvailableDepth}
 use Rattle.search_parts.specs.declared.parts.stack.StackEntry.{StackEntry}
 use Rattle.search_parts.specs.Stack.{depth_below}
-use Rattle.search_parts.specs.Delegate.{CountsOne}
+use Rattle.search_parts.specs.Delegate.{CountsOne, IsCycleResult}
 use Rattle.evaluations.specs.Frames.{IsAllowed}
 use Rattle.search_graph.specs.declared.graph.open_goals.Run.{Run}
 use Rattle.search_graph.specs.Newest.{newest, change_newest}
-use Rattle.search_graph.specs.Entries.{overflowed, with_answer}
-use Rattle.search_graph.specs.Evaluating.{Call, seen, HasAsked, GoesOn, HasStopped, Pushes}
+use Rattle.search_parts.specs.declared.context.Reply.{Reply}
+use Rattle.search_parts.specs.declared.parts.depth.StackDepth.{StackDepth}
+use Rattle.search_graph.specs.Entries.{overflowed}
+use Rattle.search_graph.specs.Calls.{Call}
+use Rattle.search_graph.specs.Evaluating.{seen, HasAsked, GoesOn, HasStopped}
+use Rattle.search_graph.specs.Moves.{ClosesCycle, Pushes}
 use Rattle.search_graph.proofs.Moves.{allowed, refused_goes_on, cycle_goes_on, pushed_goes_on, failed_push_stopped}
 
 pub if_err : {T E P : Type 0} (r : Result T E) → P → IfErr r (λ e. P)
 if_err (Ok x) p = tt
 if_err (Err e) p = p
+
+-- what follows from what holds of a value
+pub if_ok_then : {T E : Type 0} (r : Result T E) (Q P : T → Type 0) → IfOk r Q → ((x : T) → Q x → P x) → IfOk r P
+if_ok_then (Ok x) Q P h from = from x h
+if_ok_then (Err e) Q P h from = tt
 
 -- an error that says what it is
 pub if_err_and : {T E : Type 0} (r : Result T E) (Q P : E → Type 0) → IsErrAnd r Q → ((e : E) → Q e → P e) → IfErr r P
@@ -53,10 +62,11 @@ module _ {D C V P F I R A T : Type 0} (G : Delegate.Ghosts D C V P F I R A T) (X
     may_ask : (s : StackEntry C I R A T × Run C F I R A T) → Some depth.0 ≡ depth_below G.DIVIDE_AVAILABLE_DEPTH_ON_OVERFLOW s.0 → IsAllowed (seen G X cx s) depth.0
     may_ask s is = let a = allowed G.DIVIDE_AVAILABLE_DEPTH_ON_OVERFLOW depth.0 s.0 more is in record { is_less = a.0; is_next = a.1 }
 
-    pub ask_in_cycle : (eq : I → I → Bool) → ((x y : I) → eq x y ≡ true → x ≡ y) → (r : R) (goals new : Goals) → Some depth.0 ≡ option_and_then (λ s. depth_below G.DIVIDE_AVAILABLE_DEPTH_ON_OVERFLOW s.0) (newest goals) → list_any (λ t. eq goal t.0.input) goals ≡ true → new ≡ change_newest (λ s. (with_answer s.0 0 false, s.1)) goals → HasAsked G X cx call ahead (Evaluate kind goal) goals starts met → GoesOn G X cx call ahead (Answer r) new starts met
-    ask_in_cycle eq exact r [] new may found is h = absurd cc
-    ask_in_cycle eq exact r (s ∷ below) new may found is h =
-        subst (λ v. GoesOn G X cx call ahead (Answer r) v starts met) (sym is) (cycle_goes_on G X cx call eq exact ahead kind goal r depth.0 s below starts met (may_ask s may) found h)
+    may_ask_of : (goals : Goals) → Some depth.0 ≡ option_and_then (λ s. depth_below G.DIVIDE_AVAILABLE_DEPTH_ON_OVERFLOW s.0) (newest goals) → (s : StackEntry C I R A T × Run C F I R A T) (below : Goals) → goals ≡ s ∷ below → IsAllowed (seen G X cx s) depth.0
+    may_ask_of goals may s below is = may_ask s (may ∙ ap (λ l. option_and_then (λ (t : StackEntry C I R A T × Run C F I R A T). depth_below G.DIVIDE_AVAILABLE_DEPTH_ON_OVERFLOW t.0) (newest l)) is)
+
+    pub ask_in_cycle : (eq : I → I → Bool) → ((x y : I) → eq x y ≡ true → x ≡ y) → ((cycle : PathKind) (asked : I) → IsCycleResult X.is_yes X.is_no cycle (G.initial_result cx cycle asked)) → (reply : Reply R) (head : StackDepth) (goals new : Goals) → Some depth.0 ≡ option_and_then (λ s. depth_below G.DIVIDE_AVAILABLE_DEPTH_ON_OVERFLOW s.0) (newest goals) → list_any (λ t. eq goal t.0.input) goals ≡ true → ClosesCycle G X cx kind goal head reply goals new → HasAsked G X cx call ahead (Evaluate kind goal) goals starts met → GoesOn G X cx call ahead reply new starts met
+    ask_in_cycle eq exact sorts reply head goals new may found closes h = cycle_goes_on G X cx call eq exact sorts ahead kind goal reply depth.0 head goals new starts met (may_ask_of goals may) found closes h
 
     pub ask_pushes : (goals new : Goals) (now : ℕ) → Some depth.0 ≡ option_and_then (λ s. depth_below G.DIVIDE_AVAILABLE_DEPTH_ON_OVERFLOW s.0) (newest goals) → now ≤ starts + 1 → (G.counts ≡ true → CountsOne G.last starts now) → Pushes G X cx goal kind depth goals new → HasAsked G X cx call ahead (Evaluate kind goal) goals starts met → GoesOn G X cx call ahead Begin new now met
     ask_pushes [] new now may one counted push h = absurd cc

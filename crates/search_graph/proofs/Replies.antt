@@ -24,7 +24,9 @@ use Rattle.search_graph.specs.declared.graph.progress.DefiniteAnswer.{DefiniteAn
 use Rattle.search_graph.specs.Progress.{RunRecord, received, requested, answered, answers_after, IsReplySorted, KeepsAnswer, open_number, edge_to}
 use Rattle.search_graph.specs.Justified.{OpenRun, in_theory, Asks, AreJustified, MayAnswer, IsFit}
 use Rattle.search_graph.specs.Runs.{run_of, runs_of}
-use Rattle.search_graph.specs.Evaluating.{Call, IsVerdict, HasStepped, IsWaiting, received_by}
+use Rattle.search_graph.specs.Calls.{Call}
+use Rattle.search_graph.specs.Steps.{IsVerdict, HasStepped, received_by}
+use Rattle.search_graph.specs.Evaluating.{IsWaiting}
 use Rattle.search_graph.proofs.Justified.{requested_is_justified, answered_is_justified}
 use Rattle.search_graph.proofs.Moves.{can_step_record}
 use Rattle.search_graph.proofs.ProgressLaws.{answers_received}
@@ -126,10 +128,10 @@ module _ {D C V P F I R A T : Type 0} (G : Delegate.Ghosts D C V P F I R A T) (X
   answered_at entry run r node v below definite verdict fit h answers keeps =
       let same : in_theory v ≡ verdict_of X.is_yes X.is_no r = verdict_is X.is_yes X.is_no r v verdict.0 verdict.1 definite in
       let never : verdict_of X.is_yes X.is_no r ≢ theory.Neither = λ e. in_theory_definite v definite (same ∙ e) in
-      let may = subst (λ (o : Option NodeId). IsSomeAnd o (λ a. MayAnswer X.is_yes X.is_no nodes (runs_of ((entry, run) ∷ below)) (verdict_of X.is_yes X.is_no r) keeps.kind keeps.input a.0)) keeps.target_is (fit r keeps.kind keeps.input refl keeps.was never) in
+      let may = subst (λ (o : Option NodeId). IsSomeAnd o (λ a. MayAnswer X.is_yes X.is_no nodes (run_of (entry, run)) (runs_of below) (verdict_of X.is_yes X.is_no r) keeps.kind keeps.input a.0)) keeps.target_is (fit r keeps.kind keeps.input refl keeps.was never) in
       subst (λ (l : List (DefiniteAnswer I)). AreJustified X.is_yes X.is_no nodes (record (run_of (entry, run)) { answers = l } ∷ runs_of below)) (sym keeps.kept)
       (answered_is_justified X.is_yes X.is_no nodes (record { edge = edge_to keeps.kind keeps.input keeps.node; verdict = v; candidate = open_number run.progress }) (run_of (entry, run)) (runs_of below)
-      (subst (λ w. MayAnswer X.is_yes X.is_no nodes (runs_of ((entry, run) ∷ below)) w keeps.kind keeps.input keeps.node.0) (sym same) may) h)
+      (subst (λ w. MayAnswer X.is_yes X.is_no nodes (run_of (entry, run)) (runs_of below) w keeps.kind keeps.input keeps.node.0) (sym same) may) h)
 
   same_answers : (entry : StackEntry C I R A T) (run : Run C F I R A T) (below : Goals) (answers : List (DefiniteAnswer I)) → answers ≡ run.progress.answers → AreJustified X.is_yes X.is_no nodes (runs_of ((entry, run) ∷ below)) → AreJustified X.is_yes X.is_no nodes (record (run_of (entry, run)) { answers = answers } ∷ runs_of below)
   same_answers entry run below answers is h = subst (λ (l : List (DefiniteAnswer I)). AreJustified X.is_yes X.is_no nodes (record (run_of (entry, run)) { answers = l } ∷ runs_of below)) (sym is) h

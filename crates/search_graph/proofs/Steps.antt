@@ -13,7 +13,7 @@ use Rattle.search_graph.specs.declared.graph.open_goals.Run.{Run}
 use Rattle.search_graph.specs.declared.graph.open_goals.Received.{Received}
 use Rattle.search_graph.specs.Progress.{received, requested, fault_of}
 use Rattle.search_graph.specs.Newest.{paired}
-use Rattle.search_graph.specs.Evaluating.{CanStep, IsVerdict, HasStepped, IsStepFault, OutOfOrder}
+use Rattle.search_graph.specs.Steps.{CanStep, IsVerdict, HasStepped, IsStepFault, OutOfOrder}
 use Rattle.search_graph.proofs.Pairs.{last_pair, length_of_view}
 
 module _ {D C V P F I R A T : Type 0} (G : Delegate.Ghosts D C V P F I R A T) (X : Cx.Ghosts C I R A T) (cx : C) (given : Received R) where
@@ -36,7 +36,7 @@ module _ {D C V P F I R A T : Type 0} (G : Delegate.Ghosts D C V P F I R A T) (X
 
     module _ (n : ℕ) (run : Run C F I R A T) (at : n ≡ length fs - 1) (run_is : run ≡ get_or fs n run) (verdict : Verdict) (is_verdict : IsVerdict X.is_yes X.is_no given.reply verdict) (request : Request I R) (frame : F) (steps : Steps G.stands G.script run.frame given.reply request frame) where
       -- the last run took the reply, and requested
-      pub last_stepped : (after : Run C F I R A T) → after ≡ record { frame = frame; node = run.node; progress = requested (received run.progress given.reply verdict given.node) request } → fault_of (received run.progress given.reply verdict given.node) request ≡ None → G.left frame < G.left run.frame → HasStepped G X cx given request view (paired [] es (slice_set fs n after))
+      pub last_stepped : (after : Run C F I R A T) → after ≡ record run { frame = frame; progress = requested (received run.progress given.reply verdict given.node) request } → fault_of (received run.progress given.reply verdict given.node) request ≡ None → G.left frame < G.left run.frame → HasStepped G X cx given request view (paired [] es (slice_set fs n after))
       last_stepped after after_is orderly falls =
           let last = last_pair [] es fs n run same (omega (arith, some_run)) in
           record {

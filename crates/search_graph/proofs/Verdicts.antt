@@ -1,5 +1,5 @@
 -- Verdicts, and the tests of results that they stand for.
-use Rattle.std.proofs.Common.{◌≡◌, ◌↔◌, Bool, true, false, IsTrue, refl}
+use Rattle.std.proofs.Common.{◌≡◌, ◌↔◌, Bool, true, false, IsTrue, refl, sym, ◌∙◌}
 use Rattle.search_parts.specs.declared.context.Verdict.{Verdict}
 use Rattle.search_parts.specs.declared.context.Verdict.TheVariants.{Yes, No, Neither}
 use Rattle.search_graph.specs.Progress.{is_same_verdict}
@@ -31,3 +31,7 @@ false_is_not_true is = cc
 pub told_by_test : (v w : Verdict) (b : Bool) → (v ≡ w) ↔ IsTrue b → is_same_verdict v w ≡ b
 told_by_test v w true says = rw (says.1 refl) (same_as_itself w)
 told_by_test v w false says = fails_unless (is_same_verdict v w) (λ same. false_is_not_true (says.0 (same_verdict v w same)))
+
+-- what is false isn't true
+pub fails_at : {b : Bool} → b ≡ false → b ≡ true → ⊥
+fails_at is also = let e : false ≡ true = sym is ∙ also in cc

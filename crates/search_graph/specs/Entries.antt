@@ -1,12 +1,72 @@
 -- What changes of a goal's entry while the goal is worked out.
-use Rattle.std.specs.Prelude.{ℕ, ◌+◌, max, Bool, true, ◌||◌}
+use Rattle.std.specs.Prelude.{◌≡◌, ℕ, ◌+◌, ◌==◌, max, if◌then◌else◌, Bool, true, false, ◌||◌, is_some, List, [], ◌∷◌, Option, None, Some, unwrap_or}
+use Rattle.search_parts.specs.declared.context.NodeId.{NodeId}
+use Rattle.search_parts.specs.declared.path.PathKind.{PathKind}
+use Rattle.search_parts.specs.declared.parts.depth.StackDepth.{StackDepth}
+use Rattle.search_parts.specs.declared.parts.depth.AvailableDepth.{AvailableDepth}
+use Rattle.search_parts.specs.declared.parts.heads.CycleHead.{CycleHead}
+use Rattle.search_parts.specs.declared.parts.usages.HeadUsages.{HeadUsages}
+use Rattle.search_parts.specs.declared.parts.stack.EntryState.{EntryState}
 use Rattle.search_parts.specs.declared.parts.stack.StackEntry.{StackEntry}
+use Rattle.search_parts.specs.Heads.{Heads, at_depth, joined_head, with_head}
+use Rattle.search_parts.specs.Paths.{extended, paths_of}
+use Rattle.search_parts.specs.Stack.{fresh_entry}
+use Rattle.search_parts.specs.Usages.{no_usages, with_nested, with_usage}
+
+-- whether there are heads
+abbrev pub some_heads : Heads → Bool
+some_heads [] = false
+some_heads (head ∷ heads) = true
+
+-- a head of an answer over the step, among a goal's own heads, if it is there
+abbrev pub joined_over : PathKind → Option CycleHead → Option CycleHead → Option CycleHead
+joined_over step own None = own
+joined_over step own (Some used) = Some (joined_head own (extended used.paths_to_head step) used.usages)
+
+-- the usages of a goal that an answer rests on, if it does
+abbrev pub usages_over : Option HeadUsages → Option CycleHead → Option HeadUsages
+usages_over own None = own
+usages_over own (Some used) = Some (with_nested (unwrap_or own no_usages) used.usages)
+
+-- what a cycle over the step records of its head
+abbrev pub cycle_head : (step kind : PathKind) → CycleHead
+cycle_head step kind = record { paths_to_head = paths_of step; usages = with_usage no_usages kind }
 
 module _ {X I R A T : Type 0} where
   -- a question of the goal was refused
   abbrev pub overflowed : StackEntry X I R A T → StackEntry X I R A T
   overflowed e = record e { state = record e.state { encountered_overflow = true } }
 
-  -- the goal was answered from one that required this depth
-  abbrev pub with_answer : StackEntry X I R A T → ℕ → Bool → StackEntry X I R A T
-  with_answer e required overflow = record e { state = record e.state { required_depth = max e.state.required_depth (required + 1); encountered_overflow = e.state.encountered_overflow || overflow } }
+  -- the entry of a goal that is pushed, with the node of its first run
+  abbrev pub first_entry : I → PathKind → AvailableDepth → NodeId → StackEntry X I R A T
+  first_entry goal kind depth own = record (fresh_entry goal kind depth) { state = record (fresh_entry goal kind depth).state { node = Some own } }
+
+  -- the state with the depth that an answer required
+  abbrev pub with_depth : EntryState X I R A T → ℕ → Bool → EntryState X I R A T
+  with_depth s required overflow = record s { required_depth = max s.required_depth (required + 1); encountered_overflow = s.encountered_overflow || overflow }
+
+  -- whether the goal rests on goals under evaluation, perhaps on itself
+  abbrev pub is_in_cycle : EntryState X I R A T → Bool
+  is_in_cycle s = is_some s.usages || some_heads s.heads
+
+  -- the state of the entry at `parent` with one head of an answer over the step
+  abbrev pub with_used_head : StackDepth → PathKind → StackDepth → CycleHead → EntryState X I R A T → EntryState X I R A T
+  with_used_head parent step head used s =
+      if head.0 == parent.0 then record s { usages = usages_over s.usages (Some used) }
+      else record s { heads = with_head s.heads head (extended used.paths_to_head step) used.usages }
+
+  -- The state of the entry at `parent` takes over the heads of an answer over the step: its own place adds to its usages, and each
+  -- other head is joined to its heads.
+  pub record TakesHeads (parent : StackDepth) (step : PathKind) (answer : Heads) (old new : EntryState X I R A T) : Type 0 where
+    pub others : new ≡ record old { heads = new.heads; usages = new.usages }
+    pub usages : new.usages ≡ usages_over old.usages (at_depth answer parent)
+    pub heads : (depth : StackDepth) → at_depth new.heads depth ≡ (if depth.0 == parent.0 then at_depth old.heads depth else joined_over step (at_depth old.heads depth) (at_depth answer depth))
+    pub in_cycle : is_in_cycle new ≡ (is_in_cycle old || some_heads answer)
+
+  -- the same, with the depth that the answer required
+  abbrev pub TakesAnswer : StackDepth → PathKind → ℕ → Bool → Heads → EntryState X I R A T → EntryState X I R A T → Type 0
+  TakesAnswer parent step required overflow answer old new = TakesHeads parent step answer (with_depth old required overflow) new
+
+  -- the state of a goal that is run again under a result, with the node to which the answers of its cycles lead
+  abbrev pub rerun_under : R → Option NodeId → EntryState X I R A T → EntryState X I R A T
+  rerun_under r target s = record s { provisional_result = Some r; encountered_overflow = false; usages = Some no_usages; candidate_usages = None; node = target }

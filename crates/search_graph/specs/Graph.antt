@@ -22,7 +22,7 @@ IsCaused {I} {R} scripts fault =
     (fault ≡ Memory)
     ⊎ ((goal : I) × (replies : List (Reply R)) × (number : ℕ) × IsFitting (scripts goal) replies × (fault_after (scripts goal) replies ≡ Some number) × (fault ≡ Protocol number))
 
-module _ {C I R A T : Type 0} (X : Cx.Ghosts C I R A T) (cache : Cache C I R) (goal : I) (node : Option NodeId) where
+module _ {C I R A T : Type 0} (X : Cx.Ghosts C I R A T) (cache : Cache C I R A T) (goal : I) (node : Option NodeId) where
   -- the node is the root of a proof graph of the goal, which has no refutation graph anywhere
   pub record IsProved : Type 0 where
     pub graph : IsSomeAnd node (λ root. IsProofGraph (X.proves cache.cx) (graph_nodes_of cache.nodes) root.0 goal)

@@ -1,11 +1,10 @@
 -- Why each definite answer below the goals under evaluation is right: its node has an open graph, as the theory of open
 -- graphs has it, and each edge leads to a node of the goal that it asks.
 use Rattle.std.specs.Prelude.{◌≡◌, ◌≢◌, ℕ, Bool, List, [], ◌∷◌, map, filter, Option, None, Some, slice_get}
-use Rattle.std.specs.Option.{IsSomeAnd}
+use Rattle.std.specs.Option.{IsSomeAnd, option_map}
 use Rattle.open_graphs.specs.Graph as theory
-use Rattle.open_graphs.specs.Stack.{path_kind}
-use Rattle.open_graphs.specs.Use.{Use}
-use Rattle.open_graphs.specs.State.{Frame, no_heads, stack_of, IsSound}
+use Rattle.open_graphs.specs.Run.{IsAnswered}
+use Rattle.open_graphs.specs.State.{Frame, stack_of, IsSound}
 use Rattle.search_parts.specs.declared.path.PathKind.{PathKind}
 use Rattle.search_parts.specs.declared.context.Verdict.{Verdict}
 use Rattle.search_parts.specs.declared.context.Verdict.TheVariants.{Yes, No, Neither}
@@ -15,17 +14,22 @@ use Rattle.search_parts.specs.declared.context.Reply.{Reply}
 use Rattle.search_parts.specs.declared.context.Reply.TheVariants.{Answer}
 use Rattle.search_parts.specs.declared.context.NodeId.{NodeId}
 use Rattle.search_parts.specs.declared.context.Edge.{Edge}
+use Rattle.search_parts.specs.HeadShapes.{heads_shape}
+use Rattle.search_parts.specs.Heads.{Heads}
 use Rattle.search_parts.specs.Path.{rank_of}
 use Rattle.search_parts.specs.Cache.{CacheNode, open_goal, IsNodeOf}
 use Rattle.search_parts.specs.Shapes.{verdict_of, edge_shape, shapes_of}
 use Rattle.search_graph.specs.declared.graph.progress.DefiniteAnswer.{DefiniteAnswer}
 
--- a goal under evaluation: the step by which it was asked, its node, the last request of its run, and the run's definite
--- answers
+-- A goal under evaluation: the step by which it was asked; the node of its present run, and the one to which the answers of its
+-- cycles lead, with the result that they have; its heads; the last request of its run, and the run's definite answers.
 pub record OpenRun (I R : Type 0) : Type 0 where
   pub goal : I
   pub step : PathKind
-  pub node : ℕ
+  pub own : ℕ
+  pub cycles_lead : Option NodeId
+  pub provisional : Option R
+  pub heads : Heads
   pub request : Option (Request I R)
   pub answers : List (DefiniteAnswer I)
 
@@ -39,20 +43,33 @@ in_theory Neither = theory.Neither
 abbrev pub edges_with : {I : Type 0} → List (DefiniteAnswer I) → theory.Verdict → List theory.Edge
 edges_with answers verdict = map (λ a. edge_shape a.edge) (filter (λ a. theory.same_verdict (in_theory a.verdict) verdict) answers)
 
--- the run as a frame of the theory: a first run, whose goal has no heads
-abbrev pub frame_of : {I R : Type 0} → OpenRun I R → Frame
-frame_of o = record {
-  entry = record { step = rank_of o.step; provisional = None; node = o.node };
-  own = o.node;
+-- the place of the node to which the answers of a goal's cycles lead
+abbrev pub leads_to : {I R : Type 0} → OpenRun I R → ℕ
+leads_to o = elim o.cycles_lead [ None ↦ o.own | Some n ↦ n.0 ]
+
+-- the run as a frame of the theory
+abbrev pub frame_of : {I R : Type 0} → (R → Bool) → (R → Bool) → OpenRun I R → Frame
+frame_of is_yes is_no o = record {
+  entry = record { step = rank_of o.step; provisional = option_map (verdict_of is_yes is_no) o.provisional; node = leads_to o };
+  own = o.own;
   edges = edges_with o.answers;
-  kept = no_heads;
-  heads = no_heads;
+  kept = heads_shape o.heads;
+  heads = heads_shape o.heads;
 }
 
--- each goal's node is open
+-- the runs as frames
+abbrev pub frames_of : {I R : Type 0} → (R → Bool) → (R → Bool) → List (OpenRun I R) → List Frame
+frames_of is_yes is_no goals = map (frame_of is_yes is_no) goals
+
+-- the node of each goal's run is open
 abbrev pub AreOpen : {I R : Type 0} → List (CacheNode I R) → List (OpenRun I R) → Type 0
 AreOpen nodes [] = Unit {0}
-AreOpen nodes (o ∷ below) = (open_goal nodes o.node ≡ Some o.goal) × AreOpen nodes below
+AreOpen nodes (o ∷ below) = (open_goal nodes o.own ≡ Some o.goal) × AreOpen nodes below
+
+-- the answers of each goal's cycles lead to a node of the goal
+abbrev pub LeadHome : {I R : Type 0} → List (CacheNode I R) → List (OpenRun I R) → Type 0
+LeadHome nodes [] = Unit {0}
+LeadHome nodes (o ∷ below) = IsSomeAnd o.cycles_lead (λ n. IsNodeOf nodes n.0 o.goal) × LeadHome nodes below
 
 -- the edge of each answer leads to a node of the goal that it asks
 abbrev pub ArePlaced : {I R : Type 0} → List (CacheNode I R) → List (DefiniteAnswer I) → Type 0
@@ -82,18 +99,20 @@ AreAsked (o ∷ below) = Asks below o.step o.goal × AreAsked below
 
 -- what holds of the goals between two moves
 pub record AreJustified {I R : Type 0} (is_yes is_no : R → Bool) (nodes : List (CacheNode I R)) (goals : List (OpenRun I R)) : Type 0 where
-  pub sound : IsSound (shapes_of is_yes is_no nodes) (map frame_of goals) [] []
+  pub sound : IsSound (shapes_of is_yes is_no nodes) (frames_of is_yes is_no goals) [] []
   pub are_open : AreOpen nodes goals
+  pub lead_home : LeadHome nodes goals
   pub placed : AllPlaced nodes goals
   pub asked : AreAsked goals
 
--- the node has the goal, and an open graph of the verdict over the goals, whose newest asks by a step of this kind
-pub record MayAnswer {I R : Type 0} (is_yes is_no : R → Bool) (nodes : List (CacheNode I R)) (goals : List (OpenRun I R)) (verdict : theory.Verdict) (kind : PathKind) (goal : I) (node : ℕ) : Type 0 where
+-- the node has the goal, and answers the newest goal's question by a step of this kind with the verdict
+pub record MayAnswer {I R : Type 0} (is_yes is_no : R → Bool) (nodes : List (CacheNode I R)) (o : OpenRun I R) (below : List (OpenRun I R)) (verdict : theory.Verdict) (kind : PathKind) (goal : I) (node : ℕ) : Type 0 where
   pub of_goal : IsNodeOf nodes node goal
-  pub used : Use (shapes_of is_yes is_no nodes) verdict (stack_of (map frame_of goals)) (path_kind (stack_of (map frame_of goals)) (rank_of kind)) 0 node no_heads
+  pub answered : IsAnswered (shapes_of is_yes is_no nodes) verdict (stack_of (frames_of is_yes is_no below)) (frame_of is_yes is_no o).entry (record { kind = rank_of kind; target = node }) (heads_shape o.heads)
 
 -- a definite answer for the newest goal comes with a node that may answer its question
 abbrev pub IsFit : {I R : Type 0} → (R → Bool) → (R → Bool) → List (CacheNode I R) → List (OpenRun I R) → Reply R → Option NodeId → Type 0
-IsFit is_yes is_no nodes goals reply target =
-    (r : _) (kind : PathKind) (goal : _) → reply ≡ Answer r → Asks goals kind goal → verdict_of is_yes is_no r ≢ theory.Neither →
-    IsSomeAnd target (λ a. MayAnswer is_yes is_no nodes goals (verdict_of is_yes is_no r) kind goal a.0)
+IsFit is_yes is_no nodes [] reply target = Unit {0}
+IsFit is_yes is_no nodes (o ∷ below) reply target =
+    (r : _) (kind : PathKind) (goal : _) → reply ≡ Answer r → Asks (o ∷ below) kind goal → verdict_of is_yes is_no r ≢ theory.Neither →
+    IsSomeAnd target (λ a. MayAnswer is_yes is_no nodes o below (verdict_of is_yes is_no r) kind goal a.0)

@@ -1,7 +1,13 @@
 pub mod Newest
 pub mod Entries
+pub mod Items
+pub mod Decided
+pub mod Calls
+pub mod Steps
 pub mod Evaluating
+pub mod Moves
 pub mod Graph
 pub mod Justified
 pub mod Progress
 pub mod Runs
+pub mod RunEnds

@@ -1,5 +1,6 @@
 -- The goals under evaluation as runs with nodes, and what becomes of a run that is done.
 use Rattle.std.specs.Prelude.{◌≡◌, ◌≢◌, ℕ, Bool, true, List, [], ◌∷◌, map, reverse, length, Option, None, Some, slice_get}
+use Rattle.std.specs.Option.{option_map}
 use Rattle.open_graphs.specs.Graph as theory
 use Rattle.search_parts.specs.declared.context.Delegate as Delegate
 use Rattle.search_parts.specs.declared.context.Cx as Cx
@@ -21,13 +22,21 @@ use Rattle.search_graph.specs.Progress.{RunRecord, edges_of, Records}
 use Rattle.search_parts.specs.Definite.{HasGraph}
 use Rattle.search_graph.specs.Justified.{OpenRun, AreJustified, IsFit, ArePlaced, AreEdges}
 
+-- the node of an answer
+abbrev pub next_node : {R : Type 0} → Next R → Option NodeId
+next_node (Step given) = given.node
+next_node (Finished answer) = answer.node
+
 module _ {X F I R A T : Type 0} where
-  -- an item as a run with its node
+  -- an item as a run with its nodes
   abbrev pub run_of : StackEntry X I R A T × Run X F I R A T → OpenRun I R
   run_of s = record {
     goal = s.0.input;
     step = s.0.step_kind_from_parent;
-    node = s.1.node.0;
+    own = s.1.node.0;
+    cycles_lead = s.0.state.node;
+    provisional = s.0.state.provisional_result;
+    heads = s.0.state.heads;
     request = s.1.progress.request;
     answers = s.1.progress.answers;
   }
@@ -42,6 +51,11 @@ module _ {X F I R A T : Type 0} where
   IsJustifiedNext is_yes is_no nodes [] goals (Finished answer) = ⊥
   IsJustifiedNext is_yes is_no nodes (s ∷ below) goals (Finished answer) = HasGraph is_yes is_no nodes s.0.input answer.result answer.node
 
+  -- if the newest goal rests on no goal under evaluation, its result has its graph
+  abbrev pub IsClosedWithoutHeads : (R → Bool) → (R → Bool) → List (CacheNode I R) → List (StackEntry X I R A T × Run X F I R A T) → R → Next R → Type 0
+  IsClosedWithoutHeads is_yes is_no nodes [] r next = ⊥
+  IsClosedWithoutHeads is_yes is_no nodes (s ∷ below) r next = s.0.state.heads ≡ [] → HasGraph is_yes is_no nodes s.0.input r (next_node next)
+
 -- the record is that of a run that came to this result
 pub record IsDone {I R : Type 0} (is_yes is_no : R → Bool) (script : List (Reply R) → Request I R) (p : RunRecord I R) (r : R) : Type 0 where
   pub replies : List (Reply R)
@@ -54,18 +68,25 @@ abbrev pub EndsNewest : {X F I R A T : Type 0} → (R → Bool) → (R → Bool)
 EndsNewest is_yes is_no scripts [] r = ⊥
 EndsNewest is_yes is_no scripts (s ∷ below) r = IsDone is_yes is_no (scripts s.0.input) s.1.progress r
 
--- the run of an open node came to this result
+-- a definite result of a goal's run: the run of its open node came to it
 pub record EndsRun {I R : Type 0} (is_yes is_no : R → Bool) (scripts : I → List (Reply R) → Request I R) (nodes : List (CacheNode I R)) (node : NodeId) (p : RunRecord I R) (r : R) : Type 0 where
   pub goal : I
   pub is_open : open_goal nodes node.0 ≡ Some goal
   pub ends : IsDone is_yes is_no (scripts goal) p r
   pub placed : ArePlaced nodes p.answers
 
--- the node was finished with a definite result, by edges of the answers that have its verdict; it is left open by another
--- result
-pub data IsSettled {I R : Type 0} (is_yes is_no : R → Bool) (before after : List (CacheNode I R)) (node : NodeId) (p : RunRecord I R) (r : R) : Option NodeId → Type 0 where
+-- the result says what the provisional one says
+abbrev pub SaysAgain : {R : Type 0} → (R → Bool) → (R → Bool) → Option R → R → Type 0
+SaysAgain is_yes is_no earlier r = option_map (verdict_of is_yes is_no) earlier ≡ Some (verdict_of is_yes is_no r)
+
+-- The node of a result: of a definite one that says what the provisional one said, the node of that; of any other definite one the
+-- run's own, which was finished by edges of the answers that have its verdict; and none of a result that isn't definite.
+pub data IsSettled {I R : Type 0} (is_yes is_no : R → Bool) (before after : List (CacheNode I R)) (earlier : Option R) (node : NodeId) (cycles_lead : Option NodeId) (p : RunRecord I R) (r : R) : Option NodeId → Type 0 where
+  Again :
+      verdict_of is_yes is_no r ≢ theory.Neither → SaysAgain is_yes is_no earlier r → after ≡ before
+      → IsSettled is_yes is_no before after earlier node cycles_lead p r cycles_lead
   Ended :
       (run : EndedRun I R)
-      → run.outcome ≡ r → verdict_of is_yes is_no r ≢ theory.Neither → after ≡ with_run before node.0 run → AreEdges p.answers (verdict_of is_yes is_no r) run.edges
-      → IsSettled is_yes is_no before after node p r (Some node)
-  LeftOpen : verdict_of is_yes is_no r ≡ theory.Neither → after ≡ before → IsSettled is_yes is_no before after node p r None
+      → run.outcome ≡ r → verdict_of is_yes is_no r ≢ theory.Neither → (SaysAgain is_yes is_no earlier r → ⊥) → after ≡ with_run before node.0 run → AreEdges p.answers (verdict_of is_yes is_no r) run.edges
+      → IsSettled is_yes is_no before after earlier node cycles_lead p r (Some node)
+  LeftOpen : verdict_of is_yes is_no r ≡ theory.Neither → after ≡ before → IsSettled is_yes is_no before after earlier node cycles_lead p r None

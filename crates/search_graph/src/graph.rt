@@ -4,6 +4,8 @@ ghost use Rattle.std.specs.Prelude.{◌≡◌, ◌≤◌, ◌+◌, ℕ, Bool, tr
 ghost use Rattle.search_parts.specs.Rank.{IsPlainValue, frames_within};
 ghost use Rattle.search_parts.specs.declared.context.Fault.TheVariants.{Memory};
 ghost use Rattle.search_parts.specs.Cache.{KeepsFinished};
+ghost use Rattle.search_parts.specs.Decisive.{IsDecisive};
+ghost use Rattle.search_parts.specs.Definite.{IsDefinite};
 ghost use Rattle.evaluations.specs.Plain.{IsPlainTo};
 ghost use Rattle.evaluations.specs.Price.{IsPaid};
 ghost use Rattle.search_graph.specs.Graph.{IsCaused, IsProved, IsRefuted};
@@ -13,6 +15,7 @@ mod finish;
 mod open_goals;
 mod progress;
 mod question;
+mod update;
 
 use evaluate::evaluate;
 use open_goals::OpenGoals;
@@ -70,7 +73,8 @@ impl<D: Delegate> SearchGraph<D> {
         self.goals.len()
     }
 
-    /// Whether a goal without depth has asked a question since the graph was made. A fault does not reset it.
+    /// Whether, since the graph was made, a goal without depth has asked a question, or a goal had its most
+    /// runs and its result wasn't stable. A fault does not reset it.
     pub fn limits_met(&self) -> bool
         ensures { result ≡ self.now.limits_met }
     {
@@ -104,6 +108,11 @@ impl<D: Delegate> SearchGraph<D> {
         ensures plain_limits { (n : ℕ) → IsPlainTo (D.script cache.old.cx) n input → n ≤ self.old.root_depth →
             self.new.limits_met ≡ self.old.limits_met }
 
+        // Where scripts ask inductively and coinductively alone and decide after decided answers, an answer
+        // without a limit met is yes or no.
+        ensures decisive { IsDecisive D.Cx.is_yes D.Cx.is_no (D.script cache.old.cx) → self.new.limits_met ≡ false →
+            IfOk result (λ answer. IsDefinite D.Cx.is_yes D.Cx.is_no answer.result) }
+
         // A fault is want of memory, or some goal's script makes a request out of order.
         ensures faults { IfErr result (IsCaused (D.script cache.old.cx)) }
 
@@ -115,6 +124,7 @@ impl<D: Delegate> SearchGraph<D> {
         ensures same_depth { self.new.root_depth ≡ self.old.root_depth }
         ensures limits_stay { self.old.limits_met ≡ true → self.new.limits_met ≡ true }
         ensures same_context { cache.new.cx ≡ cache.old.cx }
+        ensures same_results { cache.new.results ≡ cache.old.results }
         ensures kept { KeepsFinished cache.old.nodes cache.new.nodes }
     {
         let root_depth = self.root_depth;

@@ -1,12 +1,13 @@
 -- Usages are told by their four counts.
-use Rattle.std.proofs.Common.{◌≡◌, ◌≢◌, ◌≤◌, ◌↔◌, ℕ, ◌&&◌, ◌==◌, Bool, IsTrue, if◌then◌else◌, refl, sym, ◌∙◌, ap, inl, inr, arith, ne_eqb}
+use Rattle.std.proofs.Common.{◌≡◌, ◌≢◌, ◌≤◌, ◌↔◌, ℕ, ◌&&◌, ◌==◌, Bool, true, false, not, IsTrue, if◌then◌else◌, refl, sym, ◌∙◌, ap, inl, inr, arith, ne_eqb}
 use Rattle.std.proofs.lemmas.Grind.{common_steps}
 use Rattle.std.proofs.lemmas.Bool.Decides.{eqb_tells}
 use Rattle.search_parts.specs.declared.path.PathKind.{PathKind}
 use Rattle.search_parts.specs.declared.path.PathKind.TheVariants.{Inductive, Unknown, Coinductive, ForcedAmbiguity}
 use Rattle.search_parts.specs.declared.parts.usages.HeadUsages.{HeadUsages}
 use Rattle.search_parts.specs.Path.{rank_of}
-use Rattle.search_parts.specs.Usages.{count_of, usages_by, other_usages}
+use Rattle.search_parts.specs.Reuse.{has_usages}
+use Rattle.search_parts.specs.Usages.{count_of, usages_by, other_usages, no_usages}
 
 abbrev pub HasNone : HeadUsages → Type 0
 HasNone usages = (kind : PathKind) → count_of usages kind ≡ 0
@@ -31,7 +32,7 @@ none_by_test usages zero test i u c f e = (
       grind (arith, common_steps),
 )
 
-count_of-usages_by : (count : PathKind → ℕ) (kind : PathKind) → count_of (usages_by count) kind ≡ count kind
+pub count_of-usages_by : (count : PathKind → ℕ) (kind : PathKind) → count_of (usages_by count) kind ≡ count kind
 count_of-usages_by count Inductive = refl
 count_of-usages_by count Unknown = refl
 count_of-usages_by count Coinductive = refl
@@ -76,3 +77,41 @@ counts_within some more i u c f Inductive = i
 counts_within some more i u c f Unknown = u
 counts_within some more i u c f Coinductive = c
 counts_within some more i u c f ForcedAmbiguity = f
+
+none_tested : (i u c f : ℕ) → ((i == 0) && (u == 0) && (c == 0) && (f == 0)) ≡ true → (i ≡ 0) × (u ≡ 0) × (c ≡ 0) × (f ≡ 0)
+none_tested i u c f test = (grind (arith, common_steps), grind (arith, common_steps), grind (arith, common_steps), grind (arith, common_steps))
+
+-- where usages are none exactly if a test says so, there are some exactly if it doesn't
+pub used_by_test : (usages : HeadUsages) (test : Bool) → (IsTrue test ↔ ((kind : PathKind) → count_of usages kind ≡ 0)) → not test ≡ has_usages usages
+used_by_test usages test tells =
+    let P : Bool → Type 0 = λ b. (IsTrue b ↔ ((kind : PathKind) → count_of usages kind ≡ 0)) → not b ≡ has_usages usages in
+    let all : Bool = (usages.inductive == 0) && (usages.unknown == 0) && (usages.coinductive == 0) && (usages.forced_ambiguity == 0) in
+    let none : all ≡ true → (kind : PathKind) → count_of usages kind ≡ 0 = λ h kind.
+    let each = none_tested usages.inductive usages.unknown usages.coinductive usages.forced_ambiguity h in
+    elim kind as (λ kind. count_of usages kind ≡ 0) [ Inductive ↦ each.0 | Unknown ↦ each.1 | Coinductive ↦ each.2 | ForcedAmbiguity ↦ each.3 ] in
+    let Q : Bool → Type 0 = λ e. (e ≡ true → (kind : PathKind) → count_of usages kind ≡ 0) → (IsTrue false ↔ ((kind : PathKind) → count_of usages kind ≡ 0)) → true ≡ not e in
+    let apart : (e : Bool) → Q e = λ e. elim e as Q [
+      | true ↦ λ none tells. absurd (let wrong : false ≡ true = tells.1 (none refl) in cc)
+      | false ↦ λ none tells. refl
+    ] in
+    let cases : (b : Bool) → P b = λ b. elim b as P [
+      | true ↦ λ tells.
+          let i : usages.inductive ≡ 0 = tells.0 refl Inductive in
+          let u : usages.unknown ≡ 0 = tells.0 refl Unknown in
+          let c : usages.coinductive ≡ 0 = tells.0 refl Coinductive in
+          let f : usages.forced_ambiguity ≡ 0 = tells.0 refl ForcedAmbiguity in
+          rw (i, u, c, f) refl
+      | false ↦ λ tells. apart all none tells
+    ] in
+    cases test tells
+
+-- a test of whether there were cycles of one kind alone tells whether there were others
+pub others_by_test : (usages : HeadUsages) (kind : PathKind) (test : Bool)
+    → (IsTrue test ↔ ((other : PathKind) → other ≢ kind → count_of usages other ≡ 0)) → not test ≡ has_usages (other_usages usages kind)
+others_by_test usages kind test tells =
+    let others = none_of_others usages kind in
+    used_by_test (other_usages usages kind) test (λ h. others.1 (tells.0 h), λ h. tells.1 (others.0 h))
+
+-- usages without a count are none
+pub none_by_counts : (usages : HeadUsages) → usages.inductive ≡ 0 → usages.unknown ≡ 0 → usages.coinductive ≡ 0 → usages.forced_ambiguity ≡ 0 → usages ≡ no_usages
+none_by_counts usages a b c d = λ i. record { inductive = a i; unknown = b i; coinductive = c i; forced_ambiguity = d i }

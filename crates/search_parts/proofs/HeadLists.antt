@@ -53,15 +53,15 @@ pub at_depth-rest : {A : Type 0} (depth other : StackDepth) (value : A) (rest : 
 at_depth-rest depth other value rest ne = rw (apart other.0 depth.0 ne) refl
 
 module _ {A : Type 0} (depth : StackDepth) (value : A) where
-  placed_first : (e : StackDepth × A) (es : List (StackDepth × A)) → depth.0 < e.0.0
+  pub placed_first : (e : StackDepth × A) (es : List (StackDepth × A)) → depth.0 < e.0.0
       → insert_entry depth_cmp (e ∷ es) depth value ≡ (depth, value) ∷ e ∷ es
   placed_first e es less = rw (lt-ltb depth.0 e.0.0 less) refl
 
-  placed_here : (e : StackDepth × A) (es : List (StackDepth × A)) → depth.0 ≡ e.0.0
+  pub placed_here : (e : StackDepth × A) (es : List (StackDepth × A)) → depth.0 ≡ e.0.0
       → insert_entry depth_cmp (e ∷ es) depth value ≡ (e.0, value) ∷ es
   placed_here e es same = rw (le-ltb depth.0 e.0.0 (omega arith), eq-eqb depth.0 e.0.0 same) refl
 
-  placed_later : (e : StackDepth × A) (es : List (StackDepth × A)) → e.0.0 < depth.0
+  pub placed_later : (e : StackDepth × A) (es : List (StackDepth × A)) → e.0.0 < depth.0
       → insert_entry depth_cmp (e ∷ es) depth value ≡ e ∷ insert_entry depth_cmp es depth value
   placed_later e es more = rw (le-ltb depth.0 e.0.0 (omega arith), ne_eqb depth.0 e.0.0 (omega arith)) refl
 

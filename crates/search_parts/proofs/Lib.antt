@@ -17,8 +17,17 @@ pub mod PathLaws
 pub mod PathMembers
 pub mod Counts
 pub mod HeadLists
+pub mod HeadShapes
 pub mod MergedUsages
 pub mod NestedLists
 pub mod Finished
 pub mod Cycles
 pub mod ProvisionalLists
+pub mod Cleared
+pub mod KeptKinds
+pub mod RebasedHeads
+pub mod RebasedEntries
+pub mod RebasedLists
+pub mod RebasedKept
+pub mod Stores
+pub mod LookUps

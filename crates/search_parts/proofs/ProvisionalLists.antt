@@ -1,9 +1,10 @@
 -- Lists of entries by goal: what is read of a map of lists, and how one of them grows.
-use Rattle.std.proofs.Common.{◌≡◌, ◌≢◌, Bool, true, false, cond, List, [], ◌∷◌, ◌++◌, All, Option, Some, None, Result, Ok, Err, OnOk, OnErr, refl, sym, ap, ◌∙◌, subst}
+use Rattle.std.proofs.Common.{arith, ◌≡◌, ◌≢◌, Bool, true, false, cond, List, [], ◌∷◌, ◌++◌, length, All, Option, Some, None, Result, Ok, Err, OnOk, OnErr, refl, sym, ap, ◌∙◌, subst}
 use Rattle.std.proofs.lemmas.Map.Made.{lookup-map_values}
-use Rattle.std.proofs.lemmas.List.Elements.{All-nil, All-push}
+use Rattle.std.proofs.lemmas.List.Elements.{All-nil, All-push, All-filter}
 use Rattle.std.specs.Cmp.{IsEquivalence}
 use Rattle.std.specs.Global.{Vec}
+use Rattle.std.specs.List.{filter}
 use Rattle.std.specs.Option.{option_map, unwrap_or, IfSome}
 use Rattle.std.specs.Map.{lookup, set_value}
 use Rattle.search_parts.specs.declared.parts.provisional_cache.ProvisionalCacheEntry.{ProvisionalCacheEntry}
@@ -92,3 +93,42 @@ found_at same entries lists input o view found =
     ap (λ o. unwrap_or (option_map (λ v. v.items) o) []) found
     ∙ ap (λ list. unwrap_or list []) (sym (list_found (same input) entries))
     ∙ ap (λ ls. entries_at same ls input) view
+
+-- lists are kept where each has an entry and each entry rests on a head
+pub kept_from : {X I R A T : Type 0} (same : I → I → Bool) (lists : Lists I (ProvisionalCacheEntry X I R A T))
+    → ((input : I) → All (λ e. e.heads ≢ []) (entries_at same lists input)) → ((input : I) → IfSome (lookup (same input) lists) (λ es. es ≢ []))
+    → AreKept same lists
+kept_from {X} {I} {R} {A} {T} same lists heads some = λ input.
+    let P : Option (List (ProvisionalCacheEntry X I R A T)) → Type 0 = λ list. All (λ e. e.heads ≢ []) (unwrap_or list []) → IfSome list (λ es. es ≢ []) → IfSome list IsKept in
+    let cases : (list : Option (List (ProvisionalCacheEntry X I R A T))) → P list = λ list. elim list as P [
+      | Some es ↦ λ heads some. record { some = some; heads = heads }
+      | None ↦ λ heads some. tt
+    ] in
+    cases (lookup (same input) lists) (heads input) (some input)
+
+-- and so after a filter
+pub kept_filtered : {X I R A T : Type 0} (same : I → I → Bool) (keep : ProvisionalCacheEntry X I R A T → Bool) (old new : Lists I (ProvisionalCacheEntry X I R A T))
+    → AreKept same old → ((input : I) → entries_at same new input ≡ filter keep (entries_at same old input)) → ((input : I) → IfSome (lookup (same input) new) (λ es. es ≢ []))
+    → AreKept same new
+kept_filtered same keep old new kept filtered some =
+    kept_from same new
+    (λ input. subst (All (λ e. e.heads ≢ [])) (sym (filtered input)) (All-filter keep (λ e. e.heads ≢ []) (entries_at same old input) (heads_at same old input kept)))
+    some
+
+-- where no goal has an entry, there is no list
+pub none_at_all : {X I R A T : Type 0} {same : I → I → Bool} (laws : IsEquivalence same) (lists : Lists I (ProvisionalCacheEntry X I R A T))
+    → AreKept same lists → ((input : I) → entries_at same lists input ≡ []) → lists ≡ []
+none_at_all laws [] kept none = refl
+none_at_all {same = same} laws ((input, entries) ∷ rest) kept none =
+    let found : lookup (same input) ((input, entries) ∷ rest) ≡ Some entries = ap (λ b. cond b (Some entries) (lookup (same input) rest)) (laws.refl input) in
+    let is_kept : IsKept entries = subst (λ o. IfSome o IsKept) found (kept input) in
+    absurd (is_kept.some (ap (λ o. unwrap_or o []) (sym found) ∙ none input))
+
+-- there are no lists exactly where the map has no entry
+pub no_lists : {I E : Type 0} (entries : List (I × Vec E)) → length entries ≡ 0 → lists_of entries ≡ []
+no_lists [] size = refl
+no_lists (e ∷ es) size = absurd (omega arith)
+
+pub no_entries : {I E : Type 0} (entries : List (I × Vec E)) → lists_of entries ≡ [] → length entries ≡ 0
+no_entries [] none = refl
+no_entries (e ∷ es) none = absurd cc

@@ -1,14 +1,16 @@
 -- The cache's slots as its nodes: what a write of a slot does to the list of nodes.
-use Rattle.std.proofs.Common.{◌≡◌, ℕ, ◌<◌, Bool, true, false, if◌then◌else◌, List, [], ◌∷◌, ◌++◌, map, Option, None, Some, option_map, slice_get, slice_set, get_or, length, refl, sym, ◌∙◌, ap, ap₂, subst}
+use Rattle.std.proofs.Common.{◌≡◌, ℕ, ◌<◌, Bool, true, false, if◌then◌else◌, List, [], ◌∷◌, ◌++◌, map, Option, None, Some, option_map, slice_get, slice_set, get_or, length, refl, sym, ◌∙◌, ap, subst}
 use Rattle.std.specs.Option.{IsSomeAnd}
 use Rattle.std.proofs.lemmas.List.{map-append, map-set}
 use Rattle.std.proofs.lemmas.Option.{slice_get-map, slice_get_read, get_or_from_slice_get}
 use Rattle.search_parts.specs.declared.context.Node.{Node}
 use Rattle.search_parts.specs.declared.context.Request.{Request}
 use Rattle.search_parts.specs.declared.context.Reply.{Reply}
-use Rattle.search_parts.specs.declared.global_cache.Slot.{Slot}
-use Rattle.search_parts.specs.declared.global_cache.Slot.TheVariants.{Open, Finished}
+use Rattle.search_parts.specs.declared.global_cache.nodes.Slot.{Slot}
+use Rattle.search_parts.specs.declared.global_cache.nodes.Slot.TheVariants.{Open, Finished}
+use Rattle.search_parts.specs.declared.global_cache.results.StoredResult.{StoredResult}
 use Rattle.search_parts.specs.Cache.{CacheNode, Cache, open_goal, with_run, IsRun, AreRuns}
+use Rattle.search_parts.specs.Store.{Store}
 use Rattle.search_parts.specs.View.{run_of, ended_node, node_of}
 use Rattle.search_parts.proofs.Nodes.{appended, before, with_run-is}
 
@@ -17,14 +19,15 @@ pushed_nodes true slots goal = map-append node_of slots (Open goal ∷ [])
 pushed_nodes false slots goal = refl
 
 -- an open slot is pushed, unless the growth was refused
-pub nodes_pushed : {X I R : Type 0} (cx : X) (slots more : List (Slot I R)) (cache : Cache X I R) (grew : Bool) (goal : I) → record { cx = cx; nodes = map node_of slots } ≡ cache → more ≡ (if grew then slots ++ Open goal ∷ [] else slots) → map node_of more ≡ appended grew cache.nodes goal
-nodes_pushed cx slots more cache grew goal view is =
+pub nodes_pushed : {X I R A T : Type 0} (cx : X) (slots more : List (Slot I R)) (results : Store I (StoredResult X I R A T)) (cache : Cache X I R A T) (grew : Bool) (goal : I) → record { cx = cx; nodes = map node_of slots; results = results } ≡ cache → more ≡ (if grew then slots ++ Open goal ∷ [] else slots) → map node_of more ≡ appended grew cache.nodes goal
+nodes_pushed cx slots more results cache grew goal view is =
     ap (map node_of) is ∙ (pushed_nodes grew slots goal ∙ ap (λ c. appended grew c.nodes goal) view)
 
 -- what the whole cache is then
-pub cache_pushed : {X I R : Type 0} (cx : X) (slots more : List (Slot I R)) (cache : Cache X I R) (grew : Bool) (goal : I) → record { cx = cx; nodes = map node_of slots } ≡ cache → more ≡ (if grew then slots ++ Open goal ∷ [] else slots) → record { cx = cx; nodes = map node_of more } ≡ record cache { nodes = appended grew cache.nodes goal }
-cache_pushed cx slots more cache grew goal view is =
-    ap₂ (λ x nodes. record { cx = x; nodes = nodes }) (ap (λ c. c.cx) view) (nodes_pushed cx slots more cache grew goal view is)
+pub cache_pushed : {X I R A T : Type 0} (cx : X) (slots more : List (Slot I R)) (results : Store I (StoredResult X I R A T)) (cache : Cache X I R A T) (grew : Bool) (goal : I) → record { cx = cx; nodes = map node_of slots; results = results } ≡ cache → more ≡ (if grew then slots ++ Open goal ∷ [] else slots) → record { cx = cx; nodes = map node_of more; results = results } ≡ record cache { nodes = appended grew cache.nodes goal }
+cache_pushed cx slots more results cache grew goal view is =
+    let nodes = nodes_pushed cx slots more results cache grew goal view is in
+    λ i. record { cx = (view i).cx; nodes = nodes i; results = (view i).results }
 
 slot_case : {I R : Type 0} (slots : List (Slot I R)) (k : ℕ) (slot : Slot I R) (m : CacheNode I R) (o : Option (Slot I R)) → slice_get slots k ≡ o → slot ≡ get_or slots k slot → option_map node_of o ≡ Some m → node_of slot ≡ m
 slot_case slots k slot m None at e is = absurd cc
@@ -35,8 +38,8 @@ node_of_slot : {I R : Type 0} (slots : List (Slot I R)) (k : ℕ) (slot : Slot I
 node_of_slot slots k slot m e is = slot_case slots k slot m (slice_get slots k) refl e (sym (slice_get-map node_of slots k) ∙ is)
 
 -- an open slot is finished with a run of its goal
-pub nodes_ended : {X I R : Type 0} (cx : X) (slots : List (Slot I R)) (cache : Cache X I R) (k : ℕ) (slot : Slot I R) (n : Node I R) (P : I → Type 0) → record { cx = cx; nodes = map node_of slots } ≡ cache → slot ≡ get_or slots k slot → n.input ≡ (node_of slot).goal → IsSomeAnd (open_goal cache.nodes k) P → map node_of (slice_set slots k (Finished n)) ≡ with_run cache.nodes k (run_of n)
-nodes_ended cx slots cache k slot n P view there goal is_open =
+pub nodes_ended : {X I R A T : Type 0} (cx : X) (slots : List (Slot I R)) (results : Store I (StoredResult X I R A T)) (cache : Cache X I R A T) (k : ℕ) (slot : Slot I R) (n : Node I R) (P : I → Type 0) → record { cx = cx; nodes = map node_of slots; results = results } ≡ cache → slot ≡ get_or slots k slot → n.input ≡ (node_of slot).goal → IsSomeAnd (open_goal cache.nodes k) P → map node_of (slice_set slots k (Finished n)) ≡ with_run cache.nodes k (run_of n)
+nodes_ended cx slots results cache k slot n P view there goal is_open =
     let nodes : map node_of slots ≡ cache.nodes = ap (λ c. c.nodes) view in
     let was = before cache.nodes k (run_of n) P is_open in
     let same : node_of slot ≡ was.0 = node_of_slot slots k slot was.0 there (ap (λ list. slice_get list k) nodes ∙ was.1) in
@@ -46,13 +49,14 @@ nodes_ended cx slots cache k slot n P view there goal is_open =
     ∙ sym (with_run-is cache.nodes k (run_of n) P is_open)))
 
 -- what the whole cache is then
-pub cache_ended : {X I R : Type 0} (cx : X) (slots : List (Slot I R)) (cache : Cache X I R) (k : ℕ) (slot : Slot I R) (n : Node I R) (P : I → Type 0) → record { cx = cx; nodes = map node_of slots } ≡ cache → slot ≡ get_or slots k slot → n.input ≡ (node_of slot).goal → IsSomeAnd (open_goal cache.nodes k) P → record { cx = cx; nodes = map node_of (slice_set slots k (Finished n)) } ≡ record cache { nodes = with_run cache.nodes k (run_of n) }
-cache_ended cx slots cache k slot n P view there goal is_open =
-    ap₂ (λ x nodes. record { cx = x; nodes = nodes }) (ap (λ c. c.cx) view) (nodes_ended cx slots cache k slot n P view there goal is_open)
+pub cache_ended : {X I R A T : Type 0} (cx : X) (slots : List (Slot I R)) (results : Store I (StoredResult X I R A T)) (cache : Cache X I R A T) (k : ℕ) (slot : Slot I R) (n : Node I R) (P : I → Type 0) → record { cx = cx; nodes = map node_of slots; results = results } ≡ cache → slot ≡ get_or slots k slot → n.input ≡ (node_of slot).goal → IsSomeAnd (open_goal cache.nodes k) P → record { cx = cx; nodes = map node_of (slice_set slots k (Finished n)); results = results } ≡ record cache { nodes = with_run cache.nodes k (run_of n) }
+cache_ended cx slots results cache k slot n P view there goal is_open =
+    let nodes = nodes_ended cx slots results cache k slot n P view there goal is_open in
+    λ i. record { cx = (view i).cx; nodes = nodes i; results = (view i).results }
 
 -- a finished slot is a run of its goal
-pub finished_is_run : {X I R : Type 0} (is_yes is_no : R → Bool) (scripts : X → I → List (Reply R) → Request I R) (cx : X) (slots items : List (Slot I R)) (cache : Cache X I R) (at : ℕ) (slot : Slot I R) (n : Node I R) → record { cx = cx; nodes = map node_of slots } ≡ cache → AreRuns is_yes is_no (scripts cx) (map node_of slots) → items ≡ slots → at < length items → slot ≡ get_or items at slot → slot ≡ Finished n → IsRun is_yes is_no (scripts cache.cx n.input) cache.nodes (run_of n)
-finished_is_run is_yes is_no scripts cx slots items cache at slot n view runs same within there is =
+pub finished_is_run : {X I R A T : Type 0} (is_yes is_no : R → Bool) (scripts : X → I → List (Reply R) → Request I R) (cx : X) (slots items : List (Slot I R)) (results : Store I (StoredResult X I R A T)) (cache : Cache X I R A T) (at : ℕ) (slot : Slot I R) (n : Node I R) → record { cx = cx; nodes = map node_of slots; results = results } ≡ cache → AreRuns is_yes is_no (scripts cx) (map node_of slots) → items ≡ slots → at < length items → slot ≡ get_or items at slot → slot ≡ Finished n → IsRun is_yes is_no (scripts cache.cx n.input) cache.nodes (run_of n)
+finished_is_run is_yes is_no scripts cx slots items results cache at slot n view runs same within there is =
     let found : slice_get slots at ≡ Some (Finished n) =
     ap (λ list. slice_get list at) (sym same) ∙ (slice_get_read items (length items) at slot refl within there ∙ ap Some is) in
     subst (λ c. IsRun is_yes is_no (scripts c.cx n.input) c.nodes (run_of n)) view

@@ -7,7 +7,7 @@ use Rattle.search_parts.specs.Cache.{EndedRun, Cache, open_goal, with_run, IsRun
 use Rattle.search_parts.specs.Sound.{IsSound}
 use Rattle.search_parts.proofs.Nodes.{appended, AreRuns-appended, AreRuns-ended}
 
-module _ {X I R : Type 0} (is_yes is_no : R → Bool) (scripts : X → I → List (Reply R) → Request I R) (cache : Cache X I R) (sound : IsSound is_yes is_no scripts cache) where
+module _ {X I R A T : Type 0} (is_yes is_no : R → Bool) (scripts : X → I → List (Reply R) → Request I R) (cache : Cache X I R A T) (sound : IsSound is_yes is_no scripts cache) where
   pub IsSound-appended : (grew : Bool) (goal : I) → IsSound is_yes is_no scripts (record cache { nodes = appended grew cache.nodes goal })
   IsSound-appended grew goal = record { runs = AreRuns-appended is_yes is_no (scripts cache.cx) grew cache.nodes goal sound.runs }
 

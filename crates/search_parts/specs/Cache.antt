@@ -1,12 +1,14 @@
--- What a cache holds: its context, and a list of nodes. A node stands for one run of a goal. It is open until that run
--- has ended, and never changes from then on.
+-- What a cache holds: its context, a list of nodes, and the results that are stored. A node stands for one run of a goal.
+-- It is open until that run has ended, and never changes from then on.
 use Rattle.std.specs.Prelude.{◌≡◌, ℕ, Bool, true, List, [], map, reverse, Option, None, Some, slice_get, slice_set}
 use Rattle.std.specs.Option.{option_map}
 use Rattle.search_parts.specs.declared.context.Request.{Request}
 use Rattle.search_parts.specs.declared.context.Reply.{Reply}
 use Rattle.search_parts.specs.declared.context.Edge.{Edge}
+use Rattle.search_parts.specs.declared.global_cache.results.StoredResult.{StoredResult}
 use Rattle.search_parts.specs.Run.{EndsIn, progress_after, questions_answered}
 use Rattle.search_parts.specs.Graph.{GraphNode, question_of}
+use Rattle.search_parts.specs.Store.{Store}
 
 -- a run that has ended: its replies, the oldest first, the questions that its result rests on, and the result
 pub record EndedRun (I R : Type 0) : Type 0 where
@@ -19,10 +21,11 @@ pub record CacheNode (I R : Type 0) : Type 0 where
   pub goal : I
   pub run : Option (EndedRun I R)
 
--- the context, and the nodes by their numbers
-pub record Cache (X I R : Type 0) : Type 0 where
+-- the context, the nodes by their numbers, and the stored results
+pub record Cache (X I R A T : Type 0) : Type 0 where
   pub cx : X
   pub nodes : List (CacheNode I R)
+  pub results : Store I (StoredResult X I R A T)
 
 -- a node whose run has not ended
 abbrev pub open_node : {I R : Type 0} → I → CacheNode I R

@@ -16,5 +16,5 @@ change_last f (e ∷ d ∷ es) = e ∷ change_last f (d ∷ es)
 
 module _ (X I R A T : RattleType) (C : Cx.Ghosts X.Denot I.Denot R.Denot A.Denot T.Denot) (Di : Debug.Ghosts I.Denot) (Ei : PartialEq.Ghosts I.Denot) (Hi : Hash.Ghosts I.Denot) (Dr : Debug.Ghosts R.Denot) (Er : PartialEq.Ghosts R.Denot) (Hr : Hash.Ghosts R.Denot) (Da : Debug.Ghosts A.Denot) (Ea : PartialEq.Ghosts A.Denot) (Ha : Hash.Ghosts A.Denot) where
   -- the stack ends with the last value behind r as the last entry's state
-  abbrev pub LendsLastState : MutBor (the_row X I R A T C Di Ei Hi Dr Er Hr Da Ea Ha).Denot → MutBor state.the_row.Denot → Fml
-  LendsLastState s r = Lends (the_row X I R A T C Di Ei Hi Dr Er Hr Da Ea Ha) state.the_row s r (λ w. change_last (λ e. record e { state = w }) s.now)
+  abbrev pub LendsLastState : MutBor (the_row X I R A T C Di Ei Hi Dr Er Hr Da Ea Ha).Denot → MutBor (state.the_row X I R A T C Di Ei Hi Dr Er Hr Da Ea Ha).Denot → Fml
+  LendsLastState s r = Lends (the_row X I R A T C Di Ei Hi Dr Er Hr Da Ea Ha) (state.the_row X I R A T C Di Ei Hi Dr Er Hr Da Ea Ha) s r (λ w. change_last (λ e. record e { state = w }) s.now)

@@ -9,6 +9,10 @@ use Rattle.search_parts.specs.Path.{greater_kind}
 abbrev pub no_paths : PathsToNested
 no_paths = record { 0 = 0 }
 
+-- the set that has the path of no step alone
+abbrev pub path_of_no_step : PathsToNested
+path_of_no_step = record { 0 = 1 }
+
 -- the paths of one kind
 abbrev pub paths_of : PathKind → PathsToNested
 paths_of Inductive = record { 0 = 2 }

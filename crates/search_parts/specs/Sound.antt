@@ -5,5 +5,5 @@ use Rattle.search_parts.specs.declared.context.Reply.{Reply}
 use Rattle.search_parts.specs.Cache.{Cache, AreRuns}
 
 -- each node that is finished is a run of its goal
-pub record IsSound {X I R : Type 0} (is_yes is_no : R → Bool) (scripts : X → I → List (Reply R) → Request I R) (c : Cache X I R) : Type 0 where
+pub record IsSound {X I R A T : Type 0} (is_yes is_no : R → Bool) (scripts : X → I → List (Reply R) → Request I R) (c : Cache X I R A T) : Type 0 where
   pub runs : AreRuns is_yes is_no (scripts c.cx) c.nodes

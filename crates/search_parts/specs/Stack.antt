@@ -11,7 +11,16 @@ module _ {X I R A T : Type 0} where
     input = goal;
     step_kind_from_parent = kind;
     available_depth = depth;
-    state = record { required_depth = 0; encountered_overflow = false };
+    state = record {
+      required_depth = 0;
+      provisional_result = None;
+      heads = [];
+      encountered_overflow = false;
+      usages = None;
+      candidate_usages = None;
+      nested_goals = [];
+      node = None;
+    };
   }
 
   -- the depth that a question of this goal gets, if any

@@ -44,5 +44,6 @@ without_usages usages ignored = usages_by (λ k. count_without (count_of usages 
 abbrev pub other_usages : HeadUsages → PathKind → HeadUsages
 other_usages usages kind = usages_by (λ k. if rank_of k == rank_of kind then 0 else count_of usages k)
 
+-- no cycle of any kind
 abbrev pub no_usages : HeadUsages
 no_usages = usages_by (λ _. 0)

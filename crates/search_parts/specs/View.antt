@@ -1,8 +1,8 @@
 -- The cache's slots as the nodes that contracts see.
 use Rattle.std.specs.Prelude.{Some}
 use Rattle.search_parts.specs.declared.context.Node.{Node}
-use Rattle.search_parts.specs.declared.global_cache.Slot.{Slot}
-use Rattle.search_parts.specs.declared.global_cache.Slot.TheVariants.{Open, Finished}
+use Rattle.search_parts.specs.declared.global_cache.nodes.Slot.{Slot}
+use Rattle.search_parts.specs.declared.global_cache.nodes.Slot.TheVariants.{Open, Finished}
 use Rattle.search_parts.specs.Cache.{EndedRun, CacheNode, open_node}
 
 -- the run that a finished node stands for

@@ -62,6 +62,7 @@ pub trait Cx: Copy {
 }
 
 /// A result with the token that it is tracked by. Ports `Cx::Tracked`.
+#[derive(Drop)]
 pub struct Tracked<X: Cx> {
     pub result: X::Result,
     pub token: X::DepNodeIndex,

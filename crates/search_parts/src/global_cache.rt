@@ -1,43 +1,28 @@
-//! What a search keeps between its calls. Today that is the list of nodes: the runs that have ended,
-//! which the graphs of its answers are made of.
-ghost use Rattle.std.specs.Prelude.{◌≡◌, ◌∷◌, ◌++◌, [], length, IfOk, OnErr, IfSome};
-ghost use Rattle.std.specs.Option.{is_some, option_map, IsSomeAnd};
-ghost use Rattle.open_graphs.specs.Graph.{Grown};
-ghost use Rattle.search_parts.specs.Cache.{open_node as new_node, open_goal, finished_node, with_run, IsRun, AreRuns, KeepsNodes, KeepsGoals};
-ghost use Rattle.search_parts.specs.Shapes.{shapes_of};
-ghost use Rattle.search_parts.specs.View.{node_of, run_of, ended_node};
+//! What a search keeps between its calls: the runs that have ended, as the list of nodes that the graphs
+//! of its answers are made of, and the results of goals.
+ghost use Rattle.std.specs.Prelude.{◌≡◌, []};
+ghost use Rattle.search_parts.specs.Cache.{AreRuns};
 
-use crate::context::{Cx, Delegate, Edge, NoMemory, Node, NodeId, Reply};
+use crate::context::{Cx, Delegate};
 use std::alloc::Global;
+use std::collections::HashMap;
 use std::marker::Model;
 
-/// A place of the list of nodes.
-#[derive(Drop)]
-enum Slot<I, R> {
-    /// The goal of a run that has not ended.
-    Open(I),
-    /// A run that has ended.
-    Finished(Node<I, R>),
-}
+pub mod look_up;
+mod nodes;
+pub mod results;
 
-impl<I: Copy, R: Drop> Slot<I, R> {
-    /// The node's goal.
-    fn input(&self) -> I
-        ensures { result ≡ (node_of self.now).goal }
-    {
-        match self {
-            Slot::Open(input) => *input,
-            Slot::Finished(node) => node.input,
-        }
-    }
-}
+pub use look_up::{CacheData, NestedTest};
+use nodes::Slot;
+pub use results::{Place, StoredResult};
 
-/// The context of all searches over this cache, and the nodes of their answers' graphs. The list of
-/// nodes only grows, and a node that is finished never changes. Ports `GlobalCache`.
+/// The context of all searches over this cache, the nodes of their answers' graphs, and the results of
+/// goals. The list of nodes only grows, and a node that is finished never changes. Ports `GlobalCache`.
 #[derive(Drop)]
 pub struct GlobalCache<D: Delegate> {
     cx: D::Cx,
     nodes: Vec<Slot<<D::Cx as Cx>::Input, <D::Cx as Cx>::Result>>,
+    results: HashMap<(<D::Cx as Cx>::Input, Place), StoredResult<D::Cx>>,
 }
 
 impl<D: Delegate> Model for GlobalCache<D> {
@@ -46,21 +31,22 @@ impl<D: Delegate> Model for GlobalCache<D> {
     ghost use Rattle.search_parts.specs.Sound.{IsSound};
     ghost use Rattle.search_parts.specs.View.{node_of};
 
-    ghost Value = { Cache D.Cx D.Cx.Input D.Cx.Result };
+    ghost Value = { Cache D.Cx D.Cx.Input D.Cx.Result D.Cx.AmbiguityInfo D.Cx.DepNodeIndex };
 
-    ghost view = { λ c. record { cx = c.cx; nodes = map node_of c.nodes.items } };
+    ghost view = { λ c. record { cx = c.cx; nodes = map node_of c.nodes.items; results = c.results.entries } };
 
-    ghost invariant = { λ c. IsSound D.Cx.is_yes D.Cx.is_no D.script (record { cx = c.cx; nodes = map node_of c.nodes.items }) };
+    ghost invariant = { λ c. IsSound D.Cx.is_yes D.Cx.is_no D.script (record { cx = c.cx; nodes = map node_of c.nodes.items; results = c.results.entries }) };
 }
 
 impl<D: Delegate> GlobalCache<D> {
-    /// A cache without nodes. It takes no memory yet.
+    /// A cache without nodes and results. It takes no memory yet.
     pub fn new(alloc: Global, cx: D::Cx) -> Self
-        ensures { result ≡ record { cx = cx; nodes = [] } }
+        ensures { result ≡ record { cx = cx; nodes = []; results = [] } }
     {
         GlobalCache {
             cx,
             nodes: Vec::new(alloc),
+            results: HashMap::new(alloc),
         }
     }
 
@@ -69,62 +55,6 @@ impl<D: Delegate> GlobalCache<D> {
         ensures { result ≡ self.now.cx }
     {
         self.cx
-    }
-
-    /// Appends an open node of the goal and answers its number, which counts from 0. `NoMemory` leaves
-    /// the cache as it was.
-    pub fn open_node(&mut self, input: <D::Cx as Cx>::Input) -> Result<NodeId, NoMemory>
-        ensures node { IfOk result (λ node. node.0 ≡ length self.old.nodes) }
-        ensures opened { IfOk result (λ _. self.new ≡ record self.old { nodes = self.old.nodes ++ new_node input ∷ [] }) }
-        ensures refused { OnErr result (self.new ≡ self.old) }
-        ensures kept { KeepsNodes self.old.nodes self.new.nodes }
-        ensures goals { KeepsGoals self.old.nodes self.new.nodes }
-        ensures grown { Grown (shapes_of D.Cx.is_yes D.Cx.is_no self.old.nodes) (shapes_of D.Cx.is_yes D.Cx.is_no self.new.nodes) }
-    {
-        let node = NodeId(self.nodes.len());
-        self.nodes.push(Slot::Open(input))?;
-        Ok(node)
-    }
-
-    /// Whether the node is in the list and its run has not ended.
-    pub fn node_is_open(&self, node: NodeId) -> bool
-        ensures { result ≡ is_some (open_goal self.now.nodes node.0) }
-    {
-        matches!(self.nodes.get(node.0), Some(Slot::Open(_)))
-    }
-
-    /// Ends the run of an open node. The replies stand in their order, the oldest first. The edges are
-    /// the questions that a definite result rests on, in the order of asking. It takes no memory.
-    pub fn finish_node(
-        &mut self,
-        node: NodeId,
-        replies: Vec<Reply<<D::Cx as Cx>::Result>>,
-        edges: Vec<Edge<<D::Cx as Cx>::Input>>,
-        outcome: <D::Cx as Cx>::Result,
-    )
-        requires { IsSomeAnd (open_goal self.old.nodes node.0) (λ goal. IsRun D.Cx.is_yes D.Cx.is_no (D.script self.old.cx goal) self.old.nodes (record { replies = replies.items; edges = edges.items; outcome = outcome })) }
-        ensures ended { self.new ≡ record self.old { nodes = with_run self.old.nodes node.0 (record { replies = replies.items; edges = edges.items; outcome = outcome }) } }
-        ensures goals { KeepsGoals self.old.nodes self.new.nodes }
-        ensures grown { Grown (shapes_of D.Cx.is_yes D.Cx.is_no self.old.nodes) (shapes_of D.Cx.is_yes D.Cx.is_no self.new.nodes) }
-    {
-        let input = self.nodes[node.0].input();
-        self.nodes[node.0] = Slot::Finished(Node {
-            input,
-            replies,
-            edges,
-            result: outcome,
-        });
-    }
-
-    /// The node, if it is in the list and its run has ended: a run of its goal.
-    pub fn node(&self, node: NodeId) -> Option<&Node<<D::Cx as Cx>::Input, <D::Cx as Cx>::Result>>
-        ensures lent { option_map (λ n. ended_node n.now) result ≡ finished_node self.now.nodes node.0 }
-        ensures is_run { IfSome result (λ n. IsRun D.Cx.is_yes D.Cx.is_no (D.script self.now.cx n.now.input) self.now.nodes (run_of n.now)) }
-    {
-        match self.nodes.get(node.0)? {
-            Slot::Open(_) => None,
-            Slot::Finished(finished) => Some(finished),
-        }
     }
 
     /// Each node that is finished is a run of its goal.

@@ -7,11 +7,15 @@
 //! | `Delegate` | words of the laws that contexts and delegates keep |
 //! | `Graph` | proof graphs and refutation graphs of goals |
 //! | `Rank` | goals without cycles, their plain values, and the bound on frames |
-//! | `Cache`, `View`, `Sound` | the cache's list of nodes, as contracts see it, and what holds of every cache |
+//! | `Cache`, `View`, `Sound` | what a cache holds, as contracts see it, its list of nodes, and what holds of every cache |
+//! | `Store`, `LookUp` | the results that a cache stores, and which of them a look-up gives |
 //! | `Shapes`, `Definite` | the nodes as the theory of open graphs sees them, and the graph of a definite result |
 //! | `Stack`, `StackIndex`, `Lent` | the goals under evaluation, how they are found and lent |
 //! | `Usages`, `Heads`, `Candidates`, `Nested` | counts of usages, and the maps of heads, candidates and goals below |
+//! | `HeadShapes` | the heads of an answer as the theory of open graphs sees them |
+//! | `Decisive` | delegates whose goals are decided where no limit is met |
 //! | `Cycle`, `Provisional` | kinds of the cycles through a goal under evaluation; answers that rest on such goals |
+//! | `Reuse`, `Rebasing`, `Settlement` | which of those answers may be used, and what becomes of them |
 #![tactic(auto)]
 
 pub mod context;

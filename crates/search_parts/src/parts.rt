@@ -6,6 +6,7 @@ pub mod depth;
 pub mod heads;
 pub mod nested_goals;
 pub mod provisional_cache;
+pub mod result;
 pub mod stack;
 pub mod usages;
 
@@ -14,5 +15,6 @@ pub use depth::{AvailableDepth, StackDepth};
 pub use heads::{CycleHead, CycleHeads};
 pub use nested_goals::NestedGoals;
 pub use provisional_cache::{ProvisionalCache, ProvisionalCacheEntry, RebaseReason};
+pub use result::EvaluationResult;
 pub use stack::{EntryState, Stack, StackEntry};
 pub use usages::HeadUsages;

@@ -100,8 +100,8 @@ pub struct RulesDelegate<T, const LIMIT: usize, const PROVISIONAL: usize> {
     lender: PhantomData<T>,
 }
 
-/// The delegate of a table of rules. A goal has `LIMIT` runs at most, and the provisional cache is
-/// used unless `PROVISIONAL` is 0.
+/// The delegate of a table of rules. A goal has the greater of 1 and `LIMIT` runs at most, and the
+/// provisional cache may be used unless `PROVISIONAL` is 0.
 pub type TableDelegate<'a, const LIMIT: usize, const PROVISIONAL: usize> = RulesDelegate<
     &'a Rules,
     LIMIT,

@@ -1,12 +1,13 @@
 //! The evaluation of a goal: one loop over the goals under evaluation.
 ghost use Rattle.std.specs.Prelude.{◌≡◌, ◌<◌, ◌^◌, ◌∷◌, ℕ, [], length, IfOk, IfErr, OnOk, Some};
 ghost use Rattle.search_parts.specs.Cache.{KeepsFinished};
-ghost use Rattle.search_graph.specs.Evaluating.{Call, Outset, IsWaiting, Leads, HasEnded, HasStopped, work_left};
+ghost use Rattle.search_graph.specs.Calls.{Call, Outset};
+ghost use Rattle.search_graph.specs.Evaluating.{IsWaiting, Leads, HasEnded, HasStopped, work_left};
 ghost use Rattle.search_parts.specs.Definite.{HasGraph};
 ghost use Rattle.search_graph.specs.Justified.{AreJustified, IsFit};
 ghost use Rattle.search_graph.specs.Runs.{runs_of, IsJustifiedNext};
 
-use crate::graph::finish::finish_goal;
+use crate::graph::finish::finish_run;
 use crate::graph::open_goals::{Next, OpenGoals, Received, step};
 use crate::graph::question::{ask, push_goal};
 use search_parts::context::{Answer, Cx, Delegate, Fault, Reply, Request};
@@ -32,6 +33,7 @@ pub(crate) fn evaluate<D: Delegate>(
         IfErr result (λ fault. HasStopped D.Delegate D.Cx.Cx cache.old.cx call fault (D.starts inspect.new) limits_met.new) }
     ensures has_graph { IfOk result (λ answer. HasGraph D.Cx.is_yes D.Cx.is_no cache.new.nodes input answer.result answer.node) }
     ensures same_context { cache.new.cx ≡ cache.old.cx }
+    ensures same_results { cache.new.results ≡ cache.old.results }
     ensures kept { KeepsFinished cache.old.nodes cache.new.nodes }
 {
     push_goal::<D>(goals, cache, step_kind, input, root_depth, inspect)?;
@@ -62,6 +64,7 @@ fn advance<D: Delegate>(
         IfErr result (λ fault. HasStopped D.Delegate D.Cx.Cx cache.old.cx call fault (D.starts inspect.new) limits_met.new) }
     ensures justified { IfOk result (λ next. IsJustifiedNext D.Cx.is_yes D.Cx.is_no cache.new.nodes goals.old goals.new next) }
     ensures same_context { cache.new.cx ≡ cache.old.cx }
+    ensures same_results { cache.new.results ≡ cache.old.results }
     ensures kept { KeepsFinished cache.old.nodes cache.new.nodes }
 {
     let cx = cache.cx();
@@ -74,7 +77,7 @@ fn advance<D: Delegate>(
         Request::FinishCandidate => Ok(Next::Step(Received::without_node(Reply::Noted))),
         Request::Ignore(_) => Ok(Next::Step(Received::without_node(Reply::Noted))),
         Request::Done(outcome) => {
-            let next = finish_goal::<D>(goals, cache, outcome)?;
+            let next = finish_run::<D>(goals, limits_met, cache, outcome, inspect)?;
             Ok(next)
         }
     }

@@ -1,67 +1,246 @@
 //! What becomes of a goal whose frame is done.
-ghost use Rattle.std.specs.Prelude.{◌≡◌, length, IfOk, OnOk, OnErr, Some};
+ghost use Rattle.std.specs.Prelude.{◌≡◌, ◌≢◌, ◌↔◌, ◌≤◌, ◌<◌, ◌+◌, ◌^◌, ℕ, true, length, IsTrue, IfOk, IfErr, OnOk, OnErr, IfSome, Some};
+ghost use Rattle.std.specs.Option.{option_map};
 ghost use Rattle.search_parts.specs.Cache.{KeepsFinished};
-ghost use Rattle.search_graph.specs.Evaluating.{CanLeave, Leaves};
-ghost use Rattle.search_graph.specs.Justified.{AreJustified};
-ghost use Rattle.search_graph.specs.Runs.{runs_of, EndsRun, EndsNewest, IsSettled, IsJustifiedNext};
+ghost use Rattle.search_parts.specs.Definite.{IsDefinite};
+ghost use Rattle.search_parts.specs.Delegate.{CountsOne};
+ghost use Rattle.search_parts.specs.Shapes.{verdict_of};
+ghost use Rattle.search_parts.specs.declared.context.Request.TheVariants.{Done};
+ghost use Rattle.search_parts.specs.declared.context.Fault.TheVariants.{Memory};
+ghost use Rattle.search_graph.specs.declared.graph.finish.RunEnd.TheVariants.{Again};
+ghost use Rattle.search_graph.specs.Calls.{Call};
+ghost use Rattle.search_graph.specs.Evaluating.{HasAsked, HasStopped, Leads};
+ghost use Rattle.search_graph.specs.Justified.{in_theory, AreJustified};
+ghost use Rattle.search_graph.specs.Moves.{CanLeave, Leaves, Reruns};
+ghost use Rattle.search_graph.specs.Newest.{newest};
+ghost use Rattle.search_graph.specs.RunEnds.{IsRunEnd, IsStable, ReachedFixpoint};
+ghost use Rattle.search_graph.specs.Runs.{runs_of, EndsRun, EndsNewest, IsClosedWithoutHeads, IsSettled, IsJustifiedNext};
 
 use crate::graph::open_goals::{Next, OpenGoals, Received, Run};
 use crate::graph::progress::Progress;
 use search_parts::context::{Answer, Cx, Delegate, NoMemory, NodeId, Reply, Verdict};
 use search_parts::global_cache::GlobalCache;
+use search_parts::parts::{EntryState, EvaluationResult, HeadUsages};
 
-/// Takes the newest goal, whose frame came to this result, and gives that to the goal below it.
-pub(crate) fn finish_goal<D: Delegate>(
+/// What becomes of a goal whose run has ended.
+#[derive(Clone, Copy)]
+enum RunEnd {
+    /// Its result stands.
+    Done,
+    /// Its result isn't stable, and the goal had its most runs.
+    AtLimit,
+    /// Its result isn't stable: the goal is run again.
+    Again,
+}
+
+/// Ends the newest goal's run, which came to this result: the goal is run again, or is taken and its result
+/// given to the goal below it.
+pub(crate) fn finish_run<D: Delegate>(
+    goals: &mut OpenGoals<D::Cx, D::Frame>,
+    limits_met: &mut bool,
+    cache: &mut GlobalCache<D>,
+    outcome: <D::Cx as Cx>::Result,
+    inspect: &mut D::ProofTreeBuilder,
+) -> Result<Next<<D::Cx as Cx>::Result>, NoMemory>
+    requires asked { (call : Call D.Cx.Input) × (ahead : ℕ) × HasAsked D.Delegate D.Cx.Cx cache.old.cx call ahead (Done outcome) goals.old (D.starts inspect.old) limits_met.old }
+    requires justified { AreJustified D.Cx.is_yes D.Cx.is_no cache.old.nodes (runs_of goals.old) }
+    ensures leads { (call : Call D.Cx.Input) (ahead : ℕ) → HasAsked D.Delegate D.Cx.Cx cache.old.cx call ahead (Done outcome) goals.old (D.starts inspect.old) limits_met.old →
+        IfOk result (λ next. Leads D.Delegate D.Cx.Cx cache.old.cx call ahead goals.old next goals.new (D.starts inspect.new) limits_met.new) }
+    ensures stops { (call : Call D.Cx.Input) (ahead : ℕ) → HasAsked D.Delegate D.Cx.Cx cache.old.cx call ahead (Done outcome) goals.old (D.starts inspect.old) limits_met.old →
+        IfErr result (λ _. HasStopped D.Delegate D.Cx.Cx cache.old.cx call Memory (D.starts inspect.new) limits_met.new) }
+    ensures justified { IfOk result (λ next. IsJustifiedNext D.Cx.is_yes D.Cx.is_no cache.new.nodes goals.old goals.new next) }
+    ensures same_context { cache.new.cx ≡ cache.old.cx }
+    ensures same_results { cache.new.results ≡ cache.old.results }
+    ensures kept { KeepsFinished cache.old.nodes cache.new.nodes }
+{
+    let end = end_of_run::<D>(
+        &goals.last_entry().state,
+        goals.last_run().finished_runs,
+        outcome,
+    );
+    match end {
+        RunEnd::Done => finish_goal::<D>(goals, cache, outcome),
+        RunEnd::AtLimit => {
+            *limits_met = true;
+            let input = goals.last_entry().input();
+            let overflow = D::fixpoint_overflow_result(cache.cx(), input);
+            finish_goal::<D>(goals, cache, overflow)
+        }
+        RunEnd::Again => {
+            run_again::<D>(goals, cache, outcome, inspect)?;
+            Ok(Next::Step(Received::without_node(Reply::Begin)))
+        }
+    }
+}
+
+/// What becomes of a goal in this state, of which so many runs ended before the one that came to this result.
+fn end_of_run<D: Delegate>(
+    state: &EntryState<D::Cx>,
+    finished_runs: usize,
+    outcome: <D::Cx as Cx>::Result,
+) -> RunEnd
+    ensures is_end { IsRunEnd D.Cx.Result.eq D.initial_kind D.ambiguity D.FIXPOINT_STEP_LIMIT state.now.provisional_result state.now.usages finished_runs outcome result }
+    ensures fits { result ≡ Again → finished_runs + 1 < 2 ^ 64 }
+{
+    let Some(usages) = state.usages else {
+        return RunEnd::Done;
+    };
+    if is_stable::<D>(state.provisional_result, usages, outcome) {
+        return RunEnd::Done;
+    }
+    if finished_runs < D::FIXPOINT_STEP_LIMIT.saturating_sub(1) {
+        RunEnd::Again
+    } else {
+        RunEnd::AtLimit
+    }
+}
+
+/// Whether a further run after this result would change nothing, or isn't worth it.
+fn is_stable<D: Delegate>(
+    provisional_result: Option<<D::Cx as Cx>::Result>,
+    usages: HeadUsages,
+    outcome: <D::Cx as Cx>::Result,
+) -> bool
+    ensures { IsTrue result ↔ IsStable D.Cx.Result.eq D.initial_kind D.ambiguity provisional_result usages outcome }
+{
+    if reached_fixpoint::<D>(provisional_result, usages, outcome) {
+        return true;
+    }
+    if usages.is_empty() {
+        return true;
+    }
+    D::is_ambiguous_result(outcome).is_some()
+}
+
+/// Whether a run that used its own goal's result so came to that result. Ports
+/// `SearchGraph::reached_fixpoint`.
+fn reached_fixpoint<D: Delegate>(
+    provisional_result: Option<<D::Cx as Cx>::Result>,
+    usages: HeadUsages,
+    outcome: <D::Cx as Cx>::Result,
+) -> bool
+    ensures { IsTrue result ↔ ReachedFixpoint D.Cx.Result.eq D.initial_kind provisional_result usages outcome }
+{
+    match (
+        provisional_result,
+        D::is_initial_provisional_result(outcome),
+    ) {
+        (Some(earlier), _) => earlier == outcome,
+        (None, Some(kind)) => usages.is_single(kind),
+        (None, None) => false,
+    }
+}
+
+/// Takes the newest goal with this result, and gives that to the goal below it.
+fn finish_goal<D: Delegate>(
     goals: &mut OpenGoals<D::Cx, D::Frame>,
     cache: &mut GlobalCache<D>,
     outcome: <D::Cx as Cx>::Result,
 ) -> Result<Next<<D::Cx as Cx>::Result>, NoMemory>
     requires leaves { CanLeave goals.old }
-    requires ends { EndsNewest D.Cx.is_yes D.Cx.is_no (D.script cache.old.cx) goals.old outcome }
+    requires ends { IsDefinite D.Cx.is_yes D.Cx.is_no outcome → EndsNewest D.Cx.is_yes D.Cx.is_no (D.script cache.old.cx) goals.old outcome }
     requires justified { AreJustified D.Cx.is_yes D.Cx.is_no cache.old.nodes (runs_of goals.old) }
     ensures left { IfOk result (λ next. Leaves outcome goals.old next goals.new) }
+    ensures closed { IfOk result (λ next. IsClosedWithoutHeads D.Cx.is_yes D.Cx.is_no cache.new.nodes goals.old outcome next) }
     ensures justified { IfOk result (λ next. IsJustifiedNext D.Cx.is_yes D.Cx.is_no cache.new.nodes goals.old goals.new next) }
     ensures same_context { cache.new.cx ≡ cache.old.cx }
+    ensures same_results { cache.new.results ≡ cache.old.results }
     ensures kept { KeepsFinished cache.old.nodes cache.new.nodes }
 {
     let (entry, run) = goals.pop();
     let Run {
         frame: _,
-        node,
+        node: own_node,
         progress,
+        finished_runs: _,
+        met_overflow_before,
     } = run;
-    let node = finish_node::<D>(cache, node, progress, outcome)?;
+    let step = entry.step_kind_from_parent();
+    let mut encountered_overflow = entry.state.encountered_overflow;
+    encountered_overflow |= met_overflow_before;
+    let node = settle_node::<D>(cache, &entry.state, own_node, progress, outcome)?;
     if goals.len() == 0 {
         return Ok(Next::Finished(Answer {
             result: outcome,
             node,
         }));
     }
-    goals.note_answer(entry.state.required_depth, entry.state.encountered_overflow);
+    let answer = EvaluationResult::finalize(entry, encountered_overflow, outcome, node);
+    goals.note_answer(step, &answer)?;
     Ok(Next::Step(Received {
         reply: Reply::Answer(outcome),
         node,
     }))
 }
 
-/// Finishes the node of a run that came to a definite result. A node of another run stays open.
-fn finish_node<D: Delegate>(
+/// Runs the newest goal again, whose run came to this result.
+fn run_again<D: Delegate>(
+    goals: &mut OpenGoals<D::Cx, D::Frame>,
     cache: &mut GlobalCache<D>,
-    node: NodeId,
+    outcome: <D::Cx as Cx>::Result,
+    inspect: &mut D::ProofTreeBuilder,
+) -> Result<(), NoMemory>
+    requires some { 0 < length goals.old }
+    requires fits { IfSome (newest goals.old) (λ s. s.1.finished_runs + 1 < 2 ^ 64) }
+    requires ends { EndsNewest D.Cx.is_yes D.Cx.is_no (D.script cache.old.cx) goals.old outcome }
+    requires justified { AreJustified D.Cx.is_yes D.Cx.is_no cache.old.nodes (runs_of goals.old) }
+    ensures reran { OnOk result (Reruns D.Delegate D.Cx.Cx cache.old.cx outcome goals.old goals.new) }
+    ensures justified { OnOk result (AreJustified D.Cx.is_yes D.Cx.is_no cache.new.nodes (runs_of goals.new)) }
+    ensures same_context { cache.new.cx ≡ cache.old.cx }
+    ensures same_results { cache.new.results ≡ cache.old.results }
+    ensures kept { KeepsFinished cache.old.nodes cache.new.nodes }
+    ensures at_least { D.starts inspect.old ≤ D.starts inspect.new }
+    ensures at_most { D.starts inspect.new ≤ D.starts inspect.old + 1 }
+    ensures counted { D.counts ≡ true → OnOk result (CountsOne D.last (D.starts inspect.old) (D.starts inspect.new)) }
+{
+    let progress = goals.take_progress();
+    let own_node = goals.last_run().node;
+    let entry = goals.last_entry();
+    let input = entry.input();
+    let node = settle_node::<D>(cache, &entry.state, own_node, progress, outcome)?.or(
+        entry.state.node,
+    );
+    let frame = D::start(cache.cx(), input, inspect)?;
+    let own_node = cache.open_node(input)?;
+    goals.run_again(outcome, node, frame, own_node);
+    Ok(())
+}
+
+/// The node of a run's definite result. A run whose result says what the provisional one said has that
+/// one's node, and its own stays open, as does that of a run that came to no definite result. So the node of
+/// a goal is that of the first of its last runs that said the same.
+fn settle_node<D: Delegate>(
+    cache: &mut GlobalCache<D>,
+    state: &EntryState<D::Cx>,
+    own_node: NodeId,
     progress: Progress<<D::Cx as Cx>::Input, <D::Cx as Cx>::Result>,
     outcome: <D::Cx as Cx>::Result,
 ) -> Result<Option<NodeId>, NoMemory>
-    requires { EndsRun D.Cx.is_yes D.Cx.is_no (D.script cache.old.cx) cache.old.nodes node progress outcome }
-    ensures settled { IfOk result (λ answer. IsSettled D.Cx.is_yes D.Cx.is_no cache.old.nodes cache.new.nodes node progress outcome answer) }
+    requires { IsDefinite D.Cx.is_yes D.Cx.is_no outcome → EndsRun D.Cx.is_yes D.Cx.is_no (D.script cache.old.cx) cache.old.nodes own_node progress outcome }
+    ensures settled { IfOk result (λ answer. IsSettled D.Cx.is_yes D.Cx.is_no cache.old.nodes cache.new.nodes state.now.provisional_result own_node state.now.node progress outcome answer) }
     ensures same_context { cache.new.cx ≡ cache.old.cx }
+    ensures same_results { cache.new.results ≡ cache.old.results }
     ensures kept { KeepsFinished cache.old.nodes cache.new.nodes }
 {
     let verdict = cache.cx().sort(outcome);
     if let Verdict::Neither = verdict {
         return Ok(None);
     }
+    if says_again(cache.cx(), state.provisional_result, verdict) {
+        return Ok(state.node);
+    }
     let edges = progress.edges(verdict)?;
     let replies = progress.into_replies();
-    cache.finish_node(node, replies, edges, outcome);
-    Ok(Some(node))
+    cache.finish_node(own_node, replies, edges, outcome);
+    Ok(Some(own_node))
+}
+
+/// Whether the provisional result, if there is one, has this verdict.
+fn says_again<X: Cx>(cx: X, provisional_result: Option<X::Result>, verdict: Verdict) -> bool
+    ensures { IsTrue result ↔ (option_map (verdict_of X.is_yes X.is_no) provisional_result ≡ Some (in_theory verdict)) }
+{
+    match provisional_result {
+        Some(earlier) => cx.sort(earlier) == verdict,
+        None => false,
+    }
 }

@@ -1,18 +1,21 @@
 //! The goals under evaluation, each with the run of its frame.
-ghost use Rattle.std.specs.Prelude.{◌≡◌, ℕ, ◌+◌, ◌^◌, ◌<◌, List, [], ◌∷◌, length, false, Some, None, OnOk, OnErr, IfOk, IfErr, map, reverse};
-ghost use Rattle.std.specs.List.{list_any};
+ghost use Rattle.std.specs.Prelude.{◌≡◌, ℕ, ◌+◌, ◌^◌, ◌<◌, List, [], ◌∷◌, length, false, Some, None, OnOk, OnErr, IfOk, IfErr, IfSome, is_some, map, reverse};
+ghost use Rattle.std.specs.List.{list_any, position};
 ghost use Rattle.std.specs.Option.{option_map};
-ghost use Rattle.search_graph.specs.Evaluating.{CanStep, IsVerdict, HasStepped, IsStepFault};
+ghost use Rattle.search_graph.specs.Steps.{CanStep, IsVerdict, HasStepped, IsStepFault};
 
 use crate::graph::progress::Progress;
+use crate::graph::update::{cycle_head, note_depth, note_head, note_heads};
 use search_parts::context::{
     Answer, Cx, Delegate, Fault, NoMemory, NodeId, Reply, Request, Verdict,
 };
-use search_parts::parts::stack::{Stack, StackEntry};
+use search_parts::parts::{EvaluationResult, HeadUsages, Stack, StackDepth, StackEntry};
+use search_parts::path::PathKind;
 use std::alloc::Global;
 use std::marker::Model;
+use std::mem;
 
-/// A reply for the newest frame, with the node of a definite answer.
+/// A reply for the newest frame, and a node, which counts for a definite answer alone.
 #[derive(Clone, Copy)]
 pub(crate) struct Received<R> {
     pub reply: Reply<R>,
@@ -42,6 +45,10 @@ pub(crate) struct Run<X: Cx, F: Drop> {
     pub frame: F,
     pub node: NodeId,
     pub progress: Progress<X::Input, X::Result>,
+    /// How many runs of the goal have ended before this one.
+    pub finished_runs: usize,
+    /// Whether a question was refused below the goal in one of those.
+    pub met_overflow_before: bool,
 }
 
 /// The goals under evaluation with their runs. Clauses see them with the newest first.
@@ -66,7 +73,8 @@ impl<X: Cx, F: Drop> Model for OpenGoals<X, F> {
 
 impl<X: Cx, F: Drop> OpenGoals<X, F> {
     ghost use Rattle.search_graph.specs.Newest.{newest, change_newest};
-    ghost use Rattle.search_graph.specs.Entries.{overflowed, with_answer};
+    ghost use Rattle.search_graph.specs.Entries.{cycle_head, overflowed};
+    ghost use Rattle.search_graph.specs.Items.{rerun_with, with_no_record, AnswersNewest};
 
     /// No goal.
     pub(crate) fn new(alloc: Global) -> OpenGoals<X, F>
@@ -85,11 +93,12 @@ impl<X: Cx, F: Drop> OpenGoals<X, F> {
         self.runs.len()
     }
 
-    /// Whether the goal is under evaluation.
-    pub(crate) fn contains(&self, input: X::Input) -> bool
-        ensures { result ≡ list_any (λ s. X.Input.eq input s.0.input) self.now }
+    /// The place of the goal, if it is under evaluation, counted from the first one up.
+    pub(crate) fn find(&self, input: X::Input) -> Option<StackDepth>
+        ensures found { option_map (λ d. d.0) result ≡ position (X.Input.eq input) (map (λ e. e.input) (reverse (map (λ s. s.0) self.now))) }
+        ensures present { is_some result ≡ list_any (λ s. X.Input.eq input s.0.input) self.now }
     {
-        self.stack.find(input).is_some()
+        self.stack.find(input)
     }
 
     /// The entries of the goals, from the first one up.
@@ -138,15 +147,84 @@ impl<X: Cx, F: Drop> OpenGoals<X, F> {
         state.encountered_overflow = true;
     }
 
-    /// The newest goal was answered from a goal with this required depth, which may have met overflow.
-    pub(crate) fn note_answer(&mut self, required_depth: usize, encountered_overflow: bool)
+    /// The newest goal was answered over a step of this kind. A refusal may leave a part of that noted.
+    pub(crate) fn note_answer(
+        &mut self,
+        step: PathKind,
+        answer: &EvaluationResult<X>,
+    ) -> Result<(), NoMemory>
         requires some { 0 < length self.old }
-        requires fits { required_depth + 1 < 2 ^ 64 }
-        ensures { self.new ≡ change_newest (λ s. (with_answer s.0 required_depth encountered_overflow, s.1)) self.old }
+        requires fits { answer.now.required_depth + 1 < 2 ^ 64 }
+        ensures { OnOk result (AnswersNewest step answer.now.required_depth answer.now.encountered_overflow answer.now.heads self.old self.new) }
+    {
+        let parent = StackDepth::new(self.stack.len() - 1);
+        let state = self.stack.last_mut();
+        note_depth(state, answer.required_depth, answer.encountered_overflow);
+        note_heads(state, parent, step, &answer.heads)
+    }
+
+    /// The newest goal asked by this step for a goal under evaluation, which closed a cycle of this kind.
+    pub(crate) fn note_cycle(
+        &mut self,
+        step: PathKind,
+        head: StackDepth,
+        kind: PathKind,
+    ) -> Result<(), NoMemory>
+        requires { 0 < length self.old }
+        ensures { OnOk result (AnswersNewest step 0 false ((head, cycle_head step kind) ∷ []) self.old self.new) }
+    {
+        let used = cycle_head(step, kind);
+        let parent = StackDepth::new(self.stack.len() - 1);
+        let state = self.stack.last_mut();
+        note_depth(state, 0, false);
+        note_head(state, parent, step, head, used)
+    }
+
+    /// The run of the newest goal.
+    pub(crate) fn last_run(&self) -> &Run<X, F>
+        requires { 0 < length self.now }
+        ensures { option_map (λ s. s.1) (newest self.now) ≡ Some result.now }
+    {
+        &self.runs[self.runs.len() - 1]
+    }
+
+    /// Takes what the newest goal's run has done, and leaves a new record.
+    pub(crate) fn take_progress(&mut self) -> Progress<X::Input, X::Result>
+        requires { 0 < length self.old }
+        ensures taken { option_map (λ s. s.1.progress) (newest self.old) ≡ Some result }
+        ensures left { self.new ≡ change_newest with_no_record self.old }
+    {
+        let alloc = self.allocator();
+        let last = self.runs.len() - 1;
+        mem::replace(&mut self.runs[last].progress, Progress::new(alloc))
+    }
+
+    /// Runs the newest goal again under this result, with a frame and a node for the new run. The answers
+    /// of its cycles lead to `node` from now on.
+    pub(crate) fn run_again(
+        &mut self,
+        provisional_result: X::Result,
+        node: Option<NodeId>,
+        frame: F,
+        own_node: NodeId,
+    )
+        requires some { 0 < length self.old }
+        requires fits { IfSome (newest self.old) (λ s. s.1.finished_runs + 1 < 2 ^ 64) }
+        ensures { self.new ≡ change_newest (rerun_with provisional_result node frame own_node) self.old }
     {
         let state = self.stack.last_mut();
-        state.required_depth = state.required_depth.max(required_depth + 1);
-        state.encountered_overflow |= encountered_overflow;
+        let met_overflow = state.encountered_overflow;
+        state.provisional_result = Some(provisional_result);
+        state.encountered_overflow = false;
+        state.usages = Some(HeadUsages::default());
+        state.candidate_usages = None;
+        state.node = node;
+        let last = self.runs.len() - 1;
+        let run = &mut self.runs[last];
+        run.frame = frame;
+        run.node = own_node;
+        run.finished_runs += 1;
+        run.met_overflow_before |= met_overflow;
     }
 
     /// What the goals take their memory from.

@@ -1,15 +1,17 @@
 //! What a question comes to: it is refused, is answered where its goal is under evaluation already, or
 //! puts its goal on top.
-ghost use Rattle.std.specs.Prelude.{◌≡◌, ◌≤◌, ◌<◌, ◌+◌, ℕ, false, true, length, IfOk, OnOk, IfErr, Some};
-ghost use Rattle.std.specs.List.{list_any};
+ghost use Rattle.std.specs.Prelude.{◌≡◌, ◌≤◌, ◌<◌, ◌+◌, ℕ, false, true, List, length, map, reverse, unwrap_or, IfOk, OnOk, IfErr, Some};
+ghost use Rattle.std.specs.List.{list_any, position};
 ghost use Rattle.std.specs.Option.{option_map, option_and_then};
 ghost use Rattle.search_parts.specs.Stack.{depth_below};
 ghost use Rattle.search_parts.specs.Delegate.{CountsOne};
-ghost use Rattle.search_parts.specs.Cache.{KeepsFinished};
+ghost use Rattle.search_parts.specs.Cache.{CacheNode, KeepsFinished};
 ghost use Rattle.search_parts.specs.declared.context.Request.TheVariants.{Evaluate};
 ghost use Rattle.search_parts.specs.declared.context.Fault.TheVariants.{Memory};
 ghost use Rattle.search_graph.specs.Newest.{newest};
-ghost use Rattle.search_graph.specs.Evaluating.{Call, HasAsked, GoesOn, HasStopped, Pushes};
+ghost use Rattle.search_graph.specs.Calls.{Call};
+ghost use Rattle.search_graph.specs.Evaluating.{HasAsked, GoesOn, HasStopped};
+ghost use Rattle.search_graph.specs.Moves.{ClosesCycle, Pushes};
 ghost use Rattle.search_graph.specs.Justified.{Asks, AreJustified, IsFit};
 ghost use Rattle.search_graph.specs.Runs.{runs_of};
 
@@ -17,12 +19,11 @@ use crate::graph::open_goals::{OpenGoals, Received, Run};
 use crate::graph::progress::Progress;
 use search_parts::context::{Cx, Delegate, NoMemory, Reply};
 use search_parts::global_cache::GlobalCache;
-use search_parts::parts::{AvailableDepth, StackEntry};
+use search_parts::parts::{AvailableDepth, StackDepth, StackEntry};
 use search_parts::path::PathKind;
 
 /// Answers the newest goal's question, or puts the asked goal on top, whose frame then begins. A question
-/// of a goal without depth is refused, which meets a limit. Until cycles are evaluated, a goal that is
-/// under evaluation already is answered with the overflow result.
+/// of a goal without depth is refused, which meets a limit.
 pub(crate) fn ask<D: Delegate>(
     goals: &mut OpenGoals<D::Cx, D::Frame>,
     limits_met: &mut bool,
@@ -42,6 +43,7 @@ pub(crate) fn ask<D: Delegate>(
     ensures justified { OnOk result (AreJustified D.Cx.is_yes D.Cx.is_no cache.new.nodes (runs_of goals.new)) }
     ensures fits { IfOk result (λ received. IsFit D.Cx.is_yes D.Cx.is_no cache.new.nodes (runs_of goals.new) received.reply received.node) }
     ensures same_context { cache.new.cx ≡ cache.old.cx }
+    ensures same_results { cache.new.results ≡ cache.old.results }
     ensures kept { KeepsFinished cache.old.nodes cache.new.nodes }
 {
     let cx = cache.cx();
@@ -51,13 +53,56 @@ pub(crate) fn ask<D: Delegate>(
         let answer = D::stack_overflow_result(cx, input);
         return Ok(Received::without_node(Reply::Answer(answer)));
     };
-    if goals.contains(input) {
-        goals.note_answer(0, false);
-        let answer = D::fixpoint_overflow_result(cx, input);
-        return Ok(Received::without_node(Reply::Answer(answer)));
+    if let Some(head) = goals.find(input) {
+        return answer_cycle::<D>(goals, cx, kind, input, head);
     }
     push_goal::<D>(goals, cache, kind, input, depth, inspect)?;
     Ok(Received::without_node(Reply::Begin))
+}
+
+/// Answers the newest goal's question for a goal that is under evaluation at `head`, by its provisional
+/// result or, in its first run, by the initial one. Ports `SearchGraph::check_cycle_on_stack`.
+fn answer_cycle<D: Delegate>(
+    goals: &mut OpenGoals<D::Cx, D::Frame>,
+    cx: D::Cx,
+    step: PathKind,
+    input: <D::Cx as Cx>::Input,
+    head: StackDepth,
+) -> Result<Received<<D::Cx as Cx>::Result>, NoMemory>
+    requires some { 0 < length goals.old }
+    requires found { position (D.Cx.Input.eq input) (map (λ e. e.input) (reverse (map (λ s. s.0) goals.old))) ≡ Some head.0 }
+    requires asks { Asks (runs_of goals.old) step input }
+    ensures answered { IfOk result (λ received. ClosesCycle D.Delegate D.Cx.Cx cx step input head received.reply goals.old goals.new) }
+    ensures justified { (nodes : List (CacheNode D.Cx.Input D.Cx.Result)) → AreJustified D.Cx.is_yes D.Cx.is_no nodes (runs_of goals.old) →
+        OnOk result (AreJustified D.Cx.is_yes D.Cx.is_no nodes (runs_of goals.new)) }
+    ensures fits { (nodes : List (CacheNode D.Cx.Input D.Cx.Result)) → AreJustified D.Cx.is_yes D.Cx.is_no nodes (runs_of goals.old) →
+        IfOk result (λ received. IsFit D.Cx.is_yes D.Cx.is_no nodes (runs_of goals.new) received.reply received.node) }
+{
+    let kind = goals.stack().path_kind(step, head);
+    let state = &goals.stack()[head].state;
+    let node = state.node;
+    let outcome = cycle_result::<D>(cx, state.provisional_result, kind, input);
+    goals.note_cycle(step, head, kind)?;
+    Ok(Received {
+        reply: Reply::Answer(outcome),
+        node,
+    })
+}
+
+/// What a cycle of this kind on a goal is answered with: the result of the goal's last run, or in its first
+/// run the initial one.
+fn cycle_result<D: Delegate>(
+    cx: D::Cx,
+    provisional_result: Option<<D::Cx as Cx>::Result>,
+    kind: PathKind,
+    input: <D::Cx as Cx>::Input,
+) -> <D::Cx as Cx>::Result
+    ensures { result ≡ unwrap_or provisional_result (D.initial_result cx kind input) }
+{
+    match provisional_result {
+        Some(earlier) => earlier,
+        None => D::initial_provisional_result(cx, kind, input),
+    }
 }
 
 /// The depth that the newest goal's question gets.
@@ -86,21 +131,25 @@ pub(crate) fn push_goal<D: Delegate>(
     ensures pushed { OnOk result (Pushes D.Delegate D.Cx.Cx cache.old.cx input step_kind depth goals.old goals.new) }
     ensures justified { OnOk result (AreJustified D.Cx.is_yes D.Cx.is_no cache.new.nodes (runs_of goals.new)) }
     ensures same_context { cache.new.cx ≡ cache.old.cx }
+    ensures same_results { cache.new.results ≡ cache.old.results }
     ensures kept { KeepsFinished cache.old.nodes cache.new.nodes }
     ensures at_least { D.starts inspect.old ≤ D.starts inspect.new }
     ensures at_most { D.starts inspect.new ≤ D.starts inspect.old + 1 }
     ensures counted { D.counts ≡ true → OnOk result (CountsOne D.last (D.starts inspect.old) (D.starts inspect.new)) }
 {
-    let frame = D::start(cache.cx(), input, inspect)?;
     let node = cache.open_node(input)?;
-    let entry = StackEntry::new(input, step_kind, depth);
-    let progress = Progress::new(goals.allocator());
+    let frame = D::start(cache.cx(), input, inspect)?;
+    let alloc = goals.allocator();
+    let mut entry = StackEntry::new(alloc, input, step_kind, depth);
+    entry.state.node = Some(node);
     goals.push(
         entry,
         Run {
             frame,
             node,
-            progress,
+            progress: Progress::new(alloc),
+            finished_runs: 0,
+            met_overflow_before: false,
         },
     )?;
     Ok(())

@@ -158,4 +158,14 @@ mod tests {
         assert_eq!(rt; sum, inductive(4_294_967_295));
         Ok(())
     }
+
+    #[test]
+    fn no_usages_add_nothing(rt: HostRuntime) -> Result<(), Fail> {
+        let mut candidate = CandidateHeadUsages::new(rt.alloc());
+        candidate.merge_usages(of_heads(rt.alloc(), &[(1, 5)])?)?;
+        candidate.merge_usages(CandidateHeadUsages::new(rt.alloc()))?;
+        assert_eq!(rt; candidate.get(StackDepth::new(1)), Some(inductive(5)));
+        assert_eq!(rt; candidate.get(StackDepth::new(0)), None);
+        Ok(())
+    }
 }

@@ -92,7 +92,8 @@ impl CycleHeads {
     /// Takes out the head of the greatest depth. Ports `CycleHeads::remove_highest_cycle_head`.
     pub fn remove_highest_cycle_head(&mut self) -> CycleHead
         requires { 0 < length self.old }
-        ensures { (depth : StackDepth) × (self.old ≡ self.new ++ (depth, result) ∷ []) }
+        ensures last { (depth : StackDepth) × (self.old ≡ self.new ++ (depth, result) ∷ []) }
+        ensures below { IfSome (highest self.old) (λ e. All (λ d. d.0.0 < e.0.0) self.new) }
     {
         let (_, head) = self.heads.pop_last().unwrap();
         head

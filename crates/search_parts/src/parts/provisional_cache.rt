@@ -1,14 +1,27 @@
 //! What is kept of answers while goals that they rest on are still under evaluation.
-ghost use Rattle.std.specs.Prelude.{◌≡◌, ◌≢◌, ◌↔◌, [], All, IsTrue, OnOk, OnErr};
+ghost use Rattle.std.specs.Prelude.{◌≡◌, ◌≢◌, ◌↔◌, ◌<◌, ◌≤◌, not, [], length, All, IsTrue, IfSome, OnOk, OnErr};
+ghost use Rattle.std.specs.List.{filter, filter_map, find};
+ghost use Rattle.std.specs.Option.{option_copied};
+ghost use Rattle.search_parts.specs.Heads.{highest};
 ghost use Rattle.search_parts.specs.Provisional.{entries_at, lists_of, Appends, PutsLast};
+ghost use Rattle.search_parts.specs.Rebasing.{rebased, settled};
+ghost use Rattle.search_parts.specs.Reuse.{may_be_used, rests_on};
+
+mod clearing;
+mod kinds;
+mod lookup;
+mod rebasing;
 
 use crate::context::{Cx, Delegate, NoMemory, NodeId};
+use crate::parts::depth::StackDepth;
 use crate::parts::heads::CycleHeads;
+use crate::parts::stack::{Stack, StackEntry};
 use crate::path::PathKind;
 use std::alloc::Global;
 use std::collections::HashMap;
 use std::hash::Hash;
 use std::marker::Model;
+use std::mem;
 
 /// An answer that rests on goals on the stack. Ports `ProvisionalCacheEntry`.
 #[derive(Drop)]
@@ -71,7 +84,8 @@ impl<D: Delegate> ProvisionalCache<D> {
 
     /// Whether no goal has an entry.
     pub fn is_empty(&self) -> bool
-        ensures { IsTrue result ↔ (self.now ≡ []) }
+        ensures lists { IsTrue result ↔ (self.now ≡ []) }
+        ensures entries { IsTrue result ↔ ((input : D.Cx.Input) → entries_at D.Cx.Input.eq self.now input ≡ []) }
     {
         self.lists.is_empty()
     }
@@ -85,6 +99,53 @@ impl<D: Delegate> ProvisionalCache<D> {
             Some(entries) => entries.as_slice(),
             None => &[],
         }
+    }
+
+    /// The entry that answers the goal, asked over the step by the last goal on the stack: the first one
+    /// whose path kind is that from its highest head through the step. One that met overflow is passed
+    /// over unless the asking goal has a head as low. Takes no memory. Ports `lookup_provisional_cache`,
+    /// without what it writes to the stack.
+    pub fn lookup(
+        &self,
+        input: <D::Cx as Cx>::Input,
+        stack: &Stack<D::Cx>,
+        step: PathKind,
+    ) -> Option<&ProvisionalCacheEntry<D::Cx>>
+        requires { All (λ entry. IfSome (highest entry.heads) (λ head. head.0.0 < length stack.now)) (entries_at D.Cx.Input.eq self.now input) }
+        ensures { option_copied result ≡ find (may_be_used stack.now step) (entries_at D.Cx.Input.eq self.now input) }
+    {
+        lookup::first_usable(self.entries_of(input), stack, step)
+    }
+
+    /// Gives up the entries that rest on the result of the goal at `index`, which is to be run again: those
+    /// whose highest head is that goal, with usages. The others stay, in order. Takes no memory. Ports
+    /// `clear_dependent_provisional_results_for_rerun`.
+    pub fn clear_for_rerun(&mut self, index: StackDepth)
+        ensures { (input : D.Cx.Input) → entries_at D.Cx.Input.eq self.new input
+            ≡ filter (λ entry. not (rests_on index entry)) (entries_at D.Cx.Input.eq self.old input) }
+    {
+        clearing::remove_users(&mut self.lists, index);
+    }
+
+    /// Settles the entries that rest on the goal `done`, which was taken from the stack for this reason:
+    /// each becomes what the rule of `specs/Rebasing.antt` gives, or is dropped, and the others stay, in
+    /// order. On a refusal the cache is empty afterwards. Ports `rebase_provisional_cache_entries`.
+    pub fn rebase(
+        &mut self,
+        cx: D::Cx,
+        done: &StackEntry<D::Cx>,
+        stack: &Stack<D::Cx>,
+        reason: RebaseReason<D::Cx>,
+    ) -> Result<(), NoMemory>
+        requires on_stack { All (λ head. head.0.0 < length stack.now) done.now.state.heads }
+        requires within { (input : D.Cx.Input) → All (λ entry. All (λ head. head.0.0 ≤ length stack.now) entry.heads) (entries_at D.Cx.Input.eq self.old input) }
+        ensures ok { OnOk result ((input : D.Cx.Input) → entries_at D.Cx.Input.eq self.new input
+            ≡ filter_map (rebased stack.now done.now (settled (D.propagated cx input) (D.fixpoint_overflow cx input) reason)) (entries_at D.Cx.Input.eq self.old input)) }
+        ensures err { OnErr result (self.new ≡ []) }
+    {
+        let lists = mem::replace(&mut self.lists, HashMap::new(self.alloc));
+        self.lists = rebasing::rebase_lists::<D>(self.alloc, cx, lists, done, stack, &reason)?;
+        Ok(())
     }
 
     /// Appends an entry, which rests on a head, to the list of the goal. A refusal leaves the cache as

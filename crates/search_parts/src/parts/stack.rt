@@ -5,8 +5,12 @@ ghost use Rattle.std.specs.Option.{option_map};
 ghost use Rattle.std.specs.Slice.Iter.{iter_rest};
 ghost use Rattle.search_parts.specs.Path.{greatest_kind, greater_kind};
 
-use crate::context::{Cx, NoMemory};
+use crate::context::{Cx, NoMemory, NodeId};
+use crate::parts::candidates::CandidateHeadUsages;
 use crate::parts::depth::{AvailableDepth, StackDepth};
+use crate::parts::heads::CycleHeads;
+use crate::parts::nested_goals::NestedGoals;
+use crate::parts::usages::HeadUsages;
 use crate::path::PathKind;
 use std::alloc::Global;
 use std::collections::HashMap;
@@ -17,11 +21,25 @@ use std::slice;
 /// What changes of an entry while its goal is evaluated. Ports the fields of `StackEntry` that the search
 /// writes.
 #[derive(Drop)]
-pub struct EntryState {
+pub struct EntryState<X: Cx> {
     /// How many goals are nested below this one so far.
     pub required_depth: usize,
+    /// What a cycle to this goal is answered with: the result of its last run. `None` in the first run.
+    pub provisional_result: Option<X::Result>,
+    /// The goals below on the stack that this one rests on so far.
+    pub heads: CycleHeads,
     /// Whether a question was refused below this goal in this run.
     pub encountered_overflow: bool,
+    /// How often this goal was used as a head in this run. `None` until it is for the first time; in a
+    /// later run it is there, from zero.
+    pub usages: Option<HeadUsages>,
+    /// What the candidate that is open used of the goals on the stack. `None` where none is open.
+    pub candidate_usages: Option<CandidateHeadUsages>,
+    /// The goals that were asked below this one.
+    pub nested_goals: NestedGoals<X>,
+    /// The node that answers of cycles to this goal lead to: in the first run that run's own, and then that
+    /// of the provisional result. `None` in a new entry, until its first frame starts.
+    pub node: Option<NodeId>,
 }
 
 /// A goal under evaluation. Ports `StackEntry`.
@@ -30,14 +48,15 @@ pub struct StackEntry<X: Cx> {
     input: X::Input,
     step_kind_from_parent: PathKind,
     available_depth: AvailableDepth,
-    pub state: EntryState,
+    pub state: EntryState<X>,
 }
 
 impl<X: Cx> StackEntry<X> {
     ghost use Rattle.search_parts.specs.Stack.{fresh_entry};
 
-    /// A goal of which nothing is known yet.
+    /// A goal of which nothing is known yet. It takes no memory.
     pub fn new(
+        alloc: Global,
         input: X::Input,
         step_kind_from_parent: PathKind,
         available_depth: AvailableDepth,
@@ -50,7 +69,13 @@ impl<X: Cx> StackEntry<X> {
             available_depth,
             state: EntryState {
                 required_depth: 0,
+                provisional_result: None,
+                heads: CycleHeads::new(alloc),
                 encountered_overflow: false,
+                usages: None,
+                candidate_usages: None,
+                nested_goals: NestedGoals::new(alloc),
+                node: None,
             },
         }
     }
@@ -175,12 +200,12 @@ impl<X: Cx> Stack<X> {
 }
 
 impl<X: Cx> Stack<X> {
-    ghost use Rattle.std.specs.Prelude.{◌≡◌, ◌<◌, ◌-◌, length, slice_index_or};
+    ghost use Rattle.std.specs.Prelude.{◌≡◌, ◌<◌, ◌+◌, ◌-◌, length, slice_index_or};
     ghost use Rattle.std.specs.Borrow.{sem};
     ghost use Rattle.search_parts.specs.Lent.{LendsLastState};
 
     /// What may change of the last entry. Its input is not lent, so that it is found as before.
-    pub fn last_mut(&mut self) -> &mut EntryState
+    pub fn last_mut(&mut self) -> &mut EntryState<X>
         requires { 0 < length self.old }
         ensures* writes_back { sem 𝓛 (LendsLastState X.row X.Input.row X.Result.row X.AmbiguityInfo.row X.DepNodeIndex.row X.Cx X.Input.Debug X.Input.PartialEq X.Input.Hash.own X.Result.Debug X.Result.PartialEq X.Result.Hash.own X.AmbiguityInfo.Debug X.AmbiguityInfo.PartialEq X.AmbiguityInfo.Hash.own self.entry result) }
         ensures value { (d : _) → result.now ≡ (slice_index_or self.old (length self.old - 1) d).state }
@@ -188,6 +213,17 @@ impl<X: Cx> Stack<X> {
         let last = self.entries.len() - 1;
         let entry = &mut self.entries[last];
         &mut entry.state
+    }
+
+    /// The place of the last entry, and what may change of it. Ports `Stack::last_mut_with_index`.
+    pub fn last_mut_with_index(&mut self) -> (StackDepth, &mut EntryState<X>)
+        requires { 0 < length self.old }
+        ensures* writes_back { sem 𝓛 (LendsLastState X.row X.Input.row X.Result.row X.AmbiguityInfo.row X.DepNodeIndex.row X.Cx X.Input.Debug X.Input.PartialEq X.Input.Hash.own X.Result.Debug X.Result.PartialEq X.Result.Hash.own X.AmbiguityInfo.Debug X.AmbiguityInfo.PartialEq X.AmbiguityInfo.Hash.own self.entry result.1) }
+        ensures value { (d : _) → result.1.now ≡ (slice_index_or self.old (length self.old - 1) d).state }
+        ensures place { result.0.0 + 1 ≡ length self.old }
+    {
+        let depth = StackDepth::new(self.len() - 1);
+        (depth, self.last_mut())
     }
 }
 

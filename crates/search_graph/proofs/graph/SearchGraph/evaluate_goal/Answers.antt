@@ -45,6 +45,11 @@ returns-in-Ok-clause-limits_stay g c =
     rw (← c.self.view_is)
     ((c.in-Ok.ensures.ended (call_of c.args.input c.self.inside.root_depth.0 (g.D.Delegate.starts c.args.inspect.now) c.self.inside.limits_met fits) (call_is_outset c.args.input c.self.inside.root_depth.0 (g.D.Delegate.starts c.args.inspect.now) c.self.inside.limits_met fits)).keeps.stays)
 
+pub returns-in-Ok-clause-decisive : goal.returns-in-Ok-clause-decisive
+returns-in-Ok-clause-decisive g c = λ decisive unmet.
+    let fits : c.self.inside.root_depth.0 < 2 ^ 64 = omega arith in
+    (c.in-Ok.ensures.ended (call_of c.args.input c.self.inside.root_depth.0 (g.D.Delegate.starts c.args.inspect.now) c.self.inside.limits_met fits) (call_is_outset c.args.input c.self.inside.root_depth.0 (g.D.Delegate.starts c.args.inspect.now) c.self.inside.limits_met fits)).decided decisive unmet
+
 -- ---- a fault
 
 pub returns-in-Err-clause-plain_faults : goal.returns-in-Err-clause-plain_faults

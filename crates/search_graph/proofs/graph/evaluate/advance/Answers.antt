@@ -1,9 +1,10 @@
 use Rattle.std.proofs.Common.{◌≡◌, sym, ap, subst}
 use Rattle.search_parts.specs.declared.context.Fault.TheVariants.{Memory}
-use Rattle.search_graph.specs.Evaluating.{CanStep, GoesOn, HasStopped, work_left}
+use Rattle.search_graph.specs.Steps.{CanStep}
+use Rattle.search_graph.specs.Evaluating.{GoesOn, HasStopped, work_left}
 use Rattle.search_graph.specs.Justified.{AreJustified, IsFit}
 use Rattle.search_graph.specs.Runs.{runs_of}
-use Rattle.search_graph.proofs.Moves.{can_step, noted_goes_on, asked_stopped, can_leave, ends_newest}
+use Rattle.search_graph.proofs.Moves.{can_step, noted_goes_on}
 use Rattle.search_graph.proofs.Questions.{if_err_and}
 use Rattle.search_graph.proofs.Finishing.{noted_fits}
 use Rattle.search_graph.proofs.Loops.{stepped_some, advance_asks, advance_stops, advance_justified, done_leads, next_before, step_asks_for}
@@ -43,31 +44,25 @@ returns-in_ok-next-in-Evaluate-clause-leads g c = λ call h.
 
 -- ---- the end of a run
 
-pub finish_goal-requires-clause-leaves : goal.finish_goal-requires-clause-leaves
-finish_goal-requires-clause-leaves g c =
-    can_leave g.D.Delegate g.D.Cx.Cx c.args.cache.now.cx c.requires.waiting.0 _ c.in-Done.outcome c.step.new.goals _ _ (advance_asks g.D.Delegate g.D.Cx.Cx c.args.cache.now.cx c.args.received _ c.args.goals.now c.step.new.goals _ _ c.args.limits_met.now c.cx-cx.result c.cx-cx.ensures c.in_ok-kind.field-0 c.in-Done.is c.in_ok-kind.ensures.stepped c.step.ensures.same_starts c.args.cache.now.nodes c.requires.fits c.requires.waiting.0 c.requires.waiting.1)
+pub finish_run-requires-clause-asked : goal.finish_run-requires-clause-asked
+finish_run-requires-clause-asked g c = (c.requires.waiting.0, _, (advance_asks g.D.Delegate g.D.Cx.Cx c.args.cache.now.cx c.args.received _ c.args.goals.now c.step.new.goals _ _ c.args.limits_met.now c.cx-cx.result c.cx-cx.ensures c.in_ok-kind.field-0 c.in-Done.is c.in_ok-kind.ensures.stepped c.step.ensures.same_starts c.args.cache.now.nodes c.requires.fits c.requires.waiting.0 c.requires.waiting.1))
 
-pub finish_goal-requires-clause-ends : goal.finish_goal-requires-clause-ends
-finish_goal-requires-clause-ends g c =
-    ends_newest g.D.Delegate g.D.Cx.Cx c.args.cache.now.cx c.requires.waiting.0 _ c.in-Done.outcome c.step.new.goals _ _ (advance_asks g.D.Delegate g.D.Cx.Cx c.args.cache.now.cx c.args.received _ c.args.goals.now c.step.new.goals _ _ c.args.limits_met.now c.cx-cx.result c.cx-cx.ensures c.in_ok-kind.field-0 c.in-Done.is c.in_ok-kind.ensures.stepped c.step.ensures.same_starts c.args.cache.now.nodes c.requires.fits c.requires.waiting.0 c.requires.waiting.1)
-
-pub finish_goal-requires-clause-justified : goal.finish_goal-requires-clause-justified
-finish_goal-requires-clause-justified g c = (advance_justified g.D.Delegate g.D.Cx.Cx c.args.cache.now.cx c.args.received c.args.goals.now c.step.new.goals c.cx-cx.result c.in_ok-kind.field-0 c.in_ok-kind.ensures.stepped c.args.cache.now.nodes c.requires.fits c.requires.justified)
+pub finish_run-requires-clause-justified : goal.finish_run-requires-clause-justified
+finish_run-requires-clause-justified g c = (advance_justified g.D.Delegate g.D.Cx.Cx c.args.cache.now.cx c.args.received c.args.goals.now c.step.new.goals c.cx-cx.result c.in_ok-kind.field-0 c.in_ok-kind.ensures.stepped c.args.cache.now.nodes c.requires.fits c.requires.justified)
 
 pub returns-in_err-next-in-Done-clause-stopped : goal.returns-in_err-next-in-Done-clause-stopped
 returns-in_err-next-in-Done-clause-stopped g c = λ call h.
     if_err_and c.from_residual-in_err-next-in-Done.result _ _ c.from_residual-in_err-next-in-Done.ensures.1
-    (λ e is. subst (λ fault. HasStopped g.D.Delegate g.D.Cx.Cx c.args.cache.now.cx call fault (g.D.Delegate.starts c.step.new.inspect) c.args.limits_met.now) (sym is)
-    (asked_stopped g.D.Delegate g.D.Cx.Cx c.args.cache.now.cx call _ _ c.step.new.goals _ _ (advance_asks g.D.Delegate g.D.Cx.Cx c.args.cache.now.cx c.args.received _ c.args.goals.now c.step.new.goals _ _ c.args.limits_met.now c.cx-cx.result c.cx-cx.ensures c.in_ok-kind.field-0 c.in-Done.is c.in_ok-kind.ensures.stepped c.step.ensures.same_starts c.args.cache.now.nodes c.requires.fits call h)))
+    (λ e is. subst (λ fault. HasStopped g.D.Delegate g.D.Cx.Cx c.args.cache.now.cx call fault (g.D.Delegate.starts c.finish_run.new.inspect) c.finish_run.new.limits_met) (sym is)
+    (c.in_err-next-in-Done.ensures.stops call _ (advance_asks g.D.Delegate g.D.Cx.Cx c.args.cache.now.cx c.args.received _ c.args.goals.now c.step.new.goals _ _ c.args.limits_met.now c.cx-cx.result c.cx-cx.ensures c.in_ok-kind.field-0 c.in-Done.is c.in_ok-kind.ensures.stepped c.step.ensures.same_starts c.args.cache.now.nodes c.requires.fits call h)))
 
 pub returns-in_ok-next-in-Done-clause-leads : goal.returns-in_ok-next-in-Done-clause-leads
 returns-in_ok-next-in-Done-clause-leads g c = λ call h.
-    done_leads g.D.Delegate g.D.Cx.Cx c.args.cache.now.cx c.args.received c.args.goals.now c.step.new.goals c.cx-cx.result c.in_ok-kind.field-0 c.in_ok-kind.ensures.stepped c.in-Done.outcome call c.in_ok-next-in-Done.next c.finish_goal.new.goals _ _ c.in_ok-next-in-Done.ensures.left
-    (advance_asks g.D.Delegate g.D.Cx.Cx c.args.cache.now.cx c.args.received _ c.args.goals.now c.step.new.goals _ _ c.args.limits_met.now c.cx-cx.result c.cx-cx.ensures c.in_ok-kind.field-0 c.in-Done.is c.in_ok-kind.ensures.stepped c.step.ensures.same_starts c.args.cache.now.nodes c.requires.fits call h)
+    done_leads g.D.Delegate g.D.Cx.Cx c.args.cache.now.cx c.args.received c.args.goals.now c.step.new.goals c.cx-cx.result c.in_ok-kind.field-0 c.in_ok-kind.ensures.stepped call c.in_ok-next-in-Done.next c.finish_run.new.goals _ _ (c.in_ok-next-in-Done.ensures.leads call _ (advance_asks g.D.Delegate g.D.Cx.Cx c.args.cache.now.cx c.args.received _ c.args.goals.now c.step.new.goals _ _ c.args.limits_met.now c.cx-cx.result c.cx-cx.ensures c.in_ok-kind.field-0 c.in-Done.is c.in_ok-kind.ensures.stepped c.step.ensures.same_starts c.args.cache.now.nodes c.requires.fits call h))
 
 pub returns-in_ok-next-in-Done-clause-justified : goal.returns-in_ok-next-in-Done-clause-justified
 returns-in_ok-next-in-Done-clause-justified g c =
-    next_before g.D.Delegate g.D.Cx.Cx c.args.cache.now.cx c.args.received c.args.goals.now c.step.new.goals c.cx-cx.result c.in_ok-kind.field-0 c.in_ok-kind.ensures.stepped c.finish_goal.new.cache.nodes c.finish_goal.new.goals c.in_ok-next-in-Done.next c.in_ok-next-in-Done.ensures.justified
+    next_before g.D.Delegate g.D.Cx.Cx c.args.cache.now.cx c.args.received c.args.goals.now c.step.new.goals c.cx-cx.result c.in_ok-kind.field-0 c.in_ok-kind.ensures.stepped c.finish_run.new.cache.nodes c.finish_run.new.goals c.in_ok-next-in-Done.next c.in_ok-next-in-Done.ensures.justified
 
 -- ---- candidates
 

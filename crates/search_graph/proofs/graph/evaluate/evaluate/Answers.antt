@@ -1,7 +1,8 @@
 use Rattle.std.proofs.Common.{◌≡◌, ◌∙◌, ◌<◌, ◌^◌, [], sym, ap, subst, arith}
 use Rattle.search_parts.specs.declared.context.Reply.TheVariants.{Begin}
 use Rattle.search_parts.proofs.Finished.{KeepsFinished-then}
-use Rattle.search_graph.specs.Evaluating.{IsWaiting, HasEnded, HasStopped, Pushes, work_left}
+use Rattle.search_graph.specs.Evaluating.{IsWaiting, HasEnded, HasStopped, work_left}
+use Rattle.search_graph.specs.Moves.{Pushes}
 use Rattle.search_graph.specs.Justified.{AreJustified, IsFit}
 use Rattle.search_graph.specs.Runs.{runs_of}
 use Rattle.search_graph.proofs.Finishing.{begin_fits}
@@ -29,6 +30,7 @@ loop-next-init g c = record {
   justified = c.in_ok-push_goal.ensures.justified;
   fits = subst (λ given. IsFit g.D.Cx.Cx.is_yes g.D.Cx.Cx.is_no c.push_goal.new.cache.nodes (runs_of c.push_goal.new.goals) given.reply given.node) (sym c.without_node-received.ensures) (begin_fits g.D.Cx.Cx.is_yes g.D.Cx.Cx.is_no c.push_goal.new.cache.nodes (runs_of c.push_goal.new.goals));
   same_context = c.in_ok-push_goal.ensures.same_context;
+  same_results = c.in_ok-push_goal.ensures.same_results;
   kept = c.in_ok-push_goal.ensures.kept;
 }
 
@@ -55,6 +57,7 @@ loop-next-preserved g c = record {
   justified = (rw c.in-Step.is at c.in_ok-next.ensures.justified).0;
   fits = (rw c.in-Step.is at c.in_ok-next.ensures.justified).1;
   same_context = c.advance.ensures.same_context ∙ c.loop-next.invariant.same_context;
+  same_results = c.advance.ensures.same_results ∙ c.loop-next.invariant.same_results;
   kept = KeepsFinished-then c.args.cache.now.nodes c.loop-next.cache.nodes c.advance.new.cache.nodes c.loop-next.invariant.kept c.advance.ensures.kept;
 }
 

@@ -12,6 +12,7 @@ invariant-loop-next g l = record {
   justified : AreJustified g.D.Cx.Cx.is_yes g.D.Cx.Cx.is_no l.cache.nodes (runs_of l.goals);
   fits : IsFit g.D.Cx.Cx.is_yes g.D.Cx.Cx.is_no l.cache.nodes (runs_of l.goals) l.received.reply l.received.node;
   same_context : l.cache.cx ≡ l.fn.cache.cx;
+  same_results : l.cache.results ≡ l.fn.cache.results;
   kept : KeepsFinished l.fn.cache.nodes l.cache.nodes;
 }
 

@@ -19,7 +19,7 @@ pub returns-clause-stepped : goal.returns-clause-stepped
 returns-clause-stepped g c =
     last_stepped g.D.Delegate g.D.Cx.Cx c.args.cx c.args.received c.goals.inside.stack c.goals.inside.runs.items _ c.goals.invariant c.goals.view_is c.requires (c.len-last.result - 1) c.index_mut-run.result.now
     (grind (arith, common_steps)) c.index_mut-run.ensures.value c.sort_of-verdict.result c.sort_of-verdict.ensures c.in_ok-request.request c.step.new.frame c.in_ok-request.ensures.request
-    (record { frame = c.step.new.frame; node = c.index_mut-run.result.now.node; progress = c.note_request.new.self })
-    (ap (λ p. record { frame = c.step.new.frame; node = c.index_mut-run.result.now.node; progress = p }) (c.note_request.ensures ∙ ap (λ p. requested p c.in_ok-request.request) c.in_ok-receive.ensures))
+    (record c.index_mut-run.result.now { frame = c.step.new.frame; progress = c.note_request.new.self })
+    (ap (λ p. record c.index_mut-run.result.now { frame = c.step.new.frame; progress = p }) (c.note_request.ensures ∙ ap (λ p. requested p c.in_ok-request.request) c.in_ok-receive.ensures))
     (sym (ap (λ p. fault_of p c.in_ok-request.request) c.in_ok-receive.ensures) ∙ sym c.order_fault.ensures ∙ none_is c.order_fault.result c.in_default.not-Some)
     c.in_ok-request.ensures.falls

@@ -1,12 +1,14 @@
-use Rattle.std.proofs.Common.{◌∙◌, refl, sym, ap, subst, true, None}
+use Rattle.std.proofs.Common.{◌∙◌, refl, sym, ap, subst, true, None, option_map, is_some, IfOk}
 use Rattle.search_parts.specs.declared.context.Reply.TheVariants.{Answer}
 use Rattle.search_parts.specs.Shapes.{verdict_of}
 use Rattle.search_parts.proofs.Finished.{KeepsFinished-same}
 use Rattle.search_graph.specs.Justified.{AreJustified, IsFit}
 use Rattle.search_graph.specs.Evaluating.{GoesOn}
+use Rattle.search_graph.specs.Moves.{ClosesCycle}
 use Rattle.search_graph.specs.Runs.{runs_of}
-use Rattle.search_graph.proofs.Finishing.{runs_of-overflowed, runs_of-with_answer, neither_is, neither_fits, begin_fits}
-use Rattle.search_graph.proofs.Questions.{if_err, none_of, ask_refused, ask_in_cycle, ask_pushes, ask_stops}
+use Rattle.search_graph.proofs.Finishing.{runs_of-overflowed, neither_is, neither_fits, begin_fits}
+use Rattle.search_graph.proofs.Moves.{asked_stopped}
+use Rattle.search_graph.proofs.Questions.{if_err, if_ok_then, none_of, ask_refused, ask_in_cycle, ask_pushes, ask_stops}
 use Rattle.search_graph.proofs.graph.question.ask.Goals as goal
 
 -- the question is refused
@@ -22,24 +24,19 @@ returns-in_default-clause-justified g c =
 pub returns-in_default-clause-fits : goal.returns-in_default-clause-fits
 returns-in_default-clause-fits g c =
     subst (λ given. IsFit g.D.Cx.Cx.is_yes g.D.Cx.Cx.is_no c.args.cache.now.nodes (runs_of c.note_overflow.new.self) given.reply given.node) (sym c.without_node.ensures)
-    (neither_fits g.D.Cx.Cx.is_yes g.D.Cx.Cx.is_no c.args.cache.now.nodes (runs_of c.note_overflow.new.self) c.stack_overflow_result-answer.result
+    (neither_fits g.D.Cx.Cx.is_yes g.D.Cx.Cx.is_no c.args.cache.now.nodes (runs_of c.note_overflow.new.self) c.stack_overflow_result-answer.result None
     (ap (verdict_of g.D.Cx.Cx.is_yes g.D.Cx.Cx.is_no) c.stack_overflow_result-answer.ensures ∙ neither_is g.D.Cx.Cx.is_yes g.D.Cx.Cx.is_no (g.D.Delegate.stack_overflow c.cx-cx.result c.args.input) (g.met.D.Delegate.stack_overflow_is_neither c.cx-cx.result c.args.input)))
 
 -- the goal is under evaluation
-pub returns-then-contains-clause-goes_on : goal.returns-then-contains-clause-goes_on
-returns-then-contains-clause-goes_on g c = λ call ahead h.
-    subst (λ given. GoesOn g.D.Delegate g.D.Cx.Cx c.args.cache.now.cx call ahead given.reply c.note_answer.new.self (g.D.Delegate.starts c.args.inspect.now) c.args.limits_met.now) (sym c.without_node-then-contains.ensures)
-    (ask_in_cycle g.D.Delegate g.D.Cx.Cx c.args.cache.now.cx call ahead c.args.kind c.args.input _ c.args.limits_met.now g.met.D.Delegate.divides c.in-Some.depth g.D.Cx.Input.PartialEq.eq g.met.D.Cx.Cx.same_input c.fixpoint_overflow_result-answer.result c.args.goals.now _ c.in-Some.ensures (sym c.contains.ensures ∙ c.if-contains.true) c.note_answer.ensures h)
+pub answer_cycle-requires-clause-found : goal.answer_cycle-requires-clause-found
+answer_cycle-requires-clause-found g c = sym c.find.ensures.found ∙ ap (option_map (λ d. d.0)) c.in-Some-find.is
 
-pub returns-then-contains-clause-justified : goal.returns-then-contains-clause-justified
-returns-then-contains-clause-justified g c =
-    subst (AreJustified g.D.Cx.Cx.is_yes g.D.Cx.Cx.is_no c.args.cache.now.nodes) (runs_of-with_answer 0 _ c.args.goals.now ∙ ap runs_of (sym c.note_answer.ensures)) c.requires.justified
+pub returns-in-Some-find-clause-goes_on : goal.returns-in-Some-find-clause-goes_on
+returns-in-Some-find-clause-goes_on g c = λ call ahead h.
+    if_ok_then c.answer_cycle.result _ _ (subst (λ x. IfOk c.answer_cycle.result (λ given. ClosesCycle g.D.Delegate g.D.Cx.Cx x c.args.kind c.args.input c.in-Some-find.head given.reply c.args.goals.now c.answer_cycle.new.goals)) c.cx-cx.ensures c.answer_cycle.ensures.answered) (λ given closes. ask_in_cycle g.D.Delegate g.D.Cx.Cx c.args.cache.now.cx call ahead c.args.kind c.args.input _ c.args.limits_met.now g.met.D.Delegate.divides c.in-Some.depth g.D.Cx.Input.PartialEq.eq g.met.D.Cx.Cx.same_input (g.met.D.Delegate.initial_sort c.args.cache.now.cx) given.reply c.in-Some-find.head c.args.goals.now c.answer_cycle.new.goals c.in-Some.ensures (sym c.find.ensures.present ∙ ap is_some c.in-Some-find.is) closes h)
 
-pub returns-then-contains-clause-fits : goal.returns-then-contains-clause-fits
-returns-then-contains-clause-fits g c =
-    subst (λ given. IsFit g.D.Cx.Cx.is_yes g.D.Cx.Cx.is_no c.args.cache.now.nodes (runs_of c.note_answer.new.self) given.reply given.node) (sym c.without_node-then-contains.ensures)
-    (neither_fits g.D.Cx.Cx.is_yes g.D.Cx.Cx.is_no c.args.cache.now.nodes (runs_of c.note_answer.new.self) c.fixpoint_overflow_result-answer.result
-    (ap (verdict_of g.D.Cx.Cx.is_yes g.D.Cx.Cx.is_no) c.fixpoint_overflow_result-answer.ensures ∙ neither_is g.D.Cx.Cx.is_yes g.D.Cx.Cx.is_no (g.D.Delegate.fixpoint_overflow c.cx-cx.result c.args.input) (g.met.D.Delegate.fixpoint_overflow_is_neither c.cx-cx.result c.args.input)))
+pub returns-in-Some-find-clause-stops : goal.returns-in-Some-find-clause-stops
+returns-in-Some-find-clause-stops g c = λ call ahead h. if_err c.answer_cycle.result (asked_stopped g.D.Delegate g.D.Cx.Cx c.args.cache.now.cx call ahead _ c.args.goals.now _ _ h)
 
 -- the goal is put on top
 pub returns-in_err-push_goal-clause-stops : goal.returns-in_err-push_goal-clause-stops

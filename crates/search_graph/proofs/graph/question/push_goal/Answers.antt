@@ -1,7 +1,8 @@
-use Rattle.std.proofs.Common.{◌≡◌, ◌∙◌, ◌≤◌, [], ◌∷◌, ◌++◌, false, sym, ap, subst}
+use Rattle.std.proofs.Common.{◌≡◌, ◌∙◌, ◌≤◌, [], ◌∷◌, ◌++◌, Some, false, sym, ap, subst}
 use Rattle.std.specs.List.{list_any}
 use Rattle.search_parts.specs.Cache.{open_node}
 use Rattle.search_parts.proofs.Finished.{KeepsFinished-nodes}
+use Rattle.search_graph.specs.Entries.{first_entry}
 use Rattle.search_graph.specs.Justified.{AreJustified}
 use Rattle.search_graph.specs.Runs.{runs_of}
 use Rattle.search_graph.proofs.Finishing.{pushed_goal_is_justified}
@@ -18,16 +19,21 @@ returns-clause-kept g c = KeepsFinished-nodes _ _ c.open_node.ensures.kept
 
 pub returns-clause-pushed : goal.returns-clause-pushed
 returns-clause-pushed g c = record {
-  run = record { frame = c.in_ok-frame.frame; node = c.in_ok-node.node; progress = c.new-progress.result };
-  is = c.in_ok-push.ensures.ok ∙ ap (λ e. (e, record { frame = c.in_ok-frame.frame; node = c.in_ok-node.node; progress = c.new-progress.result }) ∷ c.args.goals.now) c.new-entry.ensures;
-  unused = c.new-progress.ensures;
-  stood = subst (λ x. g.D.Delegate.stands c.in_ok-frame.frame x c.args.input []) c.cx.ensures c.in_ok-frame.ensures.frame;
-  within = subst (λ x. g.D.Delegate.left c.in_ok-frame.frame ≤ g.D.Delegate.width x) c.cx.ensures c.in_ok-frame.ensures.within;
+  frame = c.in_ok-frame.frame;
+  own = c.in_ok-node.node;
+  is = (c.in_ok-push.ensures.ok
+      ∙ ap (λ e. (record e { state = record e.state { node = Some c.in_ok-node.node } }, record { frame = c.in_ok-frame.frame; node = c.in_ok-node.node; progress = c.new.result; finished_runs = 0; met_overflow_before = false }) ∷ c.args.goals.now) c.new-entry.ensures
+      ∙ ap (λ p. (first_entry c.args.input c.args.step_kind c.args.depth c.in_ok-node.node, record { frame = c.in_ok-frame.frame; node = c.in_ok-node.node; progress = p; finished_runs = 0; met_overflow_before = false }) ∷ c.args.goals.now) c.new.ensures);
+  fresh = record {
+    stood = subst (λ x. g.D.Delegate.stands c.in_ok-frame.frame x c.args.input []) (c.cx.ensures ∙ ap (λ cache. cache.cx) c.in_ok-node.ensures.opened) c.in_ok-frame.ensures.frame;
+    within = subst (λ x. g.D.Delegate.left c.in_ok-frame.frame ≤ g.D.Delegate.width x) (c.cx.ensures ∙ ap (λ cache. cache.cx) c.in_ok-node.ensures.opened) c.in_ok-frame.ensures.within;
+  };
 }
 
 pub returns-clause-justified : goal.returns-clause-justified
 returns-clause-justified g c =
     subst (λ nodes. AreJustified g.D.Cx.Cx.is_yes g.D.Cx.Cx.is_no nodes (runs_of c.push.new.self)) (sym (ap (λ cache. cache.nodes) c.in_ok-node.ensures.opened))
-    (subst (λ goals. AreJustified g.D.Cx.Cx.is_yes g.D.Cx.Cx.is_no (c.args.cache.now.nodes ++ open_node c.args.input ∷ []) (runs_of goals)) (sym (c.in_ok-push.ensures.ok ∙ ap (λ e. (e, record { frame = c.in_ok-frame.frame; node = c.in_ok-node.node; progress = c.new-progress.result }) ∷ c.args.goals.now) c.new-entry.ensures))
-    (pushed_goal_is_justified g.D.Cx.Cx.is_yes g.D.Cx.Cx.is_no c.args.cache.now.nodes c.args.input c.args.step_kind c.args.depth (record { frame = c.in_ok-frame.frame; node = c.in_ok-node.node; progress = c.new-progress.result }) c.args.goals.now
-    c.in_ok-node.ensures.node c.new-progress.ensures c.requires.asks c.requires.justified))
+    (subst (λ goals. AreJustified g.D.Cx.Cx.is_yes g.D.Cx.Cx.is_no (c.args.cache.now.nodes ++ open_node c.args.input ∷ []) (runs_of goals)) (sym (c.in_ok-push.ensures.ok
+    ∙ ap (λ e. (record e { state = record e.state { node = Some c.in_ok-node.node } }, record { frame = c.in_ok-frame.frame; node = c.in_ok-node.node; progress = c.new.result; finished_runs = 0; met_overflow_before = false }) ∷ c.args.goals.now) c.new-entry.ensures
+    ∙ ap (λ p. (first_entry c.args.input c.args.step_kind c.args.depth c.in_ok-node.node, record { frame = c.in_ok-frame.frame; node = c.in_ok-node.node; progress = p; finished_runs = 0; met_overflow_before = false }) ∷ c.args.goals.now) c.new.ensures))
+    (pushed_goal_is_justified g.D.Cx.Cx.is_yes g.D.Cx.Cx.is_no c.args.cache.now.nodes c.args.input c.args.step_kind c.args.depth c.in_ok-node.node c.in_ok-frame.frame c.args.goals.now c.in_ok-node.ensures.node c.requires.asks c.requires.justified))

@@ -10,19 +10,19 @@ use Rattle.search_parts.proofs.global_cache.GlobalCache.finish_node.Goals as goa
 
 pub invariant_of-self : goal.invariant_of-self
 invariant_of-self g c =
-    subst (IsSound g.D.Cx.Cx.is_yes g.D.Cx.Cx.is_no g.D.Delegate.script) (sym (cache_ended _ _ _ _ _ _ _ c.self.view_is c.index.ensures c.input-input.ensures c.requires))
+    subst (IsSound g.D.Cx.Cx.is_yes g.D.Cx.Cx.is_no g.D.Delegate.script) (sym (cache_ended _ _ _ _ _ _ _ _ c.self.view_is c.index.ensures c.input-input.ensures c.requires))
     (IsSound-ended g.D.Cx.Cx.is_yes g.D.Cx.Cx.is_no g.D.Delegate.script c.args.self.now
     (subst (IsSound g.D.Cx.Cx.is_yes g.D.Cx.Cx.is_no g.D.Delegate.script) c.self.view_is c.self.invariant) c.args.node.0 _ c.requires)
 
 pub returns-clause-ended : goal.returns-clause-ended
-returns-clause-ended g c = cache_ended _ _ _ _ _ _ _ c.self.view_is c.index.ensures c.input-input.ensures c.requires
+returns-clause-ended g c = cache_ended _ _ _ _ _ _ _ _ c.self.view_is c.index.ensures c.input-input.ensures c.requires
 
 pub returns-clause-goals : goal.returns-clause-goals
 returns-clause-goals g c =
-    subst (KeepsGoals c.args.self.now.nodes) (sym (nodes_ended _ _ _ _ _ _ _ c.self.view_is c.index.ensures c.input-input.ensures c.requires))
+    subst (KeepsGoals c.args.self.now.nodes) (sym (nodes_ended _ _ _ _ _ _ _ _ c.self.view_is c.index.ensures c.input-input.ensures c.requires))
     (KeepsGoals-ended c.args.self.now.nodes c.args.node.0 _ _ c.requires)
 
 pub returns-clause-grown : goal.returns-clause-grown
 returns-clause-grown g c =
-    subst (λ more. Grown (shapes_of g.D.Cx.Cx.is_yes g.D.Cx.Cx.is_no c.args.self.now.nodes) (shapes_of g.D.Cx.Cx.is_yes g.D.Cx.Cx.is_no more)) (sym (nodes_ended _ _ _ _ _ _ _ c.self.view_is c.index.ensures c.input-input.ensures c.requires))
+    subst (λ more. Grown (shapes_of g.D.Cx.Cx.is_yes g.D.Cx.Cx.is_no c.args.self.now.nodes) (shapes_of g.D.Cx.Cx.is_yes g.D.Cx.Cx.is_no more)) (sym (nodes_ended _ _ _ _ _ _ _ _ c.self.view_is c.index.ensures c.input-input.ensures c.requires))
     (Grown-ended c.args.self.now.nodes c.args.node.0 _ _ c.requires g.D.Cx.Cx.is_yes g.D.Cx.Cx.is_no)

@@ -10,21 +10,21 @@ use Rattle.search_parts.proofs.global_cache.GlobalCache.open_node.Goals as goal
 
 pub invariant_of-self-2 : goal.invariant_of-self-2
 invariant_of-self-2 g c =
-    subst (IsSound g.D.Cx.Cx.is_yes g.D.Cx.Cx.is_no g.D.Delegate.script) (sym (cache_pushed _ _ _ _ _ _ c.self.view_is c.push.ensures.items))
+    subst (IsSound g.D.Cx.Cx.is_yes g.D.Cx.Cx.is_no g.D.Delegate.script) (sym (cache_pushed _ _ _ _ _ _ _ c.self.view_is c.push.ensures.items))
     (IsSound-appended g.D.Cx.Cx.is_yes g.D.Cx.Cx.is_no g.D.Delegate.script c.args.self.now
     (subst (IsSound g.D.Cx.Cx.is_yes g.D.Cx.Cx.is_no g.D.Delegate.script) c.self.view_is c.self.invariant) (is_ok c.push.result) c.args.input)
 
 pub returns-clause-kept : goal.returns-clause-kept
 returns-clause-kept g c =
-    subst (KeepsNodes c.args.self.now.nodes) (sym (nodes_pushed _ _ _ _ _ _ c.self.view_is c.push.ensures.items))
+    subst (KeepsNodes c.args.self.now.nodes) (sym (nodes_pushed _ _ _ _ _ _ _ c.self.view_is c.push.ensures.items))
     (KeepsNodes-appended (is_ok c.push.result) c.args.self.now.nodes c.args.input)
 
 pub returns-clause-goals : goal.returns-clause-goals
 returns-clause-goals g c =
-    subst (KeepsGoals c.args.self.now.nodes) (sym (nodes_pushed _ _ _ _ _ _ c.self.view_is c.push.ensures.items))
+    subst (KeepsGoals c.args.self.now.nodes) (sym (nodes_pushed _ _ _ _ _ _ _ c.self.view_is c.push.ensures.items))
     (KeepsGoals-appended (is_ok c.push.result) c.args.self.now.nodes c.args.input)
 
 pub returns-clause-grown : goal.returns-clause-grown
 returns-clause-grown g c =
-    subst (λ more. Grown (shapes_of g.D.Cx.Cx.is_yes g.D.Cx.Cx.is_no c.args.self.now.nodes) (shapes_of g.D.Cx.Cx.is_yes g.D.Cx.Cx.is_no more)) (sym (nodes_pushed _ _ _ _ _ _ c.self.view_is c.push.ensures.items))
+    subst (λ more. Grown (shapes_of g.D.Cx.Cx.is_yes g.D.Cx.Cx.is_no c.args.self.now.nodes) (shapes_of g.D.Cx.Cx.is_yes g.D.Cx.Cx.is_no more)) (sym (nodes_pushed _ _ _ _ _ _ _ c.self.view_is c.push.ensures.items))
     (Grown-appended g.D.Cx.Cx.is_yes g.D.Cx.Cx.is_no (is_ok c.push.result) c.args.self.now.nodes c.args.input)

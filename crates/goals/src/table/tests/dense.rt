@@ -1,0 +1,298 @@
+//! All tables of two goals that ask two questions each: what is answered, and the graphs of the answers.
+
+use crate::table::builder::Builder;
+use crate::table::delegate::{Table, TableDelegate};
+use crate::table::outcome::Outcome;
+use crate::table::rules::{Goal, Rules};
+use crate::table::tests::shown::ShownGraph;
+use search_graph::graph::SearchGraph;
+use search_parts::context::{Answer, Cx, Delegate};
+use search_parts::global_cache::GlobalCache;
+use search_parts::path::PathKind;
+use std::alloc::Global;
+use std::io::Write;
+use std::process::Abort;
+use std::test::Fail;
+
+/// All questions of the two goals.
+const QUESTIONS: [&str; 8] = ["i:A", "i:B", "c:A", "c:B", "u:A", "u:B", "f:A", "f:B"];
+
+/// How many pairs of questions there are.
+const PAIRS: usize = 64;
+
+/// What a goal makes of its two questions.
+#[derive(Clone, Copy, Debug, PartialEq, Eq)]
+enum Body {
+    /// Two candidates of a question each.
+    Alternatives,
+    /// One candidate of both.
+    Together,
+}
+
+/// What is asked of each table, over one cache: how deep, and which goal.
+const ASKED: [(usize, &[u8]); 6] = [
+    (4, b"A"),
+    (4, b"B"),
+    (0, b"A"),
+    (0, b"B"),
+    (1, b"A"),
+    (1, b"B"),
+];
+
+/// How many questions came to each result.
+#[derive(Clone, Copy, Debug, PartialEq, Eq)]
+struct Counts {
+    yes: u32,
+    no: u32,
+    neither: u32,
+}
+
+impl Counts {
+    fn note(&mut self, outcome: Outcome) {
+        let count = match outcome {
+            Outcome::Yes => &mut self.yes,
+            Outcome::No => &mut self.no,
+            Outcome::Maybe | Outcome::Overflow => &mut self.neither,
+        };
+        *count = count.saturating_add(1);
+    }
+}
+
+/// What the questions of one table came to.
+#[derive(Drop)]
+struct Said {
+    definite: Vec<(Goal, Outcome)>,
+}
+
+impl Said {
+    /// Whether the result is definite, and the goal came to the other definite one before.
+    fn contradicts(&mut self, goal: Goal, outcome: Outcome) -> Result<bool, Fail> {
+        if !matches!(outcome, Outcome::Yes | Outcome::No) {
+            return Ok(false);
+        }
+        let contradicts = self
+            .definite
+            .iter()
+            .any(|(other, said)| *other == goal && *said != outcome);
+        self.definite.push((goal, outcome))?;
+        Ok(contradicts)
+    }
+}
+
+// The original, run on the same tables, comes to as many of each result, with its caches and without them.
+#[test]
+fn tables_of_alternatives_are_answered_with_graphs(rt: HostRuntime) -> Result<(), Fail> {
+    let counts = check_tables(&rt, Body::Alternatives, Body::Alternatives)?;
+    let wanted = Counts {
+        yes: 4498,
+        no: 194,
+        neither: 3500,
+    };
+    assert_eq!(rt; counts, wanted);
+    Ok(())
+}
+
+#[test]
+fn tables_whose_first_goal_has_alternatives_are_answered_with_graphs(
+    rt: HostRuntime,
+) -> Result<(), Fail> {
+    let counts = check_tables(&rt, Body::Alternatives, Body::Together)?;
+    let wanted = Counts {
+        yes: 1934,
+        no: 1502,
+        neither: 4756,
+    };
+    assert_eq!(rt; counts, wanted);
+    Ok(())
+}
+
+#[test]
+fn tables_whose_second_goal_has_alternatives_are_answered_with_graphs(
+    rt: HostRuntime,
+) -> Result<(), Fail> {
+    let counts = check_tables(&rt, Body::Together, Body::Alternatives)?;
+    let wanted = Counts {
+        yes: 1934,
+        no: 1502,
+        neither: 4756,
+    };
+    assert_eq!(rt; counts, wanted);
+    Ok(())
+}
+
+#[test]
+fn tables_of_pairs_are_answered_with_graphs(rt: HostRuntime) -> Result<(), Fail> {
+    let counts = check_tables(&rt, Body::Together, Body::Together)?;
+    let wanted = Counts {
+        yes: 338,
+        no: 3458,
+        neither: 4396,
+    };
+    assert_eq!(rt; counts, wanted);
+    Ok(())
+}
+
+/// How often the questions of all tables of these bodies came to each result at depth 4. Nothing may be wrong with
+/// any answer.
+fn check_tables(
+    rt: &(impl Abort + AllocGlobal),
+    first: Body,
+    second: Body,
+) -> Result<Counts, Fail> {
+    let mut counts = Counts {
+        yes: 0,
+        no: 0,
+        neither: 0,
+    };
+    for table in 0..PAIRS * PAIRS {
+        let mut text = Vec::new(rt.alloc());
+        write_body(&mut text, "A", first, table / PAIRS)?;
+        write_body(&mut text, "B", second, table % PAIRS)?;
+        let rules = Rules::read(rt.alloc(), text.as_slice())?;
+        let cx = Table { lender: &rules };
+        let flaw = flaw_of_table::<Table<&Rules>, TableDelegate<'_, 8, 1>>(
+            rt.alloc(),
+            cx,
+            &rules,
+            &mut counts,
+        )?;
+        assert_eq!(rt; flaw, None, "table {table}");
+    }
+    Ok(counts)
+}
+
+#[test]
+fn tables_without_unknown_steps_are_settled(rt: HostRuntime) -> Result<(), Fail> {
+    for (first, second) in [
+        (Body::Alternatives, Body::Alternatives),
+        (Body::Alternatives, Body::Together),
+        (Body::Together, Body::Alternatives),
+        (Body::Together, Body::Together),
+    ] {
+        assert_eq!(rt; settled_tables(rt.alloc(), first, second)?, 256);
+    }
+    Ok(())
+}
+
+/// Of how many tables of these bodies, all of whose steps are inductive or coinductive, both goals are answered yes
+/// or no within the limits.
+fn settled_tables(alloc: Global, first: Body, second: Body) -> Result<u32, Fail> {
+    let mut count = 0u32;
+    for table in 0..PAIRS * PAIRS {
+        let (pair, other) = (table / PAIRS, table % PAIRS);
+        if has_unknown_step(pair) || has_unknown_step(other) {
+            continue;
+        }
+        let mut text = Vec::new(alloc);
+        write_body(&mut text, "A", first, pair)?;
+        write_body(&mut text, "B", second, other)?;
+        let rules = Rules::read(alloc, text.as_slice())?;
+        let cx = Table { lender: &rules };
+        if both_are_settled::<Table<&Rules>, TableDelegate<'_, 8, 1>>(alloc, cx, &rules)? {
+            count = count.saturating_add(1);
+        }
+    }
+    Ok(count)
+}
+
+/// The two questions of a pair.
+fn questions_of(pair: usize) -> (usize, usize) {
+    (pair / QUESTIONS.len(), pair % QUESTIONS.len())
+}
+
+/// Whether one of the pair's questions is neither inductive nor coinductive.
+fn has_unknown_step(pair: usize) -> bool {
+    let (first, second) = questions_of(pair);
+    first >= 4 || second >= 4
+}
+
+/// The rules of the goal of this name with a pair of questions.
+fn write_body(text: &mut Vec<u8>, name: &str, body: Body, pair: usize) -> Result<(), Fail> {
+    let (first, second) = questions_of(pair);
+    let first = QUESTIONS.get(first).ok_or("no question")?;
+    let second = QUESTIONS.get(second).ok_or("no question")?;
+    match body {
+        Body::Alternatives => write!(text, "rule {name} = {first}\nrule {name} = {second}\n")?,
+        Body::Together => write!(text, "rule {name} = {first} {second}\n")?,
+    }
+    Ok(())
+}
+
+/// What is wrong with the answers to the table's questions, if anything is. The results at depth 4 are counted.
+fn flaw_of_table<X, D>(
+    alloc: Global,
+    cx: X,
+    rules: &Rules,
+    counts: &mut Counts,
+) -> Result<Option<&'static str>, Fail>
+where
+    X: Cx<Input = Goal, Result = Outcome>,
+    D: Delegate<Cx = X, ProofTreeBuilder = Builder>,
+{
+    let mut cache = GlobalCache::<D>::new(alloc, cx);
+    let mut said = Said {
+        definite: Vec::new(alloc),
+    };
+    for (depth, name) in ASKED {
+        let goal = rules.goal(name).ok_or("no goal")?;
+        let mut graph = SearchGraph::<D>::new(alloc, depth);
+        let mut builder = Builder::new(true);
+        let Ok(answer) = graph.evaluate_goal(&mut cache, goal, PathKind::Inductive, &mut builder)
+        else {
+            return Ok(Some("a fault"));
+        };
+        if depth == 4 {
+            counts.note(answer.result);
+        }
+        if said.contradicts(goal, answer.result)? {
+            return Ok(Some("yes and no"));
+        }
+        if let Some(flaw) = flaw_of_answer(alloc, &cache, rules, goal, answer)? {
+            return Ok(Some(flaw));
+        }
+    }
+    Ok(None)
+}
+
+/// What is wrong with the graph that the answer names. An answer that is not definite names none.
+fn flaw_of_answer<X, D>(
+    alloc: Global,
+    cache: &GlobalCache<D>,
+    rules: &Rules,
+    goal: Goal,
+    answer: Answer<Outcome>,
+) -> Result<Option<&'static str>, Fail>
+where
+    X: Cx<Input = Goal, Result = Outcome>,
+    D: Delegate<Cx = X>,
+{
+    let is_definite = matches!(answer.result, Outcome::Yes | Outcome::No);
+    match answer.node {
+        Some(root) if is_definite => match ShownGraph::read::<X, D>(alloc, cache, root)? {
+            Some(shown) => shown.flaw(rules, goal, answer.result),
+            None => Ok(Some("an open node")),
+        },
+        None if !is_definite => Ok(None),
+        _ => Ok(Some("a graph of another result")),
+    }
+}
+
+/// Whether both goals are answered yes or no at depth 4, and no limit is met.
+fn both_are_settled<X, D>(alloc: Global, cx: X, rules: &Rules) -> Result<bool, Fail>
+where
+    X: Cx<Input = Goal, Result = Outcome>,
+    D: Delegate<Cx = X, ProofTreeBuilder = Builder>,
+{
+    let mut cache = GlobalCache::<D>::new(alloc, cx);
+    for name in [b"A", b"B"] {
+        let goal = rules.goal(name).ok_or("no goal")?;
+        let mut graph = SearchGraph::<D>::new(alloc, 4);
+        let mut builder = Builder::new(true);
+        let answer = graph.evaluate_goal(&mut cache, goal, PathKind::Inductive, &mut builder)?;
+        let is_definite = matches!(answer.result, Outcome::Yes | Outcome::No);
+        if !is_definite || graph.limits_met() {
+            return Ok(false);
+        }
+    }
+    Ok(true)
+}

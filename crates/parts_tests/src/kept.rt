@@ -1,0 +1,75 @@
+//! Kept answers for the tests of the provisional cache.
+ghost use Rattle.std.specs.Prelude.{◌≡◌, ◌≢◌, ◌≤◌, [], All, IfOk};
+ghost use Rattle.search_parts.specs.Provisional.{entries_at};
+ghost use Rattle.search_parts.specs.declared.path.PathKind.{PathKind};
+
+use crate::loops::{Loops, Outcome};
+use search_parts::context::NoMemory;
+use search_parts::parts::{
+    CycleHeads, HeadUsages, ProvisionalCache, ProvisionalCacheEntry, StackDepth,
+};
+use search_parts::path::{PathKind, PathsToNested};
+use std::alloc::Global;
+
+/// The goal whose answers are kept.
+pub const GOAL: PathKind = PathKind::Unknown;
+
+/// An answer that is kept for the goal. It has one head, the first goal on the stack or the second one,
+/// which is reached by coinductive paths.
+#[derive(Clone, Copy, Debug)]
+pub struct Kept {
+    pub head: usize,
+    pub usages: HeadUsages,
+    pub encountered_overflow: bool,
+    pub path_from_head: PathKind,
+    pub result: Outcome,
+}
+
+impl Kept {
+    /// An answer of yes over an inductive path from its head.
+    pub fn yes(head: usize, usages: HeadUsages) -> Kept {
+        Kept {
+            head,
+            usages,
+            encountered_overflow: false,
+            path_from_head: PathKind::Inductive,
+            result: Outcome::Yes,
+        }
+    }
+
+    fn entry(&self, alloc: Global) -> Result<ProvisionalCacheEntry<Loops>, NoMemory>
+        ensures some { IfOk result (λ entry. entry.heads ≢ []) }
+        ensures within { IfOk result (λ entry. All (λ head. head.0.0 ≤ 1) entry.heads) }
+    {
+        let mut heads = CycleHeads::new(alloc);
+        let depth = StackDepth::new(self.head.min(1));
+        heads.insert(depth, PathsToNested::COINDUCTIVE, self.usages)?;
+        Ok(ProvisionalCacheEntry {
+            encountered_overflow: self.encountered_overflow,
+            heads,
+            path_from_head: self.path_from_head,
+            result: self.result,
+            node: None,
+        })
+    }
+}
+
+/// Usages by inductive and by coinductive cycles.
+pub fn used(inductive: u32, coinductive: u32) -> HeadUsages {
+    HeadUsages {
+        inductive,
+        coinductive,
+        ..HeadUsages::default()
+    }
+}
+
+/// A cache with these answers, in order.
+pub fn cache_of(alloc: Global, answers: &[Kept]) -> Result<ProvisionalCache<Loops>, NoMemory>
+    ensures { IfOk result (λ cache. (input : PathKind) → All (λ entry. All (λ head. head.0.0 ≤ 1) entry.heads) (entries_at ⟦<PathKind as PartialEq>⟧.eq cache input)) }
+{
+    let mut cache = ProvisionalCache::<Loops>::new(alloc);
+    for answer in answers {
+        cache.push(GOAL, answer.entry(alloc)?)?;
+    }
+    Ok(cache)
+}

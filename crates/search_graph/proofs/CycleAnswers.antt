@@ -1,0 +1,211 @@
+-- The answer to a question whose goal is under evaluation already.
+use Rattle.std.proofs.Common.{◌≡◌, ◌≢◌, ℕ, suc, ◌+◌, ◌<◌, max, Bool, true, false, if◌then◌else◌, List, [], ◌∷◌, ◌++◌, map, reverse, length, drop, get_or, Option, None, Some, option_map, unwrap_or, slice_get, refl, sym, ap, ◌∙◌, subst, inl, inr, arith, IsTrue, zero-add}
+use Rattle.std.specs.Option.{IsSomeAnd}
+use Rattle.std.specs.List.{position}
+use Rattle.std.proofs.lemmas.Grind.{reverse_onto}
+use Rattle.std.proofs.lemmas.List.{drop-map, get_or-map, map-append, length-map}
+use Rattle.std.proofs.lemmas.List.Quantifiers.{position-Some}
+use Rattle.std.proofs.lemmas.Option.{slice_get-map, slice_get-get_or}
+use Rattle.open_graphs.specs.Graph as theory
+use Rattle.open_graphs.specs.Stack.{Entry, Accepts, greatest, path_kind}
+use Rattle.open_graphs.specs.Use.{Recorded}
+use Rattle.open_graphs.specs.Run.{IsAnswered}
+use Rattle.open_graphs.specs.State.{stack_of}
+use Rattle.open_graphs.proofs.Asked.{cycle_is_answered}
+use Rattle.open_graphs.proofs.Lists.{get_cases}
+use Rattle.search_parts.specs.declared.path.PathKind.{PathKind}
+use Rattle.search_parts.specs.declared.path.PathKind.TheVariants.{Inductive, Unknown, Coinductive, ForcedAmbiguity}
+use Rattle.search_parts.specs.declared.context.NodeId.{NodeId}
+use Rattle.search_parts.specs.declared.context.Reply.TheVariants.{Answer}
+use Rattle.search_parts.specs.declared.parts.depth.StackDepth.{StackDepth}
+use Rattle.search_parts.specs.declared.parts.stack.StackEntry.{StackEntry}
+use Rattle.search_parts.specs.Cache.{CacheNode, IsNodeOf}
+use Rattle.search_parts.specs.Cycle.{path_kind_from}
+use Rattle.search_parts.specs.Delegate.{IsCycleResult}
+use Rattle.search_parts.specs.HeadShapes.{heads_shape}
+use Rattle.search_parts.specs.Path.{rank_of, greater_kind, greatest_kind, is_coinductive, is_inductive}
+use Rattle.search_parts.specs.Paths.{has_kind, paths_of}
+use Rattle.search_parts.specs.Shapes.{verdict_of, shapes_of}
+use Rattle.search_parts.specs.Usages.{count_of, no_usages, with_usage}
+use Rattle.search_parts.proofs.HeadLists.{at_depth-first}
+use Rattle.search_parts.proofs.HeadShapes.{IsIn, in_head}
+use Rattle.search_parts.proofs.PathRanks.{greater_rank}
+use Rattle.search_parts.specs.HeadShapes.{head_shape}
+use Rattle.search_graph.specs.declared.graph.open_goals.Run.{Run}
+use Rattle.search_graph.specs.Entries.{cycle_head}
+use Rattle.search_graph.specs.Items.{AnswersNewest}
+use Rattle.search_graph.specs.Justified.{OpenRun, Asks, AreJustified, MayAnswer, IsFit, frame_of, frames_of, leads_to, LeadHome}
+use Rattle.search_graph.specs.Runs.{run_of, runs_of}
+use Rattle.search_graph.proofs.Finishing.{answer_fits, heads_come, same_run}
+use Rattle.search_graph.proofs.RunsEnd.{stack_length}
+
+-- ---- kinds of cycles
+
+-- the initial result of a cycle is yes only if its kind is coinductive, and no only if it is inductive
+initial_at : (kind : PathKind) (y n : Bool) → y ≡ is_coinductive kind → n ≡ is_inductive kind → (if y then theory.Yes else if n then theory.No else theory.Neither) ≢ theory.Neither → rank_of kind ≡ theory.cycle_kind (if y then theory.Yes else if n then theory.No else theory.Neither)
+initial_at Inductive true n says denies definite = absurd cc
+initial_at Inductive false true says denies definite = refl
+initial_at Inductive false false says denies definite = absurd (definite refl)
+initial_at Unknown true n says denies definite = absurd cc
+initial_at Unknown false true says denies definite = absurd cc
+initial_at Unknown false false says denies definite = absurd (definite refl)
+initial_at Coinductive true n says denies definite = refl
+initial_at Coinductive false true says denies definite = absurd cc
+initial_at Coinductive false false says denies definite = absurd (definite refl)
+initial_at ForcedAmbiguity true n says denies definite = absurd cc
+initial_at ForcedAmbiguity false true says denies definite = absurd cc
+initial_at ForcedAmbiguity false false says denies definite = absurd (definite refl)
+
+-- what a cycle records of its head
+own_path : (kind : PathKind) → IsTrue (has_kind (paths_of kind) kind)
+own_path Inductive = refl
+own_path Unknown = refl
+own_path Coinductive = refl
+own_path ForcedAmbiguity = refl
+
+one_is_some : {n : ℕ} → n ≡ 1 → n ≢ 0
+one_is_some is e = omega (arith, is, e)
+
+own_usage : (kind : PathKind) → count_of (with_usage no_usages kind) kind ≢ 0
+own_usage Inductive e = one_is_some refl e
+own_usage Unknown e = one_is_some refl e
+own_usage Coinductive e = one_is_some refl e
+own_usage ForcedAmbiguity e = one_is_some refl e
+
+cycle_recorded : (step kind : PathKind) (head : StackDepth) → Recorded (heads_shape ((head, cycle_head step kind) ∷ [])) head.0 (rank_of step) (rank_of kind)
+cycle_recorded step kind head =
+    subst (λ o. IsIn o (rank_of step) (rank_of kind)) (sym (at_depth-first head (cycle_head step kind) []))
+    (in_head (cycle_head step kind) step kind (own_path step, own_usage kind))
+
+-- ---- the stack from below
+
+module _ {X F I R A T : Type 0} (is_yes is_no : R → Bool) where
+  -- an item as an entry of the theory
+  abbrev entry_of : StackEntry X I R A T × Run X F I R A T → Entry
+  entry_of s = (frame_of is_yes is_no (run_of s)).entry
+
+  stack_is : (goals : List (StackEntry X I R A T × Run X F I R A T)) → stack_of (frames_of is_yes is_no (runs_of goals)) ≡ map entry_of (reverse goals)
+  stack_is [] = refl
+  stack_is (s ∷ below) =
+      ap (λ l. l ++ entry_of s ∷ []) (stack_is below)
+      ∙ sym (map-append entry_of (reverse below) (s ∷ []))
+      ∙ ap (map entry_of) (sym (reverse_onto below s []))
+
+  entries_are : (goals : List (StackEntry X I R A T × Run X F I R A T)) → reverse (map (λ s. s.0) goals) ≡ map (λ s. s.0) (reverse goals)
+  entries_are [] = refl
+  entries_are (s ∷ below) =
+      reverse_onto (map (λ t. t.0) below) s.0 []
+      ∙ ap (λ l. l ++ s.0 ∷ []) (entries_are below)
+      ∙ sym (map-append (λ t. t.0) (reverse below) (s ∷ []))
+      ∙ ap (map (λ t. t.0)) (sym (reverse_onto below s []))
+
+  -- the kind of a path over the last goals
+  kind_at : (step : PathKind) (items : List (StackEntry X I R A T × Run X F I R A T)) → rank_of (greatest_kind (step ∷ map (λ e. e.step_kind_from_parent) (map (λ s. s.0) items))) ≡ greatest (rank_of step) (map entry_of items)
+  kind_at step [] = omega (arith, greater_rank step Inductive)
+  kind_at step (s ∷ items) =
+      let rest = greatest_kind (map (λ e. e.step_kind_from_parent) (map (λ (t : StackEntry X I R A T × Run X F I R A T). t.0) items)) in
+      omega (arith, kind_at step items, greater_rank step (greater_kind s.0.step_kind_from_parent rest), greater_rank s.0.step_kind_from_parent rest, greater_rank step rest)
+
+  pub path_kind_is : (step : PathKind) (head : ℕ) (goals : List (StackEntry X I R A T × Run X F I R A T)) → rank_of (path_kind_from (reverse (map (λ s. s.0) goals)) head step) ≡ path_kind (stack_of (frames_of is_yes is_no (runs_of goals))) (rank_of step) head
+  path_kind_is step head goals =
+      let next : head + 1 ≡ suc head = omega arith in
+      ap (λ l. rank_of (path_kind_from l head step)) (entries_are goals)
+      ∙ ap (λ l. rank_of (greatest_kind (step ∷ map (λ e. e.step_kind_from_parent) l))) (ap (λ n. drop n (map (λ s. s.0) (reverse goals))) next ∙ drop-map (λ s. s.0) (suc head) (reverse goals))
+      ∙ kind_at step (drop (suc head) (reverse goals))
+      ∙ ap (greatest (rank_of step)) (sym (drop-map entry_of (suc head) (reverse goals)))
+      ∙ ap (λ l. path_kind l (rank_of step) head) (sym (stack_is goals))
+
+  home_of : (nodes : List (CacheNode I R)) (goals : List (StackEntry X I R A T × Run X F I R A T)) → LeadHome nodes (runs_of goals) → (j : ℕ) (s : StackEntry X I R A T × Run X F I R A T) → slice_get (reverse goals) j ≡ Some s → IsSomeAnd s.0.state.node (λ n. IsNodeOf nodes n.0 s.0.input)
+  home_of nodes [] h j s at = absurd cc
+  home_of nodes (g ∷ below) h j s at = elim (get_cases (reverse below) g j s (ap (λ l. slice_get l j) (sym (reverse_onto below g [])) ∙ at)) [
+    | inl lower ↦ home_of nodes below h.1 j s lower
+    | inr here ↦ subst (λ (t : StackEntry X I R A T × Run X F I R A T). IsSomeAnd t.0.state.node (λ n. IsNodeOf nodes n.0 t.0.input)) here.1 h.0
+  ]
+
+  -- the goal at a depth, of which the entry was read
+  pub record HeadIs (goals : List (StackEntry X I R A T × Run X F I R A T)) (head : ℕ) (e : StackEntry X I R A T) : Type 0 where
+    pub run : Run X F I R A T
+    pub at : slice_get (reverse goals) head ≡ Some (e, run)
+
+  item_at : (items : List (StackEntry X I R A T × Run X F I R A T)) (j : ℕ) (e : StackEntry X I R A T) → option_map (λ s. s.0) (slice_get items j) ≡ Some e → (run : Run X F I R A T) × (slice_get items j ≡ Some (e, run))
+  item_at items j e is = some_at (slice_get items j) is
+    where
+      some_at : (o : Option (StackEntry X I R A T × Run X F I R A T)) → option_map (λ s. s.0) o ≡ Some e → (run : Run X F I R A T) × (o ≡ Some (e, run))
+      some_at None is = absurd cc
+      some_at (Some s) is = let same : s.0 ≡ e = cc in (s.1, ap (λ d. Some (d, s.1)) same)
+
+  pub head_is : (goals : List (StackEntry X I R A T × Run X F I R A T)) (head : ℕ) (e : StackEntry X I R A T) → head < length (reverse (map (λ s. s.0) goals)) → e ≡ get_or (reverse (map (λ s. s.0) goals)) head e → HeadIs goals head e
+  head_is goals head e within e_is =
+      let there : slice_get (reverse (map (λ s. s.0) goals)) head ≡ Some e = slice_get-get_or (reverse (map (λ s. s.0) goals)) head e within ∙ ap Some (sym e_is) in
+      let item = item_at (reverse goals) head e (sym (slice_get-map (λ (s : StackEntry X I R A T × Run X F I R A T). s.0) (reverse goals) head) ∙ ap (λ l. slice_get l head) (sym (entries_are goals)) ∙ there) in
+      record { run = item.0; at = item.1 }
+
+-- ---- the answer
+
+module _ {X F I R A T : Type 0} (is_yes is_no : R → Bool) (nodes : List (CacheNode I R)) (old new : List (StackEntry X I R A T × Run X F I R A T)) (step kind : PathKind) (head : StackDepth) (input : I) (e : StackEntry X I R A T) (there : HeadIs is_yes is_no old head.0 e) (same_goal : e.input ≡ input) (kind_is : kind ≡ path_kind_from (reverse (map (λ s. s.0) old)) head.0 step) (initial : R) (sorted : IsCycleResult is_yes is_no kind initial) (asks : Asks (runs_of old) step input) (a : AnswersNewest step 0 false ((head, cycle_head step kind) ∷ []) old new) (h : AreJustified is_yes is_no nodes (runs_of old)) where
+  abbrev result : R
+  result = unwrap_or e.state.provisional_result initial
+
+  abbrev newest_run_of : OpenRun I R
+  newest_run_of = run_of (a.entry, a.run)
+
+  abbrev entries_below : List Entry
+  entries_below = stack_of (frames_of is_yes is_no (runs_of a.below))
+
+  was : AreJustified is_yes is_no nodes (newest_run_of ∷ runs_of a.below)
+  was = subst (λ l. AreJustified is_yes is_no nodes (runs_of l)) a.was h
+
+  stack_was : stack_of (frames_of is_yes is_no (runs_of old)) ≡ entries_below ++ (frame_of is_yes is_no newest_run_of).entry ∷ []
+  stack_was = ap (λ l. stack_of (frames_of is_yes is_no (runs_of l))) a.was
+
+  place : slice_get (entries_below ++ (frame_of is_yes is_no newest_run_of).entry ∷ []) head.0 ≡ Some (entry_of is_yes is_no (e, there.run))
+  place =
+      ap (λ l. slice_get l head.0) (sym stack_was ∙ stack_is is_yes is_no old)
+      ∙ slice_get-map (entry_of is_yes is_no) (reverse old) head.0
+      ∙ ap (option_map (entry_of is_yes is_no)) there.at
+
+  rank_is : rank_of kind ≡ path_kind (entries_below ++ (frame_of is_yes is_no newest_run_of).entry ∷ []) (rank_of step) head.0
+  rank_is = ap rank_of kind_is ∙ path_kind_is is_yes is_no step head.0 old ∙ ap (λ l. path_kind l (rank_of step) head.0) stack_was
+
+  accepts_at : (earlier : Option R) → e.state.provisional_result ≡ earlier → verdict_of is_yes is_no (unwrap_or earlier initial) ≢ theory.Neither → Accepts (verdict_of is_yes is_no (unwrap_or earlier initial)) (entry_of is_yes is_no (e, there.run)) (rank_of kind)
+  accepts_at None is definite = inr (ap (option_map (verdict_of is_yes is_no)) is, initial_at kind (is_yes initial) (is_no initial) sorted.yes sorted.no definite)
+  accepts_at (Some r) is definite = inl (ap (option_map (verdict_of is_yes is_no)) is)
+
+  recorded : head.0 < length a.below → Recorded (heads_shape a.state.heads) head.0 (rank_of step) (rank_of kind)
+  recorded lower =
+      let twice : max (rank_of step) (rank_of step) ≡ rank_of step = omega arith in
+      subst (λ p. Recorded (heads_shape a.state.heads) head.0 p (rank_of kind)) twice
+      (heads_come (record { 0 = length a.below }) step 0 false ((head, cycle_head step kind) ∷ []) a.entry.state a.state a.takes head.0 (rank_of step) (rank_of kind) lower (cycle_recorded step kind head))
+
+  answered : verdict_of is_yes is_no (unwrap_or e.state.provisional_result initial) ≢ theory.Neither → IsAnswered (shapes_of is_yes is_no nodes) (verdict_of is_yes is_no (unwrap_or e.state.provisional_result initial)) (stack_of (frames_of is_yes is_no (runs_of a.below))) (frame_of is_yes is_no (run_of (a.entry, a.run))).entry (record { kind = rank_of step; target = leads_to (run_of (e, there.run)) }) (heads_shape a.state.heads)
+  answered definite =
+      let many : length (stack_of (frames_of is_yes is_no (runs_of a.below))) ≡ length a.below = stack_length is_yes is_no (runs_of a.below) ∙ length-map a.below run_of in
+      cycle_is_answered (shapes_of is_yes is_no nodes) (verdict_of is_yes is_no (unwrap_or e.state.provisional_result initial)) (stack_of (frames_of is_yes is_no (runs_of a.below))) (frame_of is_yes is_no (run_of (a.entry, a.run))).entry head.0 (entry_of is_yes is_no (e, there.run)) (rank_of step) (heads_shape a.state.heads)
+      was.sound.is_stack.distinct place
+      (subst (Accepts (verdict_of is_yes is_no (unwrap_or e.state.provisional_result initial)) (entry_of is_yes is_no (e, there.run))) rank_is (accepts_at e.state.provisional_result refl definite))
+      (λ lower. subst (Recorded (heads_shape a.state.heads) head.0 (rank_of step)) rank_is (recorded (subst (λ n. head.0 < n) many lower)))
+
+  may_answer_at : (lead : Option NodeId) → e.state.node ≡ lead → IsSomeAnd lead (λ n. IsNodeOf nodes n.0 e.input) → verdict_of is_yes is_no (unwrap_or e.state.provisional_result initial) ≢ theory.Neither → IsSomeAnd lead (λ n. MayAnswer is_yes is_no nodes (run_of (record a.entry { state = a.state }, a.run)) (runs_of a.below) (verdict_of is_yes is_no (unwrap_or e.state.provisional_result initial)) step input n.0)
+  may_answer_at None is home definite = absurd home
+  may_answer_at (Some n) is home definite =
+      subst (λ o. MayAnswer is_yes is_no nodes o (runs_of a.below) (verdict_of is_yes is_no (unwrap_or e.state.provisional_result initial)) step input n.0) (sym (same_run (record { 0 = length a.below }) step 0 false ((head, cycle_head step kind) ∷ []) a.entry.state a.state a.takes a.entry a.run refl))
+      (record {
+        of_goal = subst (IsNodeOf nodes n.0) same_goal home;
+        answered = subst (λ t. IsAnswered (shapes_of is_yes is_no nodes) (verdict_of is_yes is_no (unwrap_or e.state.provisional_result initial)) (stack_of (frames_of is_yes is_no (runs_of a.below))) (frame_of is_yes is_no (run_of (a.entry, a.run))).entry (record { kind = rank_of step; target = t }) (heads_shape a.state.heads))
+            (ap (λ l. elim l [ None ↦ there.run.node.0 | Some m ↦ m.0 ]) is) (answered definite);
+      })
+
+  pub cycle_fits : IsFit is_yes is_no nodes (runs_of new) (Answer (unwrap_or e.state.provisional_result initial)) e.state.node
+  cycle_fits =
+      let asked : Asks (run_of (a.entry, a.run) ∷ runs_of a.below) step input = subst (λ l. Asks (runs_of l) step input) a.was asks in
+      subst (λ l. IsFit is_yes is_no nodes (runs_of l) (Answer (unwrap_or e.state.provisional_result initial)) e.state.node) (sym a.is)
+      (answer_fits is_yes is_no nodes (run_of (record a.entry { state = a.state }, a.run)) (runs_of a.below) (unwrap_or e.state.provisional_result initial) step input e.state.node asked
+      (λ definite. may_answer_at e.state.node refl (home_of is_yes is_no nodes old h.lead_home head.0 (e, there.run) there.at) definite))
+
+-- the entry that was found by its goal has that goal
+pub found_goal : {X I R A T : Type 0} (eq : I → I → Bool) → ((x y : I) → eq x y ≡ true → x ≡ y) → (input : I) (es : List (StackEntry X I R A T)) (head : ℕ) (e : StackEntry X I R A T) → position (eq input) (map (λ d. d.input) es) ≡ Some head → e ≡ get_or es head e → (head < length es) × (e.input ≡ input)
+found_goal eq exact input es head e found e_is =
+    let at = position-Some (eq input) (map (λ d. d.input) es) head e.input found in
+    let within : head < length es = omega (arith, at.0, length-map es (λ d. d.input)) in
+    let input_is : get_or (map (λ d. d.input) es) head e.input ≡ e.input = get_or-map (λ d. d.input) es head e e.input within ∙ ap (λ d. d.input) (sym e_is) in
+    (within, sym (exact input e.input (subst (λ i. eq input i ≡ true) input_is at.1)))

@@ -1,0 +1,56 @@
+-- What is known of a goal by what becomes of it.
+use Rattle.std.proofs.Common.{◌≡◌, ℕ, ◌+◌, ◌^◌, ◌<◌, ◌≤◌, max, Bool, true, ◌||◌, is_some, List, [], ◌∷◌, Option, None, Some, IfSome, option_map, refl, sym, ap, ◌∙◌, subst, arith}
+use Rattle.search_parts.specs.declared.path.PathKind.{PathKind}
+use Rattle.search_parts.specs.declared.parts.usages.HeadUsages.{HeadUsages}
+use Rattle.search_parts.specs.declared.parts.stack.StackEntry.{StackEntry}
+use Rattle.search_graph.specs.declared.graph.finish.RunEnd.{RunEnd}
+use Rattle.search_graph.specs.declared.graph.finish.RunEnd.TheVariants as end
+use Rattle.search_graph.specs.declared.graph.open_goals.Run.{Run}
+use Rattle.search_graph.specs.Entries.{is_in_cycle, some_heads}
+use Rattle.search_graph.specs.Newest.{newest}
+use Rattle.search_graph.specs.RunEnds.{IsRunEnd, Unused, Stable, Limited, Unstable}
+
+module _ {R A : Type 0} (same : R → R → Bool) (initial_kind : R → Option PathKind) (ambiguity : R → Option A) (limit : ℕ) (earlier : Option R) (usages : Option HeadUsages) (finished_runs : ℕ) (r : R) where
+  -- a goal that had its most runs was used as a head,
+  pub limited : (e : RunEnd) → IsRunEnd same initial_kind ambiguity limit earlier usages finished_runs r e → e ≡ end.AtLimit → (is_some usages ≡ true) × (limit ≤ finished_runs + 1)
+  limited e (Unused is) at = absurd cc
+  limited e (Stable used is stable) at = absurd cc
+  limited e (Limited used is never many) at = (ap is_some is, many)
+  limited e (Unstable used is never few) at = absurd cc
+
+  -- and so was one that is run again
+  pub unstable : (e : RunEnd) → IsRunEnd same initial_kind ambiguity limit earlier usages finished_runs r e → e ≡ end.Again → (is_some usages ≡ true) × (finished_runs + 1 < limit)
+  unstable e (Unused is) at = absurd cc
+  unstable e (Stable used is stable) at = absurd cc
+  unstable e (Limited used is never many) at = absurd cc
+  unstable e (Unstable used is never few) at = (ap is_some is, few)
+
+used_is_in_cycle : (b c : Bool) → b ≡ true → (b || c) ≡ true
+used_is_in_cycle b c is = ap (λ x. x || c) is
+
+-- what was read of the newest goal holds of it
+module _ {X F I R A T : Type 0} (goals : List (StackEntry X I R A T × Run X F I R A T)) (e : StackEntry X I R A T) (y : Run X F I R A T) (entry_is : option_map (λ s. s.0) (newest goals) ≡ Some e) (run_is : option_map (λ s. s.1) (newest goals) ≡ Some y) where
+  of_newest : (P : StackEntry X I R A T → Run X F I R A T → Type 0) → P e y → (s : StackEntry X I R A T × Run X F I R A T) (below : List (StackEntry X I R A T × Run X F I R A T)) → goals ≡ s ∷ below → P s.0 s.1
+  of_newest P holds s below is =
+      let first : Some s.0 ≡ Some e = ap (λ l. option_map (λ (t : StackEntry X I R A T × Run X F I R A T). t.0) (newest l)) (sym is) ∙ entry_is in
+      let second : Some s.1 ≡ Some y = ap (λ l. option_map (λ (t : StackEntry X I R A T × Run X F I R A T). t.1) (newest l)) (sym is) ∙ run_is in
+      let same : s.0 ≡ e = cc in
+      let other : s.1 ≡ y = cc in
+      subst (λ d. P d s.1) (sym same) (subst (P e) (sym other) holds)
+
+  pub newest_limited : (limit : ℕ) → (is_some e.state.usages ≡ true) × (limit ≤ y.finished_runs + 1) → (s : StackEntry X I R A T × Run X F I R A T) (below : List (StackEntry X I R A T × Run X F I R A T)) → goals ≡ s ∷ below → (is_in_cycle s.0.state ≡ true) × (max 1 limit ≤ s.1.finished_runs + 1)
+  newest_limited limit is =
+      let many : max 1 limit ≤ y.finished_runs + 1 = omega (arith, is.1) in
+      of_newest (λ d r. (is_in_cycle d.state ≡ true) × (max 1 limit ≤ r.finished_runs + 1)) (used_is_in_cycle (is_some e.state.usages) (some_heads e.state.heads) is.0, many)
+
+  pub newest_unstable : (limit : ℕ) → (is_some e.state.usages ≡ true) × (y.finished_runs + 1 < limit) → (s : StackEntry X I R A T × Run X F I R A T) (below : List (StackEntry X I R A T × Run X F I R A T)) → goals ≡ s ∷ below → (is_in_cycle s.0.state ≡ true) × (s.1.finished_runs + 1 < max 1 limit)
+  newest_unstable limit is =
+      let few : y.finished_runs + 1 < max 1 limit = omega (arith, is.1) in
+      of_newest (λ d r. (is_in_cycle d.state ≡ true) × (r.finished_runs + 1 < max 1 limit)) (used_is_in_cycle (is_some e.state.usages) (some_heads e.state.heads) is.0, few)
+
+  fits_at : (l : List (StackEntry X I R A T × Run X F I R A T)) → goals ≡ l → y.finished_runs + 1 < 2 ^ 64 → IfSome (newest l) (λ s. s.1.finished_runs + 1 < 2 ^ 64)
+  fits_at [] is fits = tt
+  fits_at (s ∷ below) is fits = of_newest (λ d r. r.finished_runs + 1 < 2 ^ 64) fits s below is
+
+  pub newest_fits : y.finished_runs + 1 < 2 ^ 64 → IfSome (newest goals) (λ s. s.1.finished_runs + 1 < 2 ^ 64)
+  newest_fits fits = fits_at goals refl fits

@@ -1,0 +1,162 @@
+-- What becomes of the goals once the run of the newest one has ended.
+use Rattle.std.proofs.Common.{◌≡◌, ◌≢◌, ℕ, ◌+◌, ◌<◌, ◌^◌, ◌||◌, Bool, List, [], ◌∷◌, ◌++◌, map, length, Option, None, Some, option_map, refl, sym, ap, ◌∙◌, subst, arith}
+use Rattle.std.specs.Option.{IsSomeAnd, option_or}
+use Rattle.std.proofs.lemmas.List.{length-map, length-append}
+use Rattle.open_graphs.specs.Graph as theory
+use Rattle.open_graphs.specs.State.{stack_of}
+use Rattle.open_graphs.specs.AnswerLaws.{TakesIn}
+use Rattle.search_parts.specs.declared.context.Delegate as Delegate
+use Rattle.search_parts.specs.declared.context.Cx as Cx
+use Rattle.search_parts.specs.declared.context.NodeId.{NodeId}
+use Rattle.search_parts.specs.declared.context.Request.{Request}
+use Rattle.search_parts.specs.declared.context.Request.TheVariants.{Evaluate}
+use Rattle.search_parts.specs.declared.context.Reply.{Reply}
+use Rattle.search_parts.specs.declared.context.Reply.TheVariants.{Answer}
+use Rattle.search_parts.specs.declared.path.PathKind.{PathKind}
+use Rattle.search_parts.specs.declared.parts.depth.StackDepth.{StackDepth}
+use Rattle.search_parts.specs.declared.parts.stack.StackEntry.{StackEntry}
+use Rattle.search_parts.specs.Cache.{CacheNode, open_node}
+use Rattle.search_parts.specs.Definite.{HasGraph, IsDefinite}
+use Rattle.search_parts.specs.HeadShapes.{heads_shape}
+use Rattle.search_parts.specs.Path.{rank_of}
+use Rattle.search_parts.specs.Shapes.{verdict_of}
+use Rattle.search_graph.specs.declared.graph.open_goals.Run.{Run}
+use Rattle.search_graph.specs.declared.graph.open_goals.Next.{Next}
+use Rattle.search_graph.specs.declared.graph.open_goals.Next.TheVariants.{Step, Finished}
+use Rattle.search_graph.specs.Items.{AnswersNewest, rerun_with, with_no_record}
+use Rattle.search_graph.specs.Justified.{OpenRun, Asks, AreJustified, MayAnswer, IsFit, frame_of, frames_of}
+use Rattle.search_graph.specs.Moves.{IsFresh, Reruns, CanLeave, Leaves}
+use Rattle.search_graph.specs.Newest.{newest, change_newest}
+use Rattle.search_graph.specs.Progress.{RunRecord}
+use Rattle.search_graph.specs.Runs.{run_of, runs_of, next_node, EndsRun, EndsNewest, IsClosedWithoutHeads, IsSettled, IsJustifiedNext}
+use Rattle.search_graph.proofs.Justified.{Settles, below_is_justified, may_answer_parent, last_has_graph, headless_has_graph, rerun_is_justified}
+use Rattle.search_graph.proofs.Finishing.{answer_fits, answered_newest_is_justified, ends_run, heads_come, same_run, settles}
+
+-- ---- the goal is run again
+
+module _ {X F I R A T : Type 0} where
+  -- the newest goal, read once its record was taken
+  pub record TakenFrom (old : List (StackEntry X I R A T × Run X F I R A T)) (e : StackEntry X I R A T) (y : Run X F I R A T) (p : RunRecord I R) : Type 0 where
+    pub run : Run X F I R A T
+    pub below : List (StackEntry X I R A T × Run X F I R A T)
+    pub was : old ≡ (e, run) ∷ below
+    pub same_node : y.node ≡ run.node
+    pub progress_is : p ≡ run.progress
+
+  pub taken_from : (old taken : List (StackEntry X I R A T × Run X F I R A T)) (e : StackEntry X I R A T) (y : Run X F I R A T) (p : RunRecord I R) → taken ≡ change_newest with_no_record old → option_map (λ s. s.1.progress) (newest old) ≡ Some p → option_map (λ s. s.0) (newest taken) ≡ Some e → option_map (λ s. s.1) (newest taken) ≡ Some y → TakenFrom old e y p
+  taken_from [] taken e y p is progress entry run = absurd cc
+  taken_from (s ∷ below) taken e y p is progress entry run =
+      let first : Some s.0 ≡ Some e = ap (λ l. option_map (λ (t : StackEntry X I R A T × Run X F I R A T). t.0) (newest l)) (sym is) ∙ entry in
+      let second : Some (record s.1 { progress = (with_no_record s).1.progress }) ≡ Some y = ap (λ l. option_map (λ (t : StackEntry X I R A T × Run X F I R A T). t.1) (newest l)) (sym is) ∙ run in
+      let same : s.0 ≡ e = cc in
+      let other : record s.1 { progress = (with_no_record s).1.progress } ≡ y = cc in
+      record {
+        run = s.1;
+        below = below;
+        was = ap (λ x. (x, s.1) ∷ below) same;
+        same_node = ap (λ (x : Run X F I R A T). x.node) (sym other);
+        progress_is = cc;
+      }
+
+  -- the run that is settled ended as the newest one
+  pub taken_ends : (is_yes is_no : R → Bool) (scripts : I → List (Reply R) → Request I R) (nodes : List (CacheNode I R)) (old : List (StackEntry X I R A T × Run X F I R A T)) (e : StackEntry X I R A T) (y : Run X F I R A T) (p : RunRecord I R) (r : R) → TakenFrom old e y p → AreJustified is_yes is_no nodes (runs_of old) → EndsNewest is_yes is_no scripts old r → EndsRun is_yes is_no scripts nodes y.node p r
+  taken_ends is_yes is_no scripts nodes old e y p r t h ends =
+      subst (λ n. EndsRun is_yes is_no scripts nodes n p r) (sym t.same_node)
+      (subst (λ q. EndsRun is_yes is_no scripts nodes t.run.node q r) (sym t.progress_is)
+      (ends_run is_yes is_no nodes nodes e t.run t.below (subst (λ l. AreJustified is_yes is_no nodes (runs_of l)) t.was h) scripts r (subst (λ l. EndsNewest is_yes is_no scripts l r) t.was ends)))
+
+  again_is : (old taken new : List (StackEntry X I R A T × Run X F I R A T)) (e : StackEntry X I R A T) (run : Run X F I R A T) (below : List (StackEntry X I R A T × Run X F I R A T)) (r : R) (lead : Option NodeId) (frame : F) (own : NodeId) → old ≡ (e, run) ∷ below → taken ≡ change_newest with_no_record old → new ≡ change_newest (rerun_with r lead frame own) taken → new ≡ rerun_with r lead frame own (with_no_record (e, run)) ∷ below
+  again_is old taken new e run below r lead frame own was is then =
+      then ∙ ap (change_newest (rerun_with r lead frame own)) is ∙ ap (λ l. change_newest (rerun_with r lead frame own) (change_newest with_no_record l)) was
+
+  -- the goals stay justified
+  pub rerun_justified : (is_yes is_no : R → Bool) (before after : List (CacheNode I R)) (old taken new : List (StackEntry X I R A T × Run X F I R A T)) (e : StackEntry X I R A T) (y : Run X F I R A T) (p : RunRecord I R) (r : R) (target : Option NodeId) (frame : F) (own : NodeId) → TakenFrom old e y p → taken ≡ change_newest with_no_record old → new ≡ change_newest (rerun_with r (option_or target e.state.node) frame own) taken → IsSettled is_yes is_no before after e.state.provisional_result y.node e.state.node p r target → own.0 ≡ length after → AreJustified is_yes is_no before (runs_of old) → AreJustified is_yes is_no (after ++ open_node e.input ∷ []) (runs_of new)
+  rerun_justified is_yes is_no before after old taken new e y p r target frame own t is then settled at h =
+      let was : AreJustified is_yes is_no before (runs_of ((e, t.run) ∷ t.below)) = subst (λ l. AreJustified is_yes is_no before (runs_of l)) t.was h in
+      let so : IsSettled is_yes is_no before after e.state.provisional_result t.run.node e.state.node t.run.progress r target =
+      subst (λ n. IsSettled is_yes is_no before after e.state.provisional_result n e.state.node t.run.progress r target) t.same_node
+      (subst (λ q. IsSettled is_yes is_no before after e.state.provisional_result y.node e.state.node q r target) t.progress_is settled) in
+      subst (λ l. AreJustified is_yes is_no (after ++ open_node e.input ∷ []) (runs_of l)) (sym (again_is old taken new e t.run t.below r (option_or target e.state.node) frame own t.was is then))
+      (rerun_is_justified is_yes is_no before after (run_of (e, t.run)) (runs_of t.below) was r target (settles is_yes is_no before after e t.run t.below was r target so) own at)
+
+-- and the newest is run again
+pub reran : {D C V P F I R A T : Type 0} (G : Delegate.Ghosts D C V P F I R A T) (X : Cx.Ghosts C I R A T) (cx : C) (old taken new : List (StackEntry C I R A T × Run C F I R A T)) (e : StackEntry C I R A T) (y : Run C F I R A T) (p : RunRecord I R) (r : R) (lead : Option NodeId) (frame : F) (own : NodeId) → TakenFrom old e y p → taken ≡ change_newest with_no_record old → new ≡ change_newest (rerun_with r lead frame own) taken → IsFresh G X cx frame e.input → Reruns G X cx r old new
+reran G X cx old taken new e y p r lead frame own t is then fresh = record {
+  item = (e, t.run);
+  below = t.below;
+  target = lead;
+  frame = frame;
+  own = own;
+  was = t.was;
+  is = again_is old taken new e t.run t.below r lead frame own t.was is then;
+  fresh = fresh;
+}
+
+-- ---- the goal is taken
+
+pub stack_length : {I R : Type 0} (is_yes is_no : R → Bool) (goals : List (OpenRun I R)) → length (stack_of (frames_of is_yes is_no goals)) ≡ length goals
+stack_length is_yes is_no [] = refl
+stack_length is_yes is_no (o ∷ below) = omega (arith, length-append (stack_of (frames_of is_yes is_no below)) ((frame_of is_yes is_no o).entry ∷ []), stack_length is_yes is_no below)
+
+module _ {X F I R A T : Type 0} (is_yes is_no : R → Bool) (before after : List (CacheNode I R)) (old : List (StackEntry X I R A T × Run X F I R A T)) (entry : StackEntry X I R A T) (run : Run X F I R A T) (rest : List (StackEntry X I R A T × Run X F I R A T)) (was : old ≡ (entry, run) ∷ rest) where
+  justified_then : AreJustified is_yes is_no before (runs_of old) → AreJustified is_yes is_no before (runs_of ((entry, run) ∷ rest))
+  justified_then h = subst (λ l. AreJustified is_yes is_no before (runs_of l)) was h
+
+  pub taken_run_ends : (scripts : I → List (Reply R) → Request I R) (r : R) → AreJustified is_yes is_no before (runs_of old) → (IsDefinite is_yes is_no r → EndsNewest is_yes is_no scripts old r) → IsDefinite is_yes is_no r → EndsRun is_yes is_no scripts before run.node run.progress r
+  taken_run_ends scripts r h ends definite =
+      ends_run is_yes is_no before before entry run rest (justified_then h) scripts r (subst (λ l. EndsNewest is_yes is_no scripts l r) was (ends definite))
+
+  module _ (r : R) (target : Option NodeId) (h : AreJustified is_yes is_no before (runs_of old)) (settled : IsSettled is_yes is_no before after entry.state.provisional_result run.node entry.state.node run.progress r target) where
+    so : Settles is_yes is_no before after (run_of (entry, run)) (runs_of rest) r target
+    so = settles is_yes is_no before after entry run rest (justified_then h) r target settled
+
+    -- no goal is left
+    pub finished_justified : (new : List (StackEntry X I R A T × Run X F I R A T)) → length rest ≡ 0 → IsJustifiedNext is_yes is_no after old new (Finished (record { result = r; node = target }))
+    finished_justified new none =
+        subst (λ l. IsJustifiedNext is_yes is_no after l new (Finished (record { result = r; node = target }))) (sym was)
+        (last_has_graph is_yes is_no before after (run_of (entry, run)) (runs_of rest) (justified_then h) r target so (nothing rest none))
+      where
+        nothing : (l : List (StackEntry X I R A T × Run X F I R A T)) → length l ≡ 0 → runs_of l ≡ []
+        nothing [] e = refl
+        nothing (x ∷ l) e = absurd (omega (arith, e))
+
+    -- a goal that rests on none has its graph
+    pub closed_without_heads : (next : Next R) → next_node next ≡ target → IsClosedWithoutHeads is_yes is_no after old r next
+    closed_without_heads next is =
+        subst (λ l. IsClosedWithoutHeads is_yes is_no after l r next) (sym was)
+        (λ none. subst (HasGraph is_yes is_no after entry.input r) (sym is) (headless_has_graph is_yes is_no before after (run_of (entry, run)) (runs_of rest) (justified_then h) r target so none))
+
+    -- the goal below takes the answer over
+    module _ (new : List (StackEntry X I R A T × Run X F I R A T)) (a : AnswersNewest entry.step_kind_from_parent entry.state.required_depth (entry.state.encountered_overflow || run.met_overflow_before) entry.state.heads rest new) where
+      may_answer : IsDefinite is_yes is_no r → IsSomeAnd target (λ n. MayAnswer is_yes is_no after (run_of (record a.entry { state = a.state }, a.run)) (runs_of a.below) (verdict_of is_yes is_no r) entry.step_kind_from_parent entry.input n.0)
+      may_answer definite =
+          let parent : StackDepth = record { 0 = length a.below } in
+          let many : length a.below ≡ length (stack_of (frames_of is_yes is_no (runs_of a.below))) = sym (stack_length is_yes is_no (runs_of a.below) ∙ length-map a.below run_of) in
+          let come = heads_come (record { 0 = length a.below }) entry.step_kind_from_parent entry.state.required_depth (entry.state.encountered_overflow || run.met_overflow_before) entry.state.heads a.entry.state a.state a.takes in
+          subst (λ o. IsSomeAnd target (λ n. MayAnswer is_yes is_no after o (runs_of a.below) (verdict_of is_yes is_no r) entry.step_kind_from_parent entry.input n.0)) (sym (same_run (record { 0 = length a.below }) entry.step_kind_from_parent entry.state.required_depth (entry.state.encountered_overflow || run.met_overflow_before) entry.state.heads a.entry.state a.state a.takes a.entry a.run refl))
+          (may_answer_parent is_yes is_no before after (run_of (entry, run)) (runs_of rest) (justified_then h) r target so (run_of (a.entry, a.run)) (runs_of a.below) a.state.heads (ap runs_of a.was)
+          (subst (λ m. TakesIn m (rank_of entry.step_kind_from_parent) (heads_shape entry.state.heads) (heads_shape a.state.heads)) many come) definite)
+
+      pub step_justified : AreJustified is_yes is_no after (runs_of new) × IsFit is_yes is_no after (runs_of new) (Answer r) target
+      step_justified =
+          let asked : Asks (run_of (a.entry, a.run) ∷ runs_of a.below) entry.step_kind_from_parent entry.input = subst (λ l. Asks (runs_of l) entry.step_kind_from_parent entry.input) a.was (justified_then h).asked.0 in (
+            answered_newest_is_justified is_yes is_no after entry.step_kind_from_parent entry.state.required_depth (entry.state.encountered_overflow || run.met_overflow_before) entry.state.heads rest new a
+                (below_is_justified is_yes is_no before after (run_of (entry, run)) (runs_of rest) (justified_then h) r target so),
+            subst (λ l. IsFit is_yes is_no after (runs_of l) (Answer r) target) (sym a.is)
+                (answer_fits is_yes is_no after (run_of (record a.entry { state = a.state }, a.run)) (runs_of a.below) r entry.step_kind_from_parent entry.input target asked may_answer),
+          )
+
+      leaves_at : (l : List (StackEntry X I R A T × Run X F I R A T)) → AnswersNewest entry.step_kind_from_parent entry.state.required_depth (entry.state.encountered_overflow || run.met_overflow_before) entry.state.heads l new → length l ≢ 0 → Leaves r ((entry, run) ∷ l) (Step (record { reply = Answer r; node = target })) new
+      leaves_at [] b some = absurd (some refl)
+      leaves_at (p ∷ below) b some = (target, refl, b)
+
+      pub leaves_step : length rest ≢ 0 → Leaves r old (Step (record { reply = Answer r; node = target })) new
+      leaves_step some = subst (λ l. Leaves r l (Step (record { reply = Answer r; node = target })) new) (sym was) (leaves_at rest a some)
+
+  -- what the goal required fits the goal below it
+  fits_at : (l : List (StackEntry X I R A T × Run X F I R A T)) → CanLeave ((entry, run) ∷ l) → length l ≢ 0 → entry.state.required_depth + 1 < 2 ^ 64
+  fits_at [] can some = absurd (some refl)
+  fits_at (p ∷ below) can some = can
+
+  pub required_fits : CanLeave old → length rest ≢ 0 → entry.state.required_depth + 1 < 2 ^ 64
+  required_fits can some = fits_at rest (subst CanLeave was can) some

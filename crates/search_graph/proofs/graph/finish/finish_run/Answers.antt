@@ -1,0 +1,56 @@
+use Rattle.std.proofs.Common.{refl, sym, ap, subst, ◌∙◌, inl}
+use Rattle.search_parts.specs.declared.context.Fault.TheVariants.{Memory}
+use Rattle.search_parts.specs.Shapes.{verdict_of}
+use Rattle.search_graph.specs.Evaluating.{GoesOn}
+use Rattle.search_graph.proofs.Finishing.{begin_fits, neither_is}
+use Rattle.search_graph.proofs.Moves.{asked_stopped, can_leave, ends_newest, failed_rerun_stopped, leave_leads, limited_leads, limited_stopped, rerun_goes_on}
+use Rattle.search_graph.proofs.Questions.{if_err, if_ok_then}
+use Rattle.search_graph.proofs.RunEnds.{limited, unstable, newest_fits, newest_limited, newest_unstable}
+use Rattle.search_graph.specs.Justified.{IsFit}
+use Rattle.search_graph.specs.Runs.{runs_of}
+use Rattle.search_graph.proofs.graph.finish.finish_run.Goals as goal
+
+-- ---- its result stands
+
+pub finish_goal-requires-clause-leaves : goal.finish_goal-requires-clause-leaves
+finish_goal-requires-clause-leaves g c = can_leave g.D.Delegate g.D.Cx.Cx c.args.cache.now.cx c.requires.asked.0 c.requires.asked.1 c.args.outcome c.args.goals.now _ _ c.requires.asked.2
+
+pub finish_goal-requires-clause-ends : goal.finish_goal-requires-clause-ends
+finish_goal-requires-clause-ends g c = λ definite. ends_newest g.D.Delegate g.D.Cx.Cx c.args.cache.now.cx c.requires.asked.0 c.requires.asked.1 c.args.outcome c.args.goals.now _ _ c.requires.asked.2
+
+pub returns-in-Done-clause-leads : goal.returns-in-Done-clause-leads
+returns-in-Done-clause-leads g c = λ call ahead h.
+    if_ok_then c.finish_goal.result _ _ c.finish_goal.ensures.left (λ next left. leave_leads g.D.Delegate g.D.Cx.Cx c.args.cache.now.cx call ahead c.args.outcome c.args.outcome next c.args.goals.now c.finish_goal.new.goals _ _ refl left h)
+
+pub returns-in-Done-clause-stops : goal.returns-in-Done-clause-stops
+returns-in-Done-clause-stops g c = λ call ahead h. if_err c.finish_goal.result (asked_stopped g.D.Delegate g.D.Cx.Cx c.args.cache.now.cx call ahead _ c.args.goals.now _ _ h)
+
+-- ---- the goal had its most runs
+
+pub finish_goal-requires-in-AtLimit-clause-leaves : goal.finish_goal-requires-in-AtLimit-clause-leaves
+finish_goal-requires-in-AtLimit-clause-leaves g c = can_leave g.D.Delegate g.D.Cx.Cx c.args.cache.now.cx c.requires.asked.0 c.requires.asked.1 c.args.outcome c.args.goals.now _ _ c.requires.asked.2
+
+pub finish_goal-requires-in-AtLimit-clause-ends : goal.finish_goal-requires-in-AtLimit-clause-ends
+finish_goal-requires-in-AtLimit-clause-ends g c = λ definite.
+    absurd (definite (ap (verdict_of g.D.Cx.Cx.is_yes g.D.Cx.Cx.is_no) c.fixpoint_overflow_result-overflow.ensures ∙ neither_is g.D.Cx.Cx.is_yes g.D.Cx.Cx.is_no (g.D.Delegate.fixpoint_overflow c.cx.result c.input-input.result) (g.met.D.Delegate.fixpoint_overflow_is_neither c.cx.result c.input-input.result)))
+
+pub returns-in-AtLimit-clause-leads : goal.returns-in-AtLimit-clause-leads
+returns-in-AtLimit-clause-leads g c = λ call ahead h.
+    if_ok_then c.finish_goal-in-AtLimit.result _ _ c.finish_goal-in-AtLimit.ensures.left (λ next left. limited_leads g.D.Delegate g.D.Cx.Cx c.args.cache.now.cx call ahead c.args.outcome c.fixpoint_overflow_result-overflow.result next c.args.goals.now c.finish_goal-in-AtLimit.new.goals _ _ (newest_limited c.args.goals.now c.last_entry.result.now c.last_run.result.now c.last_entry.ensures c.last_run.ensures g.D.Delegate.FIXPOINT_STEP_LIMIT (limited g.D.Cx.Result.PartialEq.eq g.D.Delegate.initial_kind g.D.Delegate.ambiguity g.D.Delegate.FIXPOINT_STEP_LIMIT c.last_entry.result.now.state.provisional_result c.last_entry.result.now.state.usages c.last_run.result.now.finished_runs c.args.outcome c.end_of_run-end.result c.end_of_run-end.ensures.is_end c.in-AtLimit.is)) left h)
+
+pub returns-in-AtLimit-clause-stops : goal.returns-in-AtLimit-clause-stops
+returns-in-AtLimit-clause-stops g c = λ call ahead h. if_err c.finish_goal-in-AtLimit.result (limited_stopped g.D.Delegate g.D.Cx.Cx c.args.cache.now.cx call ahead c.args.outcome c.args.goals.now _ _ (newest_limited c.args.goals.now c.last_entry.result.now c.last_run.result.now c.last_entry.ensures c.last_run.ensures g.D.Delegate.FIXPOINT_STEP_LIMIT (limited g.D.Cx.Result.PartialEq.eq g.D.Delegate.initial_kind g.D.Delegate.ambiguity g.D.Delegate.FIXPOINT_STEP_LIMIT c.last_entry.result.now.state.provisional_result c.last_entry.result.now.state.usages c.last_run.result.now.finished_runs c.args.outcome c.end_of_run-end.result c.end_of_run-end.ensures.is_end c.in-AtLimit.is)) h)
+
+-- ---- it is run again
+
+pub run_again-requires-clause-fits : goal.run_again-requires-clause-fits
+run_again-requires-clause-fits g c = newest_fits c.args.goals.now c.last_entry.result.now c.last_run.result.now c.last_entry.ensures c.last_run.ensures (c.end_of_run-end.ensures.fits c.in-Again.is)
+
+pub returns-in_err-run_again-in-Again-clause-stops : goal.returns-in_err-run_again-in-Again-clause-stops
+returns-in_err-run_again-in-Again-clause-stops g c = λ call ahead h.
+    if_err c.from_residual.result (failed_rerun_stopped g.D.Delegate g.D.Cx.Cx c.args.cache.now.cx call ahead c.args.outcome c.args.goals.now _ _ _ (λ s below is. ((newest_unstable c.args.goals.now c.last_entry.result.now c.last_run.result.now c.last_entry.ensures c.last_run.ensures g.D.Delegate.FIXPOINT_STEP_LIMIT (unstable g.D.Cx.Result.PartialEq.eq g.D.Delegate.initial_kind g.D.Delegate.ambiguity g.D.Delegate.FIXPOINT_STEP_LIMIT c.last_entry.result.now.state.provisional_result c.last_entry.result.now.state.usages c.last_run.result.now.finished_runs c.args.outcome c.end_of_run-end.result c.end_of_run-end.ensures.is_end c.in-Again.is)) s below is).1) c.run_again.ensures.at_least c.run_again.ensures.at_most h)
+
+pub returns-in_ok-run_again-in-Again-clause-leads : goal.returns-in_ok-run_again-in-Again-clause-leads
+returns-in_ok-run_again-in-Again-clause-leads g c = λ call ahead h.
+    subst (λ given. GoesOn g.D.Delegate g.D.Cx.Cx c.args.cache.now.cx call ahead given.reply c.run_again.new.goals (g.D.Delegate.starts c.run_again.new.inspect) c.args.limits_met.now) (sym c.without_node.ensures)
+    (rerun_goes_on g.D.Delegate g.D.Cx.Cx c.args.cache.now.cx call ahead c.args.outcome c.args.goals.now c.run_again.new.goals _ _ c.args.limits_met.now (newest_unstable c.args.goals.now c.last_entry.result.now c.last_run.result.now c.last_entry.ensures c.last_run.ensures g.D.Delegate.FIXPOINT_STEP_LIMIT (unstable g.D.Cx.Result.PartialEq.eq g.D.Delegate.initial_kind g.D.Delegate.ambiguity g.D.Delegate.FIXPOINT_STEP_LIMIT c.last_entry.result.now.state.provisional_result c.last_entry.result.now.state.usages c.last_run.result.now.finished_runs c.args.outcome c.end_of_run-end.result c.end_of_run-end.ensures.is_end c.in-Again.is)) c.run_again.ensures.at_most c.in_ok-run_again-in-Again.ensures.counted c.in_ok-run_again-in-Again.ensures.reran h)

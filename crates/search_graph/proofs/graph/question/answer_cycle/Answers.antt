@@ -1,0 +1,37 @@
+use Rattle.std.proofs.Common.{◌≡◌, ◌∙◌, ◌∷◌, [], false, Some, get_or, map, reverse, unwrap_or, ap, sym, subst}
+use Rattle.std.proofs.lemmas.Option.{slice_get-get_or}
+use Rattle.search_graph.specs.Entries.{cycle_head}
+use Rattle.search_graph.specs.Items.{AnswersNewest}
+use Rattle.search_parts.specs.declared.context.Reply.TheVariants.{Answer}
+use Rattle.search_parts.specs.Cycle.{path_kind_from}
+use Rattle.search_graph.specs.Justified.{IsFit}
+use Rattle.search_graph.specs.Runs.{runs_of}
+use Rattle.search_graph.proofs.CycleAnswers.{cycle_fits, found_goal, head_is}
+use Rattle.search_graph.proofs.Finishing.{answered_newest_is_justified}
+use Rattle.search_graph.proofs.graph.question.answer_cycle.Goals as goal
+
+pub returns-clause-justified : goal.returns-clause-justified
+returns-clause-justified g c = λ nodes h. answered_newest_is_justified g.D.Cx.Cx.is_yes g.D.Cx.Cx.is_no nodes c.args.step 0 _ _ c.args.goals.now c.note_cycle.new.self c.in_ok-note_cycle.ensures h
+
+pub returns-clause-fits : goal.returns-clause-fits
+returns-clause-fits g c = λ nodes h.
+    let e = c.index.result.now in
+    let stack : c.stack-2.result.now ≡ reverse (map (λ s. s.0) c.args.goals.now) = c.stack-2.ensures in
+    let e_is : c.index.result.now ≡ get_or (reverse (map (λ s. s.0) c.args.goals.now)) c.args.head.0 c.index.result.now = c.index.ensures ∙ ap (λ es. get_or es c.args.head.0 c.index.result.now) stack in
+    let found = found_goal g.D.Cx.Input.PartialEq.eq g.met.D.Cx.Cx.same_input c.args.input (reverse (map (λ s. s.0) c.args.goals.now)) c.args.head.0 c.index.result.now c.requires.found e_is in
+    subst (λ r. IsFit g.D.Cx.Cx.is_yes g.D.Cx.Cx.is_no nodes (runs_of c.note_cycle.new.self) (Answer r) c.index.result.now.state.node) (sym c.cycle_result-outcome.ensures)
+    (cycle_fits g.D.Cx.Cx.is_yes g.D.Cx.Cx.is_no nodes c.args.goals.now c.note_cycle.new.self c.args.step c.path_kind-kind.result c.args.head c.args.input c.index.result.now (head_is g.D.Cx.Cx.is_yes g.D.Cx.Cx.is_no c.args.goals.now c.args.head.0 c.index.result.now found.0 e_is) found.1
+    (c.path_kind-kind.ensures ∙ ap (λ es. path_kind_from es c.args.head.0 c.args.step) c.stack.ensures) (g.D.Delegate.initial_result c.args.cx c.path_kind-kind.result c.args.input) (g.met.D.Delegate.initial_sort c.args.cx c.path_kind-kind.result c.args.input) c.requires.asks c.in_ok-note_cycle.ensures h)
+
+pub returns-clause-answered : goal.returns-clause-answered
+returns-clause-answered g c =
+    let stack : c.stack-2.result.now ≡ reverse (map (λ s. s.0) c.args.goals.now) = c.stack-2.ensures in
+    let e_is : c.index.result.now ≡ get_or (reverse (map (λ s. s.0) c.args.goals.now)) c.args.head.0 c.index.result.now = c.index.ensures ∙ ap (λ es. get_or es c.args.head.0 c.index.result.now) stack in
+    let found = found_goal g.D.Cx.Input.PartialEq.eq g.met.D.Cx.Cx.same_input c.args.input (reverse (map (λ s. s.0) c.args.goals.now)) c.args.head.0 c.index.result.now c.requires.found e_is in
+    let kind_is : c.path_kind-kind.result ≡ path_kind_from (reverse (map (λ s. s.0) c.args.goals.now)) c.args.head.0 c.args.step = c.path_kind-kind.ensures ∙ ap (λ es. path_kind_from es c.args.head.0 c.args.step) c.stack.ensures in
+    record {
+      entry = c.index.result.now;
+      is_at = slice_get-get_or (reverse (map (λ s. s.0) c.args.goals.now)) c.args.head.0 c.index.result.now found.0 ∙ ap Some (sym e_is);
+      is_answer = ap Answer (c.cycle_result-outcome.ensures ∙ ap (λ k. unwrap_or c.index.result.now.state.provisional_result (g.D.Delegate.initial_result c.args.cx k c.args.input)) kind_is);
+      takes = subst (λ k. AnswersNewest c.args.step 0 false ((c.args.head, cycle_head c.args.step k) ∷ []) c.args.goals.now c.note_cycle.new.self) kind_is c.in_ok-note_cycle.ensures;
+    }

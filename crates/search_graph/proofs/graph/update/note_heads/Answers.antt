@@ -1,0 +1,32 @@
+use Rattle.std.proofs.Common.{◌≡◌, ◌||◌, sym, ap, ◌∙◌, subst}
+use Rattle.std.proofs.lemmas.Map.Iter.{rest_more}
+use Rattle.std.specs.Map.Iter.{deref_pair}
+use Rattle.search_parts.specs.declared.parts.depth.StackDepth.{StackDepth}
+use Rattle.search_parts.specs.Heads.{at_depth, IsRising}
+use Rattle.search_parts.proofs.HeadLists.{absent_later, rising_later}
+use Rattle.search_graph.specs.Entries.{some_heads, usages_over, is_in_cycle}
+use Rattle.search_graph.proofs.TakenHeads.{head_over, head_taken, usages_taken, cycle_taken, others_kept}
+use Rattle.search_graph.proofs.graph.update.note_heads.Goals as goal
+
+pub loop-head-preserved : goal.loop-head-preserved
+loop-head-preserved g c =
+    let head = c.in-Some.head.now in
+    let used = c.in-Some.used.now in
+    let rest = c.next.new.self in
+    let more = rest_more deref_pair _ _ _ (c.in-Some.head, c.in-Some.used) c.in-Some.is c.next.ensures.steps in
+    let i = c.loop-head.invariant in
+    let rising = subst IsRising more i.4 in
+    let once = absent_later head used rest rising in
+    subst (λ s. (s ≡ record c.args.state.now { heads = s.heads; usages = s.usages })
+    × (usages_over s.usages (at_depth rest c.args.parent) ≡ usages_over c.args.state.now.usages (at_depth c.into_iter-head-iterator.result c.args.parent))
+    × ((depth : StackDepth) → head_over c.args.parent c.args.step depth (at_depth s.heads depth) (at_depth rest depth) ≡ head_over c.args.parent c.args.step depth (at_depth c.args.state.now.heads depth) (at_depth c.into_iter-head-iterator.result depth))
+    × ((is_in_cycle s || some_heads rest) ≡ (is_in_cycle c.args.state.now || some_heads c.into_iter-head-iterator.result))
+    × IsRising rest) (sym c.in_ok-note_head.ensures) (
+      others_kept c.args.parent c.args.step head used rest once c.loop-head.state c.args.state.now i.0,
+      usages_taken c.args.parent c.args.step head used rest once c.loop-head.state ∙ ap (λ l. usages_over c.loop-head.state.usages (at_depth l c.args.parent)) (sym more) ∙ i.1,
+      λ depth. head_taken c.args.parent c.args.step head used rest once c.loop-head.state depth
+          ∙ ap (λ l. head_over c.args.parent c.args.step depth (at_depth c.loop-head.state.heads depth) (at_depth l depth)) (sym more)
+          ∙ i.2 depth,
+      cycle_taken c.args.parent c.args.step head used rest once c.loop-head.state ∙ ap (λ l. is_in_cycle c.loop-head.state || some_heads l) (sym more) ∙ i.3,
+      rising_later head used rest rising,
+    )

@@ -1,0 +1,15 @@
+use Rattle.std.proofs.Common.{◌≡◌, ◌||◌}
+use Rattle.search_parts.specs.declared.parts.depth.StackDepth.{StackDepth}
+use Rattle.search_parts.specs.Heads.{at_depth, IsRising}
+use Rattle.search_graph.specs.Entries.{some_heads, usages_over, is_in_cycle}
+use Rattle.search_graph.proofs.TakenHeads.{head_over}
+use Rattle.search_graph.proofs.graph.update.note_heads.Given as goal
+
+-- the heads that are left and those that were taken over are together those of the answer
+abbrev pub invariant-loop-head : goal.invariant-loop-head
+invariant-loop-head g l =
+    (l.state ≡ record l.initial.state { heads = l.state.heads; usages = l.state.usages })
+    × (usages_over l.state.usages (at_depth l.head-iterator l.parent) ≡ usages_over l.initial.state.usages (at_depth l.initial.head-iterator l.parent))
+    × ((depth : StackDepth) → head_over l.parent l.step depth (at_depth l.state.heads depth) (at_depth l.head-iterator depth) ≡ head_over l.parent l.step depth (at_depth l.initial.state.heads depth) (at_depth l.initial.head-iterator depth))
+    × ((is_in_cycle l.state || some_heads l.head-iterator) ≡ (is_in_cycle l.initial.state || some_heads l.initial.head-iterator))
+    × IsRising l.head-iterator

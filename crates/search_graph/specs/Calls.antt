@@ -1,0 +1,43 @@
+-- An outer call, and the limits of what it may do.
+use Rattle.std.specs.Prelude.{◌≡◌, ℕ, ◌+◌, ◌<◌, ◌≤◌, ◌^◌, max, Bool, true, false}
+use Rattle.search_parts.specs.declared.context.Delegate as Delegate
+use Rattle.search_parts.specs.declared.context.Cx as Cx
+use Rattle.search_parts.specs.Rank.{frames_within}
+use Rattle.evaluations.specs.Plain.{IsPlainTo}
+use Rattle.evaluations.specs.Evaluation.{Limits}
+
+-- an outer call: its goal and depth, the frames started before it, and whether a limit was met before it
+pub record Call (I : Type 0) : Type 0 where
+  pub top : I
+  pub root : ℕ
+  pub fits : root < 2 ^ 64
+  pub starts : ℕ
+  pub limits_met : Bool
+
+-- the call is one of this goal at this depth
+pub record Outset {I : Type 0} (call : Call I) (input : I) (root starts : ℕ) (met : Bool) : Type 0 where
+  pub same_top : call.top ≡ input
+  pub same_root : call.root ≡ root
+  pub same_starts : call.starts ≡ starts
+  pub same_limits : call.limits_met ≡ met
+
+module _ {D C V P F I R A T : Type 0} (G : Delegate.Ghosts D C V P F I R A T) (X : Cx.Ghosts C I R A T) (cx : C) where
+  -- the most runs of one goal
+  abbrev pub runs : ℕ
+  runs = max 1 G.FIXPOINT_STEP_LIMIT
+
+  abbrev pub limits : Call I → Limits
+  limits call = record { runs = runs; width = G.width cx; root = call.root; last = G.last; before = call.starts }
+
+  -- the most frames that have started when the call ends
+  abbrev pub bound : Call I → ℕ
+  bound call = call.starts + frames_within runs (G.width cx) call.root
+
+  -- each start is counted, and no limit was met before the call
+  abbrev pub IsCounted : Call I → Type 0
+  IsCounted call = (G.counts ≡ true) × (call.limits_met ≡ false)
+
+  -- a limit that was met stays met, and none is met in a call whose goal's rank fits its depth
+  pub record KeepsLimits (call : Call I) (met : Bool) : Type 0 where
+    pub stays : call.limits_met ≡ true → met ≡ true
+    pub plain : (n : ℕ) → IsPlainTo (G.script cx) n call.top → n ≤ call.root → met ≡ call.limits_met

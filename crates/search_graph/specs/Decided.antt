@@ -1,0 +1,25 @@
+-- Goals under evaluation whose answers are all yes or no so far.
+use Rattle.std.specs.Prelude.{◌≡◌, Bool, false, List, [], ◌∷◌, reverse}
+use Rattle.std.specs.Option.{IfSome}
+use Rattle.search_parts.specs.declared.context.Request.{Request}
+use Rattle.search_parts.specs.declared.context.Reply.{Reply}
+use Rattle.search_parts.specs.declared.parts.stack.StackEntry.{StackEntry}
+use Rattle.search_parts.specs.Decisive.{IsDecidedKind, IsDecidedReply, AreDecided, IsDecisive}
+use Rattle.search_parts.specs.Definite.{IsDefinite}
+use Rattle.search_graph.specs.declared.graph.open_goals.Run.{Run}
+
+module _ {X F I R A T : Type 0} (is_yes is_no : R → Bool) where
+  -- the replies of the goal's run and its provisional result are decided
+  pub record IsDecided (s : StackEntry X I R A T × Run X F I R A T) : Type 0 where
+    pub replies : AreDecided is_yes is_no (reverse s.1.progress.replies)
+    pub provisional : IfSome s.0.state.provisional_result (IsDefinite is_yes is_no)
+
+  -- the same of all goals, each of which but the first was asked for by a decided step
+  abbrev pub AllDecided : List (StackEntry X I R A T × Run X F I R A T) → Type 0
+  AllDecided [] = Unit {0}
+  AllDecided (s ∷ []) = IsDecided s
+  AllDecided (s ∷ p ∷ below) = IsDecided s × IsDecidedKind s.0.step_kind_from_parent × AllDecided (p ∷ below)
+
+-- if the scripts are decisive and no limit was met
+abbrev pub WhereDecisive : {I R : Type 0} → (R → Bool) → (R → Bool) → (I → List (Reply R) → Request I R) → Bool → Type 0 → Type 0
+WhereDecisive is_yes is_no scripts met P = IsDecisive is_yes is_no scripts → met ≡ false → P

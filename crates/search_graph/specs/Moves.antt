@@ -1,0 +1,71 @@
+-- The moves that put a goal on top, run it again, and take it.
+use Rattle.std.specs.Prelude.{◌≡◌, ℕ, ◌+◌, ◌<◌, ◌≤◌, ◌^◌, ◌||◌, false, List, [], ◌∷◌, map, reverse, Option, Some, slice_get, unwrap_or}
+use Rattle.search_parts.specs.declared.context.Delegate as Delegate
+use Rattle.search_parts.specs.declared.context.Cx as Cx
+use Rattle.search_parts.specs.declared.context.Reply.{Reply}
+use Rattle.search_parts.specs.declared.context.Reply.TheVariants.{Answer}
+use Rattle.search_parts.specs.declared.context.NodeId.{NodeId}
+use Rattle.search_parts.specs.declared.path.PathKind.{PathKind}
+use Rattle.search_parts.specs.declared.parts.depth.AvailableDepth.{AvailableDepth}
+use Rattle.search_parts.specs.declared.parts.depth.StackDepth.{StackDepth}
+use Rattle.search_parts.specs.declared.parts.stack.StackEntry.{StackEntry}
+use Rattle.search_parts.specs.Cycle.{path_kind_from}
+use Rattle.search_graph.specs.Entries.{cycle_head, first_entry}
+use Rattle.search_graph.specs.Items.{AnswersNewest, rerun_with, with_no_record}
+use Rattle.search_graph.specs.Progress.{no_record}
+use Rattle.search_graph.specs.Steps.{Item}
+use Rattle.search_graph.specs.declared.graph.open_goals.Run.{Run}
+use Rattle.search_graph.specs.declared.graph.open_goals.Next.{Next}
+use Rattle.search_graph.specs.declared.graph.open_goals.Next.TheVariants.{Step, Finished}
+
+module _ {D C V P F I R A T : Type 0} (G : Delegate.Ghosts D C V P F I R A T) (X : Cx.Ghosts C I R A T) (cx : C) where
+  -- a frame of the goal that has had no reply
+  pub record IsFresh (frame : F) (goal : I) : Type 0 where
+    pub stood : G.stands frame cx goal []
+    pub within : G.left frame ≤ G.width cx
+
+  -- the run that a goal begins with
+  abbrev pub first_run : F → NodeId → Run C F I R A T
+  first_run frame own = record { frame = frame; node = own; progress = no_record; finished_runs = 0; met_overflow_before = false }
+
+  -- the goal was put on top, with a node of its own and a frame that begins
+  pub record Pushes (input : I) (kind : PathKind) (depth : AvailableDepth) (old new : List (Item G X cx)) : Type 0 where
+    pub frame : F
+    pub own : NodeId
+    pub is : new ≡ (first_entry input kind depth own, first_run frame own) ∷ old
+    pub fresh : IsFresh frame input
+
+  -- the newest goal is run again under a result
+  pub record Reruns (r : R) (old new : List (Item G X cx)) : Type 0 where
+    pub item : Item G X cx
+    pub below : List (Item G X cx)
+    pub target : Option NodeId
+    pub frame : F
+    pub own : NodeId
+    pub was : old ≡ item ∷ below
+    pub is : new ≡ rerun_with r target frame own (with_no_record item) ∷ below
+    pub fresh : IsFresh frame item.0.input
+
+  -- The newest goal's question by the step was answered by the goal at `head`, by its provisional result or the initial one of the
+  -- kind of the cycle that the step closed. The newest goal takes over that head.
+  pub record ClosesCycle (step : PathKind) (goal : I) (head : StackDepth) (reply : Reply R) (old new : List (Item G X cx)) : Type 0 where
+    pub entry : StackEntry C I R A T
+    pub is_at : slice_get (reverse (map (λ s. s.0) old)) head.0 ≡ Some entry
+    pub is_answer : reply ≡ Answer (unwrap_or entry.state.provisional_result (G.initial_result cx (path_kind_from (reverse (map (λ s. s.0) old)) head.0 step) goal))
+    pub takes : AnswersNewest step 0 false ((head, cycle_head step (path_kind_from (reverse (map (λ s. s.0) old)) head.0 step)) ∷ []) old new
+
+module _ {X F I R A T : Type 0} where
+  -- the newest goal may be taken: what it required fits the goal below it
+  abbrev pub CanLeave : List (StackEntry X I R A T × Run X F I R A T) → Type 0
+  CanLeave [] = ⊥
+  CanLeave (s ∷ []) = Unit {0}
+  CanLeave (s ∷ p ∷ below) = s.0.state.required_depth + 1 < 2 ^ 64
+
+  -- The newest goal was taken with this result, which is the answer to the goal below it, if there is one. Overflow that any of its
+  -- runs met goes with it.
+  abbrev pub Leaves : R → List (StackEntry X I R A T × Run X F I R A T) → Next R → List (StackEntry X I R A T × Run X F I R A T) → Type 0
+  Leaves r [] next new = ⊥
+  Leaves r (s ∷ []) next new = (target : Option NodeId) × (next ≡ Finished (record { result = r; node = target })) × (new ≡ [])
+  Leaves r (s ∷ p ∷ below) next new =
+      (target : Option NodeId) × (next ≡ Step (record { reply = Answer r; node = target }))
+      × AnswersNewest s.0.step_kind_from_parent s.0.state.required_depth (s.0.state.encountered_overflow || s.1.met_overflow_before) s.0.state.heads (p ∷ below) new

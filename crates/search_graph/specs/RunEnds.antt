@@ -1,0 +1,26 @@
+-- What becomes of a goal whose run has ended.
+use Rattle.std.specs.Prelude.{◌≡◌, ◌≢◌, ◌⊎◌, ℕ, ◌+◌, ◌<◌, ◌≤◌, Bool, true, IsSome, Option, None, Some}
+use Rattle.search_parts.specs.declared.path.PathKind.{PathKind}
+use Rattle.search_parts.specs.declared.parts.usages.HeadUsages.{HeadUsages}
+use Rattle.search_parts.specs.Usages.{count_of}
+use Rattle.search_graph.specs.declared.graph.finish.RunEnd.{RunEnd}
+use Rattle.search_graph.specs.declared.graph.finish.RunEnd.TheVariants as end
+
+-- The goal's cycles were answered with the run's own result: a later run came to the provisional result again; a first run came
+-- to the initial result of a kind, and used no cycle of another kind.
+abbrev pub ReachedFixpoint : {R : Type 0} → (R → R → Bool) → (R → Option PathKind) → Option R → HeadUsages → R → Type 0
+ReachedFixpoint same initial_kind (Some earlier) usages r = same earlier r ≡ true
+ReachedFixpoint same initial_kind None usages r = (kind : PathKind) × (initial_kind r ≡ Some kind) × ((other : PathKind) → other ≢ kind → count_of usages other ≡ 0)
+
+module _ {R A : Type 0} (same : R → R → Bool) (initial_kind : R → Option PathKind) (ambiguity : R → Option A) where
+  -- a further run would change nothing, or isn't worth it: a fixpoint is reached, no cycle was used, or the result is ambiguous
+  abbrev pub IsStable : Option R → HeadUsages → R → Type 0
+  IsStable earlier usages r = ReachedFixpoint same initial_kind earlier usages r ⊎ (((kind : PathKind) → count_of usages kind ≡ 0) ⊎ IsSome (ambiguity r))
+
+  -- A goal that wasn't used as a head is done, and so is one whose result is stable. Any other is run again, unless it had its most
+  -- runs.
+  pub data IsRunEnd (limit : ℕ) (earlier : Option R) (usages : Option HeadUsages) (finished_runs : ℕ) (r : R) : RunEnd → Type 0 where
+    Unused : usages ≡ None → IsRunEnd limit earlier usages finished_runs r end.Done
+    Stable : (used : HeadUsages) → usages ≡ Some used → IsStable earlier used r → IsRunEnd limit earlier usages finished_runs r end.Done
+    Limited : (used : HeadUsages) → usages ≡ Some used → (IsStable earlier used r → ⊥) → limit ≤ finished_runs + 1 → IsRunEnd limit earlier usages finished_runs r end.AtLimit
+    Unstable : (used : HeadUsages) → usages ≡ Some used → (IsStable earlier used r → ⊥) → finished_runs + 1 < limit → IsRunEnd limit earlier usages finished_runs r end.Again

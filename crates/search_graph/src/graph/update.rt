@@ -1,0 +1,68 @@
+//! What a goal's entry takes over from the answer to one of its questions.
+ghost use Rattle.std.specs.Prelude.{◌≡◌, ◌<◌, ◌+◌, ◌^◌, OnOk, Some};
+ghost use Rattle.search_graph.specs.Entries.{cycle_head, with_depth, with_used_head, TakesHeads};
+
+use search_parts::context::{Cx, NoMemory};
+use search_parts::parts::{CycleHead, CycleHeads, EntryState, HeadUsages, StackDepth};
+use search_parts::path::{PathKind, PathsToNested};
+
+/// Notes how deep the goals below an answer went, and whether one of their questions was refused.
+pub(crate) fn note_depth<X: Cx>(
+    state: &mut EntryState<X>,
+    required_depth: usize,
+    encountered_overflow: bool,
+)
+    requires { required_depth + 1 < 2 ^ 64 }
+    ensures { state.new ≡ with_depth state.old required_depth encountered_overflow }
+{
+    state.required_depth = state.required_depth.max(required_depth + 1);
+    state.encountered_overflow |= encountered_overflow;
+}
+
+/// Notes the heads of an answer over a step in the state of the entry at `parent`. Ports a part of
+/// `SearchGraph::update_parent_goal`.
+pub(crate) fn note_heads<X: Cx>(
+    state: &mut EntryState<X>,
+    parent: StackDepth,
+    step: PathKind,
+    heads: &CycleHeads,
+) -> Result<(), NoMemory>
+    ensures { OnOk result (TakesHeads parent step heads.now state.old state.new) }
+{
+    for (head, used) in heads.iter() {
+        note_head(state, parent, step, *head, *used)?;
+    }
+    Ok(())
+}
+
+/// Notes one head of an answer over a step: the entry's own goal, or another one on the stack.
+pub(crate) fn note_head<X: Cx>(
+    state: &mut EntryState<X>,
+    parent: StackDepth,
+    step: PathKind,
+    head: StackDepth,
+    used: CycleHead,
+) -> Result<(), NoMemory>
+    ensures { OnOk result (state.new ≡ with_used_head parent step head used state.old) }
+{
+    if head == parent {
+        let mut usages = state.usages.unwrap_or_default();
+        usages.add_usages_from_nested(used.usages);
+        state.usages = Some(usages);
+        return Ok(());
+    }
+    let paths = used.paths_to_head.extend_with(step);
+    state.heads.insert(head, paths, used.usages)
+}
+
+/// What a cycle of this kind, which the step closed, records of its head.
+pub(crate) fn cycle_head(step: PathKind, kind: PathKind) -> CycleHead
+    ensures { result ≡ cycle_head step kind }
+{
+    let mut usages = HeadUsages::default();
+    usages.add_usage(kind);
+    CycleHead {
+        paths_to_head: PathsToNested::from(step),
+        usages,
+    }
+}

@@ -1,0 +1,32 @@
+-- What an entry becomes, case by case.
+use Rattle.std.proofs.Common.{◌≡◌, Bool, true, false, if◌then◌else◌, length, List, Option, Some, None, refl, eq-eqb}
+use Rattle.search_parts.specs.declared.parts.depth.StackDepth.{StackDepth}
+use Rattle.search_parts.specs.declared.parts.heads.CycleHead.{CycleHead}
+use Rattle.search_parts.specs.declared.parts.stack.StackEntry.{StackEntry}
+use Rattle.search_parts.specs.declared.parts.usages.HeadUsages.{HeadUsages}
+use Rattle.search_parts.specs.declared.parts.provisional_cache.ProvisionalCacheEntry.{ProvisionalCacheEntry}
+use Rattle.search_parts.specs.declared.parts.provisional_cache.rebasing.Settlement.{Settlement}
+use Rattle.search_parts.specs.declared.parts.provisional_cache.rebasing.Settlement.TheVariants.{Dropped, Replaced, Kept, KeptIfSingle}
+use Rattle.search_parts.specs.Heads.{highest}
+use Rattle.search_parts.specs.Rebasing.{rebased, rebased_used, rebased_unused}
+use Rattle.search_parts.specs.Reuse.{has_usages}
+use Rattle.search_parts.specs.Settlement.{settled_by}
+use Rattle.search_parts.specs.Usages.{other_usages}
+
+module _ {X I R A T : Type 0} where
+  module _ (stack : List (StackEntry X I R A T)) (done : StackEntry X I R A T) (settle : HeadUsages → ProvisionalCacheEntry X I R A T → Option (ProvisionalCacheEntry X I R A T)) (entry : ProvisionalCacheEntry X I R A T) (head : StackDepth × CycleHead) (top : highest entry.heads ≡ Some head) (at : head.0.0 ≡ length stack) where
+    pub is_unused : has_usages head.1.usages ≡ false → rebased stack done settle entry ≡ rebased_unused stack done entry
+    is_unused none = rw (top, eq-eqb head.0.0 (length stack) at, none) refl
+
+    pub is_used : has_usages head.1.usages ≡ true → rebased stack done settle entry ≡ rebased_used stack done settle entry head.1
+    is_used some = rw (top, eq-eqb head.0.0 (length stack) at, some) refl
+
+  -- to settle an answer changes no heads
+  pub settled_heads : (settlement : Settlement X I R A T) (usages : HeadUsages) (entry after : ProvisionalCacheEntry X I R A T) → settled_by settlement usages entry ≡ Some after → after.heads ≡ entry.heads
+  settled_heads Dropped usages entry after is = absurd cc
+  settled_heads (Replaced outcome) usages entry after is = cc
+  settled_heads Kept usages entry after is = cc
+  settled_heads (KeptIfSingle kind) usages entry after is =
+      let P : Bool → Type 0 = λ b. (if b then None else Some entry) ≡ Some after → after.heads ≡ entry.heads in
+      let cases : (b : Bool) → P b = λ b. elim b as P [ true ↦ λ is. absurd cc | false ↦ λ is. cc ] in
+      cases (has_usages (other_usages usages kind)) is

@@ -1,0 +1,79 @@
+-- What is left of kept entries are kept entries: each rests on a head.
+use Rattle.std.proofs.Common.{◌≡◌, ◌≢◌, ◌≤◌, Bool, true, false, nat_eq, if◌then◌else◌, length, List, [], ◌∷◌, All, Option, Some, None, refl, sym, ap, ◌∙◌, subst}
+use Rattle.std.proofs.lemmas.List.Elements.{All-nil, All-cons, All-head, All-tail}
+use Rattle.std.specs.List.{cons_option, filter_map}
+use Rattle.std.specs.Map.{lookup}
+use Rattle.std.specs.Option.{option_map, option_and_then, IfSome}
+use Rattle.search_parts.specs.declared.parts.depth.StackDepth.{StackDepth}
+use Rattle.search_parts.specs.declared.parts.heads.CycleHead.{CycleHead}
+use Rattle.search_parts.specs.declared.parts.stack.StackEntry.{StackEntry}
+use Rattle.search_parts.specs.declared.parts.usages.HeadUsages.{HeadUsages}
+use Rattle.search_parts.specs.declared.parts.provisional_cache.ProvisionalCacheEntry.{ProvisionalCacheEntry}
+use Rattle.search_parts.specs.Heads.{highest}
+use Rattle.search_parts.specs.Path.{greater_kind}
+use Rattle.search_parts.specs.Provisional.{Lists, entries_at, AreKept}
+use Rattle.search_parts.specs.Rebasing.{but_highest, from_head, from_new_head, keeps_kinds, rebased, rebased_at, rebased_used, rebased_unused, with_unused, with_used, CanBeRebased}
+use Rattle.search_parts.specs.Reuse.{has_usages}
+use Rattle.search_parts.proofs.ProvisionalLists.{heads_at, kept_from}
+
+-- what holds of each thing that f makes holds of all that it leaves
+pub All-filter_map : {X Y : Type 0} (P : X → Type 0) (Q : Y → Type 0) (f : X → Option Y) → ((x : X) (y : Y) → P x → f x ≡ Some y → Q y)
+    → (xs : List X) → All P xs → All Q (filter_map f xs)
+All-filter_map P Q f makes [] all = All-nil Q
+All-filter_map {X} {Y} P Q f makes (x ∷ xs) all =
+    let later : All Q (filter_map f xs) = All-filter_map P Q f makes xs (All-tail P x xs all) in
+    let here : P x = All-head P x xs all in
+    let R : Option Y → Type 0 = λ o. f x ≡ o → All Q (cons_option o (filter_map f xs)) in
+    let cases : (o : Option Y) → R o = λ o. elim o as R [
+      | Some y ↦ λ is. All-cons Q y (filter_map f xs) (makes x y here is) later
+      | None ↦ λ is. later
+    ] in
+    cases (f x) refl
+
+module _ {X I R A T : Type 0} (stack : List (StackEntry X I R A T)) (done : StackEntry X I R A T) where
+  -- an entry with a new highest head has one
+  from_new_head-some : (entry after : ProvisionalCacheEntry X I R A T) → from_new_head stack done entry ≡ Some after → after.heads ≢ []
+  from_new_head-some entry after is =
+      let P : Option (StackDepth × CycleHead) → Type 0 = λ o.
+      option_map (λ (head : StackDepth × CycleHead). record entry { path_from_head = greater_kind entry.path_from_head (from_head stack done head.0.0) }) o ≡ Some after → (o ≡ None → ⊥) × (after.heads ≡ entry.heads) in
+      let cases : (o : Option (StackDepth × CycleHead)) → P o = λ o. elim o as P [ None ↦ λ e. absurd cc | Some head ↦ λ e. (λ none. cc, cc) ] in
+      let both = cases (highest entry.heads) is in
+      λ none. both.0 (ap highest (sym both.1 ∙ none))
+
+  module _ (settle : HeadUsages → ProvisionalCacheEntry X I R A T → Option (ProvisionalCacheEntry X I R A T)) where
+    used-some : (entry after : ProvisionalCacheEntry X I R A T) (head : CycleHead) → rebased_used stack done settle entry head ≡ Some after → after.heads ≢ []
+    used-some entry after head =
+        let becomes = λ (e : ProvisionalCacheEntry X I R A T). from_new_head stack done (record e { heads = with_used done.state.heads head.paths_to_head (but_highest e.heads) }) in
+        let P : Option (ProvisionalCacheEntry X I R A T) → Type 0 = λ o. option_and_then becomes o ≡ Some after → after.heads ≢ [] in
+        let settled : (o : Option (ProvisionalCacheEntry X I R A T)) → P o = λ o. elim o as P [ None ↦ λ e. absurd cc | Some s ↦ λ e. from_new_head-some (record s { heads = with_used done.state.heads head.paths_to_head (but_highest s.heads) }) after e ] in
+        let Q : Bool → Type 0 = λ b. (if b then option_and_then becomes (settle head.usages entry) else None) ≡ Some after → after.heads ≢ [] in
+        let cases : (b : Bool) → Q b = λ b. elim b as Q [ true ↦ settled (settle head.usages entry) | false ↦ λ e. absurd cc ] in
+        cases (keeps_kinds stack done entry.path_from_head head.paths_to_head)
+
+    pub rebased-some : (entry after : ProvisionalCacheEntry X I R A T) → entry.heads ≢ [] → rebased stack done settle entry ≡ Some after → after.heads ≢ []
+    rebased-some entry after some =
+        let stays : Some entry ≡ Some after → after.heads ≢ [] = λ e. let same : entry ≡ after = cc in subst (λ x. x.heads ≢ []) same some in
+        let at : (head : StackDepth × CycleHead) → rebased_at stack done settle entry (Some head) ≡ Some after → after.heads ≢ [] = λ head.
+        let P : Bool → Type 0 = λ used. (if used then rebased_used stack done settle entry head.1 else rebased_unused stack done entry) ≡ Some after → after.heads ≢ [] in
+        let moved : (used : Bool) → P used = λ used. elim used as P [ true ↦ used-some entry after head.1 | false ↦ from_new_head-some (record entry { heads = with_unused done.state.heads (but_highest entry.heads) }) after ] in
+        let Q : Bool → Type 0 = λ here. (if here then (if has_usages head.1.usages then rebased_used stack done settle entry head.1 else rebased_unused stack done entry) else Some entry) ≡ Some after → after.heads ≢ [] in
+        let cases : (here : Bool) → Q here = λ here. elim here as Q [ true ↦ moved (has_usages head.1.usages) | false ↦ stays ] in
+        cases (nat_eq head.0.0 (length stack)) in
+        let R : Option (StackDepth × CycleHead) → Type 0 = λ o. rebased_at stack done settle entry o ≡ Some after → after.heads ≢ [] in
+        let cases : (o : Option (StackDepth × CycleHead)) → R o = λ o. elim o as R [ None ↦ stays | Some head ↦ at head ] in
+        cases (highest entry.heads)
+
+  module _ (same : I → I → Bool) (old new : Lists I (ProvisionalCacheEntry X I R A T)) (kept : AreKept same old) where
+    -- kept entries can be rebased where their heads are on the stack or at the place above it
+    pub can_be_rebased : ((input : I) → All (λ entry. All (λ head. head.0.0 ≤ length stack) entry.heads) (entries_at same old input)) → (input : I) → All (CanBeRebased (length stack)) (entries_at same old input)
+    can_be_rebased within input = λ k d lt. record { some = heads_at same old input kept k d lt; within = within input k d lt }
+
+    pub kept_rebased : (settle : I → HeadUsages → ProvisionalCacheEntry X I R A T → Option (ProvisionalCacheEntry X I R A T))
+        → ((input : I) → entries_at same new input ≡ filter_map (rebased stack done (settle input)) (entries_at same old input))
+        → ((input : I) → IfSome (lookup (same input) new) (λ es. es ≢ []))
+        → AreKept same new
+    kept_rebased settle leaves some =
+        kept_from same new
+        (λ input. subst (All (λ e. e.heads ≢ [])) (sym (leaves input))
+        (All-filter_map (λ e. e.heads ≢ []) (λ e. e.heads ≢ []) (rebased stack done (settle input)) (λ entry after rests is. rebased-some (settle input) entry after rests is) (entries_at same old input) (heads_at same old input kept)))
+        some

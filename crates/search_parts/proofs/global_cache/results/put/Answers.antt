@@ -1,0 +1,16 @@
+use Rattle.std.proofs.Common.{Err, refl, sym, subst, ◌∙◌}
+use Rattle.search_parts.specs.declared.context.Fault.TheVariants.{Memory}
+use Rattle.search_parts.specs.Store.{AnswersStoring}
+use Rattle.search_parts.proofs.Stores.{found_at, puts}
+use Rattle.search_parts.proofs.global_cache.results.put.Goals as goal
+
+pub returns-in-Ok-clause-ok : goal.returns-in-Ok-clause-ok
+returns-in-Ok-clause-ok g c =
+    let updates = c.in-Ok.ensures.updates in
+    puts g.X.Input.PartialEq.eq c.args.results.now.entries c.insert.new.self.entries c.args.input c.args.place c.args.found updates.1 updates.2
+
+-- only a place that has no result needs memory
+pub returns-clause-answer : goal.returns-clause-answer
+returns-clause-answer g c =
+    let none = sym (found_at g.X.Input.PartialEq.eq c.args.results.now.entries c.args.input c.args.place) ∙ c.in-Err-insert.ensures.absent in
+    subst (λ stored. AnswersStoring g.X.Result.PartialEq.eq c.args.input stored c.args.found.result.result (Err Memory)) (sym none) refl

@@ -1,0 +1,21 @@
+use Rattle.search_parts.specs.Provisional.{lists_of}
+use Rattle.search_parts.specs.Rebasing.{settled}
+use Rattle.search_parts.proofs.RebasedKept.{can_be_rebased, kept_rebased}
+use Rattle.search_parts.proofs.parts.provisional_cache.ProvisionalCache.rebase.Goals as goal
+
+pub rebase_lists-requires-clause-can : goal.rebase_lists-requires-clause-can
+rebase_lists-requires-clause-can g c =
+    let same = g.D.Cx.Input.PartialEq.eq in
+    let old = lists_of c.self.inside.lists.entries in
+    let within = rw (← c.self.view_is) at c.requires.within in
+    rw c.replace-lists.ensures.value (can_be_rebased c.args.stack.now c.args.done.now same old old c.self.invariant within)
+
+pub invariant_of-self-2 : goal.invariant_of-self-2
+invariant_of-self-2 g c =
+    let same = g.D.Cx.Input.PartialEq.eq in
+    let old = lists_of c.self.inside.lists.entries in
+    let new = lists_of c.in_ok-self-inside.field-0.entries in
+    let leaves = rw c.replace-lists.ensures.value at c.in_ok-self-inside.ensures.rebased in
+    kept_rebased c.args.stack.now c.args.done.now same old new c.self.invariant
+    (λ input. settled (g.D.Delegate.propagated c.args.cx input) (g.D.Delegate.fixpoint_overflow c.args.cx input) c.args.reason)
+    leaves c.in_ok-self-inside.ensures.left

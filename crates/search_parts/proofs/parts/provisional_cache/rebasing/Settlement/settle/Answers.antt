@@ -1,0 +1,17 @@
+use Rattle.std.proofs.Common.{◌≡◌, ◌∙◌, true, false, not, refl, sym, ap}
+use Rattle.search_parts.specs.Reuse.{has_usages}
+use Rattle.search_parts.specs.Usages.{other_usages}
+use Rattle.search_parts.proofs.Counts.{others_by_test}
+use Rattle.search_parts.proofs.parts.provisional_cache.rebasing.Settlement.settle.Goals as goal
+
+pub returns-then-is_single : goal.returns-then-is_single
+returns-then-is_single g c =
+    let none : has_usages (other_usages c.args.usages c.in-KeptIfSingle.kind) ≡ false =
+    sym (others_by_test c.args.usages c.in-KeptIfSingle.kind c.is_single.result c.is_single.ensures) ∙ ap not c.if-is_single.true in
+    rw (c.in-KeptIfSingle.is, none) refl
+
+pub returns-else-is_single : goal.returns-else-is_single
+returns-else-is_single g c =
+    let some : has_usages (other_usages c.args.usages c.in-KeptIfSingle.kind) ≡ true =
+    sym (others_by_test c.args.usages c.in-KeptIfSingle.kind c.is_single.result c.is_single.ensures) ∙ ap not c.if-is_single.false in
+    rw (c.in-KeptIfSingle.is, some) refl

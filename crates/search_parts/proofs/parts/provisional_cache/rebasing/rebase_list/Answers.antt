@@ -1,0 +1,29 @@
+use Rattle.std.proofs.Common.{◌≡◌, ◌∷◌, ◌∙◌, Some, None, length, sym}
+use Rattle.std.proofs.lemmas.List.Elements.{All-rest}
+use Rattle.std.specs.Vec.Iter.{into_iter_items}
+use Rattle.search_parts.specs.Rebasing.{rebased, CanBeRebased}
+use Rattle.search_parts.specs.Settlement.{settled_by}
+use Rattle.search_parts.proofs.RebasedLists.{one_kept, one_dropped}
+use Rattle.search_parts.proofs.parts.provisional_cache.rebasing.rebase_list.Goals as goal
+
+pub loop-entry-preserved-in-Continue-branch-3 : goal.loop-entry-preserved-in-Continue-branch-3
+loop-entry-preserved-in-Continue-branch-3 g c =
+    let becomes = rebased c.args.stack.now c.args.done.now (settled_by c.args.settlement.now) in
+    let items = into_iter_items c.loop-entry.entry-iterator in
+    let rest = into_iter_items c.next.new.self in
+    let first : items ≡ c.in-Some.entry ∷ rest = c.in-Some.ensures.steps.0 in
+    let kept : becomes c.in-Some.entry ≡ Some c.in-Some-2.entry = sym c.in_ok-entry.ensures ∙ c.in-Some-2.is in (
+      one_kept becomes c.loop-entry.left.items items rest _ c.in-Some.entry first c.loop-entry.invariant.0 c.push.new.self.items c.in-Some-2.entry kept c.in_ok-push.ensures.items,
+      All-rest (CanBeRebased (length c.args.stack.now)) c.in-Some.entry rest items first c.loop-entry.invariant.1,
+    )
+
+pub loop-entry-preserved : goal.loop-entry-preserved
+loop-entry-preserved g c =
+    let becomes = rebased c.args.stack.now c.args.done.now (settled_by c.args.settlement.now) in
+    let items = into_iter_items c.loop-entry.entry-iterator in
+    let rest = into_iter_items c.next.new.self in
+    let first : items ≡ c.in-Some.entry ∷ rest = c.in-Some.ensures.steps.0 in
+    let dropped : becomes c.in-Some.entry ≡ None = sym c.in_ok-entry.ensures ∙ c.in_default.is in (
+      one_dropped becomes c.loop-entry.left.items items rest _ c.in-Some.entry first c.loop-entry.invariant.0 dropped,
+      All-rest (CanBeRebased (length c.args.stack.now)) c.in-Some.entry rest items first c.loop-entry.invariant.1,
+    )

@@ -1,0 +1,44 @@
+-- Which kept answers may be used when their goal is asked again, and which are given up when a goal is run again.
+use Rattle.std.specs.Prelude.{ℕ, ◌-◌, nat_lt, nat_eq, Bool, false, not, ◌&&◌, ◌||◌, ◌==◌, List, [], length, slice_get}
+use Rattle.std.specs.Option.{option_map, unwrap_or}
+use Rattle.search_parts.specs.declared.path.PathKind.{PathKind}
+use Rattle.search_parts.specs.declared.parts.stack.StackEntry.{StackEntry}
+use Rattle.search_parts.specs.declared.parts.heads.CycleHead.{CycleHead}
+use Rattle.search_parts.specs.declared.parts.usages.HeadUsages.{HeadUsages}
+use Rattle.search_parts.specs.declared.parts.depth.StackDepth.{StackDepth}
+use Rattle.search_parts.specs.declared.parts.provisional_cache.ProvisionalCacheEntry.{ProvisionalCacheEntry}
+use Rattle.search_parts.specs.Cycle.{path_kind_from}
+use Rattle.search_parts.specs.Heads.{Heads, highest, lowest}
+use Rattle.search_parts.specs.Path.{rank_of}
+
+-- whether the highest head, which is at this depth, passes the test
+abbrev pub highest_passes : (ℕ → CycleHead → Bool) → Heads → Bool
+highest_passes test heads = unwrap_or (option_map (λ h. test h.0.0 h.1) (highest heads)) false
+
+-- whether there is a head at the depth or below it: the lowest one tells
+abbrev pub has_head_up_to : ℕ → Heads → Bool
+has_head_up_to depth heads = unwrap_or (option_map (λ h. not (nat_lt depth h.0.0)) (lowest heads)) false
+
+-- whether there was a cycle of some kind
+abbrev pub has_usages : HeadUsages → Bool
+has_usages usages = not ((usages.inductive == 0) && (usages.unknown == 0) && (usages.coinductive == 0) && (usages.forced_ambiguity == 0))
+
+-- whether the highest head is at the depth, and was used
+abbrev pub is_used_at : StackDepth → Heads → Bool
+is_used_at depth heads = highest_passes (λ at head. nat_eq at depth.0 && has_usages head.usages) heads
+
+module _ {X I R A T : Type 0} where
+  -- the heads of the last goal on the stack, which is the one that asks
+  abbrev pub asking_heads : List (StackEntry X I R A T) → Heads
+  asking_heads stack = unwrap_or (option_map (λ e. e.state.heads) (slice_get stack (length stack - 1))) []
+
+  -- whether the entry may be used on this stack for its goal, asked over the step: the path from its highest head is of the kind that it
+  -- was, and where it met overflow, the asking goal has a head at that head or below it
+  abbrev pub may_be_used : List (StackEntry X I R A T) → PathKind → ProvisionalCacheEntry X I R A T → Bool
+  may_be_used stack step entry = highest_passes (λ at _.
+      (not entry.encountered_overflow || has_head_up_to at (asking_heads stack))
+      && nat_eq (rank_of entry.path_from_head) (rank_of (path_kind_from stack at step))) entry.heads
+
+  -- whether the entry rests on the result of the goal at the depth
+  abbrev pub rests_on : StackDepth → ProvisionalCacheEntry X I R A T → Bool
+  rests_on depth entry = is_used_at depth entry.heads

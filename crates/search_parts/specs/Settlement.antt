@@ -1,0 +1,16 @@
+-- What becomes of the answers of one goal, once its delegate was asked.
+use Rattle.std.specs.Prelude.{if◌then◌else◌, Option, Some, None}
+use Rattle.search_parts.specs.declared.parts.usages.HeadUsages.{HeadUsages}
+use Rattle.search_parts.specs.declared.parts.provisional_cache.ProvisionalCacheEntry.{ProvisionalCacheEntry}
+use Rattle.search_parts.specs.declared.parts.provisional_cache.rebasing.Settlement.{Settlement}
+use Rattle.search_parts.specs.declared.parts.provisional_cache.rebasing.Settlement.TheVariants.{Dropped, Replaced, Kept, KeptIfSingle}
+use Rattle.search_parts.specs.Reuse.{has_usages}
+use Rattle.search_parts.specs.Usages.{other_usages}
+
+module _ {X I R A T : Type 0} where
+  -- what becomes of an entry that used the goal that is done so often
+  abbrev pub settled_by : Settlement X I R A T → HeadUsages → ProvisionalCacheEntry X I R A T → Option (ProvisionalCacheEntry X I R A T)
+  settled_by Dropped usages entry = None
+  settled_by (Replaced outcome) usages entry = Some (record entry { result = outcome; node = None })
+  settled_by Kept usages entry = Some entry
+  settled_by (KeptIfSingle kind) usages entry = if has_usages (other_usages usages kind) then None else Some entry

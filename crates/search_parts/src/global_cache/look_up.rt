@@ -1,0 +1,124 @@
+//! How results of goals are found again.
+ghost use Rattle.std.specs.Prelude.{◌≡◌, Bool, ◌∷◌, []};
+ghost use Rattle.std.specs.Option.{option_copied, option_map};
+ghost use Rattle.search_parts.specs.LookUp.{first_accepted, hit_at, hit_of, overflows, successes, usable};
+ghost use Rattle.search_parts.specs.Nested.{NestedPaths};
+
+use crate::context::{Cx, Delegate, NodeId};
+use crate::global_cache::GlobalCache;
+use crate::global_cache::results::{Place, StoredResult};
+use crate::parts::depth::AvailableDepth;
+use crate::parts::nested_goals::NestedGoals;
+use std::collections::HashMap;
+
+/// A stored result that is used. Ports `CacheData`.
+#[derive(Drop)]
+pub struct CacheData<'a, X: Cx> {
+    /// The result.
+    pub result: X::Result,
+    /// What the result is tracked by.
+    pub token: X::DepNodeIndex,
+    /// How many goals have to be nested below the goal.
+    pub required_depth: usize,
+    /// Whether the result met overflow.
+    pub encountered_overflow: bool,
+    /// The goals that were asked below the goal.
+    pub nested_goals: &'a NestedGoals<X>,
+    /// The node of a definite result.
+    pub node: Option<NodeId>,
+}
+
+/// A test of the goals below a stored result, by which a look-up finds out whether the result may be used.
+/// Stands for the closure that `GlobalCache::get` takes in the original.
+pub trait NestedTest<X: Cx> {
+    /// What the test answers.
+    ghost accepts: { Self → NestedPaths X.Input → Bool };
+
+    /// Whether a result with these goals below it may be used.
+    fn accepts(&self, nested_goals: &NestedGoals<X>) -> bool
+        ensures { result ≡ accepts self.now nested_goals.now };
+}
+
+impl<D: Delegate> GlobalCache<D> {
+    /// A stored result of the goal that may be used at the available depth: its success, where the depth
+    /// is at least what that requires and the test accepts its nested goals; otherwise its result that
+    /// met overflow at exactly this depth, where the test accepts that one's. It takes no memory. Ports
+    /// `GlobalCache::get`.
+    pub fn get<T: NestedTest<D::Cx>>(
+        &self,
+        input: <D::Cx as Cx>::Input,
+        available: AvailableDepth,
+        test: &T,
+    ) -> Option<CacheData<'_, D::Cx>>
+        ensures { option_map hit_of result ≡ first_accepted (T.accepts test.now) (usable D.Cx.Input.eq self.now.results input available.0) }
+    {
+        look_up(&self.results, input, available, test)
+    }
+}
+
+// The stored result of the goal that may be used at the available depth.
+fn look_up<'a, X: Cx, T: NestedTest<X>>(
+    results: &'a HashMap<(X::Input, Place), StoredResult<X>>,
+    input: X::Input,
+    available: AvailableDepth,
+    test: &T,
+) -> Option<CacheData<'a, X>>
+    ensures { option_map hit_of result ≡ first_accepted (T.accepts test.now) (usable X.Input.eq results.now.entries input available.0) }
+{
+    let success = results.get(&(input, Place::Success));
+    let overflow = results.get(&(input, Place::WithOverflow(available.0)));
+    match use_success(success, available, test) {
+        Some(hit) => Some(hit),
+        None => use_overflow(overflow, available, test),
+    }
+}
+
+// The success, where it may be used at the available depth.
+fn use_success<'a, X: Cx, T: NestedTest<X>>(
+    success: Option<&'a StoredResult<X>>,
+    available: AvailableDepth,
+    test: &T,
+) -> Option<CacheData<'a, X>>
+    ensures { option_map hit_of result ≡ first_accepted (T.accepts test.now) (successes available.0 (option_copied success.entry)) }
+{
+    let stored = success?;
+    if !available.cache_entry_is_applicable(stored.required_depth) {
+        return None;
+    }
+    stored.used_at(stored.required_depth, false, test)
+}
+
+// The result that met overflow at the available depth, where it may be used.
+fn use_overflow<'a, X: Cx, T: NestedTest<X>>(
+    overflow: Option<&'a StoredResult<X>>,
+    available: AvailableDepth,
+    test: &T,
+) -> Option<CacheData<'a, X>>
+    ensures { option_map hit_of result ≡ first_accepted (T.accepts test.now) (overflows available.0 (option_copied overflow.entry)) }
+{
+    overflow?.used_at(available.0, true, test)
+}
+
+impl<X: Cx> StoredResult<X> {
+    // The result as it is used at this required depth, where the test accepts the goals below it.
+    fn used_at<T: NestedTest<X>>(
+        &self,
+        required_depth: usize,
+        encountered_overflow: bool,
+        test: &T,
+    ) -> Option<CacheData<'_, X>>
+        ensures { option_map hit_of result ≡ first_accepted (T.accepts test.now) (hit_at required_depth encountered_overflow self.now ∷ []) }
+    {
+        if !test.accepts(&self.nested_goals) {
+            return None;
+        }
+        Some(CacheData {
+            result: self.result.result,
+            token: self.result.token,
+            required_depth,
+            encountered_overflow,
+            nested_goals: &self.nested_goals,
+            node: self.node,
+        })
+    }
+}

@@ -1,0 +1,244 @@
+//! What becomes of entries when a goal that they rest on is done.
+ghost use Rattle.std.specs.Prelude.{◌≡◌, ◌≢◌, ◌≤◌, ◌<◌, [], cond, length, All, IfOk, IfSome, OnOk, Some};
+ghost use Rattle.std.specs.List.{filter_map};
+ghost use Rattle.std.specs.Map.{lookup};
+ghost use Rattle.std.specs.Option.{option_map};
+ghost use Rattle.search_parts.specs.Heads.{highest};
+ghost use Rattle.search_parts.specs.Provisional.{entries_at, lists_of};
+ghost use Rattle.search_parts.specs.Rebasing.{from_new_head, rebased, rebased_unused, rebased_used, settled, with_unused, with_used, CanBeRebased};
+ghost use Rattle.search_parts.specs.Settlement.{settled_by};
+
+use crate::context::{Cx, Delegate, NoMemory};
+use crate::parts::heads::{CycleHead, CycleHeads};
+use crate::parts::provisional_cache::kinds::keeps_kinds;
+use crate::parts::provisional_cache::{ProvisionalCacheEntry, RebaseReason};
+use crate::parts::stack::{Stack, StackEntry};
+use crate::parts::usages::HeadUsages;
+use crate::path::{PathKind, PathsToNested};
+use std::alloc::Global;
+use std::collections::HashMap;
+use std::hash::Hash;
+
+/// What becomes of the answer of an entry that used the goal that is done.
+#[derive(Drop)]
+pub(super) enum Settlement<X: Cx> {
+    /// The entry is dropped.
+    Dropped,
+    /// The result becomes this one, without a node.
+    Replaced(X::Result),
+    /// It stays as it is.
+    Kept,
+    /// It stays as it is where the goal was used by cycles of this kind alone, and else is dropped.
+    KeptIfSingle(PathKind),
+}
+
+impl<X: Cx> Settlement<X> {
+    // What becomes of the entry, which used the goal that is done so often.
+    fn settle(
+        &self,
+        usages: HeadUsages,
+        entry: ProvisionalCacheEntry<X>,
+    ) -> Option<ProvisionalCacheEntry<X>>
+        ensures { result ≡ settled_by self.now usages entry }
+    {
+        match self {
+            Settlement::Dropped => None,
+            Settlement::Replaced(result) => Some(ProvisionalCacheEntry {
+                result: *result,
+                node: None,
+                ..entry
+            }),
+            Settlement::Kept => Some(entry),
+            Settlement::KeptIfSingle(kind) => {
+                if usages.is_single(*kind) {
+                    Some(entry)
+                } else {
+                    None
+                }
+            }
+        }
+    }
+}
+
+// What becomes of the answers of this goal.
+pub(super) fn settlement_for<D: Delegate>(
+    cx: D::Cx,
+    input: <D::Cx as Cx>::Input,
+    reason: &RebaseReason<D::Cx>,
+) -> Settlement<D::Cx>
+    ensures { settled_by result ≡ settled (D.propagated cx input) (D.fixpoint_overflow cx input) reason.now }
+{
+    match reason {
+        RebaseReason::NoCycleUsages => Settlement::Dropped,
+        RebaseReason::Ambiguity(info) => {
+            Settlement::Replaced(D::propagate_ambiguity(cx, input, *info))
+        }
+        RebaseReason::Overflow => Settlement::Replaced(D::fixpoint_overflow_result(cx, input)),
+        RebaseReason::ReachedFixpoint(None) => Settlement::Kept,
+        RebaseReason::ReachedFixpoint(Some(kind)) => Settlement::KeptIfSingle(*kind),
+    }
+}
+
+// The lists after the pop, goal by goal. They are made anew, in a new map.
+pub(super) fn rebase_lists<D: Delegate>(
+    alloc: Global,
+    cx: D::Cx,
+    lists: HashMap<<D::Cx as Cx>::Input, Vec<ProvisionalCacheEntry<D::Cx>>>,
+    done: &StackEntry<D::Cx>,
+    stack: &Stack<D::Cx>,
+    reason: &RebaseReason<D::Cx>,
+) -> Result<HashMap<<D::Cx as Cx>::Input, Vec<ProvisionalCacheEntry<D::Cx>>>, NoMemory>
+    requires can { (input : D.Cx.Input) → All (CanBeRebased (length stack.now)) (entries_at D.Cx.Input.eq (lists_of lists.entries) input) }
+    requires on_stack { All (λ head. head.0.0 < length stack.now) done.now.state.heads }
+    ensures rebased { IfOk result (λ left. (input : D.Cx.Input) → entries_at D.Cx.Input.eq (lists_of left.entries) input
+        ≡ filter_map (rebased stack.now done.now (settled (D.propagated cx input) (D.fixpoint_overflow cx input) reason.now)) (entries_at D.Cx.Input.eq (lists_of lists.entries) input)) }
+    ensures left { IfOk result (λ left. (input : D.Cx.Input) → IfSome (lookup (D.Cx.Input.eq input) (lists_of left.entries)) (λ entries. entries ≢ [])) }
+{
+    let mut left = HashMap::new(alloc);
+    for (input, entries) in lists {
+        let settlement = settlement_for::<D>(cx, input, reason);
+        let entries = rebase_list(alloc, entries, done, stack, &settlement)?;
+        if !entries.is_empty() {
+            insert_list(&mut left, input, entries)?;
+        }
+    }
+    Ok(left)
+}
+
+// Makes the list that of the input.
+fn insert_list<I: Eq + Hash + Copy, E: Drop>(
+    lists: &mut HashMap<I, Vec<E>>,
+    input: I,
+    entries: Vec<E>,
+) -> Result<(), NoMemory>
+    ensures { OnOk result ((other : I) → lookup (I.eq other) (lists_of lists.new.entries)
+        ≡ cond (I.eq input other) (Some entries.items) (lookup (I.eq other) (lists_of lists.old.entries))) }
+{
+    lists.insert(input, entries)?;
+    Ok(())
+}
+
+// The entries of one goal after the pop, in order.
+pub(super) fn rebase_list<X: Cx>(
+    alloc: Global,
+    entries: Vec<ProvisionalCacheEntry<X>>,
+    done: &StackEntry<X>,
+    stack: &Stack<X>,
+    settlement: &Settlement<X>,
+) -> Result<Vec<ProvisionalCacheEntry<X>>, NoMemory>
+    requires can { All (CanBeRebased (length stack.now)) entries.items }
+    requires on_stack { All (λ head. head.0.0 < length stack.now) done.now.state.heads }
+    ensures { IfOk result (λ left. left.items ≡ filter_map (rebased stack.now done.now (settled_by settlement.now)) entries.items) }
+{
+    let mut left = Vec::new(alloc);
+    for entry in entries {
+        if let Some(entry) = rebase_entry(entry, done, stack, settlement)? {
+            left.push(entry)?;
+        }
+    }
+    Ok(left)
+}
+
+// The entry after the pop, where it is left.
+fn rebase_entry<X: Cx>(
+    entry: ProvisionalCacheEntry<X>,
+    done: &StackEntry<X>,
+    stack: &Stack<X>,
+    settlement: &Settlement<X>,
+) -> Result<Option<ProvisionalCacheEntry<X>>, NoMemory>
+    requires can { CanBeRebased (length stack.now) entry }
+    requires on_stack { All (λ head. head.0.0 < length stack.now) done.now.state.heads }
+    ensures { IfOk result (λ after. after ≡ rebased stack.now done.now (settled_by settlement.now) entry) }
+{
+    let (depth, head) = entry.heads.highest_cycle_head();
+    if depth != stack.next_index() {
+        return Ok(Some(entry));
+    }
+    if head.usages.is_empty() {
+        return rebase_unused(entry, done, stack);
+    }
+    rebase_used(entry, head, done, stack, settlement)
+}
+
+// The entry without its highest head, which it didn't use.
+fn rebase_unused<X: Cx>(
+    entry: ProvisionalCacheEntry<X>,
+    done: &StackEntry<X>,
+    stack: &Stack<X>,
+) -> Result<Option<ProvisionalCacheEntry<X>>, NoMemory>
+    requires can { CanBeRebased (length stack.now) entry }
+    requires on_stack { All (λ head. head.0.0 < length stack.now) done.now.state.heads }
+    ensures { IfOk result (λ after. after ≡ rebased_unused stack.now done.now entry) }
+{
+    let mut entry = entry;
+    let _ = entry.heads.remove_highest_cycle_head();
+    insert_unused(&mut entry.heads, &done.state.heads)?;
+    Ok(from_new_head(entry, done, stack))
+}
+
+// The entry without its highest head, which it used, and which is given.
+fn rebase_used<X: Cx>(
+    entry: ProvisionalCacheEntry<X>,
+    head: CycleHead,
+    done: &StackEntry<X>,
+    stack: &Stack<X>,
+    settlement: &Settlement<X>,
+) -> Result<Option<ProvisionalCacheEntry<X>>, NoMemory>
+    requires can { CanBeRebased (length stack.now) entry }
+    requires on_stack { All (λ head. head.0.0 < length stack.now) done.now.state.heads }
+    ensures { IfOk result (λ after. after ≡ rebased_used stack.now done.now (settled_by settlement.now) entry head) }
+{
+    if !keeps_kinds(entry.path_from_head, head.paths_to_head, done, stack) {
+        return Ok(None);
+    }
+    let Some(mut entry) = settlement.settle(head.usages, entry) else {
+        return Ok(None);
+    };
+    let _ = entry.heads.remove_highest_cycle_head();
+    insert_used(&mut entry.heads, head.paths_to_head, &done.state.heads)?;
+    Ok(from_new_head(entry, done, stack))
+}
+
+// Records the heads of the goal that is done, over the path of no step and without usages.
+fn insert_unused(heads: &mut CycleHeads, done: &CycleHeads) -> Result<(), NoMemory>
+    ensures { OnOk result (heads.new ≡ with_unused done.now heads.old) }
+{
+    for (depth, _) in done.iter() {
+        heads.insert(*depth, PathsToNested::EMPTY, HeadUsages::default())?;
+    }
+    Ok(())
+}
+
+// Records the heads of the goal that is done, with its usages, over the paths to that goal and on.
+fn insert_used(
+    heads: &mut CycleHeads,
+    to_done: PathsToNested,
+    done: &CycleHeads,
+) -> Result<(), NoMemory>
+    ensures { OnOk result (heads.new ≡ with_used done.now to_done heads.old) }
+{
+    for (depth, head) in done.iter() {
+        let paths = to_done.extend_with_paths(head.paths_to_head);
+        heads.insert(*depth, paths, head.usages)?;
+    }
+    Ok(())
+}
+
+// The entry with the path from its new highest head, if there is one.
+fn from_new_head<X: Cx>(
+    entry: ProvisionalCacheEntry<X>,
+    done: &StackEntry<X>,
+    stack: &Stack<X>,
+) -> Option<ProvisionalCacheEntry<X>>
+    requires { IfSome (highest entry.heads) (λ head. head.0.0 < length stack.now) }
+    ensures { result ≡ from_new_head stack.now done.now entry }
+{
+    let Some(head) = entry.heads.opt_highest_cycle_head_index() else {
+        return None;
+    };
+    let from_head = stack.path_kind(done.step_kind_from_parent(), head);
+    Some(ProvisionalCacheEntry {
+        path_from_head: entry.path_from_head.extend(from_head),
+        ..entry
+    })
+}
