@@ -8,7 +8,8 @@ use Rattle.search_parts.specs.declared.path.PathKind.{PathKind}
 use Rattle.search_parts.specs.declared.parts.depth.StackDepth.{StackDepth}
 use Rattle.search_parts.specs.Heads.{Heads}
 use Rattle.search_graph.specs.declared.graph.open_goals.Run.{Run}
-use Rattle.search_graph.specs.Entries.{with_depth, TakesHeads}
+use Rattle.search_parts.specs.Nested.{NestedPaths}
+use Rattle.search_graph.specs.Entries.{with_depth, with_nested_goals, TakesHeads}
 use Rattle.search_graph.specs.Items.{AnswersNewest}
 use Rattle.search_graph.specs.Newest.{paired, newest, change_newest}
 use Rattle.search_graph.proofs.Pairs.{last_pair, LastPair, length_of_view}
@@ -65,6 +66,15 @@ module _ {X I R A T F : Type 0} (es : List (StackEntry X I R A T)) (fs : List F)
       ∙ ap (λ z. z ∷ top.rest) (likewise top.entry (sym (w_is top.entry ∙ ap (λ (z : StackEntry X I R A T). z.state) there)) ∙ ap (λ z. h (top.entry, z)) run_is)
       ∙ ap (change_newest h) (sym top.is ∙ is)
 
+-- heads that are taken over beside other goals below
+nested_too : {X I R A T : Type 0} (parent : StackDepth) (step : PathKind) (answer : Heads) (old new : EntryState X I R A T) (nested : NestedPaths I) → TakesHeads parent step answer old new → TakesHeads parent step answer (with_nested_goals old nested) (with_nested_goals new nested)
+nested_too parent step answer old new nested t = record {
+  others = ap (λ (s : EntryState _ _ _ _ _). with_nested_goals s nested) t.others;
+  usages = t.usages;
+  heads = t.heads;
+  in_cycle = t.in_cycle;
+}
+
 -- the newest goal, whose state was w and is x now
 pub record NewestState {X I R A T F : Type 0} (es : List (StackEntry X I R A T)) (fs : List F) (view : List (StackEntry X I R A T × F)) (w x : EntryState X I R A T) : Type 0 where
   pub entry : StackEntry X I R A T
@@ -72,6 +82,7 @@ pub record NewestState {X I R A T F : Type 0} (es : List (StackEntry X I R A T))
   pub below : List (StackEntry X I R A T × F)
   pub was : view ≡ (entry, run) ∷ below
   pub is : paired [] (change_last (λ e. record e { state = x }) es) fs ≡ (record entry { state = x }, run) ∷ below
+  pub entry_is : (d : StackEntry X I R A T) → get_or es (length es - 1) d ≡ entry
   pub state_is : entry.state ≡ w
   pub depth_is : length es - 1 ≡ length below
 
@@ -79,21 +90,22 @@ module _ {X F I R A T : Type 0} (es : List (StackEntry X I R A T)) (fs : List (R
   pub newest_state : (w x : EntryState X I R A T) → ((d : StackEntry X I R A T) → w ≡ (get_or es (length es - 1) d).state) → NewestState es fs view w x
   newest_state w x w_is =
       let top = last es fs view same is some in
-      let there : get_or es (length es - 1) top.entry ≡ top.entry = ap (λ n. get_or es (n - 1) top.entry) same ∙ top.entry_is top.entry in
+      let there : (d : StackEntry X I R A T) → get_or es (length es - 1) d ≡ top.entry = λ d. ap (λ n. get_or es (n - 1) d) same ∙ top.entry_is d in
       record {
         entry = top.entry;
         run = get_or fs (length fs - 1) (some_element fs (some_runs es fs view same is some));
         below = top.rest;
         was = sym is ∙ top.is;
         is = top.after_change (λ e. record e { state = x });
-        state_is = sym (w_is top.entry ∙ ap (λ (y : StackEntry X I R A T). y.state) there);
+        entry_is = there;
+        state_is = sym (w_is top.entry ∙ ap (λ (y : StackEntry X I R A T). y.state) (there top.entry));
         depth_is = omega (arith, (length_of_view es fs view same is).0, ap length (sym is ∙ top.is));
       }
 
   -- the newest goal takes an answer over
   module _ (w x : EntryState X I R A T) (w_is : (d : StackEntry X I R A T) → w ≡ (get_or es (length es - 1) d).state) (step : PathKind) (required : ℕ) (overflow : Bool) (answer : Heads) (parent : StackDepth) (last_place : parent.0 ≡ length es - 1) (between : EntryState X I R A T) (noted : between ≡ with_depth w required overflow) where
-    answered_at : TakesHeads parent step answer between x → AnswersNewest step required overflow answer view (paired [] (change_last (λ e. record e { state = x }) es) fs)
-    answered_at takes =
+    answered_at : (taken : EntryState X I R A T) → TakesHeads parent step answer between taken → x ≡ with_nested_goals taken x.nested_goals → AnswersNewest step required overflow answer view (paired [] (change_last (λ e. record e { state = x }) es) fs)
+    answered_at taken takes x_is =
         let n = newest_state w x w_is in
         let place : parent ≡ record { 0 = length n.below } = λ i. record { 0 = (last_place ∙ n.depth_is) i } in
         record {
@@ -103,13 +115,14 @@ module _ {X F I R A T : Type 0} (es : List (StackEntry X I R A T)) (fs : List (R
           state = x;
           was = n.was;
           is = n.is;
-          takes = subst (λ p. TakesHeads p step answer (with_depth n.entry.state required overflow) x) place
-              (subst (λ s. TakesHeads parent step answer s x) (noted ∙ ap (λ s. with_depth s required overflow) (sym n.state_is)) takes);
+          takes = subst (λ p. TakesHeads p step answer (with_nested_goals (with_depth n.entry.state required overflow) x.nested_goals) x) place
+              (subst (λ (s : EntryState X I R A T). TakesHeads parent step answer (with_nested_goals s x.nested_goals) x) (noted ∙ ap (λ (s : EntryState X I R A T). with_depth s required overflow) (sym n.state_is))
+              (subst (TakesHeads parent step answer (with_nested_goals between x.nested_goals)) (sym x_is) (nested_too parent step answer between taken x.nested_goals takes)));
         }
 
-    pub newest_answered : {V E : Type 0} (r : Result V E) → OnOk r (TakesHeads parent step answer between x) → OnOk r (AnswersNewest step required overflow answer view (paired [] (change_last (λ e. record e { state = x }) es) fs))
-    newest_answered (Ok v) takes = answered_at takes
-    newest_answered (Err e) takes = tt
+    pub newest_answered : {V E : Type 0} (r : Result V E) (taken : EntryState X I R A T) → TakesHeads parent step answer between taken → x ≡ with_nested_goals taken x.nested_goals → OnOk r (AnswersNewest step required overflow answer view (paired [] (change_last (λ e. record e { state = x }) es) fs))
+    newest_answered (Ok v) taken takes x_is = answered_at taken takes x_is
+    newest_answered (Err e) taken takes x_is = tt
 
 -- what holds of the newest holds of what is read of it
 pub if_newest : {A B : Type 0} (o : Option A) (f : A → B) (P : B → Type 0) (y : B) → IfSome o (λ x. P (f x)) → option_map f o ≡ Some y → P y

@@ -91,7 +91,7 @@ module _ {X I R A T : Type 0} (parent : StackDepth) (step : PathKind) (required 
   -- but for its heads, the goal's run is the same
   pub same_run : {F : Type 0} (entry : StackEntry X I R A T) (run : Run X F I R A T) → entry.state ≡ old → run_of (record entry { state = new }, run) ≡ record (run_of (entry, run)) { heads = new.heads }
   same_run entry run is =
-      ap (λ (s : EntryState X I R A T). record (run_of (record entry { state = s }, run)) { heads = new.heads }) (t.others ∙ ap (λ (s : EntryState X I R A T). record (with_depth s required overflow) { heads = new.heads; usages = new.usages }) (sym is))
+      ap (λ (s : EntryState X I R A T). record (run_of (record entry { state = s }, run)) { heads = new.heads }) (t.others ∙ ap (λ (s : EntryState X I R A T). record (with_depth s required overflow) { heads = new.heads; usages = new.usages; nested_goals = new.nested_goals }) (sym is))
 
 -- the newest goal that takes an answer over stays justified
 pub answered_newest_is_justified : {X F I R A T : Type 0} (is_yes is_no : R → Bool) (nodes : List (CacheNode I R)) (step : PathKind) (required : ℕ) (overflow : Bool) (answer : Heads) (old new : List (StackEntry X I R A T × Run X F I R A T)) → AnswersNewest step required overflow answer old new → AreJustified is_yes is_no nodes (runs_of old) → AreJustified is_yes is_no nodes (runs_of new)

@@ -1,5 +1,6 @@
 pub mod Pairs
 pub mod Changes
+pub mod NestedGoals
 pub mod TakenHeads
 pub mod OldestFirst
 pub mod Steps

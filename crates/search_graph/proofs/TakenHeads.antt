@@ -101,6 +101,5 @@ module _ {X I R A T : Type 0} (parent : StackDepth) (step : PathKind) (head : St
       or_false true = refl
       or_false false = refl
 
-  pub one_taken : {V E : Type 0} (r : Result V E) → OnOk r (new ≡ with_used_head parent step head used old) → OnOk r (TakesHeads parent step ((head, used) ∷ []) old new)
-  one_taken (Ok v) is = subst (TakesHeads parent step ((head, used) ∷ []) old) (sym is) one_at
-  one_taken (Err e) is = tt
+  pub one_taken : new ≡ with_used_head parent step head used old → TakesHeads parent step ((head, used) ∷ []) old new
+  one_taken is = subst (TakesHeads parent step ((head, used) ∷ []) old) (sym is) one_at

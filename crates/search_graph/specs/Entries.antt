@@ -9,6 +9,7 @@ use Rattle.search_parts.specs.declared.parts.usages.HeadUsages.{HeadUsages}
 use Rattle.search_parts.specs.declared.parts.stack.EntryState.{EntryState}
 use Rattle.search_parts.specs.declared.parts.stack.StackEntry.{StackEntry}
 use Rattle.search_parts.specs.Heads.{Heads, at_depth, joined_head, with_head}
+use Rattle.search_parts.specs.Nested.{NestedPaths}
 use Rattle.search_parts.specs.Paths.{extended, paths_of}
 use Rattle.search_parts.specs.Stack.{fresh_entry}
 use Rattle.search_parts.specs.Usages.{no_usages, with_nested, with_usage}
@@ -45,6 +46,10 @@ module _ {X I R A T : Type 0} where
   abbrev pub with_depth : EntryState X I R A T → ℕ → Bool → EntryState X I R A T
   with_depth s required overflow = record s { required_depth = max s.required_depth (required + 1); encountered_overflow = s.encountered_overflow || overflow }
 
+  -- the state with these goals below the entry's goal
+  abbrev pub with_nested_goals : EntryState X I R A T → NestedPaths I → EntryState X I R A T
+  with_nested_goals s goals = record s { nested_goals = goals }
+
   -- whether the goal rests on goals under evaluation, perhaps on itself
   abbrev pub is_in_cycle : EntryState X I R A T → Bool
   is_in_cycle s = is_some s.usages || some_heads s.heads
@@ -63,9 +68,9 @@ module _ {X I R A T : Type 0} where
     pub heads : (depth : StackDepth) → at_depth new.heads depth ≡ (if depth.0 == parent.0 then at_depth old.heads depth else joined_over step (at_depth old.heads depth) (at_depth answer depth))
     pub in_cycle : is_in_cycle new ≡ (is_in_cycle old || some_heads answer)
 
-  -- the same, with the depth that the answer required
+  -- the same, with the depth that the answer required; the goals below the entry's goal may change too
   abbrev pub TakesAnswer : StackDepth → PathKind → ℕ → Bool → Heads → EntryState X I R A T → EntryState X I R A T → Type 0
-  TakesAnswer parent step required overflow answer old new = TakesHeads parent step answer (with_depth old required overflow) new
+  TakesAnswer parent step required overflow answer old new = TakesHeads parent step answer (with_nested_goals (with_depth old required overflow) new.nested_goals) new
 
   -- the state of a goal that is run again under a result, with the node to which the answers of its cycles lead
   abbrev pub rerun_under : R → Option NodeId → EntryState X I R A T → EntryState X I R A T

@@ -1,5 +1,7 @@
 pub mod Newest
 pub mod Entries
+pub mod NestedGoals
+pub mod LookUp
 pub mod Items
 pub mod Decided
 pub mod Calls

@@ -12,9 +12,11 @@ ghost use Rattle.search_graph.specs.Graph.{IsCaused, IsProved, IsRefuted};
 
 mod evaluate;
 mod finish;
+mod look_up;
 mod open_goals;
 mod progress;
 mod question;
+mod store;
 mod update;
 
 use evaluate::evaluate;

@@ -8,6 +8,7 @@ ghost use Rattle.search_graph.specs.Justified.{AreJustified, IsFit};
 ghost use Rattle.search_graph.specs.Runs.{runs_of, IsJustifiedNext};
 
 use crate::graph::finish::finish_run;
+use crate::graph::look_up::look_up;
 use crate::graph::open_goals::{Next, OpenGoals, Received, step};
 use crate::graph::question::{ask, push_goal};
 use search_parts::context::{Answer, Cx, Delegate, Fault, Reply, Request};
@@ -36,6 +37,12 @@ pub(crate) fn evaluate<D: Delegate>(
     ensures same_results { cache.new.results ≡ cache.old.results }
     ensures kept { KeepsFinished cache.old.nodes cache.new.nodes }
 {
+    if let Some(stored) = look_up::<D>(cache, goals.stack(), input, root_depth) {
+        return Ok(Answer {
+            result: stored.result,
+            node: stored.node,
+        });
+    }
     push_goal::<D>(goals, cache, step_kind, input, root_depth, inspect)?;
     let mut received = Received::without_node(Reply::Begin);
     loop {

@@ -18,9 +18,11 @@ ghost use Rattle.search_graph.specs.Runs.{runs_of, EndsRun, EndsNewest, IsClosed
 
 use crate::graph::open_goals::{Next, OpenGoals, Received, Run};
 use crate::graph::progress::Progress;
-use search_parts::context::{Answer, Cx, Delegate, NoMemory, NodeId, Reply, Verdict};
+use crate::graph::store::store_answer;
+use search_parts::context::{Answer, Cx, Delegate, Fault, NoMemory, NodeId, Reply, Verdict};
 use search_parts::global_cache::GlobalCache;
 use search_parts::parts::{EntryState, EvaluationResult, HeadUsages};
+use search_parts::path::PathKind;
 
 /// What becomes of a goal whose run has ended.
 #[derive(Clone, Copy)]
@@ -41,7 +43,7 @@ pub(crate) fn finish_run<D: Delegate>(
     cache: &mut GlobalCache<D>,
     outcome: <D::Cx as Cx>::Result,
     inspect: &mut D::ProofTreeBuilder,
-) -> Result<Next<<D::Cx as Cx>::Result>, NoMemory>
+) -> Result<Next<<D::Cx as Cx>::Result>, Fault<<D::Cx as Cx>::Input, <D::Cx as Cx>::Result>>
     requires asked { (call : Call D.Cx.Input) × (ahead : ℕ) × HasAsked D.Delegate D.Cx.Cx cache.old.cx call ahead (Done outcome) goals.old (D.starts inspect.old) limits_met.old }
     requires justified { AreJustified D.Cx.is_yes D.Cx.is_no cache.old.nodes (runs_of goals.old) }
     ensures leads { (call : Call D.Cx.Input) (ahead : ℕ) → HasAsked D.Delegate D.Cx.Cx cache.old.cx call ahead (Done outcome) goals.old (D.starts inspect.old) limits_met.old →
@@ -136,7 +138,7 @@ fn finish_goal<D: Delegate>(
     goals: &mut OpenGoals<D::Cx, D::Frame>,
     cache: &mut GlobalCache<D>,
     outcome: <D::Cx as Cx>::Result,
-) -> Result<Next<<D::Cx as Cx>::Result>, NoMemory>
+) -> Result<Next<<D::Cx as Cx>::Result>, Fault<<D::Cx as Cx>::Input, <D::Cx as Cx>::Result>>
     requires leaves { CanLeave goals.old }
     requires ends { IsDefinite D.Cx.is_yes D.Cx.is_no outcome → EndsNewest D.Cx.is_yes D.Cx.is_no (D.script cache.old.cx) goals.old outcome }
     requires justified { AreJustified D.Cx.is_yes D.Cx.is_no cache.old.nodes (runs_of goals.old) }
@@ -158,17 +160,29 @@ fn finish_goal<D: Delegate>(
     let step = entry.step_kind_from_parent();
     let mut encountered_overflow = entry.state.encountered_overflow;
     encountered_overflow |= met_overflow_before;
+    let input = entry.input();
     let node = settle_node::<D>(cache, &entry.state, own_node, progress, outcome)?;
-    if goals.len() == 0 {
-        return Ok(Next::Finished(Answer {
-            result: outcome,
-            node,
-        }));
-    }
     let answer = EvaluationResult::finalize(entry, encountered_overflow, outcome, node);
-    goals.note_answer(step, &answer)?;
+    let next = give_answer(goals, step, &answer)?;
+    store_answer::<D>(cache, input, answer)?;
+    Ok(next)
+}
+
+/// Gives the answer of a goal that was taken to the goal below it, which asked for it by this step. Where
+/// none is left it is the answer to the call.
+fn give_answer<X: Cx, F: Drop>(
+    goals: &mut OpenGoals<X, F>,
+    step: PathKind,
+    answer: &EvaluationResult<X>,
+) -> Result<Next<X::Result>, NoMemory>
+{
+    let EvaluationResult { result, node, .. } = *answer;
+    if goals.len() == 0 {
+        return Ok(Next::Finished(Answer { result, node }));
+    }
+    goals.note_answer(step, answer)?;
     Ok(Next::Step(Received {
-        reply: Reply::Answer(outcome),
+        reply: Reply::Answer(result),
         node,
     }))
 }

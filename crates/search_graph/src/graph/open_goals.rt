@@ -5,12 +5,13 @@ ghost use Rattle.std.specs.Option.{option_map};
 ghost use Rattle.search_graph.specs.Steps.{CanStep, IsVerdict, HasStepped, IsStepFault};
 
 use crate::graph::progress::Progress;
-use crate::graph::update::{cycle_head, note_depth, note_head, note_heads};
+use crate::graph::update::{cycle_head, note_depth, note_head, note_heads, note_nested_goals};
 use search_parts::context::{
     Answer, Cx, Delegate, Fault, NoMemory, NodeId, Reply, Request, Verdict,
 };
+use search_parts::global_cache::CacheData;
 use search_parts::parts::{EvaluationResult, HeadUsages, Stack, StackDepth, StackEntry};
-use search_parts::path::PathKind;
+use search_parts::path::{PathKind, PathsToNested};
 use std::alloc::Global;
 use std::marker::Model;
 use std::mem;
@@ -32,6 +33,7 @@ impl<R> Received<R> {
 }
 
 /// What comes after a request of the newest goal's frame.
+#[derive(Clone, Copy)]
 pub(crate) enum Next<R> {
     /// The newest frame gets a reply.
     Step(Received<R>),
@@ -73,8 +75,10 @@ impl<X: Cx, F: Drop> Model for OpenGoals<X, F> {
 
 impl<X: Cx, F: Drop> OpenGoals<X, F> {
     ghost use Rattle.search_graph.specs.Newest.{newest, change_newest};
-    ghost use Rattle.search_graph.specs.Entries.{cycle_head, overflowed};
+    ghost use Rattle.search_parts.specs.LookUp.{hit_of};
+    ghost use Rattle.search_graph.specs.Entries.{cycle_head};
     ghost use Rattle.search_graph.specs.Items.{rerun_with, with_no_record, AnswersNewest};
+    ghost use Rattle.search_graph.specs.NestedGoals.{NotesOverflow, TakesStored};
 
     /// No goal.
     pub(crate) fn new(alloc: Global) -> OpenGoals<X, F>
@@ -138,13 +142,32 @@ impl<X: Cx, F: Drop> OpenGoals<X, F> {
         (entry, run)
     }
 
-    /// A question of the newest goal was refused.
-    pub(crate) fn note_overflow(&mut self)
+    /// A question of the newest goal was refused. Where memory is, a part of that may be noted.
+    pub(crate) fn note_overflow(&mut self) -> Result<(), NoMemory>
         requires { 0 < length self.old }
-        ensures { self.new ≡ change_newest (λ s. (overflowed s.0, s.1)) self.old }
+        ensures { OnOk result (NotesOverflow X.Input.eq self.old self.new) }
     {
+        let input = self.stack.last().input();
         let state = self.stack.last_mut();
         state.encountered_overflow = true;
+        state.nested_goals.insert(input, PathsToNested::EMPTY)
+    }
+
+    /// The newest goal was answered over a step of this kind by a stored result. A refusal may leave a part
+    /// of that noted.
+    pub(crate) fn note_stored(
+        &mut self,
+        step: PathKind,
+        stored: &CacheData<'_, X>,
+    ) -> Result<(), NoMemory>
+        requires some { 0 < length self.old }
+        requires fits { stored.now.required_depth + 1 < 2 ^ 64 }
+        ensures { OnOk result (TakesStored X.Input.eq step (hit_of stored.now) self.old self.new) }
+    {
+        let input = self.stack.last().input();
+        let state = self.stack.last_mut();
+        note_depth(state, stored.required_depth, stored.encountered_overflow);
+        note_nested_goals(state, input, step, stored.nested_goals)
     }
 
     /// The newest goal was answered over a step of this kind. A refusal may leave a part of that noted.
@@ -158,15 +181,18 @@ impl<X: Cx, F: Drop> OpenGoals<X, F> {
         ensures { OnOk result (AnswersNewest step answer.now.required_depth answer.now.encountered_overflow answer.now.heads self.old self.new) }
     {
         let parent = StackDepth::new(self.stack.len() - 1);
+        let input = self.stack.last().input();
         let state = self.stack.last_mut();
         note_depth(state, answer.required_depth, answer.encountered_overflow);
-        note_heads(state, parent, step, &answer.heads)
+        note_heads(state, parent, step, &answer.heads)?;
+        note_nested_goals(state, input, step, &answer.nested_goals)
     }
 
     /// The newest goal asked by this step for a goal under evaluation, which closed a cycle of this kind.
     pub(crate) fn note_cycle(
         &mut self,
         step: PathKind,
+        goal: X::Input,
         head: StackDepth,
         kind: PathKind,
     ) -> Result<(), NoMemory>
@@ -175,9 +201,14 @@ impl<X: Cx, F: Drop> OpenGoals<X, F> {
     {
         let used = cycle_head(step, kind);
         let parent = StackDepth::new(self.stack.len() - 1);
+        let input = self.stack.last().input();
         let state = self.stack.last_mut();
         note_depth(state, 0, false);
-        note_head(state, parent, step, head, used)
+        note_head(state, parent, step, head, used)?;
+        state
+            .nested_goals
+            .insert(goal, PathsToNested::from(step))?;
+        state.nested_goals.insert(input, PathsToNested::EMPTY)
     }
 
     /// The run of the newest goal.

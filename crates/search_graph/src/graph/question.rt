@@ -1,5 +1,5 @@
-//! What a question comes to: it is refused, is answered where its goal is under evaluation already, or
-//! puts its goal on top.
+//! What a question comes to: it is refused, is answered by a stored result or where its goal is under
+//! evaluation already, or puts its goal on top.
 ghost use Rattle.std.specs.Prelude.{◌≡◌, ◌≤◌, ◌<◌, ◌+◌, ℕ, false, true, List, length, map, reverse, unwrap_or, IfOk, OnOk, IfErr, Some};
 ghost use Rattle.std.specs.List.{list_any, position};
 ghost use Rattle.std.specs.Option.{option_map, option_and_then};
@@ -15,6 +15,7 @@ ghost use Rattle.search_graph.specs.Moves.{ClosesCycle, Pushes};
 ghost use Rattle.search_graph.specs.Justified.{Asks, AreJustified, IsFit};
 ghost use Rattle.search_graph.specs.Runs.{runs_of};
 
+use crate::graph::look_up::look_up;
 use crate::graph::open_goals::{OpenGoals, Received, Run};
 use crate::graph::progress::Progress;
 use search_parts::context::{Cx, Delegate, NoMemory, Reply};
@@ -48,16 +49,38 @@ pub(crate) fn ask<D: Delegate>(
 {
     let cx = cache.cx();
     let Some(depth) = allowed_depth::<D>(goals, root_depth) else {
-        goals.note_overflow();
+        goals.note_overflow()?;
         *limits_met = true;
         let answer = D::stack_overflow_result(cx, input);
         return Ok(Received::without_node(Reply::Answer(answer)));
     };
+    if let Some(received) = answer_from_cache::<D>(goals, cache, kind, input, depth)? {
+        return Ok(received);
+    }
     if let Some(head) = goals.find(input) {
         return answer_cycle::<D>(goals, cx, kind, input, head);
     }
     push_goal::<D>(goals, cache, kind, input, depth, inspect)?;
     Ok(Received::without_node(Reply::Begin))
+}
+
+/// Answers the newest goal's question by a stored result, if one may be used.
+fn answer_from_cache<D: Delegate>(
+    goals: &mut OpenGoals<D::Cx, D::Frame>,
+    cache: &GlobalCache<D>,
+    step: PathKind,
+    input: <D::Cx as Cx>::Input,
+    depth: AvailableDepth,
+) -> Result<Option<Received<<D::Cx as Cx>::Result>>, NoMemory>
+{
+    let Some(stored) = look_up::<D>(cache, goals.stack(), input, depth) else {
+        return Ok(None);
+    };
+    goals.note_stored(step, &stored)?;
+    Ok(Some(Received {
+        reply: Reply::Answer(stored.result),
+        node: stored.node,
+    }))
 }
 
 /// Answers the newest goal's question for a goal that is under evaluation at `head`, by its provisional
@@ -82,7 +105,7 @@ fn answer_cycle<D: Delegate>(
     let state = &goals.stack()[head].state;
     let node = state.node;
     let outcome = cycle_result::<D>(cx, state.provisional_result, kind, input);
-    goals.note_cycle(step, head, kind)?;
+    goals.note_cycle(step, input, head, kind)?;
     Ok(Received {
         reply: Reply::Answer(outcome),
         node,

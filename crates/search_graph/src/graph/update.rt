@@ -1,9 +1,12 @@
 //! What a goal's entry takes over from the answer to one of its questions.
 ghost use Rattle.std.specs.Prelude.{◌≡◌, ◌<◌, ◌+◌, ◌^◌, OnOk, Some};
-ghost use Rattle.search_graph.specs.Entries.{cycle_head, with_depth, with_used_head, TakesHeads};
+ghost use Rattle.search_graph.specs.Entries.{cycle_head, with_depth, with_nested_goals, with_used_head, TakesHeads};
+ghost use Rattle.search_graph.specs.NestedGoals.{TakesNestedGoals};
 
 use search_parts::context::{Cx, NoMemory};
-use search_parts::parts::{CycleHead, CycleHeads, EntryState, HeadUsages, StackDepth};
+use search_parts::parts::{
+    CycleHead, CycleHeads, EntryState, HeadUsages, NestedGoals, StackDepth,
+};
 use search_parts::path::{PathKind, PathsToNested};
 
 /// Notes how deep the goals below an answer went, and whether one of their questions was refused.
@@ -53,6 +56,24 @@ pub(crate) fn note_head<X: Cx>(
     }
     let paths = used.paths_to_head.extend_with(step);
     state.heads.insert(head, paths, used.usages)
+}
+
+/// Notes the goals below an answer over a step in the state of the entry of `own`. Where there are any, the
+/// goal itself is one of those from now on. Ports a part of `SearchGraph::update_parent_goal`.
+pub(crate) fn note_nested_goals<X: Cx>(
+    state: &mut EntryState<X>,
+    own: X::Input,
+    step: PathKind,
+    nested_goals: &NestedGoals<X>,
+) -> Result<(), NoMemory>
+    ensures others { state.new ≡ with_nested_goals state.old state.new.nested_goals }
+    ensures taken { OnOk result (TakesNestedGoals X.Input.eq own step nested_goals.now state.old.nested_goals state.new.nested_goals) }
+{
+    if nested_goals.is_empty() {
+        return Ok(());
+    }
+    state.nested_goals.extend_from_child(step, nested_goals)?;
+    state.nested_goals.insert(own, PathsToNested::EMPTY)
 }
 
 /// What a cycle of this kind, which the step closed, records of its head.
