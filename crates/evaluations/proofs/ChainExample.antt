@@ -8,9 +8,8 @@ use Rattle.search_parts.specs.declared.context.Request.TheVariants.{Evaluate, Do
 use Rattle.search_parts.specs.declared.context.Reply.{Reply}
 use Rattle.search_parts.specs.declared.context.Reply.TheVariants.{Begin, Answer, Noted}
 use Rattle.search_parts.specs.Run.{request_after, order_fault, progress_after, Progress}
-use Rattle.search_parts.specs.Rank.{IsRanked, IsOrderlyTo, IsPlainValue, frames_within}
+use Rattle.search_parts.specs.Rank.{IsRanked, IsOrderlyTo, IsPlainValue, frames_within, IsPlainTo}
 use Rattle.evaluations.specs.Frames.{Frame, Outcome, fresh, stepped, replied, answered, refused}
-use Rattle.evaluations.specs.Plain.{IsPlainTo}
 use Rattle.evaluations.specs.Price.{IsPaid}
 use Rattle.evaluations.specs.Evaluation.{at, Limits, IsStarted, Move, NoMove, MoreMoves, Pushed, Popped, Refused, Ends}
 use Rattle.evaluations.proofs.Evaluations.{evaluation_ends}

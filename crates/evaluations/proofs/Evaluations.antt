@@ -3,10 +3,10 @@ use Rattle.std.proofs.Common.{◌≡◌, ◌≢◌, ℕ, ◌+◌, ◌<◌, ◌�
 use Rattle.search_parts.specs.declared.context.Request.{Request}
 use Rattle.search_parts.specs.declared.context.Reply.{Reply}
 use Rattle.search_parts.specs.declared.context.Reply.TheVariants.{Begin}
-use Rattle.search_parts.specs.Rank.{frames_within}
+use Rattle.search_parts.specs.Rank.{frames_within, IsPlainTo}
 use Rattle.search_parts.specs.Run.{fault_after}
 use Rattle.evaluations.specs.Frames.{Frame, Outcome, fresh, stepped, replied, answered, refused, released, run_again, Asks, IsAllowed}
-use Rattle.evaluations.specs.Plain.{IsPlainTo, IsSafeOutcome, Leaves}
+use Rattle.evaluations.specs.Plain.{IsSafeOutcome, Leaves}
 use Rattle.evaluations.specs.Starts.{Spends}
 use Rattle.evaluations.specs.Price.{IsPriced}
 use Rattle.evaluations.specs.Evaluation.{State, at, Limits, IsStarted, Move, Pushed, Noted, Ignored, Answered, Refused, RunAgain, Popped, PoppedAtLimit, Moves, NoMove, MoreMoves, IsRooted, IsEvaluating, GoesOn, Ends, Stops}

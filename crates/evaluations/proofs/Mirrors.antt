@@ -5,10 +5,10 @@ use Rattle.search_parts.specs.declared.context.Reply.{Reply}
 use Rattle.search_parts.specs.declared.context.Request.TheVariants.{Evaluate, Done}
 use Rattle.search_parts.specs.declared.context.Reply.TheVariants.{Begin, Answer}
 use Rattle.search_parts.specs.declared.path.PathKind.{PathKind}
-use Rattle.search_parts.specs.Rank.{frames_within}
+use Rattle.search_parts.specs.Rank.{frames_within, IsPlainTo, HasNoRank}
 use Rattle.search_parts.specs.Run.{request_after, IsReplyTo, IsFitting}
 use Rattle.evaluations.specs.Frames.{Frame, Outcome, fresh, stepped, replied, answered, refused, released, run_again, IsAllowed}
-use Rattle.evaluations.specs.Plain.{IsPlainTo, HasNoRank, IsSafeOutcome, IsOnStack, Leaves, HasRoom}
+use Rattle.evaluations.specs.Plain.{IsSafeOutcome, IsOnStack, Leaves, HasRoom}
 use Rattle.evaluations.specs.Starts.{frames_ahead, frames_ahead_of, steps_in_runs, steps_ahead}
 use Rattle.evaluations.specs.Evaluation.{at, Limits, IsStarted, Move, Pushed, Noted, Ignored, Answered, Refused, RunAgain, Popped, PoppedAtLimit, IsEvaluating, Ends, Stops}
 use Rattle.evaluations.specs.Mirror.{with_replies, IsSeen, IsPending, AreSeen, Mirror, work, Waits, HasRequested, TakesStep, TakesReply, ItemLeaves, IsAmong}

@@ -6,9 +6,8 @@ use Rattle.search_parts.specs.declared.context.Request.{Request}
 use Rattle.search_parts.specs.declared.context.Request.TheVariants.{Evaluate, Done}
 use Rattle.search_parts.specs.declared.context.Reply.{Reply}
 use Rattle.search_parts.specs.declared.context.Reply.TheVariants.{Begin, Answer}
-use Rattle.search_parts.specs.Rank.{frames_within}
+use Rattle.search_parts.specs.Rank.{frames_within, HasNoRank}
 use Rattle.evaluations.specs.Frames.{Frame, Outcome, fresh, stepped, replied, answered}
-use Rattle.evaluations.specs.Plain.{HasNoRank}
 use Rattle.evaluations.specs.Evaluation.{at, Limits, IsStarted, Move, NoMove, MoreMoves, Pushed, Answered, Popped, Ends}
 use Rattle.evaluations.proofs.Plains.{push_keeps_safe, reply_keeps_safe, cycle_has_no_rank, unranked_is_safe}
 use Rattle.evaluations.proofs.Evaluations.{evaluation_ends}

@@ -6,11 +6,11 @@ use Rattle.search_parts.specs.declared.context.Request.TheVariants.{Evaluate, En
 use Rattle.search_parts.specs.declared.context.Reply.{Reply}
 use Rattle.search_parts.specs.declared.context.Reply.TheVariants.{Begin, Answer, Noted}
 use Rattle.search_parts.specs.Run.{request_after, IsReplyTo, IsAnswered, IsFitting, IsOrderly}
-use Rattle.search_parts.specs.Rank.{AsksOnly, IsPlainValue}
+use Rattle.search_parts.specs.Rank.{AsksOnly, IsPlainValue, IsPlainTo, HasNoRank, IsPlain, IsBelowRank}
 use Rattle.search_parts.proofs.Runs.{IsReplyTo-weaker}
 use Rattle.search_parts.proofs.Ranks.{IsPlainValue-suc, one_plain_value}
 use Rattle.evaluations.specs.Frames.{Frame, Outcome, Asks, IsAllowed}
-use Rattle.evaluations.specs.Plain.{IsPlainTo, HasNoRank, IsPlain, IsBelowRank, IsSafeOutcome, IsSafe, AreSafe, IsOnStack, Leaves}
+use Rattle.evaluations.specs.Plain.{IsSafeOutcome, IsSafe, AreSafe, IsOnStack, Leaves}
 use Rattle.evaluations.specs.PlainLaws.{PushKeepsSafe, StepKeepsSafe, ReplyKeepsSafe, AnswerKeepsSafe, RefusalKeepsSafe, ReleaseKeepsSafe, RerunKeepsSafe, PopKeepsSafe, LeftIsSafe, CycleHasNoRank, UnrankedIsSafe, StoredIsPlain, SuccessIsSafe, KeyIsBelowRank, OverflowIsSafe, FittingIsPlain, QuestionIsSmaller, PushKeepsRoom, RoomIsEnough, PlainIsOne, KeyIsUnused, RankIsEnough}
 
 or_cases : (a b : Bool) → (a || b) ≡ true → (a ≡ true) ⊎ (b ≡ true)

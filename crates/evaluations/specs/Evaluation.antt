@@ -5,10 +5,10 @@ use Rattle.search_parts.specs.declared.context.Request.{Request}
 use Rattle.search_parts.specs.declared.context.Reply.{Reply}
 use Rattle.search_parts.specs.declared.context.Reply.TheVariants.{Begin}
 use Rattle.search_parts.specs.Delegate.{CountsOne}
-use Rattle.search_parts.specs.Rank.{IsPlainValue}
+use Rattle.search_parts.specs.Rank.{IsPlainValue, IsPlainTo}
 use Rattle.search_parts.specs.Run.{request_after, IsReplyTo}
 use Rattle.evaluations.specs.Frames.{Frame, Outcome, fresh, stepped, replied, answered, refused, released, run_again, Asks, IsAllowed}
-use Rattle.evaluations.specs.Plain.{IsPlainTo, IsSafeOutcome, AreSafe, Leaves, HaveRoom}
+use Rattle.evaluations.specs.Plain.{IsSafeOutcome, AreSafe, Leaves, HaveRoom}
 use Rattle.evaluations.specs.Starts.{StaysWithin, steps_ahead}
 use Rattle.evaluations.specs.Price.{IsPriced, IsPaid}
 

@@ -3,10 +3,10 @@ use Rattle.std.specs.Prelude.{◌≡◌, ℕ, ◌+◌, ◌<◌, ◌≤◌, Bool,
 use Rattle.search_parts.specs.declared.context.Request.{Request}
 use Rattle.search_parts.specs.declared.context.Reply.{Reply}
 use Rattle.search_parts.specs.declared.context.Reply.TheVariants.{Begin}
-use Rattle.search_parts.specs.Rank.{frames_within}
+use Rattle.search_parts.specs.Rank.{frames_within, IsPlainTo}
 use Rattle.search_parts.specs.Run.{fault_after}
 use Rattle.evaluations.specs.Frames.{Frame, Outcome, fresh, replied, Asks}
-use Rattle.evaluations.specs.Plain.{IsPlainTo, Leaves}
+use Rattle.evaluations.specs.Plain.{Leaves}
 use Rattle.evaluations.specs.Starts.{Spends}
 use Rattle.evaluations.specs.Evaluation.{State, at, Limits, IsStarted, Move, Moves, IsEvaluating, GoesOn, Ends, Stops}
 

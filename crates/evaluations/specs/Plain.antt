@@ -1,46 +1,29 @@
 -- Goals with a rank answer their plain values: what holds of each frame, each outcome and each stored result. Nothing is
 -- said of a goal that has no rank, so frames of both sorts stand on one stack.
-use Rattle.std.specs.Prelude.{◌≡◌, ℕ, ◌<◌, ◌≤◌, true, false, ◌||◌, List, [], ◌∷◌, Some, ◌⊎◌}
+use Rattle.std.specs.Prelude.{◌≡◌, ℕ, ◌≤◌, true, false, ◌||◌, List, [], ◌∷◌, Some, ◌⊎◌}
 use Rattle.search_parts.specs.declared.context.Request.{Request}
 use Rattle.search_parts.specs.declared.context.Request.TheVariants.{Done}
 use Rattle.search_parts.specs.declared.context.Reply.{Reply}
 use Rattle.search_parts.specs.Run.{request_after, IsAnswered, IsFitting}
-use Rattle.search_parts.specs.Rank.{IsRanked, IsOrderlyTo, IsPlainValue}
+use Rattle.search_parts.specs.Rank.{IsPlainTo, HasNoRank, IsPlain, IsBelowRank}
 use Rattle.evaluations.specs.Frames.{Frame, Outcome, AsksAt}
 
--- the goal is ranked and orderly to this depth
-pub record IsPlainTo {I R : Type 0} (scripts : I → List (Reply R) → Request I R) (n : ℕ) (goal : I) : Type 0 where
-  pub is_ranked : IsRanked scripts n goal
-  pub is_orderly : IsOrderlyTo scripts n goal
-
 module _ {I R : Type 0} (scripts : I → List (Reply R) → Request I R) where
-  -- the goal has no rank
-  abbrev pub HasNoRank : I → Type 0
-  HasNoRank goal = (n : ℕ) → IsPlainTo scripts n goal → ⊥
-
-  -- if the goal has a rank, the result is its plain value
-  abbrev pub IsPlain : I → R → Type 0
-  IsPlain goal r = (n : ℕ) → IsPlainTo scripts n goal → IsPlainValue scripts n goal r
-
-  -- if the goal has a rank, the depth is below it
-  abbrev pub IsBelowRank : I → ℕ → Type 0
-  IsBelowRank goal depth = (n : ℕ) → IsPlainTo scripts n goal → depth < n
-
   -- a question about the goal at this depth may be answered so
   pub record IsSafeOutcome (goal : I) (depth : ℕ) (o : Outcome R) : Type 0 where
-    pub value : o.met_overflow ≡ false → IsPlain goal o.result
-    pub overflow : o.met_overflow ≡ true → IsBelowRank goal depth
-    pub cycle : o.in_cycle ≡ true → HasNoRank goal
+    pub value : o.met_overflow ≡ false → IsPlain scripts goal o.result
+    pub overflow : o.met_overflow ≡ true → IsBelowRank scripts goal depth
+    pub cycle : o.in_cycle ≡ true → HasNoRank scripts goal
     pub within : o.required ≤ depth
 
   -- What holds of a frame: if its goal has a rank, its replies are plain values while it met no overflow, its depth is below
   -- the rank if it did, and it is in no cycle.
   pub record IsSafe (f : Frame I R) : Type 0 where
     pub fitting : IsFitting (scripts f.goal) f.replies
-    pub values : f.met_overflow ≡ false → IsAnswered IsPlain (scripts f.goal) f.replies
-    pub overflow : f.met_overflow ≡ true → IsBelowRank f.goal f.available
-    pub before : f.met_before ≡ true → IsBelowRank f.goal f.available
-    pub cycle : f.in_cycle ≡ true → HasNoRank f.goal
+    pub values : f.met_overflow ≡ false → IsAnswered (IsPlain scripts) (scripts f.goal) f.replies
+    pub overflow : f.met_overflow ≡ true → IsBelowRank scripts f.goal f.available
+    pub before : f.met_before ≡ true → IsBelowRank scripts f.goal f.available
+    pub cycle : f.in_cycle ≡ true → HasNoRank scripts f.goal
     pub within : f.required ≤ f.available
 
   -- each frame is safe, and was asked for by the one below

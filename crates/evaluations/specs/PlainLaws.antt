@@ -3,9 +3,9 @@ use Rattle.std.specs.Prelude.{◌≡◌, ◌≢◌, ℕ, ◌<◌, ◌≤◌, tru
 use Rattle.search_parts.specs.declared.context.Request.{Request}
 use Rattle.search_parts.specs.declared.context.Reply.{Reply}
 use Rattle.search_parts.specs.Run.{request_after, fault_after, IsReplyTo}
-use Rattle.search_parts.specs.Rank.{HasRank, IsPlainValue}
+use Rattle.search_parts.specs.Rank.{HasRank, IsPlainValue, IsPlainTo, HasNoRank, IsPlain, IsBelowRank}
 use Rattle.evaluations.specs.Frames.{Frame, Outcome, fresh, stepped, replied, answered, refused, released, run_again, Asks, IsAllowed, AsksAt}
-use Rattle.evaluations.specs.Plain.{IsPlainTo, HasNoRank, IsPlain, IsBelowRank, IsSafeOutcome, IsSafe, AreSafe, IsOnStack, Leaves, HasRoom, HaveRoom}
+use Rattle.evaluations.specs.Plain.{IsSafeOutcome, IsSafe, AreSafe, IsOnStack, Leaves, HasRoom, HaveRoom}
 
 module _ {I R : Type 0} (scripts : I → List (Reply R) → Request I R) where
   -- Safe frames stay safe when a goal is pushed that the newest asks for.
