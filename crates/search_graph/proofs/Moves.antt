@@ -23,7 +23,8 @@ use Rattle.search_parts.specs.declared.context.Fault.TheVariants.{Memory, Protoc
 use Rattle.search_parts.specs.Run.{IsReplyTo, IsFitting, progress_after, order_fault, fault_after}
 use Rattle.search_parts.specs.Delegate.{CountsOne, Steps, IsCycleResult}
 use Rattle.evaluations.specs.Frames.{Frame, Outcome, replied, answered, refused, run_again, IsAllowed}
-use Rattle.evaluations.specs.Plain.{AreSafe, HasNoRank, IsPlainTo, IsSafeOutcome}
+use Rattle.search_parts.specs.Rank.{HasNoRank, IsPlainTo}
+use Rattle.evaluations.specs.Plain.{AreSafe, IsSafeOutcome}
 use Rattle.evaluations.specs.Evaluation.{IsRooted, IsEvaluating, at, Ends, Stops}
 use Rattle.evaluations.specs.Mirror.{with_replies, TakesStep, TakesReply, ItemLeaves, IsAmong, AreSeen, Mirror, HasRequested, Waits}
 use Rattle.evaluations.proofs.Mirrors.{step_requests, can_take, noted_waits, refused_waits, answered_waits, pushed_waits, rerun_waits, popped_waits, popped_at_limit_waits, last_item_ends, last_item_ends_at_limit, last_run_stops, failed_rerun_stops, WaitsWithLess, first_waits, waits_stops, requested_stops, failed_push_stops, cycle_found, requested_fits, requested_by}

@@ -14,8 +14,7 @@ use Rattle.search_graph.specs.Graph.{IsProved, IsRefuted}
 use Rattle.search_parts.specs.declared.context.Delegate as Delegate
 use Rattle.search_parts.specs.declared.context.Cx as Cx
 use Rattle.search_parts.specs.declared.context.Fault.{Fault}
-use Rattle.search_parts.specs.Rank.{IsPlainValue, frames_within}
-use Rattle.evaluations.specs.Plain.{IsPlainTo}
+use Rattle.search_parts.specs.Rank.{IsPlainTo, IsPlainValue, frames_within}
 use Rattle.evaluations.specs.Price.{IsPaid}
 use Rattle.search_graph.specs.Calls.{Call, runs}
 use Rattle.search_graph.specs.Evaluating.{HasEnded, HasStopped}

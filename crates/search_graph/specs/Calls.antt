@@ -2,17 +2,19 @@
 use Rattle.std.specs.Prelude.{◌≡◌, ℕ, ◌+◌, ◌<◌, ◌≤◌, ◌^◌, max, Bool, true, false}
 use Rattle.search_parts.specs.declared.context.Delegate as Delegate
 use Rattle.search_parts.specs.declared.context.Cx as Cx
-use Rattle.search_parts.specs.Rank.{frames_within}
-use Rattle.evaluations.specs.Plain.{IsPlainTo}
+use Rattle.search_parts.specs.Rank.{IsPlainTo, frames_within}
 use Rattle.evaluations.specs.Evaluation.{Limits}
 
--- an outer call: its goal and depth, the frames started before it, and whether a limit was met before it
+-- An outer call: its goal and depth, the frames started before it, and whether a limit was met before it; whether it is known that
+-- no result that met overflow was stored before it, and that each stored result was yes or no.
 pub record Call (I : Type 0) : Type 0 where
   pub top : I
   pub root : ℕ
   pub fits : root < 2 ^ 64
   pub starts : ℕ
   pub limits_met : Bool
+  pub without_overflow : Bool
+  pub all_definite : Bool
 
 -- the call is one of this goal at this depth
 pub record Outset {I : Type 0} (call : Call I) (input : I) (root starts : ℕ) (met : Bool) : Type 0 where
@@ -33,9 +35,9 @@ module _ {D C V P F I R A T : Type 0} (G : Delegate.Ghosts D C V P F I R A T) (X
   abbrev pub bound : Call I → ℕ
   bound call = call.starts + frames_within runs (G.width cx) call.root
 
-  -- each start is counted, and no limit was met before the call
+  -- each start is counted, and before the call no limit was met and no result that met overflow was stored
   abbrev pub IsCounted : Call I → Type 0
-  IsCounted call = (G.counts ≡ true) × (call.limits_met ≡ false)
+  IsCounted call = (G.counts ≡ true) × (call.limits_met ≡ false) × (call.without_overflow ≡ true)
 
   -- a limit that was met stays met, and none is met in a call whose goal's rank fits its depth
   pub record KeepsLimits (call : Call I) (met : Bool) : Type 0 where

@@ -1,5 +1,5 @@
 -- Goals under evaluation whose answers are all yes or no so far.
-use Rattle.std.specs.Prelude.{◌≡◌, Bool, false, List, [], ◌∷◌, reverse}
+use Rattle.std.specs.Prelude.{◌≡◌, Bool, true, false, List, [], ◌∷◌, reverse}
 use Rattle.std.specs.Option.{IfSome}
 use Rattle.search_parts.specs.declared.context.Request.{Request}
 use Rattle.search_parts.specs.declared.context.Reply.{Reply}
@@ -20,6 +20,6 @@ module _ {X F I R A T : Type 0} (is_yes is_no : R → Bool) where
   AllDecided (s ∷ []) = IsDecided s
   AllDecided (s ∷ p ∷ below) = IsDecided s × IsDecidedKind s.0.step_kind_from_parent × AllDecided (p ∷ below)
 
--- if the scripts are decisive and no limit was met
-abbrev pub WhereDecisive : {I R : Type 0} → (R → Bool) → (R → Bool) → (I → List (Reply R) → Request I R) → Bool → Type 0 → Type 0
-WhereDecisive is_yes is_no scripts met P = IsDecisive is_yes is_no scripts → met ≡ false → P
+-- if the scripts are decisive, no result was stored before that isn't yes or no, and no limit was met
+abbrev pub WhereDecisive : {I R : Type 0} → (R → Bool) → (R → Bool) → (I → List (Reply R) → Request I R) → (all_definite met : Bool) → Type 0 → Type 0
+WhereDecisive is_yes is_no scripts all_definite met P = IsDecisive is_yes is_no scripts × (all_definite ≡ true) → met ≡ false → P

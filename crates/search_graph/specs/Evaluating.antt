@@ -1,13 +1,16 @@
 -- What holds of the goals under evaluation between two moves of a call.
-use Rattle.std.specs.Prelude.{◌≡◌, ℕ, ◌<◌, ◌≤◌, Bool, List, [], ◌∷◌, map}
+use Rattle.std.specs.Prelude.{◌≡◌, ℕ, ◌<◌, ◌≤◌, Bool, false, List, [], ◌∷◌, map}
 use Rattle.search_parts.specs.declared.context.Delegate as Delegate
 use Rattle.search_parts.specs.declared.context.Cx as Cx
 use Rattle.search_parts.specs.declared.context.Request.{Request}
 use Rattle.search_parts.specs.declared.context.Reply.{Reply}
 use Rattle.search_parts.specs.declared.context.Fault.{Fault}
+use Rattle.search_parts.specs.declared.global_cache.results.StoredResult.{StoredResult}
+use Rattle.search_parts.specs.Store.{Store}
+use Rattle.search_graph.specs.Results.{AreDefinite, HaveNoOverflow}
 use Rattle.search_parts.specs.declared.context.Fault.TheVariants.{Memory}
 use Rattle.evaluations.specs.Frames.{Frame, Outcome}
-use Rattle.evaluations.specs.Plain.{IsPlainTo}
+use Rattle.search_parts.specs.Rank.{IsPlainTo}
 use Rattle.evaluations.specs.Evaluation.{Ends, Stops}
 use Rattle.evaluations.specs.Starts.{steps_ahead}
 use Rattle.evaluations.specs.Mirror.{Waits, HasRequested}
@@ -16,7 +19,6 @@ use Rattle.search_parts.specs.Decisive.{IsDecidedReply}
 use Rattle.search_parts.specs.Definite.{IsDefinite}
 use Rattle.search_graph.specs.Decided.{AllDecided, WhereDecisive}
 use Rattle.search_graph.specs.Entries.{is_in_cycle}
-use Rattle.search_graph.specs.Graph.{IsCaused}
 use Rattle.search_graph.specs.Steps.{Item, Stood}
 use Rattle.search_graph.specs.declared.graph.open_goals.Next.{Next}
 use Rattle.search_graph.specs.declared.graph.open_goals.Next.TheVariants.{Step, Finished}
@@ -36,19 +38,31 @@ module _ {D C V P F I R A T : Type 0} (G : Delegate.Ghosts D C V P F I R A T) (X
     in_cycle = is_in_cycle s.0.state;
   }
 
-  -- what holds where the delegate is decisive and no limit was met
-  abbrev pub Decidedly : Bool → Type 0 → Type 0
-  Decidedly met P = WhereDecisive X.is_yes X.is_no (G.script cx) met P
+  -- what holds where the delegate is decisive, and neither stored results nor limits stand against it
+  abbrev pub Decidedly : Call I → Bool → Type 0 → Type 0
+  Decidedly call met P = WhereDecisive X.is_yes X.is_no (G.script cx) call.all_definite met P
 
   -- the newest item waits for the reply
   pub record IsWaiting (call : Call I) (reply : Reply R) (goals : List (Item G X cx)) (starts : ℕ) (met : Bool) : Type 0 where
     pub waits : Waits seen (Stood G X cx) (G.script cx) (limits G X cx call) (IsCounted G X cx call) call.top (bound G X cx call) reply goals starts met
     pub keeps : KeepsLimits G X cx call met
-    pub decided : Decidedly met (AllDecided X.is_yes X.is_no goals × IsDecidedReply X.is_yes X.is_no reply)
+    pub decided : Decidedly call met (AllDecided X.is_yes X.is_no goals × IsDecidedReply X.is_yes X.is_no reply)
 
-  -- the same for each call of this goal at this depth
-  abbrev pub IsLoopWaiting : (input : I) (root before : ℕ) (unmet : Bool) (reply : Reply R) (goals : List (Item G X cx)) (starts : ℕ) (met : Bool) → Type 0
-  IsLoopWaiting input root before unmet reply goals starts met = (call : Call I) → Outset call input root before unmet → IsWaiting call reply goals starts met
+  -- What a call keeps of the stored results: where starts are counted, none met overflow until a limit is met; where the delegate is
+  -- decisive, each is yes or no until then.
+  pub record KeepsStore (same : I → I → Bool) (call : Call I) (met : Bool) (results : Store I (StoredResult C I R A T)) : Type 0 where
+    pub overflow : IsCounted G X cx call → met ≡ false → HaveNoOverflow same results
+    pub definite : Decidedly call met (AreDefinite X.is_yes X.is_no same results)
+
+  -- the call begins with these stored results
+  pub record Begins (same : I → I → Bool) (call : Call I) (input : I) (root starts : ℕ) (met : Bool) (results : Store I (StoredResult C I R A T)) : Type 0 where
+    pub outset : Outset call input root starts met
+    pub store : KeepsStore same call met results
+
+  -- the newest item waits for the reply in each call that began so
+  pub record IsLoopWaiting (same : I → I → Bool) (call : Call I) (reply : Reply R) (goals : List (Item G X cx)) (starts : ℕ) (met : Bool) (results : Store I (StoredResult C I R A T)) : Type 0 where
+    pub waiting : IsWaiting call reply goals starts met
+    pub store : KeepsStore same call met results
 
   -- the steps that are left at most
   abbrev pub work_left : List (Item G X cx) → ℕ
@@ -58,7 +72,7 @@ module _ {D C V P F I R A T : Type 0} (G : Delegate.Ghosts D C V P F I R A T) (X
   pub record HasAsked (call : Call I) (ahead : ℕ) (request : Request I R) (goals : List (Item G X cx)) (starts : ℕ) (met : Bool) : Type 0 where
     pub asked : HasRequested seen (Stood G X cx) (G.script cx) (limits G X cx call) (IsCounted G X cx call) call.top (bound G X cx call) ahead request goals starts met
     pub keeps : KeepsLimits G X cx call met
-    pub decided : Decidedly met (AllDecided X.is_yes X.is_no goals)
+    pub decided : Decidedly call met (AllDecided X.is_yes X.is_no goals)
 
   -- the newest item waits for the reply, and less work is left
   pub record GoesOn (call : Call I) (ahead : ℕ) (reply : Reply R) (goals : List (Item G X cx)) (starts : ℕ) (met : Bool) : Type 0 where
@@ -71,13 +85,12 @@ module _ {D C V P F I R A T : Type 0} (G : Delegate.Ghosts D C V P F I R A T) (X
     pub result_is : outcome.result ≡ r
     pub ends : Ends (G.script cx) (limits G X cx call) (IsCounted G X cx call) call.top (bound G X cx call) starts met outcome
     pub keeps : KeepsLimits G X cx call met
-    pub decided : Decidedly met (IsDefinite X.is_yes X.is_no r)
+    pub decided : Decidedly call met (IsDefinite X.is_yes X.is_no r)
 
-  -- the call stopped with a fault, which has its cause, and is want of memory where the goal's rank fits its depth
+  -- the call stopped with a fault, which is want of memory where the goal's rank fits its depth
   pub record HasStopped (call : Call I) (fault : Fault I R) (starts : ℕ) (met : Bool) : Type 0 where
     pub stops : Stops (G.script cx) (limits G X cx call) (IsCounted G X cx call) (bound G X cx call) starts met
     pub keeps : KeepsLimits G X cx call met
-    pub caused : IsCaused (G.script cx) fault
     pub plain : (n : ℕ) → IsPlainTo (G.script cx) n call.top → n ≤ call.root → fault ≡ Memory
 
   -- the item is the only one, and of this goal

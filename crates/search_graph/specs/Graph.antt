@@ -1,13 +1,17 @@
 -- What a search graph is between its calls, and what its answers say.
-use Rattle.std.specs.Prelude.{◌≡◌, ◌⊎◌, ℕ, Bool, List, Option, Some}
-use Rattle.std.specs.Option.{IsSomeAnd}
+use Rattle.std.specs.Prelude.{◌≡◌, ◌≢◌, ◌⊎◌, ℕ, Bool, true, List, Option, Some}
+use Rattle.std.specs.Option.{IsSomeAnd, option_map}
 use Rattle.search_parts.specs.declared.context.Cx as Cx
+use Rattle.search_parts.specs.declared.context.Delegate as Delegate
 use Rattle.search_parts.specs.declared.context.NodeId.{NodeId}
 use Rattle.search_parts.specs.declared.context.Request.{Request}
+use Rattle.search_parts.specs.declared.context.Request.TheVariants.{Done}
 use Rattle.search_parts.specs.declared.context.Reply.{Reply}
 use Rattle.search_parts.specs.declared.context.Fault.{Fault}
-use Rattle.search_parts.specs.declared.context.Fault.TheVariants.{Memory, Protocol}
-use Rattle.search_parts.specs.Run.{IsFitting, fault_after}
+use Rattle.search_parts.specs.declared.context.Fault.TheVariants.{Conflict, Memory, Protocol}
+use Rattle.search_parts.specs.declared.global_cache.results.Place.{Place}
+use Rattle.search_parts.specs.Run.{IsFitting, fault_after, request_after}
+use Rattle.search_parts.specs.Store.{stored_at}
 use Rattle.search_parts.specs.Cache.{Cache, graph_nodes_of}
 use Rattle.search_parts.specs.Graph.{GraphNode, IsProofGraph, IsRefutationGraph}
 
@@ -15,12 +19,6 @@ use Rattle.search_parts.specs.Graph.{GraphNode, IsProofGraph, IsRefutationGraph}
 pub record Graph : Type 0 where
   pub root_depth : ℕ
   pub limits_met : Bool
-
--- memory is out, or some goal's script makes a request out of order after replies that fit
-abbrev pub IsCaused : {I R : Type 0} → (I → List (Reply R) → Request I R) → Fault I R → Type 0
-IsCaused {I} {R} scripts fault =
-    (fault ≡ Memory)
-    ⊎ ((goal : I) × (replies : List (Reply R)) × (number : ℕ) × IsFitting (scripts goal) replies × (fault_after (scripts goal) replies ≡ Some number) × (fault ≡ Protocol number))
 
 module _ {C I R A T : Type 0} (X : Cx.Ghosts C I R A T) (cache : Cache C I R A T) (goal : I) (node : Option NodeId) where
   -- the node is the root of a proof graph of the goal, which has no refutation graph anywhere
@@ -32,3 +30,26 @@ module _ {C I R A T : Type 0} (X : Cx.Ghosts C I R A T) (cache : Cache C I R A T
   pub record IsRefuted : Type 0 where
     pub graph : IsSomeAnd node (λ root. IsRefutationGraph (X.refutes cache.cx) (graph_nodes_of cache.nodes) root.0 goal)
     pub never_proved : (others : List (GraphNode I)) (top : ℕ) → IsProofGraph (X.proves cache.cx) others top goal → ⊥
+
+-- The goal came to the result: its script did after replies that fit, or it had its most runs.
+abbrev pub ComesTo : {I R : Type 0} → (I → List (Reply R) → Request I R) → (I → R) → I → R → Type 0
+ComesTo {I} {R} scripts limit_result goal r =
+    ((replies : List (Reply R)) × IsFitting (scripts goal) replies × (request_after (scripts goal) replies ≡ Some (Done r)))
+    ⊎ (r ≡ limit_result goal)
+
+module _ {D C V P F I R A T : Type 0} (G : Delegate.Ghosts D C V P F I R A T) (X : Cx.Ghosts C I R A T) (same : I → I → Bool) (cache : Cache C I R A T) where
+  -- The goal came to `found`, and the cache holds another result of it in the same place. If `found` is yes or no, that has its graph.
+  pub record Conflicts (goal : I) (stored found : R) : Type 0 where
+    pub place : Place
+    pub is_stored : option_map (λ s. s.result.result) (stored_at same cache.results goal place) ≡ Some stored
+    pub differs : stored ≢ found
+    pub comes : ComesTo (G.script cache.cx) (G.fixpoint_overflow cache.cx) goal found
+    pub node : Option NodeId
+    pub is_proved : X.is_yes found ≡ true → IsProved X cache goal node
+    pub is_refuted : X.is_no found ≡ true → IsRefuted X cache goal node
+
+  -- memory is out, some goal's script makes a request out of order after replies that fit, or two results conflict
+  pub data IsCaused (fault : Fault I R) : Type 0 where
+    OutOfMemory : fault ≡ Memory → IsCaused fault
+    OutOfOrder : (goal : I) (replies : List (Reply R)) (number : ℕ) → IsFitting (G.script cache.cx goal) replies → fault_after (G.script cache.cx goal) replies ≡ Some number → fault ≡ Protocol number → IsCaused fault
+    OtherResult : (goal : I) (stored found : R) → Conflicts goal stored found → fault ≡ Conflict goal stored found → IsCaused fault

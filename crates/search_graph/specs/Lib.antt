@@ -1,5 +1,6 @@
 pub mod Newest
 pub mod Entries
+pub mod Results
 pub mod NestedGoals
 pub mod LookUp
 pub mod Items
@@ -10,6 +11,7 @@ pub mod Evaluating
 pub mod Moves
 pub mod Graph
 pub mod Justified
+pub mod Free
 pub mod Progress
 pub mod Runs
 pub mod RunEnds

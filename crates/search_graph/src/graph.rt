@@ -1,14 +1,16 @@
 //! The search graph. It keeps the goals under evaluation in one list and works through them in one loop, so
 //! that no depth of goals takes native stack.
-ghost use Rattle.std.specs.Prelude.{◌≡◌, ◌≤◌, ◌+◌, ℕ, Bool, true, false, None, IsTrue, IfOk, IfErr, max};
-ghost use Rattle.search_parts.specs.Rank.{IsPlainValue, frames_within};
+ghost use Rattle.std.specs.Prelude.{◌≡◌, ◌≤◌, ◌+◌, ℕ, Bool, true, false, None, IsTrue, IfOk, IfErr, IfSome, Ok, max};
+ghost use Rattle.search_parts.specs.LookUp.{first_accepted, usable};
+ghost use Rattle.search_parts.specs.Rank.{IsPlainTo, IsPlainValue, frames_within};
+ghost use Rattle.search_parts.specs.Store.{KeepsResults};
 ghost use Rattle.search_parts.specs.declared.context.Fault.TheVariants.{Memory};
 ghost use Rattle.search_parts.specs.Cache.{KeepsFinished};
 ghost use Rattle.search_parts.specs.Decisive.{IsDecisive};
 ghost use Rattle.search_parts.specs.Definite.{IsDefinite};
-ghost use Rattle.evaluations.specs.Plain.{IsPlainTo};
 ghost use Rattle.evaluations.specs.Price.{IsPaid};
 ghost use Rattle.search_graph.specs.Graph.{IsCaused, IsProved, IsRefuted};
+ghost use Rattle.search_graph.specs.Results.{AreDefinite, HaveNoOverflow};
 
 mod evaluate;
 mod finish;
@@ -86,9 +88,14 @@ impl<D: Delegate> SearchGraph<D> {
     /// The answer to a goal, evaluated over the cache's context, which is asked by a step of this kind. A
     /// definite answer names its node, the root of its graph in the cache's list.
     ///
+    /// The results of this goal and of those that it asks are stored in the cache, and used again, unless
+    /// they rest on a goal that was under evaluation.
+    ///
     /// `Fault::Memory` where a growth was refused or a frame answered `NoMemory`, `Fault::Protocol` where a
-    /// frame's request came out of order. After a fault the graph can be used again, and nodes that no
-    /// answer reaches may stay in the cache. Ports `SearchGraph::evaluate_goal`.
+    /// frame's request came out of order, `Fault::Conflict` where a goal came to another result than the one
+    /// that is stored in the same place. After a fault the graph can be used again, the cache keeps every
+    /// result that it had and those that were stored since, and nodes that no answer reaches may stay in it.
+    /// Ports `SearchGraph::evaluate_goal`.
     pub fn evaluate_goal(
         &mut self,
         cache: &mut GlobalCache<D>,
@@ -110,23 +117,30 @@ impl<D: Delegate> SearchGraph<D> {
         ensures plain_limits { (n : ℕ) → IsPlainTo (D.script cache.old.cx) n input → n ≤ self.old.root_depth →
             self.new.limits_met ≡ self.old.limits_met }
 
-        // Where scripts ask inductively and coinductively alone and decide after decided answers, an answer
-        // without a limit met is yes or no.
-        ensures decisive { IsDecisive D.Cx.is_yes D.Cx.is_no (D.script cache.old.cx) → self.new.limits_met ≡ false →
+        // Where scripts ask inductively and coinductively alone and decide after decided answers, and each stored
+        // result is yes or no, an answer without a limit met is yes or no. So is each stored result then, also
+        // after a fault.
+        ensures decisive { IsDecisive D.Cx.is_yes D.Cx.is_no (D.script cache.old.cx) → AreDefinite D.Cx.is_yes D.Cx.is_no D.Cx.Input.eq cache.old.results → self.new.limits_met ≡ false →
             IfOk result (λ answer. IsDefinite D.Cx.is_yes D.Cx.is_no answer.result) }
+        ensures decisive_results { IsDecisive D.Cx.is_yes D.Cx.is_no (D.script cache.old.cx) → AreDefinite D.Cx.is_yes D.Cx.is_no D.Cx.Input.eq cache.old.results → self.new.limits_met ≡ false →
+            AreDefinite D.Cx.is_yes D.Cx.is_no D.Cx.Input.eq cache.new.results }
 
-        // A fault is want of memory, or some goal's script makes a request out of order.
-        ensures faults { IfErr result (IsCaused (D.script cache.old.cx)) }
+        // A goal that a stored result answers takes no memory and starts no frame.
+        ensures stored { IfSome (first_accepted (λ _. true) (usable D.Cx.Input.eq cache.old.results input self.old.root_depth)) (λ hit.
+            (result ≡ Ok (record { result = hit.result; node = hit.node })) × (D.starts inspect.new ≡ D.starts inspect.old) × (self.new ≡ self.old) × (cache.new ≡ cache.old)) }
+
+        // A fault is want of memory, a request of some goal's script out of order, or another result that is stored.
+        ensures faults { IfErr result (IsCaused D.Delegate D.Cx.Cx D.Cx.Input.eq cache.new) }
 
         // The frames that are started are within a bound, and a limit has its price in frames.
         ensures frames { D.starts inspect.new ≤ D.starts inspect.old + frames_within (max 1 D.FIXPOINT_STEP_LIMIT) (D.width cache.old.cx) self.old.root_depth }
-        ensures price { D.counts ≡ true → self.old.limits_met ≡ false → self.new.limits_met ≡ true →
+        ensures price { D.counts ≡ true → HaveNoOverflow D.Cx.Input.eq cache.old.results → self.old.limits_met ≡ false → self.new.limits_met ≡ true →
             IsPaid (max 1 D.FIXPOINT_STEP_LIMIT) self.old.root_depth D.last (D.starts inspect.old) (D.starts inspect.new) }
 
         ensures same_depth { self.new.root_depth ≡ self.old.root_depth }
         ensures limits_stay { self.old.limits_met ≡ true → self.new.limits_met ≡ true }
         ensures same_context { cache.new.cx ≡ cache.old.cx }
-        ensures same_results { cache.new.results ≡ cache.old.results }
+        ensures kept_results { KeepsResults D.Cx.Input.eq cache.old.results cache.new.results }
         ensures kept { KeepsFinished cache.old.nodes cache.new.nodes }
     {
         let root_depth = self.root_depth;

@@ -1,8 +1,12 @@
 //! The evaluation of a goal: one loop over the goals under evaluation.
-ghost use Rattle.std.specs.Prelude.{◌≡◌, ◌<◌, ◌^◌, ◌∷◌, ℕ, [], length, IfOk, IfErr, OnOk, Some};
+ghost use Rattle.std.specs.Prelude.{◌≡◌, ◌<◌, ◌^◌, ◌∷◌, ℕ, [], length, true, IfOk, IfErr, IfSome, OnOk, Ok, Some};
 ghost use Rattle.search_parts.specs.Cache.{KeepsFinished};
-ghost use Rattle.search_graph.specs.Calls.{Call, Outset};
-ghost use Rattle.search_graph.specs.Evaluating.{IsWaiting, Leads, HasEnded, HasStopped, work_left};
+ghost use Rattle.search_parts.specs.LookUp.{first_accepted, usable};
+ghost use Rattle.search_parts.specs.Store.{KeepsResults};
+ghost use Rattle.search_graph.specs.Calls.{Call};
+ghost use Rattle.search_graph.specs.Evaluating.{Begins, IsWaiting, KeepsStore, Leads, HasEnded, HasStopped, work_left};
+ghost use Rattle.search_graph.specs.Free.{AreFree};
+ghost use Rattle.search_graph.specs.Graph.{IsCaused};
 ghost use Rattle.search_parts.specs.Definite.{HasGraph};
 ghost use Rattle.search_graph.specs.Justified.{AreJustified, IsFit};
 ghost use Rattle.search_graph.specs.Runs.{runs_of, IsJustifiedNext};
@@ -28,13 +32,18 @@ pub(crate) fn evaluate<D: Delegate>(
 ) -> Result<Answer<<D::Cx as Cx>::Result>, Fault<<D::Cx as Cx>::Input, <D::Cx as Cx>::Result>>
     requires { goals.old ≡ [] }
     ensures empty { OnOk result (goals.new ≡ []) }
-    ensures ended { (call : Call D.Cx.Input) → Outset call input root_depth.0 (D.starts inspect.old) limits_met.old →
+    ensures ended { (call : Call D.Cx.Input) → Begins D.Delegate D.Cx.Cx cache.old.cx D.Cx.Input.eq call input root_depth.0 (D.starts inspect.old) limits_met.old cache.old.results →
         IfOk result (λ answer. HasEnded D.Delegate D.Cx.Cx cache.old.cx call answer.result (D.starts inspect.new) limits_met.new) }
-    ensures stopped { (call : Call D.Cx.Input) → Outset call input root_depth.0 (D.starts inspect.old) limits_met.old →
+    ensures stopped { (call : Call D.Cx.Input) → Begins D.Delegate D.Cx.Cx cache.old.cx D.Cx.Input.eq call input root_depth.0 (D.starts inspect.old) limits_met.old cache.old.results →
         IfErr result (λ fault. HasStopped D.Delegate D.Cx.Cx cache.old.cx call fault (D.starts inspect.new) limits_met.new) }
+    ensures keeps { (call : Call D.Cx.Input) → Begins D.Delegate D.Cx.Cx cache.old.cx D.Cx.Input.eq call input root_depth.0 (D.starts inspect.old) limits_met.old cache.old.results →
+        KeepsStore D.Delegate D.Cx.Cx cache.old.cx D.Cx.Input.eq call limits_met.new cache.new.results }
+    ensures stored { IfSome (first_accepted (λ _. true) (usable D.Cx.Input.eq cache.old.results input root_depth.0)) (λ hit.
+        (result ≡ Ok (record { result = hit.result; node = hit.node })) × (D.starts inspect.new ≡ D.starts inspect.old) × (limits_met.new ≡ limits_met.old) × (cache.new ≡ cache.old)) }
+    ensures caused { IfErr result (IsCaused D.Delegate D.Cx.Cx D.Cx.Input.eq cache.new) }
     ensures has_graph { IfOk result (λ answer. HasGraph D.Cx.is_yes D.Cx.is_no cache.new.nodes input answer.result answer.node) }
     ensures same_context { cache.new.cx ≡ cache.old.cx }
-    ensures same_results { cache.new.results ≡ cache.old.results }
+    ensures kept_results { KeepsResults D.Cx.Input.eq cache.old.results cache.new.results }
     ensures kept { KeepsFinished cache.old.nodes cache.new.nodes }
 {
     if let Some(stored) = look_up::<D>(cache, goals.stack(), input, root_depth) {
@@ -65,13 +74,19 @@ fn advance<D: Delegate>(
     requires waiting { (call : Call D.Cx.Input) × IsWaiting D.Delegate D.Cx.Cx cache.old.cx call received.reply goals.old (D.starts inspect.old) limits_met.old }
     requires justified { AreJustified D.Cx.is_yes D.Cx.is_no cache.old.nodes (runs_of goals.old) }
     requires fits { IsFit D.Cx.is_yes D.Cx.is_no cache.old.nodes (runs_of goals.old) received.reply received.node }
+    requires free { AreFree D.Cx.is_yes D.Cx.is_no D.Cx.Input.eq cache.old.nodes (runs_of goals.old) cache.old.results }
     ensures leads { (call : Call D.Cx.Input) → IsWaiting D.Delegate D.Cx.Cx cache.old.cx call received.reply goals.old (D.starts inspect.old) limits_met.old →
+        KeepsStore D.Delegate D.Cx.Cx cache.old.cx D.Cx.Input.eq call limits_met.old cache.old.results →
         IfOk result (λ next. Leads D.Delegate D.Cx.Cx cache.old.cx call (work_left D.Delegate D.Cx.Cx cache.old.cx goals.old) goals.old next goals.new (D.starts inspect.new) limits_met.new) }
     ensures stopped { (call : Call D.Cx.Input) → IsWaiting D.Delegate D.Cx.Cx cache.old.cx call received.reply goals.old (D.starts inspect.old) limits_met.old →
         IfErr result (λ fault. HasStopped D.Delegate D.Cx.Cx cache.old.cx call fault (D.starts inspect.new) limits_met.new) }
+    ensures keeps { (call : Call D.Cx.Input) → IsWaiting D.Delegate D.Cx.Cx cache.old.cx call received.reply goals.old (D.starts inspect.old) limits_met.old →
+        KeepsStore D.Delegate D.Cx.Cx cache.old.cx D.Cx.Input.eq call limits_met.old cache.old.results → KeepsStore D.Delegate D.Cx.Cx cache.old.cx D.Cx.Input.eq call limits_met.new cache.new.results }
+    ensures caused { IfErr result (IsCaused D.Delegate D.Cx.Cx D.Cx.Input.eq cache.new) }
     ensures justified { IfOk result (λ next. IsJustifiedNext D.Cx.is_yes D.Cx.is_no cache.new.nodes goals.old goals.new next) }
+    ensures free { OnOk result (AreFree D.Cx.is_yes D.Cx.is_no D.Cx.Input.eq cache.new.nodes (runs_of goals.new) cache.new.results) }
     ensures same_context { cache.new.cx ≡ cache.old.cx }
-    ensures same_results { cache.new.results ≡ cache.old.results }
+    ensures kept_results { KeepsResults D.Cx.Input.eq cache.old.results cache.new.results }
     ensures kept { KeepsFinished cache.old.nodes cache.new.nodes }
 {
     let cx = cache.cx();

@@ -5,16 +5,20 @@ ghost use Rattle.search_parts.specs.Cache.{KeepsFinished};
 ghost use Rattle.search_parts.specs.Definite.{IsDefinite};
 ghost use Rattle.search_parts.specs.Delegate.{CountsOne};
 ghost use Rattle.search_parts.specs.Shapes.{verdict_of};
+ghost use Rattle.search_parts.specs.Store.{KeepsResults};
 ghost use Rattle.search_parts.specs.declared.context.Request.TheVariants.{Done};
 ghost use Rattle.search_parts.specs.declared.context.Fault.TheVariants.{Memory};
 ghost use Rattle.search_graph.specs.declared.graph.finish.RunEnd.TheVariants.{Again};
 ghost use Rattle.search_graph.specs.Calls.{Call};
-ghost use Rattle.search_graph.specs.Evaluating.{HasAsked, HasStopped, Leads};
+ghost use Rattle.search_graph.specs.Evaluating.{HasAsked, HasStopped, KeepsStore, Leads};
+ghost use Rattle.search_graph.specs.Free.{AreFree};
+ghost use Rattle.search_graph.specs.Graph.{IsCaused};
+ghost use Rattle.search_graph.specs.Results.{IsNewestPlainTo, MayPutNewest, NewestComesTo, NewestIsPlain};
 ghost use Rattle.search_graph.specs.Justified.{in_theory, AreJustified};
 ghost use Rattle.search_graph.specs.Moves.{CanLeave, Leaves, Reruns};
 ghost use Rattle.search_graph.specs.Newest.{newest};
 ghost use Rattle.search_graph.specs.RunEnds.{IsRunEnd, IsStable, ReachedFixpoint};
-ghost use Rattle.search_graph.specs.Runs.{runs_of, EndsRun, EndsNewest, IsClosedWithoutHeads, IsSettled, IsJustifiedNext};
+ghost use Rattle.search_graph.specs.Runs.{runs_of, EndsRun, EndsNewest, IsSettled, IsJustifiedNext};
 
 use crate::graph::open_goals::{Next, OpenGoals, Received, Run};
 use crate::graph::progress::Progress;
@@ -22,7 +26,6 @@ use crate::graph::store::store_answer;
 use search_parts::context::{Answer, Cx, Delegate, Fault, NoMemory, NodeId, Reply, Verdict};
 use search_parts::global_cache::GlobalCache;
 use search_parts::parts::{EntryState, EvaluationResult, HeadUsages};
-use search_parts::path::PathKind;
 
 /// What becomes of a goal whose run has ended.
 #[derive(Clone, Copy)]
@@ -46,13 +49,18 @@ pub(crate) fn finish_run<D: Delegate>(
 ) -> Result<Next<<D::Cx as Cx>::Result>, Fault<<D::Cx as Cx>::Input, <D::Cx as Cx>::Result>>
     requires asked { (call : Call D.Cx.Input) × (ahead : ℕ) × HasAsked D.Delegate D.Cx.Cx cache.old.cx call ahead (Done outcome) goals.old (D.starts inspect.old) limits_met.old }
     requires justified { AreJustified D.Cx.is_yes D.Cx.is_no cache.old.nodes (runs_of goals.old) }
+    requires free { AreFree D.Cx.is_yes D.Cx.is_no D.Cx.Input.eq cache.old.nodes (runs_of goals.old) cache.old.results }
     ensures leads { (call : Call D.Cx.Input) (ahead : ℕ) → HasAsked D.Delegate D.Cx.Cx cache.old.cx call ahead (Done outcome) goals.old (D.starts inspect.old) limits_met.old →
         IfOk result (λ next. Leads D.Delegate D.Cx.Cx cache.old.cx call ahead goals.old next goals.new (D.starts inspect.new) limits_met.new) }
     ensures stops { (call : Call D.Cx.Input) (ahead : ℕ) → HasAsked D.Delegate D.Cx.Cx cache.old.cx call ahead (Done outcome) goals.old (D.starts inspect.old) limits_met.old →
-        IfErr result (λ _. HasStopped D.Delegate D.Cx.Cx cache.old.cx call Memory (D.starts inspect.new) limits_met.new) }
+        IfErr result (λ fault. HasStopped D.Delegate D.Cx.Cx cache.old.cx call fault (D.starts inspect.new) limits_met.new) }
+    ensures keeps { (call : Call D.Cx.Input) (ahead : ℕ) → HasAsked D.Delegate D.Cx.Cx cache.old.cx call ahead (Done outcome) goals.old (D.starts inspect.old) limits_met.old →
+        KeepsStore D.Delegate D.Cx.Cx cache.old.cx D.Cx.Input.eq call limits_met.old cache.old.results → KeepsStore D.Delegate D.Cx.Cx cache.old.cx D.Cx.Input.eq call limits_met.new cache.new.results }
+    ensures caused { IfErr result (IsCaused D.Delegate D.Cx.Cx D.Cx.Input.eq cache.new) }
     ensures justified { IfOk result (λ next. IsJustifiedNext D.Cx.is_yes D.Cx.is_no cache.new.nodes goals.old goals.new next) }
+    ensures free { OnOk result (AreFree D.Cx.is_yes D.Cx.is_no D.Cx.Input.eq cache.new.nodes (runs_of goals.new) cache.new.results) }
     ensures same_context { cache.new.cx ≡ cache.old.cx }
-    ensures same_results { cache.new.results ≡ cache.old.results }
+    ensures kept_results { KeepsResults D.Cx.Input.eq cache.old.results cache.new.results }
     ensures kept { KeepsFinished cache.old.nodes cache.new.nodes }
 {
     let end = end_of_run::<D>(
@@ -141,12 +149,18 @@ fn finish_goal<D: Delegate>(
 ) -> Result<Next<<D::Cx as Cx>::Result>, Fault<<D::Cx as Cx>::Input, <D::Cx as Cx>::Result>>
     requires leaves { CanLeave goals.old }
     requires ends { IsDefinite D.Cx.is_yes D.Cx.is_no outcome → EndsNewest D.Cx.is_yes D.Cx.is_no (D.script cache.old.cx) goals.old outcome }
+    requires comes { NewestComesTo (D.script cache.old.cx) (D.fixpoint_overflow cache.old.cx) goals.old outcome }
+    requires plain { NewestIsPlain (D.script cache.old.cx) goals.old outcome }
     requires justified { AreJustified D.Cx.is_yes D.Cx.is_no cache.old.nodes (runs_of goals.old) }
+    requires free { AreFree D.Cx.is_yes D.Cx.is_no D.Cx.Input.eq cache.old.nodes (runs_of goals.old) cache.old.results }
     ensures left { IfOk result (λ next. Leaves outcome goals.old next goals.new) }
-    ensures closed { IfOk result (λ next. IsClosedWithoutHeads D.Cx.is_yes D.Cx.is_no cache.new.nodes goals.old outcome next) }
     ensures justified { IfOk result (λ next. IsJustifiedNext D.Cx.is_yes D.Cx.is_no cache.new.nodes goals.old goals.new next) }
+    ensures stored { MayPutNewest D.Cx.Input.eq goals.old outcome cache.old.results cache.new.results }
+    ensures free { OnOk result (AreFree D.Cx.is_yes D.Cx.is_no D.Cx.Input.eq cache.new.nodes (runs_of goals.new) cache.new.results) }
+    ensures caused { IfErr result (IsCaused D.Delegate D.Cx.Cx D.Cx.Input.eq cache.new) }
+    ensures plain { (n : ℕ) → IsNewestPlainTo (D.script cache.old.cx) n goals.old → IfErr result (λ fault. fault ≡ Memory) }
     ensures same_context { cache.new.cx ≡ cache.old.cx }
-    ensures same_results { cache.new.results ≡ cache.old.results }
+    ensures kept_results { KeepsResults D.Cx.Input.eq cache.old.results cache.new.results }
     ensures kept { KeepsFinished cache.old.nodes cache.new.nodes }
 {
     let (entry, run) = goals.pop();
@@ -163,26 +177,17 @@ fn finish_goal<D: Delegate>(
     let input = entry.input();
     let node = settle_node::<D>(cache, &entry.state, own_node, progress, outcome)?;
     let answer = EvaluationResult::finalize(entry, encountered_overflow, outcome, node);
-    let next = give_answer(goals, step, &answer)?;
-    store_answer::<D>(cache, input, answer)?;
-    Ok(next)
-}
-
-/// Gives the answer of a goal that was taken to the goal below it, which asked for it by this step. Where
-/// none is left it is the answer to the call.
-fn give_answer<X: Cx, F: Drop>(
-    goals: &mut OpenGoals<X, F>,
-    step: PathKind,
-    answer: &EvaluationResult<X>,
-) -> Result<Next<X::Result>, NoMemory>
-{
-    let EvaluationResult { result, node, .. } = *answer;
     if goals.len() == 0 {
-        return Ok(Next::Finished(Answer { result, node }));
+        store_answer::<D>(cache, input, answer)?;
+        return Ok(Next::Finished(Answer {
+            result: outcome,
+            node,
+        }));
     }
-    goals.note_answer(step, answer)?;
+    goals.note_answer(step, &answer)?;
+    store_answer::<D>(cache, input, answer)?;
     Ok(Next::Step(Received {
-        reply: Reply::Answer(result),
+        reply: Reply::Answer(outcome),
         node,
     }))
 }
@@ -200,6 +205,8 @@ fn run_again<D: Delegate>(
     requires justified { AreJustified D.Cx.is_yes D.Cx.is_no cache.old.nodes (runs_of goals.old) }
     ensures reran { OnOk result (Reruns D.Delegate D.Cx.Cx cache.old.cx outcome goals.old goals.new) }
     ensures justified { OnOk result (AreJustified D.Cx.is_yes D.Cx.is_no cache.new.nodes (runs_of goals.new)) }
+    ensures free { AreFree D.Cx.is_yes D.Cx.is_no D.Cx.Input.eq cache.old.nodes (runs_of goals.old) cache.old.results →
+        OnOk result (AreFree D.Cx.is_yes D.Cx.is_no D.Cx.Input.eq cache.new.nodes (runs_of goals.new) cache.old.results) }
     ensures same_context { cache.new.cx ≡ cache.old.cx }
     ensures same_results { cache.new.results ≡ cache.old.results }
     ensures kept { KeepsFinished cache.old.nodes cache.new.nodes }

@@ -1,6 +1,6 @@
 //! What a question comes to: it is refused, is answered by a stored result or where its goal is under
 //! evaluation already, or puts its goal on top.
-ghost use Rattle.std.specs.Prelude.{◌≡◌, ◌≤◌, ◌<◌, ◌+◌, ℕ, false, true, List, length, map, reverse, unwrap_or, IfOk, OnOk, IfErr, Some};
+ghost use Rattle.std.specs.Prelude.{◌≡◌, ◌≤◌, ◌<◌, ◌+◌, ◌^◌, ℕ, false, true, List, length, map, reverse, unwrap_or, IfOk, IfSome, OnOk, IfErr, None, Some};
 ghost use Rattle.std.specs.List.{list_any, position};
 ghost use Rattle.std.specs.Option.{option_map, option_and_then};
 ghost use Rattle.search_parts.specs.Stack.{depth_below};
@@ -10,7 +10,9 @@ ghost use Rattle.search_parts.specs.declared.context.Request.TheVariants.{Evalua
 ghost use Rattle.search_parts.specs.declared.context.Fault.TheVariants.{Memory};
 ghost use Rattle.search_graph.specs.Newest.{newest};
 ghost use Rattle.search_graph.specs.Calls.{Call};
-ghost use Rattle.search_graph.specs.Evaluating.{HasAsked, GoesOn, HasStopped};
+ghost use Rattle.search_graph.specs.Evaluating.{HasAsked, GoesOn, HasStopped, KeepsStore};
+ghost use Rattle.search_graph.specs.Free.{AreFree};
+ghost use Rattle.search_graph.specs.LookUp.{UsesStored};
 ghost use Rattle.search_graph.specs.Moves.{ClosesCycle, Pushes};
 ghost use Rattle.search_graph.specs.Justified.{Asks, AreJustified, IsFit};
 ghost use Rattle.search_graph.specs.Runs.{runs_of};
@@ -37,11 +39,16 @@ pub(crate) fn ask<D: Delegate>(
     requires some { 0 < length goals.old }
     requires asks { Asks (runs_of goals.old) kind input }
     requires justified { AreJustified D.Cx.is_yes D.Cx.is_no cache.old.nodes (runs_of goals.old) }
+    requires free { AreFree D.Cx.is_yes D.Cx.is_no D.Cx.Input.eq cache.old.nodes (runs_of goals.old) cache.old.results }
     ensures goes_on { (call : Call D.Cx.Input) (ahead : ℕ) → HasAsked D.Delegate D.Cx.Cx cache.old.cx call ahead (Evaluate kind input) goals.old (D.starts inspect.old) limits_met.old →
+        KeepsStore D.Delegate D.Cx.Cx cache.old.cx D.Cx.Input.eq call limits_met.old cache.old.results →
         IfOk result (λ received. GoesOn D.Delegate D.Cx.Cx cache.old.cx call ahead received.reply goals.new (D.starts inspect.new) limits_met.new) }
     ensures stops { (call : Call D.Cx.Input) (ahead : ℕ) → HasAsked D.Delegate D.Cx.Cx cache.old.cx call ahead (Evaluate kind input) goals.old (D.starts inspect.old) limits_met.old →
         IfErr result (λ _. HasStopped D.Delegate D.Cx.Cx cache.old.cx call Memory (D.starts inspect.new) limits_met.new) }
+    ensures keeps { (call : Call D.Cx.Input) → KeepsStore D.Delegate D.Cx.Cx cache.old.cx D.Cx.Input.eq call limits_met.old cache.old.results →
+        KeepsStore D.Delegate D.Cx.Cx cache.old.cx D.Cx.Input.eq call limits_met.new cache.old.results }
     ensures justified { OnOk result (AreJustified D.Cx.is_yes D.Cx.is_no cache.new.nodes (runs_of goals.new)) }
+    ensures free { OnOk result (AreFree D.Cx.is_yes D.Cx.is_no D.Cx.Input.eq cache.new.nodes (runs_of goals.new) cache.old.results) }
     ensures fits { IfOk result (λ received. IsFit D.Cx.is_yes D.Cx.is_no cache.new.nodes (runs_of goals.new) received.reply received.node) }
     ensures same_context { cache.new.cx ≡ cache.old.cx }
     ensures same_results { cache.new.results ≡ cache.old.results }
@@ -72,6 +79,10 @@ fn answer_from_cache<D: Delegate>(
     input: <D::Cx as Cx>::Input,
     depth: AvailableDepth,
 ) -> Result<Option<Received<<D::Cx as Cx>::Result>>, NoMemory>
+    requires some { 0 < length goals.old }
+    requires fits { depth.0 + 1 < 2 ^ 64 }
+    ensures unused { IfOk result (λ answer. answer ≡ None → goals.new ≡ goals.old) }
+    ensures used { IfOk result (λ answer. IfSome answer (λ received. UsesStored D.Cx.Input.eq (D.script cache.now.cx) cache.now.results step input depth.0 received goals.old goals.new)) }
 {
     let Some(stored) = look_up::<D>(cache, goals.stack(), input, depth) else {
         return Ok(None);
@@ -153,6 +164,8 @@ pub(crate) fn push_goal<D: Delegate>(
     requires justified { AreJustified D.Cx.is_yes D.Cx.is_no cache.old.nodes (runs_of goals.old) }
     ensures pushed { OnOk result (Pushes D.Delegate D.Cx.Cx cache.old.cx input step_kind depth goals.old goals.new) }
     ensures justified { OnOk result (AreJustified D.Cx.is_yes D.Cx.is_no cache.new.nodes (runs_of goals.new)) }
+    ensures free { AreFree D.Cx.is_yes D.Cx.is_no D.Cx.Input.eq cache.old.nodes (runs_of goals.old) cache.old.results →
+        OnOk result (AreFree D.Cx.is_yes D.Cx.is_no D.Cx.Input.eq cache.new.nodes (runs_of goals.new) cache.old.results) }
     ensures same_context { cache.new.cx ≡ cache.old.cx }
     ensures same_results { cache.new.results ≡ cache.old.results }
     ensures kept { KeepsFinished cache.old.nodes cache.new.nodes }
