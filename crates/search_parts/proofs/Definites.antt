@@ -1,16 +1,18 @@
 -- Definite results keep their graphs while the list of nodes grows, and show what they say.
-use Rattle.std.proofs.Common.{◌≡◌, Bool, true, false, if◌then◌else◌, List, Option, None, Some, refl, sym, ◌∙◌, subst}
+use Rattle.std.proofs.Common.{◌≡◌, zero, Bool, true, false, if◌then◌else◌, List, Option, None, Some, option_map, refl, sym, ap, ◌∙◌, subst}
 use Rattle.std.specs.Option.{IsSomeAnd}
 use Rattle.open_graphs.specs.Graph as theory
 use Rattle.open_graphs.proofs.Closed.{growth_keeps_graph}
+use Rattle.open_graphs.proofs.Verdicts.{edges_of}
 use Rattle.search_parts.specs.declared.context.NodeId.{NodeId}
 use Rattle.search_parts.specs.declared.context.Request.{Request}
 use Rattle.search_parts.specs.declared.context.Reply.{Reply}
 use Rattle.search_parts.specs.Graph.{IsProofGraph, IsRefutationGraph}
 use Rattle.search_parts.specs.Question.{Question}
-use Rattle.search_parts.specs.Cache.{CacheNode, IsNodeOf, KeepsGoals, AreRuns, graph_nodes_of}
+use Rattle.search_parts.specs.Cache.{CacheNode, IsNodeOf, KeepsGoals, KeepsFinished, AreRuns, graph_nodes_of}
 use Rattle.search_parts.specs.Shapes.{verdict_of, shapes_of}
 use Rattle.search_parts.specs.Definite.{HasGraph}
+use Rattle.search_parts.proofs.Finished.{finished_stays, Grown-finished}
 use Rattle.search_parts.proofs.Bridge.{KeepsRule, yes_is_proof, no_is_refutation}
 
 IsSomeAnd-weaker : {A : Type 0} (P Q : A → Type 0) → ((x : A) → P x → Q x) → (o : Option A) → IsSomeAnd o P → IsSomeAnd o Q
@@ -24,6 +26,21 @@ module _ {I R : Type 0} (is_yes is_no : R → Bool) where
         IsSomeAnd-weaker (λ n. IsNodeOf old n.0 goal × theory.IsGraph (shapes_of is_yes is_no old) (verdict_of is_yes is_no r) n.0)
         (λ n. IsNodeOf new n.0 goal × theory.IsGraph (shapes_of is_yes is_no new) (verdict_of is_yes is_no r) n.0)
         (λ n g. (goals n.0 goal g.0, growth_keeps_graph (shapes_of is_yes is_no old) (shapes_of is_yes is_no new) (verdict_of is_yes is_no r) n.0 grown g.1))
+        node (h.definite definite);
+    neither = h.neither;
+  }
+
+  -- all that a graph reaches is finished, so it needs no other node
+  pub HasGraph-finished : (old new : List (CacheNode I R)) → KeepsFinished old new → (goal : I) (r : R) (node : Option NodeId) → HasGraph is_yes is_no old goal r node → HasGraph is_yes is_no new goal r node
+  HasGraph-finished old new kept goal r node h = record {
+    definite = λ definite.
+        IsSomeAnd-weaker (λ n. IsNodeOf old n.0 goal × theory.IsGraph (shapes_of is_yes is_no old) (verdict_of is_yes is_no r) n.0)
+        (λ n. IsNodeOf new n.0 goal × theory.IsGraph (shapes_of is_yes is_no new) (verdict_of is_yes is_no r) n.0)
+        (λ n g.
+        let root = edges_of (shapes_of is_yes is_no old) (verdict_of is_yes is_no r) n.0 (g.1.finished n.0 zero theory.stay) in (
+          ap (option_map (λ m. m.goal)) (finished_stays is_yes is_no old new kept n.0 (verdict_of is_yes is_no r) root.0 root.1) ∙ g.0,
+          growth_keeps_graph (shapes_of is_yes is_no old) (shapes_of is_yes is_no new) (verdict_of is_yes is_no r) n.0 (Grown-finished is_yes is_no old new kept) g.1,
+        ))
         node (h.definite definite);
     neither = h.neither;
   }

@@ -1,8 +1,11 @@
 -- Nodes whose runs have ended stay as they are.
-use Rattle.std.proofs.Common.{◌≡◌, ℕ, Bool, List, Option, None, Some, slice_get, refl, sym, ap, ◌∙◌, subst}
+use Rattle.std.proofs.Common.{◌≡◌, ℕ, Bool, List, Option, None, Some, option_map, slice_get, refl, sym, ap, ◌∙◌}
 use native.Mathlib.Decide.{ℕ_discrete}
 use Rattle.std.specs.Option.{IsSomeAnd}
+use Rattle.std.proofs.lemmas.Option.{slice_get-map}
+use Rattle.open_graphs.specs.Graph as theory
 use Rattle.search_parts.specs.Cache.{EndedRun, CacheNode, open_goal, finished_node, with_run, KeepsNodes, KeepsFinished}
+use Rattle.search_parts.specs.Shapes.{run_shape, shape_of, shapes_of}
 use Rattle.search_parts.proofs.Nodes.{before, others_are}
 
 -- the list stays, or stays twice
@@ -35,3 +38,37 @@ KeepsFinished-ended nodes k run P is_open at n h =
           absurd (open_is_not_finished w.0 n w.0.run w.2 shown)
       | no d ↦ ap (λ x. elim x [ None ↦ None | Some m ↦ elim m.run [ None ↦ None | Some r ↦ Some m ] ]) (others_are nodes k run P is_open at d) ∙ h
     ]
+
+finished_at : {I R : Type 0} (m n : CacheNode I R) (run : Option (EndedRun I R)) → elim run [ None ↦ None | Some r ↦ Some m ] ≡ Some n → Some m ≡ Some n
+finished_at m n None h = absurd cc
+finished_at m n (Some r) h = h
+
+found_finished : {I R : Type 0} (o : Option (CacheNode I R)) (n : CacheNode I R) → elim o [ None ↦ None | Some m ↦ elim m.run [ None ↦ None | Some run ↦ Some m ] ] ≡ Some n → o ≡ Some n
+found_finished None n h = absurd cc
+found_finished (Some m) n h = finished_at m n m.run h
+
+module _ {I R : Type 0} (is_yes is_no : R → Bool) where
+  has_run : (m : CacheNode I R) (run : Option (EndedRun I R)) (verdict : theory.Verdict) (edges : List theory.Edge)
+      → elim run [ None ↦ theory.Unfinished | Some r ↦ run_shape is_yes is_no r ] ≡ theory.Finished verdict edges → elim run [ None ↦ None | Some r ↦ Some m ] ≡ Some m
+  has_run m None verdict edges h = absurd cc
+  has_run m (Some r) verdict edges h = refl
+
+  finished_stay : (o p : Option (CacheNode I R)) (verdict : theory.Verdict) (edges : List theory.Edge)
+      → ((n : CacheNode I R) → elim o [ None ↦ None | Some m ↦ elim m.run [ None ↦ None | Some run ↦ Some m ] ] ≡ Some n → elim p [ None ↦ None | Some m ↦ elim m.run [ None ↦ None | Some run ↦ Some m ] ] ≡ Some n)
+      → option_map (shape_of is_yes is_no) o ≡ Some (theory.Finished verdict edges) → p ≡ o
+  finished_stay None p verdict edges kept is = absurd cc
+  finished_stay (Some m) p verdict edges kept is =
+      let shape : shape_of is_yes is_no m ≡ theory.Finished verdict edges = cc in
+      found_finished p m (kept m (has_run m m.run verdict edges shape))
+
+  module _ (nodes more : List (CacheNode I R)) (kept : KeepsFinished nodes more) where
+    -- a node whose shape is finished stays
+    pub finished_stays : (at : ℕ) (verdict : theory.Verdict) (edges : List theory.Edge) → slice_get (shapes_of is_yes is_no nodes) at ≡ Some (theory.Finished verdict edges) → slice_get more at ≡ slice_get nodes at
+    finished_stays at verdict edges is =
+        finished_stay (slice_get nodes at) (slice_get more at) verdict edges (kept at) (sym (slice_get-map (shape_of is_yes is_no) nodes at) ∙ is)
+
+    -- so the list has grown
+    pub Grown-finished : theory.Grown (shapes_of is_yes is_no nodes) (shapes_of is_yes is_no more)
+    Grown-finished at verdict edges is =
+        slice_get-map (shape_of is_yes is_no) more at
+        ∙ (ap (option_map (shape_of is_yes is_no)) (finished_stays at verdict edges is) ∙ (sym (slice_get-map (shape_of is_yes is_no) nodes at) ∙ is))

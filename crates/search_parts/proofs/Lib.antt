@@ -5,7 +5,6 @@ pub mod Ranks
 pub mod Copies
 pub mod Nodes
 pub mod Slots
-pub mod Sound
 pub mod PathRanks
 pub mod Bridge
 pub mod Definites
@@ -31,3 +30,5 @@ pub mod RebasedLists
 pub mod RebasedKept
 pub mod Stores
 pub mod LookUps
+pub mod Stored
+pub mod Sound

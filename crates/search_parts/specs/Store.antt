@@ -1,6 +1,7 @@
 -- The results that a cache stores: of each goal at most one success, and for each depth at most one overflow result.
-use Rattle.std.specs.Prelude.{◌≡◌, ℕ, ◌==◌, ◌&&◌, Bool, true, false, if◌then◌else◌, List, Option, None, Some, Result, Ok, Err, IfErr}
+use Rattle.std.specs.Prelude.{◌≡◌, ◌==◌, ◌&&◌, Bool, true, false, if◌then◌else◌, List, Option, None, Some, Result, Ok, Err, IfErr}
 use Rattle.std.specs.Map.{lookup}
+use Rattle.std.specs.Option.{IsSomeAnd}
 use Rattle.search_parts.specs.declared.context.Fault.{Fault}
 use Rattle.search_parts.specs.declared.context.Fault.TheVariants.{Memory, Conflict}
 use Rattle.search_parts.specs.declared.global_cache.results.Place.{Place}
@@ -30,6 +31,12 @@ stored_at same store input place = lookup (same_key same (input, place)) store
 pub record Puts {I S : Type 0} (same : I → I → Bool) (old new : Store I S) (input : I) (place : Place) (stored : S) : Type 0 where
   pub here : stored_at same new input place ≡ Some stored
   pub others : (other : I) (at : Place) → same_key same (input, place) (other, at) ≡ false → stored_at same new other at ≡ stored_at same old other at
+
+-- each stored result is still in its place, or an equal one is
+abbrev pub KeepsResults : {X I R A T : Type 0} → (I → I → Bool) → Store I (StoredResult X I R A T) → Store I (StoredResult X I R A T) → Type 0
+KeepsResults {X} {I} {R} {A} {T} same old new =
+    (input : I) (place : Place) (s : StoredResult X I R A T)
+    → stored_at same old input place ≡ Some s → IsSomeAnd (stored_at same new input place) (λ t. t.result.result ≡ s.result.result)
 
 -- where a result of a goal belongs
 abbrev pub place_of : {X I R A T : Type 0} → EvaluationResult X I R A T → Place

@@ -17,7 +17,8 @@ use nodes::Slot;
 pub use results::{Place, StoredResult};
 
 /// The context of all searches over this cache, the nodes of their answers' graphs, and the results of
-/// goals. The list of nodes only grows, and a node that is finished never changes. Ports `GlobalCache`.
+/// goals. The list of nodes only grows, and a node that is finished never changes. Each result is right
+/// wherever it is used: what `insert` asks of it still holds. Ports `GlobalCache`.
 #[derive(Drop)]
 pub struct GlobalCache<D: Delegate> {
     cx: D::Cx,
@@ -35,7 +36,7 @@ impl<D: Delegate> Model for GlobalCache<D> {
 
     ghost view = { λ c. record { cx = c.cx; nodes = map node_of c.nodes.items; results = c.results.entries } };
 
-    ghost invariant = { λ c. IsSound D.Cx.is_yes D.Cx.is_no D.script (record { cx = c.cx; nodes = map node_of c.nodes.items; results = c.results.entries }) };
+    ghost invariant = { λ c. IsSound D.Cx.Input.eq D.Cx.is_yes D.Cx.is_no D.script (record { cx = c.cx; nodes = map node_of c.nodes.items; results = c.results.entries }) };
 }
 
 impl<D: Delegate> GlobalCache<D> {

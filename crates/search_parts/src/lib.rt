@@ -9,6 +9,7 @@
 //! | `Rank` | goals without cycles, their plain values, and the bound on frames |
 //! | `Cache`, `View`, `Sound` | what a cache holds, as contracts see it, its list of nodes, and what holds of every cache |
 //! | `Store`, `LookUp` | the results that a cache stores, and which of them a look-up gives |
+//! | `Stored` | what each stored result is worth |
 //! | `Shapes`, `Definite` | the nodes as the theory of open graphs sees them, and the graph of a definite result |
 //! | `Stack`, `StackIndex`, `Lent` | the goals under evaluation, how they are found and lent |
 //! | `Usages`, `Heads`, `Candidates`, `Nested` | counts of usages, and the maps of heads, candidates and goals below |

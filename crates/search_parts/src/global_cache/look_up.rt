@@ -1,8 +1,10 @@
 //! How results of goals are found again.
-ghost use Rattle.std.specs.Prelude.{◌≡◌, Bool, ◌∷◌, []};
+ghost use Rattle.std.specs.Prelude.{◌≡◌, ◌≤◌, Bool, true, false, ◌∷◌, [], IfSome};
 ghost use Rattle.std.specs.Option.{option_copied, option_map};
+ghost use Rattle.search_parts.specs.Definite.{HasGraph};
 ghost use Rattle.search_parts.specs.LookUp.{first_accepted, hit_at, hit_of, overflows, successes, usable};
 ghost use Rattle.search_parts.specs.Nested.{NestedPaths};
+ghost use Rattle.search_parts.specs.Rank.{IsBelowRank, IsPlain};
 
 use crate::context::{Cx, Delegate, NodeId};
 use crate::global_cache::GlobalCache;
@@ -42,15 +44,22 @@ pub trait NestedTest<X: Cx> {
 impl<D: Delegate> GlobalCache<D> {
     /// A stored result of the goal that may be used at the available depth: its success, where the depth
     /// is at least what that requires and the test accepts its nested goals; otherwise its result that
-    /// met overflow at exactly this depth, where the test accepts that one's. It takes no memory. Ports
-    /// `GlobalCache::get`.
+    /// met overflow at exactly this depth, where the test accepts that one's. It takes no memory.
+    ///
+    /// A definite result that is used has its graph. Where the goal has a rank, a result without overflow
+    /// is the goal's plain value, and one that met overflow is used only where the available depth is
+    /// below the rank. None requires more than the available depth. Ports `GlobalCache::get`.
     pub fn get<T: NestedTest<D::Cx>>(
         &self,
         input: <D::Cx as Cx>::Input,
         available: AvailableDepth,
         test: &T,
     ) -> Option<CacheData<'_, D::Cx>>
-        ensures { option_map hit_of result ≡ first_accepted (T.accepts test.now) (usable D.Cx.Input.eq self.now.results input available.0) }
+        ensures found { option_map hit_of result ≡ first_accepted (T.accepts test.now) (usable D.Cx.Input.eq self.now.results input available.0) }
+        ensures graph { IfSome result (λ hit. HasGraph D.Cx.is_yes D.Cx.is_no self.now.nodes input hit.result hit.node) }
+        ensures value { IfSome result (λ hit. hit.encountered_overflow ≡ false → IsPlain (D.script self.now.cx) input hit.result) }
+        ensures overflow { IfSome result (λ hit. hit.encountered_overflow ≡ true → IsBelowRank (D.script self.now.cx) input available.0) }
+        ensures within { IfSome result (λ hit. hit.required_depth ≤ available.0) }
     {
         look_up(&self.results, input, available, test)
     }

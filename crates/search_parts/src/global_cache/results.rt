@@ -1,9 +1,11 @@
 //! The results that are kept of goals: of each goal at most one success, and for each depth at most one
 //! result that met overflow.
-ghost use Rattle.std.specs.Prelude.{◌≡◌, OnOk, OnErr};
+ghost use Rattle.std.specs.Prelude.{◌≡◌, [], OnOk, OnErr};
 ghost use Rattle.std.specs.Option.{option_map};
+ghost use Rattle.search_parts.specs.Definite.{HasGraph};
+ghost use Rattle.search_parts.specs.Stored.{IsPlainAt};
 ghost use Rattle.search_parts.specs.declared.global_cache.results.Place.TheVariants.{Success, WithOverflow};
-ghost use Rattle.search_parts.specs.Store.{place_of, stored_at, stored_from, AnswersStoring, Puts};
+ghost use Rattle.search_parts.specs.Store.{place_of, stored_at, stored_from, AnswersStoring, KeepsResults, Puts};
 
 use crate::context::{Cx, Delegate, Fault, NodeId, Tracked};
 use crate::global_cache::GlobalCache;
@@ -67,18 +69,27 @@ impl<D: Delegate> GlobalCache<D> {
     /// Stores a result of the goal with its token: one that met overflow among the results that did,
     /// under its required depth, any other as the success. What is stored in its place is replaced where
     /// its result is equal, which takes no memory. Where it is another one, the answer is `Conflict`;
-    /// `Memory` where nothing is stored there and a growth was refused. Both leave the cache as it was.
-    /// Ports `GlobalCache::insert`.
+    /// `Memory` where nothing is stored there and a growth was refused. Both leave the cache as it was,
+    /// and what was stored stays equal in any case.
+    ///
+    /// What is stored is used wherever the goal is asked again, so it must be right there. A result with
+    /// heads holds only above these goals of the stack: it may have none. A definite result comes with a
+    /// node of the goal whose graph shows it. And where the goal has a rank, a success is the goal's plain
+    /// value, and a result that met overflow requires a depth below the rank. Ports `GlobalCache::insert`.
     pub fn insert(
         &mut self,
         input: <D::Cx as Cx>::Input,
         evaluation_result: EvaluationResult<D::Cx>,
         token: <D::Cx as Cx>::DepNodeIndex,
     ) -> Result<(), Fault<<D::Cx as Cx>::Input, <D::Cx as Cx>::Result>>
+        requires no_heads { evaluation_result.heads ≡ [] }
+        requires graph { HasGraph D.Cx.is_yes D.Cx.is_no self.old.nodes input evaluation_result.result evaluation_result.node }
+        requires plain { IsPlainAt (D.script self.old.cx) input (place_of evaluation_result) evaluation_result.result }
         ensures ok { OnOk result (Puts D.Cx.Input.eq self.old.results self.new.results input (place_of evaluation_result) (stored_from evaluation_result token)) }
         ensures rest { self.new ≡ record self.old { results = self.new.results } }
         ensures err { OnErr result (self.new ≡ self.old) }
         ensures answer { AnswersStoring D.Cx.Result.eq input (stored_at D.Cx.Input.eq self.old.results input (place_of evaluation_result)) evaluation_result.result result }
+        ensures kept { KeepsResults D.Cx.Input.eq self.old.results self.new.results }
     {
         let place = Place::of(&evaluation_result);
         let found = StoredResult::new(evaluation_result, token);
@@ -133,7 +144,7 @@ fn agrees<X: Cx>(
 }
 
 // Stores a result at a place of the goal, unless another result is there. A result that is there and
-// equals it takes no memory.
+// equals it takes no memory. What was stored stays equal.
 fn put<X: Cx>(
     results: &mut HashMap<(X::Input, Place), StoredResult<X>>,
     input: X::Input,
@@ -143,6 +154,7 @@ fn put<X: Cx>(
     ensures ok { OnOk result (Puts X.Input.eq results.old.entries results.new.entries input place found) }
     ensures err { OnErr result (results.new.entries ≡ results.old.entries) }
     ensures answer { AnswersStoring X.Result.eq input (stored_at X.Input.eq results.old.entries input place) found.result.result result }
+    ensures kept { KeepsResults X.Input.eq results.old.entries results.new.entries }
 {
     if let Err(conflict) = agrees(results, input, place, &found) {
         return Err(conflict);

@@ -10,9 +10,9 @@ use Rattle.search_parts.proofs.global_cache.GlobalCache.finish_node.Goals as goa
 
 pub invariant_of-self : goal.invariant_of-self
 invariant_of-self g c =
-    subst (IsSound g.D.Cx.Cx.is_yes g.D.Cx.Cx.is_no g.D.Delegate.script) (sym (cache_ended _ _ _ _ _ _ _ _ c.self.view_is c.index.ensures c.input-input.ensures c.requires))
-    (IsSound-ended g.D.Cx.Cx.is_yes g.D.Cx.Cx.is_no g.D.Delegate.script c.args.self.now
-    (subst (IsSound g.D.Cx.Cx.is_yes g.D.Cx.Cx.is_no g.D.Delegate.script) c.self.view_is c.self.invariant) c.args.node.0 _ c.requires)
+    subst (IsSound g.D.Cx.Input.PartialEq.eq g.D.Cx.Cx.is_yes g.D.Cx.Cx.is_no g.D.Delegate.script) (sym (cache_ended _ _ _ _ _ _ _ _ c.self.view_is c.index.ensures c.input-input.ensures c.requires))
+    (IsSound-ended g.D.Cx.Input.PartialEq.eq g.D.Cx.Cx.is_yes g.D.Cx.Cx.is_no g.D.Delegate.script c.args.self.now
+    (subst (IsSound g.D.Cx.Input.PartialEq.eq g.D.Cx.Cx.is_yes g.D.Cx.Cx.is_no g.D.Delegate.script) c.self.view_is c.self.invariant) c.args.node.0 _ c.requires)
 
 pub returns-clause-ended : goal.returns-clause-ended
 returns-clause-ended g c = cache_ended _ _ _ _ _ _ _ _ c.self.view_is c.index.ensures c.input-input.ensures c.requires

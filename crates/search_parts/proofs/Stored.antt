@@ -1,0 +1,102 @@
+-- What is stored keeps its worth as the cache changes, and what a look-up gives is worth as much.
+use Rattle.std.proofs.Common.{◌≡◌, ℕ, ◌≤◌, nat_le, Bool, true, false, if◌then◌else◌, List, [], ◌∷◌, Option, None, Some, Result, Ok, Err, inl, inr, refl, sym, ap₂, ◌∙◌, subst, subst₂, arith}
+use Rattle.std.specs.Prelude.{OnOk, OnErr}
+use Rattle.std.specs.Option.{IfSome, option_map, option_or}
+use Rattle.std.proofs.lemmas.Bool.{leb-true}
+use Rattle.std.proofs.lemmas.List.Folds.{find-append}
+use Rattle.open_graphs.specs.Graph.{Grown}
+use Rattle.search_parts.specs.declared.context.Request.{Request}
+use Rattle.search_parts.specs.declared.context.Reply.{Reply}
+use Rattle.search_parts.specs.declared.global_cache.look_up.CacheData.{CacheData}
+use Rattle.search_parts.specs.declared.global_cache.results.Place.{Place}
+use Rattle.search_parts.specs.declared.global_cache.results.Place.TheVariants.{Success, WithOverflow}
+use Rattle.search_parts.specs.declared.global_cache.results.StoredResult.{StoredResult}
+use Rattle.search_parts.specs.Cache.{CacheNode, KeepsGoals}
+use Rattle.search_parts.specs.Definite.{HasGraph}
+use Rattle.search_parts.specs.LookUp.{Hit, hit_of, hit_at, successes, overflows, usable, first_accepted}
+use Rattle.search_parts.specs.Nested.{NestedPaths}
+use Rattle.search_parts.specs.Rank.{IsPlain, IsBelowRank}
+use Rattle.search_parts.specs.Shapes.{shapes_of}
+use Rattle.search_parts.specs.Store.{Store, stored_at, Puts}
+use Rattle.search_parts.specs.Stored.{IsKept, AreKept}
+use Rattle.search_parts.proofs.Definites.{HasGraph-kept}
+use Rattle.search_parts.proofs.Stores.{put_cases}
+
+module _ {X I R A T : Type 0} (same : I → I → Bool) (is_yes is_no : R → Bool) (scripts : I → List (Reply R) → Request I R) where
+  pub AreKept-grown : (old new : List (CacheNode I R)) (results : Store I (StoredResult X I R A T)) → KeepsGoals old new → Grown (shapes_of is_yes is_no old) (shapes_of is_yes is_no new)
+      → AreKept same is_yes is_no scripts old results → AreKept same is_yes is_no scripts new results
+  AreKept-grown old new results goals grown kept input place s is =
+      let k = kept input place s is in
+      record { graph = HasGraph-kept is_yes is_no old new goals grown input s.result.result s.node k.graph; plain = k.plain }
+
+  module _ (by_value : (x y : I) → same x y ≡ true → x ≡ y) (nodes : List (CacheNode I R)) (old new : Store I (StoredResult X I R A T)) (input : I) (place : Place) (stored : StoredResult X I R A T) (may : IsKept is_yes is_no scripts nodes input place stored) (kept : AreKept same is_yes is_no scripts nodes old) where
+    pub AreKept-put : Puts same old new input place stored → AreKept same is_yes is_no scripts nodes new
+    AreKept-put puts other at s is = elim (put_cases same by_value old new input place stored puts other at) [
+      | inl w ↦
+          let there : Some stored ≡ Some s = sym puts.here ∙ (ap₂ (stored_at same new) w.0 w.1 ∙ is) in
+          let e : stored ≡ s = cc in
+          subst₂ (λ i p. IsKept is_yes is_no scripts nodes i p s) w.0 w.1 (subst (IsKept is_yes is_no scripts nodes input place) e may)
+      | inr unchanged ↦ kept other at s (sym unchanged ∙ is)
+    ]
+
+    -- a result is stored, or nothing changes
+    pub AreKept-stored : {U E : Type 0} (answer : Result U E) → OnOk answer (Puts same old new input place stored) → OnErr answer (new ≡ old) → AreKept same is_yes is_no scripts nodes new
+    AreKept-stored (Ok u) ok err = AreKept-put ok
+    AreKept-stored (Err e) ok err = subst (AreKept same is_yes is_no scripts nodes) (sym err) kept
+
+-- what a used result is worth
+pub record IsWorth {I R T : Type 0} (is_yes is_no : R → Bool) (scripts : I → List (Reply R) → Request I R) (nodes : List (CacheNode I R)) (input : I) (available : ℕ) (hit : Hit I R T) : Type 0 where
+  pub graph : HasGraph is_yes is_no nodes input hit.result hit.node
+  pub value : hit.encountered_overflow ≡ false → IsPlain scripts input hit.result
+  pub overflow : hit.encountered_overflow ≡ true → IsBelowRank scripts input available
+  pub within : hit.required_depth ≤ available
+
+first_of_one : {I R T : Type 0} (P : Hit I R T → Type 0) (accepts : Bool) (hit : Hit I R T) → P hit → IfSome (if accepts then Some hit else None) P
+first_of_one P true hit p = p
+first_of_one P false hit p = tt
+
+either : {A : Type 0} (P : A → Type 0) (first later : Option A) → IfSome first P → IfSome later P → IfSome (option_or first later) P
+either P None later f l = l
+either P (Some x) later f l = f
+
+lent : {X I R A T : Type 0} (P : Hit I R T → Type 0) (found : Option (CacheData X I R A T)) → IfSome (option_map hit_of found) P → IfSome found (λ hit. P (hit_of hit))
+lent P None h = tt
+lent P (Some hit) h = h
+
+module _ {X I R A T : Type 0} (is_yes is_no : R → Bool) (scripts : I → List (Reply R) → Request I R) (nodes : List (CacheNode I R)) (input : I) (available : ℕ) (accepts : NestedPaths I → Bool) where
+  success_case : (s : StoredResult X I R A T) (fits : Bool) → (fits ≡ true → s.required_depth ≤ available) → IsKept is_yes is_no scripts nodes input Success s
+      → IfSome (first_accepted accepts (if fits then hit_at s.required_depth false s ∷ [] else [])) (IsWorth is_yes is_no scripts nodes input available)
+  success_case s true within k =
+      first_of_one (IsWorth is_yes is_no scripts nodes input available) (accepts s.nested_goals) (hit_at s.required_depth false s)
+      (record { graph = k.graph; value = λ e. k.plain; overflow = λ e. absurd cc; within = within refl })
+  success_case s false within k = tt
+
+  success_is_worth : (o : Option (StoredResult X I R A T)) → ((s : StoredResult X I R A T) → o ≡ Some s → IsKept is_yes is_no scripts nodes input Success s)
+      → IfSome (first_accepted accepts (successes available o)) (IsWorth is_yes is_no scripts nodes input available)
+  success_is_worth None kept = tt
+  success_is_worth (Some s) kept = success_case s (nat_le s.required_depth available) (leb-true s.required_depth available) (kept s refl)
+
+  overflow_is_worth : (o : Option (StoredResult X I R A T)) → ((s : StoredResult X I R A T) → o ≡ Some s → IsKept is_yes is_no scripts nodes input (WithOverflow available) s)
+      → IfSome (first_accepted accepts (overflows available o)) (IsWorth is_yes is_no scripts nodes input available)
+  overflow_is_worth None kept = tt
+  overflow_is_worth (Some s) kept =
+      let k = kept s refl in
+      first_of_one (IsWorth is_yes is_no scripts nodes input available) (accepts s.nested_goals) (hit_at available true s)
+      (record { graph = k.graph; value = λ e. absurd cc; overflow = λ e. k.plain; within = omega arith })
+
+  pub look_up_is_worth : (same : I → I → Bool) (results : Store I (StoredResult X I R A T)) (found : Option (CacheData X I R A T))
+      → AreKept same is_yes is_no scripts nodes results → option_map hit_of found ≡ first_accepted accepts (usable same results input available)
+      → IfSome found (λ hit. IsWorth is_yes is_no scripts nodes input available (hit_of hit))
+  look_up_is_worth same results found kept is =
+      let success = stored_at same results input Success in
+      let overflow = stored_at same results input (WithOverflow available) in
+      lent (IsWorth is_yes is_no scripts nodes input available) found
+      (subst (λ o. IfSome o (IsWorth is_yes is_no scripts nodes input available))
+      (sym (is ∙ find-append (λ hit. accepts hit.nested_goals) (successes available success) (overflows available overflow)))
+      (either (IsWorth is_yes is_no scripts nodes input available) (first_accepted accepts (successes available success)) (first_accepted accepts (overflows available overflow))
+      (success_is_worth success (kept input Success)) (overflow_is_worth overflow (kept input (WithOverflow available)))))
+
+-- what holds of each used result, in place of all that it is worth
+pub IfSome-weaker : {A : Type 0} (P Q : A → Type 0) → ((x : A) → P x → Q x) → (o : Option A) → IfSome o P → IfSome o Q
+IfSome-weaker P Q weaker None h = tt
+IfSome-weaker P Q weaker (Some x) h = weaker x h

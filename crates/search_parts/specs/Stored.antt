@@ -1,0 +1,27 @@
+-- What each stored result is worth: the graph that it comes with, and what is known of it by its place.
+use Rattle.std.specs.Prelude.{◌≡◌, Bool, List, Some}
+use Rattle.search_parts.specs.declared.context.Request.{Request}
+use Rattle.search_parts.specs.declared.context.Reply.{Reply}
+use Rattle.search_parts.specs.declared.global_cache.results.Place.{Place}
+use Rattle.search_parts.specs.declared.global_cache.results.Place.TheVariants.{Success, WithOverflow}
+use Rattle.search_parts.specs.declared.global_cache.results.StoredResult.{StoredResult}
+use Rattle.search_parts.specs.Cache.{CacheNode}
+use Rattle.search_parts.specs.Definite.{HasGraph}
+use Rattle.search_parts.specs.Rank.{IsPlain, IsBelowRank}
+use Rattle.search_parts.specs.Store.{Store, stored_at}
+
+-- if the goal has a rank, its success is its plain value, and it met overflow only at a depth below the rank
+abbrev pub IsPlainAt : {I R : Type 0} → (I → List (Reply R) → Request I R) → I → Place → R → Type 0
+IsPlainAt scripts input Success r = IsPlain scripts input r
+IsPlainAt scripts input (WithOverflow depth) r = IsBelowRank scripts input depth
+
+-- a result of the goal may be stored at the place
+pub record IsKept {X I R A T : Type 0} (is_yes is_no : R → Bool) (scripts : I → List (Reply R) → Request I R) (nodes : List (CacheNode I R)) (input : I) (place : Place) (stored : StoredResult X I R A T) : Type 0 where
+  pub graph : HasGraph is_yes is_no nodes input stored.result.result stored.node
+  pub plain : IsPlainAt scripts input place stored.result.result
+
+-- each stored result is one that may be stored at its place
+abbrev pub AreKept : {X I R A T : Type 0} → (I → I → Bool) → (R → Bool) → (R → Bool) → (I → List (Reply R) → Request I R) → List (CacheNode I R) → Store I (StoredResult X I R A T) → Type 0
+AreKept {X} {I} {R} {A} {T} same is_yes is_no scripts nodes results =
+    (input : I) (place : Place) (s : StoredResult X I R A T)
+    → stored_at same results input place ≡ Some s → IsKept is_yes is_no scripts nodes input place s
