@@ -5,9 +5,10 @@ use Rattle.search_parts.specs.declared.global_cache.results.Place.TheVariants.{S
 use Rattle.search_parts.specs.declared.global_cache.results.StoredResult.{StoredResult}
 use Rattle.search_parts.specs.declared.context.Request.{Request}
 use Rattle.search_parts.specs.declared.context.Reply.{Reply}
+use Rattle.search_parts.specs.declared.parts.result.EvaluationResult.{EvaluationResult}
 use Rattle.search_parts.specs.declared.parts.stack.StackEntry.{StackEntry}
 use Rattle.search_parts.specs.Definite.{IsDefinite}
-use Rattle.search_parts.specs.Store.{Store, stored_at, Puts}
+use Rattle.search_parts.specs.Store.{Store, stored_at, place_of, stored_from, Puts}
 use Rattle.search_parts.specs.Rank.{IsPlainTo}
 use Rattle.search_parts.specs.Stored.{IsPlainAt}
 use Rattle.search_graph.specs.declared.graph.open_goals.Run.{Run}
@@ -22,10 +23,15 @@ abbrev pub AreDefinite : {X I R A T : Type 0} → (R → Bool) → (R → Bool) 
 AreDefinite {X} {I} {R} {A} {T} is_yes is_no same results =
     (goal : I) (place : Place) (s : StoredResult X I R A T) → stored_at same results goal place ≡ Some s → IsDefinite is_yes is_no s.result.result
 
+-- the answer was stored, which has no heads, or nothing was
+pub data StoresAnswer {X I R A T : Type 0} (same : I → I → Bool) (old new : Store I (StoredResult X I R A T)) (goal : I) (answer : EvaluationResult X I R A T) : Type 0 where
+  Kept : new ≡ old → StoresAnswer same old new goal answer
+  Put : (token : T) → answer.heads ≡ [] → Puts same old new goal (place_of answer) (stored_from answer token) → StoresAnswer same old new goal answer
+
 -- the new store has this result of the goal at the place besides what the old one has, or is the old one
 pub data MayPut {X I R A T : Type 0} (same : I → I → Bool) (old new : Store I (StoredResult X I R A T)) (goal : I) (place : Place) (r : R) : Type 0 where
-  Kept : new ≡ old → MayPut same old new goal place r
-  Put : (s : StoredResult X I R A T) → s.result.result ≡ r → Puts same old new goal place s → MayPut same old new goal place r
+  Same : new ≡ old → MayPut same old new goal place r
+  WithResult : (s : StoredResult X I R A T) → s.result.result ≡ r → Puts same old new goal place s → MayPut same old new goal place r
 
 module _ {X F I R A T : Type 0} where
   -- where the result of a goal that is done belongs

@@ -1,4 +1,14 @@
 //! What is kept of a goal that is done.
+ghost use Rattle.std.specs.Prelude.{◌≡◌, ℕ, [], IfErr};
+ghost use Rattle.search_parts.specs.Definite.{HasGraph};
+ghost use Rattle.search_parts.specs.Rank.{IsPlainTo};
+ghost use Rattle.search_parts.specs.Store.{place_of, KeepsResults};
+ghost use Rattle.search_parts.specs.Stored.{IsPlainAt};
+ghost use Rattle.search_parts.specs.declared.context.Fault.TheVariants.{Memory};
+ghost use Rattle.search_parts.specs.declared.global_cache.results.Place.TheVariants.{Success};
+ghost use Rattle.search_graph.specs.Graph.{ComesTo, IsCaused};
+ghost use Rattle.search_graph.specs.Results.{StoresAnswer};
+
 use search_parts::context::{Cx, Delegate, Fault};
 use search_parts::global_cache::GlobalCache;
 use search_parts::parts::EvaluationResult;
@@ -13,9 +23,7 @@ pub(crate) fn store_answer<D: Delegate>(
     requires graph { answer.heads ≡ [] → HasGraph D.Cx.is_yes D.Cx.is_no cache.old.nodes input answer.result answer.node }
     requires plain { IsPlainAt (D.script cache.old.cx) input (place_of answer) answer.result }
     requires comes { ComesTo (D.script cache.old.cx) (D.fixpoint_overflow cache.old.cx) input answer.result }
-    ensures stored { MayPut D.Cx.Input.eq cache.old.results cache.new.results input (place_of answer) answer.result }
-    ensures of_answer { (s : StoredResult D.Cx D.Cx.Input D.Cx.Result D.Cx.AmbiguityInfo D.Cx.DepNodeIndex) → stored_at D.Cx.Input.eq cache.new.results input (place_of answer) ≡ Some s →
-        (stored_at D.Cx.Input.eq cache.old.results input (place_of answer) ≡ Some s) ⊎ ((answer.heads ≡ []) × (s.node ≡ answer.node)) }
+    ensures stored { StoresAnswer D.Cx.Input.eq cache.old.results cache.new.results input answer }
     ensures rest { cache.new ≡ record cache.old { results = cache.new.results } }
     ensures kept { KeepsResults D.Cx.Input.eq cache.old.results cache.new.results }
     ensures caused { IfErr result (IsCaused D.Delegate D.Cx.Cx D.Cx.Input.eq cache.new) }
