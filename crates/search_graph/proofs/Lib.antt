@@ -12,6 +12,7 @@ pub mod Kept
 pub mod Replies
 pub mod Moves
 pub mod Finishing
+pub mod StoredAnswers
 pub mod Questions
 pub mod Loops
 pub mod Promises

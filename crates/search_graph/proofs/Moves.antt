@@ -14,6 +14,7 @@ use Rattle.search_parts.specs.declared.parts.depth.AvailableDepth.{AvailableDept
 use Rattle.search_parts.specs.declared.parts.depth.StackDepth.{StackDepth}
 use Rattle.search_parts.specs.declared.parts.stack.EntryState.{EntryState}
 use Rattle.search_parts.specs.Heads.{Heads}
+use Rattle.search_parts.specs.Nested.{NestedPaths}
 use Rattle.search_parts.specs.declared.parts.stack.StackEntry.{StackEntry}
 use Rattle.search_parts.specs.Stack.{depth_below}
 use Rattle.search_parts.specs.Rank.{frames_within}
@@ -34,7 +35,7 @@ use Rattle.search_graph.specs.declared.graph.open_goals.Run.{Run}
 use Rattle.search_graph.specs.declared.graph.open_goals.Next.{Next}
 use Rattle.search_graph.specs.declared.graph.open_goals.Next.TheVariants.{Step, Finished}
 use Rattle.search_graph.specs.declared.graph.open_goals.Received.{Received}
-use Rattle.search_graph.specs.Entries.{overflowed, first_entry, is_in_cycle, cycle_head, some_heads, TakesAnswer}
+use Rattle.search_graph.specs.Entries.{overflowed, first_entry, with_nested_goals, is_in_cycle, cycle_head, some_heads, TakesAnswer}
 use Rattle.search_graph.specs.Progress.{RunRecord, requested, fault_of, Records, IsReplySorted}
 use Rattle.search_graph.specs.Runs.{EndsNewest}
 use Rattle.search_graph.proofs.ProgressLaws.{records_new, records_received, fault_is}
@@ -155,7 +156,6 @@ module _ {D C V P F I R A T : Type 0} (G : Delegate.Ghosts D C V P F I R A T) (X
       record {
         stops = evaluation_stops (G.script cx) (limits G X cx call) (IsCounted G X cx call) call.top (bound G X cx call) (at (f ∷ fs) starts met) e;
         keeps = k;
-        caused = inr (entry.input, given.reply ∷ m.0.earlier, number, fits, told, is);
         plain = λ n p room.
             let none = (fitting_meets_no_limit (G.script cx) (limits G X cx call) (IsCounted G X cx call) call.top (bound G X cx call) n f fs starts met p room e).3 in
             let here : fault_after (G.script cx entry.input) (given.reply ∷ m.0.earlier) ≡ None = subst (λ g. fault_after (G.script cx g.goal) g.replies ≡ None) m.0.is none in
@@ -169,7 +169,6 @@ module _ {D C V P F I R A T : Type 0} (G : Delegate.Ghosts D C V P F I R A T) (X
       record {
         stops = waits_stops (seen G X cx) (Stood G X cx) (G.script cx) (limits G X cx call) (IsCounted G X cx call) call.top (bound G X cx call) given.reply goals starts met h.waits;
         keeps = h.keeps;
-        caused = inl is;
         plain = λ n p room. is;
       }
   step_stops given goals fault starts met sorts (OutOfOrder entry run frame verdict below request number was is_verdict steps disorderly is) h =
@@ -183,12 +182,12 @@ module _ {D C V P F I R A T : Type 0} (G : Delegate.Ghosts D C V P F I R A T) (X
       let by = requested_by (seen G X cx) (Stood G X cx) (G.script cx) (limits G X cx call) (IsCounted G X cx call) call.top (bound G X cx call) ahead (Evaluate kind goal) s below starts met h.asked in
       decisive.asks s.0.input goal by.0 kind by.2 by.3
 
-  done_definite : (ahead : ℕ) (done : R) (goals : List Goal) (starts : ℕ) (met : Bool) → HasAsked G X cx call ahead (Done done) goals starts met → Decidedly G X cx met (IsDefinite X.is_yes X.is_no done)
+  done_definite : (ahead : ℕ) (done : R) (goals : List Goal) (starts : ℕ) (met : Bool) → HasAsked G X cx call ahead (Done done) goals starts met → Decidedly G X cx call met (IsDefinite X.is_yes X.is_no done)
   done_definite ahead done [] starts met h decisive unmet = absurd h.asked.mirror
   done_definite ahead done (s ∷ below) starts met h decisive unmet =
       let by = requested_by (seen G X cx) (Stood G X cx) (G.script cx) (limits G X cx call) (IsCounted G X cx call) call.top (bound G X cx call) ahead (Done done) s below starts met h.asked in
       let here = (newest_decided X.is_yes X.is_no s below (h.decided decisive unmet)).replies in
-      decisive.ends s.0.input by.0 done by.2 (subst (AreDecided X.is_yes X.is_no) by.1.1.replies_are here) by.3
+      decisive.0.ends s.0.input by.0 done by.2 (subst (AreDecided X.is_yes X.is_no) by.1.1.replies_are here) by.3
 
   -- a goal that takes an answer over stays decided
   answered_decided : (step : PathKind) (required : ℕ) (overflow : Bool) (answer : Heads) (old new : List Goal) → AnswersNewest step required overflow answer old new → AllDecided X.is_yes X.is_no old → AllDecided X.is_yes X.is_no new
@@ -206,10 +205,9 @@ module _ {D C V P F I R A T : Type 0} (G : Delegate.Ghosts D C V P F I R A T) (X
       record { waiting = record { waits = w.0; keeps = h.keeps; decided = λ decisive unmet. (h.decided decisive unmet, tt) }; falls = w.1 }
 
   -- a goal without depth asks: the question is refused
-  pub refused_goes_on : (ahead : ℕ) (kind : PathKind) (goal : I) (r : R) (s : Goal) (below : List Goal) (starts : ℕ) (met : Bool) → s.0.available_depth.0 ≡ 0 → HasAsked G X cx call ahead (Evaluate kind goal) (s ∷ below) starts met → GoesOn G X cx call ahead (Answer r) ((overflowed s.0, s.1) ∷ below) starts true
-  refused_goes_on ahead kind goal r s below starts met none h =
-      let later : Goal = (overflowed s.0, s.1) in
-      let w = refused_waits (seen G X cx) (Stood G X cx) (G.script cx) (limits G X cx call) (IsCounted G X cx call) call.top (bound G X cx call) (some_runs G.FIXPOINT_STEP_LIMIT) ahead starts met s below kind goal r (overflowed s.0, s.1) none (record { same = λ replies. refl; stood = λ replies stood. stood }) h.asked in
+  pub refused_goes_on : (ahead : ℕ) (kind : PathKind) (goal : I) (r : R) (s : Goal) (below : List Goal) (nested : NestedPaths I) (starts : ℕ) (met : Bool) → s.0.available_depth.0 ≡ 0 → HasAsked G X cx call ahead (Evaluate kind goal) (s ∷ below) starts met → GoesOn G X cx call ahead (Answer r) ((overflowed (record s.0 { state = with_nested_goals s.0.state nested }), s.1) ∷ below) starts true
+  refused_goes_on ahead kind goal r s below nested starts met none h =
+      let w = refused_waits (seen G X cx) (Stood G X cx) (G.script cx) (limits G X cx call) (IsCounted G X cx call) call.top (bound G X cx call) (some_runs G.FIXPOINT_STEP_LIMIT) ahead starts met s below kind goal r (overflowed (record s.0 { state = with_nested_goals s.0.state nested }), s.1) none (record { same = λ replies. refl; stood = λ replies stood. stood }) h.asked in
       record {
         waiting = record {
           waits = w.0;
@@ -261,7 +259,7 @@ module _ {D C V P F I R A T : Type 0} (G : Delegate.Ghosts D C V P F I R A T) (X
           decided = λ decisive unmet.
               let d = h.decided decisive unmet in (
                 answered_decided kind 0 false ((head, cycle_head kind (path_kind_from (reverse (map (λ s. s.0) old)) head.0 kind)) ∷ []) old new t d,
-                cycle_decided X.is_yes X.is_no old head.0 kind c.entry (G.initial_result cx (path_kind_from (reverse (map (λ s. s.0) old)) head.0 kind) goal) d (asked_kind ahead kind goal old starts met h decisive) c.is_at (sorts (path_kind_from (reverse (map (λ s. s.0) old)) head.0 kind) goal),
+                cycle_decided X.is_yes X.is_no old head.0 kind c.entry (G.initial_result cx (path_kind_from (reverse (map (λ s. s.0) old)) head.0 kind) goal) d (asked_kind ahead kind goal old starts met h decisive.0) c.is_at (sorts (path_kind_from (reverse (map (λ s. s.0) old)) head.0 kind) goal),
               );
         };
         falls = subst (λ v. work_left G X cx v < ahead) (sym t.is) w.1;
@@ -276,7 +274,7 @@ module _ {D C V P F I R A T : Type 0} (G : Delegate.Ghosts D C V P F I R A T) (X
         waiting = record {
           waits = w.0;
           keeps = h.keeps;
-          decided = λ decisive unmet. (pushed_decided X.is_yes X.is_no (first_entry goal kind depth push.own, first_run G X cx push.frame push.own) (s ∷ below) (record { replies = tt; provisional = tt }) (asked_kind ahead kind goal (s ∷ below) starts met h decisive) (h.decided decisive unmet), tt);
+          decided = λ decisive unmet. (pushed_decided X.is_yes X.is_no (first_entry goal kind depth push.own, first_run G X cx push.frame push.own) (s ∷ below) (record { replies = tt; provisional = tt }) (asked_kind ahead kind goal (s ∷ below) starts met h decisive.0) (h.decided decisive unmet), tt);
         };
         falls = w.1;
       })
@@ -312,7 +310,6 @@ module _ {D C V P F I R A T : Type 0} (G : Delegate.Ghosts D C V P F I R A T) (X
   failed_rerun_stopped ahead done (s ∷ below) starts now met may more one h = record {
     stops = failed_rerun_stops (seen G X cx) (Stood G X cx) (G.script cx) (limits G X cx call) (IsCounted G X cx call) call.top (bound G X cx call) ahead (Done done) now s below starts met (may s below refl) more one h.asked;
     keeps = h.keeps;
-    caused = inl refl;
     plain = λ n p room. refl;
   }
 
@@ -326,16 +323,18 @@ module _ {D C V P F I R A T : Type 0} (G : Delegate.Ghosts D C V P F I R A T) (X
         absurd cc;
   }
 
-  -- there was no memory once it was
-  pub limited_stopped : (ahead : ℕ) (done : R) (goals : List Goal) (starts : ℕ) (met : Bool) → ((s : Goal) (below : List Goal) → goals ≡ s ∷ below → (is_in_cycle s.0.state ≡ true) × (runs G X cx ≤ s.1.finished_runs + 1)) → HasAsked G X cx call ahead (Done done) goals starts met → HasStopped G X cx call Memory starts true
-  limited_stopped ahead done [] starts met may h = absurd h.asked.mirror
-  limited_stopped ahead done (s ∷ below) starts met may h =
+  -- and the goal could not be taken
+  pub limited_stopped : (ahead : ℕ) (done : R) (goals : List Goal) (fault : Fault I R) (starts : ℕ) (met : Bool) → ((s : Goal) (below : List Goal) → goals ≡ s ∷ below → (is_in_cycle s.0.state ≡ true) × (runs G X cx ≤ s.1.finished_runs + 1)) → HasAsked G X cx call ahead (Done done) goals starts met → HasStopped G X cx call fault starts true
+  limited_stopped ahead done [] fault starts met may h = absurd h.asked.mirror
+  limited_stopped ahead done (s ∷ below) fault starts met may h =
       let can = may s below refl in
       record {
         stops = last_run_stops (seen G X cx) (Stood G X cx) (G.script cx) (limits G X cx call) (IsCounted G X cx call) call.top (bound G X cx call) ahead (Done done) s below starts met can.1 h.asked;
         keeps = limit_kept ahead (Done done) s below starts met can.0 h;
-        caused = inl refl;
-        plain = λ n p room. refl;
+        plain = λ n p fits.
+            let calm : is_in_cycle s.0.state ≡ false = (requested_fits (seen G X cx) (Stood G X cx) (G.script cx) (limits G X cx call) (IsCounted G X cx call) call.top (bound G X cx call) ahead (Done done) s below starts met n p fits h.asked).2 in
+            let clash : true ≡ false = sym can.0 ∙ calm in
+            absurd cc;
       }
 
   -- its start failed
@@ -343,18 +342,19 @@ module _ {D C V P F I R A T : Type 0} (G : Delegate.Ghosts D C V P F I R A T) (X
   failed_push_stopped ahead kind goal depth s below starts now met may more one h = record {
     stops = failed_push_stops (seen G X cx) (Stood G X cx) (G.script cx) (limits G X cx call) (IsCounted G X cx call) call.top (bound G X cx call) (some_runs G.FIXPOINT_STEP_LIMIT) ahead kind goal depth now s below starts met may more one h.asked;
     keeps = h.keeps;
-    caused = inl refl;
     plain = λ n p room. refl;
   }
 
-  -- there was no memory for an answer
-  pub asked_stopped : (ahead : ℕ) (request : Request I R) (goals : List Goal) (starts : ℕ) (met : Bool) → HasAsked G X cx call ahead request goals starts met → HasStopped G X cx call Memory starts met
-  asked_stopped ahead request goals starts met h = record {
+  -- the goal could not be taken, or there was no memory for an answer
+  pub asked_stopped_by : (ahead : ℕ) (request : Request I R) (goals : List Goal) (fault : Fault I R) (starts : ℕ) (met : Bool) → ((n : ℕ) → IsPlainTo (G.script cx) n call.top → n ≤ call.root → fault ≡ Memory) → HasAsked G X cx call ahead request goals starts met → HasStopped G X cx call fault starts met
+  asked_stopped_by ahead request goals fault starts met plain h = record {
     stops = requested_stops (seen G X cx) (Stood G X cx) (G.script cx) (limits G X cx call) (IsCounted G X cx call) call.top (bound G X cx call) ahead request goals starts met h.asked;
     keeps = h.keeps;
-    caused = inl refl;
-    plain = λ n p room. refl;
+    plain = plain;
   }
+
+  pub asked_stopped : (ahead : ℕ) (request : Request I R) (goals : List Goal) (starts : ℕ) (met : Bool) → HasAsked G X cx call ahead request goals starts met → HasStopped G X cx call Memory starts met
+  asked_stopped ahead request goals starts met h = asked_stopped_by ahead request goals Memory starts met (λ n p room. refl) h
 
   -- the depths on the stack fall from the root's on, and no goal requires more than it has
   falling : (f : Frame I R) (below : List (Frame I R)) → IsRooted call.top call.root (f ∷ below) → AreSafe (G.script cx) (f ∷ below) → f.available ≤ call.root
@@ -380,7 +380,7 @@ module _ {D C V P F I R A T : Type 0} (G : Delegate.Ghosts D C V P F I R A T) (X
 
   -- and what comes then
   module _ (ahead : ℕ) (done r : R) (next : Next R) where
-    popped_leads : (s p : Goal) (below new : List Goal) (starts : ℕ) (met after : Bool) (target : Option NodeId) → next ≡ Step (record { reply = Answer r; node = target }) → KeepsLimits G X cx call after → Decidedly G X cx after (AllDecided X.is_yes X.is_no (p ∷ below) × IsDefinite X.is_yes X.is_no r)
+    popped_leads : (s p : Goal) (below new : List Goal) (starts : ℕ) (met after : Bool) (target : Option NodeId) → next ≡ Step (record { reply = Answer r; node = target }) → KeepsLimits G X cx call after → Decidedly G X cx call after (AllDecided X.is_yes X.is_no (p ∷ below) × IsDefinite X.is_yes X.is_no r)
         → (t : AnswersNewest s.0.step_kind_from_parent s.0.state.required_depth (s.0.state.encountered_overflow || s.1.met_overflow_before) s.0.state.heads (p ∷ below) new)
         → ((later : Goal) → TakesReply (seen G X cx) (Stood G X cx) (G.script cx) (λ g. answered g (outcome_of G X cx r s)) (Answer r) (t.entry, t.run) later → WaitsWithLess (seen G X cx) (Stood G X cx) (G.script cx) (limits G X cx call) (IsCounted G X cx call) call.top (bound G X cx call) ahead (Answer r) (later ∷ t.below) starts after)
         → Leads G X cx call ahead (s ∷ p ∷ below) next new starts after
@@ -398,7 +398,7 @@ module _ {D C V P F I R A T : Type 0} (G : Delegate.Ghosts D C V P F I R A T) (X
           falls = w.1;
         }))
 
-    ended_leads : (s : Goal) (new : List Goal) (starts : ℕ) (met after : Bool) (target : Option NodeId) → next ≡ Finished (record { result = r; node = target }) → new ≡ [] → KeepsLimits G X cx call after → Decidedly G X cx after (IsDefinite X.is_yes X.is_no r) → HasAsked G X cx call ahead (Done done) (s ∷ []) starts met → Ends (G.script cx) (limits G X cx call) (IsCounted G X cx call) call.top (bound G X cx call) starts after (outcome_of G X cx r s) → Leads G X cx call ahead (s ∷ []) next new starts after
+    ended_leads : (s : Goal) (new : List Goal) (starts : ℕ) (met after : Bool) (target : Option NodeId) → next ≡ Finished (record { result = r; node = target }) → new ≡ [] → KeepsLimits G X cx call after → Decidedly G X cx call after (IsDefinite X.is_yes X.is_no r) → HasAsked G X cx call ahead (Done done) (s ∷ []) starts met → Ends (G.script cx) (limits G X cx call) (IsCounted G X cx call) call.top (bound G X cx call) starts after (outcome_of G X cx r s) → Leads G X cx call ahead (s ∷ []) next new starts after
     ended_leads s new starts met after target is none keeps decided h ends =
         subst (λ n. Leads G X cx call ahead (s ∷ []) n new starts after) (sym is)
         (none, only_top s h.asked.f h.asked.below (ap (λ g. g.goal) h.asked.mirror.0.is) h.asked.mirror.1 h.asked.evaluating.rooted, record { outcome = outcome_of G X cx r s; result_is = refl; ends = ends; keeps = keeps; decided = decided })
@@ -446,7 +446,7 @@ module _ {D C V P F I R A T : Type 0} (G : Delegate.Ghosts D C V P F I R A T) (X
       subst (λ v. IsWaiting G X cx call Begin v now call.limits_met) (sym push.is)
       (record {
         waits = first_waits (seen G X cx) (Stood G X cx) (G.script cx) (limits G X cx call) (IsCounted G X cx call) call.top (bound G X cx call) now call.limits_met (first_entry call.top kind depth push.own, first_run G X cx push.frame push.own) refl (some_runs G.FIXPOINT_STEP_LIMIT) push.fresh.within
-            (ap (λ n. record (seen G X cx (first_entry call.top kind depth push.own, first_run G X cx push.frame push.own)) { available = n }) same) (push.fresh.stood, records_new X.is_yes X.is_no (G.script cx call.top)) (record { at_most = one; exactly = λ c. counted c.0 }) (λ c. c.1);
+            (ap (λ n. record (seen G X cx (first_entry call.top kind depth push.own, first_run G X cx push.frame push.own)) { available = n }) same) (push.fresh.stood, records_new X.is_yes X.is_no (G.script cx call.top)) (record { at_most = one; exactly = λ c. counted c.0 }) (λ c. c.1.0);
         keeps = kept now;
         decided = λ decisive unmet. (record { replies = tt; provisional = tt }, tt);
       })
@@ -456,9 +456,8 @@ module _ {D C V P F I R A T : Type 0} (G : Delegate.Ghosts D C V P F I R A T) (X
   failed_root_stopped now more one = record {
     stops = record {
       within = let some = some_frames (runs G X cx) (G.width cx) call.root (some_runs G.FIXPOINT_STEP_LIMIT) in omega (arith, some, one);
-      paid = λ c met. let unmet : call.limits_met ≡ false = c.1 in absurd cc;
+      paid = λ c met. let unmet : call.limits_met ≡ false = c.1.0 in absurd cc;
     };
     keeps = kept now;
-    caused = inl refl;
     plain = λ n p room. refl;
   }

@@ -1,5 +1,5 @@
 -- What a question comes to, whichever goals are under evaluation.
-use Rattle.std.proofs.Common.{◌≡◌, ℕ, ◌+◌, ◌-◌, ◌/◌, ◌<◌, ◌≤◌, nat_eq, if◌then◌else◌, Bool, true, false, List, [], ◌∷◌, length, Option, Some, None, Result, Ok, Err, IfErr, IfOk, refl, sym, ap, ◌∙◌, subst, arith}
+use Rattle.std.proofs.Common.{◌≡◌, ℕ, ◌+◌, ◌-◌, ◌/◌, ◌^◌, ◌<◌, ◌≤◌, nat_eq, if◌then◌else◌, Bool, true, false, List, [], ◌∷◌, length, Option, Some, None, Result, Ok, Err, IfErr, IfOk, refl, sym, ap, ◌∙◌, subst, arith}
 use Rattle.std.specs.Result.{IsErrAnd}
 use Rattle.std.specs.List.{list_any}
 use Rattle.std.specs.Option.{option_and_then, option_map}
@@ -16,13 +16,20 @@ use Rattle.search_parts.specs.Stack.{depth_below}
 use Rattle.search_parts.specs.Delegate.{CountsOne, IsCycleResult}
 use Rattle.evaluations.specs.Frames.{IsAllowed}
 use Rattle.search_graph.specs.declared.graph.open_goals.Run.{Run}
-use Rattle.search_graph.specs.Newest.{newest, change_newest}
+use Rattle.search_graph.specs.Newest.{newest}
 use Rattle.search_parts.specs.declared.context.Reply.{Reply}
 use Rattle.search_parts.specs.declared.parts.depth.StackDepth.{StackDepth}
-use Rattle.search_graph.specs.Entries.{overflowed}
+use Rattle.search_parts.specs.declared.global_cache.results.StoredResult.{StoredResult}
+use Rattle.search_parts.specs.Nested.{NestedPaths}
+use Rattle.search_parts.specs.Store.{Store}
+use Rattle.search_graph.specs.declared.graph.open_goals.Received.{Received}
+use Rattle.search_graph.specs.Entries.{overflowed, with_nested_goals}
+use Rattle.search_graph.specs.LookUp.{UsesStored}
+use Rattle.search_graph.specs.NestedGoals.{NotesOverflow}
 use Rattle.search_graph.specs.Calls.{Call}
-use Rattle.search_graph.specs.Evaluating.{seen, HasAsked, GoesOn, HasStopped}
+use Rattle.search_graph.specs.Evaluating.{seen, HasAsked, GoesOn, HasStopped, KeepsStore}
 use Rattle.search_graph.specs.Moves.{ClosesCycle, Pushes}
+use Rattle.search_graph.proofs.StoredAnswers.{stored_goes_on}
 use Rattle.search_graph.proofs.Moves.{allowed, refused_goes_on, cycle_goes_on, pushed_goes_on, failed_push_stopped}
 
 pub if_err : {T E P : Type 0} (r : Result T E) → P → IfErr r (λ e. P)
@@ -52,11 +59,16 @@ module _ {D C V P F I R A T : Type 0} (G : Delegate.Ghosts D C V P F I R A T) (X
   abbrev Goals : Type 0
   Goals = List (StackEntry C I R A T × Run C F I R A T)
 
-  pub ask_refused : (r : R) (goals new : Goals) → 0 < length goals → None ≡ option_and_then (λ s. depth_below G.DIVIDE_AVAILABLE_DEPTH_ON_OVERFLOW s.0) (newest goals) → new ≡ change_newest (λ s. (overflowed s.0, s.1)) goals → HasAsked G X cx call ahead (Evaluate kind goal) goals starts met → GoesOn G X cx call ahead (Answer r) new starts true
-  ask_refused r [] new some none is h = absurd (omega (arith, some))
-  ask_refused r (s ∷ below) new some none is h =
+  refused_at : (r : R) (s : StackEntry C I R A T × Run C F I R A T) (below : Goals) (nested : NestedPaths I) → None ≡ depth_below G.DIVIDE_AVAILABLE_DEPTH_ON_OVERFLOW s.0 → HasAsked G X cx call ahead (Evaluate kind goal) (s ∷ below) starts met → GoesOn G X cx call ahead (Answer r) ((overflowed (record s.0 { state = with_nested_goals s.0.state nested }), s.1) ∷ below) starts true
+  refused_at r s below nested none h =
       let at : s.0.available_depth.0 ≡ 0 = no_depth s.0.available_depth.0 G.DIVIDE_AVAILABLE_DEPTH_ON_OVERFLOW (nat_eq s.0.available_depth.0 0) s.0.state.encountered_overflow refl (sym none) in
-      subst (λ v. GoesOn G X cx call ahead (Answer r) v starts true) (sym is) (refused_goes_on G X cx call ahead kind goal r s below starts met at h)
+      refused_goes_on G X cx call ahead kind goal r s below nested starts met at h
+
+  pub ask_refused : (same : I → I → Bool) (r : R) (goals new : Goals) → None ≡ option_and_then (λ s. depth_below G.DIVIDE_AVAILABLE_DEPTH_ON_OVERFLOW s.0) (newest goals) → NotesOverflow same goals new → HasAsked G X cx call ahead (Evaluate kind goal) goals starts met → GoesOn G X cx call ahead (Answer r) new starts true
+  ask_refused same r goals new none n h =
+      subst (λ v. GoesOn G X cx call ahead (Answer r) v starts true) (sym n.is)
+      (refused_at r (n.entry, n.run) n.below n.nested (none ∙ ap (λ l. option_and_then (λ (t : StackEntry C I R A T × Run C F I R A T). depth_below G.DIVIDE_AVAILABLE_DEPTH_ON_OVERFLOW t.0) (newest l)) n.was)
+      (subst (λ v. HasAsked G X cx call ahead (Evaluate kind goal) v starts met) n.was h))
 
   module _ (more : 2 ≤ G.DIVIDE_AVAILABLE_DEPTH_ON_OVERFLOW) (depth : AvailableDepth) where
     may_ask : (s : StackEntry C I R A T × Run C F I R A T) → Some depth.0 ≡ depth_below G.DIVIDE_AVAILABLE_DEPTH_ON_OVERFLOW s.0 → IsAllowed (seen G X cx s) depth.0
@@ -64,6 +76,14 @@ module _ {D C V P F I R A T : Type 0} (G : Delegate.Ghosts D C V P F I R A T) (X
 
     may_ask_of : (goals : Goals) → Some depth.0 ≡ option_and_then (λ s. depth_below G.DIVIDE_AVAILABLE_DEPTH_ON_OVERFLOW s.0) (newest goals) → (s : StackEntry C I R A T × Run C F I R A T) (below : Goals) → goals ≡ s ∷ below → IsAllowed (seen G X cx s) depth.0
     may_ask_of goals may s below is = may_ask s (may ∙ ap (λ l. option_and_then (λ (t : StackEntry C I R A T × Run C F I R A T). depth_below G.DIVIDE_AVAILABLE_DEPTH_ON_OVERFLOW t.0) (newest l)) is)
+
+    -- the depth of a question is less than any number of a word
+    pub asked_depth_fits : (goals : Goals) → Some depth.0 ≡ option_and_then (λ s. depth_below G.DIVIDE_AVAILABLE_DEPTH_ON_OVERFLOW s.0) (newest goals) → depth.0 + 1 < 2 ^ 64
+    asked_depth_fits [] may = absurd cc
+    asked_depth_fits (s ∷ below) may = omega (arith, (may_ask s may).is_less)
+
+    pub ask_stored : (same : I → I → Bool) (results : Store I (StoredResult C I R A T)) (received : Received R) (goals new : Goals) → Some depth.0 ≡ option_and_then (λ s. depth_below G.DIVIDE_AVAILABLE_DEPTH_ON_OVERFLOW s.0) (newest goals) → UsesStored same (G.script cx) results kind goal depth.0 received goals new → KeepsStore G X cx same call met results → HasAsked G X cx call ahead (Evaluate kind goal) goals starts met → GoesOn G X cx call ahead received.reply new starts met
+    ask_stored same results received goals new may uses keeps h = stored_goes_on G X cx call same results ahead kind goal depth.0 received goals new starts met (may_ask_of goals may) uses keeps h
 
     pub ask_in_cycle : (eq : I → I → Bool) → ((x y : I) → eq x y ≡ true → x ≡ y) → ((cycle : PathKind) (asked : I) → IsCycleResult X.is_yes X.is_no cycle (G.initial_result cx cycle asked)) → (reply : Reply R) (head : StackDepth) (goals new : Goals) → Some depth.0 ≡ option_and_then (λ s. depth_below G.DIVIDE_AVAILABLE_DEPTH_ON_OVERFLOW s.0) (newest goals) → list_any (λ t. eq goal t.0.input) goals ≡ true → ClosesCycle G X cx kind goal head reply goals new → HasAsked G X cx call ahead (Evaluate kind goal) goals starts met → GoesOn G X cx call ahead reply new starts met
     ask_in_cycle eq exact sorts reply head goals new may found closes h = cycle_goes_on G X cx call eq exact sorts ahead kind goal reply depth.0 head goals new starts met (may_ask_of goals may) found closes h

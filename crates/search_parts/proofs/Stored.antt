@@ -1,12 +1,15 @@
 -- What is stored keeps its worth as the cache changes, and what a look-up gives is worth as much.
-use Rattle.std.proofs.Common.{◌≡◌, ℕ, ◌≤◌, nat_le, Bool, true, false, if◌then◌else◌, List, [], ◌∷◌, Option, None, Some, Result, Ok, Err, inl, inr, refl, sym, ap₂, ◌∙◌, subst, subst₂, arith}
-use Rattle.std.specs.Prelude.{OnOk, OnErr}
+use Rattle.std.proofs.Common.{◌≡◌, ℕ, ◌≤◌, nat_le, Bool, true, false, if◌then◌else◌, List, [], ◌∷◌, Option, None, Some, Result, Ok, Err, inl, inr, refl, sym, ap, ap₂, ◌∙◌, subst, subst₂, arith}
+use Rattle.std.specs.Prelude.{IfErr, OnOk, OnErr}
+use Rattle.std.specs.Cmp.{IsEquivalence}
 use Rattle.std.specs.Option.{IfSome, option_map, option_or}
 use Rattle.std.proofs.lemmas.Bool.{leb-true}
 use Rattle.std.proofs.lemmas.List.Folds.{find-append}
 use Rattle.open_graphs.specs.Graph.{Grown}
 use Rattle.search_parts.specs.declared.context.Request.{Request}
 use Rattle.search_parts.specs.declared.context.Reply.{Reply}
+use Rattle.search_parts.specs.declared.context.Fault.{Fault}
+use Rattle.search_parts.specs.declared.context.Fault.TheVariants.{Conflict, Memory}
 use Rattle.search_parts.specs.declared.global_cache.look_up.CacheData.{CacheData}
 use Rattle.search_parts.specs.declared.global_cache.results.Place.{Place}
 use Rattle.search_parts.specs.declared.global_cache.results.Place.TheVariants.{Success, WithOverflow}
@@ -15,11 +18,12 @@ use Rattle.search_parts.specs.Cache.{CacheNode, KeepsGoals}
 use Rattle.search_parts.specs.Definite.{HasGraph}
 use Rattle.search_parts.specs.LookUp.{Hit, hit_of, hit_at, successes, overflows, usable, first_accepted}
 use Rattle.search_parts.specs.Nested.{NestedPaths}
-use Rattle.search_parts.specs.Rank.{IsPlain, IsBelowRank}
+use Rattle.search_parts.specs.Rank.{IsPlainTo, IsPlain, IsBelowRank}
 use Rattle.search_parts.specs.Shapes.{shapes_of}
-use Rattle.search_parts.specs.Store.{Store, stored_at, Puts}
+use Rattle.search_parts.specs.Store.{Store, stored_at, AnswersStoring, Puts}
 use Rattle.search_parts.specs.Stored.{IsKept, AreKept}
 use Rattle.search_parts.proofs.Definites.{HasGraph-kept}
+use Rattle.search_parts.proofs.Ranks.{one_plain_value}
 use Rattle.search_parts.proofs.Stores.{put_cases}
 
 module _ {X I R A T : Type 0} (same : I → I → Bool) (is_yes is_no : R → Bool) (scripts : I → List (Reply R) → Request I R) where
@@ -100,3 +104,12 @@ module _ {X I R A T : Type 0} (is_yes is_no : R → Bool) (scripts : I → List 
 pub IfSome-weaker : {A : Type 0} (P Q : A → Type 0) → ((x : A) → P x → Q x) → (o : Option A) → IfSome o P → IfSome o Q
 IfSome-weaker P Q weaker None h = tt
 IfSome-weaker P Q weaker (Some x) h = weaker x h
+
+-- a plain value is stored, or its equal is there
+pub ranked_never_conflicts : {X I R A T : Type 0} (same : I → I → Bool) (is_yes is_no : R → Bool) (scripts : I → List (Reply R) → Request I R) (nodes : List (CacheNode I R)) (results : Store I (StoredResult X I R A T)) (equal : R → R → Bool) → IsEquivalence equal → AreKept same is_yes is_no scripts nodes results → (n : ℕ) (input : I) (found : R) → IsPlainTo scripts n input → IsPlain scripts input found → (o : Option (StoredResult X I R A T)) → stored_at same results input Success ≡ o → (answer : Result (Unit {0}) (Fault I R)) → AnswersStoring equal input o found answer → IfErr answer (λ fault. fault ≡ Memory)
+ranked_never_conflicts same is_yes is_no scripts nodes results equal laws kept n input found ranked plain None at answer is = is
+ranked_never_conflicts same is_yes is_no scripts nodes results equal laws kept n input found ranked plain (Some s) at answer is =
+    let one : s.result.result ≡ found = one_plain_value scripts n input s.result.result found ((kept input Success s at).plain n ranked) (plain n ranked) in
+    let agrees : equal s.result.result found ≡ true = ap (equal s.result.result) (sym one) ∙ laws.refl s.result.result in
+    let ok : answer ≡ Ok tt = is ∙ ap (λ b. if b then Ok tt else Err (Conflict input s.result.result found)) agrees in
+    subst (λ a. IfErr a (λ fault. fault ≡ Memory)) (sym ok) tt

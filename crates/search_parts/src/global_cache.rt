@@ -2,6 +2,7 @@
 //! of its answers are made of, and the results of goals.
 ghost use Rattle.std.specs.Prelude.{◌≡◌, []};
 ghost use Rattle.search_parts.specs.Cache.{AreRuns};
+ghost use Rattle.search_parts.specs.Stored.{AreKept};
 
 use crate::context::{Cx, Delegate};
 use std::alloc::Global;
@@ -63,5 +64,12 @@ impl<D: Delegate> GlobalCache<D> {
         ensures { AreRuns D.Cx.is_yes D.Cx.is_no (D.script self.now.cx) self.now.nodes }
     {
         let _ = &self.nodes;
+    }
+
+    /// Each stored result has its graph, if it is yes or no, and is what its goal's rank allows.
+    pub fn has_sound_results(&self)
+        ensures { AreKept D.Cx.Input.eq D.Cx.is_yes D.Cx.is_no (D.script self.now.cx) self.now.nodes self.now.results }
+    {
+        let _ = &self.results;
     }
 }

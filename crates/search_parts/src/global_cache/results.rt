@@ -1,8 +1,10 @@
 //! The results that are kept of goals: of each goal at most one success, and for each depth at most one
 //! result that met overflow.
-ghost use Rattle.std.specs.Prelude.{◌≡◌, [], OnOk, OnErr};
+ghost use Rattle.std.specs.Prelude.{◌≡◌, ℕ, false, [], IfErr, OnOk, OnErr};
 ghost use Rattle.std.specs.Option.{option_map};
 ghost use Rattle.search_parts.specs.Definite.{HasGraph};
+ghost use Rattle.search_parts.specs.Rank.{IsPlainTo};
+ghost use Rattle.search_parts.specs.declared.context.Fault.TheVariants.{Memory};
 ghost use Rattle.search_parts.specs.Stored.{IsPlainAt};
 ghost use Rattle.search_parts.specs.declared.global_cache.results.Place.TheVariants.{Success, WithOverflow};
 ghost use Rattle.search_parts.specs.Store.{place_of, stored_at, stored_from, AnswersStoring, KeepsResults, Puts};
@@ -90,6 +92,8 @@ impl<D: Delegate> GlobalCache<D> {
         ensures err { OnErr result (self.new ≡ self.old) }
         ensures answer { AnswersStoring D.Cx.Result.eq input (stored_at D.Cx.Input.eq self.old.results input (place_of evaluation_result)) evaluation_result.result result }
         ensures kept { KeepsResults D.Cx.Input.eq self.old.results self.new.results }
+        // A success of a goal that has a rank never conflicts.
+        ensures ranked { (n : ℕ) → IsPlainTo (D.script self.old.cx) n input → evaluation_result.encountered_overflow ≡ false → IfErr result (λ fault. fault ≡ Memory) }
     {
         let place = Place::of(&evaluation_result);
         let found = StoredResult::new(evaluation_result, token);

@@ -1,0 +1,101 @@
+-- A stored result answers the newest goal's question, or the call.
+use Rattle.std.proofs.Common.{◌≡◌, ◌≢◌, ℕ, ◌+◌, ◌<◌, ◌≤◌, max, Bool, true, false, List, [], ◌∷◌, length, map, Option, Some, None, refl, sym, ap, ◌∙◌, subst, arith}
+use Rattle.std.specs.Option.{option_map}
+use Rattle.std.proofs.lemmas.Bool.{cases_Bool}
+use Rattle.search_parts.specs.declared.context.Delegate as Delegate
+use Rattle.search_parts.specs.declared.context.Cx as Cx
+use Rattle.search_parts.specs.declared.context.Request.TheVariants.{Evaluate}
+use Rattle.search_parts.specs.declared.context.Reply.{Reply}
+use Rattle.search_parts.specs.declared.context.Reply.TheVariants.{Answer}
+use Rattle.search_parts.specs.declared.path.PathKind.{PathKind}
+use Rattle.search_parts.specs.declared.global_cache.results.Place.{Place}
+use Rattle.search_parts.specs.declared.global_cache.results.Place.TheVariants.{Success, WithOverflow}
+use Rattle.search_parts.specs.declared.global_cache.results.StoredResult.{StoredResult}
+use Rattle.search_parts.specs.declared.parts.stack.StackEntry.{StackEntry}
+use Rattle.search_parts.specs.declared.parts.stack.EntryState.{EntryState}
+use Rattle.search_parts.specs.Definite.{IsDefinite}
+use Rattle.search_parts.specs.LookUp.{Hit}
+use Rattle.search_parts.specs.Nested.{NestedPaths}
+use Rattle.search_parts.specs.Rank.{IsPlainTo, frames_within}
+use Rattle.search_parts.specs.Store.{Store, stored_at}
+use Rattle.evaluations.specs.Frames.{Frame, Outcome, answered, IsAllowed}
+use Rattle.evaluations.specs.Plain.{IsSafeOutcome}
+use Rattle.evaluations.specs.Mirror.{with_replies, TakesReply, Waits}
+use Rattle.evaluations.proofs.Mirrors.{answered_waits}
+use Rattle.search_graph.specs.declared.graph.open_goals.Received.{Received}
+use Rattle.search_graph.specs.declared.graph.open_goals.Run.{Run}
+use Rattle.search_graph.specs.Calls.{Call, Outset, runs, limits, bound, IsCounted, KeepsLimits}
+use Rattle.search_graph.specs.Decided.{AllDecided}
+use Rattle.search_graph.specs.Entries.{with_depth, with_nested_goals, is_in_cycle}
+use Rattle.search_graph.specs.Evaluating.{Begins, Decidedly, KeepsStore, seen, HasAsked, GoesOn, HasEnded}
+use Rattle.search_graph.specs.LookUp.{IsUsable, UsesStored}
+use Rattle.search_graph.specs.NestedGoals.{TakesStored}
+use Rattle.search_graph.specs.Results.{AreDefinite, HaveNoOverflow}
+use Rattle.search_graph.specs.Steps.{Stood}
+use Rattle.search_graph.proofs.DecidedGoals.{changed_decided}
+use Rattle.search_graph.proofs.Moves.{some_frames, some_runs}
+
+module _ {D C V P F I R A T : Type 0} (G : Delegate.Ghosts D C V P F I R A T) (X : Cx.Ghosts C I R A T) (cx : C) (call : Call I) (same : I → I → Bool) (results : Store I (StoredResult C I R A T)) where
+  abbrev Goal : Type 0
+  Goal = StackEntry C I R A T × Run C F I R A T
+
+  -- what the theory is told of a used result
+  abbrev outcome_of_hit : Hit I R T → Outcome R
+  outcome_of_hit hit = record { result = hit.result; required = hit.required_depth; met_overflow = hit.encountered_overflow; in_cycle = false }
+
+  module _ (goal : I) (depth : ℕ) (hit : Hit I R T) (u : IsUsable same (G.script cx) results goal depth hit) where
+    usable_is_safe : IsSafeOutcome (G.script cx) goal depth (outcome_of_hit hit)
+    usable_is_safe = record { value = u.value; overflow = u.overflow; cycle = λ c. absurd cc; within = u.within }
+
+    -- where no overflow is stored, none was met
+    met_none_at : (b : Bool) → hit.encountered_overflow ≡ b → HaveNoOverflow same results → hit.encountered_overflow ≡ false
+    met_none_at false is none = is
+    met_none_at true is none =
+        let there : stored_at same results goal (WithOverflow depth) ≡ Some u.stored = subst (λ p. stored_at same results goal p ≡ Some u.stored) (u.place_is is) u.is_stored in
+        let clash : None ≡ Some u.stored = sym (none goal depth) ∙ there in
+        absurd cc
+
+    met_none : HaveNoOverflow same results → hit.encountered_overflow ≡ false
+    met_none none = met_none_at hit.encountered_overflow refl none
+
+    hit_is_definite : AreDefinite X.is_yes X.is_no same results → IsDefinite X.is_yes X.is_no hit.result
+    hit_is_definite all = subst (IsDefinite X.is_yes X.is_no) u.result_is (all goal u.place u.stored u.is_stored)
+
+  or_false : (b : Bool) → (b ≡ false) → (c : Bool) → c ≡ c
+  or_false b is c = refl
+
+  -- the newest goal takes it over
+  stored_taken : (entry : StackEntry C I R A T) (run : Run C F I R A T) (hit : Hit I R T) (nested : NestedPaths I) → TakesReply (seen G X cx) (Stood G X cx) (G.script cx) (λ g. answered g (outcome_of_hit hit)) (Answer hit.result) (entry, run) (record entry { state = with_nested_goals (with_depth entry.state hit.required_depth hit.encountered_overflow) nested }, run)
+  stored_taken entry run hit nested = record { same = λ replies. ?; stood = λ replies stood. stood }
+
+  pub stored_goes_on : (ahead : ℕ) (kind : PathKind) (goal : I) (depth : ℕ) (received : Received R) (old new : List Goal) (starts : ℕ) (met : Bool) → ((s : Goal) (below : List Goal) → old ≡ s ∷ below → IsAllowed (seen G X cx s) depth) → UsesStored same (G.script cx) results kind goal depth received old new → KeepsStore G X cx same call met results → HasAsked G X cx call ahead (Evaluate kind goal) old starts met → GoesOn G X cx call ahead received.reply new starts met
+  stored_goes_on ahead kind goal depth received old new starts met may uses keeps h =
+      let t = uses.takes in
+      let later : Goal = (record t.entry { state = with_nested_goals (with_depth t.entry.state uses.hit.required_depth uses.hit.encountered_overflow) t.nested }, t.run) in
+      let was : HasAsked G X cx call ahead (Evaluate kind goal) ((t.entry, t.run) ∷ t.below) starts met = subst (λ v. HasAsked G X cx call ahead (Evaluate kind goal) v starts met) t.was h in
+      let w = answered_waits (seen G X cx) (Stood G X cx) (G.script cx) (limits G X cx call) (IsCounted G X cx call) call.top (bound G X cx call) (some_runs G.FIXPOINT_STEP_LIMIT) ahead starts met (t.entry, t.run) t.below kind goal depth (outcome_of_hit uses.hit)
+      (record t.entry { state = with_nested_goals (with_depth t.entry.state uses.hit.required_depth uses.hit.encountered_overflow) t.nested }, t.run)
+      (may (t.entry, t.run) t.below t.was) (usable_is_safe goal depth uses.hit uses.usable) (λ counted unmet. met_none goal depth uses.hit uses.usable (keeps.overflow counted unmet))
+      (stored_taken t.entry t.run uses.hit t.nested) was.asked in
+      subst (λ (given : Received R). GoesOn G X cx call ahead given.reply new starts met) (sym uses.is)
+      (subst (λ v. GoesOn G X cx call ahead (Answer uses.hit.result) v starts met) (sym t.is)
+      (record {
+        waiting = record {
+          waits = w.0;
+          keeps = h.keeps;
+          decided = λ decisive unmet. (
+            changed_decided X.is_yes X.is_no (t.entry, t.run) (record t.entry { state = with_nested_goals (with_depth t.entry.state uses.hit.required_depth uses.hit.encountered_overflow) t.nested }, t.run) t.below refl
+                (λ here. record { replies = here.replies; provisional = here.provisional }) (was.decided decisive unmet),
+            hit_is_definite goal depth uses.hit uses.usable (keeps.definite decisive unmet),
+          );
+        };
+        falls = w.1;
+      }))
+
+  -- a stored result that answers the call
+  pub stored_ends : (input : I) (root starts : ℕ) (met : Bool) (hit : Hit I R T) → IsUsable same (G.script cx) results input root hit → Begins G X cx same call input root starts met results → HasEnded G X cx call hit.result starts met
+  stored_ends input root starts met hit u b =
+      let top : input ≡ call.top = sym b.outset.same_top in
+      let at : root ≡ call.root = sym b.outset.same_root in
+      let here : IsUsable same (G.script cx) results call.top call.root hit = rw b.outset.same_top (rw b.outset.same_root u) in
+      ?
