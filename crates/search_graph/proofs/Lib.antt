@@ -1,6 +1,7 @@
 pub mod Pairs
 pub mod Changes
 pub mod NestedGoals
+pub mod LookUps
 pub mod TakenHeads
 pub mod OldestFirst
 pub mod Steps

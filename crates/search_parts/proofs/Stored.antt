@@ -67,38 +67,41 @@ lent : {X I R A T : Type 0} (P : Hit I R T → Type 0) (found : Option (CacheDat
 lent P None h = tt
 lent P (Some hit) h = h
 
-module _ {X I R A T : Type 0} (is_yes is_no : R → Bool) (scripts : I → List (Reply R) → Request I R) (nodes : List (CacheNode I R)) (input : I) (available : ℕ) (accepts : NestedPaths I → Bool) where
-  success_case : (s : StoredResult X I R A T) (fits : Bool) → (fits ≡ true → s.required_depth ≤ available) → IsKept is_yes is_no scripts nodes input Success s
-      → IfSome (first_accepted accepts (if fits then hit_at s.required_depth false s ∷ [] else [])) (IsWorth is_yes is_no scripts nodes input available)
-  success_case s true within k =
-      first_of_one (IsWorth is_yes is_no scripts nodes input available) (accepts s.nested_goals) (hit_at s.required_depth false s)
-      (record { graph = k.graph; value = λ e. k.plain; overflow = λ e. absurd cc; within = within refl })
-  success_case s false within k = tt
+module _ {X I R A T : Type 0} (P : Hit I R T → Type 0) (same : I → I → Bool) (results : Store I (StoredResult X I R A T)) (input : I) (available : ℕ) (accepts : NestedPaths I → Bool) where
+  success_case : (s : StoredResult X I R A T) (fits : Bool) → (fits ≡ true → s.required_depth ≤ available) → (s.required_depth ≤ available → P (hit_at s.required_depth false s))
+      → IfSome (first_accepted accepts (if fits then hit_at s.required_depth false s ∷ [] else [])) P
+  success_case s true within holds = first_of_one P (accepts s.nested_goals) (hit_at s.required_depth false s) (holds (within refl))
+  success_case s false within holds = tt
 
-  success_is_worth : (o : Option (StoredResult X I R A T)) → ((s : StoredResult X I R A T) → o ≡ Some s → IsKept is_yes is_no scripts nodes input Success s)
-      → IfSome (first_accepted accepts (successes available o)) (IsWorth is_yes is_no scripts nodes input available)
-  success_is_worth None kept = tt
-  success_is_worth (Some s) kept = success_case s (nat_le s.required_depth available) (leb-true s.required_depth available) (kept s refl)
+  success_holds : (o : Option (StoredResult X I R A T)) → ((s : StoredResult X I R A T) → o ≡ Some s → s.required_depth ≤ available → P (hit_at s.required_depth false s))
+      → IfSome (first_accepted accepts (successes available o)) P
+  success_holds None holds = tt
+  success_holds (Some s) holds = success_case s (nat_le s.required_depth available) (leb-true s.required_depth available) (holds s refl)
 
-  overflow_is_worth : (o : Option (StoredResult X I R A T)) → ((s : StoredResult X I R A T) → o ≡ Some s → IsKept is_yes is_no scripts nodes input (WithOverflow available) s)
-      → IfSome (first_accepted accepts (overflows available o)) (IsWorth is_yes is_no scripts nodes input available)
-  overflow_is_worth None kept = tt
-  overflow_is_worth (Some s) kept =
-      let k = kept s refl in
-      first_of_one (IsWorth is_yes is_no scripts nodes input available) (accepts s.nested_goals) (hit_at available true s)
-      (record { graph = k.graph; value = λ e. absurd cc; overflow = λ e. k.plain; within = omega arith })
+  overflow_holds : (o : Option (StoredResult X I R A T)) → ((s : StoredResult X I R A T) → o ≡ Some s → P (hit_at available true s))
+      → IfSome (first_accepted accepts (overflows available o)) P
+  overflow_holds None holds = tt
+  overflow_holds (Some s) holds = first_of_one P (accepts s.nested_goals) (hit_at available true s) (holds s refl)
 
-  pub look_up_is_worth : (same : I → I → Bool) (results : Store I (StoredResult X I R A T)) (found : Option (CacheData X I R A T))
-      → AreKept same is_yes is_no scripts nodes results → option_map hit_of found ≡ first_accepted accepts (usable same results input available)
-      → IfSome found (λ hit. IsWorth is_yes is_no scripts nodes input available (hit_of hit))
-  look_up_is_worth same results found kept is =
-      let success = stored_at same results input Success in
-      let overflow = stored_at same results input (WithOverflow available) in
-      lent (IsWorth is_yes is_no scripts nodes input available) found
-      (subst (λ o. IfSome o (IsWorth is_yes is_no scripts nodes input available))
-      (sym (is ∙ find-append (λ hit. accepts hit.nested_goals) (successes available success) (overflows available overflow)))
-      (either (IsWorth is_yes is_no scripts nodes input available) (first_accepted accepts (successes available success)) (first_accepted accepts (overflows available overflow))
-      (success_is_worth success (kept input Success)) (overflow_is_worth overflow (kept input (WithOverflow available)))))
+  -- what holds of the success and of the overflow result at the depth holds of the result that a look-up gives
+  pub used_holds : (found : Option (CacheData X I R A T))
+      → ((s : StoredResult X I R A T) → stored_at same results input Success ≡ Some s → s.required_depth ≤ available → P (hit_at s.required_depth false s))
+      → ((s : StoredResult X I R A T) → stored_at same results input (WithOverflow available) ≡ Some s → P (hit_at available true s))
+      → option_map hit_of found ≡ first_accepted accepts (usable same results input available) → IfSome found (λ hit. P (hit_of hit))
+  used_holds found success overflow is =
+      lent P found
+      (subst (λ o. IfSome o P)
+      (sym (is ∙ find-append (λ hit. accepts hit.nested_goals) (successes available (stored_at same results input Success)) (overflows available (stored_at same results input (WithOverflow available)))))
+      (either P (first_accepted accepts (successes available (stored_at same results input Success))) (first_accepted accepts (overflows available (stored_at same results input (WithOverflow available))))
+      (success_holds (stored_at same results input Success) success) (overflow_holds (stored_at same results input (WithOverflow available)) overflow)))
+
+pub look_up_is_worth : {X I R A T : Type 0} (is_yes is_no : R → Bool) (scripts : I → List (Reply R) → Request I R) (nodes : List (CacheNode I R)) (input : I) (available : ℕ) (accepts : NestedPaths I → Bool) (same : I → I → Bool) (results : Store I (StoredResult X I R A T)) (found : Option (CacheData X I R A T))
+    → AreKept same is_yes is_no scripts nodes results → option_map hit_of found ≡ first_accepted accepts (usable same results input available)
+    → IfSome found (λ hit. IsWorth is_yes is_no scripts nodes input available (hit_of hit))
+look_up_is_worth is_yes is_no scripts nodes input available accepts same results found kept is =
+    used_holds (IsWorth is_yes is_no scripts nodes input available) same results input available accepts found
+    (λ s at within. let k = kept input Success s at in record { graph = k.graph; value = λ e. k.plain; overflow = λ e. absurd cc; within = within })
+    (λ s at. let k = kept input (WithOverflow available) s at in record { graph = k.graph; value = λ e. absurd cc; overflow = λ e. k.plain; within = omega arith }) is
 
 -- what holds of each used result, in place of all that it is worth
 pub IfSome-weaker : {A : Type 0} (P Q : A → Type 0) → ((x : A) → P x → Q x) → (o : Option A) → IfSome o P → IfSome o Q

@@ -1,0 +1,47 @@
+-- Which stored results are used.
+use Rattle.std.proofs.Common.{◌≡◌, ℕ, ◌≤◌, Bool, true, false, not, List, [], ◌∷◌, map, reverse, is_some, Option, None, Some, refl, sym, ap, ◌∙◌, subst}
+use Rattle.std.specs.List.{list_any}
+use Rattle.std.specs.Option.{IfSome, option_map}
+use Rattle.search_parts.specs.declared.context.Request.{Request}
+use Rattle.search_parts.specs.declared.context.Reply.{Reply}
+use Rattle.search_parts.specs.declared.global_cache.look_up.CacheData.{CacheData}
+use Rattle.search_parts.specs.declared.global_cache.results.Place.TheVariants.{Success, WithOverflow}
+use Rattle.search_parts.specs.declared.global_cache.results.StoredResult.{StoredResult}
+use Rattle.search_parts.specs.declared.parts.stack.StackEntry.{StackEntry}
+use Rattle.search_parts.specs.LookUp.{Hit, hit_of, hit_at, first_accepted, usable}
+use Rattle.search_parts.specs.Nested.{NestedPaths, paths_at}
+use Rattle.search_parts.specs.Rank.{IsPlain, IsBelowRank}
+use Rattle.search_parts.specs.Store.{Store, stored_at}
+use Rattle.search_parts.proofs.Stored.{used_holds}
+use Rattle.search_graph.specs.LookUp.{is_applicable, IsUsable}
+
+-- nothing is below a result without goals
+nothing_below : {X I R A T : Type 0} (same : I → I → Bool) (stack : List (StackEntry X I R A T)) → list_any (λ e. is_some (paths_at same [] e.input)) stack ≡ false
+nothing_below same [] = refl
+nothing_below same (e ∷ es) = nothing_below same es
+
+pub empty_is_applicable : {X I R A T : Type 0} (same : I → I → Bool) (stack : List (StackEntry X I R A T)) (nested : NestedPaths I) → nested ≡ [] → true ≡ is_applicable same stack nested
+empty_is_applicable same stack nested is = sym (ap (is_applicable same stack) is ∙ ap not (nothing_below same stack))
+
+-- a used result is stored of the goal
+module _ {X I R A T : Type 0} (same : I → I → Bool) (scripts : I → List (Reply R) → Request I R) (results : Store I (StoredResult X I R A T)) (goal : I) (depth : ℕ) where
+  -- what is known of it besides
+  pub record IsGood (hit : Hit I R T) : Type 0 where
+    pub value : hit.encountered_overflow ≡ false → IsPlain scripts goal hit.result
+    pub overflow : hit.encountered_overflow ≡ true → IsBelowRank scripts goal depth
+    pub within : hit.required_depth ≤ depth
+
+  good : (found : Option (CacheData X I R A T)) → IfSome found (λ hit. hit.encountered_overflow ≡ false → IsPlain scripts goal hit.result) → IfSome found (λ hit. hit.encountered_overflow ≡ true → IsBelowRank scripts goal depth) → IfSome found (λ hit. hit.required_depth ≤ depth) → IfSome found (λ hit. IsGood (hit_of hit))
+  good None v o w = tt
+  good (Some hit) v o w = record { value = v; overflow = o; within = w }
+
+  usable_then : (found : Option (CacheData X I R A T)) → IfSome found (λ hit. IsGood (hit_of hit) → IsUsable same scripts results goal depth (hit_of hit)) → IfSome found (λ hit. IsGood (hit_of hit)) → IfSome found (λ hit. IsUsable same scripts results goal depth (hit_of hit))
+  usable_then None f g = tt
+  usable_then (Some hit) f g = f g
+
+  pub found_is_usable : (accepts : NestedPaths I → Bool) (found : Option (CacheData X I R A T)) → option_map hit_of found ≡ first_accepted accepts (usable same results goal depth) → IfSome found (λ hit. hit.encountered_overflow ≡ false → IsPlain scripts goal hit.result) → IfSome found (λ hit. hit.encountered_overflow ≡ true → IsBelowRank scripts goal depth) → IfSome found (λ hit. hit.required_depth ≤ depth) → IfSome found (λ hit. IsUsable same scripts results goal depth (hit_of hit))
+  found_is_usable accepts found is v o w =
+      usable_then found (used_holds (λ hit. IsGood hit → IsUsable same scripts results goal depth hit) same results goal depth accepts found
+      (λ s at within known. record { place = Success; stored = s; is_stored = at; result_is = refl; node_is = refl; place_is = λ e. absurd cc; value = known.value; overflow = known.overflow; within = known.within })
+      (λ s at known. record { place = WithOverflow depth; stored = s; is_stored = at; result_is = refl; node_is = refl; place_is = λ e. refl; value = known.value; overflow = known.overflow; within = known.within }) is)
+      (good found v o w)
