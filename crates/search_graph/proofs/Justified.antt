@@ -128,7 +128,7 @@ get_last (y ∷ ys) x = get_last ys x
 none_is_not_some : {A : Type 0} {x : A} → ◌≡◌ {A = Option A} None (Some x) → ⊥
 none_is_not_some is = cc
 
-no_answers : {A : Type 0} (i : ℕ) (a : A) → slice_get [] i ≡ Some a → ⊥
+pub no_answers : {A : Type 0} (i : ℕ) (a : A) → slice_get [] i ≡ Some a → ⊥
 no_answers i a is = cc
 
 -- a frame may forget which heads its run began with
@@ -168,7 +168,7 @@ module _ {I R : Type 0} (is_yes is_no : R → Bool) (nodes : List (CacheNode I R
     asked = tt;
   }
 
-  shapes_opened : (goal : I) → shapes_of is_yes is_no (nodes ++ open_node goal ∷ []) ≡ shapes_of is_yes is_no nodes ++ theory.Unfinished ∷ []
+  pub shapes_opened : (goal : I) → shapes_of is_yes is_no (nodes ++ open_node goal ∷ []) ≡ shapes_of is_yes is_no nodes ++ theory.Unfinished ∷ []
   shapes_opened goal = map-append (shape_of is_yes is_no) nodes (open_node goal ∷ [])
 
   new_node_is : (goal : I) → IsNodeOf (nodes ++ open_node goal ∷ []) (length nodes) goal
@@ -335,7 +335,7 @@ module _ {I R : Type 0} (is_yes is_no : R → Bool) (nodes : List (CacheNode I R
 
 -- what follows once the run is settled
 module _ {I R : Type 0} (is_yes is_no : R → Bool) (nodes after : List (CacheNode I R)) (o : OpenRun I R) (below : List (OpenRun I R)) (h : AreJustified is_yes is_no nodes (o ∷ below)) (r : R) (target : Option NodeId) (s : Settles is_yes is_no nodes after o below r target) where
-  popped : IsSound (shapes_of is_yes is_no after) (frames_of is_yes is_no below) [] [] × (verdict_of is_yes is_no r ≢ theory.Neither → Use (shapes_of is_yes is_no after) (verdict_of is_yes is_no r) (stack_of (frames_of is_yes is_no below)) (path_kind (stack_of (frames_of is_yes is_no below)) (rank_of o.step)) 0 s.place (heads_shape o.heads))
+  pub popped : IsSound (shapes_of is_yes is_no after) (frames_of is_yes is_no below) [] [] × (verdict_of is_yes is_no r ≢ theory.Neither → Use (shapes_of is_yes is_no after) (verdict_of is_yes is_no r) (stack_of (frames_of is_yes is_no below)) (path_kind (stack_of (frames_of is_yes is_no below)) (rank_of o.step)) 0 s.place (heads_shape o.heads))
   popped =
       pop_keeps_sound (shapes_of is_yes is_no nodes) (answering (frame_of is_yes is_no o) s.edges (heads_shape o.heads)) (frames_of is_yes is_no below) [] [] [] [] (verdict_of is_yes is_no r) (shapes_of is_yes is_no after) s.place s.answered
       (λ i k is. absurd (no_answers i k is)) (λ i k is. absurd (no_answers i k is)) s.sound
@@ -350,7 +350,7 @@ module _ {I R : Type 0} (is_yes is_no : R → Bool) (nodes after : List (CacheNo
     asked = h.asked.1;
   }
 
-  used_at : (t : Option NodeId) → verdict_of is_yes is_no r ≢ theory.Neither → IsSomeAnd t (λ n. (n.0 ≡ s.place) × IsNodeOf after n.0 o.goal) → (P : ℕ → Type 0) → (IsNodeOf after s.place o.goal → P s.place) → IsSomeAnd t (λ n. P n.0)
+  pub used_at : (t : Option NodeId) → verdict_of is_yes is_no r ≢ theory.Neither → IsSomeAnd t (λ n. (n.0 ≡ s.place) × IsNodeOf after n.0 o.goal) → (P : ℕ → Type 0) → (IsNodeOf after s.place o.goal → P s.place) → IsSomeAnd t (λ n. P n.0)
   used_at None definite at P from = absurd at
   used_at (Some n) definite at P from = subst P (sym at.0) (from (subst (λ m. IsNodeOf after m o.goal) at.0 at.1))
 
@@ -394,7 +394,7 @@ module _ {I R : Type 0} (is_yes is_no : R → Bool) (nodes after : List (CacheNo
   home_then (Some n) same at = (at.0 ∙ same, s.goals_kept n.0 o.goal at.1)
 
   -- the node to which the answers of the goal's cycles lead from then on
-  lead_is : IsSomeAnd (option_or target o.cycles_lead) (λ n. (n.0 ≡ s.place) × IsNodeOf after n.0 o.goal)
+  pub lead_is : IsSomeAnd (option_or target o.cycles_lead) (λ n. (n.0 ≡ s.place) × IsNodeOf after n.0 o.goal)
   lead_is = elim (verdict_cases (verdict_of is_yes is_no r) theory.Neither) [
     | inl neither ↦
         let n = s.neither neither in
@@ -405,7 +405,7 @@ module _ {I R : Type 0} (is_yes is_no : R → Bool) (nodes after : List (CacheNo
 
   -- The goal is run again under the result.
   module _ (own : NodeId) (at : own.0 ≡ length after) where
-    leads_there : (lead : Option NodeId) → IsSomeAnd lead (λ n. (n.0 ≡ s.place) × IsNodeOf after n.0 o.goal) → elim lead [ None ↦ own.0 | Some n ↦ n.0 ] ≡ s.place
+    pub leads_there : (lead : Option NodeId) → IsSomeAnd lead (λ n. (n.0 ≡ s.place) × IsNodeOf after n.0 o.goal) → elim lead [ None ↦ own.0 | Some n ↦ n.0 ] ≡ s.place
     leads_there None is = absurd is
     leads_there (Some n) is = is.0
 

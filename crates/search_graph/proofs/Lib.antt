@@ -21,3 +21,4 @@ pub mod RunsEnd
 pub mod RunEnds
 pub mod CycleAnswers
 pub mod DecidedGoals
+pub mod Free

@@ -15,7 +15,7 @@ use Rattle.search_parts.specs.Definite.{HasGraph}
 use Rattle.search_parts.proofs.Finished.{finished_stays, Grown-finished}
 use Rattle.search_parts.proofs.Bridge.{KeepsRule, yes_is_proof, no_is_refutation}
 
-IsSomeAnd-weaker : {A : Type 0} (P Q : A → Type 0) → ((x : A) → P x → Q x) → (o : Option A) → IsSomeAnd o P → IsSomeAnd o Q
+pub IsSomeAnd-weaker : {A : Type 0} (P Q : A → Type 0) → ((x : A) → P x → Q x) → (o : Option A) → IsSomeAnd o P → IsSomeAnd o Q
 IsSomeAnd-weaker P Q more None h = absurd h
 IsSomeAnd-weaker P Q more (Some x) h = more x h
 
