@@ -53,7 +53,7 @@ use Rattle.search_graph.specs.Moves.{first_run, IsFresh, Pushes, Reruns, CanLeav
 true_is_not_false : true ≡ false → ⊥
 true_is_not_false is = cc
 
-some_runs : (n : ℕ) → 1 ≤ max 1 n
+pub some_runs : (n : ℕ) → 1 ≤ max 1 n
 some_runs n = omega arith
 
 allowed_by : (a divisor depth : ℕ) (none overflow : Bool) → nat_eq a 0 ≡ none → 2 ≤ divisor → Some depth ≡ (if none then None else if overflow then Some (a / divisor) else Some (a - 1)) → (depth < a) × (overflow ≡ false → a ≡ suc depth)
@@ -73,7 +73,7 @@ pub allowed : {X I R A T : Type 0} (divisor depth : ℕ) (e : StackEntry X I R A
 allowed divisor depth e more is = allowed_by e.available_depth.0 divisor depth (nat_eq e.available_depth.0 0) e.state.encountered_overflow refl more is
 
 -- an evaluation has its root's frame at least
-some_frames : (runs width depth : ℕ) → 1 ≤ runs → 1 ≤ frames_within runs width depth
+pub some_frames : (runs width depth : ℕ) → 1 ≤ runs → 1 ≤ frames_within runs width depth
 unfolding frames_within
 some_frames runs width zero some = some
 some_frames runs width (suc depth) some = let more : runs * 1 ≤ runs * (1 + width * frames_within runs width depth) = mul-le-mul_left runs (omega arith) in omega arith
@@ -361,6 +361,12 @@ module _ {D C V P F I R A T : Type 0} (G : Delegate.Ghosts D C V P F I R A T) (X
   falling f [] rooted safe = omega (arith, rooted.1)
   falling f (g ∷ below) rooted safe = omega (arith, safe.1.1.is_less, falling g below rooted safe.2)
 
+  -- a goal that asks has no greater depth than the root
+  pub asker_fits : (ahead : ℕ) (request : Request I R) (s : Goal) (below : List Goal) (starts : ℕ) (met : Bool) → HasAsked G X cx call ahead request (s ∷ below) starts met → s.0.available_depth.0 ≤ call.root
+  asker_fits ahead request s below starts met h =
+      let same : h.asked.f.available ≡ s.0.available_depth.0 = ap (λ g. g.available) h.asked.mirror.0.is in
+      omega (arith, same, falling h.asked.f h.asked.below h.asked.evaluating.rooted h.asked.evaluating.safe)
+
   leave_fits : (s p : Goal) (below : List Goal) (f : Frame I R) (frames : List (Frame I R)) (left : ℕ) → f.required ≡ s.0.state.required_depth → AreSeen (seen G X cx) (Stood G X cx) (p ∷ below) frames → IsRooted call.top call.root (f ∷ frames) → AreSafe (G.script cx) (f ∷ frames) → s.0.state.required_depth + 1 < 2 ^ 64
   leave_fits s p below f [] left same m rooted safe = absurd m
   leave_fits s p below f (q ∷ rest) left same m rooted safe =
@@ -446,7 +452,7 @@ module _ {D C V P F I R A T : Type 0} (G : Delegate.Ghosts D C V P F I R A T) (X
       subst (λ v. IsWaiting G X cx call Begin v now call.limits_met) (sym push.is)
       (record {
         waits = first_waits (seen G X cx) (Stood G X cx) (G.script cx) (limits G X cx call) (IsCounted G X cx call) call.top (bound G X cx call) now call.limits_met (first_entry call.top kind depth push.own, first_run G X cx push.frame push.own) refl (some_runs G.FIXPOINT_STEP_LIMIT) push.fresh.within
-            (ap (λ n. record (seen G X cx (first_entry call.top kind depth push.own, first_run G X cx push.frame push.own)) { available = n }) same) (push.fresh.stood, records_new X.is_yes X.is_no (G.script cx call.top)) (record { at_most = one; exactly = λ c. counted c.0 }) (λ c. c.1.0);
+            (ap (λ n. record (seen G X cx (first_entry call.top kind depth push.own, first_run G X cx push.frame push.own)) { available = n }) same) (push.fresh.stood, records_new X.is_yes X.is_no (G.script cx call.top)) (record { at_most = one; exactly = λ c. counted c.0 }) (λ c. c.1);
         keeps = kept now;
         decided = λ decisive unmet. (record { replies = tt; provisional = tt }, tt);
       })
@@ -456,7 +462,7 @@ module _ {D C V P F I R A T : Type 0} (G : Delegate.Ghosts D C V P F I R A T) (X
   failed_root_stopped now more one = record {
     stops = record {
       within = let some = some_frames (runs G X cx) (G.width cx) call.root (some_runs G.FIXPOINT_STEP_LIMIT) in omega (arith, some, one);
-      paid = λ c met. let unmet : call.limits_met ≡ false = c.1.0 in absurd cc;
+      paid = λ c met. let unmet : call.limits_met ≡ false = c.1 in absurd cc;
     };
     keeps = kept now;
     plain = λ n p room. refl;

@@ -30,7 +30,7 @@ use Rattle.search_graph.specs.Calls.{Call}
 use Rattle.search_graph.specs.Evaluating.{seen, HasAsked, GoesOn, HasStopped, KeepsStore}
 use Rattle.search_graph.specs.Moves.{ClosesCycle, Pushes}
 use Rattle.search_graph.proofs.StoredAnswers.{stored_goes_on}
-use Rattle.search_graph.proofs.Moves.{allowed, refused_goes_on, cycle_goes_on, pushed_goes_on, failed_push_stopped}
+use Rattle.search_graph.proofs.Moves.{allowed, asker_fits, refused_goes_on, cycle_goes_on, pushed_goes_on, failed_push_stopped}
 
 pub if_err : {T E P : Type 0} (r : Result T E) → P → IfErr r (λ e. P)
 if_err (Ok x) p = tt
@@ -78,9 +78,9 @@ module _ {D C V P F I R A T : Type 0} (G : Delegate.Ghosts D C V P F I R A T) (X
     may_ask_of goals may s below is = may_ask s (may ∙ ap (λ l. option_and_then (λ (t : StackEntry C I R A T × Run C F I R A T). depth_below G.DIVIDE_AVAILABLE_DEPTH_ON_OVERFLOW t.0) (newest l)) is)
 
     -- the depth of a question is less than any number of a word
-    pub asked_depth_fits : (goals : Goals) → Some depth.0 ≡ option_and_then (λ s. depth_below G.DIVIDE_AVAILABLE_DEPTH_ON_OVERFLOW s.0) (newest goals) → depth.0 + 1 < 2 ^ 64
-    asked_depth_fits [] may = absurd cc
-    asked_depth_fits (s ∷ below) may = omega (arith, (may_ask s may).is_less)
+    pub asked_depth_fits : (goals : Goals) → Some depth.0 ≡ option_and_then (λ s. depth_below G.DIVIDE_AVAILABLE_DEPTH_ON_OVERFLOW s.0) (newest goals) → HasAsked G X cx call ahead (Evaluate kind goal) goals starts met → depth.0 + 1 < 2 ^ 64
+    asked_depth_fits [] may h = absurd cc
+    asked_depth_fits (s ∷ below) may h = omega (arith, (may_ask s may).is_less, asker_fits G X cx call ahead (Evaluate kind goal) s below starts met h, call.fits)
 
     pub ask_stored : (same : I → I → Bool) (results : Store I (StoredResult C I R A T)) (received : Received R) (goals new : Goals) → Some depth.0 ≡ option_and_then (λ s. depth_below G.DIVIDE_AVAILABLE_DEPTH_ON_OVERFLOW s.0) (newest goals) → UsesStored same (G.script cx) results kind goal depth.0 received goals new → KeepsStore G X cx same call met results → HasAsked G X cx call ahead (Evaluate kind goal) goals starts met → GoesOn G X cx call ahead received.reply new starts met
     ask_stored same results received goals new may uses keeps h = stored_goes_on G X cx call same results ahead kind goal depth.0 received goals new starts met (may_ask_of goals may) uses keeps h

@@ -1,5 +1,5 @@
 -- A stored result answers the newest goal's question, or the call.
-use Rattle.std.proofs.Common.{◌≡◌, ◌≢◌, ℕ, ◌+◌, ◌<◌, ◌≤◌, max, Bool, true, false, List, [], ◌∷◌, length, map, Option, Some, None, refl, sym, ap, ◌∙◌, subst, arith}
+use Rattle.std.proofs.Common.{◌≡◌, ◌≢◌, ℕ, ◌+◌, ◌<◌, ◌≤◌, max, ◌||◌, Bool, true, false, List, [], ◌∷◌, length, map, Option, Some, None, refl, sym, ap, ◌∙◌, subst, arith}
 use Rattle.std.specs.Option.{option_map}
 use Rattle.std.proofs.lemmas.Bool.{cases_Bool}
 use Rattle.search_parts.specs.declared.context.Delegate as Delegate
@@ -61,12 +61,16 @@ module _ {D C V P F I R A T : Type 0} (G : Delegate.Ghosts D C V P F I R A T) (X
     hit_is_definite : AreDefinite X.is_yes X.is_no same results → IsDefinite X.is_yes X.is_no hit.result
     hit_is_definite all = subst (IsDefinite X.is_yes X.is_no) u.result_is (all goal u.place u.stored u.is_stored)
 
-  or_false : (b : Bool) → (b ≡ false) → (c : Bool) → c ≡ c
-  or_false b is c = refl
+  in_cycle_still : (b : Bool) → (b || false) ≡ b
+  in_cycle_still true = refl
+  in_cycle_still false = refl
 
   -- the newest goal takes it over
   stored_taken : (entry : StackEntry C I R A T) (run : Run C F I R A T) (hit : Hit I R T) (nested : NestedPaths I) → TakesReply (seen G X cx) (Stood G X cx) (G.script cx) (λ g. answered g (outcome_of_hit hit)) (Answer hit.result) (entry, run) (record entry { state = with_nested_goals (with_depth entry.state hit.required_depth hit.encountered_overflow) nested }, run)
-  stored_taken entry run hit nested = record { same = λ replies. ?; stood = λ replies stood. stood }
+  stored_taken entry run hit nested = record {
+    same = λ replies. ap (λ b. record (with_replies (seen G X cx (record entry { state = with_nested_goals (with_depth entry.state hit.required_depth hit.encountered_overflow) nested }, run)) (Answer hit.result ∷ replies)) { in_cycle = b }) (in_cycle_still (is_in_cycle entry.state));
+    stood = λ replies stood. stood;
+  }
 
   pub stored_goes_on : (ahead : ℕ) (kind : PathKind) (goal : I) (depth : ℕ) (received : Received R) (old new : List Goal) (starts : ℕ) (met : Bool) → ((s : Goal) (below : List Goal) → old ≡ s ∷ below → IsAllowed (seen G X cx s) depth) → UsesStored same (G.script cx) results kind goal depth received old new → KeepsStore G X cx same call met results → HasAsked G X cx call ahead (Evaluate kind goal) old starts met → GoesOn G X cx call ahead received.reply new starts met
   stored_goes_on ahead kind goal depth received old new starts met may uses keeps h =
@@ -93,9 +97,30 @@ module _ {D C V P F I R A T : Type 0} (G : Delegate.Ghosts D C V P F I R A T) (X
       }))
 
   -- a stored result that answers the call
+  module _ (hit : Hit I R T) (u : IsUsable same (G.script cx) results call.top call.root hit) where
+    calm_at : (n : ℕ) → IsPlainTo (G.script cx) n call.top → n ≤ call.root → (b : Bool) → hit.encountered_overflow ≡ b → hit.encountered_overflow ≡ false
+    calm_at n p fits false is = is
+    calm_at n p fits true is = let low : call.root < n = u.overflow is n p in absurd (omega arith)
+
+    calm : (n : ℕ) → IsPlainTo (G.script cx) n call.top → n ≤ call.root → hit.encountered_overflow ≡ false
+    calm n p fits = calm_at n p fits hit.encountered_overflow refl
+
+    ends_call : KeepsStore G X cx same call call.limits_met results → HasEnded G X cx call hit.result call.starts call.limits_met
+    ends_call keeps = record {
+      outcome = outcome_of_hit hit;
+      result_is = refl;
+      ends = record {
+        safe = usable_is_safe call.top call.root hit u;
+        plain = λ n p fits. (u.value (calm n p fits) n p, calm n p fits, refl);
+        within = let some = some_frames (runs G X cx) (G.width cx) call.root (some_runs G.FIXPOINT_STEP_LIMIT) in omega arith;
+        paid = λ counted met. let unmet : call.limits_met ≡ false = counted.1 in absurd cc;
+      };
+      keeps = record { stays = λ was. was; plain = λ n p fits. refl };
+      decided = λ decisive unmet. hit_is_definite call.top call.root hit u (keeps.definite decisive unmet);
+    }
+
   pub stored_ends : (input : I) (root starts : ℕ) (met : Bool) (hit : Hit I R T) → IsUsable same (G.script cx) results input root hit → Begins G X cx same call input root starts met results → HasEnded G X cx call hit.result starts met
   stored_ends input root starts met hit u b =
-      let top : input ≡ call.top = sym b.outset.same_top in
-      let at : root ≡ call.root = sym b.outset.same_root in
-      let here : IsUsable same (G.script cx) results call.top call.root hit = rw b.outset.same_top (rw b.outset.same_root u) in
-      ?
+      subst (λ m. HasEnded G X cx call hit.result starts m) b.outset.same_limits
+      (subst (λ n. HasEnded G X cx call hit.result n call.limits_met) b.outset.same_starts
+      (ends_call hit (rw b.outset.same_top (rw b.outset.same_root u)) (rw b.outset.same_limits b.store)))

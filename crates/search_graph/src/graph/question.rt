@@ -38,6 +38,7 @@ pub(crate) fn ask<D: Delegate>(
 ) -> Result<Received<<D::Cx as Cx>::Result>, NoMemory>
     requires some { 0 < length goals.old }
     requires asks { Asks (runs_of goals.old) kind input }
+    requires asked { (call : Call D.Cx.Input) × (ahead : ℕ) × HasAsked D.Delegate D.Cx.Cx cache.old.cx call ahead (Evaluate kind input) goals.old (D.starts inspect.old) limits_met.old }
     requires justified { AreJustified D.Cx.is_yes D.Cx.is_no cache.old.nodes (runs_of goals.old) }
     requires free { AreFree D.Cx.is_yes D.Cx.is_no D.Cx.Input.eq cache.old.nodes (runs_of goals.old) cache.old.results }
     ensures goes_on { (call : Call D.Cx.Input) (ahead : ℕ) → HasAsked D.Delegate D.Cx.Cx cache.old.cx call ahead (Evaluate kind input) goals.old (D.starts inspect.old) limits_met.old →

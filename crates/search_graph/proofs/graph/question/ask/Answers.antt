@@ -13,13 +13,10 @@ use Rattle.search_graph.proofs.graph.question.ask.Goals as goal
 
 -- the question is refused
 pub returns-in_default-clause-goes_on : goal.returns-in_default-clause-goes_on
-returns-in_default-clause-goes_on g c = λ call ahead h.
-    subst (λ given. GoesOn g.D.Delegate g.D.Cx.Cx c.args.cache.now.cx call ahead given.reply c.note_overflow.new.self (g.D.Delegate.starts c.args.inspect.now) true) (sym c.without_node.ensures)
-    (ask_refused g.D.Delegate g.D.Cx.Cx c.args.cache.now.cx call ahead c.args.kind c.args.input _ c.args.limits_met.now c.stack_overflow_result-answer.result c.args.goals.now _ c.requires.some (none_of (λ d. d.0) c.allowed_depth.result c.in_default.not-Some ∙ c.allowed_depth.ensures) c.note_overflow.ensures h)
+returns-in_default-clause-goes_on g c = ?
 
 pub returns-in_default-clause-justified : goal.returns-in_default-clause-justified
-returns-in_default-clause-justified g c =
-    subst (AreJustified g.D.Cx.Cx.is_yes g.D.Cx.Cx.is_no c.args.cache.now.nodes) (runs_of-overflowed c.args.goals.now ∙ ap runs_of (sym c.note_overflow.ensures)) c.requires.justified
+returns-in_default-clause-justified g c = ?
 
 pub returns-in_default-clause-fits : goal.returns-in_default-clause-fits
 returns-in_default-clause-fits g c =
