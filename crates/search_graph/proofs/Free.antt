@@ -1,6 +1,6 @@
 -- Answers that rest on no goal under evaluation stay so through each move of the driver: one of them at a time is taken as the
 -- final answer of the theory's state.
-use Rattle.std.proofs.Common.{◌≡◌, ◌≢◌, ℕ, zero, suc, Bool, true, List, [], ◌∷◌, ◌++◌, length, Option, None, Some, option_map, slice_get, refl, sym, ap, ◌∙◌, subst}
+use Rattle.std.proofs.Common.{◌≡◌, ℕ, zero, suc, Bool, true, List, [], ◌∷◌, ◌++◌, length, Option, None, Some, option_map, refl, sym, ◌∙◌, subst}
 use Rattle.std.specs.Option.{IsSomeAnd, option_or}
 use Rattle.std.proofs.lemmas.List.{length-map}
 use Rattle.open_graphs.specs.Graph as theory
@@ -149,8 +149,8 @@ module _ {I R : Type 0} (is_yes is_no : R → Bool) (nodes after : List (CacheNo
         let v = verdict_of is_yes is_no r in
         let frames : List Frame = frames_of is_yes is_no below in
         let again =
-            rerun_keeps_sound (shapes_of is_yes is_no nodes) last_frame frames [] [] (only verdict n) v (shapes_of is_yes is_no after) s.place s.answered
-            (λ i k is. absurd (no_answers i k is)) (settled_final verdict n used) in
+        rerun_keeps_sound (shapes_of is_yes is_no nodes) last_frame frames [] [] (only verdict n) v (shapes_of is_yes is_no after) s.place s.answered
+        (λ i k is. absurd (no_answers i k is)) (settled_final verdict n used) in
         let lead = leads_there is_yes is_no nodes after o below h r target s own at (option_or target o.cycles_lead) (lead_is is_yes is_no nodes after o below h r target s) in
         subst (λ more. Use more verdict (stack_of (frames_of is_yes is_no next_goals)) (λ depth. 0) 0 n no_heads) (sym (shapes_opened is_yes is_no after o.goal))
         (subst (λ p. Use (shapes_of is_yes is_no after ++ theory.Unfinished ∷ []) verdict (stack_of (next_frame (frame_of is_yes is_no o) v p own.0 ∷ frames)) (λ depth. 0) 0 n no_heads) (sym lead)
@@ -179,3 +179,11 @@ module _ {I R : Type 0} (is_yes is_no : R → Bool) (nodes : List (CacheNode I R
   free_same goals later same =
       IsFree-carried is_yes is_no nodes nodes goals later (λ at goal is. is)
       (λ verdict n used. subst (λ stack. Use (shapes_of is_yes is_no nodes) verdict stack (λ depth. 0) 0 n no_heads) same used)
+
+module _ {I R : Type 0} (is_yes is_no : R → Bool) (o p : OpenRun I R) (below : List (OpenRun I R)) (steps : o.step ≡ p.step) (earlier : o.provisional ≡ p.provisional) (owns : o.own ≡ p.own) (leads : o.cycles_lead ≡ p.cycles_lead) where
+  -- so the newest goal may get other heads, another request and other answers
+  pub same_stack : stack_of (frames_of is_yes is_no (o ∷ below)) ≡ stack_of (frames_of is_yes is_no (p ∷ below))
+  same_stack = λ i. stack_of (frames_of is_yes is_no below) ++ record { step = rank_of (steps i); provisional = option_map (verdict_of is_yes is_no) (earlier i); node = elim (leads i) [ None ↦ owns i | Some n ↦ n.0 ] } ∷ []
+
+  pub free_above : (nodes : List (CacheNode I R)) (goal : I) (r : R) (target : Option NodeId) → IsFree is_yes is_no nodes (o ∷ below) goal r target → IsFree is_yes is_no nodes (p ∷ below) goal r target
+  free_above nodes = free_same is_yes is_no nodes (o ∷ below) (p ∷ below) same_stack

@@ -22,3 +22,4 @@ pub mod RunEnds
 pub mod CycleAnswers
 pub mod DecidedGoals
 pub mod Free
+pub mod FreeResults
