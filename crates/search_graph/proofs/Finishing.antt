@@ -22,8 +22,9 @@ use Rattle.search_graph.specs.declared.graph.open_goals.Run.{Run}
 use Rattle.search_graph.specs.declared.graph.open_goals.Next.{Next}
 use Rattle.search_graph.specs.declared.graph.open_goals.Next.TheVariants.{Step, Finished}
 use Rattle.search_graph.specs.declared.graph.progress.DefiniteAnswer.{DefiniteAnswer}
-use Rattle.search_graph.specs.Newest.{change_newest}
-use Rattle.search_graph.specs.Entries.{first_entry, joined_over, overflowed, with_depth, TakesAnswer}
+use Rattle.search_graph.specs.NestedGoals.{NotesOverflow, TakesStored}
+use Rattle.search_parts.specs.LookUp.{Hit}
+use Rattle.search_graph.specs.Entries.{first_entry, joined_over, with_depth, TakesAnswer}
 use Rattle.search_graph.specs.Items.{AnswersNewest}
 use Rattle.search_graph.specs.Progress.{RunRecord, no_record, edges_of, Records}
 use Rattle.search_parts.specs.Definite.{HasGraph}
@@ -59,10 +60,16 @@ place_of xs x has = (has.0, slice_get-get_or xs has.0 x has.1 ∙ ap Some has.2)
 pub pushed_goal_is_justified : {X F I R A T : Type 0} (is_yes is_no : R → Bool) (nodes : List (CacheNode I R)) (input : I) (kind : PathKind) (depth : AvailableDepth) (own : NodeId) (frame : F) (goals : List (StackEntry X I R A T × Run X F I R A T)) → own.0 ≡ length nodes → Asks (runs_of goals) kind input → AreJustified is_yes is_no nodes (runs_of goals) → AreJustified is_yes is_no (nodes ++ open_node input ∷ []) (runs_of ((first_entry input kind depth own, record { frame = frame; node = own; progress = no_record; finished_runs = 0; met_overflow_before = false }) ∷ goals))
 pushed_goal_is_justified is_yes is_no nodes input kind depth own frame goals at asks h = pushed_is_justified is_yes is_no nodes input kind own (runs_of goals) at asks h
 
-module _ {X F I R A T : Type 0} where
-  pub runs_of-overflowed : (goals : List (StackEntry X I R A T × Run X F I R A T)) → runs_of goals ≡ runs_of (change_newest (λ s. (overflowed s.0, s.1)) goals)
-  runs_of-overflowed [] = refl
-  runs_of-overflowed (s ∷ below) = refl
+-- the newest goal changes, but not what stands in its run
+module _ {X F I R A T : Type 0} (is_yes is_no : R → Bool) (nodes : List (CacheNode I R)) (same : I → I → Bool) (old new : List (StackEntry X I R A T × Run X F I R A T)) where
+  pub overflow_noted_same : NotesOverflow same old new → runs_of old ≡ runs_of new
+  overflow_noted_same n = ap (λ (l : List (StackEntry X I R A T × Run X F I R A T)). runs_of l) n.was ∙ ap (λ (l : List (StackEntry X I R A T × Run X F I R A T)). runs_of l) (sym n.is)
+
+  pub overflow_noted_is_justified : NotesOverflow same old new → AreJustified is_yes is_no nodes (runs_of old) → AreJustified is_yes is_no nodes (runs_of new)
+  overflow_noted_is_justified n h = subst (AreJustified is_yes is_no nodes) (overflow_noted_same n) h
+
+  pub stored_taken_same : (step : PathKind) (hit : Hit I R T) → TakesStored same step hit old new → runs_of old ≡ runs_of new
+  stored_taken_same step hit t = ap (λ (l : List (StackEntry X I R A T × Run X F I R A T)). runs_of l) t.was ∙ ap (λ (l : List (StackEntry X I R A T × Run X F I R A T)). runs_of l) (sym t.is)
 
 -- ---- heads that are taken over
 

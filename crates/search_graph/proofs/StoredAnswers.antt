@@ -123,4 +123,4 @@ module _ {D C V P F I R A T : Type 0} (G : Delegate.Ghosts D C V P F I R A T) (X
   stored_ends input root starts met hit u b =
       subst (λ m. HasEnded G X cx call hit.result starts m) b.outset.same_limits
       (subst (λ n. HasEnded G X cx call hit.result n call.limits_met) b.outset.same_starts
-      (ends_call hit (rw b.outset.same_top (rw b.outset.same_root u)) (rw b.outset.same_limits b.store)))
+      (ends_call hit (rw b.outset.same_top (rw b.outset.same_root u)) (subst (λ m. KeepsStore G X cx same call m results) (sym b.outset.same_limits) b.store)))

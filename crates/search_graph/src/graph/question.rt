@@ -1,6 +1,6 @@
 //! What a question comes to: it is refused, is answered by a stored result or where its goal is under
 //! evaluation already, or puts its goal on top.
-ghost use Rattle.std.specs.Prelude.{◌≡◌, ◌≤◌, ◌<◌, ◌+◌, ◌^◌, ℕ, false, true, List, length, map, reverse, unwrap_or, IfOk, IfSome, OnOk, IfErr, None, Some};
+ghost use Rattle.std.specs.Prelude.{◌≡◌, ◌≤◌, ◌<◌, ◌+◌, ℕ, false, true, List, length, map, reverse, unwrap_or, IfOk, OnOk, IfErr, Some};
 ghost use Rattle.std.specs.List.{list_any, position};
 ghost use Rattle.std.specs.Option.{option_map, option_and_then};
 ghost use Rattle.search_parts.specs.Stack.{depth_below};
@@ -12,7 +12,6 @@ ghost use Rattle.search_graph.specs.Newest.{newest};
 ghost use Rattle.search_graph.specs.Calls.{Call};
 ghost use Rattle.search_graph.specs.Evaluating.{HasAsked, GoesOn, HasStopped, KeepsStore};
 ghost use Rattle.search_graph.specs.Free.{AreFree};
-ghost use Rattle.search_graph.specs.LookUp.{UsesStored};
 ghost use Rattle.search_graph.specs.Moves.{ClosesCycle, Pushes};
 ghost use Rattle.search_graph.specs.Justified.{Asks, AreJustified, IsFit};
 ghost use Rattle.search_graph.specs.Runs.{runs_of};
@@ -62,37 +61,18 @@ pub(crate) fn ask<D: Delegate>(
         let answer = D::stack_overflow_result(cx, input);
         return Ok(Received::without_node(Reply::Answer(answer)));
     };
-    if let Some(received) = answer_from_cache::<D>(goals, cache, kind, input, depth)? {
-        return Ok(received);
+    if let Some(stored) = look_up::<D>(cache, goals.stack(), input, depth) {
+        goals.note_stored(kind, &stored)?;
+        return Ok(Received {
+            reply: Reply::Answer(stored.result),
+            node: stored.node,
+        });
     }
     if let Some(head) = goals.find(input) {
         return answer_cycle::<D>(goals, cx, kind, input, head);
     }
     push_goal::<D>(goals, cache, kind, input, depth, inspect)?;
     Ok(Received::without_node(Reply::Begin))
-}
-
-/// Answers the newest goal's question by a stored result, if one may be used.
-fn answer_from_cache<D: Delegate>(
-    goals: &mut OpenGoals<D::Cx, D::Frame>,
-    cache: &GlobalCache<D>,
-    step: PathKind,
-    input: <D::Cx as Cx>::Input,
-    depth: AvailableDepth,
-) -> Result<Option<Received<<D::Cx as Cx>::Result>>, NoMemory>
-    requires some { 0 < length goals.old }
-    requires fits { depth.0 + 1 < 2 ^ 64 }
-    ensures unused { IfOk result (λ answer. answer ≡ None → goals.new ≡ goals.old) }
-    ensures used { IfOk result (λ answer. IfSome answer (λ received. UsesStored D.Cx.Input.eq (D.script cache.now.cx) cache.now.results step input depth.0 received goals.old goals.new)) }
-{
-    let Some(stored) = look_up::<D>(cache, goals.stack(), input, depth) else {
-        return Ok(None);
-    };
-    goals.note_stored(step, &stored)?;
-    Ok(Some(Received {
-        reply: Reply::Answer(stored.result),
-        node: stored.node,
-    }))
 }
 
 /// Answers the newest goal's question for a goal that is under evaluation at `head`, by its provisional

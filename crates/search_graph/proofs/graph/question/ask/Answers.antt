@@ -6,17 +6,19 @@ use Rattle.search_graph.specs.Justified.{AreJustified, IsFit}
 use Rattle.search_graph.specs.Evaluating.{GoesOn}
 use Rattle.search_graph.specs.Moves.{ClosesCycle}
 use Rattle.search_graph.specs.Runs.{runs_of}
-use Rattle.search_graph.proofs.Finishing.{runs_of-overflowed, neither_is, neither_fits, begin_fits}
+use Rattle.search_graph.proofs.Finishing.{overflow_noted_is_justified, neither_is, neither_fits, begin_fits}
 use Rattle.search_graph.proofs.Moves.{asked_stopped}
 use Rattle.search_graph.proofs.Questions.{if_err, if_ok_then, none_of, ask_refused, ask_in_cycle, ask_pushes, ask_stops}
 use Rattle.search_graph.proofs.graph.question.ask.Goals as goal
 
 -- the question is refused
 pub returns-in_default-clause-goes_on : goal.returns-in_default-clause-goes_on
-returns-in_default-clause-goes_on g c = ?
+returns-in_default-clause-goes_on g c = λ call ahead h keeps.
+    subst (λ given. GoesOn g.D.Delegate g.D.Cx.Cx c.args.cache.now.cx call ahead given.reply c.note_overflow.new.self (g.D.Delegate.starts c.args.inspect.now) true) (sym c.without_node.ensures)
+    (ask_refused g.D.Delegate g.D.Cx.Cx c.args.cache.now.cx call ahead c.args.kind c.args.input _ c.args.limits_met.now g.D.Cx.Input.PartialEq.eq c.stack_overflow_result-answer.result c.args.goals.now c.note_overflow.new.self (none_of (λ d. d.0) c.allowed_depth.result c.in_default.not-Some ∙ c.allowed_depth.ensures) c.in_ok-note_overflow.ensures h)
 
 pub returns-in_default-clause-justified : goal.returns-in_default-clause-justified
-returns-in_default-clause-justified g c = ?
+returns-in_default-clause-justified g c = overflow_noted_is_justified g.D.Cx.Cx.is_yes g.D.Cx.Cx.is_no c.args.cache.now.nodes g.D.Cx.Input.PartialEq.eq c.args.goals.now c.note_overflow.new.self c.in_ok-note_overflow.ensures c.requires.justified
 
 pub returns-in_default-clause-fits : goal.returns-in_default-clause-fits
 returns-in_default-clause-fits g c =
@@ -29,7 +31,7 @@ pub answer_cycle-requires-clause-found : goal.answer_cycle-requires-clause-found
 answer_cycle-requires-clause-found g c = sym c.find.ensures.found ∙ ap (option_map (λ d. d.0)) c.in-Some-find.is
 
 pub returns-in-Some-find-clause-goes_on : goal.returns-in-Some-find-clause-goes_on
-returns-in-Some-find-clause-goes_on g c = λ call ahead h.
+returns-in-Some-find-clause-goes_on g c = λ call ahead h keeps.
     if_ok_then c.answer_cycle.result _ _ (subst (λ x. IfOk c.answer_cycle.result (λ given. ClosesCycle g.D.Delegate g.D.Cx.Cx x c.args.kind c.args.input c.in-Some-find.head given.reply c.args.goals.now c.answer_cycle.new.goals)) c.cx-cx.ensures c.answer_cycle.ensures.answered) (λ given closes. ask_in_cycle g.D.Delegate g.D.Cx.Cx c.args.cache.now.cx call ahead c.args.kind c.args.input _ c.args.limits_met.now g.met.D.Delegate.divides c.in-Some.depth g.D.Cx.Input.PartialEq.eq g.met.D.Cx.Cx.same_input (g.met.D.Delegate.initial_sort c.args.cache.now.cx) given.reply c.in-Some-find.head c.args.goals.now c.answer_cycle.new.goals c.in-Some.ensures (sym c.find.ensures.present ∙ ap is_some c.in-Some-find.is) closes h)
 
 pub returns-in-Some-find-clause-stops : goal.returns-in-Some-find-clause-stops
@@ -38,10 +40,10 @@ returns-in-Some-find-clause-stops g c = λ call ahead h. if_err c.answer_cycle.r
 -- the goal is put on top
 pub returns-in_err-push_goal-clause-stops : goal.returns-in_err-push_goal-clause-stops
 returns-in_err-push_goal-clause-stops g c = λ call ahead h.
-    if_err c.from_residual.result (ask_stops g.D.Delegate g.D.Cx.Cx c.args.cache.now.cx call ahead c.args.kind c.args.input _ c.args.limits_met.now g.met.D.Delegate.divides c.in-Some.depth c.args.goals.now _ c.in-Some.ensures c.push_goal.ensures.at_least c.push_goal.ensures.at_most h)
+    if_err c.from_residual-in_err-push_goal.result (ask_stops g.D.Delegate g.D.Cx.Cx c.args.cache.now.cx call ahead c.args.kind c.args.input _ c.args.limits_met.now g.met.D.Delegate.divides c.in-Some.depth c.args.goals.now _ c.in-Some.ensures c.push_goal.ensures.at_least c.push_goal.ensures.at_most h)
 
 pub returns-clause-goes_on : goal.returns-clause-goes_on
-returns-clause-goes_on g c = λ call ahead h.
+returns-clause-goes_on g c = λ call ahead h keeps.
     subst (λ given. GoesOn g.D.Delegate g.D.Cx.Cx c.args.cache.now.cx call ahead given.reply c.push_goal.new.goals (g.D.Delegate.starts c.push_goal.new.inspect) c.args.limits_met.now) (sym c.without_node-2.ensures)
     (ask_pushes g.D.Delegate g.D.Cx.Cx c.args.cache.now.cx call ahead c.args.kind c.args.input _ c.args.limits_met.now g.met.D.Delegate.divides c.in-Some.depth c.args.goals.now _ _ c.in-Some.ensures c.push_goal.ensures.at_most c.in_ok-push_goal.ensures.counted c.in_ok-push_goal.ensures.pushed h)
 

@@ -3,9 +3,11 @@ use Rattle.std.specs.List.{list_any}
 use Rattle.search_parts.specs.Cache.{open_node}
 use Rattle.search_parts.proofs.Finished.{KeepsFinished-nodes}
 use Rattle.search_graph.specs.Entries.{first_entry}
+use Rattle.search_graph.specs.Free.{AreFree}
 use Rattle.search_graph.specs.Justified.{AreJustified}
 use Rattle.search_graph.specs.Runs.{runs_of}
 use Rattle.search_graph.proofs.Finishing.{pushed_goal_is_justified}
+use Rattle.search_graph.proofs.FreeResults.{all_free_pushed_goal}
 use Rattle.search_graph.proofs.graph.question.push_goal.Goals as goal
 
 pub push-requires : goal.push-requires
@@ -37,3 +39,11 @@ returns-clause-justified g c =
     ∙ ap (λ e. (record e { state = record e.state { node = Some c.in_ok-node.node } }, record { frame = c.in_ok-frame.frame; node = c.in_ok-node.node; progress = c.new.result; finished_runs = 0; met_overflow_before = false }) ∷ c.args.goals.now) c.new-entry.ensures
     ∙ ap (λ p. (first_entry c.args.input c.args.step_kind c.args.depth c.in_ok-node.node, record { frame = c.in_ok-frame.frame; node = c.in_ok-node.node; progress = p; finished_runs = 0; met_overflow_before = false }) ∷ c.args.goals.now) c.new.ensures))
     (pushed_goal_is_justified g.D.Cx.Cx.is_yes g.D.Cx.Cx.is_no c.args.cache.now.nodes c.args.input c.args.step_kind c.args.depth c.in_ok-node.node c.in_ok-frame.frame c.args.goals.now c.in_ok-node.ensures.node c.requires.asks c.requires.justified))
+
+pub returns-clause-free : goal.returns-clause-free
+returns-clause-free g c = λ free.
+    subst (λ nodes. AreFree g.D.Cx.Cx.is_yes g.D.Cx.Cx.is_no g.D.Cx.Input.PartialEq.eq nodes (runs_of c.push.new.self) c.args.cache.now.results) (sym (ap (λ cache. cache.nodes) c.in_ok-node.ensures.opened))
+    (subst (λ goals. AreFree g.D.Cx.Cx.is_yes g.D.Cx.Cx.is_no g.D.Cx.Input.PartialEq.eq (c.args.cache.now.nodes ++ open_node c.args.input ∷ []) (runs_of goals) c.args.cache.now.results) (sym (c.in_ok-push.ensures.ok
+    ∙ ap (λ e. (record e { state = record e.state { node = Some c.in_ok-node.node } }, record { frame = c.in_ok-frame.frame; node = c.in_ok-node.node; progress = c.new.result; finished_runs = 0; met_overflow_before = false }) ∷ c.args.goals.now) c.new-entry.ensures
+    ∙ ap (λ p. (first_entry c.args.input c.args.step_kind c.args.depth c.in_ok-node.node, record { frame = c.in_ok-frame.frame; node = c.in_ok-node.node; progress = p; finished_runs = 0; met_overflow_before = false }) ∷ c.args.goals.now) c.new.ensures))
+    (all_free_pushed_goal g.D.Cx.Cx.is_yes g.D.Cx.Cx.is_no g.D.Cx.Input.PartialEq.eq c.args.cache.now.nodes c.args.input c.args.step_kind c.args.depth c.in_ok-node.node c.in_ok-frame.frame c.args.goals.now c.args.cache.now.results c.in_ok-node.ensures.node c.requires.asks c.requires.justified free))
