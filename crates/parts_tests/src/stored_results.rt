@@ -1,5 +1,11 @@
 //! Tests of the results that a cache stores.
-use crate::loops::{Loops, Outcome};
+#![tactic(auto, using(crate::proofs::StoredLoops::needs_no_graph, crate::proofs::StoredLoops::has_loop))]
+
+ghost use Rattle.std.specs.Prelude.{◌≡◌, [], None, false, true};
+ghost use Rattle.search_parts.specs.Definite.{HasGraph};
+ghost use Rattle.parts_tests.specs.Loops.{is_yes, is_no};
+
+use crate::loops::{Loops, Outcome, answered_loop};
 use search_parts::context::Fault;
 use search_parts::global_cache::{CacheData, GlobalCache, NestedTest};
 use search_parts::parts::{AvailableDepth, CycleHeads, EvaluationResult, NestedGoals};
@@ -34,7 +40,9 @@ impl NestedTest<Loops> for Leaves {
 }
 
 // A result without goals below it.
-fn success(alloc: Global, outcome: Outcome, required_depth: usize) -> EvaluationResult<Loops> {
+fn success(alloc: Global, outcome: Outcome, required_depth: usize) -> EvaluationResult<Loops>
+    ensures { result ≡ record { encountered_overflow = false; required_depth = required_depth; heads = []; nested_goals = []; result = outcome; node = None } }
+{
     EvaluationResult {
         encountered_overflow: false,
         required_depth,
@@ -46,10 +54,24 @@ fn success(alloc: Global, outcome: Outcome, required_depth: usize) -> Evaluation
 }
 
 // The same where overflow was met.
-fn overflow(alloc: Global, outcome: Outcome, required_depth: usize) -> EvaluationResult<Loops> {
+fn overflow(alloc: Global, outcome: Outcome, required_depth: usize) -> EvaluationResult<Loops>
+    ensures { result ≡ record { encountered_overflow = true; required_depth = required_depth; heads = []; nested_goals = []; result = outcome; node = None } }
+{
     let mut evaluation_result = success(alloc, outcome, required_depth);
     evaluation_result.encountered_overflow = true;
     evaluation_result
+}
+
+// Stores a result of the goal. A goal that asks itself has no rank, so each result of it is plain.
+fn store(
+    cache: &mut GlobalCache<Loops>,
+    goal: PathKind,
+    evaluation_result: EvaluationResult<Loops>,
+) -> Result<(), Fault<PathKind, Outcome>>
+    requires no_heads { evaluation_result.heads ≡ [] }
+    requires graph { HasGraph is_yes is_no cache.old.nodes goal evaluation_result.result evaluation_result.node }
+{
+    cache.insert(goal, evaluation_result, ())
 }
 
 // A result's outcome, its required depth, and whether it met overflow.
@@ -63,17 +85,17 @@ fn a_result_that_differs_is_a_conflict(rt: HostRuntime) -> Result<(), Fail> {
     let goal = PathKind::ForcedAmbiguity;
     let mut cache = GlobalCache::<Loops>::new(alloc, Loops);
     let first = success(alloc, Outcome::Maybe, 0);
-    assert_eq!(rt; cache.insert(goal, first, ()), Ok(()));
+    assert_eq!(rt; store(&mut cache, goal, first), Ok(()));
     let conflict = Fault::Conflict {
         input: goal,
         stored: Outcome::Maybe,
         found: Outcome::Overflow,
     };
     let second = success(alloc, Outcome::Overflow, 0);
-    assert_eq!(rt; cache.insert(goal, second, ()), Err(conflict));
+    assert_eq!(rt; store(&mut cache, goal, second), Err(conflict));
     assert_eq!(rt; cache.success_of(goal), Some((Outcome::Maybe, 0)));
     let third = success(alloc, Outcome::Maybe, 3);
-    assert_eq!(rt; cache.insert(goal, third, ()), Ok(()));
+    assert_eq!(rt; store(&mut cache, goal, third), Ok(()));
     assert_eq!(rt; cache.success_of(goal), Some((Outcome::Maybe, 3)));
     Ok(())
 }
@@ -83,8 +105,8 @@ fn overflow_results_are_used_at_their_depth(rt: HostRuntime) -> Result<(), Fail>
     let alloc = rt.alloc();
     let goal = PathKind::Unknown;
     let mut cache = GlobalCache::<Loops>::new(alloc, Loops);
-    cache.insert(goal, overflow(alloc, Outcome::Maybe, 1), ())?;
-    cache.insert(goal, overflow(alloc, Outcome::Overflow, 3), ())?;
+    store(&mut cache, goal, overflow(alloc, Outcome::Maybe, 1))?;
+    store(&mut cache, goal, overflow(alloc, Outcome::Overflow, 3))?;
     assert_eq!(rt; cache.overflow_at(goal, 1), Some(Outcome::Maybe));
     assert_eq!(rt; cache.overflow_at(goal, 2), None);
     assert_eq!(rt; cache.overflow_at(goal, 3), Some(Outcome::Overflow));
@@ -108,9 +130,9 @@ fn a_success_is_preferred_where_it_is_deep_enough(rt: HostRuntime) -> Result<(),
     let alloc = rt.alloc();
     let goal = PathKind::Unknown;
     let mut cache = GlobalCache::<Loops>::new(alloc, Loops);
-    cache.insert(goal, overflow(alloc, Outcome::Overflow, 1), ())?;
-    cache.insert(goal, overflow(alloc, Outcome::Overflow, 2), ())?;
-    cache.insert(goal, success(alloc, Outcome::Maybe, 2), ())?;
+    store(&mut cache, goal, overflow(alloc, Outcome::Overflow, 1))?;
+    store(&mut cache, goal, overflow(alloc, Outcome::Overflow, 2))?;
+    store(&mut cache, goal, success(alloc, Outcome::Maybe, 2))?;
     let expected = [
         (0, None),
         (1, Some((Outcome::Overflow, 1, true))),
@@ -134,11 +156,11 @@ fn a_result_whose_goals_are_refused_gives_way(rt: HostRuntime) -> Result<(), Fai
     nested
         .nested_goals
         .insert(PathKind::Inductive, PathsToNested::UNKNOWN)?;
-    cache.insert(goal, nested, ())?;
+    store(&mut cache, goal, nested)?;
     let found = cache.get(goal, available, &Anything);
     assert_eq!(rt; found.map(parts), Some((Outcome::Maybe, 1, false)));
     assert!(rt; cache.get(goal, available, &Leaves).is_none());
-    cache.insert(goal, overflow(alloc, Outcome::Overflow, 2), ())?;
+    store(&mut cache, goal, overflow(alloc, Outcome::Overflow, 2))?;
     let found = cache.get(goal, available, &Leaves);
     assert_eq!(rt; found.map(parts), Some((Outcome::Overflow, 2, true)));
     assert!(rt; cache.get(goal, AvailableDepth(3), &Leaves).is_none());
@@ -157,7 +179,7 @@ fn a_look_up_lends_the_goals_below(rt: HostRuntime) -> Result<(), Fail> {
     for required_depth in [1, 4] {
         let mut nested = overflow(alloc, Outcome::Maybe, required_depth);
         nested.nested_goals.insert(below, PathsToNested::UNKNOWN)?;
-        cache.insert(goal, nested, ())?;
+        store(&mut cache, goal, nested)?;
     }
     let Some(hit) = cache.get(goal, AvailableDepth(4), &Anything) else {
         assert!(rt; false);
@@ -168,5 +190,25 @@ fn a_look_up_lends_the_goals_below(rt: HostRuntime) -> Result<(), Fail> {
     assert!(rt; cache.get(other, AvailableDepth(4), &Anything).is_none());
     assert_eq!(rt; cache.success_of(other), None);
     assert_eq!(rt; cache.overflow_at(other, 4), None);
+    Ok(())
+}
+
+#[test]
+fn a_definite_result_is_found_with_its_node(rt: HostRuntime) -> Result<(), Fail> {
+    let alloc = rt.alloc();
+    let goal = PathKind::Coinductive;
+    let mut cache = GlobalCache::<Loops>::new(alloc, Loops);
+    let node = answered_loop(&mut cache, alloc, goal, Outcome::Yes)?;
+    let mut definite = success(alloc, Outcome::Yes, 1);
+    definite.node = Some(node);
+    store(&mut cache, goal, definite)?;
+    assert_eq!(rt; cache.success_of(goal), Some((Outcome::Yes, 1)));
+    assert!(rt; cache.get(goal, AvailableDepth(0), &Anything).is_none());
+    let Some(hit) = cache.get(goal, AvailableDepth(1), &Anything) else {
+        assert!(rt; false);
+        return Ok(());
+    };
+    assert_eq!(rt; hit.node, Some(node));
+    assert_eq!(rt; parts(hit), (Outcome::Yes, 1, false));
     Ok(())
 }
