@@ -17,9 +17,11 @@ pub mod StoredAnswers
 pub mod Questions
 pub mod Loops
 pub mod Promises
+pub mod Storing
 pub mod RunsEnd
 pub mod RunEnds
 pub mod CycleAnswers
 pub mod DecidedGoals
 pub mod Free
 pub mod FreeResults
+pub mod FreeMoves

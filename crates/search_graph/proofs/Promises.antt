@@ -26,14 +26,14 @@ module _ {D C V P F I R A T : Type 0} (G : Delegate.Ghosts D C V P F I R A T) (X
   pub ended_within : (r : R) → HasEnded G X cx call r now met → now ≤ call.starts + frames_within (runs G X cx) (G.width cx) call.root
   ended_within r h = h.ends.within
 
-  pub ended_paid : (r : R) → HasEnded G X cx call r now met → G.counts ≡ true → call.limits_met ≡ false → met ≡ true → IsPaid (runs G X cx) call.root G.last call.starts now
-  ended_paid r h counted unmet is_met = h.ends.paid (counted, unmet) is_met
+  pub ended_paid : (r : R) → HasEnded G X cx call r now met → G.counts ≡ true → call.without_overflow ≡ true → call.limits_met ≡ false → met ≡ true → IsPaid (runs G X cx) call.root G.last call.starts now
+  ended_paid r h counted calm unmet is_met = h.ends.paid (counted, unmet, calm) is_met
 
   pub stopped_within : (fault : Fault I R) → HasStopped G X cx call fault now met → now ≤ call.starts + frames_within (runs G X cx) (G.width cx) call.root
   stopped_within fault h = h.stops.within
 
-  pub stopped_paid : (fault : Fault I R) → HasStopped G X cx call fault now met → G.counts ≡ true → call.limits_met ≡ false → met ≡ true → IsPaid (runs G X cx) call.root G.last call.starts now
-  stopped_paid fault h counted unmet is_met = h.stops.paid (counted, unmet) is_met
+  pub stopped_paid : (fault : Fault I R) → HasStopped G X cx call fault now met → G.counts ≡ true → call.without_overflow ≡ true → call.limits_met ≡ false → met ≡ true → IsPaid (runs G X cx) call.root G.last call.starts now
+  stopped_paid fault h counted calm unmet is_met = h.stops.paid (counted, unmet, calm) is_met
 
 -- A definite answer over a list of runs has its graph, and its goal has none of the other sort.
 module _ {D C V P F I R A T : Type 0} (G : Delegate.Ghosts D C V P F I R A T) (X : Cx.Ghosts C I R A T) (cache : Cache C I R A T) (runs_are : AreRuns X.is_yes X.is_no (G.script cache.cx) cache.nodes) (clash : (goal : I) (held failed : List (Question I)) → X.proves cache.cx goal held → X.refutes cache.cx goal failed → Overlap held failed) (goal : I) (r : R) (target : Option NodeId) (has : HasGraph X.is_yes X.is_no cache.nodes goal r target) where

@@ -6,7 +6,9 @@ ghost use Rattle.std.specs.Option.{option_map, option_and_then};
 ghost use Rattle.search_parts.specs.Stack.{depth_below};
 ghost use Rattle.search_parts.specs.Delegate.{CountsOne};
 ghost use Rattle.search_parts.specs.Cache.{CacheNode, KeepsFinished};
+ghost use Rattle.search_parts.specs.Store.{Store};
 ghost use Rattle.search_parts.specs.declared.context.Request.TheVariants.{Evaluate};
+ghost use Rattle.search_parts.specs.declared.global_cache.results.StoredResult.{StoredResult};
 ghost use Rattle.search_parts.specs.declared.context.Fault.TheVariants.{Memory};
 ghost use Rattle.search_graph.specs.Newest.{newest};
 ghost use Rattle.search_graph.specs.Calls.{Call};
@@ -90,6 +92,8 @@ fn answer_cycle<D: Delegate>(
     ensures answered { IfOk result (λ received. ClosesCycle D.Delegate D.Cx.Cx cx step input head received.reply goals.old goals.new) }
     ensures justified { (nodes : List (CacheNode D.Cx.Input D.Cx.Result)) → AreJustified D.Cx.is_yes D.Cx.is_no nodes (runs_of goals.old) →
         OnOk result (AreJustified D.Cx.is_yes D.Cx.is_no nodes (runs_of goals.new)) }
+    ensures free { (nodes : List (CacheNode D.Cx.Input D.Cx.Result)) (results : Store D.Cx.Input (StoredResult D.Cx D.Cx.Input D.Cx.Result D.Cx.AmbiguityInfo D.Cx.DepNodeIndex)) →
+        AreFree D.Cx.is_yes D.Cx.is_no D.Cx.Input.eq nodes (runs_of goals.old) results → OnOk result (AreFree D.Cx.is_yes D.Cx.is_no D.Cx.Input.eq nodes (runs_of goals.new) results) }
     ensures fits { (nodes : List (CacheNode D.Cx.Input D.Cx.Result)) → AreJustified D.Cx.is_yes D.Cx.is_no nodes (runs_of goals.old) →
         IfOk result (λ received. IsFit D.Cx.is_yes D.Cx.is_no nodes (runs_of goals.new) received.reply received.node) }
 {

@@ -29,9 +29,10 @@ pub(crate) fn store_answer<D: Delegate>(
     ensures caused { IfErr result (IsCaused D.Delegate D.Cx.Cx D.Cx.Input.eq cache.new) }
     ensures plain { (n : ℕ) → IsPlainTo (D.script cache.old.cx) n input → place_of answer ≡ Success → IfErr result (λ fault. fault ≡ Memory) }
 {
-    if !answer.heads.is_empty() {
-        return Ok(());
+    if answer.heads.is_empty() {
+        let token = cache.cx().dep_node(input);
+        cache.has_runs();
+        return cache.insert(input, answer, token);
     }
-    let token = cache.cx().dep_node(input);
-    cache.insert(input, answer, token)
+    Ok(())
 }

@@ -8,6 +8,7 @@ use Rattle.search_graph.specs.Justified.{IsFit}
 use Rattle.search_graph.specs.Runs.{runs_of}
 use Rattle.search_graph.proofs.CycleAnswers.{cycle_fits, found_goal, head_is}
 use Rattle.search_graph.proofs.Finishing.{answered_newest_is_justified}
+use Rattle.search_graph.proofs.FreeMoves.{answered_newest_free}
 use Rattle.search_graph.proofs.graph.question.answer_cycle.Goals as goal
 
 pub returns-clause-justified : goal.returns-clause-justified
@@ -35,3 +36,6 @@ returns-clause-answered g c =
       is_answer = ap Answer (c.cycle_result-outcome.ensures ∙ ap (λ k. unwrap_or c.index.result.now.state.provisional_result (g.D.Delegate.initial_result c.args.cx k c.args.input)) kind_is);
       takes = subst (λ k. AnswersNewest c.args.step 0 false ((c.args.head, cycle_head c.args.step k) ∷ []) c.args.goals.now c.note_cycle.new.self) kind_is c.in_ok-note_cycle.ensures;
     }
+
+pub returns-clause-free : goal.returns-clause-free
+returns-clause-free g c = λ nodes results free. answered_newest_free g.D.Cx.Cx.is_yes g.D.Cx.Cx.is_no g.D.Cx.Input.PartialEq.eq nodes results c.args.goals.now c.note_cycle.new.self c.args.step 0 _ _ c.in_ok-note_cycle.ensures free

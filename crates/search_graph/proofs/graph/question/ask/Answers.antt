@@ -1,4 +1,4 @@
-use Rattle.std.proofs.Common.{◌∙◌, refl, sym, ap, subst, true, None, option_map, is_some, IfOk}
+use Rattle.std.proofs.Common.{arith, ◌+◌, ◌^◌, ◌<◌, ◌∙◌, refl, sym, ap, subst, true, None, option_map, is_some, IfOk}
 use Rattle.search_parts.specs.declared.context.Reply.TheVariants.{Answer}
 use Rattle.search_parts.specs.Shapes.{verdict_of}
 use Rattle.search_parts.proofs.Finished.{KeepsFinished-same}
@@ -8,7 +8,9 @@ use Rattle.search_graph.specs.Moves.{ClosesCycle}
 use Rattle.search_graph.specs.Runs.{runs_of}
 use Rattle.search_graph.proofs.Finishing.{overflow_noted_is_justified, neither_is, neither_fits, begin_fits}
 use Rattle.search_graph.proofs.Moves.{asked_stopped}
-use Rattle.search_graph.proofs.Questions.{if_err, if_ok_then, none_of, ask_refused, ask_in_cycle, ask_pushes, ask_stops}
+use Rattle.search_parts.specs.LookUp.{hit_of}
+use Rattle.search_graph.proofs.FreeMoves.{stored_fits, stored_taken_free}
+use Rattle.search_graph.proofs.Questions.{ask_stored, asked_depth_fits, if_err, if_ok_then, none_of, ask_refused, ask_in_cycle, ask_pushes, ask_stops}
 use Rattle.search_graph.proofs.graph.question.ask.Goals as goal
 
 -- the question is refused
@@ -50,3 +52,27 @@ returns-clause-goes_on g c = λ call ahead h keeps.
 pub returns-clause-fits : goal.returns-clause-fits
 returns-clause-fits g c =
     subst (λ given. IsFit g.D.Cx.Cx.is_yes g.D.Cx.Cx.is_no c.push_goal.new.cache.nodes (runs_of c.push_goal.new.goals) given.reply given.node) (sym c.without_node-2.ensures) (begin_fits g.D.Cx.Cx.is_yes g.D.Cx.Cx.is_no c.push_goal.new.cache.nodes (runs_of c.push_goal.new.goals))
+
+-- a stored result is used
+pub note_stored-requires-clause-fits : goal.note_stored-requires-clause-fits
+note_stored-requires-clause-fits g c =
+    let fits = asked_depth_fits g.D.Delegate g.D.Cx.Cx c.args.cache.now.cx c.requires.asked.0 c.requires.asked.1 c.args.kind c.args.input _ c.args.limits_met.now g.met.D.Delegate.divides c.in-Some.depth c.args.goals.now c.in-Some.ensures c.requires.asked.2 in
+    omega (arith, fits, c.in-Some-look_up.ensures.usable.within)
+
+pub returns-in-Some-look_up-clause-goes_on : goal.returns-in-Some-look_up-clause-goes_on
+returns-in-Some-look_up-clause-goes_on g c = λ call ahead h keeps.
+    ask_stored g.D.Delegate g.D.Cx.Cx c.args.cache.now.cx call ahead c.args.kind c.args.input _ c.args.limits_met.now g.met.D.Delegate.divides c.in-Some.depth g.D.Cx.Input.PartialEq.eq c.args.cache.now.results
+    (record { reply = Answer c.in-Some-look_up.stored.result; node = c.in-Some-look_up.stored.node }) c.args.goals.now c.note_stored.new.self c.in-Some.ensures
+    (record { hit = hit_of c.in-Some-look_up.stored; usable = c.in-Some-look_up.ensures.usable; is = refl; takes = c.in_ok-note_stored.ensures }) keeps h
+
+pub returns-in-Some-look_up-clause-free : goal.returns-in-Some-look_up-clause-free
+returns-in-Some-look_up-clause-free g c = stored_taken_free g.D.Cx.Cx.is_yes g.D.Cx.Cx.is_no g.D.Cx.Input.PartialEq.eq c.args.cache.now.nodes c.args.cache.now.results c.args.goals.now c.note_stored.new.self c.args.kind (hit_of c.in-Some-look_up.stored) c.in_ok-note_stored.ensures c.requires.free
+
+pub returns-in-Some-look_up-clause-fits : goal.returns-in-Some-look_up-clause-fits
+returns-in-Some-look_up-clause-fits g c = stored_fits g.D.Cx.Cx.is_yes g.D.Cx.Cx.is_no g.D.Cx.Input.PartialEq.eq c.args.cache.now.nodes c.args.cache.now.results c.args.goals.now c.note_stored.new.self (g.D.Delegate.script c.args.cache.now.cx) c.args.kind c.args.input c.in-Some.depth.0 (hit_of c.in-Some-look_up.stored) c.in-Some-look_up.ensures.usable c.in_ok-note_stored.ensures c.requires.asks c.requires.free
+
+pub returns-in-Some-find-clause-free : goal.returns-in-Some-find-clause-free
+returns-in-Some-find-clause-free g c = c.answer_cycle.ensures.free c.args.cache.now.nodes c.args.cache.now.results c.requires.free
+
+pub returns-clause-free : goal.returns-clause-free
+returns-clause-free g c = c.in_ok-push_goal.ensures.free c.requires.free

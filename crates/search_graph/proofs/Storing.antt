@@ -1,0 +1,77 @@
+-- What storing the answer of a goal that is done changes, and why it may fail.
+use Rattle.std.proofs.Common.{◌≡◌, ◌≢◌, ℕ, Bool, true, false, ◌||◌, if◌then◌else◌, List, [], ◌∷◌, Option, None, Some, Result, Ok, Err, IfErr, OnOk, OnErr, option_map, refl, sym, ap, ap₂, ◌∙◌, subst, inl, inr}
+use Rattle.std.proofs.lemmas.Bool.{cases_Bool}
+use Rattle.std.specs.Cmp.{IsEquivalence}
+use Rattle.search_parts.specs.declared.context.Delegate as Delegate
+use Rattle.search_parts.specs.declared.context.Cx as Cx
+use Rattle.search_parts.specs.declared.context.Fault.{Fault}
+use Rattle.search_parts.specs.declared.context.Fault.TheVariants.{Conflict, Memory}
+use Rattle.search_parts.specs.declared.context.NodeId.{NodeId}
+use Rattle.search_parts.specs.declared.context.Request.{Request}
+use Rattle.search_parts.specs.declared.context.Reply.{Reply}
+use Rattle.search_parts.specs.declared.global_cache.results.Place.{Place}
+use Rattle.search_parts.specs.declared.global_cache.results.Place.TheVariants.{Success, WithOverflow}
+use Rattle.search_parts.specs.declared.global_cache.results.StoredResult.{StoredResult}
+use Rattle.search_parts.specs.declared.parts.result.EvaluationResult.{EvaluationResult}
+use Rattle.search_parts.specs.declared.parts.stack.StackEntry.{StackEntry}
+use Rattle.search_parts.specs.Cache.{Cache, AreRuns}
+use Rattle.search_parts.specs.Definite.{HasGraph}
+use Rattle.search_parts.specs.Question.{Question, Overlap}
+use Rattle.search_parts.specs.Store.{Store, stored_at, place_of, stored_from, AnswersStoring, Puts}
+use Rattle.search_parts.proofs.Bridge.{KeepsRule}
+use Rattle.search_graph.specs.declared.graph.open_goals.Run.{Run}
+use Rattle.search_graph.specs.Graph.{ComesTo, Conflicts, IsCaused, OutOfMemory, OtherResult}
+use Rattle.search_graph.specs.Results.{StoresAnswer, Kept, Put, MayPut, Same, WithResult, place_of_item, MayPutNewest}
+use Rattle.search_graph.proofs.Promises.{yes_is_proved, no_is_refuted}
+
+module _ {X I R A T : Type 0} (same : I → I → Bool) (old new : Store I (StoredResult X I R A T)) (goal : I) (answer : EvaluationResult X I R A T) where
+  -- the answer was stored, or nothing was
+  pub stored_either : {U E : Type 0} (token : T) (r : Result U E) → answer.heads ≡ [] → OnOk r (Puts same old new goal (place_of answer) (stored_from answer token)) → OnErr r (new ≡ old) → StoresAnswer same old new goal answer
+  stored_either token (Ok u) none puts err = Put token none puts
+  stored_either token (Err e) none puts err = Kept err
+
+  -- with the result at the place
+  pub stored_result : (place : Place) (r : R) → place_of answer ≡ place → answer.result ≡ r → StoresAnswer same old new goal answer → MayPut same old new goal place r
+  stored_result place r at is (Kept unchanged) = Same unchanged
+  stored_result place r at is (Put token none puts) = WithResult (stored_from answer token) is (subst (λ p. Puts same old new goal p (stored_from answer token)) at puts)
+
+success_at : (depth : ℕ) (b : Bool) → (if b then WithOverflow depth else Success) ≡ Success → b ≡ false
+success_at depth true is = absurd cc
+success_at depth false is = refl
+
+-- a success met no overflow
+pub success_met_none : {X I R A T : Type 0} (answer : EvaluationResult X I R A T) → place_of answer ≡ Success → answer.encountered_overflow ≡ false
+success_met_none answer is = success_at answer.required_depth answer.encountered_overflow is
+
+module _ {D C V P F I R A T : Type 0} (G : Delegate.Ghosts D C V P F I R A T) (X : Cx.Ghosts C I R A T) (same : I → I → Bool) (cache : Cache C I R A T) (runs_are : AreRuns X.is_yes X.is_no (G.script cache.cx) cache.nodes) (clash : (goal : I) (held failed : List (Question I)) → X.proves cache.cx goal held → X.refutes cache.cx goal failed → Overlap held failed) (proves : KeepsRule X.is_yes (G.script cache.cx) (X.proves cache.cx)) (refutes : KeepsRule X.is_no (G.script cache.cx) (X.refutes cache.cx)) (one : (r : R) → X.is_yes r ≡ true → X.is_no r ≡ false) (equal : R → R → Bool) (laws : IsEquivalence equal) where
+  conflict_at : (goal : I) (place : Place) (found : R) (node : Option NodeId) → HasGraph X.is_yes X.is_no cache.nodes goal found node → ComesTo (G.script cache.cx) (G.fixpoint_overflow cache.cx) goal found → (s : StoredResult C I R A T) → stored_at same cache.results goal place ≡ Some s → (b : Bool) → equal s.result.result found ≡ b → (r : Result (Unit {0}) (Fault I R)) → r ≡ (if b then Ok tt else Err (Conflict goal s.result.result found)) → IfErr r (IsCaused G X same cache)
+  conflict_at goal place found node has comes s at true agrees r is = subst (λ x. IfErr x (IsCaused G X same cache)) (sym is) tt
+  conflict_at goal place found node has comes s at false differs r is =
+      subst (λ x. IfErr x (IsCaused G X same cache)) (sym is)
+      (OtherResult goal s.result.result found (record {
+        place = place;
+        is_stored = ap (option_map (λ (t : StoredResult C I R A T). t.result.result)) at;
+        differs = λ e. let agrees : equal s.result.result found ≡ true = ap (equal s.result.result) (sym e) ∙ laws.refl s.result.result in let clashes : true ≡ false = sym agrees ∙ differs in absurd cc;
+        comes = comes;
+        node = node;
+        is_proved = λ is_yes. yes_is_proved G X cache runs_are clash goal found node has proves is_yes;
+        is_refuted = λ is_no. no_is_refuted G X cache runs_are clash goal found node has refutes (one found) is_no;
+      }) refl)
+
+  memory_at : (r : Result (Unit {0}) (Fault I R)) → IfErr r (λ fault. fault ≡ Memory) → IfErr r (IsCaused G X same cache)
+  memory_at (Ok u) h = tt
+  memory_at (Err fault) h = OutOfMemory h
+
+  -- storing fails for want of memory, or since another result is there
+  pub storing_is_caused : (goal : I) (place : Place) (found : R) (node : Option NodeId) → HasGraph X.is_yes X.is_no cache.nodes goal found node → ComesTo (G.script cache.cx) (G.fixpoint_overflow cache.cx) goal found → (o : Option (StoredResult C I R A T)) → stored_at same cache.results goal place ≡ o → (r : Result (Unit {0}) (Fault I R)) → AnswersStoring equal goal o found r → IfErr r (IsCaused G X same cache)
+  storing_is_caused goal place found node has comes None at r is = memory_at r is
+  storing_is_caused goal place found node has comes (Some s) at r is = conflict_at goal place found node has comes s at (equal s.result.result found) refl r is
+
+-- where nothing changed for an error
+pub caused_after : {D C V P F I R A T : Type 0} (G : Delegate.Ghosts D C V P F I R A T) (X : Cx.Ghosts C I R A T) (same : I → I → Bool) (old new : Cache C I R A T) {U : Type 0} (r : Result U (Fault I R)) → OnErr r (new ≡ old) → IfErr r (IsCaused G X same old) → IfErr r (IsCaused G X same new)
+caused_after G X same old new (Ok u) unchanged h = tt
+caused_after G X same old new (Err fault) unchanged h = subst (λ c. IsCaused G X same c fault) (sym unchanged) h
+
+pub same_results : {C I R A T U E : Type 0} (r : Result U E) (old new : Cache C I R A T) → OnErr r (new ≡ old) → OnErr r (new.results ≡ old.results)
+same_results (Ok u) old new unchanged = tt
+same_results (Err fault) old new unchanged = ap (λ c. c.results) unchanged

@@ -1,0 +1,17 @@
+use Rattle.std.proofs.Common.{◌≡◌, ap, refl, sym, subst}
+use Rattle.search_parts.specs.Store.{stored_at, place_of}
+use Rattle.search_graph.specs.Results.{Kept}
+use Rattle.search_graph.proofs.Storing.{caused_after, same_results, stored_either, storing_is_caused, success_met_none}
+use Rattle.search_graph.proofs.graph.store.store_answer.Goals as goal
+
+pub returns-then-is_empty-clause-stored : goal.returns-then-is_empty-clause-stored
+returns-then-is_empty-clause-stored g c = stored_either g.D.Cx.Input.PartialEq.eq c.args.cache.now.results c.insert.new.self.results c.args.input c.args.answer c.dep_node-token.result c.insert.result (c.is_empty.ensures.0 c.if-is_empty.true) c.insert.ensures.ok (same_results c.insert.result c.args.cache.now c.insert.new.self c.insert.ensures.err)
+
+pub returns-then-is_empty-clause-caused : goal.returns-then-is_empty-clause-caused
+returns-then-is_empty-clause-caused g c =
+    caused_after g.D.Delegate g.D.Cx.Cx g.D.Cx.Input.PartialEq.eq c.args.cache.now c.insert.new.self c.insert.result c.insert.ensures.err
+    (storing_is_caused g.D.Delegate g.D.Cx.Cx g.D.Cx.Input.PartialEq.eq c.args.cache.now c.has_runs.ensures (g.met.D.Cx.Cx.clash c.args.cache.now.cx) (g.met.D.Delegate.yes_is_proved c.args.cache.now.cx) (g.met.D.Delegate.no_is_refuted c.args.cache.now.cx) g.met.D.Cx.Cx.one_sort g.D.Cx.Result.PartialEq.eq g.met.D.Cx.Result.Eq.laws
+    c.args.input (place_of c.args.answer) c.args.answer.result c.args.answer.node (c.requires.graph (c.is_empty.ensures.0 c.if-is_empty.true)) c.requires.comes (stored_at g.D.Cx.Input.PartialEq.eq c.args.cache.now.results c.args.input (place_of c.args.answer)) refl c.insert.result c.insert.ensures.answer)
+
+pub returns-then-is_empty-clause-plain : goal.returns-then-is_empty-clause-plain
+returns-then-is_empty-clause-plain g c = λ n ranked success. c.insert.ensures.ranked n ranked (success_met_none c.args.answer success)
