@@ -25,3 +25,4 @@ pub mod DecidedGoals
 pub mod Free
 pub mod FreeResults
 pub mod FreeMoves
+pub mod DoneGoals

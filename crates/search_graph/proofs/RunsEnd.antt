@@ -28,8 +28,13 @@ use Rattle.search_graph.specs.Justified.{OpenRun, Asks, AreJustified, MayAnswer,
 use Rattle.search_graph.specs.Moves.{IsFresh, Reruns, CanLeave, Leaves}
 use Rattle.search_graph.specs.Newest.{newest, change_newest}
 use Rattle.search_graph.specs.Progress.{RunRecord}
-use Rattle.search_graph.specs.Runs.{run_of, runs_of, next_node, EndsRun, EndsNewest, IsClosedWithoutHeads, IsSettled, IsJustifiedNext}
+use Rattle.search_parts.specs.declared.global_cache.results.StoredResult.{StoredResult}
+use Rattle.search_parts.specs.Store.{Store}
+use Rattle.search_graph.specs.Free.{IsFree, AreFree}
+use Rattle.search_graph.specs.Runs.{run_of, runs_of, EndsRun, EndsNewest, IsSettled, IsJustifiedNext}
 use Rattle.search_graph.proofs.Justified.{Settles, below_is_justified, may_answer_parent, last_has_graph, headless_has_graph, rerun_is_justified}
+use Rattle.search_graph.proofs.Free.{done_is_free}
+use Rattle.search_graph.proofs.FreeResults.{all_free_popped, all_free_rerun}
 use Rattle.search_graph.proofs.Finishing.{answer_fits, answered_newest_is_justified, ends_run, heads_come, same_run, settles}
 
 -- ---- the goal is run again
@@ -79,6 +84,16 @@ module _ {X F I R A T : Type 0} where
       subst (λ l. AreJustified is_yes is_no (after ++ open_node e.input ∷ []) (runs_of l)) (sym (again_is old taken new e t.run t.below r (option_or target e.state.node) frame own t.was is then))
       (rerun_is_justified is_yes is_no before after (run_of (e, t.run)) (runs_of t.below) was r target (settles is_yes is_no before after e t.run t.below was r target so) own at)
 
+  -- and stored results rest on none of them
+  pub rerun_free : (is_yes is_no : R → Bool) (same : I → I → Bool) (results : Store I (StoredResult X I R A T)) (before after : List (CacheNode I R)) (old taken new : List (StackEntry X I R A T × Run X F I R A T)) (e : StackEntry X I R A T) (y : Run X F I R A T) (p : RunRecord I R) (r : R) (target : Option NodeId) (frame : F) (own : NodeId) → TakenFrom old e y p → taken ≡ change_newest with_no_record old → new ≡ change_newest (rerun_with r (option_or target e.state.node) frame own) taken → IsSettled is_yes is_no before after e.state.provisional_result y.node e.state.node p r target → own.0 ≡ length after → AreJustified is_yes is_no before (runs_of old) → AreFree is_yes is_no same before (runs_of old) results → AreFree is_yes is_no same (after ++ open_node e.input ∷ []) (runs_of new) results
+  rerun_free is_yes is_no same results before after old taken new e y p r target frame own t is then settled at h free =
+      let was : AreJustified is_yes is_no before (runs_of ((e, t.run) ∷ t.below)) = subst (λ l. AreJustified is_yes is_no before (runs_of l)) t.was h in
+      let so : IsSettled is_yes is_no before after e.state.provisional_result t.run.node e.state.node t.run.progress r target =
+      subst (λ n. IsSettled is_yes is_no before after e.state.provisional_result n e.state.node t.run.progress r target) t.same_node
+      (subst (λ q. IsSettled is_yes is_no before after e.state.provisional_result y.node e.state.node q r target) t.progress_is settled) in
+      subst (λ l. AreFree is_yes is_no same (after ++ open_node e.input ∷ []) (runs_of l) results) (sym (again_is old taken new e t.run t.below r (option_or target e.state.node) frame own t.was is then))
+      (all_free_rerun is_yes is_no same before after (run_of (e, t.run)) (runs_of t.below) was r target (settles is_yes is_no before after e t.run t.below was r target so) results (subst (λ l. AreFree is_yes is_no same before (runs_of l) results) t.was free) own at)
+
 -- and the newest is run again
 pub reran : {D C V P F I R A T : Type 0} (G : Delegate.Ghosts D C V P F I R A T) (X : Cx.Ghosts C I R A T) (cx : C) (old taken new : List (StackEntry C I R A T × Run C F I R A T)) (e : StackEntry C I R A T) (y : Run C F I R A T) (p : RunRecord I R) (r : R) (lead : Option NodeId) (frame : F) (own : NodeId) → TakenFrom old e y p → taken ≡ change_newest with_no_record old → new ≡ change_newest (rerun_with r lead frame own) taken → IsFresh G X cx frame e.input → Reruns G X cx r old new
 reran G X cx old taken new e y p r lead frame own t is then fresh = record {
@@ -120,11 +135,17 @@ module _ {X F I R A T : Type 0} (is_yes is_no : R → Bool) (before after : List
         nothing [] e = refl
         nothing (x ∷ l) e = absurd (omega (arith, e))
 
-    -- a goal that rests on none has its graph
-    pub closed_without_heads : (next : Next R) → next_node next ≡ target → IsClosedWithoutHeads is_yes is_no after old r next
-    closed_without_heads next is =
-        subst (λ l. IsClosedWithoutHeads is_yes is_no after l r next) (sym was)
-        (λ none. subst (HasGraph is_yes is_no after entry.input r) (sym is) (headless_has_graph is_yes is_no before after (run_of (entry, run)) (runs_of rest) (justified_then h) r target so none))
+    -- a goal that rests on none has its graph,
+    pub headless_graph : entry.state.heads ≡ [] → HasGraph is_yes is_no after entry.input r target
+    headless_graph none = headless_has_graph is_yes is_no before after (run_of (entry, run)) (runs_of rest) (justified_then h) r target so none
+
+    -- which leads to no goal below
+    pub headless_is_free : entry.state.heads ≡ [] → IsFree is_yes is_no after (runs_of rest) entry.input r target
+    headless_is_free none = done_is_free is_yes is_no before after (run_of (entry, run)) (runs_of rest) (justified_then h) r target so none
+
+    pub stored_stay_free : (same : I → I → Bool) (results : Store I (StoredResult X I R A T)) → AreFree is_yes is_no same before (runs_of old) results → AreFree is_yes is_no same after (runs_of rest) results
+    stored_stay_free same results free =
+        all_free_popped is_yes is_no same before after (run_of (entry, run)) (runs_of rest) (justified_then h) r target so results (subst (λ l. AreFree is_yes is_no same before (runs_of l) results) was free)
 
     -- the goal below takes the answer over
     module _ (new : List (StackEntry X I R A T × Run X F I R A T)) (a : AnswersNewest entry.step_kind_from_parent entry.state.required_depth (entry.state.encountered_overflow || run.met_overflow_before) entry.state.heads rest new) where

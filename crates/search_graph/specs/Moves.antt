@@ -8,6 +8,7 @@ use Rattle.search_parts.specs.declared.context.NodeId.{NodeId}
 use Rattle.search_parts.specs.declared.path.PathKind.{PathKind}
 use Rattle.search_parts.specs.declared.parts.depth.AvailableDepth.{AvailableDepth}
 use Rattle.search_parts.specs.declared.parts.depth.StackDepth.{StackDepth}
+use Rattle.search_parts.specs.declared.parts.result.EvaluationResult.{EvaluationResult}
 use Rattle.search_parts.specs.declared.parts.stack.StackEntry.{StackEntry}
 use Rattle.search_parts.specs.Cycle.{path_kind_from}
 use Rattle.search_graph.specs.Entries.{cycle_head, first_entry}
@@ -60,6 +61,13 @@ module _ {X F I R A T : Type 0} where
   CanLeave [] = ⊥
   CanLeave (s ∷ []) = Unit {0}
   CanLeave (s ∷ p ∷ below) = s.0.state.required_depth + 1 < 2 ^ 64
+
+  -- The answer was given to the newest goal, which asked by the step. Where there is none, it is the answer to the call.
+  abbrev pub GivesAnswer : PathKind → EvaluationResult X I R A T → List (StackEntry X I R A T × Run X F I R A T) → Next R → List (StackEntry X I R A T × Run X F I R A T) → Type 0
+  GivesAnswer step answer [] next new = (next ≡ Finished (record { result = answer.result; node = answer.node })) × (new ≡ [])
+  GivesAnswer step answer (p ∷ below) next new =
+      (next ≡ Step (record { reply = Answer answer.result; node = answer.node }))
+      × AnswersNewest step answer.required_depth answer.encountered_overflow answer.heads (p ∷ below) new
 
   -- The newest goal was taken with this result, which is the answer to the goal below it, if there is one. Overflow that any of its
   -- runs met goes with it.

@@ -22,11 +22,6 @@ use Rattle.search_graph.specs.Progress.{RunRecord, edges_of, Records}
 use Rattle.search_parts.specs.Definite.{HasGraph}
 use Rattle.search_graph.specs.Justified.{OpenRun, AreJustified, IsFit, ArePlaced, AreEdges}
 
--- the node of an answer
-abbrev pub next_node : {R : Type 0} → Next R → Option NodeId
-next_node (Step given) = given.node
-next_node (Finished answer) = answer.node
-
 module _ {X F I R A T : Type 0} where
   -- an item as a run with its nodes
   abbrev pub run_of : StackEntry X I R A T × Run X F I R A T → OpenRun I R
@@ -50,11 +45,6 @@ module _ {X F I R A T : Type 0} where
   IsJustifiedNext is_yes is_no nodes old goals (Step given) = AreJustified is_yes is_no nodes (runs_of goals) × IsFit is_yes is_no nodes (runs_of goals) given.reply given.node
   IsJustifiedNext is_yes is_no nodes [] goals (Finished answer) = ⊥
   IsJustifiedNext is_yes is_no nodes (s ∷ below) goals (Finished answer) = HasGraph is_yes is_no nodes s.0.input answer.result answer.node
-
-  -- if the newest goal rests on no goal under evaluation, its result has its graph
-  abbrev pub IsClosedWithoutHeads : (R → Bool) → (R → Bool) → List (CacheNode I R) → List (StackEntry X I R A T × Run X F I R A T) → R → Next R → Type 0
-  IsClosedWithoutHeads is_yes is_no nodes [] r next = ⊥
-  IsClosedWithoutHeads is_yes is_no nodes (s ∷ below) r next = s.0.state.heads ≡ [] → HasGraph is_yes is_no nodes s.0.input r (next_node next)
 
 -- the record is that of a run that came to this result
 pub record IsDone {I R : Type 0} (is_yes is_no : R → Bool) (script : List (Reply R) → Request I R) (p : RunRecord I R) (r : R) : Type 0 where

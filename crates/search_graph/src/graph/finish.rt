@@ -15,7 +15,7 @@ ghost use Rattle.search_graph.specs.Free.{AreFree};
 ghost use Rattle.search_graph.specs.Graph.{IsCaused};
 ghost use Rattle.search_graph.specs.Results.{IsNewestPlainTo, MayPutNewest, NewestComesTo, NewestIsPlain};
 ghost use Rattle.search_graph.specs.Justified.{in_theory, AreJustified};
-ghost use Rattle.search_graph.specs.Moves.{CanLeave, Leaves, Reruns};
+ghost use Rattle.search_graph.specs.Moves.{CanLeave, GivesAnswer, Leaves, Reruns};
 ghost use Rattle.search_graph.specs.Newest.{newest};
 ghost use Rattle.search_graph.specs.RunEnds.{IsRunEnd, IsStable, ReachedFixpoint};
 ghost use Rattle.search_graph.specs.Runs.{runs_of, EndsRun, EndsNewest, IsSettled, IsJustifiedNext};
@@ -26,6 +26,7 @@ use crate::graph::store::store_answer;
 use search_parts::context::{Answer, Cx, Delegate, Fault, NoMemory, NodeId, Reply, Verdict};
 use search_parts::global_cache::GlobalCache;
 use search_parts::parts::{EntryState, EvaluationResult, HeadUsages};
+use search_parts::path::PathKind;
 
 /// What becomes of a goal whose run has ended.
 #[derive(Clone, Copy)]
@@ -177,15 +178,30 @@ fn finish_goal<D: Delegate>(
     let input = entry.input();
     let node = settle_node::<D>(cache, &entry.state, own_node, progress, outcome)?;
     let answer = EvaluationResult::finalize(entry, encountered_overflow, outcome, node);
+    let next = give_answer(goals, step, &answer)?;
+    store_answer::<D>(cache, input, answer)?;
+    Ok(next)
+}
+
+/// Gives the answer of a goal that was taken to the goal below it, which asked for it by this step. Where
+/// none is left, it is the answer to the call.
+fn give_answer<X: Cx, F: Drop>(
+    goals: &mut OpenGoals<X, F>,
+    step: PathKind,
+    answer: &EvaluationResult<X>,
+) -> Result<Next<X::Result>, NoMemory>
+    requires { 0 < length goals.old → answer.now.required_depth + 1 < 2 ^ 64 }
+    ensures { IfOk result (λ next. GivesAnswer step answer.now goals.old next goals.new) }
+{
+    let outcome = answer.result;
+    let node = answer.node;
     if goals.len() == 0 {
-        store_answer::<D>(cache, input, answer)?;
         return Ok(Next::Finished(Answer {
             result: outcome,
             node,
         }));
     }
-    goals.note_answer(step, &answer)?;
-    store_answer::<D>(cache, input, answer)?;
+    goals.note_answer(step, answer)?;
     Ok(Next::Step(Received {
         reply: Reply::Answer(outcome),
         node,

@@ -1,38 +1,99 @@
-use Rattle.std.proofs.Common.{◌+◌, ◌<◌, ◌^◌, ◌||◌, refl, sym, subst, ◌∙◌}
+use Rattle.std.proofs.Common.{[], ◌∷◌, ◌≡◌, ◌+◌, ◌<◌, ◌^◌, ◌||◌, length, refl, sym, ap, subst, ◌∙◌, arith}
 use Rattle.search_parts.specs.declared.parts.result.EvaluationResult.{EvaluationResult}
-use Rattle.search_parts.specs.declared.context.Reply.TheVariants.{Answer}
-use Rattle.search_graph.specs.declared.graph.open_goals.Next.TheVariants.{Step, Finished}
-use Rattle.search_graph.specs.Items.{AnswersNewest}
-use Rattle.search_graph.proofs.RunsEnd.{closed_without_heads, taken_run_ends, finished_justified, step_justified, leaves_step, required_fits}
+use Rattle.search_parts.specs.Definite.{HasGraph}
+use Rattle.search_parts.specs.Store.{place_of}
+use Rattle.search_parts.specs.Stored.{IsPlainAt}
+use Rattle.search_parts.specs.Cache.{KeepsFinished}
+use Rattle.search_parts.specs.Rank.{IsPlainTo}
+use Rattle.search_graph.specs.Free.{AreFree}
+use Rattle.search_graph.specs.Graph.{ComesTo}
+use Rattle.search_graph.specs.Results.{IsNewestPlainTo, NewestComesTo, NewestIsPlain, StoresAnswer}
+use Rattle.search_graph.specs.Moves.{GivesAnswer}
+use Rattle.search_graph.specs.Runs.{runs_of, IsJustifiedNext}
+use Rattle.search_graph.proofs.DoneGoals.{answer_of, given_free, given_justified, given_leaves, newest_stored}
+use Rattle.search_graph.proofs.Questions.{if_err_and}
+use Rattle.search_graph.proofs.RunsEnd.{headless_graph, required_fits, taken_run_ends}
 use Rattle.search_graph.proofs.graph.finish.finish_goal.Goals as goal
 
 pub settle_node-requires : goal.settle_node-requires
 settle_node-requires g c = λ definite.
     taken_run_ends g.D.Cx.Cx.is_yes g.D.Cx.Cx.is_no c.args.cache.now.nodes c.args.cache.now.nodes c.args.goals.now c.pop-entry.result.0 c.pop-entry.result.1 c.pop-entry.new.self c.pop-entry.ensures (g.D.Delegate.script c.args.cache.now.cx) c.args.outcome c.requires.justified c.requires.ends definite
 
-pub returns-then-len-eq0-clause-justified : goal.returns-then-len-eq0-clause-justified
-returns-then-len-eq0-clause-justified g c =
-    finished_justified g.D.Cx.Cx.is_yes g.D.Cx.Cx.is_no c.args.cache.now.nodes c.settle_node.new.cache.nodes c.args.goals.now c.pop-entry.result.0 c.pop-entry.result.1 c.pop-entry.new.self c.pop-entry.ensures c.args.outcome c.in_ok-node.node c.requires.justified c.in_ok-node.ensures.settled c.pop-entry.new.self (sym c.len.ensures ∙ c.if-len-eq0.true)
-
-pub note_answer-requires-clause-fits : goal.note_answer-requires-clause-fits
-note_answer-requires-clause-fits g c =
+pub give_answer-requires : goal.give_answer-requires
+give_answer-requires g c = λ some.
     subst (λ (a : EvaluationResult _ _ _ _ _). a.required_depth + 1 < 2 ^ 64) (sym c.finalize-answer.ensures)
-    (required_fits g.D.Cx.Cx.is_yes g.D.Cx.Cx.is_no c.args.cache.now.nodes c.settle_node.new.cache.nodes c.args.goals.now c.pop-entry.result.0 c.pop-entry.result.1 c.pop-entry.new.self c.pop-entry.ensures c.requires.leaves (λ none. c.if-len-eq0.false (c.len.ensures ∙ none)))
+    (required_fits g.D.Cx.Cx.is_yes g.D.Cx.Cx.is_no c.args.cache.now.nodes c.settle_node.new.cache.nodes c.args.goals.now c.pop-entry.result.0 c.pop-entry.result.1 c.pop-entry.new.self c.pop-entry.ensures c.requires.leaves (λ none. omega (arith, some, none)))
+
+pub store_answer-requires-clause-graph : goal.store_answer-requires-clause-graph
+store_answer-requires-clause-graph g c =
+    subst (λ (a : EvaluationResult _ _ _ _ _). a.heads ≡ [] → HasGraph g.D.Cx.Cx.is_yes g.D.Cx.Cx.is_no c.settle_node.new.cache.nodes c.input-input.result a.result a.node) (sym c.finalize-answer.ensures)
+    (λ none. subst (λ i. HasGraph g.D.Cx.Cx.is_yes g.D.Cx.Cx.is_no c.settle_node.new.cache.nodes i c.args.outcome c.in_ok-node.node) (sym c.input-input.ensures)
+    (headless_graph g.D.Cx.Cx.is_yes g.D.Cx.Cx.is_no c.args.cache.now.nodes c.settle_node.new.cache.nodes c.args.goals.now c.pop-entry.result.0 c.pop-entry.result.1 c.pop-entry.new.self c.pop-entry.ensures c.args.outcome c.in_ok-node.node c.requires.justified c.in_ok-node.ensures.settled none))
+
+pub store_answer-requires-clause-comes : goal.store_answer-requires-clause-comes
+store_answer-requires-clause-comes g c =
+    subst (λ (a : EvaluationResult _ _ _ _ _). ComesTo (g.D.Delegate.script c.settle_node.new.cache.cx) (g.D.Delegate.fixpoint_overflow c.settle_node.new.cache.cx) c.input-input.result a.result) (sym c.finalize-answer.ensures)
+    (subst (λ i. ComesTo (g.D.Delegate.script c.settle_node.new.cache.cx) (g.D.Delegate.fixpoint_overflow c.settle_node.new.cache.cx) i c.args.outcome) (sym c.input-input.ensures)
+    (subst (λ x. ComesTo (g.D.Delegate.script x) (g.D.Delegate.fixpoint_overflow x) c.pop-entry.result.0.input c.args.outcome) (sym c.in_ok-node.ensures.same_context)
+    (subst (λ l. NewestComesTo (g.D.Delegate.script c.args.cache.now.cx) (g.D.Delegate.fixpoint_overflow c.args.cache.now.cx) l c.args.outcome) c.pop-entry.ensures c.requires.comes)))
+
+pub store_answer-requires-clause-plain : goal.store_answer-requires-clause-plain
+store_answer-requires-clause-plain g c =
+    subst (λ (a : EvaluationResult _ _ _ _ _). IsPlainAt (g.D.Delegate.script c.settle_node.new.cache.cx) c.input-input.result (place_of a) a.result) (sym c.finalize-answer.ensures)
+    (subst (λ i. IsPlainAt (g.D.Delegate.script c.settle_node.new.cache.cx) i (place_of (answer_of c.pop-entry.result.0 c.pop-entry.result.1 c.args.outcome c.in_ok-node.node)) c.args.outcome) (sym c.input-input.ensures)
+    (subst (λ x. IsPlainAt (g.D.Delegate.script x) c.pop-entry.result.0.input (place_of (answer_of c.pop-entry.result.0 c.pop-entry.result.1 c.args.outcome c.in_ok-node.node)) c.args.outcome) (sym c.in_ok-node.ensures.same_context)
+    (subst (λ l. NewestIsPlain (g.D.Delegate.script c.args.cache.now.cx) l c.args.outcome) c.pop-entry.ensures c.requires.plain)))
+
+-- ---- the answer could not be given or stored
+
+pub returns-in_err-next-clause-plain : goal.returns-in_err-next-clause-plain
+returns-in_err-next-clause-plain g c = λ n plain. if_err_and c.from_residual-in_err-next.result _ _ c.from_residual-in_err-next.ensures.1 (λ e is. is)
+
+pub returns-in_err-store_answer-clause-stored : goal.returns-in_err-store_answer-clause-stored
+returns-in_err-store_answer-clause-stored g c = newest_stored g.D.Cx.Cx.is_yes g.D.Cx.Cx.is_no c.args.cache.now.nodes c.settle_node.new.cache.nodes c.args.goals.now c.pop-entry.result.0 c.pop-entry.result.1 c.pop-entry.new.self c.pop-entry.ensures c.args.outcome c.in_ok-node.node c.requires.justified c.in_ok-node.ensures.settled g.D.Cx.Input.PartialEq.eq c.args.cache.now.results c.store_answer.new.cache.results
+    (subst (λ before. StoresAnswer g.D.Cx.Input.PartialEq.eq before c.store_answer.new.cache.results c.pop-entry.result.0.input (answer_of c.pop-entry.result.0 c.pop-entry.result.1 c.args.outcome c.in_ok-node.node)) c.in_ok-node.ensures.same_results
+    (subst (λ i. StoresAnswer g.D.Cx.Input.PartialEq.eq c.settle_node.new.cache.results c.store_answer.new.cache.results i (answer_of c.pop-entry.result.0 c.pop-entry.result.1 c.args.outcome c.in_ok-node.node)) c.input-input.ensures
+    (subst (λ (a : EvaluationResult _ _ _ _ _). StoresAnswer g.D.Cx.Input.PartialEq.eq c.settle_node.new.cache.results c.store_answer.new.cache.results c.input-input.result a) c.finalize-answer.ensures c.store_answer.ensures.stored)))
+
+pub returns-in_err-store_answer-clause-plain : goal.returns-in_err-store_answer-clause-plain
+returns-in_err-store_answer-clause-plain g c = λ n plain.
+    let here : IsNewestPlainTo (g.D.Delegate.script c.args.cache.now.cx) n ((c.pop-entry.result.0, c.pop-entry.result.1) ∷ c.pop-entry.new.self) = subst (IsNewestPlainTo (g.D.Delegate.script c.args.cache.now.cx) n) c.pop-entry.ensures plain in
+    if_err_and c.from_residual-in_err-store_answer.result _ _ c.from_residual-in_err-store_answer.ensures.1 (λ e is. is ∙ c.in_err-store_answer.ensures.plain n
+    (subst (λ x. IsPlainTo (g.D.Delegate.script x) n c.input-input.result) (sym c.in_ok-node.ensures.same_context) (subst (IsPlainTo (g.D.Delegate.script c.args.cache.now.cx) n) (sym c.input-input.ensures) here.0))
+    (ap (λ (a : EvaluationResult _ _ _ _ _). place_of a) c.finalize-answer.ensures ∙ here.1))
+
+pub returns-in_err-store_answer-clause-kept : goal.returns-in_err-store_answer-clause-kept
+returns-in_err-store_answer-clause-kept g c = subst (KeepsFinished c.args.cache.now.nodes) (sym (ap (λ cache. cache.nodes) c.store_answer.ensures.rest)) c.in_ok-node.ensures.kept
+
+-- ---- they were
 
 pub returns-clause-left : goal.returns-clause-left
-returns-clause-left g c =
-    leaves_step g.D.Cx.Cx.is_yes g.D.Cx.Cx.is_no c.args.cache.now.nodes c.settle_node.new.cache.nodes c.args.goals.now c.pop-entry.result.0 c.pop-entry.result.1 c.pop-entry.new.self c.pop-entry.ensures c.args.outcome c.in_ok-node.node c.requires.justified c.in_ok-node.ensures.settled c.note_answer.new.self
-    (subst (λ step. AnswersNewest step c.pop-entry.result.0.state.required_depth (c.pop-entry.result.0.state.encountered_overflow || c.pop-entry.result.1.met_overflow_before) c.pop-entry.result.0.state.heads c.pop-entry.new.self c.note_answer.new.self) c.step_kind_from_parent-step.ensures
-    (subst (λ (a : EvaluationResult _ _ _ _ _). AnswersNewest c.step_kind_from_parent-step.result a.required_depth a.encountered_overflow a.heads c.pop-entry.new.self c.note_answer.new.self) c.finalize-answer.ensures c.in_ok-note_answer.ensures)) (λ none. c.if-len-eq0.false (c.len.ensures ∙ none))
+returns-clause-left g c = given_leaves g.D.Cx.Cx.is_yes g.D.Cx.Cx.is_no c.args.cache.now.nodes c.settle_node.new.cache.nodes c.args.goals.now c.pop-entry.result.0 c.pop-entry.result.1 c.pop-entry.new.self c.pop-entry.ensures c.args.outcome c.in_ok-node.node c.requires.justified c.in_ok-node.ensures.settled c.give_answer.new.goals c.in_ok-next.next
+    (subst (λ step. GivesAnswer step (answer_of c.pop-entry.result.0 c.pop-entry.result.1 c.args.outcome c.in_ok-node.node) c.pop-entry.new.self c.in_ok-next.next c.give_answer.new.goals) c.step_kind_from_parent-step.ensures
+    (subst (λ (a : EvaluationResult _ _ _ _ _). GivesAnswer c.step_kind_from_parent-step.result a c.pop-entry.new.self c.in_ok-next.next c.give_answer.new.goals) c.finalize-answer.ensures c.in_ok-next.ensures))
 
 pub returns-clause-justified : goal.returns-clause-justified
 returns-clause-justified g c =
-    step_justified g.D.Cx.Cx.is_yes g.D.Cx.Cx.is_no c.args.cache.now.nodes c.settle_node.new.cache.nodes c.args.goals.now c.pop-entry.result.0 c.pop-entry.result.1 c.pop-entry.new.self c.pop-entry.ensures c.args.outcome c.in_ok-node.node c.requires.justified c.in_ok-node.ensures.settled c.note_answer.new.self
-    (subst (λ step. AnswersNewest step c.pop-entry.result.0.state.required_depth (c.pop-entry.result.0.state.encountered_overflow || c.pop-entry.result.1.met_overflow_before) c.pop-entry.result.0.state.heads c.pop-entry.new.self c.note_answer.new.self) c.step_kind_from_parent-step.ensures
-    (subst (λ (a : EvaluationResult _ _ _ _ _). AnswersNewest c.step_kind_from_parent-step.result a.required_depth a.encountered_overflow a.heads c.pop-entry.new.self c.note_answer.new.self) c.finalize-answer.ensures c.in_ok-note_answer.ensures))
+    subst (λ nodes. IsJustifiedNext g.D.Cx.Cx.is_yes g.D.Cx.Cx.is_no nodes c.args.goals.now c.give_answer.new.goals c.in_ok-next.next) (sym (ap (λ cache. cache.nodes) c.store_answer.ensures.rest))
+    (given_justified g.D.Cx.Cx.is_yes g.D.Cx.Cx.is_no c.args.cache.now.nodes c.settle_node.new.cache.nodes c.args.goals.now c.pop-entry.result.0 c.pop-entry.result.1 c.pop-entry.new.self c.pop-entry.ensures c.args.outcome c.in_ok-node.node c.requires.justified c.in_ok-node.ensures.settled c.give_answer.new.goals c.in_ok-next.next
+    (subst (λ step. GivesAnswer step (answer_of c.pop-entry.result.0 c.pop-entry.result.1 c.args.outcome c.in_ok-node.node) c.pop-entry.new.self c.in_ok-next.next c.give_answer.new.goals) c.step_kind_from_parent-step.ensures
+    (subst (λ (a : EvaluationResult _ _ _ _ _). GivesAnswer c.step_kind_from_parent-step.result a c.pop-entry.new.self c.in_ok-next.next c.give_answer.new.goals) c.finalize-answer.ensures c.in_ok-next.ensures)))
 
-pub returns-then-len-eq0-clause-closed : goal.returns-then-len-eq0-clause-closed
-returns-then-len-eq0-clause-closed g c = closed_without_heads g.D.Cx.Cx.is_yes g.D.Cx.Cx.is_no c.args.cache.now.nodes c.settle_node.new.cache.nodes c.args.goals.now c.pop-entry.result.0 c.pop-entry.result.1 c.pop-entry.new.self c.pop-entry.ensures c.args.outcome c.in_ok-node.node c.requires.justified c.in_ok-node.ensures.settled (Finished (record { result = c.args.outcome; node = c.in_ok-node.node })) refl
+pub returns-clause-stored : goal.returns-clause-stored
+returns-clause-stored g c = newest_stored g.D.Cx.Cx.is_yes g.D.Cx.Cx.is_no c.args.cache.now.nodes c.settle_node.new.cache.nodes c.args.goals.now c.pop-entry.result.0 c.pop-entry.result.1 c.pop-entry.new.self c.pop-entry.ensures c.args.outcome c.in_ok-node.node c.requires.justified c.in_ok-node.ensures.settled g.D.Cx.Input.PartialEq.eq c.args.cache.now.results c.store_answer.new.cache.results
+    (subst (λ before. StoresAnswer g.D.Cx.Input.PartialEq.eq before c.store_answer.new.cache.results c.pop-entry.result.0.input (answer_of c.pop-entry.result.0 c.pop-entry.result.1 c.args.outcome c.in_ok-node.node)) c.in_ok-node.ensures.same_results
+    (subst (λ i. StoresAnswer g.D.Cx.Input.PartialEq.eq c.settle_node.new.cache.results c.store_answer.new.cache.results i (answer_of c.pop-entry.result.0 c.pop-entry.result.1 c.args.outcome c.in_ok-node.node)) c.input-input.ensures
+    (subst (λ (a : EvaluationResult _ _ _ _ _). StoresAnswer g.D.Cx.Input.PartialEq.eq c.settle_node.new.cache.results c.store_answer.new.cache.results c.input-input.result a) c.finalize-answer.ensures c.store_answer.ensures.stored)))
 
-pub returns-clause-closed : goal.returns-clause-closed
-returns-clause-closed g c = closed_without_heads g.D.Cx.Cx.is_yes g.D.Cx.Cx.is_no c.args.cache.now.nodes c.settle_node.new.cache.nodes c.args.goals.now c.pop-entry.result.0 c.pop-entry.result.1 c.pop-entry.new.self c.pop-entry.ensures c.args.outcome c.in_ok-node.node c.requires.justified c.in_ok-node.ensures.settled (Step (record { reply = Answer c.args.outcome; node = c.in_ok-node.node })) refl
+pub returns-clause-free : goal.returns-clause-free
+returns-clause-free g c =
+    subst (λ nodes. AreFree g.D.Cx.Cx.is_yes g.D.Cx.Cx.is_no g.D.Cx.Input.PartialEq.eq nodes (runs_of c.give_answer.new.goals) c.store_answer.new.cache.results) (sym (ap (λ cache. cache.nodes) c.store_answer.ensures.rest))
+    (given_free g.D.Cx.Cx.is_yes g.D.Cx.Cx.is_no c.args.cache.now.nodes c.settle_node.new.cache.nodes c.args.goals.now c.pop-entry.result.0 c.pop-entry.result.1 c.pop-entry.new.self c.pop-entry.ensures c.args.outcome c.in_ok-node.node c.requires.justified c.in_ok-node.ensures.settled g.D.Cx.Input.PartialEq.eq g.met.D.Cx.Cx.same_input c.args.cache.now.results c.store_answer.new.cache.results c.give_answer.new.goals c.in_ok-next.next
+    (subst (λ step. GivesAnswer step (answer_of c.pop-entry.result.0 c.pop-entry.result.1 c.args.outcome c.in_ok-node.node) c.pop-entry.new.self c.in_ok-next.next c.give_answer.new.goals) c.step_kind_from_parent-step.ensures
+    (subst (λ (a : EvaluationResult _ _ _ _ _). GivesAnswer c.step_kind_from_parent-step.result a c.pop-entry.new.self c.in_ok-next.next c.give_answer.new.goals) c.finalize-answer.ensures c.in_ok-next.ensures))
+    (subst (λ before. StoresAnswer g.D.Cx.Input.PartialEq.eq before c.store_answer.new.cache.results c.pop-entry.result.0.input (answer_of c.pop-entry.result.0 c.pop-entry.result.1 c.args.outcome c.in_ok-node.node)) c.in_ok-node.ensures.same_results
+    (subst (λ i. StoresAnswer g.D.Cx.Input.PartialEq.eq c.settle_node.new.cache.results c.store_answer.new.cache.results i (answer_of c.pop-entry.result.0 c.pop-entry.result.1 c.args.outcome c.in_ok-node.node)) c.input-input.ensures
+    (subst (λ (a : EvaluationResult _ _ _ _ _). StoresAnswer g.D.Cx.Input.PartialEq.eq c.settle_node.new.cache.results c.store_answer.new.cache.results c.input-input.result a) c.finalize-answer.ensures c.store_answer.ensures.stored))) c.requires.free)
+
+pub returns-clause-kept : goal.returns-clause-kept
+returns-clause-kept g c = subst (KeepsFinished c.args.cache.now.nodes) (sym (ap (λ cache. cache.nodes) c.store_answer.ensures.rest)) c.in_ok-node.ensures.kept

@@ -3,10 +3,11 @@ use Rattle.std.specs.Option.{option_or}
 use Rattle.search_parts.specs.Cache.{open_node}
 use Rattle.search_parts.proofs.Finished.{KeepsFinished-nodes, KeepsFinished-then}
 use Rattle.search_graph.specs.Items.{rerun_with}
+use Rattle.search_graph.specs.Free.{AreFree}
 use Rattle.search_graph.specs.Justified.{AreJustified}
 use Rattle.search_graph.specs.Newest.{change_newest}
 use Rattle.search_graph.specs.Runs.{runs_of}
-use Rattle.search_graph.proofs.RunsEnd.{taken_from, taken_ends, rerun_justified, reran}
+use Rattle.search_graph.proofs.RunsEnd.{taken_from, taken_ends, rerun_free, rerun_justified, reran}
 use Rattle.search_graph.proofs.graph.finish.run_again.Goals as goal
 
 pub settle_node-requires : goal.settle_node-requires
@@ -34,3 +35,9 @@ returns-clause-justified g c =
 
 pub returns-clause-kept : goal.returns-clause-kept
 returns-clause-kept g c = KeepsFinished-then _ _ _ c.in_ok-settle_node.ensures.kept (KeepsFinished-nodes _ _ c.open_node.ensures.kept)
+
+pub returns-clause-free : goal.returns-clause-free
+returns-clause-free g c = λ free.
+    subst (λ nodes. AreFree g.D.Cx.Cx.is_yes g.D.Cx.Cx.is_no g.D.Cx.Input.PartialEq.eq nodes (runs_of c.run_again.new.self) c.args.cache.now.results) (sym (ap (λ cache. cache.nodes) c.in_ok-own_node.ensures.opened ∙ ap (λ i. c.settle_node.new.cache.nodes ++ open_node i ∷ []) c.input-input.ensures))
+    (rerun_free g.D.Cx.Cx.is_yes g.D.Cx.Cx.is_no g.D.Cx.Input.PartialEq.eq c.args.cache.now.results c.args.cache.now.nodes c.settle_node.new.cache.nodes c.args.goals.now c.take_progress-progress.new.self c.run_again.new.self c.last_entry-entry.result.now c.last_run.result.now c.take_progress-progress.result c.args.outcome c.in_ok-settle_node.field-0 c.in_ok-frame.frame c.in_ok-own_node.own_node
+    (taken_from c.args.goals.now c.take_progress-progress.new.self c.last_entry-entry.result.now c.last_run.result.now c.take_progress-progress.result c.take_progress-progress.ensures.left c.take_progress-progress.ensures.taken c.last_entry-entry.ensures c.last_run.ensures) c.take_progress-progress.ensures.left (c.run_again.ensures ∙ ap (λ lead. change_newest (rerun_with c.args.outcome lead c.in_ok-frame.frame c.in_ok-own_node.own_node) c.take_progress-progress.new.self) c.or-node.ensures) c.in_ok-settle_node.ensures.settled c.in_ok-own_node.ensures.node c.requires.justified free)
