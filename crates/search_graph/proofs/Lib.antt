@@ -26,3 +26,4 @@ pub mod Free
 pub mod FreeResults
 pub mod FreeMoves
 pub mod DoneGoals
+pub mod DoneRuns

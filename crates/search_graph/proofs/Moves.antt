@@ -88,7 +88,7 @@ module _ {D C V P F I R A T : Type 0} (G : Delegate.Ghosts D C V P F I R A T) (X
   in_cycle_of false heads some = some
 
   -- what a popped goal leaves: its run's result, or, of a goal in a cycle, any result
-  leaving : (done r : R) (s : StackEntry C I R A T × Run C F I R A T) → (r ≡ done) ⊎ (is_in_cycle s.0.state ≡ true) → ItemLeaves done (seen G X cx s) (outcome_of r s)
+  pub leaving : (done r : R) (s : StackEntry C I R A T × Run C F I R A T) → (r ≡ done) ⊎ (is_in_cycle s.0.state ≡ true) → ItemLeaves done (seen G X cx s) (outcome_of r s)
   leaving done r s result = record { result = result; required = refl; met_overflow = refl; in_cycle = in_cycle_of (is_some s.0.state.usages) s.0.state.heads }
 
 module _ {D C V P F I R A T : Type 0} (G : Delegate.Ghosts D C V P F I R A T) (X : Cx.Ghosts C I R A T) (cx : C) (call : Call I) where
@@ -182,7 +182,7 @@ module _ {D C V P F I R A T : Type 0} (G : Delegate.Ghosts D C V P F I R A T) (X
       let by = requested_by (seen G X cx) (Stood G X cx) (G.script cx) (limits G X cx call) (IsCounted G X cx call) call.top (bound G X cx call) ahead (Evaluate kind goal) s below starts met h.asked in
       decisive.asks s.0.input goal by.0 kind by.2 by.3
 
-  done_definite : (ahead : ℕ) (done : R) (goals : List Goal) (starts : ℕ) (met : Bool) → HasAsked G X cx call ahead (Done done) goals starts met → Decidedly G X cx call met (IsDefinite X.is_yes X.is_no done)
+  pub done_definite : (ahead : ℕ) (done : R) (goals : List Goal) (starts : ℕ) (met : Bool) → HasAsked G X cx call ahead (Done done) goals starts met → Decidedly G X cx call met (IsDefinite X.is_yes X.is_no done)
   done_definite ahead done [] starts met h decisive unmet = absurd h.asked.mirror
   done_definite ahead done (s ∷ below) starts met h decisive unmet =
       let by = requested_by (seen G X cx) (Stood G X cx) (G.script cx) (limits G X cx call) (IsCounted G X cx call) call.top (bound G X cx call) ahead (Done done) s below starts met h.asked in
