@@ -27,3 +27,4 @@ pub mod FreeResults
 pub mod FreeMoves
 pub mod DoneGoals
 pub mod DoneRuns
+pub mod Causes

@@ -1,5 +1,5 @@
 -- The loop over the moves, whatever call it serves.
-use Rattle.std.proofs.Common.{◌≡◌, ℕ, ◌+◌, ◌<◌, ◌≤◌, ◌^◌, Bool, true, List, [], ◌∷◌, length, Some, refl, sym, ap, subst, arith}
+use Rattle.std.proofs.Common.{◌≡◌, ℕ, ◌+◌, ◌<◌, ◌≤◌, ◌^◌, Bool, true, false, List, [], ◌∷◌, length, Some, refl, sym, ap, subst, arith}
 use Rattle.search_parts.specs.declared.context.Delegate as Delegate
 use Rattle.search_parts.specs.declared.context.Cx as Cx
 use Rattle.search_parts.specs.declared.context.Request.{Request}
@@ -25,16 +25,27 @@ use Rattle.search_graph.specs.Runs.{runs_of, IsJustifiedNext}
 use Rattle.search_graph.specs.Calls.{Call, Outset}
 use Rattle.search_graph.specs.Steps.{HasStepped, IsStepFault, received_by}
 use Rattle.search_graph.specs.Moves.{Pushes}
-use Rattle.search_graph.specs.Evaluating.{IsWaiting, HasAsked, HasStopped, IsOnly, Leads, work_left}
+use Rattle.search_parts.specs.declared.global_cache.results.StoredResult.{StoredResult}
+use Rattle.search_parts.specs.Store.{Store}
+use Rattle.search_graph.specs.Results.{AreDefinite, HaveNoOverflow}
+use Rattle.search_graph.specs.Evaluating.{Begins, IsWaiting, HasAsked, HasStopped, IsOnly, Leads, work_left}
 use Rattle.search_graph.proofs.Moves.{root_waits, failed_root_stopped, step_asks, step_stops}
 use Rattle.search_graph.proofs.Replies.{replies_sorted, step_is_justified}
 
--- the call of a goal at a depth
-abbrev pub call_of : {I : Type 0} (input : I) (root starts : ℕ) (met : Bool) → root < 2 ^ 64 → Call I
-call_of input root starts met fits = record { top = input; root = root; fits = fits; starts = starts; limits_met = met }
+-- the call of a goal at a depth, and what is known of the stored results
+abbrev pub call_of : {I : Type 0} (input : I) (root starts : ℕ) (met calm definite : Bool) → root < 2 ^ 64 → Call I
+call_of input root starts met calm definite fits = record { top = input; root = root; fits = fits; starts = starts; limits_met = met; without_overflow = calm; all_definite = definite }
 
-pub call_is_outset : {I : Type 0} (input : I) (root starts : ℕ) (met : Bool) (fits : root < 2 ^ 64) → Outset (call_of input root starts met fits) input root starts met
-call_is_outset input root starts met fits = record { same_top = refl; same_root = refl; same_starts = refl; same_limits = refl }
+module _ {D C V P F I R A T : Type 0} (G : Delegate.Ghosts D C V P F I R A T) (X : Cx.Ghosts C I R A T) (cx : C) (same : I → I → Bool) (input : I) (root starts : ℕ) (met : Bool) (fits : root < 2 ^ 64) (results : Store I (StoredResult C I R A T)) where
+  pub call_begins : (calm definite : Bool) → (calm ≡ true → HaveNoOverflow same results) → (definite ≡ true → AreDefinite X.is_yes X.is_no same results) → Begins G X cx same (call_of input root starts met calm definite fits) input root starts met results
+  call_begins calm definite none all = record {
+    outset = record { same_top = refl; same_root = refl; same_starts = refl; same_limits = refl };
+    store = record { overflow = λ counted unmet. none counted.2; definite = λ decisive unmet. all decisive.1 };
+  }
+
+  -- the call of which nothing is known
+  pub some_call_begins : Begins G X cx same (call_of input root starts met false false fits) input root starts met results
+  some_call_begins = call_begins false false (λ e. absurd cc) (λ e. absurd cc)
 
 -- a step was taken by some goal
 pub stepped_some : {D C V P F I R A T : Type 0} (G : Delegate.Ghosts D C V P F I R A T) (X : Cx.Ghosts C I R A T) (cx : C) (given : Received R) (request : Request I R) (old new : List (StackEntry C I R A T × Run C F I R A T)) → HasStepped G X cx given request old new → 0 < length new

@@ -121,7 +121,7 @@ module _ {D C V P F I R A T : Type 0} (G : Delegate.Ghosts D C V P F I R A T) (X
         )
 
     -- a fault of the order is one of the script
-    fault_after_step : (number : ℕ) → fault_of (received_by G X cx run given verdict) request ≡ Some number → (earlier : List (Reply R)) → Stood G X cx (entry, run) earlier → IsFitting (G.script cx entry.input) (given.reply ∷ earlier) → fault_after (G.script cx entry.input) (given.reply ∷ earlier) ≡ Some number
+    pub fault_after_step : (number : ℕ) → fault_of (received_by G X cx run given verdict) request ≡ Some number → (earlier : List (Reply R)) → Stood G X cx (entry, run) earlier → IsFitting (G.script cx entry.input) (given.reply ∷ earlier) → fault_after (G.script cx entry.input) (given.reply ∷ earlier) ≡ Some number
     fault_after_step number disorderly earlier stood fits =
         let made = steps cx entry.input earlier stood.0 fits in
         sym (fault_is X.is_yes X.is_no (G.script cx entry.input) run.progress earlier given.reply verdict given.node stood.1 fits.0 sorted request made.0) ∙ disorderly

@@ -1,12 +1,14 @@
 use Rattle.std.proofs.Common.{◌≡◌, sym, ap, subst}
 use Rattle.search_parts.specs.declared.context.Fault.TheVariants.{Memory}
 use Rattle.search_graph.specs.Steps.{CanStep}
-use Rattle.search_graph.specs.Evaluating.{GoesOn, HasStopped, work_left}
+use Rattle.search_graph.specs.Evaluating.{GoesOn, HasStopped, KeepsStore, work_left}
 use Rattle.search_graph.specs.Justified.{AreJustified, IsFit}
 use Rattle.search_graph.specs.Runs.{runs_of}
 use Rattle.search_graph.proofs.Moves.{can_step, noted_goes_on}
 use Rattle.search_graph.proofs.Questions.{if_err_and}
 use Rattle.search_graph.proofs.Finishing.{noted_fits}
+use Rattle.search_graph.specs.Graph.{IsCaused}
+use Rattle.search_graph.proofs.Causes.{step_is_caused, step_keeps_free}
 use Rattle.search_graph.proofs.Loops.{stepped_some, advance_asks, advance_stops, advance_justified, done_leads, next_before, step_asks_for}
 use Rattle.search_graph.proofs.graph.evaluate.advance.Goals as goal
 
@@ -39,8 +41,8 @@ returns-in_err-next-in-Evaluate-clause-stopped g c = λ call h.
     (c.in_err-next-in-Evaluate.ensures.stops call _ (advance_asks g.D.Delegate g.D.Cx.Cx c.args.cache.now.cx c.args.received _ c.args.goals.now c.step.new.goals _ _ c.args.limits_met.now c.cx-cx.result c.cx-cx.ensures c.in_ok-kind.field-0 c.in-Evaluate.is c.in_ok-kind.ensures.stepped c.step.ensures.same_starts c.args.cache.now.nodes c.requires.fits call h)))
 
 pub returns-in_ok-next-in-Evaluate-clause-leads : goal.returns-in_ok-next-in-Evaluate-clause-leads
-returns-in_ok-next-in-Evaluate-clause-leads g c = λ call h.
-    c.in_ok-next-in-Evaluate.ensures.goes_on call _ (advance_asks g.D.Delegate g.D.Cx.Cx c.args.cache.now.cx c.args.received _ c.args.goals.now c.step.new.goals _ _ c.args.limits_met.now c.cx-cx.result c.cx-cx.ensures c.in_ok-kind.field-0 c.in-Evaluate.is c.in_ok-kind.ensures.stepped c.step.ensures.same_starts c.args.cache.now.nodes c.requires.fits call h)
+returns-in_ok-next-in-Evaluate-clause-leads g c = λ call h keeps.
+    c.in_ok-next-in-Evaluate.ensures.goes_on call _ (advance_asks g.D.Delegate g.D.Cx.Cx c.args.cache.now.cx c.args.received _ c.args.goals.now c.step.new.goals _ _ c.args.limits_met.now c.cx-cx.result c.cx-cx.ensures c.in_ok-kind.field-0 c.in-Evaluate.is c.in_ok-kind.ensures.stepped c.step.ensures.same_starts c.args.cache.now.nodes c.requires.fits call h) keeps
 
 -- ---- the end of a run
 
@@ -57,7 +59,7 @@ returns-in_err-next-in-Done-clause-stopped g c = λ call h.
     (c.in_err-next-in-Done.ensures.stops call _ (advance_asks g.D.Delegate g.D.Cx.Cx c.args.cache.now.cx c.args.received _ c.args.goals.now c.step.new.goals _ _ c.args.limits_met.now c.cx-cx.result c.cx-cx.ensures c.in_ok-kind.field-0 c.in-Done.is c.in_ok-kind.ensures.stepped c.step.ensures.same_starts c.args.cache.now.nodes c.requires.fits call h)))
 
 pub returns-in_ok-next-in-Done-clause-leads : goal.returns-in_ok-next-in-Done-clause-leads
-returns-in_ok-next-in-Done-clause-leads g c = λ call h.
+returns-in_ok-next-in-Done-clause-leads g c = λ call h keeps.
     done_leads g.D.Delegate g.D.Cx.Cx c.args.cache.now.cx c.args.received c.args.goals.now c.step.new.goals c.cx-cx.result c.in_ok-kind.field-0 c.in_ok-kind.ensures.stepped call c.in_ok-next-in-Done.next c.finish_run.new.goals _ _ (c.in_ok-next-in-Done.ensures.leads call _ (advance_asks g.D.Delegate g.D.Cx.Cx c.args.cache.now.cx c.args.received _ c.args.goals.now c.step.new.goals _ _ c.args.limits_met.now c.cx-cx.result c.cx-cx.ensures c.in_ok-kind.field-0 c.in-Done.is c.in_ok-kind.ensures.stepped c.step.ensures.same_starts c.args.cache.now.nodes c.requires.fits call h))
 
 pub returns-in_ok-next-in-Done-clause-justified : goal.returns-in_ok-next-in-Done-clause-justified
@@ -67,7 +69,7 @@ returns-in_ok-next-in-Done-clause-justified g c =
 -- ---- candidates
 
 pub returns-in-EnterCandidate-clause-leads : goal.returns-in-EnterCandidate-clause-leads
-returns-in-EnterCandidate-clause-leads g c = λ call h.
+returns-in-EnterCandidate-clause-leads g c = λ call h keeps.
     subst (λ given. GoesOn g.D.Delegate g.D.Cx.Cx c.args.cache.now.cx call (work_left g.D.Delegate g.D.Cx.Cx c.args.cache.now.cx c.args.goals.now) given.reply c.step.new.goals (g.D.Delegate.starts c.step.new.inspect) c.args.limits_met.now) (sym c.without_node.ensures)
     (noted_goes_on g.D.Delegate g.D.Cx.Cx c.args.cache.now.cx call _ _ c.step.new.goals _ _ tt (advance_asks g.D.Delegate g.D.Cx.Cx c.args.cache.now.cx c.args.received _ c.args.goals.now c.step.new.goals _ _ c.args.limits_met.now c.cx-cx.result c.cx-cx.ensures c.in_ok-kind.field-0 c.in-EnterCandidate.is c.in_ok-kind.ensures.stepped c.step.ensures.same_starts c.args.cache.now.nodes c.requires.fits call h))
 
@@ -78,7 +80,7 @@ returns-in-EnterCandidate-clause-justified g c = (
 )
 
 pub returns-in-FinishCandidate-clause-leads : goal.returns-in-FinishCandidate-clause-leads
-returns-in-FinishCandidate-clause-leads g c = λ call h.
+returns-in-FinishCandidate-clause-leads g c = λ call h keeps.
     subst (λ given. GoesOn g.D.Delegate g.D.Cx.Cx c.args.cache.now.cx call (work_left g.D.Delegate g.D.Cx.Cx c.args.cache.now.cx c.args.goals.now) given.reply c.step.new.goals (g.D.Delegate.starts c.step.new.inspect) c.args.limits_met.now) (sym c.without_node-in-FinishCandidate.ensures)
     (noted_goes_on g.D.Delegate g.D.Cx.Cx c.args.cache.now.cx call _ _ c.step.new.goals _ _ tt (advance_asks g.D.Delegate g.D.Cx.Cx c.args.cache.now.cx c.args.received _ c.args.goals.now c.step.new.goals _ _ c.args.limits_met.now c.cx-cx.result c.cx-cx.ensures c.in_ok-kind.field-0 c.in-FinishCandidate.is c.in_ok-kind.ensures.stepped c.step.ensures.same_starts c.args.cache.now.nodes c.requires.fits call h))
 
@@ -89,7 +91,7 @@ returns-in-FinishCandidate-clause-justified g c = (
 )
 
 pub returns-in-Ignore-clause-leads : goal.returns-in-Ignore-clause-leads
-returns-in-Ignore-clause-leads g c = λ call h.
+returns-in-Ignore-clause-leads g c = λ call h keeps.
     subst (λ given. GoesOn g.D.Delegate g.D.Cx.Cx c.args.cache.now.cx call (work_left g.D.Delegate g.D.Cx.Cx c.args.cache.now.cx c.args.goals.now) given.reply c.step.new.goals (g.D.Delegate.starts c.step.new.inspect) c.args.limits_met.now) (sym c.without_node-in-Ignore.ensures)
     (noted_goes_on g.D.Delegate g.D.Cx.Cx c.args.cache.now.cx call _ _ c.step.new.goals _ _ tt (advance_asks g.D.Delegate g.D.Cx.Cx c.args.cache.now.cx c.args.received _ c.args.goals.now c.step.new.goals _ _ c.args.limits_met.now c.cx-cx.result c.cx-cx.ensures c.in_ok-kind.field-0 c.in-Ignore.is c.in_ok-kind.ensures.stepped c.step.ensures.same_starts c.args.cache.now.nodes c.requires.fits call h))
 
@@ -98,3 +100,43 @@ returns-in-Ignore-clause-justified g c = (
   (advance_justified g.D.Delegate g.D.Cx.Cx c.args.cache.now.cx c.args.received c.args.goals.now c.step.new.goals c.cx-cx.result c.in_ok-kind.field-0 c.in_ok-kind.ensures.stepped c.args.cache.now.nodes c.requires.fits c.requires.justified),
   subst (λ given. IsFit g.D.Cx.Cx.is_yes g.D.Cx.Cx.is_no c.args.cache.now.nodes (runs_of c.step.new.goals) given.reply given.node) (sym c.without_node-in-Ignore.ensures) (noted_fits g.D.Cx.Cx.is_yes g.D.Cx.Cx.is_no c.args.cache.now.nodes (runs_of c.step.new.goals)),
 )
+
+-- ---- the stored results
+
+pub returns-in_err-kind-clause-caused : goal.returns-in_err-kind-clause-caused
+returns-in_err-kind-clause-caused g c =
+    if_err_and c.from_residual.result _ _ c.from_residual.ensures.1
+    (λ e is. subst (IsCaused g.D.Delegate g.D.Cx.Cx g.D.Cx.Input.PartialEq.eq c.args.cache.now) (sym is)
+    (step_is_caused g.D.Delegate g.D.Cx.Cx g.D.Cx.Input.PartialEq.eq c.args.cache.now c.args.received c.args.goals.now _ c.args.limits_met.now c.requires.waiting.0 c.requires.fits c.requires.waiting.1 c.cx-cx.result c.cx-cx.ensures _ c.in_err-kind.ensures.fault))
+
+pub ask-requires-clause-asked : goal.ask-requires-clause-asked
+ask-requires-clause-asked g c = (c.requires.waiting.0, _, (advance_asks g.D.Delegate g.D.Cx.Cx c.args.cache.now.cx c.args.received _ c.args.goals.now c.step.new.goals _ _ c.args.limits_met.now c.cx-cx.result c.cx-cx.ensures c.in_ok-kind.field-0 c.in-Evaluate.is c.in_ok-kind.ensures.stepped c.step.ensures.same_starts c.args.cache.now.nodes c.requires.fits c.requires.waiting.0 c.requires.waiting.1))
+
+pub ask-requires-clause-free : goal.ask-requires-clause-free
+ask-requires-clause-free g c = (step_keeps_free g.D.Delegate g.D.Cx.Cx c.cx-cx.result g.D.Cx.Input.PartialEq.eq c.args.cache.now.nodes c.args.cache.now.results c.args.received c.in_ok-kind.field-0 c.args.goals.now c.step.new.goals c.in_ok-kind.ensures.stepped c.requires.free)
+
+pub finish_run-requires-clause-free : goal.finish_run-requires-clause-free
+finish_run-requires-clause-free g c = (step_keeps_free g.D.Delegate g.D.Cx.Cx c.cx-cx.result g.D.Cx.Input.PartialEq.eq c.args.cache.now.nodes c.args.cache.now.results c.args.received c.in_ok-kind.field-0 c.args.goals.now c.step.new.goals c.in_ok-kind.ensures.stepped c.requires.free)
+
+pub returns-in_err-next-in-Evaluate-clause-keeps : goal.returns-in_err-next-in-Evaluate-clause-keeps
+returns-in_err-next-in-Evaluate-clause-keeps g c = λ call h keeps.
+    subst (KeepsStore g.D.Delegate g.D.Cx.Cx c.args.cache.now.cx g.D.Cx.Input.PartialEq.eq call c.ask.new.limits_met) (sym c.ask.ensures.same_results) (c.ask.ensures.keeps call keeps)
+
+pub returns-in_err-next-in-Done-clause-keeps : goal.returns-in_err-next-in-Done-clause-keeps
+returns-in_err-next-in-Done-clause-keeps g c = λ call h keeps. c.finish_run.ensures.keeps call _ (advance_asks g.D.Delegate g.D.Cx.Cx c.args.cache.now.cx c.args.received _ c.args.goals.now c.step.new.goals _ _ c.args.limits_met.now c.cx-cx.result c.cx-cx.ensures c.in_ok-kind.field-0 c.in-Done.is c.in_ok-kind.ensures.stepped c.step.ensures.same_starts c.args.cache.now.nodes c.requires.fits call h) keeps
+
+pub returns-in_ok-next-in-Evaluate-clause-keeps : goal.returns-in_ok-next-in-Evaluate-clause-keeps
+returns-in_ok-next-in-Evaluate-clause-keeps g c = λ call h keeps.
+    subst (KeepsStore g.D.Delegate g.D.Cx.Cx c.args.cache.now.cx g.D.Cx.Input.PartialEq.eq call c.ask.new.limits_met) (sym c.ask.ensures.same_results) (c.ask.ensures.keeps call keeps)
+
+pub returns-in_ok-next-in-Done-clause-keeps : goal.returns-in_ok-next-in-Done-clause-keeps
+returns-in_ok-next-in-Done-clause-keeps g c = λ call h keeps. c.finish_run.ensures.keeps call _ (advance_asks g.D.Delegate g.D.Cx.Cx c.args.cache.now.cx c.args.received _ c.args.goals.now c.step.new.goals _ _ c.args.limits_met.now c.cx-cx.result c.cx-cx.ensures c.in_ok-kind.field-0 c.in-Done.is c.in_ok-kind.ensures.stepped c.step.ensures.same_starts c.args.cache.now.nodes c.requires.fits call h) keeps
+
+pub returns-in-EnterCandidate-clause-free : goal.returns-in-EnterCandidate-clause-free
+returns-in-EnterCandidate-clause-free g c = (step_keeps_free g.D.Delegate g.D.Cx.Cx c.cx-cx.result g.D.Cx.Input.PartialEq.eq c.args.cache.now.nodes c.args.cache.now.results c.args.received c.in_ok-kind.field-0 c.args.goals.now c.step.new.goals c.in_ok-kind.ensures.stepped c.requires.free)
+
+pub returns-in-FinishCandidate-clause-free : goal.returns-in-FinishCandidate-clause-free
+returns-in-FinishCandidate-clause-free g c = (step_keeps_free g.D.Delegate g.D.Cx.Cx c.cx-cx.result g.D.Cx.Input.PartialEq.eq c.args.cache.now.nodes c.args.cache.now.results c.args.received c.in_ok-kind.field-0 c.args.goals.now c.step.new.goals c.in_ok-kind.ensures.stepped c.requires.free)
+
+pub returns-in-Ignore-clause-free : goal.returns-in-Ignore-clause-free
+returns-in-Ignore-clause-free g c = (step_keeps_free g.D.Delegate g.D.Cx.Cx c.cx-cx.result g.D.Cx.Input.PartialEq.eq c.args.cache.now.nodes c.args.cache.now.results c.args.received c.in_ok-kind.field-0 c.args.goals.now c.step.new.goals c.in_ok-kind.ensures.stepped c.requires.free)
