@@ -19,3 +19,4 @@ pub mod RunsEnd
 pub mod RunEnds
 pub mod CycleAnswers
 pub mod DecidedGoals
+pub mod ListAnswers
