@@ -1,5 +1,5 @@
 //! Queries that are answered one after another over one cache.
-ghost use Rattle.std.specs.Prelude.{◌≡◌, ◌≤◌, ◌+◌, max, OnOk, OnErr};
+ghost use Rattle.std.specs.Prelude.{◌≡◌, ◌≤◌, ◌<◌, ◌+◌, max, length, vec_len, vec_capacity, OnOk, OnErr};
 ghost use Rattle.search_parts.specs.Cache.{KeepsFinished};
 ghost use Rattle.search_parts.specs.Rank.{frames_within};
 ghost use Rattle.search_parts.specs.Store.{KeepsResults};
@@ -32,7 +32,8 @@ impl<D: Delegate> SearchGraph<D> {
         // There is one answer for each query, right over the cache as it is when the call ends.
         ensures answered { OnOk result (Appends (IsAnswered D.Delegate D.Cx.Cx D.Cx.Input.eq cache.new) queries.now answers.old.items answers.new.items) }
 
-        // A refusal changes nothing.
+        // A refusal comes only where the room for the answers isn't there yet, and changes nothing.
+        ensures refused { OnErr result (vec_capacity answers.old < vec_len answers.old + length queries.now) }
         ensures same_answers { OnErr result (answers.new.items ≡ answers.old.items) }
         ensures same_cache { OnErr result (cache.new ≡ cache.old) }
         ensures same_builder { OnErr result (inspect.new ≡ inspect.old) }
