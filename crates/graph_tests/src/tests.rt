@@ -58,12 +58,12 @@ fn a_chain_ends_where_its_depth_does(rt: HostRuntime) {
 }
 
 #[test]
-fn each_question_starts_a_frame(rt: HostRuntime) {
+fn a_goal_that_is_asked_twice_starts_one_frame(rt: HostRuntime) {
     let evaluated = evaluate(rt.alloc(), true, 3, 3);
     let wanted = Evaluated {
         outcome: Outcome::Yes,
         has_graph: true,
-        frames: 15,
+        frames: 4,
         limits_met: false,
     };
     assert_eq!(rt; evaluated, Ok(wanted));

@@ -28,3 +28,4 @@ pub mod FreeMoves
 pub mod DoneGoals
 pub mod DoneRuns
 pub mod Causes
+pub mod ListAnswers

@@ -15,3 +15,4 @@ pub mod Free
 pub mod Progress
 pub mod Runs
 pub mod RunEnds
+pub mod Lists

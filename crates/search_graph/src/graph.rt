@@ -7,13 +7,14 @@ ghost use Rattle.search_parts.specs.Store.{KeepsResults};
 ghost use Rattle.search_parts.specs.declared.context.Fault.TheVariants.{Memory};
 ghost use Rattle.search_parts.specs.Cache.{KeepsFinished};
 ghost use Rattle.search_parts.specs.Decisive.{IsDecisive};
-ghost use Rattle.search_parts.specs.Definite.{IsDefinite};
+ghost use Rattle.search_parts.specs.Definite.{IsDefinite, HasGraph};
 ghost use Rattle.evaluations.specs.Price.{IsPaid};
 ghost use Rattle.search_graph.specs.Graph.{IsCaused, IsProved, IsRefuted};
 ghost use Rattle.search_graph.specs.Results.{AreDefinite, HaveNoOverflow};
 
 mod evaluate;
 mod finish;
+mod list;
 mod look_up;
 mod open_goals;
 mod progress;
@@ -107,6 +108,7 @@ impl<D: Delegate> SearchGraph<D> {
         ensures yes { IfOk result (λ answer. D.Cx.is_yes answer.result ≡ true → IsProved D.Cx.Cx cache.new input answer.node) }
         ensures no { IfOk result (λ answer. D.Cx.is_no answer.result ≡ true → IsRefuted D.Cx.Cx cache.new input answer.node) }
         ensures neither { IfOk result (λ answer. D.Cx.is_yes answer.result ≡ false → D.Cx.is_no answer.result ≡ false → answer.node ≡ None) }
+        ensures has_graph { IfOk result (λ answer. HasGraph D.Cx.is_yes D.Cx.is_no cache.new.nodes input answer.result answer.node) }
 
         // A goal whose questions go no deeper than the root depth, and that is orderly with all goals below it,
         // answers its plain value or that memory is out, and meets no limit.

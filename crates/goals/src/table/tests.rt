@@ -3,6 +3,7 @@
 mod dense;
 mod flaws;
 mod shown;
+mod stored;
 mod worked;
 
 use crate::table::builder::Builder;

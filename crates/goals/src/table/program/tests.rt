@@ -47,11 +47,16 @@ fn answers_and_counts(rt: HostRuntime) {
             "rule A = i:B\nrule B = i:C\nrule C =\nask 1 A\n",
             "A maybe 2\n",
         ),
+        // Results are kept from one question to the next, and used at the depths that they are right for.
+        (
+            "rule A = i:B\nrule B = i:C\nrule C =\nask 0 A\nask 1 A\nask 2 A\nask 1 A\nask 0 A\nask 5 A\nask 1 B\nask 0 B\n",
+            "A maybe 1\nA maybe 2\nA yes 3\nA maybe 0\nA maybe 0\nA yes 0\nB yes 0\nB maybe 0\n",
+        ),
         // All rules count for every question, wherever they stand.
         ("ask 1 A\nrule A = i:B\nrule B =\n", "A yes 2\n"),
         (
             "  rule   ~A_09z =   u:B  f:B \nrule B =\n ask 0000009   A_09z ",
-            "A_09z yes 3\n",
+            "A_09z yes 2\n",
         ),
     ] {
         expect_run(&rt, input.as_bytes(), 0, out, "");

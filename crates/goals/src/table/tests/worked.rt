@@ -100,7 +100,7 @@ rule E = i:S
 rule S =
 ask 3 A
 gives
-A yes 6";
+A yes 5";
 
 /// The same form, for goals that have one run at most.
 const ONE_RUN: &str = "\
@@ -155,9 +155,8 @@ fn first_wrong<'a, const LIMIT: usize, const PROVISIONAL: usize>(
             .ok_or("an example without answers")?;
         let rules = Rules::read(alloc, text.as_bytes())?;
         let cx = Table { lender: &rules };
-        let given = answers::<Table<&Rules>, TableDelegate<'_, LIMIT, PROVISIONAL>>(
-            alloc, cx, &rules,
-        )?;
+        let mut cache = GlobalCache::<TableDelegate<'_, LIMIT, PROVISIONAL>>::new(alloc, cx);
+        let given = answers(alloc, &mut cache, &rules)?;
         if given.as_slice() != wanted.as_bytes() {
             return Ok(Some(example));
         }
@@ -165,18 +164,21 @@ fn first_wrong<'a, const LIMIT: usize, const PROVISIONAL: usize>(
     Ok(None)
 }
 
-/// A line for each question of the table, over one cache.
-fn answers<X, D>(alloc: Global, cx: X, rules: &Rules) -> Result<Vec<u8>, Fail>
+/// A line for each question of the table, over this cache.
+pub fn answers<X, D>(
+    alloc: Global,
+    cache: &mut GlobalCache<D>,
+    rules: &Rules,
+) -> Result<Vec<u8>, Fail>
 where
     X: Cx<Input = Goal, Result = Outcome>,
     D: Delegate<Cx = X, ProofTreeBuilder = Builder>,
 {
-    let mut cache = GlobalCache::<D>::new(alloc, cx);
     let mut lines = Vec::new(alloc);
     for (depth, goal) in rules.questions() {
         let mut graph = SearchGraph::<D>::new(alloc, *depth);
         let mut builder = Builder::new(true);
-        let answer = graph.evaluate_goal(&mut cache, *goal, PathKind::Inductive, &mut builder)?;
+        let answer = graph.evaluate_goal(cache, *goal, PathKind::Inductive, &mut builder)?;
         if !lines.is_empty() {
             lines.push(b'\n')?;
         }

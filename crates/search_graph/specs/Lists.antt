@@ -1,0 +1,48 @@
+-- What a list of queries is answered with. A query is a root depth, a goal, and the kind of the step that asks it.
+use Rattle.std.specs.Prelude.{◌≡◌, ℕ, ◌≤◌, Bool, true, false, List, ◌++◌, None, Result, IfOk, IfErr}
+use Rattle.std.specs.List.{AllZip, sum_by}
+use Rattle.search_parts.specs.declared.context.Cx as Cx
+use Rattle.search_parts.specs.declared.context.Delegate as Delegate
+use Rattle.search_parts.specs.declared.context.Answer.{Answer}
+use Rattle.search_parts.specs.declared.context.Fault.{Fault}
+use Rattle.search_parts.specs.declared.context.Fault.TheVariants.{Memory}
+use Rattle.search_parts.specs.declared.path.PathKind.{PathKind}
+use Rattle.search_parts.specs.Cache.{Cache, KeepsFinished}
+use Rattle.search_parts.specs.Definite.{HasGraph}
+use Rattle.search_parts.specs.Rank.{IsPlainTo, IsPlainValue, frames_within}
+use Rattle.search_parts.specs.Store.{KeepsResults}
+use Rattle.search_graph.specs.Graph.{IsProved, IsRefuted, IsCaused}
+
+-- the new list has the items of the old one, and then one for each query, in order, of which this holds
+pub record Appends {Q A : Type 0} (Holds : Q → A → Type 0) (queries : List Q) (old new : List A) : Type 0 where
+  pub more : List A
+  pub is : new ≡ old ++ more
+  pub each : AllZip Holds queries more
+
+-- the most frames that the queries may start together
+abbrev pub frames_for : {I : Type 0} → ℕ → ℕ → List (ℕ × I × PathKind) → ℕ
+frames_for runs width queries = sum_by (λ query. frames_within runs width query.0) queries
+
+module _ {D C V P F I R A T : Type 0} (G : Delegate.Ghosts D C V P F I R A T) (X : Cx.Ghosts C I R A T) (same : I → I → Bool) (cache : Cache C I R A T) where
+  -- the fault has its cause in a cache whose results and finished nodes this one has still
+  pub record HadCause (fault : Fault I R) : Type 0 where
+    pub before : Cache C I R A T
+    pub same_context : cache.cx ≡ before.cx
+    pub kept_results : KeepsResults same before.results cache.results
+    pub kept : KeepsFinished before.nodes cache.nodes
+    pub caused : IsCaused G X same before fault
+
+  -- A goal whose questions go no deeper than the query's depth, and that is orderly with all goals below it, answers its plain
+  -- value or that memory is out. An answer has its graph, and a fault its cause.
+  pub record HasAnswer (query : ℕ × I × PathKind) (answer : Result (Answer R) (Fault I R)) : Type 0 where
+    pub plain : (n : ℕ) → IsPlainTo (G.script cache.cx) n query.1 → n ≤ query.0 → IfOk answer (λ a. IsPlainValue (G.script cache.cx) n query.1 a.result)
+    pub plain_faults : (n : ℕ) → IsPlainTo (G.script cache.cx) n query.1 → n ≤ query.0 → IfErr answer (λ fault. fault ≡ Memory)
+    pub has_graph : IfOk answer (λ a. HasGraph X.is_yes X.is_no cache.nodes query.1 a.result a.node)
+    pub faults : IfErr answer HadCause
+
+  -- Besides, where the answer is definite, its goal has no graph of the other sort anywhere.
+  pub record IsAnswered (query : ℕ × I × PathKind) (answer : Result (Answer R) (Fault I R)) : Type 0 where
+    pub has : HasAnswer query answer
+    pub yes : IfOk answer (λ a. X.is_yes a.result ≡ true → IsProved X cache query.1 a.node)
+    pub no : IfOk answer (λ a. X.is_no a.result ≡ true → IsRefuted X cache query.1 a.node)
+    pub neither : IfOk answer (λ a. X.is_yes a.result ≡ false → X.is_no a.result ≡ false → a.node ≡ None)

@@ -1,0 +1,75 @@
+//! Queries that are answered one after another over one cache.
+ghost use Rattle.std.specs.Prelude.{◌≡◌, ◌≤◌, ◌<◌, ◌+◌, max, length, vec_len, vec_capacity, OnOk, OnErr};
+ghost use Rattle.search_parts.specs.Cache.{KeepsFinished};
+ghost use Rattle.search_parts.specs.Rank.{frames_within};
+ghost use Rattle.search_parts.specs.Store.{KeepsResults};
+ghost use Rattle.search_graph.specs.Lists.{Appends, HasAnswer, IsAnswered, frames_for};
+
+use super::SearchGraph;
+use search_parts::context::{Answer, Cx, Delegate, Fault, NoMemory};
+use search_parts::global_cache::GlobalCache;
+use search_parts::path::PathKind;
+use std::alloc::Global;
+
+impl<D: Delegate> SearchGraph<D> {
+    /// Answers each query, in order, and appends its answer. A query is a root depth, a goal, and the kind of
+    /// the step that asks it; it is evaluated on a new graph, over the results of the queries before it. A
+    /// fault of one query is its answer, and the next one is evaluated all the same.
+    ///
+    /// The graphs take their memory from the allocator of `answers`. `NoMemory` where `answers` can't take one
+    /// more for each query: then nothing is evaluated, and nothing has changed.
+    pub fn evaluate_list(
+        cache: &mut GlobalCache<D>,
+        queries: &[(usize, <D::Cx as Cx>::Input, PathKind)],
+        inspect: &mut D::ProofTreeBuilder,
+        answers: &mut Vec<
+            Result<
+                Answer<<D::Cx as Cx>::Result>,
+                Fault<<D::Cx as Cx>::Input, <D::Cx as Cx>::Result>,
+            >,
+        >,
+    ) -> Result<(), NoMemory>
+        // There is one answer for each query, right over the cache as it is when the call ends.
+        ensures answered { OnOk result (Appends (IsAnswered D.Delegate D.Cx.Cx D.Cx.Input.eq cache.new) queries.now answers.old.items answers.new.items) }
+
+        // A refusal comes only where the room for the answers isn't there yet, and changes nothing.
+        ensures refused { OnErr result (vec_capacity answers.old < vec_len answers.old + length queries.now) }
+        ensures same_answers { OnErr result (answers.new.items ≡ answers.old.items) }
+        ensures same_cache { OnErr result (cache.new ≡ cache.old) }
+        ensures same_builder { OnErr result (inspect.new ≡ inspect.old) }
+
+        // The frames that are started are within the bounds of all queries together.
+        ensures frames { D.starts inspect.new ≤ D.starts inspect.old + frames_for (max 1 D.FIXPOINT_STEP_LIMIT) (D.width cache.old.cx) queries.now }
+
+        ensures same_context { cache.new.cx ≡ cache.old.cx }
+        ensures kept_results { KeepsResults D.Cx.Input.eq cache.old.results cache.new.results }
+        ensures kept { KeepsFinished cache.old.nodes cache.new.nodes }
+    {
+        answers.reserve(queries.len())?;
+        let alloc = *answers.allocator();
+        for query in queries {
+            let answer = evaluate_query::<D>(alloc, cache, *query, inspect);
+            answers.push_reserved(answer);
+        }
+        cache.has_runs();
+        Ok(())
+    }
+}
+
+/// The answer to one query, on a new graph.
+fn evaluate_query<D: Delegate>(
+    alloc: Global,
+    cache: &mut GlobalCache<D>,
+    query: (usize, <D::Cx as Cx>::Input, PathKind),
+    inspect: &mut D::ProofTreeBuilder,
+) -> Result<Answer<<D::Cx as Cx>::Result>, Fault<<D::Cx as Cx>::Input, <D::Cx as Cx>::Result>>
+    ensures answered { HasAnswer D.Delegate D.Cx.Cx D.Cx.Input.eq cache.new query result }
+    ensures frames { D.starts inspect.new ≤ D.starts inspect.old + frames_within (max 1 D.FIXPOINT_STEP_LIMIT) (D.width cache.old.cx) query.0 }
+    ensures same_context { cache.new.cx ≡ cache.old.cx }
+    ensures kept_results { KeepsResults D.Cx.Input.eq cache.old.results cache.new.results }
+    ensures kept { KeepsFinished cache.old.nodes cache.new.nodes }
+{
+    let (root_depth, input, step_kind) = query;
+    let mut graph = SearchGraph::<D>::new(alloc, root_depth);
+    graph.evaluate_goal(cache, input, step_kind, inspect)
+}
