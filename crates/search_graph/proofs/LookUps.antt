@@ -45,3 +45,17 @@ module _ {X I R A T : Type 0} (same : I → I → Bool) (scripts : I → List (R
       (λ s at within known. record { place = Success; stored = s; is_stored = at; result_is = refl; node_is = refl; place_is = λ e. absurd cc; value = known.value; overflow = known.overflow; within = known.within })
       (λ s at known. record { place = WithOverflow depth; stored = s; is_stored = at; result_is = refl; node_is = refl; place_is = λ e. refl; value = known.value; overflow = known.overflow; within = known.within }) is)
       (good found v o w)
+
+-- over no goal each result may be used
+pub stored_over_none : {X F I R A T : Type 0} (same : I → I → Bool) (goals : List (StackEntry X I R A T × F)) → goals ≡ [] → (found : Option (CacheData X I R A T)) (stack : List (StackEntry X I R A T)) → stack ≡ reverse (map (λ s. s.0) goals) → (hits : List (Hit I R T)) → option_map hit_of found ≡ first_accepted (is_applicable same stack) hits → option_map hit_of found ≡ first_accepted (λ nested. true) hits
+stored_over_none same goals none found stack is hits h =
+    h ∙ ap (λ (l : List (StackEntry _ _ _ _ _)). first_accepted (is_applicable same l) hits) (is ∙ ap (λ l. reverse (map (λ s. s.0) l)) none)
+
+-- where a look-up gives nothing, nothing that may be used is stored
+pub nothing_stored : {X I R A T : Type 0} (found : Option (CacheData X I R A T)) (first : Option (Hit I R T)) (P : Hit I R T → Type 0) → ((stored : CacheData X I R A T) → found ≡ Some stored → ⊥) → option_map hit_of found ≡ first → IfSome first P
+nothing_stored None first P never is = subst (λ o. IfSome o P) is tt
+nothing_stored (Some stored) first P never is = absurd (never stored refl)
+
+-- and where it gives a result, that is the one that may be used
+pub something_stored : {X I R A T : Type 0} (found : Option (CacheData X I R A T)) (first : Option (Hit I R T)) (P : Hit I R T → Type 0) (stored : CacheData X I R A T) → found ≡ Some stored → option_map hit_of found ≡ first → P (hit_of stored) → IfSome first P
+something_stored found first P stored at is holds = subst (λ o. IfSome o P) (ap (option_map hit_of) (sym at) ∙ is) holds

@@ -1,5 +1,5 @@
 -- What a call promises as it ends or stops.
-use Rattle.std.proofs.Common.{◌≡◌, ℕ, ◌+◌, ◌≤◌, Bool, true, false, if◌then◌else◌, List, Option, None, Some, refl, subst}
+use Rattle.std.proofs.Common.{◌≡◌, ℕ, ◌+◌, ◌≤◌, Bool, true, false, if◌then◌else◌, List, Option, None, Some, Result, Ok, IfSome, refl, sym, ap, ◌∙◌, subst}
 use Rattle.std.specs.Option.{IsSomeAnd}
 use Rattle.open_graphs.specs.Graph as theory
 use Rattle.search_parts.specs.declared.context.NodeId.{NodeId}
@@ -10,7 +10,9 @@ use Rattle.search_parts.specs.Definite.{HasGraph}
 use Rattle.search_parts.proofs.Bridge.{KeepsRule}
 use Rattle.search_parts.proofs.Definites.{yes_is_shown, no_is_shown}
 use Rattle.search_parts.proofs.Graphs.{never_both}
-use Rattle.search_graph.specs.Graph.{IsProved, IsRefuted}
+use Rattle.search_parts.specs.declared.context.Answer.{Answer}
+use Rattle.search_parts.specs.LookUp.{Hit}
+use Rattle.search_graph.specs.Graph.{Graph, IsProved, IsRefuted}
 use Rattle.search_parts.specs.declared.context.Delegate as Delegate
 use Rattle.search_parts.specs.declared.context.Cx as Cx
 use Rattle.search_parts.specs.declared.context.Fault.{Fault}
@@ -62,3 +64,12 @@ module _ {D C V P F I R A T : Type 0} (G : Delegate.Ghosts D C V P F I R A T) (X
 
   pub neither_is_none : X.is_yes r ≡ false → X.is_no r ≡ false → target ≡ None
   neither_is_none not_yes not_no = has.neither (neither_at (X.is_yes r) (X.is_no r) not_yes not_no)
+
+-- a graph at this depth
+abbrev pub graph_at : ℕ → Bool → Graph
+graph_at root met = record { root_depth = root; limits_met = met }
+
+-- a stored result that answers the call changes nothing
+pub call_is_stored : {C I R A T : Type 0} (first : Option (Hit I R T)) (root starts now : ℕ) (was met : Bool) (old new : Cache C I R A T) (made told : Result (Answer R) (Fault I R)) → made ≡ told → IfSome first (λ hit. (made ≡ Ok (record { result = hit.result; node = hit.node })) × (now ≡ starts) × (met ≡ was) × (new ≡ old)) → IfSome first (λ hit. (told ≡ Ok (record { result = hit.result; node = hit.node })) × (now ≡ starts) × (graph_at root met ≡ graph_at root was) × (new ≡ old))
+call_is_stored None root starts now was met old new made told is h = tt
+call_is_stored (Some hit) root starts now was met old new made told is h = (sym is ∙ h.0, h.1, ap (graph_at root) h.2, h.3)

@@ -52,6 +52,7 @@ pub(crate) fn evaluate<D: Delegate>(
             node: stored.node,
         });
     }
+    cache.has_sound_results();
     push_goal::<D>(goals, cache, step_kind, input, root_depth, inspect)?;
     let mut received = Received::without_node(Reply::Begin);
     loop {

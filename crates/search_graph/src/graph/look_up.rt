@@ -1,6 +1,7 @@
 //! Which stored results may be used where goals are under evaluation.
 ghost use Rattle.std.specs.Prelude.{◌≡◌, IfSome};
 ghost use Rattle.std.specs.Option.{option_map};
+ghost use Rattle.search_parts.specs.Definite.{HasGraph};
 ghost use Rattle.search_parts.specs.LookUp.{first_accepted, hit_of, usable};
 ghost use Rattle.search_graph.specs.LookUp.{is_applicable, IsUsable};
 
@@ -37,6 +38,7 @@ pub(crate) fn look_up<'a, D: Delegate>(
     depth: AvailableDepth,
 ) -> Option<CacheData<'a, D::Cx>>
     ensures exact { option_map hit_of result ≡ first_accepted (is_applicable D.Cx.Input.eq stack.now) (usable D.Cx.Input.eq cache.now.results input depth.0) }
+    ensures graph { IfSome result (λ stored. HasGraph D.Cx.is_yes D.Cx.is_no cache.now.nodes input stored.result stored.node) }
     ensures usable { IfSome result (λ stored. IsUsable D.Cx.Input.eq (D.script cache.now.cx) cache.now.results input depth.0 (hit_of stored)) }
 {
     cache.get(input, depth, &OverStack { stack })

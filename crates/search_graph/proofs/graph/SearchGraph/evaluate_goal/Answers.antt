@@ -1,7 +1,7 @@
-use Rattle.std.proofs.Common.{◌<◌, ◌^◌, ap, sym, subst, arith}
+use Rattle.std.proofs.Common.{◌<◌, ◌≡◌, ◌∙◌, ◌^◌, Ok, Err, true, false, refl, ap, sym, subst, arith}
 use Rattle.search_graph.specs.Graph.{IsProved, IsRefuted}
-use Rattle.search_graph.proofs.Loops.{call_of, call_is_outset}
-use Rattle.search_graph.proofs.Promises.{ended_plain, ended_within, ended_paid, stopped_within, stopped_paid, yes_is_proved, no_is_refuted, neither_is_none}
+use Rattle.search_graph.proofs.Loops.{call_of, call_begins, some_call_begins}
+use Rattle.search_graph.proofs.Promises.{call_is_stored, ended_plain, ended_within, ended_paid, stopped_within, stopped_paid, yes_is_proved, no_is_refuted, neither_is_none}
 use Rattle.search_graph.proofs.graph.SearchGraph.evaluate_goal.Goals as goal
 
 -- ---- an answer
@@ -19,36 +19,46 @@ pub returns-in-Ok-clause-plain : goal.returns-in-Ok-clause-plain
 returns-in-Ok-clause-plain g c =
     let fits : c.self.inside.root_depth.0 < 2 ^ 64 = omega arith in
     rw (← c.self.view_is)
-    (ended_plain g.D.Delegate g.D.Cx.Cx c.args.cache.now.cx (call_of c.args.input c.self.inside.root_depth.0 (g.D.Delegate.starts c.args.inspect.now) c.self.inside.limits_met fits) _ _ c.in-Ok.answer.result (c.in-Ok.ensures.ended (call_of c.args.input c.self.inside.root_depth.0 (g.D.Delegate.starts c.args.inspect.now) c.self.inside.limits_met fits) (call_is_outset c.args.input c.self.inside.root_depth.0 (g.D.Delegate.starts c.args.inspect.now) c.self.inside.limits_met fits)))
+    (ended_plain g.D.Delegate g.D.Cx.Cx c.args.cache.now.cx (call_of c.args.input c.self.inside.root_depth.0 (g.D.Delegate.starts c.args.inspect.now) c.self.inside.limits_met false false fits) _ _ c.in-Ok.answer.result (c.in-Ok.ensures.ended (call_of c.args.input c.self.inside.root_depth.0 (g.D.Delegate.starts c.args.inspect.now) c.self.inside.limits_met false false fits) (some_call_begins g.D.Delegate g.D.Cx.Cx c.args.cache.now.cx g.D.Cx.Input.PartialEq.eq c.args.input c.self.inside.root_depth.0 (g.D.Delegate.starts c.args.inspect.now) c.self.inside.limits_met fits c.args.cache.now.results)))
 
 pub returns-in-Ok-clause-plain_limits : goal.returns-in-Ok-clause-plain_limits
 returns-in-Ok-clause-plain_limits g c =
     let fits : c.self.inside.root_depth.0 < 2 ^ 64 = omega arith in
     rw (← c.self.view_is)
-    ((c.in-Ok.ensures.ended (call_of c.args.input c.self.inside.root_depth.0 (g.D.Delegate.starts c.args.inspect.now) c.self.inside.limits_met fits) (call_is_outset c.args.input c.self.inside.root_depth.0 (g.D.Delegate.starts c.args.inspect.now) c.self.inside.limits_met fits)).keeps.plain)
+    ((c.in-Ok.ensures.ended (call_of c.args.input c.self.inside.root_depth.0 (g.D.Delegate.starts c.args.inspect.now) c.self.inside.limits_met false false fits) (some_call_begins g.D.Delegate g.D.Cx.Cx c.args.cache.now.cx g.D.Cx.Input.PartialEq.eq c.args.input c.self.inside.root_depth.0 (g.D.Delegate.starts c.args.inspect.now) c.self.inside.limits_met fits c.args.cache.now.results)).keeps.plain)
 
 pub returns-in-Ok-clause-frames : goal.returns-in-Ok-clause-frames
 returns-in-Ok-clause-frames g c =
     let fits : c.self.inside.root_depth.0 < 2 ^ 64 = omega arith in
     rw (← c.self.view_is)
-    (ended_within g.D.Delegate g.D.Cx.Cx c.args.cache.now.cx (call_of c.args.input c.self.inside.root_depth.0 (g.D.Delegate.starts c.args.inspect.now) c.self.inside.limits_met fits) _ _ c.in-Ok.answer.result (c.in-Ok.ensures.ended (call_of c.args.input c.self.inside.root_depth.0 (g.D.Delegate.starts c.args.inspect.now) c.self.inside.limits_met fits) (call_is_outset c.args.input c.self.inside.root_depth.0 (g.D.Delegate.starts c.args.inspect.now) c.self.inside.limits_met fits)))
+    (ended_within g.D.Delegate g.D.Cx.Cx c.args.cache.now.cx (call_of c.args.input c.self.inside.root_depth.0 (g.D.Delegate.starts c.args.inspect.now) c.self.inside.limits_met false false fits) _ _ c.in-Ok.answer.result (c.in-Ok.ensures.ended (call_of c.args.input c.self.inside.root_depth.0 (g.D.Delegate.starts c.args.inspect.now) c.self.inside.limits_met false false fits) (some_call_begins g.D.Delegate g.D.Cx.Cx c.args.cache.now.cx g.D.Cx.Input.PartialEq.eq c.args.input c.self.inside.root_depth.0 (g.D.Delegate.starts c.args.inspect.now) c.self.inside.limits_met fits c.args.cache.now.results)))
 
 pub returns-in-Ok-clause-price : goal.returns-in-Ok-clause-price
 returns-in-Ok-clause-price g c =
     let fits : c.self.inside.root_depth.0 < 2 ^ 64 = omega arith in
     rw (← c.self.view_is)
-    (ended_paid g.D.Delegate g.D.Cx.Cx c.args.cache.now.cx (call_of c.args.input c.self.inside.root_depth.0 (g.D.Delegate.starts c.args.inspect.now) c.self.inside.limits_met fits) _ _ c.in-Ok.answer.result (c.in-Ok.ensures.ended (call_of c.args.input c.self.inside.root_depth.0 (g.D.Delegate.starts c.args.inspect.now) c.self.inside.limits_met fits) (call_is_outset c.args.input c.self.inside.root_depth.0 (g.D.Delegate.starts c.args.inspect.now) c.self.inside.limits_met fits)))
+    (λ counted none. ended_paid g.D.Delegate g.D.Cx.Cx c.args.cache.now.cx (call_of c.args.input c.self.inside.root_depth.0 (g.D.Delegate.starts c.args.inspect.now) c.self.inside.limits_met true false fits) _ _ c.in-Ok.answer.result (c.in-Ok.ensures.ended (call_of c.args.input c.self.inside.root_depth.0 (g.D.Delegate.starts c.args.inspect.now) c.self.inside.limits_met true false fits) (call_begins g.D.Delegate g.D.Cx.Cx c.args.cache.now.cx g.D.Cx.Input.PartialEq.eq c.args.input c.self.inside.root_depth.0 (g.D.Delegate.starts c.args.inspect.now) c.self.inside.limits_met fits c.args.cache.now.results true false (λ e. none) (λ e. absurd cc))) counted refl)
 
 pub returns-in-Ok-clause-limits_stay : goal.returns-in-Ok-clause-limits_stay
 returns-in-Ok-clause-limits_stay g c =
     let fits : c.self.inside.root_depth.0 < 2 ^ 64 = omega arith in
     rw (← c.self.view_is)
-    ((c.in-Ok.ensures.ended (call_of c.args.input c.self.inside.root_depth.0 (g.D.Delegate.starts c.args.inspect.now) c.self.inside.limits_met fits) (call_is_outset c.args.input c.self.inside.root_depth.0 (g.D.Delegate.starts c.args.inspect.now) c.self.inside.limits_met fits)).keeps.stays)
+    ((c.in-Ok.ensures.ended (call_of c.args.input c.self.inside.root_depth.0 (g.D.Delegate.starts c.args.inspect.now) c.self.inside.limits_met false false fits) (some_call_begins g.D.Delegate g.D.Cx.Cx c.args.cache.now.cx g.D.Cx.Input.PartialEq.eq c.args.input c.self.inside.root_depth.0 (g.D.Delegate.starts c.args.inspect.now) c.self.inside.limits_met fits c.args.cache.now.results)).keeps.stays)
 
 pub returns-in-Ok-clause-decisive : goal.returns-in-Ok-clause-decisive
-returns-in-Ok-clause-decisive g c = λ decisive unmet.
+returns-in-Ok-clause-decisive g c = λ decisive all unmet.
     let fits : c.self.inside.root_depth.0 < 2 ^ 64 = omega arith in
-    (c.in-Ok.ensures.ended (call_of c.args.input c.self.inside.root_depth.0 (g.D.Delegate.starts c.args.inspect.now) c.self.inside.limits_met fits) (call_is_outset c.args.input c.self.inside.root_depth.0 (g.D.Delegate.starts c.args.inspect.now) c.self.inside.limits_met fits)).decided decisive unmet
+    (c.in-Ok.ensures.ended (call_of c.args.input c.self.inside.root_depth.0 (g.D.Delegate.starts c.args.inspect.now) c.self.inside.limits_met false true fits) (call_begins g.D.Delegate g.D.Cx.Cx c.args.cache.now.cx g.D.Cx.Input.PartialEq.eq c.args.input c.self.inside.root_depth.0 (g.D.Delegate.starts c.args.inspect.now) c.self.inside.limits_met fits c.args.cache.now.results false true (λ e. absurd cc) (λ e. all))).decided (decisive, refl) unmet
+
+pub returns-in-Ok-clause-decisive_results : goal.returns-in-Ok-clause-decisive_results
+returns-in-Ok-clause-decisive_results g c = λ decisive all unmet.
+    let fits : c.self.inside.root_depth.0 < 2 ^ 64 = omega arith in
+    (c.in-Ok.ensures.keeps (call_of c.args.input c.self.inside.root_depth.0 (g.D.Delegate.starts c.args.inspect.now) c.self.inside.limits_met false true fits) (call_begins g.D.Delegate g.D.Cx.Cx c.args.cache.now.cx g.D.Cx.Input.PartialEq.eq c.args.input c.self.inside.root_depth.0 (g.D.Delegate.starts c.args.inspect.now) c.self.inside.limits_met fits c.args.cache.now.results false true (λ e. absurd cc) (λ e. all))).definite (decisive, refl) unmet
+
+pub returns-in-Ok-clause-stored : goal.returns-in-Ok-clause-stored
+returns-in-Ok-clause-stored g c =
+    rw (← c.self.view_is)
+    (call_is_stored _ c.self.inside.root_depth.0 _ _ c.self.inside.limits_met c.evaluate.new.limits_met c.args.cache.now c.evaluate.new.cache c.evaluate.result (Ok c.in-Ok.answer) c.in-Ok.is c.evaluate.ensures.stored)
 
 -- ---- a fault
 
@@ -56,33 +66,41 @@ pub returns-in-Err-clause-plain_faults : goal.returns-in-Err-clause-plain_faults
 returns-in-Err-clause-plain_faults g c =
     let fits : c.self.inside.root_depth.0 < 2 ^ 64 = omega arith in
     rw (← c.self.view_is)
-    ((c.in-Err.ensures.stopped (call_of c.args.input c.self.inside.root_depth.0 (g.D.Delegate.starts c.args.inspect.now) c.self.inside.limits_met fits) (call_is_outset c.args.input c.self.inside.root_depth.0 (g.D.Delegate.starts c.args.inspect.now) c.self.inside.limits_met fits)).plain)
+    ((c.in-Err.ensures.stopped (call_of c.args.input c.self.inside.root_depth.0 (g.D.Delegate.starts c.args.inspect.now) c.self.inside.limits_met false false fits) (some_call_begins g.D.Delegate g.D.Cx.Cx c.args.cache.now.cx g.D.Cx.Input.PartialEq.eq c.args.input c.self.inside.root_depth.0 (g.D.Delegate.starts c.args.inspect.now) c.self.inside.limits_met fits c.args.cache.now.results)).plain)
 
 pub returns-in-Err-clause-plain_limits : goal.returns-in-Err-clause-plain_limits
 returns-in-Err-clause-plain_limits g c =
     let fits : c.self.inside.root_depth.0 < 2 ^ 64 = omega arith in
     rw (← c.self.view_is)
-    ((c.in-Err.ensures.stopped (call_of c.args.input c.self.inside.root_depth.0 (g.D.Delegate.starts c.args.inspect.now) c.self.inside.limits_met fits) (call_is_outset c.args.input c.self.inside.root_depth.0 (g.D.Delegate.starts c.args.inspect.now) c.self.inside.limits_met fits)).keeps.plain)
+    ((c.in-Err.ensures.stopped (call_of c.args.input c.self.inside.root_depth.0 (g.D.Delegate.starts c.args.inspect.now) c.self.inside.limits_met false false fits) (some_call_begins g.D.Delegate g.D.Cx.Cx c.args.cache.now.cx g.D.Cx.Input.PartialEq.eq c.args.input c.self.inside.root_depth.0 (g.D.Delegate.starts c.args.inspect.now) c.self.inside.limits_met fits c.args.cache.now.results)).keeps.plain)
 
 pub returns-in-Err-clause-faults : goal.returns-in-Err-clause-faults
-returns-in-Err-clause-faults g c =
-    let fits : c.self.inside.root_depth.0 < 2 ^ 64 = omega arith in
-    (c.in-Err.ensures.stopped (call_of c.args.input c.self.inside.root_depth.0 (g.D.Delegate.starts c.args.inspect.now) c.self.inside.limits_met fits) (call_is_outset c.args.input c.self.inside.root_depth.0 (g.D.Delegate.starts c.args.inspect.now) c.self.inside.limits_met fits)).caused
+returns-in-Err-clause-faults g c = c.in-Err.ensures.caused
 
 pub returns-in-Err-clause-frames : goal.returns-in-Err-clause-frames
 returns-in-Err-clause-frames g c =
     let fits : c.self.inside.root_depth.0 < 2 ^ 64 = omega arith in
     rw (← c.self.view_is)
-    (stopped_within g.D.Delegate g.D.Cx.Cx c.args.cache.now.cx (call_of c.args.input c.self.inside.root_depth.0 (g.D.Delegate.starts c.args.inspect.now) c.self.inside.limits_met fits) _ _ c.in-Err.fault (c.in-Err.ensures.stopped (call_of c.args.input c.self.inside.root_depth.0 (g.D.Delegate.starts c.args.inspect.now) c.self.inside.limits_met fits) (call_is_outset c.args.input c.self.inside.root_depth.0 (g.D.Delegate.starts c.args.inspect.now) c.self.inside.limits_met fits)))
+    (stopped_within g.D.Delegate g.D.Cx.Cx c.args.cache.now.cx (call_of c.args.input c.self.inside.root_depth.0 (g.D.Delegate.starts c.args.inspect.now) c.self.inside.limits_met false false fits) _ _ c.in-Err.fault (c.in-Err.ensures.stopped (call_of c.args.input c.self.inside.root_depth.0 (g.D.Delegate.starts c.args.inspect.now) c.self.inside.limits_met false false fits) (some_call_begins g.D.Delegate g.D.Cx.Cx c.args.cache.now.cx g.D.Cx.Input.PartialEq.eq c.args.input c.self.inside.root_depth.0 (g.D.Delegate.starts c.args.inspect.now) c.self.inside.limits_met fits c.args.cache.now.results)))
 
 pub returns-in-Err-clause-price : goal.returns-in-Err-clause-price
 returns-in-Err-clause-price g c =
     let fits : c.self.inside.root_depth.0 < 2 ^ 64 = omega arith in
     rw (← c.self.view_is)
-    (stopped_paid g.D.Delegate g.D.Cx.Cx c.args.cache.now.cx (call_of c.args.input c.self.inside.root_depth.0 (g.D.Delegate.starts c.args.inspect.now) c.self.inside.limits_met fits) _ _ c.in-Err.fault (c.in-Err.ensures.stopped (call_of c.args.input c.self.inside.root_depth.0 (g.D.Delegate.starts c.args.inspect.now) c.self.inside.limits_met fits) (call_is_outset c.args.input c.self.inside.root_depth.0 (g.D.Delegate.starts c.args.inspect.now) c.self.inside.limits_met fits)))
+    (λ counted none. stopped_paid g.D.Delegate g.D.Cx.Cx c.args.cache.now.cx (call_of c.args.input c.self.inside.root_depth.0 (g.D.Delegate.starts c.args.inspect.now) c.self.inside.limits_met true false fits) _ _ c.in-Err.fault (c.in-Err.ensures.stopped (call_of c.args.input c.self.inside.root_depth.0 (g.D.Delegate.starts c.args.inspect.now) c.self.inside.limits_met true false fits) (call_begins g.D.Delegate g.D.Cx.Cx c.args.cache.now.cx g.D.Cx.Input.PartialEq.eq c.args.input c.self.inside.root_depth.0 (g.D.Delegate.starts c.args.inspect.now) c.self.inside.limits_met fits c.args.cache.now.results true false (λ e. none) (λ e. absurd cc))) counted refl)
 
 pub returns-in-Err-clause-limits_stay : goal.returns-in-Err-clause-limits_stay
 returns-in-Err-clause-limits_stay g c =
     let fits : c.self.inside.root_depth.0 < 2 ^ 64 = omega arith in
     rw (← c.self.view_is)
-    ((c.in-Err.ensures.stopped (call_of c.args.input c.self.inside.root_depth.0 (g.D.Delegate.starts c.args.inspect.now) c.self.inside.limits_met fits) (call_is_outset c.args.input c.self.inside.root_depth.0 (g.D.Delegate.starts c.args.inspect.now) c.self.inside.limits_met fits)).keeps.stays)
+    ((c.in-Err.ensures.stopped (call_of c.args.input c.self.inside.root_depth.0 (g.D.Delegate.starts c.args.inspect.now) c.self.inside.limits_met false false fits) (some_call_begins g.D.Delegate g.D.Cx.Cx c.args.cache.now.cx g.D.Cx.Input.PartialEq.eq c.args.input c.self.inside.root_depth.0 (g.D.Delegate.starts c.args.inspect.now) c.self.inside.limits_met fits c.args.cache.now.results)).keeps.stays)
+
+pub returns-in-Err-clause-decisive_results : goal.returns-in-Err-clause-decisive_results
+returns-in-Err-clause-decisive_results g c = λ decisive all unmet.
+    let fits : c.self.inside.root_depth.0 < 2 ^ 64 = omega arith in
+    (c.in-Err.ensures.keeps (call_of c.args.input c.self.inside.root_depth.0 (g.D.Delegate.starts c.args.inspect.now) c.self.inside.limits_met false true fits) (call_begins g.D.Delegate g.D.Cx.Cx c.args.cache.now.cx g.D.Cx.Input.PartialEq.eq c.args.input c.self.inside.root_depth.0 (g.D.Delegate.starts c.args.inspect.now) c.self.inside.limits_met fits c.args.cache.now.results false true (λ e. absurd cc) (λ e. all))).definite (decisive, refl) unmet
+
+pub returns-in-Err-clause-stored : goal.returns-in-Err-clause-stored
+returns-in-Err-clause-stored g c =
+    rw (← c.self.view_is)
+    (call_is_stored _ c.self.inside.root_depth.0 _ _ c.self.inside.limits_met c.evaluate.new.limits_met c.args.cache.now c.evaluate.new.cache c.evaluate.result (Err c.in-Err.fault) c.in-Err.is c.evaluate.ensures.stored)

@@ -1,18 +1,23 @@
 use Rattle.std.proofs.Common.{◌≡◌}
 use Rattle.search_parts.specs.Cache.{KeepsFinished}
+use Rattle.search_parts.specs.Store.{KeepsResults}
+use Rattle.search_graph.specs.Calls.{Call}
+use Rattle.search_graph.specs.Free.{AreFree}
 use Rattle.search_graph.specs.Justified.{AreJustified, IsFit}
 use Rattle.search_graph.specs.Runs.{runs_of}
-use Rattle.search_graph.specs.Evaluating.{IsLoopWaiting, work_left}
+use Rattle.search_graph.specs.Evaluating.{Begins, IsLoopWaiting, work_left}
 use Rattle.search_graph.proofs.graph.evaluate.evaluate.Given as goal
 
--- the newest goal waits for the reply, and each answer is justified
+-- the newest goal waits for the reply, each answer is justified, and the stored results rest on no goal
 abbrev pub invariant-loop-next : goal.invariant-loop-next
 invariant-loop-next g l = record {
-  waiting : IsLoopWaiting g.D.Delegate g.D.Cx.Cx l.cache.cx l.fn.input l.fn.root_depth.0 (g.D.Delegate.starts l.fn.inspect) l.fn.limits_met l.received.reply l.goals (g.D.Delegate.starts l.inspect) l.limits_met;
+  waiting : (call : Call _) → Begins g.D.Delegate g.D.Cx.Cx l.fn.cache.cx g.D.Cx.Input.PartialEq.eq call l.fn.input l.fn.root_depth.0 (g.D.Delegate.starts l.fn.inspect) l.fn.limits_met l.fn.cache.results
+      → IsLoopWaiting g.D.Delegate g.D.Cx.Cx l.cache.cx g.D.Cx.Input.PartialEq.eq call l.received.reply l.goals (g.D.Delegate.starts l.inspect) l.limits_met l.cache.results;
   justified : AreJustified g.D.Cx.Cx.is_yes g.D.Cx.Cx.is_no l.cache.nodes (runs_of l.goals);
   fits : IsFit g.D.Cx.Cx.is_yes g.D.Cx.Cx.is_no l.cache.nodes (runs_of l.goals) l.received.reply l.received.node;
+  free : AreFree g.D.Cx.Cx.is_yes g.D.Cx.Cx.is_no g.D.Cx.Input.PartialEq.eq l.cache.nodes (runs_of l.goals) l.cache.results;
   same_context : l.cache.cx ≡ l.fn.cache.cx;
-  same_results : l.cache.results ≡ l.fn.cache.results;
+  kept_results : KeepsResults g.D.Cx.Input.PartialEq.eq l.fn.cache.results l.cache.results;
   kept : KeepsFinished l.fn.cache.nodes l.cache.nodes;
 }
 
