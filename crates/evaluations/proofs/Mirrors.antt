@@ -4,7 +4,7 @@ use Rattle.search_parts.specs.declared.context.Request.{Request}
 use Rattle.search_parts.specs.declared.context.Reply.{Reply}
 use Rattle.search_parts.specs.declared.context.Request.TheVariants.{Evaluate, Done}
 use Rattle.search_parts.specs.declared.context.Reply.TheVariants.{Begin, Answer}
-use Rattle.search_parts.specs.declared.path.PathKind.{PathKind}
+use Rattle.cycle_heads.specs.declared.path.PathKind.{PathKind}
 use Rattle.search_parts.specs.Rank.{frames_within, IsPlainTo, HasNoRank}
 use Rattle.search_parts.specs.Run.{request_after, IsReplyTo, IsFitting}
 use Rattle.evaluations.specs.Frames.{Frame, Outcome, fresh, stepped, replied, answered, refused, released, run_again, IsAllowed}

@@ -1,7 +1,7 @@
 -- A checked example: a frame whose goal has no rank stands below one whose goal has. Goal 1 asks itself, which is answered as a
 -- cycle, and then goal 0, which holds. Nothing is promised of the value of goal 1; the bound and the price hold.
 use Rattle.std.proofs.Common.{ℕ, zero, suc, ◌+◌, Bool, true, false, List, [], ◌∷◌, inl, refl, arith}
-use Rattle.search_parts.specs.declared.path.PathKind.TheVariants.{Inductive, Coinductive}
+use Rattle.cycle_heads.specs.declared.path.PathKind.TheVariants.{Inductive, Coinductive}
 use Rattle.search_parts.specs.declared.context.Request.{Request}
 use Rattle.search_parts.specs.declared.context.Request.TheVariants.{Evaluate, Done}
 use Rattle.search_parts.specs.declared.context.Reply.{Reply}

@@ -1,7 +1,7 @@
 -- The results of a goal, and of which sort they are.
 use Rattle.std.specs.Prelude.{Bool, true, false, Option, Some, None}
-use Rattle.search_parts.specs.declared.path.PathKind.{PathKind}
-use Rattle.search_parts.specs.declared.path.PathKind.TheVariants.{Inductive, Unknown, Coinductive, ForcedAmbiguity}
+use Rattle.cycle_heads.specs.declared.path.PathKind.{PathKind}
+use Rattle.cycle_heads.specs.declared.path.PathKind.TheVariants.{Inductive, Unknown, Coinductive, ForcedAmbiguity}
 use Rattle.goals.specs.declared.table.outcome.Outcome.{Outcome}
 use Rattle.goals.specs.declared.table.outcome.Outcome.TheVariants.{Yes, No, Maybe, Overflow}
 

@@ -8,10 +8,10 @@ use Rattle.search_parts.specs.declared.context.NodeId.{NodeId}
 use Rattle.search_parts.specs.declared.context.Reply.TheVariants.{Begin}
 use Rattle.search_parts.specs.declared.global_cache.results.Place.{Place}
 use Rattle.search_parts.specs.declared.global_cache.results.Place.TheVariants.{Success, WithOverflow}
-use Rattle.search_parts.specs.declared.path.PathKind.{PathKind}
+use Rattle.cycle_heads.specs.declared.path.PathKind.{PathKind}
 use Rattle.search_parts.specs.Cache.{CacheNode}
 use Rattle.search_parts.specs.Definite.{HasGraph}
-use Rattle.search_parts.specs.Path.{rank_of}
+use Rattle.cycle_heads.specs.Path.{rank_of}
 use Rattle.search_parts.specs.Rank.{IsRanked, HasNoRank}
 use Rattle.search_parts.specs.Shapes.{verdict_of, shape_of, shapes_of}
 use Rattle.search_parts.specs.Stored.{IsPlainAt}

@@ -1,6 +1,6 @@
 -- The frames of goals that count down: one question or two, and then what the answers come to as the result.
 use Rattle.std.specs.Prelude.{◌≡◌, ◌==◌, ℕ, Bool, true, false, List, [], ◌∷◌}
-use Rattle.search_parts.specs.declared.path.PathKind.TheVariants.{Inductive}
+use Rattle.cycle_heads.specs.declared.path.PathKind.TheVariants.{Inductive}
 use Rattle.search_parts.specs.declared.context.Request.{Request}
 use Rattle.search_parts.specs.declared.context.Request.TheVariants.{Evaluate, Done}
 use Rattle.search_parts.specs.declared.context.Reply.{Reply}

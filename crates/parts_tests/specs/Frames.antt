@@ -1,7 +1,7 @@
 -- The frames of goals that ask themselves: one question, and then the answer as the result.
 use Rattle.std.specs.Prelude.{◌≡◌, ℕ, true, List, [], ◌∷◌, Some, refl}
 use Rattle.std.proofs.Common.{sym, ap, subst, arith}
-use Rattle.search_parts.specs.declared.path.PathKind.{PathKind}
+use Rattle.cycle_heads.specs.declared.path.PathKind.{PathKind}
 use Rattle.search_parts.specs.declared.context.Request.{Request}
 use Rattle.search_parts.specs.declared.context.Request.TheVariants.{Evaluate, Done}
 use Rattle.search_parts.specs.declared.context.Reply.{Reply}

@@ -1,7 +1,7 @@
 -- Goals that ask themselves: what settles them, and the sorts of their results.
 use Rattle.std.specs.Prelude.{◌≡◌, ℕ, Bool, true, false, List, [], ◌∷◌, Option, Some, None, Contains}
-use Rattle.search_parts.specs.declared.path.PathKind.{PathKind}
-use Rattle.search_parts.specs.declared.path.PathKind.TheVariants.{Inductive, Unknown, Coinductive, ForcedAmbiguity}
+use Rattle.cycle_heads.specs.declared.path.PathKind.{PathKind}
+use Rattle.cycle_heads.specs.declared.path.PathKind.TheVariants.{Inductive, Unknown, Coinductive, ForcedAmbiguity}
 use Rattle.search_parts.specs.declared.context.Reply.TheVariants.{Begin, Answer}
 use Rattle.search_parts.specs.Cache.{EndedRun}
 use Rattle.search_parts.specs.Delegate.{IsNeither, IsCycleResult}

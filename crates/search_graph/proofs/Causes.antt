@@ -19,7 +19,7 @@ use Rattle.search_graph.specs.Graph.{IsCaused, OutOfMemory, OutOfOrder}
 use Rattle.search_graph.specs.Justified.{IsFit}
 use Rattle.search_graph.specs.Progress.{requested}
 use Rattle.search_graph.specs.Runs.{run_of, runs_of}
-use Rattle.search_graph.specs.Steps.{HasStepped, IsStepFault, NoMemoryLeft, received_by} 
+use Rattle.search_graph.specs.Steps.{HasStepped, IsStepFault, NoMemoryLeft, received_by}
 use Rattle.search_graph.specs.Steps as steps
 use Rattle.search_graph.proofs.FreeResults.{all_free_above}
 use Rattle.search_graph.proofs.Moves.{can_step_record, fault_after_step}

@@ -13,24 +13,24 @@ use Rattle.open_graphs.specs.Run.{IsAnswered}
 use Rattle.open_graphs.specs.State.{stack_of}
 use Rattle.open_graphs.proofs.Asked.{cycle_is_answered}
 use Rattle.open_graphs.proofs.Lists.{get_cases}
-use Rattle.search_parts.specs.declared.path.PathKind.{PathKind}
-use Rattle.search_parts.specs.declared.path.PathKind.TheVariants.{Inductive, Unknown, Coinductive, ForcedAmbiguity}
+use Rattle.cycle_heads.specs.declared.path.PathKind.{PathKind}
+use Rattle.cycle_heads.specs.declared.path.PathKind.TheVariants.{Inductive, Unknown, Coinductive, ForcedAmbiguity}
 use Rattle.search_parts.specs.declared.context.NodeId.{NodeId}
 use Rattle.search_parts.specs.declared.context.Reply.TheVariants.{Answer}
-use Rattle.search_parts.specs.declared.parts.depth.StackDepth.{StackDepth}
+use Rattle.cycle_heads.specs.declared.depth.StackDepth.{StackDepth}
 use Rattle.search_parts.specs.declared.parts.stack.StackEntry.{StackEntry}
 use Rattle.search_parts.specs.Cache.{CacheNode, IsNodeOf}
 use Rattle.search_parts.specs.Cycle.{path_kind_from}
 use Rattle.search_parts.specs.Delegate.{IsCycleResult}
-use Rattle.search_parts.specs.HeadShapes.{heads_shape}
-use Rattle.search_parts.specs.Path.{rank_of, greater_kind, greatest_kind, is_coinductive, is_inductive}
-use Rattle.search_parts.specs.Paths.{has_kind, paths_of}
+use Rattle.cycle_heads.specs.HeadShapes.{heads_shape}
+use Rattle.cycle_heads.specs.Path.{rank_of, greater_kind, greatest_kind, is_coinductive, is_inductive}
+use Rattle.cycle_heads.specs.Paths.{has_kind, paths_of}
 use Rattle.search_parts.specs.Shapes.{verdict_of, shapes_of}
-use Rattle.search_parts.specs.Usages.{count_of, no_usages, with_usage}
-use Rattle.search_parts.proofs.HeadLists.{at_depth-first}
-use Rattle.search_parts.proofs.HeadShapes.{IsIn, in_head}
-use Rattle.search_parts.proofs.PathRanks.{greater_rank}
-use Rattle.search_parts.specs.HeadShapes.{head_shape}
+use Rattle.cycle_heads.specs.Usages.{count_of, no_usages, with_usage}
+use Rattle.cycle_heads.proofs.HeadLists.{at_depth-first}
+use Rattle.cycle_heads.proofs.HeadShapes.{IsIn, in_head}
+use Rattle.cycle_heads.proofs.PathRanks.{greater_rank}
+use Rattle.cycle_heads.specs.HeadShapes.{head_shape}
 use Rattle.search_graph.specs.declared.graph.open_goals.Run.{Run}
 use Rattle.search_graph.specs.Entries.{cycle_head}
 use Rattle.search_graph.specs.Items.{AnswersNewest}

@@ -87,8 +87,7 @@ module _ {D C V P F I R A T : Type 0} (G : Delegate.Ghosts D C V P F I R A T) (X
   pub newest_ranked : (goals : List (StackEntry C I R A T × Run C F I R A T)) (n : ℕ) → IsPlainTo (G.script cx) n call.top → n ≤ call.root → HasAsked G X cx call ahead (Done done) goals starts met → (m : ℕ) × IsNewestPlainTo (G.script cx) m goals
   newest_ranked [] n p fits h = absurd h.asked.mirror
   newest_ranked (s ∷ below) n p fits h =
-      let room = (requested_fits (seen G X cx) (Stood G X cx) (G.script cx) (limits G X cx call) (IsCounted G X cx call) call.top (bound G X cx call) ahead (Done done) s below starts met n p fits h.asked).0 in
-      (
+      let room = (requested_fits (seen G X cx) (Stood G X cx) (G.script cx) (limits G X cx call) (IsCounted G X cx call) call.top (bound G X cx call) ahead (Done done) s below starts met n p fits h.asked).0 in (
         room.0,
         (
           room.1,

@@ -3,7 +3,7 @@ use Rattle.std.proofs.Common.{◌≡◌, ◌≢◌, ℕ, zero, suc, ◌<◌, Boo
 use Rattle.std.specs.Option.{IsSomeAnd}
 use Rattle.std.proofs.lemmas.Option.{slice_get_within, get_or_from_slice_get, slice_get-get_or}
 use Rattle.open_graphs.specs.Graph as theory
-use Rattle.search_parts.specs.declared.path.PathKind.{PathKind}
+use Rattle.cycle_heads.specs.declared.path.PathKind.{PathKind}
 use Rattle.search_parts.specs.declared.context.Verdict.{Verdict}
 use Rattle.search_parts.specs.declared.context.Verdict.TheVariants.{Yes, No, Neither}
 use Rattle.search_parts.specs.declared.context.Edge.{Edge}
@@ -30,15 +30,15 @@ use Rattle.search_graph.specs.Progress.{RunRecord, no_record, edges_of, Records}
 use Rattle.search_parts.specs.Definite.{HasGraph}
 use Rattle.search_graph.specs.Justified.{OpenRun, in_theory, ArePlaced, AreEdges, Asks, AreJustified, MayAnswer, IsFit}
 use Rattle.search_parts.specs.Definite.{IsDefinite}
-use Rattle.search_parts.specs.Heads.{Heads, at_depth}
-use Rattle.search_parts.specs.HeadShapes.{heads_shape}
-use Rattle.search_parts.specs.Path.{rank_of}
-use Rattle.search_parts.specs.Paths.{extended}
-use Rattle.search_parts.specs.declared.parts.depth.StackDepth.{StackDepth}
-use Rattle.search_parts.specs.declared.parts.heads.CycleHead.{CycleHead}
+use Rattle.cycle_heads.specs.Heads.{Heads, at_depth}
+use Rattle.cycle_heads.specs.HeadShapes.{heads_shape}
+use Rattle.cycle_heads.specs.Path.{rank_of}
+use Rattle.cycle_heads.specs.Paths.{extended}
+use Rattle.cycle_heads.specs.declared.depth.StackDepth.{StackDepth}
+use Rattle.cycle_heads.specs.declared.heads.CycleHead.{CycleHead}
 use Rattle.search_parts.specs.declared.parts.stack.EntryState.{EntryState}
 use Rattle.search_parts.specs.declared.context.Request.TheVariants.{Evaluate}
-use Rattle.search_parts.proofs.HeadShapes.{IsIn, joined_after, joined_keeps}
+use Rattle.cycle_heads.proofs.HeadShapes.{IsIn, joined_after, joined_keeps}
 use Rattle.open_graphs.specs.Use.{Includes}
 use Rattle.open_graphs.specs.AnswerLaws.{TakesIn}
 use Rattle.search_graph.specs.Runs.{run_of, runs_of, IsJustifiedNext, IsDone, EndsNewest, EndsRun, IsSettled, Again, Ended, LeftOpen}

@@ -13,10 +13,10 @@ use Rattle.open_graphs.proofs.States.{push_keeps_sound, pop_keeps_sound, rerun_k
 use Rattle.open_graphs.proofs.Runs.{closed_gives_use}
 use Rattle.open_graphs.proofs.Closed.{closed_is_graph, graph_is_use}
 use Rattle.open_graphs.proofs.Asked.{final_is_answered}
-use Rattle.search_parts.specs.declared.path.PathKind.{PathKind}
+use Rattle.cycle_heads.specs.declared.path.PathKind.{PathKind}
 use Rattle.search_parts.specs.declared.context.NodeId.{NodeId}
-use Rattle.search_parts.specs.HeadShapes.{heads_shape}
-use Rattle.search_parts.specs.Path.{rank_of}
+use Rattle.cycle_heads.specs.HeadShapes.{heads_shape}
+use Rattle.cycle_heads.specs.Path.{rank_of}
 use Rattle.search_parts.specs.Cache.{CacheNode, open_node, IsNodeOf, KeepsGoals}
 use Rattle.search_parts.specs.Definite.{IsDefinite, HasGraph}
 use Rattle.search_parts.specs.Shapes.{verdict_of, shape_of, shapes_of}

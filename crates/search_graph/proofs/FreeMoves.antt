@@ -6,12 +6,12 @@ use Rattle.search_parts.specs.declared.context.NodeId.{NodeId}
 use Rattle.search_parts.specs.declared.context.Request.{Request}
 use Rattle.search_parts.specs.declared.context.Reply.{Reply}
 use Rattle.search_parts.specs.declared.context.Reply.TheVariants.{Answer}
-use Rattle.search_parts.specs.declared.path.PathKind.{PathKind}
-use Rattle.search_parts.specs.declared.parts.depth.StackDepth.{StackDepth}
+use Rattle.cycle_heads.specs.declared.path.PathKind.{PathKind}
+use Rattle.cycle_heads.specs.declared.depth.StackDepth.{StackDepth}
 use Rattle.search_parts.specs.declared.parts.stack.StackEntry.{StackEntry}
 use Rattle.search_parts.specs.declared.global_cache.results.StoredResult.{StoredResult}
 use Rattle.search_parts.specs.Cache.{CacheNode}
-use Rattle.search_parts.specs.Heads.{Heads}
+use Rattle.cycle_heads.specs.Heads.{Heads}
 use Rattle.search_parts.specs.LookUp.{Hit}
 use Rattle.search_parts.specs.Shapes.{verdict_of}
 use Rattle.search_parts.specs.Store.{Store}
@@ -51,9 +51,9 @@ module _ {X F I R A T : Type 0} (is_yes is_no : R → Bool) (same : I → I → 
       let asked : Asks (run_of (record t.entry { state = with_nested_goals (with_depth t.entry.state hit.required_depth hit.encountered_overflow) t.nested }, t.run) ∷ runs_of t.below) step goal = subst (λ l. Asks (runs_of l) step goal) t.was asks in
       let here : IsFree is_yes is_no nodes (runs_of old) goal u.stored.result.result u.stored.node = free goal u.place u.stored u.is_stored in
       let there : IsFree is_yes is_no nodes (run_of (record t.entry { state = with_nested_goals (with_depth t.entry.state hit.required_depth hit.encountered_overflow) t.nested }, t.run) ∷ runs_of t.below) goal hit.result hit.node =
-          subst (λ r. IsFree is_yes is_no nodes (runs_of ((t.entry, t.run) ∷ t.below)) goal r hit.node) u.result_is
-          (subst (λ n. IsFree is_yes is_no nodes (runs_of ((t.entry, t.run) ∷ t.below)) goal u.stored.result.result n) u.node_is
-          (subst (λ l. IsFree is_yes is_no nodes (runs_of l) goal u.stored.result.result u.stored.node) t.was here)) in
+      subst (λ r. IsFree is_yes is_no nodes (runs_of ((t.entry, t.run) ∷ t.below)) goal r hit.node) u.result_is
+      (subst (λ n. IsFree is_yes is_no nodes (runs_of ((t.entry, t.run) ∷ t.below)) goal u.stored.result.result n) u.node_is
+      (subst (λ l. IsFree is_yes is_no nodes (runs_of l) goal u.stored.result.result u.stored.node) t.was here)) in
       subst (λ l. IsFit is_yes is_no nodes (runs_of l) (Answer hit.result) hit.node) (sym t.is)
       (answer_fits is_yes is_no nodes (run_of (record t.entry { state = with_nested_goals (with_depth t.entry.state hit.required_depth hit.encountered_overflow) t.nested }, t.run)) (runs_of t.below) hit.result step goal hit.node asked
       (λ definite. free_answers is_yes is_no nodes (run_of (record t.entry { state = with_nested_goals (with_depth t.entry.state hit.required_depth hit.encountered_overflow) t.nested }, t.run)) (runs_of t.below) goal hit.result hit.node there definite step))

@@ -16,7 +16,7 @@ use Rattle.open_graphs.proofs.Asked.{done_is_answered, one_answer_keeps_sound}
 use Rattle.open_graphs.proofs.Runs.{root_is_graph}
 use Rattle.open_graphs.proofs.Closed.{closed_is_graph}
 use Rattle.open_graphs.proofs.Keep.{heads_keep_use}
-use Rattle.search_parts.specs.declared.path.PathKind.{PathKind}
+use Rattle.cycle_heads.specs.declared.path.PathKind.{PathKind}
 use Rattle.search_parts.specs.declared.context.Verdict.{Verdict}
 use Rattle.search_parts.specs.declared.context.Edge.{Edge}
 use Rattle.search_parts.specs.declared.context.Request.{Request}
@@ -24,9 +24,9 @@ use Rattle.search_parts.specs.declared.context.Request.TheVariants.{Evaluate}
 use Rattle.search_parts.specs.declared.context.Reply.{Reply}
 use Rattle.search_parts.specs.declared.context.Reply.TheVariants.{Answer}
 use Rattle.search_parts.specs.declared.context.NodeId.{NodeId}
-use Rattle.search_parts.specs.HeadShapes.{heads_shape}
-use Rattle.search_parts.specs.Heads.{Heads}
-use Rattle.search_parts.specs.Path.{rank_of}
+use Rattle.cycle_heads.specs.HeadShapes.{heads_shape}
+use Rattle.cycle_heads.specs.Heads.{Heads}
+use Rattle.cycle_heads.specs.Path.{rank_of}
 use Rattle.search_parts.specs.Cache.{EndedRun, CacheNode, open_node, open_goal, with_run, IsNodeOf, KeepsNodes, KeepsGoals}
 use Rattle.search_parts.specs.Shapes.{verdict_of, edge_shape, shape_of, shapes_of}
 use Rattle.search_parts.proofs.Nodes.{KeepsNodes-appended, KeepsGoals-appended, before, with_run-is, KeepsGoals-ended}

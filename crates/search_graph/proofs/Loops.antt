@@ -5,7 +5,7 @@ use Rattle.search_parts.specs.declared.context.Cx as Cx
 use Rattle.search_parts.specs.declared.context.Request.{Request}
 use Rattle.search_parts.specs.declared.context.Reply.{Reply}
 use Rattle.search_parts.specs.declared.context.Reply.TheVariants.{Begin}
-use Rattle.search_parts.specs.declared.path.PathKind.{PathKind}
+use Rattle.cycle_heads.specs.declared.path.PathKind.{PathKind}
 use Rattle.search_parts.specs.declared.parts.depth.AvailableDepth.{AvailableDepth}
 use Rattle.search_parts.specs.declared.parts.stack.StackEntry.{StackEntry}
 use Rattle.search_parts.specs.declared.context.Fault.{Fault}

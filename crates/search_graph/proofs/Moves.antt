@@ -8,12 +8,12 @@ use Rattle.search_parts.specs.declared.context.Request.{Request}
 use Rattle.search_parts.specs.declared.context.Request.TheVariants.{Evaluate, Done}
 use Rattle.search_parts.specs.declared.context.Reply.{Reply}
 use Rattle.search_parts.specs.declared.context.Reply.TheVariants.{Begin, Answer, Noted}
-use Rattle.search_parts.specs.declared.path.PathKind.{PathKind}
+use Rattle.cycle_heads.specs.declared.path.PathKind.{PathKind}
 use Rattle.search_parts.specs.declared.context.NodeId.{NodeId}
 use Rattle.search_parts.specs.declared.parts.depth.AvailableDepth.{AvailableDepth}
-use Rattle.search_parts.specs.declared.parts.depth.StackDepth.{StackDepth}
+use Rattle.cycle_heads.specs.declared.depth.StackDepth.{StackDepth}
 use Rattle.search_parts.specs.declared.parts.stack.EntryState.{EntryState}
-use Rattle.search_parts.specs.Heads.{Heads}
+use Rattle.cycle_heads.specs.Heads.{Heads}
 use Rattle.search_parts.specs.Nested.{NestedPaths}
 use Rattle.search_parts.specs.declared.parts.stack.StackEntry.{StackEntry}
 use Rattle.search_parts.specs.Stack.{depth_below}

@@ -1,7 +1,7 @@
 -- What is known of a goal by what becomes of it.
 use Rattle.std.proofs.Common.{◌≡◌, ℕ, ◌+◌, ◌^◌, ◌<◌, ◌≤◌, max, Bool, true, ◌||◌, is_some, List, [], ◌∷◌, Option, None, Some, IfSome, option_map, refl, sym, ap, ◌∙◌, subst, arith}
-use Rattle.search_parts.specs.declared.path.PathKind.{PathKind}
-use Rattle.search_parts.specs.declared.parts.usages.HeadUsages.{HeadUsages}
+use Rattle.cycle_heads.specs.declared.path.PathKind.{PathKind}
+use Rattle.cycle_heads.specs.declared.usages.HeadUsages.{HeadUsages}
 use Rattle.search_parts.specs.declared.parts.stack.StackEntry.{StackEntry}
 use Rattle.search_graph.specs.declared.graph.finish.RunEnd.{RunEnd}
 use Rattle.search_graph.specs.declared.graph.finish.RunEnd.TheVariants as end

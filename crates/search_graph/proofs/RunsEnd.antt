@@ -12,13 +12,13 @@ use Rattle.search_parts.specs.declared.context.Request.{Request}
 use Rattle.search_parts.specs.declared.context.Request.TheVariants.{Evaluate}
 use Rattle.search_parts.specs.declared.context.Reply.{Reply}
 use Rattle.search_parts.specs.declared.context.Reply.TheVariants.{Answer}
-use Rattle.search_parts.specs.declared.path.PathKind.{PathKind}
-use Rattle.search_parts.specs.declared.parts.depth.StackDepth.{StackDepth}
+use Rattle.cycle_heads.specs.declared.path.PathKind.{PathKind}
+use Rattle.cycle_heads.specs.declared.depth.StackDepth.{StackDepth}
 use Rattle.search_parts.specs.declared.parts.stack.StackEntry.{StackEntry}
 use Rattle.search_parts.specs.Cache.{CacheNode, open_node}
 use Rattle.search_parts.specs.Definite.{HasGraph, IsDefinite}
-use Rattle.search_parts.specs.HeadShapes.{heads_shape}
-use Rattle.search_parts.specs.Path.{rank_of}
+use Rattle.cycle_heads.specs.HeadShapes.{heads_shape}
+use Rattle.cycle_heads.specs.Path.{rank_of}
 use Rattle.search_parts.specs.Shapes.{verdict_of}
 use Rattle.search_graph.specs.declared.graph.open_goals.Run.{Run}
 use Rattle.search_graph.specs.declared.graph.open_goals.Next.{Next}

@@ -1,13 +1,13 @@
 -- The heads of an answer are taken over one by one.
 use Rattle.std.proofs.Common.{◌≡◌, ◌≢◌, ℕ, ◌==◌, if◌then◌else◌, Bool, true, false, ◌||◌, is_some, List, [], ◌∷◌, Option, Some, None, Result, Ok, Err, OnOk, refl, sym, ap, ◌∙◌, subst, inl, inr, ne_eqb, eq-eqb}
 use Rattle.std.proofs.lemmas.Bool.{cases_eq}
-use Rattle.search_parts.specs.declared.path.PathKind.{PathKind}
-use Rattle.search_parts.specs.declared.parts.depth.StackDepth.{StackDepth}
-use Rattle.search_parts.specs.declared.parts.heads.CycleHead.{CycleHead}
+use Rattle.cycle_heads.specs.declared.path.PathKind.{PathKind}
+use Rattle.cycle_heads.specs.declared.depth.StackDepth.{StackDepth}
+use Rattle.cycle_heads.specs.declared.heads.CycleHead.{CycleHead}
 use Rattle.search_parts.specs.declared.parts.stack.EntryState.{EntryState}
-use Rattle.search_parts.specs.Heads.{Heads, at_depth, joined_head, with_head}
-use Rattle.search_parts.specs.Paths.{extended}
-use Rattle.search_parts.proofs.HeadLists.{at_depth-first, at_depth-rest, at_depth-insert_same, at_depth-insert_other}
+use Rattle.cycle_heads.specs.Heads.{Heads, at_depth, joined_head, with_head}
+use Rattle.cycle_heads.specs.Paths.{extended}
+use Rattle.cycle_heads.proofs.HeadLists.{at_depth-first, at_depth-rest, at_depth-insert_same, at_depth-insert_other}
 use Rattle.search_graph.specs.Entries.{some_heads, joined_over, usages_over, is_in_cycle, with_used_head, TakesHeads}
 
 or_true : (a : Bool) → (a || true) ≡ true

@@ -1,18 +1,18 @@
 -- What changes of a goal's entry while the goal is worked out.
 use Rattle.std.specs.Prelude.{◌≡◌, ℕ, ◌+◌, ◌==◌, max, if◌then◌else◌, Bool, true, false, ◌||◌, is_some, List, [], ◌∷◌, Option, None, Some, unwrap_or}
 use Rattle.search_parts.specs.declared.context.NodeId.{NodeId}
-use Rattle.search_parts.specs.declared.path.PathKind.{PathKind}
-use Rattle.search_parts.specs.declared.parts.depth.StackDepth.{StackDepth}
+use Rattle.cycle_heads.specs.declared.path.PathKind.{PathKind}
+use Rattle.cycle_heads.specs.declared.depth.StackDepth.{StackDepth}
 use Rattle.search_parts.specs.declared.parts.depth.AvailableDepth.{AvailableDepth}
-use Rattle.search_parts.specs.declared.parts.heads.CycleHead.{CycleHead}
-use Rattle.search_parts.specs.declared.parts.usages.HeadUsages.{HeadUsages}
+use Rattle.cycle_heads.specs.declared.heads.CycleHead.{CycleHead}
+use Rattle.cycle_heads.specs.declared.usages.HeadUsages.{HeadUsages}
 use Rattle.search_parts.specs.declared.parts.stack.EntryState.{EntryState}
 use Rattle.search_parts.specs.declared.parts.stack.StackEntry.{StackEntry}
-use Rattle.search_parts.specs.Heads.{Heads, at_depth, joined_head, with_head}
+use Rattle.cycle_heads.specs.Heads.{Heads, at_depth, joined_head, with_head}
 use Rattle.search_parts.specs.Nested.{NestedPaths}
-use Rattle.search_parts.specs.Paths.{extended, paths_of}
+use Rattle.cycle_heads.specs.Paths.{extended, paths_of}
 use Rattle.search_parts.specs.Stack.{fresh_entry}
-use Rattle.search_parts.specs.Usages.{no_usages, with_nested, with_usage}
+use Rattle.cycle_heads.specs.Usages.{no_usages, with_nested, with_usage}
 
 -- whether there are heads
 abbrev pub some_heads : Heads → Bool

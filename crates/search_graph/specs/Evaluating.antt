@@ -59,7 +59,7 @@ module _ {D C V P F I R A T : Type 0} (G : Delegate.Ghosts D C V P F I R A T) (X
     pub outset : Outset call input root starts met
     pub store : KeepsStore same call met results
 
-  -- the newest item waits for the reply in each call that began so
+  -- the newest item waits for the reply, and the call keeps what it keeps of the stored results
   pub record IsLoopWaiting (same : I → I → Bool) (call : Call I) (reply : Reply R) (goals : List (Item G X cx)) (starts : ℕ) (met : Bool) (results : Store I (StoredResult C I R A T)) : Type 0 where
     pub waiting : IsWaiting call reply goals starts met
     pub store : KeepsStore same call met results

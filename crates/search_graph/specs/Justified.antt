@@ -5,7 +5,7 @@ use Rattle.std.specs.Option.{IsSomeAnd, option_map}
 use Rattle.open_graphs.specs.Graph as theory
 use Rattle.open_graphs.specs.Run.{IsAnswered}
 use Rattle.open_graphs.specs.State.{Frame, stack_of, IsSound}
-use Rattle.search_parts.specs.declared.path.PathKind.{PathKind}
+use Rattle.cycle_heads.specs.declared.path.PathKind.{PathKind}
 use Rattle.search_parts.specs.declared.context.Verdict.{Verdict}
 use Rattle.search_parts.specs.declared.context.Verdict.TheVariants.{Yes, No, Neither}
 use Rattle.search_parts.specs.declared.context.Request.{Request}
@@ -14,9 +14,9 @@ use Rattle.search_parts.specs.declared.context.Reply.{Reply}
 use Rattle.search_parts.specs.declared.context.Reply.TheVariants.{Answer}
 use Rattle.search_parts.specs.declared.context.NodeId.{NodeId}
 use Rattle.search_parts.specs.declared.context.Edge.{Edge}
-use Rattle.search_parts.specs.HeadShapes.{heads_shape}
-use Rattle.search_parts.specs.Heads.{Heads}
-use Rattle.search_parts.specs.Path.{rank_of}
+use Rattle.cycle_heads.specs.HeadShapes.{heads_shape}
+use Rattle.cycle_heads.specs.Heads.{Heads}
+use Rattle.cycle_heads.specs.Path.{rank_of}
 use Rattle.search_parts.specs.Cache.{CacheNode, open_goal, IsNodeOf}
 use Rattle.search_parts.specs.Shapes.{verdict_of, edge_shape, shapes_of}
 use Rattle.search_graph.specs.declared.graph.progress.DefiniteAnswer.{DefiniteAnswer}

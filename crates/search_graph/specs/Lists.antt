@@ -6,7 +6,7 @@ use Rattle.search_parts.specs.declared.context.Delegate as Delegate
 use Rattle.search_parts.specs.declared.context.Answer.{Answer}
 use Rattle.search_parts.specs.declared.context.Fault.{Fault}
 use Rattle.search_parts.specs.declared.context.Fault.TheVariants.{Memory}
-use Rattle.search_parts.specs.declared.path.PathKind.{PathKind}
+use Rattle.cycle_heads.specs.declared.path.PathKind.{PathKind}
 use Rattle.search_parts.specs.Cache.{Cache, KeepsFinished}
 use Rattle.search_parts.specs.Definite.{HasGraph}
 use Rattle.search_parts.specs.Rank.{IsPlainTo, IsPlainValue, frames_within}

@@ -5,9 +5,9 @@ use Rattle.search_parts.specs.declared.context.Cx as Cx
 use Rattle.search_parts.specs.declared.context.Reply.{Reply}
 use Rattle.search_parts.specs.declared.context.Reply.TheVariants.{Answer}
 use Rattle.search_parts.specs.declared.context.NodeId.{NodeId}
-use Rattle.search_parts.specs.declared.path.PathKind.{PathKind}
+use Rattle.cycle_heads.specs.declared.path.PathKind.{PathKind}
 use Rattle.search_parts.specs.declared.parts.depth.AvailableDepth.{AvailableDepth}
-use Rattle.search_parts.specs.declared.parts.depth.StackDepth.{StackDepth}
+use Rattle.cycle_heads.specs.declared.depth.StackDepth.{StackDepth}
 use Rattle.search_parts.specs.declared.parts.result.EvaluationResult.{EvaluationResult}
 use Rattle.search_parts.specs.declared.parts.stack.StackEntry.{StackEntry}
 use Rattle.search_parts.specs.Cycle.{path_kind_from}

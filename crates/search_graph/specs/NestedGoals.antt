@@ -1,11 +1,11 @@
 -- The goals below a goal that is under evaluation, and what of an answer changes them besides its heads.
 use Rattle.std.specs.Prelude.{◌≡◌, ℕ, ◌<◌, Bool, true, false, List, [], ◌∷◌}
 use Rattle.std.specs.Option.{option_map}
-use Rattle.search_parts.specs.declared.path.PathKind.{PathKind}
+use Rattle.cycle_heads.specs.declared.path.PathKind.{PathKind}
 use Rattle.search_parts.specs.declared.parts.stack.StackEntry.{StackEntry}
 use Rattle.search_parts.specs.LookUp.{Hit}
 use Rattle.search_parts.specs.Nested.{NestedPaths, joined_paths, paths_at, JoinsPaths}
-use Rattle.search_parts.specs.Paths.{extended, path_of_no_step}
+use Rattle.cycle_heads.specs.Paths.{extended, path_of_no_step}
 use Rattle.search_graph.specs.declared.graph.open_goals.Run.{Run}
 use Rattle.search_graph.specs.Entries.{overflowed, with_depth, with_nested_goals}
 

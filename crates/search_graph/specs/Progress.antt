@@ -8,7 +8,7 @@ use Rattle.search_parts.specs.declared.context.Verdict.{Verdict}
 use Rattle.search_parts.specs.declared.context.Verdict.TheVariants.{Yes, No, Neither}
 use Rattle.search_parts.specs.declared.context.NodeId.{NodeId}
 use Rattle.search_parts.specs.declared.context.Edge.{Edge}
-use Rattle.search_parts.specs.declared.path.PathKind.{PathKind}
+use Rattle.cycle_heads.specs.declared.path.PathKind.{PathKind}
 use Rattle.search_parts.specs.Question.{Question}
 use Rattle.search_parts.specs.Graph.{question_of}
 use Rattle.search_parts.specs.Run.{Asked, Progress, request_after, progress_after, is_ignored, IsInOrder}

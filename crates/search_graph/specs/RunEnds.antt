@@ -1,8 +1,8 @@
 -- What becomes of a goal whose run has ended.
 use Rattle.std.specs.Prelude.{◌≡◌, ◌≢◌, ◌⊎◌, ℕ, ◌+◌, ◌<◌, ◌≤◌, Bool, true, IsSome, Option, None, Some}
-use Rattle.search_parts.specs.declared.path.PathKind.{PathKind}
-use Rattle.search_parts.specs.declared.parts.usages.HeadUsages.{HeadUsages}
-use Rattle.search_parts.specs.Usages.{count_of}
+use Rattle.cycle_heads.specs.declared.path.PathKind.{PathKind}
+use Rattle.cycle_heads.specs.declared.usages.HeadUsages.{HeadUsages}
+use Rattle.cycle_heads.specs.Usages.{count_of}
 use Rattle.search_graph.specs.declared.graph.finish.RunEnd.{RunEnd}
 use Rattle.search_graph.specs.declared.graph.finish.RunEnd.TheVariants as end
 

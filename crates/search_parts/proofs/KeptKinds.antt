@@ -1,13 +1,13 @@
 -- Whether the kinds of cycles stay, head by head.
 use Rattle.std.proofs.Common.{◌≡◌, Bool, true, false, List, ◌∷◌, refl, sym, ◌∙◌}
 use Rattle.std.specs.List.{list_all}
-use Rattle.search_parts.specs.declared.path.PathKind.{PathKind}
-use Rattle.search_parts.specs.declared.path.PathsToNested.{PathsToNested}
-use Rattle.search_parts.specs.declared.parts.depth.StackDepth.{StackDepth}
-use Rattle.search_parts.specs.declared.parts.heads.CycleHead.{CycleHead}
+use Rattle.cycle_heads.specs.declared.path.PathKind.{PathKind}
+use Rattle.cycle_heads.specs.declared.path.PathsToNested.{PathsToNested}
+use Rattle.cycle_heads.specs.declared.depth.StackDepth.{StackDepth}
+use Rattle.cycle_heads.specs.declared.heads.CycleHead.{CycleHead}
 use Rattle.search_parts.specs.declared.parts.stack.StackEntry.{StackEntry}
-use Rattle.search_parts.specs.Heads.{Heads}
-use Rattle.search_parts.specs.Paths.{kinds_in}
+use Rattle.cycle_heads.specs.Heads.{Heads}
+use Rattle.cycle_heads.specs.Paths.{kinds_in}
 use Rattle.search_parts.specs.Rebasing.{from_head, keeps_kind}
 
 module _ {X I R A T : Type 0} where

@@ -6,10 +6,10 @@ use Rattle.std.specs.Cmp.{IsEquivalence}
 use Rattle.std.specs.List.{AllByRecursion, IsDistinct}
 use Rattle.std.specs.Map.{keys_of}
 use Rattle.std.specs.Option.{option_map}
-use Rattle.search_parts.specs.declared.path.PathKind.{PathKind}
-use Rattle.search_parts.specs.declared.path.PathsToNested.{PathsToNested}
+use Rattle.cycle_heads.specs.declared.path.PathKind.{PathKind}
+use Rattle.cycle_heads.specs.declared.path.PathsToNested.{PathsToNested}
 use Rattle.search_parts.specs.Nested.{NestedPaths, paths_at, joined_paths, JoinsPaths}
-use Rattle.search_parts.specs.Paths.{extended}
+use Rattle.cycle_heads.specs.Paths.{extended}
 
 joined-joined : (paths : Option PathsToNested) (more : PathsToNested)
     → joined_paths (joined_paths paths (Some more)) None ≡ joined_paths paths (Some more)

@@ -1,17 +1,16 @@
 -- What an entry becomes, case by case.
 use Rattle.std.proofs.Common.{◌≡◌, Bool, true, false, if◌then◌else◌, length, List, Option, Some, None, refl, eq-eqb}
-use Rattle.search_parts.specs.declared.parts.depth.StackDepth.{StackDepth}
-use Rattle.search_parts.specs.declared.parts.heads.CycleHead.{CycleHead}
+use Rattle.cycle_heads.specs.declared.depth.StackDepth.{StackDepth}
+use Rattle.cycle_heads.specs.declared.heads.CycleHead.{CycleHead}
 use Rattle.search_parts.specs.declared.parts.stack.StackEntry.{StackEntry}
-use Rattle.search_parts.specs.declared.parts.usages.HeadUsages.{HeadUsages}
+use Rattle.cycle_heads.specs.declared.usages.HeadUsages.{HeadUsages}
 use Rattle.search_parts.specs.declared.parts.provisional_cache.ProvisionalCacheEntry.{ProvisionalCacheEntry}
 use Rattle.search_parts.specs.declared.parts.provisional_cache.rebasing.Settlement.{Settlement}
 use Rattle.search_parts.specs.declared.parts.provisional_cache.rebasing.Settlement.TheVariants.{Dropped, Replaced, Kept, KeptIfSingle}
-use Rattle.search_parts.specs.Heads.{highest}
+use Rattle.cycle_heads.specs.Heads.{highest}
 use Rattle.search_parts.specs.Rebasing.{rebased, rebased_used, rebased_unused}
-use Rattle.search_parts.specs.Reuse.{has_usages}
 use Rattle.search_parts.specs.Settlement.{settled_by}
-use Rattle.search_parts.specs.Usages.{other_usages}
+use Rattle.cycle_heads.specs.Usages.{has_usages, other_usages}
 
 module _ {X I R A T : Type 0} where
   module _ (stack : List (StackEntry X I R A T)) (done : StackEntry X I R A T) (settle : HeadUsages → ProvisionalCacheEntry X I R A T → Option (ProvisionalCacheEntry X I R A T)) (entry : ProvisionalCacheEntry X I R A T) (head : StackDepth × CycleHead) (top : highest entry.heads ≡ Some head) (at : head.0.0 ≡ length stack) where

@@ -1,47 +1,28 @@
 -- Heads when a goal that is done is given up as a head: what is taken out, and that what is left is on the stack.
-use Rattle.std.proofs.Common.{◌≡◌, ℕ, zero, suc, ◌-◌, ◌<◌, ◌≤◌, List, [], ◌∷◌, ◌++◌, All, Some, get_or, length, take, refl, ap, ◌∙◌, subst, inl, inr, arith}
+use Rattle.std.proofs.Common.{◌≡◌, ℕ, zero, suc, ◌-◌, ◌<◌, ◌≤◌, [], ◌∷◌, ◌++◌, All, Some, length, take, ap, ◌∙◌, subst, inl, inr, arith}
 use Rattle.std.proofs.Math.Seq.{take-append_seam, drop-append_seam}
 use Rattle.std.proofs.lemmas.Bool.{cases_lt, cases_eq}
-use Rattle.std.proofs.lemmas.Bool.Decides.{nat_tests}
-use Rattle.std.proofs.lemmas.List.{length_push, get_or-map, length-map}
+use Rattle.std.proofs.lemmas.List.{length_push}
 use Rattle.std.proofs.lemmas.List.Elements.{All-cons, All-drop, All-head, All-tail, All-weaker}
 use Rattle.std.specs.BTreeMap.{insert_entry}
-use Rattle.std.specs.BTreeMap.Range.{IsLtBy}
-use Rattle.std.specs.Map.{keys_of}
 use Rattle.std.specs.List.{slice_get}
 use Rattle.std.specs.Option.{IfSome}
-use Rattle.search_parts.specs.declared.parts.depth.StackDepth.{StackDepth}
-use Rattle.search_parts.specs.declared.parts.heads.CycleHead.{CycleHead}
-use Rattle.search_parts.specs.declared.parts.usages.HeadUsages.{HeadUsages}
-use Rattle.search_parts.specs.declared.path.PathsToNested.{PathsToNested}
-use Rattle.search_parts.specs.Heads.{at_depth, depth_cmp, highest, joined_head, with_head, Heads}
-use Rattle.search_parts.specs.Paths.{extended_by_each, path_of_no_step}
+use Rattle.cycle_heads.specs.declared.depth.StackDepth.{StackDepth}
+use Rattle.cycle_heads.specs.declared.heads.CycleHead.{CycleHead}
+use Rattle.cycle_heads.specs.declared.usages.HeadUsages.{HeadUsages}
+use Rattle.cycle_heads.specs.declared.path.PathsToNested.{PathsToNested}
+use Rattle.cycle_heads.specs.Heads.{at_depth, depth_cmp, highest, joined_head, with_head, Heads}
+use Rattle.cycle_heads.specs.Paths.{extended_by_each, path_of_no_step}
 use Rattle.search_parts.specs.Rebasing.{but_highest, with_unused, with_used}
-use Rattle.search_parts.specs.Usages.{no_usages}
-use Rattle.search_parts.proofs.HeadLists.{placed_first, placed_here, placed_later}
+use Rattle.cycle_heads.specs.Usages.{no_usages}
+use Rattle.cycle_heads.proofs.HeadLists.{placed_first, placed_here, placed_later}
+use Rattle.cycle_heads.proofs.HighestHeads.{highest-push}
 
-slice_get-end : {X : Type 0} (xs : List X) (x : X) → slice_get (xs ++ x ∷ []) (length xs) ≡ Some x
-slice_get-end [] x = refl
-slice_get-end (y ∷ ys) x = slice_get-end ys x
-
--- a head at the end is the highest one
-pub highest-push : (heads : Heads) (head : StackDepth × CycleHead) → highest (heads ++ head ∷ []) ≡ Some head
-highest-push heads head =
-    let last : length (heads ++ head ∷ []) - 1 ≡ length heads = omega (arith, length_push heads head) in
-    ap (slice_get (heads ++ head ∷ [])) last ∙ slice_get-end heads head
-
--- and the others are those before it
+-- where a head at the end is the highest one, the others are those before it
 pub but_highest-push : (heads : Heads) (head : StackDepth × CycleHead) → but_highest (heads ++ head ∷ []) ≡ heads
 but_highest-push heads head =
     let last : length (heads ++ head ∷ []) - 1 ≡ length heads = omega (arith, length_push heads head) in
     ap (λ n. take n (heads ++ head ∷ [])) last ∙ take-append_seam heads (head ∷ [])
-
--- where each depth is below a depth, each head is
-pub all_below : (heads : Heads) (depth : StackDepth) → All (λ other. IsLtBy depth_cmp other depth) (keys_of heads) → All (λ e. e.0.0 < depth.0) heads
-all_below heads depth each = λ k d lt.
-    let here = each k d.0 (rw (length-map heads (λ e. e.0)) lt) in
-    let less : IsLtBy depth_cmp (get_or heads k d).0 depth = rw (get_or-map (λ e. e.0) heads k d d.0 lt) at here in
-    grind (arith, nat_tests)
 
 -- the head at the end is at most at n, where all are
 last_within : (heads : Heads) (depth : StackDepth) (head : CycleHead) (n : ℕ) → All (λ e. e.0.0 ≤ n) (heads ++ (depth, head) ∷ []) → depth.0 ≤ n

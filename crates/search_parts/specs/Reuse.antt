@@ -1,15 +1,15 @@
 -- Which kept answers may be used when their goal is asked again, and which are given up when a goal is run again.
-use Rattle.std.specs.Prelude.{ℕ, ◌-◌, nat_lt, nat_eq, Bool, false, not, ◌&&◌, ◌||◌, ◌==◌, List, [], length, slice_get}
+use Rattle.std.specs.Prelude.{ℕ, ◌-◌, nat_lt, nat_eq, Bool, false, not, ◌&&◌, ◌||◌, List, [], length, slice_get}
 use Rattle.std.specs.Option.{option_map, unwrap_or}
-use Rattle.search_parts.specs.declared.path.PathKind.{PathKind}
+use Rattle.cycle_heads.specs.declared.path.PathKind.{PathKind}
 use Rattle.search_parts.specs.declared.parts.stack.StackEntry.{StackEntry}
-use Rattle.search_parts.specs.declared.parts.heads.CycleHead.{CycleHead}
-use Rattle.search_parts.specs.declared.parts.usages.HeadUsages.{HeadUsages}
-use Rattle.search_parts.specs.declared.parts.depth.StackDepth.{StackDepth}
+use Rattle.cycle_heads.specs.declared.heads.CycleHead.{CycleHead}
+use Rattle.cycle_heads.specs.declared.depth.StackDepth.{StackDepth}
 use Rattle.search_parts.specs.declared.parts.provisional_cache.ProvisionalCacheEntry.{ProvisionalCacheEntry}
 use Rattle.search_parts.specs.Cycle.{path_kind_from}
-use Rattle.search_parts.specs.Heads.{Heads, highest, lowest}
-use Rattle.search_parts.specs.Path.{rank_of}
+use Rattle.cycle_heads.specs.Heads.{Heads, highest, lowest}
+use Rattle.cycle_heads.specs.Path.{rank_of}
+use Rattle.cycle_heads.specs.Usages.{has_usages}
 
 -- whether the highest head, which is at this depth, passes the test
 abbrev pub highest_passes : (ℕ → CycleHead → Bool) → Heads → Bool
@@ -18,10 +18,6 @@ highest_passes test heads = unwrap_or (option_map (λ h. test h.0.0 h.1) (highes
 -- whether there is a head at the depth or below it: the lowest one tells
 abbrev pub has_head_up_to : ℕ → Heads → Bool
 has_head_up_to depth heads = unwrap_or (option_map (λ h. not (nat_lt depth h.0.0)) (lowest heads)) false
-
--- whether there was a cycle of some kind
-abbrev pub has_usages : HeadUsages → Bool
-has_usages usages = not ((usages.inductive == 0) && (usages.unknown == 0) && (usages.coinductive == 0) && (usages.forced_ambiguity == 0))
 
 -- whether the highest head is at the depth, and was used
 abbrev pub is_used_at : StackDepth → Heads → Bool

@@ -5,7 +5,7 @@ ghost use Rattle.search_parts.specs.Run.{EndsIn, progress_after, questions_answe
 ghost use Rattle.search_parts.specs.Delegate.{IsNeither, IsCycleResult, CanTake, Steps, CountsOne};
 
 use crate::path::PathKind;
-use std::alloc::{AllocError, AllocFailed};
+pub use cycle_heads::memory::NoMemory;
 use std::fmt::Debug;
 use std::hash::Hash;
 use thiserror::Error;
@@ -66,23 +66,6 @@ pub trait Cx: Copy {
 pub struct Tracked<X: Cx> {
     pub result: X::Result,
     pub token: X::DepNodeIndex,
-}
-
-/// A growth was refused.
-#[derive(Clone, Copy, Debug, PartialEq, Eq, Error)]
-#[error("out of memory")]
-pub struct NoMemory;
-
-impl From<AllocError> for NoMemory {
-    fn from(_error: AllocError) -> NoMemory {
-        NoMemory
-    }
-}
-
-impl<T: Drop> From<AllocFailed<T>> for NoMemory {
-    fn from(_error: AllocFailed<T>) -> NoMemory {
-        NoMemory
-    }
 }
 
 /// What a frame asks for.
@@ -198,7 +181,7 @@ pub struct ProofGraph<X: Cx> {
 pub trait Delegate: Sized {
     ghost use Rattle.search_parts.specs.declared.context.Reply.{Reply};
     ghost use Rattle.search_parts.specs.declared.context.Request.{Request};
-    ghost use Rattle.search_parts.specs.declared.path.PathKind.{PathKind};
+    ghost use Rattle.cycle_heads.specs.declared.path.PathKind.{PathKind};
 
     type Cx: Cx;
 

@@ -1,8 +1,8 @@
 //! What a goal search stands on: kinds of paths, what the search is told of goals, and its parts.
+//! What cycles are recorded by stands in `cycle_heads`, and is handed on here.
 //!
 //! | File of `specs/` | Has |
 //! |---|---|
-//! | `Path`, `Paths` | kinds of paths, and sets of them |
 //! | `Question`, `Run` | what a goal asks; scripts, replies, and what counts as a run |
 //! | `Delegate` | words of the laws that contexts and delegates keep |
 //! | `Graph` | proof graphs and refutation graphs of goals |
@@ -12,8 +12,7 @@
 //! | `Stored` | what each stored result is worth |
 //! | `Shapes`, `Definite` | the nodes as the theory of open graphs sees them, and the graph of a definite result |
 //! | `Stack`, `StackIndex`, `Lent` | the goals under evaluation, how they are found and lent |
-//! | `Usages`, `Heads`, `Candidates`, `Nested` | counts of usages, and the maps of heads, candidates and goals below |
-//! | `HeadShapes` | the heads of an answer as the theory of open graphs sees them |
+//! | `Nested` | the map of goals below |
 //! | `Decisive` | delegates whose goals are decided where no limit is met |
 //! | `Cycle`, `Provisional` | kinds of the cycles through a goal under evaluation; answers that rest on such goals |
 //! | `Reuse`, `Rebasing`, `Settlement` | which of those answers may be used, and what becomes of them |
@@ -23,4 +22,5 @@ pub mod context;
 pub mod global_cache;
 pub mod law;
 pub mod parts;
-pub mod path;
+
+pub use cycle_heads::path;

@@ -6,7 +6,7 @@ use Rattle.std.proofs.lemmas.Bool.Decides.{eqb_tells}
 use Rattle.std.proofs.lemmas.List.Elements.{Contains-append_left, Contains-push}
 use Rattle.goals.specs.Laws.Members.{Contains-from_slice_get, slice_get-from_Contains, Contains-mapped, Contains-filtered, before_end}
 use Rattle.search_parts.proofs.Graphs.{Contains-map}
-use Rattle.search_parts.specs.declared.path.PathKind.{PathKind}
+use Rattle.cycle_heads.specs.declared.path.PathKind.{PathKind}
 use Rattle.search_parts.specs.declared.context.Request.{Request}
 use Rattle.search_parts.specs.declared.context.Request.TheVariants.{Evaluate, EnterCandidate, FinishCandidate, Ignore, Done}
 use Rattle.search_parts.specs.declared.context.Reply.{Reply}

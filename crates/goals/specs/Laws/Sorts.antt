@@ -1,7 +1,7 @@
 -- The results of the table are of the sorts that a search asks for.
 use Rattle.std.specs.Prelude.{◌≡◌, Some, true, false}
-use Rattle.search_parts.specs.declared.path.PathKind.{PathKind}
-use Rattle.search_parts.specs.declared.path.PathKind.TheVariants.{Inductive, Unknown, Coinductive, ForcedAmbiguity}
+use Rattle.cycle_heads.specs.declared.path.PathKind.{PathKind}
+use Rattle.cycle_heads.specs.declared.path.PathKind.TheVariants.{Inductive, Unknown, Coinductive, ForcedAmbiguity}
 use Rattle.search_parts.specs.Delegate.{IsNeither, IsCycleResult}
 use Rattle.goals.specs.declared.table.outcome.Outcome.{Outcome}
 use Rattle.goals.specs.declared.table.outcome.Outcome.TheVariants.{Yes, No, Maybe, Overflow}

@@ -25,7 +25,10 @@ impl<'a, X: Cx> NestedTest<X> for OverStack<'a, X> {
         if nested_goals.is_empty() {
             return true;
         }
-        !self.stack.iter().any(|entry| nested_goals.contains(entry.input()))
+        !self
+            .stack
+            .iter()
+            .any(|entry| nested_goals.contains(entry.input()))
     }
 }
 

@@ -205,9 +205,7 @@ impl<X: Cx, F: Drop> OpenGoals<X, F> {
         let state = self.stack.last_mut();
         note_depth(state, 0, false);
         note_head(state, parent, step, head, used)?;
-        state
-            .nested_goals
-            .insert(goal, PathsToNested::from(step))?;
+        state.nested_goals.insert(goal, PathsToNested::from(step))?;
         state.nested_goals.insert(input, PathsToNested::EMPTY)
     }
 

@@ -4,9 +4,7 @@ ghost use Rattle.search_graph.specs.Entries.{cycle_head, with_depth, with_nested
 ghost use Rattle.search_graph.specs.NestedGoals.{TakesNestedGoals};
 
 use search_parts::context::{Cx, NoMemory};
-use search_parts::parts::{
-    CycleHead, CycleHeads, EntryState, HeadUsages, NestedGoals, StackDepth,
-};
+use search_parts::parts::{CycleHead, CycleHeads, EntryState, HeadUsages, NestedGoals, StackDepth};
 use search_parts::path::{PathKind, PathsToNested};
 
 /// Notes how deep the goals below an answer went, and whether one of their questions was refused.

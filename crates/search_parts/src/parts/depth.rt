@@ -1,30 +1,11 @@
-//! Places on the stack, and how deep the goals below a goal may go.
+//! How deep the goals below a goal may go.
 ghost use Rattle.std.specs.Prelude.{◌≡◌, ◌↔◌, ◌≤◌, IsTrue};
 ghost use Rattle.std.specs.Option.{option_map};
 ghost use Rattle.search_parts.specs.Stack.{allowed_depth};
 
 use crate::context::Delegate;
 use crate::parts::stack::Stack;
-
-/// A place on the stack, counted from the first goal, whose depth is 0. Ports `StackDepth`.
-#[derive(Clone, Copy, Debug, PartialEq, Eq, PartialOrd, Ord, Hash)]
-pub struct StackDepth(usize);
-
-impl StackDepth {
-    /// The place with that number of entries below it.
-    pub fn new(n: usize) -> StackDepth
-        ensures { result.0 ≡ n }
-    {
-        StackDepth(n)
-    }
-
-    /// How many entries stand below this place.
-    pub fn index(self) -> usize
-        ensures { result ≡ self.0 }
-    {
-        self.0
-    }
-}
+pub use cycle_heads::depth::StackDepth;
 
 /// How many goals may be nested below a goal. Ports `AvailableDepth`.
 #[derive(Clone, Copy, Debug, PartialEq, Eq, PartialOrd, Ord, Hash)]

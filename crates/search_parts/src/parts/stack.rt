@@ -3,7 +3,7 @@ ghost use Rattle.std.specs.Prelude.{◌≡◌, ℕ, ◌+◌, ◌-◌, ◌<◌, L
 ghost use Rattle.std.specs.List.{position};
 ghost use Rattle.std.specs.Option.{option_map};
 ghost use Rattle.std.specs.Slice.Iter.{iter_rest};
-ghost use Rattle.search_parts.specs.Path.{greatest_kind, greater_kind};
+ghost use Rattle.cycle_heads.specs.Path.{greatest_kind, greater_kind};
 
 use crate::context::{Cx, NoMemory, NodeId};
 use crate::parts::candidates::CandidateHeadUsages;
@@ -282,7 +282,7 @@ pub struct CycleStepKinds<'a, X: Cx> {
 
 impl<'a, X: Cx> Model for CycleStepKinds<'a, X> {
     ghost use Rattle.std.specs.Prelude.{List, map};
-    ghost use Rattle.search_parts.specs.declared.path.PathKind.{PathKind};
+    ghost use Rattle.cycle_heads.specs.declared.path.PathKind.{PathKind};
 
     ghost Value = { List PathKind };
 

@@ -1,5 +1,5 @@
 use Rattle.std.proofs.Common.{rules}
-use Rattle.search_parts.specs.contracts.path.PathKindPartialEq.TheImpl.{eq-value as kinds}
+use Rattle.cycle_heads.specs.contracts.path.PathKindPartialEq.TheImpl.{eq-value as kinds}
 use Rattle.parts_tests.proofs.Within.{pushed_within}
 use Rattle.parts_tests.proofs.kept.cache_of.Goals as goal
 

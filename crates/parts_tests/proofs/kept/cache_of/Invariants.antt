@@ -1,4 +1,4 @@
-use Rattle.search_parts.specs.contracts.path.PathKindPartialEq.TheImpl.{eq-value as kinds}
+use Rattle.cycle_heads.specs.contracts.path.PathKindPartialEq.TheImpl.{eq-value as kinds}
 use Rattle.parts_tests.proofs.Within.{AreWithin}
 use Rattle.parts_tests.proofs.kept.cache_of.Given as goal
 

@@ -1,7 +1,7 @@
 //! Whether cycles keep their kinds when a goal on them is answered from a kept entry.
 ghost use Rattle.std.specs.Prelude.{◌≡◌, ◌<◌, length, All};
 ghost use Rattle.std.specs.List.{list_all};
-ghost use Rattle.search_parts.specs.Paths.{kinds_in};
+ghost use Rattle.cycle_heads.specs.Paths.{kinds_in};
 ghost use Rattle.search_parts.specs.Rebasing.{keeps_kind, keeps_kinds};
 
 use crate::context::Cx;

@@ -30,9 +30,9 @@ pub loop-next-init : goal.loop-next-init
 loop-next-init g c = record {
   waiting = λ call at. record {
     waiting = subst (λ given. IsWaiting g.D.Delegate g.D.Cx.Cx c.push_goal.new.cache.cx call given.reply c.push_goal.new.goals (g.D.Delegate.starts c.push_goal.new.inspect) c.args.limits_met.now) (sym c.without_node-received.ensures)
-      (subst (λ cx. IsWaiting g.D.Delegate g.D.Cx.Cx cx call Begin c.push_goal.new.goals (g.D.Delegate.starts c.push_goal.new.inspect) c.args.limits_met.now) (sym c.in_ok-push_goal.ensures.same_context)
-      (first_waits g.D.Delegate g.D.Cx.Cx c.args.cache.now.cx c.args.input c.args.step_kind c.args.root_depth _ _ c.args.limits_met.now c.push_goal.new.goals c.push_goal.ensures.at_most c.in_ok-push_goal.ensures.counted
-      (subst (λ goals. Pushes g.D.Delegate g.D.Cx.Cx c.args.cache.now.cx c.args.input c.args.step_kind c.args.root_depth goals c.push_goal.new.goals) c.requires c.in_ok-push_goal.ensures.pushed) call at.outset));
+        (subst (λ cx. IsWaiting g.D.Delegate g.D.Cx.Cx cx call Begin c.push_goal.new.goals (g.D.Delegate.starts c.push_goal.new.inspect) c.args.limits_met.now) (sym c.in_ok-push_goal.ensures.same_context)
+        (first_waits g.D.Delegate g.D.Cx.Cx c.args.cache.now.cx c.args.input c.args.step_kind c.args.root_depth _ _ c.args.limits_met.now c.push_goal.new.goals c.push_goal.ensures.at_most c.in_ok-push_goal.ensures.counted
+        (subst (λ goals. Pushes g.D.Delegate g.D.Cx.Cx c.args.cache.now.cx c.args.input c.args.step_kind c.args.root_depth goals c.push_goal.new.goals) c.requires c.in_ok-push_goal.ensures.pushed) call at.outset));
     store = subst (λ cx. KeepsStore g.D.Delegate g.D.Cx.Cx cx g.D.Cx.Input.PartialEq.eq call c.args.limits_met.now c.push_goal.new.cache.results) (sym c.in_ok-push_goal.ensures.same_context)
         (subst (KeepsStore g.D.Delegate g.D.Cx.Cx c.args.cache.now.cx g.D.Cx.Input.PartialEq.eq call c.args.limits_met.now) (sym c.in_ok-push_goal.ensures.same_results) at.store);
   };

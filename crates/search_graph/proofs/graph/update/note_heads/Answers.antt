@@ -1,9 +1,9 @@
 use Rattle.std.proofs.Common.{◌≡◌, ◌||◌, sym, ap, ◌∙◌, subst}
 use Rattle.std.proofs.lemmas.Map.Iter.{rest_more}
 use Rattle.std.specs.Map.Iter.{deref_pair}
-use Rattle.search_parts.specs.declared.parts.depth.StackDepth.{StackDepth}
-use Rattle.search_parts.specs.Heads.{at_depth, IsRising}
-use Rattle.search_parts.proofs.HeadLists.{absent_later, rising_later}
+use Rattle.cycle_heads.specs.declared.depth.StackDepth.{StackDepth}
+use Rattle.cycle_heads.specs.Heads.{at_depth, IsRising}
+use Rattle.cycle_heads.proofs.HeadLists.{absent_later, rising_later}
 use Rattle.search_graph.specs.Entries.{some_heads, usages_over, is_in_cycle}
 use Rattle.search_graph.proofs.TakenHeads.{head_over, head_taken, usages_taken, cycle_taken, others_kept}
 use Rattle.search_graph.proofs.graph.update.note_heads.Goals as goal

@@ -1,6 +1,6 @@
 use Rattle.std.proofs.Common.{◌≡◌, ◌||◌}
-use Rattle.search_parts.specs.declared.parts.depth.StackDepth.{StackDepth}
-use Rattle.search_parts.specs.Heads.{at_depth, IsRising}
+use Rattle.cycle_heads.specs.declared.depth.StackDepth.{StackDepth}
+use Rattle.cycle_heads.specs.Heads.{at_depth, IsRising}
 use Rattle.search_graph.specs.Entries.{some_heads, usages_over, is_in_cycle}
 use Rattle.search_graph.proofs.TakenHeads.{head_over}
 use Rattle.search_graph.proofs.graph.update.note_heads.Given as goal

@@ -1,6 +1,6 @@
 use Rattle.std.proofs.Common.{◌∙◌, OnOk, refl, subst}
 use Rattle.search_parts.specs.Nested.{JoinsPaths}
-use Rattle.search_parts.specs.Paths.{path_of_no_step}
+use Rattle.cycle_heads.specs.Paths.{path_of_no_step}
 use Rattle.search_parts.proofs.LastState.{length-change_last}
 use Rattle.search_graph.proofs.NestedGoals.{overflow_noted}
 use Rattle.search_graph.proofs.graph.open_goals.OpenGoals.note_overflow.Goals as goal

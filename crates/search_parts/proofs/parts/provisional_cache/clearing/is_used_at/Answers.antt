@@ -1,5 +1,5 @@
 use Rattle.std.proofs.Common.{◌≡◌, nat_eq, true}
-use Rattle.search_parts.proofs.Counts.{used_by_test}
+use Rattle.cycle_heads.proofs.Counts.{used_by_test}
 use Rattle.search_parts.proofs.parts.provisional_cache.clearing.is_used_at.Goals as goal
 
 pub returns-then-eq : goal.returns-then-eq

@@ -1,7 +1,6 @@
 use Rattle.std.proofs.Common.{◌≡◌, ◌∙◌, true, false, not, refl, sym, ap}
-use Rattle.search_parts.specs.Reuse.{has_usages}
-use Rattle.search_parts.specs.Usages.{other_usages}
-use Rattle.search_parts.proofs.Counts.{others_by_test}
+use Rattle.cycle_heads.specs.Usages.{has_usages, other_usages}
+use Rattle.cycle_heads.proofs.Counts.{others_by_test}
 use Rattle.search_parts.proofs.parts.provisional_cache.rebasing.Settlement.settle.Goals as goal
 
 pub returns-then-is_single : goal.returns-then-is_single

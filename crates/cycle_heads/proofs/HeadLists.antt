@@ -1,0 +1,106 @@
+-- Lists of what is recorded by depth.
+use Rattle.std.proofs.Common.{◌≡◌, ◌≢◌, ℕ, ◌<◌, ◌≤◌, true, false, List, [], ◌∷◌, get_or, All, Some, None, IsSome, cond, refl, ap, inl, inr, arith, lt-ltb, le-ltb, eq-eqb, ne_eqb}
+use Rattle.std.proofs.lemmas.Bool.{cases_lt, cases_eq, false≢true}
+use Rattle.std.proofs.lemmas.List.{get_or-map, length-map}
+use Rattle.std.proofs.lemmas.Map.Keys.{ge_from_not_lt, sorted_head, sorted_tail}
+use Rattle.std.specs.List.{AllByRecursion}
+use Rattle.std.specs.declared.cmp.Ordering.TheVariants.{Less}
+use Rattle.std.specs.Ordering.{is_lt, is_eq, nat_cmp}
+use Rattle.std.specs.BTreeMap.{insert_entry, is_at}
+use Rattle.std.specs.Map.{keys_of, set_value}
+use Rattle.cycle_heads.specs.declared.depth.StackDepth.{StackDepth}
+use Rattle.cycle_heads.specs.Heads.{at_depth, depth_cmp, IsRising}
+
+-- where no depth is above a depth, each is at most that
+pub all_up_to : {A : Type 0} (entries : List (StackDepth × A)) (depth : StackDepth)
+    → All (λ other. is_lt (depth_cmp depth other) ≡ false) (keys_of entries) → All (λ e. e.0.0 ≤ depth.0) entries
+all_up_to entries depth none_above = λ k d lt.
+    let here = none_above k d.0 (rw (length-map entries (λ e. e.0)) lt) in
+    ge_from_not_lt depth.0 (get_or entries k d).0.0 (rw (get_or-map (λ e. e.0) entries k d d.0 lt) at here)
+
+tied : (a b : ℕ) → a ≡ b → is_eq (nat_cmp a b) ≡ true
+tied a b e = rw (le-ltb a b (omega arith), eq-eqb a b e) refl
+
+apart : (a b : ℕ) → (a ≡ b → ⊥) → is_eq (nat_cmp a b) ≡ false
+apart a b ne = elim (cases_lt a b) [
+  | inl less ↦ rw (lt-ltb a b less) refl
+  | inr at_least ↦ rw (le-ltb a b at_least, ne_eqb a b ne) refl
+]
+
+-- a depth below all others is not among them
+absent_below : {A : Type 0} (entries : List (StackDepth × A)) (depth : StackDepth)
+    → AllByRecursion (λ other. depth_cmp depth other ≡ Less) (keys_of entries) → at_depth entries depth ≡ None
+absent_below [] depth below = refl
+absent_below (e ∷ es) depth below =
+    rw (ap is_eq below.0) (absent_below es depth below.1)
+
+-- the first depth of a rising list comes once
+pub absent_later : {A : Type 0} (depth : StackDepth) (value : A) (rest : List (StackDepth × A))
+    → IsRising ((depth, value) ∷ rest) → at_depth rest depth ≡ None
+absent_later depth value rest rising = absent_below rest depth (sorted_head depth_cmp depth (keys_of rest) rising)
+
+pub rising_later : {A : Type 0} (depth : StackDepth) (value : A) (rest : List (StackDepth × A))
+    → IsRising ((depth, value) ∷ rest) → IsRising rest
+rising_later depth value rest rising = sorted_tail depth_cmp depth (keys_of rest) rising
+
+-- the first of a list is found at its depth, and other depths are sought in the rest
+pub at_depth-first : {A : Type 0} (depth : StackDepth) (value : A) (rest : List (StackDepth × A))
+    → at_depth ((depth, value) ∷ rest) depth ≡ Some value
+at_depth-first depth value rest = rw (tied depth.0 depth.0 refl) refl
+
+pub at_depth-rest : {A : Type 0} (depth other : StackDepth) (value : A) (rest : List (StackDepth × A)) → other.0 ≢ depth.0
+    → at_depth ((depth, value) ∷ rest) other ≡ at_depth rest other
+at_depth-rest depth other value rest ne = rw (apart other.0 depth.0 ne) refl
+
+module _ {A : Type 0} (depth : StackDepth) (value : A) where
+  pub placed_first : (e : StackDepth × A) (es : List (StackDepth × A)) → depth.0 < e.0.0
+      → insert_entry depth_cmp (e ∷ es) depth value ≡ (depth, value) ∷ e ∷ es
+  placed_first e es less = rw (lt-ltb depth.0 e.0.0 less) refl
+
+  pub placed_here : (e : StackDepth × A) (es : List (StackDepth × A)) → depth.0 ≡ e.0.0
+      → insert_entry depth_cmp (e ∷ es) depth value ≡ (e.0, value) ∷ es
+  placed_here e es same = rw (le-ltb depth.0 e.0.0 (omega arith), eq-eqb depth.0 e.0.0 same) refl
+
+  pub placed_later : (e : StackDepth × A) (es : List (StackDepth × A)) → e.0.0 < depth.0
+      → insert_entry depth_cmp (e ∷ es) depth value ≡ e ∷ insert_entry depth_cmp es depth value
+  placed_later e es more = rw (le-ltb depth.0 e.0.0 (omega arith), ne_eqb depth.0 e.0.0 (omega arith)) refl
+
+  -- what is inserted is found at its depth
+  pub at_depth-insert_same : (entries : List (StackDepth × A)) → at_depth (insert_entry depth_cmp entries depth value) depth ≡ Some value
+  at_depth-insert_same [] = rw (tied depth.0 depth.0 refl) refl
+  at_depth-insert_same (e ∷ es) = elim (cases_lt depth.0 e.0.0) [
+    | inl less ↦ rw (placed_first e es less, tied depth.0 depth.0 refl) refl
+    | inr at_least ↦ elim (cases_eq depth.0 e.0.0) [
+      | inl same ↦ rw (placed_here e es same, tied depth.0 e.0.0 same) refl
+      | inr ne ↦ rw (placed_later e es (omega arith), apart depth.0 e.0.0 ne) (at_depth-insert_same es)
+    ]
+  ]
+
+  -- and other depths keep what they have
+  pub at_depth-insert_other : (entries : List (StackDepth × A)) (other : StackDepth) → other.0 ≢ depth.0
+      → at_depth (insert_entry depth_cmp entries depth value) other ≡ at_depth entries other
+  at_depth-insert_other [] other ne = rw (apart other.0 depth.0 ne) refl
+  at_depth-insert_other (e ∷ es) other ne = elim (cases_lt depth.0 e.0.0) [
+    | inl less ↦ rw (placed_first e es less, apart other.0 depth.0 ne) refl
+    | inr at_least ↦ elim (cases_eq depth.0 e.0.0) [
+      | inl same ↦ rw (placed_here e es same, apart other.0 e.0.0 (λ e. ne (omega arith))) refl
+      | inr later ↦ rw (placed_later e es (omega arith)) (ap (cond (is_at (depth_cmp other) e.0) (Some e.1)) (at_depth-insert_other es other ne))
+    ]
+  ]
+
+  -- what replaces a value is found at its depth
+  pub at_depth-set_same : (entries : List (StackDepth × A)) → IsSome (at_depth entries depth)
+      → at_depth (set_value (is_at (depth_cmp depth)) entries value) depth ≡ Some value
+  at_depth-set_same [] there = absurd (false≢true there)
+  at_depth-set_same (e ∷ es) there = elim (cases_eq depth.0 e.0.0) [
+    | inl same ↦ rw (tied depth.0 e.0.0 same, tied depth.0 e.0.0 same) refl
+    | inr ne ↦ rw (apart depth.0 e.0.0 ne, apart depth.0 e.0.0 ne) (at_depth-set_same es (rw (apart depth.0 e.0.0 ne) at there))
+  ]
+
+  pub at_depth-set_other : (entries : List (StackDepth × A)) (other : StackDepth) → other.0 ≢ depth.0
+      → at_depth (set_value (is_at (depth_cmp depth)) entries value) other ≡ at_depth entries other
+  at_depth-set_other [] other ne = refl
+  at_depth-set_other (e ∷ es) other ne = elim (cases_eq depth.0 e.0.0) [
+    | inl same ↦ rw (tied depth.0 e.0.0 same, apart other.0 e.0.0 (λ e. ne (omega arith))) refl
+    | inr later ↦ rw (apart depth.0 e.0.0 later) (ap (cond (is_at (depth_cmp other) e.0) (Some e.1)) (at_depth-set_other es other ne))
+  ]

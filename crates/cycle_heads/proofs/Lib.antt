@@ -1,0 +1,9 @@
+pub mod PathRanks
+pub mod PathSets
+pub mod PathLaws
+pub mod PathMembers
+pub mod Counts
+pub mod HeadLists
+pub mod HighestHeads
+pub mod HeadShapes
+pub mod MergedUsages

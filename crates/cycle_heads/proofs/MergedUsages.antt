@@ -1,0 +1,44 @@
+-- Usages are merged head by head, in whatever order.
+use Rattle.std.proofs.Common.{◌≡◌, ◌^◌, ◌-◌, min, ◌∷◌, Option, Some, None, refl, sym, ap, ◌∙◌, subst, inl, inr}
+use Rattle.std.proofs.lemmas.Bool.{cases_eq}
+use Rattle.std.proofs.Math.Nat.{add_comm}
+use Rattle.cycle_heads.specs.declared.depth.StackDepth.{StackDepth}
+use Rattle.cycle_heads.specs.declared.usages.HeadUsages.{HeadUsages}
+use Rattle.cycle_heads.specs.Candidates.{merged, sum_with, with_added, UsagesByHead}
+use Rattle.cycle_heads.specs.Heads.{at_depth, IsRising}
+use Rattle.cycle_heads.specs.Usages.{count_of, usages_by, with_usages}
+use Rattle.cycle_heads.proofs.HeadLists.{absent_later, at_depth-first, at_depth-rest, at_depth-insert_same, at_depth-insert_other}
+
+with_usages-comm : (usages more : HeadUsages) → with_usages usages more ≡ with_usages more usages
+with_usages-comm usages more = λ i. usages_by (λ kind. min (add_comm (count_of usages kind) (count_of more kind) i) (2 ^ 32 - 1))
+
+pub merged-comm : (usages more : Option HeadUsages) → merged usages more ≡ merged more usages
+merged-comm None None = refl
+merged-comm None (Some more) = refl
+merged-comm (Some usages) None = refl
+merged-comm (Some usages) (Some more) = ap Some (with_usages-comm usages more)
+
+pub merged-None : (usages : Option HeadUsages) → merged usages None ≡ usages
+merged-None None = refl
+merged-None (Some usages) = refl
+
+merged-sum : (usages : HeadUsages) (known : Option HeadUsages) → merged (Some (sum_with usages known)) None ≡ merged known (Some usages)
+merged-sum usages None = refl
+merged-sum usages (Some known) = ap Some (with_usages-comm usages known)
+
+-- one head less is left to be added
+pub merged-added : (sums rest : UsagesByHead) (head : StackDepth) (usages : HeadUsages) → IsRising ((head, usages) ∷ rest) → (depth : StackDepth)
+    → merged (at_depth (with_added sums head usages) depth) (at_depth rest depth)
+    ≡ merged (at_depth sums depth) (at_depth ((head, usages) ∷ rest) depth)
+merged-added sums rest head usages rising depth = elim (cases_eq depth.0 head.0) [
+  | inl same ↦
+      let here : head ≡ depth = λ i. record { 0 = sym same i } in
+      subst (λ d. merged (at_depth (with_added sums head usages) d) (at_depth rest d) ≡ merged (at_depth sums d) (at_depth ((head, usages) ∷ rest) d)) here
+      (ap (λ o. merged o (at_depth rest head)) (at_depth-insert_same head (sum_with usages (at_depth sums head)) sums)
+      ∙ ap (merged (Some (sum_with usages (at_depth sums head)))) (absent_later head usages rest rising)
+      ∙ merged-sum usages (at_depth sums head)
+      ∙ ap (merged (at_depth sums head)) (sym (at_depth-first head usages rest)))
+  | inr other ↦
+      ap (λ o. merged o (at_depth rest depth)) (at_depth-insert_other head (sum_with usages (at_depth sums head)) sums depth other)
+      ∙ ap (merged (at_depth sums depth)) (sym (at_depth-rest head depth usages rest other))
+]

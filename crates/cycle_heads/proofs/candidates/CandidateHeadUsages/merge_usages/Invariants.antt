@@ -1,0 +1,10 @@
+use Rattle.std.proofs.Common.{◌≡◌}
+use Rattle.cycle_heads.specs.declared.depth.StackDepth.{StackDepth}
+use Rattle.cycle_heads.specs.Candidates.{merged}
+use Rattle.cycle_heads.specs.Heads.{at_depth, IsRising}
+use Rattle.cycle_heads.proofs.candidates.CandidateHeadUsages.merge_usages.Given as goal
+
+abbrev pub invariant-loop-head : goal.invariant-loop-head
+invariant-loop-head l =
+    ((depth : StackDepth) → merged (at_depth l.sums depth) (at_depth l.head-iterator depth) ≡ merged (at_depth l.initial.sums depth) (at_depth l.initial.head-iterator depth))
+    × IsRising l.head-iterator

@@ -1,0 +1,6 @@
+pub mod Path
+pub mod Paths
+pub mod Usages
+pub mod Heads
+pub mod Candidates
+pub mod HeadShapes

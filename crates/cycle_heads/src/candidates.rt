@@ -1,0 +1,171 @@
+//! What a candidate used of the goals on the stack.
+ghost use Rattle.std.specs.Prelude.{◌≡◌, ◌↔◌, [], IsTrue, IsSome, IsOk, OnOk, OnErr};
+ghost use Rattle.cycle_heads.specs.declared.depth.StackDepth.{StackDepth};
+ghost use Rattle.cycle_heads.specs.Candidates.{merged, with_added, with_noted};
+ghost use Rattle.cycle_heads.specs.Heads.{at_depth};
+
+use crate::depth::StackDepth;
+use crate::memory::NoMemory;
+use crate::usages::HeadUsages;
+use std::alloc::Global;
+use std::collections::BTreeMap;
+use std::marker::Model;
+
+/// How often a candidate used each goal on the stack, by depth. Ports `CandidateHeadUsages`.
+#[derive(Drop)]
+pub struct CandidateHeadUsages {
+    usages: BTreeMap<StackDepth, HeadUsages>,
+}
+
+impl Model for CandidateHeadUsages {
+    ghost use Rattle.cycle_heads.specs.Candidates.{UsagesByHead};
+
+    ghost Value = { UsagesByHead };
+
+    ghost view = { λ c. c.usages.entries };
+}
+
+impl CandidateHeadUsages {
+    /// A candidate that used no head.
+    pub fn new(alloc: Global) -> CandidateHeadUsages
+        ensures { result ≡ [] }
+    {
+        CandidateHeadUsages {
+            usages: BTreeMap::new(alloc),
+        }
+    }
+
+    /// Whether no head is recorded. A head may be recorded without usages.
+    pub fn is_empty(&self) -> bool
+        ensures { IsTrue result ↔ (self.now ≡ []) }
+    {
+        self.usages.is_empty()
+    }
+
+    /// The usages that are recorded for the head.
+    pub fn get(&self, head: StackDepth) -> Option<HeadUsages>
+        ensures { result ≡ at_depth self.now head }
+    {
+        self.usages.get(&head).copied()
+    }
+
+    /// Counts one more usage of the head for each kind that isn't zero in `usages`. Only a new head
+    /// takes memory, and a refusal changes nothing.
+    pub fn note_usages(&mut self, head: StackDepth, usages: HeadUsages) -> Result<(), NoMemory>
+        ensures ok { OnOk result (self.new ≡ with_noted self.old head usages) }
+        ensures err { OnErr result (self.new ≡ self.old) }
+        ensures known { IsSome (at_depth self.old head) → IsOk result }
+    {
+        let mut noted = self.get(head).unwrap_or_default();
+        noted.add_usages_from_nested(usages);
+        self.usages.insert(head, noted)?;
+        Ok(())
+    }
+
+    /// Adds the counts of `other`, head by head. Where one of the two is empty, that takes no memory.
+    /// A refusal changes nothing. Ports `CandidateHeadUsages::merge_usages`.
+    pub fn merge_usages(&mut self, other: CandidateHeadUsages) -> Result<(), NoMemory>
+        ensures ok { OnOk result
+            ((head : StackDepth) → at_depth self.new head ≡ merged (at_depth self.old head) (at_depth other head)) }
+        ensures err { OnErr result (self.new ≡ self.old) }
+        ensures into_none { self.old ≡ [] → IsOk result }
+        ensures of_none { other ≡ [] → IsOk result }
+    {
+        if other.is_empty() {
+            return Ok(());
+        }
+        if self.is_empty() {
+            *self = other;
+            return Ok(());
+        }
+        let mut sums = other;
+        for (head, usages) in self.usages.iter() {
+            sums.add(*head, *usages)?;
+        }
+        *self = sums;
+        Ok(())
+    }
+
+    // Adds the counts of one head.
+    fn add(&mut self, head: StackDepth, usages: HeadUsages) -> Result<(), NoMemory>
+        ensures ok { OnOk result (self.new ≡ with_added self.old head usages) }
+        ensures known { IsSome (at_depth self.old head) → IsOk result }
+    {
+        let mut sum = usages;
+        if let Some(known) = self.get(head) {
+            sum.add_usages(known);
+        }
+        self.usages.insert(head, sum)?;
+        Ok(())
+    }
+}
+
+#[cfg(test)]
+mod tests {
+    use super::*;
+    use std::test::Fail;
+
+    fn inductive(count: u32) -> HeadUsages
+        ensures inductive { result.inductive ≡ count }
+        ensures unknown { result.unknown ≡ 0 }
+        ensures coinductive { result.coinductive ≡ 0 }
+        ensures forced_ambiguity { result.forced_ambiguity ≡ 0 }
+    {
+        HeadUsages {
+            inductive: count,
+            ..HeadUsages::default()
+        }
+    }
+
+    fn of_heads(alloc: Global, counts: &[(usize, u32)]) -> Result<CandidateHeadUsages, NoMemory> {
+        let mut candidate = CandidateHeadUsages::new(alloc);
+        for (head, count) in counts {
+            candidate.add(StackDepth::new(*head), inductive(*count))?;
+        }
+        Ok(candidate)
+    }
+
+    #[test]
+    fn noted_usages_count_once(rt: HostRuntime) -> Result<(), Fail> {
+        let mut candidate = CandidateHeadUsages::new(rt.alloc());
+        assert!(rt; candidate.is_empty());
+        let head = StackDepth::new(1);
+        assert_eq!(rt; candidate.get(head), None);
+        for count in 1..3 {
+            candidate.note_usages(head, inductive(7))?;
+            assert_eq!(rt; candidate.get(head), Some(inductive(count)));
+        }
+        candidate.note_usages(StackDepth::new(0), HeadUsages::default())?;
+        assert_eq!(rt;
+            candidate.get(StackDepth::new(0)),
+            Some(HeadUsages::default())
+        );
+        assert!(rt; !candidate.is_empty());
+        Ok(())
+    }
+
+    #[test]
+    fn merged_usages_are_sums_that_stick(rt: HostRuntime) -> Result<(), Fail> {
+        let mut candidate = of_heads(rt.alloc(), &[(0, 4_294_967_290), (2, 3)])?;
+        candidate.merge_usages(of_heads(rt.alloc(), &[(0, 9), (1, 5)])?)?;
+        let mut sum = candidate.get(StackDepth::new(0)).ok_or("no head 0")?;
+        assert_eq!(rt; sum, inductive(4_294_967_295));
+        assert_eq!(rt; candidate.get(StackDepth::new(1)), Some(inductive(5)));
+        assert_eq!(rt; candidate.get(StackDepth::new(2)), Some(inductive(3)));
+        assert_eq!(rt; candidate.get(StackDepth::new(3)), None);
+        assert!(rt; sum.inductive >= 1);
+        sum.ignore_usages(inductive(1));
+        assert_eq!(rt; sum, inductive(4_294_967_295));
+        Ok(())
+    }
+
+    #[test]
+    fn no_usages_add_nothing(rt: HostRuntime) -> Result<(), Fail> {
+        let mut candidate = CandidateHeadUsages::new(rt.alloc());
+        candidate.merge_usages(of_heads(rt.alloc(), &[(1, 5)])?)?;
+        candidate.merge_usages(CandidateHeadUsages::new(rt.alloc()))?;
+        assert_eq!(rt; candidate.get(StackDepth::new(1)), Some(inductive(5)));
+        assert_eq!(rt; candidate.get(StackDepth::new(0)), None);
+        Ok(())
+    }
+}

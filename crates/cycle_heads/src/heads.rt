@@ -1,0 +1,270 @@
+//! The goals on the stack that an answer rests on.
+ghost use Rattle.std.specs.Prelude.{◌≡◌, ◌≢◌, ◌^◌, ◌<◌, ◌≤◌, ◌↔◌, [], ◌∷◌, ◌++◌, length, All, IsTrue, IsSome, IsSomeAnd, IsOk, IfSome, OnOk, OnErr, Some};
+ghost use Rattle.std.specs.Option.{option_map};
+ghost use Rattle.cycle_heads.specs.declared.depth.StackDepth.{StackDepth};
+ghost use Rattle.cycle_heads.specs.declared.heads.CycleHead.{CycleHead};
+ghost use Rattle.cycle_heads.specs.declared.usages.HeadUsages.{HeadUsages};
+ghost use Rattle.cycle_heads.specs.declared.path.PathKind.{PathKind};
+ghost use Rattle.cycle_heads.specs.declared.path.PathsToNested.{PathsToNested};
+ghost use Rattle.cycle_heads.specs.Heads.{at_depth, highest, joined_head, lowest, replace_head, with_head, Heads, IsRising};
+ghost use Rattle.cycle_heads.specs.Usages.{count_of, without_usages};
+
+use crate::depth::StackDepth;
+use crate::memory::NoMemory;
+use crate::path::PathsToNested;
+use crate::usages::HeadUsages;
+use bitflags::Flags;
+use std::alloc::Global;
+use std::collections::{BTreeMap, btree_map};
+use std::marker::Model;
+
+/// How an answer rests on a goal on the stack. Ports `CycleHead`.
+#[derive(Clone, Copy, Debug)]
+pub struct CycleHead {
+    /// The paths from the answer's goal to the head.
+    pub paths_to_head: PathsToNested,
+    /// How often the head was used. A head without usages stays recorded.
+    pub usages: HeadUsages,
+}
+
+impl CycleHead {
+    // The head with more paths and usages, as `joined_head` says.
+    fn join(self, paths: PathsToNested, usages: HeadUsages) -> CycleHead
+        ensures { result ≡ joined_head (Some self) paths usages }
+    {
+        let mut joined = self;
+        joined.paths_to_head.insert(paths);
+        joined.usages.add_usages_from_nested(usages);
+        joined
+    }
+}
+
+/// The goals on the stack that an answer rests on, by rising depth. Ports `CycleHeads`.
+#[derive(Drop)]
+pub struct CycleHeads {
+    heads: BTreeMap<StackDepth, CycleHead>,
+}
+
+impl Model for CycleHeads {
+    ghost use Rattle.cycle_heads.specs.Heads.{Heads};
+
+    ghost Value = { Heads };
+
+    ghost view = { λ h. h.heads.entries };
+}
+
+impl CycleHeads {
+    /// No heads.
+    pub fn new(alloc: Global) -> CycleHeads
+        ensures { result ≡ [] }
+    {
+        CycleHeads {
+            heads: BTreeMap::new(alloc),
+        }
+    }
+
+    /// Whether there are no heads. Ports `CycleHeads::is_empty`.
+    pub fn is_empty(&self) -> bool
+        ensures { IsTrue result ↔ (self.now ≡ []) }
+    {
+        self.heads.is_empty()
+    }
+
+    /// The head of the greatest depth, with its depth. Ports `CycleHeads::highest_cycle_head`.
+    pub fn highest_cycle_head(&self) -> (StackDepth, CycleHead)
+        requires { 0 < length self.now }
+        ensures last { highest self.now ≡ Some result }
+        ensures greatest { All (λ e. e.0.0 ≤ result.0.0) self.now }
+    {
+        let (depth, head) = self.heads.last_key_value().unwrap();
+        (*depth, *head)
+    }
+
+    /// The greatest depth of a head. Ports `CycleHeads::highest_cycle_head_index`.
+    pub fn highest_cycle_head_index(&self) -> StackDepth
+        requires { 0 < length self.now }
+        ensures last { option_map (λ e. e.0) (highest self.now) ≡ Some result }
+        ensures greatest { All (λ e. e.0.0 ≤ result.0) self.now }
+    {
+        self.highest_cycle_head().0
+    }
+
+    /// Takes out the head of the greatest depth. Ports `CycleHeads::remove_highest_cycle_head`.
+    pub fn remove_highest_cycle_head(&mut self) -> CycleHead
+        requires { 0 < length self.old }
+        ensures last { (depth : StackDepth) × (self.old ≡ self.new ++ (depth, result) ∷ []) }
+        ensures below { IfSome (highest self.old) (λ e. All (λ d. d.0.0 < e.0.0) self.new) }
+    {
+        let (_, head) = self.heads.pop_last().unwrap();
+        head
+    }
+
+    /// The depth of the head of the greatest depth, or `None` where there is none. Ports
+    /// `CycleHeads::opt_highest_cycle_head_index`.
+    pub fn opt_highest_cycle_head_index(&self) -> Option<StackDepth>
+        ensures { result ≡ option_map (λ e. e.0) (highest self.now) }
+    {
+        self.heads.last_key_value().map(|(depth, _)| *depth)
+    }
+
+    /// The depth of the head of the least depth, or `None` where there is none. Ports
+    /// `CycleHeads::opt_lowest_cycle_head_index`.
+    pub fn opt_lowest_cycle_head_index(&self) -> Option<StackDepth>
+        ensures { result ≡ option_map (λ e. e.0) (lowest self.now) }
+    {
+        self.heads.first_key_value().map(|(depth, _)| *depth)
+    }
+
+    /// Records a head. One that is there already keeps its paths and counts at most one more usage
+    /// of each kind. Only a new head takes memory, and a refusal changes nothing. Ports
+    /// `CycleHeads::insert`.
+    pub fn insert(
+        &mut self,
+        head: StackDepth,
+        paths: PathsToNested,
+        usages: HeadUsages,
+    ) -> Result<(), NoMemory>
+        ensures ok { OnOk result (self.new ≡ with_head self.old head paths usages) }
+        ensures err { OnErr result (self.new ≡ self.old) }
+        ensures known { IsSome (at_depth self.old head) → IsOk result }
+    {
+        let joined = self.joined(head, paths, usages);
+        self.heads.insert(head, joined)?;
+        Ok(())
+    }
+
+    // The head with these paths and usages more.
+    fn joined(&self, head: StackDepth, paths: PathsToNested, usages: HeadUsages) -> CycleHead
+        ensures { result ≡ joined_head (at_depth self.now head) paths usages }
+    {
+        match self.heads.get(&head) {
+            Some(known) => known.join(paths, usages),
+            None => CycleHead {
+                paths_to_head: paths,
+                usages,
+            },
+        }
+    }
+
+    /// Takes away usages that were counted for the head. Ports `CycleHeads::ignore_usages`.
+    pub fn ignore_usages(&mut self, head: StackDepth, usages: HeadUsages)
+        requires { IsSomeAnd (at_depth self.old head)
+            (λ known. (kind : PathKind) → count_of usages kind ≤ count_of known.usages kind) }
+        ensures { IfSome (at_depth self.old head)
+            (λ known. self.new ≡ replace_head self.old head (record known { usages = without_usages known.usages usages })) }
+    {
+        let known = self.heads.get_mut(&head).unwrap();
+        known.usages.ignore_usages(usages);
+    }
+
+    /// The heads by rising depth. Ports `CycleHeads::iter`.
+    pub fn iter(&self) -> btree_map::Iter<'_, StackDepth, CycleHead>
+        ensures heads { result ≡ self.now }
+        ensures rising { IsRising self.now }
+        ensures fits { length self.now < 2 ^ 63 }
+    {
+        self.heads.iter()
+    }
+}
+
+/// A head that is recorded, or replaced, is found at its depth, and other depths keep what they have.
+pub fn heads_are_found_by_depth()
+    ensures recorded { (heads : Heads) (depth : StackDepth) (paths : PathsToNested) (usages : HeadUsages)
+        → at_depth (with_head heads depth paths usages) depth ≡ Some (joined_head (at_depth heads depth) paths usages) }
+    ensures others { (heads : Heads) (depth other : StackDepth) (paths : PathsToNested) (usages : HeadUsages)
+        → other.0 ≢ depth.0 → at_depth (with_head heads depth paths usages) other ≡ at_depth heads other }
+    ensures replaced { (heads : Heads) (depth : StackDepth) (head : CycleHead)
+        → IsSome (at_depth heads depth) → at_depth (replace_head heads depth head) depth ≡ Some head }
+    ensures not_replaced { (heads : Heads) (depth other : StackDepth) (head : CycleHead)
+        → other.0 ≢ depth.0 → at_depth (replace_head heads depth head) other ≡ at_depth heads other }
+{}
+
+#[cfg(test)]
+mod tests {
+    use super::*;
+    use std::test::Fail;
+
+    fn usages(inductive: u32, coinductive: u32) -> HeadUsages
+        ensures inductive { result.inductive ≡ inductive }
+        ensures unknown { result.unknown ≡ 0 }
+        ensures coinductive { result.coinductive ≡ coinductive }
+        ensures forced_ambiguity { result.forced_ambiguity ≡ 0 }
+    {
+        HeadUsages {
+            inductive,
+            coinductive,
+            ..HeadUsages::default()
+        }
+    }
+
+    #[test]
+    fn a_known_head_joins_paths_and_counts_once(rt: HostRuntime) -> Result<(), Fail> {
+        let depth = StackDepth::new(0);
+        let mut heads = CycleHeads::new(rt.alloc());
+        heads.insert(depth, PathsToNested::INDUCTIVE, usages(0, 5))?;
+        assert!(rt; !heads.is_empty());
+        let (highest, head) = heads.highest_cycle_head();
+        assert_eq!(rt; highest, depth);
+        assert_eq!(rt; head.paths_to_head, PathsToNested::INDUCTIVE);
+        assert_eq!(rt; head.usages, usages(0, 5));
+        heads.insert(depth, PathsToNested::COINDUCTIVE, usages(2, 5))?;
+        assert!(rt; !heads.is_empty());
+        let (_, head) = heads.highest_cycle_head();
+        assert_eq!(rt;
+            head.paths_to_head,
+            PathsToNested::INDUCTIVE.union(PathsToNested::COINDUCTIVE)
+        );
+        assert_eq!(rt; head.usages, usages(1, 6));
+        Ok(())
+    }
+
+    #[test]
+    fn a_stuck_count_of_a_head_stays(rt: HostRuntime) -> Result<(), Fail> {
+        let depth = StackDepth::new(3);
+        let mut heads = CycleHeads::new(rt.alloc());
+        for count in [u32::MAX, 5] {
+            heads.insert(depth, PathsToNested::EMPTY, usages(count, 0))?;
+            assert!(rt; !heads.is_empty());
+            assert_eq!(rt; heads.highest_cycle_head().1.usages, usages(u32::MAX, 0));
+        }
+        Ok(())
+    }
+
+    #[test]
+    fn heads_are_walked_and_taken_by_depth(rt: HostRuntime) -> Result<(), Fail> {
+        let mut heads = CycleHeads::new(rt.alloc());
+        assert_eq!(rt; heads.opt_highest_cycle_head_index(), None);
+        assert_eq!(rt; heads.opt_lowest_cycle_head_index(), None);
+        for depth in [4, 1, 9] {
+            heads.insert(StackDepth::new(depth), PathsToNested::UNKNOWN, usages(1, 0))?;
+        }
+        let mut depths = heads.iter().map(|(depth, _)| depth.index());
+        assert_eq!(rt; depths.next(), Some(1));
+        assert_eq!(rt; depths.next(), Some(4));
+        assert_eq!(rt; depths.next(), Some(9));
+        assert_eq!(rt; depths.next(), None);
+        assert_eq!(rt;
+            heads.opt_lowest_cycle_head_index(),
+            Some(StackDepth::new(1))
+        );
+        assert!(rt; !heads.is_empty());
+        assert_eq!(rt; heads.highest_cycle_head_index(), StackDepth::new(9));
+        assert_eq!(rt; heads.remove_highest_cycle_head().usages, usages(1, 0));
+        assert_eq!(rt;
+            heads.opt_highest_cycle_head_index(),
+            Some(StackDepth::new(4))
+        );
+        Ok(())
+    }
+
+    #[test]
+    fn usages_of_a_head_are_ignored(rt: HostRuntime) -> Result<(), Fail> {
+        let depth = StackDepth::new(2);
+        let mut heads = CycleHeads::new(rt.alloc());
+        heads.insert(depth, PathsToNested::INDUCTIVE, usages(3, 0))?;
+        heads.ignore_usages(depth, usages(2, 0));
+        assert!(rt; !heads.is_empty());
+        assert_eq!(rt; heads.highest_cycle_head().1.usages, usages(1, 0));
+        Ok(())
+    }
+}

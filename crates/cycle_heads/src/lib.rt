@@ -1,0 +1,16 @@
+//! What cycles are recorded by, none of which needs a context: kinds of paths and sets of them, places on the
+//! stack, counts of usages, and the maps of heads and of candidates.
+//!
+//! | File of `specs/` | Has |
+//! |---|---|
+//! | `Path`, `Paths` | kinds of paths, and sets of them |
+//! | `Usages`, `Heads`, `Candidates` | counts of usages, and the maps of heads and candidates |
+//! | `HeadShapes` | the heads of an answer as the theory of open graphs sees them |
+#![tactic(auto)]
+
+pub mod candidates;
+pub mod depth;
+pub mod heads;
+pub mod memory;
+pub mod path;
+pub mod usages;

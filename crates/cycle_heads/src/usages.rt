@@ -1,0 +1,174 @@
+//! How often, and by cycles of which kinds, a goal on the stack was used.
+ghost use Rattle.std.specs.Prelude.{◌≡◌, ◌≢◌, ◌≤◌, ◌↔◌, IsTrue};
+ghost use Rattle.cycle_heads.specs.declared.path.PathKind.{PathKind};
+ghost use Rattle.cycle_heads.specs.Usages.{count_of, count_without, other_usages, with_nested, with_usage, with_usages, without_usages};
+
+use crate::path::PathKind;
+
+/// How often a goal on the stack was used, counted by the kind of the cycle. A count sticks at
+/// `u32::MAX` and is never subtracted from then. Ports `HeadUsages`.
+#[derive(Clone, Copy, Debug, Default, PartialEq, Eq)]
+pub struct HeadUsages {
+    pub inductive: u32,
+    pub unknown: u32,
+    pub coinductive: u32,
+    pub forced_ambiguity: u32,
+}
+
+impl HeadUsages {
+    /// Counts one more cycle of the kind. Ports `HeadUsages::add_usage`.
+    pub fn add_usage(&mut self, kind: PathKind)
+        ensures { self.new ≡ with_usage self.old kind }
+    {
+        match kind {
+            PathKind::Inductive => self.inductive = self.inductive.saturating_add(1),
+            PathKind::Unknown => self.unknown = self.unknown.saturating_add(1),
+            PathKind::Coinductive => self.coinductive = self.coinductive.saturating_add(1),
+            PathKind::ForcedAmbiguity => {
+                self.forced_ambiguity = self.forced_ambiguity.saturating_add(1);
+            }
+        }
+    }
+
+    /// Counts one more cycle of each kind that a nested goal used, however often it did so. Ports
+    /// `HeadUsages::add_usages_from_nested`.
+    pub fn add_usages_from_nested(&mut self, usages: HeadUsages)
+        ensures { self.new ≡ with_nested self.old usages }
+    {
+        self.add_usages(HeadUsages {
+            inductive: usages.inductive.min(1),
+            unknown: usages.unknown.min(1),
+            coinductive: usages.coinductive.min(1),
+            forced_ambiguity: usages.forced_ambiguity.min(1),
+        });
+    }
+
+    // Adds each count.
+    pub(crate) fn add_usages(&mut self, usages: HeadUsages)
+        ensures { self.new ≡ with_usages self.old usages }
+    {
+        self.inductive = self.inductive.saturating_add(usages.inductive);
+        self.unknown = self.unknown.saturating_add(usages.unknown);
+        self.coinductive = self.coinductive.saturating_add(usages.coinductive);
+        self.forced_ambiguity = self
+            .forced_ambiguity
+            .saturating_add(usages.forced_ambiguity);
+    }
+
+    /// Takes away usages that were counted, except from a count that sticks. Ports
+    /// `HeadUsages::ignore_usages`.
+    pub fn ignore_usages(&mut self, usages: HeadUsages)
+        requires { (kind : PathKind) → count_of usages kind ≤ count_of self.old kind }
+        ensures { self.new ≡ without_usages self.old usages }
+    {
+        self.inductive = subtract(self.inductive, usages.inductive);
+        self.unknown = subtract(self.unknown, usages.unknown);
+        self.coinductive = subtract(self.coinductive, usages.coinductive);
+        self.forced_ambiguity = subtract(self.forced_ambiguity, usages.forced_ambiguity);
+    }
+
+    /// Whether there was no cycle at all. Ports `HeadUsages::is_empty`.
+    pub fn is_empty(self) -> bool
+        ensures { IsTrue result ↔ ((kind : PathKind) → count_of self kind ≡ 0) }
+    {
+        self == HeadUsages::default()
+    }
+
+    /// Whether there was no cycle of another kind. Ports `HeadUsages::is_single`.
+    pub fn is_single(self, kind: PathKind) -> bool
+        ensures { IsTrue result ↔ ((other : PathKind) → other ≢ kind → count_of self other ≡ 0) }
+    {
+        self.other_usages(kind).is_empty()
+    }
+
+    // The counts of the other kinds.
+    fn other_usages(self, kind: PathKind) -> HeadUsages
+        ensures { result ≡ other_usages self kind }
+    {
+        match kind {
+            PathKind::Inductive => HeadUsages {
+                inductive: 0,
+                ..self
+            },
+            PathKind::Unknown => HeadUsages { unknown: 0, ..self },
+            PathKind::Coinductive => HeadUsages {
+                coinductive: 0,
+                ..self
+            },
+            PathKind::ForcedAmbiguity => HeadUsages {
+                forced_ambiguity: 0,
+                ..self
+            },
+        }
+    }
+}
+
+// A count without those that are ignored, unless it sticks.
+fn subtract(count: u32, ignored: u32) -> u32
+    requires { ignored ≤ count }
+    ensures { result ≡ count_without count ignored }
+{
+    if count == u32::MAX {
+        count
+    } else {
+        count - ignored
+    }
+}
+
+#[cfg(test)]
+mod tests {
+    use super::*;
+
+    fn usages(inductive: u32, unknown: u32, coinductive: u32, forced_ambiguity: u32) -> HeadUsages
+        ensures inductive { result.inductive ≡ inductive }
+        ensures unknown { result.unknown ≡ unknown }
+        ensures coinductive { result.coinductive ≡ coinductive }
+        ensures forced_ambiguity { result.forced_ambiguity ≡ forced_ambiguity }
+    {
+        HeadUsages {
+            inductive,
+            unknown,
+            coinductive,
+            forced_ambiguity,
+        }
+    }
+
+    #[test]
+    fn nested_usages_count_once(rt: HostRuntime) {
+        let mut counts = usages(1, 0, 0, 0);
+        counts.add_usages_from_nested(usages(3, 0, 1, 0));
+        assert_eq!(rt; counts, usages(2, 0, 1, 0));
+        let mut stuck = usages(0, 0, u32::MAX, 0);
+        stuck.add_usages_from_nested(usages(0, 0, 7, 0));
+        assert_eq!(rt; stuck, usages(0, 0, u32::MAX, 0));
+    }
+
+    #[test]
+    fn a_stuck_count_stays(rt: HostRuntime) {
+        let mut counts = usages(u32::MAX - 1, 0, 0, 0);
+        counts.add_usage(PathKind::Inductive);
+        assert_eq!(rt; counts.inductive, u32::MAX);
+        counts.ignore_usages(usages(1, 0, 0, 0));
+        assert_eq!(rt; counts.inductive, u32::MAX);
+        let all = counts;
+        counts.ignore_usages(all);
+        assert_eq!(rt; counts, usages(u32::MAX, 0, 0, 0));
+        assert!(rt; !counts.is_empty());
+    }
+
+    #[test]
+    fn the_greatest_count_that_is_exact_can_be_ignored(rt: HostRuntime) {
+        let mut counts = usages(u32::MAX - 1, 0, 0, 0);
+        let all = counts;
+        counts.ignore_usages(all);
+        assert!(rt; counts.is_empty());
+    }
+
+    #[test]
+    fn usages_of_one_kind_are_single(rt: HostRuntime) {
+        let counts = usages(0, 0, 2, 0);
+        assert!(rt; counts.is_single(PathKind::Coinductive));
+        assert!(rt; !counts.is_single(PathKind::Inductive));
+        assert!(rt; HeadUsages::default().is_single(PathKind::Unknown));
+    }
+}

@@ -1,7 +1,0 @@
-use Rattle.search_parts.proofs.Counts.{none_by_test}
-use Rattle.search_parts.proofs.parts.usages.HeadUsages.is_empty.Goals as goal
-
-pub returns : goal.returns
-returns c =
-    let zero = c.default.ensures in
-    none_by_test _ _ _ zero.0 zero.1.0 zero.1.1.0 zero.1.1.1 c.eq.ensures
