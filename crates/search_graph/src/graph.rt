@@ -134,10 +134,13 @@ impl<D: Delegate> SearchGraph<D> {
         // A fault is want of memory, a request of some goal's script out of order, or another result that is stored.
         ensures faults { IfErr result (IsCaused D.Delegate D.Cx.Cx D.Cx.Input.eq cache.new) }
 
-        // The frames that are started are within a bound, and a limit has its price in frames.
+        // The frames that are started are within a bound, and a limit has its price in frames. Until one is met, no
+        // result is stored that met overflow.
         ensures frames { D.starts inspect.new ≤ D.starts inspect.old + frames_within (max 1 D.FIXPOINT_STEP_LIMIT) (D.width cache.old.cx) self.old.root_depth }
         ensures price { D.counts ≡ true → HaveNoOverflow D.Cx.Input.eq cache.old.results → self.old.limits_met ≡ false → self.new.limits_met ≡ true →
             IsPaid (max 1 D.FIXPOINT_STEP_LIMIT) self.old.root_depth D.last (D.starts inspect.old) (D.starts inspect.new) }
+        ensures no_overflow { D.counts ≡ true → HaveNoOverflow D.Cx.Input.eq cache.old.results → self.old.limits_met ≡ false → self.new.limits_met ≡ false →
+            HaveNoOverflow D.Cx.Input.eq cache.new.results }
 
         ensures same_depth { self.new.root_depth ≡ self.old.root_depth }
         ensures limits_stay { self.old.limits_met ≡ true → self.new.limits_met ≡ true }

@@ -104,3 +104,15 @@ pub returns-in-Err-clause-stored : goal.returns-in-Err-clause-stored
 returns-in-Err-clause-stored g c =
     rw (← c.self.view_is)
     (call_is_stored _ c.self.inside.root_depth.0 _ _ c.self.inside.limits_met c.evaluate.new.limits_met c.args.cache.now c.evaluate.new.cache c.evaluate.result (Err c.in-Err.fault) c.in-Err.is c.evaluate.ensures.stored)
+
+pub returns-in-Ok-clause-no_overflow : goal.returns-in-Ok-clause-no_overflow
+returns-in-Ok-clause-no_overflow g c =
+    let fits : c.self.inside.root_depth.0 < 2 ^ 64 = omega arith in
+    rw (← c.self.view_is)
+    (λ counted none unmet still. (c.in-Ok.ensures.keeps (call_of c.args.input c.self.inside.root_depth.0 (g.D.Delegate.starts c.args.inspect.now) c.self.inside.limits_met true false fits) (call_begins g.D.Delegate g.D.Cx.Cx c.args.cache.now.cx g.D.Cx.Input.PartialEq.eq c.args.input c.self.inside.root_depth.0 (g.D.Delegate.starts c.args.inspect.now) c.self.inside.limits_met fits c.args.cache.now.results true false (λ e. none) (λ e. absurd cc))).overflow (counted, unmet, refl) still)
+
+pub returns-in-Err-clause-no_overflow : goal.returns-in-Err-clause-no_overflow
+returns-in-Err-clause-no_overflow g c =
+    let fits : c.self.inside.root_depth.0 < 2 ^ 64 = omega arith in
+    rw (← c.self.view_is)
+    (λ counted none unmet still. (c.in-Err.ensures.keeps (call_of c.args.input c.self.inside.root_depth.0 (g.D.Delegate.starts c.args.inspect.now) c.self.inside.limits_met true false fits) (call_begins g.D.Delegate g.D.Cx.Cx c.args.cache.now.cx g.D.Cx.Input.PartialEq.eq c.args.input c.self.inside.root_depth.0 (g.D.Delegate.starts c.args.inspect.now) c.self.inside.limits_met fits c.args.cache.now.results true false (λ e. none) (λ e. absurd cc))).overflow (counted, unmet, refl) still)
