@@ -14,7 +14,7 @@ use search_parts::global_cache::GlobalCache;
 use search_parts::path::PathKind;
 use std::alloc::{AllocError, Global};
 use std::io;
-use std::io::{Read, Write};
+use std::io::{BufWriter, Read, Write};
 use thiserror::Error;
 
 /// The most bytes that are read at a time.
@@ -153,8 +153,10 @@ where
     X: Cx<Input = Goal, Result = Outcome>,
     D: Delegate<Cx = X, ProofTreeBuilder = Builder>,
     W: Write,
-    ensures fault { IfErr result (λ stop. stop ≡ Stop.InputOrOutput) }
+    ensures fault { IfErr result (λ stop. (stop ≡ Stop.InputOrOutput) ⊎ (stop ≡ Stop.Memory)) }
 {
+    // A write of its own for each line would take longer than a question that the cache answers.
+    let mut out = BufWriter::new(alloc, out).map_err(|_| Stop::Memory)?;
     let mut cache = GlobalCache::<D>::new(alloc, cx);
     let mut all_answered = true;
     for (depth, goal) in rules.questions() {
@@ -175,6 +177,7 @@ where
             }
         }
     }
+    out.flush()?;
     Ok(all_answered)
 }
 

@@ -264,8 +264,11 @@ fn a_list_has_an_answer_for_each_query(rt: HostRuntime) -> Result<(), Fail> {
             .ok_or("an example without answers")?;
         let rules = Rules::read(rt.alloc(), text.as_bytes())?;
         let cx = Table { lender: &rules };
-        let mut cache = GlobalCache::<TableDelegate<'_, 8, 1>>::new(rt.alloc(), cx);
-        let given = answers_of_list(rt.alloc(), &mut cache, &rules)?;
+        let given = answers_of_lists::<Table<&Rules>, TableDelegate<'_, 8, 1>>(
+            rt.alloc(),
+            cx,
+            &rules,
+        )?;
         assert_eq!(rt;
             given.as_slice(),
             wanted.as_bytes(),
@@ -286,14 +289,26 @@ fn first_wrong(alloc: Global, examples: &str) -> Result<Option<&str>, Fail> {
             .ok_or("an example that stores nothing")?;
         let rules = Rules::read(alloc, text.as_bytes())?;
         let cx = Table { lender: &rules };
-        let mut cache = GlobalCache::<TableDelegate<'_, 8, 1>>::new(alloc, cx);
-        let given = worked::answers(alloc, &mut cache, &rules)?;
-        let stored = stored_results(alloc, &cache, &rules)?;
+        let (given, stored) = answers_and_stored::<Table<&Rules>, TableDelegate<'_, 8, 1>>(
+            alloc, cx, &rules,
+        )?;
         if given.as_slice() != wanted.as_bytes() || stored.as_slice() != kept.as_bytes() {
             return Ok(Some(example));
         }
     }
     Ok(None)
+}
+
+/// A line for each question of the table, over one cache, and one for each result that is stored then.
+fn answers_and_stored<X, D>(alloc: Global, cx: X, rules: &Rules) -> Result<(Vec<u8>, Vec<u8>), Fail>
+where
+    X: Cx<Input = Goal, Result = Outcome>,
+    D: Delegate<Cx = X, ProofTreeBuilder = Builder>,
+{
+    let mut cache = GlobalCache::<D>::new(alloc, cx);
+    let given = worked::answers_over(alloc, &mut cache, rules)?;
+    let stored = stored_results(alloc, &cache, rules)?;
+    Ok((given, stored))
 }
 
 /// A line for each stored result, the goals in the order of their names.
@@ -335,15 +350,12 @@ fn start_line(lines: &mut Vec<u8>, letter: u8) -> Result<(), Fail> {
 
 /// A line for the answer to each question of the table, and one for the frames that they start together. The first question
 /// is a list of its own, and so are the others; and a list without questions follows.
-fn answers_of_list<X, D>(
-    alloc: Global,
-    cache: &mut GlobalCache<D>,
-    rules: &Rules,
-) -> Result<Vec<u8>, Fail>
+fn answers_of_lists<X, D>(alloc: Global, cx: X, rules: &Rules) -> Result<Vec<u8>, Fail>
 where
     X: Cx<Input = Goal, Result = Outcome>,
     D: Delegate<Cx = X, ProofTreeBuilder = Builder>,
 {
+    let mut cache = GlobalCache::<D>::new(alloc, cx);
     let mut queries = Vec::new(alloc);
     for (depth, goal) in rules.questions() {
         queries.push((*depth, *goal, PathKind::Inductive))?;
@@ -352,7 +364,7 @@ where
     let mut builder = Builder::new(true);
     let mut answers = Vec::new(alloc);
     for list in [first, others, &[]] {
-        SearchGraph::<D>::evaluate_list(cache, list, &mut builder, &mut answers)?;
+        SearchGraph::<D>::evaluate_list(&mut cache, list, &mut builder, &mut answers)?;
     }
     if answers.len() != queries.len() {
         return Err("another number of answers")?;

@@ -155,8 +155,9 @@ fn first_wrong<'a, const LIMIT: usize, const PROVISIONAL: usize>(
             .ok_or("an example without answers")?;
         let rules = Rules::read(alloc, text.as_bytes())?;
         let cx = Table { lender: &rules };
-        let mut cache = GlobalCache::<TableDelegate<'_, LIMIT, PROVISIONAL>>::new(alloc, cx);
-        let given = answers(alloc, &mut cache, &rules)?;
+        let given = answers::<Table<&Rules>, TableDelegate<'_, LIMIT, PROVISIONAL>>(
+            alloc, cx, &rules,
+        )?;
         if given.as_slice() != wanted.as_bytes() {
             return Ok(Some(example));
         }
@@ -164,8 +165,18 @@ fn first_wrong<'a, const LIMIT: usize, const PROVISIONAL: usize>(
     Ok(None)
 }
 
-/// A line for each question of the table, over this cache.
-pub fn answers<X, D>(
+/// A line for each question of the table, over one cache.
+fn answers<X, D>(alloc: Global, cx: X, rules: &Rules) -> Result<Vec<u8>, Fail>
+where
+    X: Cx<Input = Goal, Result = Outcome>,
+    D: Delegate<Cx = X, ProofTreeBuilder = Builder>,
+{
+    let mut cache = GlobalCache::<D>::new(alloc, cx);
+    answers_over(alloc, &mut cache, rules)
+}
+
+/// The same over this cache.
+pub fn answers_over<X, D>(
     alloc: Global,
     cache: &mut GlobalCache<D>,
     rules: &Rules,
