@@ -1,5 +1,5 @@
 -- The newest goal, read and changed.
-use Rattle.std.proofs.Common.{◌≡◌, ℕ, ◌-◌, ◌<◌, List, [], ◌∷◌, length, get_or, slice_set, Bool, Option, Some, None, IfSome, Result, Ok, Err, OnOk, option_map, refl, sym, ap, ◌∙◌, subst, arith}
+use Rattle.std.proofs.Common.{◌≡◌, ℕ, ◌-◌, ◌<◌, List, [], ◌∷◌, length, get_or, slice_set, Bool, Option, Some, None, IfSome, Result, Ok, Err, OnOk, option_map, sym, ap, ◌∙◌, subst, arith}
 use Rattle.search_parts.specs.Lent.{change_last}
 use Rattle.search_parts.specs.declared.parts.stack.StackEntry.{StackEntry}
 use Rattle.search_parts.specs.declared.parts.stack.EntryState.{EntryState}

@@ -1,5 +1,5 @@
 -- The answer to a question whose goal is under evaluation already.
-use Rattle.std.proofs.Common.{◌≡◌, ◌≢◌, ℕ, suc, ◌+◌, ◌<◌, max, Bool, true, false, if◌then◌else◌, List, [], ◌∷◌, ◌++◌, map, reverse, length, drop, get_or, Option, None, Some, option_map, unwrap_or, slice_get, refl, sym, ap, ◌∙◌, subst, inl, inr, arith, IsTrue, zero-add}
+use Rattle.std.proofs.Common.{◌≡◌, ◌≢◌, ℕ, suc, ◌+◌, ◌<◌, max, Bool, true, false, if◌then◌else◌, List, [], ◌∷◌, ◌++◌, map, reverse, length, drop, get_or, Option, None, Some, option_map, unwrap_or, slice_get, refl, sym, ap, ◌∙◌, subst, inl, inr, arith, IsTrue}
 use Rattle.std.specs.Option.{IsSomeAnd}
 use Rattle.std.specs.List.{position}
 use Rattle.std.proofs.lemmas.Grind.{reverse_onto}
@@ -30,7 +30,6 @@ use Rattle.cycle_heads.specs.Usages.{count_of, no_usages, with_usage}
 use Rattle.cycle_heads.proofs.HeadLists.{at_depth-first}
 use Rattle.cycle_heads.proofs.HeadShapes.{IsIn, in_head}
 use Rattle.cycle_heads.proofs.PathRanks.{greater_rank}
-use Rattle.cycle_heads.specs.HeadShapes.{head_shape}
 use Rattle.search_graph.specs.declared.graph.open_goals.Run.{Run}
 use Rattle.search_graph.specs.Entries.{cycle_head}
 use Rattle.search_graph.specs.Items.{AnswersNewest}

@@ -1,5 +1,5 @@
 -- Each move keeps the goals under evaluation decided.
-use Rattle.std.proofs.Common.{◌≡◌, ◌≢◌, ℕ, zero, suc, ◌+◌, Bool, true, false, if◌then◌else◌, List, [], ◌∷◌, ◌++◌, map, reverse, drop, Option, None, Some, unwrap_or, slice_get, option_map, refl, sym, ap, ◌∙◌, subst, inl, inr, arith}
+use Rattle.std.proofs.Common.{◌≡◌, ◌≢◌, ℕ, zero, suc, ◌+◌, Bool, true, false, if◌then◌else◌, List, [], ◌∷◌, ◌++◌, map, reverse, drop, Option, None, Some, unwrap_or, slice_get, refl, sym, ap, ◌∙◌, subst, inl, inr, arith}
 use Rattle.std.specs.Option.{IfSome}
 use Rattle.std.proofs.lemmas.Grind.{reverse_onto}
 use Rattle.std.proofs.lemmas.List.{drop-map, map-append}
@@ -14,7 +14,6 @@ use Rattle.search_parts.specs.Decisive.{IsDecidedKind, IsDecidedReply, AreDecide
 use Rattle.search_parts.specs.Definite.{IsDefinite}
 use Rattle.search_parts.specs.Delegate.{IsCycleResult}
 use Rattle.cycle_heads.specs.Path.{greater_kind, greatest_kind, is_coinductive, is_inductive}
-use Rattle.search_parts.specs.Shapes.{verdict_of}
 use Rattle.search_graph.specs.declared.graph.open_goals.Run.{Run}
 use Rattle.search_graph.specs.Decided.{IsDecided, AllDecided}
 

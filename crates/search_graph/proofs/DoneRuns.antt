@@ -1,6 +1,5 @@
 -- What a run that ended came to, and what storing that keeps of the cache.
-use Rattle.std.proofs.Common.{◌≡◌, ◌≢◌, ℕ, ◌+◌, ◌<◌, ◌≤◌, ◌&&◌, ◌||◌, if◌then◌else◌, Bool, true, false, List, [], ◌∷◌, Option, None, Some, Result, Ok, Err, IfErr, option_map, refl, sym, ap, ap₂, ◌∙◌, subst, inl, inr, arith}
-use Rattle.std.proofs.lemmas.Bool.{cases_Bool}
+use Rattle.std.proofs.Common.{◌≡◌, ℕ, ◌<◌, ◌≤◌, ◌&&◌, ◌||◌, if◌then◌else◌, Bool, true, false, List, [], ◌∷◌, Some, Result, Ok, Err, IfErr, option_map, refl, sym, ap, ap₂, ◌∙◌, subst, inl, inr, arith}
 use Rattle.search_parts.specs.declared.context.Delegate as Delegate
 use Rattle.search_parts.specs.declared.context.Cx as Cx
 use Rattle.search_parts.specs.declared.context.Request.{Request}
@@ -12,17 +11,15 @@ use Rattle.search_parts.specs.declared.global_cache.results.StoredResult.{Stored
 use Rattle.search_parts.specs.declared.parts.stack.StackEntry.{StackEntry}
 use Rattle.search_parts.specs.Definite.{IsDefinite}
 use Rattle.search_parts.specs.Rank.{IsPlainTo, HasNoRank, IsPlain, IsBelowRank}
-use Rattle.search_parts.specs.Store.{Store, stored_at, same_key, Puts}
+use Rattle.search_parts.specs.Store.{Store, stored_at, same_key}
 use Rattle.search_parts.specs.Stored.{IsPlainAt}
 use Rattle.search_parts.proofs.Stores.{put_cases}
-use Rattle.evaluations.specs.Frames.{Outcome}
 use Rattle.evaluations.specs.Plain.{IsSafeOutcome}
 use Rattle.evaluations.proofs.Mirrors.{leaves_calm, leaves_safe, requested_fits}
 use Rattle.search_graph.specs.declared.graph.open_goals.Run.{Run}
-use Rattle.search_graph.specs.Calls.{Call, runs, limits, bound, IsCounted}
+use Rattle.search_graph.specs.Calls.{Call, limits, bound, IsCounted}
 use Rattle.search_graph.specs.Entries.{is_in_cycle}
-use Rattle.search_graph.specs.Evaluating.{Decidedly, KeepsStore, seen, HasAsked}
-use Rattle.search_graph.specs.Graph.{ComesTo}
+use Rattle.search_graph.specs.Evaluating.{KeepsStore, seen, HasAsked}
 use Rattle.search_graph.specs.Results.{AreDefinite, HaveNoOverflow, MayPut, Same, WithResult, MayPutNewest, NewestComesTo, NewestIsPlain, IsNewestPlainTo, place_of_item}
 use Rattle.search_graph.specs.Newest.{newest}
 use Rattle.search_graph.specs.Steps.{Stood}

@@ -1,5 +1,5 @@
 -- A run that is done, and its node.
-use Rattle.std.proofs.Common.{◌≡◌, ◌≢◌, ℕ, zero, suc, ◌<◌, Bool, true, false, IsTrue, if◌then◌else◌, ◌↔◌, List, [], ◌∷◌, map, reverse, ◌++◌, length, get_or, Contains, max, ◌==◌, ne_eqb, Option, None, Some, option_map, slice_get, refl, sym, ap, ap₂, ◌∙◌, subst, arith}
+use Rattle.std.proofs.Common.{◌≡◌, ◌≢◌, ℕ, Bool, true, false, IsTrue, if◌then◌else◌, ◌↔◌, List, [], ◌∷◌, map, ◌++◌, length, Contains, max, ◌==◌, ne_eqb, Option, None, Some, option_map, slice_get, refl, sym, ap, ◌∙◌, subst, arith}
 use Rattle.std.specs.Option.{IsSomeAnd}
 use Rattle.std.proofs.lemmas.Option.{slice_get_within, get_or_from_slice_get, slice_get-get_or}
 use Rattle.open_graphs.specs.Graph as theory
@@ -15,20 +15,17 @@ use Rattle.search_parts.specs.declared.parts.depth.AvailableDepth.{AvailableDept
 use Rattle.search_parts.specs.declared.parts.stack.StackEntry.{StackEntry}
 use Rattle.search_parts.specs.Delegate.{IsNeither}
 use Rattle.search_parts.specs.Graph.{question_of}
-use Rattle.search_parts.specs.Run.{IsFitting, IsInOrder, EndsIn, progress_after, questions_answered}
+use Rattle.search_parts.specs.Run.{EndsIn, progress_after, questions_answered}
 use Rattle.search_parts.specs.Cache.{EndedRun, CacheNode, open_node, open_goal, with_run, IsNodeOf, IsRun}
 use Rattle.search_parts.specs.Shapes.{verdict_of}
 use Rattle.search_graph.specs.declared.graph.open_goals.Run.{Run}
-use Rattle.search_graph.specs.declared.graph.open_goals.Next.{Next}
-use Rattle.search_graph.specs.declared.graph.open_goals.Next.TheVariants.{Step, Finished}
 use Rattle.search_graph.specs.declared.graph.progress.DefiniteAnswer.{DefiniteAnswer}
 use Rattle.search_graph.specs.NestedGoals.{NotesOverflow, TakesStored}
 use Rattle.search_parts.specs.LookUp.{Hit}
 use Rattle.search_graph.specs.Entries.{first_entry, joined_over, with_depth, TakesAnswer}
 use Rattle.search_graph.specs.Items.{AnswersNewest}
-use Rattle.search_graph.specs.Progress.{RunRecord, no_record, edges_of, Records}
-use Rattle.search_parts.specs.Definite.{HasGraph}
-use Rattle.search_graph.specs.Justified.{OpenRun, in_theory, ArePlaced, AreEdges, Asks, AreJustified, MayAnswer, IsFit}
+use Rattle.search_graph.specs.Progress.{RunRecord, no_record, edges_of}
+use Rattle.search_graph.specs.Justified.{OpenRun, in_theory, AreEdges, Asks, AreJustified, MayAnswer, IsFit}
 use Rattle.search_parts.specs.Definite.{IsDefinite}
 use Rattle.cycle_heads.specs.Heads.{Heads, at_depth}
 use Rattle.cycle_heads.specs.HeadShapes.{heads_shape}
@@ -41,8 +38,7 @@ use Rattle.search_parts.specs.declared.context.Request.TheVariants.{Evaluate}
 use Rattle.cycle_heads.proofs.HeadShapes.{IsIn, joined_after, joined_keeps}
 use Rattle.open_graphs.specs.Use.{Includes}
 use Rattle.open_graphs.specs.AnswerLaws.{TakesIn}
-use Rattle.search_graph.specs.Runs.{run_of, runs_of, IsJustifiedNext, IsDone, EndsNewest, EndsRun, IsSettled, Again, Ended, LeftOpen}
-use Rattle.search_graph.specs.Moves.{Leaves}
+use Rattle.search_graph.specs.Runs.{run_of, runs_of, EndsNewest, EndsRun, IsSettled, Again, Ended, LeftOpen}
 use Rattle.search_graph.proofs.Justified.{Settles, pushed_is_justified, grown_is_justified, again_settles, neither_settles, ended_settles}
 use Rattle.search_graph.proofs.ProgressEdges.{yes_edges_are, no_edges_are, edge_is_of_answer}
 use Rattle.search_graph.proofs.Replies.{verdict_is, in_theory_definite}

@@ -1,25 +1,20 @@
 -- Stored results rest on no goal under evaluation, whatever the newest goal notes; so each of them may answer its question.
-use Rattle.std.proofs.Common.{◌≡◌, ◌≢◌, Bool, List, [], ◌∷◌, map, length, Option, None, Some, refl, sym, ap, ◌∙◌, subst}
-use Rattle.std.specs.Option.{IsSomeAnd}
-use Rattle.open_graphs.specs.Graph as theory
-use Rattle.search_parts.specs.declared.context.NodeId.{NodeId}
+use Rattle.std.proofs.Common.{Bool, List, ◌∷◌, length, refl, sym, subst}
 use Rattle.search_parts.specs.declared.context.Request.{Request}
 use Rattle.search_parts.specs.declared.context.Reply.{Reply}
 use Rattle.search_parts.specs.declared.context.Reply.TheVariants.{Answer}
 use Rattle.cycle_heads.specs.declared.path.PathKind.{PathKind}
-use Rattle.cycle_heads.specs.declared.depth.StackDepth.{StackDepth}
 use Rattle.search_parts.specs.declared.parts.stack.StackEntry.{StackEntry}
 use Rattle.search_parts.specs.declared.global_cache.results.StoredResult.{StoredResult}
 use Rattle.search_parts.specs.Cache.{CacheNode}
 use Rattle.cycle_heads.specs.Heads.{Heads}
 use Rattle.search_parts.specs.LookUp.{Hit}
-use Rattle.search_parts.specs.Shapes.{verdict_of}
 use Rattle.search_parts.specs.Store.{Store}
 use Rattle.search_graph.specs.declared.graph.open_goals.Run.{Run}
 use Rattle.search_graph.specs.Entries.{with_depth, with_nested_goals}
 use Rattle.search_graph.specs.Free.{IsFree, AreFree}
 use Rattle.search_graph.specs.Items.{AnswersNewest}
-use Rattle.search_graph.specs.Justified.{OpenRun, Asks, IsFit}
+use Rattle.search_graph.specs.Justified.{Asks, IsFit}
 use Rattle.search_graph.specs.LookUp.{IsUsable}
 use Rattle.search_graph.specs.NestedGoals.{TakesStored, NotesOverflow}
 use Rattle.search_graph.specs.Runs.{run_of, runs_of}

@@ -1,28 +1,24 @@
 -- Each move of the driver keeps the goals under evaluation justified.
-use Rattle.std.proofs.Common.{◌≡◌, ◌≢◌, ℕ, zero, suc, ◌+◌, ◌<◌, Bool, true, false, cond, List, [], ◌∷◌, ◌++◌, map, filter, length, Option, None, Some, option_map, slice_get, slice_set, Contains, append-nil, refl, sym, ap, ◌∙◌, subst, inl, inr, arith}
+use Rattle.std.proofs.Common.{◌≡◌, ◌≢◌, ℕ, zero, suc, Bool, true, false, cond, List, [], ◌∷◌, ◌++◌, map, filter, length, Option, None, Some, option_map, slice_get, slice_set, append-nil, refl, sym, ap, ◌∙◌, subst, inl, inr}
 use Rattle.std.specs.Option.{IsSomeAnd, option_or}
 use Rattle.std.proofs.lemmas.List.{map-append, map-set, length-map}
 use Rattle.std.proofs.lemmas.List.Elements.{filter-append}
 use Rattle.open_graphs.specs.Graph as theory
 use Rattle.open_graphs.specs.Stack.{path_kind}
 use Rattle.open_graphs.specs.Graph.{IsGraph}
-use Rattle.open_graphs.specs.Use.{Use, Includes, Recorded, UsesNo}
+use Rattle.open_graphs.specs.Use.{Use, Includes, UsesNo}
 use Rattle.open_graphs.specs.State.{Frame, Kept, Final, stack_of, first_frame, next_frame, answering, OwnsOther, IsSound}
 use Rattle.open_graphs.specs.AnswerLaws.{with_edge, TakesIn}
 use Rattle.open_graphs.specs.Run.{Answered, Again, Anew, Without, IsAnswered, AllAnswered}
-use Rattle.open_graphs.proofs.Lists.{get_left, get_cases, get_set_other}
+use Rattle.open_graphs.proofs.Lists.{get_cases, get_set_other}
 use Rattle.open_graphs.proofs.States.{push_keeps_sound, answers_keep_sound, pop_keeps_sound, rerun_keeps_sound, start_is_sound, verdict_cases}
 use Rattle.open_graphs.proofs.Asked.{done_is_answered, one_answer_keeps_sound}
 use Rattle.open_graphs.proofs.Runs.{root_is_graph}
 use Rattle.open_graphs.proofs.Closed.{closed_is_graph}
 use Rattle.open_graphs.proofs.Keep.{heads_keep_use}
 use Rattle.cycle_heads.specs.declared.path.PathKind.{PathKind}
-use Rattle.search_parts.specs.declared.context.Verdict.{Verdict}
 use Rattle.search_parts.specs.declared.context.Edge.{Edge}
 use Rattle.search_parts.specs.declared.context.Request.{Request}
-use Rattle.search_parts.specs.declared.context.Request.TheVariants.{Evaluate}
-use Rattle.search_parts.specs.declared.context.Reply.{Reply}
-use Rattle.search_parts.specs.declared.context.Reply.TheVariants.{Answer}
 use Rattle.search_parts.specs.declared.context.NodeId.{NodeId}
 use Rattle.cycle_heads.specs.HeadShapes.{heads_shape}
 use Rattle.cycle_heads.specs.Heads.{Heads}
@@ -32,7 +28,7 @@ use Rattle.search_parts.specs.Shapes.{verdict_of, edge_shape, shape_of, shapes_o
 use Rattle.search_parts.proofs.Nodes.{KeepsNodes-appended, KeepsGoals-appended, before, with_run-is, KeepsGoals-ended}
 use Rattle.search_graph.specs.declared.graph.progress.DefiniteAnswer.{DefiniteAnswer}
 use Rattle.search_parts.specs.Definite.{HasGraph}
-use Rattle.search_graph.specs.Justified.{OpenRun, in_theory, edges_with, leads_to, frame_of, frames_of, AreOpen, LeadHome, ArePlaced, AllPlaced, AreEdges, Asks, AreAsked, AreJustified, MayAnswer, IsFit}
+use Rattle.search_graph.specs.Justified.{OpenRun, in_theory, edges_with, leads_to, frame_of, frames_of, AreOpen, LeadHome, AllPlaced, AreEdges, Asks, AreJustified, MayAnswer}
 use Rattle.search_graph.specs.Runs.{SaysAgain}
 
 -- ---- open nodes

@@ -8,10 +8,10 @@ use Rattle.search_parts.specs.declared.global_cache.look_up.CacheData.{CacheData
 use Rattle.search_parts.specs.declared.global_cache.results.Place.TheVariants.{Success, WithOverflow}
 use Rattle.search_parts.specs.declared.global_cache.results.StoredResult.{StoredResult}
 use Rattle.search_parts.specs.declared.parts.stack.StackEntry.{StackEntry}
-use Rattle.search_parts.specs.LookUp.{Hit, hit_of, hit_at, first_accepted, usable}
+use Rattle.search_parts.specs.LookUp.{Hit, hit_of, first_accepted, usable}
 use Rattle.search_parts.specs.Nested.{NestedPaths, paths_at}
 use Rattle.search_parts.specs.Rank.{IsPlain, IsBelowRank}
-use Rattle.search_parts.specs.Store.{Store, stored_at}
+use Rattle.search_parts.specs.Store.{Store}
 use Rattle.search_parts.proofs.Stored.{used_holds}
 use Rattle.search_graph.specs.LookUp.{is_applicable, IsUsable}
 

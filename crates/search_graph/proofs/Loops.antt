@@ -3,14 +3,13 @@ use Rattle.std.proofs.Common.{◌≡◌, ℕ, ◌+◌, ◌<◌, ◌≤◌, ◌^�
 use Rattle.search_parts.specs.declared.context.Delegate as Delegate
 use Rattle.search_parts.specs.declared.context.Cx as Cx
 use Rattle.search_parts.specs.declared.context.Request.{Request}
-use Rattle.search_parts.specs.declared.context.Reply.{Reply}
 use Rattle.search_parts.specs.declared.context.Reply.TheVariants.{Begin}
 use Rattle.cycle_heads.specs.declared.path.PathKind.{PathKind}
 use Rattle.search_parts.specs.declared.parts.depth.AvailableDepth.{AvailableDepth}
 use Rattle.search_parts.specs.declared.parts.stack.StackEntry.{StackEntry}
 use Rattle.search_parts.specs.declared.context.Fault.{Fault}
 use Rattle.search_parts.specs.declared.context.Answer.{Answer}
-use Rattle.search_parts.specs.declared.context.Request.TheVariants.{Evaluate, Done}
+use Rattle.search_parts.specs.declared.context.Request.TheVariants.{Evaluate}
 use Rattle.search_parts.specs.Delegate.{CountsOne}
 use Rattle.search_parts.specs.Cache.{CacheNode}
 use Rattle.search_parts.specs.declared.context.Fault.TheVariants.{Memory}

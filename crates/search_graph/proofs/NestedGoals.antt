@@ -1,8 +1,7 @@
 -- The goals below the newest goal, and a stored result that it takes over.
-use Rattle.std.proofs.Common.{◌≡◌, ℕ, ◌-◌, ◌<◌, Bool, true, List, [], ◌∷◌, length, get_or, Result, Ok, Err, OnOk, refl, sym, ap, ◌∙◌, subst}
+use Rattle.std.proofs.Common.{◌≡◌, ◌-◌, ◌<◌, Bool, true, List, [], ◌∷◌, length, get_or, Result, Ok, Err, OnOk, sym, ap, ◌∙◌, subst}
 use Rattle.std.specs.Option.{option_map}
 use Rattle.cycle_heads.specs.declared.path.PathKind.{PathKind}
-use Rattle.cycle_heads.specs.declared.path.PathsToNested.{PathsToNested}
 use Rattle.search_parts.specs.declared.parts.stack.StackEntry.{StackEntry}
 use Rattle.search_parts.specs.declared.parts.stack.EntryState.{EntryState}
 use Rattle.search_parts.specs.Lent.{change_last}
@@ -10,8 +9,8 @@ use Rattle.search_parts.specs.LookUp.{Hit}
 use Rattle.search_parts.specs.Nested.{NestedPaths, joined_paths, paths_at, JoinsPaths}
 use Rattle.cycle_heads.specs.Paths.{extended, path_of_no_step}
 use Rattle.search_graph.specs.declared.graph.open_goals.Run.{Run}
-use Rattle.search_graph.specs.Entries.{overflowed, with_depth, with_nested_goals}
-use Rattle.search_graph.specs.NestedGoals.{TakesNestedGoals, Nothing, Joined, NotesOverflow, TakesStored}
+use Rattle.search_graph.specs.Entries.{with_depth, with_nested_goals}
+use Rattle.search_graph.specs.NestedGoals.{TakesNestedGoals, Joined, NotesOverflow, TakesStored}
 use Rattle.search_graph.specs.Newest.{paired}
 use Rattle.search_graph.proofs.Changes.{NewestState, newest_state}
 

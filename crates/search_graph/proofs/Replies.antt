@@ -1,5 +1,5 @@
 -- A reply that fits is sorted as the record wants it, and keeps the goals justified.
-use Rattle.std.proofs.Common.{◌≡◌, ◌≢◌, ℕ, Bool, true, false, IsTrue, if◌then◌else◌, ◌↔◌, List, [], ◌∷◌, ◌++◌, map, Option, None, Some, IsSome, refl, sym, ap, ◌∙◌, subst, inl, inr}
+use Rattle.std.proofs.Common.{◌≡◌, ◌≢◌, ℕ, Bool, true, false, IsTrue, if◌then◌else◌, ◌↔◌, List, [], ◌∷◌, Option, None, Some, IsSome, refl, sym, ◌∙◌, subst, inl, inr}
 use Rattle.std.specs.Option.{IsSomeAnd}
 use Rattle.open_graphs.specs.Graph as theory
 use Rattle.search_parts.specs.declared.context.Delegate as Delegate
@@ -16,16 +16,14 @@ use Rattle.search_parts.specs.declared.parts.stack.StackEntry.{StackEntry}
 use Rattle.search_parts.specs.Cache.{CacheNode}
 use Rattle.search_parts.specs.Shapes.{verdict_of}
 use Rattle.search_parts.specs.Run.{Fits, IsFitting, request_after}
-use Rattle.evaluations.specs.Frames.{Frame}
-use Rattle.evaluations.specs.Mirror.{Mirror}
 use Rattle.search_graph.specs.declared.graph.open_goals.Run.{Run}
 use Rattle.search_graph.specs.declared.graph.open_goals.Received.{Received}
 use Rattle.search_graph.specs.declared.graph.progress.DefiniteAnswer.{DefiniteAnswer}
-use Rattle.search_graph.specs.Progress.{RunRecord, received, requested, answered, answers_after, IsReplySorted, KeepsAnswer, open_number, edge_to}
-use Rattle.search_graph.specs.Justified.{OpenRun, in_theory, Asks, AreJustified, MayAnswer, IsFit}
+use Rattle.search_graph.specs.Progress.{RunRecord, received, answered, answers_after, IsReplySorted, KeepsAnswer, open_number, edge_to}
+use Rattle.search_graph.specs.Justified.{in_theory, AreJustified, MayAnswer, IsFit}
 use Rattle.search_graph.specs.Runs.{run_of, runs_of}
 use Rattle.search_graph.specs.Calls.{Call}
-use Rattle.search_graph.specs.Steps.{IsVerdict, HasStepped, received_by}
+use Rattle.search_graph.specs.Steps.{IsVerdict, HasStepped}
 use Rattle.search_graph.specs.Evaluating.{IsWaiting}
 use Rattle.search_graph.proofs.Justified.{requested_is_justified, answered_is_justified}
 use Rattle.search_graph.proofs.Moves.{can_step_record}

@@ -1,18 +1,15 @@
 -- What becomes of the goals once the run of the newest one has ended.
-use Rattle.std.proofs.Common.{◌≡◌, ◌≢◌, ℕ, ◌+◌, ◌<◌, ◌^◌, ◌||◌, Bool, List, [], ◌∷◌, ◌++◌, map, length, Option, None, Some, option_map, refl, sym, ap, ◌∙◌, subst, arith}
+use Rattle.std.proofs.Common.{◌≡◌, ◌≢◌, ◌+◌, ◌<◌, ◌^◌, ◌||◌, Bool, List, [], ◌∷◌, ◌++◌, length, Option, Some, option_map, refl, sym, ap, ◌∙◌, subst, arith}
 use Rattle.std.specs.Option.{IsSomeAnd, option_or}
 use Rattle.std.proofs.lemmas.List.{length-map, length-append}
-use Rattle.open_graphs.specs.Graph as theory
 use Rattle.open_graphs.specs.State.{stack_of}
 use Rattle.open_graphs.specs.AnswerLaws.{TakesIn}
 use Rattle.search_parts.specs.declared.context.Delegate as Delegate
 use Rattle.search_parts.specs.declared.context.Cx as Cx
 use Rattle.search_parts.specs.declared.context.NodeId.{NodeId}
 use Rattle.search_parts.specs.declared.context.Request.{Request}
-use Rattle.search_parts.specs.declared.context.Request.TheVariants.{Evaluate}
 use Rattle.search_parts.specs.declared.context.Reply.{Reply}
 use Rattle.search_parts.specs.declared.context.Reply.TheVariants.{Answer}
-use Rattle.cycle_heads.specs.declared.path.PathKind.{PathKind}
 use Rattle.cycle_heads.specs.declared.depth.StackDepth.{StackDepth}
 use Rattle.search_parts.specs.declared.parts.stack.StackEntry.{StackEntry}
 use Rattle.search_parts.specs.Cache.{CacheNode, open_node}
@@ -21,7 +18,6 @@ use Rattle.cycle_heads.specs.HeadShapes.{heads_shape}
 use Rattle.cycle_heads.specs.Path.{rank_of}
 use Rattle.search_parts.specs.Shapes.{verdict_of}
 use Rattle.search_graph.specs.declared.graph.open_goals.Run.{Run}
-use Rattle.search_graph.specs.declared.graph.open_goals.Next.{Next}
 use Rattle.search_graph.specs.declared.graph.open_goals.Next.TheVariants.{Step, Finished}
 use Rattle.search_graph.specs.Items.{AnswersNewest, rerun_with, with_no_record}
 use Rattle.search_graph.specs.Justified.{OpenRun, Asks, AreJustified, MayAnswer, IsFit, frame_of, frames_of}

@@ -1,35 +1,28 @@
 -- A stored result answers the newest goal's question, or the call.
-use Rattle.std.proofs.Common.{◌≡◌, ◌≢◌, ℕ, ◌+◌, ◌<◌, ◌≤◌, max, ◌||◌, Bool, true, false, List, [], ◌∷◌, length, map, Option, Some, None, refl, sym, ap, ◌∙◌, subst, arith}
-use Rattle.std.specs.Option.{option_map}
-use Rattle.std.proofs.lemmas.Bool.{cases_Bool}
+use Rattle.std.proofs.Common.{◌≡◌, ℕ, ◌<◌, ◌≤◌, ◌||◌, Bool, true, false, List, ◌∷◌, Some, None, refl, sym, ap, ◌∙◌, subst, arith}
 use Rattle.search_parts.specs.declared.context.Delegate as Delegate
 use Rattle.search_parts.specs.declared.context.Cx as Cx
 use Rattle.search_parts.specs.declared.context.Request.TheVariants.{Evaluate}
-use Rattle.search_parts.specs.declared.context.Reply.{Reply}
 use Rattle.search_parts.specs.declared.context.Reply.TheVariants.{Answer}
 use Rattle.cycle_heads.specs.declared.path.PathKind.{PathKind}
-use Rattle.search_parts.specs.declared.global_cache.results.Place.{Place}
-use Rattle.search_parts.specs.declared.global_cache.results.Place.TheVariants.{Success, WithOverflow}
+use Rattle.search_parts.specs.declared.global_cache.results.Place.TheVariants.{WithOverflow}
 use Rattle.search_parts.specs.declared.global_cache.results.StoredResult.{StoredResult}
 use Rattle.search_parts.specs.declared.parts.stack.StackEntry.{StackEntry}
-use Rattle.search_parts.specs.declared.parts.stack.EntryState.{EntryState}
 use Rattle.search_parts.specs.Definite.{IsDefinite}
 use Rattle.search_parts.specs.LookUp.{Hit}
 use Rattle.search_parts.specs.Nested.{NestedPaths}
-use Rattle.search_parts.specs.Rank.{IsPlainTo, frames_within}
+use Rattle.search_parts.specs.Rank.{IsPlainTo}
 use Rattle.search_parts.specs.Store.{Store, stored_at}
-use Rattle.evaluations.specs.Frames.{Frame, Outcome, answered, IsAllowed}
+use Rattle.evaluations.specs.Frames.{Outcome, answered, IsAllowed}
 use Rattle.evaluations.specs.Plain.{IsSafeOutcome}
-use Rattle.evaluations.specs.Mirror.{with_replies, TakesReply, Waits}
+use Rattle.evaluations.specs.Mirror.{with_replies, TakesReply}
 use Rattle.evaluations.proofs.Mirrors.{answered_waits}
 use Rattle.search_graph.specs.declared.graph.open_goals.Received.{Received}
 use Rattle.search_graph.specs.declared.graph.open_goals.Run.{Run}
-use Rattle.search_graph.specs.Calls.{Call, Outset, runs, limits, bound, IsCounted, KeepsLimits}
-use Rattle.search_graph.specs.Decided.{AllDecided}
+use Rattle.search_graph.specs.Calls.{Call, runs, limits, bound, IsCounted}
 use Rattle.search_graph.specs.Entries.{with_depth, with_nested_goals, is_in_cycle}
-use Rattle.search_graph.specs.Evaluating.{Begins, Decidedly, KeepsStore, seen, HasAsked, GoesOn, HasEnded}
+use Rattle.search_graph.specs.Evaluating.{Begins, KeepsStore, seen, HasAsked, GoesOn, HasEnded}
 use Rattle.search_graph.specs.LookUp.{IsUsable, UsesStored}
-use Rattle.search_graph.specs.NestedGoals.{TakesStored}
 use Rattle.search_graph.specs.Results.{AreDefinite, HaveNoOverflow}
 use Rattle.search_graph.specs.Steps.{Stood}
 use Rattle.search_graph.proofs.DecidedGoals.{changed_decided}

@@ -1,27 +1,22 @@
 -- What storing the answer of a goal that is done changes, and why it may fail.
-use Rattle.std.proofs.Common.{◌≡◌, ◌≢◌, ℕ, Bool, true, false, ◌||◌, if◌then◌else◌, List, [], ◌∷◌, Option, None, Some, Result, Ok, Err, IfErr, OnOk, OnErr, option_map, refl, sym, ap, ap₂, ◌∙◌, subst, inl, inr}
-use Rattle.std.proofs.lemmas.Bool.{cases_Bool}
+use Rattle.std.proofs.Common.{◌≡◌, ℕ, Bool, true, false, if◌then◌else◌, List, [], Option, None, Some, Result, Ok, Err, IfErr, OnOk, OnErr, option_map, refl, sym, ap, ◌∙◌, subst}
 use Rattle.std.specs.Cmp.{IsEquivalence}
 use Rattle.search_parts.specs.declared.context.Delegate as Delegate
 use Rattle.search_parts.specs.declared.context.Cx as Cx
 use Rattle.search_parts.specs.declared.context.Fault.{Fault}
 use Rattle.search_parts.specs.declared.context.Fault.TheVariants.{Conflict, Memory}
 use Rattle.search_parts.specs.declared.context.NodeId.{NodeId}
-use Rattle.search_parts.specs.declared.context.Request.{Request}
-use Rattle.search_parts.specs.declared.context.Reply.{Reply}
 use Rattle.search_parts.specs.declared.global_cache.results.Place.{Place}
 use Rattle.search_parts.specs.declared.global_cache.results.Place.TheVariants.{Success, WithOverflow}
 use Rattle.search_parts.specs.declared.global_cache.results.StoredResult.{StoredResult}
 use Rattle.search_parts.specs.declared.parts.result.EvaluationResult.{EvaluationResult}
-use Rattle.search_parts.specs.declared.parts.stack.StackEntry.{StackEntry}
 use Rattle.search_parts.specs.Cache.{Cache, AreRuns}
 use Rattle.search_parts.specs.Definite.{HasGraph}
 use Rattle.search_parts.specs.Question.{Question, Overlap}
 use Rattle.search_parts.specs.Store.{Store, stored_at, place_of, stored_from, AnswersStoring, Puts}
 use Rattle.search_parts.proofs.Bridge.{KeepsRule}
-use Rattle.search_graph.specs.declared.graph.open_goals.Run.{Run}
-use Rattle.search_graph.specs.Graph.{ComesTo, Conflicts, IsCaused, OutOfMemory, OtherResult}
-use Rattle.search_graph.specs.Results.{StoresAnswer, Kept, Put, MayPut, Same, WithResult, place_of_item, MayPutNewest}
+use Rattle.search_graph.specs.Graph.{ComesTo, IsCaused, OutOfMemory, OtherResult}
+use Rattle.search_graph.specs.Results.{StoresAnswer, Kept, Put, MayPut, Same, WithResult}
 use Rattle.search_graph.proofs.Promises.{yes_is_proved, no_is_refuted}
 
 module _ {X I R A T : Type 0} (same : I → I → Bool) (old new : Store I (StoredResult X I R A T)) (goal : I) (answer : EvaluationResult X I R A T) where

@@ -4,7 +4,7 @@ use Rattle.std.specs.Option.{IfSome}
 use Rattle.search_parts.specs.declared.context.Request.{Request}
 use Rattle.search_parts.specs.declared.context.Reply.{Reply}
 use Rattle.search_parts.specs.declared.parts.stack.StackEntry.{StackEntry}
-use Rattle.search_parts.specs.Decisive.{IsDecidedKind, IsDecidedReply, AreDecided, IsDecisive}
+use Rattle.search_parts.specs.Decisive.{IsDecidedKind, AreDecided, IsDecisive}
 use Rattle.search_parts.specs.Definite.{IsDefinite}
 use Rattle.search_graph.specs.declared.graph.open_goals.Run.{Run}
 

@@ -1,5 +1,5 @@
 -- What changes of a goal's entry while the goal is worked out.
-use Rattle.std.specs.Prelude.{◌≡◌, ℕ, ◌+◌, ◌==◌, max, if◌then◌else◌, Bool, true, false, ◌||◌, is_some, List, [], ◌∷◌, Option, None, Some, unwrap_or}
+use Rattle.std.specs.Prelude.{◌≡◌, ℕ, ◌+◌, ◌==◌, max, if◌then◌else◌, Bool, true, false, ◌||◌, is_some, [], ◌∷◌, Option, None, Some, unwrap_or}
 use Rattle.search_parts.specs.declared.context.NodeId.{NodeId}
 use Rattle.cycle_heads.specs.declared.path.PathKind.{PathKind}
 use Rattle.cycle_heads.specs.declared.depth.StackDepth.{StackDepth}

@@ -1,5 +1,5 @@
 -- Which stored results may be used over a stack, and what a used one is worth.
-use Rattle.std.specs.Prelude.{◌≡◌, ℕ, ◌≤◌, Bool, true, false, not, List, ◌∷◌, is_some, Some}
+use Rattle.std.specs.Prelude.{◌≡◌, ℕ, ◌≤◌, Bool, true, false, not, List, is_some, Some}
 use Rattle.std.specs.List.{list_any}
 use Rattle.cycle_heads.specs.declared.path.PathKind.{PathKind}
 use Rattle.search_parts.specs.declared.context.Request.{Request}

@@ -1,5 +1,4 @@
-use Rattle.std.proofs.Common.{◌<◌, ◌≡◌, ◌∙◌, ◌^◌, Ok, Err, true, false, refl, ap, sym, subst, arith}
-use Rattle.search_graph.specs.Graph.{IsProved, IsRefuted}
+use Rattle.std.proofs.Common.{◌<◌, ◌^◌, Ok, Err, true, false, refl, arith}
 use Rattle.search_graph.proofs.Loops.{call_of, call_begins, some_call_begins}
 use Rattle.search_graph.proofs.Promises.{call_is_stored, ended_plain, ended_within, ended_paid, stopped_within, stopped_paid, yes_is_proved, no_is_refuted, neither_is_none}
 use Rattle.search_graph.proofs.graph.SearchGraph.evaluate_goal.Goals as goal

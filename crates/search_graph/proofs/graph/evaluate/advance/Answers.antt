@@ -1,8 +1,7 @@
-use Rattle.std.proofs.Common.{◌≡◌, sym, ap, subst}
-use Rattle.search_parts.specs.declared.context.Fault.TheVariants.{Memory}
+use Rattle.std.proofs.Common.{sym, subst}
 use Rattle.search_graph.specs.Steps.{CanStep}
 use Rattle.search_graph.specs.Evaluating.{GoesOn, HasStopped, KeepsStore, work_left}
-use Rattle.search_graph.specs.Justified.{AreJustified, IsFit}
+use Rattle.search_graph.specs.Justified.{IsFit}
 use Rattle.search_graph.specs.Runs.{runs_of}
 use Rattle.search_graph.proofs.Moves.{can_step, noted_goes_on}
 use Rattle.search_graph.proofs.Questions.{if_err_and}

@@ -1,4 +1,4 @@
-use Rattle.std.proofs.Common.{◌≡◌, ◌∙◌, ◌<◌, ◌^◌, [], false, refl, sym, ap, subst, arith}
+use Rattle.std.proofs.Common.{◌∙◌, ◌<◌, ◌^◌, false, refl, sym, subst, arith}
 use Rattle.search_parts.specs.declared.context.Reply.TheVariants.{Begin}
 use Rattle.search_parts.proofs.Finished.{KeepsFinished-then}
 use Rattle.search_graph.specs.Evaluating.{IsWaiting, KeepsStore, HasEnded, HasStopped, work_left}

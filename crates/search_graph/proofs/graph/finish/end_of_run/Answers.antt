@@ -1,4 +1,4 @@
-use Rattle.std.proofs.Common.{◌<◌, ◌≤◌, ◌+◌, sym, arith}
+use Rattle.std.proofs.Common.{arith}
 use Rattle.std.proofs.lemmas.Grind.{common_steps}
 use Rattle.search_graph.specs.RunEnds.{Unused, Stable, Limited, Unstable}
 use Rattle.search_graph.proofs.Verdicts.{fails_at}

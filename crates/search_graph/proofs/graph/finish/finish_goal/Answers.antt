@@ -1,4 +1,4 @@
-use Rattle.std.proofs.Common.{[], ◌∷◌, ◌≡◌, ◌+◌, ◌<◌, ◌^◌, ◌||◌, length, refl, sym, ap, subst, ◌∙◌, arith}
+use Rattle.std.proofs.Common.{[], ◌∷◌, ◌≡◌, ◌+◌, ◌<◌, ◌^◌, sym, ap, subst, ◌∙◌, arith}
 use Rattle.search_parts.specs.declared.parts.result.EvaluationResult.{EvaluationResult}
 use Rattle.search_parts.specs.Definite.{HasGraph}
 use Rattle.search_parts.specs.Store.{place_of}

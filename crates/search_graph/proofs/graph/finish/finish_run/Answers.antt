@@ -1,14 +1,12 @@
-use Rattle.std.proofs.Common.{refl, sym, ap, ap₂, subst, ◌∙◌, inl}
+use Rattle.std.proofs.Common.{refl, sym, ap, ap₂, subst, ◌∙◌}
 use Rattle.search_parts.specs.declared.context.Fault.TheVariants.{Memory}
 use Rattle.search_parts.specs.Shapes.{verdict_of}
 use Rattle.search_graph.specs.Evaluating.{GoesOn, HasStopped}
-use Rattle.search_graph.proofs.Finishing.{begin_fits, neither_is}
+use Rattle.search_graph.proofs.Finishing.{neither_is}
 use Rattle.search_graph.proofs.Moves.{asked_stopped_by, can_leave, ends_newest, failed_rerun_stopped, leave_leads, limited_leads, limited_stopped, rerun_goes_on}
 use Rattle.search_graph.proofs.Questions.{if_err_and, if_ok_then}
 use Rattle.search_graph.proofs.DoneRuns.{limit_comes, limited_plain, memory_alone, met_keeps, newest_comes, newest_plain, put_keeps, stopped_by, stopped_each}
 use Rattle.search_graph.proofs.RunEnds.{limited, unstable, newest_fits, newest_limited, newest_unstable}
-use Rattle.search_graph.specs.Justified.{IsFit}
-use Rattle.search_graph.specs.Runs.{runs_of}
 use Rattle.search_graph.proofs.graph.finish.finish_run.Goals as goal
 
 -- ---- its result stands

@@ -1,5 +1,4 @@
 use Rattle.std.proofs.Common.{◌++◌, ◌∷◌, [], ◌≤◌, sym, ap, subst, ◌∙◌}
-use Rattle.std.specs.Option.{option_or}
 use Rattle.search_parts.specs.Cache.{open_node}
 use Rattle.search_parts.proofs.Finished.{KeepsFinished-nodes, KeepsFinished-then}
 use Rattle.search_graph.specs.Items.{rerun_with}

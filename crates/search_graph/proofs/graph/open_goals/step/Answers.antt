@@ -1,4 +1,4 @@
-use Rattle.std.proofs.Common.{arith, rules, ◌-◌, ◌∙◌, refl, sym, ap}
+use Rattle.std.proofs.Common.{arith, ◌-◌, ◌∙◌, refl, sym, ap}
 use Rattle.std.proofs.lemmas.Grind.{common_steps}
 use Rattle.search_graph.specs.Progress.{requested, fault_of}
 use Rattle.search_graph.proofs.Steps.{last_can_take, last_stepped, last_out_of_order, none_is}

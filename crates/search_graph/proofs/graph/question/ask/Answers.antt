@@ -1,8 +1,7 @@
-use Rattle.std.proofs.Common.{arith, ◌+◌, ◌^◌, ◌<◌, ◌∙◌, refl, sym, ap, subst, true, None, option_map, is_some, IfOk}
+use Rattle.std.proofs.Common.{arith, ◌∙◌, refl, sym, ap, subst, true, None, option_map, is_some, IfOk}
 use Rattle.search_parts.specs.declared.context.Reply.TheVariants.{Answer}
 use Rattle.search_parts.specs.Shapes.{verdict_of}
-use Rattle.search_parts.proofs.Finished.{KeepsFinished-same}
-use Rattle.search_graph.specs.Justified.{AreJustified, IsFit}
+use Rattle.search_graph.specs.Justified.{IsFit}
 use Rattle.search_graph.specs.Evaluating.{GoesOn}
 use Rattle.search_graph.specs.Moves.{ClosesCycle}
 use Rattle.search_graph.specs.Runs.{runs_of}

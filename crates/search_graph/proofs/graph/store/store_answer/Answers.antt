@@ -1,6 +1,5 @@
-use Rattle.std.proofs.Common.{◌≡◌, ap, refl, sym, subst}
+use Rattle.std.proofs.Common.{refl}
 use Rattle.search_parts.specs.Store.{stored_at, place_of}
-use Rattle.search_graph.specs.Results.{Kept}
 use Rattle.search_graph.proofs.Storing.{caused_after, same_results, stored_either, storing_is_caused, success_met_none}
 use Rattle.search_graph.proofs.graph.store.store_answer.Goals as goal
 

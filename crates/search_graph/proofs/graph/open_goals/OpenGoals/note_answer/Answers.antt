@@ -1,7 +1,6 @@
-use Rattle.std.proofs.Common.{◌≡◌, ◌-◌, ◌∙◌, OnOk, ap, sym, subst}
+use Rattle.std.proofs.Common.{◌-◌, ◌∙◌, ap}
 use Rattle.search_parts.proofs.LastState.{length-change_last}
-use Rattle.search_graph.specs.Items.{AnswersNewest}
-use Rattle.search_graph.proofs.Changes.{newest_state, newest_answered}
+use Rattle.search_graph.proofs.Changes.{newest_answered}
 use Rattle.search_graph.proofs.graph.open_goals.OpenGoals.note_answer.Goals as goal
 
 pub invariant_of-self : goal.invariant_of-self

@@ -1,4 +1,4 @@
-use Rattle.std.proofs.Common.{◌∙◌, OnOk, refl, subst}
+use Rattle.std.proofs.Common.{◌∙◌, OnOk, subst}
 use Rattle.search_parts.proofs.LastState.{length-change_last}
 use Rattle.search_parts.specs.LookUp.{hit_of}
 use Rattle.search_graph.specs.NestedGoals.{TakesNestedGoals}
