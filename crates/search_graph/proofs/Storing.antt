@@ -16,7 +16,7 @@ use Rattle.search_parts.specs.Question.{Question, Overlap}
 use Rattle.search_parts.specs.Store.{Store, stored_at, place_of, stored_from, AnswersStoring, Puts}
 use Rattle.search_parts.proofs.Bridge.{KeepsRule}
 use Rattle.search_graph.specs.Graph.{ComesTo, IsCaused, OutOfMemory, OtherResult}
-use Rattle.search_graph.specs.Results.{StoresAnswer, Kept, Put, MayPut, Same, WithResult}
+use Rattle.search_graph.specs.Results.{IsStoredAt, StoresAnswer, Kept, Put, MayPut, Same, WithResult}
 use Rattle.search_graph.proofs.Promises.{yes_is_proved, no_is_refuted}
 
 module _ {X I R A T : Type 0} (same : I → I → Bool) (old new : Store I (StoredResult X I R A T)) (goal : I) (answer : EvaluationResult X I R A T) where
@@ -29,6 +29,11 @@ module _ {X I R A T : Type 0} (same : I → I → Bool) (old new : Store I (Stor
   pub stored_result : (place : Place) (r : R) → place_of answer ≡ place → answer.result ≡ r → StoresAnswer same old new goal answer → MayPut same old new goal place r
   stored_result place r at is (Kept unchanged) = Same unchanged
   stored_result place r at is (Put token none puts) = WithResult (stored_from answer token) is (subst (λ p. Puts same old new goal p (stored_from answer token)) at puts)
+
+-- what was put is stored
+pub put_is_stored : {X I R A T U E : Type 0} (same : I → I → Bool) (old new : Store I (StoredResult X I R A T)) (goal : I) (place : Place) (s : StoredResult X I R A T) (P : Type 0) (r : Result U E) → OnOk r (Puts same old new goal place s) → OnOk r (P → IsStoredAt same new goal place s.result.result)
+put_is_stored same old new goal place s P (Ok u) puts = λ p. ap (option_map (λ (t : StoredResult _ _ _ _ _). t.result.result)) puts.here
+put_is_stored same old new goal place s P (Err e) puts = tt
 
 success_at : (depth : ℕ) (b : Bool) → (if b then WithOverflow depth else Success) ≡ Success → b ≡ false
 success_at depth true is = absurd cc

@@ -1,5 +1,6 @@
 -- The stored results, as calls rely on them and change them.
 use Rattle.std.specs.Prelude.{◌≡◌, ℕ, Bool, ◌||◌, if◌then◌else◌, List, [], ◌∷◌, None, Some}
+use Rattle.std.specs.Option.{option_map}
 use Rattle.search_parts.specs.declared.global_cache.results.Place.{Place}
 use Rattle.search_parts.specs.declared.global_cache.results.Place.TheVariants.{Success, WithOverflow}
 use Rattle.search_parts.specs.declared.global_cache.results.StoredResult.{StoredResult}
@@ -22,6 +23,10 @@ HaveNoOverflow {I} same results = (goal : I) (depth : ℕ) → stored_at same re
 abbrev pub AreDefinite : {X I R A T : Type 0} → (R → Bool) → (R → Bool) → (I → I → Bool) → Store I (StoredResult X I R A T) → Type 0
 AreDefinite {X} {I} {R} {A} {T} is_yes is_no same results =
     (goal : I) (place : Place) (s : StoredResult X I R A T) → stored_at same results goal place ≡ Some s → IsDefinite is_yes is_no s.result.result
+
+-- this result of the goal is stored at the place
+abbrev pub IsStoredAt : {X I R A T : Type 0} → (I → I → Bool) → Store I (StoredResult X I R A T) → I → Place → R → Type 0
+IsStoredAt same results goal place r = option_map (λ s. s.result.result) (stored_at same results goal place) ≡ Some r
 
 -- the answer was stored, which has no heads, or nothing was
 pub data StoresAnswer {X I R A T : Type 0} (same : I → I → Bool) (old new : Store I (StoredResult X I R A T)) (goal : I) (answer : EvaluationResult X I R A T) : Type 0 where
@@ -52,6 +57,11 @@ module _ {X F I R A T : Type 0} where
   abbrev pub IsNewestPlainTo : (I → List (Reply R) → Request I R) → ℕ → List (StackEntry X I R A T × Run X F I R A T) → Type 0
   IsNewestPlainTo scripts n [] = ⊥
   IsNewestPlainTo scripts n (s ∷ below) = IsPlainTo scripts n s.0.input × (place_of_item s ≡ Success)
+
+  -- the newest goal's result is stored, if it rests on no goal
+  abbrev pub IsNewestStored : (I → I → Bool) → List (StackEntry X I R A T × Run X F I R A T) → R → Store I (StoredResult X I R A T) → Type 0
+  IsNewestStored same [] r results = ⊥
+  IsNewestStored same (s ∷ below) r results = s.0.state.heads ≡ [] → IsStoredAt same results s.0.input (place_of_item s) r
 
   -- the newest goal's result was stored, or nothing was
   abbrev pub MayPutNewest : (I → I → Bool) → List (StackEntry X I R A T × Run X F I R A T) → R → (old new : Store I (StoredResult X I R A T)) → Type 0

@@ -13,7 +13,7 @@ ghost use Rattle.search_graph.specs.Calls.{Call};
 ghost use Rattle.search_graph.specs.Evaluating.{HasAsked, HasStopped, KeepsStore, Leads};
 ghost use Rattle.search_graph.specs.Free.{AreFree};
 ghost use Rattle.search_graph.specs.Graph.{IsCaused};
-ghost use Rattle.search_graph.specs.Results.{IsNewestPlainTo, MayPutNewest, NewestComesTo, NewestIsPlain};
+ghost use Rattle.search_graph.specs.Results.{IsNewestPlainTo, IsNewestStored, MayPutNewest, NewestComesTo, NewestIsPlain};
 ghost use Rattle.search_graph.specs.Justified.{in_theory, AreJustified};
 ghost use Rattle.search_graph.specs.Moves.{CanLeave, GivesAnswer, Leaves, Reruns};
 ghost use Rattle.search_graph.specs.Newest.{newest};
@@ -157,6 +157,7 @@ fn finish_goal<D: Delegate>(
     ensures left { IfOk result (λ next. Leaves outcome goals.old next goals.new) }
     ensures justified { IfOk result (λ next. IsJustifiedNext D.Cx.is_yes D.Cx.is_no cache.new.nodes goals.old goals.new next) }
     ensures stored { MayPutNewest D.Cx.Input.eq goals.old outcome cache.old.results cache.new.results }
+    ensures is_stored { OnOk result (IsNewestStored D.Cx.Input.eq goals.old outcome cache.new.results) }
     ensures free { OnOk result (AreFree D.Cx.is_yes D.Cx.is_no D.Cx.Input.eq cache.new.nodes (runs_of goals.new) cache.new.results) }
     ensures caused { IfErr result (IsCaused D.Delegate D.Cx.Cx D.Cx.Input.eq cache.new) }
     ensures plain { (n : ℕ) → IsNewestPlainTo (D.script cache.old.cx) n goals.old → IfErr result (λ fault. fault ≡ Memory) }

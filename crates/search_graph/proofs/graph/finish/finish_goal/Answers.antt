@@ -7,7 +7,7 @@ use Rattle.search_parts.specs.Cache.{KeepsFinished}
 use Rattle.search_parts.specs.Rank.{IsPlainTo}
 use Rattle.search_graph.specs.Free.{AreFree}
 use Rattle.search_graph.specs.Graph.{ComesTo}
-use Rattle.search_graph.specs.Results.{IsNewestPlainTo, NewestComesTo, NewestIsPlain, StoresAnswer}
+use Rattle.search_graph.specs.Results.{IsNewestPlainTo, IsNewestStored, IsStoredAt, NewestComesTo, NewestIsPlain, StoresAnswer}
 use Rattle.search_graph.specs.Moves.{GivesAnswer}
 use Rattle.search_graph.specs.Runs.{runs_of, IsJustifiedNext}
 use Rattle.search_graph.proofs.DoneGoals.{answer_of, given_free, given_justified, given_leaves, newest_stored}
@@ -97,3 +97,9 @@ returns-clause-free g c =
 
 pub returns-clause-kept : goal.returns-clause-kept
 returns-clause-kept g c = subst (KeepsFinished c.args.cache.now.nodes) (sym (ap (λ cache. cache.nodes) c.store_answer.ensures.rest)) c.in_ok-node.ensures.kept
+
+pub returns-clause-is_stored : goal.returns-clause-is_stored
+returns-clause-is_stored g c =
+    subst (λ l. IsNewestStored g.D.Cx.Input.PartialEq.eq l c.args.outcome c.store_answer.new.cache.results) (sym c.pop-entry.ensures)
+    (subst (λ i. c.pop-entry.result.0.state.heads ≡ [] → IsStoredAt g.D.Cx.Input.PartialEq.eq c.store_answer.new.cache.results i (place_of (answer_of c.pop-entry.result.0 c.pop-entry.result.1 c.args.outcome c.in_ok-node.node)) c.args.outcome) c.input-input.ensures
+    (subst (λ (a : EvaluationResult _ _ _ _ _). a.heads ≡ [] → IsStoredAt g.D.Cx.Input.PartialEq.eq c.store_answer.new.cache.results c.input-input.result (place_of a) a.result) c.finalize-answer.ensures c.in_ok-store_answer.ensures.is_stored))

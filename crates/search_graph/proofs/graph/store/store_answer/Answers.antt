@@ -1,6 +1,7 @@
 use Rattle.std.proofs.Common.{refl}
-use Rattle.search_parts.specs.Store.{stored_at, place_of}
-use Rattle.search_graph.proofs.Storing.{caused_after, same_results, stored_either, storing_is_caused, success_met_none}
+use Rattle.search_parts.specs.Store.{stored_at, stored_from, place_of}
+use Rattle.search_graph.proofs.Verdicts.{fails_at}
+use Rattle.search_graph.proofs.Storing.{caused_after, put_is_stored, same_results, stored_either, storing_is_caused, success_met_none}
 use Rattle.search_graph.proofs.graph.store.store_answer.Goals as goal
 
 pub returns-then-is_empty-clause-stored : goal.returns-then-is_empty-clause-stored
@@ -14,3 +15,9 @@ returns-then-is_empty-clause-caused g c =
 
 pub returns-then-is_empty-clause-plain : goal.returns-then-is_empty-clause-plain
 returns-then-is_empty-clause-plain g c = λ n ranked success. c.insert.ensures.ranked n ranked (success_met_none c.args.answer success)
+
+pub returns-then-is_empty-clause-is_stored : goal.returns-then-is_empty-clause-is_stored
+returns-then-is_empty-clause-is_stored g c = put_is_stored g.D.Cx.Input.PartialEq.eq c.args.cache.now.results c.insert.new.self.results c.args.input (place_of c.args.answer) (stored_from c.args.answer c.dep_node-token.result) _ c.insert.result c.insert.ensures.ok
+
+pub returns-clause-is_stored : goal.returns-clause-is_stored
+returns-clause-is_stored g c = λ none. absurd (fails_at c.if-is_empty.false (c.is_empty.ensures.1 none))
