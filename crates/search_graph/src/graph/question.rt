@@ -1,12 +1,14 @@
 //! What a question comes to: it is refused, is answered by a stored result or where its goal is under
 //! evaluation already, or puts its goal on top.
-ghost use Rattle.std.specs.Prelude.{◌≡◌, ◌≤◌, ◌<◌, ◌+◌, ℕ, false, true, List, length, map, reverse, unwrap_or, IfOk, OnOk, IfErr, Some};
+ghost use Rattle.std.specs.Prelude.{◌≡◌, ◌≤◌, ◌<◌, ◌+◌, ℕ, false, true, List, length, map, reverse, unwrap_or, IfOk, IfSome, OnOk, IfErr, Some};
 ghost use Rattle.std.specs.List.{list_any, position};
 ghost use Rattle.std.specs.Option.{option_map, option_and_then};
 ghost use Rattle.search_parts.specs.Stack.{depth_below};
 ghost use Rattle.search_parts.specs.Delegate.{CountsOne};
 ghost use Rattle.search_parts.specs.Cache.{CacheNode, KeepsFinished};
+ghost use Rattle.search_parts.specs.LookUp.{first_accepted, usable};
 ghost use Rattle.search_parts.specs.Store.{Store};
+ghost use Rattle.search_parts.specs.declared.context.Reply.TheVariants.{Answer};
 ghost use Rattle.search_parts.specs.declared.context.Request.TheVariants.{Evaluate};
 ghost use Rattle.search_parts.specs.declared.global_cache.results.StoredResult.{StoredResult};
 ghost use Rattle.search_parts.specs.declared.context.Fault.TheVariants.{Memory};
@@ -14,6 +16,7 @@ ghost use Rattle.search_graph.specs.Newest.{newest};
 ghost use Rattle.search_graph.specs.Calls.{Call};
 ghost use Rattle.search_graph.specs.Evaluating.{HasAsked, GoesOn, HasStopped, KeepsStore};
 ghost use Rattle.search_graph.specs.Free.{AreFree};
+ghost use Rattle.search_graph.specs.LookUp.{is_applicable};
 ghost use Rattle.search_graph.specs.Moves.{ClosesCycle, Pushes};
 ghost use Rattle.search_graph.specs.Justified.{Asks, AreJustified, IsFit};
 ghost use Rattle.search_graph.specs.Runs.{runs_of};
@@ -47,6 +50,9 @@ pub(crate) fn ask<D: Delegate>(
         IfOk result (λ received. GoesOn D.Delegate D.Cx.Cx cache.old.cx call ahead received.reply goals.new (D.starts inspect.new) limits_met.new) }
     ensures stops { (call : Call D.Cx.Input) (ahead : ℕ) → HasAsked D.Delegate D.Cx.Cx cache.old.cx call ahead (Evaluate kind input) goals.old (D.starts inspect.old) limits_met.old →
         IfErr result (λ _. HasStopped D.Delegate D.Cx.Cx cache.old.cx call Memory (D.starts inspect.new) limits_met.new) }
+    ensures uses_stored { (depth : ℕ) → Some depth ≡ option_and_then (λ s. depth_below D.DIVIDE_AVAILABLE_DEPTH_ON_OVERFLOW s.0) (newest goals.old) →
+        IfSome (first_accepted (is_applicable D.Cx.Input.eq (reverse (map (λ s. s.0) goals.old))) (usable D.Cx.Input.eq cache.old.results input depth)) (λ hit.
+        IfOk result (λ received. received ≡ record { reply = Answer hit.result; node = hit.node })) }
     ensures keeps { (call : Call D.Cx.Input) → KeepsStore D.Delegate D.Cx.Cx cache.old.cx D.Cx.Input.eq call limits_met.old cache.old.results →
         KeepsStore D.Delegate D.Cx.Cx cache.old.cx D.Cx.Input.eq call limits_met.new cache.old.results }
     ensures justified { OnOk result (AreJustified D.Cx.is_yes D.Cx.is_no cache.new.nodes (runs_of goals.new)) }
