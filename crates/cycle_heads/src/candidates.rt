@@ -1,14 +1,14 @@
 //! What a candidate used of the goals on the stack.
-ghost use Rattle.std.specs.Prelude.{◌≡◌, ◌↔◌, [], IsTrue, IsSome, IsOk, OnOk, OnErr};
+ghost use Rattle.std.specs.Prelude.{◌≡◌, ◌^◌, ◌<◌, ◌↔◌, [], length, IsTrue, IsSome, IsOk, OnOk, OnErr};
 ghost use Rattle.cycle_heads.specs.declared.depth.StackDepth.{StackDepth};
 ghost use Rattle.cycle_heads.specs.Candidates.{merged, with_added, with_noted};
-ghost use Rattle.cycle_heads.specs.Heads.{at_depth};
+ghost use Rattle.cycle_heads.specs.Heads.{at_depth, IsRising};
 
 use crate::depth::StackDepth;
 use crate::memory::NoMemory;
 use crate::usages::HeadUsages;
 use std::alloc::Global;
-use std::collections::BTreeMap;
+use std::collections::{BTreeMap, btree_map};
 use std::marker::Model;
 
 /// How often a candidate used each goal on the stack, by depth. Ports `CandidateHeadUsages`.
@@ -47,6 +47,15 @@ impl CandidateHeadUsages {
         ensures { result ≡ at_depth self.now head }
     {
         self.usages.get(&head).copied()
+    }
+
+    /// The recorded heads with their usages, by rising depth.
+    pub fn iter(&self) -> btree_map::Iter<'_, StackDepth, HeadUsages>
+        ensures usages { result ≡ self.now }
+        ensures rising { IsRising self.now }
+        ensures fits { length self.now < 2 ^ 63 }
+    {
+        self.usages.iter()
     }
 
     /// Counts one more usage of the head for each kind that isn't zero in `usages`. Only a new head

@@ -8,6 +8,8 @@ use Rattle.cycle_heads.specs.declared.heads.CycleHead.{CycleHead}
 use Rattle.cycle_heads.specs.declared.usages.HeadUsages.{HeadUsages}
 use Rattle.search_parts.specs.declared.parts.stack.EntryState.{EntryState}
 use Rattle.search_parts.specs.declared.parts.stack.StackEntry.{StackEntry}
+use Rattle.std.specs.Option.{option_map}
+use Rattle.cycle_heads.specs.Candidates.{UsagesByHead, with_noted}
 use Rattle.cycle_heads.specs.Heads.{Heads, at_depth, joined_head, with_head}
 use Rattle.search_parts.specs.Nested.{NestedPaths}
 use Rattle.cycle_heads.specs.Paths.{extended, paths_of}
@@ -28,6 +30,10 @@ joined_over step own (Some used) = Some (joined_head own (extended used.paths_to
 abbrev pub usages_over : Option HeadUsages → Option CycleHead → Option HeadUsages
 usages_over own None = own
 usages_over own (Some used) = Some (with_nested (unwrap_or own no_usages) used.usages)
+
+-- what the open candidate used, if there is one, with one head of an answer more
+abbrev pub candidate_over : Option UsagesByHead → StackDepth → CycleHead → Option UsagesByHead
+candidate_over candidate head used = option_map (λ counts. with_noted counts head used.usages) candidate
 
 -- what a cycle over the step records of its head
 abbrev pub cycle_head : (step kind : PathKind) → CycleHead
@@ -57,15 +63,16 @@ module _ {X I R A T : Type 0} where
   -- the state of the entry at `parent` with one head of an answer over the step
   abbrev pub with_used_head : StackDepth → PathKind → StackDepth → CycleHead → EntryState X I R A T → EntryState X I R A T
   with_used_head parent step head used s =
-      if head.0 == parent.0 then record s { usages = usages_over s.usages (Some used) }
-      else record s { heads = with_head s.heads head (extended used.paths_to_head step) used.usages }
+      if head.0 == parent.0 then record s { usages = usages_over s.usages (Some used); candidate_usages = candidate_over s.candidate_usages head used }
+      else record s { heads = with_head s.heads head (extended used.paths_to_head step) used.usages; candidate_usages = candidate_over s.candidate_usages head used }
 
   -- The state of the entry at `parent` takes over the heads of an answer over the step: its own place adds to its usages, and each
-  -- other head is joined to its heads.
+  -- other head is joined to its heads. The open candidate counts each of them.
   pub record TakesHeads (parent : StackDepth) (step : PathKind) (answer : Heads) (old new : EntryState X I R A T) : Type 0 where
-    pub others : new ≡ record old { heads = new.heads; usages = new.usages }
+    pub others : new ≡ record old { heads = new.heads; usages = new.usages; candidate_usages = new.candidate_usages }
     pub usages : new.usages ≡ usages_over old.usages (at_depth answer parent)
     pub heads : (depth : StackDepth) → at_depth new.heads depth ≡ (if depth.0 == parent.0 then at_depth old.heads depth else joined_over step (at_depth old.heads depth) (at_depth answer depth))
+    pub in_candidate : (depth : StackDepth) → option_map (λ counts. at_depth counts depth) new.candidate_usages ≡ option_map (λ counts. usages_over (at_depth counts depth) (at_depth answer depth)) old.candidate_usages
     pub in_cycle : is_in_cycle new ≡ (is_in_cycle old || some_heads answer)
 
   -- the same, with the depth that the answer required; the goals below the entry's goal may change too

@@ -1,5 +1,5 @@
 -- What becomes of the newest goal under evaluation and its run.
-use Rattle.std.specs.Prelude.{◌≡◌, ℕ, ◌+◌, Bool, ◌||◌, List, ◌∷◌, length, Option}
+use Rattle.std.specs.Prelude.{◌≡◌, ℕ, ◌+◌, Bool, ◌||◌, List, [], ◌∷◌, length, Option}
 use Rattle.search_parts.specs.declared.context.NodeId.{NodeId}
 use Rattle.cycle_heads.specs.declared.path.PathKind.{PathKind}
 use Rattle.search_parts.specs.declared.parts.stack.EntryState.{EntryState}
@@ -28,5 +28,5 @@ module _ {X F I R A T : Type 0} where
   abbrev pub rerun_with : R → Option NodeId → F → NodeId → StackEntry X I R A T × Run X F I R A T → StackEntry X I R A T × Run X F I R A T
   rerun_with r target frame own s = (
     record s.0 { state = rerun_under r target s.0.state },
-    record s.1 { frame = frame; node = own; finished_runs = s.1.finished_runs + 1; met_overflow_before = s.1.met_overflow_before || s.0.state.encountered_overflow },
+    record s.1 { frame = frame; node = own; finished_runs = s.1.finished_runs + 1; met_overflow_before = s.1.met_overflow_before || s.0.state.encountered_overflow; candidates = [] },
   )

@@ -1,6 +1,6 @@
 -- Why each definite answer below the goals under evaluation is right: its node has an open graph, as the theory of open
 -- graphs has it, and each edge leads to a node of the goal that it asks.
-use Rattle.std.specs.Prelude.{◌≡◌, ◌≢◌, ℕ, Bool, List, [], ◌∷◌, map, filter, Option, None, Some, slice_get}
+use Rattle.std.specs.Prelude.{◌≡◌, ◌≢◌, ℕ, Bool, true, if◌then◌else◌, List, [], ◌∷◌, length, map, is_some, Option, None, Some, slice_get}
 use Rattle.std.specs.Option.{IsSomeAnd, option_map}
 use Rattle.open_graphs.specs.Graph as theory
 use Rattle.open_graphs.specs.Run.{IsAnswered}
@@ -20,16 +20,21 @@ use Rattle.cycle_heads.specs.Path.{rank_of}
 use Rattle.search_parts.specs.Cache.{CacheNode, open_goal, IsNodeOf}
 use Rattle.search_parts.specs.Shapes.{verdict_of, edge_shape, shapes_of}
 use Rattle.search_graph.specs.declared.graph.progress.DefiniteAnswer.{DefiniteAnswer}
+use Rattle.search_graph.specs.Progress.{is_kept}
+use Rattle.search_graph.specs.Tallies.{Tally, IsTallied, spare_heads, heads_of}
 
 -- A goal under evaluation: the step by which it was asked; the node of its present run, and the one to which the answers of its
--- cycles lead, with the result that they have; its heads; the last request of its run, and the run's definite answers.
+-- cycles lead, with the result that they have; what it counts of the goals on the stack; whether a candidate is open, and which of the
+-- finished ones are ignored; the last request of its run, and the run's definite answers.
 pub record OpenRun (I R : Type 0) : Type 0 where
   pub goal : I
   pub step : PathKind
   pub own : ℕ
   pub cycles_lead : Option NodeId
   pub provisional : Option R
-  pub heads : Heads
+  pub tally : Tally
+  pub is_open : Bool
+  pub ignored : List Bool
   pub request : Option (Request I R)
   pub answers : List (DefiniteAnswer I)
 
@@ -39,22 +44,19 @@ in_theory Yes = theory.Yes
 in_theory No = theory.No
 in_theory Neither = theory.Neither
 
--- the edges of the answers with a verdict
-abbrev pub edges_with : {I : Type 0} → List (DefiniteAnswer I) → theory.Verdict → List theory.Edge
-edges_with answers verdict = map (λ a. edge_shape a.edge) (filter (λ a. theory.same_verdict (in_theory a.verdict) verdict) answers)
-
 -- the place of the node to which the answers of a goal's cycles lead
 abbrev pub leads_to : {I R : Type 0} → OpenRun I R → ℕ
 leads_to o = elim o.cycles_lead [ None ↦ o.own | Some n ↦ n.0 ]
 
--- the run as a frame of the theory
+-- The run as a frame of the theory: the heads that it keeps are those used outside candidates, in this run or earlier. Its answers
+-- are kept beside it, since they rest on other heads than these.
 abbrev pub frame_of : {I R : Type 0} → (R → Bool) → (R → Bool) → OpenRun I R → Frame
 frame_of is_yes is_no o = record {
   entry = record { step = rank_of o.step; provisional = option_map (verdict_of is_yes is_no) o.provisional; node = leads_to o };
   own = o.own;
-  edges = edges_with o.answers;
-  kept = heads_shape o.heads;
-  heads = heads_shape o.heads;
+  edges = λ verdict. [];
+  kept = spare_heads o.tally;
+  heads = heads_shape o.tally.heads;
 }
 
 -- the runs as frames
@@ -76,11 +78,11 @@ abbrev pub ArePlaced : {I R : Type 0} → List (CacheNode I R) → List (Definit
 ArePlaced nodes answers =
     (i : ℕ) (a : DefiniteAnswer _) → slice_get answers i ≡ Some a → IsNodeOf nodes a.edge.target a.edge.input
 
--- the edges are among those of the answers with this verdict
-abbrev pub AreEdges : {I : Type 0} → List (DefiniteAnswer I) → theory.Verdict → List (Edge I) → Type 0
-AreEdges {I} answers verdict edges =
+-- the edges are among those of the answers with this verdict outside ignored candidates
+abbrev pub AreEdges : {I : Type 0} → List (DefiniteAnswer I) → List Bool → theory.Verdict → List (Edge I) → Type 0
+AreEdges {I} answers ignored verdict edges =
     (i : ℕ) (e : Edge I) → slice_get edges i ≡ Some e →
-    (j : ℕ) × (a : DefiniteAnswer I) × (slice_get answers j ≡ Some a) × (a.edge ≡ e) × (in_theory a.verdict ≡ verdict)
+    (j : ℕ) × (a : DefiniteAnswer I) × (slice_get answers j ≡ Some a) × (a.edge ≡ e) × (in_theory a.verdict ≡ verdict) × (is_kept ignored a.candidate ≡ true)
 
 -- the same for all goals
 abbrev pub AllPlaced : {I R : Type 0} → List (CacheNode I R) → List (OpenRun I R) → Type 0
@@ -97,6 +99,29 @@ abbrev pub AreAsked : {I R : Type 0} → List (OpenRun I R) → Type 0
 AreAsked [] = Unit {0}
 AreAsked (o ∷ below) = Asks below o.step o.goal × AreAsked below
 
+-- what the goal counts agrees, and its candidates are those on record
+pub record HasTally {I R : Type 0} (parent : ℕ) (o : OpenRun I R) : Type 0 where
+  pub tallied : IsTallied parent o.tally
+  pub open_is : is_some o.tally.open ≡ o.is_open
+  pub finished_are : length o.tally.finished ≡ length o.ignored
+
+-- the same for all goals
+abbrev pub HaveTallies : {I R : Type 0} → List (OpenRun I R) → Type 0
+HaveTallies [] = Unit {0}
+HaveTallies (o ∷ below) = HasTally (length below) o × HaveTallies below
+
+-- Each answer of the goal outside ignored candidates may be used: it rests on goals that are counted outside candidates or by its
+-- own candidate.
+abbrev pub AreCharged : {I R : Type 0} → (R → Bool) → (R → Bool) → List (CacheNode I R) → OpenRun I R → List (OpenRun I R) → Type 0
+AreCharged {I} is_yes is_no nodes o below =
+    (i : ℕ) (a : DefiniteAnswer I) → slice_get o.answers i ≡ Some a → is_kept o.ignored a.candidate ≡ true →
+    IsAnswered (shapes_of is_yes is_no nodes) (in_theory a.verdict) (stack_of (frames_of is_yes is_no below)) (frame_of is_yes is_no o).entry (edge_shape a.edge) (heads_of o.tally a.candidate)
+
+-- the same for all goals
+abbrev pub AllCharged : {I R : Type 0} → (R → Bool) → (R → Bool) → List (CacheNode I R) → List (OpenRun I R) → Type 0
+AllCharged is_yes is_no nodes [] = Unit {0}
+AllCharged is_yes is_no nodes (o ∷ below) = AreCharged is_yes is_no nodes o below × AllCharged is_yes is_no nodes below
+
 -- what holds of the goals between two moves
 pub record AreJustified {I R : Type 0} (is_yes is_no : R → Bool) (nodes : List (CacheNode I R)) (goals : List (OpenRun I R)) : Type 0 where
   pub sound : IsSound (shapes_of is_yes is_no nodes) (frames_of is_yes is_no goals) [] []
@@ -104,11 +129,17 @@ pub record AreJustified {I R : Type 0} (is_yes is_no : R → Bool) (nodes : List
   pub lead_home : LeadHome nodes goals
   pub placed : AllPlaced nodes goals
   pub asked : AreAsked goals
+  pub tallies : HaveTallies goals
+  pub charged : AllCharged is_yes is_no nodes goals
+
+-- the candidate in which the goal asks now, if one is open
+abbrev pub asked_now : {I R : Type 0} → OpenRun I R → Option ℕ
+asked_now o = if o.is_open then Some (length o.ignored) else None
 
 -- the node has the goal, and answers the newest goal's question by a step of this kind with the verdict
 pub record MayAnswer {I R : Type 0} (is_yes is_no : R → Bool) (nodes : List (CacheNode I R)) (o : OpenRun I R) (below : List (OpenRun I R)) (verdict : theory.Verdict) (kind : PathKind) (goal : I) (node : ℕ) : Type 0 where
   pub of_goal : IsNodeOf nodes node goal
-  pub answered : IsAnswered (shapes_of is_yes is_no nodes) verdict (stack_of (frames_of is_yes is_no below)) (frame_of is_yes is_no o).entry (record { kind = rank_of kind; target = node }) (heads_shape o.heads)
+  pub answered : IsAnswered (shapes_of is_yes is_no nodes) verdict (stack_of (frames_of is_yes is_no below)) (frame_of is_yes is_no o).entry (record { kind = rank_of kind; target = node }) (heads_of o.tally (asked_now o))
 
 -- a definite answer for the newest goal comes with a node that may answer its question
 abbrev pub IsFit : {I R : Type 0} → (R → Bool) → (R → Bool) → List (CacheNode I R) → List (OpenRun I R) → Reply R → Option NodeId → Type 0

@@ -4,12 +4,14 @@ pub mod Results
 pub mod NestedGoals
 pub mod LookUp
 pub mod Items
+pub mod Candidates
 pub mod Decided
 pub mod Calls
 pub mod Steps
 pub mod Evaluating
 pub mod Moves
 pub mod Graph
+pub mod Tallies
 pub mod Justified
 pub mod Free
 pub mod Progress

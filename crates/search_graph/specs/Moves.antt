@@ -27,7 +27,7 @@ module _ {D C V P F I R A T : Type 0} (G : Delegate.Ghosts D C V P F I R A T) (X
 
   -- the run that a goal begins with
   abbrev pub first_run : F → NodeId → Run C F I R A T
-  first_run frame own = record { frame = frame; node = own; progress = no_record; finished_runs = 0; met_overflow_before = false }
+  first_run frame own = record { frame = frame; node = own; progress = no_record; finished_runs = 0; met_overflow_before = false; candidates = [] }
 
   -- the goal was put on top, with a node of its own and a frame that begins
   pub record Pushes (input : I) (kind : PathKind) (depth : AvailableDepth) (old new : List (Item G X cx)) : Type 0 where

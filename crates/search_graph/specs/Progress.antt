@@ -81,6 +81,10 @@ module _ {I R : Type 0} where
   answered p (Some (Ignore n)) _ _ = record p { ignored = slice_set p.ignored n true }
   answered p _ _ _ = p
 
+  -- the record where its request about candidates counts as done, though it was not replied to yet
+  abbrev pub acted : RunRecord I R → RunRecord I R
+  acted p = answered p p.request Neither None
+
   -- the record with the reply to its request
   abbrev pub received : RunRecord I R → Reply R → Verdict → Option NodeId → RunRecord I R
   received p reply verdict target = record (answered p p.request verdict target) { replies = p.replies ++ reply ∷ [] }

@@ -13,7 +13,8 @@ use Rattle.search_parts.specs.Shapes.{verdict_of}
 use Rattle.search_graph.specs.declared.graph.open_goals.Run.{Run}
 use Rattle.search_graph.specs.declared.graph.open_goals.Next.{Next}
 use Rattle.search_graph.specs.declared.graph.open_goals.Next.TheVariants.{Step, Finished}
-use Rattle.search_graph.specs.Progress.{RunRecord, Records}
+use Rattle.search_graph.specs.Progress.{RunRecord, Records, acted}
+use Rattle.search_graph.specs.Tallies.{tally_of}
 use Rattle.search_parts.specs.Definite.{HasGraph}
 use Rattle.search_graph.specs.Justified.{OpenRun, AreJustified, IsFit, ArePlaced, AreEdges}
 
@@ -26,7 +27,9 @@ module _ {X F I R A T : Type 0} where
     own = s.1.node.0;
     cycles_lead = s.0.state.node;
     provisional = s.0.state.provisional_result;
-    heads = s.0.state.heads;
+    tally = tally_of s.0.state s.1.candidates;
+    is_open = (acted s.1.progress).is_open;
+    ignored = (acted s.1.progress).ignored;
     request = s.1.progress.request;
     answers = s.1.progress.answers;
   }
@@ -72,6 +75,6 @@ pub data IsSettled {I R : Type 0} (is_yes is_no : R → Bool) (before after : Li
       → IsSettled is_yes is_no before after earlier node cycles_lead p r cycles_lead
   Ended :
       (run : EndedRun I R)
-      → run.outcome ≡ r → verdict_of is_yes is_no r ≢ theory.Neither → (SaysAgain is_yes is_no earlier r → ⊥) → after ≡ with_run before node.0 run → AreEdges p.answers (verdict_of is_yes is_no r) run.edges
+      → run.outcome ≡ r → verdict_of is_yes is_no r ≢ theory.Neither → (SaysAgain is_yes is_no earlier r → ⊥) → after ≡ with_run before node.0 run → AreEdges p.answers p.ignored (verdict_of is_yes is_no r) run.edges
       → IsSettled is_yes is_no before after earlier node cycles_lead p r (Some node)
   LeftOpen : verdict_of is_yes is_no r ≡ theory.Neither → after ≡ before → IsSettled is_yes is_no before after earlier node cycles_lead p r None

@@ -1,10 +1,10 @@
 //! The search graph. It keeps the goals under evaluation in one list and works through them in one loop, so
 //! that no depth of goals takes native stack.
-ghost use Rattle.std.specs.Prelude.{◌≡◌, ◌≤◌, ◌+◌, ℕ, Bool, true, false, None, IsTrue, IfOk, IfErr, IfSome, Ok, max};
+ghost use Rattle.std.specs.Prelude.{◌≡◌, ◌≤◌, ◌+◌, ℕ, Bool, true, false, None, IsTrue, IfOk, IfErr, IfSome, Ok, Err, [], ◌≢◌, max};
 ghost use Rattle.search_parts.specs.LookUp.{first_accepted, usable};
 ghost use Rattle.search_parts.specs.Rank.{IsPlainTo, IsPlainValue, frames_within};
 ghost use Rattle.search_parts.specs.Store.{KeepsResults};
-ghost use Rattle.search_parts.specs.declared.context.Fault.TheVariants.{Memory};
+ghost use Rattle.search_parts.specs.declared.context.Fault.TheVariants.{Memory, Protocol};
 ghost use Rattle.search_parts.specs.Cache.{KeepsFinished};
 ghost use Rattle.search_parts.specs.Decisive.{IsDecisive};
 ghost use Rattle.search_parts.specs.Definite.{IsDefinite, HasGraph};
@@ -12,6 +12,7 @@ ghost use Rattle.evaluations.specs.Price.{IsPaid};
 ghost use Rattle.search_graph.specs.Graph.{IsCaused, IsProved, IsRefuted};
 ghost use Rattle.search_graph.specs.Results.{AreDefinite, HaveNoOverflow};
 
+mod candidates;
 mod evaluate;
 mod finish;
 mod list;
@@ -26,7 +27,7 @@ use evaluate::evaluate;
 use open_goals::OpenGoals;
 use search_parts::context::{Answer, Cx, Delegate, Fault};
 use search_parts::global_cache::GlobalCache;
-use search_parts::parts::AvailableDepth;
+use search_parts::parts::{AvailableDepth, CandidateHeadUsages};
 use search_parts::path::PathKind;
 pub use search_parts::{context, global_cache, parts, path};
 use std::alloc::Global;
@@ -167,5 +168,61 @@ impl<D: Delegate> SearchGraph<D> {
                 Err(fault)
             }
         }
+    }
+
+    /// Opens a candidate of the newest goal. A frame asks for that by `Request::EnterCandidate`; between calls
+    /// there is no goal.
+    ///
+    /// `Fault::Protocol(5)` where no goal is under evaluation, which changes nothing. Ports
+    /// `SearchGraph::enter_single_candidate`.
+    pub fn enter_single_candidate(&mut self) -> Result<(), Fault<<D::Cx as Cx>::Input, <D::Cx as Cx>::Result>>
+        ensures no_goal { result ≡ Err (Protocol 5) }
+        ensures same { self.new ≡ self.old }
+    {
+        if self.goals.len() == 0 {
+            return Err(Fault::Protocol(5));
+        }
+        self.goals.enter_candidate();
+        Ok(())
+    }
+
+    /// Ends the open candidate of the newest goal, and hands out how often it used each goal on the stack. A
+    /// frame asks for that by `Request::FinishCandidate`; between calls there is no goal.
+    ///
+    /// `Fault::Protocol(5)` where no goal is under evaluation, which changes nothing. Ports
+    /// `SearchGraph::finish_single_candidate`.
+    pub fn finish_single_candidate(
+        &mut self,
+    ) -> Result<CandidateHeadUsages, Fault<<D::Cx as Cx>::Input, <D::Cx as Cx>::Result>>
+        ensures no_goal { result ≡ Err (Protocol 5) }
+        ensures same { self.new ≡ self.old }
+    {
+        if self.goals.len() == 0 {
+            return Err(Fault::Protocol(5));
+        }
+        Ok(self.goals.finish_candidate())
+    }
+
+    /// Takes away from the newest goal what a candidate of it used of the goals on the stack. A frame asks for
+    /// that by `Request::Ignore`; between calls there is no goal.
+    ///
+    /// Where nothing is recorded this changes nothing; else `Fault::Protocol(5)` where no goal is under
+    /// evaluation. Ports `SearchGraph::ignore_candidate_head_usages`.
+    pub fn ignore_candidate_head_usages(
+        &mut self,
+        usages: CandidateHeadUsages,
+    ) -> Result<(), Fault<<D::Cx as Cx>::Input, <D::Cx as Cx>::Result>>
+        ensures nothing { usages ≡ [] → result ≡ Ok () }
+        ensures no_goal { usages ≢ [] → result ≡ Err (Protocol 5) }
+        ensures same { self.new ≡ self.old }
+    {
+        if usages.is_empty() {
+            return Ok(());
+        }
+        if self.goals.len() == 0 {
+            return Err(Fault::Protocol(5));
+        }
+        self.goals.ignore_usages(&usages);
+        Ok(())
     }
 }

@@ -96,12 +96,13 @@ fn advance<D: Delegate>(
             let next = ask::<D>(goals, limits_met, cache, root_depth, kind, input, inspect)?;
             Ok(Next::Step(next))
         }
-        Request::EnterCandidate => Ok(Next::Step(Received::without_node(Reply::Noted))),
-        Request::FinishCandidate => Ok(Next::Step(Received::without_node(Reply::Noted))),
-        Request::Ignore(_) => Ok(Next::Step(Received::without_node(Reply::Noted))),
         Request::Done(outcome) => {
             let next = finish_run::<D>(goals, limits_met, cache, outcome, inspect)?;
             Ok(next)
+        }
+        request => {
+            goals.note_candidate(request)?;
+            Ok(Next::Step(Received::without_node(Reply::Noted)))
         }
     }
 }

@@ -172,6 +172,7 @@ fn finish_goal<D: Delegate>(
         progress,
         finished_runs: _,
         met_overflow_before,
+        candidates: _,
     } = run;
     let step = entry.step_kind_from_parent();
     let mut encountered_overflow = entry.state.encountered_overflow;

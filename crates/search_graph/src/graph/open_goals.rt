@@ -4,6 +4,9 @@ ghost use Rattle.std.specs.List.{list_any, position};
 ghost use Rattle.std.specs.Option.{option_map};
 ghost use Rattle.search_graph.specs.Steps.{CanStep, IsVerdict, HasStepped, IsStepFault};
 
+mod candidates;
+
+use crate::graph::candidates::FinishedCandidates;
 use crate::graph::progress::Progress;
 use crate::graph::update::{cycle_head, note_depth, note_head, note_heads, note_nested_goals};
 use search_parts::context::{
@@ -41,7 +44,8 @@ pub(crate) enum Next<R> {
     Finished(Answer<R>),
 }
 
-/// One run of a goal: the frame that works it out, the node that stands for it, and what it has done.
+/// One run of a goal: the frame that works it out, the node that stands for it, what it has done, and what its
+/// finished candidates used.
 #[derive(Drop)]
 pub(crate) struct Run<X: Cx, F: Drop> {
     pub frame: F,
@@ -51,6 +55,7 @@ pub(crate) struct Run<X: Cx, F: Drop> {
     pub finished_runs: usize,
     /// Whether a question was refused below the goal in one of those.
     pub met_overflow_before: bool,
+    pub candidates: FinishedCandidates,
 }
 
 /// The goals under evaluation with their runs. Clauses see them with the newest first.
@@ -254,6 +259,7 @@ impl<X: Cx, F: Drop> OpenGoals<X, F> {
         run.node = own_node;
         run.finished_runs += 1;
         run.met_overflow_before |= met_overflow;
+        run.candidates.clear();
     }
 
     /// What the goals take their memory from.

@@ -21,6 +21,7 @@ ghost use Rattle.search_graph.specs.Moves.{ClosesCycle, Pushes};
 ghost use Rattle.search_graph.specs.Justified.{Asks, AreJustified, IsFit};
 ghost use Rattle.search_graph.specs.Runs.{runs_of};
 
+use crate::graph::candidates::FinishedCandidates;
 use crate::graph::look_up::look_up;
 use crate::graph::open_goals::{OpenGoals, Received, Run};
 use crate::graph::progress::Progress;
@@ -177,6 +178,7 @@ pub(crate) fn push_goal<D: Delegate>(
             progress: Progress::new(alloc),
             finished_runs: 0,
             met_overflow_before: false,
+            candidates: FinishedCandidates::new(alloc),
         },
     )?;
     Ok(())

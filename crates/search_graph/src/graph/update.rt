@@ -1,10 +1,12 @@
 //! What a goal's entry takes over from the answer to one of its questions.
 ghost use Rattle.std.specs.Prelude.{◌≡◌, ◌<◌, ◌+◌, ◌^◌, OnOk, Some};
 ghost use Rattle.search_graph.specs.Entries.{cycle_head, with_depth, with_nested_goals, with_used_head, TakesHeads};
+ghost use Rattle.std.specs.Option.{IsSomeAnd};
+ghost use Rattle.search_graph.specs.Candidates.{usages_at, without_head, CanIgnore, Covers, Ignores};
 ghost use Rattle.search_graph.specs.NestedGoals.{TakesNestedGoals};
 
 use search_parts::context::{Cx, NoMemory};
-use search_parts::parts::{CycleHead, CycleHeads, EntryState, HeadUsages, NestedGoals, StackDepth};
+use search_parts::parts::{CandidateHeadUsages, CycleHead, CycleHeads, EntryState, HeadUsages, NestedGoals, StackDepth};
 use search_parts::path::{PathKind, PathsToNested};
 
 /// Notes how deep the goals below an answer went, and whether one of their questions was refused.
@@ -36,7 +38,8 @@ pub(crate) fn note_heads<X: Cx>(
     Ok(())
 }
 
-/// Notes one head of an answer over a step: the entry's own goal, or another one on the stack.
+/// Notes one head of an answer over a step: the entry's own goal, or another one on the stack. It counts
+/// for the candidate that is open, too.
 pub(crate) fn note_head<X: Cx>(
     state: &mut EntryState<X>,
     parent: StackDepth,
@@ -46,6 +49,9 @@ pub(crate) fn note_head<X: Cx>(
 ) -> Result<(), NoMemory>
     ensures { OnOk result (state.new ≡ with_used_head parent step head used state.old) }
 {
+    if let Some(candidate) = &mut state.candidate_usages {
+        candidate.note_usages(head, used.usages)?;
+    }
     if head == parent {
         let mut usages = state.usages.unwrap_or_default();
         usages.add_usages_from_nested(used.usages);
@@ -54,6 +60,40 @@ pub(crate) fn note_head<X: Cx>(
     }
     let paths = used.paths_to_head.extend_with(step);
     state.heads.insert(head, paths, used.usages)
+}
+
+/// Takes away from the state of the entry at `parent` what a candidate used of the goals on the stack: of the
+/// entry's own goal, and of its heads. Ports a part of `SearchGraph::ignore_candidate_head_usages`.
+pub(crate) fn ignore_usages<X: Cx>(
+    state: &mut EntryState<X>,
+    parent: StackDepth,
+    candidate: &CandidateHeadUsages,
+)
+    requires { CanIgnore parent candidate.now state.old }
+    ensures { Ignores parent candidate.now state.old state.new }
+{
+    for (head, usages) in candidate.iter() {
+        ignore_head(state, parent, *head, *usages);
+    }
+}
+
+/// Takes away what was counted of one head, or of the entry's own goal.
+fn ignore_head<X: Cx>(
+    state: &mut EntryState<X>,
+    parent: StackDepth,
+    head: StackDepth,
+    usages: HeadUsages,
+)
+    requires { IsSomeAnd (usages_at parent state.old head) (λ counts. Covers counts usages) }
+    ensures { state.new ≡ without_head parent head usages state.old }
+{
+    if head == parent {
+        let mut own = state.usages.unwrap();
+        own.ignore_usages(usages);
+        state.usages = Some(own);
+        return;
+    }
+    state.heads.ignore_usages(head, usages);
 }
 
 /// Notes the goals below an answer over a step in the state of the entry of `own`. Where there are any, the
