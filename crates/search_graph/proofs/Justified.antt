@@ -1,34 +1,37 @@
 -- Each move of the driver keeps the goals under evaluation justified.
-use Rattle.std.proofs.Common.{◌≡◌, ◌≢◌, ℕ, zero, suc, Bool, true, false, cond, List, [], ◌∷◌, ◌++◌, map, filter, length, Option, None, Some, option_map, slice_get, slice_set, append-nil, refl, sym, ap, ◌∙◌, subst, inl, inr}
+use Rattle.std.proofs.Common.{◌≡◌, ◌≢◌, ℕ, zero, suc, Bool, true, false, cond, List, [], ◌∷◌, ◌++◌, map, length, length-append, arith, Option, None, Some, option_map, slice_get, slice_set, append-nil, refl, sym, ap, ◌∙◌, subst, inl, inr}
 use Rattle.std.specs.Option.{IsSomeAnd, option_or}
 use Rattle.std.proofs.lemmas.List.{map-append, map-set, length-map}
-use Rattle.std.proofs.lemmas.List.Elements.{filter-append}
 use Rattle.open_graphs.specs.Graph as theory
-use Rattle.open_graphs.specs.Stack.{path_kind}
+use Rattle.open_graphs.specs.Stack.{Entry, path_kind}
+use Rattle.open_graphs.specs.Use as theory_use
 use Rattle.open_graphs.specs.Graph.{IsGraph}
-use Rattle.open_graphs.specs.Use.{Use, Includes, UsesNo}
+use Rattle.open_graphs.specs.Use.{Use, Includes, IncludesBelow, UsesNo}
 use Rattle.open_graphs.specs.State.{Frame, Kept, Final, stack_of, first_frame, next_frame, answering, OwnsOther, IsSound}
-use Rattle.open_graphs.specs.AnswerLaws.{with_edge, TakesIn}
+use Rattle.open_graphs.specs.AnswerLaws.{TakesIn}
 use Rattle.open_graphs.specs.Run.{Answered, Again, Anew, Without, IsAnswered, AllAnswered}
 use Rattle.open_graphs.proofs.Lists.{get_cases, get_set_other}
 use Rattle.open_graphs.proofs.States.{push_keeps_sound, answers_keep_sound, pop_keeps_sound, rerun_keeps_sound, start_is_sound, verdict_cases}
-use Rattle.open_graphs.proofs.Asked.{done_is_answered, one_answer_keeps_sound}
-use Rattle.open_graphs.proofs.Runs.{root_is_graph}
+use Rattle.open_graphs.proofs.Asked.{done_is_answered}
+use Rattle.open_graphs.proofs.Runs.{answered_grows, root_is_graph}
 use Rattle.open_graphs.proofs.Closed.{closed_is_graph}
-use Rattle.open_graphs.proofs.Keep.{heads_keep_use}
+use Rattle.open_graphs.proofs.Keep.{append_grows, growth_keeps_use, heads_keep_use}
 use Rattle.cycle_heads.specs.declared.path.PathKind.{PathKind}
 use Rattle.search_parts.specs.declared.context.Edge.{Edge}
 use Rattle.search_parts.specs.declared.context.Request.{Request}
 use Rattle.search_parts.specs.declared.context.NodeId.{NodeId}
 use Rattle.cycle_heads.specs.HeadShapes.{heads_shape}
-use Rattle.cycle_heads.specs.Heads.{Heads}
+use Rattle.cycle_heads.specs.Usages.{no_usages}
 use Rattle.cycle_heads.specs.Path.{rank_of}
 use Rattle.search_parts.specs.Cache.{EndedRun, CacheNode, open_node, open_goal, with_run, IsNodeOf, KeepsNodes, KeepsGoals}
 use Rattle.search_parts.specs.Shapes.{verdict_of, edge_shape, shape_of, shapes_of}
 use Rattle.search_parts.proofs.Nodes.{KeepsNodes-appended, KeepsGoals-appended, before, with_run-is, KeepsGoals-ended}
 use Rattle.search_graph.specs.declared.graph.progress.DefiniteAnswer.{DefiniteAnswer}
 use Rattle.search_parts.specs.Definite.{HasGraph}
-use Rattle.search_graph.specs.Justified.{OpenRun, in_theory, edges_with, leads_to, frame_of, frames_of, AreOpen, LeadHome, AllPlaced, AreEdges, Asks, AreJustified, MayAnswer}
+use Rattle.search_graph.specs.Justified.{OpenRun, in_theory, leads_to, frame_of, frames_of, AreOpen, LeadHome, AllPlaced, AreEdges, Asks, HasTally, AreCharged, AllCharged, AreJustified, asked_now, MayAnswer}
+use Rattle.search_graph.specs.Progress.{is_kept}
+use Rattle.search_graph.specs.Tallies.{Tally, IsTallied, heads_of, spare_heads}
+use Rattle.search_graph.proofs.Tallies.{charge_within, fresh_tallied, rerun_keeps, rerun_tallied, spare_within}
 use Rattle.search_graph.specs.Runs.{SaysAgain}
 
 -- ---- open nodes
@@ -68,7 +71,32 @@ module _ {I R : Type 0} (nodes more : List (CacheNode I R)) where
   AllPlaced-kept kept [] h = tt
   AllPlaced-kept kept (o ∷ below) h = (λ i a is. kept a.edge.target a.edge.input (h.0 i a is), AllPlaced-kept kept below h.1)
 
--- ---- edges by verdict
+-- ---- answers
+
+-- an answer may be used in a longer list, too
+answered_kept : (before after : List theory.Node) (verdict : theory.Verdict) (below : List Entry) (top : Entry) (edge : theory.Edge) (heads : theory_use.Heads) → theory.Grown before after → IsAnswered before verdict below top edge heads → IsAnswered after verdict below top edge heads
+answered_kept before after verdict below top edge heads grown h = record {
+  answer = h.answer;
+  used = growth_keeps_use before after verdict (below ++ top ∷ []) (path_kind (below ++ top ∷ []) edge.kind) edge.kind edge.target h.answer grown h.used;
+  among = h.among;
+}
+
+-- and where more is recorded of its heads
+answered_more : (nodes : List theory.Node) (verdict : theory.Verdict) (below : List Entry) (top : Entry) (edge : theory.Edge) (heads more : theory_use.Heads) → IncludesBelow (length below) heads more → IsAnswered nodes verdict below top edge heads → IsAnswered nodes verdict below top edge more
+answered_more nodes verdict below top edge heads more includes h = record { answer = h.answer; used = h.used; among = λ depth path cycle lower recorded. includes depth path cycle lower (h.among depth path cycle lower recorded) }
+
+AllCharged-kept : {I R : Type 0} (is_yes is_no : R → Bool) (nodes more : List (CacheNode I R)) → theory.Grown (shapes_of is_yes is_no nodes) (shapes_of is_yes is_no more) → (goals : List (OpenRun I R)) → AllCharged is_yes is_no nodes goals → AllCharged is_yes is_no more goals
+AllCharged-kept is_yes is_no nodes more grown [] h = tt
+AllCharged-kept is_yes is_no nodes more grown (o ∷ below) h = (
+  λ i a is kept. answered_kept (shapes_of is_yes is_no nodes) (shapes_of is_yes is_no more) (in_theory a.verdict) (stack_of (frames_of is_yes is_no below)) (frame_of is_yes is_no o).entry (edge_shape a.edge) (heads_of o.tally a.candidate) grown (h.0 i a is kept),
+  AllCharged-kept is_yes is_no nodes more grown below h.1,
+)
+
+pub stack_length : {I R : Type 0} (is_yes is_no : R → Bool) (goals : List (OpenRun I R)) → length (stack_of (frames_of is_yes is_no goals)) ≡ length goals
+stack_length is_yes is_no [] = refl
+stack_length is_yes is_no (o ∷ below) = omega (arith, length-append (stack_of (frames_of is_yes is_no below)) ((frame_of is_yes is_no o).entry ∷ []), stack_length is_yes is_no below)
+
+-- ---- verdicts
 
 same_verdict-refl : (v : theory.Verdict) → theory.same_verdict v v ≡ true
 same_verdict-refl theory.Yes = refl
@@ -86,37 +114,6 @@ verdicts_same theory.No theory.Neither h = absurd cc
 verdicts_same theory.Neither theory.Yes h = absurd cc
 verdicts_same theory.Neither theory.No h = absurd cc
 
-module _ {I : Type 0} where
-  one_more_at : (b : Bool) (edges : List theory.Edge) (a : DefiniteAnswer I) → cond b (edges ++ edge_shape a.edge ∷ []) edges ≡ edges ++ map (λ d. edge_shape d.edge) (cond b (a ∷ []) [])
-  one_more_at true edges a = refl
-  one_more_at false edges a = sym (append-nil edges)
-
-  edges_append : (answers : List (DefiniteAnswer I)) (a : DefiniteAnswer I) (other : theory.Verdict) → with_edge (edges_with answers) (in_theory a.verdict) (edge_shape a.edge) other ≡ edges_with (answers ++ a ∷ []) other
-  edges_append answers a other =
-      one_more_at (theory.same_verdict (in_theory a.verdict) other) (edges_with answers other) a
-      ∙ sym (map-append (λ d. edge_shape d.edge) (filter (λ d. theory.same_verdict (in_theory d.verdict) other) answers) (filter (λ d. theory.same_verdict (in_theory d.verdict) other) (a ∷ [])))
-      ∙ sym (ap (map (λ d. edge_shape d.edge)) (filter-append (λ d. theory.same_verdict (in_theory d.verdict) other) answers (a ∷ [])))
-
-  -- each member of the answers with the verdict gives an edge of that verdict
-  edge_here : (b : Bool) (a : DefiniteAnswer I) (rest : List (DefiniteAnswer I)) → b ≡ true → (i : ℕ) × (slice_get (map (λ d. edge_shape d.edge) (cond b (a ∷ rest) rest)) i ≡ Some (edge_shape a.edge))
-  edge_here true a rest is = (0, refl)
-  edge_here false a rest is = absurd cc
-
-  edge_later : (b : Bool) (x : DefiniteAnswer I) (rest : List (DefiniteAnswer I)) (edge : theory.Edge) (i : ℕ) → slice_get (map (λ d. edge_shape d.edge) rest) i ≡ Some edge → (j : ℕ) × (slice_get (map (λ d. edge_shape d.edge) (cond b (x ∷ rest) rest)) j ≡ Some edge)
-  edge_later true x rest edge i is = (suc i, is)
-  edge_later false x rest edge i is = (i, is)
-
-  pub edge_of_answer : (answers : List (DefiniteAnswer I)) (j : ℕ) (a : DefiniteAnswer I) (verdict : theory.Verdict) → slice_get answers j ≡ Some a → in_theory a.verdict ≡ verdict → (i : ℕ) × (slice_get (edges_with answers verdict) i ≡ Some (edge_shape a.edge))
-  edge_of_answer [] j a verdict at same = absurd cc
-  edge_of_answer (x ∷ rest) zero a verdict at same =
-      let is : x ≡ a = cc in
-      subst (λ y. (i : ℕ) × (slice_get (edges_with (x ∷ rest) verdict) i ≡ Some (edge_shape y.edge))) is
-      (edge_here (theory.same_verdict (in_theory x.verdict) verdict) x (filter (λ d. theory.same_verdict (in_theory d.verdict) verdict) rest)
-      (ap (λ v. theory.same_verdict v verdict) (ap (λ y. in_theory y.verdict) is ∙ same) ∙ same_verdict-refl verdict))
-  edge_of_answer (x ∷ rest) (suc j) a verdict at same =
-      let later = edge_of_answer rest j a verdict at same in
-      edge_later (theory.same_verdict (in_theory x.verdict) verdict) x (filter (λ d. theory.same_verdict (in_theory d.verdict) verdict) rest) (edge_shape a.edge) later.0 later.1
-
 get_last : {A : Type 0} (xs : List A) (x : A) → slice_get (xs ++ x ∷ []) (length xs) ≡ Some x
 get_last [] x = refl
 get_last (y ∷ ys) x = get_last ys x
@@ -127,9 +124,9 @@ none_is_not_some is = cc
 pub no_answers : {A : Type 0} (i : ℕ) (a : A) → slice_get [] i ≡ Some a → ⊥
 no_answers i a is = cc
 
--- a frame may forget which heads its run began with
-settled_kept : (nodes : List theory.Node) (f : Frame) (frames : List Frame) (provisional : List Kept) (final : List Final) → IsSound nodes (f ∷ frames) provisional final → IsSound nodes (record f { kept = f.heads } ∷ frames) provisional final
-settled_kept nodes f frames provisional final h =
+-- A frame without edges may keep more, and record other heads, as long as what it keeps is among them.
+heads_change : (nodes : List theory.Node) (f : Frame) (frames : List Frame) (provisional : List Kept) (final : List Final) (kept heads : theory_use.Heads) → Includes f.kept kept → Includes kept heads → IsSound nodes (f ∷ frames) provisional final → IsSound nodes (record { entry = f.entry; own = f.own; edges = λ verdict. []; kept = kept; heads = heads } ∷ frames) provisional final
+heads_change nodes f frames provisional final kept heads more within h =
     let r = h.running.0 in
     record {
       is_stack = h.is_stack;
@@ -138,9 +135,9 @@ settled_kept nodes f frames provisional final h =
           unfinished = r.unfinished;
           lower = r.lower;
           which_run = r.which_run;
-          earlier = λ v definite says. heads_keep_use nodes v (stack_of frames) (path_kind (stack_of frames) f.entry.step) (path_kind (stack_of frames) f.entry.step) 0 f.entry.node f.kept f.heads r.still (λ depth path cycle recorded. refl) (r.earlier v definite says);
-          still = λ depth path cycle recorded. recorded;
-          answered = r.answered;
+          earlier = λ v definite says. heads_keep_use nodes v (stack_of frames) (path_kind (stack_of frames) f.entry.step) (path_kind (stack_of frames) f.entry.step) 0 f.entry.node f.kept kept more (λ depth path cycle recorded. refl) (r.earlier v definite says);
+          still = within;
+          answered = λ v i edge at. absurd (no_answers i edge at);
         },
         h.running.1,
       );
@@ -149,9 +146,16 @@ settled_kept nodes f frames provisional final h =
       closed = h.closed;
     }
 
+-- what a goal counts before it was answered, and when it is run again
+abbrev pub no_tally : Tally
+no_tally = record { heads = []; own = None; current = None; finished = [] }
+
+abbrev pub tally_again : Tally → Tally
+tally_again t = record t { own = Some no_usages; current = None; finished = [] }
+
 -- a run that begins
-abbrev pub new_run : {I R : Type 0} → I → PathKind → NodeId → Option NodeId → Option R → Heads → OpenRun I R
-new_run goal step own lead earlier heads = record { goal = goal; step = step; own = own.0; cycles_lead = lead; provisional = earlier; heads = heads; request = None; answers = [] }
+abbrev pub new_run : {I R : Type 0} → I → PathKind → NodeId → Option NodeId → Option R → Tally → OpenRun I R
+new_run goal step own lead earlier tally = record { goal = goal; step = step; own = own.0; cycles_lead = lead; provisional = earlier; tally = tally; is_open = false; ignored = []; request = None; answers = [] }
 
 module _ {I R : Type 0} (is_yes is_no : R → Bool) (nodes : List (CacheNode I R)) where
   -- nothing is under evaluation
@@ -162,40 +166,42 @@ module _ {I R : Type 0} (is_yes is_no : R → Bool) (nodes : List (CacheNode I R
     lead_home = tt;
     placed = tt;
     asked = tt;
+    tallies = tt;
+    charged = tt;
   }
 
   pub shapes_opened : (goal : I) → shapes_of is_yes is_no (nodes ++ open_node goal ∷ []) ≡ shapes_of is_yes is_no nodes ++ theory.Unfinished ∷ []
   shapes_opened goal = map-append (shape_of is_yes is_no) nodes (open_node goal ∷ [])
 
+  opened_grows : (goal : I) → theory.Grown (shapes_of is_yes is_no nodes) (shapes_of is_yes is_no (nodes ++ open_node goal ∷ []))
+  opened_grows goal = subst (theory.Grown (shapes_of is_yes is_no nodes)) (sym (shapes_opened goal)) (append_grows (shapes_of is_yes is_no nodes))
+
   new_node_is : (goal : I) → IsNodeOf (nodes ++ open_node goal ∷ []) (length nodes) goal
   new_node_is goal = ap (option_map (λ n. n.goal)) (get_last nodes (open_node goal))
 
   -- the goal that was asked is pushed
-  pub pushed_is_justified : (goal : I) (step : PathKind) (own : NodeId) (goals : List (OpenRun I R)) → own.0 ≡ length nodes → Asks goals step goal → AreJustified is_yes is_no nodes goals → AreJustified is_yes is_no (nodes ++ open_node goal ∷ []) (new_run goal step own (Some own) None [] ∷ goals)
+  pub pushed_is_justified : (goal : I) (step : PathKind) (own : NodeId) (goals : List (OpenRun I R)) → own.0 ≡ length nodes → Asks goals step goal → AreJustified is_yes is_no nodes goals → AreJustified is_yes is_no (nodes ++ open_node goal ∷ []) (new_run goal step own (Some own) None no_tally ∷ goals)
   pushed_is_justified goal step own goals at asks h =
       let many : length (shapes_of is_yes is_no nodes) ≡ own.0 = length-map nodes (shape_of is_yes is_no) ∙ sym at in
       let last : slice_get (nodes ++ open_node goal ∷ []) own.0 ≡ Some (open_node goal) = ap (slice_get (nodes ++ open_node goal ∷ [])) at ∙ get_last nodes (open_node goal) in
       record {
         sound =
-            subst (λ more. IsSound more (frames_of is_yes is_no (new_run goal step own (Some own) None [] ∷ goals)) [] []) (sym (shapes_opened goal))
+            subst (λ more. IsSound more (frames_of is_yes is_no (new_run goal step own (Some own) None no_tally ∷ goals)) [] []) (sym (shapes_opened goal))
+            (heads_change (shapes_of is_yes is_no nodes ++ theory.Unfinished ∷ []) (first_frame (rank_of step) own.0 (heads_shape [])) (frames_of is_yes is_no goals) [] [] (spare_heads no_tally) (heads_shape []) (λ depth path cycle recorded. absurd (recorded.1 refl)) (λ depth path cycle recorded. absurd (recorded.1 refl))
             (subst (λ n. IsSound (shapes_of is_yes is_no nodes ++ theory.Unfinished ∷ []) (first_frame (rank_of step) n (heads_shape []) ∷ frames_of is_yes is_no goals) [] []) many
-            (push_keeps_sound (shapes_of is_yes is_no nodes) (frames_of is_yes is_no goals) [] [] (rank_of step) (heads_shape []) h.sound));
+            (push_keeps_sound (shapes_of is_yes is_no nodes) (frames_of is_yes is_no goals) [] [] (rank_of step) (heads_shape []) h.sound)));
         are_open = (goal_open (nodes ++ open_node goal ∷ []) own.0 (open_node goal) goal last refl refl, AreOpen-kept nodes (nodes ++ open_node goal ∷ []) (KeepsNodes-appended true nodes goal) goals h.are_open);
         lead_home = (subst (λ n. IsNodeOf (nodes ++ open_node goal ∷ []) n goal) (sym at) (new_node_is goal), LeadHome-kept nodes (nodes ++ open_node goal ∷ []) (KeepsGoals-appended true nodes goal) goals h.lead_home);
         placed = (λ i a is. absurd (no_answers i a is), AllPlaced-kept nodes (nodes ++ open_node goal ∷ []) (KeepsGoals-appended true nodes goal) goals h.placed);
         asked = (asks, h.asked);
+        tallies = (record { tallied = fresh_tallied (length goals); open_is = refl; finished_are = refl }, h.tallies);
+        charged = (λ i a is. absurd (no_answers i a is), AllCharged-kept is_yes is_no nodes (nodes ++ open_node goal ∷ []) (opened_grows goal) goals h.charged);
       }
 
-  -- the newest goal makes another request
-  pub requested_is_justified : (request : Option (Request I R)) (o : OpenRun I R) (below : List (OpenRun I R)) → AreJustified is_yes is_no nodes (o ∷ below) → AreJustified is_yes is_no nodes (record o { request = request } ∷ below)
-  requested_is_justified request o below h = record { sound = h.sound; are_open = h.are_open; lead_home = h.lead_home; placed = h.placed; asked = h.asked }
-
-  -- the newest goal gets a definite answer
-  pub answered_is_justified : (a : DefiniteAnswer I) (o : OpenRun I R) (below : List (OpenRun I R)) → MayAnswer is_yes is_no nodes o below (in_theory a.verdict) a.edge.kind a.edge.input a.edge.target → AreJustified is_yes is_no nodes (o ∷ below) → AreJustified is_yes is_no nodes (record o { answers = o.answers ++ a ∷ [] } ∷ below)
-  answered_is_justified a o below may h = record {
-    sound =
-        subst (λ edges. IsSound (shapes_of is_yes is_no nodes) (answering (frame_of is_yes is_no o) edges (heads_shape o.heads) ∷ frames_of is_yes is_no below) [] []) (λ i v. edges_append o.answers a v i)
-        (one_answer_keeps_sound (shapes_of is_yes is_no nodes) (frame_of is_yes is_no o) (frames_of is_yes is_no below) [] [] (in_theory a.verdict) (edge_shape a.edge) (heads_shape o.heads) (λ depth path cycle recorded. recorded) may.answered h.sound);
+  -- the newest goal gets a definite answer, in the candidate that is open
+  pub answered_is_justified : (a : DefiniteAnswer I) (o : OpenRun I R) (below : List (OpenRun I R)) → a.candidate ≡ asked_now o → MayAnswer is_yes is_no nodes o below (in_theory a.verdict) a.edge.kind a.edge.input a.edge.target → AreJustified is_yes is_no nodes (o ∷ below) → AreJustified is_yes is_no nodes (record o { answers = o.answers ++ a ∷ [] } ∷ below)
+  answered_is_justified a o below inside may h = record {
+    sound = h.sound;
     are_open = h.are_open;
     lead_home = h.lead_home;
     placed = (
@@ -206,40 +212,60 @@ module _ {I R : Type 0} (is_yes is_no : R → Bool) (nodes : List (CacheNode I R
       h.placed.1,
     );
     asked = h.asked;
+    tallies = (record { tallied = h.tallies.0.tallied; open_is = h.tallies.0.open_is; finished_are = h.tallies.0.finished_are }, h.tallies.1);
+    charged = (
+      λ i b is kept. elim (get_cases o.answers a i b is) [
+        | inl old ↦ h.charged.0 i b old kept
+        | inr new ↦
+            subst (λ (d : DefiniteAnswer I). IsAnswered (shapes_of is_yes is_no nodes) (in_theory d.verdict) (stack_of (frames_of is_yes is_no below)) (frame_of is_yes is_no o).entry (edge_shape d.edge) (heads_of o.tally d.candidate)) new.1
+            (subst (λ c. IsAnswered (shapes_of is_yes is_no nodes) (in_theory a.verdict) (stack_of (frames_of is_yes is_no below)) (frame_of is_yes is_no o).entry (edge_shape a.edge) (heads_of o.tally c)) (sym inside) may.answered)
+      ],
+      h.charged.1,
+    );
   }
 
-  -- it takes over heads
-  pub grown_is_justified : (heads : Heads) (o : OpenRun I R) (below : List (OpenRun I R)) → Includes (heads_shape o.heads) (heads_shape heads) → AreJustified is_yes is_no nodes (o ∷ below) → AreJustified is_yes is_no nodes (record o { heads = heads } ∷ below)
-  grown_is_justified heads o below more h =
-      let grown = answers_keep_sound (shapes_of is_yes is_no nodes) (frame_of is_yes is_no o) (frames_of is_yes is_no below) [] [] (edges_with o.answers) (heads_shape heads) more
-      (λ v i edge at. let a = h.sound.running.0.answered v i edge at in record { answer = a.answer; used = a.used; among = λ depth path cycle lower recorded. more depth path cycle (a.among depth path cycle lower recorded) }) h.sound in
-      record {
-        sound = settled_kept (shapes_of is_yes is_no nodes) (answering (frame_of is_yes is_no o) (edges_with o.answers) (heads_shape heads)) (frames_of is_yes is_no below) [] [] grown;
-        are_open = h.are_open;
-        lead_home = h.lead_home;
-        placed = h.placed;
-        asked = h.asked;
-      }
+  -- What it counts changes, and its candidates, and it makes another request: for each candidate that isn't ignored afterwards it
+  -- counts all that it did, and so of what was used outside candidates.
+  pub recounted_is_justified : (tally : Tally) (is_open : Bool) (ignored : List Bool) (request : Option (Request I R)) (o : OpenRun I R) (below : List (OpenRun I R)) → HasTally (length below) (record o { tally = tally; is_open = is_open; ignored = ignored }) → ((c : Option ℕ) → is_kept ignored c ≡ true → (is_kept o.ignored c ≡ true) × Includes (heads_of o.tally c) (heads_of tally c)) → AreJustified is_yes is_no nodes (o ∷ below) → AreJustified is_yes is_no nodes (record o { tally = tally; is_open = is_open; ignored = ignored; request = request } ∷ below)
+  recounted_is_justified tally is_open ignored request o below has keeps h = record {
+    sound = heads_change (shapes_of is_yes is_no nodes) (frame_of is_yes is_no o) (frames_of is_yes is_no below) [] [] (spare_heads tally) (heads_shape tally.heads) (keeps None refl).1 (spare_within (length below) tally has.tallied) h.sound;
+    are_open = h.are_open;
+    lead_home = h.lead_home;
+    placed = h.placed;
+    asked = h.asked;
+    tallies = (record { tallied = has.tallied; open_is = has.open_is; finished_are = has.finished_are }, h.tallies.1);
+    charged = (
+      λ i a is kept.
+          let was = keeps a.candidate kept in
+          answered_more (shapes_of is_yes is_no nodes) (in_theory a.verdict) (stack_of (frames_of is_yes is_no below)) (frame_of is_yes is_no o).entry (edge_shape a.edge) (heads_of o.tally a.candidate) (heads_of tally a.candidate) (λ depth path cycle lower recorded. was.1 depth path cycle recorded)
+          (h.charged.0 i a is was.0),
+      h.charged.1,
+    );
+  }
 
   -- ---- the newest goal's run has ended
 
-  -- the edges of the verdict give way to those of the result
-  abbrev chosen_edges : theory.Verdict → List (Edge I) → List (DefiniteAnswer I) → theory.Verdict → List theory.Edge
-  chosen_edges verdict edges answers other = cond (theory.same_verdict verdict other) (map edge_shape edges) (edges_with answers other)
+  -- the edges of the result
+  abbrev chosen_edges : theory.Verdict → List (Edge I) → theory.Verdict → List theory.Edge
+  chosen_edges verdict edges other = cond (theory.same_verdict verdict other) (map edge_shape edges) []
 
   edge_in : (edges : List (Edge I)) (i : ℕ) (edge : theory.Edge) → slice_get (map edge_shape edges) i ≡ Some edge → (e : Edge I) × (slice_get edges i ≡ Some e) × (edge_shape e ≡ edge)
   edge_in [] i edge at = absurd cc
   edge_in (e ∷ es) zero edge at = (e, refl, cc)
   edge_in (e ∷ es) (suc i) edge at = edge_in es i edge at
 
-  chosen_at : (b : Bool) (verdict other : theory.Verdict) (edges : List (Edge I)) (o : OpenRun I R) (below : List (OpenRun I R)) → theory.same_verdict verdict other ≡ b → AreEdges o.answers verdict edges → ((v : theory.Verdict) → AllAnswered (shapes_of is_yes is_no nodes) v (stack_of (frames_of is_yes is_no below)) (frame_of is_yes is_no o).entry (edges_with o.answers v) (heads_shape o.heads)) → AllAnswered (shapes_of is_yes is_no nodes) other (stack_of (frames_of is_yes is_no below)) (frame_of is_yes is_no o).entry (cond b (map edge_shape edges) (edges_with o.answers other)) (heads_shape o.heads)
-  chosen_at false verdict other edges o below same are answered = answered other
-  chosen_at true verdict other edges o below same are answered = λ i edge at.
+  -- each of them was answered, and what the answer rests on is counted by the goal
+  chosen_at : (b : Bool) (verdict other : theory.Verdict) (edges : List (Edge I)) (o : OpenRun I R) (below : List (OpenRun I R)) → theory.same_verdict verdict other ≡ b → AreEdges o.answers o.ignored verdict edges → IsTallied (length below) o.tally → AreCharged is_yes is_no nodes o below → AllAnswered (shapes_of is_yes is_no nodes) other (stack_of (frames_of is_yes is_no below)) (frame_of is_yes is_no o).entry (cond b (map edge_shape edges) []) (heads_shape o.tally.heads)
+  chosen_at false verdict other edges o below same are tallied charged = λ i edge at. absurd (no_answers i edge at)
+  chosen_at true verdict other edges o below same are tallied charged = λ i edge at.
       let e = edge_in edges i edge at in
       let from = are i e.0 e.1 in
-      let place = edge_of_answer o.answers from.0 from.1 other from.2 (from.4 ∙ verdicts_same verdict other same) in
-      subst (λ x. IsAnswered (shapes_of is_yes is_no nodes) other (stack_of (frames_of is_yes is_no below)) (frame_of is_yes is_no o).entry x (heads_shape o.heads)) (ap edge_shape from.3 ∙ e.2)
-      (answered other place.0 (edge_shape from.1.edge) place.1)
+      let many : length below ≡ length (stack_of (frames_of is_yes is_no below)) = sym (stack_length is_yes is_no below) in
+      subst (λ x. IsAnswered (shapes_of is_yes is_no nodes) other (stack_of (frames_of is_yes is_no below)) (frame_of is_yes is_no o).entry x (heads_shape o.tally.heads)) (ap edge_shape from.3 ∙ e.2)
+      (answered_more (shapes_of is_yes is_no nodes) other (stack_of (frames_of is_yes is_no below)) (frame_of is_yes is_no o).entry (edge_shape from.1.edge) (heads_of o.tally from.1.candidate) (heads_shape o.tally.heads)
+      (subst (λ n. IncludesBelow n (heads_of o.tally from.1.candidate) (heads_shape o.tally.heads)) many (charge_within (length below) o.tally tallied from.1.candidate))
+      (subst (λ v. IsAnswered (shapes_of is_yes is_no nodes) v (stack_of (frames_of is_yes is_no below)) (frame_of is_yes is_no o).entry (edge_shape from.1.edge) (heads_of o.tally from.1.candidate)) (from.4 ∙ verdicts_same verdict other same)
+      (charged from.0 from.1 from.2 from.5)))
 
   -- other goals' nodes are still open
   AreOpen-ended : (run : EndedRun I R) (k : ℕ) (goal : I) → open_goal nodes k ≡ Some goal → (goals : List (OpenRun I R)) → OwnsOther k (frames_of is_yes is_no goals) → AreOpen nodes goals → AreOpen (with_run nodes k run) goals
@@ -256,7 +282,7 @@ module _ {I R : Type 0} (is_yes is_no : R → Bool) (nodes : List (CacheNode I R
 pub record Settles {I R : Type 0} (is_yes is_no : R → Bool) (nodes after : List (CacheNode I R)) (o : OpenRun I R) (below : List (OpenRun I R)) (r : R) (target : Option NodeId) : Type 0 where
   pub edges : theory.Verdict → List theory.Edge
   pub place : ℕ
-  pub sound : IsSound (shapes_of is_yes is_no nodes) (answering (frame_of is_yes is_no o) edges (heads_shape o.heads) ∷ frames_of is_yes is_no below) [] []
+  pub sound : IsSound (shapes_of is_yes is_no nodes) (answering (frame_of is_yes is_no o) edges (heads_shape o.tally.heads) ∷ frames_of is_yes is_no below) [] []
   pub answered : Answered (shapes_of is_yes is_no nodes) (frame_of is_yes is_no o).entry o.own edges (verdict_of is_yes is_no r) (shapes_of is_yes is_no after) place
   pub goals_kept : KeepsGoals nodes after
   pub open_below : AreOpen after below
@@ -271,7 +297,7 @@ module _ {I R : Type 0} (is_yes is_no : R → Bool) (nodes : List (CacheNode I R
   -- it says what the provisional result said
   pub again_settles : (r : R) → verdict_of is_yes is_no r ≢ theory.Neither → SaysAgain is_yes is_no o.provisional r → Settles is_yes is_no nodes nodes o below r o.cycles_lead
   again_settles r definite says = record {
-    edges = edges_with o.answers;
+    edges = λ verdict. [];
     place = leads_to o;
     sound = h.sound;
     answered = Again says;
@@ -284,7 +310,7 @@ module _ {I R : Type 0} (is_yes is_no : R → Bool) (nodes : List (CacheNode I R
   -- it isn't definite
   pub neither_settles : (r : R) → verdict_of is_yes is_no r ≡ theory.Neither → Settles is_yes is_no nodes nodes o below r None
   neither_settles r neither = record {
-    edges = edges_with o.answers;
+    edges = λ verdict. [];
     place = leads_to o;
     sound = h.sound;
     answered = Without neither;
@@ -295,7 +321,7 @@ module _ {I R : Type 0} (is_yes is_no : R → Bool) (nodes : List (CacheNode I R
   }
 
   -- its node is finished with the run
-  module _ (node : NodeId) (same_node : node.0 ≡ o.own) (run : EndedRun I R) (definite : verdict_of is_yes is_no run.outcome ≢ theory.Neither) (anew : SaysAgain is_yes is_no o.provisional run.outcome → ⊥) (edges : AreEdges o.answers (verdict_of is_yes is_no run.outcome) run.edges) where
+  module _ (node : NodeId) (same_node : node.0 ≡ o.own) (run : EndedRun I R) (definite : verdict_of is_yes is_no run.outcome ≢ theory.Neither) (anew : SaysAgain is_yes is_no o.provisional run.outcome → ⊥) (edges : AreEdges o.answers o.ignored (verdict_of is_yes is_no run.outcome) run.edges) where
     is_open : IsSomeAnd (open_goal nodes o.own) (λ goal. goal ≡ o.goal)
     is_open = subst (λ x. IsSomeAnd x (λ goal. goal ≡ o.goal)) (sym h.are_open.0) refl
 
@@ -304,10 +330,10 @@ module _ {I R : Type 0} (is_yes is_no : R → Bool) (nodes : List (CacheNode I R
         ap (shapes_of is_yes is_no) (with_run-is nodes o.own run (λ goal. goal ≡ o.goal) is_open)
         ∙ map-set (shape_of is_yes is_no) nodes o.own (record { goal = (before nodes o.own run (λ goal. goal ≡ o.goal) is_open).0.goal; run = Some run })
 
-    later_same : slice_set (shapes_of is_yes is_no nodes) o.own (theory.Finished (verdict_of is_yes is_no run.outcome) (chosen_edges is_yes is_no nodes (verdict_of is_yes is_no run.outcome) run.edges o.answers (verdict_of is_yes is_no run.outcome))) ≡ shapes_of is_yes is_no (with_run nodes o.own run)
+    later_same : slice_set (shapes_of is_yes is_no nodes) o.own (theory.Finished (verdict_of is_yes is_no run.outcome) (chosen_edges is_yes is_no nodes (verdict_of is_yes is_no run.outcome) run.edges (verdict_of is_yes is_no run.outcome))) ≡ shapes_of is_yes is_no (with_run nodes o.own run)
     later_same =
         let v = verdict_of is_yes is_no run.outcome in
-        ap (λ b. slice_set (shapes_of is_yes is_no nodes) o.own (theory.Finished v (cond b (map edge_shape run.edges) (edges_with o.answers v)))) (same_verdict-refl v) ∙ sym later_shapes
+        ap (λ b. slice_set (shapes_of is_yes is_no nodes) o.own (theory.Finished v (cond b (map edge_shape run.edges) []))) (same_verdict-refl v) ∙ sym later_shapes
 
     own_node_is : IsNodeOf (with_run nodes o.own run) o.own o.goal
     own_node_is =
@@ -318,11 +344,11 @@ module _ {I R : Type 0} (is_yes is_no : R → Bool) (nodes : List (CacheNode I R
     ended_settles =
         let v = verdict_of is_yes is_no run.outcome in
         record {
-          edges = chosen_edges is_yes is_no nodes v run.edges o.answers;
+          edges = chosen_edges is_yes is_no nodes v run.edges;
           place = o.own;
-          sound = answers_keep_sound (shapes_of is_yes is_no nodes) (frame_of is_yes is_no o) (frames_of is_yes is_no below) [] [] (chosen_edges is_yes is_no nodes v run.edges o.answers) (heads_shape o.heads) (λ depth path cycle recorded. recorded)
-              (λ u. chosen_at is_yes is_no nodes (theory.same_verdict v u) v u run.edges o below refl edges h.sound.running.0.answered) h.sound;
-          answered = subst (λ more. Answered (shapes_of is_yes is_no nodes) (frame_of is_yes is_no o).entry o.own (chosen_edges is_yes is_no nodes v run.edges o.answers) v more o.own) later_same (Anew anew);
+          sound = answers_keep_sound (shapes_of is_yes is_no nodes) (frame_of is_yes is_no o) (frames_of is_yes is_no below) [] [] (chosen_edges is_yes is_no nodes v run.edges) (heads_shape o.tally.heads) (spare_within (length below) o.tally h.tallies.0.tallied)
+              (λ u. chosen_at is_yes is_no nodes (theory.same_verdict v u) v u run.edges o below refl edges h.tallies.0.tallied h.charged.0) h.sound;
+          answered = subst (λ more. Answered (shapes_of is_yes is_no nodes) (frame_of is_yes is_no o).entry o.own (chosen_edges is_yes is_no nodes v run.edges) v more o.own) later_same (Anew anew);
           goals_kept = KeepsGoals-ended nodes o.own run (λ goal. goal ≡ o.goal) is_open;
           open_below = AreOpen-ended is_yes is_no nodes run o.own o.goal h.are_open.0 below h.sound.apart.0 h.are_open.1;
           definite = λ d. (same_node, subst (λ n. IsNodeOf (with_run nodes o.own run) n o.goal) (sym same_node) own_node_is);
@@ -331,9 +357,12 @@ module _ {I R : Type 0} (is_yes is_no : R → Bool) (nodes : List (CacheNode I R
 
 -- what follows once the run is settled
 module _ {I R : Type 0} (is_yes is_no : R → Bool) (nodes after : List (CacheNode I R)) (o : OpenRun I R) (below : List (OpenRun I R)) (h : AreJustified is_yes is_no nodes (o ∷ below)) (r : R) (target : Option NodeId) (s : Settles is_yes is_no nodes after o below r target) where
-  pub popped : IsSound (shapes_of is_yes is_no after) (frames_of is_yes is_no below) [] [] × (verdict_of is_yes is_no r ≢ theory.Neither → Use (shapes_of is_yes is_no after) (verdict_of is_yes is_no r) (stack_of (frames_of is_yes is_no below)) (path_kind (stack_of (frames_of is_yes is_no below)) (rank_of o.step)) 0 s.place (heads_shape o.heads))
+  grown : theory.Grown (shapes_of is_yes is_no nodes) (shapes_of is_yes is_no after)
+  grown = answered_grows (shapes_of is_yes is_no nodes) (frame_of is_yes is_no o).entry o.own s.edges (verdict_of is_yes is_no r) h.sound.running.0.unfinished s.answered
+
+  pub popped : IsSound (shapes_of is_yes is_no after) (frames_of is_yes is_no below) [] [] × (verdict_of is_yes is_no r ≢ theory.Neither → Use (shapes_of is_yes is_no after) (verdict_of is_yes is_no r) (stack_of (frames_of is_yes is_no below)) (path_kind (stack_of (frames_of is_yes is_no below)) (rank_of o.step)) 0 s.place (heads_shape o.tally.heads))
   popped =
-      pop_keeps_sound (shapes_of is_yes is_no nodes) (answering (frame_of is_yes is_no o) s.edges (heads_shape o.heads)) (frames_of is_yes is_no below) [] [] [] [] (verdict_of is_yes is_no r) (shapes_of is_yes is_no after) s.place s.answered
+      pop_keeps_sound (shapes_of is_yes is_no nodes) (answering (frame_of is_yes is_no o) s.edges (heads_shape o.tally.heads)) (frames_of is_yes is_no below) [] [] [] [] (verdict_of is_yes is_no r) (shapes_of is_yes is_no after) s.place s.answered
       (λ i k is. absurd (no_answers i k is)) (λ i k is. absurd (no_answers i k is)) s.sound
 
   -- the goal is taken: those below stay justified,
@@ -344,6 +373,8 @@ module _ {I R : Type 0} (is_yes is_no : R → Bool) (nodes after : List (CacheNo
     lead_home = LeadHome-kept nodes after s.goals_kept below h.lead_home.1;
     placed = AllPlaced-kept nodes after s.goals_kept below h.placed.1;
     asked = h.asked.1;
+    tallies = h.tallies.1;
+    charged = AllCharged-kept is_yes is_no nodes after grown below h.charged.1;
   }
 
   pub used_at : (t : Option NodeId) → verdict_of is_yes is_no r ≢ theory.Neither → IsSomeAnd t (λ n. (n.0 ≡ s.place) × IsNodeOf after n.0 o.goal) → (P : ℕ → Type 0) → (IsNodeOf after s.place o.goal → P s.place) → IsSomeAnd t (λ n. P n.0)
@@ -351,13 +382,13 @@ module _ {I R : Type 0} (is_yes is_no : R → Bool) (nodes after : List (CacheNo
   used_at (Some n) definite at P from = subst P (sym at.0) (from (subst (λ m. IsNodeOf after m o.goal) at.0 at.1))
 
   -- its node may answer the goal below, whose heads take in its own,
-  pub may_answer_parent : (p : OpenRun I R) (rest : List (OpenRun I R)) (heads : Heads) → below ≡ p ∷ rest → TakesIn (length (stack_of (frames_of is_yes is_no rest))) (rank_of o.step) (heads_shape o.heads) (heads_shape heads) → verdict_of is_yes is_no r ≢ theory.Neither → IsSomeAnd target (λ n. MayAnswer is_yes is_no after (record p { heads = heads }) rest (verdict_of is_yes is_no r) o.step o.goal n.0)
-  may_answer_parent p rest heads is takes definite =
+  pub may_answer_parent : (p : OpenRun I R) (rest : List (OpenRun I R)) (tally : Tally) → below ≡ p ∷ rest → TakesIn (length (stack_of (frames_of is_yes is_no rest))) (rank_of o.step) (heads_shape o.tally.heads) (heads_of tally (asked_now p)) → verdict_of is_yes is_no r ≢ theory.Neither → IsSomeAnd target (λ n. MayAnswer is_yes is_no after (record p { tally = tally }) rest (verdict_of is_yes is_no r) o.step o.goal n.0)
+  may_answer_parent p rest tally is takes definite =
       let v = verdict_of is_yes is_no r in
-      used_at target definite (s.definite definite) (λ n. MayAnswer is_yes is_no after (record p { heads = heads }) rest v o.step o.goal n) (λ of_goal. record {
+      used_at target definite (s.definite definite) (λ n. MayAnswer is_yes is_no after (record p { tally = tally }) rest v o.step o.goal n) (λ of_goal. record {
         of_goal = of_goal;
-        answered = done_is_answered (shapes_of is_yes is_no after) v (stack_of (frames_of is_yes is_no rest)) (frame_of is_yes is_no p).entry (rank_of o.step) s.place (heads_shape o.heads) (heads_shape heads)
-            (subst (λ b. Use (shapes_of is_yes is_no after) v (stack_of (frames_of is_yes is_no b)) (path_kind (stack_of (frames_of is_yes is_no b)) (rank_of o.step)) 0 s.place (heads_shape o.heads)) is (popped.1 definite)) takes;
+        answered = done_is_answered (shapes_of is_yes is_no after) v (stack_of (frames_of is_yes is_no rest)) (frame_of is_yes is_no p).entry (rank_of o.step) s.place (heads_shape o.tally.heads) (heads_of tally (asked_now p))
+            (subst (λ b. Use (shapes_of is_yes is_no after) v (stack_of (frames_of is_yes is_no b)) (path_kind (stack_of (frames_of is_yes is_no b)) (rank_of o.step)) 0 s.place (heads_shape o.tally.heads)) is (popped.1 definite)) takes;
       })
 
   -- and has its graph where no goal is below it, or where it rests on none.
@@ -365,17 +396,17 @@ module _ {I R : Type 0} (is_yes is_no : R → Bool) (nodes after : List (CacheNo
   last_has_graph none = record {
     definite = λ d. used_at target d (s.definite d) (λ n. IsNodeOf after n o.goal × IsGraph (shapes_of is_yes is_no after) (verdict_of is_yes is_no r) n) (λ of_goal. (
       of_goal,
-      root_is_graph (shapes_of is_yes is_no after) (verdict_of is_yes is_no r) (path_kind [] (rank_of o.step)) 0 s.place (heads_shape o.heads)
-          (subst (λ b. Use (shapes_of is_yes is_no after) (verdict_of is_yes is_no r) (stack_of (frames_of is_yes is_no b)) (path_kind (stack_of (frames_of is_yes is_no b)) (rank_of o.step)) 0 s.place (heads_shape o.heads)) none (popped.1 d)),
+      root_is_graph (shapes_of is_yes is_no after) (verdict_of is_yes is_no r) (path_kind [] (rank_of o.step)) 0 s.place (heads_shape o.tally.heads)
+          (subst (λ b. Use (shapes_of is_yes is_no after) (verdict_of is_yes is_no r) (stack_of (frames_of is_yes is_no b)) (path_kind (stack_of (frames_of is_yes is_no b)) (rank_of o.step)) 0 s.place (heads_shape o.tally.heads)) none (popped.1 d)),
     ));
     neither = λ n. (s.neither n).0;
   }
 
-  pub headless_has_graph : o.heads ≡ [] → HasGraph is_yes is_no after o.goal r target
+  pub headless_has_graph : o.tally.heads ≡ [] → HasGraph is_yes is_no after o.goal r target
   headless_has_graph none = record {
     definite = λ d. used_at target d (s.definite d) (λ n. IsNodeOf after n o.goal × IsGraph (shapes_of is_yes is_no after) (verdict_of is_yes is_no r) n) (λ of_goal. (
       of_goal,
-      closed_is_graph (shapes_of is_yes is_no after) (verdict_of is_yes is_no r) (stack_of (frames_of is_yes is_no below)) (path_kind (stack_of (frames_of is_yes is_no below)) (rank_of o.step)) 0 s.place (heads_shape o.heads)
+      closed_is_graph (shapes_of is_yes is_no after) (verdict_of is_yes is_no r) (stack_of (frames_of is_yes is_no below)) (path_kind (stack_of (frames_of is_yes is_no below)) (rank_of o.step)) 0 s.place (heads_shape o.tally.heads)
           (subst (λ heads. (depth : ℕ) → UsesNo (heads_shape heads) depth) (sym none) (λ depth path cycle recorded. recorded.1 refl)) (popped.1 d),
     ));
     neither = λ n. (s.neither n).0;
@@ -409,19 +440,22 @@ module _ {I R : Type 0} (is_yes is_no : R → Bool) (nodes after : List (CacheNo
     leads_home None is = absurd is
     leads_home (Some n) is = KeepsGoals-appended true after o.goal n.0 o.goal is.1
 
-    pub rerun_is_justified : AreJustified is_yes is_no (after ++ open_node o.goal ∷ []) (new_run o.goal o.step own (option_or target o.cycles_lead) (Some r) o.heads ∷ below)
+    pub rerun_is_justified : AreJustified is_yes is_no (after ++ open_node o.goal ∷ []) (new_run o.goal o.step own (option_or target o.cycles_lead) (Some r) (tally_again o.tally) ∷ below)
     rerun_is_justified =
         let v = verdict_of is_yes is_no r in
         let many : length (shapes_of is_yes is_no after) ≡ own.0 = length-map after (shape_of is_yes is_no) ∙ sym at in
         let last : slice_get (after ++ open_node o.goal ∷ []) own.0 ≡ Some (open_node o.goal) = ap (slice_get (after ++ open_node o.goal ∷ [])) at ∙ get_last after (open_node o.goal) in
-        let again = rerun_keeps_sound (shapes_of is_yes is_no nodes) (answering (frame_of is_yes is_no o) s.edges (heads_shape o.heads)) (frames_of is_yes is_no below) [] [] [] v (shapes_of is_yes is_no after) s.place s.answered (λ i k is. absurd (no_answers i k is)) s.sound in
+        let again = rerun_keeps_sound (shapes_of is_yes is_no nodes) (answering (frame_of is_yes is_no o) s.edges (heads_shape o.tally.heads)) (frames_of is_yes is_no below) [] [] [] v (shapes_of is_yes is_no after) s.place s.answered (λ i k is. absurd (no_answers i k is)) s.sound in
         record {
           sound =
-              subst (λ more. IsSound more (frames_of is_yes is_no (new_run o.goal o.step own (option_or target o.cycles_lead) (Some r) o.heads ∷ below)) [] []) (sym (shapes_opened is_yes is_no after o.goal))
-              (subst (λ p. IsSound (shapes_of is_yes is_no after ++ theory.Unfinished ∷ []) (next_frame (frame_of is_yes is_no o) v p own.0 ∷ frames_of is_yes is_no below) [] []) (sym (leads_there (option_or target o.cycles_lead) lead_is))
-              (subst (λ n. IsSound (shapes_of is_yes is_no after ++ theory.Unfinished ∷ []) (next_frame (frame_of is_yes is_no o) v s.place n ∷ frames_of is_yes is_no below) [] []) many again));
+              subst (λ more. IsSound more (frames_of is_yes is_no (new_run o.goal o.step own (option_or target o.cycles_lead) (Some r) (tally_again o.tally) ∷ below)) [] []) (sym (shapes_opened is_yes is_no after o.goal))
+              (subst (λ p. IsSound (shapes_of is_yes is_no after ++ theory.Unfinished ∷ []) (record { entry = record { step = rank_of o.step; provisional = Some v; node = p }; own = own.0; edges = λ verdict. []; kept = spare_heads (tally_again o.tally); heads = heads_shape o.tally.heads } ∷ frames_of is_yes is_no below) [] []) (sym (leads_there (option_or target o.cycles_lead) lead_is))
+              (heads_change (shapes_of is_yes is_no after ++ theory.Unfinished ∷ []) (next_frame (frame_of is_yes is_no o) v s.place own.0) (frames_of is_yes is_no below) [] [] (spare_heads (tally_again o.tally)) (heads_shape o.tally.heads) (rerun_keeps o.tally) (spare_within (length below) (tally_again o.tally) (rerun_tallied (length below) o.tally h.tallies.0.tallied))
+              (subst (λ n. IsSound (shapes_of is_yes is_no after ++ theory.Unfinished ∷ []) (next_frame (frame_of is_yes is_no o) v s.place n ∷ frames_of is_yes is_no below) [] []) many again)));
           are_open = (goal_open (after ++ open_node o.goal ∷ []) own.0 (open_node o.goal) o.goal last refl refl, AreOpen-kept after (after ++ open_node o.goal ∷ []) (KeepsNodes-appended true after o.goal) below s.open_below);
           lead_home = (leads_home (option_or target o.cycles_lead) lead_is, LeadHome-kept after (after ++ open_node o.goal ∷ []) (KeepsGoals-appended true after o.goal) below (LeadHome-kept nodes after s.goals_kept below h.lead_home.1));
           placed = (λ i a is. absurd (no_answers i a is), AllPlaced-kept after (after ++ open_node o.goal ∷ []) (KeepsGoals-appended true after o.goal) below (AllPlaced-kept nodes after s.goals_kept below h.placed.1));
           asked = h.asked;
+          tallies = (record { tallied = rerun_tallied (length below) o.tally h.tallies.0.tallied; open_is = refl; finished_are = refl }, h.tallies.1);
+          charged = (λ i a is. absurd (no_answers i a is), AllCharged-kept is_yes is_no after (after ++ open_node o.goal ∷ []) (opened_grows is_yes is_no after o.goal) below (AllCharged-kept is_yes is_no nodes after grown below h.charged.1));
         }

@@ -3,8 +3,10 @@ pub mod Changes
 pub mod NestedGoals
 pub mod LookUps
 pub mod TakenHeads
+pub mod IgnoredHeads
 pub mod OldestFirst
 pub mod Steps
+pub mod Tallies
 pub mod Justified
 pub mod ProgressLaws
 pub mod ProgressEdges
