@@ -1,14 +1,15 @@
 -- The answer to a question whose goal is under evaluation already.
-use Rattle.std.proofs.Common.{◌≡◌, ◌≢◌, ℕ, suc, ◌+◌, ◌<◌, max, Bool, true, false, if◌then◌else◌, List, [], ◌∷◌, ◌++◌, map, reverse, length, drop, get_or, Option, None, Some, option_map, unwrap_or, slice_get, refl, sym, ap, ◌∙◌, subst, inl, inr, arith, IsTrue}
+use Rattle.std.proofs.Common.{◌≡◌, ◌≢◌, ℕ, suc, ◌+◌, ◌<◌, max, Bool, true, false, if◌then◌else◌, List, [], ◌∷◌, ◌++◌, map, reverse, length, drop, get_or, Option, None, Some, option_map, unwrap_or, slice_get, refl, sym, ap, ◌∙◌, subst, inl, inr, arith, IsTrue, IsSome}
 use Rattle.std.specs.Option.{IsSomeAnd}
 use Rattle.std.specs.List.{position}
 use Rattle.std.proofs.lemmas.Grind.{reverse_onto}
-use Rattle.std.proofs.lemmas.List.{drop-map, get_or-map, map-append, length-map}
+use Rattle.std.proofs.lemmas.List.{drop-map, get_or-map, map-append, length-map, length-reverse}
 use Rattle.std.proofs.lemmas.List.Quantifiers.{position-Some}
-use Rattle.std.proofs.lemmas.Option.{slice_get-map, slice_get-get_or}
+use Rattle.std.proofs.lemmas.Option.{slice_get-map, slice_get-get_or, slice_get_within}
+use Rattle.std.proofs.lemmas.Bool.{cases_eq}
 use Rattle.open_graphs.specs.Graph as theory
 use Rattle.open_graphs.specs.Stack.{Entry, Accepts, greatest, path_kind}
-use Rattle.open_graphs.specs.Use.{Recorded}
+use Rattle.open_graphs.specs.Use.{Heads, Recorded}
 use Rattle.open_graphs.specs.Run.{IsAnswered}
 use Rattle.open_graphs.specs.State.{stack_of}
 use Rattle.open_graphs.proofs.Asked.{cycle_is_answered}
@@ -23,20 +24,23 @@ use Rattle.search_parts.specs.Cache.{CacheNode, IsNodeOf}
 use Rattle.search_parts.specs.Cycle.{path_kind_from}
 use Rattle.search_parts.specs.Delegate.{IsCycleResult}
 use Rattle.cycle_heads.specs.HeadShapes.{heads_shape}
+use Rattle.cycle_heads.specs.declared.heads.CycleHead.{CycleHead}
+use Rattle.cycle_heads.specs.Heads.{at_depth}
 use Rattle.cycle_heads.specs.Path.{rank_of, greater_kind, greatest_kind, is_coinductive, is_inductive}
 use Rattle.cycle_heads.specs.Paths.{has_kind, paths_of}
 use Rattle.search_parts.specs.Shapes.{verdict_of, shapes_of}
 use Rattle.cycle_heads.specs.Usages.{count_of, no_usages, with_usage}
-use Rattle.cycle_heads.proofs.HeadLists.{at_depth-first}
+use Rattle.cycle_heads.proofs.HeadLists.{at_depth-first, at_depth-rest}
 use Rattle.cycle_heads.proofs.HeadShapes.{IsIn, in_head}
 use Rattle.cycle_heads.proofs.PathRanks.{greater_rank}
 use Rattle.search_graph.specs.declared.graph.open_goals.Run.{Run}
 use Rattle.search_graph.specs.Entries.{cycle_head}
 use Rattle.search_graph.specs.Items.{AnswersNewest}
-use Rattle.search_graph.specs.Justified.{OpenRun, Asks, AreJustified, MayAnswer, IsFit, frame_of, frames_of, leads_to, LeadHome}
+use Rattle.search_graph.specs.Justified.{OpenRun, Asks, AreJustified, MayAnswer, IsFit, asked_now, frame_of, frames_of, leads_to, LeadHome}
 use Rattle.search_graph.specs.Runs.{run_of, runs_of}
 use Rattle.search_graph.proofs.Finishing.{answer_fits, heads_come, same_run}
-use Rattle.search_graph.proofs.RunsEnd.{stack_length}
+use Rattle.search_graph.proofs.Justified.{stack_length}
+use Rattle.search_graph.specs.Tallies.{heads_of, tally_of, LieBelow}
 
 -- ---- kinds of cycles
 
@@ -75,6 +79,20 @@ cycle_recorded : (step kind : PathKind) (head : StackDepth) → Recorded (heads_
 cycle_recorded step kind head =
     subst (λ o. IsIn o (rank_of step) (rank_of kind)) (sym (at_depth-first head (cycle_head step kind) []))
     (in_head (cycle_head step kind) step kind (own_path step, own_usage kind))
+
+one_head_lower : (head : StackDepth) (used : CycleHead) (place : ℕ) → head.0 < place → LieBelow place ((head, used) ∷ [])
+one_head_lower head used place within depth some = elim (cases_eq depth.0 head.0) [
+  | inl same ↦ omega (arith, same, within)
+  | inr other ↦ absurd (none_there (at_depth ((head, used) ∷ []) depth) (at_depth-rest head depth used [] other) some)
+]
+  where
+    none_there : (o : Option CycleHead) → o ≡ None → IsSome o → ⊥
+    none_there None is some = cc
+    none_there (Some x) is some = cc
+
+-- a head that stands on the stack lies below the place above the newest goal
+pub cycle_head_lower : {X F I R A T : Type 0} (step : PathKind) (head : StackDepth) (used : CycleHead) (old new : List (StackEntry X I R A T × Run X F I R A T)) (a : AnswersNewest step 0 false ((head, used) ∷ []) old new) → head.0 < length old → LieBelow (suc (length a.below)) ((head, used) ∷ [])
+cycle_head_lower step head used old new a within = one_head_lower head used (suc (length a.below)) (omega (arith, within, ap length a.was))
 
 -- ---- the stack from below
 
@@ -170,19 +188,26 @@ module _ {X F I R A T : Type 0} (is_yes is_no : R → Bool) (nodes : List (Cache
   accepts_at None is definite = inr (ap (option_map (verdict_of is_yes is_no)) is, initial_at kind (is_yes initial) (is_no initial) sorted.yes sorted.no definite)
   accepts_at (Some r) is definite = inl (ap (option_map (verdict_of is_yes is_no)) is)
 
-  recorded : head.0 < length a.below → Recorded (heads_shape a.state.heads) head.0 (rank_of step) (rank_of kind)
+  head_lower : LieBelow (suc (length a.below)) ((head, cycle_head step kind) ∷ [])
+  head_lower = cycle_head_lower step head (cycle_head step kind) old new a (omega (arith, slice_get_within (reverse old) head.0 (e, there.run) there.at, length-reverse old))
+
+  -- what the newest goal counts of it
+  abbrev counts_now : Heads
+  counts_now = heads_of (tally_of a.state a.run.candidates) (asked_now (run_of (a.entry, a.run)))
+
+  recorded : head.0 < length a.below → Recorded counts_now head.0 (rank_of step) (rank_of kind)
   recorded lower =
       let twice : max (rank_of step) (rank_of step) ≡ rank_of step = omega arith in
-      subst (λ p. Recorded (heads_shape a.state.heads) head.0 p (rank_of kind)) twice
-      (heads_come (record { 0 = length a.below }) step 0 false ((head, cycle_head step kind) ∷ []) a.entry.state a.state a.takes head.0 (rank_of step) (rank_of kind) lower (cycle_recorded step kind head))
+      subst (λ p. Recorded counts_now head.0 p (rank_of kind)) twice
+      (heads_come is_yes is_no nodes step 0 false ((head, cycle_head step kind) ∷ []) old new a head_lower h head.0 (rank_of step) (rank_of kind) lower (cycle_recorded step kind head))
 
-  answered : verdict_of is_yes is_no (unwrap_or e.state.provisional_result initial) ≢ theory.Neither → IsAnswered (shapes_of is_yes is_no nodes) (verdict_of is_yes is_no (unwrap_or e.state.provisional_result initial)) (stack_of (frames_of is_yes is_no (runs_of a.below))) (frame_of is_yes is_no (run_of (a.entry, a.run))).entry (record { kind = rank_of step; target = leads_to (run_of (e, there.run)) }) (heads_shape a.state.heads)
+  answered : verdict_of is_yes is_no (unwrap_or e.state.provisional_result initial) ≢ theory.Neither → IsAnswered (shapes_of is_yes is_no nodes) (verdict_of is_yes is_no (unwrap_or e.state.provisional_result initial)) (stack_of (frames_of is_yes is_no (runs_of a.below))) (frame_of is_yes is_no (run_of (a.entry, a.run))).entry (record { kind = rank_of step; target = leads_to (run_of (e, there.run)) }) counts_now
   answered definite =
       let many : length (stack_of (frames_of is_yes is_no (runs_of a.below))) ≡ length a.below = stack_length is_yes is_no (runs_of a.below) ∙ length-map a.below run_of in
-      cycle_is_answered (shapes_of is_yes is_no nodes) (verdict_of is_yes is_no (unwrap_or e.state.provisional_result initial)) (stack_of (frames_of is_yes is_no (runs_of a.below))) (frame_of is_yes is_no (run_of (a.entry, a.run))).entry head.0 (entry_of is_yes is_no (e, there.run)) (rank_of step) (heads_shape a.state.heads)
+      cycle_is_answered (shapes_of is_yes is_no nodes) (verdict_of is_yes is_no (unwrap_or e.state.provisional_result initial)) (stack_of (frames_of is_yes is_no (runs_of a.below))) (frame_of is_yes is_no (run_of (a.entry, a.run))).entry head.0 (entry_of is_yes is_no (e, there.run)) (rank_of step) counts_now
       was.sound.is_stack.distinct place
       (subst (Accepts (verdict_of is_yes is_no (unwrap_or e.state.provisional_result initial)) (entry_of is_yes is_no (e, there.run))) rank_is (accepts_at e.state.provisional_result refl definite))
-      (λ lower. subst (Recorded (heads_shape a.state.heads) head.0 (rank_of step)) rank_is (recorded (subst (λ n. head.0 < n) many lower)))
+      (λ lower. subst (Recorded counts_now head.0 (rank_of step)) rank_is (recorded (subst (λ n. head.0 < n) many lower)))
 
   may_answer_at : (lead : Option NodeId) → e.state.node ≡ lead → IsSomeAnd lead (λ n. IsNodeOf nodes n.0 e.input) → verdict_of is_yes is_no (unwrap_or e.state.provisional_result initial) ≢ theory.Neither → IsSomeAnd lead (λ n. MayAnswer is_yes is_no nodes (run_of (record a.entry { state = a.state }, a.run)) (runs_of a.below) (verdict_of is_yes is_no (unwrap_or e.state.provisional_result initial)) step input n.0)
   may_answer_at None is home definite = absurd home
@@ -190,7 +215,7 @@ module _ {X F I R A T : Type 0} (is_yes is_no : R → Bool) (nodes : List (Cache
       subst (λ o. MayAnswer is_yes is_no nodes o (runs_of a.below) (verdict_of is_yes is_no (unwrap_or e.state.provisional_result initial)) step input n.0) (sym (same_run (record { 0 = length a.below }) step 0 false ((head, cycle_head step kind) ∷ []) a.entry.state a.state a.takes a.entry a.run refl))
       (record {
         of_goal = subst (IsNodeOf nodes n.0) same_goal home;
-        answered = subst (λ t. IsAnswered (shapes_of is_yes is_no nodes) (verdict_of is_yes is_no (unwrap_or e.state.provisional_result initial)) (stack_of (frames_of is_yes is_no (runs_of a.below))) (frame_of is_yes is_no (run_of (a.entry, a.run))).entry (record { kind = rank_of step; target = t }) (heads_shape a.state.heads))
+        answered = subst (λ t. IsAnswered (shapes_of is_yes is_no nodes) (verdict_of is_yes is_no (unwrap_or e.state.provisional_result initial)) (stack_of (frames_of is_yes is_no (runs_of a.below))) (frame_of is_yes is_no (run_of (a.entry, a.run))).entry (record { kind = rank_of step; target = t }) counts_now)
             (ap (λ l. elim l [ None ↦ there.run.node.0 | Some m ↦ m.0 ]) is) (answered definite);
       })
 

@@ -1,6 +1,7 @@
 -- A run that is done, and its node.
-use Rattle.std.proofs.Common.{◌≡◌, ◌≢◌, ℕ, Bool, true, false, IsTrue, if◌then◌else◌, ◌↔◌, List, [], ◌∷◌, map, ◌++◌, length, Contains, max, ◌==◌, ne_eqb, Option, None, Some, option_map, slice_get, refl, sym, ap, ◌∙◌, subst, arith}
+use Rattle.std.proofs.Common.{◌≡◌, ◌≢◌, ℕ, suc, Bool, true, false, IsTrue, if◌then◌else◌, ◌↔◌, List, [], ◌∷◌, map, ◌++◌, length, is_some, Contains, Option, None, Some, option_map, slice_get, refl, sym, ap, ◌∙◌, subst, arith}
 use Rattle.std.specs.Option.{IsSomeAnd}
+use Rattle.std.proofs.lemmas.List.{length-map}
 use Rattle.std.proofs.lemmas.Option.{slice_get_within, get_or_from_slice_get, slice_get-get_or}
 use Rattle.open_graphs.specs.Graph as theory
 use Rattle.cycle_heads.specs.declared.path.PathKind.{PathKind}
@@ -22,24 +23,23 @@ use Rattle.search_graph.specs.declared.graph.open_goals.Run.{Run}
 use Rattle.search_graph.specs.declared.graph.progress.DefiniteAnswer.{DefiniteAnswer}
 use Rattle.search_graph.specs.NestedGoals.{NotesOverflow, TakesStored}
 use Rattle.search_parts.specs.LookUp.{Hit}
-use Rattle.search_graph.specs.Entries.{first_entry, joined_over, with_depth, TakesAnswer}
+use Rattle.search_graph.specs.Entries.{first_entry, usages_over, with_depth, with_nested_goals, TakesAnswer}
 use Rattle.search_graph.specs.Items.{AnswersNewest}
-use Rattle.search_graph.specs.Progress.{RunRecord, no_record, edges_of}
-use Rattle.search_graph.specs.Justified.{OpenRun, in_theory, AreEdges, Asks, AreJustified, MayAnswer, IsFit}
+use Rattle.search_graph.specs.Progress.{RunRecord, acted, answered, no_record, edges_of, is_kept}
+use Rattle.search_graph.specs.Tallies.{tally_of, heads_of, IsTallied, LieBelow}
+use Rattle.search_graph.proofs.TakenTallies.{taken_tallied, taken_keeps, taken_comes_in}
+use Rattle.search_graph.specs.Justified.{OpenRun, in_theory, AreEdges, Asks, HasTally, AreJustified, MayAnswer, IsFit, asked_now}
 use Rattle.search_parts.specs.Definite.{IsDefinite}
 use Rattle.cycle_heads.specs.Heads.{Heads, at_depth}
 use Rattle.cycle_heads.specs.HeadShapes.{heads_shape}
 use Rattle.cycle_heads.specs.Path.{rank_of}
-use Rattle.cycle_heads.specs.Paths.{extended}
+use Rattle.cycle_heads.specs.Candidates.{UsagesByHead}
 use Rattle.cycle_heads.specs.declared.depth.StackDepth.{StackDepth}
-use Rattle.cycle_heads.specs.declared.heads.CycleHead.{CycleHead}
 use Rattle.search_parts.specs.declared.parts.stack.EntryState.{EntryState}
 use Rattle.search_parts.specs.declared.context.Request.TheVariants.{Evaluate}
-use Rattle.cycle_heads.proofs.HeadShapes.{IsIn, joined_after, joined_keeps}
-use Rattle.open_graphs.specs.Use.{Includes}
 use Rattle.open_graphs.specs.AnswerLaws.{TakesIn}
 use Rattle.search_graph.specs.Runs.{run_of, runs_of, EndsNewest, EndsRun, IsSettled, Again, Ended, LeftOpen}
-use Rattle.search_graph.proofs.Justified.{Settles, pushed_is_justified, grown_is_justified, again_settles, neither_settles, ended_settles}
+use Rattle.search_graph.proofs.Justified.{Settles, pushed_is_justified, recounted_is_justified, again_settles, neither_settles, ended_settles}
 use Rattle.search_graph.proofs.ProgressEdges.{yes_edges_are, no_edges_are, edge_is_of_answer}
 use Rattle.search_graph.proofs.Replies.{verdict_is, in_theory_definite}
 
@@ -53,7 +53,7 @@ place_of xs x has = (has.0, slice_get-get_or xs has.0 x has.1 ∙ ap Some has.2)
 
 -- ---- goals that are pushed, or only change their entries
 
-pub pushed_goal_is_justified : {X F I R A T : Type 0} (is_yes is_no : R → Bool) (nodes : List (CacheNode I R)) (input : I) (kind : PathKind) (depth : AvailableDepth) (own : NodeId) (frame : F) (goals : List (StackEntry X I R A T × Run X F I R A T)) → own.0 ≡ length nodes → Asks (runs_of goals) kind input → AreJustified is_yes is_no nodes (runs_of goals) → AreJustified is_yes is_no (nodes ++ open_node input ∷ []) (runs_of ((first_entry input kind depth own, record { frame = frame; node = own; progress = no_record; finished_runs = 0; met_overflow_before = false }) ∷ goals))
+pub pushed_goal_is_justified : {X F I R A T : Type 0} (is_yes is_no : R → Bool) (nodes : List (CacheNode I R)) (input : I) (kind : PathKind) (depth : AvailableDepth) (own : NodeId) (frame : F) (goals : List (StackEntry X I R A T × Run X F I R A T)) → own.0 ≡ length nodes → Asks (runs_of goals) kind input → AreJustified is_yes is_no nodes (runs_of goals) → AreJustified is_yes is_no (nodes ++ open_node input ∷ []) (runs_of ((first_entry input kind depth own, record { frame = frame; node = own; progress = no_record; finished_runs = 0; met_overflow_before = false; candidates = [] }) ∷ goals))
 pushed_goal_is_justified is_yes is_no nodes input kind depth own frame goals at asks h = pushed_is_justified is_yes is_no nodes input kind own (runs_of goals) at asks h
 
 -- the newest goal changes, but not what stands in its run
@@ -69,41 +69,57 @@ module _ {X F I R A T : Type 0} (is_yes is_no : R → Bool) (nodes : List (Cache
 
 -- ---- heads that are taken over
 
-stays_at : (b : Bool) (step : PathKind) (own used : Option CycleHead) (path cycle : ℕ) → IsIn own path cycle → IsIn (if b then own else joined_over step own used) path cycle
-stays_at true step own used path cycle is = is
-stays_at false step own None path cycle is = is
-stays_at false step own (Some head) path cycle is = joined_keeps own (extended head.paths_to_head step) head.usages path cycle is
-
-comes_at : (b : Bool) (step : PathKind) (own used : Option CycleHead) (path cycle : ℕ) → b ≡ false → IsIn used path cycle → IsIn (if b then own else joined_over step own used) (max (rank_of step) path) cycle
-comes_at true step own used path cycle other is = absurd cc
-comes_at false step own None path cycle other is = absurd (is.1 refl)
-comes_at false step own (Some head) path cycle other is = joined_after own head step path cycle is
-
 module _ {X I R A T : Type 0} (parent : StackDepth) (step : PathKind) (required : ℕ) (overflow : Bool) (answer : Heads) (old new : EntryState X I R A T) (t : TakesAnswer parent step required overflow answer old new) where
-  pub heads_stay : Includes (heads_shape old.heads) (heads_shape new.heads)
-  heads_stay depth path cycle recorded =
-      let d : StackDepth = record { 0 = depth } in
-      subst (λ o. IsIn o path cycle) (sym (t.heads (record { 0 = depth })))
-      (stays_at (depth == parent.0) step (at_depth old.heads (record { 0 = depth })) (at_depth answer (record { 0 = depth })) path cycle recorded)
-
-  pub heads_come : TakesIn parent.0 (rank_of step) (heads_shape answer) (heads_shape new.heads)
-  heads_come depth path cycle lower recorded =
-      subst (λ o. IsIn o (max (rank_of step) path) cycle) (sym (t.heads (record { 0 = depth })))
-      (comes_at (depth == parent.0) step (at_depth old.heads (record { 0 = depth })) (at_depth answer (record { 0 = depth })) path cycle (ne_eqb depth parent.0 (omega (arith, lower))) recorded)
-
-  -- but for its heads, the goal's run is the same
-  pub same_run : {F : Type 0} (entry : StackEntry X I R A T) (run : Run X F I R A T) → entry.state ≡ old → run_of (record entry { state = new }, run) ≡ record (run_of (entry, run)) { heads = new.heads }
+  -- but for what it counts, the goal's run is the same
+  pub same_run : {F : Type 0} (entry : StackEntry X I R A T) (run : Run X F I R A T) → entry.state ≡ old → run_of (record entry { state = new }, run) ≡ record (run_of (entry, run)) { tally = tally_of new run.candidates }
   same_run entry run is =
-      ap (λ (s : EntryState X I R A T). record (run_of (record entry { state = s }, run)) { heads = new.heads }) (t.others ∙ ap (λ (s : EntryState X I R A T). record (with_depth s required overflow) { heads = new.heads; usages = new.usages; nested_goals = new.nested_goals }) (sym is))
+      ap (λ (s : EntryState X I R A T). record (run_of (record entry { state = s }, run)) { tally = tally_of new run.candidates }) (t.others ∙ ap (λ (s : EntryState X I R A T). record (with_depth s required overflow) { heads = new.heads; usages = new.usages; candidate_usages = new.candidate_usages; nested_goals = new.nested_goals }) (sym is))
+
+  some_at : {A B : Type 0} (o : Option A) (q : Option A) (f g : A → B) → option_map f o ≡ option_map g q → is_some o ≡ is_some q
+  some_at None None f g is = refl
+  some_at (Some x) (Some y) f g is = refl
+  some_at None (Some y) f g is = absurd cc
+  some_at (Some x) None f g is = absurd cc
+
+  -- a candidate stays open, or none is
+  pub open_stays : is_some new.candidate_usages ≡ is_some old.candidate_usages
+  open_stays = some_at new.candidate_usages old.candidate_usages (λ counts. at_depth counts (record { 0 = 0 })) (λ counts. usages_over (at_depth counts (record { 0 = 0 })) (at_depth answer (record { 0 = 0 }))) (t.in_candidate (record { 0 = 0 }))
 
 -- the newest goal that takes an answer over stays justified
-pub answered_newest_is_justified : {X F I R A T : Type 0} (is_yes is_no : R → Bool) (nodes : List (CacheNode I R)) (step : PathKind) (required : ℕ) (overflow : Bool) (answer : Heads) (old new : List (StackEntry X I R A T × Run X F I R A T)) → AnswersNewest step required overflow answer old new → AreJustified is_yes is_no nodes (runs_of old) → AreJustified is_yes is_no nodes (runs_of new)
-answered_newest_is_justified is_yes is_no nodes step required overflow answer old new a h =
-    let parent : StackDepth = record { 0 = length a.below } in
-    let was : AreJustified is_yes is_no nodes (run_of (a.entry, a.run) ∷ runs_of a.below) = subst (λ l. AreJustified is_yes is_no nodes (runs_of l)) a.was h in
-    subst (λ l. AreJustified is_yes is_no nodes (runs_of l)) (sym a.is)
-    (subst (λ o. AreJustified is_yes is_no nodes (o ∷ runs_of a.below)) (sym (same_run (record { 0 = length a.below }) step required overflow answer a.entry.state a.state a.takes a.entry a.run refl))
-    (grown_is_justified is_yes is_no nodes a.state.heads (run_of (a.entry, a.run)) (runs_of a.below) (heads_stay (record { 0 = length a.below }) step required overflow answer a.entry.state a.state a.takes) was))
+module _ {X F I R A T : Type 0} (is_yes is_no : R → Bool) (nodes : List (CacheNode I R)) (step : PathKind) (required : ℕ) (overflow : Bool) (answer : Heads) (old new : List (StackEntry X I R A T × Run X F I R A T)) (a : AnswersNewest step required overflow answer old new) (lower : LieBelow (suc (length a.below)) answer) where
+  was_justified : AreJustified is_yes is_no nodes (runs_of old) → AreJustified is_yes is_no nodes (run_of (a.entry, a.run) ∷ runs_of a.below)
+  was_justified h = subst (λ l. AreJustified is_yes is_no nodes (runs_of l)) a.was h
+
+  was_tallied : AreJustified is_yes is_no nodes (runs_of old) → IsTallied (length a.below) (tally_of a.entry.state a.run.candidates)
+  was_tallied h = subst (λ n. IsTallied n (tally_of a.entry.state a.run.candidates)) (length-map a.below run_of) (was_justified h).tallies.0.tallied
+
+  recounted : AreJustified is_yes is_no nodes (runs_of old) → HasTally (length (runs_of a.below)) (record (run_of (a.entry, a.run)) { tally = tally_of a.state a.run.candidates })
+  recounted h = record {
+    tallied =
+        subst (λ n. IsTallied n (tally_of a.state a.run.candidates)) (sym (length-map a.below run_of))
+        (taken_tallied (record { 0 = length a.below }) step answer (with_nested_goals (with_depth a.entry.state required overflow) a.state.nested_goals) a.state a.run.candidates a.takes lower (was_tallied h));
+    open_is = open_stays (record { 0 = length a.below }) step required overflow answer a.entry.state a.state a.takes ∙ (was_justified h).tallies.0.open_is;
+    finished_are = (was_justified h).tallies.0.finished_are;
+  }
+
+  pub answered_newest_is_justified : AreJustified is_yes is_no nodes (runs_of old) → AreJustified is_yes is_no nodes (runs_of new)
+  answered_newest_is_justified h =
+      subst (λ l. AreJustified is_yes is_no nodes (runs_of l)) (sym a.is)
+      (subst (λ o. AreJustified is_yes is_no nodes (o ∷ runs_of a.below)) (sym (same_run (record { 0 = length a.below }) step required overflow answer a.entry.state a.state a.takes a.entry a.run refl))
+      (recounted_is_justified is_yes is_no nodes (tally_of a.state a.run.candidates) (run_of (a.entry, a.run)).is_open (run_of (a.entry, a.run)).ignored a.run.progress.request (run_of (a.entry, a.run)) (runs_of a.below) (recounted h)
+      (λ c kept. (kept, taken_keeps (record { 0 = length a.below }) step answer (with_nested_goals (with_depth a.entry.state required overflow) a.state.nested_goals) a.state a.run.candidates a.takes lower (was_tallied h) c))
+      (was_justified h)))
+
+  candidate_now : (o : Option UsagesByHead) (is_open : Bool) (many more : ℕ) → is_some o ≡ is_open → many ≡ more → (if is_some o then Some many else None) ≡ (if is_open then Some more else None)
+  candidate_now o is_open many more same length_is = ap (λ b. if b then Some many else None) same ∙ ap (λ n. if is_open then Some n else None) length_is
+
+  -- its counts take in what the answer rests on, outside candidates or in the one that is open
+  pub heads_come : AreJustified is_yes is_no nodes (runs_of old) → TakesIn (length a.below) (rank_of step) (heads_shape answer) (heads_of (tally_of a.state a.run.candidates) (asked_now (run_of (a.entry, a.run))))
+  heads_come h =
+      let was = (was_justified h).tallies.0 in
+      subst (λ c. TakesIn (length a.below) (rank_of step) (heads_shape answer) (heads_of (tally_of a.state a.run.candidates) c))
+      (candidate_now a.entry.state.candidate_usages (run_of (a.entry, a.run)).is_open (length a.run.candidates) (length (run_of (a.entry, a.run)).ignored) was.open_is was.finished_are)
+      (taken_comes_in (record { 0 = length a.below }) step answer (with_nested_goals (with_depth a.entry.state required overflow) a.state.nested_goals) a.state a.run.candidates a.takes lower (was_tallied h))
 
 neither_at : (y n : Bool) → y ≡ false → n ≡ false → (if y then theory.Yes else if n then theory.No else theory.Neither) ≡ theory.Neither
 neither_at true n not_yes not_no = absurd cc
@@ -144,11 +160,11 @@ answer_fits is_yes is_no nodes p below r step goal target asks may s kind asked 
 -- ---- the run that a node is finished with
 
 module _ {I R : Type 0} (is_yes is_no : R → Bool) (scripts : I → List (Reply R) → Request I R) (nodes : List (CacheNode I R)) (node : NodeId) (p : RunRecord I R) (r : R) (h : EndsRun is_yes is_no scripts nodes node p r) (v : Verdict) (holds : (v ≡ Yes) ↔ IsTrue (is_yes r)) (fails : (v ≡ No) ↔ IsTrue (is_no r)) where
-  edge_placed : (i : ℕ) (e : Edge I) → slice_get (edges_of p v) i ≡ Some e → (j : ℕ) × (a : DefiniteAnswer I) × (slice_get p.answers j ≡ Some a) × (a.edge ≡ e) × (a.verdict ≡ v)
+  edge_placed : (i : ℕ) (e : Edge I) → slice_get (edges_of p v) i ≡ Some e → (j : ℕ) × (a : DefiniteAnswer I) × (slice_get p.answers j ≡ Some a) × (a.edge ≡ e) × (a.verdict ≡ v) × (is_kept p.ignored a.candidate ≡ true)
   edge_placed i e at =
       let from = edge_is_of_answer p v e (contains_at (edges_of p v) i e at) in
       let place = place_of p.answers from.answer from.is_in in
-      (place.0, from.answer, place.1, from.edge_is, from.verdict_is)
+      (place.0, from.answer, place.1, from.edge_is, from.verdict_is, from.kept)
 
   pub ended_run : EndedRun I R
   ended_run = record { replies = p.replies; edges = edges_of p v; outcome = r }
@@ -172,8 +188,8 @@ module _ {I R : Type 0} (is_yes is_no : R → Bool) (scripts : I → List (Reply
   pub settled : v ≢ Neither → (earlier : Option R) (lead : Option NodeId) → (option_map (verdict_of is_yes is_no) earlier ≡ Some (in_theory v) → ⊥) → (after : List (CacheNode I R)) → after ≡ with_run nodes node.0 (record { replies = p.replies; edges = edges_of p v; outcome = r }) → IsSettled is_yes is_no nodes after earlier node lead p r (Some node)
   settled definite earlier lead anew after is =
       let same : in_theory v ≡ verdict_of is_yes is_no r = verdict_is is_yes is_no r v holds fails definite in
-      Ended (record { replies = p.replies; edges = edges_of p v; outcome = r }) refl (λ e. in_theory_definite v definite (same ∙ e)) (λ says. anew (says ∙ ap Some (sym same))) is
-      (λ i e at. let w = edge_placed i e at in (w.0, w.1, w.2, w.3, ap in_theory w.4 ∙ same))
+      Ended (record { replies = p.replies; edges = edges_of p v; outcome = r }) refl (h.ends.on_record.request_is ∙ h.ends.is_done) (λ e. in_theory_definite v definite (same ∙ e)) (λ says. anew (says ∙ ap Some (sym same))) is
+      (λ i e at. let w = edge_placed i e at in (w.0, w.1, w.2, w.3, ap in_theory w.4 ∙ same, w.5))
 
 module _ {I R : Type 0} (is_yes is_no : R → Bool) (nodes : List (CacheNode I R)) (earlier : Option R) (node : NodeId) (lead : Option NodeId) (p : RunRecord I R) (r : R) (v : Verdict) (holds : (v ≡ Yes) ↔ IsTrue (is_yes r)) (fails : (v ≡ No) ↔ IsTrue (is_no r)) where
   -- one that says what the provisional result said has that one's node
@@ -210,13 +226,14 @@ module _ {X F I R A T : Type 0} (is_yes is_no : R → Bool) (before after : List
   settles r target (Again definite says is) =
       subst (λ l. Settles is_yes is_no before l (run_of (entry, run)) (runs_of below) r entry.state.node) (sym is)
       (again_settles is_yes is_no before (run_of (entry, run)) (runs_of below) h r definite says)
-  settles r target (Ended ended outcome definite anew is edges) =
+  settles r target (Ended ended outcome done definite anew is edges) =
       subst (λ l. Settles is_yes is_no before l (run_of (entry, run)) (runs_of below) r (Some run.node)) (sym is)
       (subst (λ x. Settles is_yes is_no before (with_run before run.node.0 ended) (run_of (entry, run)) (runs_of below) x (Some run.node)) outcome
       (ended_settles is_yes is_no before (run_of (entry, run)) (runs_of below) h run.node refl ended
       (λ e. definite (ap (verdict_of is_yes is_no) (sym outcome) ∙ e))
       (λ says. anew (says ∙ ap (λ x. Some (verdict_of is_yes is_no x)) outcome))
-      (subst (λ x. AreEdges run.progress.answers (verdict_of is_yes is_no x) ended.edges) (sym outcome) edges)))
+      (subst (λ x. AreEdges run.progress.answers (acted run.progress).ignored (verdict_of is_yes is_no x) ended.edges) (sym outcome)
+      (subst (λ ignored. AreEdges run.progress.answers ignored (verdict_of is_yes is_no r) ended.edges) (sym (ap (λ q. (answered run.progress q Neither None).ignored) done)) edges))))
   settles r target (LeftOpen neither is) =
       subst (λ l. Settles is_yes is_no before l (run_of (entry, run)) (runs_of below) r None) (sym is)
       (neither_settles is_yes is_no before (run_of (entry, run)) (runs_of below) h r neither)

@@ -22,9 +22,10 @@ use Rattle.search_parts.specs.Definite.{IsDefinite, HasGraph}
 use Rattle.search_parts.specs.Shapes.{verdict_of, shape_of, shapes_of}
 use Rattle.search_parts.proofs.Definites.{IsSomeAnd-weaker}
 use Rattle.search_parts.proofs.Nodes.{KeepsGoals-appended}
-use Rattle.search_graph.specs.Justified.{OpenRun, frame_of, frames_of, Asks, AreJustified, MayAnswer}
+use Rattle.search_graph.specs.Justified.{OpenRun, frame_of, frames_of, Asks, AreJustified, MayAnswer, asked_now}
+use Rattle.search_graph.specs.Tallies.{heads_of}
 use Rattle.search_graph.specs.Free.{IsFree}
-use Rattle.search_graph.proofs.Justified.{new_run, shapes_opened, Settles, popped, used_at, lead_is, leads_there, no_answers}
+use Rattle.search_graph.proofs.Justified.{new_run, no_tally, tally_again, shapes_opened, Settles, popped, used_at, lead_is, leads_there, no_answers}
 
 -- ---- one final answer beside a sound state
 
@@ -92,25 +93,25 @@ module _ {I R : Type 0} (is_yes is_no : R → Bool) where
 
   -- ---- a goal is pushed
 
-  pushed_use : (nodes : List (CacheNode I R)) (goal : I) (step : PathKind) (own : NodeId) (goals : List (OpenRun I R)) → own.0 ≡ length nodes → AreJustified is_yes is_no nodes goals → (verdict : theory.Verdict) (n : ℕ) → IsUsedFree nodes goals verdict n → IsUsedFree (nodes ++ open_node goal ∷ []) (new_run goal step own (Some own) None [] ∷ goals) verdict n
+  pushed_use : (nodes : List (CacheNode I R)) (goal : I) (step : PathKind) (own : NodeId) (goals : List (OpenRun I R)) → own.0 ≡ length nodes → AreJustified is_yes is_no nodes goals → (verdict : theory.Verdict) (n : ℕ) → IsUsedFree nodes goals verdict n → IsUsedFree (nodes ++ open_node goal ∷ []) (new_run goal step own (Some own) None no_tally ∷ goals) verdict n
   pushed_use nodes goal step own goals at h verdict n used =
       let many : length (shapes_of is_yes is_no nodes) ≡ own.0 = length-map nodes (shape_of is_yes is_no) ∙ sym at in
       let frames : List Frame = frames_of is_yes is_no goals in
-      subst (λ more. Use more verdict (stack_of (frames_of is_yes is_no (new_run goal step own (Some own) None [] ∷ goals))) (λ depth. 0) 0 n no_heads) (sym (shapes_opened is_yes is_no nodes goal))
+      subst (λ more. Use more verdict (stack_of (frames_of is_yes is_no (new_run goal step own (Some own) None no_tally ∷ goals))) (λ depth. 0) 0 n no_heads) (sym (shapes_opened is_yes is_no nodes goal))
       (subst (λ m. Use (shapes_of is_yes is_no nodes ++ theory.Unfinished ∷ []) verdict (stack_of (first_frame (rank_of step) m (heads_shape []) ∷ frames)) (λ depth. 0) 0 n no_heads) many
       (final_use (shapes_of is_yes is_no nodes ++ theory.Unfinished ∷ []) (first_frame (rank_of step) (length (shapes_of is_yes is_no nodes)) (heads_shape []) ∷ frames) verdict n
       (push_keeps_sound (shapes_of is_yes is_no nodes) frames [] (only verdict n) (rank_of step) (heads_shape []) (with_final (shapes_of is_yes is_no nodes) frames verdict n h.sound used))))
 
-  pub free_pushed : (nodes : List (CacheNode I R)) (goal : I) (step : PathKind) (own : NodeId) (goals : List (OpenRun I R)) → own.0 ≡ length nodes → Asks goals step goal → AreJustified is_yes is_no nodes goals → (other : I) (r : R) (target : Option NodeId) → IsFree is_yes is_no nodes goals other r target → IsFree is_yes is_no (nodes ++ open_node goal ∷ []) (new_run goal step own (Some own) None [] ∷ goals) other r target
+  pub free_pushed : (nodes : List (CacheNode I R)) (goal : I) (step : PathKind) (own : NodeId) (goals : List (OpenRun I R)) → own.0 ≡ length nodes → Asks goals step goal → AreJustified is_yes is_no nodes goals → (other : I) (r : R) (target : Option NodeId) → IsFree is_yes is_no nodes goals other r target → IsFree is_yes is_no (nodes ++ open_node goal ∷ []) (new_run goal step own (Some own) None no_tally ∷ goals) other r target
   free_pushed nodes goal step own goals at asks h =
-      IsFree-carried nodes (nodes ++ open_node goal ∷ []) goals (new_run goal step own (Some own) None [] ∷ goals) (KeepsGoals-appended true nodes goal) (pushed_use nodes goal step own goals at h)
+      IsFree-carried nodes (nodes ++ open_node goal ∷ []) goals (new_run goal step own (Some own) None no_tally ∷ goals) (KeepsGoals-appended true nodes goal) (pushed_use nodes goal step own goals at h)
 
 -- ---- the newest goal's run is settled
 
 module _ {I R : Type 0} (is_yes is_no : R → Bool) (nodes after : List (CacheNode I R)) (o : OpenRun I R) (below : List (OpenRun I R)) (h : AreJustified is_yes is_no nodes (o ∷ below)) (r : R) (target : Option NodeId) (s : Settles is_yes is_no nodes after o below r target) where
   -- the frame of the run, with the edges that its result rests on
   abbrev last_frame : Frame
-  last_frame = answering (frame_of is_yes is_no o) s.edges (heads_shape o.heads)
+  last_frame = answering (frame_of is_yes is_no o) s.edges (heads_shape o.tally.heads)
 
   settled_final : (verdict : theory.Verdict) (n : ℕ) → IsUsedFree is_yes is_no nodes (o ∷ below) verdict n → IsSound (shapes_of is_yes is_no nodes) (last_frame ∷ frames_of is_yes is_no below) [] (only verdict n)
   settled_final verdict n used = with_final (shapes_of is_yes is_no nodes) (last_frame ∷ frames_of is_yes is_no below) verdict n s.sound used
@@ -126,14 +127,14 @@ module _ {I R : Type 0} (is_yes is_no : R → Bool) (nodes after : List (CacheNo
   free_popped = IsFree-carried is_yes is_no nodes after (o ∷ below) below s.goals_kept popped_use
 
   -- an answer without heads is free below its goal
-  pub done_is_free : o.heads ≡ [] → IsFree is_yes is_no after below o.goal r target
+  pub done_is_free : o.tally.heads ≡ [] → IsFree is_yes is_no after below o.goal r target
   done_is_free none =
       let v = verdict_of is_yes is_no r in
       let stack : List Entry = stack_of (frames_of is_yes is_no below) in
       record {
         definite = λ d. used_at is_yes is_no nodes after o below h r target s target d (s.definite d) (λ n. IsNodeOf after n o.goal × IsUsedFree is_yes is_no after below v n) (λ of_goal. (
           of_goal,
-          closed_gives_use (shapes_of is_yes is_no after) v stack (path_kind stack (rank_of o.step)) (λ depth. 0) 0 0 s.place (heads_shape o.heads) no_heads
+          closed_gives_use (shapes_of is_yes is_no after) v stack (path_kind stack (rank_of o.step)) (λ depth. 0) 0 0 s.place (heads_shape o.tally.heads) no_heads
               (subst (λ heads. (depth : ℕ) → UsesNo (heads_shape heads) depth) (sym none) (λ depth path cycle recorded. recorded.1 refl)) ((popped is_yes is_no nodes after o below h r target s).1 d),
         ));
         neither = λ n. (s.neither n).0;
@@ -142,7 +143,7 @@ module _ {I R : Type 0} (is_yes is_no : R → Bool) (nodes after : List (CacheNo
   -- the goal is run again
   module _ (own : NodeId) (at : own.0 ≡ length after) where
     abbrev next_goals : List (OpenRun I R)
-    next_goals = new_run o.goal o.step own (option_or target o.cycles_lead) (Some r) o.heads ∷ below
+    next_goals = new_run o.goal o.step own (option_or target o.cycles_lead) (Some r) (tally_again o.tally) ∷ below
 
     rerun_use : (verdict : theory.Verdict) (n : ℕ) → IsUsedFree is_yes is_no nodes (o ∷ below) verdict n → IsUsedFree is_yes is_no (after ++ open_node o.goal ∷ []) next_goals verdict n
     rerun_use verdict n used =
@@ -156,7 +157,7 @@ module _ {I R : Type 0} (is_yes is_no : R → Bool) (nodes after : List (CacheNo
         (subst (λ p. Use (shapes_of is_yes is_no after ++ theory.Unfinished ∷ []) verdict (stack_of (next_frame (frame_of is_yes is_no o) v p own.0 ∷ frames)) (λ depth. 0) 0 n no_heads) (sym lead)
         (final_use (shapes_of is_yes is_no after ++ theory.Unfinished ∷ []) (next_frame last_frame v s.place (length (shapes_of is_yes is_no after)) ∷ frames) verdict n again))
 
-    pub free_rerun : (other : I) (found : R) (place : Option NodeId) → IsFree is_yes is_no nodes (o ∷ below) other found place → IsFree is_yes is_no (after ++ open_node o.goal ∷ []) (new_run o.goal o.step own (option_or target o.cycles_lead) (Some r) o.heads ∷ below) other found place
+    pub free_rerun : (other : I) (found : R) (place : Option NodeId) → IsFree is_yes is_no nodes (o ∷ below) other found place → IsFree is_yes is_no (after ++ open_node o.goal ∷ []) (new_run o.goal o.step own (option_or target o.cycles_lead) (Some r) (tally_again o.tally) ∷ below) other found place
     free_rerun = IsFree-carried is_yes is_no nodes (after ++ open_node o.goal ∷ []) (o ∷ below) next_goals (λ k goal is. KeepsGoals-appended true after o.goal k goal (s.goals_kept k goal is)) rerun_use
 
 -- ---- free answers are answers, whichever goals stand on the stack
@@ -170,7 +171,7 @@ module _ {I R : Type 0} (is_yes is_no : R → Bool) (nodes : List (CacheNode I R
       (λ n. MayAnswer is_yes is_no nodes o below v kind goal n.0)
       (λ n u. record {
         of_goal = u.0;
-        answered = final_is_answered (shapes_of is_yes is_no nodes) v (stack_of (frames_of is_yes is_no below)) (frame_of is_yes is_no o).entry (rank_of kind) n.0 (heads_shape o.heads) u.1;
+        answered = final_is_answered (shapes_of is_yes is_no nodes) v (stack_of (frames_of is_yes is_no below)) (frame_of is_yes is_no o).entry (rank_of kind) n.0 (heads_of o.tally (asked_now o)) u.1;
       })
       target (h.definite d)
 

@@ -18,6 +18,7 @@ use Rattle.search_graph.specs.Justified.{Asks, IsFit}
 use Rattle.search_graph.specs.LookUp.{IsUsable}
 use Rattle.search_graph.specs.NestedGoals.{TakesStored, NotesOverflow}
 use Rattle.search_graph.specs.Runs.{run_of, runs_of}
+use Rattle.search_graph.specs.Tallies.{tally_of}
 use Rattle.search_graph.proofs.Finishing.{answer_fits, same_run, stored_taken_same, overflow_noted_same}
 use Rattle.search_graph.proofs.Free.{free_answers}
 use Rattle.search_graph.proofs.FreeResults.{all_free_above}
@@ -29,7 +30,7 @@ module _ {X F I R A T : Type 0} (is_yes is_no : R → Bool) (same : I → I → 
       let was : AreFree is_yes is_no same nodes (run_of (a.entry, a.run) ∷ runs_of a.below) results = subst (λ l. AreFree is_yes is_no same nodes (runs_of l) results) a.was free in
       subst (λ l. AreFree is_yes is_no same nodes (runs_of l) results) (sym a.is)
       (subst (λ o. AreFree is_yes is_no same nodes (o ∷ runs_of a.below) results) (sym (same_run (record { 0 = length a.below }) step required overflow answer a.entry.state a.state a.takes a.entry a.run refl))
-      (all_free_above is_yes is_no same nodes (run_of (a.entry, a.run)) (record (run_of (a.entry, a.run)) { heads = a.state.heads }) (runs_of a.below) results refl refl refl refl was))
+      (all_free_above is_yes is_no same nodes (run_of (a.entry, a.run)) (record (run_of (a.entry, a.run)) { tally = tally_of a.state a.run.candidates }) (runs_of a.below) results refl refl refl refl was))
 
   -- or a stored result,
   pub stored_taken_free : (step : PathKind) (hit : Hit I R T) → TakesStored same step hit old new → AreFree is_yes is_no same nodes (runs_of old) results → AreFree is_yes is_no same nodes (runs_of new) results

@@ -21,11 +21,11 @@ use Rattle.search_graph.specs.Justified.{OpenRun, frames_of, Asks, AreJustified}
 use Rattle.search_graph.specs.Progress.{no_record}
 use Rattle.search_graph.specs.Results.{StoresAnswer, Kept, Put}
 use Rattle.search_graph.specs.Runs.{runs_of}
-use Rattle.search_graph.proofs.Justified.{new_run, Settles}
+use Rattle.search_graph.proofs.Justified.{new_run, no_tally, tally_again, Settles}
 use Rattle.search_graph.proofs.Free.{free_nothing, free_pushed, free_popped, free_rerun, free_same, free_above}
 
 -- the goal that was asked is pushed, as an item
-pub free_pushed_goal : {X F I R A T : Type 0} (is_yes is_no : R → Bool) (nodes : List (CacheNode I R)) (input : I) (kind : PathKind) (depth : AvailableDepth) (own : NodeId) (frame : F) (goals : List (StackEntry X I R A T × Run X F I R A T)) → own.0 ≡ length nodes → Asks (runs_of goals) kind input → AreJustified is_yes is_no nodes (runs_of goals) → (other : I) (r : R) (target : Option NodeId) → IsFree is_yes is_no nodes (runs_of goals) other r target → IsFree is_yes is_no (nodes ++ open_node input ∷ []) (runs_of ((first_entry input kind depth own, record { frame = frame; node = own; progress = no_record; finished_runs = 0; met_overflow_before = false }) ∷ goals)) other r target
+pub free_pushed_goal : {X F I R A T : Type 0} (is_yes is_no : R → Bool) (nodes : List (CacheNode I R)) (input : I) (kind : PathKind) (depth : AvailableDepth) (own : NodeId) (frame : F) (goals : List (StackEntry X I R A T × Run X F I R A T)) → own.0 ≡ length nodes → Asks (runs_of goals) kind input → AreJustified is_yes is_no nodes (runs_of goals) → (other : I) (r : R) (target : Option NodeId) → IsFree is_yes is_no nodes (runs_of goals) other r target → IsFree is_yes is_no (nodes ++ open_node input ∷ []) (runs_of ((first_entry input kind depth own, record { frame = frame; node = own; progress = no_record; finished_runs = 0; met_overflow_before = false; candidates = [] }) ∷ goals)) other r target
 free_pushed_goal is_yes is_no nodes input kind depth own frame goals at asks h = free_pushed is_yes is_no nodes input kind own (runs_of goals) at asks h
 
 module _ {X I R A T : Type 0} (is_yes is_no : R → Bool) (same : I → I → Bool) where
@@ -38,13 +38,13 @@ module _ {X I R A T : Type 0} (is_yes is_no : R → Bool) (same : I → I → Bo
   all_free_nothing scripts nodes results kept = λ goal place s at. free_nothing is_yes is_no nodes goal s.result.result s.node (kept goal place s at).graph
 
   -- a goal is pushed,
-  pub all_free_pushed : (nodes : List (CacheNode I R)) (goal : I) (step : PathKind) (own : NodeId) (goals : List (OpenRun I R)) (results : Store I (StoredResult X I R A T)) → own.0 ≡ length nodes → Asks goals step goal → AreJustified is_yes is_no nodes goals → AreFree is_yes is_no same nodes goals results → AreFree is_yes is_no same (nodes ++ open_node goal ∷ []) (new_run goal step own (Some own) None [] ∷ goals) results
+  pub all_free_pushed : (nodes : List (CacheNode I R)) (goal : I) (step : PathKind) (own : NodeId) (goals : List (OpenRun I R)) (results : Store I (StoredResult X I R A T)) → own.0 ≡ length nodes → Asks goals step goal → AreJustified is_yes is_no nodes goals → AreFree is_yes is_no same nodes goals results → AreFree is_yes is_no same (nodes ++ open_node goal ∷ []) (new_run goal step own (Some own) None no_tally ∷ goals) results
   all_free_pushed nodes goal step own goals results at asks h =
-      all_carried nodes (nodes ++ open_node goal ∷ []) goals (new_run goal step own (Some own) None [] ∷ goals) results
+      all_carried nodes (nodes ++ open_node goal ∷ []) goals (new_run goal step own (Some own) None no_tally ∷ goals) results
       (free_pushed is_yes is_no nodes goal step own goals at asks h)
 
   -- also as an item
-  pub all_free_pushed_goal : {F : Type 0} (nodes : List (CacheNode I R)) (input : I) (kind : PathKind) (depth : AvailableDepth) (own : NodeId) (frame : F) (goals : List (StackEntry X I R A T × Run X F I R A T)) (results : Store I (StoredResult X I R A T)) → own.0 ≡ length nodes → Asks (runs_of goals) kind input → AreJustified is_yes is_no nodes (runs_of goals) → AreFree is_yes is_no same nodes (runs_of goals) results → AreFree is_yes is_no same (nodes ++ open_node input ∷ []) (runs_of ((first_entry input kind depth own, record { frame = frame; node = own; progress = no_record; finished_runs = 0; met_overflow_before = false }) ∷ goals)) results
+  pub all_free_pushed_goal : {F : Type 0} (nodes : List (CacheNode I R)) (input : I) (kind : PathKind) (depth : AvailableDepth) (own : NodeId) (frame : F) (goals : List (StackEntry X I R A T × Run X F I R A T)) (results : Store I (StoredResult X I R A T)) → own.0 ≡ length nodes → Asks (runs_of goals) kind input → AreJustified is_yes is_no nodes (runs_of goals) → AreFree is_yes is_no same nodes (runs_of goals) results → AreFree is_yes is_no same (nodes ++ open_node input ∷ []) (runs_of ((first_entry input kind depth own, record { frame = frame; node = own; progress = no_record; finished_runs = 0; met_overflow_before = false; candidates = [] }) ∷ goals)) results
   all_free_pushed_goal nodes input kind depth own frame goals results at asks h = all_free_pushed nodes input kind own (runs_of goals) results at asks h
 
   -- the newest goal's run is settled, and the goal taken or run again
@@ -52,9 +52,9 @@ module _ {X I R A T : Type 0} (is_yes is_no : R → Bool) (same : I → I → Bo
     pub all_free_popped : AreFree is_yes is_no same after below results
     all_free_popped = all_carried nodes after (o ∷ below) below results (free_popped is_yes is_no nodes after o below h r target s) all
 
-    pub all_free_rerun : (own : NodeId) → own.0 ≡ length after → AreFree is_yes is_no same (after ++ open_node o.goal ∷ []) (new_run o.goal o.step own (option_or target o.cycles_lead) (Some r) o.heads ∷ below) results
+    pub all_free_rerun : (own : NodeId) → own.0 ≡ length after → AreFree is_yes is_no same (after ++ open_node o.goal ∷ []) (new_run o.goal o.step own (option_or target o.cycles_lead) (Some r) (tally_again o.tally) ∷ below) results
     all_free_rerun own at =
-        all_carried nodes (after ++ open_node o.goal ∷ []) (o ∷ below) (new_run o.goal o.step own (option_or target o.cycles_lead) (Some r) o.heads ∷ below) results
+        all_carried nodes (after ++ open_node o.goal ∷ []) (o ∷ below) (new_run o.goal o.step own (option_or target o.cycles_lead) (Some r) (tally_again o.tally) ∷ below) results
         (free_rerun is_yes is_no nodes after o below h r target s own at) all
 
   -- the goals change, and their stack is the same,

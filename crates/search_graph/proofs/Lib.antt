@@ -7,6 +7,8 @@ pub mod IgnoredHeads
 pub mod OldestFirst
 pub mod Steps
 pub mod Tallies
+pub mod TakenTallies
+pub mod IgnoredTallies
 pub mod Justified
 pub mod ProgressLaws
 pub mod ProgressEdges
@@ -17,6 +19,7 @@ pub mod Moves
 pub mod Finishing
 pub mod StoredAnswers
 pub mod Questions
+pub mod Noted
 pub mod Loops
 pub mod Promises
 pub mod Storing

@@ -29,7 +29,9 @@ use Rattle.search_parts.specs.Store.{Store}
 use Rattle.search_graph.specs.Results.{AreDefinite, HaveNoOverflow}
 use Rattle.search_graph.specs.Evaluating.{Begins, IsWaiting, HasAsked, HasStopped, IsOnly, Leads, work_left}
 use Rattle.search_graph.proofs.Moves.{root_waits, failed_root_stopped, step_asks, step_stops}
-use Rattle.search_graph.proofs.Replies.{replies_sorted, step_is_justified}
+use Rattle.search_graph.specs.Candidates.{NotesCandidate}
+use Rattle.search_graph.proofs.Noted.{noted_is_justified}
+use Rattle.search_graph.proofs.Replies.{replies_sorted}
 
 -- the call of a goal at a depth, and what is known of the stored results
 abbrev pub call_of : {I : Type 0} (input : I) (root starts : ℕ) (met calm definite : Bool) → root < 2 ^ 64 → Call I
@@ -80,8 +82,9 @@ module _ {D C V P F I R A T : Type 0} (G : Delegate.Ghosts D C V P F I R A T) (X
   advance_stops read is_cx fault failed starts now met same nodes fit call h =
       rw same (step_stops G X cx call given old fault starts met (replies_sorted G X cx nodes call given old starts met h fit) (subst (λ x. IsStepFault G X x given old fault) is_cx failed) h)
 
-  pub advance_justified : (read : C) (request : Request I R) → HasStepped G X read given request old new → (nodes : List (CacheNode I R)) → IsFit X.is_yes X.is_no nodes (runs_of old) given.reply given.node → AreJustified X.is_yes X.is_no nodes (runs_of old) → AreJustified X.is_yes X.is_no nodes (runs_of new)
-  advance_justified read request s nodes fit h = step_is_justified G X read nodes given request old new s fit h
+  -- a goal that asks, or is done, keeps the goals justified
+  pub advance_justified : (read : C) (request : Request I R) → HasStepped G X read given request old new → NotesCandidate request new new → (nodes : List (CacheNode I R)) → IsFit X.is_yes X.is_no nodes (runs_of old) given.reply given.node → AreJustified X.is_yes X.is_no nodes (runs_of old) → AreJustified X.is_yes X.is_no nodes (runs_of new)
+  advance_justified read request s noted nodes fit h = noted_is_justified G X read nodes given request old new new s fit h noted
 
   -- the step keeps the newest goal
   only_at : (entry : StackEntry C I R A T) (run again : Run C F I R A T) (below : List (StackEntry C I R A T × Run C F I R A T)) (goal : I) → IsOnly G X cx ((entry, again) ∷ below) goal → IsOnly G X cx ((entry, run) ∷ below) goal

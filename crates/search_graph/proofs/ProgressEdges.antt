@@ -19,20 +19,24 @@ use Rattle.search_graph.specs.Progress.{RunRecord, is_same_verdict, asked_of, as
 use Rattle.search_graph.proofs.Kept.{kept_twice}
 use Rattle.search_graph.proofs.Verdicts.{same_verdict}
 
+second_true : (a b : Bool) → (a && b) ≡ true → b ≡ true
+second_true true b is = is
+second_true false b is = absurd cc
+
 first_true : (a b : Bool) → (a && b) ≡ true → a ≡ true
 first_true true b is = refl
 first_true false b is = cc
 
 module _ {I R : Type 0} (p : RunRecord I R) (v : Verdict) where
   -- each edge is that of an answer with the verdict
-  pub edge_is_of_answer : (e : Edge I) → Contains (edges_of p v) e → IsEdgeOfAnswer p.answers v e
+  pub edge_is_of_answer : (e : Edge I) → Contains (edges_of p v) e → IsEdgeOfAnswer p.answers p.ignored v e
   edge_is_of_answer e there =
       let some = filter (rests_on p.ignored v) p.answers in
       let within = All-filter (rests_on p.ignored v) (Contains p.answers) p.answers (All-contains_itself p.answers) in
       let passes = filter_passes (rests_on p.ignored v) p.answers in
-      let each : All (λ d. IsEdgeOfAnswer p.answers v d.edge) some =
-      λ k d below. record { answer = slice_index_or some k d; is_in = within k d below; verdict_is = same_verdict _ _ (first_true _ _ (passes k d below)); edge_is = refl } in
-      All-contains (IsEdgeOfAnswer p.answers v) (edges_of p v) e (All-map (IsEdgeOfAnswer p.answers v) (λ d. d.edge) some each) there
+      let each : All (λ d. IsEdgeOfAnswer p.answers p.ignored v d.edge) some =
+      λ k d below. record { answer = slice_index_or some k d; is_in = within k d below; verdict_is = same_verdict _ _ (first_true _ _ (passes k d below)); edge_is = refl; kept = second_true _ _ (passes k d below) } in
+      All-contains (IsEdgeOfAnswer p.answers p.ignored v) (edges_of p v) e (All-map (IsEdgeOfAnswer p.answers p.ignored v) (λ d. d.edge) some each) there
 
 module _ {I R : Type 0} (is_yes is_no : R → Bool) where
   kept_as_counted : (p : RunRecord I R) (done : Progress I R) → Agrees is_yes is_no p done → (candidate : Option ℕ) → is_kept p.ignored candidate ≡ is_counted done.ignored candidate

@@ -1,5 +1,5 @@
 -- A reply that fits is sorted as the record wants it, and keeps the goals justified.
-use Rattle.std.proofs.Common.{◌≡◌, ◌≢◌, ℕ, Bool, true, false, IsTrue, if◌then◌else◌, ◌↔◌, List, [], ◌∷◌, Option, None, Some, IsSome, refl, sym, ◌∙◌, subst, inl, inr}
+use Rattle.std.proofs.Common.{◌≡◌, ◌≢◌, ℕ, Bool, true, false, IsTrue, if◌then◌else◌, ◌↔◌, List, [], ◌∷◌, length, Option, None, Some, IsSome, refl, sym, ap, ◌∙◌, subst, inl, inr}
 use Rattle.std.specs.Option.{IsSomeAnd}
 use Rattle.open_graphs.specs.Graph as theory
 use Rattle.search_parts.specs.declared.context.Delegate as Delegate
@@ -23,9 +23,9 @@ use Rattle.search_graph.specs.Progress.{RunRecord, received, answered, answers_a
 use Rattle.search_graph.specs.Justified.{in_theory, AreJustified, MayAnswer, IsFit}
 use Rattle.search_graph.specs.Runs.{run_of, runs_of}
 use Rattle.search_graph.specs.Calls.{Call}
-use Rattle.search_graph.specs.Steps.{IsVerdict, HasStepped}
+use Rattle.search_graph.specs.Steps.{IsVerdict}
 use Rattle.search_graph.specs.Evaluating.{IsWaiting}
-use Rattle.search_graph.proofs.Justified.{requested_is_justified, answered_is_justified}
+use Rattle.search_graph.proofs.Justified.{answered_is_justified}
 use Rattle.search_graph.proofs.Moves.{can_step_record}
 use Rattle.search_graph.proofs.ProgressLaws.{answers_received}
 
@@ -129,6 +129,7 @@ module _ {D C V P F I R A T : Type 0} (G : Delegate.Ghosts D C V P F I R A T) (X
       let may = subst (λ (o : Option NodeId). IsSomeAnd o (λ a. MayAnswer X.is_yes X.is_no nodes (run_of (entry, run)) (runs_of below) (verdict_of X.is_yes X.is_no r) keeps.kind keeps.input a.0)) keeps.target_is (fit r keeps.kind keeps.input refl keeps.was never) in
       subst (λ (l : List (DefiniteAnswer I)). AreJustified X.is_yes X.is_no nodes (record (run_of (entry, run)) { answers = l } ∷ runs_of below)) (sym keeps.kept)
       (answered_is_justified X.is_yes X.is_no nodes (record { edge = edge_to keeps.kind keeps.input keeps.node; verdict = v; candidate = open_number run.progress }) (run_of (entry, run)) (runs_of below)
+      (ap (λ q. if (answered run.progress q Neither None).is_open then Some (length (answered run.progress q Neither None).ignored) else None) (sym keeps.was))
       (subst (λ w. MayAnswer X.is_yes X.is_no nodes (run_of (entry, run)) (runs_of below) w keeps.kind keeps.input keeps.node.0) (sym same) may) h)
 
   same_answers : (entry : StackEntry C I R A T) (run : Run C F I R A T) (below : Goals) (answers : List (DefiniteAnswer I)) → answers ≡ run.progress.answers → AreJustified X.is_yes X.is_no nodes (runs_of ((entry, run) ∷ below)) → AreJustified X.is_yes X.is_no nodes (record (run_of (entry, run)) { answers = answers } ∷ runs_of below)
@@ -142,15 +143,8 @@ module _ {D C V P F I R A T : Type 0} (G : Delegate.Ghosts D C V P F I R A T) (X
     | inr keeps ↦ answered_at entry run r node v below definite verdict fit h (received run.progress (Answer r) v node).answers keeps
   ]
 
-  justified_at : (entry : StackEntry C I R A T) (run : Run C F I R A T) (reply : Reply R) (node : Option NodeId) (v : Verdict) (below : Goals) → IsVerdict X.is_yes X.is_no reply v → IsFit X.is_yes X.is_no nodes (runs_of ((entry, run) ∷ below)) reply node → AreJustified X.is_yes X.is_no nodes (runs_of ((entry, run) ∷ below)) → AreJustified X.is_yes X.is_no nodes (record (run_of (entry, run)) { answers = (received run.progress reply v node).answers } ∷ runs_of below)
-  justified_at entry run reply node Yes below verdict fit h = definite_at_reply entry run reply node Yes below (λ e. yes_is_definite e) verdict fit h
-  justified_at entry run reply node No below verdict fit h = definite_at_reply entry run reply node No below (λ e. no_is_definite e) verdict fit h
-  justified_at entry run reply node Neither below verdict fit h = same_answers entry run below (received run.progress reply Neither node).answers (unanswered run.progress run.progress.request node) h
-
-  pub step_is_justified : (given : Received R) (request : Request I R) (old new : Goals) (s : HasStepped G X cx given request old new) → IsFit X.is_yes X.is_no nodes (runs_of old) given.reply given.node → AreJustified X.is_yes X.is_no nodes (runs_of old) → AreJustified X.is_yes X.is_no nodes (runs_of new)
-  step_is_justified given request old new s fit h =
-      let was_fit : IsFit X.is_yes X.is_no nodes (runs_of ((s.entry, s.run) ∷ s.below)) given.reply given.node = subst (λ (v : Goals). IsFit X.is_yes X.is_no nodes (runs_of v) given.reply given.node) s.was fit in
-      let was : AreJustified X.is_yes X.is_no nodes (runs_of ((s.entry, s.run) ∷ s.below)) = subst (λ (v : Goals). AreJustified X.is_yes X.is_no nodes (runs_of v)) s.was h in
-      subst (λ (v : Goals). AreJustified X.is_yes X.is_no nodes (runs_of v)) (sym s.is)
-      (requested_is_justified X.is_yes X.is_no nodes (Some request) (record (run_of (s.entry, s.run)) { answers = (received s.run.progress given.reply s.verdict given.node).answers }) (runs_of s.below)
-      (justified_at s.entry s.run given.reply given.node s.verdict s.below s.is_verdict was_fit was))
+  -- the reply is on record
+  pub replied_is_justified : (entry : StackEntry C I R A T) (run : Run C F I R A T) (reply : Reply R) (node : Option NodeId) (v : Verdict) (below : Goals) → IsVerdict X.is_yes X.is_no reply v → IsFit X.is_yes X.is_no nodes (runs_of ((entry, run) ∷ below)) reply node → AreJustified X.is_yes X.is_no nodes (runs_of ((entry, run) ∷ below)) → AreJustified X.is_yes X.is_no nodes (record (run_of (entry, run)) { answers = (received run.progress reply v node).answers } ∷ runs_of below)
+  replied_is_justified entry run reply node Yes below verdict fit h = definite_at_reply entry run reply node Yes below (λ e. yes_is_definite e) verdict fit h
+  replied_is_justified entry run reply node No below verdict fit h = definite_at_reply entry run reply node No below (λ e. no_is_definite e) verdict fit h
+  replied_is_justified entry run reply node Neither below verdict fit h = same_answers entry run below (received run.progress reply Neither node).answers (unanswered run.progress run.progress.request node) h

@@ -1,7 +1,7 @@
 -- What becomes of the goals once the run of the newest one has ended.
-use Rattle.std.proofs.Common.{◌≡◌, ◌≢◌, ◌+◌, ◌<◌, ◌^◌, ◌||◌, Bool, List, [], ◌∷◌, ◌++◌, length, Option, Some, option_map, refl, sym, ap, ◌∙◌, subst, arith}
+use Rattle.std.proofs.Common.{◌≡◌, ◌≢◌, suc, ◌+◌, ◌<◌, ◌^◌, ◌||◌, Bool, List, [], ◌∷◌, ◌++◌, length, Option, Some, option_map, refl, sym, ap, ◌∙◌, subst, arith}
 use Rattle.std.specs.Option.{IsSomeAnd, option_or}
-use Rattle.std.proofs.lemmas.List.{length-map, length-append}
+use Rattle.std.proofs.lemmas.List.{length-map}
 use Rattle.open_graphs.specs.State.{stack_of}
 use Rattle.open_graphs.specs.AnswerLaws.{TakesIn}
 use Rattle.search_parts.specs.declared.context.Delegate as Delegate
@@ -20,7 +20,7 @@ use Rattle.search_parts.specs.Shapes.{verdict_of}
 use Rattle.search_graph.specs.declared.graph.open_goals.Run.{Run}
 use Rattle.search_graph.specs.declared.graph.open_goals.Next.TheVariants.{Step, Finished}
 use Rattle.search_graph.specs.Items.{AnswersNewest, rerun_with, with_no_record}
-use Rattle.search_graph.specs.Justified.{OpenRun, Asks, AreJustified, MayAnswer, IsFit, frame_of, frames_of}
+use Rattle.search_graph.specs.Justified.{OpenRun, Asks, AreJustified, MayAnswer, IsFit, asked_now, frames_of}
 use Rattle.search_graph.specs.Moves.{IsFresh, Reruns, CanLeave, Leaves}
 use Rattle.search_graph.specs.Newest.{newest, change_newest}
 use Rattle.search_graph.specs.Progress.{RunRecord}
@@ -28,7 +28,8 @@ use Rattle.search_parts.specs.declared.global_cache.results.StoredResult.{Stored
 use Rattle.search_parts.specs.Store.{Store}
 use Rattle.search_graph.specs.Free.{IsFree, AreFree}
 use Rattle.search_graph.specs.Runs.{run_of, runs_of, EndsRun, EndsNewest, IsSettled, IsJustifiedNext}
-use Rattle.search_graph.proofs.Justified.{Settles, below_is_justified, may_answer_parent, last_has_graph, headless_has_graph, rerun_is_justified}
+use Rattle.search_graph.specs.Tallies.{heads_of, tally_of, LieBelow}
+use Rattle.search_graph.proofs.Justified.{Settles, below_is_justified, stack_length, may_answer_parent, last_has_graph, headless_has_graph, rerun_is_justified}
 use Rattle.search_graph.proofs.Free.{done_is_free}
 use Rattle.search_graph.proofs.FreeResults.{all_free_popped, all_free_rerun}
 use Rattle.search_graph.proofs.Finishing.{answer_fits, answered_newest_is_justified, ends_run, heads_come, same_run, settles}
@@ -105,10 +106,6 @@ reran G X cx old taken new e y p r lead frame own t is then fresh = record {
 
 -- ---- the goal is taken
 
-pub stack_length : {I R : Type 0} (is_yes is_no : R → Bool) (goals : List (OpenRun I R)) → length (stack_of (frames_of is_yes is_no goals)) ≡ length goals
-stack_length is_yes is_no [] = refl
-stack_length is_yes is_no (o ∷ below) = omega (arith, length-append (stack_of (frames_of is_yes is_no below)) ((frame_of is_yes is_no o).entry ∷ []), stack_length is_yes is_no below)
-
 module _ {X F I R A T : Type 0} (is_yes is_no : R → Bool) (before after : List (CacheNode I R)) (old : List (StackEntry X I R A T × Run X F I R A T)) (entry : StackEntry X I R A T) (run : Run X F I R A T) (rest : List (StackEntry X I R A T × Run X F I R A T)) (was : old ≡ (entry, run) ∷ rest) where
   justified_then : AreJustified is_yes is_no before (runs_of old) → AreJustified is_yes is_no before (runs_of ((entry, run) ∷ rest))
   justified_then h = subst (λ l. AreJustified is_yes is_no before (runs_of l)) was h
@@ -145,20 +142,25 @@ module _ {X F I R A T : Type 0} (is_yes is_no : R → Bool) (before after : List
 
     -- the goal below takes the answer over
     module _ (new : List (StackEntry X I R A T × Run X F I R A T)) (a : AnswersNewest entry.step_kind_from_parent entry.state.required_depth (entry.state.encountered_overflow || run.met_overflow_before) entry.state.heads rest new) where
+      below_justified : AreJustified is_yes is_no after (runs_of rest)
+      below_justified = below_is_justified is_yes is_no before after (run_of (entry, run)) (runs_of rest) (justified_then h) r target so
+
+      -- the heads of the goal lie below it
+      heads_lower : LieBelow (suc (length a.below)) entry.state.heads
+      heads_lower = subst (λ n. LieBelow n entry.state.heads) (length-map rest run_of ∙ ap length a.was) (justified_then h).tallies.0.tallied.lower
+
       may_answer : IsDefinite is_yes is_no r → IsSomeAnd target (λ n. MayAnswer is_yes is_no after (run_of (record a.entry { state = a.state }, a.run)) (runs_of a.below) (verdict_of is_yes is_no r) entry.step_kind_from_parent entry.input n.0)
       may_answer definite =
-          let parent : StackDepth = record { 0 = length a.below } in
           let many : length a.below ≡ length (stack_of (frames_of is_yes is_no (runs_of a.below))) = sym (stack_length is_yes is_no (runs_of a.below) ∙ length-map a.below run_of) in
-          let come = heads_come (record { 0 = length a.below }) entry.step_kind_from_parent entry.state.required_depth (entry.state.encountered_overflow || run.met_overflow_before) entry.state.heads a.entry.state a.state a.takes in
+          let come = heads_come is_yes is_no after entry.step_kind_from_parent entry.state.required_depth (entry.state.encountered_overflow || run.met_overflow_before) entry.state.heads rest new a heads_lower below_justified in
           subst (λ o. IsSomeAnd target (λ n. MayAnswer is_yes is_no after o (runs_of a.below) (verdict_of is_yes is_no r) entry.step_kind_from_parent entry.input n.0)) (sym (same_run (record { 0 = length a.below }) entry.step_kind_from_parent entry.state.required_depth (entry.state.encountered_overflow || run.met_overflow_before) entry.state.heads a.entry.state a.state a.takes a.entry a.run refl))
-          (may_answer_parent is_yes is_no before after (run_of (entry, run)) (runs_of rest) (justified_then h) r target so (run_of (a.entry, a.run)) (runs_of a.below) a.state.heads (ap runs_of a.was)
-          (subst (λ m. TakesIn m (rank_of entry.step_kind_from_parent) (heads_shape entry.state.heads) (heads_shape a.state.heads)) many come) definite)
+          (may_answer_parent is_yes is_no before after (run_of (entry, run)) (runs_of rest) (justified_then h) r target so (run_of (a.entry, a.run)) (runs_of a.below) (tally_of a.state a.run.candidates) (ap runs_of a.was)
+          (subst (λ m. TakesIn m (rank_of entry.step_kind_from_parent) (heads_shape entry.state.heads) (heads_of (tally_of a.state a.run.candidates) (asked_now (run_of (a.entry, a.run))))) many come) definite)
 
       pub step_justified : AreJustified is_yes is_no after (runs_of new) × IsFit is_yes is_no after (runs_of new) (Answer r) target
       step_justified =
           let asked : Asks (run_of (a.entry, a.run) ∷ runs_of a.below) entry.step_kind_from_parent entry.input = subst (λ l. Asks (runs_of l) entry.step_kind_from_parent entry.input) a.was (justified_then h).asked.0 in (
-            answered_newest_is_justified is_yes is_no after entry.step_kind_from_parent entry.state.required_depth (entry.state.encountered_overflow || run.met_overflow_before) entry.state.heads rest new a
-                (below_is_justified is_yes is_no before after (run_of (entry, run)) (runs_of rest) (justified_then h) r target so),
+            answered_newest_is_justified is_yes is_no after entry.step_kind_from_parent entry.state.required_depth (entry.state.encountered_overflow || run.met_overflow_before) entry.state.heads rest new a heads_lower below_justified,
             subst (λ l. IsFit is_yes is_no after (runs_of l) (Answer r) target) (sym a.is)
                 (answer_fits is_yes is_no after (run_of (record a.entry { state = a.state }, a.run)) (runs_of a.below) r entry.step_kind_from_parent entry.input target asked may_answer),
           )

@@ -137,12 +137,13 @@ abbrev pub IsReplySorted : {R : Type 0} → (R → Bool) → (R → Bool) → Re
 IsReplySorted is_yes is_no (Answer r) verdict target = IsSortedAs is_yes is_no r verdict target
 IsReplySorted is_yes is_no _ verdict target = Unit {0}
 
--- the edge is that of an answer with this verdict
-pub record IsEdgeOfAnswer {I : Type 0} (answers : List (DefiniteAnswer I)) (verdict : Verdict) (e : Edge I) : Type 0 where
+-- the edge is that of an answer with this verdict outside ignored candidates
+pub record IsEdgeOfAnswer {I : Type 0} (answers : List (DefiniteAnswer I)) (ignored : List Bool) (verdict : Verdict) (e : Edge I) : Type 0 where
   pub answer : DefiniteAnswer I
   pub is_in : Contains answers answer
   pub verdict_is : answer.verdict ≡ verdict
   pub edge_is : answer.edge ≡ e
+  pub kept : is_kept ignored answer.candidate ≡ true
 
 -- the answers are those of the record and one more, to its last request
 pub record KeepsAnswer {I R : Type 0} (p : RunRecord I R) (verdict : Verdict) (target : Option NodeId) (answers : List (DefiniteAnswer I)) : Type 0 where

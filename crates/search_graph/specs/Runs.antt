@@ -75,6 +75,6 @@ pub data IsSettled {I R : Type 0} (is_yes is_no : R → Bool) (before after : Li
       → IsSettled is_yes is_no before after earlier node cycles_lead p r cycles_lead
   Ended :
       (run : EndedRun I R)
-      → run.outcome ≡ r → verdict_of is_yes is_no r ≢ theory.Neither → (SaysAgain is_yes is_no earlier r → ⊥) → after ≡ with_run before node.0 run → AreEdges p.answers p.ignored (verdict_of is_yes is_no r) run.edges
+      → run.outcome ≡ r → p.request ≡ Some (Done r) → verdict_of is_yes is_no r ≢ theory.Neither → (SaysAgain is_yes is_no earlier r → ⊥) → after ≡ with_run before node.0 run → AreEdges p.answers p.ignored (verdict_of is_yes is_no r) run.edges
       → IsSettled is_yes is_no before after earlier node cycles_lead p r (Some node)
   LeftOpen : verdict_of is_yes is_no r ≡ theory.Neither → after ≡ before → IsSettled is_yes is_no before after earlier node cycles_lead p r None

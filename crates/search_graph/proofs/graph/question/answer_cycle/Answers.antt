@@ -1,4 +1,5 @@
-use Rattle.std.proofs.Common.{◌≡◌, ◌∙◌, ◌∷◌, [], false, Some, get_or, map, reverse, unwrap_or, ap, sym, subst}
+use Rattle.std.proofs.Common.{◌≡◌, ◌<◌, ◌∙◌, ◌∷◌, [], false, Some, get_or, arith, length, map, reverse, unwrap_or, ap, sym, subst}
+use Rattle.std.proofs.lemmas.List.{length-map, length-reverse}
 use Rattle.std.proofs.lemmas.Option.{slice_get-get_or}
 use Rattle.search_graph.specs.Entries.{cycle_head}
 use Rattle.search_graph.specs.Items.{AnswersNewest}
@@ -6,13 +7,18 @@ use Rattle.search_parts.specs.declared.context.Reply.TheVariants.{Answer}
 use Rattle.search_parts.specs.Cycle.{path_kind_from}
 use Rattle.search_graph.specs.Justified.{IsFit}
 use Rattle.search_graph.specs.Runs.{runs_of}
-use Rattle.search_graph.proofs.CycleAnswers.{cycle_fits, found_goal, head_is}
+use Rattle.search_graph.proofs.CycleAnswers.{cycle_fits, cycle_head_lower, found_goal, head_is}
 use Rattle.search_graph.proofs.Finishing.{answered_newest_is_justified}
 use Rattle.search_graph.proofs.FreeMoves.{answered_newest_free}
 use Rattle.search_graph.proofs.graph.question.answer_cycle.Goals as goal
 
 pub returns-clause-justified : goal.returns-clause-justified
-returns-clause-justified g c = λ nodes h. answered_newest_is_justified g.D.Cx.Cx.is_yes g.D.Cx.Cx.is_no nodes c.args.step 0 _ _ c.args.goals.now c.note_cycle.new.self c.in_ok-note_cycle.ensures h
+returns-clause-justified g c = λ nodes h.
+    let e_is : c.index.result.now ≡ get_or (reverse (map (λ s. s.0) c.args.goals.now)) c.args.head.0 c.index.result.now = c.index.ensures ∙ ap (λ es. get_or es c.args.head.0 c.index.result.now) c.stack-2.ensures in
+    let found = found_goal g.D.Cx.Input.PartialEq.eq g.met.D.Cx.Cx.same_input c.args.input (reverse (map (λ s. s.0) c.args.goals.now)) c.args.head.0 c.index.result.now c.requires.found e_is in
+    let within : c.args.head.0 < length c.args.goals.now = omega (arith, found.0, length-reverse (map (λ s. s.0) c.args.goals.now), length-map c.args.goals.now (λ s. s.0)) in
+    answered_newest_is_justified g.D.Cx.Cx.is_yes g.D.Cx.Cx.is_no nodes c.args.step 0 _ _ c.args.goals.now c.note_cycle.new.self c.in_ok-note_cycle.ensures
+    (cycle_head_lower c.args.step c.args.head _ c.args.goals.now c.note_cycle.new.self c.in_ok-note_cycle.ensures within) h
 
 pub returns-clause-fits : goal.returns-clause-fits
 returns-clause-fits g c = λ nodes h.

@@ -1,0 +1,322 @@
+-- A frame's request was taken, and what it asks of the candidates was done: the goals stay justified, and wait for the next reply.
+use Rattle.std.proofs.Common.{◌≡◌, ◌≢◌, ℕ, ◌<◌, suc, nat_lt, Bool, true, false, not, if◌then◌else◌, List, [], ◌∷◌, ◌++◌, map, length, length-append, Option, None, Some, option_map, is_some, unwrap_or, slice_get, slice_set, get_or, refl, sym, ap, ◌∙◌, subst, arith}
+use Rattle.std.specs.Option.{IfSome, IsSomeAnd}
+use Rattle.std.proofs.lemmas.Bool.Decides.{nat_tests}
+use Rattle.std.proofs.lemmas.List.{get_or-set_same, get_or-set_other, length-map, length-set}
+use Rattle.std.proofs.lemmas.Option.{slice_get-get_or}
+use Rattle.search_parts.specs.declared.context.Delegate as Delegate
+use Rattle.search_parts.specs.declared.context.Cx as Cx
+use Rattle.search_parts.specs.declared.context.NodeId.{NodeId}
+use Rattle.search_parts.specs.declared.context.Request.{Request}
+use Rattle.search_parts.specs.declared.context.Request.TheVariants.{Evaluate, EnterCandidate, FinishCandidate, Ignore, Done}
+use Rattle.search_parts.specs.declared.context.Reply.TheVariants.{Noted}
+use Rattle.search_parts.specs.declared.context.Verdict.{Verdict}
+use Rattle.search_parts.specs.declared.context.Verdict.TheVariants.{Neither}
+use Rattle.search_parts.specs.declared.global_cache.results.StoredResult.{StoredResult}
+use Rattle.search_parts.specs.declared.parts.stack.EntryState.{EntryState}
+use Rattle.search_parts.specs.declared.parts.stack.StackEntry.{StackEntry}
+use Rattle.search_parts.specs.Cache.{CacheNode}
+use Rattle.search_parts.specs.Run.{IsReplyTo}
+use Rattle.search_parts.specs.Store.{Store}
+use Rattle.cycle_heads.specs.Candidates.{UsagesByHead}
+use Rattle.open_graphs.specs.Use.{Includes}
+use Rattle.evaluations.proofs.Mirrors.{noted_waits}
+use Rattle.search_graph.specs.declared.graph.open_goals.Received.{Received}
+use Rattle.search_graph.specs.declared.graph.open_goals.Run.{Run}
+use Rattle.search_graph.specs.Calls.{Call, limits, bound, IsCounted}
+use Rattle.search_graph.specs.Candidates.{enters, finishes, CanIgnore, CanNote, IgnoresNewest, Ignores, NotesCandidate}
+use Rattle.search_graph.specs.Decided.{IsDecided}
+use Rattle.search_graph.specs.Entries.{is_in_cycle}
+use Rattle.search_graph.specs.Evaluating.{seen, GoesOn, HasAsked}
+use Rattle.search_parts.specs.Definite.{IsDefinite}
+use Rattle.search_graph.specs.Free.{AreFree}
+use Rattle.search_graph.specs.Justified.{OpenRun, HasTally, AreJustified, IsFit}
+use Rattle.search_graph.specs.Newest.{change_newest}
+use Rattle.search_graph.specs.Progress.{RunRecord, answered, fault_of, is_kept, is_marked, received, requested}
+use Rattle.search_graph.specs.Runs.{run_of, runs_of}
+use Rattle.search_graph.specs.Steps.{HasStepped, Stood, received_by}
+use Rattle.search_graph.specs.Tallies.{Tally, heads_of, tally_of, IsTallied}
+use Rattle.search_graph.proofs.DecidedGoals.{changed_decided}
+use Rattle.search_graph.proofs.FreeResults.{all_free_above}
+use Rattle.search_graph.proofs.Justified.{recounted_is_justified}
+use Rattle.search_graph.proofs.Moves.{some_runs}
+use Rattle.search_graph.proofs.Replies.{replied_is_justified}
+use Rattle.search_graph.proofs.IgnoredTallies.{can_ignore, ignored_keeps, ignored_tallied}
+use Rattle.search_graph.proofs.Tallies.{entered_keeps, entered_tallied, finished_keeps, finished_tallied}
+
+-- ---- flags and candidates
+
+none_open : (b : Bool) → (if b then Some 1 else None) ≡ None → b ≡ false
+none_open true is = absurd cc
+none_open false is = refl
+
+one_open : (b : Bool) → (if b then None else Some 2) ≡ None → b ≡ true
+one_open true is = refl
+one_open false is = absurd cc
+
+-- a candidate that may be ignored is finished, and isn't ignored yet
+may_ignore : (finished ignored : Bool) → (if finished then (if ignored then Some 4 else None) else Some 3) ≡ None → (finished ≡ true) × (ignored ≡ false)
+may_ignore true true is = absurd cc
+may_ignore true false is = (refl, refl)
+may_ignore false ignored is = absurd cc
+
+nothing_in : {A : Type 0} (o : Option A) → is_some o ≡ false → o ≡ None
+nothing_in None is = refl
+nothing_in (Some x) is = absurd cc
+
+something_in : {A : Type 0} (o : Option A) (otherwise : A) → is_some o ≡ true → o ≡ Some (unwrap_or o otherwise)
+something_in None otherwise is = absurd cc
+something_in (Some x) otherwise is = refl
+
+-- one more finished candidate, which isn't ignored, changes nothing of the others
+marked_longer : (ignored : List Bool) (n : ℕ) → is_marked (ignored ++ false ∷ []) n ≡ is_marked ignored n
+marked_longer [] 0 = refl
+marked_longer [] (suc n) = refl
+marked_longer (b ∷ ignored) 0 = refl
+marked_longer (b ∷ ignored) (suc n) = marked_longer ignored n
+
+kept_longer : (ignored : List Bool) (c : Option ℕ) → is_kept (ignored ++ false ∷ []) c ≡ is_kept ignored c
+kept_longer ignored None = refl
+kept_longer ignored (Some n) = ap not (marked_longer ignored n)
+
+-- what is kept once a candidate is ignored is another one's, and was kept before
+kept_before : (ignored : List Bool) (n : ℕ) (c : Option ℕ) → n < length ignored → is_kept (slice_set ignored n true) c ≡ true → (is_kept ignored c ≡ true) × (c ≢ Some n)
+kept_before ignored n None within kept = (refl, λ e. absurd cc)
+kept_before ignored n (Some m) within kept =
+    let other : m ≢ n = λ same. marked_is_not_kept (get_or (slice_set ignored n true) m false) (ap (λ k. get_or (slice_set ignored n true) k false) same ∙ get_or-set_same ignored n true false within) kept in
+    (ap not (sym (get_or-set_other ignored n m true false other)) ∙ kept, λ e. let same : m ≡ n = cc in other same)
+  where
+    marked_is_not_kept : (b : Bool) → b ≡ true → not b ≡ true → ⊥
+    marked_is_not_kept true is kept = cc
+    marked_is_not_kept false is kept = cc
+
+-- which candidate is open, and which are ignored, doesn't rest on the verdict of an answer
+module _ {I R : Type 0} (p : RunRecord I R) (verdict : Verdict) (target : Option NodeId) where
+  open_same : (request : Option (Request I R)) → (answered p request verdict target).is_open ≡ (answered p request Neither None).is_open
+  open_same None = refl
+  open_same (Some (Evaluate kind goal)) = refl
+  open_same (Some EnterCandidate) = refl
+  open_same (Some FinishCandidate) = refl
+  open_same (Some (Ignore n)) = refl
+  open_same (Some (Done r)) = refl
+
+  ignored_same : (request : Option (Request I R)) → (answered p request verdict target).ignored ≡ (answered p request Neither None).ignored
+  ignored_same None = refl
+  ignored_same (Some (Evaluate kind goal)) = refl
+  ignored_same (Some EnterCandidate) = refl
+  ignored_same (Some FinishCandidate) = refl
+  ignored_same (Some (Ignore n)) = refl
+  ignored_same (Some (Done r)) = refl
+
+-- ---- the newest goal that ignores a candidate
+
+module _ {X F I R A T : Type 0} (entry : StackEntry X I R A T) (run : Run X F I R A T) (below : List (StackEntry X I R A T × Run X F I R A T)) where
+  -- a goal that ignores a candidate, as it was taken
+  record IgnoresHere (number : ℕ) (after : List (StackEntry X I R A T × Run X F I R A T)) : Type 0 where
+    candidate : UsagesByHead
+    state : EntryState X I R A T
+    is_at : slice_get run.candidates number ≡ Some candidate
+    is : after ≡ (record entry { state = state }, record run { candidates = slice_set run.candidates number [] }) ∷ below
+    ignores : Ignores (record { 0 = length below }) candidate entry.state state
+
+  ignores_here : (number : ℕ) (mid after : List (StackEntry X I R A T × Run X F I R A T)) → mid ≡ (entry, run) ∷ below → IgnoresNewest number mid after → IgnoresHere number after
+  ignores_here number mid after mid_is n =
+      let both : (n.entry, n.run) ∷ n.below ≡ (entry, run) ∷ below = sym n.was ∙ mid_is in
+      let same_entry : n.entry ≡ entry = cc in
+      let same_run : n.run ≡ run = cc in
+      let same_below : n.below ≡ below = cc in
+      record {
+        candidate = n.candidate;
+        state = n.state;
+        is_at = ap (λ (r : Run X F I R A T). slice_get r.candidates number) (sym same_run) ∙ n.is_at;
+        is = n.is ∙ (λ i. (record (same_entry i) { state = n.state }, record (same_run i) { candidates = slice_set (same_run i).candidates number [] }) ∷ same_below i);
+        ignores =
+            subst (λ (e : StackEntry X I R A T). Ignores (record { 0 = length below }) n.candidate e.state n.state) same_entry
+            (subst (λ (l : List (StackEntry X I R A T × Run X F I R A T)). Ignores (record { 0 = length l }) n.candidate n.entry.state n.state) same_below n.ignores);
+      }
+
+  -- but for what it counts, the goal's run is the same
+  ignoring_run : (state : EntryState X I R A T) (later : Run X F I R A T) → state ≡ record entry.state { heads = state.heads; usages = state.usages } → run_of (record entry { state = state }, later) ≡ record (run_of (entry, later)) { tally = tally_of state later.candidates }
+  ignoring_run state later others = ap (λ (s : EntryState X I R A T). record (run_of (record entry { state = s }, later)) { tally = tally_of state later.candidates }) others
+
+module _ {D C V P F I R A T : Type 0} (G : Delegate.Ghosts D C V P F I R A T) (X : Cx.Ghosts C I R A T) (cx : C) (nodes : List (CacheNode I R)) where
+  abbrev Goals : Type 0
+  Goals = List (StackEntry C I R A T × Run C F I R A T)
+
+  module _ (given : Received R) (request : Request I R) (old mid : Goals) (s : HasStepped G X cx given request old mid) (fit : IsFit X.is_yes X.is_no nodes (runs_of old) given.reply given.node) (h : AreJustified X.is_yes X.is_no nodes (runs_of old)) where
+    -- the record with the reply, the run with the request, and the goal with the answer that it got
+    abbrev replied_record : RunRecord I R
+    replied_record = received s.run.progress given.reply s.verdict given.node
+
+    abbrev later_run : Run C F I R A T
+    later_run = record s.run { frame = s.frame; progress = requested (received s.run.progress given.reply s.verdict given.node) request }
+
+    abbrev replied_goal : OpenRun I R
+    replied_goal = record (run_of (s.entry, s.run)) { answers = (received s.run.progress given.reply s.verdict given.node).answers }
+
+    got : AreJustified X.is_yes X.is_no nodes (replied_goal ∷ runs_of s.below)
+    got =
+        replied_is_justified G X cx nodes s.entry s.run given.reply given.node s.verdict s.below s.is_verdict
+        (subst (λ (v : Goals). IsFit X.is_yes X.is_no nodes (runs_of v) given.reply given.node) s.was fit)
+        (subst (λ (v : Goals). AreJustified X.is_yes X.is_no nodes (runs_of v)) s.was h)
+
+    has_open : is_some s.entry.state.candidate_usages ≡ replied_record.is_open
+    has_open = got.tallies.0.open_is ∙ sym (open_same s.run.progress s.verdict given.node s.run.progress.request)
+
+    has_finished : length s.run.candidates ≡ length replied_record.ignored
+    has_finished = got.tallies.0.finished_are ∙ ap length (sym (ignored_same s.run.progress s.verdict given.node s.run.progress.request))
+
+    kept_as_before : (c : Option ℕ) → is_kept replied_record.ignored c ≡ true → is_kept replied_goal.ignored c ≡ true
+    kept_as_before c kept = ap (λ ignored. is_kept ignored c) (sym (ignored_same s.run.progress s.verdict given.node s.run.progress.request)) ∙ kept
+
+    abbrev tally_before : Tally
+    tally_before = tally_of s.entry.state s.run.candidates
+
+    tallied_before : IsTallied (length (runs_of s.below)) tally_before
+    tallied_before = got.tallies.0.tallied
+
+    many : length (runs_of s.below) ≡ length s.below
+    many = length-map s.below run_of
+
+    tallied_here : IsTallied (length s.below) tally_before
+    tallied_here = subst (λ n. IsTallied n tally_before) many tallied_before
+
+    -- nothing is requested of candidates
+    pub asking_is_justified : AreJustified X.is_yes X.is_no nodes (record replied_goal { is_open = replied_record.is_open; ignored = replied_record.ignored; request = Some request } ∷ runs_of s.below)
+    asking_is_justified =
+        recounted_is_justified X.is_yes X.is_no nodes tally_before replied_record.is_open replied_record.ignored (Some request) replied_goal (runs_of s.below)
+        (record { tallied = tallied_before; open_is = has_open; finished_are = has_finished })
+        (λ c kept. (kept_as_before c kept, λ depth path cycle recorded. recorded)) got
+
+    -- a candidate is entered
+    entered_is_justified : replied_record.is_open ≡ false → AreJustified X.is_yes X.is_no nodes (record replied_goal { tally = record tally_before { current = Some [] }; is_open = true; ignored = replied_record.ignored; request = Some request } ∷ runs_of s.below)
+    entered_is_justified closed =
+        let none : s.entry.state.candidate_usages ≡ None = nothing_in s.entry.state.candidate_usages (has_open ∙ closed) in
+        recounted_is_justified X.is_yes X.is_no nodes (record tally_before { current = Some [] }) true replied_record.ignored (Some request) replied_goal (runs_of s.below)
+        (record { tallied = entered_tallied (length (runs_of s.below)) tally_before none tallied_before; open_is = refl; finished_are = has_finished })
+        (λ c kept. (kept_as_before c kept, entered_keeps tally_before none c)) got
+
+    -- the open one is finished
+    finished_is_justified : replied_record.is_open ≡ true → AreJustified X.is_yes X.is_no nodes (record replied_goal { tally = record tally_before { current = None; finished = s.run.candidates ++ unwrap_or s.entry.state.candidate_usages [] ∷ [] }; is_open = false; ignored = replied_record.ignored ++ false ∷ []; request = Some request } ∷ runs_of s.below)
+    finished_is_justified is_open =
+        let some : s.entry.state.candidate_usages ≡ Some (unwrap_or s.entry.state.candidate_usages []) = something_in s.entry.state.candidate_usages [] (has_open ∙ is_open) in
+        recounted_is_justified X.is_yes X.is_no nodes (record tally_before { current = None; finished = s.run.candidates ++ unwrap_or s.entry.state.candidate_usages [] ∷ [] }) false (replied_record.ignored ++ false ∷ []) (Some request) replied_goal (runs_of s.below)
+        (record {
+          tallied = finished_tallied (length (runs_of s.below)) tally_before (unwrap_or s.entry.state.candidate_usages []) some tallied_before;
+          open_is = refl;
+          finished_are = omega (arith, length-append s.run.candidates (unwrap_or s.entry.state.candidate_usages [] ∷ []), length-append replied_record.ignored (false ∷ []), has_finished);
+        })
+        (λ c kept. (kept_as_before c (sym (kept_longer replied_record.ignored c) ∙ kept), finished_keeps tally_before (unwrap_or s.entry.state.candidate_usages []) some c)) got
+
+    -- a finished one is ignored
+    module _ (number : ℕ) (candidate : UsagesByHead) (state : EntryState C I R A T) (is_at : slice_get s.run.candidates number ≡ Some candidate) (ignores : Ignores (record { 0 = length s.below }) candidate s.entry.state state) (within : number < length replied_record.ignored) where
+      ignored_is_justified : AreJustified X.is_yes X.is_no nodes (record replied_goal { tally = tally_of state (slice_set s.run.candidates number []); is_open = replied_record.is_open; ignored = slice_set replied_record.ignored number true; request = Some request } ∷ runs_of s.below)
+      ignored_is_justified =
+          recounted_is_justified X.is_yes X.is_no nodes (tally_of state (slice_set s.run.candidates number [])) replied_record.is_open (slice_set replied_record.ignored number true) (Some request) replied_goal (runs_of s.below)
+          (record {
+            tallied =
+                subst (λ n. IsTallied n (tally_of state (slice_set s.run.candidates number []))) (sym many)
+                (ignored_tallied (record { 0 = length s.below }) s.entry.state state s.run.candidates number candidate ignores is_at tallied_here);
+            open_is = ap (λ (x : EntryState C I R A T). is_some x.candidate_usages) ignores.others ∙ has_open;
+            finished_are = length-set s.run.candidates number [] ∙ has_finished ∙ sym (length-set replied_record.ignored number true);
+          })
+          (λ c kept.
+              let was = kept_before replied_record.ignored number c within kept in
+              (kept_as_before c was.0, ignored_keeps (record { 0 = length s.below }) s.entry.state state s.run.candidates number candidate ignores is_at tallied_here c was.1)) got
+
+  -- ---- what was requested can be done, and keeps the goals justified
+
+  can_note_at : (given : Received R) (request : Request I R) (old mid : Goals) (s : HasStepped G X cx given request old mid) → IsFit X.is_yes X.is_no nodes (runs_of old) given.reply given.node → AreJustified X.is_yes X.is_no nodes (runs_of old) → CanNote request ((s.entry, later_run given request old mid s) ∷ s.below)
+  can_note_at given (Evaluate kind goal) old mid s fit h = tt
+  can_note_at given EnterCandidate old mid s fit h = tt
+  can_note_at given FinishCandidate old mid s fit h = has_open given FinishCandidate old mid s fit h ∙ one_open (replied_record given FinishCandidate old mid s).is_open s.in_order
+  can_note_at given (Ignore n) old mid s fit h =
+      let p = received s.run.progress given.reply s.verdict given.node in
+      let may = may_ignore (nat_lt n (length p.ignored)) (is_marked p.ignored n) s.in_order in
+      let same = has_finished given (Ignore n) old mid s fit h in
+      let test = may.0 in
+      let within : n < length s.run.candidates = rw same (grind (arith, nat_tests)) in
+      let there : slice_get s.run.candidates n ≡ Some (get_or s.run.candidates n []) = slice_get-get_or s.run.candidates n [] within in
+      subst (λ o. IsSomeAnd o (λ candidate. CanIgnore (record { 0 = length s.below }) candidate s.entry.state)) (sym there)
+      (can_ignore (record { 0 = length s.below }) s.entry.state s.entry.state s.run.candidates n (get_or s.run.candidates n []) (tallied_here given (Ignore n) old mid s fit h) there)
+  can_note_at given (Done r) old mid s fit h = tt
+
+  pub can_note : (given : Received R) (request : Request I R) (old mid : Goals) → HasStepped G X cx given request old mid → IsFit X.is_yes X.is_no nodes (runs_of old) given.reply given.node → AreJustified X.is_yes X.is_no nodes (runs_of old) → CanNote request mid
+  can_note given request old mid s fit h = subst (λ (v : Goals). CanNote request v) (sym s.is) (can_note_at given request old mid s fit h)
+
+  pub noted_is_justified : (given : Received R) (request : Request I R) (old mid after : Goals) → HasStepped G X cx given request old mid → IsFit X.is_yes X.is_no nodes (runs_of old) given.reply given.node → AreJustified X.is_yes X.is_no nodes (runs_of old) → NotesCandidate request mid after → AreJustified X.is_yes X.is_no nodes (runs_of after)
+  noted_is_justified given (Evaluate kind goal) old mid after s fit h noted =
+      subst (λ (v : Goals). AreJustified X.is_yes X.is_no nodes (runs_of v)) (sym (noted ∙ s.is)) (asking_is_justified given (Evaluate kind goal) old mid s fit h)
+  noted_is_justified given EnterCandidate old mid after s fit h noted =
+      subst (λ (v : Goals). AreJustified X.is_yes X.is_no nodes (runs_of v)) (sym (noted ∙ ap (change_newest enters) s.is))
+      (entered_is_justified given EnterCandidate old mid s fit h (none_open (replied_record given EnterCandidate old mid s).is_open s.in_order))
+  noted_is_justified given FinishCandidate old mid after s fit h noted =
+      subst (λ (v : Goals). AreJustified X.is_yes X.is_no nodes (runs_of v)) (sym (noted ∙ ap (change_newest finishes) s.is))
+      (finished_is_justified given FinishCandidate old mid s fit h (one_open (replied_record given FinishCandidate old mid s).is_open s.in_order))
+  noted_is_justified given (Ignore n) old mid after s fit h noted =
+      let p = received s.run.progress given.reply s.verdict given.node in
+      let may = may_ignore (nat_lt n (length p.ignored)) (is_marked p.ignored n) s.in_order in
+      let test = may.0 in
+      let within : n < length p.ignored = grind (arith, nat_tests) in
+      let here = ignores_here s.entry (later_run given (Ignore n) old mid s) s.below n mid after s.is noted in
+      let later : Run C F I R A T = record s.run { frame = s.frame; progress = requested (received s.run.progress given.reply s.verdict given.node) (Ignore n); candidates = slice_set s.run.candidates n [] } in
+      subst (λ (v : Goals). AreJustified X.is_yes X.is_no nodes (runs_of v)) (sym here.is)
+      (subst (λ (o : OpenRun I R). AreJustified X.is_yes X.is_no nodes (o ∷ runs_of s.below)) (sym (ignoring_run s.entry (later_run given (Ignore n) old mid s) s.below here.state (record s.run { frame = s.frame; progress = requested (received s.run.progress given.reply s.verdict given.node) (Ignore n); candidates = slice_set s.run.candidates n [] }) here.ignores.others))
+      (ignored_is_justified given (Ignore n) old mid s fit h n here.candidate here.state here.is_at here.ignores within))
+  noted_is_justified given (Done r) old mid after s fit h noted =
+      subst (λ (v : Goals). AreJustified X.is_yes X.is_no nodes (runs_of v)) (sym (noted ∙ s.is)) (asking_is_justified given (Done r) old mid s fit h)
+
+-- ---- the goals wait for the next reply
+
+module _ {D C V P F I R A T : Type 0} (G : Delegate.Ghosts D C V P F I R A T) (X : Cx.Ghosts C I R A T) (cx : C) (call : Call I) where
+  -- the newest goal changed, but not what is seen of it
+  module _ (ahead : ℕ) (request : Request I R) (item later : StackEntry C I R A T × Run C F I R A T) (below : List (StackEntry C I R A T × Run C F I R A T)) (starts : ℕ) (met : Bool) (fits : IsReplyTo (λ _ _. ⊥) (Some request) Noted) (same : seen G X cx item ≡ seen G X cx later) (stood : (replies : List _) → Stood G X cx item replies → Stood G X cx later replies) (step : later.0.step_kind_from_parent ≡ item.0.step_kind_from_parent) (decided : IsDecided X.is_yes X.is_no item → IsDecided X.is_yes X.is_no later) where
+    changed_goes_on : HasAsked G X cx call ahead request (item ∷ below) starts met → GoesOn G X cx call ahead Noted (later ∷ below) starts met
+    changed_goes_on h =
+        let w = noted_waits (seen G X cx) (Stood G X cx) (G.script cx) (limits G X cx call) (IsCounted G X cx call) call.top (bound G X cx call) (some_runs G.FIXPOINT_STEP_LIMIT) ahead starts met item below request Noted later fits (record { same = λ replies. ap (λ f. record f { replies = Noted ∷ replies }) same; stood = stood }) h.asked in
+        record { waiting = record { waits = w.0; keeps = h.keeps; decided = λ decisive unmet. (changed_decided X.is_yes X.is_no item later below step decided (h.decided decisive unmet), tt) }; falls = w.1 }
+
+  ignoring_seen : (s : StackEntry C I R A T × Run C F I R A T) (state : EntryState C I R A T) (finished : List UsagesByHead) (parent : _) (candidate : UsagesByHead) → Ignores parent candidate s.0.state state → seen G X cx s ≡ seen G X cx (record s.0 { state = state }, record s.1 { candidates = finished })
+  ignoring_seen s state finished parent candidate i =
+      (λ k. record (seen G X cx s) { in_cycle = sym i.in_cycle k })
+      ∙ ap (λ (x : EntryState C I R A T). record (seen G X cx (record s.0 { state = x }, record s.1 { candidates = finished })) { in_cycle = is_in_cycle state }) (sym i.others)
+
+  pub noting_goes_on : (ahead : ℕ) (request : Request I R) (mid after : List (StackEntry C I R A T × Run C F I R A T)) (starts : ℕ) (met : Bool) → IsReplyTo (λ _ _. ⊥) (Some request) Noted → NotesCandidate request mid after → HasAsked G X cx call ahead request mid starts met → GoesOn G X cx call ahead Noted after starts met
+  noting_goes_on ahead (Evaluate kind goal) mid after starts met fits noted h = absurd fits
+  noting_goes_on ahead EnterCandidate [] after starts met fits noted h = absurd h.asked.mirror
+  noting_goes_on ahead EnterCandidate (s ∷ below) after starts met fits noted h =
+      subst (λ v. GoesOn G X cx call ahead Noted v starts met) (sym noted)
+      (changed_goes_on ahead EnterCandidate s (enters s) below starts met tt refl (λ replies stood. stood) refl (λ d. record { replies = d.replies; provisional = d.provisional }) h)
+  noting_goes_on ahead FinishCandidate [] after starts met fits noted h = absurd h.asked.mirror
+  noting_goes_on ahead FinishCandidate (s ∷ below) after starts met fits noted h =
+      subst (λ v. GoesOn G X cx call ahead Noted v starts met) (sym noted)
+      (changed_goes_on ahead FinishCandidate s (finishes s) below starts met tt refl (λ replies stood. stood) refl (λ d. record { replies = d.replies; provisional = d.provisional }) h)
+  noting_goes_on ahead (Ignore n) [] after starts met fits noted h = absurd h.asked.mirror
+  noting_goes_on ahead (Ignore n) (s ∷ below) after starts met fits noted h =
+      let here = ignores_here s.0 s.1 below n (s ∷ below) after refl noted in
+      subst (λ v. GoesOn G X cx call ahead Noted v starts met) (sym here.is)
+      (changed_goes_on ahead (Ignore n) s (record s.0 { state = here.state }, record s.1 { candidates = slice_set s.1.candidates n [] }) below starts met tt
+      (ignoring_seen s here.state (slice_set s.1.candidates n []) (record { 0 = length below }) here.candidate here.ignores)
+      (λ replies stood. stood) refl
+      (λ d. record { replies = d.replies; provisional = subst (λ (x : EntryState C I R A T). IfSome x.provisional_result (IsDefinite X.is_yes X.is_no)) (sym here.ignores.others) d.provisional }) h)
+  noting_goes_on ahead (Done r) mid after starts met fits noted h = absurd fits
+
+-- stored results rest on none of them
+module _ {X F I R A T : Type 0} (is_yes is_no : R → Bool) (same : I → I → Bool) (nodes : List (CacheNode I R)) (results : Store I (StoredResult X I R A T)) where
+  pub noting_keeps_free : (request : Request I R) (mid after : List (StackEntry X I R A T × Run X F I R A T)) → NotesCandidate request mid after → AreFree is_yes is_no same nodes (runs_of mid) results → AreFree is_yes is_no same nodes (runs_of after) results
+  noting_keeps_free (Evaluate kind goal) mid after noted free = subst (λ l. AreFree is_yes is_no same nodes (runs_of l) results) (sym noted) free
+  noting_keeps_free EnterCandidate [] after noted free = subst (λ l. AreFree is_yes is_no same nodes (runs_of l) results) (sym noted) free
+  noting_keeps_free EnterCandidate (s ∷ below) after noted free =
+      subst (λ l. AreFree is_yes is_no same nodes (runs_of l) results) (sym noted)
+      (all_free_above is_yes is_no same nodes (run_of s) (run_of (enters s)) (runs_of below) results refl refl refl refl free)
+  noting_keeps_free FinishCandidate [] after noted free = subst (λ l. AreFree is_yes is_no same nodes (runs_of l) results) (sym noted) free
+  noting_keeps_free FinishCandidate (s ∷ below) after noted free =
+      subst (λ l. AreFree is_yes is_no same nodes (runs_of l) results) (sym noted)
+      (all_free_above is_yes is_no same nodes (run_of s) (run_of (finishes s)) (runs_of below) results refl refl refl refl free)
+  noting_keeps_free (Ignore n) mid after noted free =
+      let was : AreFree is_yes is_no same nodes (run_of (noted.entry, noted.run) ∷ runs_of noted.below) results = subst (λ l. AreFree is_yes is_no same nodes (runs_of l) results) noted.was free in
+      let later : Run X F I R A T = record noted.run { candidates = slice_set noted.run.candidates n [] } in
+      subst (λ l. AreFree is_yes is_no same nodes (runs_of l) results) (sym noted.is)
+      (all_free_above is_yes is_no same nodes (run_of (noted.entry, noted.run)) (run_of (record noted.entry { state = noted.state }, record noted.run { candidates = slice_set noted.run.candidates n [] })) (runs_of noted.below) results
+      refl (ap (λ (x : EntryState X I R A T). x.provisional_result) (sym noted.ignores.others)) refl (ap (λ (x : EntryState X I R A T). x.node) (sym noted.ignores.others)) was)
+  noting_keeps_free (Done r) mid after noted free = subst (λ l. AreFree is_yes is_no same nodes (runs_of l) results) (sym noted) free
