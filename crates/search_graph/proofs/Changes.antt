@@ -72,6 +72,7 @@ nested_too parent step answer old new nested t = record {
   others = ap (λ (s : EntryState _ _ _ _ _). with_nested_goals s nested) t.others;
   usages = t.usages;
   heads = t.heads;
+  in_candidate = t.in_candidate;
   in_cycle = t.in_cycle;
 }
 

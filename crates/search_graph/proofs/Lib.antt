@@ -3,6 +3,7 @@ pub mod Changes
 pub mod NestedGoals
 pub mod LookUps
 pub mod TakenHeads
+pub mod IgnoredHeads
 pub mod OldestFirst
 pub mod Steps
 pub mod Justified

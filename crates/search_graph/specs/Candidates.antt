@@ -2,10 +2,11 @@
 use Rattle.std.specs.Prelude.{◌≡◌, ℕ, ◌≤◌, ◌==◌, if◌then◌else◌, is_some, true, List, [], ◌∷◌, ◌++◌, length, slice_get, slice_set, Option, None, Some, unwrap_or}
 use Rattle.std.specs.Option.{IsSomeAnd, option_map}
 use Rattle.cycle_heads.specs.declared.depth.StackDepth.{StackDepth}
+use Rattle.cycle_heads.specs.declared.heads.CycleHead.{CycleHead}
 use Rattle.cycle_heads.specs.declared.path.PathKind.{PathKind}
 use Rattle.cycle_heads.specs.declared.usages.HeadUsages.{HeadUsages}
 use Rattle.cycle_heads.specs.Candidates.{UsagesByHead}
-use Rattle.cycle_heads.specs.Heads.{at_depth, replace_head}
+use Rattle.cycle_heads.specs.Heads.{Heads, at_depth, replace_head}
 use Rattle.cycle_heads.specs.Usages.{count_of, without_usages}
 use Rattle.search_parts.specs.declared.context.Request.{Request}
 use Rattle.search_parts.specs.declared.context.Request.TheVariants.{EnterCandidate, FinishCandidate, Ignore}
@@ -24,6 +25,15 @@ abbrev pub less_usages : HeadUsages → Option HeadUsages → HeadUsages
 less_usages counts None = counts
 less_usages counts (Some usages) = without_usages counts usages
 
+-- the head without usages, if there are any
+abbrev pub less_head : Option HeadUsages → CycleHead → CycleHead
+less_head usages known = record known { usages = less_usages known.usages usages }
+
+-- the heads with another one at a depth, if there is one
+abbrev pub with_replaced : Heads → StackDepth → Option CycleHead → Heads
+with_replaced heads depth None = heads
+with_replaced heads depth (Some head) = replace_head heads depth head
+
 module _ {X I R A T : Type 0} where
   -- how often the entry at `parent` counts a goal on the stack: its own, or one of its heads
   abbrev pub usages_at : StackDepth → EntryState X I R A T → StackDepth → Option HeadUsages
@@ -33,7 +43,7 @@ module _ {X I R A T : Type 0} where
   abbrev pub without_head : StackDepth → StackDepth → HeadUsages → EntryState X I R A T → EntryState X I R A T
   without_head parent head usages s =
       if head.0 == parent.0 then record s { usages = option_map (λ own. without_usages own usages) s.usages }
-      else record s { heads = elim (at_depth s.heads head) [ None ↦ s.heads | Some known ↦ replace_head s.heads head (record known { usages = without_usages known.usages usages }) ] }
+      else record s { heads = with_replaced s.heads head (option_map (less_head (Some usages)) (at_depth s.heads head)) }
 
   -- all that the candidate used is counted by the entry at `parent`
   abbrev pub CanIgnore : StackDepth → UsagesByHead → EntryState X I R A T → Type 0
@@ -47,7 +57,7 @@ module _ {X I R A T : Type 0} where
     pub heads :
         (depth : StackDepth)
         → at_depth new.heads depth
-        ≡ (if depth.0 == parent.0 then at_depth old.heads depth else option_map (λ known. record known { usages = less_usages known.usages (at_depth candidate depth) }) (at_depth old.heads depth))
+        ≡ (if depth.0 == parent.0 then at_depth old.heads depth else option_map (less_head (at_depth candidate depth)) (at_depth old.heads depth))
     pub in_cycle : is_in_cycle new ≡ is_in_cycle old
 
 module _ {X F I R A T : Type 0} where
