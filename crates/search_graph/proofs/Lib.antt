@@ -4,6 +4,7 @@ pub mod NestedGoals
 pub mod LookUps
 pub mod TakenHeads
 pub mod IgnoredHeads
+pub mod CandidateMoves
 pub mod OldestFirst
 pub mod Steps
 pub mod Justified
