@@ -212,7 +212,7 @@ impl<D: Delegate> SearchGraph<D> {
         &mut self,
         usages: CandidateHeadUsages,
     ) -> Result<(), Fault<<D::Cx as Cx>::Input, <D::Cx as Cx>::Result>>
-        ensures nothing { usages ≡ [] → result ≡ Ok () }
+        ensures nothing { usages ≡ [] → result ≡ Ok tt }
         ensures no_goal { usages ≢ [] → result ≡ Err (Protocol 5) }
         ensures same { self.new ≡ self.old }
     {
