@@ -25,7 +25,7 @@ use Rattle.search_graph.proofs.Justified.{new_run, Settles}
 use Rattle.search_graph.proofs.Free.{free_nothing, free_pushed, free_popped, free_rerun, free_same, free_above}
 
 -- the goal that was asked is pushed, as an item
-pub free_pushed_goal : {X F I R A T : Type 0} (is_yes is_no : R → Bool) (nodes : List (CacheNode I R)) (input : I) (kind : PathKind) (depth : AvailableDepth) (own : NodeId) (frame : F) (goals : List (StackEntry X I R A T × Run X F I R A T)) → own.0 ≡ length nodes → Asks (runs_of goals) kind input → AreJustified is_yes is_no nodes (runs_of goals) → (other : I) (r : R) (target : Option NodeId) → IsFree is_yes is_no nodes (runs_of goals) other r target → IsFree is_yes is_no (nodes ++ open_node input ∷ []) (runs_of ((first_entry input kind depth own, record { frame = frame; node = own; progress = no_record; finished_runs = 0; met_overflow_before = false }) ∷ goals)) other r target
+pub free_pushed_goal : {X F I R A T : Type 0} (is_yes is_no : R → Bool) (nodes : List (CacheNode I R)) (input : I) (kind : PathKind) (depth : AvailableDepth) (own : NodeId) (frame : F) (goals : List (StackEntry X I R A T × Run X F I R A T)) → own.0 ≡ length nodes → Asks (runs_of goals) kind input → AreJustified is_yes is_no nodes (runs_of goals) → (other : I) (r : R) (target : Option NodeId) → IsFree is_yes is_no nodes (runs_of goals) other r target → IsFree is_yes is_no (nodes ++ open_node input ∷ []) (runs_of ((first_entry input kind depth own, record { frame = frame; node = own; progress = no_record; finished_runs = 0; met_overflow_before = false; candidates = [] }) ∷ goals)) other r target
 free_pushed_goal is_yes is_no nodes input kind depth own frame goals at asks h = free_pushed is_yes is_no nodes input kind own (runs_of goals) at asks h
 
 module _ {X I R A T : Type 0} (is_yes is_no : R → Bool) (same : I → I → Bool) where
@@ -44,7 +44,7 @@ module _ {X I R A T : Type 0} (is_yes is_no : R → Bool) (same : I → I → Bo
       (free_pushed is_yes is_no nodes goal step own goals at asks h)
 
   -- also as an item
-  pub all_free_pushed_goal : {F : Type 0} (nodes : List (CacheNode I R)) (input : I) (kind : PathKind) (depth : AvailableDepth) (own : NodeId) (frame : F) (goals : List (StackEntry X I R A T × Run X F I R A T)) (results : Store I (StoredResult X I R A T)) → own.0 ≡ length nodes → Asks (runs_of goals) kind input → AreJustified is_yes is_no nodes (runs_of goals) → AreFree is_yes is_no same nodes (runs_of goals) results → AreFree is_yes is_no same (nodes ++ open_node input ∷ []) (runs_of ((first_entry input kind depth own, record { frame = frame; node = own; progress = no_record; finished_runs = 0; met_overflow_before = false }) ∷ goals)) results
+  pub all_free_pushed_goal : {F : Type 0} (nodes : List (CacheNode I R)) (input : I) (kind : PathKind) (depth : AvailableDepth) (own : NodeId) (frame : F) (goals : List (StackEntry X I R A T × Run X F I R A T)) (results : Store I (StoredResult X I R A T)) → own.0 ≡ length nodes → Asks (runs_of goals) kind input → AreJustified is_yes is_no nodes (runs_of goals) → AreFree is_yes is_no same nodes (runs_of goals) results → AreFree is_yes is_no same (nodes ++ open_node input ∷ []) (runs_of ((first_entry input kind depth own, record { frame = frame; node = own; progress = no_record; finished_runs = 0; met_overflow_before = false; candidates = [] }) ∷ goals)) results
   all_free_pushed_goal nodes input kind depth own frame goals results at asks h = all_free_pushed nodes input kind own (runs_of goals) results at asks h
 
   -- the newest goal's run is settled, and the goal taken or run again

@@ -1,5 +1,6 @@
 pub mod Pairs
 pub mod Changes
+pub mod Pushed
 pub mod NestedGoals
 pub mod LookUps
 pub mod TakenHeads
