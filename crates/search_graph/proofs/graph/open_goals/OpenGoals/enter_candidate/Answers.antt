@@ -1,4 +1,4 @@
-use Rattle.std.proofs.Common.{◌≡◌, ◌∙◌, [], Some, ap}
+use Rattle.std.proofs.Common.{◌∙◌, [], Some, ap}
 use Rattle.search_parts.proofs.LastState.{length-change_last}
 use Rattle.search_graph.proofs.Changes.{state_changed}
 use Rattle.search_graph.proofs.graph.open_goals.OpenGoals.enter_candidate.Goals as goal

@@ -1,4 +1,4 @@
-use Rattle.std.proofs.Common.{◌≡◌, ◌∙◌, None, IsSome, sym, ap, subst}
+use Rattle.std.proofs.Common.{◌∙◌, None, IsSome, sym, ap, subst}
 use Rattle.search_parts.proofs.LastState.{length-change_last}
 use Rattle.search_graph.proofs.Changes.{state_changed}
 use Rattle.search_graph.proofs.CandidateMoves.{open_candidate, candidate_used}

@@ -1,4 +1,4 @@
-use Rattle.std.proofs.Common.{◌-◌, ◌∙◌, ap, arith, length, ◌<◌, [], ◌∷◌}
+use Rattle.std.proofs.Common.{◌-◌, ◌∙◌, ap}
 use Rattle.search_parts.proofs.LastState.{length-change_last}
 use Rattle.search_graph.proofs.CandidateMoves.{some_counted, newest_counts, newest_ignores}
 use Rattle.search_graph.proofs.graph.open_goals.OpenGoals.ignore_usages.Goals as goal

@@ -1,4 +1,4 @@
-use Rattle.std.proofs.Common.{◌≡◌, ◌-◌, ◌++◌, ◌∷◌, [], ap, arith}
+use Rattle.std.proofs.Common.{◌-◌, ◌++◌, ◌∷◌, [], ap, arith}
 use Rattle.std.proofs.lemmas.Grind.{common_steps}
 use Rattle.search_graph.proofs.Changes.{run_changed}
 use Rattle.search_graph.proofs.graph.open_goals.OpenGoals.keep_candidate.Goals as goal
