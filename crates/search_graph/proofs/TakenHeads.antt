@@ -30,16 +30,16 @@ module _ (head : StackDepth) (used : CycleHead) (rest : Heads) (once : at_depth 
   noted_taken counts =
       let noted = with_nested (unwrap_or (at_depth counts head) no_usages) used.usages in
       elim (cases_eq depth.0 head.0) [
-      | inl same ↦
-          let here : head ≡ depth = λ i. record { 0 = sym same i } in
-          subst (λ d. usages_over (at_depth (with_noted counts head used.usages) d) (at_depth rest d) ≡ usages_over (at_depth counts d) (at_depth ((head, used) ∷ rest) d)) here
-          (ap (λ o. usages_over o (at_depth rest head)) (at_depth-insert_same head noted counts)
-          ∙ ap (usages_over (Some noted)) once
-          ∙ sym (ap (usages_over (at_depth counts head)) (at_depth-first head used rest)))
-      | inr apart ↦
-          ap (λ o. usages_over o (at_depth rest depth)) (at_depth-insert_other head noted counts depth apart)
-          ∙ ap (usages_over (at_depth counts depth)) (sym (at_depth-rest head depth used rest apart))
-    ]
+        | inl same ↦
+            let here : head ≡ depth = λ i. record { 0 = sym same i } in
+            subst (λ d. usages_over (at_depth (with_noted counts head used.usages) d) (at_depth rest d) ≡ usages_over (at_depth counts d) (at_depth ((head, used) ∷ rest) d)) here
+            (ap (λ o. usages_over o (at_depth rest head)) (at_depth-insert_same head noted counts)
+            ∙ ap (usages_over (Some noted)) once
+            ∙ sym (ap (usages_over (at_depth counts head)) (at_depth-first head used rest)))
+        | inr apart ↦
+            ap (λ o. usages_over o (at_depth rest depth)) (at_depth-insert_other head noted counts depth apart)
+            ∙ ap (usages_over (at_depth counts depth)) (sym (at_depth-rest head depth used rest apart))
+      ]
 
   counts_taken : (candidate : Option UsagesByHead) → counted_over depth (candidate_over candidate head used) (at_depth rest depth) ≡ counted_over depth candidate (at_depth ((head, used) ∷ rest) depth)
   counts_taken None = refl
