@@ -102,7 +102,7 @@ AreAsked (o ∷ below) = Asks below o.step o.goal × AreAsked below
 -- what the goal counts agrees, and its candidates are those on record
 pub record HasTally {I R : Type 0} (parent : ℕ) (o : OpenRun I R) : Type 0 where
   pub tallied : IsTallied parent o.tally
-  pub open_is : is_some o.tally.open ≡ o.is_open
+  pub open_is : is_some o.tally.opened ≡ o.is_open
   pub finished_are : length o.tally.finished ≡ length o.ignored
 
 -- the same for all goals

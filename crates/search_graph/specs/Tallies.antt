@@ -5,6 +5,7 @@ use Rattle.std.specs.List.{sum_by}
 use Rattle.std.specs.Option.{option_map}
 use Rattle.open_graphs.specs.Use as theory
 use Rattle.cycle_heads.specs.declared.depth.StackDepth.{StackDepth}
+use Rattle.cycle_heads.specs.declared.heads.CycleHead.{CycleHead}
 use Rattle.cycle_heads.specs.declared.path.PathKind.{PathKind}
 use Rattle.cycle_heads.specs.declared.usages.HeadUsages.{HeadUsages}
 use Rattle.cycle_heads.specs.Candidates.{UsagesByHead}
@@ -30,12 +31,12 @@ spare_count count n = if count == 2 ^ 32 - 1 then count else count - n
 pub record Tally : Type 0 where
   pub heads : Heads
   pub own : Option HeadUsages
-  pub open : Option UsagesByHead
+  pub opened : Option UsagesByHead
   pub finished : List UsagesByHead
 
 -- what an entry with this state counts, and its run's finished candidates used
 abbrev pub tally_of : {X I R A T : Type 0} → EntryState X I R A T → List UsagesByHead → Tally
-tally_of s finished = record { heads = s.heads; own = s.usages; open = s.candidate_usages; finished = finished }
+tally_of s finished = record { heads = s.heads; own = s.usages; opened = s.candidate_usages; finished = finished }
 
 -- how often the goal at `parent` counts a goal on the stack
 abbrev pub counted : ℕ → Tally → StackDepth → Option HeadUsages
@@ -43,11 +44,11 @@ counted parent t head = if head.0 == parent then t.own else option_map (λ known
 
 -- what the candidate of this number used; the open one has the number that it gets once it is finished
 abbrev pub candidate_at : Tally → ℕ → UsagesByHead
-candidate_at t number = elim (slice_get t.finished number) [ None ↦ unwrap_or t.open [] | Some counts ↦ counts ]
+candidate_at t number = elim (slice_get t.finished number) [ None ↦ unwrap_or t.opened [] | Some counts ↦ counts ]
 
 -- what all candidates used of one goal
 abbrev pub candidates_count : Tally → StackDepth → PathKind → ℕ
-candidates_count t head kind = count_of (usages_of (unwrap_or t.open []) head) kind + sum_by (λ counts. count_of (usages_of counts head) kind) t.finished
+candidates_count t head kind = count_of (usages_of (unwrap_or t.opened []) head) kind + sum_by (λ counts. count_of (usages_of counts head) kind) t.finished
 
 -- what was used of a head outside candidates that are open or finished in this run
 abbrev pub spare : Tally → StackDepth → HeadUsages → HeadUsages
@@ -67,7 +68,7 @@ pub record IsTallied (parent : ℕ) (t : Tally) : Type 0 where
 
 -- the heads as the theory sees them, with a part of what is counted of each
 abbrev pub heads_with : Heads → (StackDepth → HeadUsages → HeadUsages) → theory.Heads
-heads_with heads part depth = head_shape (option_map (λ known. record known { usages = part (record { 0 = depth }) known.usages }) (at_depth heads (record { 0 = depth })))
+heads_with heads part depth = head_shape (option_map (λ (known : CycleHead). record known { usages = part (record { 0 = depth }) known.usages }) (at_depth heads (record { 0 = depth })))
 
 -- the heads with what was used outside candidates, in this run or earlier
 abbrev pub spare_heads : Tally → theory.Heads
