@@ -4,6 +4,7 @@ pub mod NestedGoals
 pub mod LookUps
 pub mod TakenHeads
 pub mod IgnoredHeads
+pub mod CandidateMoves
 pub mod OldestFirst
 pub mod Steps
 pub mod Tallies
@@ -17,6 +18,7 @@ pub mod Kept
 pub mod Replies
 pub mod Moves
 pub mod Finishing
+pub mod Pushed
 pub mod StoredAnswers
 pub mod Questions
 pub mod Noted

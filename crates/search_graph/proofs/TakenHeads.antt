@@ -30,16 +30,16 @@ module _ (head : StackDepth) (used : CycleHead) (rest : Heads) (once : at_depth 
   noted_taken counts =
       let noted = with_nested (unwrap_or (at_depth counts head) no_usages) used.usages in
       elim (cases_eq depth.0 head.0) [
-      | inl same ↦
-          let here : head ≡ depth = λ i. record { 0 = sym same i } in
-          subst (λ d. usages_over (at_depth (with_noted counts head used.usages) d) (at_depth rest d) ≡ usages_over (at_depth counts d) (at_depth ((head, used) ∷ rest) d)) here
-          (ap (λ o. usages_over o (at_depth rest head)) (at_depth-insert_same head noted counts)
-          ∙ ap (usages_over (Some noted)) once
-          ∙ sym (ap (usages_over (at_depth counts head)) (at_depth-first head used rest)))
-      | inr apart ↦
-          ap (λ o. usages_over o (at_depth rest depth)) (at_depth-insert_other head noted counts depth apart)
-          ∙ ap (usages_over (at_depth counts depth)) (sym (at_depth-rest head depth used rest apart))
-    ]
+        | inl same ↦
+            let here : head ≡ depth = λ i. record { 0 = sym same i } in
+            subst (λ d. usages_over (at_depth (with_noted counts head used.usages) d) (at_depth rest d) ≡ usages_over (at_depth counts d) (at_depth ((head, used) ∷ rest) d)) here
+            (ap (λ o. usages_over o (at_depth rest head)) (at_depth-insert_same head noted counts)
+            ∙ ap (usages_over (Some noted)) once
+            ∙ sym (ap (usages_over (at_depth counts head)) (at_depth-first head used rest)))
+        | inr apart ↦
+            ap (λ o. usages_over o (at_depth rest depth)) (at_depth-insert_other head noted counts depth apart)
+            ∙ ap (usages_over (at_depth counts depth)) (sym (at_depth-rest head depth used rest apart))
+      ]
 
   counts_taken : (candidate : Option UsagesByHead) → counted_over depth (candidate_over candidate head used) (at_depth rest depth) ≡ counted_over depth candidate (at_depth ((head, used) ∷ rest) depth)
   counts_taken None = refl
@@ -118,29 +118,56 @@ module _ (parent : StackDepth) (step : PathKind) where
       | inr other ↦ rw (ne_eqb head.0 parent.0 other) (ap (λ (t : EntryState X I R A T). record t { heads = with_head s.heads head (extended used.paths_to_head step) used.usages; candidate_usages = candidate_over s.candidate_usages head used }) same)
     ]
 
+or_false : (a : Bool) → (a || false) ≡ a
+or_false true = refl
+or_false false = refl
+
+nothing_more : (b : Bool) (o : Option CycleHead) → o ≡ (if b then o else o)
+nothing_more true o = refl
+nothing_more false o = refl
+
+no_more : (depth : StackDepth) (candidate : Option UsagesByHead) → counted_over depth candidate None ≡ option_map (λ counts. at_depth counts depth) candidate
+no_more depth None = refl
+no_more depth (Some counts) = refl
+
+module _ {X I R A T : Type 0} (parent : StackDepth) (step : PathKind) where
+  -- no head of the answer is left
+  pub all_taken : (answer all left : Heads) (old new : EntryState X I R A T) → all ≡ answer → left ≡ []
+      → new ≡ record old { heads = new.heads; usages = new.usages; candidate_usages = new.candidate_usages }
+      → usages_over new.usages (at_depth left parent) ≡ usages_over old.usages (at_depth all parent)
+      → ((depth : StackDepth) → head_over parent step depth (at_depth new.heads depth) (at_depth left depth) ≡ head_over parent step depth (at_depth old.heads depth) (at_depth all depth))
+      → ((depth : StackDepth) → counted_over depth new.candidate_usages (at_depth left depth) ≡ counted_over depth old.candidate_usages (at_depth all depth))
+      → (is_in_cycle new || some_heads left) ≡ (is_in_cycle old || some_heads all)
+      → TakesHeads parent step answer old new
+  all_taken answer all left old new whole none others usages heads in_candidate in_cycle = record {
+    others = others;
+    usages = ap (λ l. usages_over new.usages (at_depth l parent)) (sym none) ∙ usages ∙ ap (λ l. usages_over old.usages (at_depth l parent)) whole;
+    heads = λ depth.
+        nothing_more (depth.0 == parent.0) (at_depth new.heads depth)
+        ∙ ap (λ l. head_over parent step depth (at_depth new.heads depth) (at_depth l depth)) (sym none)
+        ∙ heads depth
+        ∙ ap (λ l. head_over parent step depth (at_depth old.heads depth) (at_depth l depth)) whole;
+    in_candidate = λ depth.
+        sym (no_more depth new.candidate_usages)
+        ∙ ap (λ l. counted_over depth new.candidate_usages (at_depth l depth)) (sym none)
+        ∙ in_candidate depth
+        ∙ ap (λ l. counted_over depth old.candidate_usages (at_depth l depth)) whole;
+    in_cycle =
+        sym (or_false (is_in_cycle new))
+        ∙ ap (λ l. is_in_cycle new || some_heads l) (sym none)
+        ∙ in_cycle
+        ∙ ap (λ l. is_in_cycle old || some_heads l) whole;
+  }
+
 -- an answer with one head
 module _ {X I R A T : Type 0} (parent : StackDepth) (step : PathKind) (head : StackDepth) (used : CycleHead) (old new : EntryState X I R A T) where
   one_at : TakesHeads parent step ((head, used) ∷ []) old (with_used_head parent step head used old)
-  one_at =
-      record {
-        others = others_kept parent step head used [] refl old old refl;
-        usages = usages_taken parent step head used [] refl old;
-        heads = λ depth. nothing_more (depth.0 == parent.0) (at_depth (with_used_head parent step head used old).heads depth) ∙ head_taken parent step head used [] refl old depth;
-        in_candidate = λ depth. sym (no_more depth (with_used_head parent step head used old).candidate_usages) ∙ candidate_taken parent step head used [] refl old depth;
-        in_cycle = sym (or_false (is_in_cycle (with_used_head parent step head used old))) ∙ cycle_taken parent step head used [] refl old;
-      }
-    where
-      nothing_more : (b : Bool) (o : Option CycleHead) → o ≡ (if b then o else o)
-      nothing_more true o = refl
-      nothing_more false o = refl
-
-      no_more : (depth : StackDepth) (candidate : Option UsagesByHead) → counted_over depth candidate None ≡ option_map (λ counts. at_depth counts depth) candidate
-      no_more depth None = refl
-      no_more depth (Some counts) = refl
-
-      or_false : (a : Bool) → (a || false) ≡ a
-      or_false true = refl
-      or_false false = refl
+  one_at = all_taken parent step ((head, used) ∷ []) ((head, used) ∷ []) [] old (with_used_head parent step head used old) refl refl
+      (others_kept parent step head used [] refl old old refl)
+      (usages_taken parent step head used [] refl old)
+      (head_taken parent step head used [] refl old)
+      (candidate_taken parent step head used [] refl old)
+      (cycle_taken parent step head used [] refl old)
 
   pub one_taken : new ≡ with_used_head parent step head used old → TakesHeads parent step ((head, used) ∷ []) old new
   one_taken is = subst (TakesHeads parent step ((head, used) ∷ []) old) (sym is) one_at

@@ -175,7 +175,9 @@ impl<D: Delegate> SearchGraph<D> {
     ///
     /// `Fault::Protocol(5)` where no goal is under evaluation, which changes nothing. Ports
     /// `SearchGraph::enter_single_candidate`.
-    pub fn enter_single_candidate(&mut self) -> Result<(), Fault<<D::Cx as Cx>::Input, <D::Cx as Cx>::Result>>
+    pub fn enter_single_candidate(
+        &mut self,
+    ) -> Result<(), Fault<<D::Cx as Cx>::Input, <D::Cx as Cx>::Result>>
         ensures no_goal { result ≡ Err (Protocol 5) }
         ensures same { self.new ≡ self.old }
     {
@@ -212,7 +214,7 @@ impl<D: Delegate> SearchGraph<D> {
         &mut self,
         usages: CandidateHeadUsages,
     ) -> Result<(), Fault<<D::Cx as Cx>::Input, <D::Cx as Cx>::Result>>
-        ensures nothing { usages ≡ [] → result ≡ Ok () }
+        ensures nothing { usages ≡ [] → result ≡ Ok tt }
         ensures no_goal { usages ≢ [] → result ≡ Err (Protocol 5) }
         ensures same { self.new ≡ self.old }
     {

@@ -6,7 +6,9 @@ ghost use Rattle.search_graph.specs.Candidates.{usages_at, without_head, CanIgno
 ghost use Rattle.search_graph.specs.NestedGoals.{TakesNestedGoals};
 
 use search_parts::context::{Cx, NoMemory};
-use search_parts::parts::{CandidateHeadUsages, CycleHead, CycleHeads, EntryState, HeadUsages, NestedGoals, StackDepth};
+use search_parts::parts::{
+    CandidateHeadUsages, CycleHead, CycleHeads, EntryState, HeadUsages, NestedGoals, StackDepth,
+};
 use search_parts::path::{PathKind, PathsToNested};
 
 /// Notes how deep the goals below an answer went, and whether one of their questions was refused.

@@ -1,11 +1,11 @@
 use Rattle.std.proofs.Common.{◌≡◌, ◌||◌, sym, ap, ◌∙◌, subst}
-use Rattle.std.proofs.lemmas.Map.Iter.{rest_more}
+use Rattle.std.proofs.lemmas.Map.Iter.{rest_more, rest_all}
 use Rattle.std.specs.Map.Iter.{deref_pair}
 use Rattle.cycle_heads.specs.declared.depth.StackDepth.{StackDepth}
 use Rattle.cycle_heads.specs.Heads.{at_depth, IsRising}
 use Rattle.cycle_heads.proofs.HeadLists.{absent_later, rising_later}
 use Rattle.search_graph.specs.Entries.{some_heads, usages_over, is_in_cycle}
-use Rattle.search_graph.proofs.TakenHeads.{counted_over, head_over, head_taken, candidate_taken, usages_taken, cycle_taken, others_kept}
+use Rattle.search_graph.proofs.TakenHeads.{counted_over, head_over, head_taken, candidate_taken, usages_taken, cycle_taken, others_kept, all_taken}
 use Rattle.search_graph.proofs.graph.update.note_heads.Goals as goal
 
 pub loop-head-preserved : goal.loop-head-preserved
@@ -34,3 +34,8 @@ loop-head-preserved g c =
       cycle_taken c.args.parent c.args.step head used rest once c.loop-head.state ∙ ap (λ l. is_in_cycle c.loop-head.state || some_heads l) (sym more) ∙ i.4,
       rising_later head used rest rising,
     )
+
+pub returns : goal.returns
+returns g c =
+    let i = c.loop-head.invariant in
+    all_taken c.args.parent c.args.step c.args.heads.now c.into_iter-head-iterator.result c.loop-head.head-iterator c.args.state.now c.loop-head.state (c.into_iter-head-iterator.ensures.into_iter_gives ∙ c.iter-head-items.ensures.heads) (rest_all deref_pair _ _ _ c.in-None.is c.next.ensures.steps) i.0 i.1 i.2 i.3 i.4
