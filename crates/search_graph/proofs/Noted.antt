@@ -1,5 +1,5 @@
 -- A frame's request was taken, and what it asks of the candidates was done: the goals stay justified, and wait for the next reply.
-use Rattle.std.proofs.Common.{◌≡◌, ◌≢◌, ℕ, ◌<◌, suc, nat_lt, Bool, true, false, not, if◌then◌else◌, List, [], ◌∷◌, ◌++◌, map, length, length-append, Option, None, Some, option_map, is_some, unwrap_or, slice_get, slice_set, get_or, refl, sym, ap, ◌∙◌, subst, arith}
+use Rattle.std.proofs.Common.{◌≡◌, ◌≢◌, ℕ, zero, suc, ◌<◌, nat_lt, Bool, true, false, not, if◌then◌else◌, List, [], ◌∷◌, ◌++◌, map, length, length-append, Option, None, Some, option_map, is_some, unwrap_or, slice_get, slice_set, get_or, refl, sym, ap, ◌∙◌, subst, arith}
 use Rattle.std.specs.Option.{IfSome, IsSomeAnd}
 use Rattle.std.proofs.lemmas.Bool.Decides.{nat_tests}
 use Rattle.std.proofs.lemmas.List.{get_or-set_same, get_or-set_other, length-map, length-set}
@@ -20,6 +20,7 @@ use Rattle.search_parts.specs.Run.{IsReplyTo}
 use Rattle.search_parts.specs.Store.{Store}
 use Rattle.cycle_heads.specs.Candidates.{UsagesByHead}
 use Rattle.open_graphs.specs.Use.{Includes}
+use Rattle.evaluations.specs.Frames.{Frame}
 use Rattle.evaluations.proofs.Mirrors.{noted_waits}
 use Rattle.search_graph.specs.declared.graph.open_goals.Received.{Received}
 use Rattle.search_graph.specs.declared.graph.open_goals.Run.{Run}
@@ -46,16 +47,16 @@ use Rattle.search_graph.proofs.Tallies.{entered_keeps, entered_tallied, finished
 
 -- ---- flags and candidates
 
-none_open : (b : Bool) → (if b then Some 1 else None) ≡ None → b ≡ false
+none_open : (b : Bool) → if◌then◌else◌ {A = Option ℕ} b (Some 1) None ≡ None → b ≡ false
 none_open true is = absurd cc
 none_open false is = refl
 
-one_open : (b : Bool) → (if b then None else Some 2) ≡ None → b ≡ true
+one_open : (b : Bool) → if◌then◌else◌ {A = Option ℕ} b None (Some 2) ≡ None → b ≡ true
 one_open true is = refl
 one_open false is = absurd cc
 
 -- a candidate that may be ignored is finished, and isn't ignored yet
-may_ignore : (finished ignored : Bool) → (if finished then (if ignored then Some 4 else None) else Some 3) ≡ None → (finished ≡ true) × (ignored ≡ false)
+may_ignore : (finished ignored : Bool) → if◌then◌else◌ {A = Option ℕ} finished (if◌then◌else◌ {A = Option ℕ} ignored (Some 4) None) (Some 3) ≡ None → (finished ≡ true) × (ignored ≡ false)
 may_ignore true true is = absurd cc
 may_ignore true false is = (refl, refl)
 may_ignore false ignored is = absurd cc
@@ -70,9 +71,9 @@ something_in (Some x) otherwise is = refl
 
 -- one more finished candidate, which isn't ignored, changes nothing of the others
 marked_longer : (ignored : List Bool) (n : ℕ) → is_marked (ignored ++ false ∷ []) n ≡ is_marked ignored n
-marked_longer [] 0 = refl
+marked_longer [] zero = refl
 marked_longer [] (suc n) = refl
-marked_longer (b ∷ ignored) 0 = refl
+marked_longer (b ∷ ignored) zero = refl
 marked_longer (b ∷ ignored) (suc n) = marked_longer ignored n
 
 kept_longer : (ignored : List Bool) (c : Option ℕ) → is_kept (ignored ++ false ∷ []) c ≡ is_kept ignored c
@@ -122,8 +123,9 @@ module _ {X F I R A T : Type 0} (entry : StackEntry X I R A T) (run : Run X F I 
   ignores_here : (number : ℕ) (mid after : List (StackEntry X I R A T × Run X F I R A T)) → mid ≡ (entry, run) ∷ below → IgnoresNewest number mid after → IgnoresHere number after
   ignores_here number mid after mid_is n =
       let both : (n.entry, n.run) ∷ n.below ≡ (entry, run) ∷ below = sym n.was ∙ mid_is in
-      let same_entry : n.entry ≡ entry = cc in
-      let same_run : n.run ≡ run = cc in
+      let pair : (n.entry, n.run) ≡ (entry, run) = cc in
+      let same_entry : n.entry ≡ entry = ap (λ (x : StackEntry X I R A T × Run X F I R A T). x.0) pair in
+      let same_run : n.run ≡ run = ap (λ (x : StackEntry X I R A T × Run X F I R A T). x.1) pair in
       let same_below : n.below ≡ below = cc in
       record {
         candidate = n.candidate;
@@ -226,10 +228,10 @@ module _ {D C V P F I R A T : Type 0} (G : Delegate.Ghosts D C V P F I R A T) (X
 
   -- ---- what was requested can be done, and keeps the goals justified
 
-  can_note_at : (given : Received R) (request : Request I R) (old mid : Goals) (s : HasStepped G X cx given request old mid) → IsFit X.is_yes X.is_no nodes (runs_of old) given.reply given.node → AreJustified X.is_yes X.is_no nodes (runs_of old) → CanNote request ((s.entry, later_run given request old mid s) ∷ s.below)
+  can_note_at : (given : Received R) (request : Request I R) (old mid : Goals) (s : HasStepped G X cx given request old mid) (fit : IsFit X.is_yes X.is_no nodes (runs_of old) given.reply given.node) (h : AreJustified X.is_yes X.is_no nodes (runs_of old)) → CanNote request ((s.entry, later_run given request old mid s fit h) ∷ s.below)
   can_note_at given (Evaluate kind goal) old mid s fit h = tt
   can_note_at given EnterCandidate old mid s fit h = tt
-  can_note_at given FinishCandidate old mid s fit h = has_open given FinishCandidate old mid s fit h ∙ one_open (replied_record given FinishCandidate old mid s).is_open s.in_order
+  can_note_at given FinishCandidate old mid s fit h = has_open given FinishCandidate old mid s fit h ∙ one_open (replied_record given FinishCandidate old mid s fit h).is_open s.in_order
   can_note_at given (Ignore n) old mid s fit h =
       let p = received s.run.progress given.reply s.verdict given.node in
       let may = may_ignore (nat_lt n (length p.ignored)) (is_marked p.ignored n) s.in_order in
@@ -249,19 +251,19 @@ module _ {D C V P F I R A T : Type 0} (G : Delegate.Ghosts D C V P F I R A T) (X
       subst (λ (v : Goals). AreJustified X.is_yes X.is_no nodes (runs_of v)) (sym (noted ∙ s.is)) (asking_is_justified given (Evaluate kind goal) old mid s fit h)
   noted_is_justified given EnterCandidate old mid after s fit h noted =
       subst (λ (v : Goals). AreJustified X.is_yes X.is_no nodes (runs_of v)) (sym (noted ∙ ap (change_newest enters) s.is))
-      (entered_is_justified given EnterCandidate old mid s fit h (none_open (replied_record given EnterCandidate old mid s).is_open s.in_order))
+      (entered_is_justified given EnterCandidate old mid s fit h (none_open (replied_record given EnterCandidate old mid s fit h).is_open s.in_order))
   noted_is_justified given FinishCandidate old mid after s fit h noted =
       subst (λ (v : Goals). AreJustified X.is_yes X.is_no nodes (runs_of v)) (sym (noted ∙ ap (change_newest finishes) s.is))
-      (finished_is_justified given FinishCandidate old mid s fit h (one_open (replied_record given FinishCandidate old mid s).is_open s.in_order))
+      (finished_is_justified given FinishCandidate old mid s fit h (one_open (replied_record given FinishCandidate old mid s fit h).is_open s.in_order))
   noted_is_justified given (Ignore n) old mid after s fit h noted =
       let p = received s.run.progress given.reply s.verdict given.node in
       let may = may_ignore (nat_lt n (length p.ignored)) (is_marked p.ignored n) s.in_order in
       let test = may.0 in
       let within : n < length p.ignored = grind (arith, nat_tests) in
-      let here = ignores_here s.entry (later_run given (Ignore n) old mid s) s.below n mid after s.is noted in
+      let here = ignores_here s.entry (later_run given (Ignore n) old mid s fit h) s.below n mid after s.is noted in
       let later : Run C F I R A T = record s.run { frame = s.frame; progress = requested (received s.run.progress given.reply s.verdict given.node) (Ignore n); candidates = slice_set s.run.candidates n [] } in
       subst (λ (v : Goals). AreJustified X.is_yes X.is_no nodes (runs_of v)) (sym here.is)
-      (subst (λ (o : OpenRun I R). AreJustified X.is_yes X.is_no nodes (o ∷ runs_of s.below)) (sym (ignoring_run s.entry (later_run given (Ignore n) old mid s) s.below here.state (record s.run { frame = s.frame; progress = requested (received s.run.progress given.reply s.verdict given.node) (Ignore n); candidates = slice_set s.run.candidates n [] }) here.ignores.others))
+      (subst (λ (o : OpenRun I R). AreJustified X.is_yes X.is_no nodes (o ∷ runs_of s.below)) (sym (ignoring_run s.entry (later_run given (Ignore n) old mid s fit h) s.below here.state (record s.run { frame = s.frame; progress = requested (received s.run.progress given.reply s.verdict given.node) (Ignore n); candidates = slice_set s.run.candidates n [] }) here.ignores.others))
       (ignored_is_justified given (Ignore n) old mid s fit h n here.candidate here.state here.is_at here.ignores within))
   noted_is_justified given (Done r) old mid after s fit h noted =
       subst (λ (v : Goals). AreJustified X.is_yes X.is_no nodes (runs_of v)) (sym (noted ∙ s.is)) (asking_is_justified given (Done r) old mid s fit h)
@@ -273,7 +275,7 @@ module _ {D C V P F I R A T : Type 0} (G : Delegate.Ghosts D C V P F I R A T) (X
   module _ (ahead : ℕ) (request : Request I R) (item later : StackEntry C I R A T × Run C F I R A T) (below : List (StackEntry C I R A T × Run C F I R A T)) (starts : ℕ) (met : Bool) (fits : IsReplyTo (λ _ _. ⊥) (Some request) Noted) (same : seen G X cx item ≡ seen G X cx later) (stood : (replies : List _) → Stood G X cx item replies → Stood G X cx later replies) (step : later.0.step_kind_from_parent ≡ item.0.step_kind_from_parent) (decided : IsDecided X.is_yes X.is_no item → IsDecided X.is_yes X.is_no later) where
     changed_goes_on : HasAsked G X cx call ahead request (item ∷ below) starts met → GoesOn G X cx call ahead Noted (later ∷ below) starts met
     changed_goes_on h =
-        let w = noted_waits (seen G X cx) (Stood G X cx) (G.script cx) (limits G X cx call) (IsCounted G X cx call) call.top (bound G X cx call) (some_runs G.FIXPOINT_STEP_LIMIT) ahead starts met item below request Noted later fits (record { same = λ replies. ap (λ f. record f { replies = Noted ∷ replies }) same; stood = stood }) h.asked in
+        let w = noted_waits (seen G X cx) (Stood G X cx) (G.script cx) (limits G X cx call) (IsCounted G X cx call) call.top (bound G X cx call) (some_runs G.FIXPOINT_STEP_LIMIT) ahead starts met item below request Noted later fits (record { same = λ replies. ap (λ (f : Frame I R). record f { replies = Noted ∷ replies }) same; stood = stood }) h.asked in
         record { waiting = record { waits = w.0; keeps = h.keeps; decided = λ decisive unmet. (changed_decided X.is_yes X.is_no item later below step decided (h.decided decisive unmet), tt) }; falls = w.1 }
 
   ignoring_seen : (s : StackEntry C I R A T × Run C F I R A T) (state : EntryState C I R A T) (finished : List UsagesByHead) (parent : _) (candidate : UsagesByHead) → Ignores parent candidate s.0.state state → seen G X cx s ≡ seen G X cx (record s.0 { state = state }, record s.1 { candidates = finished })
@@ -320,3 +322,11 @@ module _ {X F I R A T : Type 0} (is_yes is_no : R → Bool) (same : I → I → 
       (all_free_above is_yes is_no same nodes (run_of (noted.entry, noted.run)) (run_of (record noted.entry { state = noted.state }, record noted.run { candidates = slice_set noted.run.candidates n [] })) (runs_of noted.below) results
       refl (ap (λ (x : EntryState X I R A T). x.provisional_result) (sym noted.ignores.others)) refl (ap (λ (x : EntryState X I R A T). x.node) (sym noted.ignores.others)) was)
   noting_keeps_free (Done r) mid after noted free = subst (λ l. AreFree is_yes is_no same nodes (runs_of l) results) (sym noted) free
+
+-- a request that is neither a question nor the result is about candidates
+pub about_candidates : {I R : Type 0} (request : Request I R) → ((kind : _) (goal : I) → request ≡ Evaluate kind goal → ⊥) → ((r : R) → request ≡ Done r → ⊥) → IsReplyTo (λ _ _. ⊥) (Some request) Noted
+about_candidates (Evaluate kind goal) asks done = asks kind goal refl
+about_candidates EnterCandidate asks done = tt
+about_candidates FinishCandidate asks done = tt
+about_candidates (Ignore n) asks done = tt
+about_candidates (Done r) asks done = done r refl
