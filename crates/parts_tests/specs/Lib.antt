@@ -4,3 +4,4 @@ pub mod NestedTests
 pub mod Countdown
 pub mod CountFrames
 pub mod CountLaws
+pub mod Scripts

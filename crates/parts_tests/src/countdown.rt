@@ -157,7 +157,7 @@ impl Starts {
         self.started
     }
 
-    fn note_start(&mut self)
+    pub(crate) fn note_start(&mut self)
         ensures { CountsOne (2 ^ 64 - 1) self.old.started self.new.started }
     {
         self.started = self.started.saturating_add(1);

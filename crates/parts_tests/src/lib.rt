@@ -1,6 +1,6 @@
 //! Delegates for tests, and tests with them: of the cache, and of the parts of a search. A goal that asks
 //! itself has a node with an edge to itself, which is why a node is opened before its run begins. Goals that
-//! count down go as deep as one likes.
+//! count down go as deep as one likes. Goals with scripts make requests in any order.
 #![tactic(auto)]
 
 pub mod countdown;
@@ -21,6 +21,7 @@ mod rebasing;
 mod result;
 #[cfg(test)]
 mod reuse;
+pub mod scripts;
 #[cfg(test)]
 mod stack;
 #[cfg(test)]

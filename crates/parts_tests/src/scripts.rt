@@ -1,0 +1,256 @@
+//! Goals with scripts. A goal makes the requests of its script one after the other, in whatever order they
+//! stand, and whatever it is replied; at the script's end it holds.
+ghost use Rattle.std.specs.Prelude.{◌≡◌, ◌<◌, ◌^◌, ◌-◌, IfOk, OnOk};
+
+use crate::countdown::{NoScope, Outcome, Starts};
+use search_parts::context::{Cx, Delegate, NoMemory, Reply, Request, Verdict};
+use search_parts::path::PathKind;
+
+/// A goal: the place of its script.
+#[derive(Clone, Copy, Debug, PartialEq, Eq, Hash)]
+pub struct Goal(pub usize);
+
+/// A line of a script: what its goal requests there.
+#[derive(Clone, Copy, Debug, PartialEq, Eq)]
+pub enum Line {
+    Evaluate(PathKind, Goal),
+    EnterCandidate,
+    FinishCandidate,
+    Ignore(usize),
+    /// The goal holds, and later lines are not read.
+    End,
+}
+
+impl Line {
+    ghost use Rattle.parts_tests.specs.Scripts.{request_of};
+
+    fn request(self) -> Request<Goal, Outcome>
+        ensures { result ≡ request_of self }
+    {
+        match self {
+            Line::Evaluate(kind, goal) => Request::Evaluate(kind, goal),
+            Line::EnterCandidate => Request::EnterCandidate,
+            Line::FinishCandidate => Request::FinishCandidate,
+            Line::Ignore(candidate) => Request::Ignore(candidate),
+            Line::End => Request::Done(Outcome::Yes),
+        }
+    }
+}
+
+/// The scripts of three goals. A script ends after its last line, and any other goal has no lines.
+#[derive(Clone, Copy, Debug)]
+pub struct Scripts {
+    pub lines: [[Line; 5]; 3],
+}
+
+impl Scripts {
+    ghost use Rattle.parts_tests.specs.Scripts.{line_at};
+
+    fn line(self, goal: Goal, place: usize) -> Line
+        ensures { result ≡ line_at self goal place }
+    {
+        if goal.0 < 3 && place < 5 {
+            self.lines[goal.0][place]
+        } else {
+            Line::End
+        }
+    }
+}
+
+impl Cx for Scripts {
+    ghost use Rattle.std.proofs.Common.{rules};
+    ghost use Rattle.parts_tests.specs.Countdown as countdown;
+    ghost use Rattle.parts_tests.specs.Scripts as scripts;
+
+    type Input = Goal;
+
+    type Result = Outcome;
+
+    type AmbiguityInfo = ();
+
+    type DepNodeIndex = ();
+
+    ghost proves = { scripts.Proves };
+
+    ghost refutes = { scripts.Refutes };
+
+    ghost is_yes = { countdown.is_yes };
+
+    ghost is_no = { countdown.is_no };
+
+    ghost proves_more = { λ cx goal some more within held. held };
+
+    ghost refutes_more = { λ cx goal some more within failed. failed };
+
+    ghost clash = { scripts.clash };
+
+    ghost one_sort = { countdown.one_sort };
+
+    ghost same_input = { Prim.search rules };
+
+    ghost same_result = { Prim.search rules };
+
+    fn dep_node(self, _input: Goal) {}
+
+    fn sort(self, outcome: Outcome) -> Verdict {
+        match outcome {
+            Outcome::Yes => Verdict::Yes,
+            Outcome::No => Verdict::No,
+            Outcome::Maybe | Outcome::Overflow => Verdict::Neither,
+        }
+    }
+}
+
+/// A frame of a goal.
+#[derive(Debug, Drop)]
+pub struct Frame {
+    scripts: Scripts,
+    goal: Goal,
+    /// The place of the next line.
+    place: usize,
+}
+
+impl Delegate for Scripts {
+    ghost use Rattle.std.proofs.Common.{rules};
+    ghost use Rattle.std.specs.Prelude.{false, true};
+    ghost use Rattle.parts_tests.specs.declared.countdown.Outcome.TheVariants.{Maybe, Overflow};
+    ghost use Rattle.parts_tests.specs.Countdown as countdown;
+    ghost use Rattle.parts_tests.specs.Scripts.{script_of, Stands, lines_left, yes_is_proved, no_is_refuted};
+    ghost use Rattle.search_parts.specs.Delegate.{CanTake, Steps};
+
+    type Cx = Scripts;
+
+    type ValidationScope = NoScope;
+
+    type ProofTreeBuilder = Starts;
+
+    type Frame = Frame;
+
+    const ENABLE_PROVISIONAL_CACHE: bool = true;
+
+    const FIXPOINT_STEP_LIMIT: usize = 8;
+
+    const DIVIDE_AVAILABLE_DEPTH_ON_OVERFLOW: usize = 4;
+
+    ghost ENABLE_PROVISIONAL_CACHE = { true };
+
+    ghost FIXPOINT_STEP_LIMIT = { 8 };
+
+    ghost DIVIDE_AVAILABLE_DEPTH_ON_OVERFLOW = { 4 };
+
+    ghost script = { script_of };
+
+    ghost stands = { Stands };
+
+    ghost left = { λ frame. lines_left frame.place };
+
+    ghost width = { λ cx. 6 };
+
+    ghost initial_result = { λ cx kind goal. countdown.initial_outcome kind };
+
+    ghost initial_kind = { countdown.kind_of };
+
+    ghost stack_overflow = { λ cx goal. Overflow };
+
+    ghost fixpoint_overflow = { λ cx goal. Overflow };
+
+    ghost ambiguity = { countdown.ambiguity_of };
+
+    ghost propagated = { λ cx goal info. Maybe };
+
+    ghost starts = { λ builder. builder.started };
+
+    ghost counts = { true };
+
+    ghost last = { 2 ^ 64 - 1 };
+
+    ghost noop = { λ builder. true };
+
+    ghost scoped = { λ cx goal. false };
+
+    ghost yes_is_proved = { yes_is_proved };
+
+    ghost no_is_refuted = { no_is_refuted };
+
+    ghost initial_sort = { λ cx kind goal. countdown.initial_sort kind };
+
+    ghost recognised_sort = { countdown.recognised_sort };
+
+    ghost stack_overflow_is_neither = { λ cx goal. countdown.overflow_is_neither };
+
+    ghost fixpoint_overflow_is_neither = { λ cx goal. countdown.overflow_is_neither };
+
+    ghost ambiguous_is_neither = { countdown.ambiguous_is_neither };
+
+    ghost propagated_is_neither = { λ cx goal info. countdown.maybe_is_neither };
+
+    ghost divides = { Prim.search rules };
+
+    fn enter_validation_scope(_cx: Scripts, _input: Goal) -> Option<NoScope> {
+        None
+    }
+
+    // The count of frames is no record of how goals are worked out, so stored results may be used.
+    fn inspect_is_noop(_inspect: &mut Starts) -> bool {
+        true
+    }
+
+    fn initial_provisional_result(_cx: Scripts, kind: PathKind, _input: Goal) -> Outcome {
+        match kind {
+            PathKind::Coinductive => Outcome::Yes,
+            PathKind::Inductive => Outcome::No,
+            PathKind::Unknown | PathKind::ForcedAmbiguity => Outcome::Maybe,
+        }
+    }
+
+    fn is_initial_provisional_result(outcome: Outcome) -> Option<PathKind> {
+        match outcome {
+            Outcome::Yes => Some(PathKind::Coinductive),
+            Outcome::No => Some(PathKind::Inductive),
+            Outcome::Maybe | Outcome::Overflow => None,
+        }
+    }
+
+    fn stack_overflow_result(_cx: Scripts, _input: Goal) -> Outcome {
+        Outcome::Overflow
+    }
+
+    fn fixpoint_overflow_result(_cx: Scripts, _input: Goal) -> Outcome {
+        Outcome::Overflow
+    }
+
+    fn is_ambiguous_result(outcome: Outcome) -> Option<()> {
+        match outcome {
+            Outcome::Maybe | Outcome::Overflow => Some(()),
+            Outcome::Yes | Outcome::No => None,
+        }
+    }
+
+    fn propagate_ambiguity(_cx: Scripts, _for_input: Goal, _ambiguity_info: ()) -> Outcome {
+        Outcome::Maybe
+    }
+
+    fn start(cx: Scripts, input: Goal, inspect: &mut Starts) -> Result<Frame, NoMemory> {
+        inspect.note_start();
+        Ok(Frame {
+            scripts: cx,
+            goal: input,
+            place: 0,
+        })
+    }
+
+    fn step(
+        frame: &mut Frame,
+        _reply: Reply<Outcome>,
+        _inspect: &mut Starts,
+    ) -> Result<Request<Goal, Outcome>, NoMemory>
+        requires { CanTake Stands script_of frame.old _reply }
+        ensures request { IfOk result (λ request. Steps Stands script_of frame.old _reply request frame.new) }
+        ensures falls { OnOk result (lines_left frame.new.place < lines_left frame.old.place) }
+        ensures same_starts { _inspect.new.started ≡ _inspect.old.started }
+    {
+        let line = frame.scripts.line(frame.goal, frame.place);
+        frame.place += 1;
+        Ok(line.request())
+    }
+}
