@@ -1,5 +1,5 @@
 -- A run that is done, and its node.
-use Rattle.std.proofs.Common.{◌≡◌, ◌≢◌, ℕ, suc, Bool, true, false, IsTrue, if◌then◌else◌, ◌↔◌, List, [], ◌∷◌, map, ◌++◌, length, is_some, Contains, Option, None, Some, option_map, slice_get, refl, sym, ap, ◌∙◌, subst, arith}
+use Rattle.std.proofs.Common.{◌≡◌, ◌≢◌, ℕ, suc, Bool, true, false, IsTrue, if◌then◌else◌, ◌↔◌, List, [], ◌∷◌, map, ◌++◌, length, is_some, Contains, Option, None, Some, option_map, slice_get, refl, sym, ap, ◌∙◌, subst}
 use Rattle.std.specs.Option.{IsSomeAnd}
 use Rattle.std.proofs.lemmas.List.{length-map}
 use Rattle.std.proofs.lemmas.Option.{slice_get_within, get_or_from_slice_get, slice_get-get_or}

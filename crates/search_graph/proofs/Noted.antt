@@ -1,5 +1,5 @@
 -- A frame's request was taken, and what it asks of the candidates was done: the goals stay justified, and wait for the next reply.
-use Rattle.std.proofs.Common.{◌≡◌, ◌≢◌, ℕ, zero, suc, ◌<◌, nat_lt, Bool, true, false, not, if◌then◌else◌, List, [], ◌∷◌, ◌++◌, map, length, length-append, Option, None, Some, option_map, is_some, unwrap_or, slice_get, slice_set, get_or, refl, sym, ap, ◌∙◌, subst, arith}
+use Rattle.std.proofs.Common.{◌≡◌, ◌≢◌, ℕ, zero, suc, ◌<◌, nat_lt, Bool, true, false, not, if◌then◌else◌, List, [], ◌∷◌, ◌++◌, length, length-append, Option, None, Some, is_some, unwrap_or, slice_get, slice_set, get_or, refl, sym, ap, ◌∙◌, subst, arith}
 use Rattle.std.specs.Option.{IfSome, IsSomeAnd}
 use Rattle.std.proofs.lemmas.Bool.Decides.{nat_tests}
 use Rattle.std.proofs.lemmas.List.{get_or-set_same, get_or-set_other, length-map, length-set}
@@ -19,7 +19,6 @@ use Rattle.search_parts.specs.Cache.{CacheNode}
 use Rattle.search_parts.specs.Run.{IsReplyTo}
 use Rattle.search_parts.specs.Store.{Store}
 use Rattle.cycle_heads.specs.Candidates.{UsagesByHead}
-use Rattle.open_graphs.specs.Use.{Includes}
 use Rattle.evaluations.specs.Frames.{Frame}
 use Rattle.evaluations.proofs.Mirrors.{noted_waits}
 use Rattle.search_graph.specs.declared.graph.open_goals.Received.{Received}
@@ -31,12 +30,12 @@ use Rattle.search_graph.specs.Entries.{is_in_cycle}
 use Rattle.search_graph.specs.Evaluating.{seen, GoesOn, HasAsked}
 use Rattle.search_parts.specs.Definite.{IsDefinite}
 use Rattle.search_graph.specs.Free.{AreFree}
-use Rattle.search_graph.specs.Justified.{OpenRun, HasTally, AreJustified, IsFit}
+use Rattle.search_graph.specs.Justified.{OpenRun, AreJustified, IsFit}
 use Rattle.search_graph.specs.Newest.{change_newest}
-use Rattle.search_graph.specs.Progress.{RunRecord, answered, fault_of, is_kept, is_marked, received, requested}
+use Rattle.search_graph.specs.Progress.{RunRecord, answered, is_kept, is_marked, received, requested}
 use Rattle.search_graph.specs.Runs.{run_of, runs_of}
-use Rattle.search_graph.specs.Steps.{HasStepped, Stood, received_by}
-use Rattle.search_graph.specs.Tallies.{Tally, heads_of, tally_of, IsTallied}
+use Rattle.search_graph.specs.Steps.{HasStepped, Stood}
+use Rattle.search_graph.specs.Tallies.{Tally, tally_of, IsTallied}
 use Rattle.search_graph.proofs.DecidedGoals.{changed_decided}
 use Rattle.search_graph.proofs.FreeResults.{all_free_above}
 use Rattle.search_graph.proofs.Justified.{recounted_is_justified}
@@ -223,8 +222,8 @@ module _ {D C V P F I R A T : Type 0} (G : Delegate.Ghosts D C V P F I R A T) (X
             finished_are = length-set s.run.candidates number [] ∙ has_finished ∙ sym (length-set replied_record.ignored number true);
           })
           (λ c kept.
-              let was = kept_before replied_record.ignored number c within kept in
-              (kept_as_before c was.0, ignored_keeps (record { 0 = length s.below }) s.entry.state state s.run.candidates number candidate ignores is_at tallied_here c was.1)) got
+          let was = kept_before replied_record.ignored number c within kept in
+          (kept_as_before c was.0, ignored_keeps (record { 0 = length s.below }) s.entry.state state s.run.candidates number candidate ignores is_at tallied_here c was.1)) got
 
   -- ---- what was requested can be done, and keeps the goals justified
 

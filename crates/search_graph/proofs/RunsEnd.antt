@@ -10,7 +10,6 @@ use Rattle.search_parts.specs.declared.context.NodeId.{NodeId}
 use Rattle.search_parts.specs.declared.context.Request.{Request}
 use Rattle.search_parts.specs.declared.context.Reply.{Reply}
 use Rattle.search_parts.specs.declared.context.Reply.TheVariants.{Answer}
-use Rattle.cycle_heads.specs.declared.depth.StackDepth.{StackDepth}
 use Rattle.search_parts.specs.declared.parts.stack.StackEntry.{StackEntry}
 use Rattle.search_parts.specs.Cache.{CacheNode, open_node}
 use Rattle.search_parts.specs.Definite.{HasGraph, IsDefinite}
@@ -20,7 +19,7 @@ use Rattle.search_parts.specs.Shapes.{verdict_of}
 use Rattle.search_graph.specs.declared.graph.open_goals.Run.{Run}
 use Rattle.search_graph.specs.declared.graph.open_goals.Next.TheVariants.{Step, Finished}
 use Rattle.search_graph.specs.Items.{AnswersNewest, rerun_with, with_no_record}
-use Rattle.search_graph.specs.Justified.{OpenRun, Asks, AreJustified, MayAnswer, IsFit, asked_now, frames_of}
+use Rattle.search_graph.specs.Justified.{Asks, AreJustified, MayAnswer, IsFit, asked_now, frames_of}
 use Rattle.search_graph.specs.Moves.{IsFresh, Reruns, CanLeave, Leaves}
 use Rattle.search_graph.specs.Newest.{newest, change_newest}
 use Rattle.search_graph.specs.Progress.{RunRecord}

@@ -15,7 +15,6 @@ use Rattle.search_parts.specs.declared.context.Reply.TheVariants.{Answer}
 use Rattle.search_parts.specs.declared.context.NodeId.{NodeId}
 use Rattle.search_parts.specs.declared.context.Edge.{Edge}
 use Rattle.cycle_heads.specs.HeadShapes.{heads_shape}
-use Rattle.cycle_heads.specs.Heads.{Heads}
 use Rattle.cycle_heads.specs.Path.{rank_of}
 use Rattle.search_parts.specs.Cache.{CacheNode, open_goal, IsNodeOf}
 use Rattle.search_parts.specs.Shapes.{verdict_of, edge_shape, shapes_of}

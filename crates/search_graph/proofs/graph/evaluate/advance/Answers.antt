@@ -131,4 +131,3 @@ returns-in_ok-next-in-Evaluate-clause-keeps g c = λ call h keeps.
 
 pub returns-in_ok-next-in-Done-clause-keeps : goal.returns-in_ok-next-in-Done-clause-keeps
 returns-in_ok-next-in-Done-clause-keeps g c = λ call h keeps. c.finish_run.ensures.keeps call _ (advance_asks g.D.Delegate g.D.Cx.Cx c.args.cache.now.cx c.args.received _ c.args.goals.now c.step.new.goals _ _ c.args.limits_met.now c.cx-cx.result c.cx-cx.ensures c.in_ok-request.request c.in-Done.is c.in_ok-request.ensures.stepped c.step.ensures.same_starts c.args.cache.now.nodes c.requires.fits call h) keeps
-

@@ -1,8 +1,7 @@
-use Rattle.std.proofs.Common.{◌≡◌, ◌∙◌, ◌≤◌, [], ◌∷◌, ◌++◌, Some, false, sym, ap, subst}
+use Rattle.std.proofs.Common.{◌≡◌, ◌∙◌, ◌≤◌, [], ◌∷◌, ◌++◌, false, sym, ap, subst}
 use Rattle.std.specs.List.{list_any}
 use Rattle.search_parts.specs.Cache.{open_node}
 use Rattle.search_parts.proofs.Finished.{KeepsFinished-nodes}
-use Rattle.search_graph.specs.Entries.{first_entry}
 use Rattle.search_graph.specs.Free.{AreFree}
 use Rattle.search_graph.specs.Justified.{AreJustified}
 use Rattle.search_graph.specs.Runs.{runs_of}
