@@ -30,6 +30,7 @@ pub mod RunEnds
 pub mod CycleAnswers
 pub mod DecidedGoals
 pub mod Free
+pub mod KeptAnswers
 pub mod FreeResults
 pub mod FreeMoves
 pub mod DoneGoals

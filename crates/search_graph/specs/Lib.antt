@@ -14,6 +14,7 @@ pub mod Graph
 pub mod Tallies
 pub mod Justified
 pub mod Free
+pub mod KeptAnswers
 pub mod Progress
 pub mod Runs
 pub mod RunEnds

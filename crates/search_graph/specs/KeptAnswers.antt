@@ -1,0 +1,31 @@
+-- Answers that are kept while goals that they rest on are under evaluation, and why each of them is right.
+use Rattle.std.specs.Prelude.{◌≡◌, ℕ, Bool, List, Option, None}
+use Rattle.std.specs.Option.{IsSomeAnd}
+use Rattle.open_graphs.specs.Graph as theory
+use Rattle.open_graphs.specs.Use.{Heads, Stored}
+use Rattle.open_graphs.specs.State.{Kept, stack_of}
+use Rattle.search_parts.specs.declared.context.NodeId.{NodeId}
+use Rattle.search_parts.specs.Cache.{CacheNode, IsNodeOf}
+use Rattle.search_parts.specs.Definite.{IsDefinite}
+use Rattle.search_parts.specs.Shapes.{verdict_of, shapes_of}
+use Rattle.search_graph.specs.Justified.{OpenRun, frames_of}
+
+-- An answer with its node: the place of its highest head, the kind of the path from there, and its heads.
+pub record KeptAnswer (R : Type 0) : Type 0 where
+  pub result : R
+  pub target : Option NodeId
+  pub highest : ℕ
+  pub path : ℕ
+  pub heads : Heads
+
+-- the answer as the theory keeps it, with this node
+abbrev pub in_theory : {R : Type 0} → (R → Bool) → (R → Bool) → KeptAnswer R → ℕ → Kept
+in_theory is_yes is_no k n = record { verdict = verdict_of is_yes is_no k.result; highest = k.highest; path = k.path; node = n; heads = k.heads }
+
+-- A definite answer comes with a node of its goal, which may be used wherever the path kind from its highest head is the kept one;
+-- another one comes with none.
+pub record IsKept {I R : Type 0} (is_yes is_no : R → Bool) (nodes : List (CacheNode I R)) (goals : List (OpenRun I R)) (goal : I) (k : KeptAnswer R) : Type 0 where
+  pub definite :
+      IsDefinite is_yes is_no k.result
+      → IsSomeAnd k.target (λ n. IsNodeOf nodes n.0 goal × Stored (shapes_of is_yes is_no nodes) (verdict_of is_yes is_no k.result) (stack_of (frames_of is_yes is_no goals)) k.highest k.path n.0 k.heads)
+  pub neither : verdict_of is_yes is_no k.result ≡ theory.Neither → k.target ≡ None
