@@ -44,8 +44,7 @@ pub(crate) enum Next<R> {
     Finished(Answer<R>),
 }
 
-/// One run of a goal: the frame that works it out, the node that stands for it, what it has done, and what its
-/// finished candidates used.
+/// One run of a goal: the frame that works it out, the node that stands for it, and what it has done.
 #[derive(Drop)]
 pub(crate) struct Run<X: Cx, F: Drop> {
     pub frame: F,
@@ -55,6 +54,7 @@ pub(crate) struct Run<X: Cx, F: Drop> {
     pub finished_runs: usize,
     /// Whether a question was refused below the goal in one of those.
     pub met_overflow_before: bool,
+    /// What its finished candidates used of the goals on the stack.
     pub candidates: FinishedCandidates,
 }
 
