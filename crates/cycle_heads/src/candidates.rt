@@ -162,6 +162,19 @@ mod tests {
         assert_eq!(rt; candidate.get(StackDepth::new(1)), Some(inductive(5)));
         assert_eq!(rt; candidate.get(StackDepth::new(2)), Some(inductive(3)));
         assert_eq!(rt; candidate.get(StackDepth::new(3)), None);
+        let mut walked = Vec::new(rt.alloc());
+        for (head, usages) in candidate.iter() {
+            walked.push((*head, *usages))?;
+        }
+        assert_eq!(rt;
+            walked.as_slice(),
+            [
+                (StackDepth::new(0), inductive(4_294_967_295)),
+                (StackDepth::new(1), inductive(5)),
+                (StackDepth::new(2), inductive(3)),
+            ]
+            .as_slice()
+        );
         assert!(rt; sum.inductive >= 1);
         sum.ignore_usages(inductive(1));
         assert_eq!(rt; sum, inductive(4_294_967_295));

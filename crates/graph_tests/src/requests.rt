@@ -27,6 +27,15 @@ const THIRD: Goal = Goal(2);
 
 /// What a goal with this script comes to, which asks no other goal.
 fn evaluate(alloc: Global, lines: [Line; 5]) -> Result<Outcome, Fault<Goal, Outcome>> {
+    let (outcome, _) = evaluate_and_count(alloc, lines)?;
+    Ok(outcome)
+}
+
+/// The same, with the number of frames that it started.
+fn evaluate_and_count(
+    alloc: Global,
+    lines: [Line; 5],
+) -> Result<(Outcome, u64), Fault<Goal, Outcome>> {
     let scripts = Scripts {
         lines: [lines, NO_LINES, NO_LINES],
     };
@@ -34,7 +43,7 @@ fn evaluate(alloc: Global, lines: [Line; 5]) -> Result<Outcome, Fault<Goal, Outc
     let mut graph = SearchGraph::<Scripts>::new(alloc, 4);
     let mut starts = Starts::new();
     let answer = graph.evaluate_goal(&mut cache, FIRST, PathKind::Inductive, &mut starts)?;
-    Ok(answer.result)
+    Ok((answer.result, starts.started()))
 }
 
 #[test]
@@ -77,9 +86,25 @@ fn a_candidate_may_be_ignored_within_another(rt: HostRuntime) {
 
 #[test]
 fn a_goal_may_ask_itself_in_a_candidate_that_is_ignored(rt: HostRuntime) {
-    let asks_itself = Line::Evaluate(PathKind::Coinductive, FIRST);
-    let found = evaluate(rt.alloc(), [ENTER, asks_itself, FINISH, IGNORE_FIRST, END]);
-    assert_eq!(rt; found, Ok(Outcome::Yes));
+    for kind in [PathKind::Coinductive, PathKind::Inductive] {
+        let asks_itself = Line::Evaluate(kind, FIRST);
+        let ignored = [ENTER, asks_itself, FINISH, IGNORE_FIRST, END];
+        let found = evaluate_and_count(rt.alloc(), ignored);
+        assert_eq!(rt; found, Ok((Outcome::Yes, 1)), "a cycle that is {kind:?}");
+    }
+}
+
+#[test]
+fn a_goal_may_ask_itself_in_a_candidate_that_counts(rt: HostRuntime) {
+    for (kind, frames) in [(PathKind::Coinductive, 1), (PathKind::Inductive, 2)] {
+        let asks_itself = Line::Evaluate(kind, FIRST);
+        let found = evaluate_and_count(rt.alloc(), [ENTER, asks_itself, FINISH, END, END]);
+        assert_eq!(rt;
+            found,
+            Ok((Outcome::Yes, frames)),
+            "a cycle that is {kind:?}"
+        );
+    }
 }
 
 #[test]

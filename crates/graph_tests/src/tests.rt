@@ -2,8 +2,10 @@ use parts_tests::countdown::{Count, Countdown, Outcome, Starts};
 use search_graph::graph::SearchGraph;
 use search_parts::context::Fault;
 use search_parts::global_cache::GlobalCache;
+use search_parts::parts::{CandidateHeadUsages, HeadUsages, StackDepth};
 use search_parts::path::PathKind;
 use std::alloc::Global;
+use std::test::Fail;
 
 /// What a goal came to.
 #[derive(Clone, Copy, Debug, PartialEq, Eq)]
@@ -67,4 +69,35 @@ fn a_goal_that_is_asked_twice_starts_one_frame(rt: HostRuntime) {
         limits_met: false,
     };
     assert_eq!(rt; evaluated, Ok(wanted));
+}
+
+#[test]
+fn a_graph_without_goals_has_no_candidates(rt: HostRuntime) -> Result<(), Fail> {
+    let cx = Countdown { asks_twice: false };
+    let mut cache = GlobalCache::<Countdown>::new(rt.alloc(), cx);
+    let mut graph = SearchGraph::<Countdown>::new(rt.alloc(), 4);
+    let nothing = CandidateHeadUsages::new(rt.alloc());
+    assert_eq!(rt; graph.ignore_candidate_head_usages(nothing), Ok(()));
+
+    let mut recorded = CandidateHeadUsages::new(rt.alloc());
+    let inductive = HeadUsages {
+        inductive: 1,
+        ..HeadUsages::default()
+    };
+    recorded.note_usages(StackDepth::new(0), inductive)?;
+    let ignored = graph.ignore_candidate_head_usages(recorded);
+    assert_eq!(rt; ignored, Err(Fault::Protocol(5)));
+    let entered = graph.enter_single_candidate();
+    assert_eq!(rt; entered, Err(Fault::Protocol(5)));
+    let finished = graph.finish_single_candidate();
+    assert_eq!(rt; finished.err(), Some(Fault::Protocol(5)));
+    assert!(rt; graph.is_empty());
+    assert_eq!(rt; graph.debug_current_depth(), 0);
+
+    let mut starts = Starts::new();
+    let answer = graph.evaluate_goal(&mut cache, Count(2), PathKind::Inductive, &mut starts)?;
+    assert_eq!(rt; answer.result, Outcome::Yes);
+    assert!(rt; answer.node.is_some());
+    assert_eq!(rt; starts.started(), 3);
+    Ok(())
 }

@@ -174,7 +174,21 @@ ask 4 A
 gives
 i:A yes: begin noted yes noted
  c:P yes: begin noted yes noted noted maybe noted
-  c:A yes: 2 up";
+  c:A yes: 2 up
+
+rule ~A = i:A
+rule A =
+ask 4 A
+gives
+i:A yes: begin noted no noted noted noted noted
+
+rule A = i:B
+rule ~B = i:A
+rule B =
+ask 4 A
+gives
+i:A yes: begin noted yes noted
+ i:B yes: begin noted no noted noted noted noted";
 
 #[test]
 fn answers_name_their_graphs(rt: HostRuntime) -> Result<(), Fail> {
@@ -189,7 +203,7 @@ fn answers_name_their_graphs(rt: HostRuntime) -> Result<(), Fail> {
         assert_eq!(rt; drawn.as_slice(), graph.as_bytes(), "the graph of {text}");
         count = count.saturating_add(1);
     }
-    assert_eq!(rt; count, 20);
+    assert_eq!(rt; count, 22);
     Ok(())
 }
 

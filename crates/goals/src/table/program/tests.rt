@@ -52,6 +52,21 @@ fn answers_and_counts(rt: HostRuntime) {
             "rule A = i:B\nrule B = i:C\nrule C =\nask 0 A\nask 1 A\nask 2 A\nask 1 A\nask 0 A\nask 5 A\nask 1 B\nask 0 B\n",
             "A maybe 1\nA maybe 2\nA yes 3\nA maybe 0\nA maybe 0\nA yes 0\nB yes 0\nB maybe 0\n",
         ),
+        // Where an unmarked candidate holds, no cycle of a marked one causes a further run.
+        ("rule ~A = i:A\nrule A =\nask 4 A\n", "A yes 1\n"),
+        (
+            "rule A = i:B\nrule ~B = i:A\nrule B =\nask 4 A\n",
+            "A yes 2\n",
+        ),
+        (
+            "rule A = i:B c:A\nrule A = i:A\nrule ~B = i:A\nrule B =\nask 4 A\n",
+            "A yes 4\n",
+        ),
+        // Where none holds, the marked ones count.
+        (
+            "rule ~A = i:A\nrule ~A = c:A\nrule A = i:Q\nask 4 A\n",
+            "A yes 3\n",
+        ),
         // All rules count for every question, wherever they stand.
         ("ask 1 A\nrule A = i:B\nrule B =\n", "A yes 2\n"),
         (

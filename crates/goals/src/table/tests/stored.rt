@@ -72,6 +72,38 @@ stores
 A yes from 2
 B yes from 2";
 
+/// The same form: a goal that asked a goal above it in a candidate whose usages are ignored still rests on that goal, and
+/// is not stored. A goal that asked itself there alone is.
+const IGNORED: &str = "\
+rule ~A = i:A
+rule A =
+ask 4 A
+gives
+A yes 1
+stores
+A yes from 1
+
+rule A = i:B
+rule ~B = i:A
+rule B =
+ask 4 A
+gives
+A yes 2
+stores
+A yes from 2
+
+rule A = i:B
+rule ~B = i:A
+rule B =
+ask 4 A
+ask 4 B
+gives
+A yes 2
+B yes 2
+stores
+A yes from 2
+B yes from 2";
+
 /// The same form: a result that met overflow is used again at the same depth alone, and another one needs its depth.
 const DEPTHS: &str = "\
 rule A = i:B
@@ -246,6 +278,7 @@ fn a_goal_that_is_asked_again_starts_no_frame(rt: HostRuntime) -> Result<(), Fai
 #[test]
 fn results_that_rest_on_goals_above_are_not_stored(rt: HostRuntime) -> Result<(), Fail> {
     assert_eq!(rt; first_wrong(rt.alloc(), CYCLES)?, None);
+    assert_eq!(rt; first_wrong(rt.alloc(), IGNORED)?, None);
     Ok(())
 }
 

@@ -124,6 +124,71 @@ ask 4 A
 gives
 A yes 5";
 
+/// The same form: where an unmarked candidate holds, the goal rests on no cycle of its marked candidates, which causes
+/// no further run then. Where none holds, the marked candidates count, and so do their cycles.
+const IGNORED: &str = "\
+rule ~A = i:A
+rule A =
+ask 4 A
+gives
+A yes 1
+
+rule ~A = i:A
+rule ~A = c:A
+rule A = i:Q
+rule A =
+ask 4 A
+gives
+A yes 2
+
+rule ~A = i:A
+rule ~A = c:A
+rule A = i:Q
+ask 4 A
+gives
+A yes 3
+
+rule A = i:B
+rule ~B = i:A
+rule B =
+ask 4 A
+gives
+A yes 2
+
+rule A = i:B
+rule A =
+rule ~B = i:A
+rule B =
+ask 4 A
+gives
+A yes 2
+
+rule A = i:B
+rule A =
+rule ~B = i:A
+rule B = i:Q
+ask 4 A
+gives
+A yes 5";
+
+/// The same form: of what two candidates used, only what the marked one used is given back.
+const IGNORED_IN_PART: &str = "\
+rule A = i:B c:A
+rule A = i:A
+rule ~B = i:A
+rule B =
+ask 4 A
+gives
+A yes 4";
+
+#[test]
+fn cycles_of_candidates_that_count_cause_runs(rt: HostRuntime) -> Result<(), Fail> {
+    assert_eq!(rt; first_wrong::<8, 1>(rt.alloc(), IGNORED)?, None);
+    assert_eq!(rt; first_wrong::<8, 0>(rt.alloc(), IGNORED)?, None);
+    assert_eq!(rt; first_wrong::<8, 0>(rt.alloc(), IGNORED_IN_PART)?, None);
+    Ok(())
+}
+
 #[test]
 fn cycles_are_run_until_they_are_stable(rt: HostRuntime) -> Result<(), Fail> {
     assert_eq!(rt; first_wrong::<8, 1>(rt.alloc(), CYCLES)?, None);
