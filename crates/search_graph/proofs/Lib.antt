@@ -36,3 +36,4 @@ pub mod DoneGoals
 pub mod DoneRuns
 pub mod Causes
 pub mod ListAnswers
+pub mod HeadOrder

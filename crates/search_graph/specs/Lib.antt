@@ -18,3 +18,4 @@ pub mod Progress
 pub mod Runs
 pub mod RunEnds
 pub mod Lists
+pub mod KeptShapes
