@@ -37,3 +37,4 @@ pub mod DoneRuns
 pub mod Causes
 pub mod ListAnswers
 pub mod HeadOrder
+pub mod RebasedShapes
