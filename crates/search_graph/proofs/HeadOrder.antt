@@ -140,3 +140,9 @@ left_ascends [] asc = tt
 left_ascends (e ∷ []) asc = tt
 left_ascends (e ∷ f ∷ rest) asc =
     subst Ascends (sym (but_later e f rest)) ((λ depth some. asc.0 depth (left_within (f ∷ rest) depth some)), left_ascends (f ∷ rest) asc.1)
+
+-- only where there are no heads, none is the highest one
+pub no_highest : (heads : Heads) → highest heads ≡ None → heads ≡ []
+no_highest [] is = refl
+no_highest (e ∷ []) is = absurd (let wrong : Some e ≡ None = is in cc)
+no_highest (e ∷ f ∷ rest) is = absurd (let none : f ∷ rest ≡ [] = no_highest (f ∷ rest) (sym (highest_later e f rest) ∙ is) in cc)

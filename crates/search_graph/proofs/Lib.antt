@@ -38,3 +38,4 @@ pub mod Causes
 pub mod ListAnswers
 pub mod HeadOrder
 pub mod RebasedShapes
+pub mod RebasedPaths
