@@ -39,3 +39,4 @@ pub mod ListAnswers
 pub mod HeadOrder
 pub mod RebasedShapes
 pub mod RebasedPaths
+pub mod RebasedAnswers
