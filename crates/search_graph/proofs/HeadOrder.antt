@@ -1,5 +1,5 @@
 -- Heads whose depths rise: the highest one, and what is left without it.
-use Rattle.std.proofs.Common.{◌≡◌, ◌≢◌, ℕ, suc, ◌-◌, ◌<◌, ◌≤◌, [], ◌∷◌, length, take, Option, Some, None, IsSome, cond, slice_get, refl, sym, ap, ◌∙◌, subst, inl, inr, arith}
+use Rattle.std.proofs.Common.{◌≡◌, ◌≢◌, ℕ, suc, ◌-◌, ◌<◌, ◌≤◌, [], ◌∷◌, length, take, Some, None, IsSome, cond, slice_get, refl, sym, ap, ◌∙◌, subst, inl, inr, arith}
 use Rattle.std.proofs.lemmas.Bool.{cases_eq, cases_lt, false≢true}
 use Rattle.std.proofs.lemmas.Bool.Decides.{nat_tests}
 use Rattle.std.proofs.lemmas.Map.Keys.{sorted_head}
@@ -11,7 +11,7 @@ use Rattle.std.specs.Ordering.{nat_cmp}
 use Rattle.cycle_heads.specs.declared.depth.StackDepth.{StackDepth}
 use Rattle.cycle_heads.specs.declared.heads.CycleHead.{CycleHead}
 use Rattle.cycle_heads.specs.Heads.{Heads, at_depth, depth_cmp, highest, IsRising}
-use Rattle.cycle_heads.proofs.HeadLists.{at_depth-first, at_depth-rest, at_depth-insert_same, at_depth-insert_other, placed_first, placed_here, placed_later, rising_later}
+use Rattle.cycle_heads.proofs.HeadLists.{at_depth-first, at_depth-rest, at_depth-insert_other, placed_first, placed_here, placed_later, rising_later}
 use Rattle.search_parts.specs.Rebasing.{but_highest}
 
 -- ---- what the first head is, and the others

@@ -1,12 +1,15 @@
 -- What the rule of rebasing leaves of a kept answer is what the theory of open graphs allows once the newest goal is done.
-use Rattle.std.proofs.Common.{◌≡◌, ◌≢◌, ℕ, max, ◌<◌, ◌≤◌, Bool, true, false, IsTrue, if◌then◌else◌, List, [], length, map, reverse, Option, Some, None, IsSome, All, refl, sym, ap, ◌∙◌, subst, inl, inr, arith, ne_eqb}
+use Rattle.std.proofs.Common.{◌≡◌, ◌≢◌, ℕ, max, ◌<◌, ◌≤◌, Bool, true, false, IsTrue, if◌then◌else◌, List, [], ◌∷◌, length, map, reverse, Option, Some, None, IsSome, All, refl, sym, ap, ◌∙◌, subst, inl, inr, arith, ne_eqb}
 use Rattle.std.specs.Option.{option_map, option_and_then}
 use Rattle.std.proofs.lemmas.Bool.{cases_eq, false≢true}
 use Rattle.std.proofs.lemmas.List.{length-map, length-reverse}
+use Rattle.std.proofs.lemmas.List.Elements.{All-head, All-tail}
 use Rattle.open_graphs.specs.Graph as theory
 use Rattle.open_graphs.specs.Stack.{Entry, path_kind}
+use Rattle.open_graphs.specs.Use.{Stored, Use}
 use Rattle.open_graphs.specs.State.{stack_of}
 use Rattle.open_graphs.specs.Rebased.{AreDepths, HasResult, InsertsEmpty, InsertsHeads, IsTakenOut, IsTrueReason, IsRebasable, IsLeftHead, RebasedBy, Stays, NotNeeded, Needed}
+use Rattle.open_graphs.proofs.Rebased.{rebased_keeps_stored}
 use Rattle.cycle_heads.specs.declared.depth.StackDepth.{StackDepth}
 use Rattle.cycle_heads.specs.declared.path.PathsToNested.{PathsToNested}
 use Rattle.cycle_heads.specs.declared.heads.CycleHead.{CycleHead}
@@ -20,7 +23,7 @@ use Rattle.cycle_heads.proofs.PathRanks.{greater_rank}
 use Rattle.search_parts.specs.declared.parts.stack.StackEntry.{StackEntry}
 use Rattle.search_parts.specs.declared.parts.provisional_cache.ProvisionalCacheEntry.{ProvisionalCacheEntry}
 use Rattle.search_parts.specs.declared.parts.provisional_cache.RebaseReason.{RebaseReason}
-use Rattle.search_parts.specs.Rebasing.{but_highest, from_head, from_new_head, keeps_kinds, rebased, rebased_used, settled, with_used, with_unused}
+use Rattle.search_parts.specs.Rebasing.{CanBeRebased, but_highest, from_head, from_new_head, keeps_kinds, rebased, rebased_used, settled, with_used, with_unused}
 use Rattle.search_parts.specs.Shapes.{verdict_of}
 use Rattle.search_parts.proofs.RebasedEntries.{is_used, is_unused}
 use Rattle.search_graph.specs.declared.graph.open_goals.Run.{Run}
@@ -29,9 +32,9 @@ use Rattle.search_graph.specs.KeptShapes.{depths_of, highest_depth, kept_shape, 
 use Rattle.search_graph.specs.Runs.{run_of, runs_of}
 use Rattle.search_graph.specs.Tallies.{LieBelow}
 use Rattle.search_graph.proofs.CycleAnswers.{path_kind_is}
-use Rattle.search_graph.proofs.HeadOrder.{Ascends, ascends, at_most_highest, highest_there, no_highest}
+use Rattle.search_graph.proofs.HeadOrder.{Ascends, ascends, at_later, at_most_highest, highest_there, no_highest}
 use Rattle.search_graph.proofs.Justified.{stack_length}
-use Rattle.search_graph.proofs.RebasedPaths.{IsSettled, is_settled, is_zero, not_zero, passes_path_test}
+use Rattle.search_graph.proofs.RebasedPaths.{is_settled, is_zero, not_zero, passes_path_test}
 use Rattle.search_graph.proofs.RebasedShapes.{inserts_empty, inserts_heads, left_there, new_ascends, popped_head, there_left, with_all}
 
 -- ---- heads by depth
@@ -180,3 +183,76 @@ module _ {X I R A T : Type 0} (is_yes is_no : R → Bool) (stack : List (StackEn
           at : (o : Option (StackDepth × CycleHead)) → highest entry.heads ≡ o → IsRebasedBy after
           at None none = absurd (some (no_highest entry.heads none))
           at (Some head) top_is = at_head head (ascends entry.heads rising) top_is definite is
+
+-- ---- when the answer may be rebased
+
+module _ {X I R A T : Type 0} (is_yes is_no : R → Bool) (stack : List (StackEntry X I R A T)) (done : StackEntry X I R A T) (below : List Entry) (top : Entry) (many : length stack ≡ length below) (lower : LieBelow (length stack) done.state.heads) where
+  -- a depth at which a list has a head is that of one of its elements
+  within_all : (limit : ℕ) (heads : Heads) → All (λ head. head.0.0 ≤ limit) heads → (depth : StackDepth) → IsSome (at_depth heads depth) → depth.0 ≤ limit
+  within_all limit [] all depth some = absurd (false≢true some)
+  within_all limit (e ∷ es) all depth some = elim (cases_eq depth.0 e.0.0) [
+    | inl same ↦ let first : e.0.0 ≤ limit = All-head (λ (h : StackDepth × CycleHead). h.0.0 ≤ limit) e es all in omega (arith, same, first)
+    | inr other ↦ within_all limit es (All-tail (λ (h : StackDepth × CycleHead). h.0.0 ≤ limit) e es all) depth (subst IsSome (at_later e es depth other) some)
+  ]
+
+  -- where the reason is true, an answer with heads that rise, on the stack or at the place above it, can be rebased in the theory's words
+  pub rebasable : (reason : RebaseReason X I R A T) (verdict : theory.Verdict) (entry : ProvisionalCacheEntry X I R A T) → CanBeRebased (length stack) entry → IsRising entry.heads → IsTrueReason (reason_shape reason) verdict top
+      → IsRebasable (reason_shape reason) below top (depths_of entry.heads) (depths_of done.state.heads) verdict (heads_shape done.state.heads) (kept_shape is_yes is_no entry)
+  rebasable reason verdict entry can rising is_true = at (highest entry.heads) refl
+    where
+      at : (o : Option (StackDepth × CycleHead)) → highest entry.heads ≡ o → IsRebasable (reason_shape reason) below top (depths_of entry.heads) (depths_of done.state.heads) verdict (heads_shape done.state.heads) (kept_shape is_yes is_no entry)
+      at None none = absurd (can.some (no_highest entry.heads none))
+      at (Some head) top_is =
+          let asc = ascends entry.heads rising in
+          let depth_is = highest_is entry.heads head top_is in
+          let there : head.0.0 ≤ length stack = within_all (length stack) entry.heads can.within head.0 (subst IsSome (sym (highest_there entry.heads head asc top_is)) refl) in
+          record {
+            is_true = is_true;
+            own_within = λ depth own. subst (λ n. depth ≤ n) (sym depth_is) (at_most_highest entry.heads head asc top_is (record { 0 = depth }) own);
+            top_depths = are_depths done.state.heads;
+            top_within = λ depth own. subst (λ n. depth < n) many (lower (record { 0 = depth }) own);
+            on_stack = omega (arith, depth_is, there, many);
+          }
+
+-- ---- the goals under evaluation
+
+-- The rule for the goals of the driver: what is left of an answer when the newest goal is done and the others stay on the stack.
+module _ {X F I R A T : Type 0} (is_yes is_no : R → Bool) (goal : StackEntry X I R A T × Run X F I R A T) (goals : List (StackEntry X I R A T × Run X F I R A T)) where
+  -- the goals below as the stack that the rule takes, and as the theory has them
+  abbrev pub real_below : List (StackEntry X I R A T)
+  real_below = reverse (map (λ s. s.0) goals)
+
+  abbrev pub theory_below : List Entry
+  theory_below = stack_of (frames_of is_yes is_no (runs_of goals))
+
+  pub same_length : length real_below ≡ length theory_below
+  same_length = length-reverse (map (λ s. s.0) goals) ∙ length-map goals (λ s. s.0) ∙ sym (stack_length is_yes is_no (runs_of goals) ∙ length-map goals run_of)
+
+  pub goal_rebased : LieBelow (length goals) goal.0.state.heads → (propagated : A → R) (overflow : R) → ((info : A) → verdict_of is_yes is_no (propagated info) ≡ theory.Neither) → verdict_of is_yes is_no overflow ≡ theory.Neither
+      → (reason : RebaseReason X I R A T) (entry after : ProvisionalCacheEntry X I R A T) → entry.heads ≢ [] → IsRising entry.heads → verdict_of is_yes is_no after.result ≢ theory.Neither
+      → rebased real_below goal.0 (settled propagated overflow reason) entry ≡ Some after
+      → RebasedBy (reason_shape reason) theory_below (frame_of is_yes is_no (run_of goal)).entry (depths_of entry.heads) (depths_of goal.0.state.heads) (heads_shape goal.0.state.heads) (kept_shape is_yes is_no entry) (kept_shape is_yes is_no after)
+  goal_rebased lower propagated overflow unsure overflow_unsure reason entry after =
+      rebased_shape is_yes is_no real_below goal.0 theory_below (frame_of is_yes is_no (run_of goal)).entry same_length
+      (λ depth. path_kind_is is_yes is_no goal.0.step_kind_from_parent depth goals)
+      (subst (λ n. LieBelow n goal.0.state.heads) (sym (length-reverse (map (λ s. s.0) goals) ∙ length-map goals (λ s. s.0))) lower)
+      propagated overflow unsure overflow_unsure reason entry after
+
+  -- the answer is stored over these entries
+  abbrev pub IsStored : List theory.Node → List Entry → ProvisionalCacheEntry X I R A T → Type 0
+  IsStored nodes stack entry = Stored nodes (kept_shape is_yes is_no entry).verdict stack (kept_shape is_yes is_no entry).highest (kept_shape is_yes is_no entry).path (kept_shape is_yes is_no entry).node (kept_shape is_yes is_no entry).heads
+
+  -- and it stays stored without the newest goal, where the reason is true of that goal's verdict, and its own answer may be used
+  pub goal_keeps_stored : LieBelow (length goals) goal.0.state.heads → (propagated : A → R) (overflow : R) → ((info : A) → verdict_of is_yes is_no (propagated info) ≡ theory.Neither) → verdict_of is_yes is_no overflow ≡ theory.Neither
+      → (nodes : List theory.Node) (reason : RebaseReason X I R A T) (verdict : theory.Verdict) (entry after : ProvisionalCacheEntry X I R A T)
+      → (verdict ≢ theory.Neither → Use nodes verdict theory_below (path_kind theory_below (frame_of is_yes is_no (run_of goal)).entry.step) 0 (frame_of is_yes is_no (run_of goal)).entry.node (heads_shape goal.0.state.heads))
+      → IsTrueReason (reason_shape reason) verdict (frame_of is_yes is_no (run_of goal)).entry
+      → CanBeRebased (length real_below) entry → IsRising entry.heads → verdict_of is_yes is_no after.result ≢ theory.Neither
+      → rebased real_below goal.0 (settled propagated overflow reason) entry ≡ Some after
+      → IsStored nodes (stack_of (frames_of is_yes is_no (runs_of (goal ∷ goals)))) entry → IsStored nodes theory_below after
+  goal_keeps_stored lower propagated overflow unsure overflow_unsure nodes reason verdict entry after use_there is_true can rising definite is =
+      let top = (frame_of is_yes is_no (run_of goal)).entry in
+      let lower_there = subst (λ n. LieBelow n goal.0.state.heads) (sym (length-reverse (map (λ s. s.0) goals) ∙ length-map goals (λ s. s.0))) lower in
+      rebased_keeps_stored nodes (reason_shape reason) theory_below top (depths_of entry.heads) (depths_of goal.0.state.heads) verdict (heads_shape goal.0.state.heads) (kept_shape is_yes is_no entry) (kept_shape is_yes is_no after)
+      use_there (rebasable is_yes is_no real_below goal.0 theory_below top same_length lower_there reason verdict entry can rising is_true) definite
+      (goal_rebased lower propagated overflow unsure overflow_unsure reason entry after can.some rising definite is)

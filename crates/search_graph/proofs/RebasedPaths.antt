@@ -11,13 +11,12 @@ use Rattle.open_graphs.specs.Rebased.{PassesPathTest, IsZero, IsSingle, HasResul
 use Rattle.cycle_heads.specs.declared.depth.StackDepth.{StackDepth}
 use Rattle.cycle_heads.specs.declared.path.PathKind.{PathKind}
 use Rattle.cycle_heads.specs.declared.path.PathKind.TheVariants.{Inductive, Unknown, Coinductive, ForcedAmbiguity}
-use Rattle.cycle_heads.specs.declared.path.PathsToNested.{PathsToNested}
 use Rattle.cycle_heads.specs.declared.heads.CycleHead.{CycleHead}
 use Rattle.cycle_heads.specs.declared.usages.HeadUsages.{HeadUsages}
 use Rattle.cycle_heads.specs.Heads.{Heads, at_depth}
-use Rattle.cycle_heads.specs.HeadShapes.{has_rank, count_at, head_shape, heads_shape}
+use Rattle.cycle_heads.specs.HeadShapes.{count_at, head_shape, heads_shape}
 use Rattle.cycle_heads.specs.Path.{rank_of, greater_kind}
-use Rattle.cycle_heads.specs.Paths.{has_kind, kinds_in}
+use Rattle.cycle_heads.specs.Paths.{kinds_in}
 use Rattle.cycle_heads.specs.Usages.{count_of, has_usages, other_usages}
 use Rattle.cycle_heads.proofs.Counts.{none_of_others, used_by_test}
 use Rattle.cycle_heads.proofs.HeadShapes.{count_at-of, path_of_rank}

@@ -1,5 +1,5 @@
 -- The heads of a rebased answer in the theory's words: those of the goal that is done are inserted, and its own place is taken out.
-use Rattle.std.proofs.Common.{◌≡◌, ◌≢◌, ℕ, zero, suc, ◌+◌, ◌-◌, ◌^◌, min, max, ◌<◌, ◌≤◌, Bool, true, false, IsTrue, ◌||◌, [], ◌∷◌, fold, Option, Some, None, IsSome, option_map, refl, sym, ap, ◌∙◌, subst, ◌⊎◌, inl, inr, arith}
+use Rattle.std.proofs.Common.{◌≡◌, ◌≢◌, ℕ, zero, suc, ◌+◌, ◌-◌, ◌^◌, min, ◌<◌, Bool, true, false, IsTrue, ◌||◌, [], ◌∷◌, fold, Option, Some, None, IsSome, option_map, refl, sym, ap, ◌∙◌, subst, ◌⊎◌, inl, inr, arith}
 use Rattle.std.proofs.lemmas.Bool.{cases_eq, false≢true}
 use Rattle.open_graphs.specs.Use as theory
 use Rattle.open_graphs.specs.Rebased.{IsInserted, IsJoined, InsertsHeads, InsertsEmpty, IsLeftHead}
@@ -23,7 +23,7 @@ use Rattle.cycle_heads.proofs.PathRanks.{greater_rank}
 use Rattle.search_parts.specs.Rebasing.{but_highest, with_unused, with_used}
 use Rattle.search_graph.specs.KeptShapes.{depths_of}
 use Rattle.search_graph.specs.Tallies.{LieBelow}
-use Rattle.search_graph.proofs.HeadOrder.{Ascends, at_here, at_later, at_most_highest, highest_gone, highest_there, insert_ascends, left_ascends, others_stay, same_depth}
+use Rattle.search_graph.proofs.HeadOrder.{Ascends, at_here, at_later, highest_gone, highest_there, insert_ascends, left_ascends, others_stay, same_depth}
 
 -- ---- one head that is joined
 
