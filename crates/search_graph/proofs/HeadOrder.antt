@@ -1,9 +1,10 @@
 -- Heads whose depths rise: the highest one, and what is left without it.
-use Rattle.std.proofs.Common.{◌≡◌, ◌≢◌, ℕ, suc, ◌-◌, ◌<◌, ◌≤◌, [], ◌∷◌, length, take, Some, None, IsSome, cond, slice_get, refl, sym, ap, ◌∙◌, subst, inl, inr, arith}
+use Rattle.std.proofs.Common.{◌≡◌, ◌≢◌, ℕ, suc, ◌-◌, ◌<◌, ◌≤◌, [], ◌∷◌, length, take, Some, None, IsSome, cond, slice_get, refl, sym, ap, ◌∙◌, subst, inl, inr, arith, lt-ltb}
 use Rattle.std.proofs.lemmas.Bool.{cases_eq, cases_lt, false≢true}
 use Rattle.std.proofs.lemmas.Bool.Decides.{nat_tests}
 use Rattle.std.proofs.lemmas.Map.Keys.{sorted_head}
 use Rattle.std.specs.List.{AllByRecursion}
+use Rattle.std.specs.List.Sorted.{IsStrictlySortedBy}
 use Rattle.std.specs.declared.cmp.Ordering.TheVariants.{Less}
 use Rattle.std.specs.BTreeMap.{insert_entry, is_at}
 use Rattle.std.specs.Map.{keys_of}
@@ -146,3 +147,27 @@ pub no_highest : (heads : Heads) → highest heads ≡ None → heads ≡ []
 no_highest [] is = refl
 no_highest (e ∷ []) is = absurd (let wrong : Some e ≡ None = is in cc)
 no_highest (e ∷ f ∷ rest) is = absurd (let none : f ∷ rest ≡ [] = no_highest (f ∷ rest) (sym (highest_later e f rest) ∙ is) in cc)
+
+-- ---- ascending heads rise
+
+all_less : (least : StackDepth) (es : Heads) → ((depth : StackDepth) → IsSome (at_depth es depth) → least.0 < depth.0) → AllByRecursion (λ other. depth_cmp least other ≡ Less) (keys_of es)
+all_less least [] above = tt
+all_less least (e ∷ es) above = (
+  (let less = above e.0 (subst IsSome (sym (at_here e es e.0 refl)) refl) in rw (lt-ltb least.0 e.0.0 less) refl),
+  all_less least es (λ depth some. above depth (elim (cases_eq depth.0 e.0.0) [
+    | inl same ↦ subst IsSome (sym (at_here e es depth same)) refl
+    | inr other ↦ subst IsSome (sym (at_later e es depth other)) some
+  ])),
+)
+
+rising_first : (e : StackDepth × CycleHead) (es : Heads) → AllByRecursion (λ other. depth_cmp e.0 other ≡ Less) (keys_of es) → IsRising es → IsRising (e ∷ es)
+unfolding IsStrictlySortedBy
+rising_first e es below rising = (below, rising)
+
+no_heads_rise : (none : Heads) → none ≡ [] → IsRising none
+unfolding IsStrictlySortedBy
+no_heads_rise none is = subst IsRising (sym is) tt
+
+pub rises : (heads : Heads) → Ascends heads → IsRising heads
+rises [] asc = no_heads_rise [] refl
+rises (e ∷ es) asc = rising_first e es (all_less e.0 es asc.0) (rises es asc.1)

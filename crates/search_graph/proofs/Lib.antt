@@ -40,3 +40,4 @@ pub mod HeadOrder
 pub mod RebasedShapes
 pub mod RebasedPaths
 pub mod RebasedAnswers
+pub mod RebasedRising
