@@ -37,3 +37,8 @@ pub mod DoneGoals
 pub mod DoneRuns
 pub mod Causes
 pub mod ListAnswers
+pub mod HeadOrder
+pub mod RebasedShapes
+pub mod RebasedPaths
+pub mod RebasedAnswers
+pub mod RebasedRising

@@ -19,3 +19,4 @@ pub mod Progress
 pub mod Runs
 pub mod RunEnds
 pub mod Lists
+pub mod KeptShapes

@@ -1,0 +1,258 @@
+-- What the rule of rebasing leaves of a kept answer is what the theory of open graphs allows once the newest goal is done.
+use Rattle.std.proofs.Common.{◌≡◌, ◌≢◌, ℕ, max, ◌<◌, ◌≤◌, Bool, true, false, IsTrue, if◌then◌else◌, List, [], ◌∷◌, length, map, reverse, Option, Some, None, IsSome, All, refl, sym, ap, ◌∙◌, subst, inl, inr, arith, ne_eqb}
+use Rattle.std.specs.Option.{option_map, option_and_then}
+use Rattle.std.proofs.lemmas.Bool.{cases_eq, false≢true}
+use Rattle.std.proofs.lemmas.List.{length-map, length-reverse}
+use Rattle.std.proofs.lemmas.List.Elements.{All-head, All-tail}
+use Rattle.open_graphs.specs.Graph as theory
+use Rattle.open_graphs.specs.Stack.{Entry, path_kind}
+use Rattle.open_graphs.specs.Use.{Stored, Use}
+use Rattle.open_graphs.specs.State.{stack_of}
+use Rattle.open_graphs.specs.Rebased.{AreDepths, HasResult, InsertsEmpty, InsertsHeads, IsTakenOut, IsTrueReason, IsRebasable, IsLeftHead, RebasedBy, Stays, NotNeeded, Needed}
+use Rattle.open_graphs.proofs.Rebased.{rebased_keeps_stored}
+use Rattle.cycle_heads.specs.declared.depth.StackDepth.{StackDepth}
+use Rattle.cycle_heads.specs.declared.path.PathsToNested.{PathsToNested}
+use Rattle.cycle_heads.specs.declared.heads.CycleHead.{CycleHead}
+use Rattle.cycle_heads.specs.declared.usages.HeadUsages.{HeadUsages}
+use Rattle.cycle_heads.specs.Heads.{Heads, at_depth, highest, IsRising}
+use Rattle.cycle_heads.specs.HeadShapes.{head_shape, heads_shape}
+use Rattle.cycle_heads.specs.Path.{rank_of, greater_kind}
+use Rattle.cycle_heads.specs.Paths.{extended_by_each, path_of_no_step}
+use Rattle.cycle_heads.specs.Usages.{has_usages, no_usages}
+use Rattle.cycle_heads.proofs.PathRanks.{greater_rank}
+use Rattle.search_parts.specs.declared.parts.stack.StackEntry.{StackEntry}
+use Rattle.search_parts.specs.declared.parts.provisional_cache.ProvisionalCacheEntry.{ProvisionalCacheEntry}
+use Rattle.search_parts.specs.declared.parts.provisional_cache.RebaseReason.{RebaseReason}
+use Rattle.search_parts.specs.Rebasing.{CanBeRebased, but_highest, from_head, from_new_head, keeps_kinds, rebased, rebased_used, settled, with_used, with_unused}
+use Rattle.search_parts.specs.Shapes.{verdict_of}
+use Rattle.search_parts.proofs.RebasedEntries.{is_used, is_unused}
+use Rattle.search_graph.specs.declared.graph.open_goals.Run.{Run}
+use Rattle.search_graph.specs.Justified.{frame_of, frames_of}
+use Rattle.search_graph.specs.KeptShapes.{depths_of, highest_depth, kept_shape, reason_shape}
+use Rattle.search_graph.specs.Runs.{run_of, runs_of}
+use Rattle.search_graph.specs.Tallies.{LieBelow}
+use Rattle.search_graph.proofs.CycleAnswers.{path_kind_is}
+use Rattle.search_graph.proofs.HeadOrder.{Ascends, ascends, at_later, at_most_highest, highest_there, no_highest}
+use Rattle.search_graph.proofs.Justified.{stack_length}
+use Rattle.search_graph.proofs.RebasedPaths.{is_settled, is_zero, not_zero, passes_path_test}
+use Rattle.search_graph.proofs.RebasedShapes.{inserts_empty, inserts_heads, left_there, new_ascends, popped_head, there_left, with_all}
+
+-- ---- heads by depth
+
+head_used : (o : Option CycleHead) (cycle : ℕ) → (head_shape o).usages cycle ≢ 0 → IsSome o
+head_used None cycle some = absurd (some refl)
+head_used (Some head) cycle some = refl
+
+head_reached : (o : Option CycleHead) (path : ℕ) → IsTrue ((head_shape o).paths path) → IsSome o
+head_reached None path has = absurd (false≢true has)
+head_reached (Some head) path has = refl
+
+-- the depths at which heads are recorded are those of the heads in the theory's words
+pub are_depths : (heads : Heads) → AreDepths (depths_of heads) (heads_shape heads)
+are_depths heads = record {
+  paths = λ depth path has. head_reached (at_depth heads (record { 0 = depth })) path has;
+  usages = λ depth cycle some. head_used (at_depth heads (record { 0 = depth })) cycle some;
+}
+
+pub highest_is : (heads : Heads) (top : StackDepth × CycleHead) → highest heads ≡ Some top → highest_depth heads ≡ top.0.0
+highest_is heads top is = ap (λ (o : Option (StackDepth × CycleHead)). elim o [ None ↦ 0 | Some head ↦ head.0.0 ]) is
+
+-- ---- the answer from its new highest head
+
+module _ {X I R A T : Type 0} (is_yes is_no : R → Bool) (stack : List (StackEntry X I R A T)) (done : StackEntry X I R A T) where
+  -- an answer with the path from its highest head
+  record HasNewHead (before after : ProvisionalCacheEntry X I R A T) : Type 0 where
+    head : StackDepth × CycleHead
+    is_highest : highest after.heads ≡ Some head
+    same_heads : after.heads ≡ before.heads
+    same_result : after.result ≡ before.result
+    same_node : after.node ≡ before.node
+    path : after.path_from_head ≡ greater_kind before.path_from_head (from_head stack done head.0.0)
+
+  new_head : (before after : ProvisionalCacheEntry X I R A T) → from_new_head stack done before ≡ Some after → HasNewHead before after
+  new_head before after is = at (highest before.heads) refl is
+    where
+      at : (o : Option (StackDepth × CycleHead)) → highest before.heads ≡ o
+          → option_map (λ (head : StackDepth × CycleHead). record before { path_from_head = greater_kind before.path_from_head (from_head stack done head.0.0) }) o ≡ Some after → HasNewHead before after
+      at None top is = absurd cc
+      at (Some head) top is =
+          let same : record before { path_from_head = greater_kind before.path_from_head (from_head stack done head.0.0) } ≡ after = cc in
+          subst (HasNewHead before) same (record { head = head; is_highest = top; same_heads = refl; same_result = refl; same_node = refl; path = refl })
+
+  module _ (below : List Entry) (top : Entry) (many : length stack ≡ length below) (kinds : (depth : ℕ) → rank_of (from_head stack done depth) ≡ path_kind below top.step depth) (lower : LieBelow (length stack) done.state.heads) where
+    lower_there : LieBelow (length below) done.state.heads
+    lower_there = subst (λ n. LieBelow n done.state.heads) many lower
+
+    -- ---- the place of the goal that is done is taken out
+
+    module _ (paths : CycleHead → PathsToNested) (usages : CycleHead → HeadUsages) (entry middle after : ProvisionalCacheEntry X I R A T) (head : StackDepth × CycleHead) (asc : Ascends entry.heads) (top_is : highest entry.heads ≡ Some head) (at : head.0.0 ≡ length below) where
+      taken_out : HasNewHead middle after → middle.heads ≡ with_all paths usages done.state.heads (but_highest entry.heads) → middle.path_from_head ≡ entry.path_from_head
+          → (kept_shape is_yes is_no after).node ≡ (kept_shape is_yes is_no entry).node
+          → IsTakenOut below top (depths_of entry.heads) (depths_of done.state.heads) (kept_shape is_yes is_no entry) (kept_shape is_yes is_no after)
+      taken_out new heads_are path_is node_is =
+          let after_heads : after.heads ≡ with_all paths usages done.state.heads (but_highest entry.heads) = new.same_heads ∙ heads_are in
+          let after_ascends : Ascends after.heads = subst Ascends (sym after_heads) (new_ascends paths usages entry.heads done.state.heads head (length below) asc top_is at lower_there) in
+          let depth_is : highest_depth after.heads ≡ new.head.0.0 = highest_is after.heads new.head new.is_highest in
+          let left : (depth : StackDepth) → IsSome (at_depth after.heads depth) → IsLeftHead (length below) (depths_of entry.heads) (depths_of done.state.heads) depth.0 = λ depth some.
+          left_there paths usages entry.heads done.state.heads head (length below) asc top_is at lower_there depth (subst (λ h. IsSome (at_depth h depth)) after_heads some) in
+          record {
+            was = highest_is entry.heads head top_is ∙ at;
+            same_node = node_is;
+            path =
+                ap rank_of new.path
+                ∙ sym (greater_rank middle.path_from_head (from_head stack done new.head.0.0))
+                ∙ (λ i. max (rank_of (path_is i)) (kinds new.head.0.0 i))
+                ∙ ap (λ n. max (rank_of entry.path_from_head) (path_kind below top.step n)) (sym depth_is);
+            is_head = subst (IsLeftHead (length below) (depths_of entry.heads) (depths_of done.state.heads)) (sym depth_is)
+                (left new.head.0 (subst IsSome (sym (highest_there after.heads new.head after_ascends new.is_highest)) refl));
+            highest = λ depth is. subst (λ n. depth ≤ n) (sym depth_is) (at_most_highest after.heads new.head after_ascends new.is_highest (record { 0 = depth })
+                (subst (λ h. IsSome (at_depth h (record { 0 = depth }))) (sym after_heads) (there_left paths usages entry.heads done.state.heads head (length below) asc top_is at lower_there depth is)));
+            only = λ depth cycle some. left (record { 0 = depth }) (head_used (at_depth after.heads (record { 0 = depth })) cycle some);
+          }
+
+    -- ---- what becomes of an answer
+
+    module _ (propagated : A → R) (overflow : R) (unsure : (info : A) → verdict_of is_yes is_no (propagated info) ≡ theory.Neither) (overflow_unsure : verdict_of is_yes is_no overflow ≡ theory.Neither) (reason : RebaseReason X I R A T) (entry after : ProvisionalCacheEntry X I R A T) where
+      -- the rule in the theory's words
+      abbrev pub IsRebasedBy : ProvisionalCacheEntry X I R A T → Type 0
+      IsRebasedBy new = RebasedBy (reason_shape reason) below top (depths_of entry.heads) (depths_of done.state.heads) (heads_shape done.state.heads) (kept_shape is_yes is_no entry) (kept_shape is_yes is_no new)
+
+      module _ (head : StackDepth × CycleHead) (asc : Ascends entry.heads) (top_is : highest entry.heads ≡ Some head) where
+        unused : head.0.0 ≡ length stack → has_usages head.1.usages ≡ false → from_new_head stack done (record entry { heads = with_unused done.state.heads (but_highest entry.heads) }) ≡ Some after → IsRebasedBy after
+        unused at none is =
+            let here : head.0.0 ≡ length below = at ∙ many in
+            let middle : ProvisionalCacheEntry X I R A T = record entry { heads = with_unused done.state.heads (but_highest entry.heads) } in
+            let new = new_head middle after is in
+            NotNeeded
+            (taken_out (λ _. path_of_no_step) (λ _. no_usages) entry middle after head asc top_is here new refl refl (ap (λ o. elim o [ None ↦ 0 | Some n ↦ n.0 ]) new.same_node))
+            (subst (λ h. (cycle : ℕ) → h.usages cycle ≡ 0) (sym (popped_head entry.heads done.state.heads head (length below) asc top_is here lower_there)) (is_zero head.1 none))
+            (subst (λ h. InsertsEmpty (length below) (heads_shape entry.heads) (heads_shape h)) (sym new.same_heads) (inserts_empty entry.heads done.state.heads head (length below) asc top_is here lower_there))
+            (ap (verdict_of is_yes is_no) new.same_result)
+
+        used_settled : head.0.0 ≡ length stack → has_usages head.1.usages ≡ true → keeps_kinds stack done entry.path_from_head head.1.paths_to_head ≡ true → verdict_of is_yes is_no after.result ≢ theory.Neither
+            → (kept : ProvisionalCacheEntry X I R A T) → settled propagated overflow reason head.1.usages entry ≡ Some kept
+            → from_new_head stack done (record kept { heads = with_used done.state.heads head.1.paths_to_head (but_highest kept.heads) }) ≡ Some after → IsRebasedBy after
+        used_settled at some keeps definite kept settles is =
+            let here : head.0.0 ≡ length below = at ∙ many in
+            let middle : ProvisionalCacheEntry X I R A T = record kept { heads = with_used done.state.heads head.1.paths_to_head (but_highest kept.heads) } in
+            let new = new_head middle after is in
+            let left = is_settled is_yes is_no propagated overflow unsure overflow_unsure reason head.1 entry kept settles in
+            let heads_are : middle.heads ≡ with_used done.state.heads head.1.paths_to_head (but_highest entry.heads) = ap (λ h. with_used done.state.heads head.1.paths_to_head (but_highest h)) left.same_heads in
+            let popped = popped_head entry.heads done.state.heads head (length below) asc top_is here lower_there in
+            let kept_definite : verdict_of is_yes is_no kept.result ≢ theory.Neither = λ neither. definite (ap (verdict_of is_yes is_no) new.same_result ∙ neither) in
+            Needed
+            (taken_out (λ h. extended_by_each head.1.paths_to_head h.paths_to_head) (λ h. h.usages) entry middle after head asc top_is here new heads_are left.same_path
+            (ap (λ o. elim o [ None ↦ 0 | Some n ↦ n.0 ]) (new.same_node ∙ left.same_node kept_definite)))
+            (λ zeros. not_zero head.1 some (subst (λ h. (cycle : ℕ) → h.usages cycle ≡ 0) popped zeros))
+            (passes_path_test stack done below top kinds entry.path_from_head (heads_shape entry.heads) head.1 popped keeps)
+            (subst (λ h. InsertsHeads (length below) (heads_shape entry.heads) (heads_shape done.state.heads) (heads_shape h)) (sym (new.same_heads ∙ heads_are)) (inserts_heads entry.heads done.state.heads head (length below) asc top_is here lower_there))
+            (subst (λ h. HasResult (reason_shape reason) h (verdict_of is_yes is_no entry.result) (verdict_of is_yes is_no after.result)) (sym popped)
+            (subst (λ v. HasResult (reason_shape reason) (head_shape (Some head.1)) (verdict_of is_yes is_no entry.result) v) (sym (ap (verdict_of is_yes is_no) new.same_result)) left.result))
+
+        used : head.0.0 ≡ length stack → has_usages head.1.usages ≡ true → verdict_of is_yes is_no after.result ≢ theory.Neither → rebased_used stack done (settled propagated overflow reason) entry head.1 ≡ Some after → IsRebasedBy after
+        used at some definite is = tested (keeps_kinds stack done entry.path_from_head head.1.paths_to_head) refl is
+          where
+            settles : keeps_kinds stack done entry.path_from_head head.1.paths_to_head ≡ true → (o : Option (ProvisionalCacheEntry X I R A T)) → settled propagated overflow reason head.1.usages entry ≡ o
+                → option_and_then (λ kept. from_new_head stack done (record kept { heads = with_used done.state.heads head.1.paths_to_head (but_highest kept.heads) })) o ≡ Some after → IsRebasedBy after
+            settles keeps None is left = absurd cc
+            settles keeps (Some kept) is left = used_settled at some keeps definite kept is left
+
+            tested : (b : Bool) → keeps_kinds stack done entry.path_from_head head.1.paths_to_head ≡ b
+                → (if b then option_and_then (λ kept. from_new_head stack done (record kept { heads = with_used done.state.heads head.1.paths_to_head (but_highest kept.heads) })) (settled propagated overflow reason head.1.usages entry) else None) ≡ Some after → IsRebasedBy after
+            tested false keeps is = absurd cc
+            tested true keeps is = settles keeps (settled propagated overflow reason head.1.usages entry) refl is
+
+        at_head : verdict_of is_yes is_no after.result ≢ theory.Neither → rebased stack done (settled propagated overflow reason) entry ≡ Some after → IsRebasedBy after
+        at_head definite is = elim (cases_eq head.0.0 (length stack)) [
+          | inl at ↦ at_place at (has_usages head.1.usages) refl
+          | inr other ↦
+              let other_head : rebased stack done (settled propagated overflow reason) entry ≡ Some entry = rw (top_is, ne_eqb head.0.0 (length stack) other) refl in
+              let stays : Some entry ≡ Some after = sym other_head ∙ is in
+              let same : entry ≡ after = cc in
+              subst IsRebasedBy same (Stays (λ at. other (sym (highest_is entry.heads head top_is) ∙ at ∙ sym many)))
+        ]
+          where
+            at_place : head.0.0 ≡ length stack → (b : Bool) → has_usages head.1.usages ≡ b → IsRebasedBy after
+            at_place at true some = used at some definite (sym (is_used stack done (settled propagated overflow reason) entry head top_is at some) ∙ is)
+            at_place at false none = unused at none (sym (is_unused stack done (settled propagated overflow reason) entry head top_is at none) ∙ is)
+
+      -- An answer with heads that rise, and a verdict after the rule, is what the theory's rule leaves of it.
+      pub rebased_shape : entry.heads ≢ [] → IsRising entry.heads → verdict_of is_yes is_no after.result ≢ theory.Neither → rebased stack done (settled propagated overflow reason) entry ≡ Some after → IsRebasedBy after
+      rebased_shape some rising definite is = at (highest entry.heads) refl
+        where
+          at : (o : Option (StackDepth × CycleHead)) → highest entry.heads ≡ o → IsRebasedBy after
+          at None none = absurd (some (no_highest entry.heads none))
+          at (Some head) top_is = at_head head (ascends entry.heads rising) top_is definite is
+
+-- ---- when the answer may be rebased
+
+module _ {X I R A T : Type 0} (is_yes is_no : R → Bool) (stack : List (StackEntry X I R A T)) (done : StackEntry X I R A T) (below : List Entry) (top : Entry) (many : length stack ≡ length below) (lower : LieBelow (length stack) done.state.heads) where
+  -- a depth at which a list has a head is that of one of its elements
+  within_all : (limit : ℕ) (heads : Heads) → All (λ head. head.0.0 ≤ limit) heads → (depth : StackDepth) → IsSome (at_depth heads depth) → depth.0 ≤ limit
+  within_all limit [] all depth some = absurd (false≢true some)
+  within_all limit (e ∷ es) all depth some = elim (cases_eq depth.0 e.0.0) [
+    | inl same ↦ let first : e.0.0 ≤ limit = All-head (λ (h : StackDepth × CycleHead). h.0.0 ≤ limit) e es all in omega (arith, same, first)
+    | inr other ↦ within_all limit es (All-tail (λ (h : StackDepth × CycleHead). h.0.0 ≤ limit) e es all) depth (subst IsSome (at_later e es depth other) some)
+  ]
+
+  -- where the reason is true, an answer with heads that rise, on the stack or at the place above it, can be rebased in the theory's words
+  pub rebasable : (reason : RebaseReason X I R A T) (verdict : theory.Verdict) (entry : ProvisionalCacheEntry X I R A T) → CanBeRebased (length stack) entry → IsRising entry.heads → IsTrueReason (reason_shape reason) verdict top
+      → IsRebasable (reason_shape reason) below top (depths_of entry.heads) (depths_of done.state.heads) verdict (heads_shape done.state.heads) (kept_shape is_yes is_no entry)
+  rebasable reason verdict entry can rising is_true = at (highest entry.heads) refl
+    where
+      at : (o : Option (StackDepth × CycleHead)) → highest entry.heads ≡ o → IsRebasable (reason_shape reason) below top (depths_of entry.heads) (depths_of done.state.heads) verdict (heads_shape done.state.heads) (kept_shape is_yes is_no entry)
+      at None none = absurd (can.some (no_highest entry.heads none))
+      at (Some head) top_is =
+          let asc = ascends entry.heads rising in
+          let depth_is = highest_is entry.heads head top_is in
+          let there : head.0.0 ≤ length stack = within_all (length stack) entry.heads can.within head.0 (subst IsSome (sym (highest_there entry.heads head asc top_is)) refl) in
+          record {
+            is_true = is_true;
+            own_within = λ depth own. subst (λ n. depth ≤ n) (sym depth_is) (at_most_highest entry.heads head asc top_is (record { 0 = depth }) own);
+            top_depths = are_depths done.state.heads;
+            top_within = λ depth own. subst (λ n. depth < n) many (lower (record { 0 = depth }) own);
+            on_stack = omega (arith, depth_is, there, many);
+          }
+
+-- ---- the goals under evaluation
+
+-- The rule for the goals of the driver: what is left of an answer when the newest goal is done and the others stay on the stack.
+module _ {X F I R A T : Type 0} (is_yes is_no : R → Bool) (goal : StackEntry X I R A T × Run X F I R A T) (goals : List (StackEntry X I R A T × Run X F I R A T)) where
+  -- the goals below as the stack that the rule takes, and as the theory has them
+  abbrev pub real_below : List (StackEntry X I R A T)
+  real_below = reverse (map (λ s. s.0) goals)
+
+  abbrev pub theory_below : List Entry
+  theory_below = stack_of (frames_of is_yes is_no (runs_of goals))
+
+  pub same_length : length real_below ≡ length theory_below
+  same_length = length-reverse (map (λ s. s.0) goals) ∙ length-map goals (λ s. s.0) ∙ sym (stack_length is_yes is_no (runs_of goals) ∙ length-map goals run_of)
+
+  pub goal_rebased : LieBelow (length goals) goal.0.state.heads → (propagated : A → R) (overflow : R) → ((info : A) → verdict_of is_yes is_no (propagated info) ≡ theory.Neither) → verdict_of is_yes is_no overflow ≡ theory.Neither
+      → (reason : RebaseReason X I R A T) (entry after : ProvisionalCacheEntry X I R A T) → entry.heads ≢ [] → IsRising entry.heads → verdict_of is_yes is_no after.result ≢ theory.Neither
+      → rebased real_below goal.0 (settled propagated overflow reason) entry ≡ Some after
+      → RebasedBy (reason_shape reason) theory_below (frame_of is_yes is_no (run_of goal)).entry (depths_of entry.heads) (depths_of goal.0.state.heads) (heads_shape goal.0.state.heads) (kept_shape is_yes is_no entry) (kept_shape is_yes is_no after)
+  goal_rebased lower propagated overflow unsure overflow_unsure reason entry after =
+      rebased_shape is_yes is_no real_below goal.0 theory_below (frame_of is_yes is_no (run_of goal)).entry same_length
+      (λ depth. path_kind_is is_yes is_no goal.0.step_kind_from_parent depth goals)
+      (subst (λ n. LieBelow n goal.0.state.heads) (sym (length-reverse (map (λ s. s.0) goals) ∙ length-map goals (λ s. s.0))) lower)
+      propagated overflow unsure overflow_unsure reason entry after
+
+  -- the answer is stored over these entries
+  abbrev pub IsStored : List theory.Node → List Entry → ProvisionalCacheEntry X I R A T → Type 0
+  IsStored nodes stack entry = Stored nodes (kept_shape is_yes is_no entry).verdict stack (kept_shape is_yes is_no entry).highest (kept_shape is_yes is_no entry).path (kept_shape is_yes is_no entry).node (kept_shape is_yes is_no entry).heads
+
+  -- and it stays stored without the newest goal, where the reason is true of that goal's verdict, and its own answer may be used
+  pub goal_keeps_stored : LieBelow (length goals) goal.0.state.heads → (propagated : A → R) (overflow : R) → ((info : A) → verdict_of is_yes is_no (propagated info) ≡ theory.Neither) → verdict_of is_yes is_no overflow ≡ theory.Neither
+      → (nodes : List theory.Node) (reason : RebaseReason X I R A T) (verdict : theory.Verdict) (entry after : ProvisionalCacheEntry X I R A T)
+      → (verdict ≢ theory.Neither → Use nodes verdict theory_below (path_kind theory_below (frame_of is_yes is_no (run_of goal)).entry.step) 0 (frame_of is_yes is_no (run_of goal)).entry.node (heads_shape goal.0.state.heads))
+      → IsTrueReason (reason_shape reason) verdict (frame_of is_yes is_no (run_of goal)).entry
+      → CanBeRebased (length real_below) entry → IsRising entry.heads → verdict_of is_yes is_no after.result ≢ theory.Neither
+      → rebased real_below goal.0 (settled propagated overflow reason) entry ≡ Some after
+      → IsStored nodes (stack_of (frames_of is_yes is_no (runs_of (goal ∷ goals)))) entry → IsStored nodes theory_below after
+  goal_keeps_stored lower propagated overflow unsure overflow_unsure nodes reason verdict entry after use_there is_true can rising definite is =
+      let top = (frame_of is_yes is_no (run_of goal)).entry in
+      let lower_there = subst (λ n. LieBelow n goal.0.state.heads) (sym (length-reverse (map (λ s. s.0) goals) ∙ length-map goals (λ s. s.0))) lower in
+      rebased_keeps_stored nodes (reason_shape reason) theory_below top (depths_of entry.heads) (depths_of goal.0.state.heads) verdict (heads_shape goal.0.state.heads) (kept_shape is_yes is_no entry) (kept_shape is_yes is_no after)
+      use_there (rebasable is_yes is_no real_below goal.0 theory_below top same_length lower_there reason verdict entry can rising is_true) definite
+      (goal_rebased lower propagated overflow unsure overflow_unsure reason entry after can.some rising definite is)

@@ -1,0 +1,37 @@
+-- A kept answer, and the reason why it is rebased, as the theory of open graphs sees them.
+use Rattle.std.specs.Prelude.{ℕ, Bool, is_some, None, Some}
+use Rattle.std.specs.Option.{option_map}
+use Rattle.open_graphs.specs.Rebased as theory
+use Rattle.open_graphs.specs.State.{Kept}
+use Rattle.cycle_heads.specs.Heads.{Heads, at_depth, highest}
+use Rattle.cycle_heads.specs.HeadShapes.{heads_shape}
+use Rattle.cycle_heads.specs.Path.{rank_of}
+use Rattle.search_parts.specs.declared.parts.provisional_cache.ProvisionalCacheEntry.{ProvisionalCacheEntry}
+use Rattle.search_parts.specs.declared.parts.provisional_cache.RebaseReason.{RebaseReason}
+use Rattle.search_parts.specs.declared.parts.provisional_cache.RebaseReason.TheVariants.{NoCycleUsages, Ambiguity, Overflow, ReachedFixpoint}
+use Rattle.search_parts.specs.Shapes.{verdict_of}
+
+-- the depths at which a head is recorded
+abbrev pub depths_of : Heads → ℕ → Bool
+depths_of heads depth = is_some (at_depth heads (record { 0 = depth }))
+
+-- the depth of the highest head; an answer without heads has none, and is not kept
+abbrev pub highest_depth : Heads → ℕ
+highest_depth heads = elim (highest heads) [ None ↦ 0 | Some head ↦ head.0.0 ]
+
+-- the reason in the theory's words, with the kind of a fixpoint as its rank
+abbrev pub reason_shape : {X I R A T : Type 0} → RebaseReason X I R A T → theory.Reason
+reason_shape NoCycleUsages = theory.NoCycleUsages
+reason_shape (Ambiguity info) = theory.Ambiguity
+reason_shape Overflow = theory.Overflow
+reason_shape (ReachedFixpoint kind) = theory.ReachedFixpoint (option_map rank_of kind)
+
+-- the answer in the theory's words; without a node it has the number 0, which says nothing: only an answer without a verdict may lack one
+abbrev pub kept_shape : {X I R A T : Type 0} → (R → Bool) → (R → Bool) → ProvisionalCacheEntry X I R A T → Kept
+kept_shape is_yes is_no entry = record {
+  verdict = verdict_of is_yes is_no entry.result;
+  highest = highest_depth entry.heads;
+  path = rank_of entry.path_from_head;
+  node = elim entry.node [ None ↦ 0 | Some n ↦ n.0 ];
+  heads = heads_shape entry.heads;
+}
