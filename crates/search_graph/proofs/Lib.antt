@@ -31,6 +31,7 @@ pub mod CycleAnswers
 pub mod DecidedGoals
 pub mod Free
 pub mod KeptAnswers
+pub mod KeptMoves
 pub mod FreeResults
 pub mod FreeMoves
 pub mod DoneGoals

@@ -24,7 +24,7 @@ use Rattle.search_parts.specs.declared.context.Fault.TheVariants.{Memory, Protoc
 use Rattle.search_parts.specs.Run.{IsReplyTo, IsFitting, progress_after, order_fault, fault_after}
 use Rattle.search_parts.specs.Delegate.{CountsOne, Steps, IsCycleResult}
 use Rattle.evaluations.specs.Frames.{Frame, Outcome, answered, run_again, IsAllowed}
-use Rattle.search_parts.specs.Rank.{IsPlainTo}
+use Rattle.search_parts.specs.Rank.{HasNoRank, IsPlainTo}
 use Rattle.evaluations.specs.Plain.{AreSafe}
 use Rattle.evaluations.specs.Evaluation.{IsRooted, IsEvaluating, at, Ends}
 use Rattle.evaluations.specs.Mirror.{with_replies, TakesStep, TakesReply, ItemLeaves, IsAmong, AreSeen, Mirror, Waits}
@@ -264,6 +264,22 @@ module _ {D C V P F I R A T : Type 0} (G : Delegate.Ghosts D C V P F I R A T) (X
         };
         falls = subst (λ v. work_left G X cx v < ahead) (sym t.is) w.1;
       })
+
+  -- a kept answer of a goal without a rank is taken over
+  pub kept_goes_on : (ahead : ℕ) (kind : PathKind) (goal : I) (r : R) (overflow : Bool) (answer : Heads) (depth : ℕ) (old new : List Goal) (starts : ℕ) (met : Bool) → ((s : Goal) (below : List Goal) → old ≡ s ∷ below → IsAllowed (seen G X cx s) depth) → HasNoRank (G.script cx) goal → (IsCounted G X cx call → met ≡ false → overflow ≡ false) → Decidedly G X cx call met (IsDefinite X.is_yes X.is_no r) → AnswersNewest kind 0 overflow answer old new → HasAsked G X cx call ahead (Evaluate kind goal) old starts met → GoesOn G X cx call ahead (Answer r) new starts met
+  kept_goes_on ahead kind goal r overflow answer depth old new starts met may no_rank calm definite t h =
+      let was : HasAsked G X cx call ahead (Evaluate kind goal) ((t.entry, t.run) ∷ t.below) starts met = subst (λ v. HasAsked G X cx call ahead (Evaluate kind goal) v starts met) t.was h in
+      let w = answered_waits (seen G X cx) (Stood G X cx) (G.script cx) (limits G X cx call) (IsCounted G X cx call) call.top (bound G X cx call) (some_runs G.FIXPOINT_STEP_LIMIT) ahead starts met (t.entry, t.run) t.below kind goal depth (record { result = r; required = 0; met_overflow = overflow; in_cycle = some_heads answer }) (record t.entry { state = t.state }, t.run)
+      (may (t.entry, t.run) t.below t.was) (unranked_is_safe (G.script cx) goal depth (record { result = r; required = 0; met_overflow = overflow; in_cycle = some_heads answer }) no_rank (omega arith)) calm
+      (takes_answer r kind 0 overflow answer t.entry t.run (record { 0 = length t.below }) t.state t.takes) was.asked in
+      record {
+        waiting = record {
+          waits = subst (λ v. Waits (seen G X cx) (Stood G X cx) (G.script cx) (limits G X cx call) (IsCounted G X cx call) call.top (bound G X cx call) (Answer r) v starts met) (sym t.is) w.0;
+          keeps = h.keeps;
+          decided = λ decisive unmet. (answered_decided kind 0 overflow answer old new t (h.decided decisive unmet), definite decisive unmet);
+        };
+        falls = subst (λ v. work_left G X cx v < ahead) (sym t.is) w.1;
+      }
 
   -- the asked goal was put on top
   pub pushed_goes_on : (ahead : ℕ) (kind : PathKind) (goal : I) (depth : AvailableDepth) (s : Goal) (below new : List Goal) (starts now : ℕ) (met : Bool) → IsAllowed (seen G X cx s) depth.0 → now ≤ starts + 1 → (G.counts ≡ true → CountsOne G.last starts now) → Pushes G X cx goal kind depth (s ∷ below) new → HasAsked G X cx call ahead (Evaluate kind goal) (s ∷ below) starts met → GoesOn G X cx call ahead Begin new now met
