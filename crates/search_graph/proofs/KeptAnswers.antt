@@ -1,11 +1,11 @@
 -- Answers that are kept stay right through each move of the driver: one of them at a time is taken as the provisional answer of the
 -- theory's state.
-use Rattle.std.proofs.Common.{◌≡◌, ◌≢◌, ℕ, zero, suc, ◌<◌, true, Bool, List, [], ◌∷◌, ◌++◌, length, slice_get, Option, None, Some, refl, sym, ◌∙◌, subst}
+use Rattle.std.proofs.Common.{◌≡◌, ℕ, zero, suc, ◌<◌, true, Bool, List, [], ◌∷◌, ◌++◌, length, slice_get, Option, None, Some, refl, sym, ◌∙◌, subst}
 use Rattle.std.specs.Option.{IsSomeAnd, option_or}
 use Rattle.std.proofs.lemmas.List.{length-map}
 use Rattle.open_graphs.specs.Graph as theory
 use Rattle.open_graphs.specs.Stack.{Entry, path_kind}
-use Rattle.open_graphs.specs.Use.{Heads, HeadsWithin, Stored, UsesNo}
+use Rattle.open_graphs.specs.Use.{HeadsWithin, Stored, UsesNo}
 use Rattle.open_graphs.specs.State.{Frame, Kept, stack_of, first_frame, next_frame, answering, AfterPop, AllStored, IsSound}
 use Rattle.open_graphs.specs.StateLaws.{IsLeft, Survives, Added}
 use Rattle.open_graphs.specs.AnswerLaws.{TakesIn}
@@ -72,12 +72,12 @@ module _ {I R : Type 0} (is_yes is_no : R → Bool) where
   kept_pushed nodes goal step own goals at h other k =
       IsKept-carried nodes (nodes ++ open_node goal ∷ []) goals (new_run goal step own (Some own) None no_tally ∷ goals) k k refl refl (KeepsGoals-appended true nodes goal)
       (λ d n used.
-          let many : length (shapes_of is_yes is_no nodes) ≡ own.0 = length-map nodes (shape_of is_yes is_no) ∙ sym at in
-          let frames : List Frame = frames_of is_yes is_no goals in
-          subst (λ more. IsStored more (stack_of (frames_of is_yes is_no (new_run goal step own (Some own) None no_tally ∷ goals))) (in_theory is_yes is_no k n)) (sym (shapes_opened is_yes is_no nodes goal))
-          (subst (λ m. IsStored (shapes_of is_yes is_no nodes ++ theory.Unfinished ∷ []) (stack_of (first_frame (rank_of step) m (heads_shape []) ∷ frames)) (in_theory is_yes is_no k n)) many
-          (kept_stored (shapes_of is_yes is_no nodes ++ theory.Unfinished ∷ []) (first_frame (rank_of step) (length (shapes_of is_yes is_no nodes)) (heads_shape []) ∷ frames) (in_theory is_yes is_no k n)
-          (push_keeps_sound (shapes_of is_yes is_no nodes) frames (in_theory is_yes is_no k n ∷ []) [] (rank_of step) (heads_shape []) (with_kept (shapes_of is_yes is_no nodes) frames (in_theory is_yes is_no k n) h.sound used)))))
+      let many : length (shapes_of is_yes is_no nodes) ≡ own.0 = length-map nodes (shape_of is_yes is_no) ∙ sym at in
+      let frames : List Frame = frames_of is_yes is_no goals in
+      subst (λ more. IsStored more (stack_of (frames_of is_yes is_no (new_run goal step own (Some own) None no_tally ∷ goals))) (in_theory is_yes is_no k n)) (sym (shapes_opened is_yes is_no nodes goal))
+      (subst (λ m. IsStored (shapes_of is_yes is_no nodes ++ theory.Unfinished ∷ []) (stack_of (first_frame (rank_of step) m (heads_shape []) ∷ frames)) (in_theory is_yes is_no k n)) many
+      (kept_stored (shapes_of is_yes is_no nodes ++ theory.Unfinished ∷ []) (first_frame (rank_of step) (length (shapes_of is_yes is_no nodes)) (heads_shape []) ∷ frames) (in_theory is_yes is_no k n)
+      (push_keeps_sound (shapes_of is_yes is_no nodes) frames (in_theory is_yes is_no k n ∷ []) [] (rank_of step) (heads_shape []) (with_kept (shapes_of is_yes is_no nodes) frames (in_theory is_yes is_no k n) h.sound used)))))
       other
 
   -- ---- the newest goal changes, but not its entry
@@ -111,12 +111,12 @@ module _ {I R : Type 0} (is_yes is_no : R → Bool) (nodes after : List (CacheNo
   kept_popped other k moved same_result same_target leaves =
       IsKept-carried is_yes is_no nodes after (o ∷ below) below k moved same_result same_target s.goals_kept
       (λ d n used.
-          let was = in_theory is_yes is_no k n in
-          let is = in_theory is_yes is_no (record moved { result = k.result }) n in
-          kept_stored (shapes_of is_yes is_no after) (frames_of is_yes is_no below) (in_theory is_yes is_no (record moved { result = k.result }) n)
-          (pop_keeps_sound (shapes_of is_yes is_no nodes) last_frame (frames_of is_yes is_no below) (in_theory is_yes is_no k n ∷ []) (in_theory is_yes is_no (record moved { result = k.result }) n ∷ []) [] [] (verdict_of is_yes is_no r) (shapes_of is_yes is_no after) s.place s.answered
-          (survives n (leaves d n)) (λ i x at. absurd (no_answers i x at))
-          (with_kept (shapes_of is_yes is_no nodes) (last_frame ∷ frames_of is_yes is_no below) (in_theory is_yes is_no k n) s.sound used)).0)
+      let was = in_theory is_yes is_no k n in
+      let is = in_theory is_yes is_no (record moved { result = k.result }) n in
+      kept_stored (shapes_of is_yes is_no after) (frames_of is_yes is_no below) (in_theory is_yes is_no (record moved { result = k.result }) n)
+      (pop_keeps_sound (shapes_of is_yes is_no nodes) last_frame (frames_of is_yes is_no below) (in_theory is_yes is_no k n ∷ []) (in_theory is_yes is_no (record moved { result = k.result }) n ∷ []) [] [] (verdict_of is_yes is_no r) (shapes_of is_yes is_no after) s.place s.answered
+      (survives n (leaves d n)) (λ i x at. absurd (no_answers i x at))
+      (with_kept (shapes_of is_yes is_no nodes) (last_frame ∷ frames_of is_yes is_no below) (in_theory is_yes is_no k n) s.sound used)).0)
       other
     where
       survives :
@@ -164,15 +164,15 @@ module _ {I R : Type 0} (is_yes is_no : R → Bool) (nodes after : List (CacheNo
     kept_rerun other k unused =
         IsKept-carried is_yes is_no nodes (after ++ open_node o.goal ∷ []) (o ∷ below) next_goals k k refl refl (λ n goal is. KeepsGoals-appended true after o.goal n goal (s.goals_kept n goal is))
         (λ d n used.
-            let v = verdict_of is_yes is_no r in
-            let frames : List Frame = frames_of is_yes is_no below in
-            let again =
-            rerun_keeps_sound (shapes_of is_yes is_no nodes) last_frame frames (in_theory is_yes is_no k n ∷ []) (in_theory is_yes is_no k n ∷ []) [] v (shapes_of is_yes is_no after) s.place s.answered
-            (unused_alone n) (with_kept (shapes_of is_yes is_no nodes) (last_frame ∷ frames_of is_yes is_no below) (in_theory is_yes is_no k n) s.sound used) in
-            let lead = leads_there is_yes is_no nodes after o below h r target s own at (option_or target o.cycles_lead) (lead_is is_yes is_no nodes after o below h r target s) in
-            subst (λ more. IsStored more (stack_of (frames_of is_yes is_no next_goals)) (in_theory is_yes is_no k n)) (sym (shapes_opened is_yes is_no after o.goal))
-            (subst (λ p. IsStored (shapes_of is_yes is_no after ++ theory.Unfinished ∷ []) (stack_of (next_frame (frame_of is_yes is_no o) v p own.0 ∷ frames)) (in_theory is_yes is_no k n)) (sym lead)
-            (kept_stored (shapes_of is_yes is_no after ++ theory.Unfinished ∷ []) (next_frame last_frame v s.place (length (shapes_of is_yes is_no after)) ∷ frames) (in_theory is_yes is_no k n) again)))
+        let v = verdict_of is_yes is_no r in
+        let frames : List Frame = frames_of is_yes is_no below in
+        let again =
+        rerun_keeps_sound (shapes_of is_yes is_no nodes) last_frame frames (in_theory is_yes is_no k n ∷ []) (in_theory is_yes is_no k n ∷ []) [] v (shapes_of is_yes is_no after) s.place s.answered
+        (unused_alone n) (with_kept (shapes_of is_yes is_no nodes) (last_frame ∷ frames_of is_yes is_no below) (in_theory is_yes is_no k n) s.sound used) in
+        let lead = leads_there is_yes is_no nodes after o below h r target s own at (option_or target o.cycles_lead) (lead_is is_yes is_no nodes after o below h r target s) in
+        subst (λ more. IsStored more (stack_of (frames_of is_yes is_no next_goals)) (in_theory is_yes is_no k n)) (sym (shapes_opened is_yes is_no after o.goal))
+        (subst (λ p. IsStored (shapes_of is_yes is_no after ++ theory.Unfinished ∷ []) (stack_of (next_frame (frame_of is_yes is_no o) v p own.0 ∷ frames)) (in_theory is_yes is_no k n)) (sym lead)
+        (kept_stored (shapes_of is_yes is_no after ++ theory.Unfinished ∷ []) (next_frame last_frame v s.place (length (shapes_of is_yes is_no after)) ∷ frames) (in_theory is_yes is_no k n) again)))
         other
       where
         unused_alone : (n : ℕ) (i : ℕ) (x : Kept) → slice_get (in_theory is_yes is_no k n ∷ []) i ≡ Some x → (j : ℕ) × (slice_get (in_theory is_yes is_no k n ∷ []) j ≡ Some x) × UsesNo x.heads (length (stack_of (frames_of is_yes is_no below)))

@@ -1,5 +1,5 @@
 -- A kept answer is given to the newest goal, and answers stay kept while that notes something.
-use Rattle.std.proofs.Common.{◌≡◌, ◌≢◌, ℕ, suc, Bool, List, ◌∷◌, length, Option, refl, sym, ap, ◌∙◌, subst}
+use Rattle.std.proofs.Common.{◌≡◌, ℕ, suc, Bool, List, ◌∷◌, length, refl, sym, ap, ◌∙◌, subst}
 use Rattle.std.specs.Option.{IsSomeAnd}
 use Rattle.std.proofs.lemmas.List.{length-map}
 use Rattle.open_graphs.specs.Stack.{path_kind}
@@ -16,7 +16,7 @@ use Rattle.search_parts.specs.Definite.{IsDefinite}
 use Rattle.search_parts.specs.Shapes.{verdict_of}
 use Rattle.search_graph.specs.declared.graph.open_goals.Run.{Run}
 use Rattle.search_graph.specs.Items.{AnswersNewest}
-use Rattle.search_graph.specs.Justified.{OpenRun, frames_of, Asks, AreJustified, IsFit, MayAnswer, asked_now}
+use Rattle.search_graph.specs.Justified.{frames_of, Asks, AreJustified, IsFit, MayAnswer, asked_now}
 use Rattle.search_graph.specs.KeptAnswers.{KeptAnswer, IsKept}
 use Rattle.search_graph.specs.Runs.{run_of, runs_of}
 use Rattle.search_graph.specs.Tallies.{heads_of, tally_of, LieBelow}

@@ -181,11 +181,11 @@ impl<D: Delegate> SearchGraph<D> {
         ensures no_goal { result ≡ Err (Protocol 5) }
         ensures same { self.new ≡ self.old }
     {
-        if self.goals.len() == 0 {
-            return Err(Fault::Protocol(5));
+        if self.goals.len() > 0 {
+            self.goals.enter_candidate();
+            return Ok(());
         }
-        self.goals.enter_candidate();
-        Ok(())
+        Err(Fault::Protocol(5))
     }
 
     /// Ends the open candidate of the newest goal, and hands out how often it used each goal on the stack. A
@@ -199,10 +199,10 @@ impl<D: Delegate> SearchGraph<D> {
         ensures no_goal { result ≡ Err (Protocol 5) }
         ensures same { self.new ≡ self.old }
     {
-        if self.goals.len() == 0 {
-            return Err(Fault::Protocol(5));
+        match self.goals.len() {
+            0 => Err(Fault::Protocol(5)),
+            _ => Ok(self.goals.finish_candidate()),
         }
-        Ok(self.goals.finish_candidate())
     }
 
     /// Takes away from the newest goal what a candidate of it used of the goals on the stack. A frame asks for

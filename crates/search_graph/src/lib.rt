@@ -11,7 +11,7 @@
 //! | `Candidates`, `Tallies` | a candidate is opened, finished or ignored; what goals count, and their candidates of that |
 //! | `RunEnds`, `Runs` | what becomes of a goal whose run has ended, and of its node |
 //! | `Justified`, `Free` | why each definite answer is right; answers that rest on no goal under evaluation |
-//! | `KeptAnswers` | answers that rest on such goals and are kept, as the provisional cache is to have them |
+//! | `KeptAnswers`, `KeptShapes` | answers that rest on such goals and are kept, as the provisional cache is to have them |
 //! | `Decided` | goals whose answers are all yes or no |
 #![tactic(auto)]
 
