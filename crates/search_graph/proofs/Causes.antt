@@ -8,17 +8,17 @@ use Rattle.search_parts.specs.declared.global_cache.results.StoredResult.{Stored
 use Rattle.search_parts.specs.declared.parts.stack.StackEntry.{StackEntry}
 use Rattle.search_parts.specs.Cache.{Cache, CacheNode}
 use Rattle.search_parts.specs.Store.{Store}
-use Rattle.search_graph.specs.declared.graph.open_goals.Run.{Run}
-use Rattle.search_graph.specs.declared.graph.open_goals.Received.{Received}
+use Rattle.open_goals.specs.declared.goals.Run.{Run}
+use Rattle.open_goals.specs.declared.goals.Received.{Received}
 use Rattle.search_graph.specs.Calls.{Call}
 use Rattle.search_graph.specs.Evaluating.{IsWaiting}
 use Rattle.search_graph.specs.Free.{AreFree}
 use Rattle.search_graph.specs.Graph.{IsCaused, OutOfMemory, OutOfOrder}
 use Rattle.search_graph.specs.Justified.{IsFit}
-use Rattle.search_graph.specs.Progress.{requested}
+use Rattle.open_goals.specs.Progress.{requested}
 use Rattle.search_graph.specs.Runs.{run_of, runs_of}
-use Rattle.search_graph.specs.Steps.{HasStepped, IsStepFault, NoMemoryLeft, received_by}
-use Rattle.search_graph.specs.Steps as steps
+use Rattle.open_goals.specs.Steps.{HasStepped, IsStepFault, NoMemoryLeft, received_by}
+use Rattle.open_goals.specs.Steps as steps
 use Rattle.search_graph.proofs.FreeResults.{all_free_above}
 use Rattle.search_graph.proofs.Moves.{can_step_record, fault_after_step}
 use Rattle.search_graph.proofs.Replies.{replies_sorted}

@@ -33,9 +33,9 @@ use Rattle.cycle_heads.specs.Usages.{count_of, no_usages, with_usage}
 use Rattle.cycle_heads.proofs.HeadLists.{at_depth-first, at_depth-rest}
 use Rattle.cycle_heads.proofs.HeadShapes.{IsIn, in_head}
 use Rattle.cycle_heads.proofs.PathRanks.{greater_rank}
-use Rattle.search_graph.specs.declared.graph.open_goals.Run.{Run}
-use Rattle.search_graph.specs.Entries.{cycle_head}
-use Rattle.search_graph.specs.Items.{AnswersNewest}
+use Rattle.open_goals.specs.declared.goals.Run.{Run}
+use Rattle.open_goals.specs.Entries.{cycle_head}
+use Rattle.open_goals.specs.Items.{AnswersNewest}
 use Rattle.search_graph.specs.Justified.{OpenRun, Asks, AreJustified, MayAnswer, IsFit, asked_now, frame_of, frames_of, leads_to, LeadHome}
 use Rattle.search_graph.specs.Runs.{run_of, runs_of}
 use Rattle.search_graph.proofs.Finishing.{answer_fits, heads_come, same_run}

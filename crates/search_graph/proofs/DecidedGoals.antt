@@ -14,7 +14,7 @@ use Rattle.search_parts.specs.Decisive.{IsDecidedKind, IsDecidedReply, AreDecide
 use Rattle.search_parts.specs.Definite.{IsDefinite}
 use Rattle.search_parts.specs.Delegate.{IsCycleResult}
 use Rattle.cycle_heads.specs.Path.{greater_kind, greatest_kind, is_coinductive, is_inductive}
-use Rattle.search_graph.specs.declared.graph.open_goals.Run.{Run}
+use Rattle.open_goals.specs.declared.goals.Run.{Run}
 use Rattle.search_graph.specs.Decided.{IsDecided, AllDecided}
 
 -- ---- kinds

@@ -8,11 +8,11 @@ use Rattle.search_parts.specs.declared.parts.result.EvaluationResult.{Evaluation
 use Rattle.search_parts.specs.declared.parts.stack.StackEntry.{StackEntry}
 use Rattle.search_parts.specs.Cache.{CacheNode}
 use Rattle.search_parts.specs.Store.{Store}
-use Rattle.search_graph.specs.declared.graph.open_goals.Run.{Run}
-use Rattle.search_graph.specs.declared.graph.open_goals.Next.{Next}
-use Rattle.search_graph.specs.declared.graph.open_goals.Next.TheVariants.{Step, Finished}
+use Rattle.open_goals.specs.declared.goals.Run.{Run}
+use Rattle.open_goals.specs.declared.goals.Next.{Next}
+use Rattle.open_goals.specs.declared.goals.Next.TheVariants.{Step, Finished}
 use Rattle.search_graph.specs.Free.{AreFree}
-use Rattle.search_graph.specs.Items.{AnswersNewest}
+use Rattle.open_goals.specs.Items.{AnswersNewest}
 use Rattle.search_graph.specs.Justified.{AreJustified}
 use Rattle.search_graph.specs.Moves.{GivesAnswer, Leaves}
 use Rattle.search_graph.specs.Results.{StoresAnswer, MayPutNewest, place_of_item}

@@ -16,13 +16,13 @@ use Rattle.search_parts.specs.Stored.{IsPlainAt}
 use Rattle.search_parts.proofs.Stores.{put_cases}
 use Rattle.evaluations.specs.Plain.{IsSafeOutcome}
 use Rattle.evaluations.proofs.Mirrors.{leaves_calm, leaves_safe, requested_fits}
-use Rattle.search_graph.specs.declared.graph.open_goals.Run.{Run}
+use Rattle.open_goals.specs.declared.goals.Run.{Run}
 use Rattle.search_graph.specs.Calls.{Call, limits, bound, IsCounted}
-use Rattle.search_graph.specs.Entries.{is_in_cycle}
+use Rattle.open_goals.specs.Entries.{is_in_cycle}
 use Rattle.search_graph.specs.Evaluating.{KeepsStore, seen, HasAsked}
 use Rattle.search_graph.specs.Results.{AreDefinite, HaveNoOverflow, MayPut, Same, WithResult, MayPutNewest, NewestComesTo, NewestIsPlain, IsNewestPlainTo, place_of_item}
-use Rattle.search_graph.specs.Newest.{newest}
-use Rattle.search_graph.specs.Steps.{Stood}
+use Rattle.open_goals.specs.Newest.{newest}
+use Rattle.open_goals.specs.Steps.{Stood}
 use Rattle.search_graph.proofs.Moves.{done_definite, ends_newest, leaving, outcome_of}
 
 -- where a result belongs, by whether it met overflow

@@ -19,13 +19,13 @@ use Rattle.search_parts.specs.Graph.{question_of}
 use Rattle.search_parts.specs.Run.{EndsIn, progress_after, questions_answered}
 use Rattle.search_parts.specs.Cache.{EndedRun, CacheNode, open_node, open_goal, with_run, IsNodeOf, IsRun}
 use Rattle.search_parts.specs.Shapes.{verdict_of}
-use Rattle.search_graph.specs.declared.graph.open_goals.Run.{Run}
-use Rattle.search_graph.specs.declared.graph.progress.DefiniteAnswer.{DefiniteAnswer}
-use Rattle.search_graph.specs.NestedGoals.{NotesOverflow, TakesStored}
+use Rattle.open_goals.specs.declared.goals.Run.{Run}
+use Rattle.open_goals.specs.declared.progress.DefiniteAnswer.{DefiniteAnswer}
+use Rattle.open_goals.specs.NestedGoals.{NotesOverflow, TakesStored}
 use Rattle.search_parts.specs.LookUp.{Hit}
-use Rattle.search_graph.specs.Entries.{first_entry, usages_over, with_depth, with_nested_goals, TakesAnswer}
-use Rattle.search_graph.specs.Items.{AnswersNewest}
-use Rattle.search_graph.specs.Progress.{RunRecord, acted, answered, no_record, edges_of, is_kept}
+use Rattle.open_goals.specs.Entries.{first_entry, usages_over, with_depth, with_nested_goals, TakesAnswer}
+use Rattle.open_goals.specs.Items.{AnswersNewest}
+use Rattle.open_goals.specs.Progress.{RunRecord, acted, answered, no_record, edges_of, is_kept}
 use Rattle.search_graph.specs.Tallies.{tally_of, heads_of, IsTallied, LieBelow}
 use Rattle.search_graph.proofs.TakenTallies.{taken_tallied, taken_keeps, taken_comes_in}
 use Rattle.search_graph.specs.Justified.{OpenRun, in_theory, AreEdges, Asks, HasTally, AreJustified, MayAnswer, IsFit, asked_now}

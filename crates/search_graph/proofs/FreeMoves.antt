@@ -10,13 +10,13 @@ use Rattle.search_parts.specs.Cache.{CacheNode}
 use Rattle.cycle_heads.specs.Heads.{Heads}
 use Rattle.search_parts.specs.LookUp.{Hit}
 use Rattle.search_parts.specs.Store.{Store}
-use Rattle.search_graph.specs.declared.graph.open_goals.Run.{Run}
-use Rattle.search_graph.specs.Entries.{with_depth, with_nested_goals}
+use Rattle.open_goals.specs.declared.goals.Run.{Run}
+use Rattle.open_goals.specs.Entries.{with_depth, with_nested_goals}
 use Rattle.search_graph.specs.Free.{IsFree, AreFree}
-use Rattle.search_graph.specs.Items.{AnswersNewest}
+use Rattle.open_goals.specs.Items.{AnswersNewest}
 use Rattle.search_graph.specs.Justified.{Asks, IsFit}
 use Rattle.search_graph.specs.LookUp.{IsUsable}
-use Rattle.search_graph.specs.NestedGoals.{TakesStored, NotesOverflow}
+use Rattle.open_goals.specs.NestedGoals.{TakesStored, NotesOverflow}
 use Rattle.search_graph.specs.Runs.{run_of, runs_of}
 use Rattle.search_graph.specs.Tallies.{tally_of}
 use Rattle.search_graph.proofs.Finishing.{answer_fits, same_run, stored_taken_same, overflow_noted_same}

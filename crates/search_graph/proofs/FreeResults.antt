@@ -14,11 +14,11 @@ use Rattle.search_parts.specs.Cache.{CacheNode, open_node}
 use Rattle.search_parts.specs.Store.{Store, stored_at, place_of, stored_from}
 use Rattle.search_parts.specs.Stored.{AreKept}
 use Rattle.search_parts.proofs.Stores.{put_cases}
-use Rattle.search_graph.specs.declared.graph.open_goals.Run.{Run}
-use Rattle.search_graph.specs.Entries.{first_entry}
+use Rattle.open_goals.specs.declared.goals.Run.{Run}
+use Rattle.open_goals.specs.Entries.{first_entry}
 use Rattle.search_graph.specs.Free.{IsFree, AreFree}
 use Rattle.search_graph.specs.Justified.{OpenRun, frames_of, Asks, AreJustified}
-use Rattle.search_graph.specs.Progress.{no_record}
+use Rattle.open_goals.specs.Progress.{no_record}
 use Rattle.search_graph.specs.Results.{StoresAnswer, Kept, Put}
 use Rattle.search_graph.specs.Runs.{runs_of}
 use Rattle.search_graph.proofs.Justified.{new_run, no_tally, tally_again, Settles}

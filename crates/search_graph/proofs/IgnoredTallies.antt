@@ -15,7 +15,7 @@ use Rattle.cycle_heads.specs.Heads.{at_depth}
 use Rattle.cycle_heads.specs.Usages.{count_of, count_without, no_usages}
 use Rattle.cycle_heads.proofs.Counts.{count_of-usages_by}
 use Rattle.search_parts.specs.declared.parts.stack.EntryState.{EntryState}
-use Rattle.search_graph.specs.Candidates.{CanIgnore, Covers, Ignores, less_head, less_usages}
+use Rattle.open_goals.specs.Candidates.{CanIgnore, Covers, Ignores, less_head, less_usages}
 use Rattle.search_graph.specs.Tallies.{IsCovered, IsTallied, candidate_at, candidates_count, counted, heads_of, spare, tally_of, usages_of}
 use Rattle.search_graph.proofs.Tallies.{GrowsInto, IsMore, all_grown, candidate_within, counted_other, counted_own, more_spare, none_counted, of_kind, spare_more, usages_in}
 

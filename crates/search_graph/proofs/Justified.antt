@@ -26,10 +26,10 @@ use Rattle.cycle_heads.specs.Path.{rank_of}
 use Rattle.search_parts.specs.Cache.{EndedRun, CacheNode, open_node, open_goal, with_run, IsNodeOf, KeepsNodes, KeepsGoals}
 use Rattle.search_parts.specs.Shapes.{verdict_of, edge_shape, shape_of, shapes_of}
 use Rattle.search_parts.proofs.Nodes.{KeepsNodes-appended, KeepsGoals-appended, before, with_run-is, KeepsGoals-ended}
-use Rattle.search_graph.specs.declared.graph.progress.DefiniteAnswer.{DefiniteAnswer}
+use Rattle.open_goals.specs.declared.progress.DefiniteAnswer.{DefiniteAnswer}
 use Rattle.search_parts.specs.Definite.{HasGraph}
 use Rattle.search_graph.specs.Justified.{OpenRun, in_theory, leads_to, frame_of, frames_of, AreOpen, LeadHome, AllPlaced, AreEdges, Asks, HasTally, AreCharged, AllCharged, AreJustified, asked_now, MayAnswer}
-use Rattle.search_graph.specs.Progress.{is_kept}
+use Rattle.open_goals.specs.Progress.{is_kept}
 use Rattle.search_graph.specs.Tallies.{Tally, IsTallied, heads_of, spare_heads}
 use Rattle.search_graph.proofs.Tallies.{charge_within, fresh_tallied, rerun_keeps, rerun_tallied, spare_within}
 use Rattle.search_graph.specs.Runs.{SaysAgain}

@@ -14,8 +14,8 @@ use Rattle.search_parts.specs.declared.parts.stack.StackEntry.{StackEntry}
 use Rattle.search_parts.specs.Cache.{CacheNode}
 use Rattle.search_parts.specs.Definite.{IsDefinite}
 use Rattle.search_parts.specs.Shapes.{verdict_of}
-use Rattle.search_graph.specs.declared.graph.open_goals.Run.{Run}
-use Rattle.search_graph.specs.Items.{AnswersNewest}
+use Rattle.open_goals.specs.declared.goals.Run.{Run}
+use Rattle.open_goals.specs.Items.{AnswersNewest}
 use Rattle.search_graph.specs.Justified.{frames_of, Asks, AreJustified, IsFit, MayAnswer, asked_now}
 use Rattle.search_graph.specs.KeptAnswers.{KeptAnswer, IsKept}
 use Rattle.search_graph.specs.Runs.{run_of, runs_of}

@@ -1,12 +1,4 @@
-pub mod Pairs
-pub mod Changes
-pub mod NestedGoals
 pub mod LookUps
-pub mod TakenHeads
-pub mod IgnoredHeads
-pub mod CandidateMoves
-pub mod OldestFirst
-pub mod Steps
 pub mod Tallies
 pub mod TakenTallies
 pub mod IgnoredTallies

@@ -13,23 +13,23 @@ use Rattle.search_parts.specs.declared.context.Request.TheVariants.{Evaluate}
 use Rattle.search_parts.specs.Delegate.{CountsOne}
 use Rattle.search_parts.specs.Cache.{CacheNode}
 use Rattle.search_parts.specs.declared.context.Fault.TheVariants.{Memory}
-use Rattle.search_graph.specs.declared.graph.open_goals.Run.{Run}
-use Rattle.search_graph.specs.declared.graph.open_goals.Received.{Received}
-use Rattle.search_graph.specs.declared.graph.open_goals.Next.{Next}
-use Rattle.search_graph.specs.declared.graph.open_goals.Next.TheVariants.{Step, Finished}
-use Rattle.search_graph.specs.Progress.{requested, IsReplySorted}
+use Rattle.open_goals.specs.declared.goals.Run.{Run}
+use Rattle.open_goals.specs.declared.goals.Received.{Received}
+use Rattle.open_goals.specs.declared.goals.Next.{Next}
+use Rattle.open_goals.specs.declared.goals.Next.TheVariants.{Step, Finished}
+use Rattle.open_goals.specs.Progress.{requested, IsReplySorted}
 use Rattle.search_parts.specs.Definite.{HasGraph}
 use Rattle.search_graph.specs.Justified.{Asks, AreJustified, IsFit}
 use Rattle.search_graph.specs.Runs.{runs_of, IsJustifiedNext}
 use Rattle.search_graph.specs.Calls.{Call, Outset}
-use Rattle.search_graph.specs.Steps.{HasStepped, IsStepFault, received_by}
+use Rattle.open_goals.specs.Steps.{HasStepped, IsStepFault, received_by}
 use Rattle.search_graph.specs.Moves.{Pushes}
 use Rattle.search_parts.specs.declared.global_cache.results.StoredResult.{StoredResult}
 use Rattle.search_parts.specs.Store.{Store}
 use Rattle.search_graph.specs.Results.{AreDefinite, HaveNoOverflow}
 use Rattle.search_graph.specs.Evaluating.{Begins, IsWaiting, HasAsked, HasStopped, IsOnly, Leads, work_left}
 use Rattle.search_graph.proofs.Moves.{root_waits, failed_root_stopped, step_asks, step_stops}
-use Rattle.search_graph.specs.Candidates.{NotesCandidate}
+use Rattle.open_goals.specs.Candidates.{NotesCandidate}
 use Rattle.search_graph.proofs.Noted.{noted_is_justified}
 use Rattle.search_graph.proofs.Replies.{replies_sorted}
 

@@ -31,23 +31,23 @@ use Rattle.evaluations.specs.Mirror.{with_replies, TakesStep, TakesReply, ItemLe
 use Rattle.evaluations.proofs.Mirrors.{step_requests, can_take, noted_waits, refused_waits, answered_waits, pushed_waits, rerun_waits, popped_waits, popped_at_limit_waits, last_item_ends, last_item_ends_at_limit, last_run_stops, failed_rerun_stops, WaitsWithLess, first_waits, waits_stops, requested_stops, failed_push_stops, cycle_found, requested_fits, requested_by}
 use Rattle.evaluations.proofs.Evaluations.{evaluation_stops, fitting_meets_no_limit}
 use Rattle.evaluations.proofs.Plains.{unranked_is_safe}
-use Rattle.search_graph.specs.declared.graph.open_goals.Run.{Run}
-use Rattle.search_graph.specs.declared.graph.open_goals.Next.{Next}
-use Rattle.search_graph.specs.declared.graph.open_goals.Next.TheVariants.{Step, Finished}
-use Rattle.search_graph.specs.declared.graph.open_goals.Received.{Received}
-use Rattle.search_graph.specs.Entries.{overflowed, first_entry, with_nested_goals, is_in_cycle, cycle_head, some_heads, TakesAnswer}
-use Rattle.search_graph.specs.Progress.{requested, fault_of, IsReplySorted}
+use Rattle.open_goals.specs.declared.goals.Run.{Run}
+use Rattle.open_goals.specs.declared.goals.Next.{Next}
+use Rattle.open_goals.specs.declared.goals.Next.TheVariants.{Step, Finished}
+use Rattle.open_goals.specs.declared.goals.Received.{Received}
+use Rattle.open_goals.specs.Entries.{overflowed, first_entry, with_nested_goals, is_in_cycle, cycle_head, some_heads, TakesAnswer}
+use Rattle.open_goals.specs.Progress.{requested, fault_of, IsReplySorted}
 use Rattle.search_graph.specs.Runs.{EndsNewest}
 use Rattle.search_graph.proofs.ProgressLaws.{records_new, records_received, fault_is}
 use Rattle.search_graph.specs.Calls.{Call, runs, limits, bound, IsCounted, KeepsLimits}
-use Rattle.search_graph.specs.Steps.{Stood, CanStep, IsVerdict, received_by, HasStepped, IsStepFault, NoMemoryLeft, OutOfOrder}
+use Rattle.open_goals.specs.Steps.{Stood, CanStep, IsVerdict, received_by, HasStepped, IsStepFault, NoMemoryLeft, OutOfOrder}
 use Rattle.search_parts.specs.Cycle.{path_kind_from}
 use Rattle.search_parts.specs.Decisive.{IsDecidedKind, AreDecided, IsDecisive}
 use Rattle.search_parts.specs.Definite.{IsDefinite}
 use Rattle.search_graph.specs.Decided.{AllDecided}
 use Rattle.search_graph.proofs.DecidedGoals.{below_decided, changed_decided, cycle_decided, newest_decided, pushed_decided, replied_decided}
 use Rattle.search_graph.specs.Evaluating.{Decidedly, seen, IsWaiting, work_left, HasAsked, GoesOn, HasStopped, Leads}
-use Rattle.search_graph.specs.Items.{AnswersNewest, rerun_with, with_no_record}
+use Rattle.open_goals.specs.Items.{AnswersNewest, rerun_with, with_no_record}
 use Rattle.search_graph.specs.Moves.{first_run, Pushes, Reruns, CanLeave, Leaves, ClosesCycle}
 
 true_is_not_false : true ≡ false → ⊥

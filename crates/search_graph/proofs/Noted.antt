@@ -21,20 +21,20 @@ use Rattle.search_parts.specs.Store.{Store}
 use Rattle.cycle_heads.specs.Candidates.{UsagesByHead}
 use Rattle.evaluations.specs.Frames.{Frame}
 use Rattle.evaluations.proofs.Mirrors.{noted_waits}
-use Rattle.search_graph.specs.declared.graph.open_goals.Received.{Received}
-use Rattle.search_graph.specs.declared.graph.open_goals.Run.{Run}
+use Rattle.open_goals.specs.declared.goals.Received.{Received}
+use Rattle.open_goals.specs.declared.goals.Run.{Run}
 use Rattle.search_graph.specs.Calls.{Call, limits, bound, IsCounted}
-use Rattle.search_graph.specs.Candidates.{enters, finishes, CanIgnore, CanNote, IgnoresNewest, Ignores, NotesCandidate}
+use Rattle.open_goals.specs.Candidates.{enters, finishes, CanIgnore, CanNote, IgnoresNewest, Ignores, NotesCandidate}
 use Rattle.search_graph.specs.Decided.{IsDecided}
-use Rattle.search_graph.specs.Entries.{is_in_cycle}
+use Rattle.open_goals.specs.Entries.{is_in_cycle}
 use Rattle.search_graph.specs.Evaluating.{seen, GoesOn, HasAsked}
 use Rattle.search_parts.specs.Definite.{IsDefinite}
 use Rattle.search_graph.specs.Free.{AreFree}
 use Rattle.search_graph.specs.Justified.{OpenRun, AreJustified, IsFit}
-use Rattle.search_graph.specs.Newest.{change_newest}
-use Rattle.search_graph.specs.Progress.{RunRecord, answered, is_kept, is_marked, received, requested}
+use Rattle.open_goals.specs.Newest.{change_newest}
+use Rattle.open_goals.specs.Progress.{RunRecord, answered, is_kept, is_marked, received, requested}
 use Rattle.search_graph.specs.Runs.{run_of, runs_of}
-use Rattle.search_graph.specs.Steps.{HasStepped, Stood}
+use Rattle.open_goals.specs.Steps.{HasStepped, Stood}
 use Rattle.search_graph.specs.Tallies.{Tally, tally_of, IsTallied}
 use Rattle.search_graph.proofs.DecidedGoals.{changed_decided}
 use Rattle.search_graph.proofs.FreeResults.{all_free_above}

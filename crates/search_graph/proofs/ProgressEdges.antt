@@ -14,8 +14,8 @@ use Rattle.search_parts.specs.Question.{Question}
 use Rattle.search_parts.specs.Graph.{question_of}
 use Rattle.search_parts.specs.Cache.{CacheNode, IsRun, IsNodeOf}
 use Rattle.search_parts.specs.Run.{Progress, Asked, progress_after, is_counted, questions_answered, IsFitting}
-use Rattle.search_graph.specs.declared.graph.progress.DefiniteAnswer.{DefiniteAnswer}
-use Rattle.search_graph.specs.Progress.{RunRecord, is_same_verdict, asked_of, asked_in, asked_with, is_kept, rests_on, edges_of, IsEdgeOfAnswer, Agrees, Records}
+use Rattle.open_goals.specs.declared.progress.DefiniteAnswer.{DefiniteAnswer}
+use Rattle.open_goals.specs.Progress.{RunRecord, is_same_verdict, asked_of, asked_in, asked_with, is_kept, rests_on, edges_of, IsEdgeOfAnswer, Agrees, Records}
 use Rattle.search_graph.proofs.Kept.{kept_twice}
 use Rattle.search_graph.proofs.Verdicts.{same_verdict}
 

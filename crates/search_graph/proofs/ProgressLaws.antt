@@ -12,7 +12,7 @@ use Rattle.search_parts.specs.declared.context.Verdict.TheVariants.{Yes, No, Nei
 use Rattle.search_parts.specs.declared.context.NodeId.{NodeId}
 use Rattle.cycle_heads.specs.declared.path.PathKind.{PathKind}
 use Rattle.search_parts.specs.Run.{Progress, Asked, request_after, progress_after, progress_with, order_fault, fault_after, IsInOrder, is_ignored, open_candidate, Fits}
-use Rattle.search_graph.specs.Progress.{RunRecord, no_record, is_same_verdict, asked_of, asked_in, asked_with, open_number, edge_to, answers_with, answers_after, KeepsAnswer, received, requested, answered, fault_of, Agrees, Records, IsSortedAs, IsReplySorted}
+use Rattle.open_goals.specs.Progress.{RunRecord, no_record, is_same_verdict, asked_of, asked_in, asked_with, open_number, edge_to, answers_with, answers_after, KeepsAnswer, received, requested, answered, fault_of, Agrees, Records, IsSortedAs, IsReplySorted}
 use Rattle.search_graph.proofs.Kept.{kept_more, marked_after_finish, marked_after_ignore}
 use Rattle.search_graph.proofs.Verdicts.{told_by_test}
 

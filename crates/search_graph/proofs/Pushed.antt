@@ -6,9 +6,9 @@ use Rattle.search_parts.specs.declared.context.NodeId.{NodeId}
 use Rattle.search_parts.specs.declared.parts.depth.AvailableDepth.{AvailableDepth}
 use Rattle.search_parts.specs.declared.parts.stack.StackEntry.{StackEntry}
 use Rattle.search_parts.specs.Stack.{fresh_entry}
-use Rattle.search_graph.specs.declared.graph.open_goals.Run.{Run}
-use Rattle.search_graph.specs.Entries.{first_entry}
-use Rattle.search_graph.specs.Progress.{RunRecord, no_record}
+use Rattle.open_goals.specs.declared.goals.Run.{Run}
+use Rattle.open_goals.specs.Entries.{first_entry}
+use Rattle.open_goals.specs.Progress.{RunRecord, no_record}
 
 module _ {X F I R A T : Type 0} (input : I) (kind : PathKind) (depth : AvailableDepth) (own : NodeId) (frame : F) where
   -- a run of the frame with this record and these candidates

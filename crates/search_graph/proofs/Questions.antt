@@ -15,17 +15,17 @@ use Rattle.search_parts.specs.declared.parts.stack.StackEntry.{StackEntry}
 use Rattle.search_parts.specs.Stack.{depth_below}
 use Rattle.search_parts.specs.Delegate.{CountsOne, IsCycleResult}
 use Rattle.evaluations.specs.Frames.{IsAllowed}
-use Rattle.search_graph.specs.declared.graph.open_goals.Run.{Run}
-use Rattle.search_graph.specs.Newest.{newest}
+use Rattle.open_goals.specs.declared.goals.Run.{Run}
+use Rattle.open_goals.specs.Newest.{newest}
 use Rattle.search_parts.specs.declared.context.Reply.{Reply}
 use Rattle.cycle_heads.specs.declared.depth.StackDepth.{StackDepth}
 use Rattle.search_parts.specs.declared.global_cache.results.StoredResult.{StoredResult}
 use Rattle.search_parts.specs.Nested.{NestedPaths}
 use Rattle.search_parts.specs.Store.{Store}
-use Rattle.search_graph.specs.declared.graph.open_goals.Received.{Received}
-use Rattle.search_graph.specs.Entries.{overflowed, with_nested_goals}
+use Rattle.open_goals.specs.declared.goals.Received.{Received}
+use Rattle.open_goals.specs.Entries.{overflowed, with_nested_goals}
 use Rattle.search_graph.specs.LookUp.{UsesStored}
-use Rattle.search_graph.specs.NestedGoals.{NotesOverflow}
+use Rattle.open_goals.specs.NestedGoals.{NotesOverflow}
 use Rattle.search_graph.specs.Calls.{Call}
 use Rattle.search_graph.specs.Evaluating.{seen, HasAsked, GoesOn, HasStopped, KeepsStore}
 use Rattle.search_graph.specs.Moves.{ClosesCycle, Pushes}

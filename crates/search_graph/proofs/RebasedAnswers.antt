@@ -26,7 +26,7 @@ use Rattle.search_parts.specs.declared.parts.provisional_cache.RebaseReason.{Reb
 use Rattle.search_parts.specs.Rebasing.{CanBeRebased, but_highest, from_head, from_new_head, keeps_kinds, rebased, rebased_used, settled, with_used, with_unused}
 use Rattle.search_parts.specs.Shapes.{verdict_of}
 use Rattle.search_parts.proofs.RebasedEntries.{is_used, is_unused}
-use Rattle.search_graph.specs.declared.graph.open_goals.Run.{Run}
+use Rattle.open_goals.specs.declared.goals.Run.{Run}
 use Rattle.search_graph.specs.Justified.{frame_of, frames_of}
 use Rattle.search_graph.specs.KeptShapes.{depths_of, highest_depth, kept_shape, reason_shape}
 use Rattle.search_graph.specs.Runs.{run_of, runs_of}

@@ -16,14 +16,14 @@ use Rattle.search_parts.specs.declared.parts.stack.StackEntry.{StackEntry}
 use Rattle.search_parts.specs.Cache.{CacheNode}
 use Rattle.search_parts.specs.Shapes.{verdict_of}
 use Rattle.search_parts.specs.Run.{Fits, IsFitting, request_after}
-use Rattle.search_graph.specs.declared.graph.open_goals.Run.{Run}
-use Rattle.search_graph.specs.declared.graph.open_goals.Received.{Received}
-use Rattle.search_graph.specs.declared.graph.progress.DefiniteAnswer.{DefiniteAnswer}
-use Rattle.search_graph.specs.Progress.{RunRecord, received, answered, answers_after, IsReplySorted, KeepsAnswer, open_number, edge_to}
+use Rattle.open_goals.specs.declared.goals.Run.{Run}
+use Rattle.open_goals.specs.declared.goals.Received.{Received}
+use Rattle.open_goals.specs.declared.progress.DefiniteAnswer.{DefiniteAnswer}
+use Rattle.open_goals.specs.Progress.{RunRecord, received, answered, answers_after, IsReplySorted, KeepsAnswer, open_number, edge_to}
 use Rattle.search_graph.specs.Justified.{in_theory, AreJustified, MayAnswer, IsFit}
 use Rattle.search_graph.specs.Runs.{run_of, runs_of}
 use Rattle.search_graph.specs.Calls.{Call}
-use Rattle.search_graph.specs.Steps.{IsVerdict}
+use Rattle.open_goals.specs.Steps.{IsVerdict}
 use Rattle.search_graph.specs.Evaluating.{IsWaiting}
 use Rattle.search_graph.proofs.Justified.{answered_is_justified}
 use Rattle.search_graph.proofs.Moves.{can_step_record}

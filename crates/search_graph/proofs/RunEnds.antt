@@ -5,9 +5,9 @@ use Rattle.cycle_heads.specs.declared.usages.HeadUsages.{HeadUsages}
 use Rattle.search_parts.specs.declared.parts.stack.StackEntry.{StackEntry}
 use Rattle.search_graph.specs.declared.graph.finish.RunEnd.{RunEnd}
 use Rattle.search_graph.specs.declared.graph.finish.RunEnd.TheVariants as end
-use Rattle.search_graph.specs.declared.graph.open_goals.Run.{Run}
-use Rattle.search_graph.specs.Entries.{is_in_cycle, some_heads}
-use Rattle.search_graph.specs.Newest.{newest}
+use Rattle.open_goals.specs.declared.goals.Run.{Run}
+use Rattle.open_goals.specs.Entries.{is_in_cycle, some_heads}
+use Rattle.open_goals.specs.Newest.{newest}
 use Rattle.search_graph.specs.RunEnds.{IsRunEnd, Unused, Stable, Limited, Unstable}
 
 module _ {R A : Type 0} (same : R → R → Bool) (initial_kind : R → Option PathKind) (ambiguity : R → Option A) (limit : ℕ) (earlier : Option R) (usages : Option HeadUsages) (finished_runs : ℕ) (r : R) where

@@ -16,13 +16,13 @@ use Rattle.search_parts.specs.Definite.{HasGraph, IsDefinite}
 use Rattle.cycle_heads.specs.HeadShapes.{heads_shape}
 use Rattle.cycle_heads.specs.Path.{rank_of}
 use Rattle.search_parts.specs.Shapes.{verdict_of}
-use Rattle.search_graph.specs.declared.graph.open_goals.Run.{Run}
-use Rattle.search_graph.specs.declared.graph.open_goals.Next.TheVariants.{Step, Finished}
-use Rattle.search_graph.specs.Items.{AnswersNewest, rerun_with, with_no_record}
+use Rattle.open_goals.specs.declared.goals.Run.{Run}
+use Rattle.open_goals.specs.declared.goals.Next.TheVariants.{Step, Finished}
+use Rattle.open_goals.specs.Items.{AnswersNewest, rerun_with, with_no_record}
 use Rattle.search_graph.specs.Justified.{Asks, AreJustified, MayAnswer, IsFit, asked_now, frames_of}
 use Rattle.search_graph.specs.Moves.{IsFresh, Reruns, CanLeave, Leaves}
-use Rattle.search_graph.specs.Newest.{newest, change_newest}
-use Rattle.search_graph.specs.Progress.{RunRecord}
+use Rattle.open_goals.specs.Newest.{newest, change_newest}
+use Rattle.open_goals.specs.Progress.{RunRecord}
 use Rattle.search_parts.specs.declared.global_cache.results.StoredResult.{StoredResult}
 use Rattle.search_parts.specs.Store.{Store}
 use Rattle.search_graph.specs.Free.{IsFree, AreFree}

@@ -17,14 +17,14 @@ use Rattle.evaluations.specs.Frames.{Outcome, answered, IsAllowed}
 use Rattle.evaluations.specs.Plain.{IsSafeOutcome}
 use Rattle.evaluations.specs.Mirror.{with_replies, TakesReply}
 use Rattle.evaluations.proofs.Mirrors.{answered_waits}
-use Rattle.search_graph.specs.declared.graph.open_goals.Received.{Received}
-use Rattle.search_graph.specs.declared.graph.open_goals.Run.{Run}
+use Rattle.open_goals.specs.declared.goals.Received.{Received}
+use Rattle.open_goals.specs.declared.goals.Run.{Run}
 use Rattle.search_graph.specs.Calls.{Call, runs, limits, bound, IsCounted}
-use Rattle.search_graph.specs.Entries.{with_depth, with_nested_goals, is_in_cycle}
+use Rattle.open_goals.specs.Entries.{with_depth, with_nested_goals, is_in_cycle}
 use Rattle.search_graph.specs.Evaluating.{Begins, KeepsStore, seen, HasAsked, GoesOn, HasEnded}
 use Rattle.search_graph.specs.LookUp.{IsUsable, UsesStored}
 use Rattle.search_graph.specs.Results.{AreDefinite, HaveNoOverflow}
-use Rattle.search_graph.specs.Steps.{Stood}
+use Rattle.open_goals.specs.Steps.{Stood}
 use Rattle.search_graph.proofs.DecidedGoals.{changed_decided}
 use Rattle.search_graph.proofs.Moves.{some_frames, some_runs}
 

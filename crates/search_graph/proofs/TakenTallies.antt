@@ -19,7 +19,7 @@ use Rattle.cycle_heads.proofs.Counts.{count_of-usages_by}
 use Rattle.cycle_heads.proofs.HeadShapes.{IsIn, joined_after}
 use Rattle.cycle_heads.proofs.PathLaws.{has_kind-union}
 use Rattle.search_parts.specs.declared.parts.stack.EntryState.{EntryState}
-use Rattle.search_graph.specs.Entries.{TakesHeads, joined_over, usages_over}
+use Rattle.open_goals.specs.Entries.{TakesHeads, joined_over, usages_over}
 use Rattle.search_graph.specs.Tallies.{IsCovered, IsTallied, LieBelow, candidate_at, candidates_count, counted, head_with, heads_of, spare, tally_of, usages_of}
 use Rattle.search_graph.proofs.Tallies.{GrowsInto, IsMore, all_grown, counted_head, counted_other, counted_own, counts_by_rank, more_spare, none_counted, of_kind, spare_more, usages_in}
 

@@ -6,7 +6,7 @@ use Rattle.search_parts.specs.declared.context.Reply.{Reply}
 use Rattle.search_parts.specs.declared.parts.stack.StackEntry.{StackEntry}
 use Rattle.search_parts.specs.Decisive.{IsDecidedKind, AreDecided, IsDecisive}
 use Rattle.search_parts.specs.Definite.{IsDefinite}
-use Rattle.search_graph.specs.declared.graph.open_goals.Run.{Run}
+use Rattle.open_goals.specs.declared.goals.Run.{Run}
 
 module _ {X F I R A T : Type 0} (is_yes is_no : R → Bool) where
   -- the replies of the goal's run and its provisional result are decided

@@ -18,10 +18,10 @@ use Rattle.search_graph.specs.Calls.{Call, Outset, runs, limits, bound, IsCounte
 use Rattle.search_parts.specs.Decisive.{IsDecidedReply}
 use Rattle.search_parts.specs.Definite.{IsDefinite}
 use Rattle.search_graph.specs.Decided.{AllDecided, WhereDecisive}
-use Rattle.search_graph.specs.Entries.{is_in_cycle}
-use Rattle.search_graph.specs.Steps.{Item, Stood}
-use Rattle.search_graph.specs.declared.graph.open_goals.Next.{Next}
-use Rattle.search_graph.specs.declared.graph.open_goals.Next.TheVariants.{Step, Finished}
+use Rattle.open_goals.specs.Entries.{is_in_cycle}
+use Rattle.open_goals.specs.Steps.{Item, Stood}
+use Rattle.open_goals.specs.declared.goals.Next.{Next}
+use Rattle.open_goals.specs.declared.goals.Next.TheVariants.{Step, Finished}
 
 module _ {D C V P F I R A T : Type 0} (G : Delegate.Ghosts D C V P F I R A T) (X : Cx.Ghosts C I R A T) (cx : C) where
   -- an item as a frame of the theory, but for its replies

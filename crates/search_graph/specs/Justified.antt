@@ -18,8 +18,8 @@ use Rattle.cycle_heads.specs.HeadShapes.{heads_shape}
 use Rattle.cycle_heads.specs.Path.{rank_of}
 use Rattle.search_parts.specs.Cache.{CacheNode, open_goal, IsNodeOf}
 use Rattle.search_parts.specs.Shapes.{verdict_of, edge_shape, shapes_of}
-use Rattle.search_graph.specs.declared.graph.progress.DefiniteAnswer.{DefiniteAnswer}
-use Rattle.search_graph.specs.Progress.{is_kept}
+use Rattle.open_goals.specs.declared.progress.DefiniteAnswer.{DefiniteAnswer}
+use Rattle.open_goals.specs.Progress.{is_kept}
 use Rattle.search_graph.specs.Tallies.{Tally, IsTallied, spare_heads, heads_of}
 
 -- A goal under evaluation: the step by which it was asked; the node of its present run, and the one to which the answers of its

@@ -1,13 +1,7 @@
-pub mod Newest
-pub mod Entries
 pub mod Results
-pub mod NestedGoals
 pub mod LookUp
-pub mod Items
-pub mod Candidates
 pub mod Decided
 pub mod Calls
-pub mod Steps
 pub mod Evaluating
 pub mod Moves
 pub mod Graph
@@ -15,7 +9,6 @@ pub mod Tallies
 pub mod Justified
 pub mod Free
 pub mod KeptAnswers
-pub mod Progress
 pub mod Runs
 pub mod RunEnds
 pub mod Lists

@@ -13,9 +13,9 @@ use Rattle.search_parts.specs.LookUp.{Hit}
 use Rattle.search_parts.specs.Nested.{NestedPaths, paths_at}
 use Rattle.search_parts.specs.Rank.{IsPlain, IsBelowRank}
 use Rattle.search_parts.specs.Store.{Store, stored_at}
-use Rattle.search_graph.specs.declared.graph.open_goals.Received.{Received}
-use Rattle.search_graph.specs.declared.graph.open_goals.Run.{Run}
-use Rattle.search_graph.specs.NestedGoals.{TakesStored}
+use Rattle.open_goals.specs.declared.goals.Received.{Received}
+use Rattle.open_goals.specs.declared.goals.Run.{Run}
+use Rattle.open_goals.specs.NestedGoals.{TakesStored}
 
 module _ {X I R A T : Type 0} (same : I → I → Bool) where
   -- no goal below the result is on the stack

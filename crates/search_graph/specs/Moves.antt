@@ -11,13 +11,13 @@ use Rattle.cycle_heads.specs.declared.depth.StackDepth.{StackDepth}
 use Rattle.search_parts.specs.declared.parts.result.EvaluationResult.{EvaluationResult}
 use Rattle.search_parts.specs.declared.parts.stack.StackEntry.{StackEntry}
 use Rattle.search_parts.specs.Cycle.{path_kind_from}
-use Rattle.search_graph.specs.Entries.{cycle_head, first_entry}
-use Rattle.search_graph.specs.Items.{AnswersNewest, rerun_with, with_no_record}
-use Rattle.search_graph.specs.Progress.{no_record}
-use Rattle.search_graph.specs.Steps.{Item}
-use Rattle.search_graph.specs.declared.graph.open_goals.Run.{Run}
-use Rattle.search_graph.specs.declared.graph.open_goals.Next.{Next}
-use Rattle.search_graph.specs.declared.graph.open_goals.Next.TheVariants.{Step, Finished}
+use Rattle.open_goals.specs.Entries.{cycle_head, first_entry}
+use Rattle.open_goals.specs.Items.{AnswersNewest, rerun_with, with_no_record}
+use Rattle.open_goals.specs.Progress.{no_record}
+use Rattle.open_goals.specs.Steps.{Item}
+use Rattle.open_goals.specs.declared.goals.Run.{Run}
+use Rattle.open_goals.specs.declared.goals.Next.{Next}
+use Rattle.open_goals.specs.declared.goals.Next.TheVariants.{Step, Finished}
 
 module _ {D C V P F I R A T : Type 0} (G : Delegate.Ghosts D C V P F I R A T) (X : Cx.Ghosts C I R A T) (cx : C) where
   -- a frame of the goal that has had no reply

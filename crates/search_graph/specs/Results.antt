@@ -12,7 +12,7 @@ use Rattle.search_parts.specs.Definite.{IsDefinite}
 use Rattle.search_parts.specs.Store.{Store, stored_at, place_of, stored_from, Puts}
 use Rattle.search_parts.specs.Rank.{IsPlainTo}
 use Rattle.search_parts.specs.Stored.{IsPlainAt}
-use Rattle.search_graph.specs.declared.graph.open_goals.Run.{Run}
+use Rattle.open_goals.specs.declared.goals.Run.{Run}
 use Rattle.search_graph.specs.Graph.{ComesTo}
 
 -- no result is stored that met overflow

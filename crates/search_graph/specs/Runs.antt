@@ -10,10 +10,10 @@ use Rattle.search_parts.specs.declared.parts.stack.StackEntry.{StackEntry}
 use Rattle.search_parts.specs.Run.{IsFitting, request_after}
 use Rattle.search_parts.specs.Cache.{EndedRun, CacheNode, open_goal, with_run}
 use Rattle.search_parts.specs.Shapes.{verdict_of}
-use Rattle.search_graph.specs.declared.graph.open_goals.Run.{Run}
-use Rattle.search_graph.specs.declared.graph.open_goals.Next.{Next}
-use Rattle.search_graph.specs.declared.graph.open_goals.Next.TheVariants.{Step, Finished}
-use Rattle.search_graph.specs.Progress.{RunRecord, Records, acted}
+use Rattle.open_goals.specs.declared.goals.Run.{Run}
+use Rattle.open_goals.specs.declared.goals.Next.{Next}
+use Rattle.open_goals.specs.declared.goals.Next.TheVariants.{Step, Finished}
+use Rattle.open_goals.specs.Progress.{RunRecord, Records, acted}
 use Rattle.search_graph.specs.Tallies.{tally_of}
 use Rattle.search_parts.specs.Definite.{HasGraph}
 use Rattle.search_graph.specs.Justified.{OpenRun, AreJustified, IsFit, ArePlaced, AreEdges}

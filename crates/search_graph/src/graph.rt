@@ -12,19 +12,15 @@ ghost use Rattle.evaluations.specs.Price.{IsPaid};
 ghost use Rattle.search_graph.specs.Graph.{IsCaused, IsProved, IsRefuted};
 ghost use Rattle.search_graph.specs.Results.{AreDefinite, HaveNoOverflow};
 
-mod candidates;
 mod evaluate;
 mod finish;
 mod list;
 mod look_up;
-mod open_goals;
-mod progress;
 mod question;
 mod store;
-mod update;
 
 use evaluate::evaluate;
-use open_goals::OpenGoals;
+use open_goals::goals::OpenGoals;
 use search_parts::context::{Answer, Cx, Delegate, Fault};
 use search_parts::global_cache::GlobalCache;
 use search_parts::parts::{AvailableDepth, CandidateHeadUsages};

@@ -13,7 +13,7 @@ ghost use Rattle.search_graph.specs.Runs.{runs_of, IsJustifiedNext};
 
 use crate::graph::finish::finish_run;
 use crate::graph::look_up::look_up;
-use crate::graph::open_goals::{Next, OpenGoals, Received, step};
+use open_goals::goals::{Next, OpenGoals, Received, step};
 use crate::graph::question::{ask, push_goal};
 use search_parts::context::{Answer, Cx, Delegate, Fault, Reply, Request};
 use search_parts::global_cache::GlobalCache;

@@ -16,12 +16,12 @@ ghost use Rattle.search_graph.specs.Graph.{IsCaused};
 ghost use Rattle.search_graph.specs.Results.{IsNewestPlainTo, IsNewestStored, MayPutNewest, NewestComesTo, NewestIsPlain};
 ghost use Rattle.search_graph.specs.Justified.{in_theory, AreJustified};
 ghost use Rattle.search_graph.specs.Moves.{CanLeave, GivesAnswer, Leaves, Reruns};
-ghost use Rattle.search_graph.specs.Newest.{newest};
+ghost use Rattle.open_goals.specs.Newest.{newest};
 ghost use Rattle.search_graph.specs.RunEnds.{IsRunEnd, IsStable, ReachedFixpoint};
 ghost use Rattle.search_graph.specs.Runs.{runs_of, EndsRun, EndsNewest, IsSettled, IsJustifiedNext};
 
-use crate::graph::open_goals::{Next, OpenGoals, Received, Run};
-use crate::graph::progress::Progress;
+use open_goals::goals::{Next, OpenGoals, Received, Run};
+use open_goals::progress::Progress;
 use crate::graph::store::store_answer;
 use search_parts::context::{Answer, Cx, Delegate, Fault, NoMemory, NodeId, Reply, Verdict};
 use search_parts::global_cache::GlobalCache;

@@ -1,10 +1,10 @@
 use Rattle.std.proofs.Common.{refl, sym, subst}
-use Rattle.search_graph.specs.Steps.{CanStep}
+use Rattle.open_goals.specs.Steps.{CanStep}
 use Rattle.search_graph.specs.Evaluating.{GoesOn, HasStopped, KeepsStore, work_left}
 use Rattle.search_graph.specs.Justified.{IsFit}
 use Rattle.search_graph.specs.Runs.{runs_of}
 use Rattle.search_parts.specs.declared.context.Request.{Request}
-use Rattle.search_graph.specs.Candidates.{NotesCandidate}
+use Rattle.open_goals.specs.Candidates.{NotesCandidate}
 use Rattle.search_graph.proofs.Moves.{asked_stopped, can_step}
 use Rattle.search_graph.proofs.Noted.{about_candidates, can_note, noted_is_justified, noting_goes_on, noting_keeps_free}
 use Rattle.search_graph.proofs.Questions.{if_err_and}

@@ -1,8 +1,8 @@
 use Rattle.std.proofs.Common.{◌≡◌, ◌<◌, ◌∙◌, ◌∷◌, [], false, Some, get_or, arith, length, map, reverse, unwrap_or, ap, sym, subst}
 use Rattle.std.proofs.lemmas.List.{length-map, length-reverse}
 use Rattle.std.proofs.lemmas.Option.{slice_get-get_or}
-use Rattle.search_graph.specs.Entries.{cycle_head}
-use Rattle.search_graph.specs.Items.{AnswersNewest}
+use Rattle.open_goals.specs.Entries.{cycle_head}
+use Rattle.open_goals.specs.Items.{AnswersNewest}
 use Rattle.search_parts.specs.declared.context.Reply.TheVariants.{Answer}
 use Rattle.search_parts.specs.Cycle.{path_kind_from}
 use Rattle.search_graph.specs.Justified.{IsFit}

@@ -1,0 +1,108 @@
+-- Two lists of one length, side by side, from their ends.
+use Rattle.std.proofs.Common.{◌≡◌, ℕ, zero, suc, get_or, slice_set, ◌+◌, ◌<◌, List, [], ◌∷◌, ◌++◌, length, map, Bool, true, false, ◌||◌, Option, Some, None, is_some, refl, sym, ap, ap₂, ◌∙◌, zero-add, arith}
+use Rattle.std.specs.List.{position, list_any}
+use Rattle.std.proofs.lemmas.Bool.Decides.{nat_tests}
+use Rattle.std.proofs.lemmas.List.{length-map, length-append}
+use Rattle.std.proofs.lemmas.List.Sums.{prefix_len-le-length}
+use Rattle.std.proofs.lemmas.List.Quantifiers.{position-Some}
+use Rattle.open_goals.specs.Newest.{paired}
+use Rattle.search_parts.specs.Lent.{change_last}
+
+turned : (a b c : Bool) → (b || (a || c)) ≡ ((a || b) || c)
+turned true true c = refl
+turned true false c = refl
+turned false true c = refl
+turned false false c = refl
+
+or_false : (a : Bool) → (a || false) ≡ a
+or_false true = refl
+or_false false = refl
+
+pub is_none : {A : Type 0} (o : Option A) → is_some o ≡ false → o ≡ None
+is_none None absent = refl
+is_none (Some x) absent = cc
+
+none_is_not_some : {A : Type 0} {x : A} → ◌≡◌ {A = Option A} None (Some x) → ⊥
+none_is_not_some is = cc
+
+module _ {E F : Type 0} where
+  pub length-paired : (below : List (E × F)) (es : List E) (fs : List F) → length es ≡ length fs → length (paired below es fs) ≡ length below + length fs
+  length-paired below [] [] same = omega arith
+  length-paired below [] (f ∷ fs) same = absurd (omega arith)
+  length-paired below (e ∷ es) [] same = absurd (omega arith)
+  length-paired below (e ∷ es) (f ∷ fs) same = omega (arith, length-paired ((e, f) ∷ below) es fs (omega arith))
+
+  pub paired_push : (below : List (E × F)) (es : List E) (fs : List F) (e : E) (f : F) → length es ≡ length fs → paired below (es ++ e ∷ []) (fs ++ f ∷ []) ≡ (e, f) ∷ paired below es fs
+  paired_push below [] [] e f same = refl
+  paired_push below [] (x ∷ fs) e f same = absurd (omega arith)
+  paired_push below (x ∷ es) [] e f same = absurd (omega arith)
+  paired_push below (x ∷ es) (y ∷ fs) e f same = paired_push ((x, y) ∷ below) es fs e f (omega arith)
+
+  -- the test is of the first half of each pair
+  pub list_any-paired : (test : E → Bool) (below : List (E × F)) (es : List E) (fs : List F) → length es ≡ length fs → list_any (λ s. test s.0) (paired below es fs) ≡ (list_any test es || list_any (λ s. test s.0) below)
+  list_any-paired test below [] [] same = refl
+  list_any-paired test below [] (f ∷ fs) same = absurd (omega arith)
+  list_any-paired test below (e ∷ es) [] same = absurd (omega arith)
+  list_any-paired test below (e ∷ es) (f ∷ fs) same = list_any-paired test ((e, f) ∷ below) es fs (omega arith) ∙ turned (test e) (list_any test es) (list_any (λ s. test s.0) below)
+
+module _ {E I : Type 0} (f : E → I) where
+  found-step : (p : I → Bool) (e : E) (es : List E) → is_some (position p (map f es)) ≡ list_any (λ x. p (f x)) es → is_some (position p (map f (e ∷ es))) ≡ list_any (λ x. p (f x)) (e ∷ es)
+  found-step p e es ih = grind (arith, nat_tests, prefix_len-le-length)
+
+  pub is_some_position_map : (p : I → Bool) (es : List E) → is_some (position p (map f es)) ≡ list_any (λ e. p (f e)) es
+  is_some_position_map p [] = refl
+  is_some_position_map p (e ∷ es) = found-step p e es (is_some_position_map p es)
+
+  pub position_none_map : (p : I → Bool) (es : List E) → list_any (λ e. p (f e)) es ≡ false → position p (map f es) ≡ None
+  position_none_map p es none = is_none _ (is_some_position_map p es ∙ none)
+
+  -- what `position` gives is an index of the list
+  pub position_below : (p : I → Bool) (es : List E) (i : ℕ) → position p (map f es) ≡ Some i → i < length es
+  position_below p [] i is = absurd (none_is_not_some is)
+  position_below p (e ∷ es) i is = simp length-map at ((position-Some p (map f (e ∷ es)) i (f e) is).0)
+
+  -- what a look-up among the first halves says of the pairs
+  pub found_in_paired : {F : Type 0} (p : I → Bool) (es : List E) (fs : List F) (view : List (E × F)) (b : Bool) → length es ≡ length fs → paired [] es fs ≡ view → b ≡ is_some (position p (map f es)) → b ≡ list_any (λ s. p (f s.0)) view
+  found_in_paired p es fs view b same is found =
+      found ∙ is_some_position_map p es ∙ sym (or_false _) ∙ sym (list_any-paired (λ e. p (f e)) [] es fs same) ∙ ap (list_any (λ s. p (f s.0))) is
+
+  pub absent_from_paired : {F : Type 0} (p : I → Bool) (es : List E) (fs : List F) (view : List (E × F)) → length es ≡ length fs → paired [] es fs ≡ view → list_any (λ s. p (f s.0)) view ≡ false → position p (map f es) ≡ None
+  absent_from_paired p es fs view same is absent = is_none _ (found_in_paired p es fs view _ same is refl ∙ absent)
+
+module _ {E F : Type 0} where
+  pub length_of_view : (es : List E) (fs : List F) (view : List (E × F)) → length es ≡ length fs → paired [] es fs ≡ view → (length es ≡ length view) × (length fs ≡ length view)
+  length_of_view es fs view same is = let whole : length view ≡ length fs = ap length (sym is) ∙ length-paired [] es fs same ∙ zero-add (length fs) in (same ∙ sym whole, sym whole)
+
+  pub popped_paired : (es es' : List E) (fs fs' : List F) (e : E) (f : F) (view : List (E × F)) → length es ≡ length fs → paired [] es fs ≡ view → es ≡ es' ++ e ∷ [] → fs ≡ fs' ++ f ∷ [] → (length es' ≡ length fs') × (view ≡ (e, f) ∷ paired [] es' fs')
+  popped_paired es es' fs fs' e f view same is first second =
+      let shorter : length es' ≡ length fs' = omega (arith, same, ap length first, ap length second, length-append es' (e ∷ []), length-append fs' (f ∷ [])) in
+      (shorter, sym is ∙ ap₂ (paired []) first second ∙ paired_push [] es' fs' e f shorter)
+
+  pub pushed_paired : (es es' : List E) (fs fs' : List F) (e : E) (f : F) (view : List (E × F)) → length es ≡ length fs → paired [] es fs ≡ view → es' ≡ es ++ e ∷ [] → fs' ≡ fs ++ f ∷ [] → (length es' ≡ length fs') × (paired [] es' fs' ≡ (e, f) ∷ view)
+  pushed_paired es es' fs fs' e f view same is first second =
+      let longer : length es' ≡ length fs' = omega (arith, same, ap length first, ap length second, length-append es (e ∷ []), length-append fs (f ∷ [])) in
+      (longer, ap₂ (paired []) first second ∙ paired_push [] es fs e f same ∙ ap (λ l. (e, f) ∷ l) is)
+
+-- what stands last in two lists of one length, and what the pairs are after either last element is changed
+pub record LastPair {E F : Type 0} (below : List (E × F)) (es : List E) (fs : List F) (n : ℕ) (d : F) : Type 0 where
+  pub entry : E
+  pub rest : List (E × F)
+  pub is : paired below es fs ≡ (entry, get_or fs n d) ∷ rest
+  pub after_set : (x : F) → paired below es (slice_set fs n x) ≡ (entry, x) ∷ rest
+  pub after_change : (g : E → E) → paired below (change_last g es) fs ≡ (g entry, get_or fs n d) ∷ rest
+  pub after_both : (g : E → E) (x : F) → paired below (change_last g es) (slice_set fs n x) ≡ (g entry, x) ∷ rest
+  pub entry_is : (c : E) → get_or es n c ≡ entry
+
+module _ {E F : Type 0} where
+  pub last_pair : (below : List (E × F)) (es : List E) (fs : List F) (n : ℕ) (d : F) → length es ≡ length fs → suc n ≡ length fs → LastPair below es fs n d
+  last_pair below [] [] n d same at = absurd (omega arith)
+  last_pair below [] (f ∷ fs) n d same at = absurd (omega arith)
+  last_pair below (e ∷ es) [] n d same at = absurd (omega arith)
+  last_pair below (e ∷ []) (f ∷ []) zero d same at = record { entry = e; rest = below; is = refl; after_set = λ x. refl; after_change = λ g. refl; after_both = λ g x. refl; entry_is = λ c. refl }
+  last_pair below (e ∷ []) (f ∷ []) (suc n) d same at = absurd (omega arith)
+  last_pair below (e ∷ []) (f ∷ f' ∷ fs) n d same at = absurd (omega arith)
+  last_pair below (e ∷ e' ∷ es) (f ∷ []) n d same at = absurd (omega arith)
+  last_pair below (e ∷ e' ∷ es) (f ∷ f' ∷ fs) zero d same at = absurd (omega arith)
+  last_pair below (e ∷ e' ∷ es) (f ∷ f' ∷ fs) (suc n) d same at =
+      let inner = last_pair ((e, f) ∷ below) (e' ∷ es) (f' ∷ fs) n d (omega arith) (omega arith) in
+      record { entry = inner.entry; rest = inner.rest; is = inner.is; after_set = inner.after_set; after_change = inner.after_change; after_both = inner.after_both; entry_is = inner.entry_is }

@@ -1,0 +1,64 @@
+-- One step of the newest goal's frame.
+use Rattle.std.proofs.Common.{◌≡◌, ℕ, ◌-◌, ◌<◌, List, [], ◌∷◌, length, get_or, slice_set, Option, Some, None, refl, sym, ap, ◌∙◌, subst, arith}
+use Rattle.search_parts.specs.declared.context.Delegate as Delegate
+use Rattle.search_parts.specs.declared.context.Cx as Cx
+use Rattle.search_parts.specs.declared.context.Request.{Request}
+use Rattle.search_parts.specs.declared.parts.stack.StackEntry.{StackEntry}
+use Rattle.search_parts.specs.Delegate.{CanTake, Steps}
+use Rattle.search_parts.specs.declared.context.Verdict.{Verdict}
+use Rattle.search_parts.specs.declared.context.Fault.{Fault}
+use Rattle.search_parts.specs.declared.context.Fault.TheVariants.{Protocol}
+use Rattle.open_goals.specs.declared.goals.Run.{Run}
+use Rattle.open_goals.specs.declared.goals.Received.{Received}
+use Rattle.open_goals.specs.Progress.{received, requested, fault_of}
+use Rattle.open_goals.specs.Newest.{paired}
+use Rattle.open_goals.specs.Steps.{CanStep, IsVerdict, HasStepped, IsStepFault, OutOfOrder}
+use Rattle.open_goals.proofs.Pairs.{last_pair, length_of_view}
+
+module _ {D C V P F I R A T : Type 0} (G : Delegate.Ghosts D C V P F I R A T) (X : Cx.Ghosts C I R A T) (cx : C) (given : Received R) where
+  -- a frame that can take a reply is there
+  pub some_item : (view : List (StackEntry C I R A T × Run C F I R A T)) → CanStep G X cx given.reply view → 0 < length view
+  some_item [] can = absurd can
+  some_item (s ∷ below) can = omega arith
+
+  module _ (es : List (StackEntry C I R A T)) (fs : List (Run C F I R A T)) (view : List (StackEntry C I R A T × Run C F I R A T)) (same : length es ≡ length fs) (is : paired [] es fs ≡ view) (can : CanStep G X cx given.reply view) where
+    some_run : 0 < length fs
+    some_run = omega (arith, (length_of_view es fs view same is).1, some_item view can)
+
+    -- the run at the last index can take the reply
+    pub last_can_take : (n : ℕ) (run : Run C F I R A T) → n ≡ length fs - 1 → run ≡ get_or fs n run → CanTake G.stands G.script run.frame given.reply
+    last_can_take n run at run_is =
+        let last = last_pair [] es fs n run same (omega (arith, some_run)) in
+        let shown : CanStep G X cx given.reply ((last.entry, get_or fs n run) ∷ last.rest) = subst (CanStep G X cx given.reply) (sym is ∙ last.is) can in
+        let there : CanStep G X cx given.reply ((last.entry, run) ∷ last.rest) = subst (λ (x : Run C F I R A T). CanStep G X cx given.reply ((last.entry, x) ∷ last.rest)) (sym run_is) shown in
+        record { cx = cx; goal = last.entry.input; replies = there.0; stood = there.1; is_fitting = there.2 }
+
+    module _ (n : ℕ) (run : Run C F I R A T) (at : n ≡ length fs - 1) (run_is : run ≡ get_or fs n run) (verdict : Verdict) (is_verdict : IsVerdict X.is_yes X.is_no given.reply verdict) (request : Request I R) (frame : F) (steps : Steps G.stands G.script run.frame given.reply request frame) where
+      -- the last run took the reply, and requested
+      pub last_stepped : (after : Run C F I R A T) → after ≡ record run { frame = frame; progress = requested (received run.progress given.reply verdict given.node) request } → fault_of (received run.progress given.reply verdict given.node) request ≡ None → G.left frame < G.left run.frame → HasStepped G X cx given request view (paired [] es (slice_set fs n after))
+      last_stepped after after_is orderly falls =
+          let last = last_pair [] es fs n run same (omega (arith, some_run)) in
+          record {
+            entry = last.entry;
+            run = run;
+            frame = frame;
+            verdict = verdict;
+            below = last.rest;
+            was = sym is ∙ last.is ∙ ap (λ (x : Run C F I R A T). (last.entry, x) ∷ last.rest) (sym run_is);
+            is = last.after_set after ∙ ap (λ (x : Run C F I R A T). (last.entry, x) ∷ last.rest) after_is;
+            is_verdict = is_verdict;
+            in_order = orderly;
+            falls = falls;
+            steps = steps;
+          }
+
+      -- or requested out of order
+      pub last_out_of_order : (number : ℕ) (fault : Fault I R) → fault_of (received run.progress given.reply verdict given.node) request ≡ Some number → fault ≡ Protocol number → IsStepFault G X cx given view fault
+      last_out_of_order number fault disorderly fault_is =
+          let last = last_pair [] es fs n run same (omega (arith, some_run)) in
+          OutOfOrder last.entry run frame verdict last.rest request number
+          (sym is ∙ last.is ∙ ap (λ (x : Run C F I R A T). (last.entry, x) ∷ last.rest) (sym run_is)) is_verdict steps disorderly fault_is
+
+pub none_is : {A : Type 0} (o : Option A) → ((x : A) → o ≡ Some x → ⊥) → o ≡ None
+none_is None never = refl
+none_is (Some x) never = absurd (never x refl)

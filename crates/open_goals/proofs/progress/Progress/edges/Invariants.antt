@@ -1,0 +1,8 @@
+use Rattle.std.proofs.Common.{◌≡◌, map, take}
+use Rattle.std.specs.List.{filter}
+use Rattle.open_goals.specs.Progress.{rests_on}
+use Rattle.open_goals.proofs.progress.Progress.edges.Given as goal
+
+-- the edges of the answers so far
+abbrev pub invariant-loop-answer : goal.invariant-loop-answer
+invariant-loop-answer g l = l.edges.items ≡ map (λ d. d.edge) (filter (rests_on l.self.ignored l.verdict) (take l.answer-index l.self.answers))

@@ -1,0 +1,44 @@
+use Rattle.std.proofs.Common.{◌≡◌, sym, ap, ◌∙◌, subst, option_map}
+use Rattle.std.proofs.lemmas.Map.Iter.{rest_more}
+use Rattle.std.specs.Map.Iter.{deref_pair}
+use Rattle.cycle_heads.specs.declared.depth.StackDepth.{StackDepth}
+use Rattle.cycle_heads.specs.Heads.{at_depth, IsRising}
+use Rattle.cycle_heads.proofs.HeadLists.{absent_later, rising_later}
+use Rattle.open_goals.specs.Candidates.{less_usages, CanIgnore}
+use Rattle.open_goals.specs.Entries.{is_in_cycle}
+use Rattle.open_goals.proofs.IgnoredHeads.{left_at, head_ignored, usages_ignored, cycle_stays, others_kept, first_counts, rest_counts}
+use Rattle.open_goals.proofs.update.ignore_usages.Goals as goal
+
+pub ignore_head-requires : goal.ignore_head-requires
+ignore_head-requires g c =
+    let head = c.in-Some.head.now in
+    let usages = c.in-Some.usages.now in
+    let more = rest_more deref_pair _ _ _ (c.in-Some.head, c.in-Some.usages) c.in-Some.is c.next.ensures.steps in
+    let i = c.loop-head.invariant in
+    let once = absent_later head usages c.next.new.self (subst IsRising more i.5) in
+    first_counts c.args.parent head usages c.next.new.self once c.loop-head.state (subst (λ l. CanIgnore c.args.parent l c.loop-head.state) more i.4)
+
+pub loop-head-preserved : goal.loop-head-preserved
+loop-head-preserved g c =
+    let head = c.in-Some.head.now in
+    let usages = c.in-Some.usages.now in
+    let rest = c.next.new.self in
+    let more = rest_more deref_pair _ _ _ (c.in-Some.head, c.in-Some.usages) c.in-Some.is c.next.ensures.steps in
+    let i = c.loop-head.invariant in
+    let rising = subst IsRising more i.5 in
+    let once = absent_later head usages rest rising in
+    subst (λ s. (s ≡ record c.args.state.now { heads = s.heads; usages = s.usages })
+    × (option_map (λ own. less_usages own (at_depth rest c.args.parent)) s.usages ≡ option_map (λ own. less_usages own (at_depth c.into_iter-head-iterator.result c.args.parent)) c.args.state.now.usages)
+    × ((depth : StackDepth) → left_at c.args.parent depth (at_depth s.heads depth) (at_depth rest depth) ≡ left_at c.args.parent depth (at_depth c.args.state.now.heads depth) (at_depth c.into_iter-head-iterator.result depth))
+    × (is_in_cycle s ≡ is_in_cycle c.args.state.now)
+    × CanIgnore c.args.parent rest s
+    × IsRising rest) (sym c.ignore_head.ensures) (
+      others_kept c.args.parent head usages rest once c.loop-head.state c.args.state.now i.0,
+      usages_ignored c.args.parent head usages rest once c.loop-head.state ∙ ap (λ l. option_map (λ own. less_usages own (at_depth l c.args.parent)) c.loop-head.state.usages) (sym more) ∙ i.1,
+      λ depth. head_ignored c.args.parent head usages rest once c.loop-head.state depth
+          ∙ ap (λ l. left_at c.args.parent depth (at_depth c.loop-head.state.heads depth) (at_depth l depth)) (sym more)
+          ∙ i.2 depth,
+      cycle_stays c.args.parent head usages rest once c.loop-head.state ∙ i.3,
+      rest_counts c.args.parent head usages rest once c.loop-head.state (subst (λ l. CanIgnore c.args.parent l c.loop-head.state) more i.4),
+      rising_later head usages rest rising,
+    )

@@ -1,0 +1,17 @@
+use Rattle.std.proofs.Common.{◌≡◌, option_map}
+use Rattle.cycle_heads.specs.declared.depth.StackDepth.{StackDepth}
+use Rattle.cycle_heads.specs.Heads.{at_depth, IsRising}
+use Rattle.open_goals.specs.Entries.{is_in_cycle}
+use Rattle.open_goals.specs.Candidates.{less_usages, CanIgnore}
+use Rattle.open_goals.proofs.IgnoredHeads.{left_at}
+use Rattle.open_goals.proofs.update.ignore_usages.Given as goal
+
+-- what is left and what was taken away are together what the candidate used, and what is left can still be taken away
+abbrev pub invariant-loop-head : goal.invariant-loop-head
+invariant-loop-head g l =
+    (l.state ≡ record l.initial.state { heads = l.state.heads; usages = l.state.usages })
+    × (option_map (λ own. less_usages own (at_depth l.head-iterator l.parent)) l.state.usages ≡ option_map (λ own. less_usages own (at_depth l.initial.head-iterator l.parent)) l.initial.state.usages)
+    × ((depth : StackDepth) → left_at l.parent depth (at_depth l.state.heads depth) (at_depth l.head-iterator depth) ≡ left_at l.parent depth (at_depth l.initial.state.heads depth) (at_depth l.initial.head-iterator depth))
+    × (is_in_cycle l.state ≡ is_in_cycle l.initial.state)
+    × CanIgnore l.parent l.head-iterator l.state
+    × IsRising l.head-iterator

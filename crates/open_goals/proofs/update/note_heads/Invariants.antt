@@ -1,0 +1,16 @@
+use Rattle.std.proofs.Common.{◌≡◌, ◌||◌}
+use Rattle.cycle_heads.specs.declared.depth.StackDepth.{StackDepth}
+use Rattle.cycle_heads.specs.Heads.{at_depth, IsRising}
+use Rattle.open_goals.specs.Entries.{some_heads, usages_over, is_in_cycle}
+use Rattle.open_goals.proofs.TakenHeads.{counted_over, head_over}
+use Rattle.open_goals.proofs.update.note_heads.Given as goal
+
+-- the heads that are left and those that were taken over are together those of the answer
+abbrev pub invariant-loop-head : goal.invariant-loop-head
+invariant-loop-head g l =
+    (l.state ≡ record l.initial.state { heads = l.state.heads; usages = l.state.usages; candidate_usages = l.state.candidate_usages })
+    × (usages_over l.state.usages (at_depth l.head-iterator l.parent) ≡ usages_over l.initial.state.usages (at_depth l.initial.head-iterator l.parent))
+    × ((depth : StackDepth) → head_over l.parent l.step depth (at_depth l.state.heads depth) (at_depth l.head-iterator depth) ≡ head_over l.parent l.step depth (at_depth l.initial.state.heads depth) (at_depth l.initial.head-iterator depth))
+    × ((depth : StackDepth) → counted_over depth l.state.candidate_usages (at_depth l.head-iterator depth) ≡ counted_over depth l.initial.state.candidate_usages (at_depth l.initial.head-iterator depth))
+    × ((is_in_cycle l.state || some_heads l.head-iterator) ≡ (is_in_cycle l.initial.state || some_heads l.initial.head-iterator))
+    × IsRising l.head-iterator

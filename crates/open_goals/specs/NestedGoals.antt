@@ -1,0 +1,40 @@
+-- The goals below a goal that is under evaluation, and what of an answer changes them besides its heads.
+use Rattle.std.specs.Prelude.{◌≡◌, Bool, List, [], ◌∷◌}
+use Rattle.std.specs.Option.{option_map}
+use Rattle.cycle_heads.specs.declared.path.PathKind.{PathKind}
+use Rattle.search_parts.specs.declared.parts.stack.StackEntry.{StackEntry}
+use Rattle.search_parts.specs.LookUp.{Hit}
+use Rattle.search_parts.specs.Nested.{NestedPaths, joined_paths, paths_at, JoinsPaths}
+use Rattle.cycle_heads.specs.Paths.{extended, path_of_no_step}
+use Rattle.open_goals.specs.declared.goals.Run.{Run}
+use Rattle.open_goals.specs.Entries.{overflowed, with_depth, with_nested_goals}
+
+-- The goals below `own` take over those of an answer over the step: each with its paths after the step, and `own` itself by the
+-- path of no step. An answer without goals changes nothing.
+pub data TakesNestedGoals {I : Type 0} (same : I → I → Bool) (own : I) (step : PathKind) (answer old new : NestedPaths I) : Type 0 where
+  Nothing : answer ≡ [] → new ≡ old → TakesNestedGoals same own step answer old new
+  Joined :
+      (between : NestedPaths I)
+      → ((input : I) → paths_at same between input ≡ joined_paths (paths_at same old input) (option_map (λ paths. extended paths step) (paths_at same answer input)))
+      → JoinsPaths same between new own path_of_no_step → TakesNestedGoals same own step answer old new
+
+module _ {X F I R A T : Type 0} (same : I → I → Bool) where
+  -- a question of the newest goal was refused: it met overflow, and is one of the goals below itself
+  pub record NotesOverflow (old new : List (StackEntry X I R A T × Run X F I R A T)) : Type 0 where
+    pub entry : StackEntry X I R A T
+    pub run : Run X F I R A T
+    pub below : List (StackEntry X I R A T × Run X F I R A T)
+    pub nested : NestedPaths I
+    pub was : old ≡ (entry, run) ∷ below
+    pub is : new ≡ (overflowed (record entry { state = with_nested_goals entry.state nested }), run) ∷ below
+    pub joins : JoinsPaths same entry.state.nested_goals nested entry.input path_of_no_step
+
+  -- the newest goal takes a stored result over the step: the depth that this required, whether it met overflow, and its goals
+  pub record TakesStored (step : PathKind) (hit : Hit I R T) (old new : List (StackEntry X I R A T × Run X F I R A T)) : Type 0 where
+    pub entry : StackEntry X I R A T
+    pub run : Run X F I R A T
+    pub below : List (StackEntry X I R A T × Run X F I R A T)
+    pub nested : NestedPaths I
+    pub was : old ≡ (entry, run) ∷ below
+    pub is : new ≡ (record entry { state = with_nested_goals (with_depth entry.state hit.required_depth hit.encountered_overflow) nested }, run) ∷ below
+    pub takes : TakesNestedGoals same entry.input step hit.nested_goals entry.state.nested_goals nested

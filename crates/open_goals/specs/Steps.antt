@@ -1,0 +1,63 @@
+-- The goals under evaluation with their runs, and the step of the newest one's frame.
+use Rattle.std.specs.Prelude.{◌≡◌, ℕ, ◌<◌, ◌↔◌, Bool, IsTrue, List, [], ◌∷◌, None, Some}
+use Rattle.search_parts.specs.declared.context.Delegate as Delegate
+use Rattle.search_parts.specs.declared.context.Cx as Cx
+use Rattle.search_parts.specs.declared.context.Request.{Request}
+use Rattle.search_parts.specs.declared.context.Reply.{Reply}
+use Rattle.search_parts.specs.declared.context.Reply.TheVariants.{Begin, Answer, Noted}
+use Rattle.search_parts.specs.declared.context.Fault.{Fault}
+use Rattle.search_parts.specs.declared.context.Fault.TheVariants.{Memory, Protocol}
+use Rattle.search_parts.specs.declared.context.Verdict.{Verdict}
+use Rattle.search_parts.specs.declared.context.Verdict.TheVariants.{Yes, No, Neither}
+use Rattle.search_parts.specs.declared.parts.stack.StackEntry.{StackEntry}
+use Rattle.search_parts.specs.Run.{IsFitting}
+use Rattle.search_parts.specs.Delegate.{Steps}
+use Rattle.open_goals.specs.Progress.{RunRecord, received, requested, fault_of, Records}
+use Rattle.open_goals.specs.declared.goals.Received.{Received}
+use Rattle.open_goals.specs.declared.goals.Run.{Run}
+
+-- the verdict is that of the answer, if the reply is one
+abbrev pub IsVerdict : {R : Type 0} → (R → Bool) → (R → Bool) → Reply R → Verdict → Type 0
+IsVerdict is_yes is_no Begin verdict = verdict ≡ Neither
+IsVerdict is_yes is_no Noted verdict = verdict ≡ Neither
+IsVerdict is_yes is_no (Answer r) verdict = ((verdict ≡ Yes) ↔ IsTrue (is_yes r)) × ((verdict ≡ No) ↔ IsTrue (is_no r))
+
+module _ {D C V P F I R A T : Type 0} (G : Delegate.Ghosts D C V P F I R A T) (X : Cx.Ghosts C I R A T) (cx : C) where
+  -- a goal under evaluation with its run
+  abbrev pub Item : Type 0
+  Item = StackEntry C I R A T × Run C F I R A T
+
+  -- the item's frame has had these replies, the newest first, and so says its record
+  abbrev pub Stood : Item → List (Reply R) → Type 0
+  Stood s replies = G.stands s.1.frame cx s.0.input replies × Records X.is_yes X.is_no (G.script cx s.0.input) s.1.progress replies
+
+  -- the newest item's frame can take the reply
+  abbrev pub CanStep : Reply R → List Item → Type 0
+  CanStep reply [] = ⊥
+  CanStep reply (s ∷ below) = (replies : List (Reply R)) × G.stands s.1.frame cx s.0.input replies × IsFitting (G.script cx s.0.input) (reply ∷ replies)
+
+  -- the run with the reply on record
+  abbrev pub received_by : Run C F I R A T → Received R → Verdict → RunRecord I R
+  received_by run given verdict = received run.progress given.reply verdict given.node
+
+  -- the newest item's frame took the reply and requested, in order, and both are on record
+  pub record HasStepped (given : Received R) (request : Request I R) (old new : List Item) : Type 0 where
+    pub entry : StackEntry C I R A T
+    pub run : Run C F I R A T
+    pub frame : F
+    pub verdict : Verdict
+    pub below : List Item
+    pub was : old ≡ (entry, run) ∷ below
+    pub is : new ≡ (entry, record run { frame = frame; progress = requested (received_by run given verdict) request }) ∷ below
+    pub is_verdict : IsVerdict X.is_yes X.is_no given.reply verdict
+    pub in_order : fault_of (received_by run given verdict) request ≡ None
+    pub falls : G.left frame < G.left run.frame
+    pub steps : Steps G.stands G.script run.frame given.reply request frame
+
+  -- it could not take the reply for want of memory, or requested out of order
+  pub data IsStepFault (given : Received R) (old : List Item) (fault : Fault I R) : Type 0 where
+    NoMemoryLeft : fault ≡ Memory → IsStepFault given old fault
+    OutOfOrder :
+        (entry : StackEntry C I R A T) (run : Run C F I R A T) (frame : F) (verdict : Verdict) (below : List Item) (request : Request I R) (number : ℕ)
+        → old ≡ (entry, run) ∷ below → IsVerdict X.is_yes X.is_no given.reply verdict → Steps G.stands G.script run.frame given.reply request frame
+        → fault_of (received_by run given verdict) request ≡ Some number → fault ≡ Protocol number → IsStepFault given old fault

@@ -1,0 +1,60 @@
+//! What the finished candidates of a run used.
+ghost use Rattle.std.specs.Prelude.{◌≡◌, ◌<◌, ◌++◌, ◌∷◌, [], length, slice_set, slice_get, OnOk, Some};
+
+use search_parts::context::NoMemory;
+use search_parts::parts::CandidateHeadUsages;
+use std::alloc::Global;
+use std::marker::Model;
+use std::mem;
+
+/// What each finished candidate of a run used of the goals on the stack, by the candidate's number. Nothing is
+/// recorded of one that is ignored.
+#[derive(Drop)]
+pub struct FinishedCandidates {
+    usages: Vec<CandidateHeadUsages>,
+}
+
+impl Model for FinishedCandidates {
+    ghost use Rattle.std.specs.Prelude.{List};
+    ghost use Rattle.cycle_heads.specs.Candidates.{UsagesByHead};
+
+    ghost Value = { List UsagesByHead };
+
+    ghost view = { λ c. c.usages.items };
+}
+
+impl FinishedCandidates {
+    /// No candidate is finished.
+    pub fn new(alloc: Global) -> FinishedCandidates
+        ensures { result ≡ [] }
+    {
+        FinishedCandidates {
+            usages: Vec::new(alloc),
+        }
+    }
+
+    /// Adds what the next candidate used.
+    pub fn push(&mut self, candidate: CandidateHeadUsages) -> Result<(), NoMemory>
+        ensures { OnOk result (self.new ≡ self.old ++ candidate ∷ []) }
+    {
+        self.usages.push(candidate)?;
+        Ok(())
+    }
+
+    /// Takes what the candidate of this number used, so that nothing is recorded of it any more.
+    pub fn take(&mut self, number: usize) -> CandidateHeadUsages
+        requires { number < length self.old }
+        ensures taken { slice_get self.old number ≡ Some result }
+        ensures left { self.new ≡ slice_set self.old number [] }
+    {
+        let nothing = CandidateHeadUsages::new(*self.usages.allocator());
+        mem::replace(&mut self.usages[number], nothing)
+    }
+
+    /// Forgets all of them.
+    pub fn clear(&mut self)
+        ensures { self.new ≡ [] }
+    {
+        self.usages.clear();
+    }
+}

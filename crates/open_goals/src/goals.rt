@@ -1,0 +1,318 @@
+//! The goals under evaluation, each with the run of its frame.
+ghost use Rattle.std.specs.Prelude.{◌≡◌, ℕ, ◌+◌, ◌^◌, ◌<◌, List, [], ◌∷◌, length, false, Some, None, OnOk, OnErr, IfOk, IfErr, IfSome, is_some, map, reverse};
+ghost use Rattle.std.specs.List.{list_any, position};
+ghost use Rattle.std.specs.Option.{option_map};
+ghost use Rattle.open_goals.specs.Steps.{CanStep, IsVerdict, HasStepped, IsStepFault};
+
+mod candidates;
+
+use crate::candidates::FinishedCandidates;
+use crate::progress::Progress;
+use crate::update::{cycle_head, note_depth, note_head, note_heads, note_nested_goals};
+use search_parts::context::{
+    Answer, Cx, Delegate, Fault, NoMemory, NodeId, Reply, Request, Verdict,
+};
+use search_parts::global_cache::CacheData;
+use search_parts::parts::{EvaluationResult, HeadUsages, Stack, StackDepth, StackEntry};
+use search_parts::path::{PathKind, PathsToNested};
+use std::alloc::Global;
+use std::marker::Model;
+use std::mem;
+
+/// A reply for the newest frame, and a node, which counts for a definite answer alone.
+#[derive(Clone, Copy)]
+pub struct Received<R> {
+    pub reply: Reply<R>,
+    pub node: Option<NodeId>,
+}
+
+impl<R> Received<R> {
+    /// A reply that is no definite answer.
+    pub fn without_node(reply: Reply<R>) -> Received<R>
+        ensures { result ≡ record { reply = reply; node = None } }
+    {
+        Received { reply, node: None }
+    }
+}
+
+/// What comes after a request of the newest goal's frame.
+#[derive(Clone, Copy)]
+pub enum Next<R> {
+    /// The newest frame gets a reply.
+    Step(Received<R>),
+    /// No goal is left, and this is the answer to the last one.
+    Finished(Answer<R>),
+}
+
+/// One run of a goal: the frame that works it out, the node that stands for it, and what it has done.
+#[derive(Drop)]
+pub struct Run<X: Cx, F: Drop> {
+    pub frame: F,
+    pub node: NodeId,
+    pub progress: Progress<X::Input, X::Result>,
+    /// How many runs of the goal have ended before this one.
+    pub finished_runs: usize,
+    /// Whether a question was refused below the goal in one of those.
+    pub met_overflow_before: bool,
+    /// What its finished candidates used of the goals on the stack.
+    pub candidates: FinishedCandidates,
+}
+
+/// The goals under evaluation with their runs. Clauses see them with the newest first.
+#[derive(Drop)]
+pub struct OpenGoals<X: Cx, F: Drop> {
+    stack: Stack<X>,
+    runs: Vec<Run<X, F>>,
+}
+
+impl<X: Cx, F: Drop> Model for OpenGoals<X, F> {
+    ghost use Rattle.std.specs.Prelude.{◌≡◌, List, [], length};
+    ghost use Rattle.search_parts.specs.declared.parts.stack.StackEntry.{StackEntry};
+    ghost use Rattle.open_goals.specs.declared.goals.Run.{Run};
+    ghost use Rattle.open_goals.specs.Newest.{paired};
+
+    ghost Value = { List (StackEntry X X.Input X.Result X.AmbiguityInfo X.DepNodeIndex × Run X F X.Input X.Result X.AmbiguityInfo X.DepNodeIndex) };
+
+    ghost view = { λ t. paired [] t.stack t.runs.items };
+
+    ghost invariant = { λ t. length t.stack ≡ length t.runs.items };
+}
+
+impl<X: Cx, F: Drop> OpenGoals<X, F> {
+    ghost use Rattle.open_goals.specs.Newest.{newest, change_newest};
+    ghost use Rattle.search_parts.specs.LookUp.{hit_of};
+    ghost use Rattle.open_goals.specs.Entries.{cycle_head};
+    ghost use Rattle.open_goals.specs.Items.{rerun_with, with_no_record, AnswersNewest};
+    ghost use Rattle.open_goals.specs.NestedGoals.{NotesOverflow, TakesStored};
+
+    /// No goal.
+    pub fn new(alloc: Global) -> OpenGoals<X, F>
+        ensures { result ≡ [] }
+    {
+        OpenGoals {
+            stack: Stack::new(alloc),
+            runs: Vec::new(alloc),
+        }
+    }
+
+    /// How many goals are under evaluation.
+    pub fn len(&self) -> usize
+        ensures { result ≡ length self.now }
+    {
+        self.runs.len()
+    }
+
+    /// The place of the goal, if it is under evaluation, counted from the first one up.
+    pub fn find(&self, input: X::Input) -> Option<StackDepth>
+        ensures found { option_map (λ d. d.0) result ≡ position (X.Input.eq input) (map (λ e. e.input) (reverse (map (λ s. s.0) self.now))) }
+        ensures present { is_some result ≡ list_any (λ s. X.Input.eq input s.0.input) self.now }
+    {
+        self.stack.find(input)
+    }
+
+    /// The entries of the goals, from the first one up.
+    pub fn stack(&self) -> &Stack<X>
+        ensures { result.now ≡ reverse (map (λ s. s.0) self.now) }
+    {
+        &self.stack
+    }
+
+    /// The entry of the newest goal.
+    pub fn last_entry(&self) -> &StackEntry<X>
+        requires { 0 < length self.now }
+        ensures { option_map (λ s. s.0) (newest self.now) ≡ Some result.now }
+    {
+        self.stack.last()
+    }
+
+    /// Adds a goal that isn't under evaluation. A refusal leaves the goals as they were.
+    pub fn push(&mut self, entry: StackEntry<X>, run: Run<X, F>) -> Result<(), NoMemory>
+        requires { list_any (λ s. X.Input.eq entry.input s.0.input) self.old ≡ false }
+        ensures ok { OnOk result (self.new ≡ (entry, run) ∷ self.old) }
+        ensures err { OnErr result (self.new ≡ self.old) }
+    {
+        self.runs.reserve(1)?;
+        self.stack.push(entry)?;
+        self.runs.push_reserved(run);
+        Ok(())
+    }
+
+    /// Takes the newest goal.
+    pub fn pop(&mut self) -> (StackEntry<X>, Run<X, F>)
+        requires { 0 < length self.old }
+        ensures { self.old ≡ result ∷ self.new }
+    {
+        let entry = self.stack.pop();
+        let run = self.runs.pop().unwrap();
+        (entry, run)
+    }
+
+    /// A question of the newest goal was refused. Where memory is, a part of that may be noted.
+    pub fn note_overflow(&mut self) -> Result<(), NoMemory>
+        requires { 0 < length self.old }
+        ensures { OnOk result (NotesOverflow X.Input.eq self.old self.new) }
+    {
+        let input = self.stack.last().input();
+        let state = self.stack.last_mut();
+        state.encountered_overflow = true;
+        state.nested_goals.insert(input, PathsToNested::EMPTY)
+    }
+
+    /// The newest goal was answered over a step of this kind by a stored result. A refusal may leave a part
+    /// of that noted.
+    pub fn note_stored(
+        &mut self,
+        step: PathKind,
+        stored: &CacheData<'_, X>,
+    ) -> Result<(), NoMemory>
+        requires some { 0 < length self.old }
+        requires fits { stored.now.required_depth + 1 < 2 ^ 64 }
+        ensures { OnOk result (TakesStored X.Input.eq step (hit_of stored.now) self.old self.new) }
+    {
+        let input = self.stack.last().input();
+        let state = self.stack.last_mut();
+        note_depth(state, stored.required_depth, stored.encountered_overflow);
+        note_nested_goals(state, input, step, stored.nested_goals)
+    }
+
+    /// The newest goal was answered over a step of this kind. A refusal may leave a part of that noted.
+    pub fn note_answer(
+        &mut self,
+        step: PathKind,
+        answer: &EvaluationResult<X>,
+    ) -> Result<(), NoMemory>
+        requires some { 0 < length self.old }
+        requires fits { answer.now.required_depth + 1 < 2 ^ 64 }
+        ensures { OnOk result (AnswersNewest step answer.now.required_depth answer.now.encountered_overflow answer.now.heads self.old self.new) }
+    {
+        let parent = StackDepth::new(self.stack.len() - 1);
+        let input = self.stack.last().input();
+        let state = self.stack.last_mut();
+        note_depth(state, answer.required_depth, answer.encountered_overflow);
+        note_heads(state, parent, step, &answer.heads)?;
+        note_nested_goals(state, input, step, &answer.nested_goals)
+    }
+
+    /// The newest goal asked by this step for a goal under evaluation, which closed a cycle of this kind.
+    pub fn note_cycle(
+        &mut self,
+        step: PathKind,
+        goal: X::Input,
+        head: StackDepth,
+        kind: PathKind,
+    ) -> Result<(), NoMemory>
+        requires { 0 < length self.old }
+        ensures { OnOk result (AnswersNewest step 0 false ((head, cycle_head step kind) ∷ []) self.old self.new) }
+    {
+        let used = cycle_head(step, kind);
+        let parent = StackDepth::new(self.stack.len() - 1);
+        let input = self.stack.last().input();
+        let state = self.stack.last_mut();
+        note_depth(state, 0, false);
+        note_head(state, parent, step, head, used)?;
+        state.nested_goals.insert(goal, PathsToNested::from(step))?;
+        state.nested_goals.insert(input, PathsToNested::EMPTY)
+    }
+
+    /// The run of the newest goal.
+    pub fn last_run(&self) -> &Run<X, F>
+        requires { 0 < length self.now }
+        ensures { option_map (λ s. s.1) (newest self.now) ≡ Some result.now }
+    {
+        &self.runs[self.runs.len() - 1]
+    }
+
+    /// Takes what the newest goal's run has done, and leaves a new record.
+    pub fn take_progress(&mut self) -> Progress<X::Input, X::Result>
+        requires { 0 < length self.old }
+        ensures taken { option_map (λ s. s.1.progress) (newest self.old) ≡ Some result }
+        ensures left { self.new ≡ change_newest with_no_record self.old }
+    {
+        let alloc = self.allocator();
+        let last = self.runs.len() - 1;
+        mem::replace(&mut self.runs[last].progress, Progress::new(alloc))
+    }
+
+    /// Runs the newest goal again under this result, with a frame and a node for the new run. The answers
+    /// of its cycles lead to `node` from now on.
+    pub fn run_again(
+        &mut self,
+        provisional_result: X::Result,
+        node: Option<NodeId>,
+        frame: F,
+        own_node: NodeId,
+    )
+        requires some { 0 < length self.old }
+        requires fits { IfSome (newest self.old) (λ s. s.1.finished_runs + 1 < 2 ^ 64) }
+        ensures { self.new ≡ change_newest (rerun_with provisional_result node frame own_node) self.old }
+    {
+        let state = self.stack.last_mut();
+        let met_overflow = state.encountered_overflow;
+        state.provisional_result = Some(provisional_result);
+        state.encountered_overflow = false;
+        state.usages = Some(HeadUsages::default());
+        state.candidate_usages = None;
+        state.node = node;
+        let last = self.runs.len() - 1;
+        let run = &mut self.runs[last];
+        run.frame = frame;
+        run.node = own_node;
+        run.finished_runs += 1;
+        run.met_overflow_before |= met_overflow;
+        run.candidates.clear();
+    }
+
+    /// What the goals take their memory from.
+    pub fn allocator(&self) -> Global {
+        *self.runs.allocator()
+    }
+
+    /// Drops every goal with its run.
+    pub fn clear(&mut self)
+        ensures { self.new ≡ [] }
+    {
+        while self.len() > 0 {
+            let _ = self.pop();
+        }
+    }
+}
+
+/// Gives the newest frame its reply, and answers its request. `Fault::Protocol` where that is out of order.
+/// After a fault the goals may only be cleared.
+pub fn step<D: Delegate>(
+    goals: &mut OpenGoals<D::Cx, D::Frame>,
+    cx: D::Cx,
+    received: Received<<D::Cx as Cx>::Result>,
+    inspect: &mut D::ProofTreeBuilder,
+) -> Result<
+    Request<<D::Cx as Cx>::Input, <D::Cx as Cx>::Result>,
+    Fault<<D::Cx as Cx>::Input, <D::Cx as Cx>::Result>,
+>
+    requires { CanStep D.Delegate D.Cx.Cx cx received.reply goals.old }
+    ensures stepped { IfOk result (λ request. HasStepped D.Delegate D.Cx.Cx cx received request goals.old goals.new) }
+    ensures fault { IfErr result (λ fault. IsStepFault D.Delegate D.Cx.Cx cx received goals.old fault) }
+    ensures same_starts { D.starts inspect.new ≡ D.starts inspect.old }
+{
+    let verdict = sort_of(cx, received.reply);
+    let last = goals.runs.len() - 1;
+    let run = &mut goals.runs[last];
+    run.progress
+        .receive(received.reply, verdict, received.node)?;
+    let request = D::step(&mut run.frame, received.reply, inspect)?;
+    if let Some(number) = run.progress.order_fault(request) {
+        return Err(Fault::Protocol(number));
+    }
+    run.progress.note_request(request);
+    Ok(request)
+}
+
+/// The sort of an answer; any other reply has none.
+fn sort_of<X: Cx>(cx: X, reply: Reply<X::Result>) -> Verdict
+    ensures { IsVerdict X.is_yes X.is_no reply result }
+{
+    match reply {
+        Reply::Answer(outcome) => cx.sort(outcome),
+        Reply::Begin => Verdict::Neither,
+        Reply::Noted => Verdict::Neither,
+    }
+}

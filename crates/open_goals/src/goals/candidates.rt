@@ -1,0 +1,81 @@
+//! The candidates of the newest goal: each is opened, finished, and may be ignored.
+ghost use Rattle.std.specs.Prelude.{◌≡◌, ◌<◌, ◌∷◌, length, is_some, true, IfSome, OnOk, Some};
+ghost use Rattle.std.specs.Option.{option_map};
+ghost use Rattle.open_goals.specs.Candidates.{enters, keeps_candidate, leaves, CanIgnoreNewest, CanIgnoreUsages, CanNote, IgnoresNewest, IgnoresUsages, NotesCandidate};
+ghost use Rattle.open_goals.specs.Newest.{newest, change_newest};
+
+use crate::goals::OpenGoals;
+use crate::update;
+use search_parts::context::{Cx, NoMemory, Request};
+use search_parts::parts::{CandidateHeadUsages, StackDepth};
+
+impl<X: Cx, F: Drop> OpenGoals<X, F> {
+    /// Does what the newest goal's frame requested of its candidates; other requests change nothing. After a
+    /// refusal the goals may only be cleared.
+    pub fn note_candidate(
+        &mut self,
+        request: Request<X::Input, X::Result>,
+    ) -> Result<(), NoMemory>
+        requires { CanNote request self.old }
+        ensures { OnOk result (NotesCandidate request self.old self.new) }
+    {
+        match request {
+            Request::EnterCandidate => self.enter_candidate(),
+            Request::FinishCandidate => {
+                let candidate = self.finish_candidate();
+                self.keep_candidate(candidate)?;
+            }
+            Request::Ignore(number) => self.ignore_candidate(number),
+            Request::Evaluate(_, _) | Request::Done(_) => {}
+        }
+        Ok(())
+    }
+
+    /// Opens a candidate of the newest goal.
+    pub fn enter_candidate(&mut self)
+        requires { 0 < length self.old }
+        ensures { self.new ≡ change_newest enters self.old }
+    {
+        let alloc = self.allocator();
+        self.stack.last_mut().candidate_usages = Some(CandidateHeadUsages::new(alloc));
+    }
+
+    /// Ends the open candidate of the newest goal, and hands out what it used.
+    pub fn finish_candidate(&mut self) -> CandidateHeadUsages
+        requires some { 0 < length self.old }
+        requires is_open { IfSome (newest self.old) (λ s. is_some s.0.state.candidate_usages ≡ true) }
+        ensures ended { self.new ≡ change_newest leaves self.old }
+        ensures used { IfSome (newest self.old) (λ s. s.0.state.candidate_usages ≡ Some result) }
+    {
+        self.stack.last_mut().candidate_usages.take().unwrap()
+    }
+
+    /// Keeps what a finished candidate of the newest goal used.
+    fn keep_candidate(&mut self, candidate: CandidateHeadUsages) -> Result<(), NoMemory>
+        requires { 0 < length self.old }
+        ensures { OnOk result (self.new ≡ change_newest (keeps_candidate candidate) self.old) }
+    {
+        let last = self.runs.len() - 1;
+        self.runs[last].candidates.push(candidate)?;
+        Ok(())
+    }
+
+    /// Takes away what the newest goal's finished candidate of this number used.
+    fn ignore_candidate(&mut self, number: usize)
+        requires { CanIgnoreNewest number self.old }
+        ensures { IgnoresNewest number self.old self.new }
+    {
+        let last = self.runs.len() - 1;
+        let candidate = self.runs[last].candidates.take(number);
+        self.ignore_usages(&candidate);
+    }
+
+    /// Takes away what a candidate of the newest goal used.
+    pub fn ignore_usages(&mut self, candidate: &CandidateHeadUsages)
+        requires { CanIgnoreUsages candidate.now self.old }
+        ensures { IgnoresUsages candidate.now self.old self.new }
+    {
+        let parent = StackDepth::new(self.stack.len() - 1);
+        update::ignore_usages(self.stack.last_mut(), parent, candidate);
+    }
+}

@@ -1,0 +1,15 @@
+//! The goals under evaluation, each with the run of its frame: the newest one asks, is answered, is run again,
+//! and is taken.
+//!
+//! | File of `specs/` | Has |
+//! |---|---|
+//! | `Newest`, `Items` | the goals, the newest first, and what becomes of the newest one |
+//! | `Entries`, `NestedGoals` | what changes of its entry |
+//! | `Steps`, `Progress` | the step of a frame, and what a run has done so far |
+//! | `Candidates` | a candidate is opened, finished or ignored |
+#![tactic(auto)]
+
+pub mod candidates;
+pub mod goals;
+pub mod progress;
+pub mod update;

@@ -1,0 +1,162 @@
+//! What a run has done so far.
+ghost use Rattle.std.specs.Prelude.{◌≡◌, OnOk, IfOk};
+ghost use Rattle.open_goals.specs.Progress.{no_record, received, requested, answers_with, fault_of, edges_of, rests_on, is_marked};
+
+use search_parts::context::{Edge, NoMemory, NodeId, Reply, Request, Verdict};
+use std::alloc::Global;
+use std::marker::Model;
+
+/// A definite answer of a run: the edge that it gives, its verdict, and the candidate that it was
+/// asked in.
+#[derive(Clone, Copy)]
+pub struct DefiniteAnswer<I> {
+    pub edge: Edge<I>,
+    pub verdict: Verdict,
+    /// The number that the candidate has once it is finished.
+    pub candidate: Option<usize>,
+}
+
+/// What a run has done so far: its replies, its last request, its definite answers with their nodes,
+/// and its candidates.
+#[derive(Drop)]
+pub struct Progress<I, R> {
+    replies: Vec<Reply<R>>,
+    request: Option<Request<I, R>>,
+    answers: Vec<DefiniteAnswer<I>>,
+    is_open: bool,
+    /// One for each finished candidate.
+    ignored: Vec<bool>,
+}
+
+impl<I, R> Model for Progress<I, R> {
+    ghost use Rattle.open_goals.specs.Progress.{RunRecord};
+
+    ghost Value = { RunRecord I R };
+
+    ghost view = { λ t. record { replies = t.replies.items; request = t.request; answers = t.answers.items; is_open = t.is_open; ignored = t.ignored.items } };
+}
+
+impl<I: Copy, R: Copy> Progress<I, R> {
+    /// Nothing was done yet.
+    pub fn new(alloc: Global) -> Self
+        ensures { result ≡ no_record }
+    {
+        Progress {
+            replies: Vec::new(alloc),
+            request: None,
+            answers: Vec::new(alloc),
+            is_open: false,
+            ignored: Vec::new(alloc),
+        }
+    }
+
+    /// Takes the reply to the last request. `verdict` is that of an answer, `node` its node if it is
+    /// definite. A refusal leaves anything.
+    pub fn receive(
+        &mut self,
+        reply: Reply<R>,
+        verdict: Verdict,
+        node: Option<NodeId>,
+    ) -> Result<(), NoMemory>
+        ensures { OnOk result (self.new ≡ received self.old reply verdict node) }
+    {
+        match self.request {
+            Some(Request::Evaluate(kind, input)) => {
+                if let (Verdict::Yes | Verdict::No, Some(node)) = (verdict, node) {
+                    let edge = Edge {
+                        kind,
+                        input,
+                        target: node.0,
+                    };
+                    self.keep(edge, verdict)?;
+                }
+            }
+            Some(Request::EnterCandidate) => self.is_open = true,
+            Some(Request::FinishCandidate) => {
+                self.is_open = false;
+                self.ignored.push(false)?;
+            }
+            Some(Request::Ignore(number)) => {
+                if let Some(ignored) = self.ignored.get_mut(number) {
+                    *ignored = true;
+                }
+            }
+            Some(Request::Done(_)) | None => {}
+        }
+        self.replies.push(reply)?;
+        Ok(())
+    }
+
+    /// Keeps an answer with this edge, asked in the open candidate if there is one.
+    fn keep(&mut self, edge: Edge<I>, verdict: Verdict) -> Result<(), NoMemory>
+        ensures { OnOk result (self.new ≡ record self.old { answers = answers_with self.old edge verdict }) }
+    {
+        let candidate = self.is_open.then_some(self.ignored.len());
+        self.answers.push(DefiniteAnswer {
+            edge,
+            verdict,
+            candidate,
+        })?;
+        Ok(())
+    }
+
+    /// Notes the request that followed.
+    pub fn note_request(&mut self, request: Request<I, R>)
+        ensures { self.new ≡ requested self.old request }
+    {
+        self.request = Some(request);
+    }
+
+    /// The number of the fault that the request is, if it comes out of order now: 1, a candidate
+    /// begins while one is open; 2, none is open that could end; 3, the candidate to be ignored isn't
+    /// finished; 4, it is ignored already.
+    pub fn order_fault(&self, request: Request<I, R>) -> Option<u8>
+        ensures { result ≡ fault_of self.now request }
+    {
+        match request {
+            Request::EnterCandidate if self.is_open => Some(1),
+            Request::FinishCandidate if !self.is_open => Some(2),
+            Request::Ignore(number) if number >= self.ignored.len() => Some(3),
+            Request::Ignore(number) if self.ignored[number] => Some(4),
+            _ => None,
+        }
+    }
+
+    /// The edges that a result of this verdict rests on: those of its answers outside ignored
+    /// candidates, in the order of asking.
+    pub fn edges(&self, verdict: Verdict) -> Result<Vec<Edge<I>>, NoMemory>
+        ensures { IfOk result (λ edges. edges.items ≡ edges_of self.now verdict) }
+    {
+        let mut edges = Vec::new(*self.answers.allocator());
+        for answer in &self.answers {
+            if self.is_rested_on(answer, verdict) {
+                edges.push(answer.edge)?;
+            }
+        }
+        Ok(edges)
+    }
+
+    /// Whether a result of this verdict rests on the answer.
+    fn is_rested_on(&self, answer: &DefiniteAnswer<I>, verdict: Verdict) -> bool
+        ensures { result ≡ rests_on self.now.ignored verdict answer.now }
+    {
+        answer.verdict == verdict
+            && answer
+                .candidate
+                .is_none_or(|number| !self.is_ignored(number))
+    }
+
+    /// Whether the finished candidate of this number is ignored.
+    fn is_ignored(&self, number: usize) -> bool
+        ensures { result ≡ is_marked self.now.ignored number }
+    {
+        self.ignored.get(number) == Some(&true)
+    }
+
+    /// Hands out the replies, the oldest first.
+    pub fn into_replies(self) -> Vec<Reply<R>>
+        ensures { result.items ≡ self.replies }
+    {
+        self.replies
+    }
+}

@@ -1,0 +1,129 @@
+//! What a goal's entry takes over from the answer to one of its questions.
+ghost use Rattle.std.specs.Prelude.{◌≡◌, ◌<◌, ◌+◌, ◌^◌, OnOk, Some};
+ghost use Rattle.open_goals.specs.Entries.{cycle_head, with_depth, with_nested_goals, with_used_head, TakesHeads};
+ghost use Rattle.std.specs.Option.{IsSomeAnd};
+ghost use Rattle.open_goals.specs.Candidates.{usages_at, without_head, CanIgnore, Covers, Ignores};
+ghost use Rattle.open_goals.specs.NestedGoals.{TakesNestedGoals};
+
+use search_parts::context::{Cx, NoMemory};
+use search_parts::parts::{
+    CandidateHeadUsages, CycleHead, CycleHeads, EntryState, HeadUsages, NestedGoals, StackDepth,
+};
+use search_parts::path::{PathKind, PathsToNested};
+
+/// Notes how deep the goals below an answer went, and whether one of their questions was refused.
+pub fn note_depth<X: Cx>(
+    state: &mut EntryState<X>,
+    required_depth: usize,
+    encountered_overflow: bool,
+)
+    requires { required_depth + 1 < 2 ^ 64 }
+    ensures { state.new ≡ with_depth state.old required_depth encountered_overflow }
+{
+    state.required_depth = state.required_depth.max(required_depth + 1);
+    state.encountered_overflow |= encountered_overflow;
+}
+
+/// Notes the heads of an answer over a step in the state of the entry at `parent`. Ports a part of
+/// `SearchGraph::update_parent_goal`.
+pub fn note_heads<X: Cx>(
+    state: &mut EntryState<X>,
+    parent: StackDepth,
+    step: PathKind,
+    heads: &CycleHeads,
+) -> Result<(), NoMemory>
+    ensures { OnOk result (TakesHeads parent step heads.now state.old state.new) }
+{
+    for (head, used) in heads.iter() {
+        note_head(state, parent, step, *head, *used)?;
+    }
+    Ok(())
+}
+
+/// Notes one head of an answer over a step: the entry's own goal, or another one on the stack. It counts
+/// for the candidate that is open, too.
+pub fn note_head<X: Cx>(
+    state: &mut EntryState<X>,
+    parent: StackDepth,
+    step: PathKind,
+    head: StackDepth,
+    used: CycleHead,
+) -> Result<(), NoMemory>
+    ensures { OnOk result (state.new ≡ with_used_head parent step head used state.old) }
+{
+    if let Some(candidate) = &mut state.candidate_usages {
+        candidate.note_usages(head, used.usages)?;
+    }
+    if head == parent {
+        let mut usages = state.usages.unwrap_or_default();
+        usages.add_usages_from_nested(used.usages);
+        state.usages = Some(usages);
+        return Ok(());
+    }
+    let paths = used.paths_to_head.extend_with(step);
+    state.heads.insert(head, paths, used.usages)
+}
+
+/// Takes away from the state of the entry at `parent` what a candidate used of the goals on the stack: of the
+/// entry's own goal, and of its heads. Ports a part of `SearchGraph::ignore_candidate_head_usages`.
+pub fn ignore_usages<X: Cx>(
+    state: &mut EntryState<X>,
+    parent: StackDepth,
+    candidate: &CandidateHeadUsages,
+)
+    requires { CanIgnore parent candidate.now state.old }
+    ensures { Ignores parent candidate.now state.old state.new }
+{
+    for (head, usages) in candidate.iter() {
+        ignore_head(state, parent, *head, *usages);
+    }
+}
+
+/// Takes away what was counted of one head, or of the entry's own goal.
+fn ignore_head<X: Cx>(
+    state: &mut EntryState<X>,
+    parent: StackDepth,
+    head: StackDepth,
+    usages: HeadUsages,
+)
+    requires { IsSomeAnd (usages_at parent state.old head) (λ counts. Covers counts usages) }
+    ensures { state.new ≡ without_head parent head usages state.old }
+{
+    if head == parent {
+        let mut own = state.usages.unwrap();
+        own.ignore_usages(usages);
+        state.usages = Some(own);
+        return;
+    }
+    state.heads.ignore_usages(head, usages);
+}
+
+/// Notes the goals below an answer over a step in the state of the entry of `own`. Where there are any, the
+/// goal itself is one of those from now on. Ports a part of `SearchGraph::update_parent_goal`.
+pub fn note_nested_goals<X: Cx>(
+    state: &mut EntryState<X>,
+    own: X::Input,
+    step: PathKind,
+    nested_goals: &NestedGoals<X>,
+) -> Result<(), NoMemory>
+    ensures others { state.new ≡ with_nested_goals state.old state.new.nested_goals }
+    ensures taken { OnOk result (TakesNestedGoals X.Input.eq own step nested_goals.now state.old.nested_goals state.new.nested_goals) }
+{
+    if nested_goals.is_empty() {
+        return Ok(());
+    }
+    state.nested_goals.extend_from_child(step, nested_goals)?;
+    state.nested_goals.insert(own, PathsToNested::EMPTY)
+}
+
+/// What a cycle of this kind, which the step closed, records of its head.
+pub fn cycle_head(step: PathKind, kind: PathKind) -> CycleHead
+    ensures { result ≡ cycle_head step kind }
+{
+    let mut usages = HeadUsages::default();
+    usages.add_usage(kind);
+    CycleHead {
+        paths_to_head: PathsToNested::from(step),
+        usages,
+    }
+}

@@ -1,7 +1,0 @@
-use Rattle.std.proofs.Common.{◌-◌, arith}
-use Rattle.std.proofs.lemmas.Grind.{common_steps}
-use Rattle.search_graph.proofs.Changes.{newest_run}
-use Rattle.search_graph.proofs.graph.open_goals.OpenGoals.last_run.Goals as goal
-
-pub returns : goal.returns
-returns g c = newest_run c.self.inside.stack c.self.inside.runs.items _ c.self.invariant c.self.view_is c.requires (λ r. r) (c.len.result - 1) c.index.result.now (grind (arith, common_steps)) c.index.ensures

@@ -1,5 +1,0 @@
-use Rattle.search_graph.proofs.NestedGoals.{goals_joined}
-use Rattle.search_graph.proofs.graph.update.note_nested_goals.Goals as goal
-
-pub returns-clause-taken : goal.returns-clause-taken
-returns-clause-taken g c = goals_joined _ _ _ _ _ _ _ c.insert.result c.in_ok-extend_from_child.ensures.ok c.insert.ensures.ok
