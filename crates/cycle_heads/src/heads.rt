@@ -157,6 +157,13 @@ impl CycleHeads {
         known.usages.ignore_usages(usages);
     }
 
+    /// A law: the depths rise from each head to the next. Does nothing when it is run.
+    pub fn are_rising(&self)
+        ensures { IsRising self.now }
+    {
+        let _ = self.iter();
+    }
+
     /// The heads by rising depth. Ports `CycleHeads::iter`.
     pub fn iter(&self) -> btree_map::Iter<'_, StackDepth, CycleHead>
         ensures heads { result ≡ self.now }

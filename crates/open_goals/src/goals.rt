@@ -13,7 +13,9 @@ use search_parts::context::{
     Answer, Cx, Delegate, Fault, NoMemory, NodeId, Reply, Request, Verdict,
 };
 use search_parts::global_cache::CacheData;
-use search_parts::parts::{EvaluationResult, HeadUsages, Stack, StackDepth, StackEntry};
+use search_parts::parts::{
+    EvaluationResult, HeadUsages, ProvisionalCacheEntry, Stack, StackDepth, StackEntry,
+};
 use search_parts::path::{PathKind, PathsToNested};
 use std::alloc::Global;
 use std::marker::Model;
@@ -173,6 +175,24 @@ impl<X: Cx, F: Drop> OpenGoals<X, F> {
         let state = self.stack.last_mut();
         note_depth(state, stored.required_depth, stored.encountered_overflow);
         note_nested_goals(state, input, step, stored.nested_goals)
+    }
+
+    /// The newest goal was answered over a step of this kind by an answer that rests on goals below. A refusal
+    /// may leave a part of that noted.
+    pub fn note_kept(
+        &mut self,
+        step: PathKind,
+        kept: &ProvisionalCacheEntry<X>,
+    ) -> Result<(), NoMemory>
+        requires { 0 < length self.old }
+        ensures { OnOk result (AnswersNewest step 0 kept.now.encountered_overflow kept.now.heads self.old self.new) }
+    {
+        let parent = StackDepth::new(self.stack.len() - 1);
+        let input = self.stack.last().input();
+        let state = self.stack.last_mut();
+        note_depth(state, 0, kept.encountered_overflow);
+        note_heads(state, parent, step, &kept.heads)?;
+        state.nested_goals.insert(input, PathsToNested::EMPTY)
     }
 
     /// The newest goal was answered over a step of this kind. A refusal may leave a part of that noted.

@@ -6,6 +6,8 @@ use Rattle.search_parts.specs.declared.context.Request.{Request}
 use Rattle.search_parts.specs.declared.context.Reply.{Reply}
 use Rattle.search_parts.specs.declared.context.Fault.{Fault}
 use Rattle.search_parts.specs.declared.global_cache.results.StoredResult.{StoredResult}
+use Rattle.search_parts.specs.declared.parts.provisional_cache.ProvisionalCacheEntry.{ProvisionalCacheEntry}
+use Rattle.search_parts.specs.Provisional.{Lists}
 use Rattle.search_parts.specs.Store.{Store}
 use Rattle.search_graph.specs.Results.{AreDefinite, HaveNoOverflow}
 use Rattle.search_parts.specs.declared.context.Fault.TheVariants.{Memory}
@@ -18,6 +20,7 @@ use Rattle.search_graph.specs.Calls.{Call, Outset, runs, limits, bound, IsCounte
 use Rattle.search_parts.specs.Decisive.{IsDecidedReply}
 use Rattle.search_parts.specs.Definite.{IsDefinite}
 use Rattle.search_graph.specs.Decided.{AllDecided, WhereDecisive}
+use Rattle.search_graph.specs.Provisional.{EntriesDefinite, EntriesMetNone}
 use Rattle.open_goals.specs.Entries.{is_in_cycle}
 use Rattle.open_goals.specs.Steps.{Item, Stood}
 use Rattle.open_goals.specs.declared.goals.Next.{Next}
@@ -54,15 +57,21 @@ module _ {D C V P F I R A T : Type 0} (G : Delegate.Ghosts D C V P F I R A T) (X
     pub overflow : IsCounted G X cx call → met ≡ false → HaveNoOverflow same results
     pub definite : Decidedly call met (AreDefinite X.is_yes X.is_no same results)
 
+  -- what a call keeps of those and of the answers in the provisional cache
+  pub record KeepsAnswers (same : I → I → Bool) (call : Call I) (met : Bool) (results : Store I (StoredResult C I R A T)) (entries : Lists I (ProvisionalCacheEntry C I R A T)) : Type 0 where
+    pub store : KeepsStore same call met results
+    pub met_none : IsCounted G X cx call → met ≡ false → EntriesMetNone same entries
+    pub definite : Decidedly call met (EntriesDefinite X.is_yes X.is_no same entries)
+
   -- the call begins with these stored results
   pub record Begins (same : I → I → Bool) (call : Call I) (input : I) (root starts : ℕ) (met : Bool) (results : Store I (StoredResult C I R A T)) : Type 0 where
     pub outset : Outset call input root starts met
     pub store : KeepsStore same call met results
 
-  -- the newest item waits for the reply, and the call keeps what it keeps of the stored results
-  pub record IsLoopWaiting (same : I → I → Bool) (call : Call I) (reply : Reply R) (goals : List (Item G X cx)) (starts : ℕ) (met : Bool) (results : Store I (StoredResult C I R A T)) : Type 0 where
+  -- the newest item waits for the reply, and the call keeps what it keeps of answers
+  pub record IsLoopWaiting (same : I → I → Bool) (call : Call I) (reply : Reply R) (goals : List (Item G X cx)) (starts : ℕ) (met : Bool) (results : Store I (StoredResult C I R A T)) (entries : Lists I (ProvisionalCacheEntry C I R A T)) : Type 0 where
     pub waiting : IsWaiting call reply goals starts met
-    pub store : KeepsStore same call met results
+    pub answers : KeepsAnswers same call met results entries
 
   -- the steps that are left at most
   abbrev pub work_left : List (Item G X cx) → ℕ

@@ -2,7 +2,6 @@ pub mod Results
 pub mod LookUp
 pub mod Decided
 pub mod Calls
-pub mod Evaluating
 pub mod Moves
 pub mod Graph
 pub mod Tallies
@@ -13,3 +12,5 @@ pub mod Runs
 pub mod RunEnds
 pub mod Lists
 pub mod KeptShapes
+pub mod Provisional
+pub mod Evaluating

@@ -1,6 +1,14 @@
--- Which stored results may be used over a stack, and what a used one is worth.
-use Rattle.std.specs.Prelude.{◌≡◌, ℕ, ◌≤◌, Bool, true, false, not, List, is_some, Some}
-use Rattle.std.specs.List.{list_any}
+-- Which stored results may be used over a stack, and what a used one is worth; which answers that rest on the stack are used.
+use Rattle.std.specs.Prelude.{◌≡◌, ℕ, ◌<◌, ◌≤◌, Bool, true, false, not, ◌&&◌, if◌then◌else◌, List, length, All, Option, None, is_some, Some}
+use Rattle.std.specs.List.{find, list_all, list_any}
+use Rattle.std.specs.Option.{IfSome}
+use Rattle.cycle_heads.specs.Heads.{highest}
+use Rattle.cycle_heads.specs.Paths.{extended, has_kind}
+use Rattle.cycle_heads.specs.declared.path.PathsToNested.{PathsToNested}
+use Rattle.search_parts.specs.Cycle.{path_kind_from}
+use Rattle.search_parts.specs.Provisional.{Lists, entries_at}
+use Rattle.search_parts.specs.Reuse.{highest_passes, may_be_used}
+use Rattle.search_parts.specs.declared.parts.provisional_cache.ProvisionalCacheEntry.{ProvisionalCacheEntry}
 use Rattle.cycle_heads.specs.declared.path.PathKind.{PathKind}
 use Rattle.search_parts.specs.declared.context.Request.{Request}
 use Rattle.search_parts.specs.declared.context.Reply.{Reply}
@@ -17,10 +25,37 @@ use Rattle.open_goals.specs.declared.goals.Received.{Received}
 use Rattle.open_goals.specs.declared.goals.Run.{Run}
 use Rattle.open_goals.specs.NestedGoals.{TakesStored}
 
+-- where a question is asked: the stack, the answers that rest on it, by goal, and the step
+pub record Asking (X I R A T : Type 0) : Type 0 where
+  pub stack : List (StackEntry X I R A T)
+  pub entries : Lists I (ProvisionalCacheEntry X I R A T)
+  pub step : PathKind
+
+module _ {X I R A T : Type 0} where
+  -- Whether the entry could be used for a goal that is reached from the asked one by one of the paths: a path from its highest head over
+  -- the step and on is of the kind that it was. One that met overflow is not used there.
+  abbrev pub could_be_used : Asking X I R A T → PathsToNested → ProvisionalCacheEntry X I R A T → Bool
+  could_be_used asking paths entry =
+      not entry.encountered_overflow && highest_passes (λ at _. has_kind (extended paths (path_kind_from asking.stack at asking.step)) entry.path_from_head) entry.heads
+
 module _ {X I R A T : Type 0} (same : I → I → Bool) where
-  -- no goal below the result is on the stack
-  abbrev pub is_applicable : List (StackEntry X I R A T) → NestedPaths I → Bool
-  is_applicable stack nested = not (list_any (λ e. is_some (paths_at same nested e.input)) stack)
+  -- the highest head of each entry is on the stack
+  abbrev pub AreOnStack : List (StackEntry X I R A T) → Lists I (ProvisionalCacheEntry X I R A T) → Type 0
+  AreOnStack stack entries = (goal : I) → All (λ entry. IfSome (highest entry.heads) (λ head. head.0.0 < length stack)) (entries_at same entries goal)
+
+  -- whether the goal, which is reached from the asked one by these paths, has an entry that could be used for it
+  abbrev pub meets_entry : Asking X I R A T → I → PathsToNested → Bool
+  meets_entry asking goal paths = list_any (could_be_used asking paths) (entries_at same asking.entries goal)
+
+  -- no goal below the result is on the stack, nor has one an entry that could be used for it
+  abbrev pub is_applicable : Asking X I R A T → NestedPaths I → Bool
+  is_applicable asking nested =
+      not (list_any (λ e. is_some (paths_at same nested e.input)) asking.stack)
+      && list_all (λ goal. not (meets_entry asking goal.0 goal.1)) nested
+
+  -- the entry that answers the goal, if such entries are kept and one may be used
+  abbrev pub kept_for : (enabled : Bool) → Asking X I R A T → I → Option (ProvisionalCacheEntry X I R A T)
+  kept_for enabled asking goal = if enabled then find (may_be_used asking.stack asking.step) (entries_at same asking.entries goal) else None
 
   -- The result is stored of the goal and may be used at the depth. If the goal has a rank, it is the plain value; or it met overflow,
   -- and the depth is below the rank.

@@ -14,6 +14,7 @@ ghost use Rattle.search_graph.specs.Results.{AreDefinite, HaveNoOverflow};
 
 mod evaluate;
 mod finish;
+mod kept;
 mod list;
 mod look_up;
 mod question;

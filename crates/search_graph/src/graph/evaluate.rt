@@ -4,11 +4,12 @@ ghost use Rattle.search_parts.specs.Cache.{KeepsFinished};
 ghost use Rattle.search_parts.specs.LookUp.{first_accepted, usable};
 ghost use Rattle.search_parts.specs.Store.{KeepsResults};
 ghost use Rattle.search_graph.specs.Calls.{Call};
-ghost use Rattle.search_graph.specs.Evaluating.{Begins, IsWaiting, KeepsStore, Leads, HasEnded, HasStopped, work_left};
+ghost use Rattle.search_graph.specs.Evaluating.{Begins, IsWaiting, KeepsAnswers, KeepsStore, Leads, HasEnded, HasStopped, work_left};
 ghost use Rattle.search_graph.specs.Free.{AreFree};
 ghost use Rattle.search_graph.specs.Graph.{IsCaused};
 ghost use Rattle.search_parts.specs.Definite.{HasGraph};
 ghost use Rattle.search_graph.specs.Justified.{AreJustified, IsFit};
+ghost use Rattle.search_graph.specs.Provisional.{AreReady};
 ghost use Rattle.search_graph.specs.Runs.{runs_of, IsJustifiedNext};
 
 use crate::graph::finish::finish_run;
@@ -17,7 +18,7 @@ use open_goals::goals::{Next, OpenGoals, Received, step};
 use crate::graph::question::{ask, push_goal};
 use search_parts::context::{Answer, Cx, Delegate, Fault, Reply, Request};
 use search_parts::global_cache::GlobalCache;
-use search_parts::parts::AvailableDepth;
+use search_parts::parts::{AvailableDepth, ProvisionalCache};
 use search_parts::path::PathKind;
 
 /// Evaluates a goal, with the goals that it asks, to its answer.
@@ -46,7 +47,11 @@ pub(crate) fn evaluate<D: Delegate>(
     ensures kept_results { KeepsResults D.Cx.Input.eq cache.old.results cache.new.results }
     ensures kept { KeepsFinished cache.old.nodes cache.new.nodes }
 {
-    if let Some(stored) = look_up::<D>(cache, goals.stack(), input, root_depth) {
+    let mut provisional = ProvisionalCache::new(goals.allocator());
+    let stack = goals.stack();
+    if let Some(stored) =
+        look_up::<D>(cache, &provisional, stack, step_kind, input, root_depth)
+    {
         return Ok(Answer {
             result: stored.result,
             node: stored.node,
@@ -56,7 +61,16 @@ pub(crate) fn evaluate<D: Delegate>(
     push_goal::<D>(goals, cache, step_kind, input, root_depth, inspect)?;
     let mut received = Received::without_node(Reply::Begin);
     loop {
-        match advance::<D>(goals, limits_met, cache, root_depth, received, inspect)? {
+        let next = advance::<D>(
+            goals,
+            &mut provisional,
+            limits_met,
+            cache,
+            root_depth,
+            received,
+            inspect,
+        )?;
+        match next {
             Next::Step(next) => received = next,
             Next::Finished(answer) => return Ok(answer),
         }
@@ -66,6 +80,7 @@ pub(crate) fn evaluate<D: Delegate>(
 /// Gives the newest frame its reply, and does what it requests.
 fn advance<D: Delegate>(
     goals: &mut OpenGoals<D::Cx, D::Frame>,
+    provisional: &mut ProvisionalCache<D>,
     limits_met: &mut bool,
     cache: &mut GlobalCache<D>,
     root_depth: AvailableDepth,
@@ -76,16 +91,18 @@ fn advance<D: Delegate>(
     requires justified { AreJustified D.Cx.is_yes D.Cx.is_no cache.old.nodes (runs_of goals.old) }
     requires fits { IsFit D.Cx.is_yes D.Cx.is_no cache.old.nodes (runs_of goals.old) received.reply received.node }
     requires free { AreFree D.Cx.is_yes D.Cx.is_no D.Cx.Input.eq cache.old.nodes (runs_of goals.old) cache.old.results }
+    requires ready { AreReady D.Cx.is_yes D.Cx.is_no D.Cx.Input.eq (D.script cache.old.cx) cache.old.nodes (runs_of goals.old) provisional.old }
     ensures leads { (call : Call D.Cx.Input) → IsWaiting D.Delegate D.Cx.Cx cache.old.cx call received.reply goals.old (D.starts inspect.old) limits_met.old →
-        KeepsStore D.Delegate D.Cx.Cx cache.old.cx D.Cx.Input.eq call limits_met.old cache.old.results →
+        KeepsAnswers D.Delegate D.Cx.Cx cache.old.cx D.Cx.Input.eq call limits_met.old cache.old.results provisional.old →
         IfOk result (λ next. Leads D.Delegate D.Cx.Cx cache.old.cx call (work_left D.Delegate D.Cx.Cx cache.old.cx goals.old) goals.old next goals.new (D.starts inspect.new) limits_met.new) }
     ensures stopped { (call : Call D.Cx.Input) → IsWaiting D.Delegate D.Cx.Cx cache.old.cx call received.reply goals.old (D.starts inspect.old) limits_met.old →
         IfErr result (λ fault. HasStopped D.Delegate D.Cx.Cx cache.old.cx call fault (D.starts inspect.new) limits_met.new) }
     ensures keeps { (call : Call D.Cx.Input) → IsWaiting D.Delegate D.Cx.Cx cache.old.cx call received.reply goals.old (D.starts inspect.old) limits_met.old →
-        KeepsStore D.Delegate D.Cx.Cx cache.old.cx D.Cx.Input.eq call limits_met.old cache.old.results → KeepsStore D.Delegate D.Cx.Cx cache.old.cx D.Cx.Input.eq call limits_met.new cache.new.results }
+        KeepsAnswers D.Delegate D.Cx.Cx cache.old.cx D.Cx.Input.eq call limits_met.old cache.old.results provisional.old → KeepsAnswers D.Delegate D.Cx.Cx cache.old.cx D.Cx.Input.eq call limits_met.new cache.new.results provisional.new }
     ensures caused { IfErr result (IsCaused D.Delegate D.Cx.Cx D.Cx.Input.eq cache.new) }
     ensures justified { IfOk result (λ next. IsJustifiedNext D.Cx.is_yes D.Cx.is_no cache.new.nodes goals.old goals.new next) }
     ensures free { OnOk result (AreFree D.Cx.is_yes D.Cx.is_no D.Cx.Input.eq cache.new.nodes (runs_of goals.new) cache.new.results) }
+    ensures ready { OnOk result (AreReady D.Cx.is_yes D.Cx.is_no D.Cx.Input.eq (D.script cache.old.cx) cache.new.nodes (runs_of goals.new) provisional.new) }
     ensures same_context { cache.new.cx ≡ cache.old.cx }
     ensures kept_results { KeepsResults D.Cx.Input.eq cache.old.results cache.new.results }
     ensures kept { KeepsFinished cache.old.nodes cache.new.nodes }
@@ -93,11 +110,20 @@ fn advance<D: Delegate>(
     let cx = cache.cx();
     match step::<D>(goals, cx, received, inspect)? {
         Request::Evaluate(kind, input) => {
-            let next = ask::<D>(goals, limits_met, cache, root_depth, kind, input, inspect)?;
+            let next = ask::<D>(
+                goals,
+                provisional,
+                limits_met,
+                cache,
+                root_depth,
+                kind,
+                input,
+                inspect,
+            )?;
             Ok(Next::Step(next))
         }
         Request::Done(outcome) => {
-            let next = finish_run::<D>(goals, limits_met, cache, outcome, inspect)?;
+            let next = finish_run::<D>(goals, provisional, limits_met, cache, outcome, inspect)?;
             Ok(next)
         }
         request => {

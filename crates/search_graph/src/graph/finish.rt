@@ -1,41 +1,46 @@
 //! What becomes of a goal whose frame is done.
-ghost use Rattle.std.specs.Prelude.{◌≡◌, ◌≢◌, ◌↔◌, ◌≤◌, ◌<◌, ◌+◌, ◌^◌, ℕ, true, length, IsTrue, IfOk, IfErr, OnOk, OnErr, IfSome, Some};
+ghost use Rattle.std.specs.Prelude.{◌≡◌, ◌≢◌, ◌↔◌, ◌≤◌, ◌<◌, ◌+◌, ◌-◌, ◌^◌, ℕ, true, not, length, IsTrue, IsSome, IfOk, IfErr, OnOk, OnErr, IfSome, Err, None, Some};
+ghost use Rattle.std.specs.List.{filter};
 ghost use Rattle.std.specs.Option.{option_map};
 ghost use Rattle.search_parts.specs.Cache.{KeepsFinished};
 ghost use Rattle.search_parts.specs.Definite.{IsDefinite};
 ghost use Rattle.search_parts.specs.Delegate.{CountsOne};
 ghost use Rattle.search_parts.specs.Shapes.{verdict_of};
+ghost use Rattle.search_parts.specs.Provisional.{entries_at};
+ghost use Rattle.search_parts.specs.Reuse.{rests_on};
 ghost use Rattle.search_parts.specs.Store.{KeepsResults};
 ghost use Rattle.search_parts.specs.declared.context.Request.TheVariants.{Done};
 ghost use Rattle.search_parts.specs.declared.context.Fault.TheVariants.{Memory};
-ghost use Rattle.search_graph.specs.declared.graph.finish.RunEnd.TheVariants.{Again};
+ghost use Rattle.search_graph.specs.declared.graph.finish.Unstable.TheVariants.{Again};
 ghost use Rattle.search_graph.specs.Calls.{Call};
-ghost use Rattle.search_graph.specs.Evaluating.{HasAsked, HasStopped, KeepsStore, Leads};
+ghost use Rattle.search_graph.specs.Evaluating.{HasAsked, HasStopped, KeepsAnswers, Leads};
 ghost use Rattle.search_graph.specs.Free.{AreFree};
 ghost use Rattle.search_graph.specs.Graph.{IsCaused};
 ghost use Rattle.search_graph.specs.Results.{IsNewestPlainTo, IsNewestStored, MayPutNewest, NewestComesTo, NewestIsPlain};
 ghost use Rattle.search_graph.specs.Justified.{in_theory, AreJustified};
 ghost use Rattle.search_graph.specs.Moves.{CanLeave, GivesAnswer, Leaves, Reruns};
 ghost use Rattle.open_goals.specs.Newest.{newest};
-ghost use Rattle.search_graph.specs.RunEnds.{IsRunEnd, IsStable, ReachedFixpoint};
+ghost use Rattle.search_graph.specs.Provisional.{AreReady, HasReason, IsNewestUnranked, SettlesNewest};
+ghost use Rattle.search_graph.specs.RunEnds.{IsReason, IsRunEnd, IsStable, ReachedFixpoint};
 ghost use Rattle.search_graph.specs.Runs.{runs_of, EndsRun, EndsNewest, IsSettled, IsJustifiedNext};
 
 use open_goals::goals::{Next, OpenGoals, Received, Run};
 use open_goals::progress::Progress;
+use crate::graph::kept::settle_kept;
 use crate::graph::store::store_answer;
 use search_parts::context::{Answer, Cx, Delegate, Fault, NoMemory, NodeId, Reply, Verdict};
 use search_parts::global_cache::GlobalCache;
-use search_parts::parts::{EntryState, EvaluationResult, HeadUsages};
+use search_parts::parts::{
+    EntryState, EvaluationResult, HeadUsages, ProvisionalCache, RebaseReason, StackDepth,
+};
 use search_parts::path::PathKind;
 
-/// What becomes of a goal whose run has ended.
+/// What becomes of a goal whose run has ended with a result that isn't stable.
 #[derive(Clone, Copy)]
-enum RunEnd {
-    /// Its result stands.
-    Done,
-    /// Its result isn't stable, and the goal had its most runs.
+enum Unstable {
+    /// The goal had its most runs.
     AtLimit,
-    /// Its result isn't stable: the goal is run again.
+    /// It is run again.
     Again,
 }
 
@@ -43,6 +48,7 @@ enum RunEnd {
 /// given to the goal below it.
 pub(crate) fn finish_run<D: Delegate>(
     goals: &mut OpenGoals<D::Cx, D::Frame>,
+    provisional: &mut ProvisionalCache<D>,
     limits_met: &mut bool,
     cache: &mut GlobalCache<D>,
     outcome: <D::Cx as Cx>::Result,
@@ -51,76 +57,96 @@ pub(crate) fn finish_run<D: Delegate>(
     requires asked { (call : Call D.Cx.Input) × (ahead : ℕ) × HasAsked D.Delegate D.Cx.Cx cache.old.cx call ahead (Done outcome) goals.old (D.starts inspect.old) limits_met.old }
     requires justified { AreJustified D.Cx.is_yes D.Cx.is_no cache.old.nodes (runs_of goals.old) }
     requires free { AreFree D.Cx.is_yes D.Cx.is_no D.Cx.Input.eq cache.old.nodes (runs_of goals.old) cache.old.results }
+    requires ready { AreReady D.Cx.is_yes D.Cx.is_no D.Cx.Input.eq (D.script cache.old.cx) cache.old.nodes (runs_of goals.old) provisional.old }
     ensures leads { (call : Call D.Cx.Input) (ahead : ℕ) → HasAsked D.Delegate D.Cx.Cx cache.old.cx call ahead (Done outcome) goals.old (D.starts inspect.old) limits_met.old →
         IfOk result (λ next. Leads D.Delegate D.Cx.Cx cache.old.cx call ahead goals.old next goals.new (D.starts inspect.new) limits_met.new) }
     ensures stops { (call : Call D.Cx.Input) (ahead : ℕ) → HasAsked D.Delegate D.Cx.Cx cache.old.cx call ahead (Done outcome) goals.old (D.starts inspect.old) limits_met.old →
         IfErr result (λ fault. HasStopped D.Delegate D.Cx.Cx cache.old.cx call fault (D.starts inspect.new) limits_met.new) }
     ensures keeps { (call : Call D.Cx.Input) (ahead : ℕ) → HasAsked D.Delegate D.Cx.Cx cache.old.cx call ahead (Done outcome) goals.old (D.starts inspect.old) limits_met.old →
-        KeepsStore D.Delegate D.Cx.Cx cache.old.cx D.Cx.Input.eq call limits_met.old cache.old.results → KeepsStore D.Delegate D.Cx.Cx cache.old.cx D.Cx.Input.eq call limits_met.new cache.new.results }
+        KeepsAnswers D.Delegate D.Cx.Cx cache.old.cx D.Cx.Input.eq call limits_met.old cache.old.results provisional.old → KeepsAnswers D.Delegate D.Cx.Cx cache.old.cx D.Cx.Input.eq call limits_met.new cache.new.results provisional.new }
     ensures caused { IfErr result (IsCaused D.Delegate D.Cx.Cx D.Cx.Input.eq cache.new) }
     ensures justified { IfOk result (λ next. IsJustifiedNext D.Cx.is_yes D.Cx.is_no cache.new.nodes goals.old goals.new next) }
     ensures free { OnOk result (AreFree D.Cx.is_yes D.Cx.is_no D.Cx.Input.eq cache.new.nodes (runs_of goals.new) cache.new.results) }
+    ensures ready { OnOk result (AreReady D.Cx.is_yes D.Cx.is_no D.Cx.Input.eq (D.script cache.old.cx) cache.new.nodes (runs_of goals.new) provisional.new) }
     ensures same_context { cache.new.cx ≡ cache.old.cx }
     ensures kept_results { KeepsResults D.Cx.Input.eq cache.old.results cache.new.results }
     ensures kept { KeepsFinished cache.old.nodes cache.new.nodes }
 {
-    let end = end_of_run::<D>(
-        &goals.last_entry().state,
-        goals.last_run().finished_runs,
-        outcome,
-    );
-    match end {
-        RunEnd::Done => finish_goal::<D>(goals, cache, outcome),
-        RunEnd::AtLimit => {
+    let finished_runs = goals.last_run().finished_runs;
+    match end_of_run::<D>(&goals.last_entry().state, finished_runs, outcome) {
+        Ok(reason) => finish_goal::<D>(goals, provisional, cache, outcome, reason),
+        Err(Unstable::AtLimit) => {
             *limits_met = true;
             let input = goals.last_entry().input();
             let overflow = D::fixpoint_overflow_result(cache.cx(), input);
-            finish_goal::<D>(goals, cache, overflow)
+            let reason = Some(RebaseReason::Overflow);
+            finish_goal::<D>(goals, provisional, cache, overflow, reason)
         }
-        RunEnd::Again => {
-            run_again::<D>(goals, cache, outcome, inspect)?;
+        Err(Unstable::Again) => {
+            run_again::<D>(goals, provisional, cache, outcome, inspect)?;
             Ok(Next::Step(Received::without_node(Reply::Begin)))
         }
     }
 }
 
-/// What becomes of a goal in this state, of which so many runs ended before the one that came to this result.
+/// What becomes of a goal in this state, of which so many runs ended before the one that came to this result. If
+/// that stands, the reason is why the goal, where it was used as a head, does not need another run.
 fn end_of_run<D: Delegate>(
     state: &EntryState<D::Cx>,
     finished_runs: usize,
     outcome: <D::Cx as Cx>::Result,
-) -> RunEnd
+) -> Result<Option<RebaseReason<D::Cx>>, Unstable>
     ensures is_end { IsRunEnd D.Cx.Result.eq D.initial_kind D.ambiguity D.FIXPOINT_STEP_LIMIT state.now.provisional_result state.now.usages finished_runs outcome result }
-    ensures fits { result ≡ Again → finished_runs + 1 < 2 ^ 64 }
+    ensures fits { result ≡ Err Again → finished_runs + 1 < 2 ^ 64 }
 {
     let Some(usages) = state.usages else {
-        return RunEnd::Done;
+        return Ok(None);
     };
-    if is_stable::<D>(state.provisional_result, usages, outcome) {
-        return RunEnd::Done;
+    let stable = stable_reason::<D>(state.provisional_result, usages, outcome);
+    if let Some(reason) = stable {
+        return Ok(Some(reason));
     }
     if finished_runs < D::FIXPOINT_STEP_LIMIT.saturating_sub(1) {
-        RunEnd::Again
+        Err(Unstable::Again)
     } else {
-        RunEnd::AtLimit
+        Err(Unstable::AtLimit)
     }
 }
 
-/// Whether a further run after this result would change nothing, or isn't worth it.
-fn is_stable<D: Delegate>(
+/// Why a further run after this result would change nothing, or isn't worth it, if that is so.
+fn stable_reason<D: Delegate>(
     provisional_result: Option<<D::Cx as Cx>::Result>,
     usages: HeadUsages,
     outcome: <D::Cx as Cx>::Result,
-) -> bool
-    ensures { IsTrue result ↔ IsStable D.Cx.Result.eq D.initial_kind D.ambiguity provisional_result usages outcome }
+) -> Option<RebaseReason<D::Cx>>
+    ensures reason { IfSome result (IsReason D.Cx.Result.eq D.initial_kind D.ambiguity provisional_result usages outcome) }
+    ensures unstable { result ≡ None → IsStable D.Cx.Result.eq D.initial_kind D.ambiguity provisional_result usages outcome → ⊥ }
 {
     if reached_fixpoint::<D>(provisional_result, usages, outcome) {
-        return true;
+        let kind = initial_kind::<D>(provisional_result, outcome);
+        return Some(RebaseReason::ReachedFixpoint(kind));
     }
     if usages.is_empty() {
-        return true;
+        return Some(RebaseReason::NoCycleUsages);
     }
-    D::is_ambiguous_result(outcome).is_some()
+    match D::is_ambiguous_result(outcome) {
+        Some(info) => Some(RebaseReason::Ambiguity(info)),
+        None => None,
+    }
+}
+
+/// The kind of cycles for whose first answer the run took its result, where it was its goal's first.
+fn initial_kind<D: Delegate>(
+    provisional_result: Option<<D::Cx as Cx>::Result>,
+    outcome: <D::Cx as Cx>::Result,
+) -> Option<PathKind>
+    ensures first { provisional_result ≡ None → result ≡ D.initial_kind outcome }
+    ensures later { IsSome provisional_result → result ≡ None }
+{
+    match provisional_result {
+        Some(_) => None,
+        None => D::is_initial_provisional_result(outcome),
+    }
 }
 
 /// Whether a run that used its own goal's result so came to that result. Ports
@@ -142,23 +168,31 @@ fn reached_fixpoint<D: Delegate>(
     }
 }
 
-/// Takes the newest goal with this result, and gives that to the goal below it.
+/// Takes the newest goal with this result, and gives that to the goal below it. Answers that rest on the goal are
+/// settled for the reason, which there is where it was used as a head.
 fn finish_goal<D: Delegate>(
     goals: &mut OpenGoals<D::Cx, D::Frame>,
+    provisional: &mut ProvisionalCache<D>,
     cache: &mut GlobalCache<D>,
     outcome: <D::Cx as Cx>::Result,
+    reason: Option<RebaseReason<D::Cx>>,
 ) -> Result<Next<<D::Cx as Cx>::Result>, Fault<<D::Cx as Cx>::Input, <D::Cx as Cx>::Result>>
     requires leaves { CanLeave goals.old }
     requires ends { IsDefinite D.Cx.is_yes D.Cx.is_no outcome → EndsNewest D.Cx.is_yes D.Cx.is_no (D.script cache.old.cx) goals.old outcome }
     requires comes { NewestComesTo (D.script cache.old.cx) (D.fixpoint_overflow cache.old.cx) goals.old outcome }
     requires plain { NewestIsPlain (D.script cache.old.cx) goals.old outcome }
+    requires reason { HasReason D.Cx.is_yes D.Cx.is_no reason goals.old outcome }
+    requires unranked { IsNewestUnranked (D.script cache.old.cx) goals.old }
     requires justified { AreJustified D.Cx.is_yes D.Cx.is_no cache.old.nodes (runs_of goals.old) }
     requires free { AreFree D.Cx.is_yes D.Cx.is_no D.Cx.Input.eq cache.old.nodes (runs_of goals.old) cache.old.results }
+    requires ready { AreReady D.Cx.is_yes D.Cx.is_no D.Cx.Input.eq (D.script cache.old.cx) cache.old.nodes (runs_of goals.old) provisional.old }
     ensures left { IfOk result (λ next. Leaves outcome goals.old next goals.new) }
     ensures justified { IfOk result (λ next. IsJustifiedNext D.Cx.is_yes D.Cx.is_no cache.new.nodes goals.old goals.new next) }
     ensures stored { MayPutNewest D.Cx.Input.eq goals.old outcome cache.old.results cache.new.results }
     ensures is_stored { OnOk result (IsNewestStored D.Cx.Input.eq goals.old outcome cache.new.results) }
+    ensures settled { OnOk result (SettlesNewest D.Cx.Input.eq D.ENABLE_PROVISIONAL_CACHE (D.propagated cache.old.cx) (D.fixpoint_overflow cache.old.cx) reason outcome goals.old provisional.old provisional.new) }
     ensures free { OnOk result (AreFree D.Cx.is_yes D.Cx.is_no D.Cx.Input.eq cache.new.nodes (runs_of goals.new) cache.new.results) }
+    ensures ready { OnOk result (AreReady D.Cx.is_yes D.Cx.is_no D.Cx.Input.eq (D.script cache.old.cx) cache.new.nodes (runs_of goals.new) provisional.new) }
     ensures caused { IfErr result (IsCaused D.Delegate D.Cx.Cx D.Cx.Input.eq cache.new) }
     ensures plain { (n : ℕ) → IsNewestPlainTo (D.script cache.old.cx) n goals.old → IfErr result (λ fault. fault ≡ Memory) }
     ensures same_context { cache.new.cx ≡ cache.old.cx }
@@ -179,9 +213,11 @@ fn finish_goal<D: Delegate>(
     encountered_overflow |= met_overflow_before;
     let input = entry.input();
     let node = settle_node::<D>(cache, &entry.state, own_node, progress, outcome)?;
+    entry.state.heads.are_rising();
+    settle_kept::<D>(provisional, cache.cx(), &entry, goals.stack(), reason)?;
     let answer = EvaluationResult::finalize(entry, encountered_overflow, outcome, node);
     let next = give_answer(goals, step, &answer)?;
-    store_answer::<D>(cache, input, answer)?;
+    store_answer::<D>(cache, provisional, goals.stack(), step, input, answer)?;
     Ok(next)
 }
 
@@ -210,9 +246,10 @@ fn give_answer<X: Cx, F: Drop>(
     }))
 }
 
-/// Runs the newest goal again, whose run came to this result.
+/// Runs the newest goal again, whose run came to this result. Answers that rest on the last one are given up.
 fn run_again<D: Delegate>(
     goals: &mut OpenGoals<D::Cx, D::Frame>,
+    provisional: &mut ProvisionalCache<D>,
     cache: &mut GlobalCache<D>,
     outcome: <D::Cx as Cx>::Result,
     inspect: &mut D::ProofTreeBuilder,
@@ -221,10 +258,14 @@ fn run_again<D: Delegate>(
     requires fits { IfSome (newest goals.old) (λ s. s.1.finished_runs + 1 < 2 ^ 64) }
     requires ends { EndsNewest D.Cx.is_yes D.Cx.is_no (D.script cache.old.cx) goals.old outcome }
     requires justified { AreJustified D.Cx.is_yes D.Cx.is_no cache.old.nodes (runs_of goals.old) }
+    requires ready { AreReady D.Cx.is_yes D.Cx.is_no D.Cx.Input.eq (D.script cache.old.cx) cache.old.nodes (runs_of goals.old) provisional.old }
     ensures reran { OnOk result (Reruns D.Delegate D.Cx.Cx cache.old.cx outcome goals.old goals.new) }
     ensures justified { OnOk result (AreJustified D.Cx.is_yes D.Cx.is_no cache.new.nodes (runs_of goals.new)) }
     ensures free { AreFree D.Cx.is_yes D.Cx.is_no D.Cx.Input.eq cache.old.nodes (runs_of goals.old) cache.old.results →
         OnOk result (AreFree D.Cx.is_yes D.Cx.is_no D.Cx.Input.eq cache.new.nodes (runs_of goals.new) cache.old.results) }
+    ensures ready { OnOk result (AreReady D.Cx.is_yes D.Cx.is_no D.Cx.Input.eq (D.script cache.old.cx) cache.new.nodes (runs_of goals.new) provisional.new) }
+    ensures cleared { (input : D.Cx.Input) → entries_at D.Cx.Input.eq provisional.new input
+        ≡ filter (λ entry. not (rests_on (record { 0 = length goals.old - 1 }) entry)) (entries_at D.Cx.Input.eq provisional.old input) }
     ensures same_context { cache.new.cx ≡ cache.old.cx }
     ensures same_results { cache.new.results ≡ cache.old.results }
     ensures kept { KeepsFinished cache.old.nodes cache.new.nodes }
@@ -232,6 +273,7 @@ fn run_again<D: Delegate>(
     ensures at_most { D.starts inspect.new ≤ D.starts inspect.old + 1 }
     ensures counted { D.counts ≡ true → OnOk result (CountsOne D.last (D.starts inspect.old) (D.starts inspect.new)) }
 {
+    provisional.clear_for_rerun(StackDepth::new(goals.len() - 1));
     let progress = goals.take_progress();
     let own_node = goals.last_run().node;
     let entry = goals.last_entry();

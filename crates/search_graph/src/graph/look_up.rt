@@ -1,48 +1,108 @@
 //! Which stored results may be used where goals are under evaluation.
-ghost use Rattle.std.specs.Prelude.{◌≡◌, IfSome};
+ghost use Rattle.std.specs.Prelude.{◌≡◌, ◌≢◌, ◌<◌, [], length, All, IfSome};
+ghost use Rattle.std.specs.List.{list_any};
 ghost use Rattle.std.specs.Option.{option_map};
+ghost use Rattle.cycle_heads.specs.Heads.{highest};
 ghost use Rattle.search_parts.specs.Definite.{HasGraph};
 ghost use Rattle.search_parts.specs.LookUp.{first_accepted, hit_of, usable};
-ghost use Rattle.search_graph.specs.LookUp.{is_applicable, IsUsable};
+ghost use Rattle.search_parts.specs.Provisional.{entries_at};
+ghost use Rattle.search_graph.specs.LookUp.{could_be_used, is_applicable, meets_entry, AreOnStack, IsUsable};
 
+use bitflags::Flags;
 use search_parts::context::{Cx, Delegate};
 use search_parts::global_cache::{CacheData, GlobalCache, NestedTest};
-use search_parts::parts::{AvailableDepth, NestedGoals, Stack};
+use search_parts::parts::{
+    AvailableDepth, NestedGoals, ProvisionalCache, ProvisionalCacheEntry, Stack,
+};
+use search_parts::path::{PathKind, PathsToNested};
+use std::marker::Model;
 
-/// The test of the goals below a stored result that a stack of goals makes. Ports
-/// `SearchGraph::candidate_is_applicable`.
-#[derive(Clone, Copy)]
-struct OverStack<'a, X: Cx> {
-    stack: &'a Stack<X>,
+/// The test of the goals below a stored result that a stack of goals makes, with the answers that rest on them,
+/// where the last one asks over a step. Ports `SearchGraph::candidate_is_applicable`.
+#[derive(Drop)]
+struct OverStack<'a, D: Delegate> {
+    stack: &'a Stack<D::Cx>,
+    provisional: &'a ProvisionalCache<D>,
+    step: PathKind,
 }
 
-impl<'a, X: Cx> NestedTest<X> for OverStack<'a, X> {
-    ghost accepts = { λ test nested. is_applicable X.Input.eq test.stack.now nested };
+impl<'a, D: Delegate> Model for OverStack<'a, D> {
+    ghost use Rattle.search_graph.specs.LookUp.{AreOnStack, Asking};
 
-    /// Whether none of the goals is on the stack: the result would be another one if it were worked out
-    /// there, since it would close a cycle.
-    fn accepts(&self, nested_goals: &NestedGoals<X>) -> bool {
+    ghost Value = { Asking D.Cx D.Cx.Input D.Cx.Result D.Cx.AmbiguityInfo D.Cx.DepNodeIndex };
+
+    ghost view = { λ test. record { stack = test.stack.now; entries = test.provisional.now; step = test.step } };
+
+    ghost invariant = { λ test. AreOnStack D.Cx.Input.eq test.stack.now test.provisional.now };
+}
+
+impl<'a, D: Delegate> NestedTest<D::Cx> for OverStack<'a, D> {
+    ghost accepts = { is_applicable D.Cx.Input.eq };
+
+    /// Whether none of the goals is on the stack, and none could meet an answer that rests on it: the result would
+    /// be another one if it were worked out there, since it would close a cycle.
+    fn accepts(&self, nested_goals: &NestedGoals<D::Cx>) -> bool {
         if nested_goals.is_empty() {
             return true;
         }
-        !self
+        let on_stack = self
             .stack
             .iter()
-            .any(|entry| nested_goals.contains(entry.input()))
+            .any(|entry| nested_goals.contains(entry.input()));
+        !on_stack
+            && nested_goals
+                .iter()
+                .all(|(goal, paths)| !self.meets_entry(*goal, *paths))
     }
 }
 
-/// A stored result of the goal that may be used over this stack at this depth. Ports
+impl<'a, D: Delegate> OverStack<'a, D> {
+    /// Whether the goal, asked at the end of one of these paths, could be answered by an entry.
+    fn meets_entry(&self, goal: <D::Cx as Cx>::Input, paths: PathsToNested) -> bool
+        ensures { result ≡ meets_entry D.Cx.Input.eq self.now goal paths }
+    {
+        self.provisional
+            .entries_of(goal)
+            .iter()
+            .any(|entry| self.could_be_used(entry, paths))
+    }
+
+    /// Whether the entry could be used at the end of one of these paths. One that met overflow is not used there.
+    fn could_be_used(&self, entry: &ProvisionalCacheEntry<D::Cx>, paths: PathsToNested) -> bool
+        requires some { entry.now.heads ≢ [] }
+        requires on_stack { IfSome (highest entry.now.heads) (λ head. head.0.0 < length self.now.stack) }
+        ensures { result ≡ could_be_used self.now paths entry.now }
+    {
+        if entry.encountered_overflow {
+            return false;
+        }
+        let head = entry.heads.highest_cycle_head_index();
+        let from_head = self.stack.path_kind(self.step, head);
+        paths
+            .extend_with(from_head)
+            .contains(PathsToNested::from(entry.path_from_head))
+    }
+}
+
+/// A stored result of the goal, asked over the step, that may be used over this stack at this depth. Ports
 /// `SearchGraph::lookup_global_cache`.
 pub(crate) fn look_up<'a, D: Delegate>(
     cache: &'a GlobalCache<D>,
+    provisional: &ProvisionalCache<D>,
     stack: &Stack<D::Cx>,
+    step: PathKind,
     input: <D::Cx as Cx>::Input,
     depth: AvailableDepth,
 ) -> Option<CacheData<'a, D::Cx>>
-    ensures exact { option_map hit_of result ≡ first_accepted (is_applicable D.Cx.Input.eq stack.now) (usable D.Cx.Input.eq cache.now.results input depth.0) }
+    requires { AreOnStack D.Cx.Input.eq stack.now provisional.now }
+    ensures exact { option_map hit_of result ≡ first_accepted (is_applicable D.Cx.Input.eq (record { stack = stack.now; entries = provisional.now; step = step })) (usable D.Cx.Input.eq cache.now.results input depth.0) }
     ensures graph { IfSome result (λ stored. HasGraph D.Cx.is_yes D.Cx.is_no cache.now.nodes input stored.result stored.node) }
     ensures usable { IfSome result (λ stored. IsUsable D.Cx.Input.eq (D.script cache.now.cx) cache.now.results input depth.0 (hit_of stored)) }
 {
-    cache.get(input, depth, &OverStack { stack })
+    let test = OverStack {
+        stack,
+        provisional,
+        step,
+    };
+    cache.get(input, depth, &test)
 }

@@ -1,39 +1,44 @@
-//! What a question comes to: it is refused, is answered by a stored result or where its goal is under
-//! evaluation already, or puts its goal on top.
-ghost use Rattle.std.specs.Prelude.{◌≡◌, ◌≤◌, ◌<◌, ◌+◌, ℕ, false, true, List, length, map, reverse, unwrap_or, IfOk, IfSome, OnOk, IfErr, Some};
+//! What a question comes to: it is refused, is answered by a kept or a stored result or where its goal is
+//! under evaluation already, or puts its goal on top.
+ghost use Rattle.std.specs.Prelude.{◌≡◌, ◌≤◌, ◌<◌, ◌+◌, ℕ, false, true, List, length, map, reverse, unwrap_or, IsSome, IfOk, IfSome, OnOk, IfErr, None, Some};
 ghost use Rattle.std.specs.List.{list_any, position};
 ghost use Rattle.std.specs.Option.{option_map, option_and_then};
 ghost use Rattle.search_parts.specs.Stack.{depth_below};
 ghost use Rattle.search_parts.specs.Delegate.{CountsOne};
 ghost use Rattle.search_parts.specs.Cache.{CacheNode, KeepsFinished};
 ghost use Rattle.search_parts.specs.LookUp.{first_accepted, usable};
+ghost use Rattle.search_parts.specs.Provisional.{Lists};
 ghost use Rattle.search_parts.specs.Store.{Store};
+ghost use Rattle.search_parts.specs.declared.parts.provisional_cache.ProvisionalCacheEntry.{ProvisionalCacheEntry};
 ghost use Rattle.search_parts.specs.declared.context.Reply.TheVariants.{Answer};
 ghost use Rattle.search_parts.specs.declared.context.Request.TheVariants.{Evaluate};
 ghost use Rattle.search_parts.specs.declared.global_cache.results.StoredResult.{StoredResult};
 ghost use Rattle.search_parts.specs.declared.context.Fault.TheVariants.{Memory};
 ghost use Rattle.open_goals.specs.Newest.{newest};
 ghost use Rattle.search_graph.specs.Calls.{Call};
-ghost use Rattle.search_graph.specs.Evaluating.{HasAsked, GoesOn, HasStopped, KeepsStore};
+ghost use Rattle.search_graph.specs.Evaluating.{HasAsked, GoesOn, HasStopped, KeepsAnswers};
 ghost use Rattle.search_graph.specs.Free.{AreFree};
-ghost use Rattle.search_graph.specs.LookUp.{is_applicable};
+ghost use Rattle.search_graph.specs.LookUp.{is_applicable, kept_for};
 ghost use Rattle.search_graph.specs.Moves.{ClosesCycle, Pushes};
 ghost use Rattle.search_graph.specs.Justified.{Asks, AreJustified, IsFit};
+ghost use Rattle.search_graph.specs.Provisional.{AreReady};
 ghost use Rattle.search_graph.specs.Runs.{runs_of};
 
 use open_goals::candidates::FinishedCandidates;
+use crate::graph::kept::look_up_kept;
 use crate::graph::look_up::look_up;
 use open_goals::goals::{OpenGoals, Received, Run};
 use open_goals::progress::Progress;
 use search_parts::context::{Cx, Delegate, NoMemory, Reply};
 use search_parts::global_cache::GlobalCache;
-use search_parts::parts::{AvailableDepth, StackDepth, StackEntry};
+use search_parts::parts::{AvailableDepth, ProvisionalCache, StackDepth, StackEntry};
 use search_parts::path::PathKind;
 
 /// Answers the newest goal's question, or puts the asked goal on top, whose frame then begins. A question
 /// of a goal without depth is refused, which meets a limit.
 pub(crate) fn ask<D: Delegate>(
     goals: &mut OpenGoals<D::Cx, D::Frame>,
+    provisional: &ProvisionalCache<D>,
     limits_met: &mut bool,
     cache: &mut GlobalCache<D>,
     root_depth: AvailableDepth,
@@ -46,18 +51,24 @@ pub(crate) fn ask<D: Delegate>(
     requires asked { (call : Call D.Cx.Input) × (ahead : ℕ) × HasAsked D.Delegate D.Cx.Cx cache.old.cx call ahead (Evaluate kind input) goals.old (D.starts inspect.old) limits_met.old }
     requires justified { AreJustified D.Cx.is_yes D.Cx.is_no cache.old.nodes (runs_of goals.old) }
     requires free { AreFree D.Cx.is_yes D.Cx.is_no D.Cx.Input.eq cache.old.nodes (runs_of goals.old) cache.old.results }
+    requires ready { AreReady D.Cx.is_yes D.Cx.is_no D.Cx.Input.eq (D.script cache.old.cx) cache.old.nodes (runs_of goals.old) provisional.now }
     ensures goes_on { (call : Call D.Cx.Input) (ahead : ℕ) → HasAsked D.Delegate D.Cx.Cx cache.old.cx call ahead (Evaluate kind input) goals.old (D.starts inspect.old) limits_met.old →
-        KeepsStore D.Delegate D.Cx.Cx cache.old.cx D.Cx.Input.eq call limits_met.old cache.old.results →
+        KeepsAnswers D.Delegate D.Cx.Cx cache.old.cx D.Cx.Input.eq call limits_met.old cache.old.results provisional.now →
         IfOk result (λ received. GoesOn D.Delegate D.Cx.Cx cache.old.cx call ahead received.reply goals.new (D.starts inspect.new) limits_met.new) }
     ensures stops { (call : Call D.Cx.Input) (ahead : ℕ) → HasAsked D.Delegate D.Cx.Cx cache.old.cx call ahead (Evaluate kind input) goals.old (D.starts inspect.old) limits_met.old →
         IfErr result (λ _. HasStopped D.Delegate D.Cx.Cx cache.old.cx call Memory (D.starts inspect.new) limits_met.new) }
+    ensures uses_kept { IsSome (option_and_then (λ s. depth_below D.DIVIDE_AVAILABLE_DEPTH_ON_OVERFLOW s.0) (newest goals.old)) →
+        IfSome (kept_for D.Cx.Input.eq D.ENABLE_PROVISIONAL_CACHE (record { stack = reverse (map (λ s. s.0) goals.old); entries = provisional.now; step = kind }) input) (λ entry.
+        IfOk result (λ received. received ≡ record { reply = Answer entry.result; node = entry.node })) }
     ensures uses_stored { (depth : ℕ) → Some depth ≡ option_and_then (λ s. depth_below D.DIVIDE_AVAILABLE_DEPTH_ON_OVERFLOW s.0) (newest goals.old) →
-        IfSome (first_accepted (is_applicable D.Cx.Input.eq (reverse (map (λ s. s.0) goals.old))) (usable D.Cx.Input.eq cache.old.results input depth)) (λ hit.
+        kept_for D.Cx.Input.eq D.ENABLE_PROVISIONAL_CACHE (record { stack = reverse (map (λ s. s.0) goals.old); entries = provisional.now; step = kind }) input ≡ None →
+        IfSome (first_accepted (is_applicable D.Cx.Input.eq (record { stack = reverse (map (λ s. s.0) goals.old); entries = provisional.now; step = kind })) (usable D.Cx.Input.eq cache.old.results input depth)) (λ hit.
         IfOk result (λ received. received ≡ record { reply = Answer hit.result; node = hit.node })) }
-    ensures keeps { (call : Call D.Cx.Input) → KeepsStore D.Delegate D.Cx.Cx cache.old.cx D.Cx.Input.eq call limits_met.old cache.old.results →
-        KeepsStore D.Delegate D.Cx.Cx cache.old.cx D.Cx.Input.eq call limits_met.new cache.old.results }
+    ensures keeps { (call : Call D.Cx.Input) → KeepsAnswers D.Delegate D.Cx.Cx cache.old.cx D.Cx.Input.eq call limits_met.old cache.old.results provisional.now →
+        KeepsAnswers D.Delegate D.Cx.Cx cache.old.cx D.Cx.Input.eq call limits_met.new cache.old.results provisional.now }
     ensures justified { OnOk result (AreJustified D.Cx.is_yes D.Cx.is_no cache.new.nodes (runs_of goals.new)) }
     ensures free { OnOk result (AreFree D.Cx.is_yes D.Cx.is_no D.Cx.Input.eq cache.new.nodes (runs_of goals.new) cache.old.results) }
+    ensures ready { OnOk result (AreReady D.Cx.is_yes D.Cx.is_no D.Cx.Input.eq (D.script cache.old.cx) cache.new.nodes (runs_of goals.new) provisional.now) }
     ensures fits { IfOk result (λ received. IsFit D.Cx.is_yes D.Cx.is_no cache.new.nodes (runs_of goals.new) received.reply received.node) }
     ensures same_context { cache.new.cx ≡ cache.old.cx }
     ensures same_results { cache.new.results ≡ cache.old.results }
@@ -70,7 +81,14 @@ pub(crate) fn ask<D: Delegate>(
         let answer = D::stack_overflow_result(cx, input);
         return Ok(Received::without_node(Reply::Answer(answer)));
     };
-    if let Some(stored) = look_up::<D>(cache, goals.stack(), input, depth) {
+    if let Some(kept) = look_up_kept::<D>(provisional, goals.stack(), kind, input) {
+        goals.note_kept(kind, kept)?;
+        return Ok(Received {
+            reply: Reply::Answer(kept.result),
+            node: kept.node,
+        });
+    }
+    if let Some(stored) = look_up::<D>(cache, provisional, goals.stack(), kind, input, depth) {
         goals.note_stored(kind, &stored)?;
         return Ok(Received {
             reply: Reply::Answer(stored.result),
@@ -101,6 +119,8 @@ fn answer_cycle<D: Delegate>(
         OnOk result (AreJustified D.Cx.is_yes D.Cx.is_no nodes (runs_of goals.new)) }
     ensures free { (nodes : List (CacheNode D.Cx.Input D.Cx.Result)) (results : Store D.Cx.Input (StoredResult D.Cx D.Cx.Input D.Cx.Result D.Cx.AmbiguityInfo D.Cx.DepNodeIndex)) →
         AreFree D.Cx.is_yes D.Cx.is_no D.Cx.Input.eq nodes (runs_of goals.old) results → OnOk result (AreFree D.Cx.is_yes D.Cx.is_no D.Cx.Input.eq nodes (runs_of goals.new) results) }
+    ensures ready { (nodes : List (CacheNode D.Cx.Input D.Cx.Result)) (entries : Lists D.Cx.Input (ProvisionalCacheEntry D.Cx D.Cx.Input D.Cx.Result D.Cx.AmbiguityInfo D.Cx.DepNodeIndex)) →
+        AreReady D.Cx.is_yes D.Cx.is_no D.Cx.Input.eq (D.script cx) nodes (runs_of goals.old) entries → OnOk result (AreReady D.Cx.is_yes D.Cx.is_no D.Cx.Input.eq (D.script cx) nodes (runs_of goals.new) entries) }
     ensures fits { (nodes : List (CacheNode D.Cx.Input D.Cx.Result)) → AreJustified D.Cx.is_yes D.Cx.is_no nodes (runs_of goals.old) →
         IfOk result (λ received. IsFit D.Cx.is_yes D.Cx.is_no nodes (runs_of goals.new) received.reply received.node) }
 {
@@ -158,6 +178,8 @@ pub(crate) fn push_goal<D: Delegate>(
     ensures justified { OnOk result (AreJustified D.Cx.is_yes D.Cx.is_no cache.new.nodes (runs_of goals.new)) }
     ensures free { AreFree D.Cx.is_yes D.Cx.is_no D.Cx.Input.eq cache.old.nodes (runs_of goals.old) cache.old.results →
         OnOk result (AreFree D.Cx.is_yes D.Cx.is_no D.Cx.Input.eq cache.new.nodes (runs_of goals.new) cache.old.results) }
+    ensures ready { (entries : Lists D.Cx.Input (ProvisionalCacheEntry D.Cx D.Cx.Input D.Cx.Result D.Cx.AmbiguityInfo D.Cx.DepNodeIndex)) →
+        AreReady D.Cx.is_yes D.Cx.is_no D.Cx.Input.eq (D.script cache.old.cx) cache.old.nodes (runs_of goals.old) entries → OnOk result (AreReady D.Cx.is_yes D.Cx.is_no D.Cx.Input.eq (D.script cache.old.cx) cache.new.nodes (runs_of goals.new) entries) }
     ensures same_context { cache.new.cx ≡ cache.old.cx }
     ensures same_results { cache.new.results ≡ cache.old.results }
     ensures kept { KeepsFinished cache.old.nodes cache.new.nodes }

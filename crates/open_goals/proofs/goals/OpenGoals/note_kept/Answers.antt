@@ -1,0 +1,14 @@
+use Rattle.std.proofs.Common.{◌-◌, ◌∙◌, refl, ap}
+use Rattle.search_parts.proofs.LastState.{length-change_last}
+use Rattle.open_goals.proofs.Changes.{newest_answered}
+use Rattle.open_goals.proofs.goals.OpenGoals.note_kept.Goals as goal
+
+pub invariant_of-self : goal.invariant_of-self
+invariant_of-self g c = length-change_last _ _ ∙ c.self.invariant
+
+pub invariant_of-self-2 : goal.invariant_of-self-2
+invariant_of-self-2 g c = length-change_last _ _ ∙ c.self.invariant
+
+pub returns : goal.returns
+returns g c =
+    newest_answered c.self.inside.stack c.self.inside.runs.items _ c.self.invariant c.self.view_is c.requires c.last_mut-state.result.now (record c.note_heads.new.state { nested_goals = c.insert.new.self }) c.last_mut-state.ensures.value c.args.step _ _ _ c.new-parent.result (c.new-parent.ensures ∙ ap (λ n. n - 1) c.len.ensures) _ c.note_depth.ensures c.insert.result c.note_heads.new.state c.in_ok-note_heads.ensures refl

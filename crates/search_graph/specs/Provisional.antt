@@ -1,0 +1,118 @@
+-- The answers in the provisional cache: why each of them may be used, and what becomes of them when the newest goal is taken.
+use Rattle.std.specs.Prelude.{◌≡◌, ◌≢◌, ◌⊎◌, ℕ, ◌||◌, ◌&&◌, Bool, false, if◌then◌else◌, List, [], ◌∷◌, ◌++◌, length, map, reverse, All, IsSome, Option, None, Some}
+use Rattle.std.specs.List.{filter_map}
+use Rattle.std.specs.Option.{option_map}
+use Rattle.open_graphs.specs.Rebased.{IsTrueReason}
+use Rattle.cycle_heads.specs.declared.depth.StackDepth.{StackDepth}
+use Rattle.cycle_heads.specs.declared.path.PathKind.{PathKind}
+use Rattle.cycle_heads.specs.Heads.{at_depth, highest, IsRising}
+use Rattle.cycle_heads.specs.HeadShapes.{heads_shape}
+use Rattle.cycle_heads.specs.Path.{rank_of}
+use Rattle.search_parts.specs.declared.context.NodeId.{NodeId}
+use Rattle.search_parts.specs.declared.context.Request.{Request}
+use Rattle.search_parts.specs.declared.context.Reply.{Reply}
+use Rattle.search_parts.specs.declared.parts.result.EvaluationResult.{EvaluationResult}
+use Rattle.search_parts.specs.declared.parts.stack.StackEntry.{StackEntry}
+use Rattle.search_parts.specs.declared.parts.provisional_cache.ProvisionalCacheEntry.{ProvisionalCacheEntry}
+use Rattle.search_parts.specs.declared.parts.provisional_cache.RebaseReason.{RebaseReason}
+use Rattle.search_parts.specs.Cache.{CacheNode}
+use Rattle.search_parts.specs.Cycle.{path_kind_from}
+use Rattle.search_parts.specs.Definite.{IsDefinite}
+use Rattle.search_parts.specs.Provisional.{Lists, entries_at}
+use Rattle.search_parts.specs.Rank.{HasNoRank}
+use Rattle.search_parts.specs.Rebasing.{rebased, settled}
+use Rattle.search_parts.specs.Shapes.{verdict_of}
+use Rattle.open_goals.specs.declared.goals.Run.{Run}
+use Rattle.search_graph.specs.Justified.{OpenRun, frame_of}
+use Rattle.search_graph.specs.KeptAnswers.{KeptAnswer, IsKept}
+use Rattle.search_graph.specs.KeptShapes.{highest_depth, reason_shape}
+use Rattle.search_graph.specs.Runs.{run_of}
+use Rattle.search_graph.specs.Tallies.{counted}
+
+-- the goal at this place was used as a head, or a goal above it has it among its heads
+abbrev pub IsHead : {I R : Type 0} → List (OpenRun I R) → StackDepth → Type 0
+IsHead [] head = ⊥
+IsHead (o ∷ below) head = IsSome (counted (length below) o.tally head) ⊎ IsHead below head
+
+module _ {X I R A T : Type 0} where
+  -- an entry as an answer that is kept
+  abbrev pub kept_answer : ProvisionalCacheEntry X I R A T → KeptAnswer R
+  kept_answer entry = record { result = entry.result; target = entry.node; highest = highest_depth entry.heads; path = rank_of entry.path_from_head; heads = heads_shape entry.heads }
+
+  -- The entry may be used for the goal: it is kept over these goals, by their heads, and the goal is in a cycle, so it has no rank.
+  pub record IsReady (is_yes is_no : R → Bool) (scripts : I → List (Reply R) → Request I R) (nodes : List (CacheNode I R)) (goals : List (OpenRun I R)) (goal : I) (entry : ProvisionalCacheEntry X I R A T) : Type 0 where
+    pub kept : IsKept is_yes is_no nodes goals goal (kept_answer entry)
+    pub some : entry.heads ≢ []
+    pub rising : IsRising entry.heads
+    pub are_heads : (head : StackDepth) → IsSome (at_depth entry.heads head) → IsHead goals head
+    pub no_rank : HasNoRank scripts goal
+
+  -- each entry may be used for its goal
+  abbrev pub AreReady : (is_yes is_no : R → Bool) → (I → I → Bool) → (I → List (Reply R) → Request I R) → List (CacheNode I R) → List (OpenRun I R) → Lists I (ProvisionalCacheEntry X I R A T) → Type 0
+  AreReady is_yes is_no same scripts nodes goals lists = (goal : I) → All (IsReady is_yes is_no scripts nodes goals goal) (entries_at same lists goal)
+
+  -- none of the entries met overflow
+  abbrev pub EntriesMetNone : (I → I → Bool) → Lists I (ProvisionalCacheEntry X I R A T) → Type 0
+  EntriesMetNone same lists = (goal : I) → All (λ entry. entry.encountered_overflow ≡ false) (entries_at same lists goal)
+
+  -- each of the entries is yes or no
+  abbrev pub EntriesDefinite : (is_yes is_no : R → Bool) → (I → I → Bool) → Lists I (ProvisionalCacheEntry X I R A T) → Type 0
+  EntriesDefinite is_yes is_no same lists = (goal : I) → All (λ entry. IsDefinite is_yes is_no entry.result) (entries_at same lists goal)
+
+  -- the entries of a goal, once a goal is done that is taken from above the stack: where it was used as a head, the reason tells how they
+  -- are settled
+  abbrev pub left_of : (A → R) → R → Option (RebaseReason X I R A T) → List (StackEntry X I R A T) → StackEntry X I R A T → List (ProvisionalCacheEntry X I R A T) → List (ProvisionalCacheEntry X I R A T)
+  left_of propagated overflow None stack done entries = entries
+  left_of propagated overflow (Some reason) stack done entries = filter_map (rebased stack done (settled propagated overflow reason)) entries
+
+  -- the entry for an answer that was asked over the step and rests on goals of the stack; another one has none
+  abbrev pub kept_of : List (StackEntry X I R A T) → PathKind → EvaluationResult X I R A T → List (ProvisionalCacheEntry X I R A T)
+  kept_of stack step answer = elim (highest answer.heads) [
+    | None ↦ []
+    | Some head ↦
+        record {
+          encountered_overflow = answer.encountered_overflow;
+          heads = answer.heads;
+          path_from_head = path_kind_from stack head.0.0 step;
+          result = answer.result;
+          node = answer.node;
+        } ∷ []
+  ]
+
+  module _ {F : Type 0} where
+    -- the answer of a goal that is done, with its result and the node of that
+    abbrev pub final_answer : StackEntry X I R A T × Run X F I R A T → R → Option NodeId → EvaluationResult X I R A T
+    final_answer s r node = record {
+      encountered_overflow = s.0.state.encountered_overflow || s.1.met_overflow_before;
+      required_depth = s.0.state.required_depth;
+      heads = s.0.state.heads;
+      nested_goals = s.0.state.nested_goals;
+      result = r;
+      node = node;
+    }
+
+    -- The newest goal was taken with this result: the entries that rest on it are settled for the reason, and its own answer is kept, if it
+    -- rests on a goal below, and if answers are kept at all.
+    pub record SettlesEntries (same : I → I → Bool) (enabled : Bool) (propagated : I → A → R) (overflow : I → R) (reason : Option (RebaseReason X I R A T)) (r : R) (s : StackEntry X I R A T × Run X F I R A T) (below : List (StackEntry X I R A T × Run X F I R A T)) (old new : Lists I (ProvisionalCacheEntry X I R A T)) : Type 0 where
+      pub node : Option NodeId
+      pub entries :
+          (goal : I)
+          → entries_at same new goal
+          ≡ left_of (propagated goal) (overflow goal) reason (reverse (map (λ s. s.0) below)) s.0 (entries_at same old goal)
+          ++ (if enabled && same s.0.input goal then kept_of (reverse (map (λ s. s.0) below)) s.0.step_kind_from_parent (final_answer s r node) else [])
+
+    -- the same of the newest one of the goals
+    abbrev pub SettlesNewest : (I → I → Bool) → Bool → (I → A → R) → (I → R) → Option (RebaseReason X I R A T) → R → List (StackEntry X I R A T × Run X F I R A T) → (old new : Lists I (ProvisionalCacheEntry X I R A T)) → Type 0
+    SettlesNewest same enabled propagated overflow reason r [] old new = ⊥
+    SettlesNewest same enabled propagated overflow reason r (s ∷ below) old new = SettlesEntries same enabled propagated overflow reason r s below old new
+
+    -- The reason is true of the newest goal, which came to this result. Without one, the goal was not used as a head.
+    abbrev pub HasReason : (is_yes is_no : R → Bool) → Option (RebaseReason X I R A T) → List (StackEntry X I R A T × Run X F I R A T) → R → Type 0
+    HasReason is_yes is_no reason [] r = ⊥
+    HasReason is_yes is_no None (s ∷ below) r = s.0.state.usages ≡ None
+    HasReason is_yes is_no (Some reason) (s ∷ below) r = IsTrueReason (reason_shape reason) (verdict_of is_yes is_no r) (frame_of is_yes is_no (run_of s)).entry
+
+    -- the newest goal has no rank, if it rests on a goal below
+    abbrev pub IsNewestUnranked : (I → List (Reply R) → Request I R) → List (StackEntry X I R A T × Run X F I R A T) → Type 0
+    IsNewestUnranked scripts [] = ⊥
+    IsNewestUnranked scripts (s ∷ below) = s.0.state.heads ≢ [] → HasNoRank scripts s.0.input
