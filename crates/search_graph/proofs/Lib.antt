@@ -37,3 +37,4 @@ pub mod RebasedPaths
 pub mod RebasedAnswers
 pub mod RebasedRising
 pub mod ReadyPops
+pub mod SettledEntries
