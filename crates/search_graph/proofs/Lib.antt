@@ -36,3 +36,6 @@ pub mod RebasedPaths
 pub mod RebasedAnswers
 pub mod RebasedRising
 pub mod ReadyPops
+pub mod RebasedLeft
+pub mod LeftOver
+pub mod PoppedEntries
