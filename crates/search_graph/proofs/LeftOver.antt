@@ -27,35 +27,23 @@ use Rattle.search_graph.specs.Runs.{run_of, runs_of}
 use Rattle.search_graph.specs.Tallies.{LieBelow, counted, tally_of}
 use Rattle.search_graph.proofs.HeadOrder.{at_here}
 use Rattle.search_graph.proofs.KeptMoves.{kept_beside}
+use Rattle.search_graph.proofs.Ready.{is_below}
+use Rattle.search_graph.proofs.ReadyMoves.{some_of_usages}
 use Rattle.search_graph.proofs.Tallies.{counted_other, counted_own}
 use Rattle.search_graph.proofs.TakenTallies.{counted_has}
 
 -- ---- heads of goals
 
-head_in : (o : Option CycleHead) → IsSome (option_map (λ (known : CycleHead). known.usages) o) → IsSome o
-head_in None some = some
-head_in (Some head) some = refl
+module _ {I R : Type 0} (o : OpenRun I R) (below : List (OpenRun I R)) where
+  -- a head that isn't the newest goal is one of that goal's heads, or of the goals below
+  pub other_head : (head : StackDepth) → head.0 ≢ length below → IsHead (o ∷ below) head → IsHead below head ⊎ IsSome (at_depth o.tally.heads head)
+  other_head head other (inl own) = inr (some_of_usages (at_depth o.tally.heads head) (subst IsSome (counted_other (length below) o.tally head other) own))
+  other_head head other (inr later) = inl later
 
-module _ {I R : Type 0} where
-  -- a goal that is used as a head is among the goals
-  pub is_below : (goals : List (OpenRun I R)) → HaveTallies goals → (head : StackDepth) → IsHead goals head → head.0 < length goals
-  is_below [] tallies head is = absurd is
-  is_below (o ∷ below) tallies head (inl own) = elim (cases_eq head.0 (length below)) [
-    | inl same ↦ omega (arith, same)
-    | inr other ↦ let lower = tallies.0.tallied.lower head (head_in (at_depth o.tally.heads head) (subst IsSome (counted_other (length below) o.tally head other) own)) in omega (arith, lower)
-  ]
-  is_below (o ∷ below) tallies head (inr later) = let lower = is_below below tallies.1 head later in omega (arith, lower)
-
-  module _ (o : OpenRun I R) (below : List (OpenRun I R)) where
-    -- a head that isn't the newest goal is one of that goal's heads, or of the goals below
-    pub other_head : (head : StackDepth) → head.0 ≢ length below → IsHead (o ∷ below) head → IsHead below head ⊎ IsSome (at_depth o.tally.heads head)
-    other_head head other (inl own) = inr (head_in (at_depth o.tally.heads head) (subst IsSome (counted_other (length below) o.tally head other) own))
-    other_head head other (inr later) = inl later
-
-    -- and if it is the newest goal, that was used
-    pub own_head : HaveTallies below → (head : StackDepth) → head.0 ≡ length below → IsHead (o ∷ below) head → IsSome o.tally.own
-    own_head tallies head here (inl own) = subst IsSome (counted_own (length below) o.tally head here) own
-    own_head tallies head here (inr later) = let lower = is_below below tallies head later in absurd (omega (arith, here, lower))
+  -- and if it is the newest goal, that was used
+  pub own_head : HaveTallies below → (head : StackDepth) → head.0 ≡ length below → IsHead (o ∷ below) head → IsSome o.tally.own
+  own_head tallies head here (inl own) = subst IsSome (counted_own (length below) o.tally head here) own
+  own_head tallies head here (inr later) = let lower = is_below below tallies head later in absurd (omega (arith, here, lower))
 
 -- a goal that takes an answer over takes its heads
 pub heads_taken : {X F I R A T : Type 0} (step : PathKind) (required : ℕ) (overflow : Bool) (answer : Heads) (old new : List (StackEntry X I R A T × Run X F I R A T)) → AnswersNewest step required overflow answer old new → (head : StackDepth) → IsHead (runs_of old) head ⊎ IsSome (at_depth answer head) → IsHead (runs_of new) head

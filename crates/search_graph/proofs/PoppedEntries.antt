@@ -37,7 +37,8 @@ use Rattle.search_graph.proofs.CycleAnswers.{path_kind_is}
 use Rattle.search_graph.proofs.HeadOrder.{ascends, at_here, at_later, at_most_highest, highest_there, no_highest}
 use Rattle.search_graph.proofs.Justified.{Settles, stack_length}
 use Rattle.search_graph.proofs.KeptAnswers.{kept_added, kept_popped}
-use Rattle.search_graph.proofs.LeftOver.{IsLeftOver, other_head, own_head, is_below}
+use Rattle.search_graph.proofs.LeftOver.{IsLeftOver, other_head, own_head}
+use Rattle.search_graph.proofs.Ready.{all_at_depths, is_below, on_stack_many}
 use Rattle.search_graph.proofs.RebasedAnswers.{are_depths, goal_rebased, highest_is, rebasable}
 use Rattle.search_graph.proofs.RebasedLeft.{LeavesEntry, leaves_entry}
 use Rattle.search_graph.proofs.RebasedRising.{rebased_rising}
@@ -60,25 +61,12 @@ with_node below top verdict top_heads k after n (Unused moved none) = Unused (mo
 with_node below top verdict top_heads k after n (Fixpoint moved definite kept_definite fixpoint kinds takes) = Fixpoint (moved_node below top k after n moved) definite kept_definite fixpoint kinds takes
 with_node below top verdict top_heads k after n (Other moved other) = Other (moved_node below top k after n moved) other
 
--- heads within a limit by depth are so one by one
-heads_within : (limit : ℕ) (heads : Heads) → ((head : StackDepth) → IsSome (at_depth heads head) → head.0 ≤ limit) → All (λ head. head.0.0 ≤ limit) heads
-heads_within limit [] within = All-nil (λ (head : StackDepth × CycleHead). head.0.0 ≤ limit)
-heads_within limit (e ∷ es) within =
-    All-cons (λ (head : StackDepth × CycleHead). head.0.0 ≤ limit) e es (within e.0 (subst IsSome (sym (at_here e es e.0 refl)) refl))
-    (heads_within limit es (λ head there. elim (cases_eq head.0 e.0.0) [
-      | inl same ↦ within head (subst IsSome (sym (at_here e es head same)) refl)
-      | inr other ↦ within head (subst IsSome (sym (at_later e es head other)) there)
-    ]))
-
 module _ {X F I R A T : Type 0} (is_yes is_no : R → Bool) (scripts : I → List (Reply R) → Request I R) (nodes after : List (CacheNode I R)) (s : StackEntry X I R A T × Run X F I R A T) (below : List (StackEntry X I R A T × Run X F I R A T)) (r : R) (target : Option NodeId) (h : AreJustified is_yes is_no nodes (runs_of (s ∷ below))) (settles : Settles is_yes is_no nodes after (run_of s) (runs_of below) r target) where
   many : length (runs_of below) ≡ length below
   many = length-map below run_of
 
   theory_many : length (stack_of (frames_of is_yes is_no (runs_of below))) ≡ length below
   theory_many = stack_length is_yes is_no (runs_of below) ∙ many
-
-  real_many : length (reverse (map (λ s. s.0) below)) ≡ length below
-  real_many = length-reverse (map (λ s. s.0) below) ∙ length-map below (λ s. s.0)
 
   -- the newest goal's heads lie below it
   pub lower : LieBelow (length below) s.0.state.heads
@@ -123,10 +111,10 @@ module _ {X F I R A T : Type 0} (is_yes is_no : R → Bool) (scripts : I → Lis
     -- and where the newest goal was used, what the rule of rebasing leaves of an entry is left, if the reason is true
     module _ (propagated : A → R) (overflow : R) (unsure : (info : A) → verdict_of is_yes is_no (propagated info) ≡ theory.Neither) (overflow_unsure : verdict_of is_yes is_no overflow ≡ theory.Neither) (reason : RebaseReason X I R A T) (is_true : IsTrueReason (reason_shape reason) (verdict_of is_yes is_no r) (frame_of is_yes is_no (run_of s)).entry) (later : ProvisionalCacheEntry X I R A T) (is : rebased (reverse (map (λ s. s.0) below)) s.0 (settled propagated overflow reason) entry ≡ Some later) where
       within_real : (head : StackDepth) → IsSome (at_depth entry.heads head) → head.0 ≤ length (reverse (map (λ s. s.0) below))
-      within_real head there = subst (λ n. head.0 ≤ n) (sym real_many) (within head there)
+      within_real head there = subst (λ n. head.0 ≤ n) (sym (on_stack_many below)) (within head there)
 
       lower_real : LieBelow (length (reverse (map (λ s. s.0) below))) s.0.state.heads
-      lower_real = subst (λ n. LieBelow n s.0.state.heads) (sym real_many) lower
+      lower_real = subst (λ n. LieBelow n s.0.state.heads) (sym (on_stack_many below)) lower
 
       left : LeavesEntry is_yes is_no (reverse (map (λ s. s.0) below)) s.0 entry later
       left = leaves_entry is_yes is_no (reverse (map (λ s. s.0) below)) s.0 propagated overflow unsure overflow_unsure reason lower_real entry later ready.rising within_real ready.some is
@@ -134,8 +122,8 @@ module _ {X F I R A T : Type 0} (is_yes is_no : R → Bool) (scripts : I → Lis
       after_pop : verdict_of is_yes is_no later.result ≢ theory.Neither → AfterPop (stack_of (frames_of is_yes is_no (runs_of below))) (frame_of is_yes is_no (run_of s)).entry (verdict_of is_yes is_no r) (heads_shape s.0.state.heads) (kept_shape is_yes is_no entry) (kept_shape is_yes is_no later)
       after_pop definite =
           rebased_is_after_pop (reason_shape reason) (stack_of (frames_of is_yes is_no (runs_of below))) (frame_of is_yes is_no (run_of s)).entry (depths_of entry.heads) (depths_of s.0.state.heads) (verdict_of is_yes is_no r) (heads_shape s.0.state.heads) (kept_shape is_yes is_no entry) (kept_shape is_yes is_no later)
-          (rebasable is_yes is_no (reverse (map (λ s. s.0) below)) s.0 (stack_of (frames_of is_yes is_no (runs_of below))) (frame_of is_yes is_no (run_of s)).entry (real_many ∙ sym theory_many) lower_real reason (verdict_of is_yes is_no r) entry
-          (record { some = ready.some; within = heads_within (length (reverse (map (λ s. s.0) below))) entry.heads within_real }) ready.rising is_true)
+          (rebasable is_yes is_no (reverse (map (λ s. s.0) below)) s.0 (stack_of (frames_of is_yes is_no (runs_of below))) (frame_of is_yes is_no (run_of s)).entry (on_stack_many below ∙ sym theory_many) lower_real reason (verdict_of is_yes is_no r) entry
+          (record { some = ready.some; within = all_at_depths (λ head. head.0 ≤ length (reverse (map (λ (t : StackEntry X I R A T × Run X F I R A T). t.0) below))) entry.heads within_real }) ready.rising is_true)
           definite
           (goal_rebased is_yes is_no s below lower propagated overflow unsure overflow_unsure reason entry later ready.some ready.rising definite is)
 
@@ -157,7 +145,7 @@ module _ {X F I R A T : Type 0} (is_yes is_no : R → Bool) (scripts : I → Lis
         some = left.some;
         rising = rebased_rising (reverse (map (λ s. s.0) below)) s.0 propagated overflow reason entry later ready.rising is;
         are_heads = λ head there. let place = left.left head there in elim place.1 [
-          | inl own ↦ others head own (λ same. place.0 (same ∙ sym real_many))
+          | inl own ↦ others head own (λ same. place.0 (same ∙ sym (on_stack_many below)))
           | inr came ↦ inr came
         ];
         no_rank = ready.no_rank;

@@ -37,7 +37,7 @@ usages_of_some : (o : Option CycleHead) → IsSome o → IsSome (option_map (λ 
 usages_of_some None some = absurd (false≢true some)
 usages_of_some (Some k) some = refl
 
-some_of_usages : (o : Option CycleHead) → IsSome (option_map (λ (k : CycleHead). k.usages) o) → IsSome o
+pub some_of_usages : (o : Option CycleHead) → IsSome (option_map (λ (k : CycleHead). k.usages) o) → IsSome o
 some_of_usages None some = absurd (false≢true some)
 some_of_usages (Some k) some = refl
 
