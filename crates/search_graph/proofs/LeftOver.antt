@@ -1,11 +1,8 @@
 -- The heads of an answer that is left once the newest goal was taken: those of the goals below, and those of that goal, which the goal
 -- below it takes over.
-use Rattle.std.proofs.Common.{◌≡◌, ◌≢◌, ◌<◌, ℕ, Bool, List, [], ◌∷◌, length, Some, None, Option, IsSome, refl, sym, subst, ◌⊎◌, inl, inr, arith}
-use Rattle.std.specs.Option.{option_map}
-use Rattle.std.proofs.lemmas.Bool.{cases_eq, false≢true}
+use Rattle.std.proofs.Common.{◌≡◌, ◌≢◌, ℕ, Bool, List, [], ◌∷◌, length, IsSome, refl, sym, subst, ◌⊎◌, inl, inr, arith}
 use Rattle.std.proofs.lemmas.List.{length-map}
 use Rattle.cycle_heads.specs.declared.depth.StackDepth.{StackDepth}
-use Rattle.cycle_heads.specs.declared.heads.CycleHead.{CycleHead}
 use Rattle.cycle_heads.specs.declared.path.PathKind.{PathKind}
 use Rattle.cycle_heads.specs.Heads.{Heads, at_depth, IsRising}
 use Rattle.search_parts.specs.declared.context.Request.{Request}

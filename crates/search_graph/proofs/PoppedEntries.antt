@@ -1,8 +1,8 @@
 -- One entry of the provisional cache, once the newest goal was taken: it stays where it didn't use that goal, or it is rebased; and that
 -- goal's own answer may be kept.
 use Rattle.std.proofs.Common.{◌≡◌, ◌≢◌, ◌<◌, ◌≤◌, ℕ, Bool, List, [], ◌∷◌, length, map, reverse, Option, Some, None, IsSome, All, refl, sym, ap, ◌∙◌, subst, ◌⊎◌, inl, inr, arith}
-use Rattle.std.proofs.lemmas.Bool.{cases_eq, false≢true}
-use Rattle.std.proofs.lemmas.List.{length-map, length-reverse}
+use Rattle.std.proofs.lemmas.Bool.{false≢true}
+use Rattle.std.proofs.lemmas.List.{length-map}
 use Rattle.std.proofs.lemmas.List.Elements.{All-cons, All-nil}
 use Rattle.open_graphs.specs.Graph as theory
 use Rattle.open_graphs.specs.Rebased.{IsTrueReason}
@@ -12,7 +12,7 @@ use Rattle.open_graphs.specs.Use as uses
 use Rattle.open_graphs.proofs.Rebased.{rebased_is_after_pop}
 use Rattle.cycle_heads.specs.declared.depth.StackDepth.{StackDepth}
 use Rattle.cycle_heads.specs.declared.heads.CycleHead.{CycleHead}
-use Rattle.cycle_heads.specs.Heads.{Heads, at_depth, highest, IsRising}
+use Rattle.cycle_heads.specs.Heads.{at_depth, highest, IsRising}
 use Rattle.cycle_heads.specs.HeadShapes.{heads_shape}
 use Rattle.cycle_heads.specs.Path.{rank_of}
 use Rattle.search_parts.specs.declared.context.NodeId.{NodeId}
@@ -24,7 +24,7 @@ use Rattle.search_parts.specs.declared.parts.provisional_cache.RebaseReason.{Reb
 use Rattle.search_parts.specs.Cache.{CacheNode}
 use Rattle.search_parts.specs.Cycle.{path_kind_from}
 use Rattle.search_parts.specs.Rank.{HasNoRank}
-use Rattle.search_parts.specs.Rebasing.{CanBeRebased, rebased, settled}
+use Rattle.search_parts.specs.Rebasing.{rebased, settled}
 use Rattle.search_parts.specs.Shapes.{verdict_of}
 use Rattle.open_goals.specs.declared.goals.Run.{Run}
 use Rattle.search_graph.specs.Justified.{AreJustified, frame_of, frames_of}
@@ -34,7 +34,7 @@ use Rattle.search_graph.specs.Provisional.{IsHead, IsReady, final_answer, kept_a
 use Rattle.search_graph.specs.Runs.{run_of, runs_of}
 use Rattle.search_graph.specs.Tallies.{LieBelow}
 use Rattle.search_graph.proofs.CycleAnswers.{path_kind_is}
-use Rattle.search_graph.proofs.HeadOrder.{ascends, at_here, at_later, at_most_highest, highest_there, no_highest}
+use Rattle.search_graph.proofs.HeadOrder.{ascends, at_most_highest, highest_there, no_highest}
 use Rattle.search_graph.proofs.Justified.{Settles, stack_length}
 use Rattle.search_graph.proofs.KeptAnswers.{kept_added, kept_popped}
 use Rattle.search_graph.proofs.LeftOver.{IsLeftOver, other_head, own_head}

@@ -1,5 +1,4 @@
 use Rattle.std.proofs.Common.{◌∙◌, sym}
-use Rattle.search_graph.proofs.ReadyPops.{settled_ready}
 use Rattle.search_graph.proofs.DoneGoals.{given_to_none, given_to_newest}
 use Rattle.search_graph.proofs.graph.finish.give_answer.Goals as goal
 
