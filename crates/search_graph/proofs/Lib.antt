@@ -27,6 +27,7 @@ pub mod KeptMoves
 pub mod FreeResults
 pub mod FreeMoves
 pub mod Ready
+pub mod ReadyMoves
 pub mod DoneGoals
 pub mod DoneRuns
 pub mod Causes
@@ -38,3 +39,6 @@ pub mod RebasedAnswers
 pub mod RebasedRising
 pub mod ReadyPops
 pub mod SettledEntries
+pub mod RebasedLeft
+pub mod LeftOver
+pub mod PoppedEntries

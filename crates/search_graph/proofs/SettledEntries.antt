@@ -1,8 +1,8 @@
 -- The entries once the newest goal is taken: its own answer is kept, where it rests on goals that are left.
-use Rattle.std.proofs.Common.{◌≡◌, ℕ, ◌+◌, ◌<◌, Bool, ◌&&◌, true, false, if◌then◌else◌, List, [], ◌∷◌, ◌++◌, length, map, drop, reverse, All, Option, None, Some, refl, sym, ap, ◌∙◌, subst, arith}
+use Rattle.std.proofs.Common.{◌≡◌, ℕ, ◌+◌, ◌<◌, Bool, ◌&&◌, true, false, if◌then◌else◌, List, [], ◌∷◌, ◌++◌, length, map, drop, reverse, All, Option, None, Some, refl, sym, ap, ◌∙◌, subst}
 use Rattle.std.specs.Option.{option_map, IfSome}
 use Rattle.std.proofs.lemmas.Grind.{reverse_onto}
-use Rattle.std.proofs.lemmas.List.{append-nil, drop-map, map-append, length-map, length-reverse}
+use Rattle.std.proofs.lemmas.List.{append-nil, drop-map, map-append}
 use Rattle.cycle_heads.specs.declared.depth.StackDepth.{StackDepth}
 use Rattle.cycle_heads.specs.declared.heads.CycleHead.{CycleHead}
 use Rattle.cycle_heads.specs.declared.path.PathKind.{PathKind}
@@ -18,7 +18,6 @@ use Rattle.search_parts.specs.declared.parts.provisional_cache.RebaseReason.{Reb
 use Rattle.search_parts.proofs.RebasedHeads.{highest_within}
 use Rattle.open_goals.specs.declared.goals.Run.{Run}
 use Rattle.open_goals.specs.declared.goals.Next.{Next}
-use Rattle.open_goals.specs.Items.{AnswersNewest}
 use Rattle.search_graph.specs.Moves.{GivesAnswer}
 use Rattle.search_graph.specs.Provisional.{final_answer, kept_of, left_of}
 use Rattle.search_graph.proofs.Ready.{on_stack_many}

@@ -1,11 +1,11 @@
-use Rattle.std.proofs.Common.{List, [], ◌∷◌, ◌++◌, length, map, reverse, All, ◌≡◌, ◌+◌, ◌<◌, ◌≤◌, ◌^◌, ◌&&◌, if◌then◌else◌, sym, ap, subst, ◌∙◌, arith}
+use Rattle.std.proofs.Common.{List, [], ◌∷◌, length, map, reverse, All, ◌≡◌, ◌+◌, ◌<◌, ◌≤◌, ◌^◌, sym, ap, subst, ◌∙◌, arith}
 use Rattle.std.specs.Option.{IfSome}
 use Rattle.cycle_heads.specs.Heads.{highest}
 use Rattle.search_parts.specs.declared.parts.stack.StackEntry.{StackEntry}
 use Rattle.search_parts.specs.declared.parts.provisional_cache.ProvisionalCacheEntry.{ProvisionalCacheEntry}
 use Rattle.search_parts.specs.Provisional.{entries_at}
 use Rattle.search_graph.specs.Justified.{AreJustified, HaveTallies}
-use Rattle.search_graph.specs.Provisional.{AreReady, HasReason, IsNewestUnranked, SettlesNewest, final_answer, kept_of, left_of}
+use Rattle.search_graph.specs.Provisional.{AreReady, HasReason, IsNewestUnranked, SettlesNewest, final_answer}
 use Rattle.search_graph.proofs.Ready.{are_within, heads_on_stack}
 use Rattle.search_graph.proofs.ReadyPops.{settled_ready}
 use Rattle.search_graph.proofs.SettledEntries.{entries_settled, highest_stays}
