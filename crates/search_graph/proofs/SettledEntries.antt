@@ -88,8 +88,8 @@ module _ {X I R A T : Type 0} where
       ∙ sym (map-append (λ (e : StackEntry X I R A T). e.step_kind_from_parent) (reverse l) (f ∷ []))
       ∙ sym (ap steps_of (reverse_onto l f []))
 
-  -- what is kept depends on the stack by its steps alone
   module _ (stack other : List (StackEntry X I R A T)) (same_steps : steps_of stack ≡ steps_of other) where
+    -- a path depends on the stack by its steps alone
     same_path : (head : ℕ) (step : PathKind) → path_kind_from stack head step ≡ path_kind_from other head step
     same_path head step =
         ap (λ l. greatest_kind (step ∷ l))
@@ -101,6 +101,7 @@ module _ {X I R A T : Type 0} where
     same_entries step answer None = refl
     same_entries step answer (Some top) = ap (λ kind. record (entry_from stack step answer top.0) { path_from_head = kind } ∷ []) (same_path top.0.0 step)
 
+    -- and so does what is kept
     same_kept : (step : PathKind) (answer : EvaluationResult X I R A T) → kept_of stack step answer ≡ kept_of other step answer
     same_kept step answer =
         kept_is stack step answer (highest answer.heads) refl ∙ same_entries step answer (highest answer.heads) ∙ sym (kept_is other step answer (highest answer.heads) refl)
@@ -111,6 +112,7 @@ module _ {X F I R A T : Type 0} where
   stack_of goals = reverse (map (λ s. s.0) goals)
 
   module _ (step : PathKind) (answer : EvaluationResult X I R A T) where
+    -- the goals that are left have the steps that they had
     steps_stay : (below later : List (StackEntry X I R A T × Run X F I R A T)) (next : Next R) → GivesAnswer step answer below next later → steps_of (stack_of later) ≡ steps_of (stack_of below)
     steps_stay [] later next given = ap (λ l. steps_of (stack_of l)) given.1
     steps_stay (p ∷ below) later next given =
@@ -119,6 +121,7 @@ module _ {X F I R A T : Type 0} where
         ∙ step_stays (map (λ s. s.0) a.below) (record a.entry { state = a.state }) a.entry refl
         ∙ sym (ap (λ l. steps_of (stack_of l)) a.was)
 
+    -- and are as many
     as_many : (below later : List (StackEntry X I R A T × Run X F I R A T)) (next : Next R) → GivesAnswer step answer below next later → length later ≡ length below
     as_many [] later next given = ap length given.1
     as_many (p ∷ below) later next given = let a = given.1 in ap length a.is ∙ sym (ap length a.was)
@@ -129,14 +132,17 @@ module _ {X F I R A T : Type 0} where
         subst (λ n. IfSome (highest heads) (λ head. head.0.0 < n)) (on_stack_many below ∙ sym (as_many below later next given) ∙ sym (on_stack_many later))
         (highest_within (length (stack_of below)) heads on_stack)
 
--- The entries of each goal are the old ones, settled for the reason, and the answer of the goal that was taken.
+-- The entries were settled for the reason once the goal was taken, and the answer was put last once it was given.
 module _ {C X F I R A T : Type 0} (same : I → I → Bool) (enabled : Bool) (propagated : C → I → A → R) (overflow : C → I → R) (used cx : C) (same_context : used ≡ cx) (reason : Option (RebaseReason X I R A T)) (r : R) (target : Option NodeId) (s : StackEntry X I R A T × Run X F I R A T) (below later : List (StackEntry X I R A T × Run X F I R A T)) (next : Next R) (stack after : List (StackEntry X I R A T)) (stack_is : stack ≡ reverse (map (λ s. s.0) below)) (after_is : after ≡ reverse (map (λ s. s.0) later)) (step : PathKind) (step_is : step ≡ s.0.step_kind_from_parent) (input : I) (input_is : input ≡ s.0.input) (answer : EvaluationResult X I R A T) (answer_is : answer ≡ final_answer s r target) (given : GivesAnswer step answer below next later) (old middle new : Lists I (ProvisionalCacheEntry X I R A T)) (settled : (goal : I) → entries_at same middle goal ≡ left_of (propagated used goal) (overflow used goal) reason stack s.0 (entries_at same old goal)) (put : (goal : I) → entries_at same new goal ≡ entries_at same middle goal ++ (if enabled && same input goal then kept_of after step answer else [])) where
+  -- the old entries, settled
   abbrev settled_by : C → List (StackEntry X I R A T) → I → List (ProvisionalCacheEntry X I R A T)
   settled_by x l goal = left_of (propagated x goal) (overflow x goal) reason l s.0 (entries_at same old goal)
 
+  -- what is put for the goal, where answers are kept
   abbrev put_by : I → List (ProvisionalCacheEntry X I R A T) → I → List (ProvisionalCacheEntry X I R A T)
   put_by i l goal = if enabled && same i goal then l else []
 
+  -- so the entries of each goal are the old ones, settled, and the answer over the stack that was left
   pub entries_settled : (goal : I) → entries_at same new goal
       ≡ left_of (propagated cx goal) (overflow cx goal) reason (reverse (map (λ s. s.0) below)) s.0 (entries_at same old goal)
       ++ (if enabled && same s.0.input goal then kept_of (reverse (map (λ s. s.0) below)) s.0.step_kind_from_parent (final_answer s r target) else [])
