@@ -15,6 +15,7 @@ use Rattle.search_graph.specs.Free.{AreFree}
 use Rattle.open_goals.specs.Items.{AnswersNewest}
 use Rattle.search_graph.specs.Justified.{AreJustified}
 use Rattle.search_graph.specs.Moves.{GivesAnswer, Leaves}
+use Rattle.search_graph.specs.Provisional.{final_answer}
 use Rattle.search_graph.specs.Results.{StoresAnswer, MayPutNewest, place_of_item}
 use Rattle.search_graph.specs.Runs.{runs_of, IsSettled, IsJustifiedNext}
 use Rattle.search_graph.proofs.FreeMoves.{answered_newest_free}
@@ -31,54 +32,43 @@ module _ {X F I R A T : Type 0} (step : PathKind) (answer : EvaluationResult X I
   given_to_newest [] new some a = absurd (some refl)
   given_to_newest (p ∷ below) new some a = (refl, a)
 
--- the answer of a goal with its run
-abbrev pub answer_of : {X F I R A T : Type 0} → StackEntry X I R A T → Run X F I R A T → R → Option NodeId → EvaluationResult X I R A T
-answer_of entry run r target = record {
-  encountered_overflow = entry.state.encountered_overflow || run.met_overflow_before;
-  required_depth = entry.state.required_depth;
-  heads = entry.state.heads;
-  nested_goals = entry.state.nested_goals;
-  result = r;
-  node = target;
-}
-
 module _ {X F I R A T : Type 0} (is_yes is_no : R → Bool) (before after : List (CacheNode I R)) (old : List (StackEntry X I R A T × Run X F I R A T)) (entry : StackEntry X I R A T) (run : Run X F I R A T) (rest : List (StackEntry X I R A T × Run X F I R A T)) (was : old ≡ (entry, run) ∷ rest) (r : R) (target : Option NodeId) (h : AreJustified is_yes is_no before (runs_of old)) (settled : IsSettled is_yes is_no before after entry.state.provisional_result run.node entry.state.node run.progress r target) where
   some_below : (p : StackEntry X I R A T × Run X F I R A T) (below : List (StackEntry X I R A T × Run X F I R A T)) → rest ≡ p ∷ below → length rest ≢ 0
   some_below p below is none = omega (arith, ap length is, none)
 
-  leaves_at : (l new : List (StackEntry X I R A T × Run X F I R A T)) (next : Next R) → rest ≡ l → GivesAnswer entry.step_kind_from_parent (answer_of entry run r target) l next new → Leaves r old next new
+  leaves_at : (l new : List (StackEntry X I R A T × Run X F I R A T)) (next : Next R) → rest ≡ l → GivesAnswer entry.step_kind_from_parent (final_answer (entry, run) r target) l next new → Leaves r old next new
   leaves_at [] new next is given =
       subst (λ o. Leaves r o next new) (sym (was ∙ ap (λ l. (entry, run) ∷ l) is)) (target, given.0, given.1)
   leaves_at (p ∷ below) new next is given =
       let a : AnswersNewest entry.step_kind_from_parent entry.state.required_depth (entry.state.encountered_overflow || run.met_overflow_before) entry.state.heads rest new = subst (λ l. AnswersNewest entry.step_kind_from_parent entry.state.required_depth (entry.state.encountered_overflow || run.met_overflow_before) entry.state.heads l new) (sym is) given.1 in
       subst (λ n. Leaves r old n new) (sym given.0) (leaves_step is_yes is_no before after old entry run rest was r target h settled new a (some_below p below is))
 
-  pub given_leaves : (new : List (StackEntry X I R A T × Run X F I R A T)) (next : Next R) → GivesAnswer entry.step_kind_from_parent (answer_of entry run r target) rest next new → Leaves r old next new
+  pub given_leaves : (new : List (StackEntry X I R A T × Run X F I R A T)) (next : Next R) → GivesAnswer entry.step_kind_from_parent (final_answer (entry, run) r target) rest next new → Leaves r old next new
   given_leaves new next given = leaves_at rest new next refl given
 
-  justified_at : (l new : List (StackEntry X I R A T × Run X F I R A T)) (next : Next R) → rest ≡ l → GivesAnswer entry.step_kind_from_parent (answer_of entry run r target) l next new → IsJustifiedNext is_yes is_no after old new next
+  justified_at : (l new : List (StackEntry X I R A T × Run X F I R A T)) (next : Next R) → rest ≡ l → GivesAnswer entry.step_kind_from_parent (final_answer (entry, run) r target) l next new → IsJustifiedNext is_yes is_no after old new next
   justified_at [] new next is given =
       subst (λ n. IsJustifiedNext is_yes is_no after old new n) (sym given.0) (finished_justified is_yes is_no before after old entry run rest was r target h settled new (ap length is))
   justified_at (p ∷ below) new next is given =
       let a : AnswersNewest entry.step_kind_from_parent entry.state.required_depth (entry.state.encountered_overflow || run.met_overflow_before) entry.state.heads rest new = subst (λ l. AnswersNewest entry.step_kind_from_parent entry.state.required_depth (entry.state.encountered_overflow || run.met_overflow_before) entry.state.heads l new) (sym is) given.1 in
       subst (λ n. IsJustifiedNext is_yes is_no after old new n) (sym given.0) (step_justified is_yes is_no before after old entry run rest was r target h settled new a)
 
-  pub given_justified : (new : List (StackEntry X I R A T × Run X F I R A T)) (next : Next R) → GivesAnswer entry.step_kind_from_parent (answer_of entry run r target) rest next new → IsJustifiedNext is_yes is_no after old new next
+  pub given_justified : (new : List (StackEntry X I R A T × Run X F I R A T)) (next : Next R) → GivesAnswer entry.step_kind_from_parent (final_answer (entry, run) r target) rest next new → IsJustifiedNext is_yes is_no after old new next
   given_justified new next given = justified_at rest new next refl given
 
-  free_at : (same : I → I → Bool) (results : Store I (StoredResult X I R A T)) (l new : List (StackEntry X I R A T × Run X F I R A T)) (next : Next R) → GivesAnswer entry.step_kind_from_parent (answer_of entry run r target) l next new → AreFree is_yes is_no same after (runs_of l) results → AreFree is_yes is_no same after (runs_of new) results
+  free_at : (same : I → I → Bool) (results : Store I (StoredResult X I R A T)) (l new : List (StackEntry X I R A T × Run X F I R A T)) (next : Next R) → GivesAnswer entry.step_kind_from_parent (final_answer (entry, run) r target) l next new → AreFree is_yes is_no same after (runs_of l) results → AreFree is_yes is_no same after (runs_of new) results
   free_at same results [] new next given free = subst (λ l. AreFree is_yes is_no same after (runs_of l) results) (sym given.1) free
   free_at same results (p ∷ below) new next given free = answered_newest_free is_yes is_no same after results (p ∷ below) new entry.step_kind_from_parent entry.state.required_depth (entry.state.encountered_overflow || run.met_overflow_before) entry.state.heads given.1 free
 
   -- the stored results rest on no goal that is left, with the answer too
-  pub given_free : (same : I → I → Bool) → ((x y : I) → same x y ≡ true → x ≡ y) → (results stored : Store I (StoredResult X I R A T)) (new : List (StackEntry X I R A T × Run X F I R A T)) (next : Next R) → GivesAnswer entry.step_kind_from_parent (answer_of entry run r target) rest next new → StoresAnswer same results stored entry.input (answer_of entry run r target) → AreFree is_yes is_no same before (runs_of old) results → AreFree is_yes is_no same after (runs_of new) stored
+  pub given_free : (same : I → I → Bool) → ((x y : I) → same x y ≡ true → x ≡ y) → (results stored : Store I (StoredResult X I R A T)) (new : List (StackEntry X I R A T × Run X F I R A T)) (next : Next R) → GivesAnswer entry.step_kind_from_parent (final_answer (entry, run) r target) rest next new → StoresAnswer same results stored entry.input (final_answer (entry, run) r target) → AreFree is_yes is_no same before (runs_of old) results → AreFree is_yes is_no same after (runs_of new) stored
   given_free same by_value results stored new next given stores free =
       free_at same stored rest new next given
-      (all_free_stored is_yes is_no same by_value after (runs_of rest) results stored entry.input (answer_of entry run r target) stores
+      (all_free_stored is_yes is_no same by_value after (runs_of rest) results stored entry.input (final_answer (entry, run) r target) stores
       (stored_stay_free is_yes is_no before after old entry run rest was r target h settled same results free)
       (headless_is_free is_yes is_no before after old entry run rest was r target h settled))
 
   -- what was stored is the newest goal's result
-  pub newest_stored : (same : I → I → Bool) (results stored : Store I (StoredResult X I R A T)) → StoresAnswer same results stored entry.input (answer_of entry run r target) → MayPutNewest same old r results stored
+  pub newest_stored : (same : I → I → Bool) (results stored : Store I (StoredResult X I R A T)) → StoresAnswer same results stored entry.input (final_answer (entry, run) r target) → MayPutNewest same old r results stored
   newest_stored same results stored stores =
-      subst (λ o. MayPutNewest same o r results stored) (sym was) (stored_result same results stored entry.input (answer_of entry run r target) (place_of_item (entry, run)) r refl refl stores)
+      subst (λ o. MayPutNewest same o r results stored) (sym was) (stored_result same results stored entry.input (final_answer (entry, run) r target) (place_of_item (entry, run)) r refl refl stores)

@@ -26,6 +26,8 @@ pub mod KeptAnswers
 pub mod KeptMoves
 pub mod FreeResults
 pub mod FreeMoves
+pub mod Ready
+pub mod ReadyMoves
 pub mod DoneGoals
 pub mod DoneRuns
 pub mod Causes
@@ -35,3 +37,8 @@ pub mod RebasedShapes
 pub mod RebasedPaths
 pub mod RebasedAnswers
 pub mod RebasedRising
+pub mod ReadyPops
+pub mod SettledEntries
+pub mod RebasedLeft
+pub mod LeftOver
+pub mod PoppedEntries

@@ -61,15 +61,15 @@ highest_is heads top is = ap (λ (o : Option (StackDepth × CycleHead)). elim o 
 
 module _ {X I R A T : Type 0} (is_yes is_no : R → Bool) (stack : List (StackEntry X I R A T)) (done : StackEntry X I R A T) where
   -- an answer with the path from its highest head
-  record HasNewHead (before after : ProvisionalCacheEntry X I R A T) : Type 0 where
-    head : StackDepth × CycleHead
-    is_highest : highest after.heads ≡ Some head
-    same_heads : after.heads ≡ before.heads
-    same_result : after.result ≡ before.result
-    same_node : after.node ≡ before.node
-    path : after.path_from_head ≡ greater_kind before.path_from_head (from_head stack done head.0.0)
+  pub record HasNewHead (before after : ProvisionalCacheEntry X I R A T) : Type 0 where
+    pub head : StackDepth × CycleHead
+    pub is_highest : highest after.heads ≡ Some head
+    pub same_heads : after.heads ≡ before.heads
+    pub same_result : after.result ≡ before.result
+    pub same_node : after.node ≡ before.node
+    pub path : after.path_from_head ≡ greater_kind before.path_from_head (from_head stack done head.0.0)
 
-  new_head : (before after : ProvisionalCacheEntry X I R A T) → from_new_head stack done before ≡ Some after → HasNewHead before after
+  pub new_head : (before after : ProvisionalCacheEntry X I R A T) → from_new_head stack done before ≡ Some after → HasNewHead before after
   new_head before after is = at (highest before.heads) refl is
     where
       at : (o : Option (StackDepth × CycleHead)) → highest before.heads ≡ o

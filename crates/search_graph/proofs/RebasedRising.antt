@@ -21,7 +21,7 @@ left_rise : (paths : CycleHead → PathsToNested) (usages : CycleHead → HeadUs
 left_rise paths usages done own rising = rises (with_all paths usages done (but_highest own)) (all_ascends paths usages done (but_highest own) (left_ascends own (ascends own rising)))
 
 module _ {X I R A T : Type 0} where
-  settled_same_heads : (propagated : A → R) (overflow : R) (reason : RebaseReason X I R A T) (usages : HeadUsages) (entry after : ProvisionalCacheEntry X I R A T) → settled propagated overflow reason usages entry ≡ Some after → after.heads ≡ entry.heads
+  pub settled_same_heads : (propagated : A → R) (overflow : R) (reason : RebaseReason X I R A T) (usages : HeadUsages) (entry after : ProvisionalCacheEntry X I R A T) → settled propagated overflow reason usages entry ≡ Some after → after.heads ≡ entry.heads
   settled_same_heads propagated overflow NoCycleUsages usages entry after is = absurd cc
   settled_same_heads propagated overflow (Ambiguity info) usages entry after is = cc
   settled_same_heads propagated overflow Overflow usages entry after is = cc

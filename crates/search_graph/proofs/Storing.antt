@@ -31,9 +31,9 @@ module _ {X I R A T : Type 0} (same : I → I → Bool) (old new : Store I (Stor
   stored_result place r at is (Put token none puts) = WithResult (stored_from answer token) is (subst (λ p. Puts same old new goal p (stored_from answer token)) at puts)
 
 -- what was put is stored
-pub put_is_stored : {X I R A T U E : Type 0} (same : I → I → Bool) (old new : Store I (StoredResult X I R A T)) (goal : I) (place : Place) (s : StoredResult X I R A T) (P : Type 0) (r : Result U E) → OnOk r (Puts same old new goal place s) → OnOk r (P → IsStoredAt same new goal place s.result.result)
-put_is_stored same old new goal place s P (Ok u) puts = λ p. ap (option_map (λ (t : StoredResult _ _ _ _ _). t.result.result)) puts.here
-put_is_stored same old new goal place s P (Err e) puts = tt
+pub put_is_stored : {X I R A T U E : Type 0} (same : I → I → Bool) (old new : Store I (StoredResult X I R A T)) (goal : I) (place : Place) (s : StoredResult X I R A T) (r : Result U E) → OnOk r (Puts same old new goal place s) → OnOk r (IsStoredAt same new goal place s.result.result)
+put_is_stored same old new goal place s (Ok u) puts = ap (option_map (λ (t : StoredResult _ _ _ _ _). t.result.result)) puts.here
+put_is_stored same old new goal place s (Err e) puts = tt
 
 success_at : (depth : ℕ) (b : Bool) → (if b then WithOverflow depth else Success) ≡ Success → b ≡ false
 success_at depth true is = absurd cc

@@ -188,7 +188,7 @@ module _ {X I R A T : Type 0} (parent : StackDepth) (step : PathKind) (answer : 
             (subst (raises (usages_in (at_depth old.heads head))) (sym (counted_other parent.0 (tally_of new fs) head apart ∙ ap (λ o. usages_in o) (heads_other head apart))) (raised_head step (at_depth old.heads head) (at_depth answer head) kind))
       ]
 
-  counted_has : (head : StackDepth) → IsSome (counted parent.0 (tally_of old fs) head) ⊎ IsSome (at_depth answer head) → IsSome (counted parent.0 (tally_of new fs) head)
+  pub counted_has : (head : StackDepth) → IsSome (counted parent.0 (tally_of old fs) head) ⊎ IsSome (at_depth answer head) → IsSome (counted parent.0 (tally_of new fs) head)
   counted_has head there = elim (cases_eq head.0 parent.0) [
     | inl own ↦
         subst IsSome (sym (counted_own parent.0 (tally_of new fs) head own ∙ usages_own head own))

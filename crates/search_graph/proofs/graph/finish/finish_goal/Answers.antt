@@ -1,7 +1,17 @@
-use Rattle.std.proofs.Common.{[], ◌∷◌, ◌≡◌, ◌+◌, ◌<◌, ◌^◌, sym, ap, subst, ◌∙◌, arith}
+use Rattle.std.proofs.Common.{List, [], ◌∷◌, length, map, reverse, All, ◌≡◌, ◌+◌, ◌<◌, ◌≤◌, ◌^◌, sym, ap, subst, ◌∙◌, arith}
+use Rattle.std.specs.Option.{IfSome}
+use Rattle.cycle_heads.specs.Heads.{highest}
+use Rattle.search_parts.specs.declared.parts.stack.StackEntry.{StackEntry}
+use Rattle.search_parts.specs.declared.parts.provisional_cache.ProvisionalCacheEntry.{ProvisionalCacheEntry}
+use Rattle.search_parts.specs.Provisional.{entries_at}
+use Rattle.search_graph.specs.Justified.{AreJustified, HaveTallies}
+use Rattle.search_graph.specs.Provisional.{AreReady, HasReason, IsNewestUnranked, SettlesNewest, final_answer}
+use Rattle.search_graph.proofs.Ready.{are_within, heads_on_stack}
+use Rattle.search_graph.proofs.ReadyPops.{settled_ready}
+use Rattle.search_graph.proofs.SettledEntries.{entries_settled, highest_stays}
 use Rattle.search_parts.specs.declared.parts.result.EvaluationResult.{EvaluationResult}
 use Rattle.search_parts.specs.Definite.{HasGraph}
-use Rattle.search_parts.specs.Store.{place_of}
+use Rattle.search_parts.specs.Store.{place_of, KeepsResults}
 use Rattle.search_parts.specs.Stored.{IsPlainAt}
 use Rattle.search_parts.specs.Cache.{KeepsFinished}
 use Rattle.search_parts.specs.Rank.{IsPlainTo}
@@ -10,7 +20,8 @@ use Rattle.search_graph.specs.Graph.{ComesTo}
 use Rattle.search_graph.specs.Results.{IsNewestPlainTo, IsNewestStored, IsStoredAt, NewestComesTo, NewestIsPlain, StoresAnswer}
 use Rattle.search_graph.specs.Moves.{GivesAnswer}
 use Rattle.search_graph.specs.Runs.{runs_of, IsJustifiedNext}
-use Rattle.search_graph.proofs.DoneGoals.{answer_of, given_free, given_justified, given_leaves, newest_stored}
+use Rattle.search_graph.proofs.DoneGoals.{given_free, given_justified, given_leaves, newest_stored}
+use Rattle.search_graph.proofs.Finishing.{neither_is, settles}
 use Rattle.search_graph.proofs.Questions.{if_err_and}
 use Rattle.search_graph.proofs.RunsEnd.{headless_graph, required_fits, taken_run_ends}
 use Rattle.search_graph.proofs.graph.finish.finish_goal.Goals as goal
@@ -40,9 +51,33 @@ store_answer-requires-clause-comes g c =
 pub store_answer-requires-clause-plain : goal.store_answer-requires-clause-plain
 store_answer-requires-clause-plain g c =
     subst (λ (a : EvaluationResult _ _ _ _ _). IsPlainAt (g.D.Delegate.script c.settle_node.new.cache.cx) c.input-input.result (place_of a) a.result) (sym c.finalize-answer.ensures)
-    (subst (λ i. IsPlainAt (g.D.Delegate.script c.settle_node.new.cache.cx) i (place_of (answer_of c.pop-entry.result.0 c.pop-entry.result.1 c.args.outcome c.in_ok-node.node)) c.args.outcome) (sym c.input-input.ensures)
-    (subst (λ x. IsPlainAt (g.D.Delegate.script x) c.pop-entry.result.0.input (place_of (answer_of c.pop-entry.result.0 c.pop-entry.result.1 c.args.outcome c.in_ok-node.node)) c.args.outcome) (sym c.in_ok-node.ensures.same_context)
+    (subst (λ i. IsPlainAt (g.D.Delegate.script c.settle_node.new.cache.cx) i (place_of (final_answer (c.pop-entry.result.0, c.pop-entry.result.1) c.args.outcome c.in_ok-node.node)) c.args.outcome) (sym c.input-input.ensures)
+    (subst (λ x. IsPlainAt (g.D.Delegate.script x) c.pop-entry.result.0.input (place_of (final_answer (c.pop-entry.result.0, c.pop-entry.result.1) c.args.outcome c.in_ok-node.node)) c.args.outcome) (sym c.in_ok-node.ensures.same_context)
     (subst (λ l. NewestIsPlain (g.D.Delegate.script c.args.cache.now.cx) l c.args.outcome) c.pop-entry.ensures c.requires.plain)))
+
+-- ---- the heads of the entry and of the entries are on the stack
+
+pub settle_kept-requires-clause-on_stack : goal.settle_kept-requires-clause-on_stack
+settle_kept-requires-clause-on_stack g c =
+    subst (λ (stack : List (StackEntry _ _ _ _ _)). All (λ head. head.0.0 < length stack) c.pop-entry.result.0.state.heads) (sym c.stack.ensures)
+    (heads_on_stack (c.pop-entry.result.0, c.pop-entry.result.1) c.pop-entry.new.self (subst (λ l. HaveTallies (runs_of l)) c.pop-entry.ensures c.requires.justified.tallies))
+
+pub settle_kept-requires-clause-within : goal.settle_kept-requires-clause-within
+settle_kept-requires-clause-within g c = λ input.
+    subst (λ (stack : List (StackEntry _ _ _ _ _)). All (λ (entry : ProvisionalCacheEntry _ _ _ _ _). All (λ head. head.0.0 ≤ length stack) entry.heads) (entries_at g.D.Cx.Input.PartialEq.eq c.args.provisional.now input)) (sym c.stack.ensures)
+    (are_within g.D.Cx.Cx.is_yes g.D.Cx.Cx.is_no g.D.Cx.Input.PartialEq.eq (g.D.Delegate.script c.args.cache.now.cx) c.args.cache.now.nodes c.args.provisional.now (c.pop-entry.result.0, c.pop-entry.result.1) c.pop-entry.new.self
+    (subst (λ l. HaveTallies (runs_of l)) c.pop-entry.ensures c.requires.justified.tallies)
+    (subst (λ l. AreReady g.D.Cx.Cx.is_yes g.D.Cx.Cx.is_no g.D.Cx.Input.PartialEq.eq (g.D.Delegate.script c.args.cache.now.cx) c.args.cache.now.nodes (runs_of l) c.args.provisional.now) c.pop-entry.ensures c.requires.ready) input)
+
+pub store_answer-requires-clause-on_stack : goal.store_answer-requires-clause-on_stack
+store_answer-requires-clause-on_stack g c =
+    subst (λ (stack : List (StackEntry _ _ _ _ _)). IfSome (highest c.finalize-answer.result.heads) (λ head. head.0.0 < length stack)) (sym c.stack-2.ensures)
+    (subst (λ (a : EvaluationResult _ _ _ _ _). IfSome (highest a.heads) (λ head. head.0.0 < length (reverse (map (λ s. s.0) c.give_answer.new.goals)))) (sym c.finalize-answer.ensures)
+    (highest_stays c.pop-entry.result.0.step_kind_from_parent (final_answer (c.pop-entry.result.0, c.pop-entry.result.1) c.args.outcome c.in_ok-node.node) c.pop-entry.new.self c.give_answer.new.goals c.in_ok-next.next
+    (subst (λ step. GivesAnswer step (final_answer (c.pop-entry.result.0, c.pop-entry.result.1) c.args.outcome c.in_ok-node.node) c.pop-entry.new.self c.in_ok-next.next c.give_answer.new.goals) c.step_kind_from_parent-step.ensures
+    (subst (λ (a : EvaluationResult _ _ _ _ _). GivesAnswer c.step_kind_from_parent-step.result a c.pop-entry.new.self c.in_ok-next.next c.give_answer.new.goals) c.finalize-answer.ensures c.in_ok-next.ensures))
+    c.pop-entry.result.0.state.heads
+    (heads_on_stack (c.pop-entry.result.0, c.pop-entry.result.1) c.pop-entry.new.self (subst (λ l. HaveTallies (runs_of l)) c.pop-entry.ensures c.requires.justified.tallies))))
 
 -- ---- the answer could not be given or stored
 
@@ -51,8 +86,8 @@ returns-in_err-next-clause-plain g c = λ n plain. if_err_and c.from_residual-in
 
 pub returns-in_err-store_answer-clause-stored : goal.returns-in_err-store_answer-clause-stored
 returns-in_err-store_answer-clause-stored g c = newest_stored g.D.Cx.Cx.is_yes g.D.Cx.Cx.is_no c.args.cache.now.nodes c.settle_node.new.cache.nodes c.args.goals.now c.pop-entry.result.0 c.pop-entry.result.1 c.pop-entry.new.self c.pop-entry.ensures c.args.outcome c.in_ok-node.node c.requires.justified c.in_ok-node.ensures.settled g.D.Cx.Input.PartialEq.eq c.args.cache.now.results c.store_answer.new.cache.results
-    (subst (λ before. StoresAnswer g.D.Cx.Input.PartialEq.eq before c.store_answer.new.cache.results c.pop-entry.result.0.input (answer_of c.pop-entry.result.0 c.pop-entry.result.1 c.args.outcome c.in_ok-node.node)) c.in_ok-node.ensures.same_results
-    (subst (λ i. StoresAnswer g.D.Cx.Input.PartialEq.eq c.settle_node.new.cache.results c.store_answer.new.cache.results i (answer_of c.pop-entry.result.0 c.pop-entry.result.1 c.args.outcome c.in_ok-node.node)) c.input-input.ensures
+    (subst (λ before. StoresAnswer g.D.Cx.Input.PartialEq.eq before c.store_answer.new.cache.results c.pop-entry.result.0.input (final_answer (c.pop-entry.result.0, c.pop-entry.result.1) c.args.outcome c.in_ok-node.node)) c.in_ok-node.ensures.same_results
+    (subst (λ i. StoresAnswer g.D.Cx.Input.PartialEq.eq c.settle_node.new.cache.results c.store_answer.new.cache.results i (final_answer (c.pop-entry.result.0, c.pop-entry.result.1) c.args.outcome c.in_ok-node.node)) c.input-input.ensures
     (subst (λ (a : EvaluationResult _ _ _ _ _). StoresAnswer g.D.Cx.Input.PartialEq.eq c.settle_node.new.cache.results c.store_answer.new.cache.results c.input-input.result a) c.finalize-answer.ensures c.store_answer.ensures.stored)))
 
 pub returns-in_err-store_answer-clause-plain : goal.returns-in_err-store_answer-clause-plain
@@ -69,30 +104,30 @@ returns-in_err-store_answer-clause-kept g c = subst (KeepsFinished c.args.cache.
 
 pub returns-clause-left : goal.returns-clause-left
 returns-clause-left g c = given_leaves g.D.Cx.Cx.is_yes g.D.Cx.Cx.is_no c.args.cache.now.nodes c.settle_node.new.cache.nodes c.args.goals.now c.pop-entry.result.0 c.pop-entry.result.1 c.pop-entry.new.self c.pop-entry.ensures c.args.outcome c.in_ok-node.node c.requires.justified c.in_ok-node.ensures.settled c.give_answer.new.goals c.in_ok-next.next
-    (subst (λ step. GivesAnswer step (answer_of c.pop-entry.result.0 c.pop-entry.result.1 c.args.outcome c.in_ok-node.node) c.pop-entry.new.self c.in_ok-next.next c.give_answer.new.goals) c.step_kind_from_parent-step.ensures
+    (subst (λ step. GivesAnswer step (final_answer (c.pop-entry.result.0, c.pop-entry.result.1) c.args.outcome c.in_ok-node.node) c.pop-entry.new.self c.in_ok-next.next c.give_answer.new.goals) c.step_kind_from_parent-step.ensures
     (subst (λ (a : EvaluationResult _ _ _ _ _). GivesAnswer c.step_kind_from_parent-step.result a c.pop-entry.new.self c.in_ok-next.next c.give_answer.new.goals) c.finalize-answer.ensures c.in_ok-next.ensures))
 
 pub returns-clause-justified : goal.returns-clause-justified
 returns-clause-justified g c =
     subst (λ nodes. IsJustifiedNext g.D.Cx.Cx.is_yes g.D.Cx.Cx.is_no nodes c.args.goals.now c.give_answer.new.goals c.in_ok-next.next) (sym (ap (λ cache. cache.nodes) c.store_answer.ensures.rest))
     (given_justified g.D.Cx.Cx.is_yes g.D.Cx.Cx.is_no c.args.cache.now.nodes c.settle_node.new.cache.nodes c.args.goals.now c.pop-entry.result.0 c.pop-entry.result.1 c.pop-entry.new.self c.pop-entry.ensures c.args.outcome c.in_ok-node.node c.requires.justified c.in_ok-node.ensures.settled c.give_answer.new.goals c.in_ok-next.next
-    (subst (λ step. GivesAnswer step (answer_of c.pop-entry.result.0 c.pop-entry.result.1 c.args.outcome c.in_ok-node.node) c.pop-entry.new.self c.in_ok-next.next c.give_answer.new.goals) c.step_kind_from_parent-step.ensures
+    (subst (λ step. GivesAnswer step (final_answer (c.pop-entry.result.0, c.pop-entry.result.1) c.args.outcome c.in_ok-node.node) c.pop-entry.new.self c.in_ok-next.next c.give_answer.new.goals) c.step_kind_from_parent-step.ensures
     (subst (λ (a : EvaluationResult _ _ _ _ _). GivesAnswer c.step_kind_from_parent-step.result a c.pop-entry.new.self c.in_ok-next.next c.give_answer.new.goals) c.finalize-answer.ensures c.in_ok-next.ensures)))
 
 pub returns-clause-stored : goal.returns-clause-stored
 returns-clause-stored g c = newest_stored g.D.Cx.Cx.is_yes g.D.Cx.Cx.is_no c.args.cache.now.nodes c.settle_node.new.cache.nodes c.args.goals.now c.pop-entry.result.0 c.pop-entry.result.1 c.pop-entry.new.self c.pop-entry.ensures c.args.outcome c.in_ok-node.node c.requires.justified c.in_ok-node.ensures.settled g.D.Cx.Input.PartialEq.eq c.args.cache.now.results c.store_answer.new.cache.results
-    (subst (λ before. StoresAnswer g.D.Cx.Input.PartialEq.eq before c.store_answer.new.cache.results c.pop-entry.result.0.input (answer_of c.pop-entry.result.0 c.pop-entry.result.1 c.args.outcome c.in_ok-node.node)) c.in_ok-node.ensures.same_results
-    (subst (λ i. StoresAnswer g.D.Cx.Input.PartialEq.eq c.settle_node.new.cache.results c.store_answer.new.cache.results i (answer_of c.pop-entry.result.0 c.pop-entry.result.1 c.args.outcome c.in_ok-node.node)) c.input-input.ensures
+    (subst (λ before. StoresAnswer g.D.Cx.Input.PartialEq.eq before c.store_answer.new.cache.results c.pop-entry.result.0.input (final_answer (c.pop-entry.result.0, c.pop-entry.result.1) c.args.outcome c.in_ok-node.node)) c.in_ok-node.ensures.same_results
+    (subst (λ i. StoresAnswer g.D.Cx.Input.PartialEq.eq c.settle_node.new.cache.results c.store_answer.new.cache.results i (final_answer (c.pop-entry.result.0, c.pop-entry.result.1) c.args.outcome c.in_ok-node.node)) c.input-input.ensures
     (subst (λ (a : EvaluationResult _ _ _ _ _). StoresAnswer g.D.Cx.Input.PartialEq.eq c.settle_node.new.cache.results c.store_answer.new.cache.results c.input-input.result a) c.finalize-answer.ensures c.store_answer.ensures.stored)))
 
 pub returns-clause-free : goal.returns-clause-free
 returns-clause-free g c =
     subst (λ nodes. AreFree g.D.Cx.Cx.is_yes g.D.Cx.Cx.is_no g.D.Cx.Input.PartialEq.eq nodes (runs_of c.give_answer.new.goals) c.store_answer.new.cache.results) (sym (ap (λ cache. cache.nodes) c.store_answer.ensures.rest))
     (given_free g.D.Cx.Cx.is_yes g.D.Cx.Cx.is_no c.args.cache.now.nodes c.settle_node.new.cache.nodes c.args.goals.now c.pop-entry.result.0 c.pop-entry.result.1 c.pop-entry.new.self c.pop-entry.ensures c.args.outcome c.in_ok-node.node c.requires.justified c.in_ok-node.ensures.settled g.D.Cx.Input.PartialEq.eq g.met.D.Cx.Cx.same_input c.args.cache.now.results c.store_answer.new.cache.results c.give_answer.new.goals c.in_ok-next.next
-    (subst (λ step. GivesAnswer step (answer_of c.pop-entry.result.0 c.pop-entry.result.1 c.args.outcome c.in_ok-node.node) c.pop-entry.new.self c.in_ok-next.next c.give_answer.new.goals) c.step_kind_from_parent-step.ensures
+    (subst (λ step. GivesAnswer step (final_answer (c.pop-entry.result.0, c.pop-entry.result.1) c.args.outcome c.in_ok-node.node) c.pop-entry.new.self c.in_ok-next.next c.give_answer.new.goals) c.step_kind_from_parent-step.ensures
     (subst (λ (a : EvaluationResult _ _ _ _ _). GivesAnswer c.step_kind_from_parent-step.result a c.pop-entry.new.self c.in_ok-next.next c.give_answer.new.goals) c.finalize-answer.ensures c.in_ok-next.ensures))
-    (subst (λ before. StoresAnswer g.D.Cx.Input.PartialEq.eq before c.store_answer.new.cache.results c.pop-entry.result.0.input (answer_of c.pop-entry.result.0 c.pop-entry.result.1 c.args.outcome c.in_ok-node.node)) c.in_ok-node.ensures.same_results
-    (subst (λ i. StoresAnswer g.D.Cx.Input.PartialEq.eq c.settle_node.new.cache.results c.store_answer.new.cache.results i (answer_of c.pop-entry.result.0 c.pop-entry.result.1 c.args.outcome c.in_ok-node.node)) c.input-input.ensures
+    (subst (λ before. StoresAnswer g.D.Cx.Input.PartialEq.eq before c.store_answer.new.cache.results c.pop-entry.result.0.input (final_answer (c.pop-entry.result.0, c.pop-entry.result.1) c.args.outcome c.in_ok-node.node)) c.in_ok-node.ensures.same_results
+    (subst (λ i. StoresAnswer g.D.Cx.Input.PartialEq.eq c.settle_node.new.cache.results c.store_answer.new.cache.results i (final_answer (c.pop-entry.result.0, c.pop-entry.result.1) c.args.outcome c.in_ok-node.node)) c.input-input.ensures
     (subst (λ (a : EvaluationResult _ _ _ _ _). StoresAnswer g.D.Cx.Input.PartialEq.eq c.settle_node.new.cache.results c.store_answer.new.cache.results c.input-input.result a) c.finalize-answer.ensures c.store_answer.ensures.stored))) c.requires.free)
 
 pub returns-clause-kept : goal.returns-clause-kept
@@ -101,5 +136,34 @@ returns-clause-kept g c = subst (KeepsFinished c.args.cache.now.nodes) (sym (ap 
 pub returns-clause-is_stored : goal.returns-clause-is_stored
 returns-clause-is_stored g c =
     subst (λ l. IsNewestStored g.D.Cx.Input.PartialEq.eq l c.args.outcome c.store_answer.new.cache.results) (sym c.pop-entry.ensures)
-    (subst (λ i. c.pop-entry.result.0.state.heads ≡ [] → IsStoredAt g.D.Cx.Input.PartialEq.eq c.store_answer.new.cache.results i (place_of (answer_of c.pop-entry.result.0 c.pop-entry.result.1 c.args.outcome c.in_ok-node.node)) c.args.outcome) c.input-input.ensures
+    (subst (λ i. c.pop-entry.result.0.state.heads ≡ [] → IsStoredAt g.D.Cx.Input.PartialEq.eq c.store_answer.new.cache.results i (place_of (final_answer (c.pop-entry.result.0, c.pop-entry.result.1) c.args.outcome c.in_ok-node.node)) c.args.outcome) c.input-input.ensures
     (subst (λ (a : EvaluationResult _ _ _ _ _). a.heads ≡ [] → IsStoredAt g.D.Cx.Input.PartialEq.eq c.store_answer.new.cache.results c.input-input.result (place_of a) a.result) c.finalize-answer.ensures c.in_ok-store_answer.ensures.is_stored))
+
+pub returns-clause-settled : goal.returns-clause-settled
+returns-clause-settled g c =
+    subst (λ l. SettlesNewest g.D.Cx.Input.PartialEq.eq g.D.Delegate.ENABLE_PROVISIONAL_CACHE (g.D.Delegate.propagated c.args.cache.now.cx) (g.D.Delegate.fixpoint_overflow c.args.cache.now.cx) c.args.reason c.args.outcome l c.args.provisional.now c.store_answer.new.provisional) (sym c.pop-entry.ensures)
+    (record { node = c.in_ok-node.node; entries = entries_settled g.D.Cx.Input.PartialEq.eq g.D.Delegate.ENABLE_PROVISIONAL_CACHE g.D.Delegate.propagated g.D.Delegate.fixpoint_overflow c.cx.result c.args.cache.now.cx (c.cx.ensures ∙ c.in_ok-node.ensures.same_context) c.args.reason c.args.outcome c.in_ok-node.node (c.pop-entry.result.0, c.pop-entry.result.1) c.pop-entry.new.self c.give_answer.new.goals c.in_ok-next.next c.stack.result.now c.stack-2.result.now c.stack.ensures c.stack-2.ensures c.step_kind_from_parent-step.result c.step_kind_from_parent-step.ensures c.input-input.result c.input-input.ensures c.finalize-answer.result c.finalize-answer.ensures c.in_ok-next.ensures c.args.provisional.now c.settle_kept.new.provisional c.store_answer.new.provisional c.in_ok-settle_kept.ensures c.in_ok-store_answer.ensures.is_kept })
+
+pub returns-clause-ready : goal.returns-clause-ready
+returns-clause-ready g c =
+    subst (λ nodes. AreReady g.D.Cx.Cx.is_yes g.D.Cx.Cx.is_no g.D.Cx.Input.PartialEq.eq (g.D.Delegate.script c.args.cache.now.cx) nodes (runs_of c.give_answer.new.goals) c.store_answer.new.provisional) (sym (ap (λ cache. cache.nodes) c.store_answer.ensures.rest))
+    (settled_ready g.D.Cx.Cx.is_yes g.D.Cx.Cx.is_no g.D.Cx.Input.PartialEq.eq g.met.D.Cx.Cx.same_input (g.D.Delegate.script c.args.cache.now.cx) c.args.cache.now.nodes c.settle_node.new.cache.nodes (c.pop-entry.result.0, c.pop-entry.result.1) c.pop-entry.new.self c.args.outcome c.in_ok-node.node
+    (subst (λ l. AreJustified g.D.Cx.Cx.is_yes g.D.Cx.Cx.is_no c.args.cache.now.nodes (runs_of l)) c.pop-entry.ensures c.requires.justified)
+    (settles g.D.Cx.Cx.is_yes g.D.Cx.Cx.is_no c.args.cache.now.nodes c.settle_node.new.cache.nodes c.pop-entry.result.0 c.pop-entry.result.1 c.pop-entry.new.self (subst (λ l. AreJustified g.D.Cx.Cx.is_yes g.D.Cx.Cx.is_no c.args.cache.now.nodes (runs_of l)) c.pop-entry.ensures c.requires.justified) c.args.outcome c.in_ok-node.node c.in_ok-node.ensures.settled)
+    (g.D.Delegate.propagated c.args.cache.now.cx) (g.D.Delegate.fixpoint_overflow c.args.cache.now.cx)
+    (λ goal info. neither_is g.D.Cx.Cx.is_yes g.D.Cx.Cx.is_no (g.D.Delegate.propagated c.args.cache.now.cx goal info) (g.met.D.Delegate.propagated_is_neither c.args.cache.now.cx goal info))
+    (λ goal. neither_is g.D.Cx.Cx.is_yes g.D.Cx.Cx.is_no (g.D.Delegate.fixpoint_overflow c.args.cache.now.cx goal) (g.met.D.Delegate.fixpoint_overflow_is_neither c.args.cache.now.cx goal))
+    c.args.reason (subst (λ l. HasReason g.D.Cx.Cx.is_yes g.D.Cx.Cx.is_no c.args.reason l c.args.outcome) c.pop-entry.ensures c.requires.reason)
+    c.are_rising.ensures (subst (IsNewestUnranked (g.D.Delegate.script c.args.cache.now.cx)) c.pop-entry.ensures c.requires.unranked)
+    g.D.Delegate.ENABLE_PROVISIONAL_CACHE c.args.provisional.now c.store_answer.new.provisional
+    (entries_settled g.D.Cx.Input.PartialEq.eq g.D.Delegate.ENABLE_PROVISIONAL_CACHE g.D.Delegate.propagated g.D.Delegate.fixpoint_overflow c.cx.result c.args.cache.now.cx (c.cx.ensures ∙ c.in_ok-node.ensures.same_context) c.args.reason c.args.outcome c.in_ok-node.node (c.pop-entry.result.0, c.pop-entry.result.1) c.pop-entry.new.self c.give_answer.new.goals c.in_ok-next.next c.stack.result.now c.stack-2.result.now c.stack.ensures c.stack-2.ensures c.step_kind_from_parent-step.result c.step_kind_from_parent-step.ensures c.input-input.result c.input-input.ensures c.finalize-answer.result c.finalize-answer.ensures c.in_ok-next.ensures c.args.provisional.now c.settle_kept.new.provisional c.store_answer.new.provisional c.in_ok-settle_kept.ensures c.in_ok-store_answer.ensures.is_kept)
+    (subst (λ l. AreReady g.D.Cx.Cx.is_yes g.D.Cx.Cx.is_no g.D.Cx.Input.PartialEq.eq (g.D.Delegate.script c.args.cache.now.cx) c.args.cache.now.nodes (runs_of l) c.args.provisional.now) c.pop-entry.ensures c.requires.ready)
+    c.in_ok-next.next c.give_answer.new.goals
+    (subst (λ step. GivesAnswer step (final_answer (c.pop-entry.result.0, c.pop-entry.result.1) c.args.outcome c.in_ok-node.node) c.pop-entry.new.self c.in_ok-next.next c.give_answer.new.goals) c.step_kind_from_parent-step.ensures
+    (subst (λ (a : EvaluationResult _ _ _ _ _). GivesAnswer c.step_kind_from_parent-step.result a c.pop-entry.new.self c.in_ok-next.next c.give_answer.new.goals) c.finalize-answer.ensures c.in_ok-next.ensures)))
+
+pub returns-clause-kept_results : goal.returns-clause-kept_results
+returns-clause-kept_results g c = subst (λ before. KeepsResults g.D.Cx.Input.PartialEq.eq before c.store_answer.new.cache.results) c.in_ok-node.ensures.same_results c.store_answer.ensures.kept
+
+pub returns-in_err-store_answer-clause-kept_results : goal.returns-in_err-store_answer-clause-kept_results
+returns-in_err-store_answer-clause-kept_results g c = subst (λ before. KeepsResults g.D.Cx.Input.PartialEq.eq before c.store_answer.new.cache.results) c.in_ok-node.ensures.same_results c.store_answer.ensures.kept

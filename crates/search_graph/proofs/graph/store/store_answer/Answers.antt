@@ -1,23 +1,22 @@
-use Rattle.std.proofs.Common.{refl}
-use Rattle.search_parts.specs.Store.{stored_at, stored_from, place_of}
-use Rattle.search_graph.proofs.Verdicts.{fails_at}
-use Rattle.search_graph.proofs.Storing.{caused_after, put_is_stored, same_results, stored_either, storing_is_caused, success_met_none}
+use Rattle.std.proofs.Common.{◌≡◌, ◌++◌, ◌&&◌, if◌then◌else◌, [], sym, ◌∙◌, subst}
+use Rattle.search_parts.specs.Provisional.{entries_at}
+use Rattle.search_graph.specs.Provisional.{kept_of}
+use Rattle.search_graph.proofs.SettledEntries.{answer_kept, none_kept, headless}
+use Rattle.search_graph.proofs.graph.store.store_answer.Goals.{then-ENABLE_PROVISIONAL_CACHE+in_ok-keep_answer, else-ENABLE_PROVISIONAL_CACHE}
 use Rattle.search_graph.proofs.graph.store.store_answer.Goals as goal
 
-pub returns-then-is_empty-clause-stored : goal.returns-then-is_empty-clause-stored
-returns-then-is_empty-clause-stored g c = stored_either g.D.Cx.Input.PartialEq.eq c.args.cache.now.results c.insert.new.self.results c.args.input c.args.answer c.dep_node-token.result c.insert.result (c.is_empty.ensures.0 c.if-is_empty.true) c.insert.ensures.ok (same_results c.insert.result c.args.cache.now c.insert.new.self c.insert.ensures.err)
+pub store_for_good-requires-clause-no_heads : goal.store_for_good-requires-clause-no_heads
+store_for_good-requires-clause-no_heads g c = headless c.args.answer c.opt_highest_cycle_head_index.result c.opt_highest_cycle_head_index.ensures c.in_default.is
 
-pub returns-then-is_empty-clause-caused : goal.returns-then-is_empty-clause-caused
-returns-then-is_empty-clause-caused g c =
-    caused_after g.D.Delegate g.D.Cx.Cx g.D.Cx.Input.PartialEq.eq c.args.cache.now c.insert.new.self c.insert.result c.insert.ensures.err
-    (storing_is_caused g.D.Delegate g.D.Cx.Cx g.D.Cx.Input.PartialEq.eq c.args.cache.now c.has_runs.ensures (g.met.D.Cx.Cx.clash c.args.cache.now.cx) (g.met.D.Delegate.yes_is_proved c.args.cache.now.cx) (g.met.D.Delegate.no_is_refuted c.args.cache.now.cx) g.met.D.Cx.Cx.one_sort g.D.Cx.Result.PartialEq.eq g.met.D.Cx.Result.Eq.laws
-    c.args.input (place_of c.args.answer) c.args.answer.result c.args.answer.node (c.requires.graph (c.is_empty.ensures.0 c.if-is_empty.true)) c.requires.comes (stored_at g.D.Cx.Input.PartialEq.eq c.args.cache.now.results c.args.input (place_of c.args.answer)) refl c.insert.result c.insert.ensures.answer)
+pub store_for_good-requires-clause-graph : goal.store_for_good-requires-clause-graph
+store_for_good-requires-clause-graph g c = c.requires.graph (headless c.args.answer c.opt_highest_cycle_head_index.result c.opt_highest_cycle_head_index.ensures c.in_default.is)
 
-pub returns-then-is_empty-clause-plain : goal.returns-then-is_empty-clause-plain
-returns-then-is_empty-clause-plain g c = λ n ranked success. c.insert.ensures.ranked n ranked (success_met_none c.args.answer success)
-
-pub returns-then-is_empty-clause-is_stored : goal.returns-then-is_empty-clause-is_stored
-returns-then-is_empty-clause-is_stored g c = put_is_stored g.D.Cx.Input.PartialEq.eq c.args.cache.now.results c.insert.new.self.results c.args.input (place_of c.args.answer) (stored_from c.args.answer c.dep_node-token.result) _ c.insert.result c.insert.ensures.ok
-
-pub returns-clause-is_stored : goal.returns-clause-is_stored
-returns-clause-is_stored g c = λ none. absurd (fails_at c.if-is_empty.false (c.is_empty.ensures.1 none))
+pub returns-clause-is_kept : goal.returns-clause-is_kept
+returns-clause-is_kept g c = λ goal. elim c.if-ENABLE_PROVISIONAL_CACHE.branch [
+  | then-ENABLE_PROVISIONAL_CACHE+in_ok-keep_answer w ↦
+      subst (λ lists. entries_at g.D.Cx.Input.PartialEq.eq lists goal ≡ entries_at g.D.Cx.Input.PartialEq.eq c.args.provisional.now goal ++ (if g.D.Delegate.ENABLE_PROVISIONAL_CACHE && g.D.Cx.Input.PartialEq.eq c.args.input goal then kept_of c.args.stack.now c.args.step c.args.answer else [])) (sym w.provisional-is)
+      (answer_kept c.args.stack.now c.args.step c.args.answer g.D.Cx.Input.PartialEq.eq c.args.input c.args.provisional.now w.keep_answer.new.provisional g.met.D.Cx.Cx.same_input g.D.Delegate.ENABLE_PROVISIONAL_CACHE (sym c.ENABLE_PROVISIONAL_CACHE.ensures ∙ w.if-ENABLE_PROVISIONAL_CACHE.true) c.in-Some.head (sym c.opt_highest_cycle_head_index.ensures ∙ c.in-Some.is) w.in_ok-keep_answer.ensures.kept goal)
+  | else-ENABLE_PROVISIONAL_CACHE w ↦
+      subst (λ lists. entries_at g.D.Cx.Input.PartialEq.eq lists goal ≡ entries_at g.D.Cx.Input.PartialEq.eq c.args.provisional.now goal ++ (if g.D.Delegate.ENABLE_PROVISIONAL_CACHE && g.D.Cx.Input.PartialEq.eq c.args.input goal then kept_of c.args.stack.now c.args.step c.args.answer else [])) (sym w.provisional-is)
+      (none_kept c.args.stack.now c.args.step c.args.answer g.D.Cx.Input.PartialEq.eq c.args.input c.args.provisional.now c.args.provisional.now g.D.Delegate.ENABLE_PROVISIONAL_CACHE (sym c.ENABLE_PROVISIONAL_CACHE.ensures ∙ w.if-ENABLE_PROVISIONAL_CACHE.false) goal)
+]

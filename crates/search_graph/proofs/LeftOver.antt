@@ -1,0 +1,84 @@
+-- The heads of an answer that is left once the newest goal was taken: those of the goals below, and those of that goal, which the goal
+-- below it takes over.
+use Rattle.std.proofs.Common.{◌≡◌, ◌≢◌, ℕ, Bool, List, [], ◌∷◌, length, IsSome, refl, sym, subst, ◌⊎◌, inl, inr, arith}
+use Rattle.std.proofs.lemmas.List.{length-map}
+use Rattle.cycle_heads.specs.declared.depth.StackDepth.{StackDepth}
+use Rattle.cycle_heads.specs.declared.path.PathKind.{PathKind}
+use Rattle.cycle_heads.specs.Heads.{Heads, at_depth, IsRising}
+use Rattle.search_parts.specs.declared.context.Request.{Request}
+use Rattle.search_parts.specs.declared.context.Reply.{Reply}
+use Rattle.search_parts.specs.declared.parts.stack.StackEntry.{StackEntry}
+use Rattle.search_parts.specs.declared.parts.result.EvaluationResult.{EvaluationResult}
+use Rattle.search_parts.specs.declared.parts.provisional_cache.ProvisionalCacheEntry.{ProvisionalCacheEntry}
+use Rattle.search_parts.specs.Cache.{CacheNode}
+use Rattle.search_parts.specs.Rank.{HasNoRank}
+use Rattle.open_goals.specs.declared.goals.Run.{Run}
+use Rattle.open_goals.specs.declared.goals.Next.{Next}
+use Rattle.open_goals.specs.Entries.{with_depth, with_nested_goals}
+use Rattle.open_goals.specs.Items.{AnswersNewest}
+use Rattle.search_graph.specs.Justified.{OpenRun, HaveTallies}
+use Rattle.search_graph.specs.KeptAnswers.{IsKept}
+use Rattle.search_graph.specs.Moves.{GivesAnswer}
+use Rattle.search_graph.specs.Provisional.{IsHead, IsReady, kept_answer}
+use Rattle.search_graph.specs.Runs.{run_of, runs_of}
+use Rattle.search_graph.specs.Tallies.{LieBelow, counted, tally_of}
+use Rattle.search_graph.proofs.HeadOrder.{at_here}
+use Rattle.search_graph.proofs.KeptMoves.{kept_beside}
+use Rattle.search_graph.proofs.Ready.{is_below}
+use Rattle.search_graph.proofs.ReadyMoves.{some_of_usages}
+use Rattle.search_graph.proofs.Tallies.{counted_other, counted_own}
+use Rattle.search_graph.proofs.TakenTallies.{counted_has}
+
+-- ---- heads of goals
+
+module _ {I R : Type 0} (o : OpenRun I R) (below : List (OpenRun I R)) where
+  -- a head that isn't the newest goal is one of that goal's heads, or of the goals below
+  pub other_head : (head : StackDepth) → head.0 ≢ length below → IsHead (o ∷ below) head → IsHead below head ⊎ IsSome (at_depth o.tally.heads head)
+  other_head head other (inl own) = inr (some_of_usages (at_depth o.tally.heads head) (subst IsSome (counted_other (length below) o.tally head other) own))
+  other_head head other (inr later) = inl later
+
+  -- and if it is the newest goal, that was used
+  pub own_head : HaveTallies below → (head : StackDepth) → head.0 ≡ length below → IsHead (o ∷ below) head → IsSome o.tally.own
+  own_head tallies head here (inl own) = subst IsSome (counted_own (length below) o.tally head here) own
+  own_head tallies head here (inr later) = let lower = is_below below tallies head later in absurd (omega (arith, here, lower))
+
+-- a goal that takes an answer over takes its heads
+pub heads_taken : {X F I R A T : Type 0} (step : PathKind) (required : ℕ) (overflow : Bool) (answer : Heads) (old new : List (StackEntry X I R A T × Run X F I R A T)) → AnswersNewest step required overflow answer old new → (head : StackDepth) → IsHead (runs_of old) head ⊎ IsSome (at_depth answer head) → IsHead (runs_of new) head
+heads_taken step required overflow answer old new a head there =
+    subst (λ l. IsHead (runs_of l) head) (sym a.is) (at (subst (λ l. IsHead (runs_of l) head ⊎ IsSome (at_depth answer head)) a.was there))
+  where
+    has : IsSome (counted (length (runs_of a.below)) (tally_of a.entry.state a.run.candidates) head) ⊎ IsSome (at_depth answer head) → IsSome (counted (length (runs_of a.below)) (tally_of a.state a.run.candidates) head)
+    has = subst (λ n. IsSome (counted n (tally_of a.entry.state a.run.candidates) head) ⊎ IsSome (at_depth answer head) → IsSome (counted n (tally_of a.state a.run.candidates) head)) (sym (length-map a.below run_of))
+        (counted_has (record { 0 = length a.below }) step answer (with_nested_goals (with_depth a.entry.state required overflow) a.state.nested_goals) a.state a.run.candidates a.takes head)
+
+    at : IsHead (runs_of ((a.entry, a.run) ∷ a.below)) head ⊎ IsSome (at_depth answer head) → IsHead (runs_of ((record a.entry { state = a.state }, a.run) ∷ a.below)) head
+    at (inl (inl own)) = inl (has (inl own))
+    at (inl (inr later)) = inr later
+    at (inr came) = inl (has (inr came))
+
+first_head : (heads : Heads) → heads ≢ [] → (head : StackDepth) × IsSome (at_depth heads head)
+first_head [] some = absurd (some refl)
+first_head (e ∷ es) some = (e.0, subst IsSome (sym (at_here e es e.0 refl)) refl)
+
+-- ---- answers that are left
+
+-- The entry is kept over these goals, and each of its heads is one of theirs or of a goal that was above them.
+pub record IsLeftOver {X I R A T : Type 0} (is_yes is_no : R → Bool) (scripts : I → List (Reply R) → Request I R) (nodes : List (CacheNode I R)) (goals : List (OpenRun I R)) (heads : Heads) (goal : I) (entry : ProvisionalCacheEntry X I R A T) : Type 0 where
+  pub kept : IsKept is_yes is_no nodes goals goal (kept_answer entry)
+  pub some : entry.heads ≢ []
+  pub rising : IsRising entry.heads
+  pub are_heads : (head : StackDepth) → IsSome (at_depth entry.heads head) → IsHead goals head ⊎ IsSome (at_depth heads head)
+  pub no_rank : HasNoRank scripts goal
+
+-- such an entry may be used once the answer with those heads was given
+pub left_over_ready : {X F I R A T : Type 0} (is_yes is_no : R → Bool) (scripts : I → List (Reply R) → Request I R) (nodes : List (CacheNode I R)) (step : PathKind) (answer : EvaluationResult X I R A T) (below later : List (StackEntry X I R A T × Run X F I R A T)) (next : Next R) → LieBelow (length below) answer.heads → GivesAnswer step answer below next later → (goal : I) (entry : ProvisionalCacheEntry X I R A T) → IsLeftOver is_yes is_no scripts nodes (runs_of below) answer.heads goal entry → IsReady is_yes is_no scripts nodes (runs_of later) goal entry
+left_over_ready is_yes is_no scripts nodes step answer [] later next lower given goal entry left =
+    let first = first_head entry.heads left.some in
+    absurd (elim (left.are_heads first.0 first.1) [ inl none ↦ none | inr own ↦ (let limit = lower first.0 own in omega (arith, limit)) ])
+left_over_ready is_yes is_no scripts nodes step answer (p ∷ below) later next lower given goal entry left = record {
+  kept = kept_beside is_yes is_no nodes (p ∷ below) later step answer.required_depth answer.encountered_overflow answer.heads given.1 goal (kept_answer entry) left.kept;
+  some = left.some;
+  rising = left.rising;
+  are_heads = λ head there. heads_taken step answer.required_depth answer.encountered_overflow answer.heads (p ∷ below) later given.1 head (left.are_heads head there);
+  no_rank = left.no_rank;
+}

@@ -1,0 +1,190 @@
+-- One entry of the provisional cache, once the newest goal was taken: it stays where it didn't use that goal, or it is rebased; and that
+-- goal's own answer may be kept.
+use Rattle.std.proofs.Common.{◌≡◌, ◌≢◌, ◌<◌, ◌≤◌, ℕ, Bool, List, [], ◌∷◌, length, map, reverse, Option, Some, None, IsSome, All, refl, sym, ap, ◌∙◌, subst, ◌⊎◌, inl, inr, arith}
+use Rattle.std.proofs.lemmas.Bool.{false≢true}
+use Rattle.std.proofs.lemmas.List.{length-map}
+use Rattle.std.proofs.lemmas.List.Elements.{All-cons, All-nil}
+use Rattle.open_graphs.specs.Graph as theory
+use Rattle.open_graphs.specs.Rebased.{IsTrueReason}
+use Rattle.open_graphs.specs.Stack.{Entry, path_kind}
+use Rattle.open_graphs.specs.State.{Kept, AfterPop, Lower, Unused, Fixpoint, Other, IsMoved, stack_of}
+use Rattle.open_graphs.specs.Use as uses
+use Rattle.open_graphs.proofs.Rebased.{rebased_is_after_pop}
+use Rattle.cycle_heads.specs.declared.depth.StackDepth.{StackDepth}
+use Rattle.cycle_heads.specs.declared.heads.CycleHead.{CycleHead}
+use Rattle.cycle_heads.specs.Heads.{at_depth, highest, IsRising}
+use Rattle.cycle_heads.specs.HeadShapes.{heads_shape}
+use Rattle.cycle_heads.specs.Path.{rank_of}
+use Rattle.search_parts.specs.declared.context.NodeId.{NodeId}
+use Rattle.search_parts.specs.declared.context.Request.{Request}
+use Rattle.search_parts.specs.declared.context.Reply.{Reply}
+use Rattle.search_parts.specs.declared.parts.stack.StackEntry.{StackEntry}
+use Rattle.search_parts.specs.declared.parts.provisional_cache.ProvisionalCacheEntry.{ProvisionalCacheEntry}
+use Rattle.search_parts.specs.declared.parts.provisional_cache.RebaseReason.{RebaseReason}
+use Rattle.search_parts.specs.Cache.{CacheNode}
+use Rattle.search_parts.specs.Cycle.{path_kind_from}
+use Rattle.search_parts.specs.Rank.{HasNoRank}
+use Rattle.search_parts.specs.Rebasing.{rebased, settled}
+use Rattle.search_parts.specs.Shapes.{verdict_of}
+use Rattle.open_goals.specs.declared.goals.Run.{Run}
+use Rattle.search_graph.specs.Justified.{AreJustified, frame_of, frames_of}
+use Rattle.search_graph.specs.KeptAnswers.{IsKept, in_theory}
+use Rattle.search_graph.specs.KeptShapes.{depths_of, highest_depth, kept_shape, reason_shape}
+use Rattle.search_graph.specs.Provisional.{IsHead, IsReady, final_answer, kept_answer, kept_of}
+use Rattle.search_graph.specs.Runs.{run_of, runs_of}
+use Rattle.search_graph.specs.Tallies.{LieBelow}
+use Rattle.search_graph.proofs.CycleAnswers.{path_kind_is}
+use Rattle.search_graph.proofs.HeadOrder.{ascends, at_most_highest, highest_there, no_highest}
+use Rattle.search_graph.proofs.Justified.{Settles, stack_length}
+use Rattle.search_graph.proofs.KeptAnswers.{kept_added, kept_popped}
+use Rattle.search_graph.proofs.LeftOver.{IsLeftOver, other_head, own_head}
+use Rattle.search_graph.proofs.Ready.{all_at_depths, is_below, on_stack_many}
+use Rattle.search_graph.proofs.RebasedAnswers.{are_depths, goal_rebased, highest_is, rebasable}
+use Rattle.search_graph.proofs.RebasedLeft.{LeavesEntry, leaves_entry}
+use Rattle.search_graph.proofs.RebasedRising.{rebased_rising}
+
+moved_node : (below : List Entry) (top : Entry) (k after : Kept) (n : ℕ) → IsMoved below top k after → IsMoved below top (record k { node = n }) (record after { node = n })
+moved_node below top k after n moved = record {
+  was = moved.was;
+  same_verdict = moved.same_verdict;
+  same_node = refl;
+  path = moved.path;
+  heads = moved.heads;
+  within = moved.within;
+  on_stack = moved.on_stack;
+}
+
+-- what an answer is after a pop doesn't rest on its node
+with_node : (below : List Entry) (top : Entry) (verdict : theory.Verdict) (top_heads : uses.Heads) (k after : Kept) (n : ℕ) → AfterPop below top verdict top_heads k after → AfterPop below top verdict top_heads (record k { node = n }) (record after { node = n })
+with_node below top verdict top_heads k after n (Lower lower) = Lower lower
+with_node below top verdict top_heads k after n (Unused moved none) = Unused (moved_node below top k after n moved) none
+with_node below top verdict top_heads k after n (Fixpoint moved definite kept_definite fixpoint kinds takes) = Fixpoint (moved_node below top k after n moved) definite kept_definite fixpoint kinds takes
+with_node below top verdict top_heads k after n (Other moved other) = Other (moved_node below top k after n moved) other
+
+module _ {X F I R A T : Type 0} (is_yes is_no : R → Bool) (scripts : I → List (Reply R) → Request I R) (nodes after : List (CacheNode I R)) (s : StackEntry X I R A T × Run X F I R A T) (below : List (StackEntry X I R A T × Run X F I R A T)) (r : R) (target : Option NodeId) (h : AreJustified is_yes is_no nodes (runs_of (s ∷ below))) (settles : Settles is_yes is_no nodes after (run_of s) (runs_of below) r target) where
+  many : length (runs_of below) ≡ length below
+  many = length-map below run_of
+
+  theory_many : length (stack_of (frames_of is_yes is_no (runs_of below))) ≡ length below
+  theory_many = stack_length is_yes is_no (runs_of below) ∙ many
+
+  -- the newest goal's heads lie below it
+  pub lower : LieBelow (length below) s.0.state.heads
+  lower = subst (λ n. LieBelow n s.0.state.heads) many h.tallies.0.tallied.lower
+
+  -- an entry that is left
+  abbrev pub IsLeft : I → ProvisionalCacheEntry X I R A T → Type 0
+  IsLeft = IsLeftOver is_yes is_no scripts after (runs_of below) s.0.state.heads
+
+  -- ---- the entries
+
+  module _ (goal : I) (entry : ProvisionalCacheEntry X I R A T) (ready : IsReady is_yes is_no scripts nodes (runs_of (s ∷ below)) goal entry) where
+    within : (head : StackDepth) → IsSome (at_depth entry.heads head) → head.0 ≤ length below
+    within head there = let place = is_below (runs_of (s ∷ below)) h.tallies head (ready.are_heads head there) in omega (arith, place, many)
+
+    others : (head : StackDepth) → IsSome (at_depth entry.heads head) → head.0 ≢ length below → IsHead (runs_of below) head ⊎ IsSome (at_depth s.0.state.heads head)
+    others head there other = other_head (run_of s) (runs_of below) head (λ same. other (same ∙ many)) (ready.are_heads head there)
+
+    -- no entry has a goal among its heads that wasn't used,
+    apart : s.0.state.usages ≡ None → (head : StackDepth) → IsSome (at_depth entry.heads head) → head.0 ≢ length below
+    apart none head there same = false≢true (subst IsSome none (own_head (run_of s) (runs_of below) h.tallies.1 head (same ∙ sym many) (ready.are_heads head there)))
+
+    top_lower : s.0.state.usages ≡ None → (o : Option (StackDepth × CycleHead)) → highest entry.heads ≡ o → highest_depth entry.heads < length (stack_of (frames_of is_yes is_no (runs_of below)))
+    top_lower none None top_is = absurd (ready.some (no_highest entry.heads top_is))
+    top_lower none (Some head) top_is =
+        let there : IsSome (at_depth entry.heads head.0) = subst IsSome (sym (highest_there entry.heads head (ascends entry.heads ready.rising) top_is)) refl in
+        let most = within head.0 there in
+        let other = apart none head.0 there in
+        let depth_is = highest_is entry.heads head top_is in
+        omega (arith, most, other, depth_is, theory_many)
+
+    -- so it stays
+    pub unused_is_left : s.0.state.usages ≡ None → IsLeft goal entry
+    unused_is_left none = record {
+      kept = kept_popped is_yes is_no nodes after (run_of s) (runs_of below) h r target settles goal (kept_answer entry) (kept_answer entry) refl refl (λ d n. Lower (top_lower none (highest entry.heads) refl)) ready.kept;
+      some = ready.some;
+      rising = ready.rising;
+      are_heads = λ head there. others head there (apart none head there);
+      no_rank = ready.no_rank;
+    }
+
+    -- and where the newest goal was used, what the rule of rebasing leaves of an entry is left, if the reason is true
+    module _ (propagated : A → R) (overflow : R) (unsure : (info : A) → verdict_of is_yes is_no (propagated info) ≡ theory.Neither) (overflow_unsure : verdict_of is_yes is_no overflow ≡ theory.Neither) (reason : RebaseReason X I R A T) (is_true : IsTrueReason (reason_shape reason) (verdict_of is_yes is_no r) (frame_of is_yes is_no (run_of s)).entry) (later : ProvisionalCacheEntry X I R A T) (is : rebased (reverse (map (λ s. s.0) below)) s.0 (settled propagated overflow reason) entry ≡ Some later) where
+      within_real : (head : StackDepth) → IsSome (at_depth entry.heads head) → head.0 ≤ length (reverse (map (λ s. s.0) below))
+      within_real head there = subst (λ n. head.0 ≤ n) (sym (on_stack_many below)) (within head there)
+
+      lower_real : LieBelow (length (reverse (map (λ s. s.0) below))) s.0.state.heads
+      lower_real = subst (λ n. LieBelow n s.0.state.heads) (sym (on_stack_many below)) lower
+
+      left : LeavesEntry is_yes is_no (reverse (map (λ s. s.0) below)) s.0 entry later
+      left = leaves_entry is_yes is_no (reverse (map (λ s. s.0) below)) s.0 propagated overflow unsure overflow_unsure reason lower_real entry later ready.rising within_real ready.some is
+
+      after_pop : verdict_of is_yes is_no later.result ≢ theory.Neither → AfterPop (stack_of (frames_of is_yes is_no (runs_of below))) (frame_of is_yes is_no (run_of s)).entry (verdict_of is_yes is_no r) (heads_shape s.0.state.heads) (kept_shape is_yes is_no entry) (kept_shape is_yes is_no later)
+      after_pop definite =
+          rebased_is_after_pop (reason_shape reason) (stack_of (frames_of is_yes is_no (runs_of below))) (frame_of is_yes is_no (run_of s)).entry (depths_of entry.heads) (depths_of s.0.state.heads) (verdict_of is_yes is_no r) (heads_shape s.0.state.heads) (kept_shape is_yes is_no entry) (kept_shape is_yes is_no later)
+          (rebasable is_yes is_no (reverse (map (λ s. s.0) below)) s.0 (stack_of (frames_of is_yes is_no (runs_of below))) (frame_of is_yes is_no (run_of s)).entry (on_stack_many below ∙ sym theory_many) lower_real reason (verdict_of is_yes is_no r) entry
+          (record { some = ready.some; within = all_at_depths (λ head. head.0 ≤ length (reverse (map (λ (t : StackEntry X I R A T × Run X F I R A T). t.0) below))) entry.heads within_real }) ready.rising is_true)
+          definite
+          (goal_rebased is_yes is_no s below lower propagated overflow unsure overflow_unsure reason entry later ready.some ready.rising definite is)
+
+      same_answer : later.result ≡ entry.result → later.node ≡ entry.node → IsKept is_yes is_no after (runs_of below) goal (kept_answer later)
+      same_answer same_result same_target =
+          kept_popped is_yes is_no nodes after (run_of s) (runs_of below) h r target settles goal (kept_answer entry) (kept_answer later) same_result same_target
+          (λ d n. subst (λ v. AfterPop (stack_of (frames_of is_yes is_no (runs_of below))) (frame_of is_yes is_no (run_of s)).entry (verdict_of is_yes is_no r) (heads_shape s.0.state.heads) (in_theory is_yes is_no (kept_answer entry) n) (record (in_theory is_yes is_no (kept_answer later) n) { verdict = v }))
+          (ap (verdict_of is_yes is_no) same_result)
+          (with_node (stack_of (frames_of is_yes is_no (runs_of below))) (frame_of is_yes is_no (run_of s)).entry (verdict_of is_yes is_no r) (heads_shape s.0.state.heads) (kept_shape is_yes is_no entry) (kept_shape is_yes is_no later) n
+          (after_pop (λ neither. d (ap (verdict_of is_yes is_no) (sym same_result) ∙ neither)))))
+          ready.kept
+
+      pub rebased_is_left : IsLeft goal later
+      rebased_is_left = record {
+        kept = elim left.outcome [
+          | inl same ↦ same_answer same.0 same.1
+          | inr gone ↦ record { definite = λ d. absurd (d gone.0); neither = λ n. gone.1 }
+        ];
+        some = left.some;
+        rising = rebased_rising (reverse (map (λ s. s.0) below)) s.0 propagated overflow reason entry later ready.rising is;
+        are_heads = λ head there. let place = left.left head there in elim place.1 [
+          | inl own ↦ others head own (λ same. place.0 (same ∙ sym (on_stack_many below)))
+          | inr came ↦ inr came
+        ];
+        no_rank = ready.no_rank;
+      }
+
+  -- ---- the newest goal's own answer
+
+  module _ (rising : IsRising s.0.state.heads) (no_rank : s.0.state.heads ≢ [] → HasNoRank scripts s.0.input) where
+    -- the entry of the answer, with this highest head
+    abbrev own_entry : StackDepth × CycleHead → ProvisionalCacheEntry X I R A T
+    own_entry head = record {
+      encountered_overflow = (final_answer s r target).encountered_overflow;
+      heads = s.0.state.heads;
+      path_from_head = path_kind_from (reverse (map (λ s. s.0) below)) head.0.0 s.0.step_kind_from_parent;
+      result = r;
+      node = target;
+    }
+
+    own_is_left : (head : StackDepth × CycleHead) → highest s.0.state.heads ≡ Some head → IsLeft s.0.input (own_entry head)
+    own_is_left head top_is =
+        let asc = ascends s.0.state.heads rising in
+        let depth_is = highest_is s.0.state.heads head top_is in
+        let place = lower head.0 (subst IsSome (sym (highest_there s.0.state.heads head asc top_is)) refl) in
+        let some : s.0.state.heads ≢ [] = λ none. (let wrong : None ≡ Some head = ap highest (sym none) ∙ top_is in absurd cc) in
+        record {
+          kept = kept_added is_yes is_no nodes after (run_of s) (runs_of below) h r target settles (kept_answer (own_entry head)) refl refl refl
+              (path_kind_is is_yes is_no s.0.step_kind_from_parent head.0.0 below ∙ ap (path_kind (stack_of (frames_of is_yes is_no (runs_of below))) (rank_of s.0.step_kind_from_parent)) (sym depth_is))
+              (omega (arith, depth_is, place, theory_many))
+              (λ depth path cycle recorded. subst (λ n. depth ≤ n) (sym depth_is) (at_most_highest s.0.state.heads head asc top_is (record { 0 = depth }) ((are_depths s.0.state.heads).usages depth cycle recorded.1)));
+          some = some;
+          rising = rising;
+          are_heads = λ head there. inr there;
+          no_rank = no_rank some;
+        }
+
+    -- where it is kept, it is left
+    pub own_kept : (goal : I) → s.0.input ≡ goal → All (IsLeft goal) (kept_of (reverse (map (λ s. s.0) below)) s.0.step_kind_from_parent (final_answer s r target))
+    own_kept goal is = at (highest s.0.state.heads) refl
+      where
+        at : (o : Option (StackDepth × CycleHead)) → highest s.0.state.heads ≡ o → All (IsLeft goal) (elim o [ None ↦ [] | Some head ↦ own_entry head ∷ [] ])
+        at None none = All-nil (IsLeft goal)
+        at (Some head) top_is = All-cons (IsLeft goal) (own_entry head) [] (subst (λ g. IsLeft g (own_entry head)) is (own_is_left head top_is)) (All-nil (IsLeft goal))

@@ -1,0 +1,135 @@
+-- What the rule of rebasing leaves of an entry: its result with its node, or a result without a verdict and no node; and heads, which are
+-- those of the entry and of the goal that is done, without that goal's place.
+use Rattle.std.proofs.Common.{◌≡◌, ◌≢◌, ◌≤◌, Bool, true, false, if◌then◌else◌, List, [], length, Option, Some, None, IsSome, refl, sym, ap, ◌∙◌, subst, ◌⊎◌, inl, inr, arith, ne_eqb}
+use Rattle.std.specs.Option.{option_and_then}
+use Rattle.std.proofs.lemmas.Bool.{cases_eq}
+use Rattle.open_graphs.specs.Graph as theory
+use Rattle.open_graphs.specs.Rebased.{IsLeftHead}
+use Rattle.cycle_heads.specs.declared.depth.StackDepth.{StackDepth}
+use Rattle.cycle_heads.specs.declared.path.PathsToNested.{PathsToNested}
+use Rattle.cycle_heads.specs.declared.heads.CycleHead.{CycleHead}
+use Rattle.cycle_heads.specs.declared.usages.HeadUsages.{HeadUsages}
+use Rattle.cycle_heads.specs.Heads.{at_depth, highest, IsRising}
+use Rattle.cycle_heads.specs.Paths.{extended_by_each, path_of_no_step}
+use Rattle.cycle_heads.specs.Usages.{has_usages, no_usages, other_usages}
+use Rattle.search_parts.specs.declared.parts.stack.StackEntry.{StackEntry}
+use Rattle.search_parts.specs.declared.parts.provisional_cache.ProvisionalCacheEntry.{ProvisionalCacheEntry}
+use Rattle.search_parts.specs.declared.parts.provisional_cache.RebaseReason.{RebaseReason}
+use Rattle.search_parts.specs.declared.parts.provisional_cache.RebaseReason.TheVariants.{NoCycleUsages, Ambiguity, Overflow, ReachedFixpoint}
+use Rattle.search_parts.specs.Rebasing.{but_highest, from_new_head, keeps_kinds, rebased, rebased_used, settled, with_unused, with_used}
+use Rattle.search_parts.specs.Shapes.{verdict_of}
+use Rattle.search_parts.proofs.RebasedEntries.{is_used, is_unused}
+use Rattle.search_graph.specs.KeptShapes.{depths_of}
+use Rattle.search_graph.specs.Tallies.{LieBelow}
+use Rattle.search_graph.proofs.HeadOrder.{Ascends, ascends, at_most_highest, highest_there, no_highest}
+use Rattle.search_graph.proofs.RebasedAnswers.{HasNewHead, new_head}
+use Rattle.search_graph.proofs.RebasedRising.{settled_same_heads}
+use Rattle.search_graph.proofs.RebasedShapes.{left_there, with_all}
+
+module _ {X I R A T : Type 0} (is_yes is_no : R → Bool) where
+  -- the result and the node stay, or the result has no verdict and no node
+  abbrev pub KeepsResult : (before after : ProvisionalCacheEntry X I R A T) → Type 0
+  KeepsResult before after = ((after.result ≡ before.result) × (after.node ≡ before.node)) ⊎ ((verdict_of is_yes is_no after.result ≡ theory.Neither) × (after.node ≡ None))
+
+  -- ---- what is settled
+
+  module _ (propagated : A → R) (overflow : R) (unsure : (info : A) → verdict_of is_yes is_no (propagated info) ≡ theory.Neither) (overflow_unsure : verdict_of is_yes is_no overflow ≡ theory.Neither) where
+    unchanged : (before after : ProvisionalCacheEntry X I R A T) → Some before ≡ Some after → KeepsResult before after
+    unchanged before after is = let same : before ≡ after = cc in subst (KeepsResult before) same (inl (refl, refl))
+
+    replaced : (before after : ProvisionalCacheEntry X I R A T) (result : R) → verdict_of is_yes is_no result ≡ theory.Neither → Some (record before { result = result; node = None }) ≡ Some after → KeepsResult before after
+    replaced before after result neither is =
+        let same : record before { result = result; node = None } ≡ after = cc in
+        subst (KeepsResult before) same (inr (neither, refl))
+
+    settled_keeps : (reason : RebaseReason X I R A T) (usages : HeadUsages) (before after : ProvisionalCacheEntry X I R A T) → settled propagated overflow reason usages before ≡ Some after → KeepsResult before after
+    settled_keeps NoCycleUsages usages before after is = absurd cc
+    settled_keeps (Ambiguity info) usages before after is = replaced before after (propagated info) (unsure info) is
+    settled_keeps Overflow usages before after is = replaced before after overflow overflow_unsure is
+    settled_keeps (ReachedFixpoint None) usages before after is = unchanged before after is
+    settled_keeps (ReachedFixpoint (Some kind)) usages before after is = at (has_usages (other_usages usages kind)) is
+      where
+        at : (b : Bool) → (if b then None else Some before) ≡ Some after → KeepsResult before after
+        at true is = absurd cc
+        at false is = unchanged before after is
+
+  -- ---- what is left
+
+  module _ (stack : List (StackEntry X I R A T)) (done : StackEntry X I R A T) where
+    -- what is left of an entry
+    pub record LeavesEntry (entry after : ProvisionalCacheEntry X I R A T) : Type 0 where
+      pub outcome : KeepsResult entry after
+      pub some : after.heads ≢ []
+      pub left : (depth : StackDepth) → IsSome (at_depth after.heads depth) → IsLeftHead (length stack) (depths_of entry.heads) (depths_of done.state.heads) depth.0
+
+    from_middle : (entry middle after : ProvisionalCacheEntry X I R A T) → HasNewHead is_yes is_no stack done middle after → KeepsResult entry middle → KeepsResult entry after
+    from_middle entry middle after new (inl same) = inl (new.same_result ∙ same.0, new.same_node ∙ same.1)
+    from_middle entry middle after new (inr gone) = inr (ap (verdict_of is_yes is_no) new.same_result ∙ gone.0, new.same_node ∙ gone.1)
+
+    has_heads : (entry : ProvisionalCacheEntry X I R A T) (head : StackDepth × CycleHead) → highest entry.heads ≡ Some head → entry.heads ≢ []
+    has_heads entry head is none = let wrong : None ≡ Some head = ap highest (sym none) ∙ is in absurd cc
+
+    module _ (propagated : A → R) (overflow : R) (unsure : (info : A) → verdict_of is_yes is_no (propagated info) ≡ theory.Neither) (overflow_unsure : verdict_of is_yes is_no overflow ≡ theory.Neither) (reason : RebaseReason X I R A T) (lower : LieBelow (length stack) done.state.heads) (entry after : ProvisionalCacheEntry X I R A T) (rising : IsRising entry.heads) (within : (depth : StackDepth) → IsSome (at_depth entry.heads depth) → depth.0 ≤ length stack) where
+      module _ (head : StackDepth × CycleHead) (top_is : highest entry.heads ≡ Some head) where
+        asc : Ascends entry.heads
+        asc = ascends entry.heads rising
+
+        -- where another goal is the highest head, the entry stays
+        stays : head.0.0 ≢ length stack → LeavesEntry entry entry
+        stays other = record {
+          outcome = inl (refl, refl);
+          some = has_heads entry head top_is;
+          left = λ depth there.
+              let most = at_most_highest entry.heads head asc top_is depth there in
+              let limit = within head.0 (subst IsSome (sym (highest_there entry.heads head asc top_is)) refl) in
+              ((λ same. other (omega (arith, same, most, limit))), inl there);
+        }
+
+        -- the heads of the goal that is done take the place of that goal
+        moved : (paths : CycleHead → PathsToNested) (usages : CycleHead → HeadUsages) (middle : ProvisionalCacheEntry X I R A T) → head.0.0 ≡ length stack → middle.heads ≡ with_all paths usages done.state.heads (but_highest entry.heads) → KeepsResult entry middle → from_new_head stack done middle ≡ Some after → LeavesEntry entry after
+        moved paths usages middle at heads_are keeps is =
+            let new = new_head is_yes is_no stack done middle after is in
+            record {
+              outcome = from_middle entry middle after new keeps;
+              some = has_heads after new.head new.is_highest;
+              left = λ depth there. left_there paths usages entry.heads done.state.heads head (length stack) asc top_is at lower depth (subst (λ h. IsSome (at_depth h depth)) (new.same_heads ∙ heads_are) there);
+            }
+
+        unused : head.0.0 ≡ length stack → from_new_head stack done (record entry { heads = with_unused done.state.heads (but_highest entry.heads) }) ≡ Some after → LeavesEntry entry after
+        unused at is = moved (λ _. path_of_no_step) (λ _. no_usages) (record entry { heads = with_unused done.state.heads (but_highest entry.heads) }) at refl (inl (refl, refl)) is
+
+        used : head.0.0 ≡ length stack → rebased_used stack done (settled propagated overflow reason) entry head.1 ≡ Some after → LeavesEntry entry after
+        used at is = tested (keeps_kinds stack done entry.path_from_head head.1.paths_to_head) is
+          where
+            settles : (o : Option (ProvisionalCacheEntry X I R A T)) → settled propagated overflow reason head.1.usages entry ≡ o
+                → option_and_then (λ kept. from_new_head stack done (record kept { heads = with_used done.state.heads head.1.paths_to_head (but_highest kept.heads) })) o ≡ Some after → LeavesEntry entry after
+            settles None settles_to left = absurd cc
+            settles (Some kept) settles_to left =
+                moved (λ h. extended_by_each head.1.paths_to_head h.paths_to_head) (λ h. h.usages) (record kept { heads = with_used done.state.heads head.1.paths_to_head (but_highest kept.heads) }) at
+                (ap (λ h. with_used done.state.heads head.1.paths_to_head (but_highest h)) (settled_same_heads propagated overflow reason head.1.usages entry kept settles_to))
+                (settled_keeps propagated overflow unsure overflow_unsure reason head.1.usages entry kept settles_to) left
+
+            tested : (b : Bool) → (if b then option_and_then (λ kept. from_new_head stack done (record kept { heads = with_used done.state.heads head.1.paths_to_head (but_highest kept.heads) })) (settled propagated overflow reason head.1.usages entry) else None) ≡ Some after → LeavesEntry entry after
+            tested false left = absurd cc
+            tested true left = settles (settled propagated overflow reason head.1.usages entry) refl left
+
+        at_head : rebased stack done (settled propagated overflow reason) entry ≡ Some after → LeavesEntry entry after
+        at_head is = elim (cases_eq head.0.0 (length stack)) [
+          | inl at ↦ at_place at (has_usages head.1.usages) refl
+          | inr other ↦
+              let other_head : rebased stack done (settled propagated overflow reason) entry ≡ Some entry = rw (top_is, ne_eqb head.0.0 (length stack) other) refl in
+              let still : Some entry ≡ Some after = sym other_head ∙ is in
+              let same : entry ≡ after = cc in
+              subst (LeavesEntry entry) same (stays other)
+        ]
+          where
+            at_place : head.0.0 ≡ length stack → (b : Bool) → has_usages head.1.usages ≡ b → LeavesEntry entry after
+            at_place at true some = used at (sym (is_used stack done (settled propagated overflow reason) entry head top_is at some) ∙ is)
+            at_place at false none = unused at (sym (is_unused stack done (settled propagated overflow reason) entry head top_is at none) ∙ is)
+
+      pub leaves_entry : entry.heads ≢ [] → rebased stack done (settled propagated overflow reason) entry ≡ Some after → LeavesEntry entry after
+      leaves_entry some is = at (highest entry.heads) refl
+        where
+          at : (o : Option (StackDepth × CycleHead)) → highest entry.heads ≡ o → LeavesEntry entry after
+          at None none = absurd (some (no_highest entry.heads none))
+          at (Some head) top_is = at_head head top_is is

@@ -1,0 +1,158 @@
+-- The entries once the newest goal is taken: its own answer is kept, where it rests on goals that are left.
+use Rattle.std.proofs.Common.{◌≡◌, ℕ, ◌+◌, ◌<◌, Bool, ◌&&◌, true, false, if◌then◌else◌, List, [], ◌∷◌, ◌++◌, length, map, drop, reverse, All, Option, None, Some, refl, sym, ap, ◌∙◌, subst}
+use Rattle.std.specs.Option.{option_map, IfSome}
+use Rattle.std.proofs.lemmas.Grind.{reverse_onto}
+use Rattle.std.proofs.lemmas.List.{append-nil, drop-map, map-append}
+use Rattle.cycle_heads.specs.declared.depth.StackDepth.{StackDepth}
+use Rattle.cycle_heads.specs.declared.heads.CycleHead.{CycleHead}
+use Rattle.cycle_heads.specs.declared.path.PathKind.{PathKind}
+use Rattle.cycle_heads.specs.Heads.{Heads, highest}
+use Rattle.cycle_heads.specs.Path.{greatest_kind}
+use Rattle.search_parts.specs.declared.parts.result.EvaluationResult.{EvaluationResult}
+use Rattle.search_parts.specs.declared.parts.stack.StackEntry.{StackEntry}
+use Rattle.search_parts.specs.declared.parts.provisional_cache.ProvisionalCacheEntry.{ProvisionalCacheEntry}
+use Rattle.search_parts.specs.Cycle.{path_kind_from}
+use Rattle.search_parts.specs.Provisional.{Lists, entries_at, Appends}
+use Rattle.search_parts.specs.declared.context.NodeId.{NodeId}
+use Rattle.search_parts.specs.declared.parts.provisional_cache.RebaseReason.{RebaseReason}
+use Rattle.search_parts.proofs.RebasedHeads.{highest_within}
+use Rattle.open_goals.specs.declared.goals.Run.{Run}
+use Rattle.open_goals.specs.declared.goals.Next.{Next}
+use Rattle.search_graph.specs.Moves.{GivesAnswer}
+use Rattle.search_graph.specs.Provisional.{final_answer, kept_of, left_of}
+use Rattle.search_graph.proofs.Ready.{on_stack_many}
+use Rattle.search_graph.proofs.HeadOrder.{no_highest}
+
+module _ {X I R A T : Type 0} (stack : List (StackEntry X I R A T)) (step : PathKind) (answer : EvaluationResult X I R A T) where
+  -- the entry for the answer, whose highest head is at the depth
+  abbrev entry_from : StackDepth → ProvisionalCacheEntry X I R A T
+  entry_from head = record {
+    encountered_overflow = answer.encountered_overflow;
+    heads = answer.heads;
+    path_from_head = path_kind_from stack head.0 step;
+    result = answer.result;
+    node = answer.node;
+  }
+
+  -- and that entry alone, if there is a highest head
+  abbrev entries_from : Option (StackDepth × CycleHead) → List (ProvisionalCacheEntry X I R A T)
+  entries_from None = []
+  entries_from (Some top) = entry_from top.0 ∷ []
+
+  kept_is : (o : Option (StackDepth × CycleHead)) → highest answer.heads ≡ o → kept_of stack step answer ≡ entries_from o
+  kept_is None is = rw (is, kept_of) refl
+  kept_is (Some top) is = rw (is, kept_of) refl
+
+  entry_at : (o : Option (StackDepth × CycleHead)) (head : StackDepth) → option_map (λ e. e.0) o ≡ Some head → entries_from o ≡ entry_from head ∷ []
+  entry_at None head is = absurd cc
+  entry_at (Some top) head is = let same : top.0 ≡ head = cc in ap (λ depth. entry_from depth ∷ []) same
+
+  module _ (same : I → I → Bool) (input : I) (old new : Lists I (ProvisionalCacheEntry X I R A T)) where
+    -- the answer is the last entry of its goal
+    pub answer_kept : ((x y : I) → same x y ≡ true → x ≡ y) → (enabled : Bool) → enabled ≡ true → (head : StackDepth) → option_map (λ e. e.0) (highest answer.heads) ≡ Some head → Appends same old new input (entry_from head) → (goal : I) → entries_at same new goal ≡ entries_at same old goal ++ (if enabled && same input goal then kept_of stack step answer else [])
+    answer_kept by_value enabled on head is put goal =
+        subst (λ b. entries_at same new goal ≡ entries_at same old goal ++ (if b && same input goal then kept_of stack step answer else [])) (sym on) (at (same input goal) refl)
+      where
+        at : (b : Bool) → same input goal ≡ b → entries_at same new goal ≡ entries_at same old goal ++ (if b then kept_of stack step answer else [])
+        at true here =
+            subst (λ x. entries_at same new x ≡ entries_at same old x ++ kept_of stack step answer) (by_value input goal here)
+            (put.here ∙ ap (λ l. entries_at same old input ++ l) (sym (kept_is (highest answer.heads) refl ∙ entry_at (highest answer.heads) head is)))
+        at false other = put.others goal other ∙ sym (append-nil (entries_at same old goal))
+
+    -- no answer is kept
+    pub none_kept : (enabled : Bool) → enabled ≡ false → (goal : I) → entries_at same old goal ≡ entries_at same old goal ++ (if enabled && same input goal then kept_of stack step answer else [])
+    none_kept enabled off goal =
+        subst (λ b. entries_at same old goal ≡ entries_at same old goal ++ (if b && same input goal then kept_of stack step answer else [])) (sym off) (sym (append-nil (entries_at same old goal)))
+
+-- without a highest head there is none
+pub headless : {X I R A T : Type 0} (answer : EvaluationResult X I R A T) (o : Option StackDepth) → o ≡ option_map (λ e. e.0) (highest answer.heads) → o ≡ None → answer.heads ≡ []
+headless answer o is none = no_highest answer.heads (at (highest answer.heads) (sym is ∙ none))
+  where
+    at : (o : Option (StackDepth × CycleHead)) → option_map (λ e. e.0) o ≡ None → o ≡ None
+    at None is = refl
+    at (Some top) is = absurd cc
+
+-- ---- the goal below has taken the answer
+
+module _ {X I R A T : Type 0} where
+  -- the steps by which the goals were asked
+  abbrev steps_of : List (StackEntry X I R A T) → List PathKind
+  steps_of stack = map (λ e. e.step_kind_from_parent) stack
+
+  -- the last goal with another state has the same step
+  step_stays : (l : List (StackEntry X I R A T)) (e f : StackEntry X I R A T) → e.step_kind_from_parent ≡ f.step_kind_from_parent → steps_of (reverse (e ∷ l)) ≡ steps_of (reverse (f ∷ l))
+  step_stays l e f same =
+      ap steps_of (reverse_onto l e [])
+      ∙ map-append (λ (e : StackEntry X I R A T). e.step_kind_from_parent) (reverse l) (e ∷ [])
+      ∙ ap (λ kind. steps_of (reverse l) ++ kind ∷ []) same
+      ∙ sym (map-append (λ (e : StackEntry X I R A T). e.step_kind_from_parent) (reverse l) (f ∷ []))
+      ∙ sym (ap steps_of (reverse_onto l f []))
+
+  module _ (stack other : List (StackEntry X I R A T)) (same_steps : steps_of stack ≡ steps_of other) where
+    -- a path depends on the stack by its steps alone
+    same_path : (head : ℕ) (step : PathKind) → path_kind_from stack head step ≡ path_kind_from other head step
+    same_path head step =
+        ap (λ l. greatest_kind (step ∷ l))
+        (sym (drop-map (λ (e : StackEntry X I R A T). e.step_kind_from_parent) (head + 1) stack)
+        ∙ ap (drop (head + 1)) same_steps
+        ∙ drop-map (λ (e : StackEntry X I R A T). e.step_kind_from_parent) (head + 1) other)
+
+    same_entries : (step : PathKind) (answer : EvaluationResult X I R A T) (o : Option (StackDepth × CycleHead)) → entries_from stack step answer o ≡ entries_from other step answer o
+    same_entries step answer None = refl
+    same_entries step answer (Some top) = ap (λ kind. record (entry_from stack step answer top.0) { path_from_head = kind } ∷ []) (same_path top.0.0 step)
+
+    -- and so does what is kept
+    same_kept : (step : PathKind) (answer : EvaluationResult X I R A T) → kept_of stack step answer ≡ kept_of other step answer
+    same_kept step answer =
+        kept_is stack step answer (highest answer.heads) refl ∙ same_entries step answer (highest answer.heads) ∙ sym (kept_is other step answer (highest answer.heads) refl)
+
+module _ {X F I R A T : Type 0} where
+  -- the stack of the goals
+  abbrev stack_of : List (StackEntry X I R A T × Run X F I R A T) → List (StackEntry X I R A T)
+  stack_of goals = reverse (map (λ s. s.0) goals)
+
+  module _ (step : PathKind) (answer : EvaluationResult X I R A T) where
+    -- the goals that are left have the steps that they had
+    steps_stay : (below later : List (StackEntry X I R A T × Run X F I R A T)) (next : Next R) → GivesAnswer step answer below next later → steps_of (stack_of later) ≡ steps_of (stack_of below)
+    steps_stay [] later next given = ap (λ l. steps_of (stack_of l)) given.1
+    steps_stay (p ∷ below) later next given =
+        let a = given.1 in
+        ap (λ l. steps_of (stack_of l)) a.is
+        ∙ step_stays (map (λ s. s.0) a.below) (record a.entry { state = a.state }) a.entry refl
+        ∙ sym (ap (λ l. steps_of (stack_of l)) a.was)
+
+    -- and are as many
+    as_many : (below later : List (StackEntry X I R A T × Run X F I R A T)) (next : Next R) → GivesAnswer step answer below next later → length later ≡ length below
+    as_many [] later next given = ap length given.1
+    as_many (p ∷ below) later next given = let a = given.1 in ap length a.is ∙ sym (ap length a.was)
+
+    -- the highest of heads that were on the stack is there still
+    pub highest_stays : (below later : List (StackEntry X I R A T × Run X F I R A T)) (next : Next R) → GivesAnswer step answer below next later → (heads : Heads) → All (λ (head : StackDepth × CycleHead). head.0.0 < length (reverse (map (λ s. s.0) below))) heads → IfSome (highest heads) (λ head. head.0.0 < length (reverse (map (λ s. s.0) later)))
+    highest_stays below later next given heads on_stack =
+        subst (λ n. IfSome (highest heads) (λ head. head.0.0 < n)) (on_stack_many below ∙ sym (as_many below later next given) ∙ sym (on_stack_many later))
+        (highest_within (length (stack_of below)) heads on_stack)
+
+-- The entries were settled for the reason once the goal was taken, and the answer was put last once it was given.
+module _ {C X F I R A T : Type 0} (same : I → I → Bool) (enabled : Bool) (propagated : C → I → A → R) (overflow : C → I → R) (used cx : C) (same_context : used ≡ cx) (reason : Option (RebaseReason X I R A T)) (r : R) (target : Option NodeId) (s : StackEntry X I R A T × Run X F I R A T) (below later : List (StackEntry X I R A T × Run X F I R A T)) (next : Next R) (stack after : List (StackEntry X I R A T)) (stack_is : stack ≡ reverse (map (λ s. s.0) below)) (after_is : after ≡ reverse (map (λ s. s.0) later)) (step : PathKind) (step_is : step ≡ s.0.step_kind_from_parent) (input : I) (input_is : input ≡ s.0.input) (answer : EvaluationResult X I R A T) (answer_is : answer ≡ final_answer s r target) (given : GivesAnswer step answer below next later) (old middle new : Lists I (ProvisionalCacheEntry X I R A T)) (settled : (goal : I) → entries_at same middle goal ≡ left_of (propagated used goal) (overflow used goal) reason stack s.0 (entries_at same old goal)) (put : (goal : I) → entries_at same new goal ≡ entries_at same middle goal ++ (if enabled && same input goal then kept_of after step answer else [])) where
+  -- the old entries, settled
+  abbrev settled_by : C → List (StackEntry X I R A T) → I → List (ProvisionalCacheEntry X I R A T)
+  settled_by x l goal = left_of (propagated x goal) (overflow x goal) reason l s.0 (entries_at same old goal)
+
+  -- what is put for the goal, where answers are kept
+  abbrev put_by : I → List (ProvisionalCacheEntry X I R A T) → I → List (ProvisionalCacheEntry X I R A T)
+  put_by i l goal = if enabled && same i goal then l else []
+
+  -- so the entries of each goal are the old ones, settled, and the answer over the stack that was left
+  pub entries_settled : (goal : I) → entries_at same new goal
+      ≡ left_of (propagated cx goal) (overflow cx goal) reason (reverse (map (λ s. s.0) below)) s.0 (entries_at same old goal)
+      ++ (if enabled && same s.0.input goal then kept_of (reverse (map (λ s. s.0) below)) s.0.step_kind_from_parent (final_answer s r target) else [])
+  entries_settled goal =
+      put goal
+      ∙ ap (λ l. l ++ put_by input (kept_of after step answer) goal) (settled goal ∙ ap (λ x. settled_by x stack goal) same_context ∙ ap (λ l. settled_by cx l goal) stack_is)
+      ∙ ap (λ l. settled_by cx (stack_of below) goal ++ l)
+      (ap (λ i. put_by i (kept_of after step answer) goal) input_is
+      ∙ ap (λ l. put_by s.0.input l goal)
+      (ap (λ l. kept_of l step answer) after_is
+      ∙ same_kept (stack_of later) (stack_of below) (steps_stay step answer below later next given) step answer
+      ∙ ap (λ k. kept_of (stack_of below) k answer) step_is
+      ∙ ap (kept_of (stack_of below) s.0.step_kind_from_parent) answer_is))
