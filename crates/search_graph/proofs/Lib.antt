@@ -33,5 +33,6 @@ pub mod ListAnswers
 pub mod HeadOrder
 pub mod RebasedShapes
 pub mod RebasedPaths
+pub mod Reasons
 pub mod RebasedAnswers
 pub mod RebasedRising
