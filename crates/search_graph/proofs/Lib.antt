@@ -36,5 +36,6 @@ pub mod HeadOrder
 pub mod RebasedShapes
 pub mod RebasedPaths
 pub mod Reasons
+pub mod ReadyReruns
 pub mod RebasedAnswers
 pub mod RebasedRising
