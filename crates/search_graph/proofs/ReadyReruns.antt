@@ -1,14 +1,12 @@
 -- The entries of the provisional cache that are left when the newest goal is run again may be used over the goals then.
-use Rattle.std.proofs.Common.{◌≡◌, ◌≢◌, ℕ, ◌-◌, ◌==◌, ◌≤◌, nat_eq, Bool, true, false, not, ◌&&◌, if◌then◌else◌, List, [], ◌∷◌, ◌++◌, length, All, Option, None, Some, IsSome, option_map, refl, sym, ap, ◌∙◌, subst, inl, inr, arith, eq-eqb}
+use Rattle.std.proofs.Common.{◌≡◌, ◌≢◌, ℕ, ◌-◌, ◌==◌, ◌≤◌, Bool, true, false, not, if◌then◌else◌, List, [], ◌∷◌, ◌++◌, length, All, Option, None, Some, IsSome, option_map, refl, sym, ap, ◌∙◌, subst, inl, inr, arith, eq-eqb}
 use Rattle.std.specs.List.{filter}
-use Rattle.std.specs.Option.{option_or, unwrap_or}
+use Rattle.std.specs.Option.{option_or}
 use Rattle.std.proofs.lemmas.List.{length-map}
 use Rattle.std.proofs.lemmas.List.Elements.{All-filter, filter_passes}
-use Rattle.open_graphs.specs.State.{stack_of}
 use Rattle.open_graphs.specs.Use.{UsesNo}
 use Rattle.cycle_heads.specs.declared.depth.StackDepth.{StackDepth}
 use Rattle.cycle_heads.specs.declared.heads.CycleHead.{CycleHead}
-use Rattle.cycle_heads.specs.declared.usages.HeadUsages.{HeadUsages}
 use Rattle.cycle_heads.specs.Heads.{Heads, at_depth, highest}
 use Rattle.cycle_heads.specs.HeadShapes.{head_shape, heads_shape}
 use Rattle.cycle_heads.specs.Usages.{has_usages, no_usages}
@@ -24,7 +22,7 @@ use Rattle.open_goals.specs.declared.goals.Run.{Run}
 use Rattle.open_goals.specs.Items.{rerun_with, with_no_record}
 use Rattle.open_goals.specs.Newest.{change_newest}
 use Rattle.open_goals.specs.Progress.{RunRecord}
-use Rattle.search_graph.specs.Justified.{OpenRun, frames_of, AreJustified}
+use Rattle.search_graph.specs.Justified.{OpenRun, AreJustified}
 use Rattle.search_graph.specs.Provisional.{IsHead, IsReady, AreReady}
 use Rattle.search_graph.specs.Runs.{run_of, runs_of, IsSettled}
 use Rattle.search_graph.specs.Tallies.{Tally, counted}

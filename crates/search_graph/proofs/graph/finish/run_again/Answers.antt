@@ -1,4 +1,4 @@
-use Rattle.std.proofs.Common.{◌≡◌, ◌-◌, not, length, ◌++◌, ◌∷◌, [], ◌≤◌, sym, ap, subst, ◌∙◌}
+use Rattle.std.proofs.Common.{◌-◌, length, ◌++◌, ◌∷◌, [], ◌≤◌, sym, ap, subst, ◌∙◌}
 use Rattle.search_parts.specs.Cache.{open_node}
 use Rattle.search_parts.proofs.Finished.{KeepsFinished-nodes, KeepsFinished-then}
 use Rattle.open_goals.specs.Items.{rerun_with}
@@ -6,10 +6,6 @@ use Rattle.search_graph.specs.Free.{AreFree}
 use Rattle.search_graph.specs.Justified.{AreJustified}
 use Rattle.open_goals.specs.Newest.{change_newest}
 use Rattle.search_graph.specs.Runs.{runs_of}
-use Rattle.std.specs.List.{filter}
-use Rattle.cycle_heads.specs.declared.depth.StackDepth.{StackDepth}
-use Rattle.search_parts.specs.Provisional.{entries_at}
-use Rattle.search_parts.specs.Reuse.{rests_on}
 use Rattle.search_graph.specs.Provisional.{AreReady}
 use Rattle.search_graph.proofs.ReadyReruns.{cleared_at, rerun_ready}
 use Rattle.search_graph.proofs.RunsEnd.{taken_from, taken_ends, rerun_free, rerun_justified, reran}
