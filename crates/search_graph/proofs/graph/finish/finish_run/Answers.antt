@@ -26,6 +26,13 @@ finish_goal-requires-clause-comes g c = newest_comes g.D.Delegate g.D.Cx.Cx c.ar
 pub finish_goal-requires-clause-plain : goal.finish_goal-requires-clause-plain
 finish_goal-requires-clause-plain g c = newest_plain g.D.Delegate g.D.Cx.Cx c.args.cache.now.cx c.requires.asked.0 c.requires.asked.1 c.args.outcome _ _ c.args.goals.now c.requires.asked.2
 
+pub finish_goal-requires-clause-reason : goal.finish_goal-requires-clause-reason
+finish_goal-requires-clause-reason g c =
+    newest_reason g.D.Cx.Cx.is_yes g.D.Cx.Cx.is_no g.D.Cx.Result.PartialEq.eq g.met.D.Cx.Cx.same_result g.D.Delegate.initial_kind g.met.D.Delegate.recognised_sort g.D.Delegate.ambiguity g.D.Delegate.FIXPOINT_STEP_LIMIT c.last_run.result.now.finished_runs c.args.goals.now c.last_entry.result.now c.args.outcome c.end_of_run.result c.in-Ok.reason c.last_entry.ensures c.end_of_run.ensures.is_end c.in-Ok.is
+
+pub finish_goal-requires-clause-unranked : goal.finish_goal-requires-clause-unranked
+finish_goal-requires-clause-unranked g c = newest_unranked g.D.Delegate g.D.Cx.Cx c.args.cache.now.cx c.requires.asked.0 c.requires.asked.1 c.args.outcome _ _ c.args.goals.now c.requires.asked.2
+
 pub returns-in-Ok-clause-leads : goal.returns-in-Ok-clause-leads
 returns-in-Ok-clause-leads g c = λ call ahead h.
     if_ok_then c.finish_goal.result _ _ c.finish_goal.ensures.left (λ next left. leave_leads g.D.Delegate g.D.Cx.Cx c.args.cache.now.cx call ahead c.args.outcome c.args.outcome next c.args.goals.now c.finish_goal.new.goals _ _ refl left h)
@@ -50,6 +57,9 @@ finish_goal-requires-in-Err-AtLimit-clause-comes g c = limit_comes (g.D.Delegate
 pub finish_goal-requires-in-Err-AtLimit-clause-plain : goal.finish_goal-requires-in-Err-AtLimit-clause-plain
 finish_goal-requires-in-Err-AtLimit-clause-plain g c = limited_plain g.D.Delegate g.D.Cx.Cx c.args.cache.now.cx c.requires.asked.0 c.requires.asked.1 c.args.outcome _ _ c.args.goals.now c.fixpoint_overflow_result-overflow.result (λ s below is. ((newest_limited c.args.goals.now c.last_entry.result.now c.last_run.result.now c.last_entry.ensures c.last_run.ensures g.D.Delegate.FIXPOINT_STEP_LIMIT (limited g.D.Cx.Result.PartialEq.eq g.D.Delegate.initial_kind g.D.Delegate.ambiguity g.D.Delegate.FIXPOINT_STEP_LIMIT c.last_entry.result.now.state.provisional_result c.last_entry.result.now.state.usages c.last_run.result.now.finished_runs c.args.outcome c.end_of_run.result c.end_of_run.ensures.is_end (c.in-Err-AtLimit.is ∙ ap Err c.in-Err-AtLimit.field-0-is))) s below is).0) c.requires.asked.2
 
+pub finish_goal-requires-in-Err-AtLimit-clause-unranked : goal.finish_goal-requires-in-Err-AtLimit-clause-unranked
+finish_goal-requires-in-Err-AtLimit-clause-unranked g c = newest_unranked g.D.Delegate g.D.Cx.Cx c.args.cache.now.cx c.requires.asked.0 c.requires.asked.1 c.args.outcome _ _ c.args.goals.now c.requires.asked.2
+
 pub returns-in-Err-AtLimit-clause-leads : goal.returns-in-Err-AtLimit-clause-leads
 returns-in-Err-AtLimit-clause-leads g c = λ call ahead h.
     if_ok_then c.finish_goal-in-Err-AtLimit.result _ _ c.finish_goal-in-Err-AtLimit.ensures.left (λ next left. limited_leads g.D.Delegate g.D.Cx.Cx c.args.cache.now.cx call ahead c.args.outcome c.fixpoint_overflow_result-overflow.result next c.args.goals.now c.finish_goal-in-Err-AtLimit.new.goals _ _ (newest_limited c.args.goals.now c.last_entry.result.now c.last_run.result.now c.last_entry.ensures c.last_run.ensures g.D.Delegate.FIXPOINT_STEP_LIMIT (limited g.D.Cx.Result.PartialEq.eq g.D.Delegate.initial_kind g.D.Delegate.ambiguity g.D.Delegate.FIXPOINT_STEP_LIMIT c.last_entry.result.now.state.provisional_result c.last_entry.result.now.state.usages c.last_run.result.now.finished_runs c.args.outcome c.end_of_run.result c.end_of_run.ensures.is_end (c.in-Err-AtLimit.is ∙ ap Err c.in-Err-AtLimit.field-0-is))) left h)
@@ -71,16 +81,6 @@ pub returns-in_ok-run_again-in-Err-Again-clause-leads : goal.returns-in_ok-run_a
 returns-in_ok-run_again-in-Err-Again-clause-leads g c = λ call ahead h.
     subst (λ given. GoesOn g.D.Delegate g.D.Cx.Cx c.args.cache.now.cx call ahead given.reply c.run_again.new.goals (g.D.Delegate.starts c.run_again.new.inspect) c.args.limits_met.now) (sym c.without_node.ensures)
     (rerun_goes_on g.D.Delegate g.D.Cx.Cx c.args.cache.now.cx call ahead c.args.outcome c.args.goals.now c.run_again.new.goals _ _ c.args.limits_met.now (newest_unstable c.args.goals.now c.last_entry.result.now c.last_run.result.now c.last_entry.ensures c.last_run.ensures g.D.Delegate.FIXPOINT_STEP_LIMIT (unstable g.D.Cx.Result.PartialEq.eq g.D.Delegate.initial_kind g.D.Delegate.ambiguity g.D.Delegate.FIXPOINT_STEP_LIMIT c.last_entry.result.now.state.provisional_result c.last_entry.result.now.state.usages c.last_run.result.now.finished_runs c.args.outcome c.end_of_run.result c.end_of_run.ensures.is_end (c.in-Err-Again.is ∙ ap Err c.in-Err-Again.field-0-is))) c.run_again.ensures.at_most c.in_ok-run_again-in-Err-Again.ensures.counted c.in_ok-run_again-in-Err-Again.ensures.reran h)
-
-pub finish_goal-requires-clause-reason : goal.finish_goal-requires-clause-reason
-finish_goal-requires-clause-reason g c =
-    newest_reason g.D.Cx.Cx.is_yes g.D.Cx.Cx.is_no g.D.Cx.Result.PartialEq.eq g.met.D.Cx.Cx.same_result g.D.Delegate.initial_kind g.met.D.Delegate.recognised_sort g.D.Delegate.ambiguity g.D.Delegate.FIXPOINT_STEP_LIMIT c.last_run.result.now.finished_runs c.args.goals.now c.last_entry.result.now c.args.outcome c.end_of_run.result c.in-Ok.reason c.last_entry.ensures c.end_of_run.ensures.is_end c.in-Ok.is
-
-pub finish_goal-requires-clause-unranked : goal.finish_goal-requires-clause-unranked
-finish_goal-requires-clause-unranked g c = newest_unranked g.D.Delegate g.D.Cx.Cx c.args.cache.now.cx c.requires.asked.0 c.requires.asked.1 c.args.outcome _ _ c.args.goals.now c.requires.asked.2
-
-pub finish_goal-requires-in-Err-AtLimit-clause-unranked : goal.finish_goal-requires-in-Err-AtLimit-clause-unranked
-finish_goal-requires-in-Err-AtLimit-clause-unranked g c = newest_unranked g.D.Delegate g.D.Cx.Cx c.args.cache.now.cx c.requires.asked.0 c.requires.asked.1 c.args.outcome _ _ c.args.goals.now c.requires.asked.2
 
 pub returns-in_ok-run_again-in-Err-Again-clause-free : goal.returns-in_ok-run_again-in-Err-Again-clause-free
 returns-in_ok-run_again-in-Err-Again-clause-free g c =
