@@ -35,3 +35,4 @@ pub mod RebasedShapes
 pub mod RebasedPaths
 pub mod RebasedAnswers
 pub mod RebasedRising
+pub mod KeptEntries
