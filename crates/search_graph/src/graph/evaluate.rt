@@ -14,8 +14,8 @@ ghost use Rattle.search_graph.specs.Runs.{runs_of, IsJustifiedNext};
 
 use crate::graph::finish::finish_run;
 use crate::graph::look_up::look_up;
-use open_goals::goals::{Next, OpenGoals, Received, step};
 use crate::graph::question::{ask, push_goal};
+use open_goals::goals::{Next, OpenGoals, Received, step};
 use search_parts::context::{Answer, Cx, Delegate, Fault, Reply, Request};
 use search_parts::global_cache::GlobalCache;
 use search_parts::parts::{AvailableDepth, ProvisionalCache};
@@ -49,9 +49,7 @@ pub(crate) fn evaluate<D: Delegate>(
 {
     let mut provisional = ProvisionalCache::new(goals.allocator());
     let stack = goals.stack();
-    if let Some(stored) =
-        look_up::<D>(cache, &provisional, stack, step_kind, input, root_depth)
-    {
+    if let Some(stored) = look_up::<D>(cache, &provisional, stack, step_kind, input, root_depth) {
         return Ok(Answer {
             result: stored.result,
             node: stored.node,

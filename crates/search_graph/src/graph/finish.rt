@@ -24,10 +24,10 @@ ghost use Rattle.search_graph.specs.Provisional.{AreReady, HasReason, IsNewestUn
 ghost use Rattle.search_graph.specs.RunEnds.{IsReason, IsRunEnd, IsStable, ReachedFixpoint};
 ghost use Rattle.search_graph.specs.Runs.{runs_of, EndsRun, EndsNewest, IsSettled, IsJustifiedNext};
 
-use open_goals::goals::{Next, OpenGoals, Received, Run};
-use open_goals::progress::Progress;
 use crate::graph::kept::settle_kept;
 use crate::graph::store::store_answer;
+use open_goals::goals::{Next, OpenGoals, Received, Run};
+use open_goals::progress::Progress;
 use search_parts::context::{Answer, Cx, Delegate, Fault, NoMemory, NodeId, Reply, Verdict};
 use search_parts::global_cache::GlobalCache;
 use search_parts::parts::{
