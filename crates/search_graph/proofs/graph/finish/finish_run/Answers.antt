@@ -1,7 +1,9 @@
+use Rattle.std.proofs.lemmas.Result.{on_ok_weaker}
 use Rattle.std.proofs.Common.{refl, sym, ap, ap₂, subst, ◌∙◌}
 use Rattle.search_parts.specs.declared.context.Fault.TheVariants.{Memory}
 use Rattle.search_parts.specs.Shapes.{verdict_of}
-use Rattle.search_graph.specs.Evaluating.{GoesOn, HasStopped}
+use Rattle.search_graph.specs.Evaluating.{GoesOn, HasStopped, KeepsAnswers}
+use Rattle.search_graph.proofs.KeptEntries.{done_keeps, end_leaves, met_keeps_answers, rerun_keeps}
 use Rattle.search_graph.proofs.Finishing.{neither_is}
 use Rattle.search_graph.proofs.Moves.{asked_stopped_by, can_leave, ends_newest, failed_rerun_stopped, leave_leads, limited_leads, limited_stopped, rerun_goes_on}
 use Rattle.search_graph.proofs.Questions.{if_err_and, if_ok_then}
@@ -23,8 +25,17 @@ finish_goal-requires-clause-comes g c = newest_comes g.D.Delegate g.D.Cx.Cx c.ar
 pub finish_goal-requires-clause-plain : goal.finish_goal-requires-clause-plain
 finish_goal-requires-clause-plain g c = newest_plain g.D.Delegate g.D.Cx.Cx c.args.cache.now.cx c.requires.asked.0 c.requires.asked.1 c.args.outcome _ _ c.args.goals.now c.requires.asked.2
 
-pub returns-in-Done-clause-keeps : goal.returns-in-Done-clause-keeps
-returns-in-Done-clause-keeps g c = λ call ahead h keeps. put_keeps g.D.Delegate g.D.Cx.Cx c.args.cache.now.cx call g.D.Cx.Input.PartialEq.eq g.met.D.Cx.Cx.same_input c.args.cache.now.results c.finish_goal.new.cache.results ahead c.args.outcome c.args.goals.now _ _ c.finish_goal.ensures.stored h keeps
+pub returns-in-Ok-clause-keeps : goal.returns-in-Ok-clause-keeps
+returns-in-Ok-clause-keeps g c = λ call ahead h keeps. put_keeps g.D.Delegate g.D.Cx.Cx c.args.cache.now.cx call g.D.Cx.Input.PartialEq.eq g.met.D.Cx.Cx.same_input c.args.cache.now.results c.finish_goal.new.cache.results ahead c.args.outcome c.args.goals.now _ _ c.finish_goal.ensures.stored h keeps
+
+pub returns-in-Ok-clause-keeps_answers : goal.returns-in-Ok-clause-keeps_answers
+returns-in-Ok-clause-keeps_answers g c = λ call ahead h keeps.
+    on_ok_weaker c.finish_goal.result
+    (λ settles.
+    done_keeps g.D.Delegate g.D.Cx.Cx c.args.cache.now.cx call g.D.Cx.Input.PartialEq.eq ahead c.args.outcome _ _ _ c.in-Ok.reason
+    (end_leaves g.D.Cx.Cx.is_yes g.D.Cx.Cx.is_no g.D.Cx.Result.PartialEq.eq g.D.Delegate.initial_kind g.D.Delegate.ambiguity g.met.D.Delegate.ambiguous_is_neither g.D.Delegate.FIXPOINT_STEP_LIMIT c.last_entry.result.now.state.provisional_result c.last_entry.result.now.state.usages c.last_run.result.now.finished_runs c.args.outcome c.end_of_run.result c.in-Ok.reason c.end_of_run.ensures.is_end c.in-Ok.is)
+    g.met.D.Cx.Cx.same_input c.args.cache.now.results c.finish_goal.new.cache.results c.args.goals.now c.args.provisional.now c.finish_goal.new.provisional c.finish_goal.ensures.stored settles h keeps)
+    c.finish_goal.ensures.settled
 
 pub returns-in-Done-clause-leads : goal.returns-in-Done-clause-leads
 returns-in-Done-clause-leads g c = λ call ahead h.
@@ -50,8 +61,13 @@ finish_goal-requires-in-AtLimit-clause-comes g c = limit_comes (g.D.Delegate.scr
 pub finish_goal-requires-in-AtLimit-clause-plain : goal.finish_goal-requires-in-AtLimit-clause-plain
 finish_goal-requires-in-AtLimit-clause-plain g c = limited_plain g.D.Delegate g.D.Cx.Cx c.args.cache.now.cx c.requires.asked.0 c.requires.asked.1 c.args.outcome _ _ c.args.goals.now c.fixpoint_overflow_result-overflow.result (λ s below is. ((newest_limited c.args.goals.now c.last_entry.result.now c.last_run.result.now c.last_entry.ensures c.last_run.ensures g.D.Delegate.FIXPOINT_STEP_LIMIT (limited g.D.Cx.Result.PartialEq.eq g.D.Delegate.initial_kind g.D.Delegate.ambiguity g.D.Delegate.FIXPOINT_STEP_LIMIT c.last_entry.result.now.state.provisional_result c.last_entry.result.now.state.usages c.last_run.result.now.finished_runs c.args.outcome c.end_of_run-end.result c.end_of_run-end.ensures.is_end c.in-AtLimit.is)) s below is).0) c.requires.asked.2
 
-pub returns-in-AtLimit-clause-keeps : goal.returns-in-AtLimit-clause-keeps
-returns-in-AtLimit-clause-keeps g c = λ call ahead h keeps. met_keeps g.D.Delegate g.D.Cx.Cx c.args.cache.now.cx call g.D.Cx.Input.PartialEq.eq c.finish_goal-in-AtLimit.new.cache.results
+pub returns-in-Err-AtLimit-clause-keeps : goal.returns-in-Err-AtLimit-clause-keeps
+returns-in-Err-AtLimit-clause-keeps g c = λ call ahead h keeps. met_keeps g.D.Delegate g.D.Cx.Cx c.args.cache.now.cx call g.D.Cx.Input.PartialEq.eq c.finish_goal-in-Err-AtLimit.new.cache.results
+
+pub returns-in-Err-AtLimit-clause-keeps_answers : goal.returns-in-Err-AtLimit-clause-keeps_answers
+returns-in-Err-AtLimit-clause-keeps_answers g c = λ call ahead h keeps.
+    on_ok_weaker c.finish_goal-in-Err-AtLimit.result (λ settles. met_keeps_answers g.D.Delegate g.D.Cx.Cx c.args.cache.now.cx call g.D.Cx.Input.PartialEq.eq c.finish_goal-in-Err-AtLimit.new.cache.results c.finish_goal-in-Err-AtLimit.new.provisional)
+    c.finish_goal-in-Err-AtLimit.ensures.settled
 
 pub returns-in-AtLimit-clause-leads : goal.returns-in-AtLimit-clause-leads
 returns-in-AtLimit-clause-leads g c = λ call ahead h.
@@ -74,3 +90,8 @@ pub returns-in_ok-run_again-in-Again-clause-leads : goal.returns-in_ok-run_again
 returns-in_ok-run_again-in-Again-clause-leads g c = λ call ahead h.
     subst (λ given. GoesOn g.D.Delegate g.D.Cx.Cx c.args.cache.now.cx call ahead given.reply c.run_again.new.goals (g.D.Delegate.starts c.run_again.new.inspect) c.args.limits_met.now) (sym c.without_node.ensures)
     (rerun_goes_on g.D.Delegate g.D.Cx.Cx c.args.cache.now.cx call ahead c.args.outcome c.args.goals.now c.run_again.new.goals _ _ c.args.limits_met.now (newest_unstable c.args.goals.now c.last_entry.result.now c.last_run.result.now c.last_entry.ensures c.last_run.ensures g.D.Delegate.FIXPOINT_STEP_LIMIT (unstable g.D.Cx.Result.PartialEq.eq g.D.Delegate.initial_kind g.D.Delegate.ambiguity g.D.Delegate.FIXPOINT_STEP_LIMIT c.last_entry.result.now.state.provisional_result c.last_entry.result.now.state.usages c.last_run.result.now.finished_runs c.args.outcome c.end_of_run-end.result c.end_of_run-end.ensures.is_end c.in-Again.is)) c.run_again.ensures.at_most c.in_ok-run_again-in-Again.ensures.counted c.in_ok-run_again-in-Again.ensures.reran h)
+
+pub returns-in_ok-run_again-in-Err-Again-clause-keeps_answers : goal.returns-in_ok-run_again-in-Err-Again-clause-keeps_answers
+returns-in_ok-run_again-in-Err-Again-clause-keeps_answers g c = λ call ahead h keeps.
+    subst (λ results. KeepsAnswers g.D.Delegate g.D.Cx.Cx c.args.cache.now.cx g.D.Cx.Input.PartialEq.eq call c.args.limits_met.now results c.run_again.new.provisional) (sym c.run_again.ensures.same_results)
+    (rerun_keeps g.D.Delegate g.D.Cx.Cx c.args.cache.now.cx call g.D.Cx.Input.PartialEq.eq c.args.cache.now.results c.args.limits_met.now _ c.args.provisional.now c.run_again.new.provisional c.run_again.ensures.cleared keeps)
