@@ -39,3 +39,4 @@ pub mod Reasons
 pub mod ReadyReruns
 pub mod RebasedAnswers
 pub mod RebasedRising
+pub mod KeptEntries

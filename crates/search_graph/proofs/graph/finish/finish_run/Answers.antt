@@ -1,9 +1,11 @@
+use Rattle.search_graph.proofs.KeptEntries.{done_keeps, end_leaves, met_keeps_answers, rerun_keeps}
+use Rattle.std.proofs.lemmas.Result.{on_ok_weaker}
 use Rattle.std.proofs.Common.{Err, refl, sym, ap, ap₂, subst, ◌∙◌}
 use Rattle.search_parts.specs.declared.context.Fault.TheVariants.{Memory}
 use Rattle.search_parts.specs.Shapes.{verdict_of}
 use Rattle.search_graph.specs.Free.{AreFree}
 use Rattle.search_graph.specs.Runs.{runs_of}
-use Rattle.search_graph.specs.Evaluating.{GoesOn, HasStopped}
+use Rattle.search_graph.specs.Evaluating.{GoesOn, HasStopped, KeepsAnswers}
 use Rattle.search_graph.proofs.Finishing.{neither_is}
 use Rattle.search_graph.proofs.Moves.{asked_stopped_by, can_leave, ends_newest, failed_rerun_stopped, leave_leads, limited_leads, limited_stopped, rerun_goes_on}
 use Rattle.search_graph.proofs.Questions.{if_err_and, if_ok_then}
@@ -33,6 +35,18 @@ finish_goal-requires-clause-reason g c =
 pub finish_goal-requires-clause-unranked : goal.finish_goal-requires-clause-unranked
 finish_goal-requires-clause-unranked g c = newest_unranked g.D.Delegate g.D.Cx.Cx c.args.cache.now.cx c.requires.asked.0 c.requires.asked.1 c.args.outcome _ _ c.args.goals.now c.requires.asked.2
 
+pub returns-in-Ok-clause-keeps : goal.returns-in-Ok-clause-keeps
+returns-in-Ok-clause-keeps g c = λ call ahead h keeps. put_keeps g.D.Delegate g.D.Cx.Cx c.args.cache.now.cx call g.D.Cx.Input.PartialEq.eq g.met.D.Cx.Cx.same_input c.args.cache.now.results c.finish_goal.new.cache.results ahead c.args.outcome c.args.goals.now _ _ c.finish_goal.ensures.stored h keeps
+
+pub returns-in-Ok-clause-keeps_answers : goal.returns-in-Ok-clause-keeps_answers
+returns-in-Ok-clause-keeps_answers g c = λ call ahead h keeps.
+    on_ok_weaker c.finish_goal.result
+    (λ settles.
+    done_keeps g.D.Delegate g.D.Cx.Cx c.args.cache.now.cx call g.D.Cx.Input.PartialEq.eq ahead c.args.outcome _ _ _ c.in-Ok.reason
+    (end_leaves g.D.Cx.Cx.is_yes g.D.Cx.Cx.is_no g.D.Cx.Result.PartialEq.eq g.D.Delegate.initial_kind g.D.Delegate.ambiguity g.met.D.Delegate.ambiguous_is_neither g.D.Delegate.FIXPOINT_STEP_LIMIT c.last_entry.result.now.state.provisional_result c.last_entry.result.now.state.usages c.last_run.result.now.finished_runs c.args.outcome c.end_of_run.result c.in-Ok.reason c.end_of_run.ensures.is_end c.in-Ok.is)
+    g.met.D.Cx.Cx.same_input c.args.cache.now.results c.finish_goal.new.cache.results c.args.goals.now c.args.provisional.now c.finish_goal.new.provisional c.finish_goal.ensures.stored settles h keeps)
+    c.finish_goal.ensures.settled
+
 pub returns-in-Ok-clause-leads : goal.returns-in-Ok-clause-leads
 returns-in-Ok-clause-leads g c = λ call ahead h.
     if_ok_then c.finish_goal.result _ _ c.finish_goal.ensures.left (λ next left. leave_leads g.D.Delegate g.D.Cx.Cx c.args.cache.now.cx call ahead c.args.outcome c.args.outcome next c.args.goals.now c.finish_goal.new.goals _ _ refl left h)
@@ -60,6 +74,14 @@ finish_goal-requires-in-Err-AtLimit-clause-plain g c = limited_plain g.D.Delegat
 pub finish_goal-requires-in-Err-AtLimit-clause-unranked : goal.finish_goal-requires-in-Err-AtLimit-clause-unranked
 finish_goal-requires-in-Err-AtLimit-clause-unranked g c = newest_unranked g.D.Delegate g.D.Cx.Cx c.args.cache.now.cx c.requires.asked.0 c.requires.asked.1 c.args.outcome _ _ c.args.goals.now c.requires.asked.2
 
+pub returns-in-Err-AtLimit-clause-keeps : goal.returns-in-Err-AtLimit-clause-keeps
+returns-in-Err-AtLimit-clause-keeps g c = λ call ahead h keeps. met_keeps g.D.Delegate g.D.Cx.Cx c.args.cache.now.cx call g.D.Cx.Input.PartialEq.eq c.finish_goal-in-Err-AtLimit.new.cache.results
+
+pub returns-in-Err-AtLimit-clause-keeps_answers : goal.returns-in-Err-AtLimit-clause-keeps_answers
+returns-in-Err-AtLimit-clause-keeps_answers g c = λ call ahead h keeps.
+    on_ok_weaker c.finish_goal-in-Err-AtLimit.result (λ settles. met_keeps_answers g.D.Delegate g.D.Cx.Cx c.args.cache.now.cx call g.D.Cx.Input.PartialEq.eq c.finish_goal-in-Err-AtLimit.new.cache.results c.finish_goal-in-Err-AtLimit.new.provisional)
+    c.finish_goal-in-Err-AtLimit.ensures.settled
+
 pub returns-in-Err-AtLimit-clause-leads : goal.returns-in-Err-AtLimit-clause-leads
 returns-in-Err-AtLimit-clause-leads g c = λ call ahead h.
     if_ok_then c.finish_goal-in-Err-AtLimit.result _ _ c.finish_goal-in-Err-AtLimit.ensures.left (λ next left. limited_leads g.D.Delegate g.D.Cx.Cx c.args.cache.now.cx call ahead c.args.outcome c.fixpoint_overflow_result-overflow.result next c.args.goals.now c.finish_goal-in-Err-AtLimit.new.goals _ _ (newest_limited c.args.goals.now c.last_entry.result.now c.last_run.result.now c.last_entry.ensures c.last_run.ensures g.D.Delegate.FIXPOINT_STEP_LIMIT (limited g.D.Cx.Result.PartialEq.eq g.D.Delegate.initial_kind g.D.Delegate.ambiguity g.D.Delegate.FIXPOINT_STEP_LIMIT c.last_entry.result.now.state.provisional_result c.last_entry.result.now.state.usages c.last_run.result.now.finished_runs c.args.outcome c.end_of_run.result c.end_of_run.ensures.is_end (c.in-Err-AtLimit.is ∙ ap Err c.in-Err-AtLimit.field-0-is))) left h)
@@ -85,3 +107,8 @@ returns-in_ok-run_again-in-Err-Again-clause-leads g c = λ call ahead h.
 pub returns-in_ok-run_again-in-Err-Again-clause-free : goal.returns-in_ok-run_again-in-Err-Again-clause-free
 returns-in_ok-run_again-in-Err-Again-clause-free g c =
     subst (AreFree g.D.Cx.Cx.is_yes g.D.Cx.Cx.is_no g.D.Cx.Input.PartialEq.eq c.run_again.new.cache.nodes (runs_of c.run_again.new.goals)) (sym c.run_again.ensures.same_results) (c.in_ok-run_again-in-Err-Again.ensures.free c.requires.free)
+
+pub returns-in_ok-run_again-in-Err-Again-clause-keeps_answers : goal.returns-in_ok-run_again-in-Err-Again-clause-keeps_answers
+returns-in_ok-run_again-in-Err-Again-clause-keeps_answers g c = λ call ahead h keeps.
+    subst (λ results. KeepsAnswers g.D.Delegate g.D.Cx.Cx c.args.cache.now.cx g.D.Cx.Input.PartialEq.eq call c.args.limits_met.now results c.run_again.new.provisional) (sym c.run_again.ensures.same_results)
+    (rerun_keeps g.D.Delegate g.D.Cx.Cx c.args.cache.now.cx call g.D.Cx.Input.PartialEq.eq c.args.cache.now.results c.args.limits_met.now _ c.args.provisional.now c.run_again.new.provisional c.run_again.ensures.cleared keeps)
