@@ -98,7 +98,8 @@ module _ {D C V P F I R A T : Type 0} (G : Delegate.Ghosts D C V P F I R A T) (X
   memory_alone (Ok v) memory goals plain h = tt
   memory_alone (Err fault) memory goals plain h = λ n p fits. let m = newest_ranked goals n p fits h in plain m.0 m.1
 
-  calm_of : (s : StackEntry C I R A T × Run C F I R A T) (below : List (StackEntry C I R A T × Run C F I R A T)) → IsCounted G X cx call → met ≡ false → HasAsked G X cx call ahead (Done done) (s ∷ below) starts met → (s.0.state.encountered_overflow || s.1.met_overflow_before) ≡ false
+  -- where starts are counted and no limit was met, the newest goal met no overflow
+  pub calm_of : (s : StackEntry C I R A T × Run C F I R A T) (below : List (StackEntry C I R A T × Run C F I R A T)) → IsCounted G X cx call → met ≡ false → HasAsked G X cx call ahead (Done done) (s ∷ below) starts met → (s.0.state.encountered_overflow || s.1.met_overflow_before) ≡ false
   calm_of s below counted unmet h = leaves_calm (seen G X cx) (Stood G X cx) (G.script cx) (limits G X cx call) (IsCounted G X cx call) call.top (bound G X cx call) ahead done (outcome_of G X cx done s) s below starts met h.asked (leaving G X cx done done s (inl refl)) counted unmet
 
 -- a success is at no place of an overflow result

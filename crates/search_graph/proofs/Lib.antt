@@ -35,6 +35,8 @@ pub mod ListAnswers
 pub mod HeadOrder
 pub mod RebasedShapes
 pub mod RebasedPaths
+pub mod Reasons
+pub mod ReadyReruns
 pub mod RebasedAnswers
 pub mod RebasedRising
 pub mod ReadyPops
@@ -42,3 +44,4 @@ pub mod SettledEntries
 pub mod RebasedLeft
 pub mod LeftOver
 pub mod PoppedEntries
+pub mod KeptEntries

@@ -1,27 +1,39 @@
 -- Which stored results are used.
-use Rattle.std.proofs.Common.{◌≡◌, ℕ, ◌≤◌, Bool, true, false, not, List, [], ◌∷◌, map, reverse, is_some, Option, None, Some, refl, sym, ap, ◌∙◌, subst}
-use Rattle.std.specs.List.{list_any}
+use Rattle.std.proofs.Common.{◌≡◌, ℕ, ◌≤◌, Bool, true, false, not, ◌&&◌, cond, List, [], ◌∷◌, map, reverse, is_some, Option, None, Some, refl, sym, ap, ◌∙◌, subst}
+use Rattle.std.specs.List.{list_all, list_any}
 use Rattle.std.specs.Option.{IfSome, option_map}
 use Rattle.search_parts.specs.declared.context.Request.{Request}
 use Rattle.search_parts.specs.declared.context.Reply.{Reply}
 use Rattle.search_parts.specs.declared.global_cache.look_up.CacheData.{CacheData}
 use Rattle.search_parts.specs.declared.global_cache.results.Place.TheVariants.{Success, WithOverflow}
 use Rattle.search_parts.specs.declared.global_cache.results.StoredResult.{StoredResult}
+use Rattle.cycle_heads.specs.declared.path.PathKind.{PathKind}
+use Rattle.search_parts.specs.declared.parts.provisional_cache.ProvisionalCacheEntry.{ProvisionalCacheEntry}
 use Rattle.search_parts.specs.declared.parts.stack.StackEntry.{StackEntry}
+use Rattle.search_parts.specs.Provisional.{Lists}
 use Rattle.search_parts.specs.LookUp.{Hit, hit_of, first_accepted, usable}
 use Rattle.search_parts.specs.Nested.{NestedPaths, paths_at}
 use Rattle.search_parts.specs.Rank.{IsPlain, IsBelowRank}
 use Rattle.search_parts.specs.Store.{Store}
 use Rattle.search_parts.proofs.Stored.{used_holds}
-use Rattle.search_graph.specs.LookUp.{is_applicable, IsUsable}
+use Rattle.search_graph.specs.LookUp.{is_applicable, meets_entry, Asking, IsUsable}
 
 -- nothing is below a result without goals
 nothing_below : {X I R A T : Type 0} (same : I → I → Bool) (stack : List (StackEntry X I R A T)) → list_any (λ e. is_some (paths_at same [] e.input)) stack ≡ false
 nothing_below same [] = refl
 nothing_below same (e ∷ es) = nothing_below same es
 
-pub empty_is_applicable : {X I R A T : Type 0} (same : I → I → Bool) (stack : List (StackEntry X I R A T)) (nested : NestedPaths I) → nested ≡ [] → true ≡ is_applicable same stack nested
-empty_is_applicable same stack nested is = sym (ap (is_applicable same stack) is ∙ ap not (nothing_below same stack))
+pub empty_is_applicable : {X I R A T : Type 0} (same : I → I → Bool) (asking : Asking X I R A T) (nested : NestedPaths I) → nested ≡ [] → true ≡ is_applicable same asking nested
+empty_is_applicable same asking nested is = sym (ap (is_applicable same asking) is ∙ ap (λ b. not b && true) (nothing_below same asking.stack))
+
+module _ {X I R A T : Type 0} (same : I → I → Bool) (asking : Asking X I R A T) (nested : NestedPaths I) (found : Bool) (is : found ≡ list_any (λ e. is_some (paths_at same nested e.input)) asking.stack) where
+  -- a result is not used where one of the goals below it is on the stack,
+  pub refused_on_stack : found ≡ true → not found ≡ is_applicable same asking nested
+  refused_on_stack there = ap not there ∙ ap (λ b. not b && list_all (λ goal. not (meets_entry same asking goal.0 goal.1)) nested) (sym there ∙ is)
+
+  -- and elsewhere the entries of those goals decide
+  pub decided_by_entries : found ≡ false → (rest : Bool) → rest ≡ list_all (λ goal. not (meets_entry same asking goal.0 goal.1)) nested → rest ≡ is_applicable same asking nested
+  decided_by_entries absent rest decided = decided ∙ ap (λ b. not b && list_all (λ goal. not (meets_entry same asking goal.0 goal.1)) nested) (sym absent ∙ is)
 
 -- a used result is stored of the goal
 module _ {X I R A T : Type 0} (same : I → I → Bool) (scripts : I → List (Reply R) → Request I R) (results : Store I (StoredResult X I R A T)) (goal : I) (depth : ℕ) where
@@ -46,10 +58,21 @@ module _ {X I R A T : Type 0} (same : I → I → Bool) (scripts : I → List (R
       (λ s at known. record { place = WithOverflow depth; stored = s; is_stored = at; result_is = refl; node_is = refl; place_is = λ e. refl; value = known.value; overflow = known.overflow; within = known.within }) is)
       (good found v o w)
 
--- over no goal each result may be used
-pub stored_over_none : {X F I R A T : Type 0} (same : I → I → Bool) (goals : List (StackEntry X I R A T × F)) → goals ≡ [] → (found : Option (CacheData X I R A T)) (stack : List (StackEntry X I R A T)) → stack ≡ reverse (map (λ s. s.0) goals) → (hits : List (Hit I R T)) → option_map hit_of found ≡ first_accepted (is_applicable same stack) hits → option_map hit_of found ≡ first_accepted (λ nested. true) hits
-stored_over_none same goals none found stack is hits h =
-    h ∙ ap (λ (l : List (StackEntry _ _ _ _ _)). first_accepted (is_applicable same l) hits) (is ∙ ap (λ l. reverse (map (λ s. s.0) l)) none)
+-- over no goals and no entries each result may be used
+no_entry_met : {I : Type 0} (nested : NestedPaths I) → list_all (λ goal. true) nested ≡ true
+no_entry_met [] = refl
+no_entry_met (goal ∷ nested) = no_entry_met nested
+
+first_over_none : (X A : Type 0) {I R T : Type 0} (same : I → I → Bool) (step : PathKind) (hits : List (Hit I R T)) → first_accepted (is_applicable {X = X} {R = R} {A = A} {T = T} same (record { stack = []; entries = []; step = step })) hits ≡ first_accepted (λ nested. true) hits
+first_over_none X A {R = R} {T = T} same step [] = refl
+first_over_none X A {R = R} {T = T} same step (hit ∷ hits) = ap (λ b. cond b (Some hit) (first_accepted (is_applicable {X = X} {R = R} {A = A} {T = T} same (record { stack = []; entries = []; step = step })) hits)) (no_entry_met hit.nested_goals)
+
+pub stored_over_none : {X F I R A T : Type 0} (same : I → I → Bool) (goals : List (StackEntry X I R A T × F)) → goals ≡ [] → (found : Option (CacheData X I R A T)) (stack : List (StackEntry X I R A T)) → stack ≡ reverse (map (λ s. s.0) goals) → (entries : Lists I (ProvisionalCacheEntry X I R A T)) → entries ≡ [] → (step : PathKind) (hits : List (Hit I R T)) → option_map hit_of found ≡ first_accepted (is_applicable same (record { stack = stack; entries = entries; step = step })) hits → option_map hit_of found ≡ first_accepted (λ nested. true) hits
+stored_over_none {X = X} {A = A} same goals none found stack is entries empty step hits h =
+    h
+    ∙ ap (λ (l : List (StackEntry _ _ _ _ _)). first_accepted (is_applicable same (record { stack = l; entries = entries; step = step })) hits) (is ∙ ap (λ l. reverse (map (λ s. s.0) l)) none)
+    ∙ ap (λ (l : Lists _ (ProvisionalCacheEntry _ _ _ _ _)). first_accepted (is_applicable same (record { stack = []; entries = l; step = step })) hits) empty
+    ∙ first_over_none X A same step hits
 
 -- where a look-up gives nothing, nothing that may be used is stored
 pub nothing_stored : {X I R A T : Type 0} (found : Option (CacheData X I R A T)) (first : Option (Hit I R T)) (P : Hit I R T → Type 0) → ((stored : CacheData X I R A T) → found ≡ Some stored → ⊥) → option_map hit_of found ≡ first → IfSome first P

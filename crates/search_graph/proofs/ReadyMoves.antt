@@ -1,26 +1,34 @@
 -- The entries of the provisional cache stay ready while a goal is pushed, and whatever the newest goal notes.
-use Rattle.std.proofs.Common.{◌≡◌, ℕ, ◌==◌, Bool, true, false, if◌then◌else◌, List, [], ◌∷◌, ◌++◌, length, Option, None, Some, IsSome, inl, inr, refl, sym, subst}
+use Rattle.std.proofs.Common.{◌≡◌, ℕ, ◌==◌, Bool, true, false, if◌then◌else◌, List, [], ◌∷◌, ◌++◌, length, Option, None, Some, IsSome, inl, inr, refl, sym, subst, ap, slice_set}
 use Rattle.std.specs.Option.{option_map}
 use Rattle.std.proofs.lemmas.Bool.{false≢true}
 use Rattle.cycle_heads.specs.declared.depth.StackDepth.{StackDepth}
 use Rattle.cycle_heads.specs.declared.heads.CycleHead.{CycleHead}
 use Rattle.cycle_heads.specs.declared.path.PathKind.{PathKind}
 use Rattle.cycle_heads.specs.declared.usages.HeadUsages.{HeadUsages}
+use Rattle.cycle_heads.specs.Candidates.{UsagesByHead}
 use Rattle.cycle_heads.specs.Heads.{Heads, at_depth}
+use Rattle.search_parts.specs.declared.context.Delegate as Delegate
+use Rattle.search_parts.specs.declared.context.Cx as Cx
 use Rattle.search_parts.specs.declared.context.NodeId.{NodeId}
 use Rattle.search_parts.specs.declared.context.Request.{Request}
+use Rattle.search_parts.specs.declared.context.Request.TheVariants.{Evaluate, EnterCandidate, FinishCandidate, Ignore, Done}
 use Rattle.search_parts.specs.declared.context.Reply.{Reply}
 use Rattle.search_parts.specs.declared.parts.depth.AvailableDepth.{AvailableDepth}
+use Rattle.search_parts.specs.declared.parts.stack.EntryState.{EntryState}
 use Rattle.search_parts.specs.declared.parts.stack.StackEntry.{StackEntry}
 use Rattle.search_parts.specs.declared.parts.provisional_cache.ProvisionalCacheEntry.{ProvisionalCacheEntry}
 use Rattle.search_parts.specs.Cache.{CacheNode, open_node}
 use Rattle.search_parts.specs.LookUp.{Hit}
 use Rattle.search_parts.specs.Provisional.{Lists}
+use Rattle.open_goals.specs.declared.goals.Received.{Received}
 use Rattle.open_goals.specs.declared.goals.Run.{Run}
+use Rattle.open_goals.specs.Candidates.{enters, finishes, less_head, less_usages, Ignores, NotesCandidate}
 use Rattle.open_goals.specs.Entries.{first_entry, joined_over, usages_over}
 use Rattle.open_goals.specs.Items.{AnswersNewest}
 use Rattle.open_goals.specs.NestedGoals.{TakesStored, NotesOverflow}
-use Rattle.open_goals.specs.Progress.{no_record}
+use Rattle.open_goals.specs.Progress.{no_record, requested}
+use Rattle.open_goals.specs.Steps.{HasStepped, received_by}
 use Rattle.search_graph.specs.Justified.{OpenRun, AreJustified}
 use Rattle.search_graph.specs.Provisional.{IsHead, AreReady}
 use Rattle.search_graph.specs.Runs.{run_of, runs_of}
@@ -120,3 +128,49 @@ module _ {X F I R A T : Type 0} (is_yes is_no : R → Bool) (same : I → I → 
   -- or notes a question that was refused
   pub overflow_noted_ready : NotesOverflow same old new → AreReady is_yes is_no same scripts nodes (runs_of old) lists → AreReady is_yes is_no same scripts nodes (runs_of new) lists
   overflow_noted_ready n ready = subst (λ l. AreReady is_yes is_no same scripts nodes l lists) (overflow_noted_same is_yes is_no nodes same old new n) ready
+
+-- ---- the newest frame's request was taken, and what it asks of the candidates was done
+
+module _ {D C V P F I R A T : Type 0} (G : Delegate.Ghosts D C V P F I R A T) (X : Cx.Ghosts C I R A T) (cx : C) (same : I → I → Bool) (scripts : I → List (Reply R) → Request I R) (nodes : List (CacheNode I R)) (lists : Lists I (ProvisionalCacheEntry C I R A T)) where
+  -- a step changes neither what the newest goal counts nor its nodes
+  pub stepped_ready : (given : Received R) (request : Request I R) (old new : List (StackEntry C I R A T × Run C F I R A T)) → HasStepped G X cx given request old new → AreReady X.is_yes X.is_no same scripts nodes (runs_of old) lists → AreReady X.is_yes X.is_no same scripts nodes (runs_of new) lists
+  stepped_ready given request old new s ready =
+      let was : AreReady X.is_yes X.is_no same scripts nodes (run_of (s.entry, s.run) ∷ runs_of s.below) lists = subst (λ (l : List (StackEntry C I R A T × Run C F I R A T)). AreReady X.is_yes X.is_no same scripts nodes (runs_of l) lists) s.was ready in
+      subst (λ (l : List (StackEntry C I R A T × Run C F I R A T)). AreReady X.is_yes X.is_no same scripts nodes (runs_of l) lists) (sym s.is)
+      (ready_above X.is_yes X.is_no same scripts nodes (run_of (s.entry, s.run)) (run_of (s.entry, record s.run { frame = s.frame; progress = requested (received_by G X cx s.run given s.verdict) request })) (runs_of s.below) lists refl refl refl refl (same_counts (tally_of s.entry.state s.run.candidates)) was)
+
+mapped_some : {A B : Type 0} (f : A → B) (o : Option A) → IsSome o → IsSome (option_map f o)
+mapped_some f None some = absurd (false≢true some)
+mapped_some f (Some x) some = refl
+
+-- each goal that was counted stays counted where a candidate is ignored
+ignored_counts : {X I R A T : Type 0} (parent : StackDepth) (candidate : UsagesByHead) (old new : EntryState X I R A T) (finished later : List UsagesByHead) → Ignores parent candidate old new → CountsAll (tally_of old finished) (tally_of new later)
+ignored_counts parent candidate old new finished later i = record {
+  own = λ some. subst IsSome (sym i.usages) (mapped_some (λ own. less_usages own (at_depth candidate parent)) old.usages some);
+  heads = λ head some. subst IsSome (sym (i.heads head)) (by (head.0 == parent.0) head some);
+}
+  where
+    by : (b : Bool) (head : StackDepth) → IsSome (at_depth old.heads head)
+        → IsSome (if b then at_depth old.heads head else option_map (less_head (at_depth candidate head)) (at_depth old.heads head))
+    by true head some = some
+    by false head some = mapped_some (less_head (at_depth candidate head)) (at_depth old.heads head) some
+
+-- so the entries stay ready, whatever was requested
+module _ {X F I R A T : Type 0} (is_yes is_no : R → Bool) (same : I → I → Bool) (scripts : I → List (Reply R) → Request I R) (nodes : List (CacheNode I R)) (lists : Lists I (ProvisionalCacheEntry X I R A T)) where
+  pub noted_ready : (request : Request I R) (mid after : List (StackEntry X I R A T × Run X F I R A T)) → NotesCandidate request mid after → AreReady is_yes is_no same scripts nodes (runs_of mid) lists → AreReady is_yes is_no same scripts nodes (runs_of after) lists
+  noted_ready (Evaluate kind goal) mid after noted ready = subst (λ l. AreReady is_yes is_no same scripts nodes (runs_of l) lists) (sym noted) ready
+  noted_ready EnterCandidate [] after noted ready = subst (λ l. AreReady is_yes is_no same scripts nodes (runs_of l) lists) (sym noted) ready
+  noted_ready EnterCandidate (s ∷ below) after noted ready =
+      subst (λ l. AreReady is_yes is_no same scripts nodes (runs_of l) lists) (sym noted)
+      (ready_above is_yes is_no same scripts nodes (run_of s) (run_of (enters s)) (runs_of below) lists refl refl refl refl (record { own = λ some. some; heads = λ head some. some }) ready)
+  noted_ready FinishCandidate [] after noted ready = subst (λ l. AreReady is_yes is_no same scripts nodes (runs_of l) lists) (sym noted) ready
+  noted_ready FinishCandidate (s ∷ below) after noted ready =
+      subst (λ l. AreReady is_yes is_no same scripts nodes (runs_of l) lists) (sym noted)
+      (ready_above is_yes is_no same scripts nodes (run_of s) (run_of (finishes s)) (runs_of below) lists refl refl refl refl (record { own = λ some. some; heads = λ head some. some }) ready)
+  noted_ready (Ignore n) mid after noted ready =
+      let was : AreReady is_yes is_no same scripts nodes (run_of (noted.entry, noted.run) ∷ runs_of noted.below) lists = subst (λ l. AreReady is_yes is_no same scripts nodes (runs_of l) lists) noted.was ready in
+      subst (λ l. AreReady is_yes is_no same scripts nodes (runs_of l) lists) (sym noted.is)
+      (ready_above is_yes is_no same scripts nodes (run_of (noted.entry, noted.run)) (run_of (record noted.entry { state = noted.state }, record noted.run { candidates = slice_set noted.run.candidates n [] })) (runs_of noted.below) lists
+      refl (ap (λ (x : EntryState X I R A T). x.provisional_result) (sym noted.ignores.others)) refl (ap (λ (x : EntryState X I R A T). x.node) (sym noted.ignores.others))
+      (ignored_counts (record { 0 = length noted.below }) noted.candidate noted.entry.state noted.state noted.run.candidates (slice_set noted.run.candidates n []) noted.ignores) was)
+  noted_ready (Done r) mid after noted ready = subst (λ l. AreReady is_yes is_no same scripts nodes (runs_of l) lists) (sym noted) ready

@@ -1,29 +1,58 @@
 -- What is known of a goal by what becomes of it.
-use Rattle.std.proofs.Common.{◌≡◌, ℕ, ◌+◌, ◌^◌, ◌<◌, ◌≤◌, max, Bool, true, ◌||◌, is_some, List, [], ◌∷◌, Option, Some, IfSome, option_map, refl, sym, ap, ◌∙◌, subst, arith}
+use Rattle.std.proofs.Common.{◌≡◌, ◌≢◌, ℕ, ◌+◌, ◌^◌, ◌<◌, ◌≤◌, max, Bool, true, ◌||◌, is_some, IsSome, List, [], ◌∷◌, Option, None, Some, IfSome, Result, Ok, Err, option_map, refl, sym, ap, ◌∙◌, subst, arith, inl, inr}
+use Rattle.std.proofs.lemmas.Bool.{cases_eq}
 use Rattle.cycle_heads.specs.declared.path.PathKind.{PathKind}
+use Rattle.cycle_heads.specs.declared.path.PathKind.TheVariants.{Inductive, Unknown, Coinductive, ForcedAmbiguity}
 use Rattle.cycle_heads.specs.declared.usages.HeadUsages.{HeadUsages}
+use Rattle.cycle_heads.specs.Usages.{count_of}
+use Rattle.search_parts.specs.declared.parts.provisional_cache.RebaseReason.{RebaseReason}
+use Rattle.search_parts.specs.declared.parts.provisional_cache.RebaseReason.TheVariants as reason
 use Rattle.search_parts.specs.declared.parts.stack.StackEntry.{StackEntry}
-use Rattle.search_graph.specs.declared.graph.finish.RunEnd.{RunEnd}
-use Rattle.search_graph.specs.declared.graph.finish.RunEnd.TheVariants as end
+use Rattle.search_graph.specs.declared.graph.finish.Unstable.{Unstable}
+use Rattle.search_graph.specs.declared.graph.finish.Unstable.TheVariants.{AtLimit, Again}
 use Rattle.open_goals.specs.declared.goals.Run.{Run}
 use Rattle.open_goals.specs.Entries.{is_in_cycle, some_heads}
 use Rattle.open_goals.specs.Newest.{newest}
-use Rattle.search_graph.specs.RunEnds.{IsRunEnd, Unused, Stable, Limited, Unstable}
+use Rattle.search_graph.specs.RunEnds.{IsReason, IsRunEnd, IsUsed, ReachedFixpoint, Repeated, Initial, Unused, Stable, Limited, Repeats}
 
-module _ {R A : Type 0} (same : R → R → Bool) (initial_kind : R → Option PathKind) (ambiguity : R → Option A) (limit : ℕ) (earlier : Option R) (usages : Option HeadUsages) (finished_runs : ℕ) (r : R) where
+-- usages that are not none are some
+pub used_somehow : (usages : HeadUsages) → (((kind : PathKind) → count_of usages kind ≡ 0) → ⊥) → IsUsed usages
+used_somehow usages never = elim (cases_eq usages.inductive 0) [
+  | inr some ↦ (Inductive, some)
+  | inl a ↦ elim (cases_eq usages.unknown 0) [
+    | inr some ↦ (Unknown, some)
+    | inl b ↦ elim (cases_eq usages.coinductive 0) [
+      | inr some ↦ (Coinductive, some)
+      | inl c ↦ elim (cases_eq usages.forced_ambiguity 0) [
+        | inr some ↦ (ForcedAmbiguity, some)
+        | inl d ↦ absurd (never (λ kind. elim kind as (λ k. count_of usages k ≡ 0) [ Inductive ↦ a | Unknown ↦ b | Coinductive ↦ c | ForcedAmbiguity ↦ d ]))
+      ]
+    ]
+  ]
+]
+
+module _ {X I R A T : Type 0} (same : R → R → Bool) (initial_kind : R → Option PathKind) (ambiguity : R → Option A) where
+  -- a fixpoint is a reason, with the kind of its initial result where it is one of the first run
+  pub fixpoint_reason : (earlier : Option R) (usages : HeadUsages) (r : R) (kind : Option PathKind) → (earlier ≡ None → kind ≡ initial_kind r) → (IsSome earlier → kind ≡ None) → ReachedFixpoint same initial_kind earlier usages r → IsReason same initial_kind ambiguity {X = X} {I = I} {T = T} earlier usages r (reason.ReachedFixpoint kind)
+  fixpoint_reason (Some value) usages r kind first later reached =
+      subst (λ k. IsReason same initial_kind ambiguity {X = X} {I = I} {T = T} (Some value) usages r (reason.ReachedFixpoint k)) (sym (later refl)) (Repeated value refl reached)
+  fixpoint_reason None usages r kind first later reached =
+      subst (λ k. IsReason same initial_kind ambiguity {X = X} {I = I} {T = T} None usages r (reason.ReachedFixpoint k)) (sym (first refl ∙ reached.1)) (Initial reached.0 refl reached.1 reached.2)
+
+module _ {X I R A T : Type 0} (same : R → R → Bool) (initial_kind : R → Option PathKind) (ambiguity : R → Option A) (limit : ℕ) (earlier : Option R) (usages : Option HeadUsages) (finished_runs : ℕ) (r : R) where
   -- a goal that had its most runs was used as a head,
-  pub limited : (e : RunEnd) → IsRunEnd same initial_kind ambiguity limit earlier usages finished_runs r e → e ≡ end.AtLimit → (is_some usages ≡ true) × (limit ≤ finished_runs + 1)
+  pub limited : (e : Result (Option (RebaseReason X I R A T)) Unstable) → IsRunEnd same initial_kind ambiguity limit earlier usages finished_runs r e → e ≡ Err AtLimit → (is_some usages ≡ true) × (limit ≤ finished_runs + 1)
   limited e (Unused is) at = absurd cc
-  limited e (Stable used is stable) at = absurd cc
+  limited e (Stable used why is stable) at = absurd cc
   limited e (Limited used is never many) at = (ap is_some is, many)
-  limited e (Unstable used is never few) at = absurd cc
+  limited e (Repeats used is never few) at = absurd cc
 
   -- and so was one that is run again
-  pub unstable : (e : RunEnd) → IsRunEnd same initial_kind ambiguity limit earlier usages finished_runs r e → e ≡ end.Again → (is_some usages ≡ true) × (finished_runs + 1 < limit)
+  pub unstable : (e : Result (Option (RebaseReason X I R A T)) Unstable) → IsRunEnd same initial_kind ambiguity limit earlier usages finished_runs r e → e ≡ Err Again → (is_some usages ≡ true) × (finished_runs + 1 < limit)
   unstable e (Unused is) at = absurd cc
-  unstable e (Stable used is stable) at = absurd cc
+  unstable e (Stable used why is stable) at = absurd cc
   unstable e (Limited used is never many) at = absurd cc
-  unstable e (Unstable used is never few) at = (ap is_some is, few)
+  unstable e (Repeats used is never few) at = (ap is_some is, few)
 
 used_is_in_cycle : (b c : Bool) → b ≡ true → (b || c) ≡ true
 used_is_in_cycle b c is = ap (λ x. x || c) is

@@ -14,8 +14,8 @@ ghost use Rattle.search_graph.specs.Runs.{runs_of, IsJustifiedNext};
 
 use crate::graph::finish::finish_run;
 use crate::graph::look_up::look_up;
-use open_goals::goals::{Next, OpenGoals, Received, step};
 use crate::graph::question::{ask, push_goal};
+use open_goals::goals::{Next, OpenGoals, Received, step};
 use search_parts::context::{Answer, Cx, Delegate, Fault, Reply, Request};
 use search_parts::global_cache::GlobalCache;
 use search_parts::parts::{AvailableDepth, ProvisionalCache};
@@ -49,9 +49,7 @@ pub(crate) fn evaluate<D: Delegate>(
 {
     let mut provisional = ProvisionalCache::new(goals.allocator());
     let stack = goals.stack();
-    if let Some(stored) =
-        look_up::<D>(cache, &provisional, stack, step_kind, input, root_depth)
-    {
+    if let Some(stored) = look_up::<D>(cache, &provisional, stack, step_kind, input, root_depth) {
         return Ok(Answer {
             result: stored.result,
             node: stored.node,
@@ -98,7 +96,10 @@ fn advance<D: Delegate>(
     ensures stopped { (call : Call D.Cx.Input) → IsWaiting D.Delegate D.Cx.Cx cache.old.cx call received.reply goals.old (D.starts inspect.old) limits_met.old →
         IfErr result (λ fault. HasStopped D.Delegate D.Cx.Cx cache.old.cx call fault (D.starts inspect.new) limits_met.new) }
     ensures keeps { (call : Call D.Cx.Input) → IsWaiting D.Delegate D.Cx.Cx cache.old.cx call received.reply goals.old (D.starts inspect.old) limits_met.old →
-        KeepsAnswers D.Delegate D.Cx.Cx cache.old.cx D.Cx.Input.eq call limits_met.old cache.old.results provisional.old → KeepsAnswers D.Delegate D.Cx.Cx cache.old.cx D.Cx.Input.eq call limits_met.new cache.new.results provisional.new }
+        KeepsAnswers D.Delegate D.Cx.Cx cache.old.cx D.Cx.Input.eq call limits_met.old cache.old.results provisional.old → KeepsStore D.Delegate D.Cx.Cx cache.old.cx D.Cx.Input.eq call limits_met.new cache.new.results }
+    ensures keeps_answers { (call : Call D.Cx.Input) → IsWaiting D.Delegate D.Cx.Cx cache.old.cx call received.reply goals.old (D.starts inspect.old) limits_met.old →
+        KeepsAnswers D.Delegate D.Cx.Cx cache.old.cx D.Cx.Input.eq call limits_met.old cache.old.results provisional.old →
+        OnOk result (KeepsAnswers D.Delegate D.Cx.Cx cache.old.cx D.Cx.Input.eq call limits_met.new cache.new.results provisional.new) }
     ensures caused { IfErr result (IsCaused D.Delegate D.Cx.Cx D.Cx.Input.eq cache.new) }
     ensures justified { IfOk result (λ next. IsJustifiedNext D.Cx.is_yes D.Cx.is_no cache.new.nodes goals.old goals.new next) }
     ensures free { OnOk result (AreFree D.Cx.is_yes D.Cx.is_no D.Cx.Input.eq cache.new.nodes (runs_of goals.new) cache.new.results) }

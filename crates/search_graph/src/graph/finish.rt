@@ -13,7 +13,7 @@ ghost use Rattle.search_parts.specs.declared.context.Request.TheVariants.{Done};
 ghost use Rattle.search_parts.specs.declared.context.Fault.TheVariants.{Memory};
 ghost use Rattle.search_graph.specs.declared.graph.finish.Unstable.TheVariants.{Again};
 ghost use Rattle.search_graph.specs.Calls.{Call};
-ghost use Rattle.search_graph.specs.Evaluating.{HasAsked, HasStopped, KeepsAnswers, Leads};
+ghost use Rattle.search_graph.specs.Evaluating.{HasAsked, HasStopped, KeepsAnswers, KeepsStore, Leads};
 ghost use Rattle.search_graph.specs.Free.{AreFree};
 ghost use Rattle.search_graph.specs.Graph.{IsCaused};
 ghost use Rattle.search_graph.specs.Results.{IsNewestPlainTo, IsNewestStored, MayPutNewest, NewestComesTo, NewestIsPlain};
@@ -24,10 +24,10 @@ ghost use Rattle.search_graph.specs.Provisional.{AreReady, HasReason, IsNewestUn
 ghost use Rattle.search_graph.specs.RunEnds.{IsReason, IsRunEnd, IsStable, ReachedFixpoint};
 ghost use Rattle.search_graph.specs.Runs.{runs_of, EndsRun, EndsNewest, IsSettled, IsJustifiedNext};
 
-use open_goals::goals::{Next, OpenGoals, Received, Run};
-use open_goals::progress::Progress;
 use crate::graph::kept::settle_kept;
 use crate::graph::store::store_answer;
+use open_goals::goals::{Next, OpenGoals, Received, Run};
+use open_goals::progress::Progress;
 use search_parts::context::{Answer, Cx, Delegate, Fault, NoMemory, NodeId, Reply, Verdict};
 use search_parts::global_cache::GlobalCache;
 use search_parts::parts::{
@@ -63,7 +63,10 @@ pub(crate) fn finish_run<D: Delegate>(
     ensures stops { (call : Call D.Cx.Input) (ahead : ℕ) → HasAsked D.Delegate D.Cx.Cx cache.old.cx call ahead (Done outcome) goals.old (D.starts inspect.old) limits_met.old →
         IfErr result (λ fault. HasStopped D.Delegate D.Cx.Cx cache.old.cx call fault (D.starts inspect.new) limits_met.new) }
     ensures keeps { (call : Call D.Cx.Input) (ahead : ℕ) → HasAsked D.Delegate D.Cx.Cx cache.old.cx call ahead (Done outcome) goals.old (D.starts inspect.old) limits_met.old →
-        KeepsAnswers D.Delegate D.Cx.Cx cache.old.cx D.Cx.Input.eq call limits_met.old cache.old.results provisional.old → KeepsAnswers D.Delegate D.Cx.Cx cache.old.cx D.Cx.Input.eq call limits_met.new cache.new.results provisional.new }
+        KeepsStore D.Delegate D.Cx.Cx cache.old.cx D.Cx.Input.eq call limits_met.old cache.old.results → KeepsStore D.Delegate D.Cx.Cx cache.old.cx D.Cx.Input.eq call limits_met.new cache.new.results }
+    ensures keeps_answers { (call : Call D.Cx.Input) (ahead : ℕ) → HasAsked D.Delegate D.Cx.Cx cache.old.cx call ahead (Done outcome) goals.old (D.starts inspect.old) limits_met.old →
+        KeepsAnswers D.Delegate D.Cx.Cx cache.old.cx D.Cx.Input.eq call limits_met.old cache.old.results provisional.old →
+        OnOk result (KeepsAnswers D.Delegate D.Cx.Cx cache.old.cx D.Cx.Input.eq call limits_met.new cache.new.results provisional.new) }
     ensures caused { IfErr result (IsCaused D.Delegate D.Cx.Cx D.Cx.Input.eq cache.new) }
     ensures justified { IfOk result (λ next. IsJustifiedNext D.Cx.is_yes D.Cx.is_no cache.new.nodes goals.old goals.new next) }
     ensures free { OnOk result (AreFree D.Cx.is_yes D.Cx.is_no D.Cx.Input.eq cache.new.nodes (runs_of goals.new) cache.new.results) }

@@ -24,9 +24,9 @@ ghost use Rattle.search_graph.specs.Justified.{Asks, AreJustified, IsFit};
 ghost use Rattle.search_graph.specs.Provisional.{AreReady};
 ghost use Rattle.search_graph.specs.Runs.{runs_of};
 
-use open_goals::candidates::FinishedCandidates;
 use crate::graph::kept::look_up_kept;
 use crate::graph::look_up::look_up;
+use open_goals::candidates::FinishedCandidates;
 use open_goals::goals::{OpenGoals, Received, Run};
 use open_goals::progress::Progress;
 use search_parts::context::{Cx, Delegate, NoMemory, Reply};

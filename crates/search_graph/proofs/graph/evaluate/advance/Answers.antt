@@ -1,6 +1,7 @@
 use Rattle.std.proofs.Common.{refl, sym, subst}
 use Rattle.open_goals.specs.Steps.{CanStep}
-use Rattle.search_graph.specs.Evaluating.{GoesOn, HasStopped, KeepsStore, work_left}
+use Rattle.search_graph.specs.Evaluating.{GoesOn, HasStopped, KeepsAnswers, KeepsStore, work_left}
+use Rattle.search_graph.specs.Free.{AreFree}
 use Rattle.search_graph.specs.Justified.{IsFit}
 use Rattle.search_graph.specs.Runs.{runs_of}
 use Rattle.search_parts.specs.declared.context.Request.{Request}
@@ -120,14 +121,24 @@ finish_run-requires-clause-free g c = (step_keeps_free g.D.Delegate g.D.Cx.Cx c.
 
 pub returns-in_err-next-in-Evaluate-clause-keeps : goal.returns-in_err-next-in-Evaluate-clause-keeps
 returns-in_err-next-in-Evaluate-clause-keeps g c = λ call h keeps.
-    subst (KeepsStore g.D.Delegate g.D.Cx.Cx c.args.cache.now.cx g.D.Cx.Input.PartialEq.eq call c.ask.new.limits_met) (sym c.ask.ensures.same_results) (c.ask.ensures.keeps call keeps)
+    subst (KeepsStore g.D.Delegate g.D.Cx.Cx c.args.cache.now.cx g.D.Cx.Input.PartialEq.eq call c.ask.new.limits_met) (sym c.ask.ensures.same_results) (c.ask.ensures.keeps call keeps).store
 
 pub returns-in_err-next-in-Done-clause-keeps : goal.returns-in_err-next-in-Done-clause-keeps
-returns-in_err-next-in-Done-clause-keeps g c = λ call h keeps. c.finish_run.ensures.keeps call _ (advance_asks g.D.Delegate g.D.Cx.Cx c.args.cache.now.cx c.args.received _ c.args.goals.now c.step.new.goals _ _ c.args.limits_met.now c.cx-cx.result c.cx-cx.ensures c.in_ok-request.request c.in-Done.is c.in_ok-request.ensures.stepped c.step.ensures.same_starts c.args.cache.now.nodes c.requires.fits call h) keeps
+returns-in_err-next-in-Done-clause-keeps g c = λ call h keeps. c.finish_run.ensures.keeps call _ (advance_asks g.D.Delegate g.D.Cx.Cx c.args.cache.now.cx c.args.received _ c.args.goals.now c.step.new.goals _ _ c.args.limits_met.now c.cx-cx.result c.cx-cx.ensures c.in_ok-request.request c.in-Done.is c.in_ok-request.ensures.stepped c.step.ensures.same_starts c.args.cache.now.nodes c.requires.fits call h) keeps.store
 
 pub returns-in_ok-next-in-Evaluate-clause-keeps : goal.returns-in_ok-next-in-Evaluate-clause-keeps
 returns-in_ok-next-in-Evaluate-clause-keeps g c = λ call h keeps.
-    subst (KeepsStore g.D.Delegate g.D.Cx.Cx c.args.cache.now.cx g.D.Cx.Input.PartialEq.eq call c.ask.new.limits_met) (sym c.ask.ensures.same_results) (c.ask.ensures.keeps call keeps)
+    subst (KeepsStore g.D.Delegate g.D.Cx.Cx c.args.cache.now.cx g.D.Cx.Input.PartialEq.eq call c.ask.new.limits_met) (sym c.ask.ensures.same_results) (c.ask.ensures.keeps call keeps).store
 
 pub returns-in_ok-next-in-Done-clause-keeps : goal.returns-in_ok-next-in-Done-clause-keeps
-returns-in_ok-next-in-Done-clause-keeps g c = λ call h keeps. c.finish_run.ensures.keeps call _ (advance_asks g.D.Delegate g.D.Cx.Cx c.args.cache.now.cx c.args.received _ c.args.goals.now c.step.new.goals _ _ c.args.limits_met.now c.cx-cx.result c.cx-cx.ensures c.in_ok-request.request c.in-Done.is c.in_ok-request.ensures.stepped c.step.ensures.same_starts c.args.cache.now.nodes c.requires.fits call h) keeps
+returns-in_ok-next-in-Done-clause-keeps g c = λ call h keeps. c.finish_run.ensures.keeps call _ (advance_asks g.D.Delegate g.D.Cx.Cx c.args.cache.now.cx c.args.received _ c.args.goals.now c.step.new.goals _ _ c.args.limits_met.now c.cx-cx.result c.cx-cx.ensures c.in_ok-request.request c.in-Done.is c.in_ok-request.ensures.stepped c.step.ensures.same_starts c.args.cache.now.nodes c.requires.fits call h) keeps.store
+
+pub returns-in_ok-next-in-Evaluate-clause-keeps_answers : goal.returns-in_ok-next-in-Evaluate-clause-keeps_answers
+returns-in_ok-next-in-Evaluate-clause-keeps_answers g c = λ call h keeps.
+    subst (λ results. KeepsAnswers g.D.Delegate g.D.Cx.Cx c.args.cache.now.cx g.D.Cx.Input.PartialEq.eq call c.ask.new.limits_met results c.args.provisional.now) (sym c.ask.ensures.same_results) (c.ask.ensures.keeps call keeps)
+
+pub returns-in_ok-next-in-Done-clause-keeps_answers : goal.returns-in_ok-next-in-Done-clause-keeps_answers
+returns-in_ok-next-in-Done-clause-keeps_answers g c = λ call h keeps. c.in_ok-next-in-Done.ensures.keeps_answers call _ (advance_asks g.D.Delegate g.D.Cx.Cx c.args.cache.now.cx c.args.received _ c.args.goals.now c.step.new.goals _ _ c.args.limits_met.now c.cx-cx.result c.cx-cx.ensures c.in_ok-request.request c.in-Done.is c.in_ok-request.ensures.stepped c.step.ensures.same_starts c.args.cache.now.nodes c.requires.fits call h) keeps
+
+pub returns-in_ok-next-in-Evaluate-clause-free : goal.returns-in_ok-next-in-Evaluate-clause-free
+returns-in_ok-next-in-Evaluate-clause-free g c = subst (AreFree g.D.Cx.Cx.is_yes g.D.Cx.Cx.is_no g.D.Cx.Input.PartialEq.eq c.ask.new.cache.nodes (runs_of c.ask.new.goals)) (sym c.ask.ensures.same_results) c.in_ok-next-in-Evaluate.ensures.free

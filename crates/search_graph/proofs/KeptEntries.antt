@@ -1,0 +1,246 @@
+-- What a call keeps of the answers in the provisional cache where the newest goal is run again or taken.
+use Rattle.std.proofs.Common.{◌≡◌, ℕ, ◌&&◌, ◌||◌, if◌then◌else◌, nat_eq, Bool, true, false, List, [], ◌∷◌, length, map, reverse, All, Option, Some, None, Result, Ok, refl, sym, subst}
+use Rattle.std.specs.List.{filter}
+use Rattle.std.specs.Option.{option_map, option_and_then}
+use Rattle.std.proofs.lemmas.List.Elements.{All-append, All-cons, All-filter, All-nil}
+use Rattle.cycle_heads.specs.declared.depth.StackDepth.{StackDepth}
+use Rattle.cycle_heads.specs.declared.heads.CycleHead.{CycleHead}
+use Rattle.cycle_heads.specs.declared.path.PathKind.{PathKind}
+use Rattle.cycle_heads.specs.declared.usages.HeadUsages.{HeadUsages}
+use Rattle.cycle_heads.specs.Heads.{highest}
+use Rattle.cycle_heads.specs.Path.{greater_kind}
+use Rattle.cycle_heads.specs.Usages.{has_usages, other_usages}
+use Rattle.search_parts.specs.declared.context.Delegate as Delegate
+use Rattle.search_parts.specs.declared.context.Cx as Cx
+use Rattle.search_parts.specs.declared.context.Request.TheVariants.{Done}
+use Rattle.search_parts.specs.declared.global_cache.results.StoredResult.{StoredResult}
+use Rattle.search_parts.specs.declared.parts.provisional_cache.ProvisionalCacheEntry.{ProvisionalCacheEntry}
+use Rattle.search_parts.specs.declared.parts.provisional_cache.RebaseReason.{RebaseReason}
+use Rattle.search_parts.specs.declared.parts.provisional_cache.RebaseReason.TheVariants as why
+use Rattle.search_parts.specs.declared.parts.result.EvaluationResult.{EvaluationResult}
+use Rattle.search_parts.specs.declared.parts.stack.StackEntry.{StackEntry}
+use Rattle.search_parts.specs.Cycle.{path_kind_from}
+use Rattle.search_parts.specs.Definite.{IsDefinite}
+use Rattle.search_parts.specs.Delegate.{IsNeither}
+use Rattle.search_parts.specs.Provisional.{Lists, entries_at}
+use Rattle.search_parts.specs.Rebasing.{but_highest, from_head, from_new_head, keeps_kinds, rebased, rebased_at, rebased_used, rebased_unused, settled, with_unused, with_used}
+use Rattle.search_parts.specs.Store.{Store}
+use Rattle.search_parts.proofs.RebasedKept.{All-filter_map}
+use Rattle.open_goals.specs.declared.goals.Run.{Run}
+use Rattle.search_graph.specs.declared.graph.finish.Unstable.{Unstable}
+use Rattle.search_graph.specs.Calls.{Call, IsCounted}
+use Rattle.search_graph.specs.Evaluating.{HasAsked, KeepsAnswers, KeepsStore}
+use Rattle.search_graph.specs.Provisional.{final_answer, kept_of, left_of, SettlesEntries, SettlesNewest}
+use Rattle.search_graph.specs.Results.{MayPutNewest}
+use Rattle.search_graph.specs.RunEnds.{IsReason, IsRunEnd, Ambiguous, Initial, Limited, Repeated, Repeats, Stable, Unused, WithoutUsages}
+use Rattle.search_graph.proofs.DoneRuns.{calm_of, met_keeps, put_keeps}
+use Rattle.search_graph.proofs.Finishing.{neither_is}
+use Rattle.search_graph.proofs.Moves.{done_definite}
+
+-- ---- what is said of whether entries met overflow, and of their results
+
+module _ {X I R A T : Type 0} (P : Bool → R → Type 0) where
+  -- it holds of the entry
+  abbrev pub SaidOf : ProvisionalCacheEntry X I R A T → Type 0
+  SaidOf entry = P entry.encountered_overflow entry.result
+
+  -- what is settled so keeps it
+  abbrev pub KeepsSaid : (HeadUsages → ProvisionalCacheEntry X I R A T → Option (ProvisionalCacheEntry X I R A T)) → Type 0
+  KeepsSaid settle = (usages : HeadUsages) (entry kept : ProvisionalCacheEntry X I R A T) → settle usages entry ≡ Some kept → SaidOf entry → SaidOf kept
+
+  module _ (stack : List (StackEntry X I R A T)) (done : StackEntry X I R A T) where
+    -- a new highest head changes nothing of it
+    new_head_said : (entry after : ProvisionalCacheEntry X I R A T) → from_new_head stack done entry ≡ Some after → SaidOf entry → SaidOf after
+    new_head_said entry after is h = at (highest entry.heads) is
+      where
+        at : (o : Option (StackDepth × CycleHead))
+            → option_map (λ (head : StackDepth × CycleHead). record entry { path_from_head = greater_kind entry.path_from_head (from_head stack done head.0.0) }) o ≡ Some after → SaidOf after
+        at None is = absurd cc
+        at (Some head) is =
+            let same : record entry { path_from_head = greater_kind entry.path_from_head (from_head stack done head.0.0) } ≡ after = cc in
+            subst SaidOf same h
+
+    module _ (settle : HeadUsages → ProvisionalCacheEntry X I R A T → Option (ProvisionalCacheEntry X I R A T)) (keeps : KeepsSaid settle) where
+      used_said : (entry after : ProvisionalCacheEntry X I R A T) (head : CycleHead) → rebased_used stack done settle entry head ≡ Some after → SaidOf entry → SaidOf after
+      used_said entry after head is h = tested (keeps_kinds stack done entry.path_from_head head.paths_to_head) is
+        where
+          settles : (o : Option (ProvisionalCacheEntry X I R A T)) → settle head.usages entry ≡ o
+              → option_and_then (λ kept. from_new_head stack done (record kept { heads = with_used done.state.heads head.paths_to_head (but_highest kept.heads) })) o ≡ Some after → SaidOf after
+          settles None at left = absurd cc
+          settles (Some kept) at left = new_head_said (record kept { heads = with_used done.state.heads head.paths_to_head (but_highest kept.heads) }) after left (keeps head.usages entry kept at h)
+
+          tested : (b : Bool)
+              → (if b then option_and_then (λ kept. from_new_head stack done (record kept { heads = with_used done.state.heads head.paths_to_head (but_highest kept.heads) })) (settle head.usages entry) else None) ≡ Some after → SaidOf after
+          tested false is = absurd cc
+          tested true is = settles (settle head.usages entry) refl is
+
+      -- nor does rebasing, but for how answers are settled
+      rebased_said : (entry after : ProvisionalCacheEntry X I R A T) → SaidOf entry → rebased stack done settle entry ≡ Some after → SaidOf after
+      rebased_said entry after h is = at (highest entry.heads) is
+        where
+          stays : Some entry ≡ Some after → SaidOf after
+          stays is = let same : entry ≡ after = cc in subst SaidOf same h
+
+          used : (head : CycleHead) (b : Bool) → (if b then rebased_used stack done settle entry head else rebased_unused stack done entry) ≡ Some after → SaidOf after
+          used head true is = used_said entry after head is h
+          used head false is = new_head_said (record entry { heads = with_unused done.state.heads (but_highest entry.heads) }) after is h
+
+          here : (head : CycleHead) (b : Bool) → (if b then (if has_usages head.usages then rebased_used stack done settle entry head else rebased_unused stack done entry) else Some entry) ≡ Some after → SaidOf after
+          here head true is = used head (has_usages head.usages) is
+          here head false is = stays is
+
+          at : (o : Option (StackDepth × CycleHead)) → rebased_at stack done settle entry o ≡ Some after → SaidOf after
+          at None is = stays is
+          at (Some head) is = here head.1 (nat_eq head.0.0 (length stack)) is
+
+  -- settling for the reason keeps what is said, if it may be said of what an ambiguous goal and one that had its most runs leave
+  settled_said : (propagated : A → R) (overflow : R) (reason : RebaseReason X I R A T)
+      → ((info : A) → reason ≡ why.Ambiguity info → (met : Bool) (r : R) → P met r → P met (propagated info))
+      → (reason ≡ why.Overflow → (met : Bool) (r : R) → P met r → P met overflow)
+      → KeepsSaid (settled propagated overflow reason)
+  settled_said propagated overflow why.NoCycleUsages ambiguous limited usages entry kept is h = absurd cc
+  settled_said propagated overflow (why.Ambiguity info) ambiguous limited usages entry kept is h =
+      let same : record entry { result = propagated info; node = None } ≡ kept = cc in
+      subst SaidOf same (ambiguous info refl entry.encountered_overflow entry.result h)
+  settled_said propagated overflow why.Overflow ambiguous limited usages entry kept is h =
+      let same : record entry { result = overflow; node = None } ≡ kept = cc in
+      subst SaidOf same (limited refl entry.encountered_overflow entry.result h)
+  settled_said propagated overflow (why.ReachedFixpoint None) ambiguous limited usages entry kept is h =
+      let same : entry ≡ kept = cc in
+      subst SaidOf same h
+  settled_said propagated overflow (why.ReachedFixpoint (Some kind)) ambiguous limited usages entry kept is h = tested (has_usages (other_usages usages kind)) is
+    where
+      tested : (b : Bool) → (if b then None else Some entry) ≡ Some kept → SaidOf kept
+      tested true is = absurd cc
+      tested false is = let same : entry ≡ kept = cc in subst SaidOf same h
+
+  -- the same of all entries of a goal,
+  left_said : (propagated : A → R) (overflow : R) (reason : Option (RebaseReason X I R A T)) (stack : List (StackEntry X I R A T)) (done : StackEntry X I R A T) (entries : List (ProvisionalCacheEntry X I R A T))
+      → ((reasoned : RebaseReason X I R A T) → reason ≡ Some reasoned → KeepsSaid (settled propagated overflow reasoned))
+      → All SaidOf entries → All SaidOf (left_of propagated overflow reason stack done entries)
+  left_said propagated overflow None stack done entries keeps all = all
+  left_said propagated overflow (Some reasoned) stack done entries keeps all =
+      All-filter_map SaidOf SaidOf (rebased stack done (settled propagated overflow reasoned)) (rebased_said stack done (settled propagated overflow reasoned) (keeps reasoned refl)) entries all
+
+  -- and of the entry for an answer
+  kept_said : (stack : List (StackEntry X I R A T)) (step : PathKind) (answer : EvaluationResult X I R A T) → P answer.encountered_overflow answer.result → All SaidOf (kept_of stack step answer)
+  kept_said stack step answer h = at (highest answer.heads)
+    where
+      at : (o : Option (StackDepth × CycleHead))
+          → All SaidOf
+          (elim o [
+            | None ↦ []
+            | Some head ↦
+                record {
+                  encountered_overflow = answer.encountered_overflow;
+                  heads = answer.heads;
+                  path_from_head = path_kind_from stack head.0.0 step;
+                  result = answer.result;
+                  node = answer.node;
+                } ∷ []
+          ])
+      at None = All-nil SaidOf
+      at (Some head) = All-cons SaidOf (record { encountered_overflow = answer.encountered_overflow; heads = answer.heads; path_from_head = path_kind_from stack head.0.0 step; result = answer.result; node = answer.node }) [] h (All-nil SaidOf)
+
+  put_said : (b : Bool) (stack : List (StackEntry X I R A T)) (step : PathKind) (answer : EvaluationResult X I R A T) → P answer.encountered_overflow answer.result → All SaidOf (if b then kept_of stack step answer else [])
+  put_said true stack step answer h = kept_said stack step answer h
+  put_said false stack step answer h = All-nil SaidOf
+
+  -- it is said of each entry
+  abbrev pub SaidOfAll : (I → I → Bool) → Lists I (ProvisionalCacheEntry X I R A T) → Type 0
+  SaidOfAll same lists = (goal : I) → All SaidOf (entries_at same lists goal)
+
+  -- some of the entries are left
+  cleared_said : (same : I → I → Bool) (left : ProvisionalCacheEntry X I R A T → Bool) (old new : Lists I (ProvisionalCacheEntry X I R A T)) → ((goal : I) → entries_at same new goal ≡ filter left (entries_at same old goal)) → SaidOfAll same old → SaidOfAll same new
+  cleared_said same left old new cleared all = λ goal. subst (All SaidOf) (sym (cleared goal)) (All-filter left SaidOf (entries_at same old goal) (all goal))
+
+  -- the newest goal was taken, of whose answer it may be said
+  taken_said : {F : Type 0} (same : I → I → Bool) (enabled : Bool) (propagated : I → A → R) (overflow : I → R) (reason : Option (RebaseReason X I R A T)) (r : R) (s : StackEntry X I R A T × Run X F I R A T) (below : List (StackEntry X I R A T × Run X F I R A T)) (old new : Lists I (ProvisionalCacheEntry X I R A T))
+      → ((goal : I) (reasoned : RebaseReason X I R A T) → reason ≡ Some reasoned → KeepsSaid (settled (propagated goal) (overflow goal) reasoned))
+      → P (s.0.state.encountered_overflow || s.1.met_overflow_before) r
+      → SettlesEntries same enabled propagated overflow reason r s below old new → SaidOfAll same old → SaidOfAll same new
+  taken_said same enabled propagated overflow reason r s below old new keeps here settles all = λ goal.
+      subst (All SaidOf) (sym (settles.entries goal))
+      (All-append SaidOf (left_of (propagated goal) (overflow goal) reason (reverse (map (λ p. p.0) below)) s.0 (entries_at same old goal))
+      (if enabled && same s.0.input goal then kept_of (reverse (map (λ p. p.0) below)) s.0.step_kind_from_parent (final_answer s r settles.node) else [])
+      (left_said (propagated goal) (overflow goal) reason (reverse (map (λ p. p.0) below)) s.0 (entries_at same old goal) (keeps goal) (all goal))
+      (put_said (enabled && same s.0.input goal) (reverse (map (λ p. p.0) below)) s.0.step_kind_from_parent (final_answer s r settles.node) here))
+
+-- ---- reasons
+
+-- entries keep their results for the reason, or are dropped
+abbrev pub LeavesResults : {X I R A T : Type 0} → RebaseReason X I R A T → Type 0
+LeavesResults why.NoCycleUsages = Unit {0}
+LeavesResults (why.Ambiguity info) = ⊥
+LeavesResults why.Overflow = ⊥
+LeavesResults (why.ReachedFixpoint kind) = Unit {0}
+
+module _ {X I R A T : Type 0} (is_yes is_no : R → Bool) (same : R → R → Bool) (initial_kind : R → Option PathKind) (ambiguity : R → Option A) (neither : (r : R) (info : A) → ambiguity r ≡ Some info → IsNeither is_yes is_no r) where
+  -- a goal with a definite result isn't ambiguous
+  reason_leaves : (earlier : Option R) (usages : HeadUsages) (r : R) (reason : RebaseReason X I R A T) → IsReason same initial_kind ambiguity earlier usages r reason → IsDefinite is_yes is_no r → LeavesResults reason
+  reason_leaves earlier usages r reason (Repeated value is again) definite = tt
+  reason_leaves earlier usages r reason (Initial kind first is single) definite = tt
+  reason_leaves earlier usages r reason (WithoutUsages never none) definite = tt
+  reason_leaves earlier usages r reason (Ambiguous info never used is) definite = absurd (definite (neither_is is_yes is_no r (neither r info is)))
+
+  -- so where a run's end has a definite result and needs no other run, entries keep their results
+  pub end_leaves : (limit : ℕ) (earlier : Option R) (usages : Option HeadUsages) (finished_runs : ℕ) (r : R) (end : Result (Option (RebaseReason X I R A T)) Unstable) (reason : Option (RebaseReason X I R A T)) → IsRunEnd same initial_kind ambiguity limit earlier usages finished_runs r end → end ≡ Ok reason → IsDefinite is_yes is_no r → (reasoned : RebaseReason X I R A T) → reason ≡ Some reasoned → LeavesResults reasoned
+  end_leaves limit earlier usages finished_runs r end reason (Unused is) at definite reasoned found = absurd cc
+  end_leaves limit earlier usages finished_runs r end reason (Stable used first is known) at definite reasoned found =
+      let same : first ≡ reasoned = cc in
+      subst LeavesResults same (reason_leaves earlier used r first known definite)
+  end_leaves limit earlier usages finished_runs r end reason (Limited used is unstable many) at definite reasoned found = absurd cc
+  end_leaves limit earlier usages finished_runs r end reason (Repeats used is unstable few) at definite reasoned found = absurd cc
+
+-- ---- what a call keeps
+
+module _ {D C V P F I R A T : Type 0} (G : Delegate.Ghosts D C V P F I R A T) (X : Cx.Ghosts C I R A T) (cx : C) (call : Call I) (same : I → I → Bool) where
+  -- once a limit is met, nothing is asked of answers
+  pub met_keeps_answers : (results : Store I (StoredResult C I R A T)) (entries : Lists I (ProvisionalCacheEntry C I R A T)) → KeepsAnswers G X cx same call true results entries
+  met_keeps_answers results entries = record {
+    store = met_keeps G X cx call same results;
+    met_none = λ counted unmet. absurd cc;
+    definite = λ decisive unmet. absurd cc;
+  }
+
+  -- before the first goal is done there are no entries
+  pub nothing_kept : (results : Store I (StoredResult C I R A T)) (met : Bool) → KeepsStore G X cx same call met results → KeepsAnswers G X cx same call met results []
+  nothing_kept results met store = record { store = store; met_none = λ counted unmet goal. All-nil _; definite = λ decisive unmet goal. All-nil _ }
+
+  -- a further run gives up some entries
+  pub rerun_keeps : (results : Store I (StoredResult C I R A T)) (met : Bool) (left : ProvisionalCacheEntry C I R A T → Bool) (old new : Lists I (ProvisionalCacheEntry C I R A T)) → ((goal : I) → entries_at same new goal ≡ filter left (entries_at same old goal)) → KeepsAnswers G X cx same call met results old → KeepsAnswers G X cx same call met results new
+  rerun_keeps results met left old new cleared keeps = record {
+    store = keeps.store;
+    met_none = λ counted unmet. cleared_said (λ met r. met ≡ false) same left old new cleared (keeps.met_none counted unmet);
+    definite = λ decisive unmet. cleared_said (λ met r. IsDefinite X.is_yes X.is_no r) same left old new cleared (keeps.definite decisive unmet);
+  }
+
+  module _ (ahead : ℕ) (done : R) (starts : ℕ) (met : Bool) (enabled : Bool) (reason : Option (RebaseReason C I R A T)) (leaves_results : IsDefinite X.is_yes X.is_no done → (reasoned : RebaseReason C I R A T) → reason ≡ Some reasoned → LeavesResults reasoned) where
+    -- the result is definite, so entries keep theirs
+    results_stay : IsDefinite X.is_yes X.is_no done → (propagated : A → R) (overflow : R) (reasoned : RebaseReason C I R A T) → reason ≡ Some reasoned → KeepsSaid {X = C} {I = I} {T = T} (λ met r. IsDefinite X.is_yes X.is_no r) (settled propagated overflow reasoned)
+    results_stay definite propagated overflow reasoned is = settled_said (λ met r. IsDefinite X.is_yes X.is_no r) propagated overflow reasoned
+        (λ info ambiguous. absurd (subst LeavesResults ambiguous (leaves_results definite reasoned is)))
+        (λ limited. absurd (subst LeavesResults limited (leaves_results definite reasoned is)))
+
+    entries_met_none : (s : StackEntry C I R A T × Run C F I R A T) (below : List (StackEntry C I R A T × Run C F I R A T)) (old new : Lists I (ProvisionalCacheEntry C I R A T)) → IsCounted G X cx call → met ≡ false → HasAsked G X cx call ahead (Done done) (s ∷ below) starts met
+        → SettlesEntries same enabled (G.propagated cx) (G.fixpoint_overflow cx) reason done s below old new → SaidOfAll (λ met r. met ≡ false) same old → SaidOfAll (λ met r. met ≡ false) same new
+    entries_met_none s below old new counted unmet h settles =
+        taken_said (λ met r. met ≡ false) same enabled (G.propagated cx) (G.fixpoint_overflow cx) reason done s below old new
+        (λ goal reasoned is. settled_said (λ met r. met ≡ false) (G.propagated cx goal) (G.fixpoint_overflow cx goal) reasoned (λ info ambiguous met r none. none) (λ limited met r none. none))
+        (calm_of G X cx call ahead done starts met s below counted unmet h) settles
+
+    entries_definite : (s : StackEntry C I R A T × Run C F I R A T) (below : List (StackEntry C I R A T × Run C F I R A T)) (old new : Lists I (ProvisionalCacheEntry C I R A T)) → IsDefinite X.is_yes X.is_no done
+        → SettlesEntries same enabled (G.propagated cx) (G.fixpoint_overflow cx) reason done s below old new → SaidOfAll (λ met r. IsDefinite X.is_yes X.is_no r) same old → SaidOfAll (λ met r. IsDefinite X.is_yes X.is_no r) same new
+    entries_definite s below old new definite settles =
+        taken_said (λ met r. IsDefinite X.is_yes X.is_no r) same enabled (G.propagated cx) (G.fixpoint_overflow cx) reason done s below old new
+        (λ goal reasoned is. results_stay definite (G.propagated cx goal) (G.fixpoint_overflow cx goal) reasoned is)
+        definite settles
+
+    -- the newest goal was taken
+    pub done_keeps : ((x y : I) → same x y ≡ true → x ≡ y) → (before after : Store I (StoredResult C I R A T)) (goals : List (StackEntry C I R A T × Run C F I R A T)) (old new : Lists I (ProvisionalCacheEntry C I R A T)) → MayPutNewest same goals done before after → SettlesNewest same enabled (G.propagated cx) (G.fixpoint_overflow cx) reason done goals old new → HasAsked G X cx call ahead (Done done) goals starts met → KeepsAnswers G X cx same call met before old → KeepsAnswers G X cx same call met after new
+    done_keeps by_value before after [] old new put settles h keeps = absurd put
+    done_keeps by_value before after (s ∷ below) old new put settles h keeps = record {
+      store = put_keeps G X cx call same by_value before after ahead done (s ∷ below) starts met put h keeps.store;
+      met_none = λ counted unmet. entries_met_none s below old new counted unmet h settles (keeps.met_none counted unmet);
+      definite = λ decisive unmet. entries_definite s below old new (done_definite G X cx call ahead done (s ∷ below) starts met h decisive unmet) settles (keeps.definite decisive unmet);
+    }
