@@ -35,6 +35,8 @@ pub mod ListAnswers
 pub mod HeadOrder
 pub mod RebasedShapes
 pub mod RebasedPaths
+pub mod Reasons
+pub mod ReadyReruns
 pub mod RebasedAnswers
 pub mod RebasedRising
 pub mod KeptEntries

@@ -66,7 +66,7 @@ module _ {X F I R A T : Type 0} where
       (subst (λ q. EndsRun is_yes is_no scripts nodes t.run.node q r) (sym t.progress_is)
       (ends_run is_yes is_no nodes nodes e t.run t.below (subst (λ l. AreJustified is_yes is_no nodes (runs_of l)) t.was h) scripts r (subst (λ l. EndsNewest is_yes is_no scripts l r) t.was ends)))
 
-  again_is : (old taken new : List (StackEntry X I R A T × Run X F I R A T)) (e : StackEntry X I R A T) (run : Run X F I R A T) (below : List (StackEntry X I R A T × Run X F I R A T)) (r : R) (lead : Option NodeId) (frame : F) (own : NodeId) → old ≡ (e, run) ∷ below → taken ≡ change_newest with_no_record old → new ≡ change_newest (rerun_with r lead frame own) taken → new ≡ rerun_with r lead frame own (with_no_record (e, run)) ∷ below
+  pub again_is : (old taken new : List (StackEntry X I R A T × Run X F I R A T)) (e : StackEntry X I R A T) (run : Run X F I R A T) (below : List (StackEntry X I R A T × Run X F I R A T)) (r : R) (lead : Option NodeId) (frame : F) (own : NodeId) → old ≡ (e, run) ∷ below → taken ≡ change_newest with_no_record old → new ≡ change_newest (rerun_with r lead frame own) taken → new ≡ rerun_with r lead frame own (with_no_record (e, run)) ∷ below
   again_is old taken new e run below r lead frame own was is then =
       then ∙ ap (change_newest (rerun_with r lead frame own)) is ∙ ap (λ l. change_newest (rerun_with r lead frame own) (change_newest with_no_record l)) was
 

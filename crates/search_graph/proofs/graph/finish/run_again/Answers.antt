@@ -1,4 +1,4 @@
-use Rattle.std.proofs.Common.{◌++◌, ◌∷◌, [], ◌≤◌, sym, ap, subst, ◌∙◌}
+use Rattle.std.proofs.Common.{◌-◌, length, ◌++◌, ◌∷◌, [], ◌≤◌, sym, ap, subst, ◌∙◌}
 use Rattle.search_parts.specs.Cache.{open_node}
 use Rattle.search_parts.proofs.Finished.{KeepsFinished-nodes, KeepsFinished-then}
 use Rattle.open_goals.specs.Items.{rerun_with}
@@ -6,6 +6,8 @@ use Rattle.search_graph.specs.Free.{AreFree}
 use Rattle.search_graph.specs.Justified.{AreJustified}
 use Rattle.open_goals.specs.Newest.{change_newest}
 use Rattle.search_graph.specs.Runs.{runs_of}
+use Rattle.search_graph.specs.Provisional.{AreReady}
+use Rattle.search_graph.proofs.ReadyReruns.{cleared_at, rerun_ready}
 use Rattle.search_graph.proofs.RunsEnd.{taken_from, taken_ends, rerun_free, rerun_justified, reran}
 use Rattle.search_graph.proofs.graph.finish.run_again.Goals as goal
 
@@ -40,3 +42,16 @@ returns-clause-free g c = λ free.
     subst (λ nodes. AreFree g.D.Cx.Cx.is_yes g.D.Cx.Cx.is_no g.D.Cx.Input.PartialEq.eq nodes (runs_of c.run_again.new.self) c.args.cache.now.results) (sym (ap (λ cache. cache.nodes) c.in_ok-own_node.ensures.opened ∙ ap (λ i. c.settle_node.new.cache.nodes ++ open_node i ∷ []) c.input-input.ensures))
     (rerun_free g.D.Cx.Cx.is_yes g.D.Cx.Cx.is_no g.D.Cx.Input.PartialEq.eq c.args.cache.now.results c.args.cache.now.nodes c.settle_node.new.cache.nodes c.args.goals.now c.take_progress-progress.new.self c.run_again.new.self c.last_entry-entry.result.now c.last_run.result.now c.take_progress-progress.result c.args.outcome c.in_ok-settle_node.field-0 c.in_ok-frame.frame c.in_ok-own_node.own_node
     (taken_from c.args.goals.now c.take_progress-progress.new.self c.last_entry-entry.result.now c.last_run.result.now c.take_progress-progress.result c.take_progress-progress.ensures.left c.take_progress-progress.ensures.taken c.last_entry-entry.ensures c.last_run.ensures) c.take_progress-progress.ensures.left (c.run_again.ensures ∙ ap (λ lead. change_newest (rerun_with c.args.outcome lead c.in_ok-frame.frame c.in_ok-own_node.own_node) c.take_progress-progress.new.self) c.or-node.ensures) c.in_ok-settle_node.ensures.settled c.in_ok-own_node.ensures.node c.requires.justified free)
+
+pub returns-in_err-settle_node-clause-cleared : goal.returns-in_err-settle_node-clause-cleared
+returns-in_err-settle_node-clause-cleared g c = cleared_at g.D.Cx.Input.PartialEq.eq c.args.provisional.now c.clear_for_rerun.new.self c.new.result.0 (length c.args.goals.now - 1) (c.new.ensures ∙ ap (λ n. n - 1) c.len.ensures) c.clear_for_rerun.ensures
+
+pub returns-in_err-frame-clause-cleared : goal.returns-in_err-frame-clause-cleared
+returns-in_err-frame-clause-cleared g c = cleared_at g.D.Cx.Input.PartialEq.eq c.args.provisional.now c.clear_for_rerun.new.self c.new.result.0 (length c.args.goals.now - 1) (c.new.ensures ∙ ap (λ n. n - 1) c.len.ensures) c.clear_for_rerun.ensures
+
+pub returns-clause-ready : goal.returns-clause-ready
+returns-clause-ready g c =
+    subst (λ nodes. AreReady g.D.Cx.Cx.is_yes g.D.Cx.Cx.is_no g.D.Cx.Input.PartialEq.eq (g.D.Delegate.script c.args.cache.now.cx) nodes (runs_of c.run_again.new.self) c.clear_for_rerun.new.self) (sym (ap (λ cache. cache.nodes) c.in_ok-own_node.ensures.opened ∙ ap (λ i. c.settle_node.new.cache.nodes ++ open_node i ∷ []) c.input-input.ensures))
+    (rerun_ready g.D.Cx.Cx.is_yes g.D.Cx.Cx.is_no g.D.Cx.Input.PartialEq.eq (g.D.Delegate.script c.args.cache.now.cx) c.args.provisional.now c.clear_for_rerun.new.self c.args.cache.now.nodes c.settle_node.new.cache.nodes c.args.goals.now c.take_progress-progress.new.self c.run_again.new.self c.last_entry-entry.result.now c.last_run.result.now c.take_progress-progress.result c.args.outcome c.in_ok-settle_node.field-0 c.in_ok-frame.frame c.in_ok-own_node.own_node
+    (taken_from c.args.goals.now c.take_progress-progress.new.self c.last_entry-entry.result.now c.last_run.result.now c.take_progress-progress.result c.take_progress-progress.ensures.left c.take_progress-progress.ensures.taken c.last_entry-entry.ensures c.last_run.ensures) c.take_progress-progress.ensures.left (c.run_again.ensures ∙ ap (λ lead. change_newest (rerun_with c.args.outcome lead c.in_ok-frame.frame c.in_ok-own_node.own_node) c.take_progress-progress.new.self) c.or-node.ensures) c.in_ok-settle_node.ensures.settled c.in_ok-own_node.ensures.node c.requires.justified
+    (cleared_at g.D.Cx.Input.PartialEq.eq c.args.provisional.now c.clear_for_rerun.new.self c.new.result.0 (length c.args.goals.now - 1) (c.new.ensures ∙ ap (λ n. n - 1) c.len.ensures) c.clear_for_rerun.ensures) c.requires.ready)
