@@ -26,6 +26,8 @@ pub mod KeptAnswers
 pub mod KeptMoves
 pub mod FreeResults
 pub mod FreeMoves
+pub mod Ready
+pub mod ReadyMoves
 pub mod DoneGoals
 pub mod DoneRuns
 pub mod Causes

@@ -10,6 +10,7 @@ use Rattle.search_graph.specs.Runs.{runs_of}
 use Rattle.search_graph.proofs.CycleAnswers.{cycle_fits, cycle_head_lower, found_goal, head_is}
 use Rattle.search_graph.proofs.Finishing.{answered_newest_is_justified}
 use Rattle.search_graph.proofs.FreeMoves.{answered_newest_free}
+use Rattle.search_graph.proofs.ReadyMoves.{ready_beside}
 use Rattle.search_graph.proofs.graph.question.answer_cycle.Goals as goal
 
 pub returns-clause-justified : goal.returns-clause-justified
@@ -45,3 +46,6 @@ returns-clause-answered g c =
 
 pub returns-clause-free : goal.returns-clause-free
 returns-clause-free g c = λ nodes results free. answered_newest_free g.D.Cx.Cx.is_yes g.D.Cx.Cx.is_no g.D.Cx.Input.PartialEq.eq nodes results c.args.goals.now c.note_cycle.new.self c.args.step 0 _ _ c.in_ok-note_cycle.ensures free
+
+pub returns-clause-ready : goal.returns-clause-ready
+returns-clause-ready g c = λ nodes entries ready. ready_beside g.D.Cx.Cx.is_yes g.D.Cx.Cx.is_no g.D.Cx.Input.PartialEq.eq (g.D.Delegate.script c.args.cx) nodes entries c.args.goals.now c.note_cycle.new.self c.args.step 0 _ _ c.in_ok-note_cycle.ensures ready

@@ -4,10 +4,12 @@ use Rattle.search_parts.specs.Cache.{open_node}
 use Rattle.search_parts.proofs.Finished.{KeepsFinished-nodes}
 use Rattle.search_graph.specs.Free.{AreFree}
 use Rattle.search_graph.specs.Justified.{AreJustified}
+use Rattle.search_graph.specs.Provisional.{AreReady}
 use Rattle.search_graph.specs.Runs.{runs_of}
 use Rattle.search_graph.proofs.Pushed.{pushed_first}
 use Rattle.search_graph.proofs.Finishing.{pushed_goal_is_justified}
 use Rattle.search_graph.proofs.FreeResults.{all_free_pushed_goal}
+use Rattle.search_graph.proofs.ReadyMoves.{ready_pushed_goal}
 use Rattle.search_graph.proofs.graph.question.push_goal.Goals as goal
 
 pub push-requires : goal.push-requires
@@ -41,3 +43,9 @@ returns-clause-free g c = λ free.
     subst (λ nodes. AreFree g.D.Cx.Cx.is_yes g.D.Cx.Cx.is_no g.D.Cx.Input.PartialEq.eq nodes (runs_of c.push.new.self) c.args.cache.now.results) (sym (ap (λ cache. cache.nodes) c.in_ok-node.ensures.opened))
     (subst (λ goals. AreFree g.D.Cx.Cx.is_yes g.D.Cx.Cx.is_no g.D.Cx.Input.PartialEq.eq (c.args.cache.now.nodes ++ open_node c.args.input ∷ []) (runs_of goals) c.args.cache.now.results) (sym (c.in_ok-push.ensures.ok ∙ pushed_first c.args.input c.args.step_kind c.args.depth c.in_ok-node.node c.in_ok-frame.frame _ c.new.result c.new-2.result c.args.goals.now c.new-entry.ensures c.new.ensures c.new-2.ensures))
     (all_free_pushed_goal g.D.Cx.Cx.is_yes g.D.Cx.Cx.is_no g.D.Cx.Input.PartialEq.eq c.args.cache.now.nodes c.args.input c.args.step_kind c.args.depth c.in_ok-node.node c.in_ok-frame.frame c.args.goals.now c.args.cache.now.results c.in_ok-node.ensures.node c.requires.asks c.requires.justified free))
+
+pub returns-clause-ready : goal.returns-clause-ready
+returns-clause-ready g c = λ entries ready.
+    subst (λ nodes. AreReady g.D.Cx.Cx.is_yes g.D.Cx.Cx.is_no g.D.Cx.Input.PartialEq.eq (g.D.Delegate.script c.args.cache.now.cx) nodes (runs_of c.push.new.self) entries) (sym (ap (λ cache. cache.nodes) c.in_ok-node.ensures.opened))
+    (subst (λ goals. AreReady g.D.Cx.Cx.is_yes g.D.Cx.Cx.is_no g.D.Cx.Input.PartialEq.eq (g.D.Delegate.script c.args.cache.now.cx) (c.args.cache.now.nodes ++ open_node c.args.input ∷ []) (runs_of goals) entries) (sym (c.in_ok-push.ensures.ok ∙ pushed_first c.args.input c.args.step_kind c.args.depth c.in_ok-node.node c.in_ok-frame.frame _ c.new.result c.new-2.result c.args.goals.now c.new-entry.ensures c.new.ensures c.new-2.ensures))
+    (ready_pushed_goal g.D.Cx.Cx.is_yes g.D.Cx.Cx.is_no g.D.Cx.Input.PartialEq.eq (g.D.Delegate.script c.args.cache.now.cx) c.args.cache.now.nodes c.args.input c.args.step_kind c.args.depth c.in_ok-node.node c.in_ok-frame.frame c.args.goals.now entries c.in_ok-node.ensures.node c.requires.justified ready))
