@@ -24,6 +24,7 @@ pub mod DecidedGoals
 pub mod Free
 pub mod KeptAnswers
 pub mod KeptMoves
+pub mod KeptQuestions
 pub mod FreeResults
 pub mod FreeMoves
 pub mod Ready

@@ -1,7 +1,9 @@
 -- Which stored results are used.
-use Rattle.std.proofs.Common.{◌≡◌, ℕ, ◌≤◌, Bool, true, false, not, ◌&&◌, cond, List, [], ◌∷◌, map, reverse, is_some, Option, None, Some, refl, sym, ap, ◌∙◌, subst}
+use Rattle.std.proofs.Common.{◌≡◌, ◌≢◌, ℕ, ◌<◌, ◌≤◌, Bool, true, false, not, ◌&&◌, cond, List, [], ◌∷◌, map, reverse, is_some, Option, None, Some, All, length, get_or, refl, sym, ap, ap₂, ◌∙◌, subst}
 use Rattle.std.specs.List.{list_all, list_any}
 use Rattle.std.specs.Option.{IfSome, option_map}
+use Rattle.std.proofs.lemmas.List.Elements.{All-get_or}
+use Rattle.cycle_heads.specs.Heads.{highest}
 use Rattle.search_parts.specs.declared.context.Request.{Request}
 use Rattle.search_parts.specs.declared.context.Reply.{Reply}
 use Rattle.search_parts.specs.declared.global_cache.look_up.CacheData.{CacheData}
@@ -10,13 +12,13 @@ use Rattle.search_parts.specs.declared.global_cache.results.StoredResult.{Stored
 use Rattle.cycle_heads.specs.declared.path.PathKind.{PathKind}
 use Rattle.search_parts.specs.declared.parts.provisional_cache.ProvisionalCacheEntry.{ProvisionalCacheEntry}
 use Rattle.search_parts.specs.declared.parts.stack.StackEntry.{StackEntry}
-use Rattle.search_parts.specs.Provisional.{Lists}
+use Rattle.search_parts.specs.Provisional.{Lists, entries_at}
 use Rattle.search_parts.specs.LookUp.{Hit, hit_of, first_accepted, usable}
 use Rattle.search_parts.specs.Nested.{NestedPaths, paths_at}
 use Rattle.search_parts.specs.Rank.{IsPlain, IsBelowRank}
 use Rattle.search_parts.specs.Store.{Store}
 use Rattle.search_parts.proofs.Stored.{used_holds}
-use Rattle.search_graph.specs.LookUp.{is_applicable, meets_entry, Asking, IsUsable}
+use Rattle.search_graph.specs.LookUp.{is_applicable, meets_entry, AreOnStack, Asking, IsUsable}
 
 -- nothing is below a result without goals
 nothing_below : {X I R A T : Type 0} (same : I → I → Bool) (stack : List (StackEntry X I R A T)) → list_any (λ e. is_some (paths_at same [] e.input)) stack ≡ false
@@ -34,6 +36,20 @@ module _ {X I R A T : Type 0} (same : I → I → Bool) (asking : Asking X I R A
   -- and elsewhere the entries of those goals decide
   pub decided_by_entries : found ≡ false → (rest : Bool) → rest ≡ list_all (λ goal. not (meets_entry same asking goal.0 goal.1)) nested → rest ≡ is_applicable same asking nested
   decided_by_entries absent rest decided = decided ∙ ap (λ b. not b && list_all (λ goal. not (meets_entry same asking goal.0 goal.1)) nested) (sym absent ∙ is)
+
+-- an entry of a goal has heads, the highest of which is on the stack
+pub entry_on_stack : {X I R A T : Type 0} (same : I → I → Bool) (stack now : List (StackEntry X I R A T)) (entries : Lists I (ProvisionalCacheEntry X I R A T)) (goal : I) (es : List (ProvisionalCacheEntry X I R A T)) → AreOnStack same stack entries → stack ≡ now → es ≡ entries_at same entries goal → All (λ entry. entry.heads ≢ []) es → (k : ℕ) (e : ProvisionalCacheEntry X I R A T) → k < length es → e ≡ get_or es k e → (e.heads ≢ []) × IfSome (highest e.heads) (λ head. head.0.0 < length now)
+entry_on_stack {X} {I} {R} {A} {T} same stack now entries goal es on same_stack of_goal heads k e within is =
+    let there : All (λ (entry : ProvisionalCacheEntry X I R A T). IfSome (highest entry.heads) (λ head. head.0.0 < length now)) es =
+    subst (λ l. All (λ (entry : ProvisionalCacheEntry X I R A T). IfSome (highest entry.heads) (λ head. head.0.0 < length l)) es) same_stack
+    (subst (λ l. All (λ (entry : ProvisionalCacheEntry X I R A T). IfSome (highest entry.heads) (λ head. head.0.0 < length stack)) l) (sym of_goal) (on goal)) in (
+      subst (λ (entry : ProvisionalCacheEntry X I R A T). entry.heads ≢ []) (sym is) (All-get_or (λ (entry : ProvisionalCacheEntry X I R A T). entry.heads ≢ []) es k e within heads),
+      subst (λ (entry : ProvisionalCacheEntry X I R A T). IfSome (highest entry.heads) (λ head. head.0.0 < length now)) (sym is) (All-get_or (λ (entry : ProvisionalCacheEntry X I R A T). IfSome (highest entry.heads) (λ head. head.0.0 < length now)) es k e within there),
+    )
+
+-- pairs with the same parts
+pub same_pair : {A B : Type 0} (x y : A × B) → x.0 ≡ y.0 → x.1 ≡ y.1 → x ≡ y
+same_pair x y first second = ap₂ (λ a b. (a, b)) first second
 
 -- a used result is stored of the goal
 module _ {X I R A T : Type 0} (same : I → I → Bool) (scripts : I → List (Reply R) → Request I R) (results : Store I (StoredResult X I R A T)) (goal : I) (depth : ℕ) where

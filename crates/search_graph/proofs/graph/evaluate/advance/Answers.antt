@@ -10,6 +10,7 @@ use Rattle.search_graph.proofs.Moves.{asked_stopped, can_step}
 use Rattle.search_graph.proofs.Noted.{about_candidates, can_note, noted_is_justified, noting_goes_on, noting_keeps_free}
 use Rattle.search_graph.proofs.Questions.{if_err_and}
 use Rattle.search_graph.proofs.Finishing.{noted_fits}
+use Rattle.search_graph.proofs.ReadyMoves.{noted_ready, stepped_ready}
 use Rattle.search_graph.specs.Graph.{IsCaused, OutOfMemory}
 use Rattle.search_graph.proofs.Causes.{step_is_caused, step_keeps_free}
 use Rattle.search_graph.proofs.Loops.{stepped_some, advance_asks, advance_stops, advance_justified, done_leads, next_before, step_asks_for}
@@ -142,3 +143,16 @@ returns-in_ok-next-in-Done-clause-keeps_answers g c = λ call h keeps. c.in_ok-n
 
 pub returns-in_ok-next-in-Evaluate-clause-free : goal.returns-in_ok-next-in-Evaluate-clause-free
 returns-in_ok-next-in-Evaluate-clause-free g c = subst (AreFree g.D.Cx.Cx.is_yes g.D.Cx.Cx.is_no g.D.Cx.Input.PartialEq.eq c.ask.new.cache.nodes (runs_of c.ask.new.goals)) (sym c.ask.ensures.same_results) c.in_ok-next-in-Evaluate.ensures.free
+
+-- ---- the entries
+
+pub ask-requires-clause-ready : goal.ask-requires-clause-ready
+ask-requires-clause-ready g c = stepped_ready g.D.Delegate g.D.Cx.Cx c.cx-cx.result g.D.Cx.Input.PartialEq.eq (g.D.Delegate.script c.args.cache.now.cx) c.args.cache.now.nodes c.args.provisional.now c.args.received c.in_ok-request.request c.args.goals.now c.step.new.goals c.in_ok-request.ensures.stepped c.requires.ready
+
+pub finish_run-requires-clause-ready : goal.finish_run-requires-clause-ready
+finish_run-requires-clause-ready g c = stepped_ready g.D.Delegate g.D.Cx.Cx c.cx-cx.result g.D.Cx.Input.PartialEq.eq (g.D.Delegate.script c.args.cache.now.cx) c.args.cache.now.nodes c.args.provisional.now c.args.received c.in_ok-request.request c.args.goals.now c.step.new.goals c.in_ok-request.ensures.stepped c.requires.ready
+
+pub returns-in_ok-note_candidate-in_default-clause-ready : goal.returns-in_ok-note_candidate-in_default-clause-ready
+returns-in_ok-note_candidate-in_default-clause-ready g c =
+    noted_ready g.D.Cx.Cx.is_yes g.D.Cx.Cx.is_no g.D.Cx.Input.PartialEq.eq (g.D.Delegate.script c.args.cache.now.cx) c.args.cache.now.nodes c.args.provisional.now c.in_ok-request.request c.step.new.goals c.note_candidate.new.self c.in_ok-note_candidate-in_default.ensures
+    (stepped_ready g.D.Delegate g.D.Cx.Cx c.cx-cx.result g.D.Cx.Input.PartialEq.eq (g.D.Delegate.script c.args.cache.now.cx) c.args.cache.now.nodes c.args.provisional.now c.args.received c.in_ok-request.request c.args.goals.now c.step.new.goals c.in_ok-request.ensures.stepped c.requires.ready)

@@ -4,22 +4,24 @@ use Rattle.search_parts.specs.Store.{KeepsResults}
 use Rattle.search_graph.specs.Calls.{Call}
 use Rattle.search_graph.specs.Free.{AreFree}
 use Rattle.search_graph.specs.Justified.{AreJustified, IsFit}
+use Rattle.search_graph.specs.Provisional.{AreReady}
 use Rattle.search_graph.specs.Runs.{runs_of}
 use Rattle.search_graph.specs.Evaluating.{Begins, IsLoopWaiting, work_left}
 use Rattle.search_graph.proofs.graph.evaluate.evaluate.Given as goal
 
--- the newest goal waits for the reply, each answer is justified, and the stored results rest on no goal
-abbrev pub invariant-loop-next : goal.invariant-loop-next
-invariant-loop-next g l = record {
+-- the newest goal waits for the reply, each answer is justified, the stored results rest on no goal, and the entries may be used
+abbrev pub invariant-loop-provisional : goal.invariant-loop-provisional
+invariant-loop-provisional g l = record {
   waiting : (call : Call _) → Begins g.D.Delegate g.D.Cx.Cx l.fn.cache.cx g.D.Cx.Input.PartialEq.eq call l.fn.input l.fn.root_depth.0 (g.D.Delegate.starts l.fn.inspect) l.fn.limits_met l.fn.cache.results
-      → IsLoopWaiting g.D.Delegate g.D.Cx.Cx l.cache.cx g.D.Cx.Input.PartialEq.eq call l.received.reply l.goals (g.D.Delegate.starts l.inspect) l.limits_met l.cache.results;
+      → IsLoopWaiting g.D.Delegate g.D.Cx.Cx l.cache.cx g.D.Cx.Input.PartialEq.eq call l.received.reply l.goals (g.D.Delegate.starts l.inspect) l.limits_met l.cache.results l.provisional;
   justified : AreJustified g.D.Cx.Cx.is_yes g.D.Cx.Cx.is_no l.cache.nodes (runs_of l.goals);
   fits : IsFit g.D.Cx.Cx.is_yes g.D.Cx.Cx.is_no l.cache.nodes (runs_of l.goals) l.received.reply l.received.node;
   free : AreFree g.D.Cx.Cx.is_yes g.D.Cx.Cx.is_no g.D.Cx.Input.PartialEq.eq l.cache.nodes (runs_of l.goals) l.cache.results;
+  ready : AreReady g.D.Cx.Cx.is_yes g.D.Cx.Cx.is_no g.D.Cx.Input.PartialEq.eq (g.D.Delegate.script l.cache.cx) l.cache.nodes (runs_of l.goals) l.provisional;
   same_context : l.cache.cx ≡ l.fn.cache.cx;
   kept_results : KeepsResults g.D.Cx.Input.PartialEq.eq l.fn.cache.results l.cache.results;
   kept : KeepsFinished l.fn.cache.nodes l.cache.nodes;
 }
 
-abbrev pub decreases-loop-next : goal.decreases-loop-next
-decreases-loop-next g l = work_left g.D.Delegate g.D.Cx.Cx l.cache.cx l.goals
+abbrev pub decreases-loop-provisional : goal.decreases-loop-provisional
+decreases-loop-provisional g l = work_left g.D.Delegate g.D.Cx.Cx l.cache.cx l.goals

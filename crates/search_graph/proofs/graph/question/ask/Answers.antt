@@ -1,6 +1,12 @@
-use Rattle.std.proofs.Common.{arith, ◌∙◌, refl, sym, ap, subst, true, None, option_map, is_some, IfOk}
+use Rattle.std.proofs.Common.{arith, ◌≡◌, false, OnOk, ◌∙◌, refl, sym, ap, subst, true, None, option_map, is_some, IfOk}
 use Rattle.search_parts.specs.declared.context.Reply.TheVariants.{Answer}
+use Rattle.cycle_heads.specs.Path.{rank_of}
+use Rattle.search_parts.specs.Cycle.{path_kind_from}
+use Rattle.search_parts.specs.Definite.{IsDefinite}
 use Rattle.search_parts.specs.Shapes.{verdict_of}
+use Rattle.search_graph.specs.KeptShapes.{highest_depth}
+use Rattle.search_graph.specs.LookUp.{AreOnStack}
+use Rattle.search_graph.specs.Provisional.{AreReady, IsReady}
 use Rattle.search_graph.specs.Justified.{IsFit}
 use Rattle.search_graph.specs.Evaluating.{GoesOn}
 use Rattle.search_graph.specs.Moves.{ClosesCycle}
@@ -8,8 +14,11 @@ use Rattle.search_graph.specs.Runs.{runs_of}
 use Rattle.search_graph.proofs.Finishing.{overflow_noted_is_justified, neither_is, neither_fits, begin_fits}
 use Rattle.search_graph.proofs.Moves.{asked_stopped}
 use Rattle.search_parts.specs.LookUp.{hit_of}
-use Rattle.search_graph.proofs.FreeMoves.{stored_fits, stored_taken_free}
-use Rattle.search_graph.proofs.Questions.{ask_stored, asked_depth_fits, if_err, if_ok_then, none_of, ask_refused, ask_in_cycle, ask_pushes, ask_stops}
+use Rattle.search_graph.proofs.FreeMoves.{answered_newest_free, stored_fits, stored_taken_free}
+use Rattle.search_graph.proofs.Questions.{ask_kept, ask_stored, asked_depth_fits, if_err, if_ok_then, none_of, ask_refused, ask_in_cycle, ask_pushes, ask_stops}
+use Rattle.search_graph.proofs.Ready.{are_on_stack}
+use Rattle.search_graph.proofs.ReadyMoves.{ready_beside, stored_taken_ready}
+use Rattle.search_graph.proofs.KeptQuestions.{kept_is_one, kept_path_is, entry_taken_justified, entry_fits}
 use Rattle.search_graph.proofs.graph.question.ask.Goals as goal
 
 -- the question is refused
@@ -62,7 +71,7 @@ pub returns-in-Some-look_up-clause-goes_on : goal.returns-in-Some-look_up-clause
 returns-in-Some-look_up-clause-goes_on g c = λ call ahead h keeps.
     ask_stored g.D.Delegate g.D.Cx.Cx c.args.cache.now.cx call ahead c.args.kind c.args.input _ c.args.limits_met.now g.met.D.Delegate.divides c.in-Some.depth g.D.Cx.Input.PartialEq.eq c.args.cache.now.results
     (record { reply = Answer c.in-Some-look_up.stored.result; node = c.in-Some-look_up.stored.node }) c.args.goals.now c.note_stored.new.self c.in-Some.ensures
-    (record { hit = hit_of c.in-Some-look_up.stored; usable = c.in-Some-look_up.ensures.usable; is = refl; takes = c.in_ok-note_stored.ensures }) keeps h
+    (record { hit = hit_of c.in-Some-look_up.stored; usable = c.in-Some-look_up.ensures.usable; is = refl; takes = c.in_ok-note_stored.ensures }) keeps.store h
 
 pub returns-in-Some-look_up-clause-free : goal.returns-in-Some-look_up-clause-free
 returns-in-Some-look_up-clause-free g c = stored_taken_free g.D.Cx.Cx.is_yes g.D.Cx.Cx.is_no g.D.Cx.Input.PartialEq.eq c.args.cache.now.nodes c.args.cache.now.results c.args.goals.now c.note_stored.new.self c.args.kind (hit_of c.in-Some-look_up.stored) c.in_ok-note_stored.ensures c.requires.free
@@ -75,3 +84,57 @@ returns-in-Some-find-clause-free g c = c.answer_cycle.ensures.free c.args.cache.
 
 pub returns-clause-free : goal.returns-clause-free
 returns-clause-free g c = c.in_ok-push_goal.ensures.free c.requires.free
+
+-- an entry of the provisional cache is used
+pub look_up_kept-requires : goal.look_up_kept-requires
+look_up_kept-requires g c =
+    subst (λ stack. AreOnStack g.D.Cx.Input.PartialEq.eq stack c.args.provisional.now) (sym c.stack.ensures)
+    (are_on_stack g.D.Cx.Cx.is_yes g.D.Cx.Cx.is_no g.D.Cx.Input.PartialEq.eq (g.D.Delegate.script c.args.cache.now.cx) c.args.cache.now.nodes c.args.provisional.now c.args.goals.now c.requires.justified.tallies c.requires.ready)
+
+pub returns-in-Some-look_up_kept-clause-justified : goal.returns-in-Some-look_up_kept-clause-justified
+returns-in-Some-look_up_kept-clause-justified g c =
+    let ready = kept_is_one g.D.Cx.Input.PartialEq.eq (record { stack = c.stack.result.now; entries = c.args.provisional.now; step = c.args.kind }) c.args.input c.in-Some-look_up_kept.kept.now g.D.Delegate.ENABLE_PROVISIONAL_CACHE (sym c.in-Some-look_up_kept.ensures)
+    (IsReady g.D.Cx.Cx.is_yes g.D.Cx.Cx.is_no (g.D.Delegate.script c.args.cache.now.cx) c.args.cache.now.nodes (runs_of c.args.goals.now) c.args.input) (c.requires.ready c.args.input) in
+    entry_taken_justified g.D.Cx.Cx.is_yes g.D.Cx.Cx.is_no (g.D.Delegate.script c.args.cache.now.cx) c.args.cache.now.nodes c.args.goals.now c.note_kept.new.self c.args.kind c.args.input c.in-Some-look_up_kept.kept.now c.in_ok-note_kept.ensures c.requires.justified ready
+
+pub returns-in-Some-look_up_kept-clause-free : goal.returns-in-Some-look_up_kept-clause-free
+returns-in-Some-look_up_kept-clause-free g c = answered_newest_free g.D.Cx.Cx.is_yes g.D.Cx.Cx.is_no g.D.Cx.Input.PartialEq.eq c.args.cache.now.nodes c.args.cache.now.results c.args.goals.now c.note_kept.new.self c.args.kind 0 _ _ c.in_ok-note_kept.ensures c.requires.free
+
+pub returns-in-Some-look_up_kept-clause-ready : goal.returns-in-Some-look_up_kept-clause-ready
+returns-in-Some-look_up_kept-clause-ready g c = ready_beside g.D.Cx.Cx.is_yes g.D.Cx.Cx.is_no g.D.Cx.Input.PartialEq.eq (g.D.Delegate.script c.args.cache.now.cx) c.args.cache.now.nodes c.args.provisional.now c.args.goals.now c.note_kept.new.self c.args.kind 0 _ _ c.in_ok-note_kept.ensures c.requires.ready
+
+pub returns-in-Some-look_up_kept-clause-fits : goal.returns-in-Some-look_up_kept-clause-fits
+returns-in-Some-look_up_kept-clause-fits g c =
+    let kept = c.in-Some-look_up_kept.kept.now in
+    let ready = kept_is_one g.D.Cx.Input.PartialEq.eq (record { stack = c.stack.result.now; entries = c.args.provisional.now; step = c.args.kind }) c.args.input c.in-Some-look_up_kept.kept.now g.D.Delegate.ENABLE_PROVISIONAL_CACHE (sym c.in-Some-look_up_kept.ensures)
+    (IsReady g.D.Cx.Cx.is_yes g.D.Cx.Cx.is_no (g.D.Delegate.script c.args.cache.now.cx) c.args.cache.now.nodes (runs_of c.args.goals.now) c.args.input) (c.requires.ready c.args.input) in
+    entry_fits g.D.Cx.Cx.is_yes g.D.Cx.Cx.is_no (g.D.Delegate.script c.args.cache.now.cx) c.args.cache.now.nodes c.args.goals.now c.note_kept.new.self c.args.kind c.args.input c.in-Some-look_up_kept.kept.now c.in_ok-note_kept.ensures c.requires.justified ready c.requires.asks
+    (subst (λ stack. rank_of (path_kind_from stack (highest_depth kept.heads) c.args.kind) ≡ rank_of kept.path_from_head) c.stack.ensures
+    (kept_path_is g.D.Cx.Input.PartialEq.eq (record { stack = c.stack.result.now; entries = c.args.provisional.now; step = c.args.kind }) c.args.input c.in-Some-look_up_kept.kept.now g.D.Delegate.ENABLE_PROVISIONAL_CACHE (sym c.in-Some-look_up_kept.ensures)))
+
+pub returns-in-Some-look_up_kept-clause-goes_on : goal.returns-in-Some-look_up_kept-clause-goes_on
+returns-in-Some-look_up_kept-clause-goes_on g c = λ call ahead h keeps.
+    let one = kept_is_one g.D.Cx.Input.PartialEq.eq (record { stack = c.stack.result.now; entries = c.args.provisional.now; step = c.args.kind }) c.args.input c.in-Some-look_up_kept.kept.now g.D.Delegate.ENABLE_PROVISIONAL_CACHE (sym c.in-Some-look_up_kept.ensures) in
+    ask_kept g.D.Delegate g.D.Cx.Cx c.args.cache.now.cx call ahead c.args.kind c.args.input _ c.args.limits_met.now g.met.D.Delegate.divides c.in-Some.depth c.in-Some-look_up_kept.kept.now.result c.in-Some-look_up_kept.kept.now.encountered_overflow c.in-Some-look_up_kept.kept.now.heads c.args.goals.now c.note_kept.new.self c.in-Some.ensures
+    (one (IsReady g.D.Cx.Cx.is_yes g.D.Cx.Cx.is_no (g.D.Delegate.script c.args.cache.now.cx) c.args.cache.now.nodes (runs_of c.args.goals.now) c.args.input) (c.requires.ready c.args.input)).no_rank
+    (λ counted unmet. one (λ entry. entry.encountered_overflow ≡ false) (keeps.met_none counted unmet c.args.input))
+    (λ decisive unmet. one (λ entry. IsDefinite g.D.Cx.Cx.is_yes g.D.Cx.Cx.is_no entry.result) (keeps.definite decisive unmet c.args.input))
+    c.in_ok-note_kept.ensures h
+
+pub look_up-requires : goal.look_up-requires
+look_up-requires g c =
+    subst (λ stack. AreOnStack g.D.Cx.Input.PartialEq.eq stack c.args.provisional.now) (sym c.stack-2.ensures)
+    (are_on_stack g.D.Cx.Cx.is_yes g.D.Cx.Cx.is_no g.D.Cx.Input.PartialEq.eq (g.D.Delegate.script c.args.cache.now.cx) c.args.cache.now.nodes c.args.provisional.now c.args.goals.now c.requires.justified.tallies c.requires.ready)
+
+-- the entries stay ready
+pub returns-in-Some-look_up-clause-ready : goal.returns-in-Some-look_up-clause-ready
+returns-in-Some-look_up-clause-ready g c = stored_taken_ready g.D.Cx.Cx.is_yes g.D.Cx.Cx.is_no g.D.Cx.Input.PartialEq.eq (g.D.Delegate.script c.args.cache.now.cx) c.args.cache.now.nodes c.args.provisional.now c.args.goals.now c.note_stored.new.self c.args.kind (hit_of c.in-Some-look_up.stored) c.in_ok-note_stored.ensures c.requires.ready
+
+pub returns-in-Some-find-clause-ready : goal.returns-in-Some-find-clause-ready
+returns-in-Some-find-clause-ready g c =
+    subst (λ cx. OnOk c.answer_cycle.result (AreReady g.D.Cx.Cx.is_yes g.D.Cx.Cx.is_no g.D.Cx.Input.PartialEq.eq (g.D.Delegate.script cx) c.args.cache.now.nodes (runs_of c.answer_cycle.new.goals) c.args.provisional.now)) c.cx-cx.ensures
+    (c.answer_cycle.ensures.ready c.args.cache.now.nodes c.args.provisional.now
+    (subst (λ cx. AreReady g.D.Cx.Cx.is_yes g.D.Cx.Cx.is_no g.D.Cx.Input.PartialEq.eq (g.D.Delegate.script cx) c.args.cache.now.nodes (runs_of c.args.goals.now) c.args.provisional.now) (sym c.cx-cx.ensures) c.requires.ready))
+
+pub returns-clause-ready : goal.returns-clause-ready
+returns-clause-ready g c = c.in_ok-push_goal.ensures.ready c.args.provisional.now c.requires.ready

@@ -1,4 +1,4 @@
-use Rattle.std.proofs.Common.{rules, is_some, not, ap, sym, ◌∙◌}
+use Rattle.std.proofs.Common.{rules, is_some, not, ap, ◌∙◌}
 use Rattle.std.proofs.lemmas.Iterator.{YieldsList-from_slice}
 use Rattle.std.proofs.lemmas.Iterator.Consumers.{YieldsList-from_rest}
 use Rattle.std.proofs.lemmas.Iterator.Search.{any_from_yields_List, all_from_yields_List}
