@@ -1,6 +1,7 @@
 use Rattle.std.proofs.Common.{refl, sym, subst}
 use Rattle.open_goals.specs.Steps.{CanStep}
 use Rattle.search_graph.specs.Evaluating.{GoesOn, HasStopped, KeepsStore, work_left}
+use Rattle.search_graph.specs.Free.{AreFree}
 use Rattle.search_graph.specs.Justified.{IsFit}
 use Rattle.search_graph.specs.Runs.{runs_of}
 use Rattle.search_parts.specs.declared.context.Request.{Request}
@@ -11,6 +12,7 @@ use Rattle.search_graph.proofs.Questions.{if_err_and}
 use Rattle.search_graph.proofs.Finishing.{noted_fits}
 use Rattle.search_graph.specs.Graph.{IsCaused, OutOfMemory}
 use Rattle.search_graph.proofs.Causes.{step_is_caused, step_keeps_free}
+use Rattle.search_graph.proofs.ReadyMoves.{noted_ready, stepped_ready}
 use Rattle.search_graph.proofs.Loops.{stepped_some, advance_asks, advance_stops, advance_justified, done_leads, next_before, step_asks_for}
 use Rattle.search_graph.proofs.graph.evaluate.advance.Goals as goal
 
@@ -131,3 +133,20 @@ returns-in_ok-next-in-Evaluate-clause-keeps g c = λ call h keeps.
 
 pub returns-in_ok-next-in-Done-clause-keeps : goal.returns-in_ok-next-in-Done-clause-keeps
 returns-in_ok-next-in-Done-clause-keeps g c = λ call h keeps. c.finish_run.ensures.keeps call _ (advance_asks g.D.Delegate g.D.Cx.Cx c.args.cache.now.cx c.args.received _ c.args.goals.now c.step.new.goals _ _ c.args.limits_met.now c.cx-cx.result c.cx-cx.ensures c.in_ok-request.request c.in-Done.is c.in_ok-request.ensures.stepped c.step.ensures.same_starts c.args.cache.now.nodes c.requires.fits call h) keeps
+
+-- ---- the entries of the provisional cache
+
+pub ask-requires-clause-ready : goal.ask-requires-clause-ready
+ask-requires-clause-ready g c = stepped_ready g.D.Delegate g.D.Cx.Cx c.cx-cx.result g.D.Cx.Input.PartialEq.eq (g.D.Delegate.script c.args.cache.now.cx) c.args.cache.now.nodes c.args.provisional.now c.args.received c.in_ok-request.request c.args.goals.now c.step.new.goals c.in_ok-request.ensures.stepped c.requires.ready
+
+pub finish_run-requires-clause-ready : goal.finish_run-requires-clause-ready
+finish_run-requires-clause-ready g c = stepped_ready g.D.Delegate g.D.Cx.Cx c.cx-cx.result g.D.Cx.Input.PartialEq.eq (g.D.Delegate.script c.args.cache.now.cx) c.args.cache.now.nodes c.args.provisional.now c.args.received c.in_ok-request.request c.args.goals.now c.step.new.goals c.in_ok-request.ensures.stepped c.requires.ready
+
+pub returns-in_ok-note_candidate-in_default-clause-ready : goal.returns-in_ok-note_candidate-in_default-clause-ready
+returns-in_ok-note_candidate-in_default-clause-ready g c =
+    noted_ready g.D.Cx.Cx.is_yes g.D.Cx.Cx.is_no g.D.Cx.Input.PartialEq.eq (g.D.Delegate.script c.args.cache.now.cx) c.args.cache.now.nodes c.args.provisional.now c.in_ok-request.request c.step.new.goals c.note_candidate.new.self c.in_ok-note_candidate-in_default.ensures
+    (stepped_ready g.D.Delegate g.D.Cx.Cx c.cx-cx.result g.D.Cx.Input.PartialEq.eq (g.D.Delegate.script c.args.cache.now.cx) c.args.cache.now.nodes c.args.provisional.now c.args.received c.in_ok-request.request c.args.goals.now c.step.new.goals c.in_ok-request.ensures.stepped c.requires.ready)
+
+pub returns-in_ok-next-in-Evaluate-clause-free : goal.returns-in_ok-next-in-Evaluate-clause-free
+returns-in_ok-next-in-Evaluate-clause-free g c =
+    subst (AreFree g.D.Cx.Cx.is_yes g.D.Cx.Cx.is_no g.D.Cx.Input.PartialEq.eq c.ask.new.cache.nodes (runs_of c.ask.new.goals)) (sym c.ask.ensures.same_results) c.in_ok-next-in-Evaluate.ensures.free
