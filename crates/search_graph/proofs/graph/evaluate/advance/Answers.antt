@@ -13,6 +13,7 @@ use Rattle.search_graph.proofs.Finishing.{noted_fits}
 use Rattle.search_graph.proofs.ReadyMoves.{noted_ready, stepped_ready}
 use Rattle.search_graph.specs.Graph.{IsCaused, OutOfMemory}
 use Rattle.search_graph.proofs.Causes.{step_is_caused, step_keeps_free}
+use Rattle.search_graph.proofs.ReadyMoves.{noted_ready, stepped_ready}
 use Rattle.search_graph.proofs.Loops.{stepped_some, advance_asks, advance_stops, advance_justified, done_leads, next_before, step_asks_for}
 use Rattle.search_graph.proofs.graph.evaluate.advance.Goals as goal
 
