@@ -162,11 +162,7 @@ impl<X: Cx, F: Drop> OpenGoals<X, F> {
 
     /// The newest goal was answered over a step of this kind by a stored result. A refusal may leave a part
     /// of that noted.
-    pub fn note_stored(
-        &mut self,
-        step: PathKind,
-        stored: &CacheData<'_, X>,
-    ) -> Result<(), NoMemory>
+    pub fn note_stored(&mut self, step: PathKind, stored: &CacheData<'_, X>) -> Result<(), NoMemory>
         requires some { 0 < length self.old }
         requires fits { stored.now.required_depth + 1 < 2 ^ 64 }
         ensures { OnOk result (TakesStored X.Input.eq step (hit_of stored.now) self.old self.new) }

@@ -12,10 +12,7 @@ use search_parts::parts::{CandidateHeadUsages, StackDepth};
 impl<X: Cx, F: Drop> OpenGoals<X, F> {
     /// Does what the newest goal's frame requested of its candidates; other requests change nothing. After a
     /// refusal the goals may only be cleared.
-    pub fn note_candidate(
-        &mut self,
-        request: Request<X::Input, X::Result>,
-    ) -> Result<(), NoMemory>
+    pub fn note_candidate(&mut self, request: Request<X::Input, X::Result>) -> Result<(), NoMemory>
         requires { CanNote request self.old }
         ensures { OnOk result (NotesCandidate request self.old self.new) }
     {
