@@ -87,8 +87,8 @@ impl<D: Delegate> SearchGraph<D> {
     /// The answer to a goal, evaluated over the cache's context, which is asked by a step of this kind. A
     /// definite answer names its node, the root of its graph in the cache's list.
     ///
-    /// The results of this goal and of those that it asks are stored in the cache, and used again, unless
-    /// they rest on a goal that was under evaluation.
+    /// The results of this goal and of those that it asks are stored in the cache, and used again. One that
+    /// rests on a goal under evaluation is kept until that is done, if the delegate lets such answers be used.
     ///
     /// `Fault::Memory` where a growth was refused or a frame answered `NoMemory`, `Fault::Protocol` where a
     /// frame's request came out of order, `Fault::Conflict` where a goal came to another result than the one

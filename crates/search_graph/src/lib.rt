@@ -5,11 +5,11 @@
 //! | `Graph`, `Lists` | what a search graph is between its calls, and what its answers and faults say |
 //! | `Results` | the stored results, as calls rely on them and change them |
 //! | `Calls`, `Evaluating` | an outer call, and what holds of the goals under evaluation between two moves |
-//! | `Moves`, `LookUp` | a goal is put on top, run again or taken; a stored result is used |
+//! | `Moves`, `LookUp` | a goal is put on top, run again or taken; which stored result or kept answer is used |
 //! | `Tallies` | what goals count, and their candidates of that |
 //! | `RunEnds`, `Runs` | what becomes of a goal whose run has ended, and of its node |
 //! | `Justified`, `Free` | why each definite answer is right; answers that rest on no goal under evaluation |
-//! | `KeptAnswers`, `KeptShapes` | answers that rest on such goals and are kept, as the provisional cache is to have them |
+//! | `KeptAnswers`, `KeptShapes`, `Provisional` | answers that rest on such goals: why each may be used, and what becomes of them |
 //! | `Decided` | goals whose answers are all yes or no |
 #![tactic(auto)]
 
