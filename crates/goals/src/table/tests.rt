@@ -2,6 +2,7 @@
 
 mod dense;
 mod flaws;
+mod kept;
 mod shown;
 mod stored;
 mod worked;
