@@ -4,7 +4,7 @@ ghost use Rattle.search_parts.specs.Provisional.{entries_at};
 ghost use Rattle.cycle_heads.specs.declared.path.PathKind.{PathKind};
 
 use crate::loops::{Loops, Outcome};
-use search_parts::context::NoMemory;
+use search_parts::context::{NoMemory, NodeId};
 use search_parts::parts::{
     CycleHeads, HeadUsages, ProvisionalCache, ProvisionalCacheEntry, StackDepth,
 };
@@ -13,6 +13,9 @@ use std::alloc::Global;
 
 /// The goal whose answers are kept.
 pub const GOAL: PathKind = PathKind::Unknown;
+
+/// The node of each definite answer that is kept for it.
+pub const NODE: NodeId = NodeId(5);
 
 /// An answer that is kept for the goal. It has one head, the first goal on the stack or the second one,
 /// which is reached by coinductive paths.
@@ -44,12 +47,16 @@ impl Kept {
         let mut heads = CycleHeads::new(alloc);
         let depth = StackDepth::new(self.head.min(1));
         heads.insert(depth, PathsToNested::COINDUCTIVE, self.usages)?;
+        let node = match self.result {
+            Outcome::Yes | Outcome::No => Some(NODE),
+            Outcome::Maybe | Outcome::Overflow => None,
+        };
         Ok(ProvisionalCacheEntry {
             encountered_overflow: self.encountered_overflow,
             heads,
             path_from_head: self.path_from_head,
             result: self.result,
-            node: None,
+            node,
         })
     }
 }
