@@ -40,6 +40,13 @@ impl Kept {
         }
     }
 
+    fn node(&self) -> Option<NodeId> {
+        match self.result {
+            Outcome::Yes | Outcome::No => Some(NODE),
+            Outcome::Maybe | Outcome::Overflow => None,
+        }
+    }
+
     fn entry(&self, alloc: Global) -> Result<ProvisionalCacheEntry<Loops>, NoMemory>
         ensures some { IfOk result (λ entry. entry.heads ≢ []) }
         ensures within { IfOk result (λ entry. All (λ head. head.0.0 ≤ 1) entry.heads) }
@@ -47,16 +54,12 @@ impl Kept {
         let mut heads = CycleHeads::new(alloc);
         let depth = StackDepth::new(self.head.min(1));
         heads.insert(depth, PathsToNested::COINDUCTIVE, self.usages)?;
-        let node = match self.result {
-            Outcome::Yes | Outcome::No => Some(NODE),
-            Outcome::Maybe | Outcome::Overflow => None,
-        };
         Ok(ProvisionalCacheEntry {
             encountered_overflow: self.encountered_overflow,
             heads,
             path_from_head: self.path_from_head,
             result: self.result,
-            node,
+            node: self.node(),
         })
     }
 }
