@@ -6,7 +6,7 @@ use std::alloc::Global;
 use std::test::Fail;
 
 /// A table and its question. After `gives` stand the goal, its result and the frames that it started, and `limit` where the
-/// depth or the number of runs was too small; and after `without` the same with the provisional cache switched off.
+/// depth or the number of runs was too small; after `without` stands the same with the provisional cache switched off.
 const SAME_KIND: &str = "\
 rule A = c:B c:B
 rule B = c:A
@@ -38,8 +38,9 @@ A maybe 4 limit
 without
 A maybe 4 limit";
 
-/// The same form: the answer of D rests on B and A, and on A alone once B is done. In the second table A asks D over
-/// another kind of path, so that D is worked out again, with the answer of B.
+/// The same form: the answer of D rests on B, and on A alone once B is done. In the second table A asks D over another
+/// kind of path, so that D is worked out again, with the answer of B. In the third the path to D is inductive from B and
+/// coinductive from A.
 const GOAL_IS_DONE: &str = "\
 rule A = c:B c:D
 rule B = c:D
@@ -57,6 +58,15 @@ ask 4 A
 gives
 A yes 4
 without
+A yes 5
+
+rule A = c:B c:D
+rule B = i:D c:A
+rule D = c:B
+ask 4 A
+gives
+A yes 3
+without
 A yes 5";
 
 /// The same form: B is a no, by an inductive cycle with A, and D, which asks B, is a no with it. From A over D that cycle
@@ -72,6 +82,30 @@ A yes 12
 without
 A yes 12";
 
+/// The same form: the first run of B comes to yes, for which its coinductive cycles were taken, so that it is not run
+/// again. The answer of D used B by a marked candidate alone: in the first table by an inductive cycle, which was taken
+/// for a no, so that the no of D is dropped; and in the second by a coinductive one, so that its yes stays.
+const FIRST_RUN: &str = "\
+rule A = c:B c:D
+rule ~B = i:D
+rule B = c:A
+rule D = i:B
+ask 4 A
+gives
+A yes 4
+without
+A yes 5
+
+rule A = c:B c:D
+rule ~B = c:D
+rule B = c:A
+rule D = c:B
+ask 4 A
+gives
+A yes 3
+without
+A yes 5";
+
 /// The same form: what the marked candidate of B used is given back, so the answer of B rests on A without having used its
 /// result, and is still there when A is run again.
 const UNUSED: &str = "\
@@ -84,6 +118,52 @@ gives
 A yes 3
 without
 A yes 4";
+
+/// The same form, of two questions over one cache: the maybe that is stored of D met overflow at A. By the time that B
+/// asks D, an answer of A is kept which D would use, so that D is worked out again.
+const MEETS_KEPT: &str = "\
+rule A = i:B
+rule B = c:A i:D
+rule D = c:A
+ask 1 D
+ask 2 B
+gives
+D maybe 2 limit
+B yes 3
+without
+D maybe 2 limit
+B maybe 2";
+
+/// The same form: D would not use the answer of A, in the first table since it asks over another kind of path, and in
+/// the second since that answer met overflow. So the stored maybe is used.
+const MEETS_NONE: &str = "\
+rule A = i:B
+rule B = c:A i:D
+rule D = i:A
+ask 1 D
+ask 2 B
+gives
+D maybe 2 limit
+B maybe 2
+without
+D maybe 2 limit
+B maybe 2
+
+rule A = i:B i:E
+rule B = c:A i:D
+rule D = c:A
+rule E = i:F
+rule F = i:G
+rule G = i:H
+rule H =
+ask 1 D
+ask 4 B
+gives
+D maybe 2 limit
+B maybe 5 limit
+without
+D maybe 2 limit
+B maybe 5 limit";
 
 #[test]
 fn a_goal_asked_again_over_the_same_kind_of_cycle_has_its_answer(
@@ -112,12 +192,29 @@ fn an_answer_moves_to_the_next_head_where_its_cycles_keep_their_kind(
 }
 
 #[test]
+fn an_answer_stays_after_a_stable_first_run_that_took_its_cycles_right(
+    rt: HostRuntime,
+) -> Result<(), Fail> {
+    assert_eq!(rt; first_wrong(rt.alloc(), FIRST_RUN)?, None);
+    Ok(())
+}
+
+#[test]
 fn an_answer_that_used_no_result_outlives_a_rerun(rt: HostRuntime) -> Result<(), Fail> {
     assert_eq!(rt; first_wrong(rt.alloc(), UNUSED)?, None);
     Ok(())
 }
 
-/// The first example whose question comes to something else, with the provisional cache or without it.
+#[test]
+fn a_stored_result_is_passed_over_where_a_goal_below_it_has_an_answer(
+    rt: HostRuntime,
+) -> Result<(), Fail> {
+    assert_eq!(rt; first_wrong(rt.alloc(), MEETS_KEPT)?, None);
+    assert_eq!(rt; first_wrong(rt.alloc(), MEETS_NONE)?, None);
+    Ok(())
+}
+
+/// The first example whose questions come to something else, with the provisional cache or without it.
 fn first_wrong(alloc: Global, examples: &str) -> Result<Option<&str>, Fail> {
     for example in examples.split("\n\n") {
         let (text, rest) = example
