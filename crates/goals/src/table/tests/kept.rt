@@ -106,6 +106,18 @@ A yes 3
 without
 A yes 5";
 
+/// The same form: B is a maybe, and is not run again. The answer of D used B, and becomes a maybe, too.
+const AMBIGUOUS: &str = "\
+rule A = c:B
+rule A = c:D
+rule B = c:A c:D u:B
+rule D = c:B
+ask 4 A
+gives
+A maybe 3
+without
+A maybe 5";
+
 /// The same form: what the marked candidate of B used is given back, so the answer of B rests on A without having used its
 /// result, and is still there when A is run again.
 const UNUSED: &str = "\
@@ -196,6 +208,12 @@ fn an_answer_stays_after_a_stable_first_run_that_took_its_cycles_right(
     rt: HostRuntime,
 ) -> Result<(), Fail> {
     assert_eq!(rt; first_wrong(rt.alloc(), FIRST_RUN)?, None);
+    Ok(())
+}
+
+#[test]
+fn an_answer_that_used_an_ambiguous_goal_is_ambiguous(rt: HostRuntime) -> Result<(), Fail> {
+    assert_eq!(rt; first_wrong(rt.alloc(), AMBIGUOUS)?, None);
     Ok(())
 }
 
