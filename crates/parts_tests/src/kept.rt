@@ -4,7 +4,7 @@ ghost use Rattle.search_parts.specs.Provisional.{entries_at};
 ghost use Rattle.cycle_heads.specs.declared.path.PathKind.{PathKind};
 
 use crate::loops::{Loops, Outcome};
-use search_parts::context::NoMemory;
+use search_parts::context::{NoMemory, NodeId};
 use search_parts::parts::{
     CycleHeads, HeadUsages, ProvisionalCache, ProvisionalCacheEntry, StackDepth,
 };
@@ -13,6 +13,9 @@ use std::alloc::Global;
 
 /// The goal whose answers are kept.
 pub const GOAL: PathKind = PathKind::Unknown;
+
+/// The node of each definite answer that is kept for it.
+pub const NODE: NodeId = NodeId(5);
 
 /// An answer that is kept for the goal. It has one head, the first goal on the stack or the second one,
 /// which is reached by coinductive paths.
@@ -37,6 +40,13 @@ impl Kept {
         }
     }
 
+    fn node(&self) -> Option<NodeId> {
+        match self.result {
+            Outcome::Yes | Outcome::No => Some(NODE),
+            Outcome::Maybe | Outcome::Overflow => None,
+        }
+    }
+
     fn entry(&self, alloc: Global) -> Result<ProvisionalCacheEntry<Loops>, NoMemory>
         ensures some { IfOk result (λ entry. entry.heads ≢ []) }
         ensures within { IfOk result (λ entry. All (λ head. head.0.0 ≤ 1) entry.heads) }
@@ -49,7 +59,7 @@ impl Kept {
             heads,
             path_from_head: self.path_from_head,
             result: self.result,
-            node: None,
+            node: self.node(),
         })
     }
 }

@@ -2,9 +2,9 @@
 //! the stack, asked over an inductive step.
 ghost use Rattle.std.specs.Prelude.{◌≡◌, ◌<◌, length, All, IfOk};
 
-use crate::kept::{GOAL, Kept, cache_of, used};
+use crate::kept::{GOAL, Kept, NODE, cache_of, used};
 use crate::loops::{Loops, Outcome};
-use search_parts::context::NoMemory;
+use search_parts::context::{NoMemory, NodeId};
 use search_parts::parts::{
     AvailableDepth, CycleHeads, HeadUsages, ProvisionalCache, RebaseReason, Stack, StackDepth,
     StackEntry,
@@ -68,20 +68,53 @@ fn done_goal(alloc: Global, head: Option<Head>) -> Result<StackEntry<Loops>, NoM
     Ok(done)
 }
 
-// The result, the paths to the first goal and its usages, of the one answer that is left over an
-// inductive path.
-fn left(cache: &ProvisionalCache<Loops>) -> Option<(Outcome, PathsToNested, HeadUsages)> {
-    let [entry] = cache.entries_of(GOAL) else {
-        return None;
-    };
-    let PathKind::Inductive = entry.path_from_head else {
-        return None;
-    };
-    let (depth, head) = entry.heads.iter().next()?;
-    if depth.index() != 0 {
-        return None;
+// An answer that is left, with its one head.
+#[derive(Clone, Copy, Debug, PartialEq, Eq)]
+struct LeftAnswer {
+    result: Outcome,
+    node: Option<NodeId>,
+    encountered_overflow: bool,
+    path_from_head: PathKind,
+    head: StackDepth,
+    paths_to_head: PathsToNested,
+    usages: HeadUsages,
+}
+
+impl LeftAnswer {
+    // An answer of yes over an inductive path from the first goal.
+    fn yes(paths_to_head: PathsToNested, usages: HeadUsages) -> LeftAnswer {
+        LeftAnswer {
+            result: Outcome::Yes,
+            node: Some(NODE),
+            encountered_overflow: false,
+            path_from_head: PathKind::Inductive,
+            head: StackDepth::new(0),
+            paths_to_head,
+            usages,
+        }
     }
-    Some((entry.result, head.paths_to_head, head.usages))
+}
+
+// The one answer that is left, if one is.
+fn left(cache: &ProvisionalCache<Loops>) -> Result<Option<LeftAnswer>, Fail> {
+    let mut entries = cache.entries_of(GOAL).iter();
+    let Some(entry) = entries.next() else {
+        return Ok(None);
+    };
+    let mut heads = entry.heads.iter();
+    let (depth, head) = heads.next().ok_or("an answer without heads")?;
+    if heads.next().is_some() || entries.next().is_some() {
+        return Err("another head, or another answer")?;
+    }
+    Ok(Some(LeftAnswer {
+        result: entry.result,
+        node: entry.node,
+        encountered_overflow: entry.encountered_overflow,
+        path_from_head: entry.path_from_head,
+        head: *depth,
+        paths_to_head: head.paths_to_head,
+        usages: head.usages,
+    }))
 }
 
 fn reasons() -> [RebaseReason<Loops>; 6] {
@@ -97,20 +130,29 @@ fn reasons() -> [RebaseReason<Loops>; 6] {
 
 #[test]
 fn an_answer_that_used_the_goal_is_settled_by_the_reason(rt: HostRuntime) -> Result<(), Fail> {
+    let kept = Kept::yes(1, used(0, 1));
+    let yes = LeftAnswer::yes(PathsToNested::COINDUCTIVE, used(0, 1));
+    let maybe = LeftAnswer {
+        result: Outcome::Maybe,
+        node: None,
+        ..yes
+    };
+    let overflow = LeftAnswer {
+        result: Outcome::Overflow,
+        node: None,
+        ..yes
+    };
     let wanted = [
         None,
-        Some(Outcome::Maybe),
-        Some(Outcome::Overflow),
-        Some(Outcome::Yes),
-        Some(Outcome::Yes),
+        Some(maybe),
+        Some(overflow),
+        Some(yes),
+        Some(yes),
         None,
     ];
-    let kept = Kept::yes(1, used(0, 1));
-    let head = Head::coinductive();
     for (reason, want) in reasons().into_iter().zip(wanted) {
-        let cache = rebased(rt.alloc(), &[kept], Some(head), reason)?;
-        let want = want.map(|outcome| (outcome, PathsToNested::COINDUCTIVE, used(0, 1)));
-        assert_eq!(rt; left(&cache), want);
+        let cache = rebased(rt.alloc(), &[kept], Some(Head::coinductive()), reason)?;
+        assert_eq!(rt; left(&cache)?, want);
         assert_eq!(rt; cache.is_empty(), want.is_none());
     }
     Ok(())
@@ -119,10 +161,10 @@ fn an_answer_that_used_the_goal_is_settled_by_the_reason(rt: HostRuntime) -> Res
 #[test]
 fn an_answer_that_did_not_use_the_goal_stays(rt: HostRuntime) -> Result<(), Fail> {
     let kept = Kept::yes(1, used(0, 0));
+    let want = LeftAnswer::yes(PathsToNested::EMPTY, used(0, 0));
     for reason in reasons() {
         let cache = rebased(rt.alloc(), &[kept], Some(Head::coinductive()), reason)?;
-        let want = (Outcome::Yes, PathsToNested::EMPTY, used(0, 0));
-        assert_eq!(rt; left(&cache), Some(want));
+        assert_eq!(rt; left(&cache)?, Some(want));
     }
     Ok(())
 }
@@ -136,6 +178,7 @@ fn an_answer_that_changes_a_cycle_is_dropped(rt: HostRuntime) -> Result<(), Fail
     };
     for reason in reasons() {
         let cache = rebased(rt.alloc(), &[kept], Some(inductive), reason)?;
+        assert_eq!(rt; left(&cache)?, None);
         assert!(rt; cache.is_empty());
     }
     Ok(())
@@ -143,8 +186,10 @@ fn an_answer_that_changes_a_cycle_is_dropped(rt: HostRuntime) -> Result<(), Fail
 
 #[test]
 fn an_answer_without_another_head_is_dropped(rt: HostRuntime) -> Result<(), Fail> {
+    let kept = Kept::yes(1, used(0, 1));
     for reason in reasons() {
-        let cache = rebased(rt.alloc(), &[Kept::yes(1, used(0, 1))], None, reason)?;
+        let cache = rebased(rt.alloc(), &[kept], None, reason)?;
+        assert_eq!(rt; left(&cache)?, None);
         assert!(rt; cache.is_empty());
     }
     Ok(())

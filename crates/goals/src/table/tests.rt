@@ -2,6 +2,7 @@
 
 mod dense;
 mod flaws;
+mod kept;
 mod shown;
 mod stored;
 mod worked;
@@ -167,6 +168,31 @@ gives
 i:A yes: begin noted no noted noted yes noted
  c:A yes: 1 up
 
+rule A = c:B c:B
+rule B = c:A
+ask 4 A
+gives
+i:A yes: begin noted yes yes noted
+ c:B yes: begin noted yes noted
+  c:A yes: 2 up
+ c:B yes: begin noted yes noted
+  c:A yes: 2 up
+
+rule A = c:B c:D
+rule B = c:D
+rule D = c:B c:A
+ask 4 A
+gives
+i:A yes: begin noted yes yes noted
+ c:B yes: begin noted yes noted
+  c:D yes: begin noted yes yes noted
+   c:B yes: 2 up
+   c:A yes: 3 up
+ c:D yes: begin noted yes yes noted
+  c:B yes: begin noted yes noted
+   c:D yes: 2 up
+  c:A yes: 2 up
+
 rule A = c:P
 rule P = c:A
 rule P = f:P
@@ -203,7 +229,7 @@ fn answers_name_their_graphs(rt: HostRuntime) -> Result<(), Fail> {
         assert_eq!(rt; drawn.as_slice(), graph.as_bytes(), "the graph of {text}");
         count = count.saturating_add(1);
     }
-    assert_eq!(rt; count, 22);
+    assert_eq!(rt; count, 24);
     Ok(())
 }
 

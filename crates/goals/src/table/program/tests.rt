@@ -2,6 +2,7 @@
 ghost use Rattle.std.specs.Prelude.{◌≤◌, length};
 
 mod cases;
+mod options;
 
 use crate::table::outcome::Outcome;
 use crate::table::program::{fault_word, run};
@@ -60,13 +61,16 @@ fn answers_and_counts(rt: HostRuntime) {
         ),
         (
             "rule A = i:B c:A\nrule A = i:A\nrule ~B = i:A\nrule B =\nask 4 A\n",
-            "A yes 4\n",
+            "A yes 3\n",
         ),
         // Where none holds, the marked ones count.
         (
             "rule ~A = i:A\nrule ~A = c:A\nrule A = i:Q\nask 4 A\n",
             "A yes 3\n",
         ),
+        // What a goal came to over one above it answers it again, over a cycle of the same kind.
+        ("rule A = c:B c:B\nrule B = c:A\nask 4 A\n", "A yes 2\n"),
+        ("rule A = c:B i:B\nrule B = c:A\nask 4 A\n", "A yes 3\n"),
         // All rules count for every question, wherever they stand.
         ("ask 1 A\nrule A = i:B\nrule B =\n", "A yes 2\n"),
         (

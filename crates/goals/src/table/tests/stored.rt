@@ -104,6 +104,28 @@ stores
 A yes from 2
 B yes from 2";
 
+/// The same form: answers in the provisional cache are not stored, and where one is used, it requires no depth.
+const KEPT: &str = "\
+rule A = c:B c:B
+rule B = c:A
+ask 4 A
+gives
+A yes 2
+stores
+A yes from 2
+
+rule A = c:B c:D
+rule B = c:E c:A
+rule D = c:F
+rule E =
+rule F = c:B
+ask 4 A
+gives
+A yes 5
+stores
+A yes from 3
+E yes from 0";
+
 /// The same form: a result that met overflow is used again at the same depth alone, and another one needs its depth.
 const DEPTHS: &str = "\
 rule A = i:B
@@ -279,6 +301,7 @@ fn a_goal_that_is_asked_again_starts_no_frame(rt: HostRuntime) -> Result<(), Fai
 fn results_that_rest_on_goals_above_are_not_stored(rt: HostRuntime) -> Result<(), Fail> {
     assert_eq!(rt; first_wrong(rt.alloc(), CYCLES)?, None);
     assert_eq!(rt; first_wrong(rt.alloc(), IGNORED)?, None);
+    assert_eq!(rt; first_wrong(rt.alloc(), KEPT)?, None);
     Ok(())
 }
 
