@@ -127,12 +127,14 @@ impl<I: Copy, R: Copy> Progress<I, R> {
     pub fn edges(&self, verdict: Verdict) -> Result<Vec<Edge<I>>, NoMemory>
         ensures { IfOk result (λ edges. edges.items ≡ edges_of self.now verdict) }
     {
-        let mut edges = Vec::new(*self.answers.allocator());
+        let mut edges = Vec::with_capacity(*self.answers.allocator(), self.answers.len())?;
         for answer in &self.answers {
             if self.is_rested_on(answer, verdict) {
                 edges.push(answer.edge)?;
             }
         }
+        // The node of the run keeps them for good.
+        edges.shrink_to_fit();
         Ok(edges)
     }
 
@@ -154,9 +156,10 @@ impl<I: Copy, R: Copy> Progress<I, R> {
     }
 
     /// Hands out the replies, the oldest first.
-    pub fn into_replies(self) -> Vec<Reply<R>>
+    pub fn into_replies(mut self) -> Vec<Reply<R>>
         ensures { result.items ≡ self.replies }
     {
+        self.replies.shrink_to_fit();
         self.replies
     }
 }

@@ -162,9 +162,10 @@ fn next_marked(candidates: &[Candidate], from: usize) -> Option<usize>
     ensures value { result ≡ marked_from 0 candidates.now from }
     ensures within { IfSome result (λ n. n < length candidates.now) }
 {
-    for (at, candidate) in candidates.iter().enumerate() {
-        if from <= at && candidate.is_marked {
-            return Some(at);
+    let rest = candidates.get(from..)?;
+    for (ahead, candidate) in rest.iter().enumerate() {
+        if candidate.is_marked {
+            return Some(from + ahead);
         }
     }
     None
