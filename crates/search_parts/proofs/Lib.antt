@@ -20,6 +20,7 @@ pub mod RebasedHeads
 pub mod RebasedEntries
 pub mod RebasedLists
 pub mod RebasedKept
+pub mod Concerned
 pub mod Stores
 pub mod LookUps
 pub mod Stored

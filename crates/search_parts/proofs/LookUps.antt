@@ -1,5 +1,5 @@
 -- A look-up that tries the success first, and then the overflow result.
-use Rattle.std.proofs.Common.{◌≡◌, ℕ, Bool, Option, ◌++◌, ◌&&◌, sym, ◌∙◌}
+use Rattle.std.proofs.Common.{◌≡◌, ℕ, Bool, Option, Some, ◌++◌, ◌&&◌, refl, sym, ◌∙◌}
 use Rattle.std.proofs.lemmas.List.Folds.{find-append}
 use Rattle.std.specs.Map.{lookup}
 use Rattle.std.specs.Option.{option_or}
@@ -23,3 +23,13 @@ looks_up accepts same store input available success overflow first later s o f l
     (λ i. option_or (f i) (l i))
     ∙ sym (find-append (λ hit. accepts hit.nested_goals) (successes available success) (overflows available overflow))
     ∙ (λ i. first_accepted accepts (successes available (s_at i) ++ overflows available (o_at i)))
+
+-- a success that is used needs no look at the overflow result
+pub finds_success : {X I R A T : Type 0} (accepts : NestedPaths I → Bool) (same : I → I → Bool) (store : Store I (StoredResult X I R A T)) (input : I) (available : ℕ)
+    (success : Option (StoredResult X I R A T)) (hit : Hit I R T)
+    → success ≡ lookup (λ key. same input key.0 && derived.ghosts.eq Success key.1) store
+    → Some hit ≡ first_accepted accepts (successes available success)
+    → Some hit ≡ first_accepted accepts (usable same store input available)
+finds_success accepts same store input available success hit s f =
+    let overflow = lookup (λ key. same input key.0 && derived.ghosts.eq (WithOverflow available) key.1) store in
+    looks_up accepts same store input available success overflow (Some hit) (first_accepted accepts (overflows available overflow)) s refl f refl

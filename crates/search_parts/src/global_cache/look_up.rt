@@ -75,11 +75,11 @@ fn look_up<'a, X: Cx, T: NestedTest<X>>(
     ensures { option_map hit_of result ≡ first_accepted (T.accepts test.now) (usable X.Input.eq results.now.entries input available.0) }
 {
     let success = results.get(&(input, Place::Success));
-    let overflow = results.get(&(input, Place::WithOverflow(available.0)));
-    match use_success(success, available, test) {
-        Some(hit) => Some(hit),
-        None => use_overflow(overflow, available, test),
+    if let Some(hit) = use_success(success, available, test) {
+        return Some(hit);
     }
+    let overflow = results.get(&(input, Place::WithOverflow(available.0)));
+    use_overflow(overflow, available, test)
 }
 
 // The success, where it may be used at the available depth.

@@ -113,10 +113,10 @@ fn join_paths<I: Eq + Hash + Copy>(
     ensures room { 0 < spare goals.old → IsOk result }
     ensures left { spare goals.old ≤ spare goals.new + 1 }
 {
-    let joined = match goals.get(&input) {
-        Some(known) => known.union(paths),
-        None => paths,
-    };
-    goals.insert(input, joined)?;
+    if let Some(known) = goals.get_mut(&input) {
+        *known = known.union(paths);
+        return Ok(());
+    }
+    goals.insert(input, paths)?;
     Ok(())
 }

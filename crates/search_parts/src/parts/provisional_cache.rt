@@ -8,6 +8,7 @@ ghost use Rattle.search_parts.specs.Rebasing.{rebased, settled};
 ghost use Rattle.search_parts.specs.Reuse.{may_be_used, rests_on};
 
 mod clearing;
+mod concerned;
 mod kinds;
 mod lookup;
 mod rebasing;
@@ -143,6 +144,9 @@ impl<D: Delegate> ProvisionalCache<D> {
             ≡ filter_map (rebased stack.now done.now (settled (D.propagated cx input) (D.fixpoint_overflow cx input) reason)) (entries_at D.Cx.Input.eq self.old input)) }
         ensures err { OnErr result (self.new ≡ []) }
     {
+        if !concerned::concerns_lists(&self.lists, stack.next_index()) {
+            return Ok(());
+        }
         let lists = mem::replace(&mut self.lists, HashMap::new(self.alloc));
         self.lists = rebasing::rebase_lists::<D>(self.alloc, cx, lists, done, stack, &reason)?;
         Ok(())

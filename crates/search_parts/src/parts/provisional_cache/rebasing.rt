@@ -10,6 +10,7 @@ ghost use Rattle.search_parts.specs.Settlement.{settled_by};
 
 use crate::context::{Cx, Delegate, NoMemory};
 use crate::parts::heads::{CycleHead, CycleHeads};
+use crate::parts::provisional_cache::concerned::concerns_list;
 use crate::parts::provisional_cache::kinds::keeps_kinds;
 use crate::parts::provisional_cache::{ProvisionalCacheEntry, RebaseReason};
 use crate::parts::stack::{Stack, StackEntry};
@@ -95,6 +96,7 @@ pub(super) fn rebase_lists<D: Delegate>(
     ensures left { IfOk result (λ left. (input : D.Cx.Input) → IfSome (lookup (D.Cx.Input.eq input) (lists_of left.entries)) (λ entries. entries ≢ [])) }
 {
     let mut left = HashMap::new(alloc);
+    left.reserve(lists.len())?;
     for (input, entries) in lists {
         let settlement = settlement_for::<D>(cx, input, reason);
         let entries = rebase_list(alloc, entries, done, stack, &settlement)?;
@@ -130,6 +132,9 @@ pub(super) fn rebase_list<X: Cx>(
     requires on_stack { All (λ head. head.0.0 < length stack.now) done.now.state.heads }
     ensures { IfOk result (λ left. left.items ≡ filter_map (rebased stack.now done.now (settled_by settlement.now)) entries.items) }
 {
+    if !concerns_list(entries.as_slice(), stack.next_index()) {
+        return Ok(entries);
+    }
     let mut left = Vec::new(alloc);
     for entry in entries {
         if let Some(entry) = rebase_entry(entry, done, stack, settlement)? {

@@ -1,5 +1,7 @@
-use Rattle.search_parts.specs.Provisional.{lists_of}
+use Rattle.std.proofs.Common.{rules, ◌≡◌, ◌∙◌, false, sym}
+use Rattle.search_parts.specs.Provisional.{entries_at, lists_of}
 use Rattle.search_parts.specs.Rebasing.{settled}
+use Rattle.search_parts.proofs.Concerned.{all_stay, is_concerned, none_at}
 use Rattle.search_parts.proofs.RebasedKept.{can_be_rebased, kept_rebased}
 use Rattle.search_parts.proofs.parts.provisional_cache.ProvisionalCache.rebase.Goals as goal
 
@@ -19,3 +21,14 @@ invariant_of-self-2 g c =
     kept_rebased c.args.stack.now c.args.done.now same old new c.self.invariant
     (λ input. settled (g.D.Delegate.propagated c.args.cx input) (g.D.Delegate.fixpoint_overflow c.args.cx input) c.args.reason)
     leaves c.in_ok-self-inside.ensures.left
+
+-- where no entry is concerned, all stay
+pub returns-then-not-concerns_lists-clause-ok : goal.returns-then-not-concerns_lists-clause-ok
+returns-then-not-concerns_lists-clause-ok g c = λ input.
+    let same = g.D.Cx.Input.PartialEq.eq in
+    let depth = c.next_index.result.0 in
+    let lists = lists_of c.self.inside.lists.entries in
+    let none : c.concerns_lists.result ≡ false = search (rules, c.if-not-concerns_lists.true) in
+    let apart = none_at same (is_concerned depth) lists (sym c.concerns_lists.ensures ∙ none) input in
+    let settle = settled (g.D.Delegate.propagated c.args.cx input) (g.D.Delegate.fixpoint_overflow c.args.cx input) c.args.reason in
+    rw (← c.self.view_is) (sym (all_stay c.args.stack.now c.args.done.now settle depth c.next_index.ensures (entries_at same lists input) apart))

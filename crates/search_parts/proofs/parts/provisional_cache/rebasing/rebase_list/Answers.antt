@@ -1,8 +1,10 @@
-use Rattle.std.proofs.Common.{◌≡◌, ◌∷◌, ◌∙◌, Some, None, length, sym}
+use Rattle.std.proofs.Common.{rules, ◌≡◌, ◌∷◌, ◌∙◌, false, Some, None, length, ap, sym}
 use Rattle.std.proofs.lemmas.List.Elements.{All-rest}
+use Rattle.std.specs.List.{list_any}
 use Rattle.std.specs.Vec.Iter.{into_iter_items}
 use Rattle.search_parts.specs.Rebasing.{rebased, CanBeRebased}
 use Rattle.search_parts.specs.Settlement.{settled_by}
+use Rattle.search_parts.proofs.Concerned.{all_stay, is_concerned}
 use Rattle.search_parts.proofs.RebasedLists.{one_kept, one_dropped}
 use Rattle.search_parts.proofs.parts.provisional_cache.rebasing.rebase_list.Goals as goal
 
@@ -27,3 +29,10 @@ loop-entry-preserved g c =
       one_dropped becomes c.loop-entry.left.items items rest _ c.in-Some.entry first c.loop-entry.invariant.0 dropped,
       All-rest (CanBeRebased (length c.args.stack.now)) c.in-Some.entry rest items first c.loop-entry.invariant.1,
     )
+
+-- a list that isn't concerned stays
+pub returns-then-not-concerns_list : goal.returns-then-not-concerns_list
+returns-then-not-concerns_list g c =
+    let none : c.concerns_list.result ≡ false = search (rules, c.if-not-concerns_list.true) in
+    let apart = ap (list_any (is_concerned c.next_index.result.0)) (sym c.as_slice.ensures.value) ∙ sym c.concerns_list.ensures ∙ none in
+    sym (all_stay c.args.stack.now c.args.done.now (settled_by c.args.settlement.now) c.next_index.result.0 c.next_index.ensures c.args.entries.items apart)

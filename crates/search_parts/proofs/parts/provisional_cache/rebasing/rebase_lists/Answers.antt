@@ -11,8 +11,9 @@ use Rattle.search_parts.proofs.parts.provisional_cache.rebasing.rebase_lists.Goa
 pub loop-input-init : goal.loop-input-init
 loop-input-init g c =
     let gives = c.into_iter-input-iterator.ensures.into_iter_gives in
-    starts (CanBeRebased (length c.args.stack.now)) _ c.args.lists.entries c.into_iter-input-iterator.result c.new-left.result.entries
-    gives.0 c.new-left.ensures.empty c.requires.can gives.4
+    let empty = nil_from_length c.reserve.new.self.entries (c.reserve.ensures.entries.1 ∙ ap length c.new-left.ensures.empty) in
+    starts (CanBeRebased (length c.args.stack.now)) _ c.args.lists.entries c.into_iter-input-iterator.result c.reserve.new.self.entries
+    gives.0 empty c.requires.can gives.4
 
 pub rebase_list-requires-clause-can : goal.rebase_list-requires-clause-can
 rebase_list-requires-clause-can g c =
@@ -20,8 +21,8 @@ rebase_list-requires-clause-can g c =
     first_can (CanBeRebased (length c.args.stack.now)) _ g.met.D.Cx.Input.Eq.laws g.met.D.Cx.Cx.same_input c.in-Some.input c.in-Some.entries.items (lists_of c.next.new.self)
     _ (lists_of c.loop-input.left.entries) (lists_of c.loop-input.input-iterator) (ap lists_of first) c.loop-input.invariant
 
-pub loop-input-preserved-in-Continue-branch-2 : goal.loop-input-preserved-in-Continue-branch-2
-loop-input-preserved-in-Continue-branch-2 g c =
+pub loop-input-preserved-in-Continue-branch-3 : goal.loop-input-preserved-in-Continue-branch-3
+loop-input-preserved-in-Continue-branch-3 g c =
     let laws = g.met.D.Cx.Input.Eq.laws in
     let by_value = g.met.D.Cx.Cx.same_input in
     let becomes = λ (input : g.row.D-Cx-Input.Denot). rebased c.args.stack.now c.args.done.now (settled (g.D.Delegate.propagated c.args.cx input) (g.D.Delegate.fixpoint_overflow c.args.cx input) c.args.reason.now) in
