@@ -80,7 +80,7 @@ pub(super) fn settlement_for<D: Delegate>(
     }
 }
 
-// The lists after the pop, goal by goal. They are made anew, in a new map.
+// The lists after the pop, goal by goal, in a new map. A list without a concerned entry is moved into it.
 pub(super) fn rebase_lists<D: Delegate>(
     alloc: Global,
     cx: D::Cx,
