@@ -1,5 +1,5 @@
 -- The reason why a goal's result stands is true of the goal, and a goal that rests on another one has no rank.
-use Rattle.std.proofs.Common.{◌≡◌, ◌≢◌, ℕ, Bool, true, List, [], ◌∷◌, Option, None, Some, Result, Ok, Err, option_map, sym, ap, ◌∙◌, subst, refl, inl}
+use Rattle.std.proofs.Common.{◌≡◌, ◌≢◌, ℕ, Bool, true, List, [], ◌∷◌, Option, None, Some, Result, Ok, option_map, sym, ap, ◌∙◌, subst, refl, inl}
 use Rattle.open_graphs.specs.Rebased as theory
 use Rattle.cycle_heads.specs.declared.path.PathKind.{PathKind}
 use Rattle.cycle_heads.specs.declared.path.PathKind.TheVariants.{Inductive, Unknown, Coinductive, ForcedAmbiguity}
