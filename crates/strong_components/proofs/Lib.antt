@@ -1,0 +1,14 @@
+pub mod Rows
+pub mod Walks
+pub mod Indexes
+pub mod States
+pub mod Merge
+pub mod Opening
+pub mod Counts
+pub mod Lowering
+pub mod Steps
+pub mod Leaving
+pub mod Closing
+pub mod ClosingPlaces
+pub mod Idle
+pub mod Numbers
