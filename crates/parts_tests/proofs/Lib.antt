@@ -1,2 +1,3 @@
 mod Within
 mod StoredLoops
+pub mod OpenNodes

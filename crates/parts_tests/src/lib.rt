@@ -9,6 +9,8 @@ mod depth;
 #[cfg(test)]
 mod faults;
 #[cfg(test)]
+mod handed_out;
+#[cfg(test)]
 mod kept;
 pub mod loops;
 #[cfg(test)]

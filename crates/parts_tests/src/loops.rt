@@ -1,7 +1,7 @@
 //! Goals that ask themselves. A goal is a path kind: it asks itself over a step of this kind, and its
 //! result is the answer.
 ghost use Rattle.std.specs.Prelude.{◌≡◌, ◌<◌, Some, IfOk, OnOk, OnErr, slice_get};
-ghost use Rattle.search_parts.specs.Cache.{open_goal, with_run};
+ghost use Rattle.search_parts.specs.Cache.{open_goal, with_run, IsNodeOf};
 ghost use Rattle.parts_tests.specs.Loops.{loop_run};
 
 use search_parts::context::{Cx, Delegate, Edge, NoMemory, NodeId, Reply, Request, Verdict};
@@ -253,8 +253,33 @@ impl Delegate for Loops {
     }
 }
 
-/// Ends the run of an open node whose goal got this answer to its question of itself. `NoMemory` leaves
-/// the cache as it was.
+/// Ends the run of an open node whose goal got this answer to its question of itself. The edge leads to
+/// the target, which is a node of the goal too. `NoMemory` leaves the cache as it was.
+pub fn finish_towards(
+    cache: &mut GlobalCache<Loops>,
+    alloc: Global,
+    node: NodeId,
+    goal: PathKind,
+    target: NodeId,
+    outcome: Outcome,
+) -> Result<(), NoMemory>
+    requires is_open { open_goal cache.old.nodes node.0 ≡ Some goal }
+    requires target { IsNodeOf cache.old.nodes target.0 goal }
+    ensures ended { OnOk result (cache.new ≡ record cache.old { nodes = with_run cache.old.nodes node.0 (loop_run goal target.0 outcome) }) }
+    ensures refused { OnErr result (cache.new ≡ cache.old) }
+{
+    let replies = vec![in alloc; Reply::Begin, Reply::Answer(outcome)]?;
+    let edge = Edge {
+        kind: goal,
+        input: goal,
+        target: target.0,
+    };
+    let edges = vec![in alloc; edge]?;
+    cache.finish_node(node, replies, edges, outcome);
+    Ok(())
+}
+
+/// The same with an edge to the node itself.
 pub fn finish_loop(
     cache: &mut GlobalCache<Loops>,
     alloc: Global,
@@ -266,15 +291,7 @@ pub fn finish_loop(
     ensures ended { OnOk result (cache.new ≡ record cache.old { nodes = with_run cache.old.nodes node.0 (loop_run goal node.0 outcome) }) }
     ensures refused { OnErr result (cache.new ≡ cache.old) }
 {
-    let replies = vec![in alloc; Reply::Begin, Reply::Answer(outcome)]?;
-    let itself = Edge {
-        kind: goal,
-        input: goal,
-        target: node.0,
-    };
-    let edges = vec![in alloc; itself]?;
-    cache.finish_node(node, replies, edges, outcome);
-    Ok(())
+    finish_towards(cache, alloc, node, goal, node, outcome)
 }
 
 /// A node of a run of the goal that got this answer. `NoMemory` may leave an open node.

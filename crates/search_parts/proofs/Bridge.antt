@@ -3,7 +3,7 @@
 -- their shapes alone. What the graph of goals needs beside them are the runs: each goal is settled by its edges'
 -- questions, which is the delegate's law, and each edge leads to a node of the goal that it asks.
 use Rattle.std.proofs.Common.{◌≡◌, ℕ, zero, max, Bool, true, false, if◌then◌else◌, List, [], ◌∷◌, map, Option, None, Some, option_map, slice_get, reverse, Contains, refl, sym, ◌∙◌, ap, subst}
-use Rattle.std.specs.Option.{IsSomeAnd}
+use Rattle.std.specs.Option.{IsSome, IsSomeAnd}
 use Rattle.std.proofs.lemmas.Option.{slice_get-map, slice_get-get_or}
 use Rattle.open_graphs.specs.Graph as theory
 use Rattle.open_graphs.specs.Graph.{Walk, stay, go, cycle_kind}
@@ -18,6 +18,7 @@ use Rattle.cycle_heads.specs.Path.{rank_of}
 use Rattle.search_parts.specs.Run.{EndsIn, progress_after, questions_answered}
 use Rattle.search_parts.specs.Graph.{GraphNode, question_of, HasGoal, HasEdge, IsWalk, IsReached, walk_kind, IsGraph, IsProofGraph, IsRefutationGraph}
 use Rattle.search_parts.specs.Cache.{EndedRun, CacheNode, IsNodeOf, IsRun, AreRuns, graph_node_of, graph_nodes_of}
+use Rattle.search_parts.specs.HandedOut.{IsWhole}
 use Rattle.search_parts.specs.Shapes.{verdict_of, edge_shape, shape_of, shapes_of}
 use Rattle.cycle_heads.proofs.PathRanks.{same_kind, greater_rank}
 use Rattle.search_parts.proofs.Nodes.{node_at}
@@ -31,12 +32,12 @@ graph_behind nodes verdict a k b edge g = record {
 
 module _ {I R : Type 0} (is_yes is_no : R → Bool) where
   -- a node whose run ended with the verdict
-  record Ended (verdict : theory.Verdict) (o : Option (CacheNode I R)) : Type 0 where
-    node : CacheNode I R
-    run : EndedRun I R
-    is : o ≡ Some node
-    ended : node.run ≡ Some run
-    sort : verdict_of is_yes is_no run.outcome ≡ verdict
+  pub record Ended (verdict : theory.Verdict) (o : Option (CacheNode I R)) : Type 0 where
+    pub node : CacheNode I R
+    pub run : EndedRun I R
+    pub is : o ≡ Some node
+    pub ended : node.run ≡ Some run
+    pub sort : verdict_of is_yes is_no run.outcome ≡ verdict
 
   ended_run : (verdict : theory.Verdict) (goal : I) (r : Option (EndedRun I R)) (edges : List theory.Edge) → Some (shape_of is_yes is_no (record { goal = goal; run = r })) ≡ Some (theory.Finished verdict edges) → Ended verdict (Some (record { goal = goal; run = r }))
   ended_run verdict goal None edges e = absurd cc
@@ -46,16 +47,15 @@ module _ {I R : Type 0} (is_yes is_no : R → Bool) where
   ended_node verdict None edges e = absurd cc
   ended_node verdict (Some n) edges e = ended_run verdict n.goal n.run edges e
 
-  module _ (scripts : I → List (Reply R) → Request I R) (nodes : List (CacheNode I R)) (runs : AreRuns is_yes is_no scripts nodes)
-      (verdict : theory.Verdict) (rule : I → List (Question I) → Type 0) (kind : PathKind) (cycles : rank_of kind ≡ cycle_kind verdict)
-      (settles : (n : CacheNode I R) (run : EndedRun I R) → IsRun is_yes is_no (scripts n.goal) nodes run → verdict_of is_yes is_no run.outcome ≡ verdict → rule n.goal (map question_of run.edges)) where
+  module _ (nodes : List (CacheNode I R)) (verdict : theory.Verdict) where
     abbrev Known : ℕ → Type 0
     Known at = theory.IsGraph (shapes_of is_yes is_no nodes) verdict at
 
     abbrev Step : ℕ → ℕ → ℕ → Type 0
     Step = theory.HasEdge (shapes_of is_yes is_no nodes) verdict
 
-    ended_at : (at : ℕ) → Known at → Ended verdict (slice_get nodes at)
+    -- the root of a graph is finished with its verdict
+    pub ended_at : (at : ℕ) → Known at → Ended verdict (slice_get nodes at)
     ended_at at g =
         let f = edges_of (shapes_of is_yes is_no nodes) verdict at (g.finished at 0 stay) in
         ended_node verdict (slice_get nodes at) f.0 (sym (slice_get-map (shape_of is_yes is_no) nodes at) ∙ f.1)
@@ -65,11 +65,6 @@ module _ {I R : Type 0} (is_yes is_no : R → Bool) where
         slice_get-map graph_node_of nodes at
         ∙ (ap (option_map graph_node_of) n.is
         ∙ ap (λ r. Some (graph_node_of (record { goal = n.node.goal; run = r }))) n.ended)
-
-    HasGoal-from : (at : ℕ) (goal : I) → IsNodeOf nodes at goal → HasGoal (graph_nodes_of nodes) at goal
-    HasGoal-from at goal h =
-        let w = node_at (slice_get nodes at) goal h in
-        ap (option_map (λ n. n.goal)) (slice_get-map graph_node_of nodes at ∙ ap (option_map graph_node_of) w.1) ∙ ap Some w.2
 
     -- the place of an edge among those of its node
     edge_at : (at : ℕ) (n : Ended verdict (slice_get nodes at)) (e : Edge I) → HasEdge (graph_nodes_of nodes) at e → (i : ℕ) × (slice_get n.run.edges i ≡ Some e)
@@ -100,44 +95,59 @@ module _ {I R : Type 0} (is_yes is_no : R → Bool) where
         let r = walk_of e.target to rest (graph_behind (shapes_of is_yes is_no nodes) verdict from (rank_of e.kind) e.target s g) w.1 in
         (subst (λ q. Walk Step from q to) (greater_rank e.kind (walk_kind rest)) (go s r.0), r.1)
 
-    known_at : (root at : ℕ) → Known root → IsReached (graph_nodes_of nodes) root at → Known at
+    pub known_at : (root at : ℕ) → Known root → IsReached (graph_nodes_of nodes) root at → Known at
     known_at root at g w = (walk_of root at w.0 g w.1).1
 
-    closed_at : (at : ℕ) (e : Edge I) → Known at → HasEdge (graph_nodes_of nodes) at e → HasGoal (graph_nodes_of nodes) e.target e.input
+    -- all that the root of a graph reaches is finished
+    pub whole_from_graph : (root : ℕ) → Known root → IsWhole nodes root
+    whole_from_graph root g at w =
+        let n = ended_at at (known_at root at g w) in
+        subst (λ o. IsSome (elim o [ None ↦ None | Some m ↦ elim m.run [ None ↦ None | Some run ↦ Some m ] ])) (sym n.is)
+        (subst (λ r. IsSome (elim r [ None ↦ None | Some run ↦ Some n.node ])) (sym n.ended) refl)
+
+  module _ (scripts : I → List (Reply R) → Request I R) (nodes : List (CacheNode I R)) (runs : AreRuns is_yes is_no scripts nodes)
+      (verdict : theory.Verdict) (rule : I → List (Question I) → Type 0) (kind : PathKind) (cycles : rank_of kind ≡ cycle_kind verdict)
+      (settles : (n : CacheNode I R) (run : EndedRun I R) → IsRun is_yes is_no (scripts n.goal) nodes run → verdict_of is_yes is_no run.outcome ≡ verdict → rule n.goal (map question_of run.edges)) where
+    HasGoal-from : (at : ℕ) (goal : I) → IsNodeOf nodes at goal → HasGoal (graph_nodes_of nodes) at goal
+    HasGoal-from at goal h =
+        let w = node_at (slice_get nodes at) goal h in
+        ap (option_map (λ n. n.goal)) (slice_get-map graph_node_of nodes at ∙ ap (option_map graph_node_of) w.1) ∙ ap Some w.2
+
+    closed_at : (at : ℕ) (e : Edge I) → Known nodes verdict at → HasEdge (graph_nodes_of nodes) at e → HasGoal (graph_nodes_of nodes) e.target e.input
     closed_at at e g h =
-        let n = ended_at at g in
-        let i = edge_at at n e h in
+        let n = ended_at nodes verdict at g in
+        let i = edge_at nodes verdict at n e h in
         HasGoal-from e.target e.input ((runs at n.node n.run n.is n.ended).targets i.0 e i.1)
 
-    settled_at : (at : ℕ) (m : GraphNode I) → Known at → slice_get (graph_nodes_of nodes) at ≡ Some m → rule m.goal (map question_of m.edges)
+    settled_at : (at : ℕ) (m : GraphNode I) → Known nodes verdict at → slice_get (graph_nodes_of nodes) at ≡ Some m → rule m.goal (map question_of m.edges)
     settled_at at m g is =
-        let n = ended_at at g in
-        let both : Some (record { goal = n.node.goal; edges = n.run.edges }) ≡ Some m = sym (graph_node_at at n) ∙ is in
+        let n = ended_at nodes verdict at g in
+        let both : Some (record { goal = n.node.goal; edges = n.run.edges }) ≡ Some m = sym (graph_node_at nodes verdict at n) ∙ is in
         let same : record { goal = n.node.goal; edges = n.run.edges } ≡ m = cc in
         subst (λ x. rule x.goal (map question_of x.edges)) same (settles n.node n.run (runs at n.node n.run n.is n.ended) n.sort)
 
-    cycle_at : (at : ℕ) (e : Edge I) (rest : List (Edge I)) → Known at → IsWalk (graph_nodes_of nodes) at (e ∷ rest) at → walk_kind (e ∷ rest) ≡ kind
+    cycle_at : (at : ℕ) (e : Edge I) (rest : List (Edge I)) → Known nodes verdict at → IsWalk (graph_nodes_of nodes) at (e ∷ rest) at → walk_kind (e ∷ rest) ≡ kind
     cycle_at at e rest g w =
-        let s = step_of at g e w.0 in
-        let r = walk_of e.target at rest (graph_behind (shapes_of is_yes is_no nodes) verdict at (rank_of e.kind) e.target s g) w.1 in
+        let s = step_of nodes verdict at g e w.0 in
+        let r = walk_of nodes verdict e.target at rest (graph_behind (shapes_of is_yes is_no nodes) verdict at (rank_of e.kind) e.target s g) w.1 in
         same_kind (walk_kind (e ∷ rest)) kind
         (sym (greater_rank e.kind (walk_kind rest))
         ∙ (g.closed at 0 (rank_of e.kind) e.target (rank_of (walk_kind rest)) stay s r.0 ∙ sym cycles))
 
-    pub has_graph : (root : ℕ) (goal : I) → IsNodeOf nodes root goal → Known root → IsGraph rule kind (graph_nodes_of nodes) root goal
+    pub has_graph : (root : ℕ) (goal : I) → IsNodeOf nodes root goal → Known nodes verdict root → IsGraph rule kind (graph_nodes_of nodes) root goal
     has_graph root goal is g = record {
       rooted = HasGoal-from root goal is;
-      closed = λ at e w h. closed_at at e (known_at root at g w) h;
-      settled = λ at n w there. settled_at at n (known_at root at g w) there;
-      cycles = λ at e rest w loop. cycle_at at e rest (known_at root at g w) loop;
+      closed = λ at e w h. closed_at at e (known_at nodes verdict root at g w) h;
+      settled = λ at n w there. settled_at at n (known_at nodes verdict root at g w) there;
+      cycles = λ at e rest w loop. cycle_at at e rest (known_at nodes verdict root at g w) loop;
     }
 
-yes_case : (y n : Bool) → (if y then theory.Yes else if n then theory.No else theory.Neither) ≡ theory.Yes → y ≡ true
+pub yes_case : (y n : Bool) → (if y then theory.Yes else if n then theory.No else theory.Neither) ≡ theory.Yes → y ≡ true
 yes_case true n e = refl
 yes_case false true e = absurd cc
 yes_case false false e = absurd cc
 
-no_case : (y n : Bool) → (if y then theory.Yes else if n then theory.No else theory.Neither) ≡ theory.No → n ≡ true
+pub no_case : (y n : Bool) → (if y then theory.Yes else if n then theory.No else theory.Neither) ≡ theory.No → n ≡ true
 no_case true n e = absurd cc
 no_case false true e = refl
 no_case false false e = absurd cc

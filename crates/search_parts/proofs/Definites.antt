@@ -1,6 +1,6 @@
 -- Definite results keep their graphs while the list of nodes grows, and show what they say.
-use Rattle.std.proofs.Common.{◌≡◌, zero, Bool, true, false, if◌then◌else◌, List, Option, None, Some, option_map, refl, sym, ap, ◌∙◌, subst}
-use Rattle.std.specs.Option.{IsSomeAnd}
+use Rattle.std.proofs.Common.{◌≡◌, zero, Bool, true, false, if◌then◌else◌, List, Option, None, Some, option_map, ◌⊎◌, inl, inr, refl, sym, ap, ◌∙◌, subst}
+use Rattle.std.specs.Option.{IfSome, IsSomeAnd}
 use Rattle.open_graphs.specs.Graph as theory
 use Rattle.open_graphs.proofs.Closed.{growth_keeps_graph}
 use Rattle.open_graphs.proofs.Verdicts.{edges_of}
@@ -12,8 +12,9 @@ use Rattle.search_parts.specs.Question.{Question}
 use Rattle.search_parts.specs.Cache.{CacheNode, IsNodeOf, KeepsGoals, KeepsFinished, AreRuns, graph_nodes_of}
 use Rattle.search_parts.specs.Shapes.{verdict_of, shapes_of}
 use Rattle.search_parts.specs.Definite.{HasGraph}
+use Rattle.search_parts.specs.HandedOut.{IsWhole}
 use Rattle.search_parts.proofs.Finished.{finished_stays, Grown-finished}
-use Rattle.search_parts.proofs.Bridge.{KeepsRule, yes_is_proof, no_is_refutation}
+use Rattle.search_parts.proofs.Bridge.{KeepsRule, whole_from_graph, yes_is_proof, no_is_refutation}
 
 pub IsSomeAnd-weaker : {A : Type 0} (P Q : A → Type 0) → ((x : A) → P x → Q x) → (o : Option A) → IsSomeAnd o P → IsSomeAnd o Q
 IsSomeAnd-weaker P Q more None h = absurd h
@@ -45,16 +46,16 @@ module _ {I R : Type 0} (is_yes is_no : R → Bool) where
     neither = h.neither;
   }
 
-yes_verdict : (y n : Bool) → y ≡ true → (if y then theory.Yes else if n then theory.No else theory.Neither) ≡ theory.Yes
+pub yes_verdict : (y n : Bool) → y ≡ true → (if y then theory.Yes else if n then theory.No else theory.Neither) ≡ theory.Yes
 yes_verdict true n e = refl
 yes_verdict false n e = absurd cc
 
-no_verdict : (y n : Bool) → (y ≡ true → n ≡ false) → n ≡ true → (if y then theory.Yes else if n then theory.No else theory.Neither) ≡ theory.No
+pub no_verdict : (y n : Bool) → (y ≡ true → n ≡ false) → n ≡ true → (if y then theory.Yes else if n then theory.No else theory.Neither) ≡ theory.No
 no_verdict true n one e = let other : n ≡ false = one refl in absurd cc
 no_verdict false true one e = refl
 no_verdict false false one e = absurd cc
 
-definite : (v w : theory.Verdict) → v ≡ w → (w ≡ theory.Neither → ⊥) → v ≡ theory.Neither → ⊥
+pub definite : (v w : theory.Verdict) → v ≡ w → (w ≡ theory.Neither → ⊥) → v ≡ theory.Neither → ⊥
 definite v w same other none = other (sym same ∙ none)
 
 module _ {I R : Type 0} (is_yes is_no : R → Bool) (scripts : I → List (Reply R) → Request I R) (nodes : List (CacheNode I R)) (runs : AreRuns is_yes is_no scripts nodes) (goal : I) (r : R) (node : Option NodeId) (has : HasGraph is_yes is_no nodes goal r node) where
@@ -75,3 +76,16 @@ module _ {I R : Type 0} (is_yes is_no : R → Bool) (scripts : I → List (Reply
       (λ n. IsRefutationGraph refutes (graph_nodes_of nodes) n.0 goal)
       (λ n g. no_is_refutation is_yes is_no scripts nodes runs n.0 goal g.0 refutes law (subst (λ v. theory.IsGraph (shapes_of is_yes is_no nodes) v n.0) no g.1))
       node (has.definite (definite (verdict_of is_yes is_no r) theory.No no (λ e. cc)))
+
+is_neither : (v : theory.Verdict) → (v ≡ theory.Neither) ⊎ (v ≡ theory.Neither → ⊥)
+is_neither theory.Yes = inr (λ e. cc)
+is_neither theory.No = inr (λ e. cc)
+is_neither theory.Neither = inl refl
+
+-- all that the node of a result reaches is finished
+pub definite_is_whole : {I R : Type 0} (is_yes is_no : R → Bool) (nodes : List (CacheNode I R)) (goal : I) (r : R) (node : Option NodeId) → HasGraph is_yes is_no nodes goal r node → IfSome node (λ n. IsWhole nodes n.0)
+definite_is_whole is_yes is_no nodes goal r None has = tt
+definite_is_whole is_yes is_no nodes goal r (Some n) has = elim (is_neither (verdict_of is_yes is_no r)) [
+  | inl neither ↦ let none : Some n ≡ None = has.neither neither in absurd cc
+  | inr is_definite ↦ whole_from_graph is_yes is_no nodes (verdict_of is_yes is_no r) n.0 (has.definite is_definite).1
+]

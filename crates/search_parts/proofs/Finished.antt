@@ -43,7 +43,8 @@ finished_at : {I R : Type 0} (m n : CacheNode I R) (run : Option (EndedRun I R))
 finished_at m n None h = absurd cc
 finished_at m n (Some r) h = h
 
-found_finished : {I R : Type 0} (o : Option (CacheNode I R)) (n : CacheNode I R) → elim o [ None ↦ None | Some m ↦ elim m.run [ None ↦ None | Some run ↦ Some m ] ] ≡ Some n → o ≡ Some n
+-- a finished node is at its place
+pub found_finished : {I R : Type 0} (o : Option (CacheNode I R)) (n : CacheNode I R) → elim o [ None ↦ None | Some m ↦ elim m.run [ None ↦ None | Some run ↦ Some m ] ] ≡ Some n → o ≡ Some n
 found_finished None n h = absurd cc
 found_finished (Some m) n h = finished_at m n m.run h
 

@@ -8,6 +8,10 @@ pub mod Slots
 pub mod Bridge
 pub mod Definites
 pub mod StackIndex
+pub mod FoundNodes
+pub mod HandedOut
+pub mod Whole
+pub mod ValidCopies
 pub mod LastState
 pub mod StackReads
 pub mod NestedLists

@@ -9,6 +9,8 @@ use std::alloc::Global;
 use std::collections::HashMap;
 use std::marker::Model;
 
+mod found;
+mod graph;
 pub mod look_up;
 mod nodes;
 pub mod results;

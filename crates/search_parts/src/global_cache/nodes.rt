@@ -2,7 +2,7 @@
 ghost use Rattle.std.specs.Prelude.{◌≡◌, ◌∷◌, ◌++◌, [], length, IfOk, OnErr, IfSome};
 ghost use Rattle.std.specs.Option.{is_some, option_map, IsSomeAnd};
 ghost use Rattle.open_graphs.specs.Graph.{Grown};
-ghost use Rattle.search_parts.specs.Cache.{open_node as new_node, open_goal, finished_node, with_run, IsRun, KeepsNodes, KeepsGoals};
+ghost use Rattle.search_parts.specs.Cache.{open_node as new_node, open_goal, finished_node, with_run, IsRun, KeepsNodes, KeepsFinished, KeepsGoals};
 ghost use Rattle.search_parts.specs.Shapes.{shapes_of};
 ghost use Rattle.search_parts.specs.View.{node_of, run_of, ended_node};
 
@@ -64,6 +64,7 @@ impl<D: Delegate> GlobalCache<D> {
     )
         requires { IsSomeAnd (open_goal self.old.nodes node.0) (λ goal. IsRun D.Cx.is_yes D.Cx.is_no (D.script self.old.cx goal) self.old.nodes (record { replies = replies.items; edges = edges.items; outcome = outcome })) }
         ensures ended { self.new ≡ record self.old { nodes = with_run self.old.nodes node.0 (record { replies = replies.items; edges = edges.items; outcome = outcome }) } }
+        ensures kept { KeepsFinished self.old.nodes self.new.nodes }
         ensures goals { KeepsGoals self.old.nodes self.new.nodes }
         ensures grown { Grown (shapes_of D.Cx.is_yes D.Cx.is_no self.old.nodes) (shapes_of D.Cx.is_yes D.Cx.is_no self.new.nodes) }
     {

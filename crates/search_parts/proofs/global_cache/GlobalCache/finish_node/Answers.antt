@@ -1,8 +1,9 @@
 use Rattle.std.proofs.Common.{sym, subst}
 use Rattle.open_graphs.specs.Graph.{Grown}
-use Rattle.search_parts.specs.Cache.{KeepsGoals}
+use Rattle.search_parts.specs.Cache.{KeepsFinished, KeepsGoals}
 use Rattle.search_parts.specs.Sound.{IsSound}
 use Rattle.search_parts.specs.Shapes.{shapes_of}
+use Rattle.search_parts.proofs.Finished.{KeepsFinished-ended}
 use Rattle.search_parts.proofs.Nodes.{KeepsGoals-ended, Grown-ended}
 use Rattle.search_parts.proofs.Slots.{nodes_ended, cache_ended}
 use Rattle.search_parts.proofs.Sound.{IsSound-ended}
@@ -16,6 +17,11 @@ invariant_of-self g c =
 
 pub returns-clause-ended : goal.returns-clause-ended
 returns-clause-ended g c = cache_ended _ _ _ _ _ _ _ _ c.self.view_is c.index.ensures c.input-input.ensures c.requires
+
+pub returns-clause-kept : goal.returns-clause-kept
+returns-clause-kept g c =
+    subst (KeepsFinished c.args.self.now.nodes) (sym (nodes_ended _ _ _ _ _ _ _ _ c.self.view_is c.index.ensures c.input-input.ensures c.requires))
+    (KeepsFinished-ended c.args.self.now.nodes c.args.node.0 _ _ c.requires)
 
 pub returns-clause-goals : goal.returns-clause-goals
 returns-clause-goals g c =

@@ -1,0 +1,130 @@
+-- A copy of what a definite result's node reaches is valid.
+use Rattle.std.proofs.Common.{◌≡◌, ℕ, ◌<◌, Bool, true, false, List, ◌∷◌, map, length, Option, None, Some, option_map, slice_get, slice_index, reverse, Contains, refl, sym, ◌∙◌, ap, subst, arith}
+use Rattle.std.specs.Option.{IsSomeAnd}
+use Rattle.std.proofs.lemmas.List.{length-map}
+use Rattle.std.proofs.lemmas.Option.{slice_get-map, slice_get_within, get_or_from_slice_get}
+use Rattle.open_graphs.specs.Graph as theory
+use Rattle.open_graphs.specs.Graph.{cycle_kind}
+use Rattle.cycle_heads.specs.Path.{rank_of}
+use Rattle.cycle_heads.specs.declared.path.PathKind.{PathKind}
+use Rattle.cycle_heads.specs.declared.path.PathKind.TheVariants.{Inductive, Coinductive}
+use Rattle.search_parts.specs.declared.context.Edge.{Edge}
+use Rattle.search_parts.specs.declared.context.Node.{Node}
+use Rattle.search_parts.specs.declared.context.NodeId.{NodeId}
+use Rattle.search_parts.specs.declared.context.Reply.{Reply}
+use Rattle.search_parts.specs.declared.context.Request.{Request}
+use Rattle.search_parts.specs.Cache.{EndedRun, CacheNode, IsNodeOf, IsRun, AreRuns, graph_node_of, graph_nodes_of}
+use Rattle.search_parts.specs.Definite.{HasGraph}
+use Rattle.search_parts.specs.Graph.{GraphNode, question_of, HasGoal, HasEdge, IsWalk, IsGraph, IsCopy, original_edge, walk_kind}
+use Rattle.search_parts.specs.HandedOut.{original_node, Copies}
+use Rattle.search_parts.specs.Run.{progress_after, questions_answered}
+use Rattle.search_parts.specs.Shapes.{verdict_of, shapes_of}
+use Rattle.search_parts.specs.Valid.{goal_node_of, goal_nodes_of, IsRunOfSort, IsValid}
+use Rattle.search_parts.proofs.Bridge.{Ended, ended_at, known_at, has_graph, yes_case, no_case}
+use Rattle.search_parts.proofs.Copies.{original_has, original_walk, copy_goal, same_questions, same_walk_kind}
+use Rattle.search_parts.proofs.Definites.{yes_verdict, no_verdict, definite}
+use Rattle.search_parts.proofs.HandedOut.{original_there}
+
+module _ {I R : Type 0} (is_yes is_no : R → Bool) (scripts : I → List (Reply R) → Request I R) (nodes : List (CacheNode I R)) (runs : AreRuns is_yes is_no scripts nodes)
+    (root : ℕ) (copy : List (Node I R)) (numbers : List ℕ) (c : Copies nodes root copy numbers) where
+  graph_case : (at : ℕ) (m : GraphNode I) (o : Option (Node I R)) → slice_get copy at ≡ o → option_map goal_node_of o ≡ Some m → slice_get (graph_nodes_of nodes) (slice_index numbers at) ≡ Some (record { goal = m.goal; edges = map (original_edge (slice_index numbers)) m.edges })
+  graph_case at m None there is = absurd cc
+  graph_case at m (Some n) there is =
+      let same : goal_node_of n ≡ m = cc in
+      subst (λ x. slice_get (graph_nodes_of nodes) (slice_index numbers at) ≡ Some (record { goal = x.goal; edges = map (original_edge (slice_index numbers)) x.edges })) same
+      (slice_get-map graph_node_of nodes (slice_index numbers at) ∙ ap (option_map graph_node_of) (original_there nodes root copy numbers c at n there))
+
+  as_goals : length (goal_nodes_of copy) ≡ length copy
+  as_goals = length-map copy goal_node_of
+
+  -- the copy is one of the graph of goals
+  is_copy : IsCopy (graph_nodes_of nodes) (goal_nodes_of copy) (slice_index numbers)
+  is_copy = record {
+    same = λ at m is. graph_case at m (slice_get copy at) refl (sym (slice_get-map goal_node_of copy at) ∙ is);
+    inside = λ at e has. subst (λ l. e.target < l) (sym as_goals) (c.inside at e has);
+  }
+
+  edge_within : (at : ℕ) (o : Option (GraphNode I)) (e : Edge I) → slice_get (goal_nodes_of copy) at ≡ o → HasEdge (goal_nodes_of copy) at e → at < length copy
+  edge_within at None e is has = absurd (subst (λ o. IsSomeAnd o (λ n. Contains n.edges e)) is has)
+  edge_within at (Some m) e is has = subst (λ l. at < l) as_goals (slice_get_within (goal_nodes_of copy) at m is)
+
+  module _ (verdict : theory.Verdict) (kind : PathKind) (cycles : rank_of kind ≡ cycle_kind verdict) (test : R → Bool)
+      (has_sort : (r : R) → verdict_of is_yes is_no r ≡ verdict → test r ≡ true)
+      (asks : (script : List (Reply R) → Request I R) (run : EndedRun I R) → IsRun is_yes is_no script nodes run → test run.outcome ≡ true → map question_of run.edges ≡ questions_answered test (progress_after script (reverse run.replies)))
+      (goal : I) (is : IsNodeOf nodes root goal) (known : theory.IsGraph (shapes_of is_yes is_no nodes) verdict root) where
+    graph : IsGraph (λ _ _. Unit {0}) kind (graph_nodes_of nodes) root goal
+    graph = has_graph is_yes is_no scripts nodes runs verdict (λ _ _. Unit {0}) kind cycles (λ _ _ _ _. tt) root goal is known
+
+    first_is : slice_index numbers 0 ≡ root
+    first_is = get_or_from_slice_get numbers 0 root 0 c.rooted
+
+    first_within : 0 < length copy
+    first_within = let l : 0 < length numbers = slice_get_within numbers 0 root c.rooted in omega (arith, c.each)
+
+    known_there : (at : ℕ) → at < length copy → theory.IsGraph (shapes_of is_yes is_no nodes) verdict (slice_index numbers at)
+    known_there at l = known_at is_yes is_no nodes verdict root (slice_index numbers at) known (c.reached at l)
+
+    abbrev run_there : Node I R → EndedRun I R
+    run_there n = record { replies = n.replies.items; edges = map (original_edge (slice_index numbers)) n.edges.items; outcome = n.result }
+
+    verdict_there : (at : ℕ) (n : Node I R) → slice_get copy at ≡ Some n → Ended is_yes is_no verdict (slice_get nodes (slice_index numbers at)) → verdict_of is_yes is_no n.result ≡ verdict
+    verdict_there at n there ended =
+        let nodes_same : Some (original_node (slice_index numbers) n) ≡ Some ended.node = sym (original_there nodes root copy numbers c at n there) ∙ ended.is in
+        let node_same : original_node (slice_index numbers) n ≡ ended.node = cc in
+        let runs_same : Some (run_there n) ≡ Some ended.run = ap (λ x. x.run) node_same ∙ ended.ended in
+        let run_same : run_there n ≡ ended.run = cc in
+        ap (λ r. verdict_of is_yes is_no r.outcome) run_same ∙ ended.sort
+
+    run_at : (at : ℕ) (n : Node I R) → slice_get copy at ≡ Some n → IsRunOfSort test (scripts n.input) n
+    run_at at n there =
+        let known_here = known_there at (slice_get_within copy at n there) in
+        let sort : test n.result ≡ true = has_sort n.result (verdict_there at n there (ended_at is_yes is_no nodes verdict (slice_index numbers at) known_here)) in
+        let is_run : IsRun is_yes is_no (scripts n.input) nodes (run_there n) =
+        runs (slice_index numbers at) (original_node (slice_index numbers) n) (run_there n) (original_there nodes root copy numbers c at n there) refl in
+        record {
+          ends = is_run.ends;
+          sort = sort;
+          edges = sym (same_questions (slice_index numbers) n.edges.items) ∙ asks (scripts n.input) (run_there n) is_run sort;
+        }
+
+    goal_there : (at : ℕ) (g : I) → at < length copy → HasGoal (graph_nodes_of nodes) (slice_index numbers at) g → HasGoal (goal_nodes_of copy) at g
+    goal_there at g l h = copy_goal (graph_nodes_of nodes) (goal_nodes_of copy) (slice_index numbers) is_copy at g (subst (λ x. at < x) (sym as_goals) l) h
+
+    has_original : (at : ℕ) (e : Edge I) → HasEdge (goal_nodes_of copy) at e → HasEdge (graph_nodes_of nodes) (slice_index numbers at) (original_edge (slice_index numbers) e)
+    has_original at e has = original_has (graph_nodes_of nodes) (goal_nodes_of copy) (slice_index numbers) is_copy at e has
+
+    closed_at : (at : ℕ) (e : Edge I) → HasEdge (goal_nodes_of copy) at e → HasGoal (goal_nodes_of copy) e.target e.input
+    closed_at at e has =
+        goal_there e.target e.input (c.inside at e has)
+        (graph.closed (slice_index numbers at) (original_edge (slice_index numbers) e) (c.reached at (edge_within at (slice_get (goal_nodes_of copy) at) e refl has)) (has_original at e has))
+
+    cycle_at : (at : ℕ) (e : Edge I) (rest : List (Edge I)) → IsWalk (goal_nodes_of copy) at (e ∷ rest) at → walk_kind (e ∷ rest) ≡ kind
+    cycle_at at e rest loop =
+        sym (same_walk_kind (slice_index numbers) (e ∷ rest))
+        ∙ graph.cycles (slice_index numbers at) (original_edge (slice_index numbers) e) (map (original_edge (slice_index numbers)) rest)
+        (c.reached at (edge_within at (slice_get (goal_nodes_of copy) at) e refl loop.0))
+        (original_walk (graph_nodes_of nodes) (goal_nodes_of copy) (slice_index numbers) is_copy at at (e ∷ rest) loop)
+
+    copy_is_valid : IsValid test kind scripts copy goal
+    copy_is_valid = record {
+      rooted = goal_there 0 goal first_within (subst (λ x. HasGoal (graph_nodes_of nodes) x goal) (sym first_is) graph.rooted);
+      runs = run_at;
+      closed = closed_at;
+      cycles = cycle_at;
+    }
+
+  -- the copy of a yes
+  pub yes_is_valid : (goal : I) (r : R) (node : NodeId) → node.0 ≡ root → HasGraph is_yes is_no nodes goal r (Some node) → is_yes r ≡ true → IsValid is_yes Coinductive scripts copy goal
+  yes_is_valid goal r node here has is =
+      let yes : verdict_of is_yes is_no r ≡ theory.Yes = yes_verdict (is_yes r) (is_no r) is in
+      let g = has.definite (definite (verdict_of is_yes is_no r) theory.Yes yes (λ e. cc)) in
+      copy_is_valid theory.Yes Coinductive refl is_yes (λ s e. yes_case (is_yes s) (is_no s) e) (λ script run is_run sort. is_run.yes sort)
+      goal (subst (λ x. IsNodeOf nodes x goal) here g.0) (subst (λ x. theory.IsGraph (shapes_of is_yes is_no nodes) theory.Yes x) here (subst (λ v. theory.IsGraph (shapes_of is_yes is_no nodes) v node.0) yes g.1))
+
+  -- the copy of a no
+  pub no_is_valid : (goal : I) (r : R) (node : NodeId) → node.0 ≡ root → (is_yes r ≡ true → is_no r ≡ false) → HasGraph is_yes is_no nodes goal r (Some node) → is_no r ≡ true → IsValid is_no Inductive scripts copy goal
+  no_is_valid goal r node here one has is =
+      let no : verdict_of is_yes is_no r ≡ theory.No = no_verdict (is_yes r) (is_no r) one is in
+      let g = has.definite (definite (verdict_of is_yes is_no r) theory.No no (λ e. cc)) in
+      copy_is_valid theory.No Inductive refl is_no (λ s e. no_case (is_yes s) (is_no s) e) (λ script run is_run sort. is_run.no sort)
+      goal (subst (λ x. IsNodeOf nodes x goal) here g.0) (subst (λ x. theory.IsGraph (shapes_of is_yes is_no nodes) theory.No x) here (subst (λ v. theory.IsGraph (shapes_of is_yes is_no nodes) v node.0) no g.1))
