@@ -1,0 +1,9 @@
+pub mod Elements
+pub mod KeptQuestions
+pub mod RunRecords
+pub mod Replaying
+pub mod ClosedWalks
+pub mod InnerEdges
+pub mod Members
+pub mod Places
+pub mod ValidGraphs

@@ -1,0 +1,91 @@
+-- What a valid graph shows: where the questions of each run's answers keep a rule, it is a graph of its goal by the rule.
+use Rattle.std.proofs.Common.{◌≡◌, ◌↔◌, Bool, true, IsTrue, List, Option, Some, None, option_map, map, slice_get, get_or, reverse, refl, sym, ◌∙◌, subst}
+use Rattle.std.proofs.lemmas.Option.{slice_get-map, slice_get-get_or, slice_get_within, get_or_from_slice_get}
+use Rattle.cycle_heads.specs.declared.path.PathKind.{PathKind}
+use Rattle.cycle_heads.specs.declared.path.PathKind.TheVariants.{Inductive, Coinductive}
+use Rattle.search_parts.specs.declared.context.Node.{Node}
+use Rattle.search_parts.specs.declared.context.Reply.{Reply}
+use Rattle.search_parts.specs.declared.context.Request.{Request}
+use Rattle.search_parts.specs.declared.context.Verdict.{Verdict}
+use Rattle.search_parts.specs.declared.context.Verdict.TheVariants.{Yes, No, Neither}
+use Rattle.search_parts.specs.Question.{Question}
+use Rattle.search_parts.specs.Run.{EndsIn, progress_after, questions_answered}
+use Rattle.search_parts.specs.Graph.{GraphNode, question_of, HasGoal, IsGraph, IsProofGraph, IsRefutationGraph}
+use Rattle.search_parts.specs.Valid.{AreClosed, CyclesHaveKind, IsRunOfSort, IsValid, IsValidFor, goal_node_of, goal_nodes_of}
+use Rattle.graph_check.specs.Replay.{has_sort}
+use Rattle.graph_check.specs.Runs.{AreRunsOfSort}
+
+-- a rule that the questions of each run's answers keep
+abbrev pub KeepsRule : {I R : Type 0} → (R → Bool) → (I → List (Reply R) → Request I R) → (I → List (Question I) → Type 0) → Type 0
+KeepsRule {I} {R} is_of_sort scripts rule =
+    (goal : I) (replies : List (Reply R)) (r : R)
+    → EndsIn (scripts goal) replies r → is_of_sort r ≡ true → rule goal (questions_answered is_of_sort (progress_after (scripts goal) replies))
+
+module _ {I R : Type 0} (is_of_sort : R → Bool) (scripts : I → List (Reply R) → Request I R) (nodes : List (Node I R)) where
+  -- the node behind a node of the graph
+  node_behind : (o : Option (Node I R)) (m : GraphNode I) → option_map goal_node_of o ≡ Some m → (n : Node I R) × (o ≡ Some n) × (goal_node_of n ≡ m)
+  node_behind None m e = absurd cc
+  node_behind (Some n) m e = (n, refl, cc)
+
+  -- a valid graph is a graph of its goal
+  pub valid_is_graph : (kind : PathKind) (rule : I → List (Question I) → Type 0) (goal : I) → KeepsRule is_of_sort scripts rule → IsValid is_of_sort kind scripts nodes goal → IsGraph rule kind (goal_nodes_of nodes) 0 goal
+  valid_is_graph kind rule goal keeps valid = record {
+    rooted = valid.rooted;
+    closed = λ at e reached has. valid.closed at e has;
+    settled = λ at m reached is.
+        let n = node_behind (slice_get nodes at) m (sym (slice_get-map goal_node_of nodes at) ∙ is) in
+        let run = valid.runs at n.0 n.1 in
+        let settled : rule n.0.input (map question_of n.0.edges.items) =
+        subst (rule n.0.input) (sym run.edges) (keeps n.0.input (reverse n.0.replies.items) n.0.result run.ends run.sort) in
+        subst (λ (x : GraphNode I). rule x.goal (map question_of x.edges)) n.2 settled;
+    cycles = λ at e rest reached walk. valid.cycles at e rest walk;
+  }
+
+  -- the parts of a valid graph that are tested one after another
+  pub valid_from_parts : (kind : PathKind) (goal : I) → HasGoal (goal_nodes_of nodes) 0 goal → AreClosed (goal_nodes_of nodes) → CyclesHaveKind kind (goal_nodes_of nodes) → AreRunsOfSort is_of_sort scripts nodes → IsValid is_of_sort kind scripts nodes goal
+  valid_from_parts kind goal rooted closed cycles runs = record {
+    rooted = rooted;
+    runs = λ at n is.
+        let at_n = get_or_from_slice_get nodes at n n is in
+        subst (λ (m : Node I R). IsRunOfSort is_of_sort (scripts m.input) m) at_n (runs at n (slice_get_within nodes at n is));
+    closed = closed;
+    cycles = cycles;
+  }
+
+  pub runs_of_valid : (kind : PathKind) (goal : I) → IsValid is_of_sort kind scripts nodes goal → AreRunsOfSort is_of_sort scripts nodes
+  runs_of_valid kind goal valid = λ k d lt. valid.runs k (get_or nodes k d) (slice_get-get_or nodes k d lt)
+
+-- the kind that cycles have for a verdict
+abbrev pub IsKindOf : Verdict → PathKind → Type 0
+IsKindOf Yes kind = kind ≡ Coinductive
+IsKindOf No kind = kind ≡ Inductive
+IsKindOf Neither kind = ⊥
+
+module _ {I R : Type 0} (is_yes is_no : R → Bool) (scripts : I → List (Reply R) → Request I R) (goal : I) (kind : PathKind) where
+  pub valid_of_sort : (sort : Verdict) (nodes : List (Node I R)) → IsKindOf sort kind → IsValidFor is_yes is_no sort scripts nodes goal → IsValid (has_sort is_yes is_no sort) kind scripts nodes goal
+  valid_of_sort Yes nodes e v = subst (λ k. IsValid is_yes k scripts nodes goal) (sym e) v
+  valid_of_sort No nodes e v = subst (λ k. IsValid is_no k scripts nodes goal) (sym e) v
+  valid_of_sort Neither nodes e v = absurd v
+
+  valid_for : (sort : Verdict) (nodes : List (Node I R)) → IsKindOf sort kind → IsValid (has_sort is_yes is_no sort) kind scripts nodes goal → IsValidFor is_yes is_no sort scripts nodes goal
+  valid_for Yes nodes e v = subst (λ k. IsValid is_yes k scripts nodes goal) e v
+  valid_for No nodes e v = subst (λ k. IsValid is_no k scripts nodes goal) e v
+  valid_for Neither nodes e v = absurd e
+
+  -- where the goal and the edges are right, the runs decide
+  pub runs_decide : (sort : Verdict) (nodes : List (Node I R)) → IsKindOf sort kind
+      → HasGoal (goal_nodes_of nodes) 0 goal → AreClosed (goal_nodes_of nodes) → CyclesHaveKind kind (goal_nodes_of nodes)
+      → (accepted : Bool) → IsTrue accepted ↔ AreRunsOfSort (has_sort is_yes is_no sort) scripts nodes → IsTrue accepted ↔ IsValidFor is_yes is_no sort scripts nodes goal
+  runs_decide sort nodes e rooted closed cycles accepted runs = (
+    λ h. valid_for sort nodes e (valid_from_parts (has_sort is_yes is_no sort) scripts nodes kind goal rooted closed cycles (runs.0 h)),
+    λ v. runs.1 (runs_of_valid (has_sort is_yes is_no sort) scripts nodes kind goal (valid_of_sort sort nodes e v)),
+  )
+
+module _ {I R : Type 0} (is_yes is_no : R → Bool) (scripts : I → List (Reply R) → Request I R) (goal : I) (sort : Verdict) (nodes : List (Node I R)) where
+  -- a valid graph for yes is a proof graph
+  pub valid_is_proof : (proves : I → List (Question I) → Type 0) → KeepsRule is_yes scripts proves → IsValidFor is_yes is_no sort scripts nodes goal → sort ≡ Yes → IsProofGraph proves (goal_nodes_of nodes) 0 goal
+  valid_is_proof proves keeps v e = valid_is_graph is_yes scripts nodes Coinductive proves goal keeps (subst (λ s. IsValidFor is_yes is_no s scripts nodes goal) e v)
+
+  -- a valid graph for no is a refutation graph
+  pub valid_is_refutation : (refutes : I → List (Question I) → Type 0) → KeepsRule is_no scripts refutes → IsValidFor is_yes is_no sort scripts nodes goal → sort ≡ No → IsRefutationGraph refutes (goal_nodes_of nodes) 0 goal
+  valid_is_refutation refutes keeps v e = valid_is_graph is_no scripts nodes Inductive refutes goal keeps (subst (λ s. IsValidFor is_yes is_no s scripts nodes goal) e v)

@@ -1,0 +1,12 @@
+use Rattle.std.proofs.Common.{◌≡◌, ◌≤◌, ◌+◌, take}
+use Rattle.graph_check.specs.Replay.{has_sort}
+use Rattle.graph_check.specs.Runs.{AreRunsOfSort}
+use Rattle.graph_check.proofs.are_runs.Given as goal
+
+-- the nodes so far are runs, and each has started one frame at most
+abbrev pub invariant-loop-node : goal.invariant-loop-node
+invariant-loop-node g l = record {
+  runs : AreRunsOfSort (has_sort g.D.Cx.Cx.is_yes g.D.Cx.Cx.is_no l.sort) (g.D.Delegate.script l.cx) (take l.node-index l.nodes);
+  frames : g.D.Delegate.starts l.inspect ≤ g.D.Delegate.starts l.initial.inspect + l.node-index;
+  same_noop : g.D.Delegate.noop l.inspect ≡ g.D.Delegate.noop l.initial.inspect;
+}

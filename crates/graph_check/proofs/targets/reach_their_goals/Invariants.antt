@@ -1,0 +1,8 @@
+use Rattle.std.proofs.Common.{All, take}
+use Rattle.search_parts.specs.Graph.{HasGoal}
+use Rattle.search_parts.specs.Valid.{goal_nodes_of}
+use Rattle.graph_check.proofs.targets.reach_their_goals.Given as goal
+
+-- each edge so far reaches its goal
+abbrev pub invariant-loop-edge : goal.invariant-loop-edge
+invariant-loop-edge g l = All (λ e. HasGoal (goal_nodes_of l.nodes) e.target e.input) (take l.edge-index l.edges)
