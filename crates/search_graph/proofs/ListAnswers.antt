@@ -1,5 +1,5 @@
 -- Answers to a list of queries stay right while more queries are answered.
-use Rattle.std.proofs.Common.{◌≡◌, ℕ, ◌+◌, ◌<◌, ◌≤◌, Bool, true, false, List, [], ◌∷◌, ◌++◌, length, take, get_or, Result, Ok, Err, IfOk, IfErr, None, refl, sym, ap, ◌∙◌, subst, arith}
+use Rattle.std.proofs.Common.{◌≡◌, ℕ, ◌+◌, ◌<◌, ◌≤◌, Bool, true, false, List, [], ◌∷◌, ◌++◌, length, take, get_or, IfSome, Result, Ok, Err, IfOk, IfErr, None, refl, sym, ap, ◌∙◌, subst, arith}
 use Rattle.std.specs.List.{AllZip, sum_by}
 use Rattle.std.proofs.lemmas.List.{take_more}
 use Rattle.std.proofs.lemmas.List.Sums.{sum_by-append}
@@ -16,7 +16,8 @@ use Rattle.search_parts.specs.Question.{Question, Overlap}
 use Rattle.search_parts.specs.Rank.{IsPlainTo, IsPlainValue}
 use Rattle.search_parts.specs.Store.{KeepsResults}
 use Rattle.search_parts.proofs.Bridge.{KeepsRule}
-use Rattle.search_parts.proofs.Definites.{HasGraph-finished}
+use Rattle.search_parts.specs.HandedOut.{IsWhole}
+use Rattle.search_parts.proofs.Definites.{HasGraph-finished, definite_is_whole}
 use Rattle.search_parts.proofs.Finished.{KeepsFinished-then}
 use Rattle.search_parts.proofs.Stores.{KeepsResults-then}
 use Rattle.search_graph.specs.Graph.{IsProved, IsRefuted}
@@ -97,4 +98,6 @@ module _ {D C V P F I R A T : Type 0} (G : Delegate.Ghosts D C V P F I R A T) (X
           (λ a graph. no_is_refuted G X cache runs_are clash query.1 a.result a.node graph refuted (one_sort a.result)) h.has_graph;
       neither = IfOk-weaker answer (λ a. HasGraph X.is_yes X.is_no cache.nodes query.1 a.result a.node) (λ a. X.is_yes a.result ≡ false → X.is_no a.result ≡ false → a.node ≡ None)
           (λ a graph. neither_is_none G X cache runs_are clash query.1 a.result a.node graph) h.has_graph;
+      whole = IfOk-weaker answer (λ a. HasGraph X.is_yes X.is_no cache.nodes query.1 a.result a.node) (λ a. IfSome a.node (λ node. IsWhole cache.nodes node.0))
+          (λ a graph. definite_is_whole X.is_yes X.is_no cache.nodes query.1 a.result a.node graph) h.has_graph;
     }

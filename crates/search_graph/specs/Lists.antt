@@ -1,5 +1,5 @@
 -- What a list of queries is answered with. A query is a root depth, a goal, and the kind of the step that asks it.
-use Rattle.std.specs.Prelude.{◌≡◌, ℕ, ◌≤◌, Bool, true, false, List, ◌++◌, None, Result, IfOk, IfErr}
+use Rattle.std.specs.Prelude.{◌≡◌, ℕ, ◌≤◌, Bool, true, false, List, ◌++◌, None, IfSome, Result, IfOk, IfErr}
 use Rattle.std.specs.List.{AllZip, sum_by}
 use Rattle.search_parts.specs.declared.context.Cx as Cx
 use Rattle.search_parts.specs.declared.context.Delegate as Delegate
@@ -9,6 +9,7 @@ use Rattle.search_parts.specs.declared.context.Fault.TheVariants.{Memory}
 use Rattle.cycle_heads.specs.declared.path.PathKind.{PathKind}
 use Rattle.search_parts.specs.Cache.{Cache, KeepsFinished}
 use Rattle.search_parts.specs.Definite.{HasGraph}
+use Rattle.search_parts.specs.HandedOut.{IsWhole}
 use Rattle.search_parts.specs.Rank.{IsPlainTo, IsPlainValue, frames_within}
 use Rattle.search_parts.specs.Store.{KeepsResults}
 use Rattle.search_graph.specs.Graph.{IsProved, IsRefuted, IsCaused}
@@ -40,9 +41,10 @@ module _ {D C V P F I R A T : Type 0} (G : Delegate.Ghosts D C V P F I R A T) (X
     pub has_graph : IfOk answer (λ a. HasGraph X.is_yes X.is_no cache.nodes query.1 a.result a.node)
     pub faults : IfErr answer HadCause
 
-  -- Besides, where the answer is definite, its goal has no graph of the other sort anywhere.
+  -- Besides, where the answer is definite, its goal has no graph of the other sort anywhere, and its own can be handed out.
   pub record IsAnswered (query : ℕ × I × PathKind) (answer : Result (Answer R) (Fault I R)) : Type 0 where
     pub has : HasAnswer query answer
     pub yes : IfOk answer (λ a. X.is_yes a.result ≡ true → IsProved X cache query.1 a.node)
     pub no : IfOk answer (λ a. X.is_no a.result ≡ true → IsRefuted X cache query.1 a.node)
     pub neither : IfOk answer (λ a. X.is_yes a.result ≡ false → X.is_no a.result ≡ false → a.node ≡ None)
+    pub whole : IfOk answer (λ a. IfSome a.node (λ node. IsWhole cache.nodes node.0))

@@ -6,6 +6,7 @@ ghost use Rattle.search_parts.specs.Rank.{IsPlainTo, IsPlainValue, frames_within
 ghost use Rattle.search_parts.specs.Store.{KeepsResults};
 ghost use Rattle.search_parts.specs.declared.context.Fault.TheVariants.{Memory, Protocol};
 ghost use Rattle.search_parts.specs.Cache.{KeepsFinished};
+ghost use Rattle.search_parts.specs.HandedOut.{IsWhole, KeepsWhole};
 ghost use Rattle.search_parts.specs.Decisive.{IsDecisive};
 ghost use Rattle.search_parts.specs.Definite.{IsDefinite, HasGraph};
 ghost use Rattle.evaluations.specs.Price.{IsPaid};
@@ -107,6 +108,10 @@ impl<D: Delegate> SearchGraph<D> {
         ensures no { IfOk result (λ answer. D.Cx.is_no answer.result ≡ true → IsRefuted D.Cx.Cx cache.new input answer.node) }
         ensures neither { IfOk result (λ answer. D.Cx.is_yes answer.result ≡ false → D.Cx.is_no answer.result ≡ false → answer.node ≡ None) }
         ensures has_graph { IfOk result (λ answer. HasGraph D.Cx.is_yes D.Cx.is_no cache.new.nodes input answer.result answer.node) }
+
+        // So its graph is there to be handed out, and each graph that was stays so.
+        ensures whole { IfOk result (λ answer. IfSome answer.node (λ node. IsWhole cache.new.nodes node.0)) }
+        ensures kept_whole { KeepsWhole cache.old.nodes cache.new.nodes }
 
         // A goal whose questions go no deeper than the root depth, and that is orderly with all goals below it,
         // answers its plain value or that memory is out, and meets no limit.

@@ -14,3 +14,5 @@
 #![tactic(auto)]
 
 pub mod graph;
+
+pub use graph_check;

@@ -1,6 +1,7 @@
 //! Queries that are answered one after another over one cache.
 ghost use Rattle.std.specs.Prelude.{◌≡◌, ◌≤◌, ◌<◌, ◌+◌, max, length, vec_len, vec_capacity, OnOk, OnErr};
 ghost use Rattle.search_parts.specs.Cache.{KeepsFinished};
+ghost use Rattle.search_parts.specs.HandedOut.{KeepsWhole};
 ghost use Rattle.search_parts.specs.Rank.{frames_within};
 ghost use Rattle.search_parts.specs.Store.{KeepsResults};
 ghost use Rattle.search_graph.specs.Lists.{Appends, HasAnswer, IsAnswered, frames_for};
@@ -44,6 +45,7 @@ impl<D: Delegate> SearchGraph<D> {
         ensures same_context { cache.new.cx ≡ cache.old.cx }
         ensures kept_results { KeepsResults D.Cx.Input.eq cache.old.results cache.new.results }
         ensures kept { KeepsFinished cache.old.nodes cache.new.nodes }
+        ensures kept_whole { KeepsWhole cache.old.nodes cache.new.nodes }
     {
         answers.reserve(queries.len())?;
         let alloc = *answers.allocator();

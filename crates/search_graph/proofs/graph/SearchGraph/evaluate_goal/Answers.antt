@@ -1,4 +1,6 @@
 use Rattle.std.proofs.Common.{◌<◌, ◌^◌, Ok, Err, true, false, refl, arith}
+use Rattle.search_parts.proofs.Definites.{definite_is_whole}
+use Rattle.search_parts.proofs.Whole.{whole_stays}
 use Rattle.search_graph.proofs.Loops.{call_of, call_begins, some_call_begins}
 use Rattle.search_graph.proofs.Promises.{call_is_stored, ended_plain, ended_within, ended_paid, stopped_within, stopped_paid, yes_is_proved, no_is_refuted, neither_is_none}
 use Rattle.search_graph.proofs.graph.SearchGraph.evaluate_goal.Goals as goal
@@ -13,6 +15,12 @@ returns-in-Ok-clause-no g c = λ is. no_is_refuted g.D.Delegate g.D.Cx.Cx c.eval
 
 pub returns-in-Ok-clause-neither : goal.returns-in-Ok-clause-neither
 returns-in-Ok-clause-neither g c = λ not_yes not_no. neither_is_none g.D.Delegate g.D.Cx.Cx c.evaluate.new.cache c.has_runs.ensures (g.met.D.Cx.Cx.clash c.evaluate.new.cache.cx) c.args.input c.in-Ok.answer.result c.in-Ok.answer.node c.in-Ok.ensures.has_graph not_yes not_no
+
+pub returns-in-Ok-clause-whole : goal.returns-in-Ok-clause-whole
+returns-in-Ok-clause-whole g c = definite_is_whole g.D.Cx.Cx.is_yes g.D.Cx.Cx.is_no c.evaluate.new.cache.nodes c.args.input c.in-Ok.answer.result c.in-Ok.answer.node c.in-Ok.ensures.has_graph
+
+pub returns-in-Ok-clause-kept_whole : goal.returns-in-Ok-clause-kept_whole
+returns-in-Ok-clause-kept_whole g c = whole_stays c.args.cache.now.nodes c.evaluate.new.cache.nodes c.evaluate.ensures.kept
 
 pub returns-in-Ok-clause-plain : goal.returns-in-Ok-clause-plain
 returns-in-Ok-clause-plain g c =
@@ -72,6 +80,9 @@ returns-in-Err-clause-plain_limits g c =
     let fits : c.self.inside.root_depth.0 < 2 ^ 64 = omega arith in
     rw (← c.self.view_is)
     ((c.in-Err.ensures.stopped (call_of c.args.input c.self.inside.root_depth.0 (g.D.Delegate.starts c.args.inspect.now) c.self.inside.limits_met false false fits) (some_call_begins g.D.Delegate g.D.Cx.Cx c.args.cache.now.cx g.D.Cx.Input.PartialEq.eq c.args.input c.self.inside.root_depth.0 (g.D.Delegate.starts c.args.inspect.now) c.self.inside.limits_met fits c.args.cache.now.results)).keeps.plain)
+
+pub returns-in-Err-clause-kept_whole : goal.returns-in-Err-clause-kept_whole
+returns-in-Err-clause-kept_whole g c = whole_stays c.args.cache.now.nodes c.evaluate.new.cache.nodes c.evaluate.ensures.kept
 
 pub returns-in-Err-clause-faults : goal.returns-in-Err-clause-faults
 returns-in-Err-clause-faults g c = c.in-Err.ensures.caused

@@ -4,6 +4,7 @@ use Rattle.std.proofs.lemmas.List.{take_all}
 use Rattle.search_parts.specs.Rank.{frames_within}
 use Rattle.search_parts.proofs.Finished.{KeepsFinished-then}
 use Rattle.search_parts.proofs.Stores.{KeepsResults-then}
+use Rattle.search_parts.proofs.Whole.{whole_stays}
 use Rattle.search_graph.specs.Lists.{Appends, HasAnswer, IsAnswered}
 use Rattle.search_graph.proofs.ListAnswers.{Appends-more, Appends-weaker, sum_by-more, HasAnswer-kept, answer_is_shown}
 use Rattle.search_graph.proofs.graph.SearchGraph.evaluate_list.Goals as goal
@@ -36,6 +37,9 @@ loop-query-preserved g c =
       kept_results = KeepsResults-then same c.args.cache.now.results old.results new.results then.kept_results now.kept_results;
       kept = KeepsFinished-then c.args.cache.now.nodes old.nodes new.nodes then.kept now.kept;
     }
+
+pub returns-clause-kept_whole : goal.returns-clause-kept_whole
+returns-clause-kept_whole g c = whole_stays c.args.cache.now.nodes c.loop-query.cache.nodes c.loop-query.invariant.kept
 
 pub returns-clause-answered : goal.returns-clause-answered
 returns-clause-answered g c =
