@@ -1,0 +1,8 @@
+//! Answers questions about rules, which are read from standard input, as `goals` does, and checks no graph.
+#![tactic(auto)]
+
+use std::process::ExitCode;
+
+fn main(rt: HostRuntime) -> ExitCode {
+    ExitCode::from(rule_tables::answer(rt.alloc(), rt.stdin(), rt.stdout(), rt.stderr()))
+}

@@ -1,6 +1,0 @@
-use Rattle.std.proofs.Common.{refl}
-use Rattle.goals.proofs.Adding.{adds_question}
-use Rattle.goals.proofs.table.rules.Rules.add_question.Goals as goal
-
-pub returns : goal.returns
-returns c = adds_question _ c.goal_named.new.self _ _ _ c.in_ok-goal.goal c.in_ok-goal.ensures.mentions c.in_ok-goal.ensures.goal refl (λ g. refl) c.in_ok-push.ensures.items

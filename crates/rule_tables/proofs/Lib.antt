@@ -1,0 +1,11 @@
+pub mod Steps
+pub mod Marked
+pub mod Digits
+pub mod Words
+pub mod Questions
+pub mod NameLemmas
+pub mod TableLemmas
+pub mod Adding
+pub mod Lines
+pub mod Bytes
+pub mod Accepted

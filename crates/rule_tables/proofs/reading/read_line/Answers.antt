@@ -1,0 +1,6 @@
+use Rattle.rule_tables.specs.Grammar.{Nothing}
+use Rattle.rule_tables.proofs.Adding.{adds_nothing}
+use Rattle.rule_tables.proofs.reading.read_line.Goals as goal
+
+pub returns-in-PassedOver-clause-ok : goal.returns-in-PassedOver-clause-ok
+returns-in-PassedOver-clause-ok c = (Nothing, rw c.in-PassedOver.is at c.in_ok-line_of.ensures.ok, adds_nothing _)

@@ -1,0 +1,28 @@
+use Rattle.std.proofs.Common.{refl, rules, ◌∷◌, [], ap, sym, subst, map}
+use Rattle.std.proofs.lemmas.Simd.{map-map}
+use Rattle.std.specs.Option.{option_map_or}
+use Rattle.rule_tables.specs.Question.{named}
+use Rattle.rule_tables.specs.Rules.{number_of}
+use Rattle.rule_tables.specs.Table.{Mentions}
+use Rattle.rule_tables.proofs.TableLemmas.{name_kept, goal_within, mentions_more, candidates_at, candidates_off}
+use Rattle.rule_tables.proofs.Adding.{adds_rule}
+use Rattle.rule_tables.proofs.rules.Rules.add_rule.Goals as goal
+
+pub index_mut-candidates-requires : goal.index_mut-candidates-requires
+index_mut-candidates-requires c =
+    let l = goal_within c.askings.new.self c.in_ok-goal.goal _ (name_kept _ _ _ c.in_ok-goal.goal _ c.in_ok-questions.ensures.mentions c.in_ok-goal.ensures.goal) in
+    search rules
+
+pub returns : goal.returns
+returns c =
+    let old = c.args.self.now in
+    let mid = c.askings.new.self in
+    let goal = c.in_ok-goal.goal in
+    let is = name_kept c.goal_named.new.self mid _ goal c.args.name.now c.in_ok-questions.ensures.mentions c.in_ok-goal.ensures.goal in
+    let l = goal_within mid goal c.args.name.now is in
+    let mentions = mentions_more old c.goal_named.new.self mid _ _ c.in_ok-goal.ensures.mentions c.in_ok-questions.ensures.mentions in
+    adds_rule old mid _ c.args.is_marked c.args.name.now (map named c.args.questions.now) goal (record { is_marked = c.args.is_marked; questions = c.in_ok-questions.questions })
+    (subst (λ names. Mentions old mid (c.args.name.now ∷ names)) (sym (map-map (λ q. q.name) named c.args.questions.now)) mentions)
+    is (record { is_marked = refl; questions = c.in_ok-questions.ensures.asked }) refl refl
+    (λ g same. candidates_at mid.candidates.items (number_of goal) (number_of g) c.index_mut-candidates.result.now c.push.new.self (record { is_marked = c.args.is_marked; questions = c.in_ok-questions.questions }) same l c.index_mut-candidates.ensures.value c.in_ok-push.ensures.items)
+    (λ g apart. ap (λ o. option_map_or (λ v. v.items) o []) (candidates_off mid.candidates.items (number_of goal) (number_of g) c.push.new.self apart))

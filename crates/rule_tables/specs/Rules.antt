@@ -1,0 +1,45 @@
+-- What a table of rules says of goals.
+use Rattle.std.specs.Prelude.{ℕ, List, [], map, Option, slice_get, Contains}
+use Rattle.std.specs.Option.{option_map_or}
+use Rattle.search_parts.specs.Question.{Question, IsWithin, Overlap}
+use Rattle.rule_tables.specs.declared.rules.Goal.{Goal}
+use Rattle.rule_tables.specs.declared.rules.Asking.{Asking}
+use Rattle.rule_tables.specs.declared.rules.Candidate.{Candidate}
+use Rattle.rule_tables.specs.declared.rules.Rules.{Rules}
+
+-- the number of the goal's name
+abbrev pub number_of : Goal → ℕ
+number_of goal = goal.0
+
+-- what a candidate asks
+abbrev pub question_of : Asking → Question Goal
+question_of a = record { kind = a.kind; goal = a.goal }
+
+abbrev pub asked_by : Candidate → List (Question Goal)
+asked_by c = map question_of c.questions.items
+
+-- the names that the table knows, in the order of their numbers
+abbrev pub names_of : Rules → List (List ℕ)
+names_of rules = rules.names
+
+-- the goal's name
+abbrev pub name_of : Rules → Goal → Option (List ℕ)
+name_of rules goal = slice_get (names_of rules) (number_of goal)
+
+-- the depths and the goals that are asked
+abbrev pub questions_of : Rules → List (ℕ × Goal)
+questions_of rules = rules.questions.items
+
+-- a goal without rules has no candidates
+abbrev pub candidates_of : Rules → Goal → List Candidate
+candidates_of rules goal = option_map_or (λ all. all.items) (slice_get rules.candidates.items (number_of goal)) []
+
+-- some candidate has all its questions among these
+pub record Proves (rules : Rules) (goal : Goal) (held : List (Question Goal)) : Type 0 where
+  pub candidate : Candidate
+  pub is_candidate : Contains (candidates_of rules goal) candidate
+  pub within : IsWithin (asked_by candidate) held
+
+-- each candidate has a question among these
+abbrev pub Refutes : Rules → Goal → List (Question Goal) → Type 0
+Refutes rules goal failed = (candidate : Candidate) → Contains (candidates_of rules goal) candidate → Overlap (asked_by candidate) failed

@@ -1,0 +1,141 @@
+//! The questions of a table: each is asked, and told on a line.
+ghost use Rattle.std.specs.Prelude.{◌≡◌, ◌≢◌, ◌⊎◌, IfErr, IfOk};
+
+use crate::builder::Builder;
+use crate::outcome::Outcome;
+use crate::program::Stop;
+use crate::program::shown::ShownNodes;
+use crate::rules::{Goal, Rules};
+use search_graph::graph::SearchGraph;
+use search_parts::context::{Cx, Delegate, Fault};
+use search_parts::global_cache::GlobalCache;
+use search_parts::path::PathKind;
+use std::alloc::Global;
+use std::fmt;
+use std::io::{BufWriter, Write};
+
+/// What is checked of the answers.
+#[derive(Clone, Copy, Debug, PartialEq, Eq)]
+pub(super) enum Checks {
+    /// The graph of each definite one.
+    EachGraph,
+    Nothing,
+}
+
+/// What came of checking an answer's graph.
+#[derive(Clone, Copy, Debug, PartialEq, Eq)]
+pub(super) enum Check {
+    /// The answer has no graph, or graphs are not checked.
+    None,
+    Accepted,
+    /// The graph is missing, or it was refused.
+    Refused,
+}
+
+impl fmt::Display for Check {
+    fn fmt<W: fmt::Write>(&self, f: &mut fmt::Formatter<W>) -> fmt::Result {
+        f.write_str(match self {
+            Check::None => "",
+            Check::Accepted => " checked",
+            Check::Refused => " unchecked",
+        })
+    }
+}
+
+/// What a question came to.
+#[derive(Clone, Copy, Debug, PartialEq, Eq)]
+pub(super) struct Told {
+    pub(super) outcome: Outcome,
+    /// How many frames the question started.
+    pub(super) started: u64,
+    pub(super) check: Check,
+}
+
+/// Answers each question on a graph of its own, over one cache. The result is whether each was answered, none met a
+/// fault and no graph was refused.
+pub(super) fn answer_questions<X, D, W>(
+    alloc: Global,
+    cx: X,
+    rules: &Rules,
+    checks: Checks,
+    out: &mut W,
+) -> Result<bool, Stop>
+where
+    X: Cx<Input = Goal, Result = Outcome>,
+    D: Delegate<Cx = X, ProofTreeBuilder = Builder>,
+    W: Write,
+    ensures fault { IfErr result (λ stop. (stop ≡ Stop.InputOrOutput) ⊎ (stop ≡ Stop.Memory)) }
+{
+    // A write of its own for each line would take longer than a question that the cache answers.
+    let mut out = BufWriter::new(alloc, out).map_err(|_| Stop::Memory)?;
+    let mut cache = GlobalCache::<D>::new(alloc, cx);
+    let mut shown = ShownNodes::new(alloc);
+    let mut all_answered = true;
+    for (depth, goal) in rules.questions() {
+        let told = ask(alloc, &mut cache, *depth, *goal, checks, &mut shown);
+        out.write_all(rules.name(*goal).unwrap_or(b""))?;
+        match told {
+            Ok(
+                Told {
+                    outcome,
+                    started,
+                    check,
+                },
+            ) => {
+                writeln!(out, " {outcome} {started}{check}")?;
+                all_answered &= check != Check::Refused;
+            }
+            Err(fault) => {
+                let word = fault_word(fault);
+                writeln!(out, " fault {word}")?;
+                all_answered = false;
+            }
+        }
+    }
+    out.flush()?;
+    Ok(all_answered)
+}
+
+/// Asks the goal at this depth, and checks the graph of a definite answer if that is wanted.
+fn ask<X, D>(
+    alloc: Global,
+    cache: &mut GlobalCache<D>,
+    depth: usize,
+    goal: Goal,
+    checks: Checks,
+    shown: &mut ShownNodes,
+) -> Result<Told, Fault<Goal, Outcome>>
+where
+    X: Cx<Input = Goal, Result = Outcome>,
+    D: Delegate<Cx = X, ProofTreeBuilder = Builder>,
+    // A graph that is handed out is accepted.
+    ensures { IfOk result (λ told. told.check ≢ Check.Refused) }
+{
+    let mut graph = SearchGraph::<D>::new(alloc, depth);
+    let mut builder = Builder::new(true);
+    let answer = graph.evaluate_goal(cache, goal, PathKind::Inductive, &mut builder)?;
+    let outcome = answer.result;
+    let check = match (checks, answer.node) {
+        (Checks::EachGraph, Some(node)) => {
+            match shown.show::<X, D>(alloc, cache, goal, outcome, node)? {
+                true => Check::Accepted,
+                false => Check::Refused,
+            }
+        }
+        _ => Check::None,
+    };
+    Ok(Told {
+        outcome,
+        started: builder.started(),
+        check,
+    })
+}
+
+pub(super) fn fault_word(fault: Fault<Goal, Outcome>) -> &'static str {
+    match fault {
+        Fault::Memory => "memory",
+        Fault::Conflict { .. } => "conflict",
+        Fault::Validation { .. } => "validation",
+        Fault::Protocol(_) => "protocol",
+    }
+}

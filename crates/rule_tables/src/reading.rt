@@ -1,0 +1,70 @@
+//! Reading a table of rules.
+ghost use Rattle.std.specs.Prelude.{◌≡◌, ℕ, IfOk, OnOk};
+ghost use Rattle.rule_tables.specs.Grammar.{Statement, Says, IsMalformed};
+ghost use Rattle.rule_tables.specs.Table.{Adds};
+ghost use Rattle.rule_tables.specs.Text.{Reads, IsFirstBadLine};
+
+mod line;
+pub(super) mod question;
+mod word;
+
+use crate::rules::Rules;
+use line::{Line, LineFault, line_of};
+use std::alloc::Global;
+use thiserror::Error;
+
+/// Why a text was not read.
+#[derive(Clone, Copy, Debug, PartialEq, Eq, Error)]
+pub enum ReadFault {
+    /// The first malformed line. Lines are counted from 1.
+    #[error("line {0}: bad line")]
+    BadLine(usize),
+    /// The table could not grow.
+    #[error("out of memory")]
+    Memory,
+}
+
+impl Rules {
+    /// Reads rules and questions, one a line:
+    ///
+    /// - `rule NAME = K:NAME K:NAME ..` is one candidate of the first name, with these questions in
+    ///   order, none or more; a mark `~` before the first name marks the candidate;
+    /// - `ask DEPTH NAME` is a question to be answered.
+    ///
+    /// Words are parted by one or more spaces. A name is 1 to 16 ASCII letters, digits and `_`. `K`
+    /// is `i` (inductive), `u` (unknown), `c` (coinductive) or `f` (forced ambiguity). A depth is 1 to
+    /// 7 decimal digits. A line without words, and one whose first word begins with `#`, is passed
+    /// over. Newlines end the lines, and the last one may lack it.
+    ///
+    /// `BadLine` gives the first line of another form, unless memory runs out before it is reached.
+    pub fn read(alloc: Global, text: &[u8]) -> Result<Rules, ReadFault>
+        ensures ok { IfOk result (Reads text.now) }
+        ensures bad_line { (n : ℕ) → result ≡ Err (ReadFault.BadLine n) → IsFirstBadLine text.now n }
+    {
+        let mut rules = Rules::new(alloc);
+        for (before, line) in text.split(|byte| *byte == b'\n').enumerate() {
+            match read_line(alloc, line, &mut rules) {
+                Ok(()) => {}
+                Err(LineFault::Malformed) => return Err(ReadFault::BadLine(before + 1)),
+                Err(LineFault::Memory) => return Err(ReadFault::Memory),
+            }
+        }
+        Ok(rules)
+    }
+}
+
+fn read_line(alloc: Global, line: &[u8], rules: &mut Rules) -> Result<(), LineFault>
+    ensures ok { OnOk result ((s : Statement) × Says line.now s × Adds s rules.old rules.new) }
+    ensures malformed { result ≡ Err LineFault.Malformed → IsMalformed line.now }
+{
+    match line_of(alloc, line)? {
+        Line::PassedOver => {}
+        Line::Rule {
+            is_marked,
+            name,
+            questions,
+        } => rules.add_rule(alloc, is_marked, name, questions.as_slice())?,
+        Line::Ask { depth, name } => rules.add_question(alloc, depth, name)?,
+    }
+    Ok(())
+}

@@ -1,0 +1,167 @@
+//! Goals and their rules.
+ghost use Rattle.std.specs.Prelude.{◌≡◌, length};
+
+use crate::names::Names;
+use crate::reading::question::Question;
+use search_parts::context::NoMemory;
+use search_parts::path::PathKind;
+use std::alloc::Global;
+
+/// A goal, which is a name, by that name's number in the order of first mention.
+#[derive(Clone, Copy, Debug, PartialEq, Eq, Hash)]
+pub struct Goal(usize);
+
+impl Goal {
+    ghost use Rattle.std.specs.Prelude.{◌≡◌};
+    ghost use Rattle.rule_tables.specs.Rules.{number_of};
+
+    pub(crate) fn number(self) -> usize
+        ensures { result ≡ number_of self }
+    {
+        self.0
+    }
+}
+
+/// A question of a candidate.
+#[derive(Clone, Copy, Debug, PartialEq, Eq)]
+pub struct Asking {
+    /// The kind of the step to the goal.
+    pub kind: PathKind,
+    pub goal: Goal,
+}
+
+/// One way in which a goal may hold: where all its questions do.
+#[derive(Debug, Drop)]
+pub struct Candidate {
+    /// Whether it no longer counts once a candidate without a mark holds.
+    pub is_marked: bool,
+    pub questions: Vec<Asking>,
+}
+
+/// A table of rules: names as goals, the candidates of each, and the questions to be answered.
+#[derive(Drop)]
+pub struct Rules {
+    names: Names,
+    candidates: Vec<Vec<Candidate>>,
+    questions: Vec<(usize, Goal)>,
+    // Each name has a list of candidates, which may be empty.
+    ghost complete: { length candidates.items ≡ length names },
+}
+
+impl Rules {
+    ghost use Rattle.std.specs.Prelude.{◌≡◌, ◌↔◌, [], ◌∷◌, map, Some, IfOk, OnOk};
+    ghost use Rattle.std.specs.Option.{option_copied};
+    ghost use Rattle.rule_tables.specs.Grammar as grammar;
+    ghost use Rattle.rule_tables.specs.Names.{with_name};
+    ghost use Rattle.rule_tables.specs.Question.{named};
+    ghost use Rattle.rule_tables.specs.Rules.{number_of, names_of, name_of, candidates_of, questions_of};
+    ghost use Rattle.rule_tables.specs.Table.{IsTableOf, Adds, Mentions, AreAsked};
+
+    /// A table with no name in it.
+    pub(crate) fn new(alloc: Global) -> Rules
+        ensures { IsTableOf [] result }
+    {
+        Rules {
+            names: Names::new(alloc),
+            candidates: Vec::new(alloc),
+            questions: Vec::new(alloc),
+        }
+    }
+
+    /// The goal of this name, if the text mentions it.
+    pub fn goal(&self, name: &[u8]) -> Option<Goal>
+        ensures { (goal : Goal) → (result ≡ Some goal) ↔ (name_of self.now goal ≡ Some name.now) }
+    {
+        self.names.number(name).map(Goal)
+    }
+
+    /// The goal's name. A goal of another table may have none.
+    pub fn name(&self, goal: Goal) -> Option<&[u8]>
+        ensures { option_copied result ≡ name_of self.now goal }
+    {
+        self.names.text(goal.0)
+    }
+
+    /// The depth and the goal of each question, in the order of the text.
+    pub fn questions(&self) -> &[(usize, Goal)]
+        ensures { result.now ≡ questions_of self.now }
+    {
+        self.questions.as_slice()
+    }
+
+    /// The goal's candidates in the order of their rules. A goal without rules has none.
+    pub fn candidates(&self, goal: Goal) -> &[Candidate]
+        ensures { result.now ≡ candidates_of self.now goal }
+    {
+        match self.candidates.get(goal.0) {
+            Some(all) => all.as_slice(),
+            None => &[],
+        }
+    }
+
+    /// One more candidate of the name.
+    pub(crate) fn add_rule(
+        &mut self,
+        alloc: Global,
+        is_marked: bool,
+        name: &[u8],
+        questions: &[Question<'_>],
+    ) -> Result<(), NoMemory>
+        ensures { OnOk result (Adds (grammar.Rule is_marked name.now (map named questions.now)) self.old self.new) }
+    {
+        let goal = self.goal_named(alloc, name)?;
+        let questions = self.askings(alloc, questions)?;
+        let candidates = &mut self.candidates[goal.0];
+        candidates.push(Candidate {
+            is_marked,
+            questions,
+        })?;
+        Ok(())
+    }
+
+    /// One more question to be answered.
+    pub(crate) fn add_question(
+        &mut self,
+        alloc: Global,
+        depth: usize,
+        name: &[u8],
+    ) -> Result<(), NoMemory>
+        ensures { OnOk result (Adds (grammar.Ask depth name.now) self.old self.new) }
+    {
+        let goal = self.goal_named(alloc, name)?;
+        self.questions.push((depth, goal))?;
+        Ok(())
+    }
+
+    fn askings(
+        &mut self,
+        alloc: Global,
+        questions: &[Question<'_>],
+    ) -> Result<Vec<Asking>, NoMemory>
+        ensures mentions { OnOk result (Mentions self.old self.new (map (λ q. q.name.now) questions.now)) }
+        ensures asked { IfOk result (λ askings. AreAsked (names_of self.new) askings.items (map named questions.now)) }
+    {
+        let mut askings = Vec::with_capacity(alloc, questions.len())?;
+        for question in questions {
+            let goal = self.goal_named(alloc, question.name)?;
+            askings.push(Asking {
+                kind: question.kind,
+                goal,
+            })?;
+        }
+        Ok(askings)
+    }
+
+    // The goal of this name, which may be new.
+    fn goal_named(&mut self, alloc: Global, name: &[u8]) -> Result<Goal, NoMemory>
+        ensures mentions { OnOk result (Mentions self.old self.new (name.now ∷ [])) }
+        ensures goal { IfOk result (λ goal. name_of self.new goal ≡ Some name.now) }
+    {
+        self.candidates.reserve(1)?;
+        let number = self.names.intern(alloc, name)?;
+        if number == self.candidates.len() {
+            self.candidates.push(Vec::new(alloc)).unwrap();
+        }
+        Ok(Goal(number))
+    }
+}

@@ -1,0 +1,337 @@
+//! All tables of two goals that ask two questions each: what is answered, and the graphs of the answers.
+
+use crate::builder::Builder;
+use crate::delegate::{Table, TableDelegate};
+use crate::outcome::Outcome;
+use crate::program::shown::is_shown;
+use crate::rules::{Goal, Rules};
+use crate::tests::shown::ShownGraph;
+use search_graph::graph::SearchGraph;
+use search_parts::context::{Answer, Cx, Delegate};
+use search_parts::global_cache::GlobalCache;
+use search_parts::path::PathKind;
+use std::alloc::Global;
+use std::io::Write;
+use std::process::Abort;
+use std::test::Fail;
+
+/// All questions of the two goals.
+const QUESTIONS: [&str; 8] = ["i:A", "i:B", "c:A", "c:B", "u:A", "u:B", "f:A", "f:B"];
+
+/// How many pairs of questions there are.
+const PAIRS: usize = 64;
+
+/// What a goal makes of its two questions.
+#[derive(Clone, Copy, Debug, PartialEq, Eq)]
+enum Body {
+    /// Two candidates of a question each.
+    Alternatives,
+    /// One candidate of both.
+    Together,
+}
+
+/// What is asked of each table over one cache: how deep, and which goal.
+const ASKED: [(usize, &[u8]); 5] = [(0, b"A"), (4, b"A"), (4, b"B"), (1, b"B"), (1, b"A")];
+
+/// What is asked of it over another cache.
+const ASKED_ANEW: [(usize, &[u8]); 2] = [(4, b"B"), (4, b"A")];
+
+/// How many questions came to each result.
+#[derive(Clone, Copy, Debug, PartialEq, Eq)]
+struct Counts {
+    yes: u32,
+    no: u32,
+    neither: u32,
+}
+
+impl Counts {
+    fn note(&mut self, outcome: Outcome) {
+        let count = match outcome {
+            Outcome::Yes => &mut self.yes,
+            Outcome::No => &mut self.no,
+            Outcome::Maybe | Outcome::Overflow => &mut self.neither,
+        };
+        *count = count.saturating_add(1);
+    }
+}
+
+/// What the questions of one table came to, over all its caches.
+#[derive(Drop)]
+struct Said {
+    definite: Vec<(Goal, Outcome)>,
+}
+
+impl Said {
+    /// Whether the result is definite, and the goal came to the other definite one before.
+    fn contradicts(&mut self, goal: Goal, outcome: Outcome) -> Result<bool, Fail> {
+        if !matches!(outcome, Outcome::Yes | Outcome::No) {
+            return Ok(false);
+        }
+        let contradicts = self
+            .definite
+            .iter()
+            .any(|(other, said)| *other == goal && *said != outcome);
+        self.definite.push((goal, outcome))?;
+        Ok(contradicts)
+    }
+}
+
+// The original, run on the same tables, comes to as many of each result, with its provisional cache and without it.
+#[test]
+fn tables_of_alternatives_are_answered_with_graphs(rt: HostRuntime) -> Result<(), Fail> {
+    let counts = check_tables(&rt, Body::Alternatives, Body::Alternatives)?;
+    let wanted = Counts {
+        yes: 17992,
+        no: 776,
+        neither: 14000,
+    };
+    assert_eq!(rt; counts, wanted);
+    Ok(())
+}
+
+#[test]
+fn tables_whose_first_goal_has_alternatives_are_answered_with_graphs(
+    rt: HostRuntime,
+) -> Result<(), Fail> {
+    let counts = check_tables(&rt, Body::Alternatives, Body::Together)?;
+    let wanted = Counts {
+        yes: 7736,
+        no: 6008,
+        neither: 19024,
+    };
+    assert_eq!(rt; counts, wanted);
+    Ok(())
+}
+
+#[test]
+fn tables_whose_second_goal_has_alternatives_are_answered_with_graphs(
+    rt: HostRuntime,
+) -> Result<(), Fail> {
+    let counts = check_tables(&rt, Body::Together, Body::Alternatives)?;
+    let wanted = Counts {
+        yes: 7736,
+        no: 6008,
+        neither: 19024,
+    };
+    assert_eq!(rt; counts, wanted);
+    Ok(())
+}
+
+#[test]
+fn tables_of_pairs_are_answered_with_graphs(rt: HostRuntime) -> Result<(), Fail> {
+    let counts = check_tables(&rt, Body::Together, Body::Together)?;
+    let wanted = Counts {
+        yes: 1352,
+        no: 13832,
+        neither: 17584,
+    };
+    assert_eq!(rt; counts, wanted);
+    Ok(())
+}
+
+/// How often the questions of all tables of these bodies came to each result at depth 4, with the provisional cache and
+/// without it. Nothing may be wrong with any answer, and no goal may be both yes and no.
+fn check_tables(
+    rt: &(impl Abort + AllocGlobal),
+    first: Body,
+    second: Body,
+) -> Result<Counts, Fail> {
+    let mut counts = Counts {
+        yes: 0,
+        no: 0,
+        neither: 0,
+    };
+    for table in 0..PAIRS * PAIRS {
+        let mut text = Vec::new(rt.alloc());
+        write_body(&mut text, "A", first, table / PAIRS)?;
+        write_body(&mut text, "B", second, table % PAIRS)?;
+        let rules = Rules::read(rt.alloc(), text.as_slice())?;
+        let cx = Table { lender: &rules };
+        let mut said = Said {
+            definite: Vec::new(rt.alloc()),
+        };
+        let flaw = flaw_of_table::<Table<&Rules>, TableDelegate<'_, 8, 1>>(
+            rt.alloc(),
+            cx,
+            &rules,
+            &mut said,
+            &mut counts,
+        )?;
+        assert_eq!(rt; flaw, None, "table {table}");
+        let flaw = flaw_of_table::<Table<&Rules>, TableDelegate<'_, 8, 0>>(
+            rt.alloc(),
+            cx,
+            &rules,
+            &mut said,
+            &mut counts,
+        )?;
+        assert_eq!(rt; flaw, None, "table {table} without the provisional cache");
+    }
+    Ok(counts)
+}
+
+#[test]
+fn tables_without_unknown_steps_are_settled(rt: HostRuntime) -> Result<(), Fail> {
+    for (first, second) in [
+        (Body::Alternatives, Body::Alternatives),
+        (Body::Alternatives, Body::Together),
+        (Body::Together, Body::Alternatives),
+        (Body::Together, Body::Together),
+    ] {
+        assert_eq!(rt; settled_tables::<1>(rt.alloc(), first, second)?, 256);
+        assert_eq!(rt; settled_tables::<0>(rt.alloc(), first, second)?, 256);
+    }
+    Ok(())
+}
+
+/// Of how many tables of these bodies, all of whose steps are inductive or coinductive, both goals are answered yes
+/// or no within the limits, without the provisional cache where `PROVISIONAL` is 0.
+fn settled_tables<const PROVISIONAL: usize>(
+    alloc: Global,
+    first: Body,
+    second: Body,
+) -> Result<u32, Fail> {
+    let mut count = 0u32;
+    for table in 0..PAIRS * PAIRS {
+        let (pair, other) = (table / PAIRS, table % PAIRS);
+        if has_unknown_step(pair) || has_unknown_step(other) {
+            continue;
+        }
+        let mut text = Vec::new(alloc);
+        write_body(&mut text, "A", first, pair)?;
+        write_body(&mut text, "B", second, other)?;
+        let rules = Rules::read(alloc, text.as_slice())?;
+        let cx = Table { lender: &rules };
+        if both_are_settled::<Table<&Rules>, TableDelegate<'_, 8, PROVISIONAL>>(
+            alloc, cx, &rules,
+        )? {
+            count = count.saturating_add(1);
+        }
+    }
+    Ok(count)
+}
+
+/// The two questions of a pair.
+fn questions_of(pair: usize) -> (usize, usize) {
+    (pair / QUESTIONS.len(), pair % QUESTIONS.len())
+}
+
+/// Whether one of the pair's questions is neither inductive nor coinductive.
+fn has_unknown_step(pair: usize) -> bool {
+    let (first, second) = questions_of(pair);
+    first >= 4 || second >= 4
+}
+
+/// The rules of the goal of this name with a pair of questions.
+fn write_body(text: &mut Vec<u8>, name: &str, body: Body, pair: usize) -> Result<(), Fail> {
+    let (first, second) = questions_of(pair);
+    let first = QUESTIONS.get(first).ok_or("no question")?;
+    let second = QUESTIONS.get(second).ok_or("no question")?;
+    match body {
+        Body::Alternatives => write!(text, "rule {name} = {first}\nrule {name} = {second}\n")?,
+        Body::Together => write!(text, "rule {name} = {first} {second}\n")?,
+    }
+    Ok(())
+}
+
+/// What is wrong with the answers to the table's questions over two caches, if anything is. The results at depth 4 are
+/// counted.
+fn flaw_of_table<X, D>(
+    alloc: Global,
+    cx: X,
+    rules: &Rules,
+    said: &mut Said,
+    counts: &mut Counts,
+) -> Result<Option<&'static str>, Fail>
+where
+    X: Cx<Input = Goal, Result = Outcome>,
+    D: Delegate<Cx = X, ProofTreeBuilder = Builder>,
+{
+    let mut cache = GlobalCache::<D>::new(alloc, cx);
+    if let Some(flaw) = flaw_of_questions::<X, D>(alloc, &mut cache, rules, &ASKED, said, counts)? {
+        return Ok(Some(flaw));
+    }
+    let mut cache = GlobalCache::<D>::new(alloc, cx);
+    flaw_of_questions::<X, D>(alloc, &mut cache, rules, &ASKED_ANEW, said, counts)
+}
+
+/// The same of these questions over one cache.
+fn flaw_of_questions<X, D>(
+    alloc: Global,
+    cache: &mut GlobalCache<D>,
+    rules: &Rules,
+    asked: &[(usize, &[u8])],
+    said: &mut Said,
+    counts: &mut Counts,
+) -> Result<Option<&'static str>, Fail>
+where
+    X: Cx<Input = Goal, Result = Outcome>,
+    D: Delegate<Cx = X, ProofTreeBuilder = Builder>,
+{
+    for (depth, name) in asked {
+        let goal = rules.goal(name).ok_or("no goal")?;
+        let mut graph = SearchGraph::<D>::new(alloc, *depth);
+        let mut builder = Builder::new(true);
+        let Ok(answer) = graph.evaluate_goal(cache, goal, PathKind::Inductive, &mut builder) else {
+            return Ok(Some("a fault"));
+        };
+        if *depth == 4 {
+            counts.note(answer.result);
+        }
+        if said.contradicts(goal, answer.result)? {
+            return Ok(Some("yes and no"));
+        }
+        if let Some(flaw) = flaw_of_answer(alloc, cache, rules, goal, answer)? {
+            return Ok(Some(flaw));
+        }
+    }
+    Ok(None)
+}
+
+/// What is wrong with the graph that the answer names, to a plain check and to the checker. An answer that is not
+/// definite names none.
+fn flaw_of_answer<X, D>(
+    alloc: Global,
+    cache: &GlobalCache<D>,
+    rules: &Rules,
+    goal: Goal,
+    answer: Answer<Outcome>,
+) -> Result<Option<&'static str>, Fail>
+where
+    X: Cx<Input = Goal, Result = Outcome>,
+    D: Delegate<Cx = X, ProofTreeBuilder = Builder>,
+{
+    let is_definite = matches!(answer.result, Outcome::Yes | Outcome::No);
+    let root = match answer.node {
+        Some(root) if is_definite => root,
+        None if !is_definite => return Ok(None),
+        _ => return Ok(Some("a graph of another result")),
+    };
+    if !is_shown::<X, D>(alloc, cache, goal, answer.result, root)? {
+        return Ok(Some("no graph that the checker accepts"));
+    }
+    match ShownGraph::read::<X, D>(alloc, cache, root)? {
+        Some(shown) => shown.flaw(rules, goal, answer.result),
+        None => Ok(Some("an open node")),
+    }
+}
+
+/// Whether both goals are answered yes or no at depth 4, and no limit is met.
+fn both_are_settled<X, D>(alloc: Global, cx: X, rules: &Rules) -> Result<bool, Fail>
+where
+    X: Cx<Input = Goal, Result = Outcome>,
+    D: Delegate<Cx = X, ProofTreeBuilder = Builder>,
+{
+    let mut cache = GlobalCache::<D>::new(alloc, cx);
+    for name in [b"A", b"B"] {
+        let goal = rules.goal(name).ok_or("no goal")?;
+        let mut graph = SearchGraph::<D>::new(alloc, 4);
+        let mut builder = Builder::new(true);
+        let answer = graph.evaluate_goal(&mut cache, goal, PathKind::Inductive, &mut builder)?;
+        let is_definite = matches!(answer.result, Outcome::Yes | Outcome::No);
+        if !is_definite || graph.limits_met() {
+            return Ok(false);
+        }
+    }
+    Ok(true)
+}
