@@ -2,11 +2,7 @@
 use Rattle.std.proofs.Common.{◌≡◌, ◌≢◌, ◌≤◌, ◌↔◌, ℕ, ◌&&◌, ◌==◌, Bool, true, false, not, IsTrue, if◌then◌else◌, refl, sym, ◌∙◌, ap, inl, inr, arith, ne_eqb}
 use Rattle.std.proofs.lemmas.Grind.{common_steps}
 use Rattle.std.proofs.lemmas.Bool.Decides.{eqb_tells}
-use Rattle.cycle_heads.specs.declared.path.PathKind.{PathKind}
-use Rattle.cycle_heads.specs.declared.path.PathKind.TheVariants.{Inductive, Unknown, Coinductive, ForcedAmbiguity}
-use Rattle.cycle_heads.specs.declared.usages.HeadUsages.{HeadUsages}
-use Rattle.cycle_heads.specs.Path.{rank_of}
-use Rattle.cycle_heads.specs.Usages.{count_of, usages_by, other_usages, no_usages, has_usages}
+use Rattle.cycle_heads.specs.Words.{PathKind, Inductive, Unknown, Coinductive, ForcedAmbiguity, HeadUsages, rank_of, count_of, usages_by, other_usages, no_usages, has_usages}
 
 abbrev pub HasNone : HeadUsages → Type 0
 HasNone usages = (kind : PathKind) → count_of usages kind ≡ 0

@@ -8,8 +8,7 @@ use Rattle.std.specs.declared.cmp.Ordering.TheVariants.{Less}
 use Rattle.std.specs.Ordering.{is_lt, is_eq, nat_cmp}
 use Rattle.std.specs.BTreeMap.{insert_entry, is_at}
 use Rattle.std.specs.Map.{keys_of, set_value}
-use Rattle.cycle_heads.specs.declared.depth.StackDepth.{StackDepth}
-use Rattle.cycle_heads.specs.Heads.{at_depth, depth_cmp, IsRising}
+use Rattle.cycle_heads.specs.Words.{StackDepth, at_depth, depth_cmp, IsRising}
 
 -- where no depth is above a depth, each is at most that
 pub all_up_to : {A : Type 0} (entries : List (StackDepth × A)) (depth : StackDepth)

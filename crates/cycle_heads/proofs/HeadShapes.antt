@@ -1,16 +1,7 @@
 -- What heads record once paths and usages were joined to one of them, in the words of the theory of open graphs.
 use Rattle.std.proofs.Common.{◌≡◌, ◌≢◌, ℕ, zero, suc, ◌+◌, ◌-◌, ◌^◌, min, max, Bool, true, false, IsTrue, ◌||◌, Option, Some, None, refl, sym, ap, ◌∙◌, subst, arith}
-use Rattle.open_graphs.specs.Use.{Head, Includes, Recorded}
-use Rattle.cycle_heads.specs.declared.path.PathKind.{PathKind}
-use Rattle.cycle_heads.specs.declared.path.PathKind.TheVariants.{Inductive, Unknown, Coinductive, ForcedAmbiguity}
-use Rattle.cycle_heads.specs.declared.path.PathsToNested.{PathsToNested}
-use Rattle.cycle_heads.specs.declared.heads.CycleHead.{CycleHead}
-use Rattle.cycle_heads.specs.declared.usages.HeadUsages.{HeadUsages}
-use Rattle.cycle_heads.specs.Path.{rank_of, greater_kind}
-use Rattle.cycle_heads.specs.Paths.{extended, has_kind, union}
-use Rattle.cycle_heads.specs.Heads.{joined_head}
-use Rattle.cycle_heads.specs.HeadShapes.{has_rank, count_at, head_shape}
-use Rattle.cycle_heads.specs.Usages.{count_of, sticking_sum, with_nested}
+use Rattle.cycle_heads.specs.Below.{Head, Includes, Recorded}
+use Rattle.cycle_heads.specs.Words.{PathKind, Inductive, Unknown, Coinductive, ForcedAmbiguity, PathsToNested, CycleHead, HeadUsages, rank_of, greater_kind, extended, has_kind, union, joined_head, has_rank, count_at, head_shape, count_of, sticking_sum, with_nested}
 use Rattle.cycle_heads.proofs.Counts.{count_of-usages_by}
 use Rattle.cycle_heads.proofs.PathLaws.{has_kind-union}
 use Rattle.cycle_heads.proofs.PathMembers.{extended-has}

@@ -5,9 +5,7 @@ use Rattle.std.proofs.lemmas.List.{length_push, get_or-map, length-map}
 use Rattle.std.specs.BTreeMap.Range.{IsLtBy}
 use Rattle.std.specs.Map.{keys_of}
 use Rattle.std.specs.List.{slice_get}
-use Rattle.cycle_heads.specs.declared.depth.StackDepth.{StackDepth}
-use Rattle.cycle_heads.specs.declared.heads.CycleHead.{CycleHead}
-use Rattle.cycle_heads.specs.Heads.{depth_cmp, highest, Heads}
+use Rattle.cycle_heads.specs.Words.{StackDepth, CycleHead, depth_cmp, highest, Heads}
 
 slice_get-end : {X : Type 0} (xs : List X) (x : X) → slice_get (xs ++ x ∷ []) (length xs) ≡ Some x
 slice_get-end [] x = refl

@@ -2,11 +2,7 @@
 use Rattle.std.proofs.Common.{◌≡◌, ◌^◌, ◌-◌, min, ◌∷◌, Option, Some, None, refl, sym, ap, ◌∙◌, subst, inl, inr}
 use Rattle.std.proofs.lemmas.Bool.{cases_eq}
 use Rattle.std.proofs.Math.Nat.{add_comm}
-use Rattle.cycle_heads.specs.declared.depth.StackDepth.{StackDepth}
-use Rattle.cycle_heads.specs.declared.usages.HeadUsages.{HeadUsages}
-use Rattle.cycle_heads.specs.Candidates.{merged, sum_with, with_added, UsagesByHead}
-use Rattle.cycle_heads.specs.Heads.{at_depth, IsRising}
-use Rattle.cycle_heads.specs.Usages.{count_of, usages_by, with_usages}
+use Rattle.cycle_heads.specs.Words.{StackDepth, HeadUsages, merged, sum_with, with_added, UsagesByHead, at_depth, IsRising, count_of, usages_by, with_usages}
 use Rattle.cycle_heads.proofs.HeadLists.{absent_later, at_depth-first, at_depth-rest, at_depth-insert_same, at_depth-insert_other}
 
 with_usages-comm : (usages more : HeadUsages) → with_usages usages more ≡ with_usages more usages

@@ -3,11 +3,7 @@ use Rattle.std.proofs.Common.{◌≡◌, ℕ, zero, suc, ◌+◌, ◌*◌, ◌/�
 use Rattle.std.proofs.lemmas.Bool.{eqb-true, false≢true, or_cases, ltb-true}
 use Rattle.std.proofs.lemmas.Nat.{and_block, and_le_r, or_block, or_comm, or_mod, or_shr, or_shifted}
 use Rattle.std.specs.Int.RustNames.{bit_and, bit_or}
-use Rattle.cycle_heads.specs.declared.path.PathKind.{PathKind}
-use Rattle.cycle_heads.specs.declared.path.PathKind.TheVariants.{Inductive, Unknown, Coinductive, ForcedAmbiguity}
-use Rattle.cycle_heads.specs.declared.path.PathsToNested.{PathsToNested}
-use Rattle.cycle_heads.specs.Path.{greater_kind}
-use Rattle.cycle_heads.specs.Paths.{extended, has_empty, has_kind, kinds_after, no_paths, paths_of, union, union_of, unnamed_in}
+use Rattle.cycle_heads.specs.Words.{PathKind, Inductive, Unknown, Coinductive, ForcedAmbiguity, PathsToNested, greater_kind, extended, has_empty, has_kind, kinds_after, no_paths, paths_of, union, union_of, unnamed_in}
 use Rattle.cycle_heads.proofs.PathSets.{all_below, passes, same_bits}
 
 -- a flag is read from the five lowest bits

@@ -2,11 +2,7 @@
 use Rattle.std.proofs.Common.{◌≡◌, Bool, true, List, [], ◌∷◌, ◌++◌, map, filter, Contains, IsTrue, ◌↔◌, if◌then◌else◌, refl, sym, ap, ◌∙◌, subst, inl, inr, arith}
 use Rattle.std.proofs.lemmas.Bool.{cases_Bool, false≢true}
 use Rattle.std.proofs.lemmas.List.Elements.{Contains-append_right}
-use Rattle.cycle_heads.specs.declared.path.PathKind.{PathKind}
-use Rattle.cycle_heads.specs.declared.path.PathKind.TheVariants.{Inductive, Unknown, Coinductive, ForcedAmbiguity}
-use Rattle.cycle_heads.specs.declared.path.PathsToNested.{PathsToNested}
-use Rattle.cycle_heads.specs.Path.{greater_kind}
-use Rattle.cycle_heads.specs.Paths.{extended, extended_by_each, has_empty, has_kind, kinds_in, no_paths}
+use Rattle.cycle_heads.specs.Words.{PathKind, Inductive, Unknown, Coinductive, ForcedAmbiguity, PathsToNested, greater_kind, extended, extended_by_each, has_empty, has_kind, kinds_in, no_paths}
 use Rattle.cycle_heads.proofs.PathLaws.{contains_later, each_set, extended-kinds, first_or_later, has_kind-none, some_set}
 
 filtered : (p : PathKind → Bool) (xs : List PathKind) (x : PathKind) → Contains xs x → p x ≡ true → Contains (filter p xs) x

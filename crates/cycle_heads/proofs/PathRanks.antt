@@ -1,8 +1,6 @@
 -- Path kinds and their ranks.
 use Rattle.std.proofs.Common.{◌≡◌, ℕ, max, nat_eq, if◌then◌else◌, refl, sym, ◌∙◌, ap}
-use Rattle.cycle_heads.specs.declared.path.PathKind.{PathKind}
-use Rattle.cycle_heads.specs.declared.path.PathKind.TheVariants.{Inductive, Unknown, Coinductive, ForcedAmbiguity}
-use Rattle.cycle_heads.specs.Path.{rank_of, greater_kind}
+use Rattle.cycle_heads.specs.Words.{PathKind, Inductive, Unknown, Coinductive, ForcedAmbiguity, rank_of, greater_kind}
 
 kind_of_rank : ℕ → PathKind
 kind_of_rank n = if nat_eq n 0 then Inductive else if nat_eq n 1 then Unknown else if nat_eq n 2 then Coinductive else ForcedAmbiguity

@@ -4,3 +4,5 @@ pub mod Usages
 pub mod Heads
 pub mod Candidates
 pub mod HeadShapes
+pub mod Below
+pub mod Words

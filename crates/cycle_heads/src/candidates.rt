@@ -1,8 +1,6 @@
 //! What a candidate used of the goals on the stack.
 ghost use Rattle.std.specs.Prelude.{◌≡◌, ◌^◌, ◌<◌, ◌↔◌, [], length, IsTrue, IsSome, IsOk, OnOk, OnErr};
-ghost use Rattle.cycle_heads.specs.declared.depth.StackDepth.{StackDepth};
-ghost use Rattle.cycle_heads.specs.Candidates.{merged, with_added, with_noted};
-ghost use Rattle.cycle_heads.specs.Heads.{at_depth, IsRising};
+ghost use Rattle.cycle_heads.specs.Words.{StackDepth, merged, with_added, with_noted, at_depth, IsRising};
 
 use crate::depth::StackDepth;
 use crate::memory::NoMemory;

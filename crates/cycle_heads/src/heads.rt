@@ -1,13 +1,7 @@
 //! The goals on the stack that an answer rests on.
 ghost use Rattle.std.specs.Prelude.{◌≡◌, ◌≢◌, ◌^◌, ◌<◌, ◌≤◌, ◌↔◌, [], ◌∷◌, ◌++◌, length, All, IsTrue, IsSome, IsSomeAnd, IsOk, IfSome, OnOk, OnErr, Some};
 ghost use Rattle.std.specs.Option.{option_map};
-ghost use Rattle.cycle_heads.specs.declared.depth.StackDepth.{StackDepth};
-ghost use Rattle.cycle_heads.specs.declared.heads.CycleHead.{CycleHead};
-ghost use Rattle.cycle_heads.specs.declared.usages.HeadUsages.{HeadUsages};
-ghost use Rattle.cycle_heads.specs.declared.path.PathKind.{PathKind};
-ghost use Rattle.cycle_heads.specs.declared.path.PathsToNested.{PathsToNested};
-ghost use Rattle.cycle_heads.specs.Heads.{at_depth, highest, joined_head, lowest, replace_head, with_head, Heads, IsRising};
-ghost use Rattle.cycle_heads.specs.Usages.{count_of, without_usages};
+ghost use Rattle.cycle_heads.specs.Words.{StackDepth, CycleHead, HeadUsages, PathKind, PathsToNested, at_depth, highest, joined_head, lowest, replace_head, with_head, Heads, IsRising, count_of, without_usages};
 
 use crate::depth::StackDepth;
 use crate::memory::NoMemory;

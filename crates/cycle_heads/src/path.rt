@@ -1,10 +1,7 @@
 //! Kinds of paths between goals, and sets of paths.
 ghost use Rattle.std.specs.Prelude.{◌≡◌, ◌↔◌, ◌+◌, ◌≤◌, ◌||◌, ⊤, IsTrue, Contains, false, length, [], ◌∷◌, codes};
 ghost use Rattle.std.specs.Iterator.{YieldsFirst, item_count};
-ghost use Rattle.cycle_heads.specs.declared.path.PathKind.{PathKind};
-ghost use Rattle.cycle_heads.specs.declared.path.PathsToNested.{PathsToNested};
-ghost use Rattle.cycle_heads.specs.Path.{greater_kind};
-ghost use Rattle.cycle_heads.specs.Paths.{extended, extended_by_each, has_empty, has_kind, kinds_after, kinds_in, no_paths, paths_of, union};
+ghost use Rattle.cycle_heads.specs.Words.{PathKind, PathsToNested, greater_kind, extended, extended_by_each, has_empty, has_kind, kinds_after, kinds_in, no_paths, paths_of, union};
 
 use bitflags::{Flag, Flags};
 use std::marker::Model;

@@ -1,7 +1,6 @@
 //! How often, and by cycles of which kinds, a goal on the stack was used.
 ghost use Rattle.std.specs.Prelude.{◌≡◌, ◌≢◌, ◌≤◌, ◌↔◌, IsTrue};
-ghost use Rattle.cycle_heads.specs.declared.path.PathKind.{PathKind};
-ghost use Rattle.cycle_heads.specs.Usages.{count_of, count_without, other_usages, with_nested, with_usage, with_usages, without_usages};
+ghost use Rattle.cycle_heads.specs.Words.{PathKind, count_of, count_without, other_usages, with_nested, with_usage, with_usages, without_usages};
 
 use crate::path::PathKind;
 

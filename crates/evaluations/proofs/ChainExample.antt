@@ -1,17 +1,8 @@
 -- A checked example: goal n + 1 asks n, and goal 0 holds. At depth 1 goal 1 answers its plain value with two frames; at depth 0
 -- it meets the limit with one, which is the price.
 use Rattle.std.proofs.Common.{◌≡◌, ℕ, zero, suc, ◌+◌, Bool, true, false, List, [], ◌∷◌, Option, Some, None, inl, refl, arith}
-use Rattle.cycle_heads.specs.declared.path.PathKind.{PathKind}
-use Rattle.cycle_heads.specs.declared.path.PathKind.TheVariants.{Inductive}
-use Rattle.search_parts.specs.declared.context.Request.{Request}
-use Rattle.search_parts.specs.declared.context.Request.TheVariants.{Evaluate, Done}
-use Rattle.search_parts.specs.declared.context.Reply.{Reply}
-use Rattle.search_parts.specs.declared.context.Reply.TheVariants.{Begin, Answer, Noted}
-use Rattle.search_parts.specs.Run.{request_after, order_fault, progress_after, Progress}
-use Rattle.search_parts.specs.Rank.{IsRanked, IsOrderlyTo, IsPlainValue, frames_within, IsPlainTo}
-use Rattle.evaluations.specs.Frames.{Frame, Outcome, fresh, stepped, replied, answered, refused}
-use Rattle.evaluations.specs.Price.{IsPaid}
-use Rattle.evaluations.specs.Evaluation.{at, Limits, IsStarted, Move, NoMove, MoreMoves, Pushed, Popped, Refused, Ends}
+use Rattle.evaluations.specs.Below.{PathKind, Inductive, Request, Evaluate, Done, Reply, Begin, Answer, Noted, request_after, order_fault, progress_after, Progress, IsRanked, IsOrderlyTo, IsPlainValue, frames_within, IsPlainTo}
+use Rattle.evaluations.specs.Words.{Frame, Outcome, fresh, stepped, replied, answered, refused, IsPaid, at, Limits, IsStarted, Move, NoMove, MoreMoves, Pushed, Popped, Refused, Ends}
 use Rattle.evaluations.proofs.Evaluations.{evaluation_ends}
 
 abbrev chain : ℕ → List (Reply Bool) → Request ℕ Bool

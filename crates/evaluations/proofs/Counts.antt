@@ -1,10 +1,8 @@
 -- How many frames an evaluation starts.
 use Rattle.std.proofs.Common.{◌≡◌, ℕ, zero, suc, ◌+◌, ◌-◌, ◌*◌, ◌<◌, ◌≤◌, ◌∷◌, refl, arith}
 use Rattle.std.proofs.Math.Nat.{mul-le-mul_right, mul-le-mul_left}
-use Rattle.search_parts.specs.Rank.{frames_within}
-use Rattle.evaluations.specs.Frames.{fresh, stepped, run_again}
-use Rattle.evaluations.specs.Starts.{frames_below, frames_ahead, steps_in_runs}
-use Rattle.evaluations.specs.StartLaws.{StepSpends, QuestionSpends, RerunSpends, PopSpends, FirstStaysWithin, MoveStaysWithin, StartsAreWithin, DeeperStartsMore}
+use Rattle.evaluations.specs.Below.{frames_within}
+use Rattle.evaluations.specs.Words.{fresh, stepped, run_again, frames_below, frames_ahead, steps_in_runs, StepSpends, QuestionSpends, RerunSpends, PopSpends, FirstStaysWithin, MoveStaysWithin, StartsAreWithin, DeeperStartsMore}
 
 -- one more in front of a product leaves one factor free
 one_free : (x y a : ℕ) → x + 1 ≤ y → x * a + a ≤ y * a

@@ -1,15 +1,8 @@
 -- An evaluation as a whole goes on by every move.
 use Rattle.std.proofs.Common.{◌≡◌, ◌≢◌, ℕ, ◌+◌, ◌<◌, ◌≤◌, Bool, true, false, List, [], ◌∷◌, None, refl, sym, ◌∙◌, subst, arith}
-use Rattle.search_parts.specs.declared.context.Request.{Request}
-use Rattle.search_parts.specs.declared.context.Reply.{Reply}
-use Rattle.search_parts.specs.declared.context.Reply.TheVariants.{Begin}
-use Rattle.search_parts.specs.Rank.{frames_within, IsPlainTo}
-use Rattle.search_parts.specs.Run.{fault_after}
-use Rattle.evaluations.specs.Frames.{Frame, Outcome, fresh, stepped, replied, answered, refused, released, run_again, Asks, IsAllowed}
-use Rattle.evaluations.specs.Plain.{IsSafeOutcome, Leaves}
-use Rattle.evaluations.specs.Starts.{Spends}
-use Rattle.evaluations.specs.Price.{IsPriced}
-use Rattle.evaluations.specs.Evaluation.{State, at, Limits, IsStarted, Move, Pushed, Noted, Ignored, Answered, Refused, RunAgain, Popped, PoppedAtLimit, Moves, NoMove, MoreMoves, IsRooted, IsEvaluating, GoesOn, Ends, Stops}
+use Rattle.evaluations.specs.Below.{Request, Reply, Begin, frames_within, IsPlainTo, fault_after}
+use Rattle.evaluations.specs.Words.{Frame, Outcome, fresh, stepped, replied, answered, refused, released, run_again, Asks, IsAllowed, IsSafeOutcome, Leaves, Spends, IsPriced, State, at, Limits, IsStarted, Move, Pushed, Ignored, Answered, Refused, RunAgain, Popped, PoppedAtLimit, Moves, NoMove, MoreMoves, IsRooted, IsEvaluating, GoesOn, Ends, Stops}
+use Rattle.evaluations.specs.Evaluation.{Noted}
 use Rattle.evaluations.proofs.Plains.{push_keeps_safe, step_keeps_safe, reply_keeps_safe, answer_keeps_safe, refusal_keeps_safe, release_keeps_safe, rerun_keeps_safe, pop_keeps_safe, left_is_safe, fitting_is_plain, push_keeps_room, room_is_enough}
 use Rattle.evaluations.proofs.Counts.{step_spends, question_spends, rerun_spends, pop_spends, first_stays_within, move_stays_within, starts_are_within}
 use Rattle.evaluations.proofs.Prices.{first_is_priced, push_keeps_priced, step_keeps_priced, reply_keeps_priced, answer_keeps_priced, release_keeps_priced, rerun_keeps_priced, pop_keeps_priced, later_keeps_priced, refusal_is_paid, last_run_is_paid}

@@ -1,17 +1,8 @@
 -- A driver's items mirror the frames from move to move.
 use Rattle.std.proofs.Common.{◌≡◌, ℕ, ◌+◌, ◌*◌, ◌<◌, ◌≤◌, Bool, true, false, inl, inr, List, [], ◌∷◌, map, Some, refl, sym, ◌∙◌, ap, ap₂, subst, arith}
-use Rattle.search_parts.specs.declared.context.Request.{Request}
-use Rattle.search_parts.specs.declared.context.Reply.{Reply}
-use Rattle.search_parts.specs.declared.context.Request.TheVariants.{Evaluate, Done}
-use Rattle.search_parts.specs.declared.context.Reply.TheVariants.{Begin, Answer}
-use Rattle.cycle_heads.specs.declared.path.PathKind.{PathKind}
-use Rattle.search_parts.specs.Rank.{frames_within, IsPlainTo, HasNoRank}
-use Rattle.search_parts.specs.Run.{request_after, IsReplyTo, IsFitting}
-use Rattle.evaluations.specs.Frames.{Frame, Outcome, fresh, stepped, replied, answered, refused, released, run_again, IsAllowed}
-use Rattle.evaluations.specs.Plain.{IsSafeOutcome, IsOnStack, Leaves, HasRoom}
-use Rattle.evaluations.specs.Starts.{frames_ahead, frames_ahead_of, steps_in_runs, steps_ahead}
-use Rattle.evaluations.specs.Evaluation.{at, Limits, IsStarted, Move, Pushed, Noted, Ignored, Answered, Refused, RunAgain, Popped, PoppedAtLimit, IsEvaluating, Ends, Stops}
-use Rattle.evaluations.specs.Mirror.{with_replies, IsSeen, IsPending, AreSeen, Mirror, work, Waits, HasRequested, TakesStep, TakesReply, ItemLeaves, IsAmong}
+use Rattle.evaluations.specs.Below.{Request, Reply, Evaluate, Done, Begin, Answer, PathKind, frames_within, IsPlainTo, HasNoRank, request_after, IsReplyTo, IsFitting}
+use Rattle.evaluations.specs.Words.{Frame, Outcome, fresh, stepped, replied, answered, refused, released, run_again, IsAllowed, IsSafeOutcome, IsOnStack, Leaves, HasRoom, frames_ahead, frames_ahead_of, steps_in_runs, steps_ahead, at, Limits, IsStarted, Move, Pushed, Ignored, Answered, Refused, RunAgain, Popped, PoppedAtLimit, IsEvaluating, Ends, Stops, with_replies, IsSeen, IsPending, AreSeen, Mirror, work, Waits, HasRequested, TakesStep, TakesReply, ItemLeaves, IsAmong}
+use Rattle.evaluations.specs.Evaluation.{Noted}
 use Rattle.evaluations.proofs.Evaluations.{root_is_evaluating, move_goes_on, last_frame_ends, last_run_ends, evaluation_stops, failed_start_stops, fitting_meets_no_limit}
 use Rattle.evaluations.proofs.Plains.{step_keeps_safe, left_is_safe, cycle_has_no_rank}
 use Rattle.evaluations.proofs.Counts.{question_spends, rerun_spends}

@@ -1,14 +1,8 @@
 -- A checked example: a frame whose goal has no rank stands below one whose goal has. Goal 1 asks itself, which is answered as a
 -- cycle, and then goal 0, which holds. Nothing is promised of the value of goal 1; the bound and the price hold.
 use Rattle.std.proofs.Common.{ℕ, zero, suc, ◌+◌, Bool, true, false, List, [], ◌∷◌, inl, refl, arith}
-use Rattle.cycle_heads.specs.declared.path.PathKind.TheVariants.{Inductive, Coinductive}
-use Rattle.search_parts.specs.declared.context.Request.{Request}
-use Rattle.search_parts.specs.declared.context.Request.TheVariants.{Evaluate, Done}
-use Rattle.search_parts.specs.declared.context.Reply.{Reply}
-use Rattle.search_parts.specs.declared.context.Reply.TheVariants.{Begin, Answer}
-use Rattle.search_parts.specs.Rank.{frames_within, HasNoRank}
-use Rattle.evaluations.specs.Frames.{Frame, Outcome, fresh, stepped, replied, answered}
-use Rattle.evaluations.specs.Evaluation.{at, Limits, IsStarted, Move, NoMove, MoreMoves, Pushed, Answered, Popped, Ends}
+use Rattle.evaluations.specs.Below.{Inductive, Coinductive, Request, Evaluate, Done, Reply, Begin, Answer, frames_within, HasNoRank}
+use Rattle.evaluations.specs.Words.{Frame, Outcome, fresh, stepped, replied, answered, at, Limits, IsStarted, Move, NoMove, MoreMoves, Pushed, Answered, Popped, Ends}
 use Rattle.evaluations.proofs.Plains.{push_keeps_safe, reply_keeps_safe, cycle_has_no_rank, unranked_is_safe}
 use Rattle.evaluations.proofs.Evaluations.{evaluation_ends}
 

@@ -1,17 +1,9 @@
 -- Goals with a rank answer their plain values.
 use Rattle.std.proofs.Common.{◌≡◌, ℕ, zero, suc, ◌+◌, ◌-◌, ◌<◌, ◌≤◌, ◌⊎◌, inl, inr, Bool, true, false, ◌||◌, List, [], ◌∷◌, Option, Some, None, refl, sym, ◌∙◌, subst, arith}
-use Rattle.cycle_heads.specs.declared.path.PathKind.{PathKind}
-use Rattle.search_parts.specs.declared.context.Request.{Request}
-use Rattle.search_parts.specs.declared.context.Request.TheVariants.{Evaluate, EnterCandidate, FinishCandidate, Ignore, Done}
-use Rattle.search_parts.specs.declared.context.Reply.{Reply}
-use Rattle.search_parts.specs.declared.context.Reply.TheVariants.{Begin, Answer, Noted}
-use Rattle.search_parts.specs.Run.{request_after, IsReplyTo, IsAnswered, IsFitting, IsOrderly}
-use Rattle.search_parts.specs.Rank.{AsksOnly, IsPlainValue, IsPlainTo, HasNoRank, IsPlain, IsBelowRank}
+use Rattle.evaluations.specs.Below.{PathKind, Request, Evaluate, EnterCandidate, FinishCandidate, Ignore, Done, Reply, Begin, Answer, Noted, request_after, IsReplyTo, IsAnswered, IsFitting, IsOrderly, AsksOnly, IsPlainValue, IsPlainTo, HasNoRank, IsPlain, IsBelowRank}
 use Rattle.search_parts.proofs.Runs.{IsReplyTo-weaker}
 use Rattle.search_parts.proofs.Ranks.{IsPlainValue-suc, one_plain_value}
-use Rattle.evaluations.specs.Frames.{Frame, Outcome, Asks, IsAllowed}
-use Rattle.evaluations.specs.Plain.{IsSafeOutcome, IsSafe, AreSafe, IsOnStack, Leaves}
-use Rattle.evaluations.specs.PlainLaws.{PushKeepsSafe, StepKeepsSafe, ReplyKeepsSafe, AnswerKeepsSafe, RefusalKeepsSafe, ReleaseKeepsSafe, RerunKeepsSafe, PopKeepsSafe, LeftIsSafe, CycleHasNoRank, UnrankedIsSafe, StoredIsPlain, SuccessIsSafe, KeyIsBelowRank, OverflowIsSafe, FittingIsPlain, QuestionIsSmaller, PushKeepsRoom, RoomIsEnough, PlainIsOne, KeyIsUnused, RankIsEnough}
+use Rattle.evaluations.specs.Words.{Frame, Outcome, Asks, IsAllowed, IsSafeOutcome, IsSafe, AreSafe, IsOnStack, Leaves, PushKeepsSafe, StepKeepsSafe, ReplyKeepsSafe, AnswerKeepsSafe, RefusalKeepsSafe, ReleaseKeepsSafe, RerunKeepsSafe, PopKeepsSafe, LeftIsSafe, CycleHasNoRank, UnrankedIsSafe, StoredIsPlain, SuccessIsSafe, KeyIsBelowRank, OverflowIsSafe, FittingIsPlain, QuestionIsSmaller, PushKeepsRoom, RoomIsEnough, PlainIsOne, KeyIsUnused, RankIsEnough}
 
 or_cases : (a b : Bool) → (a || b) ≡ true → (a ≡ true) ⊎ (b ≡ true)
 or_cases true b h = inl refl

@@ -1,9 +1,7 @@
 -- What it costs to meet a limit.
 use Rattle.std.proofs.Common.{◌≡◌, ℕ, suc, ◌+◌, ◌≤◌, min, inl, inr, Bool, true, false, ◌||◌, List, [], ◌∷◌, length, refl, sym, ◌∙◌, ap, subst, arith}
-use Rattle.search_parts.specs.Delegate.{CountsOne}
-use Rattle.evaluations.specs.Frames.{Frame, stepped, replied, answered, released}
-use Rattle.evaluations.specs.Price.{HasCounted, HaveFullDepths, frames_started, IsPaid, IsPriced}
-use Rattle.evaluations.specs.PriceLaws.{FirstIsPriced, PushKeepsPriced, StepKeepsPriced, ReplyKeepsPriced, AnswerKeepsPriced, ReleaseKeepsPriced, RerunKeepsPriced, PopKeepsPriced, RefusalIsPaid, LastRunIsPaid, LaterKeepsPriced}
+use Rattle.evaluations.specs.Below.{CountsOne}
+use Rattle.evaluations.specs.Words.{Frame, stepped, replied, answered, released, HasCounted, HaveFullDepths, frames_started, IsPaid, IsPriced, FirstIsPriced, PushKeepsPriced, StepKeepsPriced, ReplyKeepsPriced, AnswerKeepsPriced, ReleaseKeepsPriced, RerunKeepsPriced, PopKeepsPriced, RefusalIsPaid, LastRunIsPaid, LaterKeepsPriced}
 
 neither_of : (a b : Bool) → a ≡ false → b ≡ false → (a || b) ≡ false
 neither_of true b h k = absurd cc

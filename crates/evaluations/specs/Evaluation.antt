@@ -1,12 +1,7 @@
 -- An evaluation as a whole: its moves, and what holds between them. In each state the newest frame is about to take a step,
 -- with its newest reply.
 use Rattle.std.specs.Prelude.{◌≡◌, ℕ, ◌+◌, ◌<◌, ◌≤◌, Bool, true, false, List, [], ◌∷◌}
-use Rattle.search_parts.specs.declared.context.Request.{Request}
-use Rattle.search_parts.specs.declared.context.Reply.{Reply}
-use Rattle.search_parts.specs.declared.context.Reply.TheVariants.{Begin}
-use Rattle.search_parts.specs.Delegate.{CountsOne}
-use Rattle.search_parts.specs.Rank.{IsPlainValue, IsPlainTo}
-use Rattle.search_parts.specs.Run.{request_after, IsReplyTo}
+use Rattle.evaluations.specs.Below.{Request, Reply, Begin, CountsOne, IsPlainValue, IsPlainTo, request_after, IsReplyTo}
 use Rattle.evaluations.specs.Frames.{Frame, Outcome, fresh, stepped, replied, answered, refused, released, run_again, Asks, IsAllowed}
 use Rattle.evaluations.specs.Plain.{IsSafeOutcome, AreSafe, Leaves, HaveRoom}
 use Rattle.evaluations.specs.Starts.{StaysWithin, steps_ahead}

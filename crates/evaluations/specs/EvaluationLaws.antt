@@ -1,10 +1,6 @@
 -- The theorems on an evaluation as a whole.
 use Rattle.std.specs.Prelude.{◌≡◌, ℕ, ◌+◌, ◌<◌, ◌≤◌, Bool, true, false, List, [], ◌∷◌, None}
-use Rattle.search_parts.specs.declared.context.Request.{Request}
-use Rattle.search_parts.specs.declared.context.Reply.{Reply}
-use Rattle.search_parts.specs.declared.context.Reply.TheVariants.{Begin}
-use Rattle.search_parts.specs.Rank.{frames_within, IsPlainTo}
-use Rattle.search_parts.specs.Run.{fault_after}
+use Rattle.evaluations.specs.Below.{Request, Reply, Begin, frames_within, IsPlainTo, fault_after}
 use Rattle.evaluations.specs.Frames.{Frame, Outcome, fresh, replied, Asks}
 use Rattle.evaluations.specs.Plain.{Leaves}
 use Rattle.evaluations.specs.Starts.{Spends}

@@ -1,11 +1,7 @@
 -- Goals with a rank answer their plain values: what holds of each frame, each outcome and each stored result. Nothing is
 -- said of a goal that has no rank, so frames of both sorts stand on one stack.
 use Rattle.std.specs.Prelude.{◌≡◌, ℕ, ◌≤◌, true, false, ◌||◌, List, [], ◌∷◌, Some, ◌⊎◌}
-use Rattle.search_parts.specs.declared.context.Request.{Request}
-use Rattle.search_parts.specs.declared.context.Request.TheVariants.{Done}
-use Rattle.search_parts.specs.declared.context.Reply.{Reply}
-use Rattle.search_parts.specs.Run.{request_after, IsAnswered, IsFitting}
-use Rattle.search_parts.specs.Rank.{IsPlainTo, HasNoRank, IsPlain, IsBelowRank}
+use Rattle.evaluations.specs.Below.{Request, Done, Reply, request_after, IsAnswered, IsFitting, IsPlainTo, HasNoRank, IsPlain, IsBelowRank}
 use Rattle.evaluations.specs.Frames.{Frame, Outcome, AsksAt}
 
 module _ {I R : Type 0} (scripts : I → List (Reply R) → Request I R) where

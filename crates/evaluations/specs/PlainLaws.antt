@@ -1,9 +1,6 @@
 -- The theorems on goals with a rank.
 use Rattle.std.specs.Prelude.{◌≡◌, ◌≢◌, ℕ, ◌<◌, ◌≤◌, true, false, List, ◌∷◌, None}
-use Rattle.search_parts.specs.declared.context.Request.{Request}
-use Rattle.search_parts.specs.declared.context.Reply.{Reply}
-use Rattle.search_parts.specs.Run.{request_after, fault_after, IsReplyTo}
-use Rattle.search_parts.specs.Rank.{HasRank, IsPlainValue, IsPlainTo, HasNoRank, IsPlain, IsBelowRank}
+use Rattle.evaluations.specs.Below.{Request, Reply, request_after, fault_after, IsReplyTo, HasRank, IsPlainValue, IsPlainTo, HasNoRank, IsPlain, IsBelowRank}
 use Rattle.evaluations.specs.Frames.{Frame, Outcome, fresh, stepped, replied, answered, refused, released, run_again, Asks, IsAllowed, AsksAt}
 use Rattle.evaluations.specs.Plain.{IsSafeOutcome, IsSafe, AreSafe, IsOnStack, Leaves, HasRoom, HaveRoom}
 

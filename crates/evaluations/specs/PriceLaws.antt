@@ -1,7 +1,6 @@
 -- The theorems on the price of a limit.
 use Rattle.std.specs.Prelude.{◌≡◌, ℕ, ◌+◌, ◌≤◌, Bool, true, false, ◌||◌, List, [], ◌∷◌}
-use Rattle.search_parts.specs.declared.context.Reply.{Reply}
-use Rattle.search_parts.specs.Delegate.{CountsOne}
+use Rattle.evaluations.specs.Below.{Reply, CountsOne}
 use Rattle.evaluations.specs.Frames.{Frame, Outcome, fresh, stepped, replied, answered, refused, released, run_again, IsAllowed}
 use Rattle.evaluations.specs.Price.{IsPriced}
 

@@ -1,6 +1,6 @@
 -- The theorems on the number of frames. Each begins with a step of the newest frame.
 use Rattle.std.specs.Prelude.{ℕ, ◌+◌, ◌<◌, ◌≤◌, List, [], ◌∷◌}
-use Rattle.search_parts.specs.Rank.{frames_within}
+use Rattle.evaluations.specs.Below.{frames_within}
 use Rattle.evaluations.specs.Frames.{Frame, fresh, stepped, run_again}
 use Rattle.evaluations.specs.Starts.{StaysWithin, Spends}
 

@@ -1,6 +1,6 @@
 -- How many frames an evaluation may still start, and how many steps it may still take.
 use Rattle.std.specs.Prelude.{ℕ, zero, suc, ◌+◌, ◌*◌, ◌-◌, ◌<◌, ◌≤◌, List, [], ◌∷◌}
-use Rattle.search_parts.specs.Rank.{frames_within}
+use Rattle.evaluations.specs.Below.{frames_within}
 use Rattle.evaluations.specs.Frames.{Frame}
 
 -- the frames that one question of a goal at this depth may start

@@ -1,5 +1,5 @@
 //! An evaluation as a whole: plain values, the bound and the price in one invariant, which each move keeps.
-ghost use Rattle.evaluations.specs.EvaluationLaws.{RootIsEvaluating, MoveGoesOn, LastFrameEnds, LastRunEnds, EvaluationEnds, EvaluationStops, FailedStartStops, FittingMeetsNoLimit};
+ghost use Rattle.evaluations.specs.Words.{RootIsEvaluating, MoveGoesOn, LastFrameEnds, LastRunEnds, EvaluationEnds, EvaluationStops, FailedStartStops, FittingMeetsNoLimit};
 
 use search_parts::context::Delegate;
 

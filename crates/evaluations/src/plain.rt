@@ -1,6 +1,6 @@
 //! Goals with a rank answer their plain values. Nothing is said of a goal that has no rank, so both may
 //! stand on one stack.
-ghost use Rattle.evaluations.specs.PlainLaws.{PushKeepsSafe, StepKeepsSafe, ReplyKeepsSafe, AnswerKeepsSafe, RefusalKeepsSafe, ReleaseKeepsSafe, RerunKeepsSafe, PopKeepsSafe, LeftIsSafe, SuccessIsSafe, OverflowIsSafe, UnrankedIsSafe, CycleHasNoRank, StoredIsPlain, KeyIsBelowRank, RankIsEnough, FittingIsPlain, PlainIsOne, KeyIsUnused, QuestionIsSmaller, PushKeepsRoom, RoomIsEnough};
+ghost use Rattle.evaluations.specs.Words.{PushKeepsSafe, StepKeepsSafe, ReplyKeepsSafe, AnswerKeepsSafe, RefusalKeepsSafe, ReleaseKeepsSafe, RerunKeepsSafe, PopKeepsSafe, LeftIsSafe, SuccessIsSafe, OverflowIsSafe, UnrankedIsSafe, CycleHasNoRank, StoredIsPlain, KeyIsBelowRank, RankIsEnough, FittingIsPlain, PlainIsOne, KeyIsUnused, QuestionIsSmaller, PushKeepsRoom, RoomIsEnough};
 
 use search_parts::context::Delegate;
 

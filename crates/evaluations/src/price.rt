@@ -1,6 +1,6 @@
 //! A limit that is met has its price in frames: the runs of one goal, or the frames from the root to
 //! depth 0.
-ghost use Rattle.evaluations.specs.PriceLaws.{FirstIsPriced, PushKeepsPriced, StepKeepsPriced, ReplyKeepsPriced, AnswerKeepsPriced, ReleaseKeepsPriced, RerunKeepsPriced, PopKeepsPriced, LaterKeepsPriced, RefusalIsPaid, LastRunIsPaid};
+ghost use Rattle.evaluations.specs.Words.{FirstIsPriced, PushKeepsPriced, StepKeepsPriced, ReplyKeepsPriced, AnswerKeepsPriced, ReleaseKeepsPriced, RerunKeepsPriced, PopKeepsPriced, LaterKeepsPriced, RefusalIsPaid, LastRunIsPaid};
 
 use search_parts::context::Delegate;
 

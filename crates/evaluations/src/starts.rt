@@ -1,5 +1,5 @@
 //! The number of frames has a bound.
-ghost use Rattle.evaluations.specs.StartLaws.{StepSpends, QuestionSpends, RerunSpends, PopSpends, FirstStaysWithin, MoveStaysWithin, StartsAreWithin, DeeperStartsMore};
+ghost use Rattle.evaluations.specs.Words.{StepSpends, QuestionSpends, RerunSpends, PopSpends, FirstStaysWithin, MoveStaysWithin, StartsAreWithin, DeeperStartsMore};
 
 use search_parts::context::Delegate;
 

@@ -6,16 +6,9 @@ use Rattle.std.proofs.lemmas.List.{length-map}
 use Rattle.std.proofs.lemmas.List.Elements.{All-map, Contains-get_or}
 use Rattle.std.proofs.lemmas.Option.{slice_get-map, slice_get-get_or, unwrap_or-slice_get}
 use Rattle.std.specs.Option.{IsSomeAnd, unwrap_or}
-use Rattle.cycle_heads.specs.declared.path.PathKind.{PathKind}
-use Rattle.cycle_heads.specs.declared.path.PathKind.TheVariants.{Inductive, Unknown, Coinductive, ForcedAmbiguity}
-use Rattle.cycle_heads.specs.Path.{rank_of}
+use Rattle.graph_check.specs.Below.{PathKind, Inductive, Unknown, Coinductive, ForcedAmbiguity, rank_of, Edge, GraphNode, HasEdge, IsWalk, walk_kind, AreClosed, CyclesHaveKind, HasStep, Reaches, StaysInside, AreComponents, stay, go}
 use Rattle.cycle_heads.proofs.PathRanks.{greater_rank, same_kind}
-use Rattle.search_parts.specs.declared.context.Edge.{Edge}
-use Rattle.search_parts.specs.Graph.{GraphNode, HasEdge, IsWalk, walk_kind}
-use Rattle.search_parts.specs.Valid.{AreClosed, CyclesHaveKind}
-use Rattle.strong_components.specs.Components.{HasStep, Reaches, StaysInside, AreComponents}
-use Rattle.strong_components.specs.Components.Reaches.{stay, go}
-use Rattle.graph_check.specs.Walks.{IsBetween, IsGreater, IsLesser, HasCycle, HasInnerEdge, steps_over, targets_over}
+use Rattle.graph_check.specs.Words.{IsBetween, IsGreater, IsLesser, HasCycle, HasInnerEdge, steps_over, targets_over}
 use Rattle.graph_check.proofs.Members.{Contains-kept, source_of}
 use Rattle.graph_check.proofs.Places.{HasEdge-within, HasGoal-within}
 

@@ -3,10 +3,8 @@ use Rattle.std.proofs.Common.{◌≡◌, ℕ, Bool, true, ◌&&◌, ◌==◌, na
 use Rattle.std.proofs.lemmas.Bool.{and_from, and_parts, eq-eqb, eqb-true, le-leb, leb-true}
 use Rattle.std.proofs.lemmas.List.Folds.{Any-from_list_any, list_any_at}
 use Rattle.std.specs.List.{list_any}
-use Rattle.cycle_heads.specs.declared.path.PathKind.{PathKind}
-use Rattle.cycle_heads.specs.Path.{rank_of}
-use Rattle.search_parts.specs.declared.context.Edge.{Edge}
-use Rattle.graph_check.specs.Walks.{IsBetween, leads_to}
+use Rattle.graph_check.specs.Below.{PathKind, rank_of, Edge}
+use Rattle.graph_check.specs.Words.{IsBetween, leads_to}
 
 module _ {I : Type 0} (numbers : List ℕ) (number : ℕ) (least most : PathKind) where
   abbrev test : Edge I → Bool

@@ -1,10 +1,8 @@
 -- Edges are compared one by one with the questions that a record keeps.
 use Rattle.std.proofs.Common.{◌≡◌, ◌↔◌, ℕ, List, map, drop}
 use Rattle.std.specs.List.{filter}
-use Rattle.search_parts.specs.declared.context.Edge.{Edge}
-use Rattle.search_parts.specs.Question.{Question}
-use Rattle.search_parts.specs.Graph.{question_of}
-use Rattle.graph_check.specs.Replay.{Replayed, is_kept, question_asked, questions_kept}
+use Rattle.graph_check.specs.Below.{Edge, Question, question_of}
+use Rattle.graph_check.specs.Words.{Replayed, is_kept, question_asked, questions_kept}
 
 module _ {I R : Type 0} (p : Replayed I R) where
   -- the questions outside ignored candidates, of those from this place on

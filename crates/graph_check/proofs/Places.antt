@@ -5,10 +5,7 @@ use Rattle.std.proofs.lemmas.Option.{slice_get-map, slice_get_past, slice_get_wi
 use Rattle.std.proofs.lemmas.List.Elements.{All-contains, Contains-get_or}
 use Rattle.std.specs.Cmp.{IsEquivalence}
 use Rattle.std.specs.Option.{IsSomeAnd}
-use Rattle.search_parts.specs.declared.context.Edge.{Edge}
-use Rattle.search_parts.specs.declared.context.Node.{Node}
-use Rattle.search_parts.specs.Graph.{GraphNode, HasGoal, HasEdge}
-use Rattle.search_parts.specs.Valid.{AreClosed, goal_node_of, goal_nodes_of}
+use Rattle.graph_check.specs.Below.{Edge, Node, GraphNode, HasGoal, HasEdge, AreClosed, goal_node_of, goal_nodes_of}
 
 -- a place with an edge or a goal is one of the graph
 pub HasEdge-within : {I : Type 0} (nodes : List (GraphNode I)) (at : ℕ) (e : Edge I) → HasEdge nodes at e → at < length nodes

@@ -1,14 +1,8 @@
 -- A run is replayed reply by reply, up to one that doesn't fit, a request that is out of order, or the end.
 use Rattle.std.proofs.Common.{◌≡◌, ℕ, ◌+◌, ◌≤◌, Bool, true, false, List, [], ◌∷◌, ◌++◌, map, length, reverse, take, drop, Some, None, refl, sym, subst, ap, ◌∙◌}
 use Rattle.std.proofs.lemmas.List.{take_all}
-use Rattle.search_parts.specs.declared.context.Node.{Node}
-use Rattle.search_parts.specs.declared.context.Request.{Request}
-use Rattle.search_parts.specs.declared.context.Request.TheVariants.{Done}
-use Rattle.search_parts.specs.declared.context.Reply.{Reply}
-use Rattle.search_parts.specs.Graph.{question_of}
-use Rattle.search_parts.specs.Run.{request_after, progress_after, order_fault, fault_after, Fits, IsFitting, IsInOrder}
-use Rattle.search_parts.specs.Valid.{IsRunOfSort}
-use Rattle.graph_check.specs.Replay.{Replayed, nothing_replayed, replied, requested, is_answer, is_orderly, questions_kept, Agrees, IsLegal, Replays}
+use Rattle.graph_check.specs.Below.{Node, Request, Done, Reply, question_of, request_after, progress_after, order_fault, fault_after, Fits, IsFitting, IsInOrder, IsRunOfSort}
+use Rattle.graph_check.specs.Words.{Replayed, nothing_replayed, replied, requested, is_answer, is_orderly, questions_kept, Agrees, IsLegal, Replays}
 use Rattle.graph_check.proofs.Elements.{IsAt, taken_last, reversed_around}
 use Rattle.graph_check.proofs.RunRecords.{no_fault, some_fault, agrees_replied, kept_are_answered}
 

@@ -4,14 +4,8 @@ use Rattle.std.specs.List.{filter}
 use Rattle.std.proofs.lemmas.List.{append-nil, map-append, length-append, length-set}
 use Rattle.std.proofs.lemmas.List.Elements.{filter_agree}
 use Rattle.std.proofs.lemmas.Bool.Decides.{nat_tests}
-use Rattle.cycle_heads.specs.declared.path.PathKind.{PathKind}
-use Rattle.search_parts.specs.declared.context.Request.{Request}
-use Rattle.search_parts.specs.declared.context.Request.TheVariants.{Evaluate, EnterCandidate, FinishCandidate, Ignore, Done}
-use Rattle.search_parts.specs.declared.context.Reply.{Reply}
-use Rattle.search_parts.specs.declared.context.Reply.TheVariants.{Begin, Answer, Noted}
-use Rattle.search_parts.specs.Question.{Question}
-use Rattle.search_parts.specs.Run.{Progress, Asked, progress_with, order_fault, is_ignored, is_counted, open_candidate, questions_answered, Fits}
-use Rattle.graph_check.specs.Replay.{Replayed, replied, is_answer, is_orderly, is_kept, is_marked, open_number, asked_in, asked_by, questions_kept, Agrees}
+use Rattle.graph_check.specs.Below.{PathKind, Request, Evaluate, EnterCandidate, FinishCandidate, Ignore, Done, Reply, Begin, Answer, Noted, Question, Progress, Asked, progress_with, order_fault, is_ignored, is_counted, open_candidate, questions_answered, Fits}
+use Rattle.graph_check.specs.Words.{Replayed, replied, is_answer, is_orderly, is_kept, is_marked, open_number, asked_in, asked_by, questions_kept, Agrees}
 use Rattle.graph_check.proofs.Elements.{kept_more, kept_twice, kept_halves, marked_after_finish, marked_after_ignore}
 
 -- a candidate may begin or end, or else that is a fault

@@ -1,19 +1,8 @@
 -- What a valid graph shows: where the questions of each run's answers keep a rule, it is a graph of its goal by the rule.
 use Rattle.std.proofs.Common.{◌≡◌, ◌↔◌, Bool, true, IsTrue, List, Option, Some, None, option_map, map, slice_get, get_or, reverse, refl, sym, ◌∙◌, subst}
 use Rattle.std.proofs.lemmas.Option.{slice_get-map, slice_get-get_or, slice_get_within, get_or_from_slice_get}
-use Rattle.cycle_heads.specs.declared.path.PathKind.{PathKind}
-use Rattle.cycle_heads.specs.declared.path.PathKind.TheVariants.{Inductive, Coinductive}
-use Rattle.search_parts.specs.declared.context.Node.{Node}
-use Rattle.search_parts.specs.declared.context.Reply.{Reply}
-use Rattle.search_parts.specs.declared.context.Request.{Request}
-use Rattle.search_parts.specs.declared.context.Verdict.{Verdict}
-use Rattle.search_parts.specs.declared.context.Verdict.TheVariants.{Yes, No, Neither}
-use Rattle.search_parts.specs.Question.{Question}
-use Rattle.search_parts.specs.Run.{EndsIn, progress_after, questions_answered}
-use Rattle.search_parts.specs.Graph.{GraphNode, question_of, HasGoal, IsGraph, IsProofGraph, IsRefutationGraph}
-use Rattle.search_parts.specs.Valid.{AreClosed, CyclesHaveKind, IsRunOfSort, IsValid, IsValidFor, goal_node_of, goal_nodes_of}
-use Rattle.graph_check.specs.Replay.{has_sort}
-use Rattle.graph_check.specs.Runs.{AreRunsOfSort}
+use Rattle.graph_check.specs.Below.{PathKind, Inductive, Coinductive, Node, Reply, Request, Verdict, Yes, No, Neither, Question, EndsIn, progress_after, questions_answered, GraphNode, question_of, HasGoal, IsGraph, IsProofGraph, IsRefutationGraph, AreClosed, CyclesHaveKind, IsRunOfSort, IsValid, IsValidFor, goal_node_of, goal_nodes_of}
+use Rattle.graph_check.specs.Words.{has_sort, AreRunsOfSort}
 
 -- a rule that the questions of each run's answers keep
 abbrev pub KeepsRule : {I R : Type 0} → (R → Bool) → (I → List (Reply R) → Request I R) → (I → List (Question I) → Type 0) → Type 0

@@ -1,3 +1,5 @@
 pub mod Replay
 pub mod Runs
 pub mod Walks
+pub mod Below
+pub mod Words

@@ -1,13 +1,6 @@
 -- How far a run has come that is replayed, and what its record keeps of it. The newest reply stands first.
 use Rattle.std.specs.Prelude.{◌≡◌, ℕ, nat_lt, Bool, true, false, not, ◌&&◌, if◌then◌else◌, List, [], ◌∷◌, ◌++◌, map, filter, length, get_or, slice_set, Option, None, Some}
-use Rattle.search_parts.specs.declared.context.Request.{Request}
-use Rattle.search_parts.specs.declared.context.Request.TheVariants.{Evaluate, EnterCandidate, FinishCandidate, Ignore}
-use Rattle.search_parts.specs.declared.context.Reply.{Reply}
-use Rattle.search_parts.specs.declared.context.Reply.TheVariants.{Answer}
-use Rattle.search_parts.specs.declared.context.Verdict.{Verdict}
-use Rattle.search_parts.specs.declared.context.Verdict.TheVariants.{Yes, No, Neither}
-use Rattle.search_parts.specs.Question.{Question}
-use Rattle.search_parts.specs.Run.{Asked, Progress, request_after, progress_after, is_ignored, IsFitting, IsInOrder}
+use Rattle.graph_check.specs.Below.{Request, Evaluate, EnterCandidate, FinishCandidate, Ignore, Reply, Answer, Verdict, Yes, No, Neither, Question, Asked, Progress, request_after, progress_after, is_ignored, IsFitting, IsInOrder}
 use Rattle.graph_check.specs.declared.replay.run_record.AskedQuestion.{AskedQuestion}
 
 -- the test that a result is of this sort; for neither there is no test

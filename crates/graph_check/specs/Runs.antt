@@ -1,9 +1,6 @@
 -- The runs of a graph's nodes.
 use Rattle.std.specs.Prelude.{Bool, List, All}
-use Rattle.search_parts.specs.declared.context.Node.{Node}
-use Rattle.search_parts.specs.declared.context.Reply.{Reply}
-use Rattle.search_parts.specs.declared.context.Request.{Request}
-use Rattle.search_parts.specs.Valid.{IsRunOfSort}
+use Rattle.graph_check.specs.Below.{Node, Reply, Request, IsRunOfSort}
 
 -- each node is a run of its goal, with a result of the sort
 abbrev pub AreRunsOfSort : {I R : Type 0} → (R → Bool) → (I → List (Reply R) → Request I R) → List (Node I R) → Type 0

@@ -1,9 +1,6 @@
 -- Closed walks, and the steps of a graph over some kinds of edges.
 use Rattle.std.specs.Prelude.{◌≡◌, ℕ, ◌<◌, ◌≤◌, ◌==◌, nat_le, Bool, ◌&&◌, List, ◌∷◌, map, filter, slice_index}
-use Rattle.cycle_heads.specs.declared.path.PathKind.{PathKind}
-use Rattle.cycle_heads.specs.Path.{rank_of}
-use Rattle.search_parts.specs.declared.context.Edge.{Edge}
-use Rattle.search_parts.specs.Graph.{GraphNode, HasEdge, IsWalk, walk_kind}
+use Rattle.graph_check.specs.Below.{PathKind, rank_of, Edge, GraphNode, HasEdge, IsWalk, walk_kind}
 
 -- the kind comes before or after another one
 abbrev pub IsLesser : PathKind → PathKind → Type 0

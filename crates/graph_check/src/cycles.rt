@@ -1,10 +1,8 @@
 //! The closed walks of a graph: which kinds they have.
 ghost use Rattle.std.specs.Prelude.{◌≡◌, ◌↔◌, ◌<◌, ◌+◌, length, All, IsTrue, IfOk, MatchOption};
 ghost use Rattle.std.specs.List.{list_any};
-ghost use Rattle.cycle_heads.specs.Path.{rank_of};
-ghost use Rattle.search_parts.specs.Valid.{AreClosed, CyclesHaveKind, goal_nodes_of};
-ghost use Rattle.graph_check.specs.Walks.{HasCycle, HasInnerEdge, IsBetween, IsGreater, IsLesser, leads_to, steps_over, targets_over};
-ghost use Rattle.strong_components.specs.Components.{successor_lists};
+ghost use Rattle.graph_check.specs.Below.{rank_of, AreClosed, CyclesHaveKind, goal_nodes_of, successor_lists};
+ghost use Rattle.graph_check.specs.Words.{HasCycle, HasInnerEdge, IsBetween, IsGreater, IsLesser, leads_to, steps_over, targets_over};
 
 use cycle_heads::path::PathKind;
 use search_parts::context::{Edge, NoMemory, Node};

@@ -12,11 +12,8 @@
 #![tactic(auto)]
 
 ghost use Rattle.std.specs.Prelude.{◌≡◌, ◌≢◌, ◌≤◌, ◌+◌, ◌↔◌, true, IsTrue, IfOk, Ok, length};
-ghost use Rattle.search_parts.specs.Graph.{IsProofGraph, IsRefutationGraph};
-ghost use Rattle.search_parts.specs.Valid.{IsValidFor, goal_nodes_of};
-ghost use Rattle.search_parts.specs.declared.context.Verdict.{Verdict};
-ghost use Rattle.graph_check.specs.Replay.{has_sort};
-ghost use Rattle.graph_check.specs.Runs.{AreRunsOfSort};
+ghost use Rattle.graph_check.specs.Below.{IsProofGraph, IsRefutationGraph, IsValidFor, goal_nodes_of, Verdict};
+ghost use Rattle.graph_check.specs.Words.{has_sort, AreRunsOfSort};
 
 mod cycles;
 mod replay;

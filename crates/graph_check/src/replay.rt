@@ -1,7 +1,7 @@
 //! One node of a graph: its replies are replayed on a frame of its goal.
 ghost use Rattle.std.specs.Prelude.{◌≡◌, ◌≢◌, ◌≤◌, ◌+◌, ◌↔◌, IsTrue, IfOk};
-ghost use Rattle.search_parts.specs.Valid.{IsRunOfSort};
-ghost use Rattle.graph_check.specs.Replay.{has_sort, is_answer};
+ghost use Rattle.graph_check.specs.Below.{IsRunOfSort};
+ghost use Rattle.graph_check.specs.Words.{has_sort, is_answer};
 
 mod run_record;
 

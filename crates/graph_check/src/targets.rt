@@ -1,7 +1,6 @@
 //! Where the edges of a graph lead.
 ghost use Rattle.std.specs.Prelude.{◌↔◌, All, IsTrue};
-ghost use Rattle.search_parts.specs.Graph.{HasGoal};
-ghost use Rattle.search_parts.specs.Valid.{AreClosed, goal_nodes_of};
+ghost use Rattle.graph_check.specs.Below.{HasGoal, AreClosed, goal_nodes_of};
 
 use search_parts::context::{Cx, Edge, Node};
 

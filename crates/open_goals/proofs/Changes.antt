@@ -1,17 +1,8 @@
 -- The newest goal, read and changed.
 use Rattle.std.proofs.Common.{◌≡◌, ℕ, ◌-◌, ◌<◌, List, [], ◌∷◌, length, get_or, slice_set, Bool, Option, Some, None, IfSome, Result, Ok, Err, OnOk, option_map, sym, ap, ◌∙◌, subst, arith}
-use Rattle.search_parts.specs.Lent.{change_last}
-use Rattle.search_parts.specs.declared.parts.stack.StackEntry.{StackEntry}
-use Rattle.search_parts.specs.declared.parts.stack.EntryState.{EntryState}
+use Rattle.open_goals.specs.Below.{change_last, StackEntry, EntryState, PathKind, StackDepth, Heads, NestedPaths}
 use Rattle.search_parts.proofs.LastState.{some_element}
-use Rattle.cycle_heads.specs.declared.path.PathKind.{PathKind}
-use Rattle.cycle_heads.specs.declared.depth.StackDepth.{StackDepth}
-use Rattle.cycle_heads.specs.Heads.{Heads}
-use Rattle.open_goals.specs.declared.goals.Run.{Run}
-use Rattle.search_parts.specs.Nested.{NestedPaths}
-use Rattle.open_goals.specs.Entries.{with_depth, with_nested_goals, TakesHeads}
-use Rattle.open_goals.specs.Items.{AnswersNewest}
-use Rattle.open_goals.specs.Newest.{paired, newest, change_newest}
+use Rattle.open_goals.specs.Words.{Run, with_depth, with_nested_goals, TakesHeads, AnswersNewest, paired, newest, change_newest}
 use Rattle.open_goals.proofs.Pairs.{last_pair, LastPair, length_of_view}
 
 module _ {E F : Type 0} (es : List E) (fs : List F) (view : List (E × F)) (same : length es ≡ length fs) (is : paired [] es fs ≡ view) (some : 0 < length view) where

@@ -2,16 +2,9 @@
 use Rattle.std.proofs.Common.{◌≡◌, ◌≢◌, ◌==◌, if◌then◌else◌, Bool, true, false, ◌||◌, is_some, [], ◌∷◌, Option, Some, None, IsSome, option_map, refl, sym, ap, ◌∙◌, subst, inl, inr, ne_eqb, eq-eqb}
 use Rattle.std.specs.Option.{IsSomeAnd}
 use Rattle.std.proofs.lemmas.Bool.{cases_eq}
-use Rattle.cycle_heads.specs.declared.depth.StackDepth.{StackDepth}
-use Rattle.cycle_heads.specs.declared.heads.CycleHead.{CycleHead}
-use Rattle.cycle_heads.specs.declared.usages.HeadUsages.{HeadUsages}
-use Rattle.search_parts.specs.declared.parts.stack.EntryState.{EntryState}
-use Rattle.cycle_heads.specs.Candidates.{UsagesByHead}
-use Rattle.cycle_heads.specs.Heads.{Heads, at_depth}
-use Rattle.cycle_heads.specs.Usages.{without_usages}
+use Rattle.open_goals.specs.Below.{StackDepth, CycleHead, HeadUsages, EntryState, UsagesByHead, Heads, at_depth, without_usages}
 use Rattle.cycle_heads.proofs.HeadLists.{at_depth-first, at_depth-rest, at_depth-set_same, at_depth-set_other}
-use Rattle.open_goals.specs.Entries.{some_heads, is_in_cycle}
-use Rattle.open_goals.specs.Candidates.{less_usages, less_head, with_replaced, usages_at, without_head, CanIgnore, Covers}
+use Rattle.open_goals.specs.Words.{some_heads, is_in_cycle, less_usages, less_head, with_replaced, usages_at, without_head, CanIgnore, Covers}
 
 some_set : {A : Type 0} (o : Option A) (x : A) → o ≡ Some x → IsSome o
 some_set None x is = absurd cc

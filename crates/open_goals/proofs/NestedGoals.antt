@@ -1,17 +1,8 @@
 -- The goals below the newest goal, and a stored result that it takes over.
 use Rattle.std.proofs.Common.{◌≡◌, ◌-◌, ◌<◌, Bool, true, List, [], ◌∷◌, length, get_or, Result, Ok, Err, OnOk, sym, ap, ◌∙◌, subst}
 use Rattle.std.specs.Option.{option_map}
-use Rattle.cycle_heads.specs.declared.path.PathKind.{PathKind}
-use Rattle.search_parts.specs.declared.parts.stack.StackEntry.{StackEntry}
-use Rattle.search_parts.specs.declared.parts.stack.EntryState.{EntryState}
-use Rattle.search_parts.specs.Lent.{change_last}
-use Rattle.search_parts.specs.LookUp.{Hit}
-use Rattle.search_parts.specs.Nested.{NestedPaths, joined_paths, paths_at, JoinsPaths}
-use Rattle.cycle_heads.specs.Paths.{extended, path_of_no_step}
-use Rattle.open_goals.specs.declared.goals.Run.{Run}
-use Rattle.open_goals.specs.Entries.{with_depth, with_nested_goals}
-use Rattle.open_goals.specs.NestedGoals.{TakesNestedGoals, Joined, NotesOverflow, TakesStored}
-use Rattle.open_goals.specs.Newest.{paired}
+use Rattle.open_goals.specs.Below.{PathKind, StackEntry, EntryState, change_last, Hit, NestedPaths, joined_paths, paths_at, JoinsPaths, extended, path_of_no_step}
+use Rattle.open_goals.specs.Words.{Run, with_depth, with_nested_goals, TakesNestedGoals, Joined, NotesOverflow, TakesStored, paired}
 use Rattle.open_goals.proofs.Changes.{NewestState, newest_state}
 
 -- the goals of an answer are joined, and then the goal itself

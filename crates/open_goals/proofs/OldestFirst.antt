@@ -2,9 +2,8 @@
 use Rattle.std.proofs.Common.{◌≡◌, ℕ, List, [], ◌∷◌, ◌++◌, length, map, reverse, refl, sym, ap, ◌∙◌, append_assoc, arith, ◌<◌}
 use Rattle.std.specs.Option.{option_and_then}
 use Rattle.std.proofs.lemmas.Grind.{reverse_onto}
-use Rattle.search_parts.specs.declared.parts.stack.StackEntry.{StackEntry}
-use Rattle.search_parts.specs.Stack.{depth_below, allowed_depth}
-use Rattle.open_goals.specs.Newest.{paired, newest}
+use Rattle.open_goals.specs.Below.{StackEntry, depth_below, allowed_depth}
+use Rattle.open_goals.specs.Words.{paired, newest}
 
 append_nil : {A : Type 0} (xs : List A) → xs ++ [] ≡ xs
 append_nil [] = refl

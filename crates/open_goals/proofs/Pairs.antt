@@ -5,8 +5,8 @@ use Rattle.std.proofs.lemmas.Bool.Decides.{nat_tests}
 use Rattle.std.proofs.lemmas.List.{length-map, length-append}
 use Rattle.std.proofs.lemmas.List.Sums.{prefix_len-le-length}
 use Rattle.std.proofs.lemmas.List.Quantifiers.{position-Some}
-use Rattle.open_goals.specs.Newest.{paired}
-use Rattle.search_parts.specs.Lent.{change_last}
+use Rattle.open_goals.specs.Words.{paired}
+use Rattle.open_goals.specs.Below.{change_last}
 
 turned : (a b c : Bool) → (b || (a || c)) ≡ ((a || b) || c)
 turned true true c = refl

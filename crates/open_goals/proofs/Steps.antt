@@ -1,21 +1,10 @@
 -- One step of the newest goal's frame.
 use Rattle.std.proofs.Common.{◌≡◌, ℕ, ◌-◌, ◌<◌, List, [], ◌∷◌, length, get_or, slice_set, Option, Some, None, refl, sym, ap, ◌∙◌, subst, arith}
-use Rattle.search_parts.specs.declared.context.Delegate as Delegate
-use Rattle.search_parts.specs.declared.context.Cx as Cx
-use Rattle.search_parts.specs.declared.context.Request.{Request}
-use Rattle.search_parts.specs.declared.parts.stack.StackEntry.{StackEntry}
-use Rattle.search_parts.specs.Delegate.{CanTake, Steps}
-use Rattle.search_parts.specs.declared.context.Verdict.{Verdict}
-use Rattle.search_parts.specs.declared.context.Fault.{Fault}
-use Rattle.search_parts.specs.declared.context.Fault.TheVariants.{Protocol}
-use Rattle.open_goals.specs.declared.goals.Run.{Run}
-use Rattle.open_goals.specs.declared.goals.Received.{Received}
-use Rattle.open_goals.specs.Progress.{received, requested, fault_of}
-use Rattle.open_goals.specs.Newest.{paired}
-use Rattle.open_goals.specs.Steps.{CanStep, IsVerdict, HasStepped, IsStepFault, OutOfOrder}
+use Rattle.open_goals.specs.Below.{DelegateOf, CxOf, Request, StackEntry, CanTake, Steps, Verdict, Fault, Protocol}
+use Rattle.open_goals.specs.Words.{Run, Received, received, requested, fault_of, paired, CanStep, IsVerdict, HasStepped, IsStepFault, OutOfOrder}
 use Rattle.open_goals.proofs.Pairs.{last_pair, length_of_view}
 
-module _ {D C V P F I R A T : Type 0} (G : Delegate.Ghosts D C V P F I R A T) (X : Cx.Ghosts C I R A T) (cx : C) (given : Received R) where
+module _ {D C V P F I R A T : Type 0} (G : DelegateOf D C V P F I R A T) (X : CxOf C I R A T) (cx : C) (given : Received R) where
   -- a frame that can take a reply is there
   pub some_item : (view : List (StackEntry C I R A T × Run C F I R A T)) → CanStep G X cx given.reply view → 0 < length view
   some_item [] can = absurd can

@@ -1,17 +1,9 @@
 -- The heads of an answer are taken over one by one.
 use Rattle.std.proofs.Common.{◌≡◌, ◌≢◌, ◌==◌, if◌then◌else◌, Bool, true, false, ◌||◌, is_some, [], ◌∷◌, Option, Some, None, option_map, unwrap_or, refl, sym, ap, ◌∙◌, subst, inl, inr, ne_eqb, eq-eqb}
 use Rattle.std.proofs.lemmas.Bool.{cases_eq}
-use Rattle.cycle_heads.specs.declared.path.PathKind.{PathKind}
-use Rattle.cycle_heads.specs.declared.depth.StackDepth.{StackDepth}
-use Rattle.cycle_heads.specs.declared.heads.CycleHead.{CycleHead}
-use Rattle.cycle_heads.specs.declared.usages.HeadUsages.{HeadUsages}
-use Rattle.search_parts.specs.declared.parts.stack.EntryState.{EntryState}
-use Rattle.cycle_heads.specs.Candidates.{UsagesByHead, with_noted}
-use Rattle.cycle_heads.specs.Usages.{no_usages, with_nested}
-use Rattle.cycle_heads.specs.Heads.{Heads, at_depth, joined_head, with_head}
-use Rattle.cycle_heads.specs.Paths.{extended}
+use Rattle.open_goals.specs.Below.{PathKind, StackDepth, CycleHead, HeadUsages, EntryState, UsagesByHead, with_noted, no_usages, with_nested, Heads, at_depth, joined_head, with_head, extended}
 use Rattle.cycle_heads.proofs.HeadLists.{at_depth-first, at_depth-rest, at_depth-insert_same, at_depth-insert_other}
-use Rattle.open_goals.specs.Entries.{some_heads, joined_over, usages_over, candidate_over, is_in_cycle, with_used_head, TakesHeads}
+use Rattle.open_goals.specs.Words.{some_heads, joined_over, usages_over, candidate_over, is_in_cycle, with_used_head, TakesHeads}
 
 or_true : (a : Bool) → (a || true) ≡ true
 or_true true = refl

@@ -1,20 +1,7 @@
 -- What changes of a goal's entry while the goal is worked out.
 use Rattle.std.specs.Prelude.{◌≡◌, ℕ, ◌+◌, ◌==◌, max, if◌then◌else◌, Bool, true, false, ◌||◌, is_some, [], ◌∷◌, Option, None, Some, unwrap_or}
-use Rattle.search_parts.specs.declared.context.NodeId.{NodeId}
-use Rattle.cycle_heads.specs.declared.path.PathKind.{PathKind}
-use Rattle.cycle_heads.specs.declared.depth.StackDepth.{StackDepth}
-use Rattle.search_parts.specs.declared.parts.depth.AvailableDepth.{AvailableDepth}
-use Rattle.cycle_heads.specs.declared.heads.CycleHead.{CycleHead}
-use Rattle.cycle_heads.specs.declared.usages.HeadUsages.{HeadUsages}
-use Rattle.search_parts.specs.declared.parts.stack.EntryState.{EntryState}
-use Rattle.search_parts.specs.declared.parts.stack.StackEntry.{StackEntry}
+use Rattle.open_goals.specs.Below.{NodeId, PathKind, StackDepth, AvailableDepth, CycleHead, HeadUsages, EntryState, StackEntry, UsagesByHead, with_noted, Heads, at_depth, joined_head, with_head, NestedPaths, extended, paths_of, fresh_entry, no_usages, with_nested, with_usage}
 use Rattle.std.specs.Option.{option_map}
-use Rattle.cycle_heads.specs.Candidates.{UsagesByHead, with_noted}
-use Rattle.cycle_heads.specs.Heads.{Heads, at_depth, joined_head, with_head}
-use Rattle.search_parts.specs.Nested.{NestedPaths}
-use Rattle.cycle_heads.specs.Paths.{extended, paths_of}
-use Rattle.search_parts.specs.Stack.{fresh_entry}
-use Rattle.cycle_heads.specs.Usages.{no_usages, with_nested, with_usage}
 
 -- whether there are heads
 abbrev pub some_heads : Heads → Bool

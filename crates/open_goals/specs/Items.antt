@@ -1,10 +1,6 @@
 -- What becomes of the newest goal under evaluation and its run.
 use Rattle.std.specs.Prelude.{◌≡◌, ℕ, ◌+◌, Bool, ◌||◌, List, [], ◌∷◌, length, Option}
-use Rattle.search_parts.specs.declared.context.NodeId.{NodeId}
-use Rattle.cycle_heads.specs.declared.path.PathKind.{PathKind}
-use Rattle.search_parts.specs.declared.parts.stack.EntryState.{EntryState}
-use Rattle.search_parts.specs.declared.parts.stack.StackEntry.{StackEntry}
-use Rattle.cycle_heads.specs.Heads.{Heads}
+use Rattle.open_goals.specs.Below.{NodeId, PathKind, EntryState, StackEntry, Heads}
 use Rattle.open_goals.specs.declared.goals.Run.{Run}
 use Rattle.open_goals.specs.Entries.{TakesAnswer, rerun_under}
 use Rattle.open_goals.specs.Progress.{no_record}

@@ -5,3 +5,5 @@ pub mod Items
 pub mod Candidates
 pub mod Steps
 pub mod Progress
+pub mod Below
+pub mod Words

@@ -1,11 +1,7 @@
 -- The goals below a goal that is under evaluation, and what of an answer changes them besides its heads.
 use Rattle.std.specs.Prelude.{◌≡◌, Bool, List, [], ◌∷◌}
 use Rattle.std.specs.Option.{option_map}
-use Rattle.cycle_heads.specs.declared.path.PathKind.{PathKind}
-use Rattle.search_parts.specs.declared.parts.stack.StackEntry.{StackEntry}
-use Rattle.search_parts.specs.LookUp.{Hit}
-use Rattle.search_parts.specs.Nested.{NestedPaths, joined_paths, paths_at, JoinsPaths}
-use Rattle.cycle_heads.specs.Paths.{extended, path_of_no_step}
+use Rattle.open_goals.specs.Below.{PathKind, StackEntry, Hit, NestedPaths, joined_paths, paths_at, JoinsPaths, extended, path_of_no_step}
 use Rattle.open_goals.specs.declared.goals.Run.{Run}
 use Rattle.open_goals.specs.Entries.{overflowed, with_depth, with_nested_goals}
 

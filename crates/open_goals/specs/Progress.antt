@@ -1,17 +1,6 @@
 -- What a run has done so far, as its record keeps it. The replies stand with the oldest first.
 use Rattle.std.specs.Prelude.{◌≡◌, ◌↔◌, ℕ, nat_lt, IsTrue, IsSome, Bool, true, false, not, ◌&&◌, if◌then◌else◌, List, [], ◌∷◌, ◌++◌, map, filter, length, reverse, get_or, slice_set, Option, None, Some, Contains}
-use Rattle.search_parts.specs.declared.context.Request.{Request}
-use Rattle.search_parts.specs.declared.context.Request.TheVariants.{Evaluate, EnterCandidate, FinishCandidate, Ignore}
-use Rattle.search_parts.specs.declared.context.Reply.{Reply}
-use Rattle.search_parts.specs.declared.context.Reply.TheVariants.{Answer}
-use Rattle.search_parts.specs.declared.context.Verdict.{Verdict}
-use Rattle.search_parts.specs.declared.context.Verdict.TheVariants.{Yes, No, Neither}
-use Rattle.search_parts.specs.declared.context.NodeId.{NodeId}
-use Rattle.search_parts.specs.declared.context.Edge.{Edge}
-use Rattle.cycle_heads.specs.declared.path.PathKind.{PathKind}
-use Rattle.search_parts.specs.Question.{Question}
-use Rattle.search_parts.specs.Graph.{question_of}
-use Rattle.search_parts.specs.Run.{Asked, Progress, request_after, progress_after, is_ignored, IsInOrder}
+use Rattle.open_goals.specs.Below.{Request, Evaluate, EnterCandidate, FinishCandidate, Ignore, Reply, Answer, Verdict, Yes, No, Neither, NodeId, Edge, PathKind, Question, question_of, Asked, Progress, request_after, progress_after, is_ignored, IsInOrder}
 use Rattle.open_goals.specs.declared.progress.DefiniteAnswer.{DefiniteAnswer}
 
 -- the replies, the last request, the definite answers, whether a candidate is open, and for each finished candidate whether it is ignored

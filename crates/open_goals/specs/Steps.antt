@@ -1,17 +1,6 @@
 -- The goals under evaluation with their runs, and the step of the newest one's frame.
 use Rattle.std.specs.Prelude.{◌≡◌, ℕ, ◌<◌, ◌↔◌, Bool, IsTrue, List, [], ◌∷◌, None, Some}
-use Rattle.search_parts.specs.declared.context.Delegate as Delegate
-use Rattle.search_parts.specs.declared.context.Cx as Cx
-use Rattle.search_parts.specs.declared.context.Request.{Request}
-use Rattle.search_parts.specs.declared.context.Reply.{Reply}
-use Rattle.search_parts.specs.declared.context.Reply.TheVariants.{Begin, Answer, Noted}
-use Rattle.search_parts.specs.declared.context.Fault.{Fault}
-use Rattle.search_parts.specs.declared.context.Fault.TheVariants.{Memory, Protocol}
-use Rattle.search_parts.specs.declared.context.Verdict.{Verdict}
-use Rattle.search_parts.specs.declared.context.Verdict.TheVariants.{Yes, No, Neither}
-use Rattle.search_parts.specs.declared.parts.stack.StackEntry.{StackEntry}
-use Rattle.search_parts.specs.Run.{IsFitting}
-use Rattle.search_parts.specs.Delegate.{Steps}
+use Rattle.open_goals.specs.Below.{DelegateOf, CxOf, Request, Reply, Begin, Answer, Noted, Fault, Memory, Protocol, Verdict, Yes, No, Neither, StackEntry, IsFitting, Steps}
 use Rattle.open_goals.specs.Progress.{RunRecord, received, requested, fault_of, Records}
 use Rattle.open_goals.specs.declared.goals.Received.{Received}
 use Rattle.open_goals.specs.declared.goals.Run.{Run}
@@ -22,7 +11,7 @@ IsVerdict is_yes is_no Begin verdict = verdict ≡ Neither
 IsVerdict is_yes is_no Noted verdict = verdict ≡ Neither
 IsVerdict is_yes is_no (Answer r) verdict = ((verdict ≡ Yes) ↔ IsTrue (is_yes r)) × ((verdict ≡ No) ↔ IsTrue (is_no r))
 
-module _ {D C V P F I R A T : Type 0} (G : Delegate.Ghosts D C V P F I R A T) (X : Cx.Ghosts C I R A T) (cx : C) where
+module _ {D C V P F I R A T : Type 0} (G : DelegateOf D C V P F I R A T) (X : CxOf C I R A T) (cx : C) where
   -- a goal under evaluation with its run
   abbrev pub Item : Type 0
   Item = StackEntry C I R A T × Run C F I R A T

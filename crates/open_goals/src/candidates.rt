@@ -16,7 +16,7 @@ pub struct FinishedCandidates {
 
 impl Model for FinishedCandidates {
     ghost use Rattle.std.specs.Prelude.{List};
-    ghost use Rattle.cycle_heads.specs.Candidates.{UsagesByHead};
+    ghost use Rattle.open_goals.specs.Below.{UsagesByHead};
 
     ghost Value = { List UsagesByHead };
 

@@ -2,7 +2,7 @@
 ghost use Rattle.std.specs.Prelude.{◌≡◌, ℕ, ◌+◌, ◌^◌, ◌<◌, List, [], ◌∷◌, length, false, Some, None, OnOk, OnErr, IfOk, IfErr, IfSome, is_some, map, reverse};
 ghost use Rattle.std.specs.List.{list_any, position};
 ghost use Rattle.std.specs.Option.{option_map};
-ghost use Rattle.open_goals.specs.Steps.{CanStep, IsVerdict, HasStepped, IsStepFault};
+ghost use Rattle.open_goals.specs.Words.{CanStep, IsVerdict, HasStepped, IsStepFault};
 
 mod candidates;
 
@@ -69,7 +69,7 @@ pub struct OpenGoals<X: Cx, F: Drop> {
 
 impl<X: Cx, F: Drop> Model for OpenGoals<X, F> {
     ghost use Rattle.std.specs.Prelude.{◌≡◌, List, [], length};
-    ghost use Rattle.search_parts.specs.declared.parts.stack.StackEntry.{StackEntry};
+    ghost use Rattle.open_goals.specs.Below.{StackEntry, hit_of};
     ghost use Rattle.open_goals.specs.declared.goals.Run.{Run};
     ghost use Rattle.open_goals.specs.Newest.{paired};
 
@@ -82,7 +82,6 @@ impl<X: Cx, F: Drop> Model for OpenGoals<X, F> {
 
 impl<X: Cx, F: Drop> OpenGoals<X, F> {
     ghost use Rattle.open_goals.specs.Newest.{newest, change_newest};
-    ghost use Rattle.search_parts.specs.LookUp.{hit_of};
     ghost use Rattle.open_goals.specs.Entries.{cycle_head};
     ghost use Rattle.open_goals.specs.Items.{rerun_with, with_no_record, AnswersNewest};
     ghost use Rattle.open_goals.specs.NestedGoals.{NotesOverflow, TakesStored};

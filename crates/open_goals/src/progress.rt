@@ -1,6 +1,6 @@
 //! What a run has done so far.
 ghost use Rattle.std.specs.Prelude.{◌≡◌, OnOk, IfOk};
-ghost use Rattle.open_goals.specs.Progress.{no_record, received, requested, answers_with, fault_of, edges_of, rests_on, is_marked};
+ghost use Rattle.open_goals.specs.Words.{no_record, received, requested, answers_with, fault_of, edges_of, rests_on, is_marked};
 
 use search_parts::context::{Edge, NoMemory, NodeId, Reply, Request, Verdict};
 use std::alloc::Global;

@@ -1,9 +1,7 @@
 //! What a goal's entry takes over from the answer to one of its questions.
 ghost use Rattle.std.specs.Prelude.{◌≡◌, ◌<◌, ◌+◌, ◌^◌, OnOk, Some};
-ghost use Rattle.open_goals.specs.Entries.{cycle_head, with_depth, with_nested_goals, with_used_head, TakesHeads};
+ghost use Rattle.open_goals.specs.Words.{cycle_head, with_depth, with_nested_goals, with_used_head, TakesHeads, usages_at, without_head, CanIgnore, Covers, Ignores, TakesNestedGoals};
 ghost use Rattle.std.specs.Option.{IsSomeAnd};
-ghost use Rattle.open_goals.specs.Candidates.{usages_at, without_head, CanIgnore, Covers, Ignores};
-ghost use Rattle.open_goals.specs.NestedGoals.{TakesNestedGoals};
 
 use search_parts::context::{Cx, NoMemory};
 use search_parts::parts::{

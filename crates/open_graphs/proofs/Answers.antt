@@ -1,9 +1,6 @@
 -- Edges: answers for a goal on the stack, and for a finished goal.
 use Rattle.std.proofs.Common.{◌≡◌, ℕ, suc, max, ◌≤◌, List, Some, slice_get, drop, arith, refl, sym, subst, inl}
-use Rattle.open_graphs.specs.Graph.{Verdict, Node, Walk, stay, go}
-use Rattle.open_graphs.specs.Stack.{Entry, IsLeaf, Accepts, path_kind}
-use Rattle.open_graphs.specs.Use.{Step, Recorded}
-use Rattle.open_graphs.specs.UseLaws.{CycleGivesUse, UseGivesEdge}
+use Rattle.open_graphs.specs.Words.{Verdict, Node, Walk, stay, go, Entry, IsLeaf, Accepts, path_kind, Step, Recorded, CycleGivesUse, UseGivesEdge}
 use Rattle.open_graphs.proofs.Paths.{to_walk}
 use Rattle.open_graphs.proofs.PathKinds.{step_le}
 use Rattle.open_graphs.proofs.Keep.{recorded_at, accepts_at}

@@ -1,12 +1,7 @@
 -- Answers that a run gets.
 use Rattle.std.proofs.Common.{◌≡◌, ◌≢◌, ℕ, max, ◌≤◌, ◌<◌, List, [], ◌∷◌, ◌++◌, length, cond, Bool, true, false, IsTrue, ltb, lt-ltb, le-ltb, inl, inr, subst, sym, refl, arith}
 use native.Mathlib.Decide.{dec_lt}
-use Rattle.open_graphs.specs.Graph.{Verdict, Edge, Node, same_verdict}
-use Rattle.open_graphs.specs.Stack.{Entry, path_kind}
-use Rattle.open_graphs.specs.Use.{Head, Heads, Recorded, IncludesBelow}
-use Rattle.open_graphs.specs.Run.{IsAnswered, AllAnswered}
-use Rattle.open_graphs.specs.State.{no_heads, stack_of}
-use Rattle.open_graphs.specs.AnswerLaws.{with_edge, OneAnswerKeepsSound, CycleIsAnswered, DoneIsAnswered, StoredIsAnswered, FinalIsAnswered}
+use Rattle.open_graphs.specs.Words.{Verdict, Edge, Node, same_verdict, Entry, path_kind, Head, Heads, Recorded, IncludesBelow, IsAnswered, AllAnswered, no_heads, stack_of, with_edge, OneAnswerKeepsSound, CycleIsAnswered, DoneIsAnswered, StoredIsAnswered, FinalIsAnswered}
 use Rattle.open_graphs.proofs.Lists.{get_cases}
 use Rattle.open_graphs.proofs.Verdicts.{same}
 use Rattle.open_graphs.proofs.Answers.{cycle_gives_use, use_gives_edge}

@@ -1,10 +1,6 @@
 -- A value without heads is a graph.
 use Rattle.std.proofs.Common.{ℕ, List, [], sym, subst, inl, inr}
-use Rattle.open_graphs.specs.Graph.{Verdict, Node, HasEdge, Walk, stay, IsGraph}
-use Rattle.open_graphs.specs.Stack.{Entry, IsLeaf}
-use Rattle.open_graphs.specs.Use.{Step, Heads, Use, UsesNo}
-use Rattle.open_graphs.specs.UseLaws.{ClosedIsGraph, GraphIsUse}
-use Rattle.open_graphs.specs.GraphLaws.{GrowthKeepsGraph}
+use Rattle.open_graphs.specs.Words.{Verdict, Node, HasEdge, Walk, stay, IsGraph, Entry, IsLeaf, Step, Heads, Use, UsesNo, ClosedIsGraph, GraphIsUse, GrowthKeepsGraph}
 use Rattle.open_graphs.proofs.Verdicts.{edges_of, is_finished}
 use Rattle.open_graphs.proofs.Walks.{carried_on, carried, then_step}
 use Rattle.open_graphs.proofs.Paths.{covered_walk}

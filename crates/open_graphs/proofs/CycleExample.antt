@@ -1,9 +1,6 @@
 -- The definitions at work: a goal that proves itself by a coinductive step has a graph, and by an inductive step it has none.
 use Rattle.std.proofs.Common.{◌≡◌, ℕ, zero, suc, max, [], ◌∷◌, Some, None, slice_get, true, arith, refl, inl, inr, subst}
-use Rattle.open_graphs.specs.Graph.{Yes, Edge, Unfinished, Finished, HasEdge, stay, IsGraph}
-use Rattle.open_graphs.specs.Stack.{Entry, path_kind, DistinctNodes}
-use Rattle.open_graphs.specs.Use.{Heads, Use}
-use Rattle.open_graphs.specs.Run.{IsAnswered}
+use Rattle.open_graphs.specs.Words.{Yes, Edge, Unfinished, Finished, HasEdge, stay, IsGraph, Entry, path_kind, DistinctNodes, Heads, Use, IsAnswered}
 use Rattle.open_graphs.proofs.Answers.{cycle_gives_use}
 use Rattle.open_graphs.proofs.Finish.{finish_gives_use}
 use Rattle.open_graphs.proofs.Runs.{root_is_graph}

@@ -1,10 +1,6 @@
 -- The end of a run: its node gets its edges.
 use Rattle.std.proofs.Common.{◌≡◌, ◌≢◌, ℕ, max, ◌<◌, List, [], ◌∷◌, ◌++◌, Some, length, slice_get, slice_set, arith, refl, sym, subst, ◌∙◌, ◌⊎◌, inl, inr}
-use Rattle.open_graphs.specs.Graph.{Verdict, cycle_kind, Edge, Node, Unfinished, Finished, IsFinished, Walk, stay, Path, end, then, Avoids}
-use Rattle.open_graphs.specs.Stack.{Entry, IsLeaf, Accepts, path_kind}
-use Rattle.open_graphs.specs.Use.{Step, Heads, Recorded, Use}
-use Rattle.open_graphs.specs.Run.{IsAnswered, IsRunsNode}
-use Rattle.open_graphs.specs.UseLaws.{FinishGivesUse}
+use Rattle.open_graphs.specs.Words.{Verdict, cycle_kind, Edge, Node, Unfinished, Finished, IsFinished, Walk, stay, Path, end, then, Avoids, Entry, IsLeaf, Accepts, path_kind, Step, Heads, Recorded, Use, IsAnswered, IsRunsNode, FinishGivesUse}
 use Rattle.open_graphs.proofs.Lists.{get_left, get_end, get_below, get_set_other, get_set_same}
 use Rattle.open_graphs.proofs.Walks.{closed_walk, placed_walk}
 use Rattle.open_graphs.proofs.Paths.{Covered, covered_walk, carried_past}

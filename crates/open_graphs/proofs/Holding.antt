@@ -1,6 +1,6 @@
 -- Depths that are held as heads.
 use Rattle.std.proofs.Common.{◌≡◌, ℕ, ◌<◌, List, [], ◌∷◌, length, IsTrue, ◌⊎◌, inl, inr, arith}
-use Rattle.open_graphs.specs.Held.{Holder, Among, IsHeld, UpdateKeepsHeld, HeldIsOnStack, UnusedIsNotHeld, PopKeepsHeld}
+use Rattle.open_graphs.specs.Words.{Holder, Among, IsHeld, UpdateKeepsHeld, HeldIsOnStack, UnusedIsNotHeld, PopKeepsHeld}
 
 answered_held : (hs : List Holder) (after : Holder) (depth : ℕ) → Among after.heads depth ⊎ ((depth ≡ length hs) × IsTrue after.used) → IsHeld (after ∷ hs) depth
 answered_held hs after depth h = elim h [ inl x ↦ inl x | inr x ↦ inr (inl x) ]

@@ -1,11 +1,7 @@
 -- What keeps the use of a value: growth of the list, more heads, pushes, pops and reruns of what it doesn't reach.
 use Rattle.std.proofs.Common.{◌≡◌, ℕ, max, List, [], ◌∷◌, ◌++◌, Some, length, slice_get, refl, ap, sym, subst, ◌∙◌, ◌⊎◌, inl, inr}
 use native.Mathlib.Decide.{ℕ_discrete}
-use Rattle.open_graphs.specs.Graph.{Verdict, cycle_kind, Node, Unfinished, Finished, IsFinished, HasEdge, Walk, Grown}
-use Rattle.open_graphs.specs.Stack.{Entry, IsLeaf, Accepts}
-use Rattle.open_graphs.specs.Use.{Step, Settled, Heads, Recorded, Use, Unreached}
-use Rattle.open_graphs.specs.GraphLaws.{AppendGrows, FinishGrows}
-use Rattle.open_graphs.specs.UseLaws.{GrowthKeepsUse, HeadsKeepUse, PushKeepsUse, PopKeepsUse, RerunKeepsUse, UnusedIsUnreached, OtherIsUnreached}
+use Rattle.open_graphs.specs.Words.{Verdict, cycle_kind, Node, Unfinished, Finished, IsFinished, HasEdge, Walk, Grown, Entry, IsLeaf, Accepts, Step, Settled, Heads, Recorded, Use, Unreached, AppendGrows, FinishGrows, GrowthKeepsUse, HeadsKeepUse, PushKeepsUse, PopKeepsUse, RerunKeepsUse, UnusedIsUnreached, OtherIsUnreached}
 use Rattle.open_graphs.proofs.Lists.{get_left, get_end, get_cases, get_set_other}
 use Rattle.open_graphs.proofs.Paths.{covered_walk}
 use Rattle.open_graphs.proofs.Transfer.{same_walk, transfer_use}

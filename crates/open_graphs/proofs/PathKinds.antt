@@ -1,6 +1,6 @@
 -- Path kinds from the entries of a stack.
 use Rattle.std.proofs.Common.{◌≡◌, ℕ, zero, suc, ◌<◌, ◌≤◌, max, List, [], ◌∷◌, ◌++◌, length, take, drop, arith, refl, ap, sym, ◌∙◌}
-use Rattle.open_graphs.specs.Stack.{Entry, greatest, path_kind, path_through}
+use Rattle.open_graphs.specs.Words.{Entry, greatest, path_kind, path_through}
 
 pub greatest_max : (a b : ℕ) (es : List Entry) → greatest (max a b) es ≡ max a (greatest b es)
 greatest_max a b [] = refl

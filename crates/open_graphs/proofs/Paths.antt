@@ -1,9 +1,7 @@
 -- Paths, which come to no node twice: a walk is a path and closed walks.
 use Rattle.std.proofs.Common.{◌≡◌, ◌≢◌, ℕ, max, ◌≤◌, List, [], ◌∷◌, Some, slice_get, arith, subst}
 use native.Mathlib.Decide.{ℕ_discrete}
-use Rattle.open_graphs.specs.Graph.{Verdict, cycle_kind, Node, Walk, stay, go, Path, end, then, Avoids}
-use Rattle.open_graphs.specs.Stack.{Entry, Accepts}
-use Rattle.open_graphs.specs.Use.{Step, Heads, Recorded, Use}
+use Rattle.open_graphs.specs.Words.{Verdict, cycle_kind, Node, Walk, stay, go, Path, end, then, Avoids, Entry, Accepts, Step, Heads, Recorded, Use}
 use Rattle.open_graphs.proofs.Walks.{then_step}
 
 pub to_walk : (step : ℕ → ℕ → ℕ → Type 0) {a q b : ℕ} {on : List ℕ} → Path step a q b on → Walk step a q b

@@ -1,11 +1,7 @@
 -- Stored answers when their highest head is popped.
 use Rattle.std.proofs.Common.{◌≡◌, ◌≢◌, ℕ, max, ◌<◌, List, [], ◌∷◌, ◌++◌, Some, length, slice_get, arith, refl, ap, sym, subst, ◌⊎◌, inl, inr}
 use native.Mathlib.Decide.{ℕ_discrete}
-use Rattle.open_graphs.specs.Graph.{Verdict, cycle_kind, Node, IsFinished, Walk, stay, go, Path, end, then, Avoids}
-use Rattle.open_graphs.specs.Stack.{Entry, IsLeaf, Accepts, path_kind, path_through}
-use Rattle.open_graphs.specs.Use.{Step, Heads, Recorded, Use, HeadsWithin, Stored, IncludesBelow}
-use Rattle.open_graphs.specs.StoredLaws.{UnreachedHeadKeepsStored, RebaseKeepsStored}
-use Rattle.open_graphs.specs.TakeOver.{KeepsCycleKinds, TakesOver}
+use Rattle.open_graphs.specs.Words.{Verdict, cycle_kind, Node, IsFinished, Walk, stay, go, Path, end, then, Avoids, Entry, IsLeaf, Accepts, path_kind, path_through, Step, Heads, Recorded, Use, HeadsWithin, Stored, IncludesBelow, UnreachedHeadKeepsStored, RebaseKeepsStored, KeepsCycleKinds, TakesOver}
 use Rattle.open_graphs.proofs.Lists.{get_left, get_end, get_below}
 use Rattle.open_graphs.proofs.PathKinds.{path_kind_below, through_top, through_popped}
 use Rattle.open_graphs.proofs.Keep.{leaf_cases, recorded_at, accepts_at, pop_keeps_use}

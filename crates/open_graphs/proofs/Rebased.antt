@@ -1,12 +1,7 @@
 -- The rule of rebasing leaves only what stays true.
 use Rattle.std.proofs.Common.{◌≡◌, ◌≢◌, ℕ, max, List, Some, None, length, Bool, arith, refl, sym, ◌∙◌, ◌⊎◌, inl, inr}
 use native.Mathlib.Decide.{ℕ_discrete}
-use Rattle.open_graphs.specs.Graph.{Verdict, Yes, No, Neither, cycle_kind}
-use Rattle.open_graphs.specs.Stack.{Entry}
-use Rattle.open_graphs.specs.Use.{Head, Heads, IncludesBelow}
-use Rattle.open_graphs.specs.State.{Kept, stack_of, IsMoved, IsFixpoint, IsOther, Lower, Unused, Fixpoint, Other}
-use Rattle.open_graphs.specs.Rebased.{Reason, NoCycleUsages, Ambiguity, Overflow, ReachedFixpoint, IsInitial, Inductive, Unknown, Coinductive, ForcedAmbiguity, IsTrueReason, HasResult, IsSingle, IsTakenOut, Stays, NotNeeded, Needed, IsRebasable, RebasedIsAfterPop, RebasedKeepsStored, IsLeftByRule, Rebased, Own, RebasedKeepsSound}
-use Rattle.open_graphs.specs.StateLaws.{IsLeft, Survives, Added}
+use Rattle.open_graphs.specs.Words.{Verdict, Yes, No, Neither, cycle_kind, Entry, Head, Heads, IncludesBelow, Kept, stack_of, IsMoved, IsFixpoint, IsOther, Lower, Unused, Fixpoint, Other, Reason, NoCycleUsages, Ambiguity, Overflow, ReachedFixpoint, IsInitial, Inductive, Unknown, Coinductive, ForcedAmbiguity, IsTrueReason, HasResult, IsSingle, IsTakenOut, Stays, NotNeeded, Needed, IsRebasable, RebasedIsAfterPop, RebasedKeepsStored, IsLeftByRule, Rebased, Own, RebasedKeepsSound, IsLeft, Survives, Added}
 use Rattle.open_graphs.proofs.States.{verdict_cases, fixpoint_keeps_stored, pop_keeps_sound}
 
 moved : (reason : Reason) (below : List Entry) (top : Entry) (own others : ℕ → Bool) (verdict : Verdict) (top_heads : Heads) (k after : Kept) → IsRebasable reason below top own others verdict top_heads k → IsTakenOut below top own others k after → IncludesBelow (length below) k.heads after.heads → after.verdict ≡ k.verdict → IsMoved below top k after

@@ -1,12 +1,7 @@
 -- A whole evaluation by the moves: A asks P coinductively, P asks A coinductively and itself by a forced ambiguity. P is run
 -- twice, and the node of its answer is that of its first run.
 use Rattle.std.proofs.Common.{ℕ, List, [], ◌∷◌, true, refl, inl, inr}
-use Rattle.open_graphs.specs.Graph.{Yes, Edge, Node, Unfinished, Finished, IsGraph}
-use Rattle.open_graphs.specs.Stack.{path_kind}
-use Rattle.open_graphs.specs.Use.{Heads}
-use Rattle.open_graphs.specs.Run.{Again, Anew}
-use Rattle.open_graphs.specs.State.{Frame, first_frame, next_frame, answering, IsSound}
-use Rattle.open_graphs.specs.AnswerLaws.{with_edge}
+use Rattle.open_graphs.specs.Words.{Yes, Edge, Node, Unfinished, Finished, IsGraph, path_kind, Heads, Again, Anew, Frame, first_frame, next_frame, answering, IsSound, with_edge}
 use Rattle.open_graphs.proofs.States.{start_is_sound, push_keeps_sound, pop_keeps_sound, rerun_keeps_sound}
 use Rattle.open_graphs.proofs.Asked.{one_answer_keeps_sound, cycle_is_answered, done_is_answered}
 use Rattle.open_graphs.proofs.Runs.{root_is_graph}

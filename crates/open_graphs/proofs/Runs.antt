@@ -1,11 +1,6 @@
 -- Runs of a goal on the stack.
 use Rattle.std.proofs.Common.{◌≡◌, ◌≢◌, ℕ, ◌<◌, List, [], ◌∷◌, ◌++◌, Some, None, length, slice_get, arith, refl, ap, sym, subst, ◌∙◌, inl, inr, length-append, false}
-use Rattle.open_graphs.specs.Graph.{Verdict, Neither, Edge, Node, Unfinished, Finished, Grown}
-use Rattle.open_graphs.specs.Stack.{Entry, IsLeaf, path_kind}
-use Rattle.open_graphs.specs.Use.{Heads, Use}
-use Rattle.open_graphs.specs.Run.{Running, IsStack, Answered, Again, Anew, Without}
-use Rattle.open_graphs.specs.RunLaws.{FirstRunStarts, GrowthKeepsRunning, AnswersKeepRunning, RunGivesUse, NextRunStarts}
-use Rattle.open_graphs.specs.UseLaws.{RootIsGraph, ClosedGivesUse}
+use Rattle.open_graphs.specs.Words.{Verdict, Neither, Edge, Node, Unfinished, Finished, Grown, Entry, IsLeaf, path_kind, Heads, Use, Running, IsStack, Answered, Again, Anew, Without, FirstRunStarts, GrowthKeepsRunning, AnswersKeepRunning, RunGivesUse, NextRunStarts, RootIsGraph, ClosedGivesUse}
 use Rattle.open_graphs.proofs.Lists.{get_left, get_end, get_cases}
 use Rattle.open_graphs.proofs.Keep.{append_grows, finish_grows, growth_keeps_use, heads_keep_use}
 use Rattle.open_graphs.proofs.Finish.{finish_gives_use}

@@ -2,11 +2,7 @@
 -- and also asks P by an unknown step. So P is neither yes nor no and reaches its fixpoint at once, and E's answer yes stays,
 -- with A as its head.
 use Rattle.std.proofs.Common.{◌≡◌, ◌≢◌, ℕ, zero, suc, ◌<◌, ◌≤◌, List, [], ◌∷◌, Some, None, length, Bool, true, false, IsTrue, arith, refl, ap, subst, inl, inr}
-use Rattle.open_graphs.specs.Graph.{Yes, Neither}
-use Rattle.open_graphs.specs.Stack.{Entry}
-use Rattle.open_graphs.specs.Use.{Heads, UsesNo}
-use Rattle.open_graphs.specs.State.{Kept, IsOther, AfterPop, Lower, Unused, Fixpoint, Other}
-use Rattle.open_graphs.specs.Rebased.{ReachedFixpoint, Unknown, IsLeftHead, PassesPathTest, InsertsHeads, RebasedBy, Needed, IsRebasable}
+use Rattle.open_graphs.specs.Words.{Yes, Neither, Entry, Heads, UsesNo, Kept, IsOther, AfterPop, Lower, Unused, Fixpoint, Other, ReachedFixpoint, Unknown, IsLeftHead, PassesPathTest, InsertsHeads, RebasedBy, Needed, IsRebasable}
 use Rattle.open_graphs.proofs.Rebased.{rebased_is_after_pop}
 
 -- no other constructor keeps an answer that used a popped entry without a verdict

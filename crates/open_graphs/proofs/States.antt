@@ -1,12 +1,6 @@
 -- Each move keeps a sound state sound.
 use Rattle.std.proofs.Common.{◌≡◌, ◌≢◌, ℕ, ◌<◌, ◌≤◌, max, List, [], ◌∷◌, ◌++◌, Some, None, length, slice_get, slice_set, arith, refl, sym, subst, ◌∙◌, ◌⊎◌, inl, inr, length-set}
-use Rattle.open_graphs.specs.Graph.{Verdict, Yes, No, Neither, cycle_kind, Edge, Node, Unfinished, Finished, Grown}
-use Rattle.open_graphs.specs.Stack.{Entry, IsLeaf, path_kind, IsSameOrFresh}
-use Rattle.open_graphs.specs.Use.{Heads, Use, Unreached, Stored, UsesNo}
-use Rattle.open_graphs.specs.TakeOver.{KeepsCycleKinds, TakesOver}
-use Rattle.open_graphs.specs.Run.{Running, IsStack, Answered, Again, Anew, Without}
-use Rattle.open_graphs.specs.State.{Frame, Kept, Final, stack_of, no_heads, AllRunning, OwnsOther, AllStored, AllFinal, IsMoved, IsFixpoint, Lower, Unused, Fixpoint, Other}
-use Rattle.open_graphs.specs.StateLaws.{FixpointKeepsStored, PushKeepsSound, AnswersKeepSound, IsLeft, Survives, Added, IsDone, Before, Now, PopKeepsSound, RerunKeepsSound, StartIsSound, FinalIsGraph}
+use Rattle.open_graphs.specs.Words.{Verdict, Yes, No, Neither, cycle_kind, Edge, Node, Unfinished, Finished, Grown, Entry, IsLeaf, path_kind, IsSameOrFresh, Heads, Use, Unreached, Stored, UsesNo, KeepsCycleKinds, TakesOver, Running, IsStack, Answered, Again, Anew, Without, Frame, Kept, Final, stack_of, no_heads, AllRunning, OwnsOther, AllStored, AllFinal, IsMoved, IsFixpoint, Lower, Unused, Fixpoint, Other, FixpointKeepsStored, PushKeepsSound, AnswersKeepSound, IsLeft, Survives, Added, IsDone, Before, Now, PopKeepsSound, RerunKeepsSound, StartIsSound, FinalIsGraph}
 use Rattle.open_graphs.proofs.Lists.{get_left, get_end, get_below, get_set_other}
 use Rattle.open_graphs.proofs.Keep.{append_grows, growth_keeps_use, push_keeps_use, pop_keeps_use, rerun_keeps_use, unused_is_unreached, other_is_unreached}
 use Rattle.open_graphs.proofs.Store.{use_gives_stored, growth_keeps_stored, push_keeps_stored, pop_keeps_stored, rerun_keeps_stored}

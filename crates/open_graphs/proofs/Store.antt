@@ -1,9 +1,6 @@
 -- Answers that are kept for goals asked later.
 use Rattle.std.proofs.Common.{◌≡◌, ℕ, ◌≤◌, List, [], ◌∷◌, ◌++◌, length, arith, ap, sym, ◌∙◌, length-append}
-use Rattle.open_graphs.specs.Graph.{Verdict, Node}
-use Rattle.open_graphs.specs.Stack.{Entry, path_kind, path_through}
-use Rattle.open_graphs.specs.Use.{Heads, Use, HeadsWithin, Includes}
-use Rattle.open_graphs.specs.StoredLaws.{UseGivesStored, StoredGivesUse, GrowthKeepsStored, PushKeepsStored, PopKeepsStored, RerunKeepsStored}
+use Rattle.open_graphs.specs.Words.{Verdict, Node, Entry, path_kind, path_through, Heads, Use, HeadsWithin, Includes, UseGivesStored, StoredGivesUse, GrowthKeepsStored, PushKeepsStored, PopKeepsStored, RerunKeepsStored}
 use Rattle.open_graphs.proofs.PathKinds.{through_step, through_push, through_same}
 use Rattle.open_graphs.proofs.Keep.{growth_keeps_use, heads_keep_use, push_keeps_use, pop_keeps_use, rerun_keeps_use, unused_is_unreached}
 

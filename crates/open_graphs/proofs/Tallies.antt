@@ -2,7 +2,7 @@
 use Rattle.std.proofs.Common.{◌≡◌, ℕ, ◌+◌, min, List, [], ◌∷◌, ◌++◌, ◌⊎◌, inl, inr, arith}
 use Rattle.std.specs.List.{sum}
 use Rattle.std.proofs.lemmas.List.Sums.{sum_by-append, sum_by-cons}
-use Rattle.open_graphs.specs.Tally.{TallyStarts, OutsideKeepsTally, InsideKeepsTally, FinishedKeepsTally, IgnoredKeepsTally, TallyIsUsed}
+use Rattle.open_graphs.specs.Words.{TallyStarts, OutsideKeepsTally, InsideKeepsTally, FinishedKeepsTally, IgnoredKeepsTally, TallyIsUsed}
 
 sum-append : (xs ys : List ℕ) → sum (xs ++ ys) ≡ sum xs + sum ys
 sum-append xs ys = sum_by-append (λ x. x) xs ys

@@ -1,8 +1,6 @@
 -- A value keeps its use where the list, the stack or its heads change only in what it does not reach.
 use Rattle.std.proofs.Common.{◌≡◌, ℕ, List, Some, slice_get, ◌⊎◌}
-use Rattle.open_graphs.specs.Graph.{Verdict, Node, IsFinished, Walk, stay}
-use Rattle.open_graphs.specs.Stack.{Entry, IsLeaf}
-use Rattle.open_graphs.specs.Use.{Step, Settled, Heads, Use}
+use Rattle.open_graphs.specs.Words.{Verdict, Node, IsFinished, Walk, stay, Entry, IsLeaf, Step, Settled, Heads, Use}
 use Rattle.open_graphs.proofs.Walks.{carried_on, then_step}
 use Rattle.open_graphs.proofs.Paths.{to_walk, carried_path}
 

@@ -1,6 +1,6 @@
 -- Finished nodes, as a test and by their edges.
 use Rattle.std.proofs.Common.{◌≡◌, ℕ, List, Option, Some, None, slice_get, IsTrue, refl, ap, ◌∙◌}
-use Rattle.open_graphs.specs.Graph.{Verdict, Yes, No, Neither, Node, Unfinished, Finished, IsFinished, same_verdict, has_verdict}
+use Rattle.open_graphs.specs.Words.{Verdict, Yes, No, Neither, Node, Unfinished, Finished, IsFinished, same_verdict, has_verdict}
 
 pub same : (verdict other : Verdict) → IsTrue (same_verdict verdict other) → other ≡ verdict
 same Yes Yes h = refl

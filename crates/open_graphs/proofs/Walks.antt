@@ -1,7 +1,7 @@
 -- Walks over a relation: joining them, carrying them from one relation to another, and adding one node.
 use Rattle.std.proofs.Common.{◌≡◌, ◌≢◌, ℕ, zero, max, ◌≤◌, arith, subst, sym, refl}
 use native.Mathlib.Decide.{ℕ_discrete}
-use Rattle.open_graphs.specs.Graph.{Walk, stay, go}
+use Rattle.open_graphs.specs.Words.{Walk, stay, go}
 
 pub of_kind : (step : ℕ → ℕ → ℕ → Type 0) {a q b : ℕ} (r : ℕ) → Walk step a q b → q ≡ r → Walk step a r b
 of_kind step {a} {q} {b} r w e = subst (λ k. Walk step a k b) e w

@@ -1,5 +1,5 @@
 //! Answers that may be used: the open graph of each holds over the stack.
-ghost use Rattle.open_graphs.specs.UseLaws.{FinishGivesUse, CycleGivesUse, UseGivesEdge, GrowthKeepsUse, HeadsKeepUse, PushKeepsUse, PopKeepsUse, RerunKeepsUse, UnusedIsUnreached, OtherIsUnreached, ClosedIsGraph, RootIsGraph, GraphIsUse, ClosedGivesUse};
+ghost use Rattle.open_graphs.specs.Words.{FinishGivesUse, CycleGivesUse, UseGivesEdge, GrowthKeepsUse, HeadsKeepUse, PushKeepsUse, PopKeepsUse, RerunKeepsUse, UnusedIsUnreached, OtherIsUnreached, ClosedIsGraph, RootIsGraph, GraphIsUse, ClosedGivesUse};
 
 /// A run that ended with a verdict gives an answer that may be used, and so does a goal that is found on
 /// the stack. An answer to a question gives an edge.

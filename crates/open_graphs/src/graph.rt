@@ -1,5 +1,5 @@
 //! The list of nodes and the graphs in it.
-ghost use Rattle.open_graphs.specs.GraphLaws.{AppendGrows, FinishGrows, GrowthKeepsGraph};
+ghost use Rattle.open_graphs.specs.Words.{AppendGrows, FinishGrows, GrowthKeepsGraph};
 
 /// The list grows when an unfinished node is appended, and when one is finished.
 pub fn list_grows()

@@ -1,5 +1,5 @@
 //! The rule by which provisional answers outlive their highest head.
-ghost use Rattle.open_graphs.specs.Rebased.{RebasedIsAfterPop, RebasedKeepsStored, RebasedKeepsSound};
+ghost use Rattle.open_graphs.specs.Words.{RebasedIsAfterPop, RebasedKeepsStored, RebasedKeepsSound};
 
 /// Each answer with a verdict that the rule leaves is one that stays true after the pop, so it may be
 /// stored, and the state stays sound.

@@ -1,5 +1,5 @@
 //! Runs of one goal on the stack.
-ghost use Rattle.open_graphs.specs.RunLaws.{FirstRunStarts, GrowthKeepsRunning, AnswersKeepRunning, RunGivesUse, NextRunStarts};
+ghost use Rattle.open_graphs.specs.Words.{FirstRunStarts, GrowthKeepsRunning, AnswersKeepRunning, RunGivesUse, NextRunStarts};
 
 /// A goal that is pushed begins its first run. The run goes on while other nodes are appended and
 /// finished, and with more answers.

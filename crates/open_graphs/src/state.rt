@@ -1,6 +1,5 @@
 //! Whole states of an evaluation.
-ghost use Rattle.open_graphs.specs.AnswerLaws.{OneAnswerKeepsSound, CycleIsAnswered, DoneIsAnswered, StoredIsAnswered, FinalIsAnswered};
-ghost use Rattle.open_graphs.specs.StateLaws.{StartIsSound, PushKeepsSound, AnswersKeepSound, PopKeepsSound, RerunKeepsSound, FinalIsGraph};
+ghost use Rattle.open_graphs.specs.Words.{OneAnswerKeepsSound, CycleIsAnswered, DoneIsAnswered, StoredIsAnswered, FinalIsAnswered, StartIsSound, PushKeepsSound, AnswersKeepSound, PopKeepsSound, RerunKeepsSound, FinalIsGraph};
 
 /// An evaluation begins in a sound state.
 pub fn start_is_sound()

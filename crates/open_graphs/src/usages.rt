@@ -1,6 +1,5 @@
 //! What the counts of usages and the recorded heads still cover.
-ghost use Rattle.open_graphs.specs.Held.{UpdateKeepsHeld, HeldIsOnStack, UnusedIsNotHeld, PopKeepsHeld};
-ghost use Rattle.open_graphs.specs.Tally.{TallyStarts, OutsideKeepsTally, InsideKeepsTally, FinishedKeepsTally, IgnoredKeepsTally, TallyIsUsed};
+ghost use Rattle.open_graphs.specs.Words.{UpdateKeepsHeld, HeldIsOnStack, UnusedIsNotHeld, PopKeepsHeld, TallyStarts, OutsideKeepsTally, InsideKeepsTally, FinishedKeepsTally, IgnoredKeepsTally, TallyIsUsed};
 
 /// The count of a head and a kind covers what is not ignored: as a run begins, after each answer outside
 /// and inside a candidate, when a candidate ends, and when a finished one is ignored. So it is no zero where

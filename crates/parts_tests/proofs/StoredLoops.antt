@@ -4,21 +4,9 @@ use Rattle.std.proofs.Common.{◌≡◌, ℕ, zero, suc, max, List, [], ◌∷�
 use Rattle.std.proofs.lemmas.Option.{slice_get-map}
 use Rattle.open_graphs.specs.Graph as theory
 use Rattle.open_graphs.proofs.Verdicts.{is_finished}
-use Rattle.search_parts.specs.declared.context.NodeId.{NodeId}
-use Rattle.search_parts.specs.declared.context.Reply.TheVariants.{Begin}
-use Rattle.search_parts.specs.declared.global_cache.results.Place.{Place}
-use Rattle.search_parts.specs.declared.global_cache.results.Place.TheVariants.{Success, WithOverflow}
-use Rattle.cycle_heads.specs.declared.path.PathKind.{PathKind}
-use Rattle.search_parts.specs.Cache.{CacheNode}
-use Rattle.search_parts.specs.Definite.{HasGraph}
-use Rattle.cycle_heads.specs.Path.{rank_of}
-use Rattle.search_parts.specs.Rank.{IsRanked, HasNoRank}
-use Rattle.search_parts.specs.Shapes.{verdict_of, shape_of, shapes_of}
-use Rattle.search_parts.specs.Stored.{IsPlainAt}
-use Rattle.parts_tests.specs.declared.loops.Loops.{Loops}
+use Rattle.parts_tests.specs.Below.{NodeId, Begin, Place, Success, WithOverflow, PathKind, CacheNode, HasGraph, rank_of, IsRanked, HasNoRank, verdict_of, shape_of, shapes_of, IsPlainAt}
+use Rattle.parts_tests.specs.Words.{Loops, is_yes, is_no, loop_run, loop_script}
 use Rattle.parts_tests.specs.declared.loops.Outcome.{Outcome}
-use Rattle.parts_tests.specs.Loops.{is_yes, is_no, loop_run}
-use Rattle.parts_tests.specs.Frames.{loop_script}
 
 unranked : (cx : Loops) (n : ℕ) (goal : PathKind) → IsRanked (loop_script cx) n goal → ⊥
 unranked cx zero goal h = h (Begin ∷ []) goal goal (tt, tt) refl

@@ -2,8 +2,7 @@
 use Rattle.std.proofs.Common.{◌≤◌, ◌≡◌, Bool, true, All, inl, inr, sym, subst}
 use Rattle.std.proofs.lemmas.Bool.{cases_Bool}
 use Rattle.std.proofs.lemmas.List.Elements.{All-push}
-use Rattle.search_parts.specs.declared.parts.provisional_cache.ProvisionalCacheEntry.{ProvisionalCacheEntry}
-use Rattle.search_parts.specs.Provisional.{entries_at, Lists, Appends}
+use Rattle.parts_tests.specs.Below.{ProvisionalCacheEntry, entries_at, Lists, Appends}
 
 module _ {X I R A T : Type 0} where
   -- each head is that of the first goal or that of the second

@@ -1,9 +1,6 @@
 -- The frames of goals that count down: one question or two, and then what the answers come to as the result.
 use Rattle.std.specs.Prelude.{◌≡◌, ◌==◌, ℕ, Bool, true, false, List, [], ◌∷◌}
-use Rattle.search_parts.specs.declared.context.Request.{Request}
-use Rattle.search_parts.specs.declared.context.Request.TheVariants.{Evaluate, Done}
-use Rattle.search_parts.specs.declared.context.Reply.{Reply}
-use Rattle.search_parts.specs.declared.context.Reply.TheVariants.{Begin, Answer, Noted}
+use Rattle.parts_tests.specs.Below.{Request, Evaluate, Done, Reply, Begin, Answer, Noted}
 use Rattle.parts_tests.specs.declared.countdown.Count.{Count}
 use Rattle.parts_tests.specs.declared.countdown.Outcome.{Outcome}
 use Rattle.parts_tests.specs.declared.countdown.Outcome.TheVariants.{Yes, Maybe}

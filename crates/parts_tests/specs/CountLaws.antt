@@ -2,12 +2,7 @@
 use Rattle.std.specs.Prelude.{◌≡◌, ◌<◌, ◌==◌, ℕ, Bool, true, false, List, [], ◌∷◌, Option, Some, None, Contains, refl}
 use Rattle.std.proofs.Common.{zero, suc, inl, inr, sym, subst, arith}
 use Rattle.std.proofs.lemmas.Bool.{eqb-true}
-use Rattle.search_parts.specs.declared.context.Request.{Request}
-use Rattle.search_parts.specs.declared.context.Request.TheVariants.{Done}
-use Rattle.search_parts.specs.declared.context.Reply.{Reply}
-use Rattle.search_parts.specs.declared.context.Reply.TheVariants.{Begin, Answer, Noted}
-use Rattle.search_parts.specs.Question.{Question}
-use Rattle.search_parts.specs.Run.{EndsIn, Fits, progress_after, questions_answered}
+use Rattle.parts_tests.specs.Below.{Request, Done, Reply, Begin, Answer, Noted, Question, EndsIn, Fits, progress_after, questions_answered}
 use Rattle.parts_tests.specs.declared.countdown.Count.{Count}
 use Rattle.parts_tests.specs.declared.countdown.Outcome.{Outcome}
 use Rattle.parts_tests.specs.declared.countdown.Outcome.TheVariants.{Yes, No, Maybe, Overflow}

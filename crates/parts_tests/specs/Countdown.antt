@@ -1,10 +1,7 @@
 -- Goals that count down: what settles them, and the sorts of their results.
 use Rattle.std.specs.Prelude.{◌≡◌, ◌<◌, ◌-◌, ◌⊎◌, Bool, true, false, List, Option, Some, None, Contains}
 use Rattle.std.proofs.Common.{inl, inr, arith}
-use Rattle.cycle_heads.specs.declared.path.PathKind.{PathKind}
-use Rattle.cycle_heads.specs.declared.path.PathKind.TheVariants.{Inductive, Unknown, Coinductive, ForcedAmbiguity}
-use Rattle.search_parts.specs.Delegate.{IsNeither, IsCycleResult}
-use Rattle.search_parts.specs.Question.{Question, IsWithin, Overlap}
+use Rattle.parts_tests.specs.Below.{PathKind, Inductive, Unknown, Coinductive, ForcedAmbiguity, IsNeither, IsCycleResult, Question, IsWithin, Overlap}
 use Rattle.parts_tests.specs.declared.countdown.Count.{Count}
 use Rattle.parts_tests.specs.declared.countdown.Outcome.{Outcome}
 use Rattle.parts_tests.specs.declared.countdown.Outcome.TheVariants.{Yes, No, Maybe, Overflow}

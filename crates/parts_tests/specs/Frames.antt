@@ -1,12 +1,7 @@
 -- The frames of goals that ask themselves: one question, and then the answer as the result.
 use Rattle.std.specs.Prelude.{◌≡◌, ℕ, true, List, [], ◌∷◌, Some, refl}
 use Rattle.std.proofs.Common.{sym, ap, subst, arith}
-use Rattle.cycle_heads.specs.declared.path.PathKind.{PathKind}
-use Rattle.search_parts.specs.declared.context.Request.{Request}
-use Rattle.search_parts.specs.declared.context.Request.TheVariants.{Evaluate, Done}
-use Rattle.search_parts.specs.declared.context.Reply.{Reply}
-use Rattle.search_parts.specs.declared.context.Reply.TheVariants.{Begin, Answer, Noted}
-use Rattle.search_parts.specs.Run.{EndsIn, Fits, progress_after, questions_answered}
+use Rattle.parts_tests.specs.Below.{PathKind, Request, Evaluate, Done, Reply, Begin, Answer, Noted, EndsIn, Fits, progress_after, questions_answered}
 use Rattle.parts_tests.specs.declared.loops.Outcome.{Outcome}
 use Rattle.parts_tests.specs.declared.loops.Outcome.TheVariants.{Yes, No, Maybe, Overflow}
 use Rattle.parts_tests.specs.declared.loops.Loops.{Loops}

@@ -5,3 +5,5 @@ pub mod Countdown
 pub mod CountFrames
 pub mod CountLaws
 pub mod Scripts
+pub mod Below
+pub mod Words

@@ -1,11 +1,6 @@
 -- Goals that ask themselves: what settles them, and the sorts of their results.
 use Rattle.std.specs.Prelude.{◌≡◌, ℕ, Bool, true, false, List, [], ◌∷◌, Option, Some, None, Contains}
-use Rattle.cycle_heads.specs.declared.path.PathKind.{PathKind}
-use Rattle.cycle_heads.specs.declared.path.PathKind.TheVariants.{Inductive, Unknown, Coinductive, ForcedAmbiguity}
-use Rattle.search_parts.specs.declared.context.Reply.TheVariants.{Begin, Answer}
-use Rattle.search_parts.specs.Cache.{EndedRun}
-use Rattle.search_parts.specs.Delegate.{IsNeither, IsCycleResult}
-use Rattle.search_parts.specs.Question.{Question, IsWithin, Overlap}
+use Rattle.parts_tests.specs.Below.{PathKind, Inductive, Unknown, Coinductive, ForcedAmbiguity, Begin, Answer, EndedRun, IsNeither, IsCycleResult, Question, IsWithin, Overlap}
 use Rattle.parts_tests.specs.declared.loops.Outcome.{Outcome}
 use Rattle.parts_tests.specs.declared.loops.Outcome.TheVariants.{Yes, No, Maybe, Overflow}
 

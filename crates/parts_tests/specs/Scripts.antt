@@ -1,11 +1,7 @@
 -- Goals with scripts: the requests of a goal, whatever it is replied, and the laws of such goals.
 use Rattle.std.specs.Prelude.{◌≡◌, ◌-◌, nat_lt, ℕ, true, ◌&&◌, if◌then◌else◌, List, [], ◌∷◌, length, slice_index_or, Option, Some, None, ⊤}
 use Rattle.std.proofs.Common.{subst, sym}
-use Rattle.search_parts.specs.declared.context.Request.{Request}
-use Rattle.search_parts.specs.declared.context.Request.TheVariants.{Evaluate, EnterCandidate, FinishCandidate, Ignore, Done}
-use Rattle.search_parts.specs.declared.context.Reply.{Reply}
-use Rattle.search_parts.specs.Question.{Question, Overlap}
-use Rattle.search_parts.specs.Run.{EndsIn, progress_after, questions_answered}
+use Rattle.parts_tests.specs.Below.{Request, Evaluate, EnterCandidate, FinishCandidate, Ignore, Done, Reply, Question, Overlap, EndsIn, progress_after, questions_answered}
 use Rattle.parts_tests.specs.declared.countdown.Outcome.{Outcome}
 use Rattle.parts_tests.specs.declared.countdown.Outcome.TheVariants.{Yes}
 use Rattle.parts_tests.specs.declared.scripts.Goal.{Goal}

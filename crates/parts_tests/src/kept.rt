@@ -1,7 +1,6 @@
 //! Kept answers for the tests of the provisional cache.
 ghost use Rattle.std.specs.Prelude.{◌≡◌, ◌≢◌, ◌≤◌, [], All, IfOk};
-ghost use Rattle.search_parts.specs.Provisional.{entries_at};
-ghost use Rattle.cycle_heads.specs.declared.path.PathKind.{PathKind};
+ghost use Rattle.parts_tests.specs.Below.{entries_at, PathKind};
 
 use crate::loops::{Loops, Outcome};
 use search_parts::context::{NoMemory, NodeId};

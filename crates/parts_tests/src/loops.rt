@@ -1,8 +1,8 @@
 //! Goals that ask themselves. A goal is a path kind: it asks itself over a step of this kind, and its
 //! result is the answer.
 ghost use Rattle.std.specs.Prelude.{◌≡◌, ◌<◌, Some, IfOk, OnOk, OnErr, slice_get};
-ghost use Rattle.search_parts.specs.Cache.{open_goal, with_run, IsNodeOf};
-ghost use Rattle.parts_tests.specs.Loops.{loop_run};
+ghost use Rattle.parts_tests.specs.Below.{open_goal, with_run, IsNodeOf};
+ghost use Rattle.parts_tests.specs.Words.{loop_run};
 
 use search_parts::context::{Cx, Delegate, Edge, NoMemory, NodeId, Reply, Request, Verdict};
 use search_parts::global_cache::GlobalCache;
@@ -118,7 +118,7 @@ impl Delegate for Loops {
     ghost use Rattle.parts_tests.specs.declared.loops.Outcome.TheVariants.{Maybe, Overflow};
     ghost use Rattle.parts_tests.specs.Frames.{loop_script, Stands, steps_left, yes_is_proved, no_is_refuted};
     ghost use Rattle.parts_tests.specs.Loops as loops;
-    ghost use Rattle.search_parts.specs.Delegate.{CanTake, Steps};
+    ghost use Rattle.parts_tests.specs.Below.{CanTake, Steps};
 
     type Cx = Loops;
 

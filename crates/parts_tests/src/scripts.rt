@@ -116,7 +116,7 @@ impl Delegate for Scripts {
     ghost use Rattle.parts_tests.specs.declared.countdown.Outcome.TheVariants.{Maybe, Overflow};
     ghost use Rattle.parts_tests.specs.Countdown as countdown;
     ghost use Rattle.parts_tests.specs.Scripts.{script_of, Stands, lines_left, yes_is_proved, no_is_refuted};
-    ghost use Rattle.search_parts.specs.Delegate.{CanTake, Steps};
+    ghost use Rattle.parts_tests.specs.Below.{CanTake, Steps};
 
     type Cx = Scripts;
 

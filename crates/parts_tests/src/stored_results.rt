@@ -2,8 +2,8 @@
 #![tactic(auto, using(crate::proofs::StoredLoops::needs_no_graph, crate::proofs::StoredLoops::has_loop))]
 
 ghost use Rattle.std.specs.Prelude.{◌≡◌, [], None, false, true};
-ghost use Rattle.search_parts.specs.Definite.{HasGraph};
-ghost use Rattle.parts_tests.specs.Loops.{is_yes, is_no};
+ghost use Rattle.parts_tests.specs.Below.{HasGraph};
+ghost use Rattle.parts_tests.specs.Words.{is_yes, is_no};
 
 use crate::loops::{Loops, Outcome, answered_loop};
 use search_parts::context::Fault;

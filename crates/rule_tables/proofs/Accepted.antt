@@ -1,14 +1,6 @@
 -- The graph that is handed out for a definite answer is accepted.
 use Rattle.std.proofs.Common.{◌≡◌, ◌≢◌, Bool, true, false, List, Result, Ok, Err, IfOk, IsTrue, ◌↔◌, refl, sym, subst}
-use Rattle.cycle_heads.specs.declared.path.PathKind.TheVariants.{Inductive, Coinductive}
-use Rattle.cycle_heads.specs.declared.memory.NoMemory.{NoMemory}
-use Rattle.search_parts.specs.declared.context.Node.{Node}
-use Rattle.search_parts.specs.declared.context.Reply.{Reply}
-use Rattle.search_parts.specs.declared.context.Request.{Request}
-use Rattle.search_parts.specs.declared.context.Verdict.{Verdict}
-use Rattle.search_parts.specs.declared.context.Verdict.TheVariants.{Yes, No}
-use Rattle.search_parts.specs.Definite.{IsDefinite}
-use Rattle.search_parts.specs.Valid.{IsValid, IsValidFor}
+use Rattle.rule_tables.specs.Below.{Inductive, Coinductive, NoMemory, Node, Reply, Request, Verdict, Yes, No, IsDefinite, IsValid, IsValidFor}
 
 -- what is exactly so is so
 so_is : {P : Type 0} (checked : Result Bool NoMemory) → IfOk checked (λ accepted. IsTrue accepted ↔ P) → P → IfOk checked (λ accepted. IsTrue accepted)

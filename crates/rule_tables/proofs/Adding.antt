@@ -7,12 +7,7 @@ use Rattle.std.proofs.lemmas.Grind.{flat_map-append}
 use Rattle.std.proofs.lemmas.List.{append-nil}
 use Rattle.std.proofs.lemmas.List.Elements.{filter_map-append}
 use Rattle.std.proofs.lemmas.Slice.Eq.{bytes_eq-Decides}
-use Rattle.rule_tables.specs.declared.rules.Goal.{Goal}
-use Rattle.rule_tables.specs.declared.rules.Candidate.{Candidate}
-use Rattle.rule_tables.specs.declared.rules.Rules.{Rules}
-use Rattle.rule_tables.specs.Grammar.{NamedQuestion, Statement, Nothing, Rule, Ask}
-use Rattle.rule_tables.specs.Rules.{number_of, names_of, name_of, candidates_of, questions_of}
-use Rattle.rule_tables.specs.Table.{names_in, first_mentions, candidate_in, question_in, IsCandidate, IsToBeAnswered, IsTableOf, Adds, Mentions}
+use Rattle.rule_tables.specs.Words.{Goal, Candidate, Rules, NamedQuestion, Statement, Nothing, Rule, Ask, number_of, names_of, name_of, candidates_of, questions_of, names_in, first_mentions, candidate_in, question_in, IsCandidate, IsToBeAnswered, IsTableOf, Adds, Mentions}
 use Rattle.rule_tables.proofs.NameLemmas.{some_same}
 use Rattle.rule_tables.proofs.Questions.{AllZip-append_one}
 use Rattle.rule_tables.proofs.TableLemmas.{IsGrown, grown, mentions_none}

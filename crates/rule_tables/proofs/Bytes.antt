@@ -3,11 +3,7 @@ use Rattle.std.proofs.Common.{◌≡◌, ℕ, List, [], ◌++◌, Option, Some, 
 use Rattle.std.proofs.lemmas.List.{append-nil}
 use Rattle.std.specs.Prelude.{IfSome, OnOk}
 use Rattle.std.specs.Io.KnownBytes.{Consumes, IsAtEnd}
-use Rattle.rule_tables.specs.declared.rules.Rules.{Rules}
-use Rattle.rule_tables.specs.declared.program.Stop.{Stop}
-use Rattle.rule_tables.specs.declared.program.Stop.TheVariants.{BadLine, InputOrOutput, Memory}
-use Rattle.rule_tables.specs.Stop.{status_of}
-use Rattle.rule_tables.specs.Text.{Reads, IsFirstBadLine}
+use Rattle.rule_tables.specs.Words.{Rules, Stop, BadLine, InputOrOutput, Memory, status_of, Reads, IsFirstBadLine}
 
 -- two reads in turn
 pub consumes_more : (a b c : Option (List ℕ)) (xs ys : List ℕ) → Consumes a b xs → Consumes b c ys → Consumes a c (xs ++ ys)

@@ -6,10 +6,7 @@ use Rattle.std.proofs.lemmas.List.{take_more, take_all}
 use Rattle.std.proofs.lemmas.List.Elements.{All-from_recursion}
 use Rattle.std.proofs.lemmas.List.FromFn.{length-enumerate_from, get_or-enumerate_from}
 use Rattle.std.proofs.lemmas.Option.{slice_get_within, get_or_from_slice_get, slice_get-get_or}
-use Rattle.rule_tables.specs.declared.rules.Rules.{Rules}
-use Rattle.rule_tables.specs.Grammar.{Statement, Says, IsMalformed, lines_of}
-use Rattle.rule_tables.specs.Table.{IsTableOf, Adds}
-use Rattle.rule_tables.specs.Text.{Reads, IsFirstBadLine}
+use Rattle.rule_tables.specs.Words.{Rules, Statement, Says, IsMalformed, lines_of, IsTableOf, Adds, Reads, IsFirstBadLine}
 use Rattle.rule_tables.proofs.Questions.{AllZip-append_one}
 
 -- the first lines make the table

@@ -2,8 +2,7 @@
 use Rattle.std.proofs.Common.{ℕ, ◌≡◌, ◌+◌, ◌≤◌, ◌<◌, nat_le, zero, suc, false, refl, sym, subst, ap, ◌∙◌, arith, List, [], ◌∷◌, length, drop, None}
 use Rattle.std.proofs.lemmas.List.{drop_all}
 use Rattle.std.proofs.lemmas.Bool.Decides.{nat_tests}
-use Rattle.rule_tables.specs.declared.rules.Candidate.{Candidate}
-use Rattle.rule_tables.specs.Frame.{marked_from}
+use Rattle.rule_tables.specs.Words.{Candidate, marked_from}
 
 dropped : (n at : ℕ) (cs : List Candidate) (from : ℕ) → at + n ≤ from → marked_from (at + n) (drop n cs) from ≡ marked_from at cs from
 dropped zero at cs from le = ap (λ m. marked_from m cs from) (omega arith)

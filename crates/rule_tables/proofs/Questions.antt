@@ -3,8 +3,7 @@ use Rattle.std.proofs.Common.{◌≡◌, ℕ, List, [], ◌∷◌, ◌++◌, ◌
 use Rattle.std.specs.List.{AllZip}
 use Rattle.std.proofs.lemmas.List.{map-append}
 use Rattle.rule_tables.specs.declared.reading.question.Question.{Question}
-use Rattle.rule_tables.specs.Grammar.{NamedQuestion, IsQuestion}
-use Rattle.rule_tables.specs.Question.{named}
+use Rattle.rule_tables.specs.Words.{NamedQuestion, IsQuestion, named}
 
 -- the words so far are these questions, and the others are left
 pub record AreReadTo (words left : List (List ℕ)) (questions : List NamedQuestion) : Type 0 where

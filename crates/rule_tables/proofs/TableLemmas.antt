@@ -12,15 +12,7 @@ use Rattle.std.proofs.lemmas.List.Folds.{list_any-append}
 use Rattle.std.proofs.lemmas.Bool.{cases_Bool}
 use Rattle.std.proofs.lemmas.Slice.Eq.{bytes_eq-Decides}
 use Rattle.rule_tables.specs.declared.reading.question.Question.{Question}
-use Rattle.rule_tables.specs.declared.rules.Goal.{Goal}
-use Rattle.rule_tables.specs.declared.rules.Asking.{Asking}
-use Rattle.rule_tables.specs.declared.rules.Candidate.{Candidate}
-use Rattle.rule_tables.specs.declared.rules.Rules.{Rules}
-use Rattle.rule_tables.specs.Grammar.{NamedQuestion, Statement, Nothing, Rule, Ask}
-use Rattle.rule_tables.specs.Names.{with_name}
-use Rattle.rule_tables.specs.Question.{named}
-use Rattle.rule_tables.specs.Rules.{number_of, names_of, name_of, candidates_of, questions_of}
-use Rattle.rule_tables.specs.Table.{names_in, first_mentions, NamedCandidate, candidate_in, question_in, IsAsked, AreAsked, IsCandidate, IsToBeAnswered, IsTableOf, Mentions}
+use Rattle.rule_tables.specs.Words.{Goal, Asking, Candidate, Rules, NamedQuestion, Statement, Nothing, Rule, Ask, with_name, named, number_of, names_of, name_of, candidates_of, questions_of, names_in, first_mentions, NamedCandidate, candidate_in, question_in, IsAsked, AreAsked, IsCandidate, IsToBeAnswered, IsTableOf, Mentions}
 use Rattle.rule_tables.proofs.Questions.{AllZip-append_one}
 use Rattle.rule_tables.proofs.NameLemmas.{is_among, has_place, at_end, some_same, place_in_longer, slice_get-append_left}
 

@@ -7,7 +7,7 @@ use Rattle.std.proofs.lemmas.Bool.{ltb-true, lt-ltb, cond-true}
 use Rattle.std.proofs.lemmas.List.{drop_all, length-drop}
 use Rattle.std.proofs.lemmas.List.Splits.{slice_split-cons_yes, slice_split-cons_no}
 use Rattle.std.proofs.lemmas.List.Sums.{fails_before_first, passes_at_first}
-use Rattle.rule_tables.specs.Grammar.{words_of}
+use Rattle.rule_tables.specs.Words.{words_of}
 
 abbrev is_space : ℕ → Bool
 is_space byte = byte == 32

@@ -2,10 +2,7 @@
 -- each marked one is then ignored.
 use Rattle.std.specs.Prelude.{ℕ, ◌+◌, ◌-◌, nat_le, true, false, not, ◌&&◌, ◌||◌, if◌then◌else◌, List, [], ◌∷◌, length, drop, sum_by, slice_get, Option, Some, None}
 use Rattle.std.specs.Option.{unwrap_or}
-use Rattle.search_parts.specs.declared.context.Request.{Request}
-use Rattle.search_parts.specs.declared.context.Request.TheVariants.{Evaluate, EnterCandidate, FinishCandidate, Ignore, Done}
-use Rattle.search_parts.specs.declared.context.Reply.{Reply}
-use Rattle.search_parts.specs.declared.context.Reply.TheVariants.{Begin, Answer, Noted}
+use Rattle.rule_tables.specs.Below.{Request, Evaluate, EnterCandidate, FinishCandidate, Ignore, Done, Reply, Begin, Answer, Noted}
 use Rattle.rule_tables.specs.declared.rules.Goal.{Goal}
 use Rattle.rule_tables.specs.declared.outcome.Outcome.{Outcome}
 use Rattle.rule_tables.specs.declared.outcome.Outcome.TheVariants.{Yes, No, Maybe}

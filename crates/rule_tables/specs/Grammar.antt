@@ -3,8 +3,7 @@ use Rattle.std.specs.Prelude.{◌≡◌, ℕ, ◌<◌, ◌≤◌, ◌==◌, nat_
 use Rattle.std.specs.Char.{is_ascii_alphanumeric, is_ascii_digit}
 use Rattle.std.specs.List.{slice_split, AllPass, AllZip}
 use Rattle.std.specs.Str.Parse.{digits_value}
-use Rattle.cycle_heads.specs.declared.path.PathKind.{PathKind}
-use Rattle.cycle_heads.specs.declared.path.PathKind.TheVariants.{Inductive, Unknown, Coinductive, ForcedAmbiguity}
+use Rattle.rule_tables.specs.Below.{PathKind, Inductive, Unknown, Coinductive, ForcedAmbiguity}
 
 -- the lines of a text, which newlines part
 abbrev pub lines_of : List ℕ → List (List ℕ)

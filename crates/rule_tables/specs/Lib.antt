@@ -12,3 +12,4 @@ pub mod Line
 pub mod Text
 pub mod Stop
 pub mod Laws
+pub mod Below

@@ -1,7 +1,6 @@
 -- The results of a goal, and of which sort they are.
 use Rattle.std.specs.Prelude.{Bool, true, false, Option, Some, None}
-use Rattle.cycle_heads.specs.declared.path.PathKind.{PathKind}
-use Rattle.cycle_heads.specs.declared.path.PathKind.TheVariants.{Inductive, Unknown, Coinductive, ForcedAmbiguity}
+use Rattle.rule_tables.specs.Below.{PathKind, Inductive, Unknown, Coinductive, ForcedAmbiguity}
 use Rattle.rule_tables.specs.declared.outcome.Outcome.{Outcome}
 use Rattle.rule_tables.specs.declared.outcome.Outcome.TheVariants.{Yes, No, Maybe, Overflow}
 

@@ -1,7 +1,7 @@
 -- What a table of rules says of goals.
 use Rattle.std.specs.Prelude.{ℕ, List, [], map, Option, slice_get, Contains}
 use Rattle.std.specs.Option.{option_map_or}
-use Rattle.search_parts.specs.Question.{Question, IsWithin, Overlap}
+use Rattle.rule_tables.specs.Below.{Question, IsWithin, Overlap}
 use Rattle.rule_tables.specs.declared.rules.Goal.{Goal}
 use Rattle.rule_tables.specs.declared.rules.Asking.{Asking}
 use Rattle.rule_tables.specs.declared.rules.Candidate.{Candidate}

@@ -1,7 +1,6 @@
 -- Where a frame of the rule table stands. `rules_of` gives the rules that a lender lends.
 use Rattle.std.specs.Prelude.{◌≡◌, ℕ, List}
-use Rattle.search_parts.specs.declared.context.Request.{Request}
-use Rattle.search_parts.specs.declared.context.Reply.{Reply}
+use Rattle.rule_tables.specs.Below.{Request, Reply}
 use Rattle.rule_tables.specs.declared.rules.Goal.{Goal}
 use Rattle.rule_tables.specs.declared.outcome.Outcome.{Outcome}
 use Rattle.rule_tables.specs.declared.rules.Rules.{Rules}

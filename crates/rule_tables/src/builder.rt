@@ -9,7 +9,7 @@ pub struct Builder {
 }
 
 impl Builder {
-    ghost use Rattle.search_parts.specs.Delegate.{CountsOne};
+    ghost use Rattle.rule_tables.specs.Below.{CountsOne};
     ghost use Rattle.rule_tables.specs.Builder.{started_in, is_noop_of};
 
     /// A builder that has seen no frame. A search may use its cache in full only if the builder is

@@ -111,7 +111,7 @@ pub type TableDelegate<'a, const LIMIT: usize, const PROVISIONAL: usize> = Rules
 impl<T: LendsRules, const LIMIT: usize, const PROVISIONAL: usize> Delegate
     for RulesDelegate<T, LIMIT, PROVISIONAL> {
     ghost use Rattle.std.specs.Prelude.{Bool, true, false, not, nat_eq, ◌^◌, ◌-◌, ◌<◌, List, IfOk, OnOk};
-    ghost use Rattle.search_parts.specs.Delegate.{CanTake, Steps};
+    ghost use Rattle.rule_tables.specs.Below.{CanTake, Steps};
     ghost use Rattle.rule_tables.specs.Builder.{started_in, is_noop_of};
     ghost use Rattle.rule_tables.specs.Frame.{steps_within};
     ghost use Rattle.rule_tables.specs.Outcome.{initial_outcome, kind_of, ambiguity_of};

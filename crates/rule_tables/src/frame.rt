@@ -1,6 +1,6 @@
 //! How a goal's frame goes through its candidates.
 ghost use Rattle.std.specs.Prelude.{◌≡◌, ◌<◌, IfSome, length};
-ghost use Rattle.rule_tables.specs.Frame.{marked_from};
+ghost use Rattle.rule_tables.specs.Words.{marked_from};
 
 use crate::outcome::Outcome;
 use crate::rules::{Candidate, Goal};

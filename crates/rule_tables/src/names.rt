@@ -1,7 +1,7 @@
 //! Names and their numbers.
 ghost use Rattle.std.specs.Prelude.{◌≡◌, ◌↔◌, ℕ, List, [], length, Some, IfOk, OnOk, OnErr, slice_get};
 ghost use Rattle.std.specs.Option.{option_copied};
-ghost use Rattle.rule_tables.specs.Names.{with_name};
+ghost use Rattle.rule_tables.specs.Words.{with_name};
 
 use search_parts::context::NoMemory;
 use std::alloc::Global;

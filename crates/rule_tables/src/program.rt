@@ -1,7 +1,7 @@
 //! What the programs do: they read a table, and answer its questions in order.
 ghost use Rattle.std.specs.Prelude.{◌≡◌, ◌≤◌, ◌⊎◌, ℕ, IfOk, IfErr, IfSome, OnOk};
 ghost use Rattle.std.specs.Io.KnownBytes.{Keeps};
-ghost use Rattle.rule_tables.specs.Text.{Reads, IsFirstBadLine};
+ghost use Rattle.rule_tables.specs.Words.{Reads, IsFirstBadLine};
 
 mod questions;
 pub(crate) mod shown;

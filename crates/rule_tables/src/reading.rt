@@ -1,8 +1,6 @@
 //! Reading a table of rules.
 ghost use Rattle.std.specs.Prelude.{◌≡◌, ℕ, IfOk, OnOk};
-ghost use Rattle.rule_tables.specs.Grammar.{Statement, Says, IsMalformed};
-ghost use Rattle.rule_tables.specs.Table.{Adds};
-ghost use Rattle.rule_tables.specs.Text.{Reads, IsFirstBadLine};
+ghost use Rattle.rule_tables.specs.Words.{Statement, Says, IsMalformed, Adds, Reads, IsFirstBadLine};
 
 mod line;
 pub(super) mod question;

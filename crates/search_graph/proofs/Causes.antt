@@ -1,29 +1,14 @@
 -- Why a step fails, and that stored results rest on no goal while steps are taken.
 use Rattle.std.proofs.Common.{◌≡◌, ℕ, Bool, List, ◌∷◌, refl, sym, subst}
-use Rattle.search_parts.specs.declared.context.Delegate as Delegate
-use Rattle.search_parts.specs.declared.context.Cx as Cx
-use Rattle.search_parts.specs.declared.context.Request.{Request}
-use Rattle.search_parts.specs.declared.context.Fault.{Fault}
-use Rattle.search_parts.specs.declared.global_cache.results.StoredResult.{StoredResult}
-use Rattle.search_parts.specs.declared.parts.stack.StackEntry.{StackEntry}
-use Rattle.search_parts.specs.Cache.{Cache, CacheNode}
-use Rattle.search_parts.specs.Store.{Store}
-use Rattle.open_goals.specs.declared.goals.Run.{Run}
-use Rattle.open_goals.specs.declared.goals.Received.{Received}
-use Rattle.search_graph.specs.Calls.{Call}
-use Rattle.search_graph.specs.Evaluating.{IsWaiting}
-use Rattle.search_graph.specs.Free.{AreFree}
-use Rattle.search_graph.specs.Graph.{IsCaused, OutOfMemory, OutOfOrder}
-use Rattle.search_graph.specs.Justified.{IsFit}
-use Rattle.open_goals.specs.Progress.{requested}
-use Rattle.search_graph.specs.Runs.{run_of, runs_of}
-use Rattle.open_goals.specs.Steps.{HasStepped, IsStepFault, NoMemoryLeft, received_by}
+use Rattle.search_graph.specs.Below.{DelegateOf, CxOf, Request, Fault, StoredResult, StackEntry, Cache, CacheNode, Store, Run, Received, requested, HasStepped, IsStepFault, NoMemoryLeft, received_by}
+use Rattle.search_graph.specs.Words.{Call, IsWaiting, AreFree, IsCaused, OutOfMemory, IsFit, run_of, runs_of}
+use Rattle.search_graph.specs.Graph.{OutOfOrder}
 use Rattle.open_goals.specs.Steps as steps
 use Rattle.search_graph.proofs.FreeResults.{all_free_above}
 use Rattle.search_graph.proofs.Moves.{can_step_record, fault_after_step}
 use Rattle.search_graph.proofs.Replies.{replies_sorted}
 
-module _ {D C V P F I R A T : Type 0} (G : Delegate.Ghosts D C V P F I R A T) (X : Cx.Ghosts C I R A T) (same : I → I → Bool) (cache : Cache C I R A T) (given : Received R) (goals : List (StackEntry C I R A T × Run C F I R A T)) (starts : ℕ) (met : Bool) where
+module _ {D C V P F I R A T : Type 0} (G : DelegateOf D C V P F I R A T) (X : CxOf C I R A T) (same : I → I → Bool) (cache : Cache C I R A T) (given : Received R) (goals : List (StackEntry C I R A T × Run C F I R A T)) (starts : ℕ) (met : Bool) where
   -- a step failed for want of memory, or since the newest goal's request was out of order
   caused_at : (call : Call I) → IsFit X.is_yes X.is_no cache.nodes (runs_of goals) given.reply given.node → IsWaiting G X cache.cx call given.reply goals starts met → (fault : Fault I R) → IsStepFault G X cache.cx given goals fault → IsCaused G X same cache fault
   caused_at call fit h fault (NoMemoryLeft is) = OutOfMemory is
@@ -37,7 +22,7 @@ module _ {D C V P F I R A T : Type 0} (G : Delegate.Ghosts D C V P F I R A T) (X
   step_is_caused call fit h read is_cx fault failed = caused_at call fit h fault (subst (λ x. IsStepFault G X x given goals fault) is_cx failed)
 
 -- a step changes no node of the goals
-pub step_keeps_free : {D C V P F I R A T : Type 0} (G : Delegate.Ghosts D C V P F I R A T) (X : Cx.Ghosts C I R A T) (cx : C) (same : I → I → Bool) (nodes : List (CacheNode I R)) (results : Store I (StoredResult C I R A T)) (given : Received R) (request : Request I R) (old new : List (StackEntry C I R A T × Run C F I R A T)) → HasStepped G X cx given request old new → AreFree X.is_yes X.is_no same nodes (runs_of old) results → AreFree X.is_yes X.is_no same nodes (runs_of new) results
+pub step_keeps_free : {D C V P F I R A T : Type 0} (G : DelegateOf D C V P F I R A T) (X : CxOf C I R A T) (cx : C) (same : I → I → Bool) (nodes : List (CacheNode I R)) (results : Store I (StoredResult C I R A T)) (given : Received R) (request : Request I R) (old new : List (StackEntry C I R A T × Run C F I R A T)) → HasStepped G X cx given request old new → AreFree X.is_yes X.is_no same nodes (runs_of old) results → AreFree X.is_yes X.is_no same nodes (runs_of new) results
 step_keeps_free {C = C} {F = F} {I = I} {R = R} {A = A} {T = T} G X cx same nodes results given request old new s free =
     let was : AreFree X.is_yes X.is_no same nodes (run_of (s.entry, s.run) ∷ runs_of s.below) results = subst (λ (l : List (StackEntry C I R A T × Run C F I R A T)). AreFree X.is_yes X.is_no same nodes (runs_of l) results) s.was free in
     subst (λ (l : List (StackEntry C I R A T × Run C F I R A T)). AreFree X.is_yes X.is_no same nodes (runs_of l) results) (sym s.is)

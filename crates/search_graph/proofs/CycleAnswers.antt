@@ -8,39 +8,16 @@ use Rattle.std.proofs.lemmas.List.Quantifiers.{position-Some}
 use Rattle.std.proofs.lemmas.Option.{slice_get-map, slice_get-get_or, slice_get_within}
 use Rattle.std.proofs.lemmas.Bool.{cases_eq}
 use Rattle.open_graphs.specs.Graph as theory
-use Rattle.open_graphs.specs.Stack.{Entry, Accepts, greatest, path_kind}
-use Rattle.open_graphs.specs.Use.{Heads, Recorded}
-use Rattle.open_graphs.specs.Run.{IsAnswered}
-use Rattle.open_graphs.specs.State.{stack_of}
+use Rattle.search_graph.specs.Below.{Entry, Accepts, greatest, path_kind, Recorded, IsAnswered, stack_of, PathKind, Inductive, Unknown, Coinductive, ForcedAmbiguity, NodeId, Answer, StackDepth, StackEntry, CacheNode, IsNodeOf, path_kind_from, IsCycleResult, heads_shape, CycleHead, at_depth, rank_of, greater_kind, greatest_kind, is_coinductive, is_inductive, has_kind, paths_of, verdict_of, shapes_of, count_of, no_usages, with_usage, Run, cycle_head, AnswersNewest}
+use Rattle.open_graphs.specs.Use.{Heads}
 use Rattle.open_graphs.proofs.Asked.{cycle_is_answered}
 use Rattle.open_graphs.proofs.Lists.{get_cases}
-use Rattle.cycle_heads.specs.declared.path.PathKind.{PathKind}
-use Rattle.cycle_heads.specs.declared.path.PathKind.TheVariants.{Inductive, Unknown, Coinductive, ForcedAmbiguity}
-use Rattle.search_parts.specs.declared.context.NodeId.{NodeId}
-use Rattle.search_parts.specs.declared.context.Reply.TheVariants.{Answer}
-use Rattle.cycle_heads.specs.declared.depth.StackDepth.{StackDepth}
-use Rattle.search_parts.specs.declared.parts.stack.StackEntry.{StackEntry}
-use Rattle.search_parts.specs.Cache.{CacheNode, IsNodeOf}
-use Rattle.search_parts.specs.Cycle.{path_kind_from}
-use Rattle.search_parts.specs.Delegate.{IsCycleResult}
-use Rattle.cycle_heads.specs.HeadShapes.{heads_shape}
-use Rattle.cycle_heads.specs.declared.heads.CycleHead.{CycleHead}
-use Rattle.cycle_heads.specs.Heads.{at_depth}
-use Rattle.cycle_heads.specs.Path.{rank_of, greater_kind, greatest_kind, is_coinductive, is_inductive}
-use Rattle.cycle_heads.specs.Paths.{has_kind, paths_of}
-use Rattle.search_parts.specs.Shapes.{verdict_of, shapes_of}
-use Rattle.cycle_heads.specs.Usages.{count_of, no_usages, with_usage}
 use Rattle.cycle_heads.proofs.HeadLists.{at_depth-first, at_depth-rest}
 use Rattle.cycle_heads.proofs.HeadShapes.{IsIn, in_head}
 use Rattle.cycle_heads.proofs.PathRanks.{greater_rank}
-use Rattle.open_goals.specs.declared.goals.Run.{Run}
-use Rattle.open_goals.specs.Entries.{cycle_head}
-use Rattle.open_goals.specs.Items.{AnswersNewest}
-use Rattle.search_graph.specs.Justified.{OpenRun, Asks, AreJustified, MayAnswer, IsFit, asked_now, frame_of, frames_of, leads_to, LeadHome}
-use Rattle.search_graph.specs.Runs.{run_of, runs_of}
+use Rattle.search_graph.specs.Words.{OpenRun, Asks, AreJustified, MayAnswer, IsFit, asked_now, frame_of, frames_of, leads_to, LeadHome, run_of, runs_of, heads_of, tally_of, LieBelow}
 use Rattle.search_graph.proofs.Finishing.{answer_fits, heads_come, same_run}
 use Rattle.search_graph.proofs.Justified.{stack_length}
-use Rattle.search_graph.specs.Tallies.{heads_of, tally_of, LieBelow}
 
 -- ---- kinds of cycles
 

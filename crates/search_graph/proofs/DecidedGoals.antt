@@ -5,17 +5,8 @@ use Rattle.std.proofs.lemmas.Grind.{reverse_onto}
 use Rattle.std.proofs.lemmas.List.{drop-map, map-append}
 use Rattle.open_graphs.specs.Graph as theory
 use Rattle.open_graphs.proofs.Lists.{get_cases}
-use Rattle.cycle_heads.specs.declared.path.PathKind.{PathKind}
-use Rattle.cycle_heads.specs.declared.path.PathKind.TheVariants.{Inductive, Unknown, Coinductive, ForcedAmbiguity}
-use Rattle.search_parts.specs.declared.context.Reply.{Reply}
-use Rattle.search_parts.specs.declared.parts.stack.StackEntry.{StackEntry}
-use Rattle.search_parts.specs.Cycle.{path_kind_from}
-use Rattle.search_parts.specs.Decisive.{IsDecidedKind, IsDecidedReply, AreDecided}
-use Rattle.search_parts.specs.Definite.{IsDefinite}
-use Rattle.search_parts.specs.Delegate.{IsCycleResult}
-use Rattle.cycle_heads.specs.Path.{greater_kind, greatest_kind, is_coinductive, is_inductive}
-use Rattle.open_goals.specs.declared.goals.Run.{Run}
-use Rattle.search_graph.specs.Decided.{IsDecided, AllDecided}
+use Rattle.search_graph.specs.Below.{PathKind, Inductive, Unknown, Coinductive, ForcedAmbiguity, Reply, StackEntry, path_kind_from, IsDecidedKind, IsDecidedReply, AreDecided, IsDefinite, IsCycleResult, greater_kind, greatest_kind, is_coinductive, is_inductive, Run}
+use Rattle.search_graph.specs.Words.{IsDecided, AllDecided}
 
 -- ---- kinds
 

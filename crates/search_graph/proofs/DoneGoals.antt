@@ -1,23 +1,7 @@
 -- The newest goal is done: its answer is given to the goal below it, and stored where it has no heads.
 use Rattle.std.proofs.Common.{◌≡◌, ◌≢◌, ◌||◌, Bool, true, List, [], ◌∷◌, length, Option, refl, sym, ap, ◌∙◌, subst, arith}
-use Rattle.search_parts.specs.declared.context.NodeId.{NodeId}
-use Rattle.search_parts.specs.declared.context.Reply.TheVariants.{Answer}
-use Rattle.cycle_heads.specs.declared.path.PathKind.{PathKind}
-use Rattle.search_parts.specs.declared.global_cache.results.StoredResult.{StoredResult}
-use Rattle.search_parts.specs.declared.parts.result.EvaluationResult.{EvaluationResult}
-use Rattle.search_parts.specs.declared.parts.stack.StackEntry.{StackEntry}
-use Rattle.search_parts.specs.Cache.{CacheNode}
-use Rattle.search_parts.specs.Store.{Store}
-use Rattle.open_goals.specs.declared.goals.Run.{Run}
-use Rattle.open_goals.specs.declared.goals.Next.{Next}
-use Rattle.open_goals.specs.declared.goals.Next.TheVariants.{Step, Finished}
-use Rattle.search_graph.specs.Free.{AreFree}
-use Rattle.open_goals.specs.Items.{AnswersNewest}
-use Rattle.search_graph.specs.Justified.{AreJustified}
-use Rattle.search_graph.specs.Moves.{GivesAnswer, Leaves}
-use Rattle.search_graph.specs.Provisional.{final_answer}
-use Rattle.search_graph.specs.Results.{StoresAnswer, MayPutNewest, place_of_item}
-use Rattle.search_graph.specs.Runs.{runs_of, IsSettled, IsJustifiedNext}
+use Rattle.search_graph.specs.Below.{NodeId, Answer, PathKind, StoredResult, EvaluationResult, StackEntry, CacheNode, Store, Run, Next, Step, Finished, AnswersNewest}
+use Rattle.search_graph.specs.Words.{AreFree, AreJustified, GivesAnswer, Leaves, final_answer, StoresAnswer, MayPutNewest, place_of_item, runs_of, IsSettled, IsJustifiedNext}
 use Rattle.search_graph.proofs.FreeMoves.{answered_newest_free}
 use Rattle.search_graph.proofs.FreeResults.{all_free_stored}
 use Rattle.search_graph.proofs.RunsEnd.{finished_justified, headless_is_free, leaves_step, step_justified, stored_stay_free}

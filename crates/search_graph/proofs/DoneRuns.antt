@@ -1,28 +1,9 @@
 -- What a run that ended came to, and what storing that keeps of the cache.
 use Rattle.std.proofs.Common.{◌≡◌, ℕ, ◌<◌, ◌≤◌, ◌&&◌, ◌||◌, if◌then◌else◌, Bool, true, false, List, [], ◌∷◌, Some, Result, Ok, Err, IfErr, option_map, refl, sym, ap, ap₂, ◌∙◌, subst, inl, inr, arith}
-use Rattle.search_parts.specs.declared.context.Delegate as Delegate
-use Rattle.search_parts.specs.declared.context.Cx as Cx
-use Rattle.search_parts.specs.declared.context.Request.{Request}
-use Rattle.search_parts.specs.declared.context.Request.TheVariants.{Done}
-use Rattle.search_parts.specs.declared.context.Reply.{Reply}
-use Rattle.search_parts.specs.declared.global_cache.results.Place.{Place}
-use Rattle.search_parts.specs.declared.global_cache.results.Place.TheVariants.{Success, WithOverflow}
-use Rattle.search_parts.specs.declared.global_cache.results.StoredResult.{StoredResult}
-use Rattle.search_parts.specs.declared.parts.stack.StackEntry.{StackEntry}
-use Rattle.search_parts.specs.Definite.{IsDefinite}
-use Rattle.search_parts.specs.Rank.{IsPlainTo, HasNoRank, IsPlain, IsBelowRank}
-use Rattle.search_parts.specs.Store.{Store, stored_at, same_key}
-use Rattle.search_parts.specs.Stored.{IsPlainAt}
+use Rattle.search_graph.specs.Below.{DelegateOf, CxOf, Request, Done, Reply, Place, Success, WithOverflow, StoredResult, StackEntry, IsDefinite, IsPlainTo, HasNoRank, IsPlain, IsBelowRank, Store, stored_at, same_key, IsPlainAt, IsSafeOutcome, Run, is_in_cycle, newest, Stood}
 use Rattle.search_parts.proofs.Stores.{put_cases}
-use Rattle.evaluations.specs.Plain.{IsSafeOutcome}
 use Rattle.evaluations.proofs.Mirrors.{leaves_calm, leaves_safe, requested_fits}
-use Rattle.open_goals.specs.declared.goals.Run.{Run}
-use Rattle.search_graph.specs.Calls.{Call, limits, bound, IsCounted}
-use Rattle.open_goals.specs.Entries.{is_in_cycle}
-use Rattle.search_graph.specs.Evaluating.{KeepsStore, seen, HasAsked}
-use Rattle.search_graph.specs.Results.{AreDefinite, HaveNoOverflow, MayPut, Same, WithResult, MayPutNewest, NewestComesTo, NewestIsPlain, IsNewestPlainTo, place_of_item}
-use Rattle.open_goals.specs.Newest.{newest}
-use Rattle.open_goals.specs.Steps.{Stood}
+use Rattle.search_graph.specs.Words.{Call, limits, bound, IsCounted, KeepsStore, seen, HasAsked, AreDefinite, HaveNoOverflow, MayPut, Same, WithResult, MayPutNewest, NewestComesTo, NewestIsPlain, IsNewestPlainTo, place_of_item}
 use Rattle.search_graph.proofs.Moves.{done_definite, ends_newest, leaving, outcome_of}
 
 -- where a result belongs, by whether it met overflow
@@ -52,7 +33,7 @@ pub stopped_by : {V E : Type 0} (answer : Result V E) (P Q : E → Type 0) → (
 stopped_by (Ok v) P Q stops h = tt
 stopped_by (Err fault) P Q stops h = stops fault h
 
-module _ {D C V P F I R A T : Type 0} (G : Delegate.Ghosts D C V P F I R A T) (X : Cx.Ghosts C I R A T) (cx : C) (call : Call I) (ahead : ℕ) (done : R) (starts : ℕ) (met : Bool) where
+module _ {D C V P F I R A T : Type 0} (G : DelegateOf D C V P F I R A T) (X : CxOf C I R A T) (cx : C) (call : Call I) (ahead : ℕ) (done : R) (starts : ℕ) (met : Bool) where
   -- the run's result is the script's
   pub newest_comes : (limit_result : I → R) (goals : List (StackEntry C I R A T × Run C F I R A T)) → HasAsked G X cx call ahead (Done done) goals starts met → NewestComesTo (G.script cx) limit_result goals done
   newest_comes limit_result [] h = absurd h.asked.mirror
@@ -126,7 +107,7 @@ module _ {X I R A T : Type 0} (same : I → I → Bool) (by_value : (x y : I) �
     | inr unchanged ↦ all other at t (sym unchanged ∙ there)
   ]
 
-module _ {D C V P F I R A T : Type 0} (G : Delegate.Ghosts D C V P F I R A T) (X : Cx.Ghosts C I R A T) (cx : C) (call : Call I) (same : I → I → Bool) where
+module _ {D C V P F I R A T : Type 0} (G : DelegateOf D C V P F I R A T) (X : CxOf C I R A T) (cx : C) (call : Call I) (same : I → I → Bool) where
   -- once a limit is met, nothing is asked of the stored results
   pub met_keeps : (results : Store I (StoredResult C I R A T)) → KeepsStore G X cx same call true results
   met_keeps results = record { overflow = λ counted unmet. absurd cc; definite = λ decisive unmet. absurd cc }

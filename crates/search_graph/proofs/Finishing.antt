@@ -4,41 +4,10 @@ use Rattle.std.specs.Option.{IsSomeAnd}
 use Rattle.std.proofs.lemmas.List.{length-map}
 use Rattle.std.proofs.lemmas.Option.{slice_get_within, get_or_from_slice_get, slice_get-get_or}
 use Rattle.open_graphs.specs.Graph as theory
-use Rattle.cycle_heads.specs.declared.path.PathKind.{PathKind}
-use Rattle.search_parts.specs.declared.context.Verdict.{Verdict}
-use Rattle.search_parts.specs.declared.context.Verdict.TheVariants.{Yes, No, Neither}
-use Rattle.search_parts.specs.declared.context.Edge.{Edge}
-use Rattle.search_parts.specs.declared.context.NodeId.{NodeId}
-use Rattle.search_parts.specs.declared.context.Request.{Request}
-use Rattle.search_parts.specs.declared.context.Reply.{Reply}
-use Rattle.search_parts.specs.declared.context.Reply.TheVariants.{Begin, Answer, Noted}
-use Rattle.search_parts.specs.declared.parts.depth.AvailableDepth.{AvailableDepth}
-use Rattle.search_parts.specs.declared.parts.stack.StackEntry.{StackEntry}
-use Rattle.search_parts.specs.Delegate.{IsNeither}
-use Rattle.search_parts.specs.Graph.{question_of}
-use Rattle.search_parts.specs.Run.{EndsIn, progress_after, questions_answered}
-use Rattle.search_parts.specs.Cache.{EndedRun, CacheNode, open_node, open_goal, with_run, IsNodeOf, IsRun}
-use Rattle.search_parts.specs.Shapes.{verdict_of}
-use Rattle.open_goals.specs.declared.goals.Run.{Run}
-use Rattle.open_goals.specs.declared.progress.DefiniteAnswer.{DefiniteAnswer}
-use Rattle.open_goals.specs.NestedGoals.{NotesOverflow, TakesStored}
-use Rattle.search_parts.specs.LookUp.{Hit}
-use Rattle.open_goals.specs.Entries.{first_entry, usages_over, with_depth, with_nested_goals, TakesAnswer}
-use Rattle.open_goals.specs.Items.{AnswersNewest}
-use Rattle.open_goals.specs.Progress.{RunRecord, acted, answered, no_record, edges_of, is_kept}
-use Rattle.search_graph.specs.Tallies.{tally_of, heads_of, IsTallied, LieBelow}
+use Rattle.search_graph.specs.Below.{PathKind, Verdict, Yes, No, Neither, Edge, NodeId, Request, Reply, Begin, Answer, Noted, AvailableDepth, StackEntry, IsNeither, question_of, EndsIn, progress_after, questions_answered, EndedRun, CacheNode, open_node, open_goal, with_run, IsNodeOf, IsRun, verdict_of, Run, DefiniteAnswer, NotesOverflow, TakesStored, Hit, first_entry, usages_over, with_depth, with_nested_goals, TakesAnswer, AnswersNewest, RunRecord, acted, answered, no_record, edges_of, is_kept, IsDefinite, Heads, at_depth, heads_shape, rank_of, UsagesByHead, StackDepth, EntryState, Evaluate, TakesIn}
+use Rattle.search_graph.specs.Words.{tally_of, heads_of, IsTallied, LieBelow, OpenRun, in_theory, AreEdges, Asks, HasTally, AreJustified, MayAnswer, IsFit, asked_now, run_of, runs_of, EndsNewest, EndsRun, IsSettled, Ended, LeftOpen}
 use Rattle.search_graph.proofs.TakenTallies.{taken_tallied, taken_keeps, taken_comes_in}
-use Rattle.search_graph.specs.Justified.{OpenRun, in_theory, AreEdges, Asks, HasTally, AreJustified, MayAnswer, IsFit, asked_now}
-use Rattle.search_parts.specs.Definite.{IsDefinite}
-use Rattle.cycle_heads.specs.Heads.{Heads, at_depth}
-use Rattle.cycle_heads.specs.HeadShapes.{heads_shape}
-use Rattle.cycle_heads.specs.Path.{rank_of}
-use Rattle.cycle_heads.specs.Candidates.{UsagesByHead}
-use Rattle.cycle_heads.specs.declared.depth.StackDepth.{StackDepth}
-use Rattle.search_parts.specs.declared.parts.stack.EntryState.{EntryState}
-use Rattle.search_parts.specs.declared.context.Request.TheVariants.{Evaluate}
-use Rattle.open_graphs.specs.AnswerLaws.{TakesIn}
-use Rattle.search_graph.specs.Runs.{run_of, runs_of, EndsNewest, EndsRun, IsSettled, Again, Ended, LeftOpen}
+use Rattle.search_graph.specs.Runs.{Again}
 use Rattle.search_graph.proofs.Justified.{Settles, pushed_is_justified, recounted_is_justified, again_settles, neither_settles, ended_settles}
 use Rattle.search_graph.proofs.ProgressEdges.{yes_edges_are, no_edges_are, edge_is_of_answer}
 use Rattle.search_graph.proofs.Replies.{verdict_is, in_theory_definite}

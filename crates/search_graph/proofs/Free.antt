@@ -4,27 +4,14 @@ use Rattle.std.proofs.Common.{◌≡◌, ℕ, zero, suc, Bool, true, List, [], �
 use Rattle.std.specs.Option.{IsSomeAnd, option_or}
 use Rattle.std.proofs.lemmas.List.{length-map}
 use Rattle.open_graphs.specs.Graph as theory
-use Rattle.open_graphs.specs.Graph.{IsGraph}
-use Rattle.open_graphs.specs.Stack.{Entry, path_kind}
-use Rattle.open_graphs.specs.Use.{Use, UsesNo}
-use Rattle.open_graphs.specs.State.{Frame, Final, stack_of, no_heads, first_frame, next_frame, answering, IsSound, AllFinal}
-use Rattle.open_graphs.specs.StateLaws.{Before}
+use Rattle.search_graph.specs.Below.{IsGraph, Entry, path_kind, Use, UsesNo, Frame, Final, stack_of, no_heads, first_frame, next_frame, answering, IsSound, AllFinal, Before, PathKind, NodeId, heads_shape, rank_of, CacheNode, open_node, IsNodeOf, KeepsGoals, IsDefinite, HasGraph, verdict_of, shape_of, shapes_of}
 use Rattle.open_graphs.proofs.States.{push_keeps_sound, pop_keeps_sound, rerun_keeps_sound, none_used}
 use Rattle.open_graphs.proofs.Runs.{closed_gives_use}
 use Rattle.open_graphs.proofs.Closed.{closed_is_graph, graph_is_use}
 use Rattle.open_graphs.proofs.Asked.{final_is_answered}
-use Rattle.cycle_heads.specs.declared.path.PathKind.{PathKind}
-use Rattle.search_parts.specs.declared.context.NodeId.{NodeId}
-use Rattle.cycle_heads.specs.HeadShapes.{heads_shape}
-use Rattle.cycle_heads.specs.Path.{rank_of}
-use Rattle.search_parts.specs.Cache.{CacheNode, open_node, IsNodeOf, KeepsGoals}
-use Rattle.search_parts.specs.Definite.{IsDefinite, HasGraph}
-use Rattle.search_parts.specs.Shapes.{verdict_of, shape_of, shapes_of}
 use Rattle.search_parts.proofs.Definites.{IsSomeAnd-weaker}
 use Rattle.search_parts.proofs.Nodes.{KeepsGoals-appended}
-use Rattle.search_graph.specs.Justified.{OpenRun, frame_of, frames_of, Asks, AreJustified, MayAnswer, asked_now}
-use Rattle.search_graph.specs.Tallies.{heads_of}
-use Rattle.search_graph.specs.Free.{IsFree}
+use Rattle.search_graph.specs.Words.{OpenRun, frame_of, frames_of, Asks, AreJustified, MayAnswer, asked_now, heads_of, IsFree}
 use Rattle.search_graph.proofs.Justified.{new_run, no_tally, tally_again, shapes_opened, Settles, popped, used_at, lead_is, leads_there, no_answers}
 
 -- ---- one final answer beside a sound state

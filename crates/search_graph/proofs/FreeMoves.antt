@@ -1,24 +1,7 @@
 -- Stored results rest on no goal under evaluation, whatever the newest goal notes; so each of them may answer its question.
 use Rattle.std.proofs.Common.{Bool, List, ◌∷◌, length, refl, sym, subst}
-use Rattle.search_parts.specs.declared.context.Request.{Request}
-use Rattle.search_parts.specs.declared.context.Reply.{Reply}
-use Rattle.search_parts.specs.declared.context.Reply.TheVariants.{Answer}
-use Rattle.cycle_heads.specs.declared.path.PathKind.{PathKind}
-use Rattle.search_parts.specs.declared.parts.stack.StackEntry.{StackEntry}
-use Rattle.search_parts.specs.declared.global_cache.results.StoredResult.{StoredResult}
-use Rattle.search_parts.specs.Cache.{CacheNode}
-use Rattle.cycle_heads.specs.Heads.{Heads}
-use Rattle.search_parts.specs.LookUp.{Hit}
-use Rattle.search_parts.specs.Store.{Store}
-use Rattle.open_goals.specs.declared.goals.Run.{Run}
-use Rattle.open_goals.specs.Entries.{with_depth, with_nested_goals}
-use Rattle.search_graph.specs.Free.{IsFree, AreFree}
-use Rattle.open_goals.specs.Items.{AnswersNewest}
-use Rattle.search_graph.specs.Justified.{Asks, IsFit}
-use Rattle.search_graph.specs.LookUp.{IsUsable}
-use Rattle.open_goals.specs.NestedGoals.{TakesStored, NotesOverflow}
-use Rattle.search_graph.specs.Runs.{run_of, runs_of}
-use Rattle.search_graph.specs.Tallies.{tally_of}
+use Rattle.search_graph.specs.Below.{Request, Reply, Answer, PathKind, StackEntry, StoredResult, CacheNode, Heads, Hit, Store, Run, with_depth, with_nested_goals, AnswersNewest, TakesStored, NotesOverflow}
+use Rattle.search_graph.specs.Words.{IsFree, AreFree, Asks, IsFit, IsUsable, run_of, runs_of, tally_of}
 use Rattle.search_graph.proofs.Finishing.{answer_fits, same_run, stored_taken_same, overflow_noted_same}
 use Rattle.search_graph.proofs.Free.{free_answers}
 use Rattle.search_graph.proofs.FreeResults.{all_free_above}

@@ -1,26 +1,10 @@
 -- All stored results stay free of the goals under evaluation through each move of the driver.
 use Rattle.std.proofs.Common.{◌≡◌, Bool, true, false, List, [], ◌∷◌, ◌++◌, length, Option, None, Some, inl, inr, sym, ap, ap₂, ◌∙◌, subst}
 use Rattle.std.specs.Option.{option_or}
-use Rattle.open_graphs.specs.State.{stack_of}
-use Rattle.cycle_heads.specs.declared.path.PathKind.{PathKind}
-use Rattle.search_parts.specs.declared.context.NodeId.{NodeId}
-use Rattle.search_parts.specs.declared.context.Request.{Request}
-use Rattle.search_parts.specs.declared.context.Reply.{Reply}
-use Rattle.search_parts.specs.declared.global_cache.results.StoredResult.{StoredResult}
-use Rattle.search_parts.specs.declared.parts.depth.AvailableDepth.{AvailableDepth}
-use Rattle.search_parts.specs.declared.parts.result.EvaluationResult.{EvaluationResult}
-use Rattle.search_parts.specs.declared.parts.stack.StackEntry.{StackEntry}
-use Rattle.search_parts.specs.Cache.{CacheNode, open_node}
-use Rattle.search_parts.specs.Store.{Store, stored_at, place_of, stored_from}
-use Rattle.search_parts.specs.Stored.{AreKept}
+use Rattle.search_graph.specs.Below.{stack_of, PathKind, NodeId, Request, Reply, StoredResult, AvailableDepth, EvaluationResult, StackEntry, CacheNode, open_node, Store, stored_at, place_of, stored_from, AreKept, Run, first_entry, no_record}
 use Rattle.search_parts.proofs.Stores.{put_cases}
-use Rattle.open_goals.specs.declared.goals.Run.{Run}
-use Rattle.open_goals.specs.Entries.{first_entry}
-use Rattle.search_graph.specs.Free.{IsFree, AreFree}
-use Rattle.search_graph.specs.Justified.{OpenRun, frames_of, Asks, AreJustified}
-use Rattle.open_goals.specs.Progress.{no_record}
-use Rattle.search_graph.specs.Results.{StoresAnswer, Kept, Put}
-use Rattle.search_graph.specs.Runs.{runs_of}
+use Rattle.search_graph.specs.Words.{IsFree, AreFree, OpenRun, frames_of, Asks, AreJustified, StoresAnswer, Put, runs_of}
+use Rattle.search_graph.specs.Results.{Kept}
 use Rattle.search_graph.proofs.Justified.{new_run, no_tally, tally_again, Settles}
 use Rattle.search_graph.proofs.Free.{free_nothing, free_pushed, free_popped, free_rerun, free_same, free_above}
 

@@ -9,11 +9,8 @@ use Rattle.std.specs.declared.cmp.Ordering.TheVariants.{Less}
 use Rattle.std.specs.BTreeMap.{insert_entry, is_at}
 use Rattle.std.specs.Map.{keys_of}
 use Rattle.std.specs.Ordering.{nat_cmp}
-use Rattle.cycle_heads.specs.declared.depth.StackDepth.{StackDepth}
-use Rattle.cycle_heads.specs.declared.heads.CycleHead.{CycleHead}
-use Rattle.cycle_heads.specs.Heads.{Heads, at_depth, depth_cmp, highest, IsRising}
+use Rattle.search_graph.specs.Below.{StackDepth, CycleHead, Heads, at_depth, depth_cmp, highest, IsRising, but_highest}
 use Rattle.cycle_heads.proofs.HeadLists.{at_depth-first, at_depth-rest, at_depth-insert_other, placed_first, placed_here, placed_later, rising_later}
-use Rattle.search_parts.specs.Rebasing.{but_highest}
 
 -- ---- what the first head is, and the others
 

@@ -4,19 +4,10 @@ use Rattle.std.specs.List.{sum_by}
 use Rattle.std.specs.Option.{IsSomeAnd}
 use Rattle.std.proofs.lemmas.Bool.{cases_eq, false≢true}
 use Rattle.std.proofs.lemmas.List.Sums.{sum_by-cons}
-use Rattle.open_graphs.specs.Use.{Includes}
+use Rattle.search_graph.specs.Below.{Includes, StackDepth, PathKind, CycleHead, HeadUsages, UsagesByHead, at_depth, count_of, count_without, no_usages, EntryState, CanIgnore, Covers, Ignores, less_head, less_usages}
 use Rattle.open_graphs.proofs.Lists.{get_left, get_set_same}
-use Rattle.cycle_heads.specs.declared.depth.StackDepth.{StackDepth}
-use Rattle.cycle_heads.specs.declared.path.PathKind.{PathKind}
-use Rattle.cycle_heads.specs.declared.heads.CycleHead.{CycleHead}
-use Rattle.cycle_heads.specs.declared.usages.HeadUsages.{HeadUsages}
-use Rattle.cycle_heads.specs.Candidates.{UsagesByHead}
-use Rattle.cycle_heads.specs.Heads.{at_depth}
-use Rattle.cycle_heads.specs.Usages.{count_of, count_without, no_usages}
 use Rattle.cycle_heads.proofs.Counts.{count_of-usages_by}
-use Rattle.search_parts.specs.declared.parts.stack.EntryState.{EntryState}
-use Rattle.open_goals.specs.Candidates.{CanIgnore, Covers, Ignores, less_head, less_usages}
-use Rattle.search_graph.specs.Tallies.{IsCovered, IsTallied, candidate_at, candidates_count, counted, heads_of, spare, tally_of, usages_of}
+use Rattle.search_graph.specs.Words.{IsCovered, IsTallied, candidate_at, candidates_count, counted, heads_of, spare, tally_of, usages_of}
 use Rattle.search_graph.proofs.Tallies.{GrowsInto, IsMore, all_grown, candidate_within, counted_other, counted_own, more_spare, none_counted, of_kind, spare_more, usages_in}
 
 -- ---- counts

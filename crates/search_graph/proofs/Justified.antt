@@ -3,36 +3,17 @@ use Rattle.std.proofs.Common.{◌≡◌, ◌≢◌, ℕ, zero, suc, Bool, true, 
 use Rattle.std.specs.Option.{IsSomeAnd, option_or}
 use Rattle.std.proofs.lemmas.List.{map-append, map-set, length-map}
 use Rattle.open_graphs.specs.Graph as theory
-use Rattle.open_graphs.specs.Stack.{Entry, path_kind}
+use Rattle.search_graph.specs.Below.{Entry, path_kind, IsGraph, Use, Includes, IncludesBelow, UsesNo, Frame, Kept, Final, stack_of, first_frame, next_frame, answering, OwnsOther, IsSound, TakesIn, Answered, Again, Anew, Without, IsAnswered, AllAnswered, PathKind, Edge, Request, NodeId, heads_shape, no_usages, rank_of, EndedRun, CacheNode, open_node, open_goal, with_run, IsNodeOf, KeepsNodes, KeepsGoals, verdict_of, edge_shape, shape_of, shapes_of, DefiniteAnswer, HasGraph, is_kept}
 use Rattle.open_graphs.specs.Use as theory_use
-use Rattle.open_graphs.specs.Graph.{IsGraph}
-use Rattle.open_graphs.specs.Use.{Use, Includes, IncludesBelow, UsesNo}
-use Rattle.open_graphs.specs.State.{Frame, Kept, Final, stack_of, first_frame, next_frame, answering, OwnsOther, IsSound}
-use Rattle.open_graphs.specs.AnswerLaws.{TakesIn}
-use Rattle.open_graphs.specs.Run.{Answered, Again, Anew, Without, IsAnswered, AllAnswered}
 use Rattle.open_graphs.proofs.Lists.{get_cases, get_set_other}
 use Rattle.open_graphs.proofs.States.{push_keeps_sound, answers_keep_sound, pop_keeps_sound, rerun_keeps_sound, start_is_sound, verdict_cases}
 use Rattle.open_graphs.proofs.Asked.{done_is_answered}
 use Rattle.open_graphs.proofs.Runs.{answered_grows, root_is_graph}
 use Rattle.open_graphs.proofs.Closed.{closed_is_graph}
 use Rattle.open_graphs.proofs.Keep.{append_grows, growth_keeps_use, heads_keep_use}
-use Rattle.cycle_heads.specs.declared.path.PathKind.{PathKind}
-use Rattle.search_parts.specs.declared.context.Edge.{Edge}
-use Rattle.search_parts.specs.declared.context.Request.{Request}
-use Rattle.search_parts.specs.declared.context.NodeId.{NodeId}
-use Rattle.cycle_heads.specs.HeadShapes.{heads_shape}
-use Rattle.cycle_heads.specs.Usages.{no_usages}
-use Rattle.cycle_heads.specs.Path.{rank_of}
-use Rattle.search_parts.specs.Cache.{EndedRun, CacheNode, open_node, open_goal, with_run, IsNodeOf, KeepsNodes, KeepsGoals}
-use Rattle.search_parts.specs.Shapes.{verdict_of, edge_shape, shape_of, shapes_of}
 use Rattle.search_parts.proofs.Nodes.{KeepsNodes-appended, KeepsGoals-appended, before, with_run-is, KeepsGoals-ended}
-use Rattle.open_goals.specs.declared.progress.DefiniteAnswer.{DefiniteAnswer}
-use Rattle.search_parts.specs.Definite.{HasGraph}
-use Rattle.search_graph.specs.Justified.{OpenRun, in_theory, leads_to, frame_of, frames_of, AreOpen, LeadHome, AllPlaced, AreEdges, Asks, HasTally, AreCharged, AllCharged, AreJustified, asked_now, MayAnswer}
-use Rattle.open_goals.specs.Progress.{is_kept}
-use Rattle.search_graph.specs.Tallies.{Tally, IsTallied, heads_of, spare_heads}
+use Rattle.search_graph.specs.Words.{OpenRun, in_theory, leads_to, frame_of, frames_of, AreOpen, LeadHome, AllPlaced, AreEdges, Asks, HasTally, AreCharged, AllCharged, AreJustified, asked_now, MayAnswer, Tally, IsTallied, heads_of, spare_heads, SaysAgain}
 use Rattle.search_graph.proofs.Tallies.{charge_within, fresh_tallied, rerun_keeps, rerun_tallied, spare_within}
-use Rattle.search_graph.specs.Runs.{SaysAgain}
 
 -- ---- open nodes
 

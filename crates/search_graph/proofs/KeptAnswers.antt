@@ -4,25 +4,13 @@ use Rattle.std.proofs.Common.{◌≡◌, ℕ, zero, suc, ◌<◌, true, Bool, Li
 use Rattle.std.specs.Option.{IsSomeAnd, option_or}
 use Rattle.std.proofs.lemmas.List.{length-map}
 use Rattle.open_graphs.specs.Graph as theory
-use Rattle.open_graphs.specs.Stack.{Entry, path_kind}
-use Rattle.open_graphs.specs.Use.{HeadsWithin, Stored, UsesNo}
-use Rattle.open_graphs.specs.State.{Frame, Kept, stack_of, first_frame, next_frame, answering, AfterPop, AllStored, IsSound}
-use Rattle.open_graphs.specs.StateLaws.{IsLeft, Survives, Added}
-use Rattle.open_graphs.specs.AnswerLaws.{TakesIn}
+use Rattle.search_graph.specs.Below.{Entry, path_kind, HeadsWithin, Stored, UsesNo, Frame, Kept, stack_of, first_frame, next_frame, answering, AfterPop, AllStored, IsSound, IsLeft, Survives, Added, TakesIn, PathKind, heads_shape, rank_of, NodeId, CacheNode, open_node, IsNodeOf, KeepsGoals, IsDefinite, verdict_of, shape_of, shapes_of}
 use Rattle.open_graphs.proofs.States.{push_keeps_sound, pop_keeps_sound, rerun_keeps_sound}
 use Rattle.open_graphs.proofs.Asked.{stored_is_answered}
-use Rattle.cycle_heads.specs.declared.path.PathKind.{PathKind}
-use Rattle.cycle_heads.specs.HeadShapes.{heads_shape}
-use Rattle.cycle_heads.specs.Path.{rank_of}
-use Rattle.search_parts.specs.declared.context.NodeId.{NodeId}
-use Rattle.search_parts.specs.Cache.{CacheNode, open_node, IsNodeOf, KeepsGoals}
-use Rattle.search_parts.specs.Definite.{IsDefinite}
-use Rattle.search_parts.specs.Shapes.{verdict_of, shape_of, shapes_of}
 use Rattle.search_parts.proofs.Definites.{IsSomeAnd-weaker}
 use Rattle.search_parts.proofs.Nodes.{KeepsGoals-appended}
-use Rattle.search_graph.specs.Justified.{OpenRun, frame_of, frames_of, AreJustified, MayAnswer, asked_now}
-use Rattle.search_graph.specs.KeptAnswers.{KeptAnswer, in_theory, IsKept}
-use Rattle.search_graph.specs.Tallies.{heads_of}
+use Rattle.search_graph.specs.Words.{OpenRun, frame_of, frames_of, AreJustified, MayAnswer, asked_now, KeptAnswer, IsKept, heads_of}
+use Rattle.search_graph.specs.KeptAnswers.{in_theory}
 use Rattle.search_graph.proofs.Justified.{new_run, no_tally, tally_again, shapes_opened, Settles, used_at, lead_is, leads_there, no_answers}
 
 -- ---- one kept answer beside a sound state

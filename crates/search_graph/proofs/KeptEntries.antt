@@ -3,36 +3,11 @@ use Rattle.std.proofs.Common.{◌≡◌, ℕ, ◌&&◌, ◌||◌, if◌then◌el
 use Rattle.std.specs.List.{filter}
 use Rattle.std.specs.Option.{option_map, option_and_then}
 use Rattle.std.proofs.lemmas.List.Elements.{All-append, All-cons, All-filter, All-nil}
-use Rattle.cycle_heads.specs.declared.depth.StackDepth.{StackDepth}
-use Rattle.cycle_heads.specs.declared.heads.CycleHead.{CycleHead}
-use Rattle.cycle_heads.specs.declared.path.PathKind.{PathKind}
-use Rattle.cycle_heads.specs.declared.usages.HeadUsages.{HeadUsages}
-use Rattle.cycle_heads.specs.Heads.{highest}
-use Rattle.cycle_heads.specs.Path.{greater_kind}
-use Rattle.cycle_heads.specs.Usages.{has_usages, other_usages}
-use Rattle.search_parts.specs.declared.context.Delegate as Delegate
-use Rattle.search_parts.specs.declared.context.Cx as Cx
-use Rattle.search_parts.specs.declared.context.Request.TheVariants.{Done}
-use Rattle.search_parts.specs.declared.global_cache.results.StoredResult.{StoredResult}
-use Rattle.search_parts.specs.declared.parts.provisional_cache.ProvisionalCacheEntry.{ProvisionalCacheEntry}
-use Rattle.search_parts.specs.declared.parts.provisional_cache.RebaseReason.{RebaseReason}
+use Rattle.search_graph.specs.Below.{StackDepth, CycleHead, PathKind, HeadUsages, highest, greater_kind, has_usages, other_usages, DelegateOf, CxOf, Done, StoredResult, ProvisionalCacheEntry, RebaseReason, EvaluationResult, StackEntry, path_kind_from, IsDefinite, IsNeither, Lists, entries_at, but_highest, from_head, from_new_head, keeps_kinds, rebased, rebased_at, rebased_used, rebased_unused, settled, with_unused, with_used, Store, Run}
 use Rattle.search_parts.specs.declared.parts.provisional_cache.RebaseReason.TheVariants as why
-use Rattle.search_parts.specs.declared.parts.result.EvaluationResult.{EvaluationResult}
-use Rattle.search_parts.specs.declared.parts.stack.StackEntry.{StackEntry}
-use Rattle.search_parts.specs.Cycle.{path_kind_from}
-use Rattle.search_parts.specs.Definite.{IsDefinite}
-use Rattle.search_parts.specs.Delegate.{IsNeither}
-use Rattle.search_parts.specs.Provisional.{Lists, entries_at}
-use Rattle.search_parts.specs.Rebasing.{but_highest, from_head, from_new_head, keeps_kinds, rebased, rebased_at, rebased_used, rebased_unused, settled, with_unused, with_used}
-use Rattle.search_parts.specs.Store.{Store}
 use Rattle.search_parts.proofs.RebasedKept.{All-filter_map}
-use Rattle.open_goals.specs.declared.goals.Run.{Run}
-use Rattle.search_graph.specs.declared.graph.finish.Unstable.{Unstable}
-use Rattle.search_graph.specs.Calls.{Call, IsCounted}
-use Rattle.search_graph.specs.Evaluating.{HasAsked, KeepsAnswers, KeepsStore}
-use Rattle.search_graph.specs.Provisional.{final_answer, kept_of, left_of, SettlesEntries, SettlesNewest}
-use Rattle.search_graph.specs.Results.{MayPutNewest}
-use Rattle.search_graph.specs.RunEnds.{IsReason, IsRunEnd, Ambiguous, Initial, Limited, Repeated, Repeats, Stable, Unused, WithoutUsages}
+use Rattle.search_graph.specs.Words.{Unstable, Call, IsCounted, HasAsked, KeepsAnswers, KeepsStore, final_answer, kept_of, left_of, SettlesEntries, SettlesNewest, MayPutNewest, IsReason, IsRunEnd, Ambiguous, Initial, Limited, Repeated, Repeats, Stable, WithoutUsages}
+use Rattle.search_graph.specs.RunEnds.{Unused}
 use Rattle.search_graph.proofs.DoneRuns.{calm_of, met_keeps, put_keeps}
 use Rattle.search_graph.proofs.Finishing.{neither_is}
 use Rattle.search_graph.proofs.Moves.{done_definite}
@@ -194,7 +169,7 @@ module _ {X I R A T : Type 0} (is_yes is_no : R → Bool) (same : R → R → Bo
 
 -- ---- what a call keeps
 
-module _ {D C V P F I R A T : Type 0} (G : Delegate.Ghosts D C V P F I R A T) (X : Cx.Ghosts C I R A T) (cx : C) (call : Call I) (same : I → I → Bool) where
+module _ {D C V P F I R A T : Type 0} (G : DelegateOf D C V P F I R A T) (X : CxOf C I R A T) (cx : C) (call : Call I) (same : I → I → Bool) where
   -- once a limit is met, nothing is asked of answers
   pub met_keeps_answers : (results : Store I (StoredResult C I R A T)) (entries : Lists I (ProvisionalCacheEntry C I R A T)) → KeepsAnswers G X cx same call true results entries
   met_keeps_answers results entries = record {

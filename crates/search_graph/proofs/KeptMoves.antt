@@ -2,24 +2,8 @@
 use Rattle.std.proofs.Common.{◌≡◌, ℕ, suc, Bool, List, ◌∷◌, length, refl, sym, ap, ◌∙◌, subst}
 use Rattle.std.specs.Option.{IsSomeAnd}
 use Rattle.std.proofs.lemmas.List.{length-map}
-use Rattle.open_graphs.specs.Stack.{path_kind}
-use Rattle.open_graphs.specs.AnswerLaws.{TakesIn}
-use Rattle.open_graphs.specs.State.{stack_of}
-use Rattle.cycle_heads.specs.declared.path.PathKind.{PathKind}
-use Rattle.cycle_heads.specs.Heads.{Heads}
-use Rattle.cycle_heads.specs.HeadShapes.{heads_shape}
-use Rattle.cycle_heads.specs.Path.{rank_of}
-use Rattle.search_parts.specs.declared.context.Reply.TheVariants.{Answer}
-use Rattle.search_parts.specs.declared.parts.stack.StackEntry.{StackEntry}
-use Rattle.search_parts.specs.Cache.{CacheNode}
-use Rattle.search_parts.specs.Definite.{IsDefinite}
-use Rattle.search_parts.specs.Shapes.{verdict_of}
-use Rattle.open_goals.specs.declared.goals.Run.{Run}
-use Rattle.open_goals.specs.Items.{AnswersNewest}
-use Rattle.search_graph.specs.Justified.{frames_of, Asks, AreJustified, IsFit, MayAnswer, asked_now}
-use Rattle.search_graph.specs.KeptAnswers.{KeptAnswer, IsKept}
-use Rattle.search_graph.specs.Runs.{run_of, runs_of}
-use Rattle.search_graph.specs.Tallies.{heads_of, tally_of, LieBelow}
+use Rattle.search_graph.specs.Below.{path_kind, TakesIn, stack_of, PathKind, Heads, heads_shape, rank_of, Answer, StackEntry, CacheNode, IsDefinite, verdict_of, Run, AnswersNewest}
+use Rattle.search_graph.specs.Words.{frames_of, Asks, AreJustified, IsFit, MayAnswer, asked_now, KeptAnswer, IsKept, run_of, runs_of, heads_of, tally_of, LieBelow}
 use Rattle.search_graph.proofs.Finishing.{answer_fits, heads_come, same_run}
 use Rattle.search_graph.proofs.Free.{same_stack}
 use Rattle.search_graph.proofs.Justified.{stack_length}

@@ -5,28 +5,8 @@ use Rattle.std.specs.Option.{option_map, unwrap_or}
 use Rattle.std.proofs.lemmas.Bool.Decides.{nat_tests}
 use Rattle.std.proofs.lemmas.List.{length-map}
 use Rattle.std.proofs.lemmas.List.Elements.{All-head, All-tail}
-use Rattle.cycle_heads.specs.declared.depth.StackDepth.{StackDepth}
-use Rattle.cycle_heads.specs.declared.heads.CycleHead.{CycleHead}
-use Rattle.cycle_heads.specs.declared.path.PathKind.{PathKind}
-use Rattle.cycle_heads.specs.Heads.{highest}
-use Rattle.cycle_heads.specs.Path.{rank_of}
-use Rattle.search_parts.specs.declared.context.Request.{Request}
-use Rattle.search_parts.specs.declared.context.Reply.{Reply}
-use Rattle.search_parts.specs.declared.context.Reply.TheVariants.{Answer}
-use Rattle.search_parts.specs.declared.parts.stack.StackEntry.{StackEntry}
-use Rattle.search_parts.specs.declared.parts.provisional_cache.ProvisionalCacheEntry.{ProvisionalCacheEntry}
-use Rattle.search_parts.specs.Cache.{CacheNode}
-use Rattle.search_parts.specs.Cycle.{path_kind_from}
-use Rattle.search_parts.specs.Provisional.{entries_at}
-use Rattle.search_parts.specs.Reuse.{asking_heads, has_head_up_to, may_be_used}
-use Rattle.open_goals.specs.declared.goals.Run.{Run}
-use Rattle.open_goals.specs.Items.{AnswersNewest}
-use Rattle.search_graph.specs.Justified.{Asks, AreJustified, IsFit}
-use Rattle.search_graph.specs.KeptShapes.{highest_depth}
-use Rattle.search_graph.specs.LookUp.{Asking, kept_for}
-use Rattle.search_graph.specs.Provisional.{kept_answer, IsReady}
-use Rattle.search_graph.specs.Runs.{run_of, runs_of}
-use Rattle.search_graph.specs.Tallies.{LieBelow}
+use Rattle.search_graph.specs.Below.{StackDepth, CycleHead, PathKind, highest, rank_of, Request, Reply, Answer, StackEntry, ProvisionalCacheEntry, CacheNode, path_kind_from, entries_at, asking_heads, has_head_up_to, may_be_used, Run, AnswersNewest}
+use Rattle.search_graph.specs.Words.{Asks, AreJustified, IsFit, highest_depth, Asking, kept_for, kept_answer, IsReady, run_of, runs_of, LieBelow}
 use Rattle.search_graph.proofs.CycleAnswers.{path_kind_is}
 use Rattle.search_graph.proofs.Finishing.{answered_newest_is_justified}
 use Rattle.search_graph.proofs.KeptMoves.{kept_fits}

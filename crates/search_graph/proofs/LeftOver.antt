@@ -2,26 +2,8 @@
 -- below it takes over.
 use Rattle.std.proofs.Common.{◌≡◌, ◌≢◌, ℕ, Bool, List, [], ◌∷◌, length, IsSome, refl, sym, subst, ◌⊎◌, inl, inr, arith}
 use Rattle.std.proofs.lemmas.List.{length-map}
-use Rattle.cycle_heads.specs.declared.depth.StackDepth.{StackDepth}
-use Rattle.cycle_heads.specs.declared.path.PathKind.{PathKind}
-use Rattle.cycle_heads.specs.Heads.{Heads, at_depth, IsRising}
-use Rattle.search_parts.specs.declared.context.Request.{Request}
-use Rattle.search_parts.specs.declared.context.Reply.{Reply}
-use Rattle.search_parts.specs.declared.parts.stack.StackEntry.{StackEntry}
-use Rattle.search_parts.specs.declared.parts.result.EvaluationResult.{EvaluationResult}
-use Rattle.search_parts.specs.declared.parts.provisional_cache.ProvisionalCacheEntry.{ProvisionalCacheEntry}
-use Rattle.search_parts.specs.Cache.{CacheNode}
-use Rattle.search_parts.specs.Rank.{HasNoRank}
-use Rattle.open_goals.specs.declared.goals.Run.{Run}
-use Rattle.open_goals.specs.declared.goals.Next.{Next}
-use Rattle.open_goals.specs.Entries.{with_depth, with_nested_goals}
-use Rattle.open_goals.specs.Items.{AnswersNewest}
-use Rattle.search_graph.specs.Justified.{OpenRun, HaveTallies}
-use Rattle.search_graph.specs.KeptAnswers.{IsKept}
-use Rattle.search_graph.specs.Moves.{GivesAnswer}
-use Rattle.search_graph.specs.Provisional.{IsHead, IsReady, kept_answer}
-use Rattle.search_graph.specs.Runs.{run_of, runs_of}
-use Rattle.search_graph.specs.Tallies.{LieBelow, counted, tally_of}
+use Rattle.search_graph.specs.Below.{StackDepth, PathKind, Heads, at_depth, IsRising, Request, Reply, StackEntry, EvaluationResult, ProvisionalCacheEntry, CacheNode, HasNoRank, Run, Next, with_depth, with_nested_goals, AnswersNewest}
+use Rattle.search_graph.specs.Words.{OpenRun, HaveTallies, IsKept, GivesAnswer, IsHead, IsReady, kept_answer, run_of, runs_of, LieBelow, counted, tally_of}
 use Rattle.search_graph.proofs.HeadOrder.{at_here}
 use Rattle.search_graph.proofs.KeptMoves.{kept_beside}
 use Rattle.search_graph.proofs.Ready.{is_below}

@@ -4,24 +4,14 @@ use Rattle.std.specs.List.{AllZip, sum_by}
 use Rattle.std.proofs.lemmas.List.{take_more}
 use Rattle.std.proofs.lemmas.List.Sums.{sum_by-append}
 use Rattle.std.proofs.lemmas.Result.{IfOk-weaker}
-use Rattle.search_parts.specs.declared.context.Cx as Cx
-use Rattle.search_parts.specs.declared.context.Delegate as Delegate
+use Rattle.search_graph.specs.Below.{CxOf, DelegateOf, Fault, Memory, PathKind, Cache, AreRuns, KeepsFinished, HasGraph, Question, Overlap, IsPlainTo, IsPlainValue, KeepsResults, IsWhole}
 use Rattle.search_parts.specs.declared.context.Answer.{Answer}
-use Rattle.search_parts.specs.declared.context.Fault.{Fault}
-use Rattle.search_parts.specs.declared.context.Fault.TheVariants.{Memory}
-use Rattle.cycle_heads.specs.declared.path.PathKind.{PathKind}
-use Rattle.search_parts.specs.Cache.{Cache, AreRuns, KeepsFinished}
-use Rattle.search_parts.specs.Definite.{HasGraph}
-use Rattle.search_parts.specs.Question.{Question, Overlap}
-use Rattle.search_parts.specs.Rank.{IsPlainTo, IsPlainValue}
-use Rattle.search_parts.specs.Store.{KeepsResults}
 use Rattle.search_parts.proofs.Bridge.{KeepsRule}
-use Rattle.search_parts.specs.HandedOut.{IsWhole}
 use Rattle.search_parts.proofs.Definites.{HasGraph-finished, definite_is_whole}
 use Rattle.search_parts.proofs.Finished.{KeepsFinished-then}
 use Rattle.search_parts.proofs.Stores.{KeepsResults-then}
-use Rattle.search_graph.specs.Graph.{IsProved, IsRefuted}
-use Rattle.search_graph.specs.Lists.{Appends, HadCause, HasAnswer, IsAnswered}
+use Rattle.search_graph.specs.Words.{IsProved, IsRefuted, HadCause, HasAnswer}
+use Rattle.search_graph.specs.Lists.{Appends, IsAnswered}
 use Rattle.search_graph.proofs.Promises.{yes_is_proved, no_is_refuted, neither_is_none}
 
 appended : {A : Type 0} (old more : List A) (a : A) → (old ++ more) ++ a ∷ [] ≡ old ++ (more ++ a ∷ [])
@@ -63,7 +53,7 @@ pub IfErr-weaker : {A E : Type 0} (r : Result A E) (P Q : E → Type 0) → ((e 
 IfErr-weaker (Ok a) P Q so h = tt
 IfErr-weaker (Err e) P Q so h = so e h
 
-module _ {D C V P F I R A T : Type 0} (G : Delegate.Ghosts D C V P F I R A T) (X : Cx.Ghosts C I R A T) (same : I → I → Bool) where
+module _ {D C V P F I R A T : Type 0} (G : DelegateOf D C V P F I R A T) (X : CxOf C I R A T) (same : I → I → Bool) where
   pub HadCause-kept : (old new : Cache C I R A T) → new.cx ≡ old.cx → KeepsResults same old.results new.results → KeepsFinished old.nodes new.nodes → (fault : Fault I R) → HadCause G X same old fault → HadCause G X same new fault
   HadCause-kept old new context results nodes fault h = record {
     before = h.before;

@@ -3,22 +3,9 @@ use Rattle.std.proofs.Common.{◌≡◌, ◌≢◌, ℕ, ◌<◌, ◌≤◌, Boo
 use Rattle.std.specs.List.{list_all, list_any}
 use Rattle.std.specs.Option.{IfSome, option_map}
 use Rattle.std.proofs.lemmas.List.Elements.{All-get_or}
-use Rattle.cycle_heads.specs.Heads.{highest}
-use Rattle.search_parts.specs.declared.context.Request.{Request}
-use Rattle.search_parts.specs.declared.context.Reply.{Reply}
-use Rattle.search_parts.specs.declared.global_cache.look_up.CacheData.{CacheData}
-use Rattle.search_parts.specs.declared.global_cache.results.Place.TheVariants.{Success, WithOverflow}
-use Rattle.search_parts.specs.declared.global_cache.results.StoredResult.{StoredResult}
-use Rattle.cycle_heads.specs.declared.path.PathKind.{PathKind}
-use Rattle.search_parts.specs.declared.parts.provisional_cache.ProvisionalCacheEntry.{ProvisionalCacheEntry}
-use Rattle.search_parts.specs.declared.parts.stack.StackEntry.{StackEntry}
-use Rattle.search_parts.specs.Provisional.{Lists, entries_at}
-use Rattle.search_parts.specs.LookUp.{Hit, hit_of, first_accepted, usable}
-use Rattle.search_parts.specs.Nested.{NestedPaths, paths_at}
-use Rattle.search_parts.specs.Rank.{IsPlain, IsBelowRank}
-use Rattle.search_parts.specs.Store.{Store}
+use Rattle.search_graph.specs.Below.{highest, Request, Reply, CacheData, Success, WithOverflow, StoredResult, PathKind, ProvisionalCacheEntry, StackEntry, Lists, entries_at, Hit, hit_of, first_accepted, usable, NestedPaths, paths_at, IsPlain, IsBelowRank, Store}
 use Rattle.search_parts.proofs.Stored.{used_holds}
-use Rattle.search_graph.specs.LookUp.{is_applicable, meets_entry, AreOnStack, Asking, IsUsable}
+use Rattle.search_graph.specs.Words.{is_applicable, meets_entry, AreOnStack, Asking, IsUsable}
 
 -- nothing is below a result without goals
 nothing_below : {X I R A T : Type 0} (same : I → I → Bool) (stack : List (StackEntry X I R A T)) → list_any (λ e. is_some (paths_at same [] e.input)) stack ≡ false

@@ -1,35 +1,9 @@
 -- The loop over the moves, whatever call it serves.
 use Rattle.std.proofs.Common.{◌≡◌, ℕ, ◌+◌, ◌<◌, ◌≤◌, ◌^◌, Bool, true, false, List, [], ◌∷◌, length, Some, refl, sym, ap, subst, arith}
-use Rattle.search_parts.specs.declared.context.Delegate as Delegate
-use Rattle.search_parts.specs.declared.context.Cx as Cx
-use Rattle.search_parts.specs.declared.context.Request.{Request}
-use Rattle.search_parts.specs.declared.context.Reply.TheVariants.{Begin}
-use Rattle.cycle_heads.specs.declared.path.PathKind.{PathKind}
-use Rattle.search_parts.specs.declared.parts.depth.AvailableDepth.{AvailableDepth}
-use Rattle.search_parts.specs.declared.parts.stack.StackEntry.{StackEntry}
-use Rattle.search_parts.specs.declared.context.Fault.{Fault}
+use Rattle.search_graph.specs.Below.{DelegateOf, CxOf, Request, Begin, PathKind, AvailableDepth, StackEntry, Fault, Evaluate, CountsOne, CacheNode, Memory, Run, Received, Next, Step, Finished, requested, IsReplySorted, HasGraph, HasStepped, IsStepFault, received_by, StoredResult, Store, NotesCandidate}
 use Rattle.search_parts.specs.declared.context.Answer.{Answer}
-use Rattle.search_parts.specs.declared.context.Request.TheVariants.{Evaluate}
-use Rattle.search_parts.specs.Delegate.{CountsOne}
-use Rattle.search_parts.specs.Cache.{CacheNode}
-use Rattle.search_parts.specs.declared.context.Fault.TheVariants.{Memory}
-use Rattle.open_goals.specs.declared.goals.Run.{Run}
-use Rattle.open_goals.specs.declared.goals.Received.{Received}
-use Rattle.open_goals.specs.declared.goals.Next.{Next}
-use Rattle.open_goals.specs.declared.goals.Next.TheVariants.{Step, Finished}
-use Rattle.open_goals.specs.Progress.{requested, IsReplySorted}
-use Rattle.search_parts.specs.Definite.{HasGraph}
-use Rattle.search_graph.specs.Justified.{Asks, AreJustified, IsFit}
-use Rattle.search_graph.specs.Runs.{runs_of, IsJustifiedNext}
-use Rattle.search_graph.specs.Calls.{Call, Outset}
-use Rattle.open_goals.specs.Steps.{HasStepped, IsStepFault, received_by}
-use Rattle.search_graph.specs.Moves.{Pushes}
-use Rattle.search_parts.specs.declared.global_cache.results.StoredResult.{StoredResult}
-use Rattle.search_parts.specs.Store.{Store}
-use Rattle.search_graph.specs.Results.{AreDefinite, HaveNoOverflow}
-use Rattle.search_graph.specs.Evaluating.{Begins, IsWaiting, HasAsked, HasStopped, IsOnly, Leads, work_left}
+use Rattle.search_graph.specs.Words.{Asks, AreJustified, IsFit, runs_of, IsJustifiedNext, Call, Outset, Pushes, AreDefinite, HaveNoOverflow, Begins, IsWaiting, HasAsked, HasStopped, IsOnly, Leads, work_left}
 use Rattle.search_graph.proofs.Moves.{root_waits, failed_root_stopped, step_asks, step_stops}
-use Rattle.open_goals.specs.Candidates.{NotesCandidate}
 use Rattle.search_graph.proofs.Noted.{noted_is_justified}
 use Rattle.search_graph.proofs.Replies.{replies_sorted}
 
@@ -37,7 +11,7 @@ use Rattle.search_graph.proofs.Replies.{replies_sorted}
 abbrev pub call_of : {I : Type 0} (input : I) (root starts : ℕ) (met calm definite : Bool) → root < 2 ^ 64 → Call I
 call_of input root starts met calm definite fits = record { top = input; root = root; fits = fits; starts = starts; limits_met = met; without_overflow = calm; all_definite = definite }
 
-module _ {D C V P F I R A T : Type 0} (G : Delegate.Ghosts D C V P F I R A T) (X : Cx.Ghosts C I R A T) (cx : C) (same : I → I → Bool) (input : I) (root starts : ℕ) (met : Bool) (fits : root < 2 ^ 64) (results : Store I (StoredResult C I R A T)) where
+module _ {D C V P F I R A T : Type 0} (G : DelegateOf D C V P F I R A T) (X : CxOf C I R A T) (cx : C) (same : I → I → Bool) (input : I) (root starts : ℕ) (met : Bool) (fits : root < 2 ^ 64) (results : Store I (StoredResult C I R A T)) where
   pub call_begins : (calm definite : Bool) → (calm ≡ true → HaveNoOverflow same results) → (definite ≡ true → AreDefinite X.is_yes X.is_no same results) → Begins G X cx same (call_of input root starts met calm definite fits) input root starts met results
   call_begins calm definite none all = record {
     outset = record { same_top = refl; same_root = refl; same_starts = refl; same_limits = refl };
@@ -49,10 +23,10 @@ module _ {D C V P F I R A T : Type 0} (G : Delegate.Ghosts D C V P F I R A T) (X
   some_call_begins = call_begins false false (λ e. absurd cc) (λ e. absurd cc)
 
 -- a step was taken by some goal
-pub stepped_some : {D C V P F I R A T : Type 0} (G : Delegate.Ghosts D C V P F I R A T) (X : Cx.Ghosts C I R A T) (cx : C) (given : Received R) (request : Request I R) (old new : List (StackEntry C I R A T × Run C F I R A T)) → HasStepped G X cx given request old new → 0 < length new
+pub stepped_some : {D C V P F I R A T : Type 0} (G : DelegateOf D C V P F I R A T) (X : CxOf C I R A T) (cx : C) (given : Received R) (request : Request I R) (old new : List (StackEntry C I R A T × Run C F I R A T)) → HasStepped G X cx given request old new → 0 < length new
 stepped_some {C = C} {F = F} {I = I} {R = R} {A = A} {T = T} G X cx given request old new s = subst (λ (v : List (StackEntry C I R A T × Run C F I R A T)). 0 < length v) (sym s.is) (omega arith)
 
-module _ {D C V P F I R A T : Type 0} (G : Delegate.Ghosts D C V P F I R A T) (X : Cx.Ghosts C I R A T) (cx : C) (input : I) (kind : PathKind) (depth : AvailableDepth) (starts now : ℕ) (met : Bool) where
+module _ {D C V P F I R A T : Type 0} (G : DelegateOf D C V P F I R A T) (X : CxOf C I R A T) (cx : C) (input : I) (kind : PathKind) (depth : AvailableDepth) (starts now : ℕ) (met : Bool) where
   -- the first frame of a call waits,
   pub first_waits : (new : List (StackEntry C I R A T × Run C F I R A T)) → now ≤ starts + 1 → (G.counts ≡ true → CountsOne G.last starts now) → Pushes G X cx input kind depth [] new → (call : Call I) → Outset call input depth.0 starts met → IsWaiting G X cx call Begin new now met
   first_waits new one counted push call at =
@@ -64,7 +38,7 @@ module _ {D C V P F I R A T : Type 0} (G : Delegate.Ghosts D C V P F I R A T) (X
   first_stopped more one call at =
       subst (λ m. HasStopped G X cx call Memory now m) at.same_limits (failed_root_stopped G X cx call now (rw at.same_starts more) (rw at.same_starts one))
 
-module _ {D C V P F I R A T : Type 0} (G : Delegate.Ghosts D C V P F I R A T) (X : Cx.Ghosts C I R A T) (cx : C) (given : Received R) (request : Request I R) (old new : List (StackEntry C I R A T × Run C F I R A T)) (starts now : ℕ) (met : Bool) where
+module _ {D C V P F I R A T : Type 0} (G : DelegateOf D C V P F I R A T) (X : CxOf C I R A T) (cx : C) (given : Received R) (request : Request I R) (old new : List (StackEntry C I R A T × Run C F I R A T)) (starts now : ℕ) (met : Bool) where
   -- a step was taken, which starts no frame
   pub asked_after : (made : Request I R) → made ≡ request → (s : HasStepped G X cx given made old new) → IsReplySorted X.is_yes X.is_no given.reply s.verdict given.node → now ≡ starts → (call : Call I) → IsWaiting G X cx call given.reply old starts met → HasAsked G X cx call (work_left G X cx old) request new now met
   asked_after made is s sorted same call h =
@@ -76,7 +50,7 @@ module _ {D C V P F I R A T : Type 0} (G : Delegate.Ghosts D C V P F I R A T) (X
       let here : HasStepped G X cx given made old new = subst (λ x. HasStepped G X x given made old new) is_cx s in
       asked_after made is here (replies_sorted G X cx nodes call given old starts met h fit here.verdict here.is_verdict) same call h
 
-module _ {D C V P F I R A T : Type 0} (G : Delegate.Ghosts D C V P F I R A T) (X : Cx.Ghosts C I R A T) (cx : C) (given : Received R) (old new : List (StackEntry C I R A T × Run C F I R A T)) where
+module _ {D C V P F I R A T : Type 0} (G : DelegateOf D C V P F I R A T) (X : CxOf C I R A T) (cx : C) (given : Received R) (old new : List (StackEntry C I R A T × Run C F I R A T)) where
   -- a step that failed
   pub advance_stops : (read : C) → read ≡ cx → (fault : Fault I R) → IsStepFault G X read given old fault → (starts now : ℕ) (met : Bool) → now ≡ starts → (nodes : List (CacheNode I R)) → IsFit X.is_yes X.is_no nodes (runs_of old) given.reply given.node → (call : Call I) → IsWaiting G X cx call given.reply old starts met → HasStopped G X cx call fault now met
   advance_stops read is_cx fault failed starts now met same nodes fit call h =
@@ -117,7 +91,7 @@ module _ {D C V P F I R A T : Type 0} (G : Delegate.Ghosts D C V P F I R A T) (X
       subst (λ (v : List (StackEntry C I R A T × Run C F I R A T)). Asks (runs_of v) kind goal) (sym s.is) (ap Some is)
 
 -- the only goal's answer is that of the goal
-pub only_has_graph : {D C V P F I R A T : Type 0} (G : Delegate.Ghosts D C V P F I R A T) (X : Cx.Ghosts C I R A T) (cx : C) (nodes : List (CacheNode I R)) (old new : List (StackEntry C I R A T × Run C F I R A T)) (goal : I) (answer : Answer R) → IsOnly G X cx old goal → IsJustifiedNext X.is_yes X.is_no nodes old new (Finished answer) → HasGraph X.is_yes X.is_no nodes goal answer.result answer.node
+pub only_has_graph : {D C V P F I R A T : Type 0} (G : DelegateOf D C V P F I R A T) (X : CxOf C I R A T) (cx : C) (nodes : List (CacheNode I R)) (old new : List (StackEntry C I R A T × Run C F I R A T)) (goal : I) (answer : Answer R) → IsOnly G X cx old goal → IsJustifiedNext X.is_yes X.is_no nodes old new (Finished answer) → HasGraph X.is_yes X.is_no nodes goal answer.result answer.node
 only_has_graph G X cx nodes [] new goal answer only h = absurd only
 only_has_graph G X cx nodes (s ∷ []) new goal answer only h = subst (λ input. HasGraph X.is_yes X.is_no nodes input answer.result answer.node) only h
 only_has_graph G X cx nodes (s ∷ p ∷ below) new goal answer only h = absurd only

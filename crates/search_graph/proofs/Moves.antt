@@ -2,53 +2,14 @@
 use Rattle.std.proofs.Common.{◌≡◌, ℕ, zero, suc, ◌+◌, ◌-◌, ◌*◌, ◌/◌, ◌^◌, ◌<◌, ◌≤◌, max, nat_eq, if◌then◌else◌, Bool, true, false, List, [], ◌∷◌, length, map, reverse, Option, Some, None, IfSome, unwrap_or, refl, sym, ap, ◌∙◌, subst, arith, ap₂, inl, inr, ◌||◌, ◌⊎◌, is_some, mul-le-mul_left, mul-le-mul_right}
 use Rattle.std.specs.List.{list_any}
 use Rattle.std.proofs.lemmas.Bool.Decides.{nat_tests}
-use Rattle.search_parts.specs.declared.context.Delegate as Delegate
-use Rattle.search_parts.specs.declared.context.Cx as Cx
-use Rattle.search_parts.specs.declared.context.Request.{Request}
-use Rattle.search_parts.specs.declared.context.Request.TheVariants.{Evaluate, Done}
-use Rattle.search_parts.specs.declared.context.Reply.{Reply}
-use Rattle.search_parts.specs.declared.context.Reply.TheVariants.{Begin, Answer, Noted}
-use Rattle.cycle_heads.specs.declared.path.PathKind.{PathKind}
-use Rattle.search_parts.specs.declared.context.NodeId.{NodeId}
-use Rattle.search_parts.specs.declared.parts.depth.AvailableDepth.{AvailableDepth}
-use Rattle.cycle_heads.specs.declared.depth.StackDepth.{StackDepth}
-use Rattle.search_parts.specs.declared.parts.stack.EntryState.{EntryState}
-use Rattle.cycle_heads.specs.Heads.{Heads}
-use Rattle.search_parts.specs.Nested.{NestedPaths}
-use Rattle.search_parts.specs.declared.parts.stack.StackEntry.{StackEntry}
-use Rattle.search_parts.specs.Stack.{depth_below}
-use Rattle.search_parts.specs.Rank.{frames_within}
-use Rattle.search_parts.specs.declared.context.Verdict.{Verdict}
-use Rattle.search_parts.specs.declared.context.Fault.{Fault}
-use Rattle.search_parts.specs.declared.context.Fault.TheVariants.{Memory, Protocol}
-use Rattle.search_parts.specs.Run.{IsReplyTo, IsFitting, progress_after, order_fault, fault_after}
-use Rattle.search_parts.specs.Delegate.{CountsOne, Steps, IsCycleResult}
-use Rattle.evaluations.specs.Frames.{Frame, Outcome, answered, run_again, IsAllowed}
-use Rattle.search_parts.specs.Rank.{HasNoRank, IsPlainTo}
-use Rattle.evaluations.specs.Plain.{AreSafe}
-use Rattle.evaluations.specs.Evaluation.{IsRooted, IsEvaluating, at, Ends}
-use Rattle.evaluations.specs.Mirror.{with_replies, TakesStep, TakesReply, ItemLeaves, IsAmong, AreSeen, Mirror, Waits}
+use Rattle.search_graph.specs.Below.{DelegateOf, CxOf, Request, Evaluate, Done, Reply, Begin, Answer, Noted, PathKind, NodeId, AvailableDepth, StackDepth, EntryState, Heads, NestedPaths, StackEntry, depth_below, frames_within, Verdict, Fault, Memory, Protocol, IsReplyTo, IsFitting, progress_after, order_fault, fault_after, CountsOne, Steps, IsCycleResult, Outcome, run_again, IsAllowed, HasNoRank, IsPlainTo, AreSafe, IsRooted, IsEvaluating, at, Ends, with_replies, TakesStep, TakesReply, ItemLeaves, IsAmong, AreSeen, Mirror, Waits, Run, Next, Step, Finished, Received, overflowed, first_entry, with_nested_goals, is_in_cycle, cycle_head, some_heads, TakesAnswer, requested, fault_of, IsReplySorted, Stood, CanStep, IsVerdict, received_by, HasStepped, IsStepFault, NoMemoryLeft, OutOfOrder, path_kind_from, IsDecidedKind, AreDecided, IsDecisive, IsDefinite, AnswersNewest, rerun_with, with_no_record}
+use Rattle.evaluations.specs.Frames.{Frame, answered}
 use Rattle.evaluations.proofs.Mirrors.{step_requests, can_take, noted_waits, refused_waits, answered_waits, pushed_waits, rerun_waits, popped_waits, popped_at_limit_waits, last_item_ends, last_item_ends_at_limit, last_run_stops, failed_rerun_stops, WaitsWithLess, first_waits, waits_stops, requested_stops, failed_push_stops, cycle_found, requested_fits, requested_by}
 use Rattle.evaluations.proofs.Evaluations.{evaluation_stops, fitting_meets_no_limit}
 use Rattle.evaluations.proofs.Plains.{unranked_is_safe}
-use Rattle.open_goals.specs.declared.goals.Run.{Run}
-use Rattle.open_goals.specs.declared.goals.Next.{Next}
-use Rattle.open_goals.specs.declared.goals.Next.TheVariants.{Step, Finished}
-use Rattle.open_goals.specs.declared.goals.Received.{Received}
-use Rattle.open_goals.specs.Entries.{overflowed, first_entry, with_nested_goals, is_in_cycle, cycle_head, some_heads, TakesAnswer}
-use Rattle.open_goals.specs.Progress.{requested, fault_of, IsReplySorted}
-use Rattle.search_graph.specs.Runs.{EndsNewest}
+use Rattle.search_graph.specs.Words.{EndsNewest, Call, runs, limits, bound, IsCounted, KeepsLimits, AllDecided, Decidedly, seen, IsWaiting, work_left, HasAsked, GoesOn, HasStopped, Leads, first_run, Pushes, Reruns, CanLeave, Leaves, ClosesCycle}
 use Rattle.search_graph.proofs.ProgressLaws.{records_new, records_received, fault_is}
-use Rattle.search_graph.specs.Calls.{Call, runs, limits, bound, IsCounted, KeepsLimits}
-use Rattle.open_goals.specs.Steps.{Stood, CanStep, IsVerdict, received_by, HasStepped, IsStepFault, NoMemoryLeft, OutOfOrder}
-use Rattle.search_parts.specs.Cycle.{path_kind_from}
-use Rattle.search_parts.specs.Decisive.{IsDecidedKind, AreDecided, IsDecisive}
-use Rattle.search_parts.specs.Definite.{IsDefinite}
-use Rattle.search_graph.specs.Decided.{AllDecided}
 use Rattle.search_graph.proofs.DecidedGoals.{below_decided, changed_decided, cycle_decided, newest_decided, pushed_decided, replied_decided}
-use Rattle.search_graph.specs.Evaluating.{Decidedly, seen, IsWaiting, work_left, HasAsked, GoesOn, HasStopped, Leads}
-use Rattle.open_goals.specs.Items.{AnswersNewest, rerun_with, with_no_record}
-use Rattle.search_graph.specs.Moves.{first_run, Pushes, Reruns, CanLeave, Leaves, ClosesCycle}
 
 true_is_not_false : true ≡ false → ⊥
 true_is_not_false is = cc
@@ -78,7 +39,7 @@ unfolding frames_within
 some_frames runs width zero some = some
 some_frames runs width (suc depth) some = let more : runs * 1 ≤ runs * (1 + width * frames_within runs width depth) = mul-le-mul_left runs (omega arith) in omega arith
 
-module _ {D C V P F I R A T : Type 0} (G : Delegate.Ghosts D C V P F I R A T) (X : Cx.Ghosts C I R A T) (cx : C) where
+module _ {D C V P F I R A T : Type 0} (G : DelegateOf D C V P F I R A T) (X : CxOf C I R A T) (cx : C) where
   -- the outcome of a popped goal
   abbrev pub outcome_of : R → StackEntry C I R A T × Run C F I R A T → Outcome R
   outcome_of r s = record { result = r; required = s.0.state.required_depth; met_overflow = s.0.state.encountered_overflow || s.1.met_overflow_before; in_cycle = some_heads s.0.state.heads }
@@ -91,7 +52,7 @@ module _ {D C V P F I R A T : Type 0} (G : Delegate.Ghosts D C V P F I R A T) (X
   pub leaving : (done r : R) (s : StackEntry C I R A T × Run C F I R A T) → (r ≡ done) ⊎ (is_in_cycle s.0.state ≡ true) → ItemLeaves done (seen G X cx s) (outcome_of r s)
   leaving done r s result = record { result = result; required = refl; met_overflow = refl; in_cycle = in_cycle_of (is_some s.0.state.usages) s.0.state.heads }
 
-module _ {D C V P F I R A T : Type 0} (G : Delegate.Ghosts D C V P F I R A T) (X : Cx.Ghosts C I R A T) (cx : C) (call : Call I) where
+module _ {D C V P F I R A T : Type 0} (G : DelegateOf D C V P F I R A T) (X : CxOf C I R A T) (cx : C) (call : Call I) where
   abbrev Goal : Type 0
   Goal = StackEntry C I R A T × Run C F I R A T
 

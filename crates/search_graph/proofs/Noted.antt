@@ -4,38 +4,10 @@ use Rattle.std.specs.Option.{IfSome, IsSomeAnd}
 use Rattle.std.proofs.lemmas.Bool.Decides.{nat_tests}
 use Rattle.std.proofs.lemmas.List.{get_or-set_same, get_or-set_other, length-map, length-set}
 use Rattle.std.proofs.lemmas.Option.{slice_get-get_or}
-use Rattle.search_parts.specs.declared.context.Delegate as Delegate
-use Rattle.search_parts.specs.declared.context.Cx as Cx
-use Rattle.search_parts.specs.declared.context.NodeId.{NodeId}
-use Rattle.search_parts.specs.declared.context.Request.{Request}
-use Rattle.search_parts.specs.declared.context.Request.TheVariants.{Evaluate, EnterCandidate, FinishCandidate, Ignore, Done}
-use Rattle.search_parts.specs.declared.context.Reply.TheVariants.{Noted}
-use Rattle.search_parts.specs.declared.context.Verdict.{Verdict}
-use Rattle.search_parts.specs.declared.context.Verdict.TheVariants.{Neither}
-use Rattle.search_parts.specs.declared.global_cache.results.StoredResult.{StoredResult}
-use Rattle.search_parts.specs.declared.parts.stack.EntryState.{EntryState}
-use Rattle.search_parts.specs.declared.parts.stack.StackEntry.{StackEntry}
-use Rattle.search_parts.specs.Cache.{CacheNode}
-use Rattle.search_parts.specs.Run.{IsReplyTo}
-use Rattle.search_parts.specs.Store.{Store}
-use Rattle.cycle_heads.specs.Candidates.{UsagesByHead}
+use Rattle.search_graph.specs.Below.{DelegateOf, CxOf, NodeId, Request, Evaluate, EnterCandidate, FinishCandidate, Ignore, Done, Noted, Verdict, Neither, StoredResult, EntryState, StackEntry, CacheNode, IsReplyTo, Store, UsagesByHead, Received, Run, enters, finishes, CanIgnore, CanNote, IgnoresNewest, Ignores, NotesCandidate, is_in_cycle, IsDefinite, change_newest, RunRecord, answered, is_kept, is_marked, received, requested, HasStepped, Stood}
 use Rattle.evaluations.specs.Frames.{Frame}
 use Rattle.evaluations.proofs.Mirrors.{noted_waits}
-use Rattle.open_goals.specs.declared.goals.Received.{Received}
-use Rattle.open_goals.specs.declared.goals.Run.{Run}
-use Rattle.search_graph.specs.Calls.{Call, limits, bound, IsCounted}
-use Rattle.open_goals.specs.Candidates.{enters, finishes, CanIgnore, CanNote, IgnoresNewest, Ignores, NotesCandidate}
-use Rattle.search_graph.specs.Decided.{IsDecided}
-use Rattle.open_goals.specs.Entries.{is_in_cycle}
-use Rattle.search_graph.specs.Evaluating.{seen, GoesOn, HasAsked}
-use Rattle.search_parts.specs.Definite.{IsDefinite}
-use Rattle.search_graph.specs.Free.{AreFree}
-use Rattle.search_graph.specs.Justified.{OpenRun, AreJustified, IsFit}
-use Rattle.open_goals.specs.Newest.{change_newest}
-use Rattle.open_goals.specs.Progress.{RunRecord, answered, is_kept, is_marked, received, requested}
-use Rattle.search_graph.specs.Runs.{run_of, runs_of}
-use Rattle.open_goals.specs.Steps.{HasStepped, Stood}
-use Rattle.search_graph.specs.Tallies.{Tally, tally_of, IsTallied}
+use Rattle.search_graph.specs.Words.{Call, limits, bound, IsCounted, IsDecided, seen, GoesOn, HasAsked, AreFree, OpenRun, AreJustified, IsFit, run_of, runs_of, Tally, tally_of, IsTallied}
 use Rattle.search_graph.proofs.DecidedGoals.{changed_decided}
 use Rattle.search_graph.proofs.FreeResults.{all_free_above}
 use Rattle.search_graph.proofs.Justified.{recounted_is_justified}
@@ -140,7 +112,7 @@ module _ {X F I R A T : Type 0} (entry : StackEntry X I R A T) (run : Run X F I 
   ignoring_run : (state : EntryState X I R A T) (later : Run X F I R A T) → state ≡ record entry.state { heads = state.heads; usages = state.usages } → run_of (record entry { state = state }, later) ≡ record (run_of (entry, later)) { tally = tally_of state later.candidates }
   ignoring_run state later others = ap (λ (s : EntryState X I R A T). record (run_of (record entry { state = s }, later)) { tally = tally_of state later.candidates }) others
 
-module _ {D C V P F I R A T : Type 0} (G : Delegate.Ghosts D C V P F I R A T) (X : Cx.Ghosts C I R A T) (cx : C) (nodes : List (CacheNode I R)) where
+module _ {D C V P F I R A T : Type 0} (G : DelegateOf D C V P F I R A T) (X : CxOf C I R A T) (cx : C) (nodes : List (CacheNode I R)) where
   abbrev Goals : Type 0
   Goals = List (StackEntry C I R A T × Run C F I R A T)
 
@@ -269,7 +241,7 @@ module _ {D C V P F I R A T : Type 0} (G : Delegate.Ghosts D C V P F I R A T) (X
 
 -- ---- the goals wait for the next reply
 
-module _ {D C V P F I R A T : Type 0} (G : Delegate.Ghosts D C V P F I R A T) (X : Cx.Ghosts C I R A T) (cx : C) (call : Call I) where
+module _ {D C V P F I R A T : Type 0} (G : DelegateOf D C V P F I R A T) (X : CxOf C I R A T) (cx : C) (call : Call I) where
   -- the newest goal changed, but not what is seen of it
   module _ (ahead : ℕ) (request : Request I R) (item later : StackEntry C I R A T × Run C F I R A T) (below : List (StackEntry C I R A T × Run C F I R A T)) (starts : ℕ) (met : Bool) (fits : IsReplyTo (λ _ _. ⊥) (Some request) Noted) (same : seen G X cx item ≡ seen G X cx later) (stood : (replies : List _) → Stood G X cx item replies → Stood G X cx later replies) (step : later.0.step_kind_from_parent ≡ item.0.step_kind_from_parent) (decided : IsDecided X.is_yes X.is_no item → IsDecided X.is_yes X.is_no later) where
     changed_goes_on : HasAsked G X cx call ahead request (item ∷ below) starts met → GoesOn G X cx call ahead Noted (later ∷ below) starts met

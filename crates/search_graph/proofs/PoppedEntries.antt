@@ -5,34 +5,11 @@ use Rattle.std.proofs.lemmas.Bool.{false≢true}
 use Rattle.std.proofs.lemmas.List.{length-map}
 use Rattle.std.proofs.lemmas.List.Elements.{All-cons, All-nil}
 use Rattle.open_graphs.specs.Graph as theory
-use Rattle.open_graphs.specs.Rebased.{IsTrueReason}
-use Rattle.open_graphs.specs.Stack.{Entry, path_kind}
-use Rattle.open_graphs.specs.State.{Kept, AfterPop, Lower, Unused, Fixpoint, Other, IsMoved, stack_of}
+use Rattle.search_graph.specs.Below.{IsTrueReason, Entry, path_kind, Kept, AfterPop, Lower, Unused, Fixpoint, Other, IsMoved, stack_of, StackDepth, CycleHead, at_depth, highest, IsRising, heads_shape, rank_of, NodeId, Request, Reply, StackEntry, ProvisionalCacheEntry, RebaseReason, CacheNode, path_kind_from, HasNoRank, rebased, settled, verdict_of, Run}
 use Rattle.open_graphs.specs.Use as uses
 use Rattle.open_graphs.proofs.Rebased.{rebased_is_after_pop}
-use Rattle.cycle_heads.specs.declared.depth.StackDepth.{StackDepth}
-use Rattle.cycle_heads.specs.declared.heads.CycleHead.{CycleHead}
-use Rattle.cycle_heads.specs.Heads.{at_depth, highest, IsRising}
-use Rattle.cycle_heads.specs.HeadShapes.{heads_shape}
-use Rattle.cycle_heads.specs.Path.{rank_of}
-use Rattle.search_parts.specs.declared.context.NodeId.{NodeId}
-use Rattle.search_parts.specs.declared.context.Request.{Request}
-use Rattle.search_parts.specs.declared.context.Reply.{Reply}
-use Rattle.search_parts.specs.declared.parts.stack.StackEntry.{StackEntry}
-use Rattle.search_parts.specs.declared.parts.provisional_cache.ProvisionalCacheEntry.{ProvisionalCacheEntry}
-use Rattle.search_parts.specs.declared.parts.provisional_cache.RebaseReason.{RebaseReason}
-use Rattle.search_parts.specs.Cache.{CacheNode}
-use Rattle.search_parts.specs.Cycle.{path_kind_from}
-use Rattle.search_parts.specs.Rank.{HasNoRank}
-use Rattle.search_parts.specs.Rebasing.{rebased, settled}
-use Rattle.search_parts.specs.Shapes.{verdict_of}
-use Rattle.open_goals.specs.declared.goals.Run.{Run}
-use Rattle.search_graph.specs.Justified.{AreJustified, frame_of, frames_of}
-use Rattle.search_graph.specs.KeptAnswers.{IsKept, in_theory}
-use Rattle.search_graph.specs.KeptShapes.{depths_of, highest_depth, kept_shape, reason_shape}
-use Rattle.search_graph.specs.Provisional.{IsHead, IsReady, final_answer, kept_answer, kept_of}
-use Rattle.search_graph.specs.Runs.{run_of, runs_of}
-use Rattle.search_graph.specs.Tallies.{LieBelow}
+use Rattle.search_graph.specs.Words.{AreJustified, frame_of, frames_of, IsKept, depths_of, highest_depth, kept_shape, reason_shape, IsHead, IsReady, final_answer, kept_answer, kept_of, run_of, runs_of, LieBelow}
+use Rattle.search_graph.specs.KeptAnswers.{in_theory}
 use Rattle.search_graph.proofs.CycleAnswers.{path_kind_is}
 use Rattle.search_graph.proofs.HeadOrder.{ascends, at_most_highest, highest_there, no_highest}
 use Rattle.search_graph.proofs.Justified.{Settles, stack_length}

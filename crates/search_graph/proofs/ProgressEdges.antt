@@ -4,18 +4,8 @@ use Rattle.std.specs.List.{filter, All, Contains}
 use Rattle.std.proofs.lemmas.List.Elements.{filter_agree, filter_passes, All-filter, All-map, All-contains, All-contains_itself}
 use Rattle.std.proofs.lemmas.Option.{slice_get_within, get_or_from_slice_get}
 use Rattle.std.proofs.lemmas.Simd.{map-map}
-use Rattle.search_parts.specs.declared.context.Request.{Request}
-use Rattle.search_parts.specs.declared.context.Request.TheVariants.{Done}
-use Rattle.search_parts.specs.declared.context.Reply.{Reply}
-use Rattle.search_parts.specs.declared.context.Verdict.{Verdict}
-use Rattle.search_parts.specs.declared.context.Verdict.TheVariants.{Yes, No}
-use Rattle.search_parts.specs.declared.context.Edge.{Edge}
-use Rattle.search_parts.specs.Question.{Question}
-use Rattle.search_parts.specs.Graph.{question_of}
-use Rattle.search_parts.specs.Cache.{CacheNode, IsRun, IsNodeOf}
-use Rattle.search_parts.specs.Run.{Progress, Asked, progress_after, is_counted, questions_answered, IsFitting}
-use Rattle.open_goals.specs.declared.progress.DefiniteAnswer.{DefiniteAnswer}
-use Rattle.open_goals.specs.Progress.{RunRecord, is_same_verdict, asked_of, asked_in, asked_with, is_kept, rests_on, edges_of, IsEdgeOfAnswer, Agrees, Records}
+use Rattle.search_graph.specs.Below.{Request, Done, Reply, Verdict, Yes, No, Edge, Question, question_of, CacheNode, IsRun, IsNodeOf, Progress, Asked, progress_after, is_counted, questions_answered, IsFitting, DefiniteAnswer, RunRecord, is_same_verdict, asked_of, asked_in, asked_with, is_kept, edges_of, IsEdgeOfAnswer, Agrees, Records}
+use Rattle.open_goals.specs.Progress.{rests_on}
 use Rattle.search_graph.proofs.Kept.{kept_twice}
 use Rattle.search_graph.proofs.Verdicts.{same_verdict}
 

@@ -3,16 +3,7 @@ use Rattle.std.proofs.Common.{◌≡◌, ℕ, ◌+◌, ◌<◌, IsSome, ◌==◌
 use Rattle.std.specs.List.{filter}
 use Rattle.std.proofs.lemmas.List.{append-nil, reverse-append, length-append, length-set}
 use Rattle.std.proofs.lemmas.Bool.Decides.{nat_tests}
-use Rattle.search_parts.specs.declared.context.Request.{Request}
-use Rattle.search_parts.specs.declared.context.Request.TheVariants.{Evaluate, EnterCandidate, FinishCandidate, Ignore, Done}
-use Rattle.search_parts.specs.declared.context.Reply.{Reply}
-use Rattle.search_parts.specs.declared.context.Reply.TheVariants.{Begin, Answer, Noted}
-use Rattle.search_parts.specs.declared.context.Verdict.{Verdict}
-use Rattle.search_parts.specs.declared.context.Verdict.TheVariants.{Yes, No, Neither}
-use Rattle.search_parts.specs.declared.context.NodeId.{NodeId}
-use Rattle.cycle_heads.specs.declared.path.PathKind.{PathKind}
-use Rattle.search_parts.specs.Run.{Progress, Asked, request_after, progress_after, progress_with, order_fault, fault_after, IsInOrder, is_ignored, open_candidate, Fits}
-use Rattle.open_goals.specs.Progress.{RunRecord, no_record, is_same_verdict, asked_of, asked_in, asked_with, open_number, edge_to, answers_with, answers_after, KeepsAnswer, received, requested, answered, fault_of, Agrees, Records, IsSortedAs, IsReplySorted}
+use Rattle.search_graph.specs.Below.{Request, Evaluate, EnterCandidate, FinishCandidate, Ignore, Done, Reply, Begin, Answer, Noted, Verdict, Yes, No, Neither, NodeId, PathKind, Progress, Asked, request_after, progress_after, progress_with, order_fault, fault_after, IsInOrder, is_ignored, open_candidate, Fits, RunRecord, no_record, is_same_verdict, asked_of, asked_in, asked_with, open_number, edge_to, answers_with, answers_after, KeepsAnswer, received, requested, answered, fault_of, Agrees, Records, IsSortedAs, IsReplySorted}
 use Rattle.search_graph.proofs.Kept.{kept_more, marked_after_finish, marked_after_ignore}
 use Rattle.search_graph.proofs.Verdicts.{told_by_test}
 

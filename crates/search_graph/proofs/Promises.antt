@@ -2,26 +2,14 @@
 use Rattle.std.proofs.Common.{◌≡◌, ℕ, ◌+◌, ◌≤◌, Bool, true, false, if◌then◌else◌, List, Option, None, Some, Result, Ok, IfSome, refl, sym, ap, ◌∙◌, subst}
 use Rattle.std.specs.Option.{IsSomeAnd}
 use Rattle.open_graphs.specs.Graph as theory
-use Rattle.search_parts.specs.declared.context.NodeId.{NodeId}
-use Rattle.search_parts.specs.Question.{Question, Overlap}
-use Rattle.search_parts.specs.Graph.{GraphNode, IsProofGraph, IsRefutationGraph}
-use Rattle.search_parts.specs.Cache.{Cache, AreRuns, graph_nodes_of}
-use Rattle.search_parts.specs.Definite.{HasGraph}
+use Rattle.search_graph.specs.Below.{NodeId, Question, Overlap, GraphNode, IsProofGraph, IsRefutationGraph, Cache, AreRuns, graph_nodes_of, HasGraph, Hit, DelegateOf, CxOf, Fault, IsPlainTo, IsPlainValue, frames_within, IsPaid}
 use Rattle.search_parts.proofs.Bridge.{KeepsRule}
 use Rattle.search_parts.proofs.Definites.{yes_is_shown, no_is_shown}
 use Rattle.search_parts.proofs.Graphs.{never_both}
 use Rattle.search_parts.specs.declared.context.Answer.{Answer}
-use Rattle.search_parts.specs.LookUp.{Hit}
-use Rattle.search_graph.specs.Graph.{Graph, IsProved, IsRefuted}
-use Rattle.search_parts.specs.declared.context.Delegate as Delegate
-use Rattle.search_parts.specs.declared.context.Cx as Cx
-use Rattle.search_parts.specs.declared.context.Fault.{Fault}
-use Rattle.search_parts.specs.Rank.{IsPlainTo, IsPlainValue, frames_within}
-use Rattle.evaluations.specs.Price.{IsPaid}
-use Rattle.search_graph.specs.Calls.{Call, runs}
-use Rattle.search_graph.specs.Evaluating.{HasEnded, HasStopped}
+use Rattle.search_graph.specs.Words.{Graph, IsProved, IsRefuted, Call, runs, HasEnded, HasStopped}
 
-module _ {D C V P F I R A T : Type 0} (G : Delegate.Ghosts D C V P F I R A T) (X : Cx.Ghosts C I R A T) (cx : C) (call : Call I) (now : ℕ) (met : Bool) where
+module _ {D C V P F I R A T : Type 0} (G : DelegateOf D C V P F I R A T) (X : CxOf C I R A T) (cx : C) (call : Call I) (now : ℕ) (met : Bool) where
   pub ended_plain : (r : R) → HasEnded G X cx call r now met → (n : ℕ) → IsPlainTo (G.script cx) n call.top → n ≤ call.root → IsPlainValue (G.script cx) n call.top r
   ended_plain r h n p fits = subst (IsPlainValue (G.script cx) n call.top) h.result_is (h.ends.plain n p fits).0
 
@@ -38,7 +26,7 @@ module _ {D C V P F I R A T : Type 0} (G : Delegate.Ghosts D C V P F I R A T) (X
   stopped_paid fault h counted calm unmet is_met = h.stops.paid (counted, unmet, calm) is_met
 
 -- A definite answer over a list of runs has its graph, and its goal has none of the other sort.
-module _ {D C V P F I R A T : Type 0} (G : Delegate.Ghosts D C V P F I R A T) (X : Cx.Ghosts C I R A T) (cache : Cache C I R A T) (runs_are : AreRuns X.is_yes X.is_no (G.script cache.cx) cache.nodes) (clash : (goal : I) (held failed : List (Question I)) → X.proves cache.cx goal held → X.refutes cache.cx goal failed → Overlap held failed) (goal : I) (r : R) (target : Option NodeId) (has : HasGraph X.is_yes X.is_no cache.nodes goal r target) where
+module _ {D C V P F I R A T : Type 0} (G : DelegateOf D C V P F I R A T) (X : CxOf C I R A T) (cache : Cache C I R A T) (runs_are : AreRuns X.is_yes X.is_no (G.script cache.cx) cache.nodes) (clash : (goal : I) (held failed : List (Question I)) → X.proves cache.cx goal held → X.refutes cache.cx goal failed → Overlap held failed) (goal : I) (r : R) (target : Option NodeId) (has : HasGraph X.is_yes X.is_no cache.nodes goal r target) where
   never_refuted_at : (o : Option NodeId) → IsSomeAnd o (λ n. IsProofGraph (X.proves cache.cx) (graph_nodes_of cache.nodes) n.0 goal) → (others : List (GraphNode I)) (top : ℕ) → IsRefutationGraph (X.refutes cache.cx) others top goal → ⊥
   never_refuted_at None h others top refutation = absurd h
   never_refuted_at (Some n) h others top refutation = never_both (X.proves cache.cx) (X.refutes cache.cx) clash (graph_nodes_of cache.nodes) others n.0 top goal h refutation

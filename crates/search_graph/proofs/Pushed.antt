@@ -1,14 +1,6 @@
 -- The goal that is put on top, as its entry and its run are made.
 use Rattle.std.proofs.Common.{◌≡◌, false, List, [], ◌∷◌, Some, ap, ◌∙◌}
-use Rattle.cycle_heads.specs.Candidates.{UsagesByHead}
-use Rattle.cycle_heads.specs.declared.path.PathKind.{PathKind}
-use Rattle.search_parts.specs.declared.context.NodeId.{NodeId}
-use Rattle.search_parts.specs.declared.parts.depth.AvailableDepth.{AvailableDepth}
-use Rattle.search_parts.specs.declared.parts.stack.StackEntry.{StackEntry}
-use Rattle.search_parts.specs.Stack.{fresh_entry}
-use Rattle.open_goals.specs.declared.goals.Run.{Run}
-use Rattle.open_goals.specs.Entries.{first_entry}
-use Rattle.open_goals.specs.Progress.{RunRecord, no_record}
+use Rattle.search_graph.specs.Below.{UsagesByHead, PathKind, NodeId, AvailableDepth, StackEntry, fresh_entry, Run, first_entry, RunRecord, no_record}
 
 module _ {X F I R A T : Type 0} (input : I) (kind : PathKind) (depth : AvailableDepth) (own : NodeId) (frame : F) where
   -- a run of the frame with this record and these candidates

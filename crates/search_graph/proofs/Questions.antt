@@ -4,35 +4,8 @@ use Rattle.std.specs.Result.{IsErrAnd}
 use Rattle.std.specs.List.{list_any}
 use Rattle.std.specs.Option.{option_and_then, option_map}
 use Rattle.std.proofs.lemmas.Bool.Decides.{nat_tests}
-use Rattle.search_parts.specs.declared.context.Delegate as Delegate
-use Rattle.search_parts.specs.declared.context.Cx as Cx
-use Rattle.search_parts.specs.declared.context.Request.TheVariants.{Evaluate}
-use Rattle.search_parts.specs.declared.context.Reply.TheVariants.{Begin, Answer}
-use Rattle.search_parts.specs.declared.context.Fault.TheVariants.{Memory}
-use Rattle.cycle_heads.specs.declared.path.PathKind.{PathKind}
-use Rattle.search_parts.specs.declared.parts.depth.AvailableDepth.{AvailableDepth}
-use Rattle.search_parts.specs.declared.parts.stack.StackEntry.{StackEntry}
-use Rattle.search_parts.specs.Stack.{depth_below}
-use Rattle.search_parts.specs.Delegate.{CountsOne, IsCycleResult}
-use Rattle.evaluations.specs.Frames.{IsAllowed}
-use Rattle.open_goals.specs.declared.goals.Run.{Run}
-use Rattle.open_goals.specs.Newest.{newest}
-use Rattle.search_parts.specs.declared.context.Reply.{Reply}
-use Rattle.cycle_heads.specs.declared.depth.StackDepth.{StackDepth}
-use Rattle.search_parts.specs.declared.global_cache.results.StoredResult.{StoredResult}
-use Rattle.search_parts.specs.Nested.{NestedPaths}
-use Rattle.search_parts.specs.Store.{Store}
-use Rattle.open_goals.specs.declared.goals.Received.{Received}
-use Rattle.cycle_heads.specs.Heads.{Heads}
-use Rattle.search_parts.specs.Definite.{IsDefinite}
-use Rattle.search_parts.specs.Rank.{HasNoRank}
-use Rattle.open_goals.specs.Items.{AnswersNewest}
-use Rattle.open_goals.specs.Entries.{overflowed, with_nested_goals}
-use Rattle.search_graph.specs.LookUp.{UsesStored}
-use Rattle.open_goals.specs.NestedGoals.{NotesOverflow}
-use Rattle.search_graph.specs.Calls.{Call, IsCounted}
-use Rattle.search_graph.specs.Evaluating.{seen, Decidedly, HasAsked, GoesOn, HasStopped, KeepsStore}
-use Rattle.search_graph.specs.Moves.{ClosesCycle, Pushes}
+use Rattle.search_graph.specs.Below.{DelegateOf, CxOf, Evaluate, Begin, Answer, Memory, PathKind, AvailableDepth, StackEntry, depth_below, CountsOne, IsCycleResult, IsAllowed, Run, newest, Reply, StackDepth, StoredResult, NestedPaths, Store, Received, Heads, IsDefinite, HasNoRank, AnswersNewest, overflowed, with_nested_goals, NotesOverflow}
+use Rattle.search_graph.specs.Words.{UsesStored, Call, IsCounted, seen, Decidedly, HasAsked, GoesOn, HasStopped, KeepsStore, ClosesCycle, Pushes}
 use Rattle.search_graph.proofs.StoredAnswers.{stored_goes_on}
 use Rattle.search_graph.proofs.Moves.{allowed, asker_fits, refused_goes_on, cycle_goes_on, kept_goes_on, pushed_goes_on, failed_push_stopped}
 
@@ -59,7 +32,7 @@ no_depth a divisor true overflow at is = grind (arith, nat_tests)
 no_depth a divisor false true at is = absurd cc
 no_depth a divisor false false at is = absurd cc
 
-module _ {D C V P F I R A T : Type 0} (G : Delegate.Ghosts D C V P F I R A T) (X : Cx.Ghosts C I R A T) (cx : C) (call : Call I) (ahead : ℕ) (kind : PathKind) (goal : I) (starts : ℕ) (met : Bool) where
+module _ {D C V P F I R A T : Type 0} (G : DelegateOf D C V P F I R A T) (X : CxOf C I R A T) (cx : C) (call : Call I) (ahead : ℕ) (kind : PathKind) (goal : I) (starts : ℕ) (met : Bool) where
   abbrev Goals : Type 0
   Goals = List (StackEntry C I R A T × Run C F I R A T)
 

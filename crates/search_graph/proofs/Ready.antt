@@ -4,22 +4,8 @@ use Rattle.std.specs.Option.{IfSome, option_map}
 use Rattle.std.proofs.lemmas.Bool.{cases_eq, false≢true}
 use Rattle.std.proofs.lemmas.List.{length-map, length-reverse}
 use Rattle.std.proofs.lemmas.List.Elements.{All-cons, All-nil, All-weaker}
-use Rattle.cycle_heads.specs.declared.depth.StackDepth.{StackDepth}
-use Rattle.cycle_heads.specs.declared.heads.CycleHead.{CycleHead}
-use Rattle.cycle_heads.specs.Heads.{Heads, at_depth, highest}
-use Rattle.search_parts.specs.declared.context.Request.{Request}
-use Rattle.search_parts.specs.declared.context.Reply.{Reply}
-use Rattle.search_parts.specs.declared.parts.stack.StackEntry.{StackEntry}
-use Rattle.search_parts.specs.declared.parts.provisional_cache.ProvisionalCacheEntry.{ProvisionalCacheEntry}
-use Rattle.search_parts.specs.Cache.{CacheNode}
-use Rattle.search_parts.specs.Provisional.{Lists, entries_at}
-use Rattle.open_goals.specs.declared.goals.Run.{Run}
-use Rattle.search_graph.specs.Justified.{OpenRun, HaveTallies}
-use Rattle.search_graph.specs.KeptAnswers.{KeptAnswer, IsKept}
-use Rattle.search_graph.specs.LookUp.{AreOnStack}
-use Rattle.search_graph.specs.Provisional.{IsHead, IsReady, AreReady}
-use Rattle.search_graph.specs.Runs.{runs_of, run_of}
-use Rattle.search_graph.specs.Tallies.{Tally, counted, LieBelow}
+use Rattle.search_graph.specs.Below.{StackDepth, CycleHead, Heads, at_depth, highest, Request, Reply, StackEntry, ProvisionalCacheEntry, CacheNode, Lists, entries_at, Run}
+use Rattle.search_graph.specs.Words.{OpenRun, HaveTallies, KeptAnswer, IsKept, AreOnStack, IsHead, IsReady, AreReady, runs_of, run_of, Tally, counted, LieBelow}
 use Rattle.search_graph.proofs.HeadOrder.{ascends, at_here, at_later, highest_there}
 
 -- ---- heads by their depths

@@ -2,37 +2,8 @@
 use Rattle.std.proofs.Common.{◌≡◌, ℕ, ◌==◌, Bool, true, false, if◌then◌else◌, List, [], ◌∷◌, ◌++◌, length, Option, None, Some, IsSome, inl, inr, refl, sym, subst, ap, slice_set}
 use Rattle.std.specs.Option.{option_map}
 use Rattle.std.proofs.lemmas.Bool.{false≢true}
-use Rattle.cycle_heads.specs.declared.depth.StackDepth.{StackDepth}
-use Rattle.cycle_heads.specs.declared.heads.CycleHead.{CycleHead}
-use Rattle.cycle_heads.specs.declared.path.PathKind.{PathKind}
-use Rattle.cycle_heads.specs.declared.usages.HeadUsages.{HeadUsages}
-use Rattle.cycle_heads.specs.Candidates.{UsagesByHead}
-use Rattle.cycle_heads.specs.Heads.{Heads, at_depth}
-use Rattle.search_parts.specs.declared.context.Delegate as Delegate
-use Rattle.search_parts.specs.declared.context.Cx as Cx
-use Rattle.search_parts.specs.declared.context.NodeId.{NodeId}
-use Rattle.search_parts.specs.declared.context.Request.{Request}
-use Rattle.search_parts.specs.declared.context.Request.TheVariants.{Evaluate, EnterCandidate, FinishCandidate, Ignore, Done}
-use Rattle.search_parts.specs.declared.context.Reply.{Reply}
-use Rattle.search_parts.specs.declared.parts.depth.AvailableDepth.{AvailableDepth}
-use Rattle.search_parts.specs.declared.parts.stack.EntryState.{EntryState}
-use Rattle.search_parts.specs.declared.parts.stack.StackEntry.{StackEntry}
-use Rattle.search_parts.specs.declared.parts.provisional_cache.ProvisionalCacheEntry.{ProvisionalCacheEntry}
-use Rattle.search_parts.specs.Cache.{CacheNode, open_node}
-use Rattle.search_parts.specs.LookUp.{Hit}
-use Rattle.search_parts.specs.Provisional.{Lists}
-use Rattle.open_goals.specs.declared.goals.Received.{Received}
-use Rattle.open_goals.specs.declared.goals.Run.{Run}
-use Rattle.open_goals.specs.Candidates.{enters, finishes, less_head, less_usages, Ignores, NotesCandidate}
-use Rattle.open_goals.specs.Entries.{first_entry, joined_over, usages_over}
-use Rattle.open_goals.specs.Items.{AnswersNewest}
-use Rattle.open_goals.specs.NestedGoals.{TakesStored, NotesOverflow}
-use Rattle.open_goals.specs.Progress.{no_record, requested}
-use Rattle.open_goals.specs.Steps.{HasStepped, received_by}
-use Rattle.search_graph.specs.Justified.{OpenRun, AreJustified}
-use Rattle.search_graph.specs.Provisional.{IsHead, AreReady}
-use Rattle.search_graph.specs.Runs.{run_of, runs_of}
-use Rattle.search_graph.specs.Tallies.{Tally, tally_of, counted}
+use Rattle.search_graph.specs.Below.{StackDepth, CycleHead, PathKind, HeadUsages, UsagesByHead, Heads, at_depth, DelegateOf, CxOf, NodeId, Request, Evaluate, EnterCandidate, FinishCandidate, Ignore, Done, Reply, AvailableDepth, EntryState, StackEntry, ProvisionalCacheEntry, CacheNode, open_node, Hit, Lists, Received, Run, enters, finishes, less_head, less_usages, Ignores, NotesCandidate, first_entry, joined_over, usages_over, AnswersNewest, TakesStored, NotesOverflow, no_record, requested, HasStepped, received_by}
+use Rattle.search_graph.specs.Words.{OpenRun, AreJustified, IsHead, AreReady, run_of, runs_of, Tally, tally_of, counted}
 use Rattle.search_graph.proofs.Finishing.{same_run, stored_taken_same, overflow_noted_same}
 use Rattle.search_graph.proofs.Free.{same_stack}
 use Rattle.search_graph.proofs.Justified.{new_run, no_tally}
@@ -131,7 +102,7 @@ module _ {X F I R A T : Type 0} (is_yes is_no : R → Bool) (same : I → I → 
 
 -- ---- the newest frame's request was taken, and what it asks of the candidates was done
 
-module _ {D C V P F I R A T : Type 0} (G : Delegate.Ghosts D C V P F I R A T) (X : Cx.Ghosts C I R A T) (cx : C) (same : I → I → Bool) (scripts : I → List (Reply R) → Request I R) (nodes : List (CacheNode I R)) (lists : Lists I (ProvisionalCacheEntry C I R A T)) where
+module _ {D C V P F I R A T : Type 0} (G : DelegateOf D C V P F I R A T) (X : CxOf C I R A T) (cx : C) (same : I → I → Bool) (scripts : I → List (Reply R) → Request I R) (nodes : List (CacheNode I R)) (lists : Lists I (ProvisionalCacheEntry C I R A T)) where
   -- a step changes neither what the newest goal counts nor its nodes
   pub stepped_ready : (given : Received R) (request : Request I R) (old new : List (StackEntry C I R A T × Run C F I R A T)) → HasStepped G X cx given request old new → AreReady X.is_yes X.is_no same scripts nodes (runs_of old) lists → AreReady X.is_yes X.is_no same scripts nodes (runs_of new) lists
   stepped_ready given request old new s ready =

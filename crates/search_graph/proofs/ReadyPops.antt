@@ -3,23 +3,8 @@ use Rattle.std.proofs.Common.{◌≡◌, Bool, ◌&&◌, if◌then◌else◌, tr
 use Rattle.std.specs.List.{cons_option, filter_map}
 use Rattle.std.proofs.lemmas.List.Elements.{All-append, All-cons, All-head, All-nil, All-tail, All-weaker}
 use Rattle.open_graphs.specs.Graph as theory
-use Rattle.cycle_heads.specs.Heads.{IsRising}
-use Rattle.search_parts.specs.declared.context.NodeId.{NodeId}
-use Rattle.search_parts.specs.declared.context.Request.{Request}
-use Rattle.search_parts.specs.declared.context.Reply.{Reply}
-use Rattle.search_parts.specs.declared.parts.stack.StackEntry.{StackEntry}
-use Rattle.search_parts.specs.declared.parts.provisional_cache.ProvisionalCacheEntry.{ProvisionalCacheEntry}
-use Rattle.search_parts.specs.declared.parts.provisional_cache.RebaseReason.{RebaseReason}
-use Rattle.search_parts.specs.Cache.{CacheNode}
-use Rattle.search_parts.specs.Provisional.{Lists, entries_at}
-use Rattle.search_parts.specs.Rebasing.{rebased, settled}
-use Rattle.search_parts.specs.Shapes.{verdict_of}
-use Rattle.open_goals.specs.declared.goals.Run.{Run}
-use Rattle.open_goals.specs.declared.goals.Next.{Next}
-use Rattle.search_graph.specs.Justified.{AreJustified}
-use Rattle.search_graph.specs.Moves.{GivesAnswer}
-use Rattle.search_graph.specs.Provisional.{AreReady, HasReason, IsNewestUnranked, IsReady, final_answer, kept_of, left_of}
-use Rattle.search_graph.specs.Runs.{run_of, runs_of}
+use Rattle.search_graph.specs.Below.{IsRising, NodeId, Request, Reply, StackEntry, ProvisionalCacheEntry, RebaseReason, CacheNode, Lists, entries_at, rebased, settled, verdict_of, Run, Next}
+use Rattle.search_graph.specs.Words.{AreJustified, GivesAnswer, AreReady, HasReason, IsNewestUnranked, IsReady, final_answer, kept_of, left_of, run_of, runs_of}
 use Rattle.search_graph.proofs.Justified.{Settles}
 use Rattle.search_graph.proofs.LeftOver.{left_over_ready}
 use Rattle.search_graph.proofs.PoppedEntries.{IsLeft, lower, own_kept, rebased_is_left, unused_is_left}

@@ -4,28 +4,8 @@ use Rattle.std.specs.List.{filter}
 use Rattle.std.specs.Option.{option_or}
 use Rattle.std.proofs.lemmas.List.{length-map}
 use Rattle.std.proofs.lemmas.List.Elements.{All-filter, filter_passes}
-use Rattle.open_graphs.specs.Use.{UsesNo}
-use Rattle.cycle_heads.specs.declared.depth.StackDepth.{StackDepth}
-use Rattle.cycle_heads.specs.declared.heads.CycleHead.{CycleHead}
-use Rattle.cycle_heads.specs.Heads.{Heads, at_depth, highest}
-use Rattle.cycle_heads.specs.HeadShapes.{head_shape, heads_shape}
-use Rattle.cycle_heads.specs.Usages.{has_usages, no_usages}
-use Rattle.search_parts.specs.declared.context.NodeId.{NodeId}
-use Rattle.search_parts.specs.declared.context.Request.{Request}
-use Rattle.search_parts.specs.declared.context.Reply.{Reply}
-use Rattle.search_parts.specs.declared.parts.stack.StackEntry.{StackEntry}
-use Rattle.search_parts.specs.declared.parts.provisional_cache.ProvisionalCacheEntry.{ProvisionalCacheEntry}
-use Rattle.search_parts.specs.Cache.{CacheNode, open_node}
-use Rattle.search_parts.specs.Provisional.{Lists, entries_at}
-use Rattle.search_parts.specs.Reuse.{is_used_at, rests_on}
-use Rattle.open_goals.specs.declared.goals.Run.{Run}
-use Rattle.open_goals.specs.Items.{rerun_with, with_no_record}
-use Rattle.open_goals.specs.Newest.{change_newest}
-use Rattle.open_goals.specs.Progress.{RunRecord}
-use Rattle.search_graph.specs.Justified.{OpenRun, AreJustified}
-use Rattle.search_graph.specs.Provisional.{IsHead, IsReady, AreReady}
-use Rattle.search_graph.specs.Runs.{run_of, runs_of, IsSettled}
-use Rattle.search_graph.specs.Tallies.{Tally, counted}
+use Rattle.search_graph.specs.Below.{UsesNo, StackDepth, CycleHead, Heads, at_depth, highest, head_shape, heads_shape, has_usages, no_usages, NodeId, Request, Reply, StackEntry, ProvisionalCacheEntry, CacheNode, open_node, Lists, entries_at, is_used_at, rests_on, Run, rerun_with, with_no_record, change_newest, RunRecord}
+use Rattle.search_graph.specs.Words.{OpenRun, AreJustified, IsHead, IsReady, AreReady, run_of, runs_of, IsSettled, Tally, counted}
 use Rattle.search_graph.proofs.Finishing.{settles}
 use Rattle.search_graph.proofs.HeadOrder.{Ascends, ascends, at_most_highest, highest_there, no_highest, same_depth}
 use Rattle.search_graph.proofs.Justified.{Settles, new_run, stack_length, tally_again}

@@ -1,31 +1,10 @@
 -- The reason why a goal's result stands is true of the goal, and a goal that rests on another one has no rank.
 use Rattle.std.proofs.Common.{◌≡◌, ◌≢◌, ℕ, Bool, true, List, [], ◌∷◌, Option, None, Some, Result, Ok, option_map, sym, ap, ◌∙◌, subst, refl, inl}
 use Rattle.open_graphs.specs.Rebased as theory
-use Rattle.cycle_heads.specs.declared.path.PathKind.{PathKind}
-use Rattle.cycle_heads.specs.declared.path.PathKind.TheVariants.{Inductive, Unknown, Coinductive, ForcedAmbiguity}
-use Rattle.cycle_heads.specs.declared.usages.HeadUsages.{HeadUsages}
-use Rattle.cycle_heads.specs.Heads.{Heads}
-use Rattle.cycle_heads.specs.Path.{rank_of}
-use Rattle.search_parts.specs.declared.context.Delegate as Delegate
-use Rattle.search_parts.specs.declared.context.Cx as Cx
-use Rattle.search_parts.specs.declared.context.Request.TheVariants.{Done}
-use Rattle.search_parts.specs.declared.parts.provisional_cache.RebaseReason.{RebaseReason}
-use Rattle.search_parts.specs.declared.parts.stack.StackEntry.{StackEntry}
-use Rattle.search_parts.specs.Delegate.{IsCycleResult}
-use Rattle.search_parts.specs.Shapes.{verdict_of}
+use Rattle.search_graph.specs.Below.{PathKind, Inductive, Unknown, Coinductive, ForcedAmbiguity, HeadUsages, Heads, rank_of, DelegateOf, CxOf, Done, RebaseReason, StackEntry, IsCycleResult, verdict_of, Run, some_heads, newest, Stood}
 use Rattle.evaluations.proofs.Mirrors.{leaves_safe}
-use Rattle.open_goals.specs.declared.goals.Run.{Run}
-use Rattle.open_goals.specs.Entries.{some_heads}
-use Rattle.open_goals.specs.Newest.{newest}
-use Rattle.open_goals.specs.Steps.{Stood}
-use Rattle.search_graph.specs.declared.graph.finish.Unstable.{Unstable}
-use Rattle.search_graph.specs.Calls.{Call, limits, bound, IsCounted}
-use Rattle.search_graph.specs.Evaluating.{seen, HasAsked}
-use Rattle.search_graph.specs.Justified.{frame_of}
-use Rattle.search_graph.specs.KeptShapes.{reason_shape}
-use Rattle.search_graph.specs.Provisional.{HasReason, IsNewestUnranked}
-use Rattle.search_graph.specs.RunEnds.{IsReason, IsRunEnd, Repeated, Initial, WithoutUsages, Ambiguous, Unused, Stable, Limited, Repeats}
-use Rattle.search_graph.specs.Runs.{run_of}
+use Rattle.search_graph.specs.Words.{Unstable, Call, limits, bound, IsCounted, seen, HasAsked, frame_of, reason_shape, HasReason, IsNewestUnranked, IsReason, IsRunEnd, Repeated, Initial, WithoutUsages, Ambiguous, Stable, Limited, Repeats, run_of}
+use Rattle.search_graph.specs.RunEnds.{Unused}
 use Rattle.search_graph.proofs.Moves.{leaving, outcome_of}
 
 -- ---- the reason
@@ -66,7 +45,7 @@ heads_are_some [] some = absurd (some refl)
 heads_are_some (head ∷ heads) some = refl
 
 -- the newest goal has no rank, if it rests on a goal below
-pub newest_unranked : {D C V P F I R A T : Type 0} (G : Delegate.Ghosts D C V P F I R A T) (X : Cx.Ghosts C I R A T) (cx : C) (call : Call I) (ahead : ℕ) (done : R) (starts : ℕ) (met : Bool) (goals : List (StackEntry C I R A T × Run C F I R A T)) → HasAsked G X cx call ahead (Done done) goals starts met → IsNewestUnranked (G.script cx) goals
+pub newest_unranked : {D C V P F I R A T : Type 0} (G : DelegateOf D C V P F I R A T) (X : CxOf C I R A T) (cx : C) (call : Call I) (ahead : ℕ) (done : R) (starts : ℕ) (met : Bool) (goals : List (StackEntry C I R A T × Run C F I R A T)) → HasAsked G X cx call ahead (Done done) goals starts met → IsNewestUnranked (G.script cx) goals
 newest_unranked G X cx call ahead done starts met [] h = absurd h.asked.mirror
 newest_unranked G X cx call ahead done starts met (s ∷ below) h = λ some.
     let safe = leaves_safe (seen G X cx) (Stood G X cx) (G.script cx) (limits G X cx call) (IsCounted G X cx call) call.top (bound G X cx call) ahead done (outcome_of G X cx done s) s below starts met h.asked (leaving G X cx done done s (inl refl)) in

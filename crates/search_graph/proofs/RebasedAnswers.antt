@@ -5,32 +5,11 @@ use Rattle.std.proofs.lemmas.Bool.{cases_eq, false≢true}
 use Rattle.std.proofs.lemmas.List.{length-map, length-reverse}
 use Rattle.std.proofs.lemmas.List.Elements.{All-head, All-tail}
 use Rattle.open_graphs.specs.Graph as theory
-use Rattle.open_graphs.specs.Stack.{Entry, path_kind}
-use Rattle.open_graphs.specs.Use.{Stored, Use}
-use Rattle.open_graphs.specs.State.{stack_of}
-use Rattle.open_graphs.specs.Rebased.{AreDepths, HasResult, InsertsEmpty, InsertsHeads, IsTakenOut, IsTrueReason, IsRebasable, IsLeftHead, RebasedBy, Stays, NotNeeded, Needed}
+use Rattle.search_graph.specs.Below.{Entry, path_kind, Stored, Use, stack_of, AreDepths, HasResult, InsertsEmpty, InsertsHeads, IsTakenOut, IsTrueReason, IsRebasable, IsLeftHead, RebasedBy, Stays, NotNeeded, Needed, StackDepth, PathsToNested, CycleHead, HeadUsages, Heads, at_depth, highest, IsRising, head_shape, heads_shape, rank_of, greater_kind, extended_by_each, path_of_no_step, has_usages, no_usages, StackEntry, ProvisionalCacheEntry, RebaseReason, CanBeRebased, but_highest, from_head, from_new_head, keeps_kinds, rebased, rebased_used, settled, with_used, with_unused, verdict_of, Run}
 use Rattle.open_graphs.proofs.Rebased.{rebased_keeps_stored}
-use Rattle.cycle_heads.specs.declared.depth.StackDepth.{StackDepth}
-use Rattle.cycle_heads.specs.declared.path.PathsToNested.{PathsToNested}
-use Rattle.cycle_heads.specs.declared.heads.CycleHead.{CycleHead}
-use Rattle.cycle_heads.specs.declared.usages.HeadUsages.{HeadUsages}
-use Rattle.cycle_heads.specs.Heads.{Heads, at_depth, highest, IsRising}
-use Rattle.cycle_heads.specs.HeadShapes.{head_shape, heads_shape}
-use Rattle.cycle_heads.specs.Path.{rank_of, greater_kind}
-use Rattle.cycle_heads.specs.Paths.{extended_by_each, path_of_no_step}
-use Rattle.cycle_heads.specs.Usages.{has_usages, no_usages}
 use Rattle.cycle_heads.proofs.PathRanks.{greater_rank}
-use Rattle.search_parts.specs.declared.parts.stack.StackEntry.{StackEntry}
-use Rattle.search_parts.specs.declared.parts.provisional_cache.ProvisionalCacheEntry.{ProvisionalCacheEntry}
-use Rattle.search_parts.specs.declared.parts.provisional_cache.RebaseReason.{RebaseReason}
-use Rattle.search_parts.specs.Rebasing.{CanBeRebased, but_highest, from_head, from_new_head, keeps_kinds, rebased, rebased_used, settled, with_used, with_unused}
-use Rattle.search_parts.specs.Shapes.{verdict_of}
 use Rattle.search_parts.proofs.RebasedEntries.{is_used, is_unused}
-use Rattle.open_goals.specs.declared.goals.Run.{Run}
-use Rattle.search_graph.specs.Justified.{frame_of, frames_of}
-use Rattle.search_graph.specs.KeptShapes.{depths_of, highest_depth, kept_shape, reason_shape}
-use Rattle.search_graph.specs.Runs.{run_of, runs_of}
-use Rattle.search_graph.specs.Tallies.{LieBelow}
+use Rattle.search_graph.specs.Words.{frame_of, frames_of, depths_of, highest_depth, kept_shape, reason_shape, run_of, runs_of, LieBelow}
 use Rattle.search_graph.proofs.CycleAnswers.{path_kind_is}
 use Rattle.search_graph.proofs.HeadOrder.{Ascends, ascends, at_later, at_most_highest, highest_there, no_highest}
 use Rattle.search_graph.proofs.Justified.{stack_length}

@@ -4,23 +4,9 @@ use Rattle.std.proofs.Common.{◌≡◌, ◌≢◌, ◌≤◌, Bool, true, false
 use Rattle.std.specs.Option.{option_and_then}
 use Rattle.std.proofs.lemmas.Bool.{cases_eq}
 use Rattle.open_graphs.specs.Graph as theory
-use Rattle.open_graphs.specs.Rebased.{IsLeftHead}
-use Rattle.cycle_heads.specs.declared.depth.StackDepth.{StackDepth}
-use Rattle.cycle_heads.specs.declared.path.PathsToNested.{PathsToNested}
-use Rattle.cycle_heads.specs.declared.heads.CycleHead.{CycleHead}
-use Rattle.cycle_heads.specs.declared.usages.HeadUsages.{HeadUsages}
-use Rattle.cycle_heads.specs.Heads.{at_depth, highest, IsRising}
-use Rattle.cycle_heads.specs.Paths.{extended_by_each, path_of_no_step}
-use Rattle.cycle_heads.specs.Usages.{has_usages, no_usages, other_usages}
-use Rattle.search_parts.specs.declared.parts.stack.StackEntry.{StackEntry}
-use Rattle.search_parts.specs.declared.parts.provisional_cache.ProvisionalCacheEntry.{ProvisionalCacheEntry}
-use Rattle.search_parts.specs.declared.parts.provisional_cache.RebaseReason.{RebaseReason}
-use Rattle.search_parts.specs.declared.parts.provisional_cache.RebaseReason.TheVariants.{NoCycleUsages, Ambiguity, Overflow, ReachedFixpoint}
-use Rattle.search_parts.specs.Rebasing.{but_highest, from_new_head, keeps_kinds, rebased, rebased_used, settled, with_unused, with_used}
-use Rattle.search_parts.specs.Shapes.{verdict_of}
+use Rattle.search_graph.specs.Below.{IsLeftHead, StackDepth, PathsToNested, CycleHead, HeadUsages, at_depth, highest, IsRising, extended_by_each, path_of_no_step, has_usages, no_usages, other_usages, StackEntry, ProvisionalCacheEntry, RebaseReason, NoCycleUsages, Ambiguity, Overflow, ReachedFixpoint, but_highest, from_new_head, keeps_kinds, rebased, rebased_used, settled, with_unused, with_used, verdict_of}
 use Rattle.search_parts.proofs.RebasedEntries.{is_used, is_unused}
-use Rattle.search_graph.specs.KeptShapes.{depths_of}
-use Rattle.search_graph.specs.Tallies.{LieBelow}
+use Rattle.search_graph.specs.Words.{depths_of, LieBelow}
 use Rattle.search_graph.proofs.HeadOrder.{Ascends, ascends, at_most_highest, highest_there, no_highest}
 use Rattle.search_graph.proofs.RebasedAnswers.{HasNewHead, new_head}
 use Rattle.search_graph.proofs.RebasedRising.{settled_same_heads}

@@ -5,31 +5,14 @@ use Rattle.std.specs.List.{list_all}
 use Rattle.std.proofs.lemmas.Bool.{cases_eq, eqb-true, false≢true}
 use Rattle.std.proofs.lemmas.Grind.{common_steps}
 use Rattle.open_graphs.specs.Graph as theory
-use Rattle.open_graphs.specs.Stack.{Entry, path_kind}
+use Rattle.search_graph.specs.Below.{Entry, path_kind, PassesPathTest, IsZero, IsSingle, HasResult, StackDepth, PathKind, Inductive, Unknown, Coinductive, ForcedAmbiguity, CycleHead, HeadUsages, Heads, at_depth, count_at, head_shape, heads_shape, rank_of, greater_kind, kinds_in, count_of, has_usages, other_usages, StackEntry, ProvisionalCacheEntry, RebaseReason, NoCycleUsages, Ambiguity, Overflow, ReachedFixpoint, from_head, keeps_kind, keeps_kinds, settled, verdict_of}
 use Rattle.open_graphs.specs.Use as uses
-use Rattle.open_graphs.specs.Rebased.{PassesPathTest, IsZero, IsSingle, HasResult}
-use Rattle.cycle_heads.specs.declared.depth.StackDepth.{StackDepth}
-use Rattle.cycle_heads.specs.declared.path.PathKind.{PathKind}
-use Rattle.cycle_heads.specs.declared.path.PathKind.TheVariants.{Inductive, Unknown, Coinductive, ForcedAmbiguity}
-use Rattle.cycle_heads.specs.declared.heads.CycleHead.{CycleHead}
-use Rattle.cycle_heads.specs.declared.usages.HeadUsages.{HeadUsages}
-use Rattle.cycle_heads.specs.Heads.{Heads, at_depth}
-use Rattle.cycle_heads.specs.HeadShapes.{count_at, head_shape, heads_shape}
-use Rattle.cycle_heads.specs.Path.{rank_of, greater_kind}
-use Rattle.cycle_heads.specs.Paths.{kinds_in}
-use Rattle.cycle_heads.specs.Usages.{count_of, has_usages, other_usages}
 use Rattle.cycle_heads.proofs.Counts.{none_of_others, used_by_test}
 use Rattle.cycle_heads.proofs.HeadShapes.{count_at-of, path_of_rank}
 use Rattle.cycle_heads.proofs.PathLaws.{first_or_later}
 use Rattle.cycle_heads.proofs.PathMembers.{kinds_in-has}
 use Rattle.cycle_heads.proofs.PathRanks.{greater_rank}
-use Rattle.search_parts.specs.declared.parts.stack.StackEntry.{StackEntry}
-use Rattle.search_parts.specs.declared.parts.provisional_cache.ProvisionalCacheEntry.{ProvisionalCacheEntry}
-use Rattle.search_parts.specs.declared.parts.provisional_cache.RebaseReason.{RebaseReason}
-use Rattle.search_parts.specs.declared.parts.provisional_cache.RebaseReason.TheVariants.{NoCycleUsages, Ambiguity, Overflow, ReachedFixpoint}
-use Rattle.search_parts.specs.Rebasing.{from_head, keeps_kind, keeps_kinds, settled}
-use Rattle.search_parts.specs.Shapes.{verdict_of}
-use Rattle.search_graph.specs.KeptShapes.{reason_shape}
+use Rattle.search_graph.specs.Words.{reason_shape}
 use Rattle.search_graph.proofs.HeadOrder.{at_here, at_later, same_depth}
 
 -- ---- tests of all elements

@@ -1,19 +1,7 @@
 -- The heads of a rebased answer rise where those of the answer did.
 use Rattle.std.proofs.Common.{◌≡◌, Bool, true, false, nat_eq, if◌then◌else◌, length, List, Option, Some, None, refl, sym, subst}
 use Rattle.std.specs.Option.{option_map, option_and_then}
-use Rattle.cycle_heads.specs.declared.depth.StackDepth.{StackDepth}
-use Rattle.cycle_heads.specs.declared.path.PathsToNested.{PathsToNested}
-use Rattle.cycle_heads.specs.declared.heads.CycleHead.{CycleHead}
-use Rattle.cycle_heads.specs.declared.usages.HeadUsages.{HeadUsages}
-use Rattle.cycle_heads.specs.Heads.{Heads, highest, IsRising}
-use Rattle.cycle_heads.specs.Path.{greater_kind}
-use Rattle.cycle_heads.specs.Paths.{extended_by_each, path_of_no_step}
-use Rattle.cycle_heads.specs.Usages.{has_usages, no_usages, other_usages}
-use Rattle.search_parts.specs.declared.parts.stack.StackEntry.{StackEntry}
-use Rattle.search_parts.specs.declared.parts.provisional_cache.ProvisionalCacheEntry.{ProvisionalCacheEntry}
-use Rattle.search_parts.specs.declared.parts.provisional_cache.RebaseReason.{RebaseReason}
-use Rattle.search_parts.specs.declared.parts.provisional_cache.RebaseReason.TheVariants.{NoCycleUsages, Ambiguity, Overflow, ReachedFixpoint}
-use Rattle.search_parts.specs.Rebasing.{but_highest, from_head, from_new_head, keeps_kinds, rebased, rebased_at, rebased_used, rebased_unused, settled, with_unused, with_used}
+use Rattle.search_graph.specs.Below.{StackDepth, PathsToNested, CycleHead, HeadUsages, Heads, highest, IsRising, greater_kind, extended_by_each, path_of_no_step, has_usages, no_usages, other_usages, StackEntry, ProvisionalCacheEntry, RebaseReason, NoCycleUsages, Ambiguity, Overflow, ReachedFixpoint, but_highest, from_head, from_new_head, keeps_kinds, rebased, rebased_at, rebased_used, rebased_unused, settled, with_unused, with_used}
 use Rattle.search_graph.proofs.HeadOrder.{ascends, left_ascends, rises}
 use Rattle.search_graph.proofs.RebasedShapes.{all_ascends, with_all}
 

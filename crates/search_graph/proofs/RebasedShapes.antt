@@ -2,27 +2,14 @@
 use Rattle.std.proofs.Common.{◌≡◌, ◌≢◌, ℕ, zero, suc, ◌+◌, ◌-◌, ◌^◌, min, ◌<◌, Bool, true, false, IsTrue, ◌||◌, [], ◌∷◌, fold, Option, Some, None, IsSome, option_map, refl, sym, ap, ◌∙◌, subst, ◌⊎◌, inl, inr, arith}
 use Rattle.std.proofs.lemmas.Bool.{cases_eq, false≢true}
 use Rattle.open_graphs.specs.Use as theory
-use Rattle.open_graphs.specs.Rebased.{IsInserted, IsJoined, InsertsHeads, InsertsEmpty, IsLeftHead}
-use Rattle.cycle_heads.specs.declared.depth.StackDepth.{StackDepth}
-use Rattle.cycle_heads.specs.declared.path.PathKind.{PathKind}
-use Rattle.cycle_heads.specs.declared.path.PathKind.TheVariants.{Inductive, Unknown, Coinductive, ForcedAmbiguity}
-use Rattle.cycle_heads.specs.declared.path.PathsToNested.{PathsToNested}
-use Rattle.cycle_heads.specs.declared.heads.CycleHead.{CycleHead}
-use Rattle.cycle_heads.specs.declared.usages.HeadUsages.{HeadUsages}
-use Rattle.cycle_heads.specs.Heads.{Heads, at_depth, highest, joined_head, with_head}
-use Rattle.cycle_heads.specs.HeadShapes.{has_rank, count_at, head_shape, heads_shape}
-use Rattle.cycle_heads.specs.Path.{rank_of, greater_kind}
-use Rattle.cycle_heads.specs.Paths.{extended_by_each, has_kind, path_of_no_step, union}
-use Rattle.cycle_heads.specs.Usages.{count_of, no_usages, sticking_sum, with_nested}
+use Rattle.search_graph.specs.Below.{IsInserted, IsJoined, InsertsHeads, InsertsEmpty, IsLeftHead, StackDepth, PathKind, Inductive, Unknown, Coinductive, ForcedAmbiguity, PathsToNested, CycleHead, HeadUsages, Heads, at_depth, highest, joined_head, with_head, has_rank, count_at, head_shape, heads_shape, rank_of, greater_kind, extended_by_each, has_kind, path_of_no_step, union, count_of, no_usages, sticking_sum, with_nested, but_highest, with_unused, with_used}
 use Rattle.cycle_heads.proofs.Counts.{count_of-usages_by}
 use Rattle.cycle_heads.proofs.HeadLists.{at_depth-insert_same, at_depth-insert_other}
 use Rattle.cycle_heads.proofs.HeadShapes.{has_rank-of, path_of_rank}
 use Rattle.cycle_heads.proofs.PathLaws.{has_kind-union}
 use Rattle.cycle_heads.proofs.PathMembers.{extended-has, extended_by_each-kinds}
 use Rattle.cycle_heads.proofs.PathRanks.{greater_rank}
-use Rattle.search_parts.specs.Rebasing.{but_highest, with_unused, with_used}
-use Rattle.search_graph.specs.KeptShapes.{depths_of}
-use Rattle.search_graph.specs.Tallies.{LieBelow}
+use Rattle.search_graph.specs.Words.{depths_of, LieBelow}
 use Rattle.search_graph.proofs.HeadOrder.{Ascends, at_here, at_later, highest_gone, highest_there, insert_ascends, left_ascends, others_stay, same_depth}
 
 -- ---- one head that is joined

@@ -2,29 +2,8 @@
 use Rattle.std.proofs.Common.{◌≡◌, ◌≢◌, ℕ, Bool, true, false, IsTrue, if◌then◌else◌, ◌↔◌, List, [], ◌∷◌, length, Option, None, Some, IsSome, refl, sym, ap, ◌∙◌, subst, inl, inr}
 use Rattle.std.specs.Option.{IsSomeAnd}
 use Rattle.open_graphs.specs.Graph as theory
-use Rattle.search_parts.specs.declared.context.Delegate as Delegate
-use Rattle.search_parts.specs.declared.context.Cx as Cx
-use Rattle.cycle_heads.specs.declared.path.PathKind.{PathKind}
-use Rattle.search_parts.specs.declared.context.Verdict.{Verdict}
-use Rattle.search_parts.specs.declared.context.Verdict.TheVariants.{Yes, No, Neither}
-use Rattle.search_parts.specs.declared.context.NodeId.{NodeId}
-use Rattle.search_parts.specs.declared.context.Request.{Request}
-use Rattle.search_parts.specs.declared.context.Request.TheVariants.{Evaluate, EnterCandidate, FinishCandidate, Ignore, Done}
-use Rattle.search_parts.specs.declared.context.Reply.{Reply}
-use Rattle.search_parts.specs.declared.context.Reply.TheVariants.{Begin, Answer, Noted}
-use Rattle.search_parts.specs.declared.parts.stack.StackEntry.{StackEntry}
-use Rattle.search_parts.specs.Cache.{CacheNode}
-use Rattle.search_parts.specs.Shapes.{verdict_of}
-use Rattle.search_parts.specs.Run.{Fits, IsFitting, request_after}
-use Rattle.open_goals.specs.declared.goals.Run.{Run}
-use Rattle.open_goals.specs.declared.goals.Received.{Received}
-use Rattle.open_goals.specs.declared.progress.DefiniteAnswer.{DefiniteAnswer}
-use Rattle.open_goals.specs.Progress.{RunRecord, received, answered, answers_after, IsReplySorted, KeepsAnswer, open_number, edge_to}
-use Rattle.search_graph.specs.Justified.{in_theory, AreJustified, MayAnswer, IsFit}
-use Rattle.search_graph.specs.Runs.{run_of, runs_of}
-use Rattle.search_graph.specs.Calls.{Call}
-use Rattle.open_goals.specs.Steps.{IsVerdict}
-use Rattle.search_graph.specs.Evaluating.{IsWaiting}
+use Rattle.search_graph.specs.Below.{DelegateOf, CxOf, PathKind, Verdict, Yes, No, Neither, NodeId, Request, Evaluate, EnterCandidate, FinishCandidate, Ignore, Done, Reply, Begin, Answer, Noted, StackEntry, CacheNode, verdict_of, Fits, IsFitting, request_after, Run, Received, DefiniteAnswer, RunRecord, received, answered, answers_after, IsReplySorted, KeepsAnswer, open_number, edge_to, IsVerdict}
+use Rattle.search_graph.specs.Words.{in_theory, AreJustified, MayAnswer, IsFit, run_of, runs_of, Call, IsWaiting}
 use Rattle.search_graph.proofs.Justified.{answered_is_justified}
 use Rattle.search_graph.proofs.Moves.{can_step_record}
 use Rattle.search_graph.proofs.ProgressLaws.{answers_received}
@@ -95,7 +74,7 @@ in_theory_definite Yes d e = cc
 in_theory_definite No d e = cc
 in_theory_definite Neither d e = d refl
 
-module _ {D C V P F I R A T : Type 0} (G : Delegate.Ghosts D C V P F I R A T) (X : Cx.Ghosts C I R A T) (cx : C) (nodes : List (CacheNode I R)) where
+module _ {D C V P F I R A T : Type 0} (G : DelegateOf D C V P F I R A T) (X : CxOf C I R A T) (cx : C) (nodes : List (CacheNode I R)) where
   abbrev Goals : Type 0
   Goals = List (StackEntry C I R A T × Run C F I R A T)
 

@@ -1,19 +1,11 @@
 -- What is known of a goal by what becomes of it.
 use Rattle.std.proofs.Common.{◌≡◌, ℕ, ◌+◌, ◌^◌, ◌<◌, ◌≤◌, max, Bool, true, ◌||◌, is_some, IsSome, List, [], ◌∷◌, Option, None, Some, IfSome, Result, Err, option_map, refl, sym, ap, ◌∙◌, subst, arith, inl, inr}
 use Rattle.std.proofs.lemmas.Bool.{cases_eq}
-use Rattle.cycle_heads.specs.declared.path.PathKind.{PathKind}
-use Rattle.cycle_heads.specs.declared.path.PathKind.TheVariants.{Inductive, Unknown, Coinductive, ForcedAmbiguity}
-use Rattle.cycle_heads.specs.declared.usages.HeadUsages.{HeadUsages}
-use Rattle.cycle_heads.specs.Usages.{count_of}
-use Rattle.search_parts.specs.declared.parts.provisional_cache.RebaseReason.{RebaseReason}
+use Rattle.search_graph.specs.Below.{PathKind, Inductive, Unknown, Coinductive, ForcedAmbiguity, HeadUsages, count_of, RebaseReason, StackEntry, Run, is_in_cycle, some_heads, newest}
 use Rattle.search_parts.specs.declared.parts.provisional_cache.RebaseReason.TheVariants as reason
-use Rattle.search_parts.specs.declared.parts.stack.StackEntry.{StackEntry}
-use Rattle.search_graph.specs.declared.graph.finish.Unstable.{Unstable}
-use Rattle.search_graph.specs.declared.graph.finish.Unstable.TheVariants.{AtLimit, Again}
-use Rattle.open_goals.specs.declared.goals.Run.{Run}
-use Rattle.open_goals.specs.Entries.{is_in_cycle, some_heads}
-use Rattle.open_goals.specs.Newest.{newest}
-use Rattle.search_graph.specs.RunEnds.{IsReason, IsRunEnd, IsUsed, ReachedFixpoint, Repeated, Initial, Unused, Stable, Limited, Repeats}
+use Rattle.search_graph.specs.Words.{Unstable, AtLimit, IsReason, IsRunEnd, IsUsed, Repeated, Initial, Stable, Limited, Repeats}
+use Rattle.search_graph.specs.declared.graph.finish.Unstable.TheVariants.{Again}
+use Rattle.search_graph.specs.RunEnds.{ReachedFixpoint, Unused}
 
 -- usages that are not none are some
 pub used_somehow : (usages : HeadUsages) → (((kind : PathKind) → count_of usages kind ≡ 0) → ⊥) → IsUsed usages

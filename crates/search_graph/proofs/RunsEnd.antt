@@ -2,32 +2,8 @@
 use Rattle.std.proofs.Common.{◌≡◌, ◌≢◌, suc, ◌+◌, ◌<◌, ◌^◌, ◌||◌, Bool, List, [], ◌∷◌, ◌++◌, length, Option, Some, option_map, refl, sym, ap, ◌∙◌, subst, arith}
 use Rattle.std.specs.Option.{IsSomeAnd, option_or}
 use Rattle.std.proofs.lemmas.List.{length-map}
-use Rattle.open_graphs.specs.State.{stack_of}
-use Rattle.open_graphs.specs.AnswerLaws.{TakesIn}
-use Rattle.search_parts.specs.declared.context.Delegate as Delegate
-use Rattle.search_parts.specs.declared.context.Cx as Cx
-use Rattle.search_parts.specs.declared.context.NodeId.{NodeId}
-use Rattle.search_parts.specs.declared.context.Request.{Request}
-use Rattle.search_parts.specs.declared.context.Reply.{Reply}
-use Rattle.search_parts.specs.declared.context.Reply.TheVariants.{Answer}
-use Rattle.search_parts.specs.declared.parts.stack.StackEntry.{StackEntry}
-use Rattle.search_parts.specs.Cache.{CacheNode, open_node}
-use Rattle.search_parts.specs.Definite.{HasGraph, IsDefinite}
-use Rattle.cycle_heads.specs.HeadShapes.{heads_shape}
-use Rattle.cycle_heads.specs.Path.{rank_of}
-use Rattle.search_parts.specs.Shapes.{verdict_of}
-use Rattle.open_goals.specs.declared.goals.Run.{Run}
-use Rattle.open_goals.specs.declared.goals.Next.TheVariants.{Step, Finished}
-use Rattle.open_goals.specs.Items.{AnswersNewest, rerun_with, with_no_record}
-use Rattle.search_graph.specs.Justified.{Asks, AreJustified, MayAnswer, IsFit, asked_now, frames_of}
-use Rattle.search_graph.specs.Moves.{IsFresh, Reruns, CanLeave, Leaves}
-use Rattle.open_goals.specs.Newest.{newest, change_newest}
-use Rattle.open_goals.specs.Progress.{RunRecord}
-use Rattle.search_parts.specs.declared.global_cache.results.StoredResult.{StoredResult}
-use Rattle.search_parts.specs.Store.{Store}
-use Rattle.search_graph.specs.Free.{IsFree, AreFree}
-use Rattle.search_graph.specs.Runs.{run_of, runs_of, EndsRun, EndsNewest, IsSettled, IsJustifiedNext}
-use Rattle.search_graph.specs.Tallies.{heads_of, tally_of, LieBelow}
+use Rattle.search_graph.specs.Below.{stack_of, TakesIn, DelegateOf, CxOf, NodeId, Request, Reply, Answer, StackEntry, CacheNode, open_node, HasGraph, IsDefinite, heads_shape, rank_of, verdict_of, Run, Step, Finished, AnswersNewest, rerun_with, with_no_record, newest, change_newest, RunRecord, StoredResult, Store}
+use Rattle.search_graph.specs.Words.{Asks, AreJustified, MayAnswer, IsFit, asked_now, frames_of, IsFresh, Reruns, CanLeave, Leaves, IsFree, AreFree, run_of, runs_of, EndsRun, EndsNewest, IsSettled, IsJustifiedNext, heads_of, tally_of, LieBelow}
 use Rattle.search_graph.proofs.Justified.{Settles, below_is_justified, stack_length, may_answer_parent, last_has_graph, headless_has_graph, rerun_is_justified}
 use Rattle.search_graph.proofs.Free.{done_is_free}
 use Rattle.search_graph.proofs.FreeResults.{all_free_popped, all_free_rerun}
@@ -91,7 +67,7 @@ module _ {X F I R A T : Type 0} where
       (all_free_rerun is_yes is_no same before after (run_of (e, t.run)) (runs_of t.below) was r target (settles is_yes is_no before after e t.run t.below was r target so) results (subst (λ l. AreFree is_yes is_no same before (runs_of l) results) t.was free) own at)
 
 -- and the newest is run again
-pub reran : {D C V P F I R A T : Type 0} (G : Delegate.Ghosts D C V P F I R A T) (X : Cx.Ghosts C I R A T) (cx : C) (old taken new : List (StackEntry C I R A T × Run C F I R A T)) (e : StackEntry C I R A T) (y : Run C F I R A T) (p : RunRecord I R) (r : R) (lead : Option NodeId) (frame : F) (own : NodeId) → TakenFrom old e y p → taken ≡ change_newest with_no_record old → new ≡ change_newest (rerun_with r lead frame own) taken → IsFresh G X cx frame e.input → Reruns G X cx r old new
+pub reran : {D C V P F I R A T : Type 0} (G : DelegateOf D C V P F I R A T) (X : CxOf C I R A T) (cx : C) (old taken new : List (StackEntry C I R A T × Run C F I R A T)) (e : StackEntry C I R A T) (y : Run C F I R A T) (p : RunRecord I R) (r : R) (lead : Option NodeId) (frame : F) (own : NodeId) → TakenFrom old e y p → taken ≡ change_newest with_no_record old → new ≡ change_newest (rerun_with r lead frame own) taken → IsFresh G X cx frame e.input → Reruns G X cx r old new
 reran G X cx old taken new e y p r lead frame own t is then fresh = record {
   item = (e, t.run);
   below = t.below;

@@ -3,23 +3,9 @@ use Rattle.std.proofs.Common.{◌≡◌, ℕ, ◌+◌, ◌<◌, Bool, ◌&&◌, 
 use Rattle.std.specs.Option.{option_map, IfSome}
 use Rattle.std.proofs.lemmas.Grind.{reverse_onto}
 use Rattle.std.proofs.lemmas.List.{append-nil, drop-map, map-append}
-use Rattle.cycle_heads.specs.declared.depth.StackDepth.{StackDepth}
-use Rattle.cycle_heads.specs.declared.heads.CycleHead.{CycleHead}
-use Rattle.cycle_heads.specs.declared.path.PathKind.{PathKind}
-use Rattle.cycle_heads.specs.Heads.{Heads, highest}
-use Rattle.cycle_heads.specs.Path.{greatest_kind}
-use Rattle.search_parts.specs.declared.parts.result.EvaluationResult.{EvaluationResult}
-use Rattle.search_parts.specs.declared.parts.stack.StackEntry.{StackEntry}
-use Rattle.search_parts.specs.declared.parts.provisional_cache.ProvisionalCacheEntry.{ProvisionalCacheEntry}
-use Rattle.search_parts.specs.Cycle.{path_kind_from}
-use Rattle.search_parts.specs.Provisional.{Lists, entries_at, Appends}
-use Rattle.search_parts.specs.declared.context.NodeId.{NodeId}
-use Rattle.search_parts.specs.declared.parts.provisional_cache.RebaseReason.{RebaseReason}
+use Rattle.search_graph.specs.Below.{StackDepth, CycleHead, PathKind, Heads, highest, greatest_kind, EvaluationResult, StackEntry, ProvisionalCacheEntry, path_kind_from, Lists, entries_at, Appends, NodeId, RebaseReason, Run, Next}
 use Rattle.search_parts.proofs.RebasedHeads.{highest_within}
-use Rattle.open_goals.specs.declared.goals.Run.{Run}
-use Rattle.open_goals.specs.declared.goals.Next.{Next}
-use Rattle.search_graph.specs.Moves.{GivesAnswer}
-use Rattle.search_graph.specs.Provisional.{final_answer, kept_of, left_of}
+use Rattle.search_graph.specs.Words.{GivesAnswer, final_answer, kept_of, left_of}
 use Rattle.search_graph.proofs.Ready.{on_stack_many}
 use Rattle.search_graph.proofs.HeadOrder.{no_highest}
 

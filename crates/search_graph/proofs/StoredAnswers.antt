@@ -1,34 +1,13 @@
 -- A stored result answers the newest goal's question, or the call.
 use Rattle.std.proofs.Common.{◌≡◌, ℕ, ◌<◌, ◌≤◌, ◌||◌, Bool, true, false, List, ◌∷◌, Some, None, refl, sym, ap, ◌∙◌, subst, arith}
-use Rattle.search_parts.specs.declared.context.Delegate as Delegate
-use Rattle.search_parts.specs.declared.context.Cx as Cx
-use Rattle.search_parts.specs.declared.context.Request.TheVariants.{Evaluate}
-use Rattle.search_parts.specs.declared.context.Reply.TheVariants.{Answer}
-use Rattle.cycle_heads.specs.declared.path.PathKind.{PathKind}
-use Rattle.search_parts.specs.declared.global_cache.results.Place.TheVariants.{WithOverflow}
-use Rattle.search_parts.specs.declared.global_cache.results.StoredResult.{StoredResult}
-use Rattle.search_parts.specs.declared.parts.stack.StackEntry.{StackEntry}
-use Rattle.search_parts.specs.Definite.{IsDefinite}
-use Rattle.search_parts.specs.LookUp.{Hit}
-use Rattle.search_parts.specs.Nested.{NestedPaths}
-use Rattle.search_parts.specs.Rank.{IsPlainTo}
-use Rattle.search_parts.specs.Store.{Store, stored_at}
-use Rattle.evaluations.specs.Frames.{Outcome, answered, IsAllowed}
-use Rattle.evaluations.specs.Plain.{IsSafeOutcome}
-use Rattle.evaluations.specs.Mirror.{with_replies, TakesReply}
+use Rattle.search_graph.specs.Below.{DelegateOf, CxOf, Evaluate, Answer, PathKind, WithOverflow, StoredResult, StackEntry, IsDefinite, Hit, NestedPaths, IsPlainTo, Store, stored_at, Outcome, IsAllowed, IsSafeOutcome, with_replies, TakesReply, Received, Run, with_depth, with_nested_goals, is_in_cycle, Stood}
+use Rattle.evaluations.specs.Frames.{answered}
 use Rattle.evaluations.proofs.Mirrors.{answered_waits}
-use Rattle.open_goals.specs.declared.goals.Received.{Received}
-use Rattle.open_goals.specs.declared.goals.Run.{Run}
-use Rattle.search_graph.specs.Calls.{Call, runs, limits, bound, IsCounted}
-use Rattle.open_goals.specs.Entries.{with_depth, with_nested_goals, is_in_cycle}
-use Rattle.search_graph.specs.Evaluating.{Begins, KeepsStore, seen, HasAsked, GoesOn, HasEnded}
-use Rattle.search_graph.specs.LookUp.{IsUsable, UsesStored}
-use Rattle.search_graph.specs.Results.{AreDefinite, HaveNoOverflow}
-use Rattle.open_goals.specs.Steps.{Stood}
+use Rattle.search_graph.specs.Words.{Call, runs, limits, bound, IsCounted, Begins, KeepsStore, seen, HasAsked, GoesOn, HasEnded, IsUsable, UsesStored, AreDefinite, HaveNoOverflow}
 use Rattle.search_graph.proofs.DecidedGoals.{changed_decided}
 use Rattle.search_graph.proofs.Moves.{some_frames, some_runs}
 
-module _ {D C V P F I R A T : Type 0} (G : Delegate.Ghosts D C V P F I R A T) (X : Cx.Ghosts C I R A T) (cx : C) (call : Call I) (same : I → I → Bool) (results : Store I (StoredResult C I R A T)) where
+module _ {D C V P F I R A T : Type 0} (G : DelegateOf D C V P F I R A T) (X : CxOf C I R A T) (cx : C) (call : Call I) (same : I → I → Bool) (results : Store I (StoredResult C I R A T)) where
   abbrev Goal : Type 0
   Goal = StackEntry C I R A T × Run C F I R A T
 

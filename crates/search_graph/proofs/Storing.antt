@@ -1,22 +1,10 @@
 -- What storing the answer of a goal that is done changes, and why it may fail.
 use Rattle.std.proofs.Common.{◌≡◌, ℕ, Bool, true, false, if◌then◌else◌, List, [], Option, None, Some, Result, Ok, Err, IfErr, OnOk, OnErr, option_map, refl, sym, ap, ◌∙◌, subst}
 use Rattle.std.specs.Cmp.{IsEquivalence}
-use Rattle.search_parts.specs.declared.context.Delegate as Delegate
-use Rattle.search_parts.specs.declared.context.Cx as Cx
-use Rattle.search_parts.specs.declared.context.Fault.{Fault}
-use Rattle.search_parts.specs.declared.context.Fault.TheVariants.{Conflict, Memory}
-use Rattle.search_parts.specs.declared.context.NodeId.{NodeId}
-use Rattle.search_parts.specs.declared.global_cache.results.Place.{Place}
-use Rattle.search_parts.specs.declared.global_cache.results.Place.TheVariants.{Success, WithOverflow}
-use Rattle.search_parts.specs.declared.global_cache.results.StoredResult.{StoredResult}
-use Rattle.search_parts.specs.declared.parts.result.EvaluationResult.{EvaluationResult}
-use Rattle.search_parts.specs.Cache.{Cache, AreRuns}
-use Rattle.search_parts.specs.Definite.{HasGraph}
-use Rattle.search_parts.specs.Question.{Question, Overlap}
-use Rattle.search_parts.specs.Store.{Store, stored_at, place_of, stored_from, AnswersStoring, Puts}
+use Rattle.search_graph.specs.Below.{DelegateOf, CxOf, Fault, Conflict, Memory, NodeId, Place, Success, WithOverflow, StoredResult, EvaluationResult, Cache, AreRuns, HasGraph, Question, Overlap, Store, stored_at, place_of, stored_from, AnswersStoring, Puts}
 use Rattle.search_parts.proofs.Bridge.{KeepsRule}
-use Rattle.search_graph.specs.Graph.{ComesTo, IsCaused, OutOfMemory, OtherResult}
-use Rattle.search_graph.specs.Results.{IsStoredAt, StoresAnswer, Kept, Put, MayPut, Same, WithResult}
+use Rattle.search_graph.specs.Words.{ComesTo, IsCaused, OutOfMemory, OtherResult, IsStoredAt, StoresAnswer, Put, MayPut, Same, WithResult}
+use Rattle.search_graph.specs.Results.{Kept}
 use Rattle.search_graph.proofs.Promises.{yes_is_proved, no_is_refuted}
 
 module _ {X I R A T : Type 0} (same : I → I → Bool) (old new : Store I (StoredResult X I R A T)) (goal : I) (answer : EvaluationResult X I R A T) where
@@ -43,7 +31,7 @@ success_at depth false is = refl
 pub success_met_none : {X I R A T : Type 0} (answer : EvaluationResult X I R A T) → place_of answer ≡ Success → answer.encountered_overflow ≡ false
 success_met_none answer is = success_at answer.required_depth answer.encountered_overflow is
 
-module _ {D C V P F I R A T : Type 0} (G : Delegate.Ghosts D C V P F I R A T) (X : Cx.Ghosts C I R A T) (same : I → I → Bool) (cache : Cache C I R A T) (runs_are : AreRuns X.is_yes X.is_no (G.script cache.cx) cache.nodes) (clash : (goal : I) (held failed : List (Question I)) → X.proves cache.cx goal held → X.refutes cache.cx goal failed → Overlap held failed) (proves : KeepsRule X.is_yes (G.script cache.cx) (X.proves cache.cx)) (refutes : KeepsRule X.is_no (G.script cache.cx) (X.refutes cache.cx)) (one : (r : R) → X.is_yes r ≡ true → X.is_no r ≡ false) (equal : R → R → Bool) (laws : IsEquivalence equal) where
+module _ {D C V P F I R A T : Type 0} (G : DelegateOf D C V P F I R A T) (X : CxOf C I R A T) (same : I → I → Bool) (cache : Cache C I R A T) (runs_are : AreRuns X.is_yes X.is_no (G.script cache.cx) cache.nodes) (clash : (goal : I) (held failed : List (Question I)) → X.proves cache.cx goal held → X.refutes cache.cx goal failed → Overlap held failed) (proves : KeepsRule X.is_yes (G.script cache.cx) (X.proves cache.cx)) (refutes : KeepsRule X.is_no (G.script cache.cx) (X.refutes cache.cx)) (one : (r : R) → X.is_yes r ≡ true → X.is_no r ≡ false) (equal : R → R → Bool) (laws : IsEquivalence equal) where
   conflict_at : (goal : I) (place : Place) (found : R) (node : Option NodeId) → HasGraph X.is_yes X.is_no cache.nodes goal found node → ComesTo (G.script cache.cx) (G.fixpoint_overflow cache.cx) goal found → (s : StoredResult C I R A T) → stored_at same cache.results goal place ≡ Some s → (b : Bool) → equal s.result.result found ≡ b → (r : Result (Unit {0}) (Fault I R)) → r ≡ (if b then Ok tt else Err (Conflict goal s.result.result found)) → IfErr r (IsCaused G X same cache)
   conflict_at goal place found node has comes s at true agrees r is = subst (λ x. IfErr x (IsCaused G X same cache)) (sym is) tt
   conflict_at goal place found node has comes s at false differs r is =
@@ -68,7 +56,7 @@ module _ {D C V P F I R A T : Type 0} (G : Delegate.Ghosts D C V P F I R A T) (X
   storing_is_caused goal place found node has comes (Some s) at r is = conflict_at goal place found node has comes s at (equal s.result.result found) refl r is
 
 -- where nothing changed for an error
-pub caused_after : {D C V P F I R A T : Type 0} (G : Delegate.Ghosts D C V P F I R A T) (X : Cx.Ghosts C I R A T) (same : I → I → Bool) (old new : Cache C I R A T) {U : Type 0} (r : Result U (Fault I R)) → OnErr r (new ≡ old) → IfErr r (IsCaused G X same old) → IfErr r (IsCaused G X same new)
+pub caused_after : {D C V P F I R A T : Type 0} (G : DelegateOf D C V P F I R A T) (X : CxOf C I R A T) (same : I → I → Bool) (old new : Cache C I R A T) {U : Type 0} (r : Result U (Fault I R)) → OnErr r (new ≡ old) → IfErr r (IsCaused G X same old) → IfErr r (IsCaused G X same new)
 caused_after G X same old new (Ok u) unchanged h = tt
 caused_after G X same old new (Err fault) unchanged h = subst (λ c. IsCaused G X same c fault) (sym unchanged) h
 

@@ -2,25 +2,12 @@
 use Rattle.std.proofs.Common.{◌≡◌, ◌≢◌, ℕ, zero, suc, ◌+◌, ◌-◌, ◌^◌, ◌≤◌, min, max, if◌then◌else◌, List, [], ◌∷◌, ◌++◌, length, slice_get, Option, None, Some, option_map, is_some, IsSome, unwrap_or, refl, sym, ap, ◌∙◌, subst, ◌⊎◌, inl, inr, arith, ne_eqb, eq-eqb}
 use Rattle.std.specs.List.{sum_by}
 use Rattle.std.proofs.lemmas.Bool.{cases_eq, false≢true, or_left}
-use Rattle.open_graphs.specs.AnswerLaws.{TakesIn}
-use Rattle.open_graphs.specs.Use.{Includes}
+use Rattle.search_graph.specs.Below.{TakesIn, Includes, StackDepth, PathKind, CycleHead, HeadUsages, UsagesByHead, Heads, at_depth, joined_head, heads_shape, rank_of, extended, has_kind, count_of, no_usages, sticking_sum, with_nested, EntryState, TakesHeads, joined_over, usages_over}
 use Rattle.open_graphs.proofs.Lists.{get_end}
-use Rattle.cycle_heads.specs.declared.depth.StackDepth.{StackDepth}
-use Rattle.cycle_heads.specs.declared.path.PathKind.{PathKind}
-use Rattle.cycle_heads.specs.declared.heads.CycleHead.{CycleHead}
-use Rattle.cycle_heads.specs.declared.usages.HeadUsages.{HeadUsages}
-use Rattle.cycle_heads.specs.Candidates.{UsagesByHead}
-use Rattle.cycle_heads.specs.Heads.{Heads, at_depth, joined_head}
-use Rattle.cycle_heads.specs.HeadShapes.{heads_shape}
-use Rattle.cycle_heads.specs.Path.{rank_of}
-use Rattle.cycle_heads.specs.Paths.{extended, has_kind}
-use Rattle.cycle_heads.specs.Usages.{count_of, no_usages, sticking_sum, with_nested}
 use Rattle.cycle_heads.proofs.Counts.{count_of-usages_by}
 use Rattle.cycle_heads.proofs.HeadShapes.{IsIn, joined_after}
 use Rattle.cycle_heads.proofs.PathLaws.{has_kind-union}
-use Rattle.search_parts.specs.declared.parts.stack.EntryState.{EntryState}
-use Rattle.open_goals.specs.Entries.{TakesHeads, joined_over, usages_over}
-use Rattle.search_graph.specs.Tallies.{IsCovered, IsTallied, LieBelow, candidate_at, candidates_count, counted, head_with, heads_of, spare, tally_of, usages_of}
+use Rattle.search_graph.specs.Words.{IsCovered, IsTallied, LieBelow, candidate_at, candidates_count, counted, head_with, heads_of, spare, tally_of, usages_of}
 use Rattle.search_graph.proofs.Tallies.{GrowsInto, IsMore, all_grown, counted_head, counted_other, counted_own, counts_by_rank, more_spare, none_counted, of_kind, spare_more, usages_in}
 
 -- ---- counts

@@ -3,21 +3,10 @@ use Rattle.std.proofs.Common.{◌≡◌, ◌≢◌, ℕ, zero, suc, ◌+◌, ◌
 use Rattle.std.specs.List.{sum_by}
 use Rattle.std.proofs.lemmas.Bool.{cases_eq, false≢true}
 use Rattle.std.proofs.lemmas.List.Sums.{sum_by-cons, sum_by_push}
-use Rattle.open_graphs.specs.Use.{Includes, IncludesBelow}
-use Rattle.cycle_heads.specs.declared.depth.StackDepth.{StackDepth}
-use Rattle.cycle_heads.specs.declared.path.PathKind.{PathKind}
-use Rattle.cycle_heads.specs.declared.path.PathKind.TheVariants.{Inductive, Unknown, Coinductive, ForcedAmbiguity}
-use Rattle.cycle_heads.specs.declared.path.PathsToNested.{PathsToNested}
-use Rattle.cycle_heads.specs.declared.heads.CycleHead.{CycleHead}
-use Rattle.cycle_heads.specs.declared.usages.HeadUsages.{HeadUsages}
-use Rattle.cycle_heads.specs.Candidates.{UsagesByHead}
-use Rattle.cycle_heads.specs.Heads.{Heads, at_depth}
-use Rattle.cycle_heads.specs.HeadShapes.{has_rank, count_at, heads_shape}
-use Rattle.cycle_heads.specs.Paths.{has_kind}
-use Rattle.cycle_heads.specs.Usages.{count_of, no_usages}
+use Rattle.search_graph.specs.Below.{Includes, IncludesBelow, StackDepth, PathKind, Inductive, Unknown, Coinductive, ForcedAmbiguity, PathsToNested, CycleHead, HeadUsages, UsagesByHead, Heads, at_depth, has_rank, count_at, heads_shape, has_kind, count_of, no_usages}
 use Rattle.cycle_heads.proofs.Counts.{count_of-usages_by}
 use Rattle.cycle_heads.proofs.HeadShapes.{IsIn}
-use Rattle.search_graph.specs.Tallies.{Tally, IsCovered, IsTallied, LieBelow, candidate_at, candidates_count, counted, head_with, heads_of, heads_with, spare, spare_count, spare_heads, usages_of}
+use Rattle.search_graph.specs.Words.{Tally, IsCovered, IsTallied, LieBelow, candidate_at, candidates_count, counted, head_with, heads_of, heads_with, spare, spare_count, spare_heads, usages_of}
 
 -- ---- counts
 

@@ -1,8 +1,6 @@
 -- Verdicts, and the tests of results that they stand for.
 use Rattle.std.proofs.Common.{◌≡◌, ◌↔◌, Bool, true, false, IsTrue, refl, sym, ◌∙◌}
-use Rattle.search_parts.specs.declared.context.Verdict.{Verdict}
-use Rattle.search_parts.specs.declared.context.Verdict.TheVariants.{Yes, No, Neither}
-use Rattle.open_goals.specs.Progress.{is_same_verdict}
+use Rattle.search_graph.specs.Below.{Verdict, Yes, No, Neither, is_same_verdict}
 
 pub same_verdict : (v w : Verdict) → is_same_verdict v w ≡ true → v ≡ w
 same_verdict Yes Yes is = refl

@@ -1,9 +1,6 @@
 -- An outer call, and the limits of what it may do.
 use Rattle.std.specs.Prelude.{◌≡◌, ℕ, ◌+◌, ◌<◌, ◌≤◌, ◌^◌, max, Bool, true, false}
-use Rattle.search_parts.specs.declared.context.Delegate as Delegate
-use Rattle.search_parts.specs.declared.context.Cx as Cx
-use Rattle.search_parts.specs.Rank.{IsPlainTo, frames_within}
-use Rattle.evaluations.specs.Evaluation.{Limits}
+use Rattle.search_graph.specs.Below.{DelegateOf, CxOf, IsPlainTo, frames_within, Limits}
 
 -- An outer call: its goal and depth, the frames started before it, and whether a limit was met before it; whether it is known that
 -- no result that met overflow was stored before it, and that each stored result was yes or no.
@@ -23,7 +20,7 @@ pub record Outset {I : Type 0} (call : Call I) (input : I) (root starts : ℕ) (
   pub same_starts : call.starts ≡ starts
   pub same_limits : call.limits_met ≡ met
 
-module _ {D C V P F I R A T : Type 0} (G : Delegate.Ghosts D C V P F I R A T) (X : Cx.Ghosts C I R A T) (cx : C) where
+module _ {D C V P F I R A T : Type 0} (G : DelegateOf D C V P F I R A T) (X : CxOf C I R A T) (cx : C) where
   -- the most runs of one goal
   abbrev pub runs : ℕ
   runs = max 1 G.FIXPOINT_STEP_LIMIT

@@ -1,12 +1,7 @@
 -- Goals under evaluation whose answers are all yes or no so far.
 use Rattle.std.specs.Prelude.{◌≡◌, Bool, true, false, List, [], ◌∷◌, reverse}
 use Rattle.std.specs.Option.{IfSome}
-use Rattle.search_parts.specs.declared.context.Request.{Request}
-use Rattle.search_parts.specs.declared.context.Reply.{Reply}
-use Rattle.search_parts.specs.declared.parts.stack.StackEntry.{StackEntry}
-use Rattle.search_parts.specs.Decisive.{IsDecidedKind, AreDecided, IsDecisive}
-use Rattle.search_parts.specs.Definite.{IsDefinite}
-use Rattle.open_goals.specs.declared.goals.Run.{Run}
+use Rattle.search_graph.specs.Below.{Request, Reply, StackEntry, IsDecidedKind, AreDecided, IsDecisive, IsDefinite, Run}
 
 module _ {X F I R A T : Type 0} (is_yes is_no : R → Bool) where
   -- the replies of the goal's run and its provisional result are decided

@@ -1,32 +1,13 @@
 -- What holds of the goals under evaluation between two moves of a call.
 use Rattle.std.specs.Prelude.{◌≡◌, ℕ, ◌<◌, ◌≤◌, Bool, false, List, [], ◌∷◌, map}
-use Rattle.search_parts.specs.declared.context.Delegate as Delegate
-use Rattle.search_parts.specs.declared.context.Cx as Cx
-use Rattle.search_parts.specs.declared.context.Request.{Request}
-use Rattle.search_parts.specs.declared.context.Reply.{Reply}
-use Rattle.search_parts.specs.declared.context.Fault.{Fault}
-use Rattle.search_parts.specs.declared.global_cache.results.StoredResult.{StoredResult}
-use Rattle.search_parts.specs.declared.parts.provisional_cache.ProvisionalCacheEntry.{ProvisionalCacheEntry}
-use Rattle.search_parts.specs.Provisional.{Lists}
-use Rattle.search_parts.specs.Store.{Store}
+use Rattle.search_graph.specs.Below.{DelegateOf, CxOf, Request, Reply, Fault, StoredResult, ProvisionalCacheEntry, Lists, Store, Memory, Outcome, IsPlainTo, Ends, Stops, steps_ahead, Waits, HasRequested, IsDecidedReply, IsDefinite, is_in_cycle, Item, Stood, Next, Step, Finished}
 use Rattle.search_graph.specs.Results.{AreDefinite, HaveNoOverflow}
-use Rattle.search_parts.specs.declared.context.Fault.TheVariants.{Memory}
-use Rattle.evaluations.specs.Frames.{Frame, Outcome}
-use Rattle.search_parts.specs.Rank.{IsPlainTo}
-use Rattle.evaluations.specs.Evaluation.{Ends, Stops}
-use Rattle.evaluations.specs.Starts.{steps_ahead}
-use Rattle.evaluations.specs.Mirror.{Waits, HasRequested}
+use Rattle.evaluations.specs.Frames.{Frame}
 use Rattle.search_graph.specs.Calls.{Call, Outset, runs, limits, bound, IsCounted, KeepsLimits}
-use Rattle.search_parts.specs.Decisive.{IsDecidedReply}
-use Rattle.search_parts.specs.Definite.{IsDefinite}
 use Rattle.search_graph.specs.Decided.{AllDecided, WhereDecisive}
 use Rattle.search_graph.specs.Provisional.{EntriesDefinite, EntriesMetNone}
-use Rattle.open_goals.specs.Entries.{is_in_cycle}
-use Rattle.open_goals.specs.Steps.{Item, Stood}
-use Rattle.open_goals.specs.declared.goals.Next.{Next}
-use Rattle.open_goals.specs.declared.goals.Next.TheVariants.{Step, Finished}
 
-module _ {D C V P F I R A T : Type 0} (G : Delegate.Ghosts D C V P F I R A T) (X : Cx.Ghosts C I R A T) (cx : C) where
+module _ {D C V P F I R A T : Type 0} (G : DelegateOf D C V P F I R A T) (X : CxOf C I R A T) (cx : C) where
   -- an item as a frame of the theory, but for its replies
   abbrev pub seen : Item G X cx → Frame I R
   seen s = record {

@@ -2,15 +2,7 @@
 use Rattle.std.specs.Prelude.{◌≡◌, Bool, List, Option, None, Some}
 use Rattle.std.specs.Option.{IsSomeAnd}
 use Rattle.open_graphs.specs.Graph as theory
-use Rattle.open_graphs.specs.Use.{Use}
-use Rattle.open_graphs.specs.State.{stack_of, no_heads}
-use Rattle.search_parts.specs.declared.context.NodeId.{NodeId}
-use Rattle.search_parts.specs.declared.global_cache.results.Place.{Place}
-use Rattle.search_parts.specs.declared.global_cache.results.StoredResult.{StoredResult}
-use Rattle.search_parts.specs.Cache.{CacheNode, IsNodeOf}
-use Rattle.search_parts.specs.Definite.{IsDefinite}
-use Rattle.search_parts.specs.Shapes.{verdict_of, shapes_of}
-use Rattle.search_parts.specs.Store.{Store, stored_at}
+use Rattle.search_graph.specs.Below.{Use, stack_of, no_heads, NodeId, Place, StoredResult, CacheNode, IsNodeOf, IsDefinite, verdict_of, shapes_of, Store, stored_at}
 use Rattle.search_graph.specs.Justified.{OpenRun, frames_of}
 
 -- A definite result comes with a node of the goal whose graph has the result's verdict and leads to no goal under evaluation;

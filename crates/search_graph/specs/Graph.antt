@@ -1,26 +1,14 @@
 -- What a search graph is between its calls, and what its answers say.
 use Rattle.std.specs.Prelude.{◌≡◌, ◌≢◌, ◌⊎◌, ℕ, Bool, true, List, Option, Some}
 use Rattle.std.specs.Option.{IsSomeAnd, option_map}
-use Rattle.search_parts.specs.declared.context.Cx as Cx
-use Rattle.search_parts.specs.declared.context.Delegate as Delegate
-use Rattle.search_parts.specs.declared.context.NodeId.{NodeId}
-use Rattle.search_parts.specs.declared.context.Request.{Request}
-use Rattle.search_parts.specs.declared.context.Request.TheVariants.{Done}
-use Rattle.search_parts.specs.declared.context.Reply.{Reply}
-use Rattle.search_parts.specs.declared.context.Fault.{Fault}
-use Rattle.search_parts.specs.declared.context.Fault.TheVariants.{Conflict, Memory, Protocol}
-use Rattle.search_parts.specs.declared.global_cache.results.Place.{Place}
-use Rattle.search_parts.specs.Run.{IsFitting, fault_after, request_after}
-use Rattle.search_parts.specs.Store.{stored_at}
-use Rattle.search_parts.specs.Cache.{Cache, graph_nodes_of}
-use Rattle.search_parts.specs.Graph.{GraphNode, IsProofGraph, IsRefutationGraph}
+use Rattle.search_graph.specs.Below.{CxOf, DelegateOf, NodeId, Request, Done, Reply, Fault, Conflict, Memory, Protocol, Place, IsFitting, fault_after, request_after, stored_at, Cache, graph_nodes_of, GraphNode, IsProofGraph, IsRefutationGraph}
 
 -- the depth that its goals get, and whether a limit was met
 pub record Graph : Type 0 where
   pub root_depth : ℕ
   pub limits_met : Bool
 
-module _ {C I R A T : Type 0} (X : Cx.Ghosts C I R A T) (cache : Cache C I R A T) (goal : I) (node : Option NodeId) where
+module _ {C I R A T : Type 0} (X : CxOf C I R A T) (cache : Cache C I R A T) (goal : I) (node : Option NodeId) where
   -- the node is the root of a proof graph of the goal, which has no refutation graph anywhere
   pub record IsProved : Type 0 where
     pub graph : IsSomeAnd node (λ root. IsProofGraph (X.proves cache.cx) (graph_nodes_of cache.nodes) root.0 goal)
@@ -37,7 +25,7 @@ ComesTo {I} {R} scripts limit_result goal r =
     ((replies : List (Reply R)) × IsFitting (scripts goal) replies × (request_after (scripts goal) replies ≡ Some (Done r)))
     ⊎ (r ≡ limit_result goal)
 
-module _ {D C V P F I R A T : Type 0} (G : Delegate.Ghosts D C V P F I R A T) (X : Cx.Ghosts C I R A T) (same : I → I → Bool) (cache : Cache C I R A T) where
+module _ {D C V P F I R A T : Type 0} (G : DelegateOf D C V P F I R A T) (X : CxOf C I R A T) (same : I → I → Bool) (cache : Cache C I R A T) where
   -- The goal came to `found`, and the cache holds another result of it in the same place. If `found` is yes or no, that has its graph.
   pub record Conflicts (goal : I) (stored found : R) : Type 0 where
     pub place : Place

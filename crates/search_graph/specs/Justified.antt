@@ -3,23 +3,7 @@
 use Rattle.std.specs.Prelude.{◌≡◌, ◌≢◌, ℕ, Bool, true, if◌then◌else◌, List, [], ◌∷◌, length, map, is_some, Option, None, Some, slice_get}
 use Rattle.std.specs.Option.{IsSomeAnd, option_map}
 use Rattle.open_graphs.specs.Graph as theory
-use Rattle.open_graphs.specs.Run.{IsAnswered}
-use Rattle.open_graphs.specs.State.{Frame, stack_of, IsSound}
-use Rattle.cycle_heads.specs.declared.path.PathKind.{PathKind}
-use Rattle.search_parts.specs.declared.context.Verdict.{Verdict}
-use Rattle.search_parts.specs.declared.context.Verdict.TheVariants.{Yes, No, Neither}
-use Rattle.search_parts.specs.declared.context.Request.{Request}
-use Rattle.search_parts.specs.declared.context.Request.TheVariants.{Evaluate}
-use Rattle.search_parts.specs.declared.context.Reply.{Reply}
-use Rattle.search_parts.specs.declared.context.Reply.TheVariants.{Answer}
-use Rattle.search_parts.specs.declared.context.NodeId.{NodeId}
-use Rattle.search_parts.specs.declared.context.Edge.{Edge}
-use Rattle.cycle_heads.specs.HeadShapes.{heads_shape}
-use Rattle.cycle_heads.specs.Path.{rank_of}
-use Rattle.search_parts.specs.Cache.{CacheNode, open_goal, IsNodeOf}
-use Rattle.search_parts.specs.Shapes.{verdict_of, edge_shape, shapes_of}
-use Rattle.open_goals.specs.declared.progress.DefiniteAnswer.{DefiniteAnswer}
-use Rattle.open_goals.specs.Progress.{is_kept}
+use Rattle.search_graph.specs.Below.{IsAnswered, Frame, stack_of, IsSound, PathKind, Verdict, Yes, No, Neither, Request, Evaluate, Reply, Answer, NodeId, Edge, heads_shape, rank_of, CacheNode, open_goal, IsNodeOf, verdict_of, edge_shape, shapes_of, DefiniteAnswer, is_kept}
 use Rattle.search_graph.specs.Tallies.{Tally, IsTallied, spare_heads, heads_of}
 
 -- A goal under evaluation: the step by which it was asked; the node of its present run, and the one to which the answers of its

@@ -2,12 +2,8 @@
 use Rattle.std.specs.Prelude.{◌≡◌, ℕ, Bool, List, Option, None}
 use Rattle.std.specs.Option.{IsSomeAnd}
 use Rattle.open_graphs.specs.Graph as theory
-use Rattle.open_graphs.specs.Use.{Heads, Stored}
-use Rattle.open_graphs.specs.State.{Kept, stack_of}
-use Rattle.search_parts.specs.declared.context.NodeId.{NodeId}
-use Rattle.search_parts.specs.Cache.{CacheNode, IsNodeOf}
-use Rattle.search_parts.specs.Definite.{IsDefinite}
-use Rattle.search_parts.specs.Shapes.{verdict_of, shapes_of}
+use Rattle.search_graph.specs.Below.{Stored, Kept, stack_of, NodeId, CacheNode, IsNodeOf, IsDefinite, verdict_of, shapes_of}
+use Rattle.open_graphs.specs.Use.{Heads}
 use Rattle.search_graph.specs.Justified.{OpenRun, frames_of}
 
 -- An answer with its node: the place of its highest head, the kind of the path from there, and its heads.

@@ -2,14 +2,7 @@
 use Rattle.std.specs.Prelude.{ℕ, Bool, is_some, None, Some}
 use Rattle.std.specs.Option.{option_map}
 use Rattle.open_graphs.specs.Rebased as theory
-use Rattle.open_graphs.specs.State.{Kept}
-use Rattle.cycle_heads.specs.Heads.{Heads, at_depth, highest}
-use Rattle.cycle_heads.specs.HeadShapes.{heads_shape}
-use Rattle.cycle_heads.specs.Path.{rank_of}
-use Rattle.search_parts.specs.declared.parts.provisional_cache.ProvisionalCacheEntry.{ProvisionalCacheEntry}
-use Rattle.search_parts.specs.declared.parts.provisional_cache.RebaseReason.{RebaseReason}
-use Rattle.search_parts.specs.declared.parts.provisional_cache.RebaseReason.TheVariants.{NoCycleUsages, Ambiguity, Overflow, ReachedFixpoint}
-use Rattle.search_parts.specs.Shapes.{verdict_of}
+use Rattle.search_graph.specs.Below.{Kept, Heads, at_depth, highest, heads_shape, rank_of, ProvisionalCacheEntry, RebaseReason, NoCycleUsages, Ambiguity, Overflow, ReachedFixpoint, verdict_of}
 
 -- the depths at which a head is recorded
 abbrev pub depths_of : Heads → ℕ → Bool

@@ -14,3 +14,5 @@ pub mod Lists
 pub mod KeptShapes
 pub mod Provisional
 pub mod Evaluating
+pub mod Below
+pub mod Words

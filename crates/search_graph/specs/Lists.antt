@@ -1,17 +1,8 @@
 -- What a list of queries is answered with. A query is a root depth, a goal, and the kind of the step that asks it.
 use Rattle.std.specs.Prelude.{◌≡◌, ℕ, ◌≤◌, Bool, true, false, List, ◌++◌, None, IfSome, Result, IfOk, IfErr}
 use Rattle.std.specs.List.{AllZip, sum_by}
-use Rattle.search_parts.specs.declared.context.Cx as Cx
-use Rattle.search_parts.specs.declared.context.Delegate as Delegate
+use Rattle.search_graph.specs.Below.{CxOf, DelegateOf, Fault, Memory, PathKind, Cache, KeepsFinished, HasGraph, IsWhole, IsPlainTo, IsPlainValue, frames_within, KeepsResults}
 use Rattle.search_parts.specs.declared.context.Answer.{Answer}
-use Rattle.search_parts.specs.declared.context.Fault.{Fault}
-use Rattle.search_parts.specs.declared.context.Fault.TheVariants.{Memory}
-use Rattle.cycle_heads.specs.declared.path.PathKind.{PathKind}
-use Rattle.search_parts.specs.Cache.{Cache, KeepsFinished}
-use Rattle.search_parts.specs.Definite.{HasGraph}
-use Rattle.search_parts.specs.HandedOut.{IsWhole}
-use Rattle.search_parts.specs.Rank.{IsPlainTo, IsPlainValue, frames_within}
-use Rattle.search_parts.specs.Store.{KeepsResults}
 use Rattle.search_graph.specs.Graph.{IsProved, IsRefuted, IsCaused}
 
 -- the new list has the items of the old one, and then one for each query, in order, of which this holds
@@ -24,7 +15,7 @@ pub record Appends {Q A : Type 0} (Holds : Q → A → Type 0) (queries : List Q
 abbrev pub frames_for : {I : Type 0} → ℕ → ℕ → List (ℕ × I × PathKind) → ℕ
 frames_for runs width queries = sum_by (λ query. frames_within runs width query.0) queries
 
-module _ {D C V P F I R A T : Type 0} (G : Delegate.Ghosts D C V P F I R A T) (X : Cx.Ghosts C I R A T) (same : I → I → Bool) (cache : Cache C I R A T) where
+module _ {D C V P F I R A T : Type 0} (G : DelegateOf D C V P F I R A T) (X : CxOf C I R A T) (same : I → I → Bool) (cache : Cache C I R A T) where
   -- the fault has its cause in a cache whose results and finished nodes this one has still
   pub record HadCause (fault : Fault I R) : Type 0 where
     pub before : Cache C I R A T

@@ -2,28 +2,7 @@
 use Rattle.std.specs.Prelude.{◌≡◌, ℕ, ◌<◌, ◌≤◌, Bool, true, false, not, ◌&&◌, if◌then◌else◌, List, length, All, Option, None, is_some, Some}
 use Rattle.std.specs.List.{find, list_all, list_any}
 use Rattle.std.specs.Option.{IfSome}
-use Rattle.cycle_heads.specs.Heads.{highest}
-use Rattle.cycle_heads.specs.Paths.{extended, has_kind}
-use Rattle.cycle_heads.specs.declared.path.PathsToNested.{PathsToNested}
-use Rattle.search_parts.specs.Cycle.{path_kind_from}
-use Rattle.search_parts.specs.Provisional.{Lists, entries_at}
-use Rattle.search_parts.specs.Reuse.{highest_passes, may_be_used}
-use Rattle.search_parts.specs.declared.parts.provisional_cache.ProvisionalCacheEntry.{ProvisionalCacheEntry}
-use Rattle.cycle_heads.specs.declared.path.PathKind.{PathKind}
-use Rattle.search_parts.specs.declared.context.Request.{Request}
-use Rattle.search_parts.specs.declared.context.Reply.{Reply}
-use Rattle.search_parts.specs.declared.context.Reply.TheVariants.{Answer}
-use Rattle.search_parts.specs.declared.global_cache.results.Place.{Place}
-use Rattle.search_parts.specs.declared.global_cache.results.Place.TheVariants.{WithOverflow}
-use Rattle.search_parts.specs.declared.global_cache.results.StoredResult.{StoredResult}
-use Rattle.search_parts.specs.declared.parts.stack.StackEntry.{StackEntry}
-use Rattle.search_parts.specs.LookUp.{Hit}
-use Rattle.search_parts.specs.Nested.{NestedPaths, paths_at}
-use Rattle.search_parts.specs.Rank.{IsPlain, IsBelowRank}
-use Rattle.search_parts.specs.Store.{Store, stored_at}
-use Rattle.open_goals.specs.declared.goals.Received.{Received}
-use Rattle.open_goals.specs.declared.goals.Run.{Run}
-use Rattle.open_goals.specs.NestedGoals.{TakesStored}
+use Rattle.search_graph.specs.Below.{highest, extended, has_kind, PathsToNested, path_kind_from, Lists, entries_at, highest_passes, may_be_used, ProvisionalCacheEntry, PathKind, Request, Reply, Answer, Place, WithOverflow, StoredResult, StackEntry, Hit, NestedPaths, paths_at, IsPlain, IsBelowRank, Store, stored_at, Received, Run, TakesStored}
 
 -- where a question is asked: the stack, the answers that rest on it, by goal, and the step
 pub record Asking (X I R A T : Type 0) : Type 0 where

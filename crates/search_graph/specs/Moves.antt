@@ -1,25 +1,8 @@
 -- The moves that put a goal on top, run it again, and take it.
 use Rattle.std.specs.Prelude.{◌≡◌, ◌+◌, ◌<◌, ◌≤◌, ◌^◌, ◌||◌, false, List, [], ◌∷◌, map, reverse, Option, Some, slice_get, unwrap_or}
-use Rattle.search_parts.specs.declared.context.Delegate as Delegate
-use Rattle.search_parts.specs.declared.context.Cx as Cx
-use Rattle.search_parts.specs.declared.context.Reply.{Reply}
-use Rattle.search_parts.specs.declared.context.Reply.TheVariants.{Answer}
-use Rattle.search_parts.specs.declared.context.NodeId.{NodeId}
-use Rattle.cycle_heads.specs.declared.path.PathKind.{PathKind}
-use Rattle.search_parts.specs.declared.parts.depth.AvailableDepth.{AvailableDepth}
-use Rattle.cycle_heads.specs.declared.depth.StackDepth.{StackDepth}
-use Rattle.search_parts.specs.declared.parts.result.EvaluationResult.{EvaluationResult}
-use Rattle.search_parts.specs.declared.parts.stack.StackEntry.{StackEntry}
-use Rattle.search_parts.specs.Cycle.{path_kind_from}
-use Rattle.open_goals.specs.Entries.{cycle_head, first_entry}
-use Rattle.open_goals.specs.Items.{AnswersNewest, rerun_with, with_no_record}
-use Rattle.open_goals.specs.Progress.{no_record}
-use Rattle.open_goals.specs.Steps.{Item}
-use Rattle.open_goals.specs.declared.goals.Run.{Run}
-use Rattle.open_goals.specs.declared.goals.Next.{Next}
-use Rattle.open_goals.specs.declared.goals.Next.TheVariants.{Step, Finished}
+use Rattle.search_graph.specs.Below.{DelegateOf, CxOf, Reply, Answer, NodeId, PathKind, AvailableDepth, StackDepth, EvaluationResult, StackEntry, path_kind_from, cycle_head, first_entry, AnswersNewest, rerun_with, with_no_record, no_record, Item, Run, Next, Step, Finished}
 
-module _ {D C V P F I R A T : Type 0} (G : Delegate.Ghosts D C V P F I R A T) (X : Cx.Ghosts C I R A T) (cx : C) where
+module _ {D C V P F I R A T : Type 0} (G : DelegateOf D C V P F I R A T) (X : CxOf C I R A T) (cx : C) where
   -- a frame of the goal that has had no reply
   pub record IsFresh (frame : F) (goal : I) : Type 0 where
     pub stood : G.stands frame cx goal []

@@ -1,27 +1,7 @@
 -- The answers in the provisional cache: why each of them may be used, and what becomes of them when the newest goal is taken.
 use Rattle.std.specs.Prelude.{◌≡◌, ◌≢◌, ◌⊎◌, ◌||◌, ◌&&◌, Bool, false, if◌then◌else◌, List, [], ◌∷◌, ◌++◌, length, map, reverse, All, IsSome, Option, None, Some}
 use Rattle.std.specs.List.{filter_map}
-use Rattle.open_graphs.specs.Rebased.{IsTrueReason}
-use Rattle.cycle_heads.specs.declared.depth.StackDepth.{StackDepth}
-use Rattle.cycle_heads.specs.declared.path.PathKind.{PathKind}
-use Rattle.cycle_heads.specs.Heads.{at_depth, highest, IsRising}
-use Rattle.cycle_heads.specs.HeadShapes.{heads_shape}
-use Rattle.cycle_heads.specs.Path.{rank_of}
-use Rattle.search_parts.specs.declared.context.NodeId.{NodeId}
-use Rattle.search_parts.specs.declared.context.Request.{Request}
-use Rattle.search_parts.specs.declared.context.Reply.{Reply}
-use Rattle.search_parts.specs.declared.parts.result.EvaluationResult.{EvaluationResult}
-use Rattle.search_parts.specs.declared.parts.stack.StackEntry.{StackEntry}
-use Rattle.search_parts.specs.declared.parts.provisional_cache.ProvisionalCacheEntry.{ProvisionalCacheEntry}
-use Rattle.search_parts.specs.declared.parts.provisional_cache.RebaseReason.{RebaseReason}
-use Rattle.search_parts.specs.Cache.{CacheNode}
-use Rattle.search_parts.specs.Cycle.{path_kind_from}
-use Rattle.search_parts.specs.Definite.{IsDefinite}
-use Rattle.search_parts.specs.Provisional.{Lists, entries_at}
-use Rattle.search_parts.specs.Rank.{HasNoRank}
-use Rattle.search_parts.specs.Rebasing.{rebased, settled}
-use Rattle.search_parts.specs.Shapes.{verdict_of}
-use Rattle.open_goals.specs.declared.goals.Run.{Run}
+use Rattle.search_graph.specs.Below.{IsTrueReason, StackDepth, PathKind, at_depth, highest, IsRising, heads_shape, rank_of, NodeId, Request, Reply, EvaluationResult, StackEntry, ProvisionalCacheEntry, RebaseReason, CacheNode, path_kind_from, IsDefinite, Lists, entries_at, HasNoRank, rebased, settled, verdict_of, Run}
 use Rattle.search_graph.specs.Justified.{OpenRun, frame_of}
 use Rattle.search_graph.specs.KeptAnswers.{KeptAnswer, IsKept}
 use Rattle.search_graph.specs.KeptShapes.{highest_depth, reason_shape}

@@ -1,18 +1,7 @@
 -- The stored results, as calls rely on them and change them.
 use Rattle.std.specs.Prelude.{◌≡◌, ℕ, Bool, ◌||◌, if◌then◌else◌, List, [], ◌∷◌, None, Some}
 use Rattle.std.specs.Option.{option_map}
-use Rattle.search_parts.specs.declared.global_cache.results.Place.{Place}
-use Rattle.search_parts.specs.declared.global_cache.results.Place.TheVariants.{Success, WithOverflow}
-use Rattle.search_parts.specs.declared.global_cache.results.StoredResult.{StoredResult}
-use Rattle.search_parts.specs.declared.context.Request.{Request}
-use Rattle.search_parts.specs.declared.context.Reply.{Reply}
-use Rattle.search_parts.specs.declared.parts.result.EvaluationResult.{EvaluationResult}
-use Rattle.search_parts.specs.declared.parts.stack.StackEntry.{StackEntry}
-use Rattle.search_parts.specs.Definite.{IsDefinite}
-use Rattle.search_parts.specs.Store.{Store, stored_at, place_of, stored_from, Puts}
-use Rattle.search_parts.specs.Rank.{IsPlainTo}
-use Rattle.search_parts.specs.Stored.{IsPlainAt}
-use Rattle.open_goals.specs.declared.goals.Run.{Run}
+use Rattle.search_graph.specs.Below.{Place, Success, WithOverflow, StoredResult, Request, Reply, EvaluationResult, StackEntry, IsDefinite, Store, stored_at, place_of, stored_from, Puts, IsPlainTo, IsPlainAt, Run}
 use Rattle.search_graph.specs.Graph.{ComesTo}
 
 -- no result is stored that met overflow

@@ -1,9 +1,6 @@
 -- What becomes of a goal whose run has ended.
 use Rattle.std.specs.Prelude.{◌≡◌, ◌≢◌, ◌⊎◌, ℕ, ◌+◌, ◌<◌, ◌≤◌, Bool, true, IsSome, Option, None, Some, Result, Ok, Err}
-use Rattle.cycle_heads.specs.declared.path.PathKind.{PathKind}
-use Rattle.cycle_heads.specs.declared.usages.HeadUsages.{HeadUsages}
-use Rattle.cycle_heads.specs.Usages.{count_of}
-use Rattle.search_parts.specs.declared.parts.provisional_cache.RebaseReason.{RebaseReason}
+use Rattle.search_graph.specs.Below.{PathKind, HeadUsages, count_of, RebaseReason}
 use Rattle.search_parts.specs.declared.parts.provisional_cache.RebaseReason.TheVariants as reason
 use Rattle.search_graph.specs.declared.graph.finish.Unstable.{Unstable}
 use Rattle.search_graph.specs.declared.graph.finish.Unstable.TheVariants.{AtLimit, Again}

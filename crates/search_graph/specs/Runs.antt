@@ -2,20 +2,8 @@
 use Rattle.std.specs.Prelude.{◌≡◌, ◌≢◌, Bool, List, [], ◌∷◌, map, Option, None, Some}
 use Rattle.std.specs.Option.{option_map}
 use Rattle.open_graphs.specs.Graph as theory
-use Rattle.search_parts.specs.declared.context.NodeId.{NodeId}
-use Rattle.search_parts.specs.declared.context.Request.{Request}
-use Rattle.search_parts.specs.declared.context.Request.TheVariants.{Done}
-use Rattle.search_parts.specs.declared.context.Reply.{Reply}
-use Rattle.search_parts.specs.declared.parts.stack.StackEntry.{StackEntry}
-use Rattle.search_parts.specs.Run.{IsFitting, request_after}
-use Rattle.search_parts.specs.Cache.{EndedRun, CacheNode, open_goal, with_run}
-use Rattle.search_parts.specs.Shapes.{verdict_of}
-use Rattle.open_goals.specs.declared.goals.Run.{Run}
-use Rattle.open_goals.specs.declared.goals.Next.{Next}
-use Rattle.open_goals.specs.declared.goals.Next.TheVariants.{Step, Finished}
-use Rattle.open_goals.specs.Progress.{RunRecord, Records, acted}
+use Rattle.search_graph.specs.Below.{NodeId, Request, Done, Reply, StackEntry, IsFitting, request_after, EndedRun, CacheNode, open_goal, with_run, verdict_of, Run, Next, Step, Finished, RunRecord, Records, acted, HasGraph}
 use Rattle.search_graph.specs.Tallies.{tally_of}
-use Rattle.search_parts.specs.Definite.{HasGraph}
 use Rattle.search_graph.specs.Justified.{OpenRun, AreJustified, IsFit, ArePlaced, AreEdges}
 
 module _ {X F I R A T : Type 0} where

@@ -4,15 +4,7 @@ use Rattle.std.specs.Prelude.{◌≡◌, ◌⊎◌, ℕ, ◌+◌, ◌-◌, ◌^�
 use Rattle.std.specs.List.{sum_by}
 use Rattle.std.specs.Option.{option_map}
 use Rattle.open_graphs.specs.Use as theory
-use Rattle.cycle_heads.specs.declared.depth.StackDepth.{StackDepth}
-use Rattle.cycle_heads.specs.declared.heads.CycleHead.{CycleHead}
-use Rattle.cycle_heads.specs.declared.path.PathKind.{PathKind}
-use Rattle.cycle_heads.specs.declared.usages.HeadUsages.{HeadUsages}
-use Rattle.cycle_heads.specs.Candidates.{UsagesByHead}
-use Rattle.cycle_heads.specs.Heads.{Heads, at_depth}
-use Rattle.cycle_heads.specs.HeadShapes.{head_shape}
-use Rattle.cycle_heads.specs.Usages.{count_of, no_usages, usages_by}
-use Rattle.search_parts.specs.declared.parts.stack.EntryState.{EntryState}
+use Rattle.search_graph.specs.Below.{StackDepth, CycleHead, PathKind, HeadUsages, UsagesByHead, Heads, at_depth, head_shape, count_of, no_usages, usages_by, EntryState}
 
 -- what is counted of one goal
 abbrev pub usages_of : UsagesByHead → StackDepth → HeadUsages

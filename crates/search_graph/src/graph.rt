@@ -1,17 +1,8 @@
 //! The search graph. It keeps the goals under evaluation in one list and works through them in one loop, so
 //! that no depth of goals takes native stack.
 ghost use Rattle.std.specs.Prelude.{◌≡◌, ◌≤◌, ◌+◌, ℕ, Bool, true, false, None, IsTrue, IfOk, IfErr, IfSome, Ok, Err, [], ◌≢◌, max};
-ghost use Rattle.search_parts.specs.LookUp.{first_accepted, usable};
-ghost use Rattle.search_parts.specs.Rank.{IsPlainTo, IsPlainValue, frames_within};
-ghost use Rattle.search_parts.specs.Store.{KeepsResults};
-ghost use Rattle.search_parts.specs.declared.context.Fault.TheVariants.{Memory, Protocol};
-ghost use Rattle.search_parts.specs.Cache.{KeepsFinished};
-ghost use Rattle.search_parts.specs.HandedOut.{IsWhole, KeepsWhole};
-ghost use Rattle.search_parts.specs.Decisive.{IsDecisive};
-ghost use Rattle.search_parts.specs.Definite.{IsDefinite, HasGraph};
-ghost use Rattle.evaluations.specs.Price.{IsPaid};
-ghost use Rattle.search_graph.specs.Graph.{IsCaused, IsProved, IsRefuted};
-ghost use Rattle.search_graph.specs.Results.{AreDefinite, HaveNoOverflow};
+ghost use Rattle.search_graph.specs.Below.{first_accepted, usable, IsPlainTo, IsPlainValue, frames_within, KeepsResults, Memory, Protocol, KeepsFinished, IsWhole, KeepsWhole, IsDecisive, IsDefinite, HasGraph, IsPaid};
+ghost use Rattle.search_graph.specs.Words.{IsCaused, IsProved, IsRefuted, AreDefinite, HaveNoOverflow};
 
 mod evaluate;
 mod finish;

@@ -6,20 +6,10 @@ use Rattle.std.proofs.Common.{◌≡◌, ℕ, zero, max, Bool, true, false, if�
 use Rattle.std.specs.Option.{IsSome, IsSomeAnd}
 use Rattle.std.proofs.lemmas.Option.{slice_get-map, slice_get-get_or}
 use Rattle.open_graphs.specs.Graph as theory
-use Rattle.open_graphs.specs.Graph.{Walk, stay, go, cycle_kind}
+use Rattle.search_parts.specs.Below.{Walk, stay, go, cycle_kind, PathKind, Inductive, Coinductive, rank_of}
 use Rattle.open_graphs.proofs.Verdicts.{edges_of}
-use Rattle.cycle_heads.specs.declared.path.PathKind.{PathKind}
-use Rattle.cycle_heads.specs.declared.path.PathKind.TheVariants.{Inductive, Coinductive}
-use Rattle.search_parts.specs.declared.context.Request.{Request}
-use Rattle.search_parts.specs.declared.context.Reply.{Reply}
-use Rattle.search_parts.specs.declared.context.Edge.{Edge}
-use Rattle.search_parts.specs.Question.{Question}
-use Rattle.cycle_heads.specs.Path.{rank_of}
-use Rattle.search_parts.specs.Run.{EndsIn, progress_after, questions_answered}
-use Rattle.search_parts.specs.Graph.{GraphNode, question_of, HasGoal, HasEdge, IsWalk, IsReached, walk_kind, IsGraph, IsProofGraph, IsRefutationGraph}
-use Rattle.search_parts.specs.Cache.{EndedRun, CacheNode, IsNodeOf, IsRun, AreRuns, graph_node_of, graph_nodes_of}
-use Rattle.search_parts.specs.HandedOut.{IsWhole}
-use Rattle.search_parts.specs.Shapes.{verdict_of, edge_shape, shape_of, shapes_of}
+use Rattle.search_parts.specs.Words.{Request, Reply, Edge, Question, EndsIn, progress_after, questions_answered, GraphNode, question_of, HasGoal, HasEdge, IsWalk, IsReached, walk_kind, IsProofGraph, IsRefutationGraph, EndedRun, CacheNode, IsNodeOf, IsRun, AreRuns, graph_node_of, graph_nodes_of, IsWhole, verdict_of, edge_shape, shape_of, shapes_of}
+use Rattle.search_parts.specs.Graph.{IsGraph}
 use Rattle.cycle_heads.proofs.PathRanks.{same_kind, greater_rank}
 use Rattle.search_parts.proofs.Nodes.{node_at}
 

@@ -9,7 +9,7 @@ use Rattle.std.specs.List.{filter, IsDistinct}
 use Rattle.std.specs.Map.{lookup, keys_of}
 use Rattle.std.specs.Map.Calls.{RetainsPairs}
 use Rattle.std.specs.Option.{option_map, unwrap_or, IfSome}
-use Rattle.search_parts.specs.Provisional.{entries_at, lists_of}
+use Rattle.search_parts.specs.Words.{entries_at, lists_of}
 use Rattle.search_parts.proofs.ProvisionalLists.{list_found}
 
 -- a list that isn't said to be left is empty

@@ -3,15 +3,8 @@ use Rattle.std.proofs.Common.{◌≡◌, ℕ, nat_eq, Bool, true, false, cond, �
 use Rattle.std.specs.List.{cons_option, filter_map, list_any}
 use Rattle.std.specs.Map.{lookup}
 use Rattle.std.specs.Option.{option_map, unwrap_or}
-use Rattle.cycle_heads.specs.declared.depth.StackDepth.{StackDepth}
-use Rattle.cycle_heads.specs.declared.heads.CycleHead.{CycleHead}
-use Rattle.cycle_heads.specs.declared.usages.HeadUsages.{HeadUsages}
-use Rattle.search_parts.specs.declared.parts.stack.StackEntry.{StackEntry}
-use Rattle.search_parts.specs.declared.parts.provisional_cache.ProvisionalCacheEntry.{ProvisionalCacheEntry}
-use Rattle.cycle_heads.specs.Heads.{highest}
-use Rattle.search_parts.specs.Provisional.{Lists, entries_at}
-use Rattle.search_parts.specs.Rebasing.{rebased, rebased_at}
-use Rattle.search_parts.specs.Reuse.{highest_passes}
+use Rattle.search_parts.specs.Below.{StackDepth, CycleHead, HeadUsages, highest}
+use Rattle.search_parts.specs.Words.{StackEntry, ProvisionalCacheEntry, Lists, entries_at, rebased, rebased_at, highest_passes}
 
 neither : (a b : Bool) → (a || b) ≡ false → (a ≡ false) × (b ≡ false)
 neither true b none = absurd cc

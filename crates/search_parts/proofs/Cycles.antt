@@ -1,8 +1,7 @@
 -- The greatest kind of the steps of a cycle, gathered step by step.
 use Rattle.std.proofs.Common.{◌≡◌, List, [], ◌∷◌, sym, ◌∙◌, arith}
 use Rattle.std.specs.List.{fold}
-use Rattle.cycle_heads.specs.declared.path.PathKind.{PathKind}
-use Rattle.cycle_heads.specs.Path.{greater_kind, greatest_kind}
+use Rattle.search_parts.specs.Below.{PathKind, greater_kind, greatest_kind}
 use Rattle.cycle_heads.proofs.PathRanks.{same_kind, greater_rank}
 
 -- the greater of three kinds in either grouping

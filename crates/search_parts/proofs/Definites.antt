@@ -4,15 +4,7 @@ use Rattle.std.specs.Option.{IfSome, IsSomeAnd}
 use Rattle.open_graphs.specs.Graph as theory
 use Rattle.open_graphs.proofs.Closed.{growth_keeps_graph}
 use Rattle.open_graphs.proofs.Verdicts.{edges_of}
-use Rattle.search_parts.specs.declared.context.NodeId.{NodeId}
-use Rattle.search_parts.specs.declared.context.Request.{Request}
-use Rattle.search_parts.specs.declared.context.Reply.{Reply}
-use Rattle.search_parts.specs.Graph.{IsProofGraph, IsRefutationGraph}
-use Rattle.search_parts.specs.Question.{Question}
-use Rattle.search_parts.specs.Cache.{CacheNode, IsNodeOf, KeepsGoals, KeepsFinished, AreRuns, graph_nodes_of}
-use Rattle.search_parts.specs.Shapes.{verdict_of, shapes_of}
-use Rattle.search_parts.specs.Definite.{HasGraph}
-use Rattle.search_parts.specs.HandedOut.{IsWhole}
+use Rattle.search_parts.specs.Words.{NodeId, Request, Reply, IsProofGraph, IsRefutationGraph, Question, CacheNode, IsNodeOf, KeepsGoals, KeepsFinished, AreRuns, graph_nodes_of, verdict_of, shapes_of, HasGraph, IsWhole}
 use Rattle.search_parts.proofs.Finished.{finished_stays, Grown-finished}
 use Rattle.search_parts.proofs.Bridge.{KeepsRule, whole_from_graph, yes_is_proof, no_is_refutation}
 

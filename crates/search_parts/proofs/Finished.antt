@@ -4,8 +4,7 @@ use native.Mathlib.Decide.{ℕ_discrete}
 use Rattle.std.specs.Option.{IsSomeAnd}
 use Rattle.std.proofs.lemmas.Option.{slice_get-map}
 use Rattle.open_graphs.specs.Graph as theory
-use Rattle.search_parts.specs.Cache.{EndedRun, CacheNode, open_goal, finished_node, with_run, KeepsNodes, KeepsFinished}
-use Rattle.search_parts.specs.Shapes.{run_shape, shape_of, shapes_of}
+use Rattle.search_parts.specs.Words.{EndedRun, CacheNode, open_goal, finished_node, with_run, KeepsNodes, KeepsFinished, run_shape, shape_of, shapes_of}
 use Rattle.search_parts.proofs.Nodes.{before, others_are}
 
 -- the list stays, or stays twice

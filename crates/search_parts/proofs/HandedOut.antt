@@ -6,14 +6,7 @@ use Rattle.std.proofs.lemmas.Map.Keys.{apart_from_distinct}
 use Rattle.std.proofs.lemmas.Bool.Decides.{nat_tests}
 use Rattle.std.proofs.lemmas.Option.{slice_get-map, slice_get-get_or, slice_get_within, get_or_from_slice_get}
 use Rattle.open_graphs.proofs.Lists.{get_cases}
-use Rattle.search_parts.specs.declared.context.Edge.{Edge}
-use Rattle.search_parts.specs.declared.context.Node.{Node}
-use Rattle.search_parts.specs.Cache.{CacheNode, finished_node, graph_node_of, graph_nodes_of}
-use Rattle.search_parts.specs.Found.{Finds}
-use Rattle.search_parts.specs.Graph.{GraphNode, HasEdge, IsWalk, IsReached, original_edge}
-use Rattle.search_parts.specs.HandedOut.{IsWhole, original_node, Copies}
-use Rattle.search_parts.specs.Valid.{goal_node_of, goal_nodes_of}
-use Rattle.search_parts.specs.View.{ended_node}
+use Rattle.search_parts.specs.Words.{Edge, Node, CacheNode, finished_node, graph_node_of, graph_nodes_of, Finds, GraphNode, HasEdge, IsWalk, IsReached, original_edge, IsWhole, original_node, Copies, goal_node_of, goal_nodes_of, ended_node}
 use Rattle.search_parts.proofs.Copies.{edge_node}
 use Rattle.search_parts.proofs.Finished.{found_finished}
 use Rattle.search_parts.proofs.FoundNodes.{only_number, same_number, still_within, same_originals}

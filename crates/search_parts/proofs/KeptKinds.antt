@@ -1,14 +1,8 @@
 -- Whether the kinds of cycles stay, head by head.
 use Rattle.std.proofs.Common.{◌≡◌, Bool, true, false, List, ◌∷◌, refl, sym, ◌∙◌}
 use Rattle.std.specs.List.{list_all}
-use Rattle.cycle_heads.specs.declared.path.PathKind.{PathKind}
-use Rattle.cycle_heads.specs.declared.path.PathsToNested.{PathsToNested}
-use Rattle.cycle_heads.specs.declared.depth.StackDepth.{StackDepth}
-use Rattle.cycle_heads.specs.declared.heads.CycleHead.{CycleHead}
-use Rattle.search_parts.specs.declared.parts.stack.StackEntry.{StackEntry}
-use Rattle.cycle_heads.specs.Heads.{Heads}
-use Rattle.cycle_heads.specs.Paths.{kinds_in}
-use Rattle.search_parts.specs.Rebasing.{from_head, keeps_kind}
+use Rattle.search_parts.specs.Below.{PathKind, PathsToNested, StackDepth, CycleHead, Heads, kinds_in}
+use Rattle.search_parts.specs.Words.{StackEntry, from_head, keeps_kind}
 
 module _ {X I R A T : Type 0} where
   -- the kinds stay for these heads

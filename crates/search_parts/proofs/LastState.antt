@@ -1,6 +1,6 @@
 -- A list whose last element is changed.
 use Rattle.std.proofs.Common.{◌≡◌, ℕ, zero, suc, ◌+◌, ◌<◌, List, [], ◌∷◌, ◌++◌, length, map, get_or, slice_set, refl, ap, ◌∙◌, arith}
-use Rattle.search_parts.specs.Lent.{change_last}
+use Rattle.search_parts.specs.Words.{change_last}
 
 module _ {E : Type 0} where
   set_is_change_last : (f : E → E) (es : List E) (n : ℕ) (d : E) → suc n ≡ length es → slice_set es n (f (get_or es n d)) ≡ change_last f es

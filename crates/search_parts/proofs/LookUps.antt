@@ -4,11 +4,7 @@ use Rattle.std.proofs.lemmas.List.Folds.{find-append}
 use Rattle.std.specs.Map.{lookup}
 use Rattle.std.specs.Option.{option_or}
 use Rattle.search_parts.specs.contracts.global_cache.results.PlacePartialEq.TheImpl as derived
-use Rattle.search_parts.specs.declared.global_cache.results.Place.TheVariants.{Success, WithOverflow}
-use Rattle.search_parts.specs.declared.global_cache.results.StoredResult.{StoredResult}
-use Rattle.search_parts.specs.LookUp.{Hit, successes, overflows, usable, first_accepted}
-use Rattle.search_parts.specs.Nested.{NestedPaths}
-use Rattle.search_parts.specs.Store.{Store, stored_at}
+use Rattle.search_parts.specs.Words.{Success, WithOverflow, StoredResult, Hit, successes, overflows, usable, first_accepted, NestedPaths, Store, stored_at}
 use Rattle.search_parts.proofs.Stores.{found_at}
 
 pub looks_up : {X I R A T : Type 0} (accepts : NestedPaths I → Bool) (same : I → I → Bool) (store : Store I (StoredResult X I R A T)) (input : I) (available : ℕ)

@@ -6,10 +6,8 @@ use Rattle.std.specs.Cmp.{IsEquivalence}
 use Rattle.std.specs.List.{AllByRecursion, IsDistinct}
 use Rattle.std.specs.Map.{keys_of}
 use Rattle.std.specs.Option.{option_map}
-use Rattle.cycle_heads.specs.declared.path.PathKind.{PathKind}
-use Rattle.cycle_heads.specs.declared.path.PathsToNested.{PathsToNested}
-use Rattle.search_parts.specs.Nested.{NestedPaths, paths_at, joined_paths, JoinsPaths}
-use Rattle.cycle_heads.specs.Paths.{extended}
+use Rattle.search_parts.specs.Below.{PathKind, PathsToNested, extended}
+use Rattle.search_parts.specs.Words.{NestedPaths, paths_at, joined_paths, JoinsPaths}
 
 joined-joined : (paths : Option PathsToNested) (more : PathsToNested)
     → joined_paths (joined_paths paths (Some more)) None ≡ joined_paths paths (Some more)

@@ -8,10 +8,7 @@ use Rattle.std.proofs.lemmas.Option.{slice_get-map}
 use Rattle.open_graphs.specs.Graph as theory
 use Rattle.open_graphs.proofs.Lists.{get_left, get_cases, get_set_same, get_set_other}
 use Rattle.open_graphs.proofs.Keep.{append_grows, finish_grows}
-use Rattle.search_parts.specs.declared.context.Request.{Request}
-use Rattle.search_parts.specs.declared.context.Reply.{Reply}
-use Rattle.search_parts.specs.Cache.{EndedRun, CacheNode, open_node, open_goal, with_run, IsNodeOf, IsRun, AreRuns, KeepsNodes, KeepsGoals}
-use Rattle.search_parts.specs.Shapes.{run_shape, shape_of, shapes_of}
+use Rattle.search_parts.specs.Words.{Request, Reply, EndedRun, CacheNode, open_node, open_goal, with_run, IsNodeOf, IsRun, AreRuns, KeepsNodes, KeepsGoals, run_shape, shape_of, shapes_of}
 
 -- what is at a place
 pub node_at : {I R : Type 0} (o : Option (CacheNode I R)) (goal : I) → option_map (λ n. n.goal) o ≡ Some goal → (n : CacheNode I R) × (o ≡ Some n) × (n.goal ≡ goal)

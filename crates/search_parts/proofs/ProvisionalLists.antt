@@ -7,8 +7,8 @@ use Rattle.std.specs.Global.{Vec}
 use Rattle.std.specs.List.{filter}
 use Rattle.std.specs.Option.{option_map, unwrap_or, IfSome}
 use Rattle.std.specs.Map.{lookup, set_value}
-use Rattle.search_parts.specs.declared.parts.provisional_cache.ProvisionalCacheEntry.{ProvisionalCacheEntry}
-use Rattle.search_parts.specs.Provisional.{Lists, lists_of, entries_at, PutsLast, Appends, IsKept, AreKept}
+use Rattle.search_parts.specs.Words.{ProvisionalCacheEntry, Lists, lists_of, entries_at, PutsLast, Appends}
+use Rattle.search_parts.specs.Provisional.{IsKept, AreKept}
 
 some_at_end : {E : Type 0} (es : List E) (e : E) → es ++ e ∷ [] ≢ []
 some_at_end [] e none = cc

@@ -1,16 +1,7 @@
 -- What an entry becomes, case by case.
 use Rattle.std.proofs.Common.{◌≡◌, Bool, true, false, if◌then◌else◌, length, List, Option, Some, None, refl, eq-eqb}
-use Rattle.cycle_heads.specs.declared.depth.StackDepth.{StackDepth}
-use Rattle.cycle_heads.specs.declared.heads.CycleHead.{CycleHead}
-use Rattle.search_parts.specs.declared.parts.stack.StackEntry.{StackEntry}
-use Rattle.cycle_heads.specs.declared.usages.HeadUsages.{HeadUsages}
-use Rattle.search_parts.specs.declared.parts.provisional_cache.ProvisionalCacheEntry.{ProvisionalCacheEntry}
-use Rattle.search_parts.specs.declared.parts.provisional_cache.rebasing.Settlement.{Settlement}
-use Rattle.search_parts.specs.declared.parts.provisional_cache.rebasing.Settlement.TheVariants.{Dropped, Replaced, Kept, KeptIfSingle}
-use Rattle.cycle_heads.specs.Heads.{highest}
-use Rattle.search_parts.specs.Rebasing.{rebased, rebased_used, rebased_unused}
-use Rattle.search_parts.specs.Settlement.{settled_by}
-use Rattle.cycle_heads.specs.Usages.{has_usages, other_usages}
+use Rattle.search_parts.specs.Below.{StackDepth, CycleHead, HeadUsages, highest, has_usages, other_usages}
+use Rattle.search_parts.specs.Words.{StackEntry, ProvisionalCacheEntry, Settlement, Dropped, Replaced, Kept, KeptIfSingle, rebased, rebased_used, rebased_unused, settled_by}
 
 module _ {X I R A T : Type 0} where
   module _ (stack : List (StackEntry X I R A T)) (done : StackEntry X I R A T) (settle : HeadUsages → ProvisionalCacheEntry X I R A T → Option (ProvisionalCacheEntry X I R A T)) (entry : ProvisionalCacheEntry X I R A T) (head : StackDepth × CycleHead) (top : highest entry.heads ≡ Some head) (at : head.0.0 ≡ length stack) where

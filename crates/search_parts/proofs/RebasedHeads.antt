@@ -7,14 +7,8 @@ use Rattle.std.proofs.lemmas.List.Elements.{All-cons, All-drop, All-head, All-ta
 use Rattle.std.specs.BTreeMap.{insert_entry}
 use Rattle.std.specs.List.{slice_get}
 use Rattle.std.specs.Option.{IfSome}
-use Rattle.cycle_heads.specs.declared.depth.StackDepth.{StackDepth}
-use Rattle.cycle_heads.specs.declared.heads.CycleHead.{CycleHead}
-use Rattle.cycle_heads.specs.declared.usages.HeadUsages.{HeadUsages}
-use Rattle.cycle_heads.specs.declared.path.PathsToNested.{PathsToNested}
-use Rattle.cycle_heads.specs.Heads.{at_depth, depth_cmp, highest, joined_head, with_head, Heads}
-use Rattle.cycle_heads.specs.Paths.{extended_by_each, path_of_no_step}
-use Rattle.search_parts.specs.Rebasing.{but_highest, with_unused, with_used}
-use Rattle.cycle_heads.specs.Usages.{no_usages}
+use Rattle.search_parts.specs.Below.{StackDepth, CycleHead, HeadUsages, PathsToNested, at_depth, depth_cmp, highest, joined_head, with_head, Heads, extended_by_each, path_of_no_step, no_usages}
+use Rattle.search_parts.specs.Words.{but_highest, with_unused, with_used}
 use Rattle.cycle_heads.proofs.HeadLists.{placed_first, placed_here, placed_later}
 use Rattle.cycle_heads.proofs.HighestHeads.{highest-push}
 

@@ -4,16 +4,9 @@ use Rattle.std.proofs.lemmas.List.Elements.{All-nil, All-cons, All-head, All-tai
 use Rattle.std.specs.List.{cons_option, filter_map}
 use Rattle.std.specs.Map.{lookup}
 use Rattle.std.specs.Option.{option_map, option_and_then, IfSome}
-use Rattle.cycle_heads.specs.declared.depth.StackDepth.{StackDepth}
-use Rattle.cycle_heads.specs.declared.heads.CycleHead.{CycleHead}
-use Rattle.search_parts.specs.declared.parts.stack.StackEntry.{StackEntry}
-use Rattle.cycle_heads.specs.declared.usages.HeadUsages.{HeadUsages}
-use Rattle.search_parts.specs.declared.parts.provisional_cache.ProvisionalCacheEntry.{ProvisionalCacheEntry}
-use Rattle.cycle_heads.specs.Heads.{highest}
-use Rattle.cycle_heads.specs.Path.{greater_kind}
-use Rattle.search_parts.specs.Provisional.{Lists, entries_at, AreKept}
-use Rattle.search_parts.specs.Rebasing.{but_highest, from_head, from_new_head, keeps_kinds, rebased, rebased_at, rebased_used, rebased_unused, with_unused, with_used, CanBeRebased}
-use Rattle.cycle_heads.specs.Usages.{has_usages}
+use Rattle.search_parts.specs.Below.{StackDepth, CycleHead, HeadUsages, highest, greater_kind, has_usages}
+use Rattle.search_parts.specs.Words.{StackEntry, ProvisionalCacheEntry, Lists, entries_at, but_highest, from_head, from_new_head, keeps_kinds, rebased, rebased_at, rebased_used, rebased_unused, with_unused, with_used, CanBeRebased}
+use Rattle.search_parts.specs.Provisional.{AreKept}
 use Rattle.search_parts.proofs.ProvisionalLists.{heads_at, kept_from}
 
 -- what holds of each thing that f makes holds of all that it leaves

@@ -11,7 +11,7 @@ use Rattle.std.specs.Global.{Vec}
 use Rattle.std.specs.List.{cons_option, filter_map, IsDistinct}
 use Rattle.std.specs.Map.{lookup, keys_of}
 use Rattle.std.specs.Option.{option_map, unwrap_or, IfSome}
-use Rattle.search_parts.specs.Provisional.{Lists, lists_of, entries_at}
+use Rattle.search_parts.specs.Words.{Lists, lists_of, entries_at}
 use Rattle.search_parts.proofs.ProvisionalLists.{list_found}
 
 -- what f leaves of the lists that are left is still to be added

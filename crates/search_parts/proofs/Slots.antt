@@ -3,15 +3,7 @@ use Rattle.std.proofs.Common.{◌≡◌, ℕ, ◌<◌, Bool, true, false, if◌t
 use Rattle.std.specs.Option.{IsSomeAnd}
 use Rattle.std.proofs.lemmas.List.{map-append, map-set}
 use Rattle.std.proofs.lemmas.Option.{slice_get-map, slice_get_read, get_or_from_slice_get}
-use Rattle.search_parts.specs.declared.context.Node.{Node}
-use Rattle.search_parts.specs.declared.context.Request.{Request}
-use Rattle.search_parts.specs.declared.context.Reply.{Reply}
-use Rattle.search_parts.specs.declared.global_cache.nodes.Slot.{Slot}
-use Rattle.search_parts.specs.declared.global_cache.nodes.Slot.TheVariants.{Open, Finished}
-use Rattle.search_parts.specs.declared.global_cache.results.StoredResult.{StoredResult}
-use Rattle.search_parts.specs.Cache.{CacheNode, Cache, open_goal, with_run, IsRun, AreRuns}
-use Rattle.search_parts.specs.Store.{Store}
-use Rattle.search_parts.specs.View.{run_of, ended_node, node_of}
+use Rattle.search_parts.specs.Words.{Node, Request, Reply, Slot, Open, Finished, StoredResult, CacheNode, Cache, open_goal, with_run, IsRun, AreRuns, Store, run_of, ended_node, node_of}
 use Rattle.search_parts.proofs.Nodes.{appended, before, with_run-is}
 
 pushed_nodes : {I R : Type 0} (grew : Bool) (slots : List (Slot I R)) (goal : I) → map node_of (if grew then slots ++ Open goal ∷ [] else slots) ≡ appended grew (map node_of slots) goal

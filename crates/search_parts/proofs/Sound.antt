@@ -3,19 +3,7 @@
 use Rattle.std.proofs.Common.{◌≡◌, Bool, true, List, ℕ, Option, Result, sym, subst, subst₂}
 use Rattle.std.specs.Prelude.{OnOk, OnErr}
 use Rattle.std.specs.Option.{IsSomeAnd, IfSome, option_map}
-use Rattle.search_parts.specs.declared.context.Request.{Request}
-use Rattle.search_parts.specs.declared.context.Reply.{Reply}
-use Rattle.search_parts.specs.declared.global_cache.look_up.CacheData.{CacheData}
-use Rattle.search_parts.specs.declared.global_cache.results.Place.{Place}
-use Rattle.search_parts.specs.declared.global_cache.results.StoredResult.{StoredResult}
-use Rattle.search_parts.specs.declared.parts.result.EvaluationResult.{EvaluationResult}
-use Rattle.search_parts.specs.Cache.{EndedRun, CacheNode, Cache, open_goal, with_run, IsRun}
-use Rattle.search_parts.specs.Definite.{HasGraph}
-use Rattle.search_parts.specs.LookUp.{hit_of, first_accepted, usable}
-use Rattle.search_parts.specs.Nested.{NestedPaths}
-use Rattle.search_parts.specs.Sound.{IsSound}
-use Rattle.search_parts.specs.Store.{Store, Puts, place_of, stored_from}
-use Rattle.search_parts.specs.Stored.{IsPlainAt, IsKept}
+use Rattle.search_parts.specs.Words.{Request, Reply, CacheData, Place, StoredResult, EvaluationResult, EndedRun, CacheNode, Cache, open_goal, with_run, IsRun, HasGraph, hit_of, first_accepted, usable, NestedPaths, IsSound, Store, Puts, place_of, stored_from, IsPlainAt, IsKept}
 use Rattle.search_parts.proofs.Nodes.{appended, AreRuns-appended, AreRuns-ended, KeepsGoals-appended, Grown-appended, KeepsGoals-ended, Grown-ended}
 use Rattle.search_parts.proofs.Stored.{AreKept-grown, AreKept-stored, IsWorth, look_up_is_worth}
 

@@ -1,8 +1,7 @@
 -- What is read of a stack is read of its last entry.
 use Rattle.std.proofs.Common.{◌≡◌, ◌≢◌, ℕ, zero, suc, ◌-◌, ◌/◌, ◌<◌, true, false, List, [], ◌∷◌, length, get_or, Some, None, refl, sym, ap, ◌∙◌, arith}
 use Rattle.std.proofs.lemmas.Bool.Decides.{nat_tests}
-use Rattle.search_parts.specs.declared.parts.stack.StackEntry.{StackEntry}
-use Rattle.search_parts.specs.Stack.{depth_below, allowed_depth}
+use Rattle.search_parts.specs.Words.{StackEntry, depth_below, allowed_depth}
 
 module _ {X I R A T : Type 0} where
   last_allows : (divisor root n : ℕ) (e : StackEntry X I R A T) (entries : List (StackEntry X I R A T)) → suc n ≡ length entries → allowed_depth divisor root entries ≡ depth_below divisor (get_or entries n e)

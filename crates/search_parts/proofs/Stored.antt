@@ -5,23 +5,8 @@ use Rattle.std.specs.Cmp.{IsEquivalence}
 use Rattle.std.specs.Option.{IfSome, option_map, option_or}
 use Rattle.std.proofs.lemmas.Bool.{leb-true}
 use Rattle.std.proofs.lemmas.List.Folds.{find-append}
-use Rattle.open_graphs.specs.Graph.{Grown}
-use Rattle.search_parts.specs.declared.context.Request.{Request}
-use Rattle.search_parts.specs.declared.context.Reply.{Reply}
-use Rattle.search_parts.specs.declared.context.Fault.{Fault}
-use Rattle.search_parts.specs.declared.context.Fault.TheVariants.{Conflict, Memory}
-use Rattle.search_parts.specs.declared.global_cache.look_up.CacheData.{CacheData}
-use Rattle.search_parts.specs.declared.global_cache.results.Place.{Place}
-use Rattle.search_parts.specs.declared.global_cache.results.Place.TheVariants.{Success, WithOverflow}
-use Rattle.search_parts.specs.declared.global_cache.results.StoredResult.{StoredResult}
-use Rattle.search_parts.specs.Cache.{CacheNode, KeepsGoals}
-use Rattle.search_parts.specs.Definite.{HasGraph}
-use Rattle.search_parts.specs.LookUp.{Hit, hit_of, hit_at, successes, overflows, usable, first_accepted}
-use Rattle.search_parts.specs.Nested.{NestedPaths}
-use Rattle.search_parts.specs.Rank.{IsPlainTo, IsPlain, IsBelowRank}
-use Rattle.search_parts.specs.Shapes.{shapes_of}
-use Rattle.search_parts.specs.Store.{Store, stored_at, AnswersStoring, Puts}
-use Rattle.search_parts.specs.Stored.{IsKept, AreKept}
+use Rattle.search_parts.specs.Below.{Grown}
+use Rattle.search_parts.specs.Words.{Request, Reply, Fault, Conflict, Memory, CacheData, Place, Success, WithOverflow, StoredResult, CacheNode, KeepsGoals, HasGraph, Hit, hit_of, hit_at, successes, overflows, usable, first_accepted, NestedPaths, IsPlainTo, IsPlain, IsBelowRank, shapes_of, Store, stored_at, AnswersStoring, Puts, IsKept, AreKept}
 use Rattle.search_parts.proofs.Definites.{HasGraph-kept}
 use Rattle.search_parts.proofs.Ranks.{one_plain_value}
 use Rattle.search_parts.proofs.Stores.{put_cases}

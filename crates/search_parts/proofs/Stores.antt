@@ -3,13 +3,8 @@ use Rattle.std.proofs.Common.{◌≡◌, Bool, true, false, ◌&&◌, if◌then�
 use Rattle.std.proofs.lemmas.Bool.{cases_Bool, eqb-true}
 use Rattle.std.specs.Map.{lookup}
 use Rattle.std.specs.Option.{IsSomeAnd, IfSome}
-use Rattle.search_parts.specs.declared.context.Fault.{Fault}
-use Rattle.search_parts.specs.declared.context.Fault.TheVariants.{Conflict}
-use Rattle.search_parts.specs.declared.global_cache.results.Place.{Place}
-use Rattle.search_parts.specs.declared.global_cache.results.Place.TheVariants.{Success, WithOverflow}
-use Rattle.search_parts.specs.declared.global_cache.results.StoredResult.{StoredResult}
+use Rattle.search_parts.specs.Words.{Fault, Conflict, Place, Success, WithOverflow, StoredResult, same_place, same_key, Store, stored_at, Puts, AnswersStoring, KeepsResults}
 use Rattle.search_parts.specs.contracts.global_cache.results.PlacePartialEq.TheImpl as derived
-use Rattle.search_parts.specs.Store.{same_place, same_key, Store, stored_at, Puts, AnswersStoring, KeepsResults}
 
 -- derived equality of places
 pub same_by_value : (place other : Place) → derived.ghosts.eq place other ≡ same_place place other

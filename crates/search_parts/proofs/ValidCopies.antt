@@ -4,22 +4,9 @@ use Rattle.std.specs.Option.{IsSomeAnd}
 use Rattle.std.proofs.lemmas.List.{length-map}
 use Rattle.std.proofs.lemmas.Option.{slice_get-map, slice_get_within, get_or_from_slice_get}
 use Rattle.open_graphs.specs.Graph as theory
-use Rattle.open_graphs.specs.Graph.{cycle_kind}
-use Rattle.cycle_heads.specs.Path.{rank_of}
-use Rattle.cycle_heads.specs.declared.path.PathKind.{PathKind}
-use Rattle.cycle_heads.specs.declared.path.PathKind.TheVariants.{Inductive, Coinductive}
-use Rattle.search_parts.specs.declared.context.Edge.{Edge}
-use Rattle.search_parts.specs.declared.context.Node.{Node}
-use Rattle.search_parts.specs.declared.context.NodeId.{NodeId}
-use Rattle.search_parts.specs.declared.context.Reply.{Reply}
-use Rattle.search_parts.specs.declared.context.Request.{Request}
-use Rattle.search_parts.specs.Cache.{EndedRun, CacheNode, IsNodeOf, IsRun, AreRuns, graph_node_of, graph_nodes_of}
-use Rattle.search_parts.specs.Definite.{HasGraph}
-use Rattle.search_parts.specs.Graph.{GraphNode, question_of, HasGoal, HasEdge, IsWalk, IsGraph, IsCopy, original_edge, walk_kind}
-use Rattle.search_parts.specs.HandedOut.{original_node, Copies}
-use Rattle.search_parts.specs.Run.{progress_after, questions_answered}
-use Rattle.search_parts.specs.Shapes.{verdict_of, shapes_of}
-use Rattle.search_parts.specs.Valid.{goal_node_of, goal_nodes_of, IsRunOfSort, IsValid}
+use Rattle.search_parts.specs.Below.{cycle_kind, rank_of, PathKind, Inductive, Coinductive}
+use Rattle.search_parts.specs.Words.{Edge, Node, NodeId, Reply, Request, EndedRun, CacheNode, IsNodeOf, IsRun, AreRuns, graph_node_of, graph_nodes_of, HasGraph, GraphNode, question_of, HasGoal, HasEdge, IsWalk, IsCopy, original_edge, walk_kind, original_node, Copies, progress_after, questions_answered, verdict_of, shapes_of, goal_node_of, goal_nodes_of, IsRunOfSort, IsValid}
+use Rattle.search_parts.specs.Graph.{IsGraph}
 use Rattle.search_parts.proofs.Bridge.{Ended, ended_at, known_at, has_graph, yes_case, no_case}
 use Rattle.search_parts.proofs.Copies.{original_has, original_walk, copy_goal, same_questions, same_walk_kind}
 use Rattle.search_parts.proofs.Definites.{yes_verdict, no_verdict, definite}

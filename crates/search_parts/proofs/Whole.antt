@@ -2,10 +2,7 @@
 use Rattle.std.proofs.Common.{◌≡◌, ℕ, List, [], ◌∷◌, Option, None, Some, option_map, slice_get, Contains, refl, sym, ◌∙◌, ap, subst}
 use Rattle.std.specs.Option.{IsSome, IsSomeAnd, is_some}
 use Rattle.std.proofs.lemmas.Option.{slice_get-map}
-use Rattle.search_parts.specs.declared.context.Edge.{Edge}
-use Rattle.search_parts.specs.Cache.{CacheNode, finished_node, KeepsFinished, graph_node_of, graph_nodes_of}
-use Rattle.search_parts.specs.Graph.{IsWalk, IsReached}
-use Rattle.search_parts.specs.HandedOut.{IsWhole, KeepsWhole}
+use Rattle.search_parts.specs.Words.{Edge, CacheNode, finished_node, KeepsFinished, graph_node_of, graph_nodes_of, IsWalk, IsReached, IsWhole, KeepsWhole}
 use Rattle.search_parts.proofs.Finished.{found_finished}
 use Rattle.search_parts.proofs.Graphs.{IsReached-step}
 

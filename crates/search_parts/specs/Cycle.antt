@@ -1,8 +1,7 @@
 -- The kinds of the cycles that end at a goal on the stack, which is called their head.
 use Rattle.std.specs.Prelude.{ℕ, ◌+◌, List, ◌∷◌, map, drop}
-use Rattle.cycle_heads.specs.declared.path.PathKind.{PathKind}
+use Rattle.search_parts.specs.Below.{PathKind, greatest_kind}
 use Rattle.search_parts.specs.declared.parts.stack.StackEntry.{StackEntry}
-use Rattle.cycle_heads.specs.Path.{greatest_kind}
 
 module _ {X I R A T : Type 0} where
   -- the kinds of the steps by which the goals above the head were asked, from below

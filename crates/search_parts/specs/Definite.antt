@@ -1,7 +1,7 @@
 -- Definite results, and the node that each of them comes with.
 use Rattle.std.specs.Prelude.{◌≡◌, ◌≢◌, Bool, List, Option, None}
 use Rattle.std.specs.Option.{IsSomeAnd}
-use Rattle.open_graphs.specs.Graph.{Neither, IsGraph}
+use Rattle.search_parts.specs.Below.{Neither, IsGraph}
 use Rattle.search_parts.specs.declared.context.NodeId.{NodeId}
 use Rattle.search_parts.specs.Cache.{CacheNode, IsNodeOf}
 use Rattle.search_parts.specs.Shapes.{verdict_of, shapes_of}

@@ -1,8 +1,7 @@
 -- The goals below a goal, with the paths to each.
 use Rattle.std.specs.Prelude.{◌≡◌, Bool, false, List, Option, Some, None}
 use Rattle.std.specs.Map.{lookup}
-use Rattle.cycle_heads.specs.declared.path.PathsToNested.{PathsToNested}
-use Rattle.cycle_heads.specs.Paths.{union}
+use Rattle.search_parts.specs.Below.{PathsToNested, union}
 
 -- goals with the paths to them, in some order
 abbrev pub NestedPaths : Type 0 → Type 0

@@ -3,20 +3,12 @@
 use Rattle.std.specs.Prelude.{◌≢◌, ◌≤◌, ◌-◌, ℕ, Bool, nat_eq, if◌then◌else◌, List, [], length, take, fold, All, Option, Some, None}
 use Rattle.std.specs.List.{list_all}
 use Rattle.std.specs.Option.{option_map, option_and_then}
-use Rattle.cycle_heads.specs.declared.path.PathKind.{PathKind}
-use Rattle.cycle_heads.specs.declared.path.PathsToNested.{PathsToNested}
-use Rattle.cycle_heads.specs.declared.depth.StackDepth.{StackDepth}
-use Rattle.cycle_heads.specs.declared.heads.CycleHead.{CycleHead}
+use Rattle.search_parts.specs.Below.{PathKind, PathsToNested, StackDepth, CycleHead, HeadUsages, Heads, highest, with_head, rank_of, greater_kind, kinds_in, extended_by_each, path_of_no_step, has_usages, no_usages, other_usages}
 use Rattle.search_parts.specs.declared.parts.stack.StackEntry.{StackEntry}
-use Rattle.cycle_heads.specs.declared.usages.HeadUsages.{HeadUsages}
 use Rattle.search_parts.specs.declared.parts.provisional_cache.ProvisionalCacheEntry.{ProvisionalCacheEntry}
 use Rattle.search_parts.specs.declared.parts.provisional_cache.RebaseReason.{RebaseReason}
 use Rattle.search_parts.specs.declared.parts.provisional_cache.RebaseReason.TheVariants.{NoCycleUsages, Ambiguity, Overflow, ReachedFixpoint}
 use Rattle.search_parts.specs.Cycle.{path_kind_from}
-use Rattle.cycle_heads.specs.Heads.{Heads, highest, with_head}
-use Rattle.cycle_heads.specs.Path.{rank_of, greater_kind}
-use Rattle.cycle_heads.specs.Paths.{kinds_in, extended_by_each, path_of_no_step}
-use Rattle.cycle_heads.specs.Usages.{has_usages, no_usages, other_usages}
 
 -- the heads but the highest one
 abbrev pub but_highest : Heads → Heads

@@ -1,15 +1,10 @@
 -- Which kept answers may be used when their goal is asked again, and which are given up when a goal is run again.
 use Rattle.std.specs.Prelude.{ℕ, ◌-◌, nat_lt, nat_eq, Bool, false, not, ◌&&◌, ◌||◌, List, [], length, slice_get}
 use Rattle.std.specs.Option.{option_map, unwrap_or}
-use Rattle.cycle_heads.specs.declared.path.PathKind.{PathKind}
+use Rattle.search_parts.specs.Below.{PathKind, CycleHead, StackDepth, Heads, highest, lowest, rank_of, has_usages}
 use Rattle.search_parts.specs.declared.parts.stack.StackEntry.{StackEntry}
-use Rattle.cycle_heads.specs.declared.heads.CycleHead.{CycleHead}
-use Rattle.cycle_heads.specs.declared.depth.StackDepth.{StackDepth}
 use Rattle.search_parts.specs.declared.parts.provisional_cache.ProvisionalCacheEntry.{ProvisionalCacheEntry}
 use Rattle.search_parts.specs.Cycle.{path_kind_from}
-use Rattle.cycle_heads.specs.Heads.{Heads, highest, lowest}
-use Rattle.cycle_heads.specs.Path.{rank_of}
-use Rattle.cycle_heads.specs.Usages.{has_usages}
 
 -- whether the highest head, which is at this depth, passes the test
 abbrev pub highest_passes : (ℕ → CycleHead → Bool) → Heads → Bool

@@ -1,10 +1,9 @@
 -- What becomes of the answers of one goal, once its delegate was asked.
 use Rattle.std.specs.Prelude.{if◌then◌else◌, Option, Some, None}
-use Rattle.cycle_heads.specs.declared.usages.HeadUsages.{HeadUsages}
+use Rattle.search_parts.specs.Below.{HeadUsages, has_usages, other_usages}
 use Rattle.search_parts.specs.declared.parts.provisional_cache.ProvisionalCacheEntry.{ProvisionalCacheEntry}
 use Rattle.search_parts.specs.declared.parts.provisional_cache.rebasing.Settlement.{Settlement}
 use Rattle.search_parts.specs.declared.parts.provisional_cache.rebasing.Settlement.TheVariants.{Dropped, Replaced, Kept, KeptIfSingle}
-use Rattle.cycle_heads.specs.Usages.{has_usages, other_usages}
 
 module _ {X I R A T : Type 0} where
   -- what becomes of an entry that used the goal that is done so often

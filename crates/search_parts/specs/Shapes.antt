@@ -3,7 +3,7 @@
 use Rattle.std.specs.Prelude.{Bool, if◌then◌else◌, List, map, None, Some}
 use Rattle.open_graphs.specs.Graph as theory
 use Rattle.search_parts.specs.declared.context.Edge.{Edge}
-use Rattle.cycle_heads.specs.Path.{rank_of}
+use Rattle.search_parts.specs.Below.{rank_of}
 use Rattle.search_parts.specs.Cache.{EndedRun, CacheNode}
 
 -- what a result says of its goal

@@ -1,6 +1,6 @@
 -- What is read of a stack, whose first entry stands first.
 use Rattle.std.specs.Prelude.{ℕ, ◌-◌, ◌/◌, nat_eq, if◌then◌else◌, false, List, [], ◌∷◌, Option, Some, None}
-use Rattle.cycle_heads.specs.declared.path.PathKind.{PathKind}
+use Rattle.search_parts.specs.Below.{PathKind}
 use Rattle.search_parts.specs.declared.parts.depth.AvailableDepth.{AvailableDepth}
 use Rattle.search_parts.specs.declared.parts.stack.StackEntry.{StackEntry}
 

@@ -1,8 +1,7 @@
 -- What a graph that is handed out as data has to be. Nothing here speaks of a search: the definition asks the goals'
 -- scripts and the graph alone, so anyone can decide it.
 use Rattle.std.specs.Prelude.{◌≡◌, ℕ, Bool, true, List, ◌∷◌, map, reverse, slice_get, Some}
-use Rattle.cycle_heads.specs.declared.path.PathKind.{PathKind}
-use Rattle.cycle_heads.specs.declared.path.PathKind.TheVariants.{Inductive, Coinductive}
+use Rattle.search_parts.specs.Below.{PathKind, Inductive, Coinductive}
 use Rattle.search_parts.specs.declared.context.Edge.{Edge}
 use Rattle.search_parts.specs.declared.context.Node.{Node}
 use Rattle.search_parts.specs.declared.context.Reply.{Reply}

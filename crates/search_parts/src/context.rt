@@ -181,7 +181,7 @@ pub struct ProofGraph<X: Cx> {
 pub trait Delegate: Sized {
     ghost use Rattle.search_parts.specs.declared.context.Reply.{Reply};
     ghost use Rattle.search_parts.specs.declared.context.Request.{Request};
-    ghost use Rattle.cycle_heads.specs.declared.path.PathKind.{PathKind};
+    ghost use Rattle.search_parts.specs.Below.{PathKind};
 
     type Cx: Cx;
 

@@ -1,8 +1,7 @@
 //! What a search keeps between its calls: the runs that have ended, as the list of nodes that the graphs
 //! of its answers are made of, and the results of goals.
 ghost use Rattle.std.specs.Prelude.{◌≡◌, []};
-ghost use Rattle.search_parts.specs.Cache.{AreRuns};
-ghost use Rattle.search_parts.specs.Stored.{AreKept};
+ghost use Rattle.search_parts.specs.Words.{AreRuns, AreKept};
 
 use crate::context::{Cx, Delegate};
 use std::alloc::Global;

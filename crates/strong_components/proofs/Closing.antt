@@ -3,10 +3,7 @@ use Rattle.std.proofs.Common.{◌≡◌, ℕ, ◌<◌, ◌≤◌, ◌+◌, ◌-�
 use Rattle.std.specs.List.{Contains, count_by}
 use Rattle.std.proofs.lemmas.Bool.{cases_eq, cases_lt, lt-ltb, le-ltb}
 use Rattle.std.proofs.lemmas.List.{get_or-take, length-take-le}
-use Rattle.strong_components.specs.declared.search.State.{State}
-use Rattle.strong_components.specs.declared.search.State.TheVariants.{New, Open, Closed}
-use Rattle.strong_components.specs.Components.{Reaches}
-use Rattle.strong_components.specs.Search.{AreLeft, AreOpened, EndsWith, IsFromStart, IsOngoing, IsPath, MayStep, closed_from, is_new, state_at}
+use Rattle.strong_components.specs.Words.{State, New, Open, Closed, Reaches, AreLeft, AreOpened, EndsWith, IsFromStart, IsOngoing, IsPath, MayStep, closed_from, is_new, state_at}
 use Rattle.strong_components.proofs.Indexes.{IsFront, at_index, contains_at, front-below, front-contains, front-rises, rising_last}
 use Rattle.strong_components.proofs.Leaving.{open_left}
 use Rattle.strong_components.proofs.States.{may-step-at}

@@ -3,10 +3,7 @@ use Rattle.std.proofs.Common.{◌≡◌, ◌≢◌, ℕ, ◌<◌, ◌≤◌, ◌
 use Rattle.std.specs.List.{count_by}
 use Rattle.std.proofs.lemmas.Bool.{cases_eq, cases_lt}
 use Rattle.std.proofs.lemmas.List.{get_or-take, get_or_push, length_push, take_all, take_at, take-take}
-use Rattle.strong_components.specs.declared.search.State.{State}
-use Rattle.strong_components.specs.declared.search.State.TheVariants.{New, Open, Closed}
-use Rattle.strong_components.specs.declared.search.Search.{Search}
-use Rattle.strong_components.specs.Search.{AreOpened, ClosesFrom, closed_from, is_new, state_at}
+use Rattle.strong_components.specs.Words.{State, New, Open, Closed, Search, AreOpened, ClosesFrom, closed_from, is_new, state_at}
 use Rattle.strong_components.proofs.Closing.{closed_from-below, closed_from-above}
 use Rattle.strong_components.proofs.Counts.{news-set}
 use Rattle.strong_components.proofs.States.{state_inside}

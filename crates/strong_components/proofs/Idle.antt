@@ -1,11 +1,7 @@
 -- The search between two roots: the path is empty, and so no place is open.
 use Rattle.std.proofs.Common.{◌≡◌, ◌≢◌, ℕ, ◌<◌, ◌+◌, true, false, List, length, slice_index, arith, ap, sym, ◌∙◌, inl, inr, subst, refl, get_or-set_same, get_or-set_other}
 use Rattle.std.proofs.lemmas.Bool.{cases_eq, cases_lt}
-use Rattle.strong_components.specs.declared.search.State.{State}
-use Rattle.strong_components.specs.declared.search.State.TheVariants.{New, Open, Closed}
-use Rattle.strong_components.specs.declared.search.Search.{Search}
-use Rattle.strong_components.specs.Components.{Reaches}
-use Rattle.strong_components.specs.Search.{IsOngoing, IsSearch, Opens, is_new, state_at}
+use Rattle.strong_components.specs.Words.{State, New, Open, Closed, Search, Reaches, IsOngoing, IsSearch, Opens, is_new, state_at}
 use Rattle.strong_components.proofs.Indexes.{at_index}
 use Rattle.strong_components.proofs.Opening.{open_keeps, same_search}
 

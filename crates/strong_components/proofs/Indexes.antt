@@ -3,7 +3,7 @@ use Rattle.std.proofs.Common.{◌≡◌, ℕ, ◌<◌, ◌≤◌, ◌+◌, ◌-�
 use Rattle.std.specs.List.{Contains}
 use Rattle.std.proofs.lemmas.Bool.{cases_eq}
 use Rattle.std.proofs.lemmas.List.{get_or_default, get_or-take, length-take-le}
-use Rattle.strong_components.specs.Search.{EndsWith, IsRising}
+use Rattle.strong_components.specs.Words.{EndsWith, IsRising}
 
 pub at_index : (xs : List ℕ) (x : ℕ) → Contains xs x → (k : ℕ) × (k < length xs) × (slice_index xs k ≡ x)
 at_index xs x (k, inside, is) = (k, inside, get_or_default xs k 0 x inside ∙ is)

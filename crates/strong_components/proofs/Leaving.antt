@@ -2,9 +2,7 @@
 use Rattle.std.proofs.Common.{◌≡◌, ℕ, ◌-◌, ◌⊎◌, List, length, slice_index, arith, ap, sym, ◌∙◌, inl, inr, subst}
 use Rattle.std.specs.List.{Contains}
 use Rattle.std.proofs.lemmas.Bool.{cases_eq}
-use Rattle.strong_components.specs.declared.search.State.{State}
-use Rattle.strong_components.specs.declared.search.State.TheVariants.{Open}
-use Rattle.strong_components.specs.Search.{EndsWith, IsOngoing, state_at}
+use Rattle.strong_components.specs.Words.{State, Open, EndsWith, IsOngoing, state_at}
 use Rattle.strong_components.proofs.Indexes.{IsFront, front-contains, front-rises, rising_last}
 
 -- an open place is on the rest of the path, unless all its successors were looked at

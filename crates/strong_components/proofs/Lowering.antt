@@ -2,9 +2,7 @@
 use Rattle.std.proofs.Common.{◌≡◌, ◌≢◌, ℕ, ◌<◌, ◌≤◌, ◌+◌, ◌-◌, List, [], length, set, slice_index, slice_index_or, arith, ap, sym, ◌∙◌, inl, inr, subst, get_or-set_same, get_or-set_other, length-set}
 use Rattle.std.proofs.lemmas.Bool.{cases_eq}
 use Rattle.std.proofs.lemmas.List.{get_or_read}
-use Rattle.strong_components.specs.declared.search.State.{State}
-use Rattle.strong_components.specs.declared.search.State.TheVariants.{Open}
-use Rattle.strong_components.specs.Search.{AreLeft, EndsWith, IsOngoing, MayStep, state_at}
+use Rattle.strong_components.specs.Words.{State, Open, AreLeft, EndsWith, IsOngoing, MayStep, state_at}
 use Rattle.strong_components.proofs.States.{may-step-at}
 
 -- the last place of the path

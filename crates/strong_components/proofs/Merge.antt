@@ -2,10 +2,7 @@
 use Rattle.std.proofs.Common.{◌≡◌, ℕ, ◌<◌, ◌≤◌, ◌-◌, List, length, slice_index, arith, sym, ◌∙◌, inl, inr, subst, refl}
 use Rattle.std.specs.List.{Contains}
 use Rattle.std.proofs.lemmas.Bool.{cases_eq, cases_lt}
-use Rattle.strong_components.specs.declared.search.State.{State}
-use Rattle.strong_components.specs.declared.search.State.TheVariants.{Open}
-use Rattle.strong_components.specs.Components.{HasStep, go}
-use Rattle.strong_components.specs.Search.{EndsWith, IsFromStart, IsOngoing, IsPath, IsRising, MayStep, PopsAbove, state_at}
+use Rattle.strong_components.specs.Words.{State, Open, HasStep, go, EndsWith, IsFromStart, IsOngoing, IsPath, IsRising, MayStep, PopsAbove, state_at}
 use Rattle.strong_components.proofs.Walks.{reaches-trans}
 use Rattle.strong_components.proofs.Indexes.{rising_last}
 use Rattle.strong_components.proofs.States.{may-step-at, may-step-starts}

@@ -1,10 +1,7 @@
 -- The numbers of the closed places, once all are closed.
 use Rattle.std.proofs.Common.{◌≡◌, ◌≢◌, ℕ, ◌<◌, ◌≤◌, List, [], length, map, slice_index, slice_index_or, arith, ap, ◌∙◌, subst, refl}
 use Rattle.std.proofs.lemmas.List.{get_or-map, length-map}
-use Rattle.strong_components.specs.declared.search.State.{State}
-use Rattle.strong_components.specs.declared.search.State.TheVariants.{New, Open, Closed}
-use Rattle.strong_components.specs.Components.{AreComponents, StaysInside}
-use Rattle.strong_components.specs.Search.{IsOngoing, MayStep, number_of, state_at}
+use Rattle.strong_components.specs.Words.{State, New, Open, Closed, AreComponents, StaysInside, IsOngoing, MayStep, number_of, state_at}
 use Rattle.strong_components.proofs.Idle.{none_opened}
 use Rattle.strong_components.proofs.Indexes.{at_index}
 use Rattle.strong_components.proofs.Walks.{step_from_inside, step_to_inside}

@@ -4,11 +4,7 @@ use Rattle.std.specs.List.{Contains}
 use Rattle.std.proofs.lemmas.Bool.{cases_eq, cases_lt}
 use Rattle.std.proofs.lemmas.List.{get_or_append_left, get_or_push, length_push}
 use Rattle.std.proofs.lemmas.List.Elements.{Contains-append_left, Contains-push}
-use Rattle.strong_components.specs.declared.search.State.{State}
-use Rattle.strong_components.specs.declared.search.State.TheVariants.{New, Open, Closed}
-use Rattle.strong_components.specs.declared.search.Search.{Search}
-use Rattle.strong_components.specs.Components.{HasStep, Reaches, stay}
-use Rattle.strong_components.specs.Search.{AreLeft, AreOpened, EndsWith, IsFromStart, IsOngoing, IsPath, IsRising, IsSearch, MayStep, Opens, is_new, state_at}
+use Rattle.strong_components.specs.Words.{State, New, Open, Closed, Search, HasStep, Reaches, stay, AreLeft, AreOpened, EndsWith, IsFromStart, IsOngoing, IsPath, IsRising, IsSearch, MayStep, Opens, is_new, state_at}
 use Rattle.strong_components.proofs.Counts.{news-set}
 use Rattle.strong_components.proofs.Indexes.{at_index, rising_last}
 use Rattle.strong_components.proofs.States.{may-step-at, may-step-new, may-step-starts}

@@ -4,7 +4,7 @@ use Rattle.std.specs.Global.{Vec}
 use Rattle.std.specs.List.{All}
 use Rattle.std.proofs.lemmas.List.{get_or-map, length-map}
 use Rattle.std.proofs.lemmas.List.Elements.{All-from_get_or, All-get_or}
-use Rattle.strong_components.specs.Components.{StaysInside, successor_lists}
+use Rattle.strong_components.specs.Words.{StaysInside, successor_lists}
 
 pub row_is : (graph : List (Vec ℕ)) (place : ℕ) (row : Vec ℕ) → place < length graph → row ≡ slice_index_or graph place row → slice_index_or (successor_lists graph) place [] ≡ row.items
 row_is graph place row inside read =

@@ -2,9 +2,7 @@
 use Rattle.std.proofs.Common.{◌≡◌, ℕ, ◌<◌, List, length, inl, inr, subst, sym, refl}
 use Rattle.std.proofs.lemmas.Bool.{cases_lt}
 use Rattle.std.proofs.lemmas.List.{get_or_past}
-use Rattle.strong_components.specs.declared.search.State.{State}
-use Rattle.strong_components.specs.declared.search.State.TheVariants.{New, Open, Closed}
-use Rattle.strong_components.specs.Search.{state_at, IsFromStart, MayStep}
+use Rattle.strong_components.specs.Words.{State, New, Open, Closed, state_at, IsFromStart, MayStep}
 
 -- a place that isn't new is one of the list
 pub state_inside : (states : List State) (a i : ℕ) → state_at states a ≡ Open i → a < length states

@@ -3,10 +3,7 @@ use Rattle.std.proofs.Common.{◌≡◌, ℕ, ◌<◌, ◌≤◌, ◌+◌, ◌*�
 use Rattle.std.specs.Global.{Vec}
 use Rattle.std.proofs.lemmas.List.{get_or_read}
 use Rattle.std.proofs.lemmas.List.Sums.{sum_by-set}
-use Rattle.strong_components.specs.declared.search.State.TheVariants.{Open}
-use Rattle.strong_components.specs.declared.search.Search.{Search}
-use Rattle.strong_components.specs.Components.{HasStep, StaysInside, successor_lists}
-use Rattle.strong_components.specs.Search.{EndsWith, IsOngoing, IsSearch, MayStep, state_at}
+use Rattle.strong_components.specs.Words.{Open, Search, HasStep, StaysInside, successor_lists, EndsWith, IsOngoing, IsSearch, MayStep, state_at}
 use Rattle.strong_components.proofs.Indexes.{contains_at}
 use Rattle.strong_components.proofs.Lowering.{lower_keeps, top_open}
 use Rattle.strong_components.proofs.Rows.{length-successor_lists, row_is}

@@ -4,7 +4,7 @@ use Rattle.std.specs.List.{All}
 use Rattle.std.proofs.lemmas.Bool.{cases_lt}
 use Rattle.std.proofs.lemmas.List.{get_or_past}
 use Rattle.std.proofs.lemmas.List.Elements.{All-contains, All-get_or}
-use Rattle.strong_components.specs.Components.{HasStep, Reaches, stay, go, StaysInside, StepsWithinClose}
+use Rattle.strong_components.specs.Words.{HasStep, Reaches, stay, go, StaysInside, StepsWithinClose}
 
 pub reaches-trans : (graph : List (List ℕ)) {a b c : ℕ} → Reaches graph a b → Reaches graph b c → Reaches graph a c
 reaches-trans graph stay w = w

@@ -6,7 +6,7 @@
 #![tactic(auto)]
 
 ghost use Rattle.std.specs.Prelude.{◌↔◌, ◌<◌, All, IfOk, IsTrue};
-ghost use Rattle.strong_components.specs.Components.{AreComponents, StaysInside, StepsWithinClose, successor_lists};
+ghost use Rattle.strong_components.specs.Words.{AreComponents, StaysInside, StepsWithinClose, successor_lists};
 
 mod search;
 

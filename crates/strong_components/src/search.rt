@@ -1,8 +1,6 @@
 //! A depth-first search that keeps the places of unfinished components in the order of their discovery.
 ghost use Rattle.std.specs.Prelude.{◌≡◌, ◌≢◌, ◌<◌, ◌≤◌, ◌+◌, ◌↔◌, ℕ, IsTrue, length, map, IfOk, OnOk};
-ghost use Rattle.strong_components.specs.Components.{StaysInside, successor_lists};
-ghost use Rattle.strong_components.specs.Search.{AreOpened, ClosesFrom, EndsWith, IsSearch, Leaves, LooksAt, Opens, PopsAbove, StaySeen, is_new, number_of, state_at, work_of};
-ghost use Rattle.strong_components.specs.declared.search.State.{State};
+ghost use Rattle.strong_components.specs.Words.{StaysInside, successor_lists, AreOpened, ClosesFrom, EndsWith, IsSearch, Leaves, LooksAt, Opens, PopsAbove, StaySeen, is_new, number_of, state_at, work_of, State};
 
 use std::alloc::{AllocError, Global};
 

@@ -2,10 +2,8 @@ use Rattle.std.proofs.Common.{refl, sym, ◌∙◌, subst, arith}
 use Rattle.std.proofs.lemmas.Bool.{false≢true}
 use Rattle.std.proofs.lemmas.List.{take_all}
 use Rattle.std.proofs.lemmas.List.Elements.{All-more}
-use Rattle.search_parts.specs.declared.context.Node.{Node}
-use Rattle.search_parts.specs.Valid.{IsRunOfSort}
-use Rattle.graph_check.specs.Replay.{has_sort}
-use Rattle.graph_check.specs.Runs.{AreRunsOfSort}
+use Rattle.graph_check.specs.Below.{Node, IsRunOfSort}
+use Rattle.graph_check.specs.Words.{has_sort, AreRunsOfSort}
 use Rattle.graph_check.proofs.are_runs.Goals as goal
 
 pub returns-then-not-branch-clause-exact : goal.returns-then-not-branch-clause-exact

@@ -1,6 +1,5 @@
 use Rattle.std.proofs.Common.{◌≡◌, ◌≤◌, ◌+◌, take}
-use Rattle.graph_check.specs.Replay.{has_sort}
-use Rattle.graph_check.specs.Runs.{AreRunsOfSort}
+use Rattle.graph_check.specs.Words.{has_sort, AreRunsOfSort}
 use Rattle.graph_check.proofs.are_runs.Given as goal
 
 -- the nodes so far are runs, and each has started one frame at most

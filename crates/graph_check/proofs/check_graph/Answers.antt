@@ -1,10 +1,8 @@
 use Rattle.std.proofs.Common.{◌↔◌, IsTrue, IfOk, sym, ◌∙◌, subst, refl}
 use Rattle.std.proofs.lemmas.Bool.{false≢true}
 use Rattle.std.proofs.lemmas.Result.{IfOk-weaker}
-use Rattle.search_parts.specs.Graph.{HasGoal}
-use Rattle.search_parts.specs.Valid.{AreClosed, CyclesHaveKind, IsValid, IsValidFor, goal_nodes_of}
-use Rattle.graph_check.specs.Replay.{has_sort}
-use Rattle.graph_check.specs.Runs.{AreRunsOfSort}
+use Rattle.graph_check.specs.Below.{HasGoal, AreClosed, CyclesHaveKind, IsValid, IsValidFor, goal_nodes_of}
+use Rattle.graph_check.specs.Words.{has_sort, AreRunsOfSort}
 use Rattle.graph_check.proofs.ValidGraphs.{IsKindOf, runs_decide, valid_is_proof, valid_is_refutation, valid_of_sort}
 use Rattle.graph_check.proofs.check_graph.Goals as goal
 use Rattle.graph_check.proofs.check_graph.Goals.{in-Yes, in-No, then-not-is_rooted-via-then-not-is_rooted, then-not-is_rooted-via-else-not-is_rooted+then-not-are_closed, then-not-is_rooted-via-else-not-is_rooted+else-not-are_closed+in_ok-cycles_have_kind+then-not-branch}

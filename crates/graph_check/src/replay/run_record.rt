@@ -1,8 +1,7 @@
 //! How far a run has come that is replayed.
 ghost use Rattle.std.specs.Prelude.{◌≡◌, ◌↔◌, IsTrue, OnOk, true, map};
-ghost use Rattle.search_parts.specs.Graph.{question_of};
-ghost use Rattle.search_parts.specs.Run.{Fits};
-ghost use Rattle.graph_check.specs.Replay.{nothing_replayed, replied, requested, is_orderly, is_marked, is_kept, question_asked, questions_kept};
+ghost use Rattle.graph_check.specs.Below.{question_of, Fits};
+ghost use Rattle.graph_check.specs.Words.{nothing_replayed, replied, requested, is_orderly, is_marked, is_kept, question_asked, questions_kept};
 
 use cycle_heads::path::PathKind;
 use search_parts::context::{Cx, Edge, NoMemory, Reply, Request};

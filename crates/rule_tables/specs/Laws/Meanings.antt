@@ -1,6 +1,6 @@
 -- What a table proves and refutes is kept when more is known, and clashes.
 use Rattle.std.specs.Prelude.{List}
-use Rattle.search_parts.specs.Question.{Question, IsWithin, Overlap}
+use Rattle.rule_tables.specs.Below.{Question, IsWithin, Overlap}
 use Rattle.rule_tables.specs.declared.rules.Goal.{Goal}
 use Rattle.rule_tables.specs.declared.rules.Rules.{Rules}
 use Rattle.rule_tables.specs.Rules.{Proves, Refutes}

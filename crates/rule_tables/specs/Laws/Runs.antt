@@ -6,13 +6,7 @@ use Rattle.std.proofs.lemmas.Bool.Decides.{eqb_tells}
 use Rattle.std.proofs.lemmas.List.Elements.{Contains-append_left, Contains-push}
 use Rattle.rule_tables.specs.Laws.Members.{Contains-from_slice_get, slice_get-from_Contains, Contains-mapped, Contains-filtered, before_end}
 use Rattle.search_parts.proofs.Graphs.{Contains-map}
-use Rattle.cycle_heads.specs.declared.path.PathKind.{PathKind}
-use Rattle.search_parts.specs.declared.context.Request.{Request}
-use Rattle.search_parts.specs.declared.context.Request.TheVariants.{Evaluate, EnterCandidate, FinishCandidate, Ignore, Done}
-use Rattle.search_parts.specs.declared.context.Reply.{Reply}
-use Rattle.search_parts.specs.declared.context.Reply.TheVariants.{Begin, Answer, Noted}
-use Rattle.search_parts.specs.Question.{Question}
-use Rattle.search_parts.specs.Run.{EndsIn, Asked, Progress, progress_with, progress_after, request_after, IsFitting, Fits, questions_answered, is_counted, is_ignored, open_candidate}
+use Rattle.rule_tables.specs.Below.{PathKind, Request, Evaluate, EnterCandidate, FinishCandidate, Ignore, Done, Reply, Begin, Answer, Noted, Question, EndsIn, Asked, Progress, progress_with, progress_after, request_after, IsFitting, Fits, questions_answered, is_counted, is_ignored, open_candidate}
 use Rattle.rule_tables.specs.declared.rules.Goal.{Goal}
 use Rattle.rule_tables.specs.declared.outcome.Outcome.{Outcome}
 use Rattle.rule_tables.specs.declared.outcome.Outcome.TheVariants.{Yes, No, Maybe, Overflow}

@@ -1,8 +1,6 @@
 -- The results of the table are of the sorts that a search asks for.
 use Rattle.std.specs.Prelude.{◌≡◌, Some, true, false}
-use Rattle.cycle_heads.specs.declared.path.PathKind.{PathKind}
-use Rattle.cycle_heads.specs.declared.path.PathKind.TheVariants.{Inductive, Unknown, Coinductive, ForcedAmbiguity}
-use Rattle.search_parts.specs.Delegate.{IsNeither, IsCycleResult}
+use Rattle.rule_tables.specs.Below.{PathKind, Inductive, Unknown, Coinductive, ForcedAmbiguity, IsNeither, IsCycleResult}
 use Rattle.rule_tables.specs.declared.outcome.Outcome.{Outcome}
 use Rattle.rule_tables.specs.declared.outcome.Outcome.TheVariants.{Yes, No, Maybe, Overflow}
 use Rattle.rule_tables.specs.Outcome.{outcome_is_yes, outcome_is_no, initial_outcome, kind_of, ambiguity_of}

@@ -1,6 +1,6 @@
 //! Answers that are shown by their graphs, which are handed out and checked.
 ghost use Rattle.std.specs.Prelude.{IsTrue, IfOk, Some};
-ghost use Rattle.search_parts.specs.Definite.{IsDefinite, HasGraph};
+ghost use Rattle.rule_tables.specs.Below.{IsDefinite, HasGraph};
 
 use crate::builder::Builder;
 use crate::outcome::Outcome;

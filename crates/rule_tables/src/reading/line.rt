@@ -1,10 +1,7 @@
 //! What a line says.
 ghost use Rattle.std.specs.Prelude.{◌≡◌, ◌∷◌, List, IfOk, codes, map};
 ghost use Rattle.std.specs.List.{AllZip};
-ghost use Rattle.rule_tables.specs.Grammar.{NamedQuestion, Statement, IsQuestion, Say, Says, IsMalformed};
-ghost use Rattle.rule_tables.specs.Line.{statement_of};
-ghost use Rattle.rule_tables.specs.Question.{named};
-ghost use Rattle.rule_tables.specs.Words.{words_left};
+ghost use Rattle.rule_tables.specs.Words.{NamedQuestion, Statement, IsQuestion, Say, Says, IsMalformed, statement_of, named, words_left};
 
 use crate::reading::question::{Question, question_of};
 use crate::reading::word::{Words, depth_of, is_name};

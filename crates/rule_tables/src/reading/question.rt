@@ -1,7 +1,6 @@
 //! A question of a rule.
 ghost use Rattle.std.specs.Prelude.{◌≡◌, MatchOption};
-ghost use Rattle.rule_tables.specs.Grammar.{NamedQuestion, IsQuestion, letter_of};
-ghost use Rattle.rule_tables.specs.Question.{named};
+ghost use Rattle.rule_tables.specs.Words.{NamedQuestion, IsQuestion, letter_of, named};
 
 use crate::reading::word::is_name;
 use search_parts::path::PathKind;

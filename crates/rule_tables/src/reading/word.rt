@@ -2,7 +2,7 @@
 ghost use Rattle.std.specs.Prelude.{◌≡◌, ◌==◌, ℕ, ◌↔◌, IsTrue, MatchOption, length, not};
 ghost use Rattle.std.specs.List.{position};
 ghost use Rattle.std.specs.Str.Parse.{digits_value};
-ghost use Rattle.rule_tables.specs.Grammar.{IsName, IsDepth};
+ghost use Rattle.rule_tables.specs.Words.{IsName, IsDepth};
 
 /// The words of a line, which spaces part.
 #[derive(Clone, Copy)]

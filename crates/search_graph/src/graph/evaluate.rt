@@ -1,16 +1,7 @@
 //! The evaluation of a goal: one loop over the goals under evaluation.
 ghost use Rattle.std.specs.Prelude.{◌≡◌, ◌<◌, ◌^◌, ◌∷◌, ℕ, [], length, true, IfOk, IfErr, IfSome, OnOk, Ok, Some};
-ghost use Rattle.search_parts.specs.Cache.{KeepsFinished};
-ghost use Rattle.search_parts.specs.LookUp.{first_accepted, usable};
-ghost use Rattle.search_parts.specs.Store.{KeepsResults};
-ghost use Rattle.search_graph.specs.Calls.{Call};
-ghost use Rattle.search_graph.specs.Evaluating.{Begins, IsWaiting, KeepsAnswers, KeepsStore, Leads, HasEnded, HasStopped, work_left};
-ghost use Rattle.search_graph.specs.Free.{AreFree};
-ghost use Rattle.search_graph.specs.Graph.{IsCaused};
-ghost use Rattle.search_parts.specs.Definite.{HasGraph};
-ghost use Rattle.search_graph.specs.Justified.{AreJustified, IsFit};
-ghost use Rattle.search_graph.specs.Provisional.{AreReady};
-ghost use Rattle.search_graph.specs.Runs.{runs_of, IsJustifiedNext};
+ghost use Rattle.search_graph.specs.Below.{KeepsFinished, first_accepted, usable, KeepsResults, HasGraph};
+ghost use Rattle.search_graph.specs.Words.{Call, Begins, IsWaiting, KeepsAnswers, KeepsStore, Leads, HasEnded, HasStopped, work_left, AreFree, IsCaused, AreJustified, IsFit, AreReady, runs_of, IsJustifiedNext};
 
 use crate::graph::finish::finish_run;
 use crate::graph::look_up::look_up;

@@ -1,11 +1,8 @@
 //! The answers that rest on goals under evaluation: one is used, and those are settled when a goal is done.
 ghost use Rattle.std.specs.Prelude.{◌≡◌, ◌≢◌, ◌≤◌, ◌<◌, [], length, All, IfOk, OnOk, Some};
 ghost use Rattle.std.specs.Option.{option_copied, option_map};
-ghost use Rattle.cycle_heads.specs.Heads.{highest, IsRising};
-ghost use Rattle.search_parts.specs.Cycle.{path_kind_from};
-ghost use Rattle.search_parts.specs.Provisional.{entries_at, Appends};
-ghost use Rattle.search_graph.specs.LookUp.{kept_for, AreOnStack};
-ghost use Rattle.search_graph.specs.Provisional.{left_of};
+ghost use Rattle.search_graph.specs.Below.{highest, IsRising, path_kind_from, entries_at, Appends};
+ghost use Rattle.search_graph.specs.Words.{kept_for, AreOnStack, left_of};
 
 use search_parts::context::{Cx, Delegate, NoMemory};
 use search_parts::parts::{

@@ -1,10 +1,8 @@
 //! Queries that are answered one after another over one cache.
 ghost use Rattle.std.specs.Prelude.{◌≡◌, ◌≤◌, ◌<◌, ◌+◌, max, length, vec_len, vec_capacity, OnOk, OnErr};
-ghost use Rattle.search_parts.specs.Cache.{KeepsFinished};
-ghost use Rattle.search_parts.specs.HandedOut.{KeepsWhole};
-ghost use Rattle.search_parts.specs.Rank.{frames_within};
-ghost use Rattle.search_parts.specs.Store.{KeepsResults};
-ghost use Rattle.search_graph.specs.Lists.{Appends, HasAnswer, IsAnswered, frames_for};
+ghost use Rattle.search_graph.specs.Below.{KeepsFinished, KeepsWhole, frames_within, KeepsResults};
+ghost use Rattle.search_graph.specs.Words.{HasAnswer, frames_for};
+ghost use Rattle.search_graph.specs.Lists.{Appends, IsAnswered};
 
 use super::SearchGraph;
 use search_parts::context::{Answer, Cx, Delegate, Fault, NoMemory};

@@ -2,11 +2,8 @@
 ghost use Rattle.std.specs.Prelude.{◌≡◌, ◌≢◌, ◌<◌, [], length, All, IfSome};
 ghost use Rattle.std.specs.List.{list_any};
 ghost use Rattle.std.specs.Option.{option_map};
-ghost use Rattle.cycle_heads.specs.Heads.{highest};
-ghost use Rattle.search_parts.specs.Definite.{HasGraph};
-ghost use Rattle.search_parts.specs.LookUp.{first_accepted, hit_of, usable};
-ghost use Rattle.search_parts.specs.Provisional.{entries_at};
-ghost use Rattle.search_graph.specs.LookUp.{could_be_used, is_applicable, meets_entry, AreOnStack, IsUsable};
+ghost use Rattle.search_graph.specs.Below.{highest, HasGraph, first_accepted, hit_of, usable, entries_at};
+ghost use Rattle.search_graph.specs.Words.{could_be_used, is_applicable, meets_entry, AreOnStack, IsUsable};
 
 use bitflags::Flags;
 use search_parts::context::{Cx, Delegate};

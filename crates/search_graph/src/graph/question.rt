@@ -3,26 +3,8 @@
 ghost use Rattle.std.specs.Prelude.{◌≡◌, ◌≤◌, ◌<◌, ◌+◌, ℕ, false, true, List, length, map, reverse, unwrap_or, IsSome, IfOk, IfSome, OnOk, IfErr, None, Some};
 ghost use Rattle.std.specs.List.{list_any, position};
 ghost use Rattle.std.specs.Option.{option_map, option_and_then};
-ghost use Rattle.search_parts.specs.Stack.{depth_below};
-ghost use Rattle.search_parts.specs.Delegate.{CountsOne};
-ghost use Rattle.search_parts.specs.Cache.{CacheNode, KeepsFinished};
-ghost use Rattle.search_parts.specs.LookUp.{first_accepted, usable};
-ghost use Rattle.search_parts.specs.Provisional.{Lists};
-ghost use Rattle.search_parts.specs.Store.{Store};
-ghost use Rattle.search_parts.specs.declared.parts.provisional_cache.ProvisionalCacheEntry.{ProvisionalCacheEntry};
-ghost use Rattle.search_parts.specs.declared.context.Reply.TheVariants.{Answer};
-ghost use Rattle.search_parts.specs.declared.context.Request.TheVariants.{Evaluate};
-ghost use Rattle.search_parts.specs.declared.global_cache.results.StoredResult.{StoredResult};
-ghost use Rattle.search_parts.specs.declared.context.Fault.TheVariants.{Memory};
-ghost use Rattle.open_goals.specs.Newest.{newest};
-ghost use Rattle.search_graph.specs.Calls.{Call};
-ghost use Rattle.search_graph.specs.Evaluating.{HasAsked, GoesOn, HasStopped, KeepsAnswers};
-ghost use Rattle.search_graph.specs.Free.{AreFree};
-ghost use Rattle.search_graph.specs.LookUp.{is_applicable, kept_for};
-ghost use Rattle.search_graph.specs.Moves.{ClosesCycle, Pushes};
-ghost use Rattle.search_graph.specs.Justified.{Asks, AreJustified, IsFit};
-ghost use Rattle.search_graph.specs.Provisional.{AreReady};
-ghost use Rattle.search_graph.specs.Runs.{runs_of};
+ghost use Rattle.search_graph.specs.Below.{depth_below, CountsOne, CacheNode, KeepsFinished, first_accepted, usable, Lists, Store, ProvisionalCacheEntry, Answer, Evaluate, StoredResult, Memory, newest};
+ghost use Rattle.search_graph.specs.Words.{Call, HasAsked, GoesOn, HasStopped, KeepsAnswers, AreFree, is_applicable, kept_for, ClosesCycle, Pushes, Asks, AreJustified, IsFit, AreReady, runs_of};
 
 use crate::graph::kept::look_up_kept;
 use crate::graph::look_up::look_up;

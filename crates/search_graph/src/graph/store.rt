@@ -1,16 +1,7 @@
 //! What is kept of a goal that is done.
 ghost use Rattle.std.specs.Prelude.{◌≡◌, ◌<◌, ◌&&◌, ◌++◌, if◌then◌else◌, ℕ, [], length, IfErr, IfSome, OnOk};
-ghost use Rattle.cycle_heads.specs.Heads.{highest};
-ghost use Rattle.search_parts.specs.Definite.{HasGraph};
-ghost use Rattle.search_parts.specs.Provisional.{entries_at};
-ghost use Rattle.search_parts.specs.Rank.{IsPlainTo};
-ghost use Rattle.search_parts.specs.Store.{place_of, KeepsResults};
-ghost use Rattle.search_parts.specs.Stored.{IsPlainAt};
-ghost use Rattle.search_parts.specs.declared.context.Fault.TheVariants.{Memory};
-ghost use Rattle.search_parts.specs.declared.global_cache.results.Place.TheVariants.{Success};
-ghost use Rattle.search_graph.specs.Graph.{ComesTo, IsCaused};
-ghost use Rattle.search_graph.specs.Provisional.{kept_of};
-ghost use Rattle.search_graph.specs.Results.{IsStoredAt, StoresAnswer};
+ghost use Rattle.search_graph.specs.Below.{highest, HasGraph, entries_at, IsPlainTo, place_of, KeepsResults, IsPlainAt, Memory, Success};
+ghost use Rattle.search_graph.specs.Words.{ComesTo, IsCaused, kept_of, IsStoredAt, StoresAnswer};
 
 use crate::graph::kept::keep_answer;
 use search_parts::context::{Cx, Delegate, Fault};

@@ -1,7 +1,7 @@
 //! The nodes that are found while a graph is copied.
 ghost use Rattle.std.specs.Prelude.{◌≡◌, [], ◌∷◌, map, slice_get, nat_eq, Some, IfOk};
 ghost use Rattle.std.specs.List.{IsDistinct};
-ghost use Rattle.search_parts.specs.Found.{Finds, ArePlaced};
+ghost use Rattle.search_parts.specs.Words.{Finds, ArePlaced};
 
 use crate::context::{Edge, NoMemory};
 use std::alloc::Global;

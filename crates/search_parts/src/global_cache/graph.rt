@@ -1,13 +1,8 @@
 //! The graph of an answer as data, which can be looked at without the cache.
 ghost use Rattle.std.specs.Prelude.{◌≡◌, ℕ, ◌<◌, true, map, length, slice_index, MatchOption, IfOk, IsSome, IfSome, slice_get, None, Some, Ok};
 ghost use Rattle.std.specs.Option.{IsSomeAnd};
-ghost use Rattle.cycle_heads.specs.declared.path.PathKind.TheVariants.{Inductive, Coinductive};
-ghost use Rattle.search_parts.specs.Definite.{HasGraph};
-ghost use Rattle.search_parts.specs.Found.{Finds};
-ghost use Rattle.search_parts.specs.HandedOut.{IsCopyFrom, IsWhole, original_node};
-ghost use Rattle.search_parts.specs.Valid.{IsValid};
-ghost use Rattle.search_parts.specs.View.{ended_node};
-ghost use Rattle.search_parts.specs.declared.context.Edge.{Edge};
+ghost use Rattle.search_parts.specs.Below.{Inductive, Coinductive};
+ghost use Rattle.search_parts.specs.Words.{HasGraph, Finds, IsCopyFrom, IsWhole, original_node, IsValid, ended_node, Edge};
 
 use crate::context::{Cx, Delegate, NoMemory, Node, NodeId, ProofGraph};
 use crate::global_cache::GlobalCache;

@@ -1,10 +1,8 @@
 //! The list of nodes: the runs of goals that have ended, which the graphs of answers are made of.
 ghost use Rattle.std.specs.Prelude.{◌≡◌, ◌∷◌, ◌++◌, [], length, IfOk, OnErr, IfSome};
 ghost use Rattle.std.specs.Option.{is_some, option_map, IsSomeAnd};
-ghost use Rattle.open_graphs.specs.Graph.{Grown};
-ghost use Rattle.search_parts.specs.Cache.{open_node as new_node, open_goal, finished_node, with_run, IsRun, KeepsNodes, KeepsFinished, KeepsGoals};
-ghost use Rattle.search_parts.specs.Shapes.{shapes_of};
-ghost use Rattle.search_parts.specs.View.{node_of, run_of, ended_node};
+ghost use Rattle.search_parts.specs.Below.{Grown};
+ghost use Rattle.search_parts.specs.Words.{open_node as new_node, open_goal, finished_node, with_run, IsRun, KeepsNodes, KeepsFinished, KeepsGoals, shapes_of, node_of, run_of, ended_node};
 
 use crate::context::{Cx, Delegate, Edge, NoMemory, Node, NodeId, Reply};
 use crate::global_cache::GlobalCache;

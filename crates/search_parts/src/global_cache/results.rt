@@ -2,12 +2,7 @@
 //! result that met overflow.
 ghost use Rattle.std.specs.Prelude.{◌≡◌, ℕ, false, [], IfErr, OnOk, OnErr};
 ghost use Rattle.std.specs.Option.{option_map};
-ghost use Rattle.search_parts.specs.Definite.{HasGraph};
-ghost use Rattle.search_parts.specs.Rank.{IsPlainTo};
-ghost use Rattle.search_parts.specs.declared.context.Fault.TheVariants.{Memory};
-ghost use Rattle.search_parts.specs.Stored.{IsPlainAt};
-ghost use Rattle.search_parts.specs.declared.global_cache.results.Place.TheVariants.{Success, WithOverflow};
-ghost use Rattle.search_parts.specs.Store.{place_of, stored_at, stored_from, AnswersStoring, KeepsResults, Puts};
+ghost use Rattle.search_parts.specs.Words.{HasGraph, IsPlainTo, Memory, IsPlainAt, Success, WithOverflow, place_of, stored_at, stored_from, AnswersStoring, KeepsResults, Puts};
 
 use crate::context::{Cx, Delegate, Fault, NodeId, Tracked};
 use crate::global_cache::GlobalCache;

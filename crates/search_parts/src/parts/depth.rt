@@ -1,7 +1,7 @@
 //! How deep the goals below a goal may go.
 ghost use Rattle.std.specs.Prelude.{◌≡◌, ◌↔◌, ◌≤◌, IsTrue};
 ghost use Rattle.std.specs.Option.{option_map};
-ghost use Rattle.search_parts.specs.Stack.{allowed_depth};
+ghost use Rattle.search_parts.specs.Words.{allowed_depth};
 
 use crate::context::Delegate;
 use crate::parts::stack::Stack;

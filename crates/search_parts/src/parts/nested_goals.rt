@@ -4,8 +4,8 @@ ghost use Rattle.std.specs.Option.{option_map};
 ghost use Rattle.std.specs.HashMap.{spare};
 ghost use Rattle.std.specs.List.{IsDistinct};
 ghost use Rattle.std.specs.Map.{keys_of};
-ghost use Rattle.search_parts.specs.Nested.{joined_paths, paths_at, JoinsPaths};
-ghost use Rattle.cycle_heads.specs.Paths.{extended};
+ghost use Rattle.search_parts.specs.Words.{joined_paths, paths_at, JoinsPaths};
+ghost use Rattle.search_parts.specs.Below.{extended};
 
 use crate::context::{Cx, NoMemory};
 use crate::path::{PathKind, PathsToNested};

@@ -2,10 +2,8 @@
 ghost use Rattle.std.specs.Prelude.{◌≡◌, ◌≢◌, ◌↔◌, ◌<◌, ◌≤◌, not, [], length, All, IsTrue, IfSome, OnOk, OnErr};
 ghost use Rattle.std.specs.List.{filter, filter_map, find};
 ghost use Rattle.std.specs.Option.{option_copied};
-ghost use Rattle.cycle_heads.specs.Heads.{highest};
-ghost use Rattle.search_parts.specs.Provisional.{entries_at, lists_of, Appends, PutsLast};
-ghost use Rattle.search_parts.specs.Rebasing.{rebased, settled};
-ghost use Rattle.search_parts.specs.Reuse.{may_be_used, rests_on};
+ghost use Rattle.search_parts.specs.Below.{highest};
+ghost use Rattle.search_parts.specs.Words.{entries_at, lists_of, Appends, PutsLast, rebased, settled, may_be_used, rests_on};
 
 mod clearing;
 mod concerned;

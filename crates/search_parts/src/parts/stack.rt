@@ -3,7 +3,7 @@ ghost use Rattle.std.specs.Prelude.{◌≡◌, ℕ, ◌+◌, ◌-◌, ◌<◌, L
 ghost use Rattle.std.specs.List.{position};
 ghost use Rattle.std.specs.Option.{option_map};
 ghost use Rattle.std.specs.Slice.Iter.{iter_rest};
-ghost use Rattle.cycle_heads.specs.Path.{greatest_kind, greater_kind};
+ghost use Rattle.search_parts.specs.Below.{greatest_kind, greater_kind};
 
 use crate::context::{Cx, NoMemory, NodeId};
 use crate::parts::candidates::CandidateHeadUsages;
@@ -282,7 +282,7 @@ pub struct CycleStepKinds<'a, X: Cx> {
 
 impl<'a, X: Cx> Model for CycleStepKinds<'a, X> {
     ghost use Rattle.std.specs.Prelude.{List, map};
-    ghost use Rattle.cycle_heads.specs.declared.path.PathKind.{PathKind};
+    ghost use Rattle.search_parts.specs.Below.{PathKind};
 
     ghost Value = { List PathKind };
 

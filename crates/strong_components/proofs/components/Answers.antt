@@ -1,8 +1,7 @@
 use Rattle.std.proofs.Common.{◌≡◌, ℕ, arith, map, subst, sym}
 use Rattle.std.specs.Global.{Vec}
 use Rattle.std.proofs.lemmas.Result.{IfOk-weaker}
-use Rattle.strong_components.specs.Components.{AreComponents, successor_lists}
-use Rattle.strong_components.specs.Search.{number_of}
+use Rattle.strong_components.specs.Words.{AreComponents, successor_lists, number_of}
 use Rattle.strong_components.proofs.Numbers.{numbers_are_components}
 use Rattle.strong_components.proofs.Rows.{length-successor_lists}
 use Rattle.strong_components.proofs.components.Goals as goal

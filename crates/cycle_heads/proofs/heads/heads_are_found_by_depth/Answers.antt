@@ -1,4 +1,4 @@
-use Rattle.cycle_heads.specs.Heads.{at_depth, joined_head}
+use Rattle.cycle_heads.specs.Words.{at_depth, joined_head}
 use Rattle.cycle_heads.proofs.HeadLists.{at_depth-insert_same, at_depth-insert_other, at_depth-set_same, at_depth-set_other}
 use Rattle.cycle_heads.proofs.heads.heads_are_found_by_depth.Goals as goal
 

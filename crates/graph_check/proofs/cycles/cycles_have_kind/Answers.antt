@@ -1,4 +1,4 @@
-use Rattle.search_parts.specs.Valid.{goal_nodes_of}
+use Rattle.graph_check.specs.Below.{goal_nodes_of}
 use Rattle.graph_check.proofs.ClosedWalks.{all_of_kind}
 use Rattle.graph_check.proofs.cycles.cycles_have_kind.Goals as goal
 

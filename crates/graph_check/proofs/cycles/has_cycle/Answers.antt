@@ -1,7 +1,6 @@
 use Rattle.std.proofs.Common.{◌≡◌, sym, ap, ◌∙◌, subst}
-use Rattle.search_parts.specs.Valid.{goal_nodes_of}
-use Rattle.strong_components.specs.Components.{AreComponents, StaysInside, successor_lists}
-use Rattle.graph_check.specs.Walks.{steps_over}
+use Rattle.graph_check.specs.Below.{goal_nodes_of, AreComponents, StaysInside, successor_lists}
+use Rattle.graph_check.specs.Words.{steps_over}
 use Rattle.graph_check.proofs.ClosedWalks.{cycle_of_inner, inner_of_cycle, steps_inside}
 use Rattle.graph_check.proofs.cycles.has_cycle.Goals as goal
 

@@ -1,7 +1,6 @@
 use Rattle.std.proofs.lemmas.Result.{IfOk-weaker}
-use Rattle.search_parts.specs.Valid.{goal_nodes_of}
-use Rattle.cycle_heads.specs.declared.path.PathKind.TheVariants.{ForcedAmbiguity}
-use Rattle.graph_check.specs.Walks.{IsBetween, IsGreater}
+use Rattle.graph_check.specs.Below.{goal_nodes_of, ForcedAmbiguity}
+use Rattle.graph_check.specs.Words.{IsBetween, IsGreater}
 use Rattle.graph_check.proofs.ClosedWalks.{found_of, greater_from_next}
 use Rattle.graph_check.proofs.cycles.has_greater_cycle.Goals as goal
 

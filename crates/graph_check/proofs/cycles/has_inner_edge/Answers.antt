@@ -3,10 +3,7 @@ use Rattle.std.proofs.lemmas.Bool.{cases_lt, false≢true}
 use Rattle.std.proofs.lemmas.List.{length-map}
 use Rattle.std.proofs.lemmas.List.Elements.{All-weaker}
 use Rattle.std.proofs.lemmas.Option.{slice_get_read, same_Some}
-use Rattle.search_parts.specs.declared.context.Edge.{Edge}
-use Rattle.search_parts.specs.declared.context.Node.{Node}
-use Rattle.search_parts.specs.Graph.{HasGoal}
-use Rattle.search_parts.specs.Valid.{goal_node_of, goal_nodes_of}
+use Rattle.graph_check.specs.Below.{Edge, Node, HasGoal, goal_node_of, goal_nodes_of}
 use Rattle.graph_check.proofs.Places.{HasEdge-within, HasGoal-within, closed_at, edge_there, node_with_edge}
 use Rattle.graph_check.proofs.InnerEdges.{leading_of, leading_passes}
 use Rattle.graph_check.proofs.cycles.has_inner_edge.Goals as goal

@@ -1,8 +1,6 @@
 use Rattle.std.proofs.Common.{◌≡◌, ℕ, ◌<◌, slice_index}
-use Rattle.search_parts.specs.declared.context.Edge.{Edge}
-use Rattle.search_parts.specs.Graph.{HasEdge}
-use Rattle.search_parts.specs.Valid.{goal_nodes_of}
-use Rattle.graph_check.specs.Walks.{IsBetween}
+use Rattle.graph_check.specs.Below.{Edge, HasEdge, goal_nodes_of}
+use Rattle.graph_check.specs.Words.{IsBetween}
 use Rattle.graph_check.proofs.cycles.has_inner_edge.Given as goal
 
 -- no edge of the nodes so far stays inside

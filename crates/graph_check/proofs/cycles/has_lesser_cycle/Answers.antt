@@ -1,7 +1,6 @@
 use Rattle.std.proofs.lemmas.Result.{IfOk-weaker}
-use Rattle.search_parts.specs.Valid.{goal_nodes_of}
-use Rattle.cycle_heads.specs.declared.path.PathKind.TheVariants.{Inductive}
-use Rattle.graph_check.specs.Walks.{IsBetween, IsLesser}
+use Rattle.graph_check.specs.Below.{goal_nodes_of, Inductive}
+use Rattle.graph_check.specs.Words.{IsBetween, IsLesser}
 use Rattle.graph_check.proofs.ClosedWalks.{found_of, lesser_to_last}
 use Rattle.graph_check.proofs.cycles.has_lesser_cycle.Goals as goal
 

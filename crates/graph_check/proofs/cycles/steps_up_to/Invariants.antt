@@ -1,7 +1,6 @@
 use Rattle.std.proofs.Common.{◌≡◌, take}
-use Rattle.search_parts.specs.Valid.{goal_nodes_of}
-use Rattle.strong_components.specs.Components.{successor_lists}
-use Rattle.graph_check.specs.Walks.{steps_over}
+use Rattle.graph_check.specs.Below.{goal_nodes_of, successor_lists}
+use Rattle.graph_check.specs.Words.{steps_over}
 use Rattle.graph_check.proofs.cycles.steps_up_to.Given as goal
 
 -- the steps from each node so far

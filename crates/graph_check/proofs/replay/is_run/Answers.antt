@@ -1,5 +1,5 @@
 use Rattle.std.proofs.Common.{arith, ◌≤◌, length, reverse, take, sym, ap, ◌∙◌}
-use Rattle.graph_check.specs.Replay.{has_sort, replied}
+use Rattle.graph_check.specs.Words.{has_sort, replied}
 use Rattle.graph_check.proofs.Elements.{read_at, taken_last}
 use Rattle.graph_check.proofs.Replaying.{replays_nothing, replays_more, fitting_next, stops_unfit, stops_disorderly, run_is_legal, is_run_if, run_is_done, run_has_edges}
 use Rattle.graph_check.proofs.replay.is_run.Goals as goal

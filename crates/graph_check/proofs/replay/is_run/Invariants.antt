@@ -1,5 +1,5 @@
 use Rattle.std.proofs.Common.{◌≡◌, ◌≤◌, ◌+◌, reverse, take}
-use Rattle.graph_check.specs.Replay.{has_sort, Replays}
+use Rattle.graph_check.specs.Words.{has_sort, Replays}
 use Rattle.graph_check.proofs.replay.is_run.Given as goal
 
 -- the frame and the record have had the replies so far

@@ -1,9 +1,7 @@
 use Rattle.std.proofs.Common.{List, All, length, refl, sym, ◌∙◌, subst, arith}
 use Rattle.std.proofs.lemmas.Bool.{false≢true}
 use Rattle.std.proofs.lemmas.Option.{slice_get_read, slice_get_within}
-use Rattle.search_parts.specs.declared.context.Edge.{Edge}
-use Rattle.search_parts.specs.Graph.{HasGoal}
-use Rattle.search_parts.specs.Valid.{goal_nodes_of}
+use Rattle.graph_check.specs.Below.{Edge, HasGoal, goal_nodes_of}
 use Rattle.graph_check.proofs.Places.{closed_at, closed_more, node_with_edge}
 use Rattle.graph_check.proofs.targets.are_closed.Goals as goal
 

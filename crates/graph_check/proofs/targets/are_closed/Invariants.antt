@@ -1,7 +1,5 @@
 use Rattle.std.proofs.Common.{ℕ, ◌<◌}
-use Rattle.search_parts.specs.declared.context.Edge.{Edge}
-use Rattle.search_parts.specs.Graph.{HasEdge, HasGoal}
-use Rattle.search_parts.specs.Valid.{goal_nodes_of}
+use Rattle.graph_check.specs.Below.{Edge, HasEdge, HasGoal, goal_nodes_of}
 use Rattle.graph_check.proofs.targets.are_closed.Given as goal
 
 -- the edges of each node so far reach their goals

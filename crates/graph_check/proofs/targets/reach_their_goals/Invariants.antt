@@ -1,6 +1,5 @@
 use Rattle.std.proofs.Common.{All, take}
-use Rattle.search_parts.specs.Graph.{HasGoal}
-use Rattle.search_parts.specs.Valid.{goal_nodes_of}
+use Rattle.graph_check.specs.Below.{HasGoal, goal_nodes_of}
 use Rattle.graph_check.proofs.targets.reach_their_goals.Given as goal
 
 -- each edge so far reaches its goal

@@ -1,6 +1,6 @@
 use Rattle.std.proofs.Common.{arith, ◌-◌, ◌∙◌, refl, sym, ap}
 use Rattle.std.proofs.lemmas.Grind.{common_steps}
-use Rattle.open_goals.specs.Progress.{requested, fault_of}
+use Rattle.open_goals.specs.Words.{requested, fault_of}
 use Rattle.open_goals.proofs.Steps.{last_can_take, last_stepped, last_out_of_order, none_is}
 use Rattle.open_goals.proofs.goals.step.Goals as goal
 

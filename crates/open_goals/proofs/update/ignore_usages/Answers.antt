@@ -1,11 +1,9 @@
 use Rattle.std.proofs.Common.{◌≡◌, sym, ap, ◌∙◌, subst, option_map}
 use Rattle.std.proofs.lemmas.Map.Iter.{rest_more}
 use Rattle.std.specs.Map.Iter.{deref_pair}
-use Rattle.cycle_heads.specs.declared.depth.StackDepth.{StackDepth}
-use Rattle.cycle_heads.specs.Heads.{at_depth, IsRising}
+use Rattle.open_goals.specs.Below.{StackDepth, at_depth, IsRising}
 use Rattle.cycle_heads.proofs.HeadLists.{absent_later, rising_later}
-use Rattle.open_goals.specs.Candidates.{less_usages, CanIgnore}
-use Rattle.open_goals.specs.Entries.{is_in_cycle}
+use Rattle.open_goals.specs.Words.{less_usages, CanIgnore, is_in_cycle}
 use Rattle.open_goals.proofs.IgnoredHeads.{left_at, head_ignored, usages_ignored, cycle_stays, others_kept, first_counts, rest_counts}
 use Rattle.open_goals.proofs.update.ignore_usages.Goals as goal
 

@@ -1,8 +1,6 @@
 use Rattle.std.proofs.Common.{◌≡◌, option_map}
-use Rattle.cycle_heads.specs.declared.depth.StackDepth.{StackDepth}
-use Rattle.cycle_heads.specs.Heads.{at_depth, IsRising}
-use Rattle.open_goals.specs.Entries.{is_in_cycle}
-use Rattle.open_goals.specs.Candidates.{less_usages, CanIgnore}
+use Rattle.open_goals.specs.Below.{StackDepth, at_depth, IsRising}
+use Rattle.open_goals.specs.Words.{is_in_cycle, less_usages, CanIgnore}
 use Rattle.open_goals.proofs.IgnoredHeads.{left_at}
 use Rattle.open_goals.proofs.update.ignore_usages.Given as goal
 

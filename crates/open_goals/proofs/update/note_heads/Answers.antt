@@ -1,10 +1,9 @@
 use Rattle.std.proofs.Common.{◌≡◌, ◌||◌, sym, ap, ◌∙◌, subst}
 use Rattle.std.proofs.lemmas.Map.Iter.{rest_more, rest_all}
 use Rattle.std.specs.Map.Iter.{deref_pair}
-use Rattle.cycle_heads.specs.declared.depth.StackDepth.{StackDepth}
-use Rattle.cycle_heads.specs.Heads.{at_depth, IsRising}
+use Rattle.open_goals.specs.Below.{StackDepth, at_depth, IsRising}
 use Rattle.cycle_heads.proofs.HeadLists.{absent_later, rising_later}
-use Rattle.open_goals.specs.Entries.{some_heads, usages_over, is_in_cycle}
+use Rattle.open_goals.specs.Words.{some_heads, usages_over, is_in_cycle}
 use Rattle.open_goals.proofs.TakenHeads.{counted_over, head_over, head_taken, candidate_taken, usages_taken, cycle_taken, others_kept, all_taken}
 use Rattle.open_goals.proofs.update.note_heads.Goals as goal
 

@@ -1,7 +1,6 @@
 use Rattle.std.proofs.Common.{◌≡◌, ◌||◌}
-use Rattle.cycle_heads.specs.declared.depth.StackDepth.{StackDepth}
-use Rattle.cycle_heads.specs.Heads.{at_depth, IsRising}
-use Rattle.open_goals.specs.Entries.{some_heads, usages_over, is_in_cycle}
+use Rattle.open_goals.specs.Below.{StackDepth, at_depth, IsRising}
+use Rattle.open_goals.specs.Words.{some_heads, usages_over, is_in_cycle}
 use Rattle.open_goals.proofs.TakenHeads.{counted_over, head_over}
 use Rattle.open_goals.proofs.update.note_heads.Given as goal
 

@@ -1,7 +1,6 @@
 use Rattle.std.proofs.Common.{◌≡◌, ◌+◌, Some, length, ◌∙◌, ap, arith, length-append}
-use Rattle.cycle_heads.specs.declared.path.PathKind.TheVariants.{Coinductive}
+use Rattle.parts_tests.specs.Below.{Coinductive, open_goal}
 use Rattle.parts_tests.proofs.OpenNodes.{opened_is_node, opened_stays, other_stays_open, node_stays}
-use Rattle.search_parts.specs.Cache.{open_goal}
 use Rattle.parts_tests.proofs.handed_out.a_cycle_of_two_runs_of_one_goal_is_handed_out.Goals as goal
 
 pub finish_towards-requires-clause-is_open : goal.finish_towards-requires-clause-is_open

@@ -1,5 +1,5 @@
 use Rattle.parts_tests.proofs.StoredLoops.{is_plain}
-use Rattle.search_parts.specs.Store.{place_of}
+use Rattle.parts_tests.specs.Below.{place_of}
 use Rattle.parts_tests.proofs.stored_results.store.Goals as goal
 
 pub insert-requires-clause-plain : goal.insert-requires-clause-plain

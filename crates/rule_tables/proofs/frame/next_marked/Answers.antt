@@ -1,6 +1,6 @@
 use Rattle.std.proofs.Common.{sym, ap, ◌∙◌, arith}
 use Rattle.std.proofs.lemmas.List.{take_rest}
-use Rattle.rule_tables.specs.Frame.{marked_from}
+use Rattle.rule_tables.specs.Words.{marked_from}
 use Rattle.rule_tables.proofs.Marked.{marked_from-drop, marked_from-past}
 use Rattle.rule_tables.proofs.frame.next_marked.Goals as goal
 

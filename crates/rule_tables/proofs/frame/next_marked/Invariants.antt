@@ -1,5 +1,5 @@
 use Rattle.std.proofs.Common.{◌≡◌, ◌+◌, drop}
-use Rattle.rule_tables.specs.Frame.{marked_from}
+use Rattle.rule_tables.specs.Words.{marked_from}
 use Rattle.rule_tables.proofs.frame.next_marked.Given as goal
 
 abbrev pub invariant-loop-ahead : goal.invariant-loop-ahead

@@ -1,5 +1,5 @@
 use Rattle.std.proofs.Common.{subst}
-use Rattle.rule_tables.specs.Text.{Reads}
+use Rattle.rule_tables.specs.Words.{Reads}
 use Rattle.rule_tables.proofs.Bytes.{known_reads, on_ok}
 use Rattle.rule_tables.proofs.program.answer_input.Goals as goal
 

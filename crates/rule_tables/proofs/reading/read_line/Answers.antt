@@ -1,4 +1,4 @@
-use Rattle.rule_tables.specs.Grammar.{Nothing}
+use Rattle.rule_tables.specs.Words.{Nothing}
 use Rattle.rule_tables.proofs.Adding.{adds_nothing}
 use Rattle.rule_tables.proofs.reading.read_line.Goals as goal
 

@@ -2,8 +2,7 @@
 ghost use Rattle.std.specs.Prelude.{◌≡◌, ◌≢◌, ◌↔◌, [], not, IfSome, IsTrue};
 ghost use Rattle.std.specs.Map.{lookup};
 ghost use Rattle.std.specs.List.{filter};
-ghost use Rattle.search_parts.specs.Provisional.{entries_at, lists_of};
-ghost use Rattle.search_parts.specs.Reuse.{is_used_at, rests_on};
+ghost use Rattle.search_parts.specs.Words.{entries_at, lists_of, is_used_at, rests_on};
 
 use crate::context::Cx;
 use crate::parts::depth::StackDepth;

@@ -1,8 +1,7 @@
 //! Which entries a goal that is done concerns: those whose highest head it is.
 ghost use Rattle.std.specs.Prelude.{◌≡◌, nat_eq};
 ghost use Rattle.std.specs.List.{list_any};
-ghost use Rattle.search_parts.specs.Provisional.{lists_of};
-ghost use Rattle.search_parts.specs.Reuse.{highest_passes};
+ghost use Rattle.search_parts.specs.Words.{lists_of, highest_passes};
 
 use crate::context::Cx;
 use crate::parts::depth::StackDepth;

@@ -1,8 +1,8 @@
 //! Whether cycles keep their kinds when a goal on them is answered from a kept entry.
 ghost use Rattle.std.specs.Prelude.{◌≡◌, ◌<◌, length, All};
 ghost use Rattle.std.specs.List.{list_all};
-ghost use Rattle.cycle_heads.specs.Paths.{kinds_in};
-ghost use Rattle.search_parts.specs.Rebasing.{keeps_kind, keeps_kinds};
+ghost use Rattle.search_parts.specs.Below.{kinds_in};
+ghost use Rattle.search_parts.specs.Words.{keeps_kind, keeps_kinds};
 
 use crate::context::Cx;
 use crate::parts::stack::{Stack, StackEntry};

@@ -2,8 +2,8 @@
 ghost use Rattle.std.specs.Prelude.{◌≡◌, ◌≢◌, ◌<◌, [], All, IfSome, length};
 ghost use Rattle.std.specs.List.{find};
 ghost use Rattle.std.specs.Option.{option_copied};
-ghost use Rattle.cycle_heads.specs.Heads.{highest};
-ghost use Rattle.search_parts.specs.Reuse.{has_head_up_to, may_be_used};
+ghost use Rattle.search_parts.specs.Below.{highest};
+ghost use Rattle.search_parts.specs.Words.{has_head_up_to, may_be_used};
 
 use crate::context::Cx;
 use crate::parts::depth::StackDepth;

@@ -3,10 +3,8 @@ ghost use Rattle.std.specs.Prelude.{◌≡◌, ◌≢◌, ◌≤◌, ◌<◌, []
 ghost use Rattle.std.specs.List.{filter_map};
 ghost use Rattle.std.specs.Map.{lookup};
 ghost use Rattle.std.specs.Option.{option_map};
-ghost use Rattle.cycle_heads.specs.Heads.{highest};
-ghost use Rattle.search_parts.specs.Provisional.{entries_at, lists_of};
-ghost use Rattle.search_parts.specs.Rebasing.{from_new_head, rebased, rebased_unused, rebased_used, settled, with_unused, with_used, CanBeRebased};
-ghost use Rattle.search_parts.specs.Settlement.{settled_by};
+ghost use Rattle.search_parts.specs.Below.{highest};
+ghost use Rattle.search_parts.specs.Words.{entries_at, lists_of, from_new_head, rebased, rebased_unused, rebased_used, settled, with_unused, with_used, CanBeRebased, settled_by};
 
 use crate::context::{Cx, Delegate, NoMemory};
 use crate::parts::heads::{CycleHead, CycleHeads};

@@ -1,8 +1,7 @@
 use Rattle.std.proofs.Common.{refl, sym, ap, ◌∙◌, subst}
 use Rattle.std.proofs.lemmas.Map.Iter.{rest_more, rest_all}
 use Rattle.std.specs.Map.Iter.{deref_pair}
-use Rattle.cycle_heads.specs.Candidates.{merged}
-use Rattle.cycle_heads.specs.Heads.{at_depth, IsRising}
+use Rattle.cycle_heads.specs.Words.{merged, at_depth, IsRising}
 use Rattle.cycle_heads.proofs.HeadLists.{rising_later}
 use Rattle.cycle_heads.proofs.MergedUsages.{merged-added, merged-comm, merged-None}
 use Rattle.cycle_heads.proofs.candidates.CandidateHeadUsages.merge_usages.Goals as goal

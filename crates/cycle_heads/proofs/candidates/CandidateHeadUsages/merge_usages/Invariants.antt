@@ -1,7 +1,5 @@
 use Rattle.std.proofs.Common.{◌≡◌}
-use Rattle.cycle_heads.specs.declared.depth.StackDepth.{StackDepth}
-use Rattle.cycle_heads.specs.Candidates.{merged}
-use Rattle.cycle_heads.specs.Heads.{at_depth, IsRising}
+use Rattle.cycle_heads.specs.Words.{StackDepth, merged, at_depth, IsRising}
 use Rattle.cycle_heads.proofs.candidates.CandidateHeadUsages.merge_usages.Given as goal
 
 abbrev pub invariant-loop-head : goal.invariant-loop-head

@@ -1,6 +1,6 @@
 use Rattle.std.proofs.Common.{subst, sym, ap, ◌∙◌, IsSome}
 use Rattle.std.proofs.lemmas.Bool.{false≢true}
-use Rattle.cycle_heads.specs.Heads.{at_depth}
+use Rattle.cycle_heads.specs.Words.{at_depth}
 use Rattle.cycle_heads.proofs.candidates.CandidateHeadUsages.note_usages.Goals as goal
 
 pub returns-in_err-insert-clause-known : goal.returns-in_err-insert-clause-known

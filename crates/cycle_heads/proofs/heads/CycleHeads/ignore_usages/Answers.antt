@@ -2,7 +2,7 @@ use Rattle.std.proofs.Common.{sym, ap, ◌∙◌}
 use Rattle.std.specs.BTreeMap.{is_at}
 use Rattle.std.specs.Map.{set_value}
 use Rattle.std.specs.Option.{option_copied_mut}
-use Rattle.cycle_heads.specs.Heads.{at_depth, depth_cmp}
+use Rattle.cycle_heads.specs.Words.{at_depth, depth_cmp}
 use Rattle.cycle_heads.proofs.heads.CycleHeads.ignore_usages.Goals as goal
 
 pub ignore_usages-requires : goal.ignore_usages-requires

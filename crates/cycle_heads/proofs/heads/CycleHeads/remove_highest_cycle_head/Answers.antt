@@ -1,5 +1,5 @@
 use Rattle.std.proofs.Common.{◌≡◌, ◌∙◌, ◌++◌, ◌∷◌, [], Some, sym, ap}
-use Rattle.cycle_heads.specs.Heads.{highest}
+use Rattle.cycle_heads.specs.Words.{highest}
 use Rattle.cycle_heads.proofs.HighestHeads.{highest-push, all_below}
 use Rattle.cycle_heads.proofs.heads.CycleHeads.remove_highest_cycle_head.Goals as goal
 

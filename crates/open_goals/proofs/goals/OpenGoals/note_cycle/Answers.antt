@@ -1,8 +1,7 @@
 use Rattle.std.proofs.Common.{◌-◌, ◌∙◌, ◌∷◌, [], false, OnOk, refl, ap, subst}
 use Rattle.search_parts.proofs.LastState.{length-change_last}
-use Rattle.search_parts.specs.Lent.{change_last}
-use Rattle.open_goals.specs.Newest.{paired}
-use Rattle.open_goals.specs.Items.{AnswersNewest}
+use Rattle.open_goals.specs.Below.{change_last}
+use Rattle.open_goals.specs.Words.{paired, AnswersNewest}
 use Rattle.open_goals.proofs.Changes.{newest_answered}
 use Rattle.open_goals.proofs.TakenHeads.{one_taken}
 use Rattle.open_goals.proofs.goals.OpenGoals.note_cycle.Goals as goal

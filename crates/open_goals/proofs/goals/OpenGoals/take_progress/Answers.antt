@@ -1,6 +1,6 @@
 use Rattle.std.proofs.Common.{◌-◌, ◌∙◌, Some, ap, sym, arith}
 use Rattle.std.proofs.lemmas.Grind.{common_steps}
-use Rattle.open_goals.specs.Progress.{no_record}
+use Rattle.open_goals.specs.Words.{no_record}
 use Rattle.open_goals.proofs.Changes.{newest_run, run_changed}
 use Rattle.open_goals.proofs.goals.OpenGoals.take_progress.Goals as goal
 

@@ -1,6 +1,6 @@
 use Rattle.std.proofs.Common.{◌≡◌, map, take}
 use Rattle.std.specs.List.{filter}
-use Rattle.open_goals.specs.Progress.{rests_on}
+use Rattle.open_goals.specs.Words.{rests_on}
 use Rattle.open_goals.proofs.progress.Progress.edges.Given as goal
 
 -- the edges of the answers so far

@@ -1,12 +1,6 @@
 use Rattle.std.proofs.Common.{List, ◌∷◌, ◌≡◌, ◌∙◌, ap, sym, subst}
-use Rattle.search_parts.specs.declared.context.Reply.{Reply}
-use Rattle.search_parts.specs.Run.{IsFitting, Fits}
-use Rattle.rule_tables.specs.declared.outcome.Outcome.{Outcome}
-use Rattle.rule_tables.specs.declared.rules.Candidate.{Candidate}
-use Rattle.rule_tables.specs.declared.frame.State.{State}
-use Rattle.rule_tables.specs.Rules.{candidates_of}
-use Rattle.rule_tables.specs.Frame.{script_of, state_after}
-use Rattle.rule_tables.specs.Laws.Runs.{request_after-is}
+use Rattle.rule_tables.specs.Below.{Reply, IsFitting, Fits}
+use Rattle.rule_tables.specs.Words.{Outcome, Candidate, State, candidates_of, script_of, state_after, request_after-is}
 use Rattle.rule_tables.proofs.Steps.{falls_at}
 use Rattle.rule_tables.proofs.delegate.RulesDelegateDelegate.step.Goals as goal
 

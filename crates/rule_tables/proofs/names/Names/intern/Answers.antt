@@ -1,6 +1,6 @@
 use Rattle.std.proofs.Common.{◌∙◌, subst, ap, refl, is_ok, rules, ◌++◌, ◌∷◌, []}
 use Rattle.std.proofs.ResultArms.{chosen}
-use Rattle.rule_tables.specs.Names.{IsNumbered, texts_of}
+use Rattle.rule_tables.specs.Words.{IsNumbered, texts_of}
 use Rattle.rule_tables.proofs.NameLemmas.{number_is, with_known, Interned, interned}
 use Rattle.rule_tables.proofs.names.Names.intern.Goals as goal
 use Rattle.rule_tables.proofs.names.Names.intern.Goals.{After-unwrap}

@@ -1,5 +1,5 @@
 use Rattle.std.proofs.Common.{◌∙◌, subst}
-use Rattle.rule_tables.specs.Names.{IsNumbered}
+use Rattle.rule_tables.specs.Words.{IsNumbered}
 use Rattle.rule_tables.proofs.NameLemmas.{number_is}
 use Rattle.rule_tables.proofs.names.Names.number.Goals as goal
 

@@ -1,6 +1,5 @@
 use Rattle.std.specs.Prelude.{map}
-use Rattle.rule_tables.specs.Question.{named}
-use Rattle.rule_tables.specs.Words.{words_left}
+use Rattle.rule_tables.specs.Words.{named, words_left}
 use Rattle.rule_tables.proofs.Questions.{AreReadTo}
 use Rattle.rule_tables.proofs.reading.line.questions_of.Given as goal
 

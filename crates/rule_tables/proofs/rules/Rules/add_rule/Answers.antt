@@ -1,9 +1,7 @@
 use Rattle.std.proofs.Common.{refl, rules, ◌∷◌, [], ap, sym, subst, map}
 use Rattle.std.proofs.lemmas.Simd.{map-map}
 use Rattle.std.specs.Option.{option_map_or}
-use Rattle.rule_tables.specs.Question.{named}
-use Rattle.rule_tables.specs.Rules.{number_of}
-use Rattle.rule_tables.specs.Table.{Mentions}
+use Rattle.rule_tables.specs.Words.{named, number_of, Mentions}
 use Rattle.rule_tables.proofs.TableLemmas.{name_kept, goal_within, mentions_more, candidates_at, candidates_off}
 use Rattle.rule_tables.proofs.Adding.{adds_rule}
 use Rattle.rule_tables.proofs.rules.Rules.add_rule.Goals as goal

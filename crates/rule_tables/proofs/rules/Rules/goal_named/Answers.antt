@@ -2,7 +2,7 @@ use Rattle.std.proofs.Common.{◌∙◌, subst, sym, ap, refl, is_ok, length, ru
 use Rattle.std.proofs.ResultArms.{chosen}
 use Rattle.std.specs.Prelude.{slice_get}
 use Rattle.std.specs.Option.{option_map_or}
-use Rattle.rule_tables.specs.Rules.{number_of}
+use Rattle.rule_tables.specs.Words.{number_of}
 use Rattle.rule_tables.proofs.TableLemmas.{same_names, candidates_pushed}
 use Rattle.rule_tables.proofs.rules.Rules.goal_named.Goals as goal
 

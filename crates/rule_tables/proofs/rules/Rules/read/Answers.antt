@@ -4,7 +4,7 @@ use Rattle.std.proofs.lemmas.Iterator.Consumers.{YieldsList-at, YieldsList-from_
 use Rattle.std.proofs.lemmas.Iterator.Splits.{YieldsList-from_slice_split}
 use Rattle.std.proofs.lemmas.List.{length_push}
 use borrow.Author.Tests.{tests}
-use Rattle.rule_tables.specs.Grammar.{lines_of}
+use Rattle.rule_tables.specs.Words.{lines_of}
 use Rattle.rule_tables.proofs.Lines.{line_at, read_more, bad_line, all_read}
 use Rattle.rule_tables.proofs.rules.Rules.read.Goals as goal
 

@@ -1,11 +1,12 @@
 use Rattle.std.proofs.Common.{◌+◌, ◌≤◌, max, take, ◌∙◌, subst, arith}
 use Rattle.std.proofs.lemmas.Grind.{common_steps}
 use Rattle.std.proofs.lemmas.List.{take_all}
-use Rattle.search_parts.specs.Rank.{frames_within}
+use Rattle.search_graph.specs.Below.{frames_within}
 use Rattle.search_parts.proofs.Finished.{KeepsFinished-then}
 use Rattle.search_parts.proofs.Stores.{KeepsResults-then}
 use Rattle.search_parts.proofs.Whole.{whole_stays}
-use Rattle.search_graph.specs.Lists.{Appends, HasAnswer, IsAnswered}
+use Rattle.search_graph.specs.Words.{HasAnswer}
+use Rattle.search_graph.specs.Lists.{Appends, IsAnswered}
 use Rattle.search_graph.proofs.ListAnswers.{Appends-more, Appends-weaker, sum_by-more, HasAnswer-kept, answer_is_shown}
 use Rattle.search_graph.proofs.graph.SearchGraph.evaluate_list.Goals as goal
 

@@ -1,7 +1,7 @@
 use Rattle.std.proofs.Common.{◌≡◌, ◌≤◌, ◌+◌, ◌-◌, max, length, take, vec_len, vec_capacity}
-use Rattle.search_parts.specs.Cache.{KeepsFinished}
-use Rattle.search_parts.specs.Store.{KeepsResults}
-use Rattle.search_graph.specs.Lists.{Appends, HasAnswer, frames_for}
+use Rattle.search_graph.specs.Below.{KeepsFinished, KeepsResults}
+use Rattle.search_graph.specs.Words.{HasAnswer, frames_for}
+use Rattle.search_graph.specs.Lists.{Appends}
 use Rattle.search_graph.proofs.graph.SearchGraph.evaluate_list.Given as goal
 
 -- the first queries have their answers, and there is room for the others'

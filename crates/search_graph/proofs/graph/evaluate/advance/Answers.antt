@@ -1,17 +1,11 @@
 use Rattle.std.proofs.Common.{refl, sym, subst}
-use Rattle.open_goals.specs.Steps.{CanStep}
-use Rattle.search_graph.specs.Evaluating.{GoesOn, HasStopped, KeepsAnswers, KeepsStore, work_left}
-use Rattle.search_graph.specs.Free.{AreFree}
-use Rattle.search_graph.specs.Justified.{IsFit}
-use Rattle.search_graph.specs.Runs.{runs_of}
-use Rattle.search_parts.specs.declared.context.Request.{Request}
-use Rattle.open_goals.specs.Candidates.{NotesCandidate}
+use Rattle.search_graph.specs.Below.{CanStep, Request, NotesCandidate}
+use Rattle.search_graph.specs.Words.{GoesOn, HasStopped, KeepsAnswers, KeepsStore, work_left, AreFree, IsFit, runs_of, IsCaused, OutOfMemory}
 use Rattle.search_graph.proofs.Moves.{asked_stopped, can_step}
 use Rattle.search_graph.proofs.Noted.{about_candidates, can_note, noted_is_justified, noting_goes_on, noting_keeps_free}
 use Rattle.search_graph.proofs.Questions.{if_err_and}
 use Rattle.search_graph.proofs.Finishing.{noted_fits}
 use Rattle.search_graph.proofs.ReadyMoves.{noted_ready, stepped_ready}
-use Rattle.search_graph.specs.Graph.{IsCaused, OutOfMemory}
 use Rattle.search_graph.proofs.Causes.{step_is_caused, step_keeps_free}
 use Rattle.search_graph.proofs.ReadyMoves.{noted_ready, stepped_ready}
 use Rattle.search_graph.proofs.Loops.{stepped_some, advance_asks, advance_stops, advance_justified, done_leads, next_before, step_asks_for}

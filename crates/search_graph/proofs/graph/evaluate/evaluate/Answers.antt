@@ -1,21 +1,14 @@
 use Rattle.std.proofs.lemmas.List.Elements.{All-nil}
 use Rattle.std.proofs.Common.{◌∙◌, ◌<◌, ◌^◌, false, refl, sym, subst, arith}
-use Rattle.search_parts.specs.declared.context.Reply.TheVariants.{Begin}
+use Rattle.search_graph.specs.Below.{Begin, hit_of}
 use Rattle.search_parts.proofs.Finished.{KeepsFinished-then}
-use Rattle.search_graph.specs.Evaluating.{IsWaiting, KeepsAnswers, KeepsStore, HasEnded, HasStopped, work_left}
-use Rattle.search_graph.specs.Moves.{Pushes}
-use Rattle.search_graph.specs.Justified.{AreJustified, IsFit}
-use Rattle.search_graph.specs.LookUp.{AreOnStack}
-use Rattle.search_graph.specs.Provisional.{AreReady}
-use Rattle.search_graph.specs.Runs.{runs_of}
+use Rattle.search_graph.specs.Words.{IsWaiting, KeepsAnswers, KeepsStore, HasEnded, HasStopped, work_left, Pushes, AreJustified, IsFit, AreOnStack, AreReady, runs_of, AreFree}
 use Rattle.search_graph.proofs.Finishing.{begin_fits}
 use Rattle.search_graph.proofs.Justified.{nothing_is_justified}
 use Rattle.search_graph.proofs.KeptEntries.{nothing_kept}
 use Rattle.search_graph.proofs.Ready.{none_ready}
 use Rattle.search_graph.proofs.Questions.{if_err_and}
-use Rattle.search_parts.specs.LookUp.{hit_of}
 use Rattle.search_parts.proofs.Stores.{KeepsResults-same, KeepsResults-then}
-use Rattle.search_graph.specs.Free.{AreFree}
 use Rattle.search_graph.proofs.FreeResults.{all_free_nothing}
 use Rattle.search_graph.proofs.LookUps.{nothing_stored, something_stored, stored_over_none}
 use Rattle.search_graph.proofs.StoredAnswers.{stored_ends}

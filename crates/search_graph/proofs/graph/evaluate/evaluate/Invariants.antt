@@ -1,12 +1,6 @@
 use Rattle.std.proofs.Common.{◌≡◌}
-use Rattle.search_parts.specs.Cache.{KeepsFinished}
-use Rattle.search_parts.specs.Store.{KeepsResults}
-use Rattle.search_graph.specs.Calls.{Call}
-use Rattle.search_graph.specs.Free.{AreFree}
-use Rattle.search_graph.specs.Justified.{AreJustified, IsFit}
-use Rattle.search_graph.specs.Provisional.{AreReady}
-use Rattle.search_graph.specs.Runs.{runs_of}
-use Rattle.search_graph.specs.Evaluating.{Begins, IsLoopWaiting, work_left}
+use Rattle.search_graph.specs.Below.{KeepsFinished, KeepsResults}
+use Rattle.search_graph.specs.Words.{Call, AreFree, AreJustified, IsFit, AreReady, runs_of, Begins, IsLoopWaiting, work_left}
 use Rattle.search_graph.proofs.graph.evaluate.evaluate.Given as goal
 
 -- the newest goal waits for the reply, each answer is justified, the stored results rest on no goal, and the entries may be used

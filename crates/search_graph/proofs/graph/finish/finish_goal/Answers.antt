@@ -1,25 +1,10 @@
 use Rattle.std.proofs.Common.{List, [], ◌∷◌, length, map, reverse, All, ◌≡◌, ◌+◌, ◌<◌, ◌≤◌, ◌^◌, sym, ap, subst, ◌∙◌, arith}
 use Rattle.std.specs.Option.{IfSome}
-use Rattle.cycle_heads.specs.Heads.{highest}
-use Rattle.search_parts.specs.declared.parts.stack.StackEntry.{StackEntry}
-use Rattle.search_parts.specs.declared.parts.provisional_cache.ProvisionalCacheEntry.{ProvisionalCacheEntry}
-use Rattle.search_parts.specs.Provisional.{entries_at}
-use Rattle.search_graph.specs.Justified.{AreJustified, HaveTallies}
-use Rattle.search_graph.specs.Provisional.{AreReady, HasReason, IsNewestUnranked, SettlesNewest, final_answer}
+use Rattle.search_graph.specs.Below.{highest, StackEntry, ProvisionalCacheEntry, entries_at, EvaluationResult, HasGraph, place_of, KeepsResults, IsPlainAt, KeepsFinished, IsPlainTo}
+use Rattle.search_graph.specs.Words.{AreJustified, HaveTallies, AreReady, HasReason, IsNewestUnranked, SettlesNewest, final_answer, AreFree, ComesTo, IsNewestPlainTo, IsNewestStored, IsStoredAt, NewestComesTo, NewestIsPlain, StoresAnswer, GivesAnswer, runs_of, IsJustifiedNext}
 use Rattle.search_graph.proofs.Ready.{are_within, heads_on_stack}
 use Rattle.search_graph.proofs.ReadyPops.{settled_ready}
 use Rattle.search_graph.proofs.SettledEntries.{entries_settled, highest_stays}
-use Rattle.search_parts.specs.declared.parts.result.EvaluationResult.{EvaluationResult}
-use Rattle.search_parts.specs.Definite.{HasGraph}
-use Rattle.search_parts.specs.Store.{place_of, KeepsResults}
-use Rattle.search_parts.specs.Stored.{IsPlainAt}
-use Rattle.search_parts.specs.Cache.{KeepsFinished}
-use Rattle.search_parts.specs.Rank.{IsPlainTo}
-use Rattle.search_graph.specs.Free.{AreFree}
-use Rattle.search_graph.specs.Graph.{ComesTo}
-use Rattle.search_graph.specs.Results.{IsNewestPlainTo, IsNewestStored, IsStoredAt, NewestComesTo, NewestIsPlain, StoresAnswer}
-use Rattle.search_graph.specs.Moves.{GivesAnswer}
-use Rattle.search_graph.specs.Runs.{runs_of, IsJustifiedNext}
 use Rattle.search_graph.proofs.DoneGoals.{given_free, given_justified, given_leaves, newest_stored}
 use Rattle.search_graph.proofs.Finishing.{neither_is, settles}
 use Rattle.search_graph.proofs.Questions.{if_err_and}

@@ -1,11 +1,8 @@
 use Rattle.search_graph.proofs.KeptEntries.{done_keeps, end_leaves, met_keeps_answers, rerun_keeps}
 use Rattle.std.proofs.lemmas.Result.{on_ok_weaker}
 use Rattle.std.proofs.Common.{Err, refl, sym, ap, ap₂, subst, ◌∙◌}
-use Rattle.search_parts.specs.declared.context.Fault.TheVariants.{Memory}
-use Rattle.search_parts.specs.Shapes.{verdict_of}
-use Rattle.search_graph.specs.Free.{AreFree}
-use Rattle.search_graph.specs.Runs.{runs_of}
-use Rattle.search_graph.specs.Evaluating.{GoesOn, HasStopped, KeepsAnswers}
+use Rattle.search_graph.specs.Below.{Memory, verdict_of}
+use Rattle.search_graph.specs.Words.{AreFree, runs_of, GoesOn, HasStopped, KeepsAnswers}
 use Rattle.search_graph.proofs.Finishing.{neither_is}
 use Rattle.search_graph.proofs.Moves.{asked_stopped_by, can_leave, ends_newest, failed_rerun_stopped, leave_leads, limited_leads, limited_stopped, rerun_goes_on}
 use Rattle.search_graph.proofs.Questions.{if_err_and, if_ok_then}

@@ -1,12 +1,7 @@
 use Rattle.std.proofs.Common.{◌-◌, length, ◌++◌, ◌∷◌, [], ◌≤◌, sym, ap, subst, ◌∙◌}
-use Rattle.search_parts.specs.Cache.{open_node}
+use Rattle.search_graph.specs.Below.{open_node, rerun_with, change_newest}
 use Rattle.search_parts.proofs.Finished.{KeepsFinished-nodes, KeepsFinished-then}
-use Rattle.open_goals.specs.Items.{rerun_with}
-use Rattle.search_graph.specs.Free.{AreFree}
-use Rattle.search_graph.specs.Justified.{AreJustified}
-use Rattle.open_goals.specs.Newest.{change_newest}
-use Rattle.search_graph.specs.Runs.{runs_of}
-use Rattle.search_graph.specs.Provisional.{AreReady}
+use Rattle.search_graph.specs.Words.{AreFree, AreJustified, runs_of, AreReady}
 use Rattle.search_graph.proofs.ReadyReruns.{cleared_at, rerun_ready}
 use Rattle.search_graph.proofs.RunsEnd.{taken_from, taken_ends, rerun_free, rerun_justified, reran}
 use Rattle.search_graph.proofs.graph.finish.run_again.Goals as goal

@@ -1,8 +1,7 @@
 use Rattle.std.proofs.Common.{sym, ap, subst, ◌∙◌}
 use Rattle.std.specs.Option.{IsSomeAnd}
-use Rattle.search_parts.specs.Cache.{open_goal, with_run, IsRun, KeepsFinished}
+use Rattle.search_graph.specs.Below.{open_goal, with_run, IsRun, KeepsFinished, edges_of}
 use Rattle.search_parts.proofs.Finished.{KeepsFinished-ended}
-use Rattle.open_goals.specs.Progress.{edges_of}
 use Rattle.search_graph.proofs.Finishing.{again, definite_result, open_for_run, settled, left_open}
 use Rattle.search_graph.proofs.Verdicts.{fails_at}
 use Rattle.search_graph.proofs.graph.finish.settle_node.Goals as goal

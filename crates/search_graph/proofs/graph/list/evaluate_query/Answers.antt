@@ -1,10 +1,8 @@
 use Rattle.std.proofs.Common.{◌≡◌, ℕ, ◌≤◌, IfOk, IfErr, refl, sym, ap, subst}
-use Rattle.search_parts.specs.declared.context.Fault.TheVariants.{Memory}
-use Rattle.search_parts.specs.Rank.{IsPlainTo, IsPlainValue}
+use Rattle.search_graph.specs.Below.{Memory, IsPlainTo, IsPlainValue}
 use Rattle.search_parts.proofs.Finished.{KeepsFinished-same}
 use Rattle.search_parts.proofs.Stores.{KeepsResults-same}
-use Rattle.search_graph.specs.Graph.{IsCaused}
-use Rattle.search_graph.specs.Lists.{HadCause}
+use Rattle.search_graph.specs.Words.{IsCaused, HadCause}
 use Rattle.search_graph.proofs.ListAnswers.{IfErr-weaker}
 use Rattle.search_graph.proofs.graph.list.evaluate_query.Goals as goal
 

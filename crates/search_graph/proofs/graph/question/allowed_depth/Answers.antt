@@ -1,5 +1,5 @@
 use Rattle.std.proofs.Common.{◌∙◌, ap}
-use Rattle.search_parts.specs.Stack.{allowed_depth}
+use Rattle.search_graph.specs.Below.{allowed_depth}
 use Rattle.open_goals.proofs.OldestFirst.{allowed_by_newest}
 use Rattle.search_graph.proofs.graph.question.allowed_depth.Goals as goal
 

@@ -1,12 +1,8 @@
 use Rattle.std.proofs.Common.{◌≡◌, ◌<◌, ◌∙◌, ◌∷◌, [], false, Some, get_or, arith, length, map, reverse, unwrap_or, ap, sym, subst}
 use Rattle.std.proofs.lemmas.List.{length-map, length-reverse}
 use Rattle.std.proofs.lemmas.Option.{slice_get-get_or}
-use Rattle.open_goals.specs.Entries.{cycle_head}
-use Rattle.open_goals.specs.Items.{AnswersNewest}
-use Rattle.search_parts.specs.declared.context.Reply.TheVariants.{Answer}
-use Rattle.search_parts.specs.Cycle.{path_kind_from}
-use Rattle.search_graph.specs.Justified.{IsFit}
-use Rattle.search_graph.specs.Runs.{runs_of}
+use Rattle.search_graph.specs.Below.{cycle_head, AnswersNewest, Answer, path_kind_from}
+use Rattle.search_graph.specs.Words.{IsFit, runs_of}
 use Rattle.search_graph.proofs.CycleAnswers.{cycle_fits, cycle_head_lower, found_goal, head_is}
 use Rattle.search_graph.proofs.Finishing.{answered_newest_is_justified}
 use Rattle.search_graph.proofs.FreeMoves.{answered_newest_free}

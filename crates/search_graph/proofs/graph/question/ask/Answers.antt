@@ -1,19 +1,8 @@
 use Rattle.std.proofs.Common.{arith, ◌≡◌, false, OnOk, ◌∙◌, refl, sym, ap, subst, true, None, option_map, is_some, IfOk}
-use Rattle.search_parts.specs.declared.context.Reply.TheVariants.{Answer}
-use Rattle.cycle_heads.specs.Path.{rank_of}
-use Rattle.search_parts.specs.Cycle.{path_kind_from}
-use Rattle.search_parts.specs.Definite.{IsDefinite}
-use Rattle.search_parts.specs.Shapes.{verdict_of}
-use Rattle.search_graph.specs.KeptShapes.{highest_depth}
-use Rattle.search_graph.specs.LookUp.{AreOnStack}
-use Rattle.search_graph.specs.Provisional.{AreReady, IsReady}
-use Rattle.search_graph.specs.Justified.{IsFit}
-use Rattle.search_graph.specs.Evaluating.{GoesOn}
-use Rattle.search_graph.specs.Moves.{ClosesCycle}
-use Rattle.search_graph.specs.Runs.{runs_of}
+use Rattle.search_graph.specs.Below.{Answer, rank_of, path_kind_from, IsDefinite, verdict_of, hit_of}
+use Rattle.search_graph.specs.Words.{highest_depth, AreOnStack, AreReady, IsReady, IsFit, GoesOn, ClosesCycle, runs_of}
 use Rattle.search_graph.proofs.Finishing.{overflow_noted_is_justified, neither_is, neither_fits, begin_fits}
 use Rattle.search_graph.proofs.Moves.{asked_stopped}
-use Rattle.search_parts.specs.LookUp.{hit_of}
 use Rattle.search_graph.proofs.FreeMoves.{answered_newest_free, stored_fits, stored_taken_free}
 use Rattle.search_graph.proofs.Questions.{ask_kept, ask_stored, asked_depth_fits, if_err, if_ok_then, none_of, ask_refused, ask_in_cycle, ask_pushes, ask_stops}
 use Rattle.search_graph.proofs.Ready.{are_on_stack}

@@ -1,11 +1,8 @@
 use Rattle.std.proofs.Common.{◌≡◌, ◌∙◌, ◌≤◌, [], ◌∷◌, ◌++◌, false, sym, ap, subst}
 use Rattle.std.specs.List.{list_any}
-use Rattle.search_parts.specs.Cache.{open_node}
+use Rattle.search_graph.specs.Below.{open_node}
 use Rattle.search_parts.proofs.Finished.{KeepsFinished-nodes}
-use Rattle.search_graph.specs.Free.{AreFree}
-use Rattle.search_graph.specs.Justified.{AreJustified}
-use Rattle.search_graph.specs.Provisional.{AreReady}
-use Rattle.search_graph.specs.Runs.{runs_of}
+use Rattle.search_graph.specs.Words.{AreFree, AreJustified, AreReady, runs_of}
 use Rattle.search_graph.proofs.Pushed.{pushed_first}
 use Rattle.search_graph.proofs.Finishing.{pushed_goal_is_justified}
 use Rattle.search_graph.proofs.FreeResults.{all_free_pushed_goal}

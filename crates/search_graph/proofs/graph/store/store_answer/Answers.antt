@@ -1,6 +1,6 @@
 use Rattle.std.proofs.Common.{◌≡◌, ◌++◌, ◌&&◌, if◌then◌else◌, [], sym, ◌∙◌, subst}
-use Rattle.search_parts.specs.Provisional.{entries_at}
-use Rattle.search_graph.specs.Provisional.{kept_of}
+use Rattle.search_graph.specs.Below.{entries_at}
+use Rattle.search_graph.specs.Words.{kept_of}
 use Rattle.search_graph.proofs.SettledEntries.{answer_kept, none_kept, headless}
 use Rattle.search_graph.proofs.graph.store.store_answer.Goals.{then-ENABLE_PROVISIONAL_CACHE+in_ok-keep_answer, else-ENABLE_PROVISIONAL_CACHE}
 use Rattle.search_graph.proofs.graph.store.store_answer.Goals as goal

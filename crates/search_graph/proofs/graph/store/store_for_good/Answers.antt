@@ -1,5 +1,5 @@
 use Rattle.std.proofs.Common.{refl}
-use Rattle.search_parts.specs.Store.{stored_at, stored_from, place_of}
+use Rattle.search_graph.specs.Below.{stored_at, stored_from, place_of}
 use Rattle.search_graph.proofs.Storing.{caused_after, put_is_stored, same_results, stored_either, storing_is_caused}
 use Rattle.search_graph.proofs.graph.store.store_for_good.Goals as goal
 

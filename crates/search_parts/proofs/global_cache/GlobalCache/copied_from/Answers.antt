@@ -1,6 +1,5 @@
 use Rattle.std.proofs.Common.{◌≡◌, ◌+◌, ◌<◌, length, arith, sym, ◌∙◌, ap, length-append}
-use Rattle.search_parts.specs.Cache.{finished_node}
-use Rattle.search_parts.specs.View.{ended_node}
+use Rattle.search_parts.specs.Words.{finished_node, ended_node}
 use Rattle.search_parts.proofs.HandedOut.{is_some_at, root_begins, next_begun, fewer_copied, not_whole, copies}
 use Rattle.search_parts.proofs.global_cache.GlobalCache.copied_from.Goals as goal
 

@@ -1,8 +1,6 @@
 use Rattle.std.proofs.Common.{sym, subst}
-use Rattle.open_graphs.specs.Graph.{Grown}
-use Rattle.search_parts.specs.Cache.{KeepsFinished, KeepsGoals}
-use Rattle.search_parts.specs.Sound.{IsSound}
-use Rattle.search_parts.specs.Shapes.{shapes_of}
+use Rattle.search_parts.specs.Below.{Grown}
+use Rattle.search_parts.specs.Words.{KeepsFinished, KeepsGoals, IsSound, shapes_of}
 use Rattle.search_parts.proofs.Finished.{KeepsFinished-ended}
 use Rattle.search_parts.proofs.Nodes.{KeepsGoals-ended, Grown-ended}
 use Rattle.search_parts.proofs.Slots.{nodes_ended, cache_ended}

@@ -2,8 +2,7 @@ use Rattle.std.proofs.Common.{[], Some, refl, arith}
 use Rattle.std.specs.Option.{IsSome}
 use Rattle.std.proofs.lemmas.Grind.{common_steps}
 use Rattle.std.proofs.lemmas.Option.{MatchOption-at_none, MatchOption-at_some}
-use Rattle.search_parts.specs.Cache.{finished_node}
-use Rattle.search_parts.specs.HandedOut.{IsWhole, IsCopyFrom}
+use Rattle.search_parts.specs.Words.{finished_node, IsWhole, IsCopyFrom}
 use Rattle.search_parts.proofs.Definites.{definite_is_whole}
 use Rattle.search_parts.proofs.HandedOut.{copy_is_whole}
 use Rattle.search_parts.proofs.ValidCopies.{yes_is_valid, no_is_valid}

@@ -1,5 +1,5 @@
 use Rattle.std.proofs.Common.{subst}
-use Rattle.search_parts.specs.Stored.{AreKept}
+use Rattle.search_parts.specs.Words.{AreKept}
 use Rattle.search_parts.proofs.global_cache.GlobalCache.has_sound_results.Goals as goal
 
 pub returns : goal.returns

@@ -1,8 +1,5 @@
 use Rattle.std.proofs.Common.{◌≡◌, ◌∙◌, if◌then◌else◌, ap, sym, subst}
-use Rattle.search_parts.specs.declared.global_cache.results.Place.TheVariants.{Success, WithOverflow}
-use Rattle.search_parts.specs.declared.global_cache.results.StoredResult.{StoredResult}
-use Rattle.search_parts.specs.Store.{stored_at, AnswersStoring}
-use Rattle.search_parts.specs.Stored.{AreKept, IsPlainAt}
+use Rattle.search_parts.specs.Words.{Success, WithOverflow, StoredResult, stored_at, AnswersStoring, AreKept, IsPlainAt}
 use Rattle.search_parts.proofs.Stored.{ranked_never_conflicts}
 use Rattle.search_parts.proofs.Sound.{IsSound-stored}
 use Rattle.search_parts.proofs.global_cache.GlobalCache.insert.Goals as goal

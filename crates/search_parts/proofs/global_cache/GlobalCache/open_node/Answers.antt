@@ -1,8 +1,6 @@
 use Rattle.std.proofs.Common.{is_ok, sym, subst}
-use Rattle.open_graphs.specs.Graph.{Grown}
-use Rattle.search_parts.specs.Cache.{KeepsNodes, KeepsGoals}
-use Rattle.search_parts.specs.Sound.{IsSound}
-use Rattle.search_parts.specs.Shapes.{shapes_of}
+use Rattle.search_parts.specs.Below.{Grown}
+use Rattle.search_parts.specs.Words.{KeepsNodes, KeepsGoals, IsSound, shapes_of}
 use Rattle.search_parts.proofs.Nodes.{KeepsNodes-appended, KeepsGoals-appended, Grown-appended}
 use Rattle.search_parts.proofs.Slots.{nodes_pushed, cache_pushed}
 use Rattle.search_parts.proofs.Sound.{IsSound-appended}

@@ -1,6 +1,6 @@
 use Rattle.std.proofs.Common.{None, sym, ap, ◌∙◌}
 use Rattle.std.specs.Option.{option_copied, option_map}
-use Rattle.search_parts.specs.LookUp.{hit_of}
+use Rattle.search_parts.specs.Words.{hit_of}
 use Rattle.search_parts.proofs.LookUps.{finds_success, looks_up}
 use Rattle.search_parts.proofs.global_cache.look_up.look_up.Goals as goal
 

@@ -1,6 +1,5 @@
 use Rattle.std.proofs.Common.{Err, refl, sym, subst, ◌∙◌}
-use Rattle.search_parts.specs.declared.context.Fault.TheVariants.{Memory}
-use Rattle.search_parts.specs.Store.{stored_at, AnswersStoring}
+use Rattle.search_parts.specs.Words.{Memory, stored_at, AnswersStoring}
 use Rattle.search_parts.proofs.Stores.{found_at, puts, no_conflict, KeepsResults-put}
 use Rattle.search_parts.proofs.global_cache.results.put.Goals as goal
 

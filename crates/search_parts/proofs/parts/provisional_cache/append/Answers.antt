@@ -1,7 +1,7 @@
 use Rattle.std.proofs.Common.{rules, ◌≡◌, ◌∙◌, [], Some, None, refl, sym, ap, subst, IsSome}
 use Rattle.std.specs.Map.{lookup}
 use Rattle.std.specs.Option.{option_map, option_copied_mut, unwrap_or}
-use Rattle.search_parts.specs.Provisional.{lists_of}
+use Rattle.search_parts.specs.Words.{lists_of}
 use Rattle.search_parts.proofs.ProvisionalLists.{lists-set_same, puts_last}
 use Rattle.search_parts.proofs.parts.provisional_cache.append.Goals as goal
 

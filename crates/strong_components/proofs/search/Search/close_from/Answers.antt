@@ -1,5 +1,5 @@
 use Rattle.std.proofs.Common.{arith, refl, ap, set}
-use Rattle.strong_components.specs.declared.search.State.TheVariants.{Closed}
+use Rattle.strong_components.specs.Words.{Closed}
 use Rattle.strong_components.proofs.ClosingPlaces.{closes_none, closes_one, count, place_inside}
 use Rattle.strong_components.proofs.search.Search.close_from.Goals as goal
 

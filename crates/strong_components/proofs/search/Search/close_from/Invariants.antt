@@ -1,5 +1,5 @@
 use Rattle.std.proofs.Common.{◌≡◌, ◌≤◌, length}
-use Rattle.strong_components.specs.Search.{ClosesFrom}
+use Rattle.strong_components.specs.Words.{ClosesFrom}
 use Rattle.strong_components.proofs.search.Search.close_from.Given as goal
 
 abbrev pub invariant-places : goal.invariant-places

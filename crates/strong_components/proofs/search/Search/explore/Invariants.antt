@@ -1,5 +1,4 @@
-use Rattle.strong_components.specs.Components.{successor_lists}
-use Rattle.strong_components.specs.Search.{IsSearch, StaySeen, work_of}
+use Rattle.strong_components.specs.Words.{successor_lists, IsSearch, StaySeen, work_of}
 use Rattle.strong_components.proofs.search.Search.explore.Given as goal
 
 abbrev pub invariant-loop-position : goal.invariant-loop-position

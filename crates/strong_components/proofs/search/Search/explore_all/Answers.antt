@@ -1,8 +1,6 @@
 use Rattle.std.proofs.Common.{◌<◌, ◌+◌, length, arith, sym, ◌∙◌, subst, below_more}
 use Rattle.std.proofs.lemmas.List.{get_or_read}
-use Rattle.strong_components.specs.declared.search.State.TheVariants.{New}
-use Rattle.strong_components.specs.declared.search.Search.{Search}
-use Rattle.strong_components.specs.Components.{successor_lists}
+use Rattle.strong_components.specs.Words.{New, Search, successor_lists}
 use Rattle.strong_components.proofs.Idle.{IsIdle, found_with, new_by_test, open_root, seen_by_test}
 use Rattle.strong_components.proofs.Rows.{length-successor_lists}
 use Rattle.strong_components.proofs.search.Search.explore_all.Goals as goal

@@ -1,4 +1,4 @@
-use Rattle.strong_components.specs.Components.{successor_lists}
+use Rattle.strong_components.specs.Words.{successor_lists}
 use Rattle.strong_components.proofs.Idle.{IsIdle}
 use Rattle.strong_components.proofs.search.Search.explore_all.Given as goal
 

@@ -1,6 +1,6 @@
 use Rattle.std.proofs.Common.{arith, refl, subst, sym}
 use Rattle.std.proofs.lemmas.Bool.{iff_false}
-use Rattle.strong_components.specs.Search.{EndsWith}
+use Rattle.strong_components.specs.Words.{EndsWith}
 use Rattle.strong_components.proofs.Indexes.{IsFront-pop}
 use Rattle.strong_components.proofs.Opening.{same_search}
 use Rattle.strong_components.proofs.Closing.{close_keeps}

@@ -1,6 +1,6 @@
 use Rattle.std.proofs.Common.{sym, ◌∙◌}
 use Rattle.std.proofs.lemmas.List.{get_or_read}
-use Rattle.strong_components.specs.declared.search.State.TheVariants.{New}
+use Rattle.strong_components.specs.Words.{New}
 use Rattle.strong_components.proofs.Merge.{merge_keeps}
 use Rattle.strong_components.proofs.Opening.{open_along}
 use Rattle.strong_components.proofs.search.Search.look_at.Goals as goal

@@ -1,5 +1,5 @@
 use Rattle.std.proofs.Common.{◌<◌, length, rules, arith, ap}
-use Rattle.strong_components.specs.Components.{successor_lists}
+use Rattle.strong_components.specs.Words.{successor_lists}
 use Rattle.strong_components.proofs.Steps.{has_step, in_graph, in_left, is_open, left_in_row, step_is_less, step_keeps, successor_inside}
 use Rattle.strong_components.proofs.search.Search.step.Goals as goal
 

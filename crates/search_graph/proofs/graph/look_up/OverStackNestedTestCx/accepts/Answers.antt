@@ -2,8 +2,8 @@ use Rattle.std.proofs.Common.{rules, is_some, not, ap, ◌∙◌}
 use Rattle.std.proofs.lemmas.Iterator.{YieldsList-from_slice}
 use Rattle.std.proofs.lemmas.Iterator.Consumers.{YieldsList-from_rest}
 use Rattle.std.proofs.lemmas.Iterator.Search.{any_from_yields_List, all_from_yields_List}
-use Rattle.search_parts.specs.Nested.{paths_at}
-use Rattle.search_graph.specs.LookUp.{meets_entry}
+use Rattle.search_graph.specs.Below.{paths_at}
+use Rattle.search_graph.specs.Words.{meets_entry}
 use Rattle.search_graph.proofs.LookUps.{empty_is_applicable, refused_on_stack, decided_by_entries}
 use Rattle.search_graph.proofs.graph.look_up.OverStackNestedTestCx.accepts.Goals as goal
 

@@ -1,5 +1,5 @@
 use Rattle.std.proofs.Common.{map, take}
-use Rattle.search_parts.specs.Found.{Finds, ArePlaced}
+use Rattle.search_parts.specs.Words.{Finds, ArePlaced}
 use Rattle.search_parts.proofs.global_cache.found.Found.placed.Given as goal
 
 abbrev pub invariant-loop-edge : goal.invariant-loop-edge

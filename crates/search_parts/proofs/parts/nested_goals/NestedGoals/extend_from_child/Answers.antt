@@ -3,7 +3,7 @@ use Rattle.std.proofs.lemmas.Bool.{false≢true}
 use Rattle.std.proofs.lemmas.Map.Iter.{rest_more, rest_all}
 use Rattle.std.specs.HashMap.{spare}
 use Rattle.std.specs.Map.Iter.{deref_pair}
-use Rattle.search_parts.specs.Nested.{paths_at}
+use Rattle.search_parts.specs.Words.{paths_at}
 use Rattle.search_parts.proofs.NestedLists.{IsJoining-start, IsJoining-more, IsJoining-end}
 use Rattle.search_parts.proofs.parts.nested_goals.NestedGoals.extend_from_child.Goals as goal
 

@@ -1,6 +1,5 @@
 use Rattle.std.proofs.Common.{not}
-use Rattle.search_parts.specs.Provisional.{lists_of}
-use Rattle.search_parts.specs.Reuse.{rests_on}
+use Rattle.search_parts.specs.Words.{lists_of, rests_on}
 use Rattle.search_parts.proofs.ProvisionalLists.{kept_filtered}
 use Rattle.search_parts.proofs.parts.provisional_cache.ProvisionalCache.clear_for_rerun.Goals as goal
 

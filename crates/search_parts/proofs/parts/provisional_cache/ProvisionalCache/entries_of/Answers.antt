@@ -1,5 +1,5 @@
 use Rattle.std.proofs.Common.{◌∙◌, ◌≢◌, [], All, Some, None, sym, subst}
-use Rattle.search_parts.specs.Provisional.{entries_at}
+use Rattle.search_parts.specs.Words.{entries_at}
 use Rattle.search_parts.proofs.ProvisionalLists.{found_at, heads_at}
 use Rattle.search_parts.proofs.parts.provisional_cache.ProvisionalCache.entries_of.Goals as goal
 

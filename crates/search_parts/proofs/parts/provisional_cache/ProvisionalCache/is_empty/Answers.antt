@@ -1,5 +1,5 @@
 use Rattle.std.proofs.Common.{ap, sym, ◌∙◌}
-use Rattle.search_parts.specs.Provisional.{entries_at, lists_of}
+use Rattle.search_parts.specs.Words.{entries_at, lists_of}
 use Rattle.search_parts.proofs.ProvisionalLists.{no_entries, no_lists, none_at_all}
 use Rattle.search_parts.proofs.parts.provisional_cache.ProvisionalCache.is_empty.Goals as goal
 

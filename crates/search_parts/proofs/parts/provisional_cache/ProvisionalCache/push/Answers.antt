@@ -1,5 +1,5 @@
 use Rattle.std.proofs.lemmas.Result.{on_ok_weaker}
-use Rattle.search_parts.specs.Provisional.{lists_of}
+use Rattle.search_parts.specs.Words.{lists_of}
 use Rattle.search_parts.proofs.ProvisionalLists.{kept_after, appends}
 use Rattle.search_parts.proofs.parts.provisional_cache.ProvisionalCache.push.Goals as goal
 

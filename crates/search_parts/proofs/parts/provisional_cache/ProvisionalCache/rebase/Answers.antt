@@ -1,6 +1,5 @@
 use Rattle.std.proofs.Common.{rules, ◌≡◌, ◌∙◌, false, sym}
-use Rattle.search_parts.specs.Provisional.{entries_at, lists_of}
-use Rattle.search_parts.specs.Rebasing.{settled}
+use Rattle.search_parts.specs.Words.{entries_at, lists_of, settled}
 use Rattle.search_parts.proofs.Concerned.{all_stay, is_concerned, none_at}
 use Rattle.search_parts.proofs.RebasedKept.{can_be_rebased, kept_rebased}
 use Rattle.search_parts.proofs.parts.provisional_cache.ProvisionalCache.rebase.Goals as goal

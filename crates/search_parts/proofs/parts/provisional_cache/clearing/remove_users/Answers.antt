@@ -1,5 +1,5 @@
 use Rattle.std.proofs.Common.{not, rules}
-use Rattle.search_parts.specs.Reuse.{rests_on}
+use Rattle.search_parts.specs.Words.{rests_on}
 use Rattle.search_parts.proofs.Cleared.{others_at, left_at}
 use Rattle.search_parts.proofs.parts.provisional_cache.clearing.remove_users.Goals as goal
 

@@ -1,6 +1,6 @@
 use Rattle.std.proofs.Common.{not, rules, tests}
 use Rattle.std.proofs.lemmas.Fn.{filter_same}
-use Rattle.search_parts.specs.Reuse.{rests_on}
+use Rattle.search_parts.specs.Words.{rests_on}
 use Rattle.search_parts.proofs.parts.provisional_cache.clearing.remove_users_of_list.Goals as goal
 
 pub returns-clause-others : goal.returns-clause-others

@@ -2,7 +2,7 @@ use Rattle.std.proofs.Common.{ap, sym, ◌∙◌}
 use Rattle.std.proofs.lemmas.Map.Iter.{rest_more, rest_all}
 use Rattle.std.specs.List.{list_any}
 use Rattle.std.specs.Map.Iter.{deref_pair}
-use Rattle.search_parts.specs.Provisional.{lists_of}
+use Rattle.search_parts.specs.Words.{lists_of}
 use Rattle.search_parts.proofs.Concerned.{is_concerned, has_concerned, first_passes, others_tell}
 use Rattle.search_parts.proofs.parts.provisional_cache.concerned.concerns_lists.Goals as goal
 

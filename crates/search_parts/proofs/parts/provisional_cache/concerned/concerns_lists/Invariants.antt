@@ -1,7 +1,6 @@
 use Rattle.std.proofs.Common.{◌≡◌, nat_eq}
 use Rattle.std.specs.List.{list_any}
-use Rattle.search_parts.specs.Provisional.{lists_of}
-use Rattle.search_parts.specs.Reuse.{highest_passes}
+use Rattle.search_parts.specs.Words.{lists_of, highest_passes}
 use Rattle.search_parts.proofs.parts.provisional_cache.concerned.concerns_lists.Given as goal
 
 -- a list that is concerned is among those that are left

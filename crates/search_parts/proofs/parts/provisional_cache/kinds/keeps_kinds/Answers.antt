@@ -2,8 +2,7 @@ use Rattle.std.proofs.Common.{◌≡◌, ◌<◌, ◌∙◌, All, length, refl, 
 use Rattle.std.proofs.lemmas.List.Elements.{All-head, All-rest}
 use Rattle.std.proofs.lemmas.Map.Iter.{rest_more, rest_all}
 use Rattle.std.specs.Map.Iter.{deref_pair}
-use Rattle.cycle_heads.specs.declared.depth.StackDepth.{StackDepth}
-use Rattle.cycle_heads.specs.declared.heads.CycleHead.{CycleHead}
+use Rattle.search_parts.specs.Below.{StackDepth, CycleHead}
 use Rattle.search_parts.proofs.KeptKinds.{keep_from, keeps_from_head, first_fails, first_passes}
 use Rattle.search_parts.proofs.parts.provisional_cache.kinds.keeps_kinds.Goals as goal
 

@@ -2,8 +2,8 @@ use Rattle.std.proofs.Common.{rules}
 use Rattle.std.proofs.lemmas.Iterator.Consumers.{YieldsList-from_first}
 use Rattle.std.proofs.lemmas.Iterator.Search.{all_from_yields_List}
 use Rattle.std.specs.List.{list_all}
-use Rattle.cycle_heads.specs.Paths.{kinds_in}
-use Rattle.search_parts.specs.Rebasing.{keeps_kind}
+use Rattle.search_parts.specs.Below.{kinds_in}
+use Rattle.search_parts.specs.Words.{keeps_kind}
 use Rattle.search_parts.proofs.parts.provisional_cache.kinds.keeps_kinds_from.Goals as goal
 
 pub returns : goal.returns

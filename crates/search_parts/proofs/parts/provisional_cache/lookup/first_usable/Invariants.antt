@@ -1,6 +1,6 @@
 use Rattle.std.proofs.Common.{◌≡◌, drop}
 use Rattle.std.specs.List.{find}
-use Rattle.search_parts.specs.Reuse.{may_be_used}
+use Rattle.search_parts.specs.Words.{may_be_used}
 use Rattle.search_parts.proofs.parts.provisional_cache.lookup.first_usable.Given as goal
 
 -- the first entry that may be used is among those that are left

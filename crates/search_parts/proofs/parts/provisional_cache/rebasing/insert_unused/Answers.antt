@@ -1,10 +1,8 @@
 use Rattle.std.proofs.Common.{rules, ◌≡◌, ap, sym, ◌∙◌}
 use Rattle.std.proofs.lemmas.Map.Iter.{rest_more, rest_all}
 use Rattle.std.specs.Map.Iter.{deref_pair}
-use Rattle.cycle_heads.specs.Heads.{with_head}
-use Rattle.cycle_heads.specs.Paths.{path_of_no_step}
-use Rattle.search_parts.specs.Rebasing.{with_unused}
-use Rattle.cycle_heads.specs.Usages.{no_usages}
+use Rattle.search_parts.specs.Below.{with_head, path_of_no_step, no_usages}
+use Rattle.search_parts.specs.Words.{with_unused}
 use Rattle.cycle_heads.proofs.Counts.{none_by_counts}
 use Rattle.search_parts.proofs.parts.provisional_cache.rebasing.insert_unused.Goals as goal
 

@@ -1,9 +1,8 @@
 use Rattle.std.proofs.Common.{◌≡◌, ap, sym, ◌∙◌}
 use Rattle.std.proofs.lemmas.Map.Iter.{rest_more, rest_all}
 use Rattle.std.specs.Map.Iter.{deref_pair}
-use Rattle.cycle_heads.specs.Heads.{with_head}
-use Rattle.cycle_heads.specs.Paths.{extended_by_each}
-use Rattle.search_parts.specs.Rebasing.{with_used}
+use Rattle.search_parts.specs.Below.{with_head, extended_by_each}
+use Rattle.search_parts.specs.Words.{with_used}
 use Rattle.search_parts.proofs.parts.provisional_cache.rebasing.insert_used.Goals as goal
 
 pub loop-depth-preserved : goal.loop-depth-preserved

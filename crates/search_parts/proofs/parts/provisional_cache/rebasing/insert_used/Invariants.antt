@@ -1,5 +1,5 @@
 use Rattle.std.proofs.Common.{◌≡◌}
-use Rattle.search_parts.specs.Rebasing.{with_used}
+use Rattle.search_parts.specs.Words.{with_used}
 use Rattle.search_parts.proofs.parts.provisional_cache.rebasing.insert_used.Given as goal
 
 -- with the heads that are left these are as many as in the end

@@ -1,7 +1,7 @@
 use Rattle.std.proofs.Common.{arith, ◌≡◌, ◌∙◌, false, not, length, IfOk, sym, ap, subst}
 use Rattle.std.proofs.lemmas.Bool.Decides.{nat_tests}
-use Rattle.cycle_heads.specs.Usages.{has_usages}
-use Rattle.search_parts.specs.Settlement.{settled_by}
+use Rattle.search_parts.specs.Below.{has_usages}
+use Rattle.search_parts.specs.Words.{settled_by}
 use Rattle.cycle_heads.proofs.Counts.{used_by_test}
 use Rattle.search_parts.proofs.RebasedEntries.{is_unused}
 use Rattle.search_parts.proofs.parts.provisional_cache.rebasing.rebase_entry.Goals as goal

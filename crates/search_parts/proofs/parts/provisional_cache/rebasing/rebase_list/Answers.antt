@@ -2,8 +2,7 @@ use Rattle.std.proofs.Common.{rules, ◌≡◌, ◌∷◌, ◌∙◌, false, Som
 use Rattle.std.proofs.lemmas.List.Elements.{All-rest}
 use Rattle.std.specs.List.{list_any}
 use Rattle.std.specs.Vec.Iter.{into_iter_items}
-use Rattle.search_parts.specs.Rebasing.{rebased, CanBeRebased}
-use Rattle.search_parts.specs.Settlement.{settled_by}
+use Rattle.search_parts.specs.Words.{rebased, CanBeRebased, settled_by}
 use Rattle.search_parts.proofs.Concerned.{all_stay, is_concerned}
 use Rattle.search_parts.proofs.RebasedLists.{one_kept, one_dropped}
 use Rattle.search_parts.proofs.parts.provisional_cache.rebasing.rebase_list.Goals as goal

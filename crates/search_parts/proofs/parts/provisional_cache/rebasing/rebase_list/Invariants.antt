@@ -1,8 +1,7 @@
 use Rattle.std.proofs.Common.{◌≡◌, ◌++◌, All, length}
 use Rattle.std.specs.List.{filter_map}
 use Rattle.std.specs.Vec.Iter.{into_iter_items}
-use Rattle.search_parts.specs.Rebasing.{rebased, CanBeRebased}
-use Rattle.search_parts.specs.Settlement.{settled_by}
+use Rattle.search_parts.specs.Words.{rebased, CanBeRebased, settled_by}
 use Rattle.search_parts.proofs.parts.provisional_cache.rebasing.rebase_list.Given as goal
 
 -- what is left so far and what will be of the others is what is left of all

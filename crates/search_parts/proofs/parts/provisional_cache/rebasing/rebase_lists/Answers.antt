@@ -3,8 +3,7 @@ use Rattle.std.proofs.lemmas.Grind.{common_steps}
 use Rattle.std.proofs.lemmas.List.{nil_from_length}
 use Rattle.std.proofs.lemmas.Map.Iter.{rest_more}
 use Rattle.std.specs.List.{filter_map}
-use Rattle.search_parts.specs.Provisional.{lists_of}
-use Rattle.search_parts.specs.Rebasing.{rebased, settled, CanBeRebased}
+use Rattle.search_parts.specs.Words.{lists_of, rebased, settled, CanBeRebased}
 use Rattle.search_parts.proofs.RebasedLists.{starts, first_can, gains_none, gains_list, goes_on}
 use Rattle.search_parts.proofs.parts.provisional_cache.rebasing.rebase_lists.Goals as goal
 

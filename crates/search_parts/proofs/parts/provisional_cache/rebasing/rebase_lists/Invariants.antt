@@ -1,6 +1,5 @@
 use Rattle.std.proofs.Common.{length}
-use Rattle.search_parts.specs.Provisional.{lists_of}
-use Rattle.search_parts.specs.Rebasing.{rebased, settled, CanBeRebased}
+use Rattle.search_parts.specs.Words.{lists_of, rebased, settled, CanBeRebased}
 use Rattle.search_parts.proofs.RebasedLists.{IsRebasing}
 use Rattle.search_parts.proofs.parts.provisional_cache.rebasing.rebase_lists.Given as goal
 

@@ -1,5 +1,5 @@
 use Rattle.std.proofs.Common.{◌≡◌, ◌≤◌, All, Some, length, sym, ◌∙◌, subst}
-use Rattle.search_parts.specs.Settlement.{settled_by}
+use Rattle.search_parts.specs.Words.{settled_by}
 use Rattle.search_parts.proofs.RebasedEntries.{settled_heads}
 use Rattle.search_parts.proofs.RebasedHeads.{all_with_used, below_highest, highest_within}
 use Rattle.search_parts.proofs.parts.provisional_cache.rebasing.rebase_used.Goals as goal

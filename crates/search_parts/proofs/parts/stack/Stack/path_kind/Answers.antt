@@ -1,7 +1,7 @@
 use Rattle.std.proofs.Common.{rules, ◌∙◌}
 use Rattle.std.proofs.lemmas.Iterator.Consumers.{fold_from_yields_List, YieldsList-from_first}
-use Rattle.cycle_heads.specs.Path.{greater_kind}
-use Rattle.search_parts.specs.Cycle.{step_kinds_above}
+use Rattle.search_parts.specs.Below.{greater_kind}
+use Rattle.search_parts.specs.Words.{step_kinds_above}
 use Rattle.search_parts.proofs.Cycles.{greatest_from_fold}
 use Rattle.search_parts.proofs.parts.stack.Stack.path_kind.Goals as goal
 

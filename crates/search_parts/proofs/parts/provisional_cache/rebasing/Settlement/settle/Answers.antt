@@ -1,5 +1,5 @@
 use Rattle.std.proofs.Common.{◌≡◌, ◌∙◌, true, false, not, refl, sym, ap}
-use Rattle.cycle_heads.specs.Usages.{has_usages, other_usages}
+use Rattle.search_parts.specs.Below.{has_usages, other_usages}
 use Rattle.cycle_heads.proofs.Counts.{others_by_test}
 use Rattle.search_parts.proofs.parts.provisional_cache.rebasing.Settlement.settle.Goals as goal
 

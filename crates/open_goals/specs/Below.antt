@@ -1,0 +1,33 @@
+-- What the crates below have, from one place.
+pub use Rattle.cycle_heads.specs.Candidates.{UsagesByHead, with_noted}
+pub use Rattle.cycle_heads.specs.Heads.{at_depth, Heads, IsRising, joined_head, replace_head, with_head}
+pub use Rattle.cycle_heads.specs.Paths.{path_of_no_step, paths_of}
+unfoldable pub use Rattle.cycle_heads.specs.Paths.{extended}
+pub use Rattle.cycle_heads.specs.Usages.{count_of, no_usages, with_nested, with_usage, without_usages}
+pub use Rattle.cycle_heads.specs.declared.depth.StackDepth.{StackDepth}
+pub use Rattle.cycle_heads.specs.declared.heads.CycleHead.{CycleHead}
+pub use Rattle.cycle_heads.specs.declared.path.PathKind.{PathKind}
+pub use Rattle.cycle_heads.specs.declared.usages.HeadUsages.{HeadUsages}
+pub use Rattle.search_parts.specs.Delegate.{CanTake, Steps}
+pub use Rattle.search_parts.specs.Graph.{question_of}
+pub use Rattle.search_parts.specs.Lent.{change_last}
+pub use Rattle.search_parts.specs.LookUp.{Hit, hit_of}
+pub use Rattle.search_parts.specs.Nested.{joined_paths, JoinsPaths, NestedPaths, paths_at}
+pub use Rattle.search_parts.specs.Question.{Question}
+pub use Rattle.search_parts.specs.Run.{Asked, is_ignored, IsFitting, IsInOrder, Progress, progress_after, request_after}
+pub use Rattle.search_parts.specs.Stack.{allowed_depth, depth_below, fresh_entry}
+pub use Rattle.search_parts.specs.declared.context.Cx.{Ghosts as CxOf}
+pub use Rattle.search_parts.specs.declared.context.Delegate.{Ghosts as DelegateOf}
+pub use Rattle.search_parts.specs.declared.context.Edge.{Edge}
+pub use Rattle.search_parts.specs.declared.context.Fault.{Fault}
+pub use Rattle.search_parts.specs.declared.context.Fault.TheVariants.{Memory, Protocol}
+pub use Rattle.search_parts.specs.declared.context.NodeId.{NodeId}
+pub use Rattle.search_parts.specs.declared.context.Reply.{Reply}
+pub use Rattle.search_parts.specs.declared.context.Reply.TheVariants.{Answer, Begin, Noted}
+pub use Rattle.search_parts.specs.declared.context.Request.{Request}
+pub use Rattle.search_parts.specs.declared.context.Request.TheVariants.{EnterCandidate, Evaluate, FinishCandidate, Ignore}
+pub use Rattle.search_parts.specs.declared.context.Verdict.{Verdict}
+pub use Rattle.search_parts.specs.declared.context.Verdict.TheVariants.{Neither, No, Yes}
+pub use Rattle.search_parts.specs.declared.parts.depth.AvailableDepth.{AvailableDepth}
+pub use Rattle.search_parts.specs.declared.parts.stack.EntryState.{EntryState}
+pub use Rattle.search_parts.specs.declared.parts.stack.StackEntry.{StackEntry}

@@ -1,0 +1,23 @@
+-- What the crates below have, from one place.
+pub use Rattle.cycle_heads.specs.Path.{rank_of}
+pub use Rattle.cycle_heads.specs.declared.path.PathKind.{PathKind}
+pub use Rattle.cycle_heads.specs.declared.path.PathKind.TheVariants.{Coinductive, ForcedAmbiguity, Inductive, Unknown}
+pub use Rattle.search_parts.specs.Cache.{CacheNode, EndedRun, IsNodeOf, KeepsNodes, open_goal, open_node, with_run}
+pub use Rattle.search_parts.specs.Definite.{HasGraph}
+pub use Rattle.search_parts.specs.Delegate.{CanTake, CountsOne, IsCycleResult, IsNeither, Steps}
+pub use Rattle.search_parts.specs.Provisional.{Appends, entries_at, Lists}
+pub use Rattle.search_parts.specs.Question.{IsWithin, Overlap, Question}
+pub use Rattle.search_parts.specs.Rank.{HasNoRank, IsRanked}
+pub use Rattle.search_parts.specs.Run.{EndsIn, Fits, progress_after, questions_answered}
+pub use Rattle.search_parts.specs.Shapes.{shape_of, shapes_of, verdict_of}
+pub use Rattle.search_parts.specs.Store.{place_of}
+pub use Rattle.search_parts.specs.Stored.{IsPlainAt}
+pub use Rattle.search_parts.specs.declared.context.NodeId.{NodeId}
+pub use Rattle.search_parts.specs.declared.context.Reply.{Reply}
+pub use Rattle.search_parts.specs.declared.context.Reply.TheVariants.{Answer, Begin, Noted}
+pub use Rattle.search_parts.specs.declared.context.Request.{Request}
+pub use Rattle.search_parts.specs.declared.context.Request.TheVariants.{Done, EnterCandidate, Evaluate, FinishCandidate}
+pub use Rattle.search_parts.specs.declared.context.Request.TheVariants.{Ignore}
+pub use Rattle.search_parts.specs.declared.global_cache.results.Place.{Place}
+pub use Rattle.search_parts.specs.declared.global_cache.results.Place.TheVariants.{Success, WithOverflow}
+pub use Rattle.search_parts.specs.declared.parts.provisional_cache.ProvisionalCacheEntry.{ProvisionalCacheEntry}
