@@ -69,7 +69,7 @@ pub struct OpenGoals<X: Cx, F: Drop> {
 
 impl<X: Cx, F: Drop> Model for OpenGoals<X, F> {
     ghost use Rattle.std.specs.Prelude.{◌≡◌, List, [], length};
-    ghost use Rattle.open_goals.specs.Below.{StackEntry, hit_of};
+    ghost use Rattle.open_goals.specs.Below.{StackEntry};
     ghost use Rattle.open_goals.specs.declared.goals.Run.{Run};
     ghost use Rattle.open_goals.specs.Newest.{paired};
 
@@ -82,6 +82,7 @@ impl<X: Cx, F: Drop> Model for OpenGoals<X, F> {
 
 impl<X: Cx, F: Drop> OpenGoals<X, F> {
     ghost use Rattle.open_goals.specs.Newest.{newest, change_newest};
+    ghost use Rattle.open_goals.specs.Below.{hit_of};
     ghost use Rattle.open_goals.specs.Entries.{cycle_head};
     ghost use Rattle.open_goals.specs.Items.{rerun_with, with_no_record, AnswersNewest};
     ghost use Rattle.open_goals.specs.NestedGoals.{NotesOverflow, TakesStored};

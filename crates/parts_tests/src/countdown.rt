@@ -141,7 +141,7 @@ pub struct Starts {
 }
 
 impl Starts {
-    ghost use Rattle.parts_tests.specs.Below.{CountsOne, CanTake, Steps};
+    ghost use Rattle.parts_tests.specs.Below.{CountsOne};
 
     /// No frame was started.
     pub fn new() -> Starts
@@ -175,6 +175,7 @@ impl Delegate for Countdown {
     ghost use Rattle.parts_tests.specs.CountFrames.{count_script, Stands, steps_left};
     ghost use Rattle.parts_tests.specs.CountLaws.{yes_is_proved, no_is_refuted};
     ghost use Rattle.parts_tests.specs.Countdown as countdown;
+    ghost use Rattle.parts_tests.specs.Below.{CanTake, Steps};
 
     type Cx = Countdown;
 
