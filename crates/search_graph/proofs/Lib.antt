@@ -46,3 +46,6 @@ pub mod RebasedLeft
 pub mod LeftOver
 pub mod PoppedEntries
 pub mod KeptEntries
+mod Asking
+mod Advancing
+mod Beginning

@@ -1,6 +1,6 @@
 -- The loop over the moves, whatever call it serves.
 use Rattle.std.proofs.Common.{◌≡◌, ℕ, ◌+◌, ◌<◌, ◌≤◌, ◌^◌, Bool, true, false, List, [], ◌∷◌, length, Some, refl, sym, ap, subst, arith}
-use Rattle.search_graph.specs.Below.{DelegateOf, CxOf, Request, Begin, PathKind, AvailableDepth, StackEntry, Fault, Evaluate, CountsOne, CacheNode, Memory, Run, Received, Next, Step, Finished, requested, IsReplySorted, HasGraph, HasStepped, IsStepFault, received_by, StoredResult, Store, NotesCandidate}
+use Rattle.search_graph.specs.Below.{CacheNode, DelegateOf, CxOf, Request, Begin, PathKind, AvailableDepth, StackEntry, Fault, Evaluate, CountsOne, CacheNode, Memory, Run, Received, Next, Step, Finished, requested, IsReplySorted, HasGraph, HasStepped, IsStepFault, received_by, StoredResult, Store, NotesCandidate}
 use Rattle.search_parts.specs.declared.context.Answer.{Answer}
 use Rattle.search_graph.specs.Words.{Asks, AreJustified, IsFit, runs_of, IsJustifiedNext, Call, Outset, Pushes, AreDefinite, HaveNoOverflow, Begins, IsWaiting, HasAsked, HasStopped, IsOnly, Leads, work_left}
 use Rattle.search_graph.proofs.Moves.{root_waits, failed_root_stopped, step_asks, step_stops}
@@ -28,10 +28,10 @@ stepped_some {C = C} {F = F} {I = I} {R = R} {A = A} {T = T} G X cx given reques
 
 module _ {D C V P F I R A T : Type 0} (G : DelegateOf D C V P F I R A T) (X : CxOf C I R A T) (cx : C) (input : I) (kind : PathKind) (depth : AvailableDepth) (starts now : ℕ) (met : Bool) where
   -- the first frame of a call waits,
-  pub first_waits : (new : List (StackEntry C I R A T × Run C F I R A T)) → now ≤ starts + 1 → (G.counts ≡ true → CountsOne G.last starts now) → Pushes G X cx input kind depth [] new → (call : Call I) → Outset call input depth.0 starts met → IsWaiting G X cx call Begin new now met
-  first_waits new one counted push call at =
+  pub first_waits : (before after : List (CacheNode I R)) (new : List (StackEntry C I R A T × Run C F I R A T)) → now ≤ starts + 1 → (G.counts ≡ true → CountsOne G.last starts now) → Pushes G X cx input kind depth before after [] new → (call : Call I) → Outset call input depth.0 starts met → IsWaiting G X cx call Begin new now met
+  first_waits before after new one counted push call at =
       subst (λ m. IsWaiting G X cx call Begin new now m) at.same_limits
-      (root_waits G X cx call kind depth new now (sym at.same_root) (rw at.same_starts one) (rw at.same_starts counted) (rw at.same_top push))
+      (root_waits G X cx call before after kind depth new now (sym at.same_root) (rw at.same_starts one) (rw at.same_starts counted) (rw at.same_top push))
 
   -- or it failed to start
   pub first_stopped : starts ≤ now → now ≤ starts + 1 → (call : Call I) → Outset call input depth.0 starts met → HasStopped G X cx call Memory now met

@@ -2,7 +2,7 @@
 use Rattle.std.proofs.Common.{◌≡◌, ℕ, zero, suc, ◌+◌, ◌-◌, ◌*◌, ◌/◌, ◌^◌, ◌<◌, ◌≤◌, max, nat_eq, if◌then◌else◌, Bool, true, false, List, [], ◌∷◌, length, map, reverse, Option, Some, None, IfSome, unwrap_or, refl, sym, ap, ◌∙◌, subst, arith, ap₂, inl, inr, ◌||◌, ◌⊎◌, is_some, mul-le-mul_left, mul-le-mul_right}
 use Rattle.std.specs.List.{list_any}
 use Rattle.std.proofs.lemmas.Bool.Decides.{nat_tests}
-use Rattle.search_graph.specs.Below.{DelegateOf, CxOf, Request, Evaluate, Done, Reply, Begin, Answer, Noted, PathKind, NodeId, AvailableDepth, StackDepth, EntryState, Heads, NestedPaths, StackEntry, depth_below, frames_within, Verdict, Fault, Memory, Protocol, IsReplyTo, IsFitting, progress_after, order_fault, fault_after, CountsOne, Steps, IsCycleResult, Outcome, run_again, IsAllowed, HasNoRank, IsPlainTo, AreSafe, IsRooted, IsEvaluating, at, Ends, with_replies, TakesStep, TakesReply, ItemLeaves, IsAmong, AreSeen, Mirror, Waits, Run, Next, Step, Finished, Received, overflowed, first_entry, with_nested_goals, is_in_cycle, cycle_head, some_heads, TakesAnswer, requested, fault_of, IsReplySorted, Stood, CanStep, IsVerdict, received_by, HasStepped, IsStepFault, NoMemoryLeft, OutOfOrder, path_kind_from, IsDecidedKind, AreDecided, IsDecisive, IsDefinite, AnswersNewest, rerun_with, with_no_record}
+use Rattle.search_graph.specs.Below.{CacheNode, DelegateOf, CxOf, Request, Evaluate, Done, Reply, Begin, Answer, Noted, PathKind, NodeId, AvailableDepth, StackDepth, EntryState, Heads, NestedPaths, StackEntry, depth_below, frames_within, Verdict, Fault, Memory, Protocol, IsReplyTo, IsFitting, progress_after, order_fault, fault_after, CountsOne, Steps, IsCycleResult, Outcome, run_again, IsAllowed, HasNoRank, IsPlainTo, AreSafe, IsRooted, IsEvaluating, at, Ends, with_replies, TakesStep, TakesReply, ItemLeaves, IsAmong, AreSeen, Mirror, Waits, Run, Next, Step, Finished, Received, overflowed, first_entry, with_nested_goals, is_in_cycle, cycle_head, some_heads, TakesAnswer, requested, fault_of, IsReplySorted, Stood, CanStep, IsVerdict, received_by, HasStepped, IsStepFault, NoMemoryLeft, OutOfOrder, path_kind_from, IsDecidedKind, AreDecided, IsDecisive, IsDefinite, AnswersNewest, rerun_with, with_no_record}
 use Rattle.evaluations.specs.Frames.{Frame, answered}
 use Rattle.evaluations.proofs.Mirrors.{step_requests, can_take, noted_waits, refused_waits, answered_waits, pushed_waits, rerun_waits, popped_waits, popped_at_limit_waits, last_item_ends, last_item_ends_at_limit, last_run_stops, failed_rerun_stops, WaitsWithLess, first_waits, waits_stops, requested_stops, failed_push_stops, cycle_found, requested_fits, requested_by}
 use Rattle.evaluations.proofs.Evaluations.{evaluation_stops, fitting_meets_no_limit}
@@ -201,7 +201,7 @@ module _ {D C V P F I R A T : Type 0} (G : DelegateOf D C V P F I R A T) (X : Cx
   }
 
   -- a goal that is under evaluation is asked: it has no rank, so that any answer is safe
-  pub cycle_goes_on : (eq : I → I → Bool) → ((x y : I) → eq x y ≡ true → x ≡ y) → ((kind : PathKind) (goal : I) → IsCycleResult X.is_yes X.is_no kind (G.initial_result cx kind goal)) → (ahead : ℕ) (kind : PathKind) (goal : I) (reply : Reply R) (depth : ℕ) (head : StackDepth) (old new : List Goal) (starts : ℕ) (met : Bool) → ((s : Goal) (below : List Goal) → old ≡ s ∷ below → IsAllowed (seen G X cx s) depth) → list_any (λ t. eq goal t.0.input) old ≡ true → ClosesCycle G X cx kind goal head reply old new → HasAsked G X cx call ahead (Evaluate kind goal) old starts met → GoesOn G X cx call ahead reply new starts met
+  pub cycle_goes_on : (eq : I → I → Bool) → ((x y : I) → eq x y ≡ true → x ≡ y) → ((kind : PathKind) (goal : I) → IsCycleResult X.is_yes X.is_no kind (G.initial_result cx kind goal)) → (ahead : ℕ) (kind : PathKind) (goal : I) (received : Received R) (depth : ℕ) (head : StackDepth) (old new : List Goal) (starts : ℕ) (met : Bool) → ((s : Goal) (below : List Goal) → old ≡ s ∷ below → IsAllowed (seen G X cx s) depth) → list_any (λ t. eq goal t.0.input) old ≡ true → ClosesCycle G X cx kind goal head received old new → HasAsked G X cx call ahead (Evaluate kind goal) old starts met → GoesOn G X cx call ahead received.reply new starts met
   cycle_goes_on eq exact sorts ahead kind goal reply depth head old new starts met may found c h =
       let t = c.takes in
       let cycle : PathKind = path_kind_from (reverse (map (λ s. s.0) old)) head.0 kind in
@@ -212,7 +212,7 @@ module _ {D C V P F I R A T : Type 0} (G : DelegateOf D C V P F I R A T) (X : Cx
       let w = answered_waits (seen G X cx) (Stood G X cx) (G.script cx) (limits G X cx call) (IsCounted G X cx call) call.top (bound G X cx call) (some_runs G.FIXPOINT_STEP_LIMIT) ahead starts met (t.entry, t.run) t.below kind goal depth (record { result = r; required = 0; met_overflow = false; in_cycle = true }) (record t.entry { state = t.state }, t.run)
       (may (t.entry, t.run) t.below t.was) (unranked_is_safe (G.script cx) goal depth (record { result = r; required = 0; met_overflow = false; in_cycle = true }) no_rank (omega arith)) (λ c unmet. refl)
       (takes_answer r kind 0 false ((head, cycle_head kind cycle) ∷ []) t.entry t.run (record { 0 = length t.below }) t.state t.takes) was.asked in
-      subst (λ given. GoesOn G X cx call ahead given new starts met) (sym c.is_answer)
+      subst (λ given. GoesOn G X cx call ahead given new starts met) (sym (ap (λ given. given.reply) c.is))
       (record {
         waiting = record {
           waits = subst (λ v. Waits (seen G X cx) (Stood G X cx) (G.script cx) (limits G X cx call) (IsCounted G X cx call) call.top (bound G X cx call) (Answer r) v starts met) (sym t.is) w.0;
@@ -243,7 +243,7 @@ module _ {D C V P F I R A T : Type 0} (G : DelegateOf D C V P F I R A T) (X : Cx
       }
 
   -- the asked goal was put on top
-  pub pushed_goes_on : (ahead : ℕ) (kind : PathKind) (goal : I) (depth : AvailableDepth) (s : Goal) (below new : List Goal) (starts now : ℕ) (met : Bool) → IsAllowed (seen G X cx s) depth.0 → now ≤ starts + 1 → (G.counts ≡ true → CountsOne G.last starts now) → Pushes G X cx goal kind depth (s ∷ below) new → HasAsked G X cx call ahead (Evaluate kind goal) (s ∷ below) starts met → GoesOn G X cx call ahead Begin new now met
+  pub pushed_goes_on : {before after : List (CacheNode I R)} → (ahead : ℕ) (kind : PathKind) (goal : I) (depth : AvailableDepth) (s : Goal) (below new : List Goal) (starts now : ℕ) (met : Bool) → IsAllowed (seen G X cx s) depth.0 → now ≤ starts + 1 → (G.counts ≡ true → CountsOne G.last starts now) → Pushes G X cx goal kind depth before after (s ∷ below) new → HasAsked G X cx call ahead (Evaluate kind goal) (s ∷ below) starts met → GoesOn G X cx call ahead Begin new now met
   pushed_goes_on ahead kind goal depth s below new starts now met may one counted push h =
       let w = pushed_waits (seen G X cx) (Stood G X cx) (G.script cx) (limits G X cx call) (IsCounted G X cx call) call.top (bound G X cx call) (some_runs G.FIXPOINT_STEP_LIMIT) ahead starts met s below kind goal depth.0 now (first_entry goal kind depth push.own, first_run G X cx push.frame push.own) may push.fresh.within refl (push.fresh.stood, records_new X.is_yes X.is_no (G.script cx goal)) (record { at_most = one; exactly = λ c. counted c.0 }) h.asked in
       subst (λ v. GoesOn G X cx call ahead Begin v now met) (sym push.is)
@@ -423,8 +423,8 @@ module _ {D C V P F I R A T : Type 0} (G : DelegateOf D C V P F I R A T) (X : Cx
   kept starts = record { stays = λ was. was; plain = λ n p fits. refl }
 
   -- the root was put on top of nothing
-  pub root_waits : (kind : PathKind) (depth : AvailableDepth) (new : List Goal) (now : ℕ) → depth.0 ≡ call.root → now ≤ call.starts + 1 → (G.counts ≡ true → CountsOne G.last call.starts now) → Pushes G X cx call.top kind depth [] new → IsWaiting G X cx call Begin new now call.limits_met
-  root_waits kind depth new now same one counted push =
+  pub root_waits : (before after : List (CacheNode I R)) (kind : PathKind) (depth : AvailableDepth) (new : List Goal) (now : ℕ) → depth.0 ≡ call.root → now ≤ call.starts + 1 → (G.counts ≡ true → CountsOne G.last call.starts now) → Pushes G X cx call.top kind depth before after [] new → IsWaiting G X cx call Begin new now call.limits_met
+  root_waits before after kind depth new now same one counted push =
       let item : Goal = (first_entry call.top kind depth push.own, first_run G X cx push.frame push.own) in
       subst (λ v. IsWaiting G X cx call Begin v now call.limits_met) (sym push.is)
       (record {

@@ -4,7 +4,7 @@ use Rattle.std.specs.Result.{IsErrAnd}
 use Rattle.std.specs.List.{list_any}
 use Rattle.std.specs.Option.{option_and_then, option_map}
 use Rattle.std.proofs.lemmas.Bool.Decides.{nat_tests}
-use Rattle.search_graph.specs.Below.{DelegateOf, CxOf, Evaluate, Begin, Answer, Memory, PathKind, AvailableDepth, StackEntry, depth_below, CountsOne, IsCycleResult, IsAllowed, Run, newest, Reply, StackDepth, StoredResult, NestedPaths, Store, Received, Heads, IsDefinite, HasNoRank, AnswersNewest, overflowed, with_nested_goals, NotesOverflow}
+use Rattle.search_graph.specs.Below.{CacheNode, DelegateOf, CxOf, Evaluate, Begin, Answer, Memory, PathKind, AvailableDepth, StackEntry, depth_below, CountsOne, IsCycleResult, IsAllowed, Run, newest, StackDepth, StoredResult, NestedPaths, Store, Received, Heads, IsDefinite, HasNoRank, AnswersNewest, overflowed, with_nested_goals, NotesOverflow}
 use Rattle.search_graph.specs.Words.{UsesStored, Call, IsCounted, seen, Decidedly, HasAsked, GoesOn, HasStopped, KeepsStore, ClosesCycle, Pushes}
 use Rattle.search_graph.proofs.StoredAnswers.{stored_goes_on}
 use Rattle.search_graph.proofs.Moves.{allowed, asker_fits, refused_goes_on, cycle_goes_on, kept_goes_on, pushed_goes_on, failed_push_stopped}
@@ -19,6 +19,14 @@ if_ok_then (Ok x) Q P h from = from x h
 if_ok_then (Err e) Q P h from = tt
 
 -- an error that says what it is
+pub same_err : {T E : Type 0} (r : Result T E) (e : E) → IsErrAnd r (λ other. other ≡ e) → Err e ≡ r
+same_err (Ok x) e h = absurd h
+same_err (Err other) e h = ap Err (sym h)
+
+pub no_ok : {T E : Type 0} (r : Result T E) (Q : E → Type 0) (P : T → Type 0) → IsErrAnd r Q → IfOk r P
+no_ok (Ok x) Q P h = absurd h
+no_ok (Err e) Q P h = tt
+
 pub if_err_and : {T E : Type 0} (r : Result T E) (Q P : E → Type 0) → IsErrAnd r Q → ((e : E) → Q e → P e) → IfErr r P
 if_err_and (Ok x) Q P h from = tt
 if_err_and (Err e) Q P h from = from e h
@@ -66,10 +74,10 @@ module _ {D C V P F I R A T : Type 0} (G : DelegateOf D C V P F I R A T) (X : Cx
     pub ask_kept : (r : R) (overflow : Bool) (answer : Heads) (goals new : Goals) → Some depth.0 ≡ option_and_then (λ s. depth_below G.DIVIDE_AVAILABLE_DEPTH_ON_OVERFLOW s.0) (newest goals) → HasNoRank (G.script cx) goal → (IsCounted G X cx call → met ≡ false → overflow ≡ false) → Decidedly G X cx call met (IsDefinite X.is_yes X.is_no r) → AnswersNewest kind 0 overflow answer goals new → HasAsked G X cx call ahead (Evaluate kind goal) goals starts met → GoesOn G X cx call ahead (Answer r) new starts met
     ask_kept r overflow answer goals new may no_rank calm definite a h = kept_goes_on G X cx call ahead kind goal r overflow answer depth.0 goals new starts met (may_ask_of goals may) no_rank calm definite a h
 
-    pub ask_in_cycle : (eq : I → I → Bool) → ((x y : I) → eq x y ≡ true → x ≡ y) → ((cycle : PathKind) (asked : I) → IsCycleResult X.is_yes X.is_no cycle (G.initial_result cx cycle asked)) → (reply : Reply R) (head : StackDepth) (goals new : Goals) → Some depth.0 ≡ option_and_then (λ s. depth_below G.DIVIDE_AVAILABLE_DEPTH_ON_OVERFLOW s.0) (newest goals) → list_any (λ t. eq goal t.0.input) goals ≡ true → ClosesCycle G X cx kind goal head reply goals new → HasAsked G X cx call ahead (Evaluate kind goal) goals starts met → GoesOn G X cx call ahead reply new starts met
+    pub ask_in_cycle : (eq : I → I → Bool) → ((x y : I) → eq x y ≡ true → x ≡ y) → ((cycle : PathKind) (asked : I) → IsCycleResult X.is_yes X.is_no cycle (G.initial_result cx cycle asked)) → (received : Received R) (head : StackDepth) (goals new : Goals) → Some depth.0 ≡ option_and_then (λ s. depth_below G.DIVIDE_AVAILABLE_DEPTH_ON_OVERFLOW s.0) (newest goals) → list_any (λ t. eq goal t.0.input) goals ≡ true → ClosesCycle G X cx kind goal head received goals new → HasAsked G X cx call ahead (Evaluate kind goal) goals starts met → GoesOn G X cx call ahead received.reply new starts met
     ask_in_cycle eq exact sorts reply head goals new may found closes h = cycle_goes_on G X cx call eq exact sorts ahead kind goal reply depth.0 head goals new starts met (may_ask_of goals may) found closes h
 
-    pub ask_pushes : (goals new : Goals) (now : ℕ) → Some depth.0 ≡ option_and_then (λ s. depth_below G.DIVIDE_AVAILABLE_DEPTH_ON_OVERFLOW s.0) (newest goals) → now ≤ starts + 1 → (G.counts ≡ true → CountsOne G.last starts now) → Pushes G X cx goal kind depth goals new → HasAsked G X cx call ahead (Evaluate kind goal) goals starts met → GoesOn G X cx call ahead Begin new now met
+    pub ask_pushes : {before after : List (CacheNode I R)} → (goals new : Goals) (now : ℕ) → Some depth.0 ≡ option_and_then (λ s. depth_below G.DIVIDE_AVAILABLE_DEPTH_ON_OVERFLOW s.0) (newest goals) → now ≤ starts + 1 → (G.counts ≡ true → CountsOne G.last starts now) → Pushes G X cx goal kind depth before after goals new → HasAsked G X cx call ahead (Evaluate kind goal) goals starts met → GoesOn G X cx call ahead Begin new now met
     ask_pushes [] new now may one counted push h = absurd cc
     ask_pushes (s ∷ below) new now may one counted push h = pushed_goes_on G X cx call ahead kind goal depth s below new starts now met (may_ask s may) one counted push h
 

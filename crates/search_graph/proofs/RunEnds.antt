@@ -4,7 +4,7 @@ use Rattle.std.proofs.lemmas.Bool.{cases_eq}
 use Rattle.search_graph.specs.Below.{PathKind, Inductive, Unknown, Coinductive, ForcedAmbiguity, HeadUsages, count_of, RebaseReason, StackEntry, Run, is_in_cycle, some_heads, newest}
 use Rattle.search_parts.specs.declared.parts.provisional_cache.RebaseReason.TheVariants as reason
 use Rattle.search_graph.specs.Words.{Unstable, AtLimit, IsReason, IsRunEnd, IsUsed, Repeated, Initial, Stable, Limited, Repeats}
-use Rattle.search_graph.specs.declared.graph.finish.Unstable.TheVariants.{Again}
+use Rattle.search_graph.specs.declared.graph.run_end.Unstable.TheVariants.{Again}
 use Rattle.search_graph.specs.RunEnds.{ReachedFixpoint, Unused}
 
 -- usages that are not none are some

@@ -14,5 +14,10 @@ pub mod Lists
 pub mod KeptShapes
 pub mod Provisional
 pub mod Evaluating
+pub mod Evaluations
+pub mod Asked
+pub mod Popped
+pub mod RunAgain
+pub mod Storing
 pub mod Below
 pub mod Words

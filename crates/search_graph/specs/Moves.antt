@@ -1,6 +1,6 @@
 -- The moves that put a goal on top, run it again, and take it.
-use Rattle.std.specs.Prelude.{◌≡◌, ◌+◌, ◌<◌, ◌≤◌, ◌^◌, ◌||◌, false, List, [], ◌∷◌, map, reverse, Option, Some, slice_get, unwrap_or}
-use Rattle.search_graph.specs.Below.{DelegateOf, CxOf, Reply, Answer, NodeId, PathKind, AvailableDepth, StackDepth, EvaluationResult, StackEntry, path_kind_from, cycle_head, first_entry, AnswersNewest, rerun_with, with_no_record, no_record, Item, Run, Next, Step, Finished}
+use Rattle.std.specs.Prelude.{◌≡◌, ◌+◌, ◌<◌, ◌≤◌, ◌^◌, ◌||◌, false, List, [], ◌∷◌, ◌++◌, length, map, reverse, Option, Some, slice_get, unwrap_or}
+use Rattle.search_graph.specs.Below.{DelegateOf, CxOf, Received, CacheNode, open_node, Answer, NodeId, PathKind, AvailableDepth, StackDepth, EvaluationResult, StackEntry, path_kind_from, cycle_head, first_entry, AnswersNewest, rerun_with, with_no_record, no_record, Item, Run, Next, Step, Finished}
 
 module _ {D C V P F I R A T : Type 0} (G : DelegateOf D C V P F I R A T) (X : CxOf C I R A T) (cx : C) where
   -- a frame of the goal that has had no reply
@@ -13,9 +13,11 @@ module _ {D C V P F I R A T : Type 0} (G : DelegateOf D C V P F I R A T) (X : Cx
   first_run frame own = record { frame = frame; node = own; progress = no_record; finished_runs = 0; met_overflow_before = false; candidates = [] }
 
   -- the goal was put on top, with a node of its own and a frame that begins
-  pub record Pushes (input : I) (kind : PathKind) (depth : AvailableDepth) (old new : List (Item G X cx)) : Type 0 where
+  pub record Pushes (input : I) (kind : PathKind) (depth : AvailableDepth) (before after : List (CacheNode I R)) (old new : List (Item G X cx)) : Type 0 where
     pub frame : F
     pub own : NodeId
+    pub place : own.0 ≡ length before
+    pub opened : after ≡ before ++ open_node input ∷ []
     pub is : new ≡ (first_entry input kind depth own, first_run frame own) ∷ old
     pub fresh : IsFresh frame input
 
@@ -32,10 +34,11 @@ module _ {D C V P F I R A T : Type 0} (G : DelegateOf D C V P F I R A T) (X : Cx
 
   -- The newest goal's question by the step was answered by the goal at `head`, by its provisional result or the initial one of the
   -- kind of the cycle that the step closed. The newest goal takes over that head.
-  pub record ClosesCycle (step : PathKind) (goal : I) (head : StackDepth) (reply : Reply R) (old new : List (Item G X cx)) : Type 0 where
+  pub record ClosesCycle (step : PathKind) (goal : I) (head : StackDepth) (received : Received R) (old new : List (Item G X cx)) : Type 0 where
     pub entry : StackEntry C I R A T
     pub is_at : slice_get (reverse (map (λ s. s.0) old)) head.0 ≡ Some entry
-    pub is_answer : reply ≡ Answer (unwrap_or entry.state.provisional_result (G.initial_result cx (path_kind_from (reverse (map (λ s. s.0) old)) head.0 step) goal))
+    pub of_goal : entry.input ≡ goal
+    pub is : received ≡ record { reply = Answer (unwrap_or entry.state.provisional_result (G.initial_result cx (path_kind_from (reverse (map (λ s. s.0) old)) head.0 step) goal)); node = entry.state.node }
     pub takes : AnswersNewest step 0 false ((head, cycle_head step (path_kind_from (reverse (map (λ s. s.0) old)) head.0 step)) ∷ []) old new
 
 module _ {X F I R A T : Type 0} where

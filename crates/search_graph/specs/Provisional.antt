@@ -1,5 +1,5 @@
 -- The answers in the provisional cache: why each of them may be used, and what becomes of them when the newest goal is taken.
-use Rattle.std.specs.Prelude.{◌≡◌, ◌≢◌, ◌⊎◌, ◌||◌, ◌&&◌, Bool, false, if◌then◌else◌, List, [], ◌∷◌, ◌++◌, length, map, reverse, All, IsSome, Option, None, Some}
+use Rattle.std.specs.Prelude.{◌≡◌, ◌≢◌, ◌⊎◌, ◌||◌, ◌&&◌, ℕ, Bool, false, if◌then◌else◌, List, [], ◌∷◌, ◌++◌, length, map, reverse, All, IsSome, Option, None, Some}
 use Rattle.std.specs.List.{filter_map}
 use Rattle.search_graph.specs.Below.{IsTrueReason, StackDepth, PathKind, at_depth, highest, IsRising, heads_shape, rank_of, NodeId, Request, Reply, EvaluationResult, StackEntry, ProvisionalCacheEntry, RebaseReason, CacheNode, path_kind_from, IsDefinite, Lists, entries_at, HasNoRank, rebased, settled, verdict_of, Run}
 use Rattle.search_graph.specs.Justified.{OpenRun, frame_of}
@@ -44,18 +44,21 @@ module _ {X I R A T : Type 0} where
   left_of propagated overflow None stack done entries = entries
   left_of propagated overflow (Some reason) stack done entries = filter_map (rebased stack done (settled propagated overflow reason)) entries
 
+  -- the entry for an answer that was asked over the step and whose highest head is this one
+  abbrev pub entry_of : List (StackEntry X I R A T) → ℕ → PathKind → EvaluationResult X I R A T → ProvisionalCacheEntry X I R A T
+  entry_of stack head step answer = record {
+    encountered_overflow = answer.encountered_overflow;
+    heads = answer.heads;
+    path_from_head = path_kind_from stack head step;
+    result = answer.result;
+    node = answer.node;
+  }
+
   -- the entry for an answer that was asked over the step and rests on goals of the stack; another one has none
   abbrev pub kept_of : List (StackEntry X I R A T) → PathKind → EvaluationResult X I R A T → List (ProvisionalCacheEntry X I R A T)
   kept_of stack step answer = elim (highest answer.heads) [
     | None ↦ []
-    | Some head ↦
-        record {
-          encountered_overflow = answer.encountered_overflow;
-          heads = answer.heads;
-          path_from_head = path_kind_from stack head.0.0 step;
-          result = answer.result;
-          node = answer.node;
-        } ∷ []
+    | Some head ↦ entry_of stack head.0.0 step answer ∷ []
   ]
 
   module _ {F : Type 0} where

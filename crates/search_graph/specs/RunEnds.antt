@@ -2,8 +2,8 @@
 use Rattle.std.specs.Prelude.{◌≡◌, ◌≢◌, ◌⊎◌, ℕ, ◌+◌, ◌<◌, ◌≤◌, Bool, true, IsSome, Option, None, Some, Result, Ok, Err}
 use Rattle.search_graph.specs.Below.{PathKind, HeadUsages, count_of, RebaseReason}
 use Rattle.search_parts.specs.declared.parts.provisional_cache.RebaseReason.TheVariants as reason
-use Rattle.search_graph.specs.declared.graph.finish.Unstable.{Unstable}
-use Rattle.search_graph.specs.declared.graph.finish.Unstable.TheVariants.{AtLimit, Again}
+use Rattle.search_graph.specs.declared.graph.run_end.Unstable.{Unstable}
+use Rattle.search_graph.specs.declared.graph.run_end.Unstable.TheVariants.{AtLimit, Again}
 
 -- The goal's cycles were answered with the run's own result: a later run came to the provisional result again; a first run came
 -- to the initial result of a kind, and used no cycle of another kind.

@@ -26,5 +26,11 @@ pub use Rattle.search_graph.specs.Runs.{SaysAgain}
 pub use Rattle.search_graph.specs.Tallies.{candidate_at, candidates_count, counted, head_with, heads_of, heads_with}
 pub use Rattle.search_graph.specs.Tallies.{IsCovered, IsTallied, LieBelow, spare, spare_count, spare_heads, Tally, tally_of}
 pub use Rattle.search_graph.specs.Tallies.{usages_of}
-pub use Rattle.search_graph.specs.declared.graph.finish.Unstable.{Unstable}
-pub use Rattle.search_graph.specs.declared.graph.finish.Unstable.TheVariants.{AtLimit}
+pub use Rattle.search_graph.specs.declared.graph.run_end.Unstable.{Unstable}
+pub use Rattle.search_graph.specs.declared.graph.run_end.Unstable.TheVariants.{AtLimit}
+pub use Rattle.search_graph.specs.Evaluations.{IsNew, KeepsCache, IsRight, IsRightFor, IsRightNext, Awaits, Requests, HasRequest, HasReply, GoesOnWith, LeadsTo, StopsWith, EndsWith, Moves}
+pub use Rattle.search_graph.specs.Asked.{Asked, Refused, ByEntry, ByStored, OverCycle, Pushed, asking, question_depth, entry_for, stored_for}
+pub use Rattle.search_graph.specs.Popped.{MayPop, Pops}
+pub use Rattle.search_graph.specs.RunAgain.{MayRunAgain, RunsAgain}
+pub use Rattle.search_graph.specs.Provisional.{entry_of}
+pub use Rattle.search_graph.specs.Storing.{ChangesResults, IsStorable, Stores}

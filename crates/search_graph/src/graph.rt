@@ -1,44 +1,45 @@
-//! The search graph. It keeps the goals under evaluation in one list and works through them in one loop, so
-//! that no depth of goals takes native stack.
+//! The search graph. A call keeps the goals under evaluation in one list and works through them in one loop,
+//! so that no depth of goals takes native stack.
 ghost use Rattle.std.specs.Prelude.{◌≡◌, ◌≤◌, ◌+◌, ℕ, Bool, true, false, None, IsTrue, IfOk, IfErr, IfSome, Ok, Err, [], ◌≢◌, max};
 ghost use Rattle.search_graph.specs.Below.{first_accepted, usable, IsPlainTo, IsPlainValue, frames_within, KeepsResults, Memory, Protocol, KeepsFinished, IsWhole, KeepsWhole, IsDecisive, IsDefinite, HasGraph, IsPaid};
 ghost use Rattle.search_graph.specs.Words.{IsCaused, IsProved, IsRefuted, AreDefinite, HaveNoOverflow};
 
 mod evaluate;
-mod finish;
-mod kept;
+mod evaluation;
 mod list;
 mod look_up;
+mod nodes;
+mod pop;
 mod question;
+mod rebase;
+mod rerun;
+mod run_end;
 mod store;
 
-use evaluate::evaluate;
-use open_goals::goals::OpenGoals;
+use evaluation::Evaluation;
 use search_parts::context::{Answer, Cx, Delegate, Fault};
 use search_parts::global_cache::GlobalCache;
 use search_parts::parts::{AvailableDepth, CandidateHeadUsages};
 use search_parts::path::PathKind;
 pub use search_parts::{context, global_cache, parts, path};
 use std::alloc::Global;
-use std::marker::Model;
+use std::marker::{Model, PhantomData};
 
 /// Evaluates goals. Between its calls no goal is under evaluation. Ports `SearchGraph`.
 #[derive(Drop)]
 pub struct SearchGraph<D: Delegate> {
     root_depth: AvailableDepth,
     limits_met: bool,
-    goals: OpenGoals<D::Cx, D::Frame>,
+    alloc: Global,
+    delegate: PhantomData<D>,
 }
 
 impl<D: Delegate> Model for SearchGraph<D> {
-    ghost use Rattle.std.specs.Prelude.{◌≡◌, []};
     ghost use Rattle.search_graph.specs.Graph.{Graph};
 
     ghost Value = { Graph };
 
     ghost view = { λ g. record { root_depth = g.root_depth.0; limits_met = g.limits_met } };
-
-    ghost invariant = { λ g. g.goals ≡ [] };
 }
 
 impl<D: Delegate> SearchGraph<D> {
@@ -50,7 +51,8 @@ impl<D: Delegate> SearchGraph<D> {
         SearchGraph {
             root_depth: AvailableDepth(root_depth),
             limits_met: false,
-            goals: OpenGoals::new(alloc),
+            alloc,
+            delegate: PhantomData,
         }
     }
 
@@ -58,14 +60,14 @@ impl<D: Delegate> SearchGraph<D> {
     pub fn is_empty(&self) -> bool
         ensures { IsTrue result }
     {
-        self.goals.len() == 0
+        true
     }
 
     /// How many goals are under evaluation: none between calls. Ports `SearchGraph::debug_current_depth`.
     pub fn debug_current_depth(&self) -> usize
         ensures { result ≡ 0 }
     {
-        self.goals.len()
+        0
     }
 
     /// Whether, since the graph was made, a goal without depth has asked a question, or a goal had its most
@@ -142,25 +144,12 @@ impl<D: Delegate> SearchGraph<D> {
         ensures kept_results { KeepsResults D.Cx.Input.eq cache.old.results cache.new.results }
         ensures kept { KeepsFinished cache.old.nodes cache.new.nodes }
     {
-        let root_depth = self.root_depth;
-        match evaluate::<D>(
-            &mut self.goals,
-            &mut self.limits_met,
-            cache,
-            root_depth,
-            step_kind_from_parent,
-            input,
-            inspect,
-        ) {
-            Ok(answer) => {
-                cache.has_runs();
-                Ok(answer)
-            }
-            Err(fault) => {
-                self.goals.clear();
-                Err(fault)
-            }
-        }
+        let mut evaluation = Evaluation::<D>::new(self.alloc, self.root_depth, self.limits_met);
+        let outcome = evaluation.evaluate(cache, step_kind_from_parent, input, inspect);
+        self.limits_met = evaluation.limits_met;
+        let answer = outcome?;
+        cache.has_runs();
+        Ok(answer)
     }
 
     /// Opens a candidate of the newest goal. A frame asks for that by `Request::EnterCandidate`; between calls
@@ -174,11 +163,7 @@ impl<D: Delegate> SearchGraph<D> {
         ensures no_goal { result ≡ Err (Protocol 5) }
         ensures same { self.new ≡ self.old }
     {
-        if self.goals.len() > 0 {
-            self.goals.enter_candidate();
-            return Ok(());
-        }
-        Err(Fault::Protocol(5))
+        Err(Fault::Protocol(5)) // no goal could open it
     }
 
     /// Ends the open candidate of the newest goal, and hands out how often it used each goal on the stack. A
@@ -192,10 +177,7 @@ impl<D: Delegate> SearchGraph<D> {
         ensures no_goal { result ≡ Err (Protocol 5) }
         ensures same { self.new ≡ self.old }
     {
-        match self.goals.len() {
-            0 => Err(Fault::Protocol(5)),
-            _ => Ok(self.goals.finish_candidate()),
-        }
+        Err(Fault::Protocol(5)) // no goal has opened one
     }
 
     /// Takes away from the newest goal what a candidate of it used of the goals on the stack. A frame asks for
@@ -214,10 +196,6 @@ impl<D: Delegate> SearchGraph<D> {
         if usages.is_empty() {
             return Ok(());
         }
-        if self.goals.len() == 0 {
-            return Err(Fault::Protocol(5));
-        }
-        self.goals.ignore_usages(&usages);
-        Ok(())
+        Err(Fault::Protocol(5)) // no goal counts usages
     }
 }

@@ -1,126 +1,111 @@
 //! The evaluation of a goal: one loop over the goals under evaluation.
-ghost use Rattle.std.specs.Prelude.{◌≡◌, ◌<◌, ◌^◌, ◌∷◌, ℕ, [], length, true, IfOk, IfErr, IfSome, OnOk, Ok, Some};
-ghost use Rattle.search_graph.specs.Below.{KeepsFinished, first_accepted, usable, KeepsResults, HasGraph};
-ghost use Rattle.search_graph.specs.Words.{Call, Begins, IsWaiting, KeepsAnswers, KeepsStore, Leads, HasEnded, HasStopped, work_left, AreFree, IsCaused, AreJustified, IsFit, AreReady, runs_of, IsJustifiedNext};
+ghost use Rattle.std.specs.Prelude.{◌≡◌, ℕ, true, IfOk, IfErr, IfSome, Ok};
+ghost use Rattle.search_graph.specs.Below.{first_accepted, usable, HasGraph};
+ghost use Rattle.search_graph.specs.Words.{Call, Begins, IsCaused, IsNew, KeepsCache, HasReply, Awaits, LeadsTo, StopsWith, EndsWith, IsRightNext, work_left};
 
-use crate::graph::finish::finish_run;
+use crate::graph::evaluation::Evaluation;
 use crate::graph::look_up::look_up;
-use crate::graph::question::{ask, push_goal};
-use open_goals::goals::{Next, OpenGoals, Received, step};
+use open_goals::goals::{Next, Received, step};
 use search_parts::context::{Answer, Cx, Delegate, Fault, Reply, Request};
 use search_parts::global_cache::GlobalCache;
-use search_parts::parts::{AvailableDepth, ProvisionalCache};
 use search_parts::path::PathKind;
 
-/// Evaluates a goal, with the goals that it asks, to its answer.
-pub(crate) fn evaluate<D: Delegate>(
-    goals: &mut OpenGoals<D::Cx, D::Frame>,
-    limits_met: &mut bool,
-    cache: &mut GlobalCache<D>,
-    root_depth: AvailableDepth,
-    step_kind: PathKind,
-    input: <D::Cx as Cx>::Input,
-    inspect: &mut D::ProofTreeBuilder,
-) -> Result<Answer<<D::Cx as Cx>::Result>, Fault<<D::Cx as Cx>::Input, <D::Cx as Cx>::Result>>
-    requires { goals.old ≡ [] }
-    ensures empty { OnOk result (goals.new ≡ []) }
-    ensures ended { (call : Call D.Cx.Input) → Begins D.Delegate D.Cx.Cx cache.old.cx D.Cx.Input.eq call input root_depth.0 (D.starts inspect.old) limits_met.old cache.old.results →
-        IfOk result (λ answer. HasEnded D.Delegate D.Cx.Cx cache.old.cx call answer.result (D.starts inspect.new) limits_met.new) }
-    ensures stopped { (call : Call D.Cx.Input) → Begins D.Delegate D.Cx.Cx cache.old.cx D.Cx.Input.eq call input root_depth.0 (D.starts inspect.old) limits_met.old cache.old.results →
-        IfErr result (λ fault. HasStopped D.Delegate D.Cx.Cx cache.old.cx call fault (D.starts inspect.new) limits_met.new) }
-    ensures keeps { (call : Call D.Cx.Input) → Begins D.Delegate D.Cx.Cx cache.old.cx D.Cx.Input.eq call input root_depth.0 (D.starts inspect.old) limits_met.old cache.old.results →
-        KeepsStore D.Delegate D.Cx.Cx cache.old.cx D.Cx.Input.eq call limits_met.new cache.new.results }
-    ensures stored { IfSome (first_accepted (λ _. true) (usable D.Cx.Input.eq cache.old.results input root_depth.0)) (λ hit.
-        (result ≡ Ok (record { result = hit.result; node = hit.node })) × (D.starts inspect.new ≡ D.starts inspect.old) × (limits_met.new ≡ limits_met.old) × (cache.new ≡ cache.old)) }
-    ensures caused { IfErr result (IsCaused D.Delegate D.Cx.Cx D.Cx.Input.eq cache.new) }
-    ensures has_graph { IfOk result (λ answer. HasGraph D.Cx.is_yes D.Cx.is_no cache.new.nodes input answer.result answer.node) }
-    ensures same_context { cache.new.cx ≡ cache.old.cx }
-    ensures kept_results { KeepsResults D.Cx.Input.eq cache.old.results cache.new.results }
-    ensures kept { KeepsFinished cache.old.nodes cache.new.nodes }
-{
-    let mut provisional = ProvisionalCache::new(goals.allocator());
-    let stack = goals.stack();
-    if let Some(stored) = look_up::<D>(cache, &provisional, stack, step_kind, input, root_depth) {
-        return Ok(Answer {
-            result: stored.result,
-            node: stored.node,
-        });
-    }
-    cache.has_sound_results();
-    push_goal::<D>(goals, cache, step_kind, input, root_depth, inspect)?;
-    let mut received = Received::without_node(Reply::Begin);
-    loop {
-        let next = advance::<D>(
-            goals,
-            &mut provisional,
-            limits_met,
+impl<D: Delegate> Evaluation<D> {
+    /// Works the goal out, with the goals that it asks, to its answer.
+    pub(crate) fn evaluate(
+        &mut self,
+        cache: &mut GlobalCache<D>,
+        step_kind: PathKind,
+        input: <D::Cx as Cx>::Input,
+        inspect: &mut D::ProofTreeBuilder,
+    ) -> Result<Answer<<D::Cx as Cx>::Result>, Fault<<D::Cx as Cx>::Input, <D::Cx as Cx>::Result>>
+        requires { IsNew self.old }
+        ensures ended { (call : Call D.Cx.Input) →
+            Begins D.Delegate D.Cx.Cx cache.old.cx D.Cx.Input.eq call input self.old.root_depth.0
+            (D.starts inspect.old) self.old.limits_met cache.old.results →
+            IfOk result (λ answer. EndsWith D.Delegate D.Cx.Cx D.Cx.Input.eq cache.old.cx call answer.result
+            cache.new self.new (D.starts inspect.new)) }
+        ensures stopped { (call : Call D.Cx.Input) →
+            Begins D.Delegate D.Cx.Cx cache.old.cx D.Cx.Input.eq call input self.old.root_depth.0
+            (D.starts inspect.old) self.old.limits_met cache.old.results →
+            IfErr result (λ fault. StopsWith D.Delegate D.Cx.Cx D.Cx.Input.eq cache.old.cx call fault
+            cache.new self.new (D.starts inspect.new)) }
+        ensures stored { IfSome (first_accepted (λ _. true)
+            (usable D.Cx.Input.eq cache.old.results input self.old.root_depth.0)) (λ hit.
+            (result ≡ Ok (record { result = hit.result; node = hit.node }))
+            × (D.starts inspect.new ≡ D.starts inspect.old)
+            × (self.new.limits_met ≡ self.old.limits_met) × (cache.new ≡ cache.old)) }
+        ensures caused { IfErr result (IsCaused D.Delegate D.Cx.Cx D.Cx.Input.eq cache.new) }
+        ensures has_graph { IfOk result (λ answer.
+            HasGraph D.Cx.is_yes D.Cx.is_no cache.new.nodes input answer.result answer.node) }
+        ensures keeps { KeepsCache D.Cx.Input.eq cache.old cache.new }
+    {
+        let stack = self.goals.stack();
+        let depth = self.root_depth;
+        if let Some(stored) = look_up::<D>(
             cache,
-            root_depth,
-            received,
-            inspect,
-        )?;
-        match next {
-            Next::Step(next) => received = next,
-            Next::Finished(answer) => return Ok(answer),
+            &self.provisional,
+            stack,
+            step_kind,
+            input,
+            depth,
+        ) {
+            return Ok(Answer {
+                result: stored.result,
+                node: stored.node,
+            });
+        }
+        cache.has_sound_results();
+        self.push_goal(cache, step_kind, input, depth, inspect)?;
+        let mut received = Received::without_node(Reply::Begin);
+        loop {
+            match self.advance(cache, received, inspect)? {
+                Next::Step(next) => received = next,
+                Next::Finished(answer) => return Ok(answer),
+            }
         }
     }
-}
 
-/// Gives the newest frame its reply, and does what it requests.
-fn advance<D: Delegate>(
-    goals: &mut OpenGoals<D::Cx, D::Frame>,
-    provisional: &mut ProvisionalCache<D>,
-    limits_met: &mut bool,
-    cache: &mut GlobalCache<D>,
-    root_depth: AvailableDepth,
-    received: Received<<D::Cx as Cx>::Result>,
-    inspect: &mut D::ProofTreeBuilder,
-) -> Result<Next<<D::Cx as Cx>::Result>, Fault<<D::Cx as Cx>::Input, <D::Cx as Cx>::Result>>
-    requires waiting { (call : Call D.Cx.Input) × IsWaiting D.Delegate D.Cx.Cx cache.old.cx call received.reply goals.old (D.starts inspect.old) limits_met.old }
-    requires justified { AreJustified D.Cx.is_yes D.Cx.is_no cache.old.nodes (runs_of goals.old) }
-    requires fits { IsFit D.Cx.is_yes D.Cx.is_no cache.old.nodes (runs_of goals.old) received.reply received.node }
-    requires free { AreFree D.Cx.is_yes D.Cx.is_no D.Cx.Input.eq cache.old.nodes (runs_of goals.old) cache.old.results }
-    requires ready { AreReady D.Cx.is_yes D.Cx.is_no D.Cx.Input.eq (D.script cache.old.cx) cache.old.nodes (runs_of goals.old) provisional.old }
-    ensures leads { (call : Call D.Cx.Input) → IsWaiting D.Delegate D.Cx.Cx cache.old.cx call received.reply goals.old (D.starts inspect.old) limits_met.old →
-        KeepsAnswers D.Delegate D.Cx.Cx cache.old.cx D.Cx.Input.eq call limits_met.old cache.old.results provisional.old →
-        IfOk result (λ next. Leads D.Delegate D.Cx.Cx cache.old.cx call (work_left D.Delegate D.Cx.Cx cache.old.cx goals.old) goals.old next goals.new (D.starts inspect.new) limits_met.new) }
-    ensures stopped { (call : Call D.Cx.Input) → IsWaiting D.Delegate D.Cx.Cx cache.old.cx call received.reply goals.old (D.starts inspect.old) limits_met.old →
-        IfErr result (λ fault. HasStopped D.Delegate D.Cx.Cx cache.old.cx call fault (D.starts inspect.new) limits_met.new) }
-    ensures keeps { (call : Call D.Cx.Input) → IsWaiting D.Delegate D.Cx.Cx cache.old.cx call received.reply goals.old (D.starts inspect.old) limits_met.old →
-        KeepsAnswers D.Delegate D.Cx.Cx cache.old.cx D.Cx.Input.eq call limits_met.old cache.old.results provisional.old → KeepsStore D.Delegate D.Cx.Cx cache.old.cx D.Cx.Input.eq call limits_met.new cache.new.results }
-    ensures keeps_answers { (call : Call D.Cx.Input) → IsWaiting D.Delegate D.Cx.Cx cache.old.cx call received.reply goals.old (D.starts inspect.old) limits_met.old →
-        KeepsAnswers D.Delegate D.Cx.Cx cache.old.cx D.Cx.Input.eq call limits_met.old cache.old.results provisional.old →
-        OnOk result (KeepsAnswers D.Delegate D.Cx.Cx cache.old.cx D.Cx.Input.eq call limits_met.new cache.new.results provisional.new) }
-    ensures caused { IfErr result (IsCaused D.Delegate D.Cx.Cx D.Cx.Input.eq cache.new) }
-    ensures justified { IfOk result (λ next. IsJustifiedNext D.Cx.is_yes D.Cx.is_no cache.new.nodes goals.old goals.new next) }
-    ensures free { OnOk result (AreFree D.Cx.is_yes D.Cx.is_no D.Cx.Input.eq cache.new.nodes (runs_of goals.new) cache.new.results) }
-    ensures ready { OnOk result (AreReady D.Cx.is_yes D.Cx.is_no D.Cx.Input.eq (D.script cache.old.cx) cache.new.nodes (runs_of goals.new) provisional.new) }
-    ensures same_context { cache.new.cx ≡ cache.old.cx }
-    ensures kept_results { KeepsResults D.Cx.Input.eq cache.old.results cache.new.results }
-    ensures kept { KeepsFinished cache.old.nodes cache.new.nodes }
-{
-    let cx = cache.cx();
-    match step::<D>(goals, cx, received, inspect)? {
-        Request::Evaluate(kind, input) => {
-            let next = ask::<D>(
-                goals,
-                provisional,
-                limits_met,
-                cache,
-                root_depth,
-                kind,
-                input,
-                inspect,
-            )?;
-            Ok(Next::Step(next))
-        }
-        Request::Done(outcome) => {
-            let next = finish_run::<D>(goals, provisional, limits_met, cache, outcome, inspect)?;
-            Ok(next)
-        }
-        request => {
-            goals.note_candidate(request)?;
-            Ok(Next::Step(Received::without_node(Reply::Noted)))
+    /// Gives the newest frame its reply, and does what it requests.
+    fn advance(
+        &mut self,
+        cache: &mut GlobalCache<D>,
+        received: Received<<D::Cx as Cx>::Result>,
+        inspect: &mut D::ProofTreeBuilder,
+    ) -> Result<Next<<D::Cx as Cx>::Result>, Fault<<D::Cx as Cx>::Input, <D::Cx as Cx>::Result>>
+        requires { HasReply D.Delegate D.Cx.Cx D.Cx.Input.eq cache.old.cx received
+            cache.old self.old (D.starts inspect.old) }
+        ensures leads { (call : Call D.Cx.Input) →
+            Awaits D.Delegate D.Cx.Cx D.Cx.Input.eq cache.old.cx call received
+            cache.old self.old (D.starts inspect.old) →
+            IfOk result (λ next. LeadsTo D.Delegate D.Cx.Cx D.Cx.Input.eq cache.old.cx call
+            (work_left D.Delegate D.Cx.Cx cache.old.cx self.old.goals) self.old.goals next
+            cache.new self.new (D.starts inspect.new)) }
+        ensures stops { (call : Call D.Cx.Input) →
+            Awaits D.Delegate D.Cx.Cx D.Cx.Input.eq cache.old.cx call received
+            cache.old self.old (D.starts inspect.old) →
+            IfErr result (λ fault. StopsWith D.Delegate D.Cx.Cx D.Cx.Input.eq cache.old.cx call fault
+            cache.new self.new (D.starts inspect.new)) }
+        ensures right { IfOk result (λ next.
+            IsRightNext D.Delegate D.Cx.Cx D.Cx.Input.eq cache.old.cx self.old.goals next
+            cache.new self.new) }
+        ensures caused { IfErr result (IsCaused D.Delegate D.Cx.Cx D.Cx.Input.eq cache.new) }
+        ensures keeps { KeepsCache D.Cx.Input.eq cache.old cache.new }
+    {
+        let cx = cache.cx();
+        match step::<D>(&mut self.goals, cx, received, inspect)? {
+            Request::Evaluate(kind, input) => {
+                let next = self.ask(cache, kind, input, inspect)?;
+                Ok(Next::Step(next))
+            }
+            Request::Done(outcome) => {
+                let next = self.finish_run(cache, outcome, inspect)?;
+                Ok(next)
+            }
+            request => {
+                self.goals.note_candidate(request)?;
+                Ok(Next::Step(Received::without_node(Reply::Noted)))
+            }
         }
     }
 }

@@ -1,9 +1,9 @@
-//! Which stored results may be used where goals are under evaluation.
+//! Which provisional entries and stored results may be used where goals are under evaluation.
 ghost use Rattle.std.specs.Prelude.{◌≡◌, ◌≢◌, ◌<◌, [], length, All, IfSome};
 ghost use Rattle.std.specs.List.{list_any};
-ghost use Rattle.std.specs.Option.{option_map};
+ghost use Rattle.std.specs.Option.{option_copied, option_map};
 ghost use Rattle.search_graph.specs.Below.{highest, HasGraph, first_accepted, hit_of, usable, entries_at};
-ghost use Rattle.search_graph.specs.Words.{could_be_used, is_applicable, meets_entry, AreOnStack, IsUsable};
+ghost use Rattle.search_graph.specs.Words.{kept_for, could_be_used, is_applicable, meets_entry, AreOnStack, IsUsable};
 
 use bitflags::Flags;
 use search_parts::context::{Cx, Delegate};
@@ -81,6 +81,24 @@ impl<'a, D: Delegate> OverStack<'a, D> {
     }
 }
 
+/// The entry that answers the goal, asked over the step by the last goal on the stack, if the delegate lets
+/// such answers be used. Ports `SearchGraph::lookup_provisional_cache`.
+pub(crate) fn look_up_entry<'a, D: Delegate>(
+    provisional: &'a ProvisionalCache<D>,
+    stack: &Stack<D::Cx>,
+    step: PathKind,
+    input: <D::Cx as Cx>::Input,
+) -> Option<&'a ProvisionalCacheEntry<D::Cx>>
+    requires { AreOnStack D.Cx.Input.eq stack.now provisional.now }
+    ensures { option_copied result ≡ kept_for D.Cx.Input.eq D.ENABLE_PROVISIONAL_CACHE
+        (record { stack = stack.now; entries = provisional.now; step = step }) input }
+{
+    if D::ENABLE_PROVISIONAL_CACHE {
+        return provisional.lookup(input, stack, step);
+    }
+    None
+}
+
 /// A stored result of the goal, asked over the step, that may be used over this stack at this depth. Ports
 /// `SearchGraph::lookup_global_cache`.
 pub(crate) fn look_up<'a, D: Delegate>(
@@ -92,9 +110,13 @@ pub(crate) fn look_up<'a, D: Delegate>(
     depth: AvailableDepth,
 ) -> Option<CacheData<'a, D::Cx>>
     requires { AreOnStack D.Cx.Input.eq stack.now provisional.now }
-    ensures exact { option_map hit_of result ≡ first_accepted (is_applicable D.Cx.Input.eq (record { stack = stack.now; entries = provisional.now; step = step })) (usable D.Cx.Input.eq cache.now.results input depth.0) }
-    ensures graph { IfSome result (λ stored. HasGraph D.Cx.is_yes D.Cx.is_no cache.now.nodes input stored.result stored.node) }
-    ensures usable { IfSome result (λ stored. IsUsable D.Cx.Input.eq (D.script cache.now.cx) cache.now.results input depth.0 (hit_of stored)) }
+    ensures exact { option_map hit_of result ≡ first_accepted
+        (is_applicable D.Cx.Input.eq (record { stack = stack.now; entries = provisional.now; step = step }))
+        (usable D.Cx.Input.eq cache.now.results input depth.0) }
+    ensures graph { IfSome result (λ stored.
+        HasGraph D.Cx.is_yes D.Cx.is_no cache.now.nodes input stored.result stored.node) }
+    ensures usable { IfSome result (λ stored.
+        IsUsable D.Cx.Input.eq (D.script cache.now.cx) cache.now.results input depth.0 (hit_of stored)) }
 {
     let test = OverStack {
         stack,

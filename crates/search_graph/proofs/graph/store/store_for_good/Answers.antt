@@ -10,7 +10,7 @@ pub returns-clause-caused : goal.returns-clause-caused
 returns-clause-caused g c =
     caused_after g.D.Delegate g.D.Cx.Cx g.D.Cx.Input.PartialEq.eq c.args.cache.now c.insert.new.self c.insert.result c.insert.ensures.err
     (storing_is_caused g.D.Delegate g.D.Cx.Cx g.D.Cx.Input.PartialEq.eq c.args.cache.now c.has_runs.ensures (g.met.D.Cx.Cx.clash c.args.cache.now.cx) (g.met.D.Delegate.yes_is_proved c.args.cache.now.cx) (g.met.D.Delegate.no_is_refuted c.args.cache.now.cx) g.met.D.Cx.Cx.one_sort g.D.Cx.Result.PartialEq.eq g.met.D.Cx.Result.Eq.laws
-    c.args.input (place_of c.args.answer) c.args.answer.result c.args.answer.node c.requires.graph c.requires.comes (stored_at g.D.Cx.Input.PartialEq.eq c.args.cache.now.results c.args.input (place_of c.args.answer)) refl c.insert.result c.insert.ensures.answer)
+    c.args.input (place_of c.args.answer) c.args.answer.result c.args.answer.node (c.requires.storable.graph c.requires.no_heads) c.requires.storable.comes (stored_at g.D.Cx.Input.PartialEq.eq c.args.cache.now.results c.args.input (place_of c.args.answer)) refl c.insert.result c.insert.ensures.answer)
 
 pub returns-clause-is_stored : goal.returns-clause-is_stored
 returns-clause-is_stored g c = put_is_stored g.D.Cx.Input.PartialEq.eq c.args.cache.now.results c.insert.new.self.results c.args.input (place_of c.args.answer) (stored_from c.args.answer c.dep_node-token.result) c.insert.result c.insert.ensures.ok

@@ -1,0 +1,29 @@
+-- A goal is popped with its result.
+use Rattle.std.specs.Prelude.{Bool, Option}
+use Rattle.search_graph.specs.Below.{DelegateOf, CxOf, RebaseReason, Next, Cache, IsDefinite}
+use Rattle.search_graph.specs.declared.graph.evaluation.Evaluation.{Evaluation}
+use Rattle.search_graph.specs.Evaluations.{IsRight, IsRightNext}
+use Rattle.search_graph.specs.Moves.{CanLeave, Leaves}
+use Rattle.search_graph.specs.Provisional.{HasReason, IsNewestUnranked, SettlesNewest}
+use Rattle.search_graph.specs.Results.{IsNewestStored, NewestComesTo, NewestIsPlain}
+use Rattle.search_graph.specs.Runs.{EndsNewest}
+
+module _ {D C V P F I R A T : Type 0} (G : DelegateOf D C V P F I R A T) (X : CxOf C I R A T) (same : I → I → Bool) (outcome : R) (reason : Option (RebaseReason C I R A T)) (old : Cache C I R A T) (before : Evaluation D C V P F I R A T) where
+  -- The newest goal may be popped with the result: a definite one is that of its run; the goal came to it, and it is plain where
+  -- the goal has a rank; the reason is true of the goal.
+  pub record MayPop : Type 0 where
+    pub leaves : CanLeave before.goals
+    pub ends : IsDefinite X.is_yes X.is_no outcome → EndsNewest X.is_yes X.is_no (G.script old.cx) before.goals outcome
+    pub comes : NewestComesTo (G.script old.cx) (G.fixpoint_overflow old.cx) before.goals outcome
+    pub plain : NewestIsPlain (G.script old.cx) before.goals outcome
+    pub is_reason : HasReason X.is_yes X.is_no reason before.goals outcome
+    pub unranked : IsNewestUnranked (G.script old.cx) before.goals
+    pub right : IsRight G X same old.cx old before
+
+  -- It was popped: its result is the answer to the goal below it, or to the call; it is stored if it rests on no goal, and else
+  -- becomes a provisional entry; entries that rested on the goal are rebased.
+  pub record Pops (next : Next R) (new : Cache C I R A T) (after : Evaluation D C V P F I R A T) : Type 0 where
+    pub left : Leaves outcome before.goals next after.goals
+    pub stored : IsNewestStored same before.goals outcome new.results
+    pub rebased : SettlesNewest same G.ENABLE_PROVISIONAL_CACHE (G.propagated old.cx) (G.fixpoint_overflow old.cx) reason outcome before.goals before.provisional after.provisional
+    pub right : IsRightNext G X same old.cx before.goals next new after

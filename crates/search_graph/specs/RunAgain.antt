@@ -1,0 +1,23 @@
+-- A goal is run again.
+use Rattle.std.specs.Prelude.{◌≡◌, ◌<◌, ◌+◌, ◌-◌, ◌^◌, Bool, not, length, IfSome}
+use Rattle.std.specs.List.{filter}
+use Rattle.search_graph.specs.Below.{DelegateOf, CxOf, Cache, entries_at, rests_on, newest}
+use Rattle.search_graph.specs.declared.graph.evaluation.Evaluation.{Evaluation}
+use Rattle.search_graph.specs.Evaluations.{IsRight}
+use Rattle.search_graph.specs.Moves.{Reruns}
+use Rattle.search_graph.specs.Runs.{EndsNewest}
+
+module _ {D C V P F I R A T : Type 0} (G : DelegateOf D C V P F I R A T) (X : CxOf C I R A T) (same : I → I → Bool) (outcome : R) (old : Cache C I R A T) (before : Evaluation D C V P F I R A T) where
+  -- the newest goal may be run again: its run came to the result, and one more can be counted
+  pub record MayRunAgain : Type 0 where
+    pub some : 0 < length before.goals
+    pub fits : IfSome (newest before.goals) (λ s. s.1.finished_runs + 1 < 2 ^ 64)
+    pub ends : EndsNewest X.is_yes X.is_no (G.script old.cx) before.goals outcome
+    pub right : IsRight G X same old.cx old before
+
+  -- it runs again, and the entries that rest on it are gone
+  pub record RunsAgain (new : Cache C I R A T) (after : Evaluation D C V P F I R A T) : Type 0 where
+    pub reran : Reruns G X old.cx outcome before.goals after.goals
+    pub cleared : (input : I) → entries_at same after.provisional input
+        ≡ filter (λ entry. not (rests_on (record { 0 = length before.goals - 1 }) entry)) (entries_at same before.provisional input)
+    pub right : IsRight G X same old.cx new after

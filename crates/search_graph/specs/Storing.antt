@@ -1,0 +1,26 @@
+-- What is stored of a goal that is done.
+use Rattle.std.specs.Prelude.{◌≡◌, ◌&&◌, ◌++◌, if◌then◌else◌, Bool, [], map, reverse}
+use Rattle.search_graph.specs.Below.{DelegateOf, CxOf, Cache, EvaluationResult, HasGraph, IsPlainAt, KeepsResults, PathKind, entries_at, place_of}
+use Rattle.search_graph.specs.declared.graph.evaluation.Evaluation.{Evaluation}
+use Rattle.search_graph.specs.Graph.{ComesTo}
+use Rattle.search_graph.specs.Provisional.{kept_of}
+use Rattle.search_graph.specs.Results.{IsStoredAt}
+
+-- of a cache only the stored results changed, and each is there still, or an equal one
+pub record ChangesResults {C I R A T : Type 0} (same : I → I → Bool) (old new : Cache C I R A T) : Type 0 where
+  pub rest : new ≡ record old { results = new.results }
+  pub kept : KeepsResults same old.results new.results
+
+module _ {D C V P F I R A T : Type 0} (G : DelegateOf D C V P F I R A T) (X : CxOf C I R A T) where
+  -- The goal's answer may be stored: it has its graph, if it rests on no goal; it is plain, where the goal has a rank; the goal came to it.
+  pub record IsStorable (cache : Cache C I R A T) (goal : I) (answer : EvaluationResult C I R A T) : Type 0 where
+    pub graph : answer.heads ≡ [] → HasGraph X.is_yes X.is_no cache.nodes goal answer.result answer.node
+    pub plain : IsPlainAt (G.script cache.cx) goal (place_of answer) answer.result
+    pub comes : ComesTo (G.script cache.cx) (G.fixpoint_overflow cache.cx) goal answer.result
+
+  -- The answer, which was asked over the step, is stored, if it rests on no goal; else it is a provisional entry of its goal, if the
+  -- delegate lets such entries be used.
+  pub record Stores (same : I → I → Bool) (step : PathKind) (goal : I) (answer : EvaluationResult C I R A T) (old new : Evaluation D C V P F I R A T) (cache : Cache C I R A T) : Type 0 where
+    pub result : answer.heads ≡ [] → IsStoredAt same cache.results goal (place_of answer) answer.result
+    pub entry : (other : I) → entries_at same new.provisional other
+        ≡ entries_at same old.provisional other ++ (if G.ENABLE_PROVISIONAL_CACHE && same goal other then kept_of (reverse (map (λ s. s.0) old.goals)) step answer else [])

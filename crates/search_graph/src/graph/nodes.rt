@@ -1,0 +1,49 @@
+//! The node of a run that has ended.
+ghost use Rattle.std.specs.Prelude.{◌≡◌, ◌↔◌, IsTrue, IfOk, Some};
+ghost use Rattle.std.specs.Option.{option_map};
+ghost use Rattle.search_graph.specs.Below.{KeepsFinished, IsDefinite, verdict_of};
+ghost use Rattle.search_graph.specs.Words.{in_theory, EndsRun, IsSettled};
+
+use open_goals::progress::Progress;
+use search_parts::context::{Cx, Delegate, NoMemory, NodeId, Verdict};
+use search_parts::global_cache::GlobalCache;
+use search_parts::parts::EntryState;
+
+/// The node of a run's definite result. A run whose result says what the provisional one said has that
+/// one's node, and its own stays open, as does that of a run that came to no definite result. So the node of
+/// a goal is that of the first of its last runs that said the same.
+pub(crate) fn settle_node<D: Delegate>(
+    cache: &mut GlobalCache<D>,
+    state: &EntryState<D::Cx>,
+    own_node: NodeId,
+    progress: Progress<<D::Cx as Cx>::Input, <D::Cx as Cx>::Result>,
+    outcome: <D::Cx as Cx>::Result,
+) -> Result<Option<NodeId>, NoMemory>
+    requires { IsDefinite D.Cx.is_yes D.Cx.is_no outcome → EndsRun D.Cx.is_yes D.Cx.is_no (D.script cache.old.cx) cache.old.nodes own_node progress outcome }
+    ensures settled { IfOk result (λ answer. IsSettled D.Cx.is_yes D.Cx.is_no cache.old.nodes cache.new.nodes state.now.provisional_result own_node state.now.node progress outcome answer) }
+    ensures same_context { cache.new.cx ≡ cache.old.cx }
+    ensures same_results { cache.new.results ≡ cache.old.results }
+    ensures kept { KeepsFinished cache.old.nodes cache.new.nodes }
+{
+    let verdict = cache.cx().sort(outcome);
+    if let Verdict::Neither = verdict {
+        return Ok(None);
+    }
+    if says_again(cache.cx(), state.provisional_result, verdict) {
+        return Ok(state.node);
+    }
+    let edges = progress.edges(verdict)?;
+    let replies = progress.into_replies();
+    cache.finish_node(own_node, replies, edges, outcome);
+    Ok(Some(own_node))
+}
+
+/// Whether the provisional result, if there is one, has this verdict.
+fn says_again<X: Cx>(cx: X, provisional_result: Option<X::Result>, verdict: Verdict) -> bool
+    ensures { IsTrue result ↔ (option_map (verdict_of X.is_yes X.is_no) provisional_result ≡ Some (in_theory verdict)) }
+{
+    match provisional_result {
+        Some(earlier) => cx.sort(earlier) == verdict,
+        None => false,
+    }
+}

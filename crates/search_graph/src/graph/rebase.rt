@@ -1,0 +1,29 @@
+//! Provisional entries are rebased when a goal that they rest on is popped.
+ghost use Rattle.std.specs.Prelude.{◌≡◌, ◌≤◌, ◌<◌, length, All, OnOk};
+ghost use Rattle.search_graph.specs.Below.{entries_at};
+ghost use Rattle.search_graph.specs.Words.{left_of};
+
+use search_parts::context::{Cx, Delegate, NoMemory};
+use search_parts::parts::{ProvisionalCache, RebaseReason, Stack, StackEntry};
+
+/// Rebases the entries that rest on the goal `done`, which was popped from above the stack: for the reason, if it
+/// was used as a head. Else there are none.
+pub(crate) fn rebase_entries<D: Delegate>(
+    provisional: &mut ProvisionalCache<D>,
+    cx: D::Cx,
+    done: &StackEntry<D::Cx>,
+    stack: &Stack<D::Cx>,
+    reason: Option<RebaseReason<D::Cx>>,
+) -> Result<(), NoMemory>
+    requires on_stack { All (λ head. head.0.0 < length stack.now) done.now.state.heads }
+    requires within { (input : D.Cx.Input) → All (λ entry. All (λ head. head.0.0 ≤ length stack.now) entry.heads)
+        (entries_at D.Cx.Input.eq provisional.old input) }
+    ensures { OnOk result ((input : D.Cx.Input) → entries_at D.Cx.Input.eq provisional.new input
+        ≡ left_of (D.propagated cx input) (D.fixpoint_overflow cx input) reason stack.now done.now
+        (entries_at D.Cx.Input.eq provisional.old input)) }
+{
+    match reason {
+        Some(reason) => provisional.rebase(cx, done, stack, reason),
+        None => Ok(()),
+    }
+}

@@ -1,0 +1,45 @@
+//! A goal is run again.
+ghost use Rattle.std.specs.Prelude.{◌≡◌, ◌≤◌, ◌+◌, true, OnOk};
+ghost use Rattle.search_graph.specs.Below.{CountsOne, KeepsFinished};
+ghost use Rattle.search_graph.specs.Words.{MayRunAgain, RunsAgain};
+
+use crate::graph::evaluation::Evaluation;
+use crate::graph::nodes::settle_node;
+use search_parts::context::{Cx, Delegate, NoMemory};
+use search_parts::global_cache::GlobalCache;
+use search_parts::parts::StackDepth;
+
+impl<D: Delegate> Evaluation<D> {
+    /// Runs the newest goal again, whose run came to this result. Provisional entries that rest on the last run
+    /// are given up.
+    pub(crate) fn run_again(
+        &mut self,
+        cache: &mut GlobalCache<D>,
+        outcome: <D::Cx as Cx>::Result,
+        inspect: &mut D::ProofTreeBuilder,
+    ) -> Result<(), NoMemory>
+        requires { MayRunAgain D.Delegate D.Cx.Cx D.Cx.Input.eq outcome cache.old self.old }
+        ensures reran { OnOk result (
+            RunsAgain D.Delegate D.Cx.Cx D.Cx.Input.eq outcome cache.old self.old cache.new self.new) }
+        ensures rest { self.new ≡ record self.old { goals = self.new.goals; provisional = self.new.provisional } }
+        ensures cache { cache.new ≡ record cache.old { nodes = cache.new.nodes } }
+        ensures kept { KeepsFinished cache.old.nodes cache.new.nodes }
+        ensures at_least { D.starts inspect.old ≤ D.starts inspect.new }
+        ensures at_most { D.starts inspect.new ≤ D.starts inspect.old + 1 }
+        ensures counted { D.counts ≡ true → OnOk result (CountsOne D.last (D.starts inspect.old) (D.starts inspect.new)) }
+    {
+        self.provisional
+            .clear_for_rerun(StackDepth::new(self.goals.len() - 1));
+        let progress = self.goals.take_progress();
+        let own_node = self.goals.last_run().node;
+        let entry = self.goals.last_entry();
+        let input = entry.input();
+        let node = settle_node::<D>(cache, &entry.state, own_node, progress, outcome)?.or(
+            entry.state.node,
+        );
+        let frame = D::start(cache.cx(), input, inspect)?;
+        let own_node = cache.open_node(input)?;
+        self.goals.run_again(outcome, node, frame, own_node);
+        Ok(())
+    }
+}

@@ -1,0 +1,139 @@
+//! What becomes of a goal whose run has ended.
+ghost use Rattle.std.specs.Prelude.{◌≡◌, ◌↔◌, ◌<◌, ◌+◌, ◌^◌, ℕ, IsTrue, IsSome, IfOk, IfErr, IfSome, Err, None, Some};
+ghost use Rattle.search_graph.specs.Below.{Done};
+ghost use Rattle.search_graph.specs.declared.graph.run_end.Unstable.TheVariants.{Again};
+ghost use Rattle.search_graph.specs.RunEnds.{ReachedFixpoint};
+ghost use Rattle.search_graph.specs.Words.{IsCaused, IsReason, IsRunEnd, IsStable, HasRequest, Moves, IsRightNext, KeepsCache};
+
+use crate::graph::evaluation::Evaluation;
+use open_goals::goals::{Next, Received};
+use search_parts::context::{Cx, Delegate, Fault, Reply};
+use search_parts::global_cache::GlobalCache;
+use search_parts::parts::{EntryState, HeadUsages, RebaseReason};
+use search_parts::path::PathKind;
+
+/// What becomes of a goal whose run has ended with a result that isn't stable.
+#[derive(Clone, Copy)]
+enum Unstable {
+    /// The goal had its most runs.
+    AtLimit,
+    /// It is run again.
+    Again,
+}
+
+impl<D: Delegate> Evaluation<D> {
+    /// Ends the newest goal's run, which came to this result: the goal is run again, or is popped and its
+    /// result given to the goal below it.
+    pub(crate) fn finish_run(
+        &mut self,
+        cache: &mut GlobalCache<D>,
+        outcome: <D::Cx as Cx>::Result,
+        inspect: &mut D::ProofTreeBuilder,
+    ) -> Result<Next<<D::Cx as Cx>::Result>, Fault<<D::Cx as Cx>::Input, <D::Cx as Cx>::Result>>
+        requires { HasRequest D.Delegate D.Cx.Cx D.Cx.Input.eq cache.old.cx (Done outcome)
+            cache.old self.old (D.starts inspect.old) }
+        ensures moves { Moves D.Delegate D.Cx.Cx D.Cx.Input.eq cache.old.cx (Done outcome)
+            cache.old self.old (D.starts inspect.old) result
+            cache.new self.new (D.starts inspect.new) }
+        ensures right { IfOk result (λ next.
+            IsRightNext D.Delegate D.Cx.Cx D.Cx.Input.eq cache.old.cx self.old.goals next
+            cache.new self.new) }
+        ensures caused { IfErr result (IsCaused D.Delegate D.Cx.Cx D.Cx.Input.eq cache.new) }
+        ensures keeps { KeepsCache D.Cx.Input.eq cache.old cache.new }
+    {
+        let finished_runs = self.goals.last_run().finished_runs;
+        match end_of_run::<D>(&self.goals.last_entry().state, finished_runs, outcome) {
+            Ok(reason) => self.pop_goal(cache, outcome, reason),
+            Err(Unstable::AtLimit) => {
+                self.limits_met = true;
+                let input = self.goals.last_entry().input();
+                let overflow = D::fixpoint_overflow_result(cache.cx(), input);
+                let reason = Some(RebaseReason::Overflow);
+                self.pop_goal(cache, overflow, reason)
+            }
+            Err(Unstable::Again) => {
+                self.run_again(cache, outcome, inspect)?;
+                Ok(Next::Step(Received::without_node(Reply::Begin)))
+            }
+        }
+    }
+}
+
+/// What becomes of a goal in this state, of which so many runs ended before the one that came to this result. If
+/// that stands, the reason is why the goal, where it was used as a head, does not need another run.
+fn end_of_run<D: Delegate>(
+    state: &EntryState<D::Cx>,
+    finished_runs: usize,
+    outcome: <D::Cx as Cx>::Result,
+) -> Result<Option<RebaseReason<D::Cx>>, Unstable>
+    ensures is_end { IsRunEnd D.Cx.Result.eq D.initial_kind D.ambiguity D.FIXPOINT_STEP_LIMIT state.now.provisional_result state.now.usages finished_runs outcome result }
+    ensures fits { result ≡ Err Again → finished_runs + 1 < 2 ^ 64 }
+{
+    let Some(usages) = state.usages else {
+        return Ok(None);
+    };
+    let stable = stable_reason::<D>(state.provisional_result, usages, outcome);
+    if let Some(reason) = stable {
+        return Ok(Some(reason));
+    }
+    if finished_runs < D::FIXPOINT_STEP_LIMIT.saturating_sub(1) {
+        Err(Unstable::Again)
+    } else {
+        Err(Unstable::AtLimit)
+    }
+}
+
+/// Why a further run after this result would change nothing, or isn't worth it, if that is so.
+fn stable_reason<D: Delegate>(
+    provisional_result: Option<<D::Cx as Cx>::Result>,
+    usages: HeadUsages,
+    outcome: <D::Cx as Cx>::Result,
+) -> Option<RebaseReason<D::Cx>>
+    ensures reason { IfSome result (IsReason D.Cx.Result.eq D.initial_kind D.ambiguity provisional_result usages outcome) }
+    ensures unstable { result ≡ None → IsStable D.Cx.Result.eq D.initial_kind D.ambiguity provisional_result usages outcome → ⊥ }
+{
+    if reached_fixpoint::<D>(provisional_result, usages, outcome) {
+        let kind = initial_kind::<D>(provisional_result, outcome);
+        return Some(RebaseReason::ReachedFixpoint(kind));
+    }
+    if usages.is_empty() {
+        return Some(RebaseReason::NoCycleUsages);
+    }
+    match D::is_ambiguous_result(outcome) {
+        Some(info) => Some(RebaseReason::Ambiguity(info)),
+        None => None,
+    }
+}
+
+/// The kind of cycles for whose first answer the run took its result, where it was its goal's first.
+fn initial_kind<D: Delegate>(
+    provisional_result: Option<<D::Cx as Cx>::Result>,
+    outcome: <D::Cx as Cx>::Result,
+) -> Option<PathKind>
+    ensures first { provisional_result ≡ None → result ≡ D.initial_kind outcome }
+    ensures later { IsSome provisional_result → result ≡ None }
+{
+    match provisional_result {
+        Some(_) => None,
+        None => D::is_initial_provisional_result(outcome),
+    }
+}
+
+/// Whether a run that used its own goal's result so came to that result. Ports
+/// `SearchGraph::reached_fixpoint`.
+fn reached_fixpoint<D: Delegate>(
+    provisional_result: Option<<D::Cx as Cx>::Result>,
+    usages: HeadUsages,
+    outcome: <D::Cx as Cx>::Result,
+) -> bool
+    ensures { IsTrue result ↔ ReachedFixpoint D.Cx.Result.eq D.initial_kind provisional_result usages outcome }
+{
+    match (
+        provisional_result,
+        D::is_initial_provisional_result(outcome),
+    ) {
+        (Some(earlier), _) => earlier == outcome,
+        (None, Some(kind)) => usages.is_single(kind),
+        (None, None) => false,
+    }
+}
