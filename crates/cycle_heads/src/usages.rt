@@ -6,6 +6,11 @@ use crate::path::PathKind;
 
 /// How often a goal on the stack was used, counted by the kind of the cycle. A count sticks at
 /// `u32::MAX` and is never subtracted from then. Ports `HeadUsages`.
+///
+/// What matters is whether a count is zero: the numbers are there so that an ignored candidate can be
+/// subtracted. A count that stuck no longer knows how many usages it stands for. Were it subtracted from, it
+/// could come to zero while an answer still rests on the head, and the head would not be rerun for it. A count
+/// that stays costs a rerun at most.
 #[derive(Clone, Copy, Debug, Default, PartialEq, Eq)]
 pub struct HeadUsages {
     pub inductive: u32,
@@ -29,8 +34,8 @@ impl HeadUsages {
         }
     }
 
-    /// Counts one more cycle of each kind that a nested goal used, however often it did so. Ports
-    /// `HeadUsages::add_usages_from_nested`.
+    /// Counts one more cycle of each kind that a nested goal used, however often it did so: the nested goal is
+    /// one answer, and is ignored as a whole or not at all. Ports `HeadUsages::add_usages_from_nested`.
     pub fn add_usages_from_nested(&mut self, usages: HeadUsages)
         ensures { self.new ≡ with_nested self.old usages }
     {

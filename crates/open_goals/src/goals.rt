@@ -150,6 +150,10 @@ impl<X: Cx, F: Drop> OpenGoals<X, F> {
     }
 
     /// A question of the newest goal was refused. Where memory is, a part of that may be noted.
+    ///
+    /// The goal becomes one of its own nested goals. Where it is on the stack already, a goal that asks it closes
+    /// a cycle instead of coming to the refused question, and may get another result; so what is stored of such
+    /// a goal must not be used there.
     pub fn note_overflow(&mut self) -> Result<(), NoMemory>
         requires { 0 < length self.old }
         ensures { OnOk result (NotesOverflow X.Input.eq self.old self.new) }
@@ -192,6 +196,9 @@ impl<X: Cx, F: Drop> OpenGoals<X, F> {
     }
 
     /// The newest goal was answered over a step of this kind. A refusal may leave a part of that noted.
+    ///
+    /// This comes before the frame gets the answer, since its very next request may end the candidate or the
+    /// run, and both have to count the answer's heads.
     pub fn note_answer(
         &mut self,
         step: PathKind,
@@ -251,6 +258,12 @@ impl<X: Cx, F: Drop> OpenGoals<X, F> {
 
     /// Runs the newest goal again under this result, with a frame and a node for the new run. The answers
     /// of its cycles lead to `node` from now on.
+    ///
+    /// Its entry stays on the stack, with what all runs share: heads, required depth and nested goals. The
+    /// provisional result rests on the heads of the run before, so they are heads of this run, too. Overflow
+    /// starts anew, so that this run does not divide its depth for what an earlier one met. The usages start at
+    /// zero and not at `None`: entries that did not use the goal's result are still there, and have to be
+    /// rebased when it is done.
     pub fn run_again(
         &mut self,
         provisional_result: X::Result,

@@ -15,7 +15,12 @@ use std::collections::{HashMap, hash_map};
 use std::hash::Hash;
 use std::marker::Model;
 
-/// The goals that were asked below a goal, with the paths to each. Ports `NestedGoals`.
+/// The nested goals of a goal, with the paths to each. Ports `NestedGoals`.
+///
+/// A stored result is not used where one of them is on the stack, or has a provisional entry that could be
+/// used: the goal, worked out there, would close a cycle that it did not close before, and so may come to
+/// another result. Goals are added only once there was a cycle or a refused question. That spares the others
+/// the map.
 #[derive(Drop)]
 pub struct NestedGoals<X: Cx> {
     nested_goals: HashMap<X::Input, PathsToNested>,

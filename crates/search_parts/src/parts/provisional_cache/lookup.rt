@@ -31,6 +31,12 @@ pub(super) fn first_usable<'a, X: Cx>(
 }
 
 // Whether the entry may be used for a goal that is asked over the step.
+//
+// A stored result names the goals below it that are on the way to a cycle or a refused question, and not the
+// others. Were an entry used for one of these, the stored result would be another one there, and nothing would
+// show that it must be passed over. An entry that met no overflow closed a cycle at any depth, so its goal is
+// named; one that met overflow may have done so for want of depth alone. So that is used only where the asking
+// goal has a head as low, and thus is in the same cycle already. This is stricter than it has to be.
 fn may_be_used<X: Cx>(entry: &ProvisionalCacheEntry<X>, stack: &Stack<X>, step: PathKind) -> bool
     requires heads { entry.now.heads ≢ [] }
     requires on_stack { IfSome (highest entry.now.heads) (λ head. head.0.0 < length stack.now) }

@@ -164,6 +164,9 @@ fn rebase_entry<X: Cx>(
 }
 
 // The entry without its highest head, which it didn't use.
+//
+// Its result is the same whatever that goal came to. Still that goal's heads take its place, without usages: a
+// goal that uses the entry must not be stored while they are under evaluation.
 fn rebase_unused<X: Cx>(
     entry: ProvisionalCacheEntry<X>,
     done: &StackEntry<X>,
@@ -180,6 +183,10 @@ fn rebase_unused<X: Cx>(
 }
 
 // The entry without its highest head, which it used, and which is given.
+//
+// It is as if the goal that is done were worked out anew below the entry. So each cycle that goes from one of
+// its heads through it and back has to be of the same kind when it goes through the entry, too; and the heads
+// get the paths from the entry through it, so that the next pop compares these as well.
 fn rebase_used<X: Cx>(
     entry: ProvisionalCacheEntry<X>,
     head: CycleHead,
