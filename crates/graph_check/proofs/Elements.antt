@@ -11,7 +11,7 @@ kept_one : {A B : Type 0} (f : A → B) (x : A) (b : Bool) → map f (cond b (x 
 kept_one f x true = refl
 kept_one f x false = refl
 
--- one more element at the end is kept if it passes the test
+-- one more element at the end stays if it passes the test
 pub kept_more : {A B : Type 0} (f : A → B) (test : A → Bool) (xs : List A) (x : A) (b : Bool) → test x ≡ b → map f (filter test (xs ++ x ∷ [])) ≡ map f (filter test xs) ++ cond b (f x ∷ []) []
 kept_more f test xs x b is =
     ap (map f) (filter-append test xs (x ∷ []))

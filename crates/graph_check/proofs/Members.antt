@@ -8,7 +8,7 @@ module _ {A B : Type 0} (f : A → B) (p : A → Bool) where
   Contains-next : {X : Type 0} (y : X) (xs : List X) (x : X) → Contains xs x → Contains (y ∷ xs) x
   Contains-next y xs x w = (suc w.0, omega (arith, w.1), w.2)
 
-  -- a member that passes is kept
+  -- a member that passes stays
   pub Contains-kept : (xs : List A) (x : A) → Contains xs x → p x ≡ true → Contains (kept xs) (f x)
   Contains-kept [] x w pass = absurd (omega (arith, w.1))
   Contains-kept (y ∷ xs) x (zero, l, e) pass =
@@ -19,7 +19,7 @@ module _ {A B : Type 0} (f : A → B) (p : A → Bool) where
       past true w = Contains-next (f y) (kept xs) (f x) w
       past false w = w
 
-  -- what a kept value comes from
+  -- what a value that stays comes from
   pub record Source (xs : List A) (y : B) : Type 0 where
     pub member : A
     pub has : Contains xs member

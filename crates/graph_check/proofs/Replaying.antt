@@ -79,7 +79,7 @@ module _ {I R : Type 0} {test : R → Bool} {script : List (Reply R) → Request
   replays_all : Replays test script p (reverse n.replies.items)
   replays_all = subst (λ l. Replays test script p (reverse l)) (take_all i n.replies.items all) h
 
-  -- what was replayed to the end is a run exactly where it is done, and the edges are those that are kept
+  -- what was replayed to the end is a run exactly where it is done, and the edges are those that count
   pub is_run_if : test n.result ≡ true → (p.request ≡ Some (Done n.result)) → (map question_of n.edges.items ≡ questions_kept p) → IsRunOfSort test script n
   is_run_if sort done edges = record {
     ends = record { is_fitting = replays_all.legal.is_fitting; is_in_order = replays_all.legal.is_in_order; is_done = sym replays_all.request_is ∙ done };

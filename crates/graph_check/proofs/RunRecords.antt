@@ -64,7 +64,7 @@ module _ {I R : Type 0} (test : R → Bool) (p : Replayed I R) (done : Progress 
   some_fault (Evaluate kind goal) is none = cc
   some_fault (Done r) is none = cc
 
-  -- a question is kept where its answer passes the test
+  -- a question counts where its answer passes the test
   agrees_answered : (kind : PathKind) (goal : I) (r : R) (b : Bool) → test r ≡ b → Agrees test (replied p (Some (Evaluate kind goal)) b) (progress_with done (Some (Evaluate kind goal)) (Answer r))
   agrees_answered kind goal r true is = record {
     open_is = h.open_is;

@@ -77,7 +77,7 @@ module _ (nodes : List Node) (verdict : Verdict) (stack : List Entry) (entry : E
       ])
       u
 
--- what is settled reaches no unfinished node but leaves
+-- an open graph reaches no unfinished node but leaves
 pub fresh_unreached : (nodes : List Node) (verdict : Verdict) (stack : List Entry) (a b : ℕ) → Settled nodes verdict stack a → slice_get nodes b ≡ Some Unfinished → ¬ IsLeaf stack b → Unreached nodes verdict stack a b
 fresh_unreached nodes verdict stack a b s unfinished ne q w = elim (s.placed b q w) [
   | inl l ↦ ne l

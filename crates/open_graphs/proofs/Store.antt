@@ -1,4 +1,4 @@
--- Answers that are kept for goals asked later.
+-- Provisional entries, for when their goals are asked later.
 use Rattle.std.proofs.Common.{◌≡◌, ℕ, ◌≤◌, List, [], ◌∷◌, ◌++◌, length, arith, ap, sym, ◌∙◌, length-append}
 use Rattle.open_graphs.specs.Words.{Verdict, Node, Entry, path_kind, path_through, Heads, Use, HeadsWithin, Includes, UseGivesStored, StoredGivesUse, GrowthKeepsStored, PushKeepsStored, PopKeepsStored, RerunKeepsStored}
 use Rattle.open_graphs.proofs.PathKinds.{through_step, through_push, through_same}

@@ -100,7 +100,7 @@ pub record IsTakenOut (below : List Entry) (top : Entry) (own others : ℕ → B
   pub only : (depth cycle : ℕ) → (after.heads depth).usages cycle ≢ 0 → IsLeftHead (length below) own others depth
 
 -- What a provisional answer is after the pop. One that isn't left stands in no relation: without heads, after a failed path
--- test, or with a result that isn't kept.
+-- test, or with a result that isn't left.
 pub data RebasedBy (reason : Reason) (below : List Entry) (top : Entry) (own others : ℕ → Bool) (top_heads : Heads) : Kept → Kept → Type 0 where
   Stays : {k : Kept} → k.highest ≢ length below → RebasedBy reason below top own others top_heads k k
   NotNeeded :

@@ -1,4 +1,4 @@
-//! Provisional answers: those with heads, which are kept for the next time that their goal is asked.
+//! Provisional entries: answers with heads, for the next time that their goal is asked.
 ghost use Rattle.open_graphs.specs.Words.{FixpointKeepsStored, UseGivesStored, StoredGivesUse, GrowthKeepsStored, PushKeepsStored, PopKeepsStored, RerunKeepsStored, UnreachedHeadKeepsStored, RebaseKeepsStored};
 
 /// An answer may be stored under its highest head and the path kind from there, and be given again

@@ -1,4 +1,4 @@
--- Goals that count down: what settles them, and the sorts of their results.
+-- Goals that count down: what proves and refutes them, and the sorts of their results.
 use Rattle.std.specs.Prelude.{◌≡◌, ◌<◌, ◌-◌, ◌⊎◌, Bool, true, false, List, Option, Some, None, Contains}
 use Rattle.std.proofs.Common.{inl, inr, arith}
 use Rattle.parts_tests.specs.Below.{PathKind, Inductive, Unknown, Coinductive, ForcedAmbiguity, IsNeither, IsCycleResult, Question, IsWithin, Overlap}

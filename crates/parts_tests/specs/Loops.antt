@@ -1,4 +1,4 @@
--- Goals that ask themselves: what settles them, and the sorts of their results.
+-- Goals that ask themselves: what proves and refutes them, and the sorts of their results.
 use Rattle.std.specs.Prelude.{◌≡◌, ℕ, Bool, true, false, List, [], ◌∷◌, Option, Some, None, Contains}
 use Rattle.parts_tests.specs.Below.{PathKind, Inductive, Unknown, Coinductive, ForcedAmbiguity, Begin, Answer, EndedRun, IsNeither, IsCycleResult, Question, IsWithin, Overlap}
 use Rattle.parts_tests.specs.declared.loops.Outcome.{Outcome}
@@ -8,7 +8,7 @@ use Rattle.parts_tests.specs.declared.loops.Outcome.TheVariants.{Yes, No, Maybe,
 abbrev pub its_question : PathKind → Question PathKind
 its_question goal = record { kind = goal; goal = goal }
 
--- a goal is settled, as proved or as refuted, by its only question
+-- a goal is proved, or refuted, by its only question
 abbrev pub Asks : PathKind → List (Question PathKind) → Type 0
 Asks goal questions = Contains questions (its_question goal)
 

@@ -1,4 +1,4 @@
-//! Kept answers for the tests of the provisional cache.
+//! Provisional entries for the tests of the provisional cache.
 ghost use Rattle.std.specs.Prelude.{◌≡◌, ◌≢◌, ◌≤◌, [], All, IfOk};
 ghost use Rattle.parts_tests.specs.Below.{entries_at, PathKind};
 
@@ -10,13 +10,13 @@ use search_parts::parts::{
 use search_parts::path::{PathKind, PathsToNested};
 use std::alloc::Global;
 
-/// The goal whose answers are kept.
+/// The goal that has the entries.
 pub const GOAL: PathKind = PathKind::Unknown;
 
-/// The node of each definite answer that is kept for it.
+/// The node of each entry that is yes or no.
 pub const NODE: NodeId = NodeId(5);
 
-/// An answer that is kept for the goal. It has one head, the first goal on the stack or the second one,
+/// An entry of the goal. It has one head, the first goal on the stack or the second one,
 /// which is reached by coinductive paths.
 #[derive(Clone, Copy, Debug)]
 pub struct Kept {

@@ -1,4 +1,4 @@
-//! Tests of the answers that are kept while goals that they rest on are under evaluation.
+//! Tests of the provisional cache: of answers that rest on goals under evaluation.
 use crate::loops::{Loops, Outcome};
 use search_parts::parts::{
     CycleHeads, HeadUsages, ProvisionalCache, ProvisionalCacheEntry, StackDepth,

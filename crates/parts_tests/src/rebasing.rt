@@ -1,4 +1,4 @@
-//! Tests of what becomes of kept answers when a goal that they rest on is done. It was the second goal on
+//! Tests of how provisional entries are rebased when a goal that they rest on is popped. It was the second goal on
 //! the stack, asked over an inductive step.
 ghost use Rattle.std.specs.Prelude.{◌≡◌, ◌<◌, length, All, IfOk};
 

@@ -1,4 +1,4 @@
-//! Tests of which kept answers are used again, and which are given up when a goal is run again.
+//! Tests of which provisional entries are used, and which are cleared when a goal is rerun.
 use crate::kept::{GOAL, Kept, cache_of, used};
 use crate::loops::{Loops, Outcome};
 use search_parts::context::NoMemory;

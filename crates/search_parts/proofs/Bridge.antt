@@ -1,6 +1,6 @@
 -- From an open graph without heads to a graph of goals: where all that a node reaches has its verdict, and every cycle has
 -- the verdict's kind, the node's goal has a proof graph or a refutation graph. The theory of open graphs knows nodes by
--- their shapes alone. What the graph of goals needs beside them are the runs: each goal is settled by its edges'
+-- their shapes alone. What the graph of goals needs beside them are the runs: each goal is shown by its edges'
 -- questions, which is the delegate's law, and each edge leads to a node of the goal that it asks.
 use Rattle.std.proofs.Common.{◌≡◌, ℕ, zero, max, Bool, true, false, if◌then◌else◌, List, [], ◌∷◌, map, Option, None, Some, option_map, slice_get, reverse, Contains, refl, sym, ◌∙◌, ap, subst}
 use Rattle.std.specs.Option.{IsSome, IsSomeAnd}

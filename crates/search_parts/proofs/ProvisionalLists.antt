@@ -50,7 +50,7 @@ module _ {X I R A T : Type 0} (same : I → I → Bool) where
       ] in
       cases (lookup (same input) lists) (kept input)
 
-  -- a list with one entry more is kept, as the others are
+  -- a list with one entry more is a list of entries, as the others are
   pub kept_with : (old new : Lists I (ProvisionalCacheEntry X I R A T)) (input : I) (entry : ProvisionalCacheEntry X I R A T)
       → entry.heads ≢ [] → AreKept same old → PutsLast same old new input entry → AreKept same new
   kept_with old new input entry heads kept puts = λ other.
@@ -75,7 +75,7 @@ puts_last same old new input entry items w was is updates = λ other.
     ] in
     list_found (same other) new ∙ ap (option_map (λ v. v.items)) (updates other) ∙ cases (same input other)
 
--- a refused growth keeps what is kept, too
+-- a refused growth leaves lists of entries, too
 pub kept_after : {X I R A T E : Type 0} (same : I → I → Bool) (old new : Lists I (ProvisionalCacheEntry X I R A T)) (input : I) (entry : ProvisionalCacheEntry X I R A T)
     → entry.heads ≢ [] → AreKept same old → (r : Result (Unit {0}) E) → OnOk r (PutsLast same old new input entry) → OnErr r (new ≡ old) → AreKept same new
 kept_after {E = E} same old new input entry heads kept r ok err =
@@ -94,7 +94,7 @@ found_at same entries lists input o view found =
     ∙ ap (λ list. unwrap_or list []) (sym (list_found (same input) entries))
     ∙ ap (λ ls. entries_at same ls input) view
 
--- lists are kept where each has an entry and each entry rests on a head
+-- they are lists of entries where each has an entry and each entry rests on a head
 pub kept_from : {X I R A T : Type 0} (same : I → I → Bool) (lists : Lists I (ProvisionalCacheEntry X I R A T))
     → ((input : I) → All (λ e. e.heads ≢ []) (entries_at same lists input)) → ((input : I) → IfSome (lookup (same input) lists) (λ es. es ≢ []))
     → AreKept same lists

@@ -11,7 +11,7 @@ module _ {X I R A T : Type 0} where
     pub is_used : has_usages head.1.usages ≡ true → rebased stack done settle entry ≡ rebased_used stack done settle entry head.1
     is_used some = rw (top, eq-eqb head.0.0 (length stack) at, some) refl
 
-  -- to settle an answer changes no heads
+  -- the change of an entry for a reason leaves its heads
   pub settled_heads : (settlement : Settlement X I R A T) (usages : HeadUsages) (entry after : ProvisionalCacheEntry X I R A T) → settled_by settlement usages entry ≡ Some after → after.heads ≡ entry.heads
   settled_heads Dropped usages entry after is = absurd cc
   settled_heads (Replaced outcome) usages entry after is = cc

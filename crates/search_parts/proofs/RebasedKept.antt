@@ -1,4 +1,4 @@
--- What is left of kept entries are kept entries: each rests on a head.
+-- What rebasing leaves of lists of entries are such lists: each entry rests on a head.
 use Rattle.std.proofs.Common.{◌≡◌, ◌≢◌, ◌≤◌, Bool, true, false, nat_eq, if◌then◌else◌, length, List, [], ◌∷◌, All, Option, Some, None, refl, sym, ap, ◌∙◌, subst}
 use Rattle.std.proofs.lemmas.List.Elements.{All-nil, All-cons, All-head, All-tail}
 use Rattle.std.specs.List.{cons_option, filter_map}
@@ -57,7 +57,7 @@ module _ {X I R A T : Type 0} (stack : List (StackEntry X I R A T)) (done : Stac
         cases (highest entry.heads)
 
   module _ (same : I → I → Bool) (old new : Lists I (ProvisionalCacheEntry X I R A T)) (kept : AreKept same old) where
-    -- kept entries can be rebased where their heads are on the stack or at the place above it
+    -- the entries can be rebased where their heads are on the stack or at the place above it
     pub can_be_rebased : ((input : I) → All (λ entry. All (λ head. head.0.0 ≤ length stack) entry.heads) (entries_at same old input)) → (input : I) → All (CanBeRebased (length stack)) (entries_at same old input)
     can_be_rebased within input = λ k d lt. record { some = heads_at same old input kept k d lt; within = within input k d lt }
 

@@ -1,4 +1,4 @@
--- What is kept of answers that rest on goals on the stack: for each goal a list of entries, the oldest first.
+-- The provisional cache: for each goal a list of its entries, which rest on goals on the stack, the oldest first.
 use Rattle.std.specs.Prelude.{◌≡◌, ◌≢◌, Bool, false, cond, List, [], ◌∷◌, ◌++◌, map, All, Some}
 use Rattle.std.specs.Global.{Vec}
 use Rattle.std.specs.Option.{unwrap_or, IfSome}
@@ -28,11 +28,11 @@ pub record Appends {I E : Type 0} (same : I → I → Bool) (old new : Lists I E
   pub others : (other : I) → same input other ≡ false → entries_at same new other ≡ entries_at same old other
 
 module _ {X I R A T : Type 0} where
-  -- a list that is kept has an entry, and each of its entries rests on a head
+  -- a list has an entry, and each of its entries rests on a head
   pub record IsKept (entries : List (ProvisionalCacheEntry X I R A T)) : Type 0 where
     pub some : entries ≢ []
     pub heads : All (λ entry. entry.heads ≢ []) entries
 
-  -- each goal that is there has a list that is kept
+  -- each goal that is there has such a list
   abbrev pub AreKept : (I → I → Bool) → Lists I (ProvisionalCacheEntry X I R A T) → Type 0
   AreKept same lists = (input : I) → IfSome (lookup (same input) lists) IsKept

@@ -1,4 +1,4 @@
--- The rule by which kept answers are settled when a goal is done and is taken from the stack. It is a function on one entry, which gives
+-- The rule by which provisional entries are rebased when a goal is done and is popped. It is a function on one entry, which gives
 -- what the entry becomes, or `None` where it is dropped. The goal that is done was at the place right above the stack that is left.
 use Rattle.std.specs.Prelude.{◌≢◌, ◌≤◌, ◌-◌, ℕ, Bool, nat_eq, if◌then◌else◌, List, [], length, take, fold, All, Option, Some, None}
 use Rattle.std.specs.List.{list_all}
@@ -59,7 +59,7 @@ module _ {X I R A T : Type 0} where
     abbrev pub rebased_unused : ProvisionalCacheEntry X I R A T → Option (ProvisionalCacheEntry X I R A T)
     rebased_unused entry = from_new_head (record entry { heads = with_unused done.state.heads (but_highest entry.heads) })
 
-    -- and where it did: each cycle must keep its kind, and the result is settled
+    -- and where it did: each cycle must keep its kind, and the reason says what becomes of the result
     abbrev pub rebased_used : (HeadUsages → ProvisionalCacheEntry X I R A T → Option (ProvisionalCacheEntry X I R A T)) → ProvisionalCacheEntry X I R A T → CycleHead → Option (ProvisionalCacheEntry X I R A T)
     rebased_used settle entry head =
         if keeps_kinds entry.path_from_head head.paths_to_head

@@ -1,4 +1,4 @@
--- Which kept answers may be used when their goal is asked again, and which are given up when a goal is run again.
+-- Which provisional entries may be used when their goal is asked again, and which are cleared when a goal is rerun.
 use Rattle.std.specs.Prelude.{ℕ, ◌-◌, nat_lt, nat_eq, Bool, false, not, ◌&&◌, ◌||◌, List, [], length, slice_get}
 use Rattle.std.specs.Option.{option_map, unwrap_or}
 use Rattle.search_parts.specs.Below.{PathKind, CycleHead, StackDepth, Heads, highest, lowest, rank_of, has_usages}

@@ -194,7 +194,7 @@ pub trait Delegate: Sized {
     /// One run of a goal.
     type Frame: Drop;
 
-    /// Whether results are kept while a goal that they rest on is under evaluation.
+    /// Whether answers that rest on goals under evaluation are pushed into the provisional cache, and used.
     const ENABLE_PROVISIONAL_CACHE: bool;
 
     /// The most runs of one goal; 0 allows one, as 1 does.

@@ -14,10 +14,10 @@
 //! | `Stored` | what each stored result is worth |
 //! | `Shapes`, `Definite` | the nodes as the theory of open graphs sees them, and the graph of a definite result |
 //! | `Stack`, `StackIndex`, `Lent` | the goals under evaluation, how they are found and lent |
-//! | `Nested` | the map of goals below |
+//! | `Nested` | the map of nested goals |
 //! | `Decisive` | delegates whose goals are decided where no limit is met |
-//! | `Cycle`, `Provisional` | kinds of the cycles through a goal under evaluation; answers that rest on such goals |
-//! | `Reuse`, `Rebasing`, `Settlement` | which of those answers may be used, and what becomes of them |
+//! | `Cycle`, `Provisional` | kinds of the cycles through a goal under evaluation; the provisional cache |
+//! | `Reuse`, `Rebasing`, `Settlement` | which provisional entries may be used, and how they are rebased |
 #![tactic(auto)]
 
 pub mod context;

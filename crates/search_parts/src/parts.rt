@@ -1,5 +1,5 @@
-//! The parts of a search: the goals under evaluation, how deep they may go, and what is kept of cycles
-//! through them.
+//! The parts of a search: the goals under evaluation, how deep they may go, and what is recorded of
+//! cycles through them.
 
 pub mod depth;
 pub mod nested_goals;

@@ -1,5 +1,4 @@
-//! Worked examples: answers that rest on goals under evaluation, kept in the provisional cache until they can't be right
-//! any more, and what that spares.
+//! Worked examples: provisional entries, which are used until they can't be right any more, and what that spares.
 
 use super::worked;
 use std::alloc::Global;
@@ -132,7 +131,7 @@ without
 A yes 4";
 
 /// The same form, of two questions over one cache: the maybe that is stored of D met overflow at A. By the time that B
-/// asks D, an answer of A is kept which D would use, so that D is worked out again.
+/// asks D, A has a provisional entry which D would use, so that D is worked out again.
 const MEETS_KEPT: &str = "\
 rule A = i:B
 rule B = c:A i:D

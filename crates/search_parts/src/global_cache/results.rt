@@ -1,4 +1,4 @@
-//! The results that are kept of goals: of each goal at most one success, and for each depth at most one
+//! The stored results of goals: of each goal at most one success, and for each depth at most one
 //! result that met overflow.
 ghost use Rattle.std.specs.Prelude.{◌≡◌, ℕ, false, [], IfErr, OnOk, OnErr};
 ghost use Rattle.std.specs.Option.{option_map};

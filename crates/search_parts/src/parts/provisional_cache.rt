@@ -1,4 +1,4 @@
-//! What is kept of answers while goals that they rest on are still under evaluation.
+//! The provisional cache: answers that rest on goals under evaluation.
 ghost use Rattle.std.specs.Prelude.{◌≡◌, ◌≢◌, ◌↔◌, ◌<◌, ◌≤◌, not, [], length, All, IsTrue, IfSome, OnOk, OnErr};
 ghost use Rattle.std.specs.List.{filter, filter_map, find};
 ghost use Rattle.std.specs.Option.{option_copied};
@@ -37,7 +37,7 @@ pub struct ProvisionalCacheEntry<X: Cx> {
     pub node: Option<NodeId>,
 }
 
-/// Why the entries that rest on a goal are settled anew once it is done. Ports `RebaseReason`.
+/// Why a goal is done, by which the entries that rest on it are rebased. Ports `RebaseReason`.
 #[derive(Drop)]
 pub enum RebaseReason<X: Cx> {
     /// No cycle through the goal was used.
@@ -116,7 +116,7 @@ impl<D: Delegate> ProvisionalCache<D> {
         lookup::first_usable(self.entries_of(input), stack, step)
     }
 
-    /// Gives up the entries that rest on the result of the goal at `index`, which is to be run again: those
+    /// Clears the entries that depend on the result of the goal at `index`, which is to be rerun: those
     /// whose highest head is that goal, with usages. The others stay, in order. Takes no memory. Ports
     /// `clear_dependent_provisional_results_for_rerun`.
     pub fn clear_for_rerun(&mut self, index: StackDepth)
@@ -126,7 +126,7 @@ impl<D: Delegate> ProvisionalCache<D> {
         clearing::remove_users(&mut self.lists, index);
     }
 
-    /// Settles the entries that rest on the goal `done`, which was taken from the stack for this reason:
+    /// Rebases the entries that rest on the goal `done`, which was popped for this reason:
     /// each becomes what the rule of `specs/Rebasing.antt` gives, or is dropped, and the others stay, in
     /// order. On a refusal the cache is empty afterwards. Ports `rebase_provisional_cache_entries`.
     pub fn rebase(

@@ -1,4 +1,4 @@
-//! Which entries are given up when a goal is run again.
+//! Which entries are cleared when a goal is rerun.
 ghost use Rattle.std.specs.Prelude.{◌≡◌, ◌≢◌, ◌↔◌, [], not, IfSome, IsTrue};
 ghost use Rattle.std.specs.Map.{lookup};
 ghost use Rattle.std.specs.List.{filter};

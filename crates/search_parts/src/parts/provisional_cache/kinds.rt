@@ -1,4 +1,4 @@
-//! Whether cycles keep their kinds when a goal on them is answered from a kept entry.
+//! Whether cycles keep their kinds when a goal on them is answered by a provisional entry.
 ghost use Rattle.std.specs.Prelude.{◌≡◌, ◌<◌, length, All};
 ghost use Rattle.std.specs.List.{list_all};
 ghost use Rattle.search_parts.specs.Below.{kinds_in};
