@@ -42,6 +42,8 @@ impl<'a, D: Delegate> NestedTest<D::Cx> for OverStack<'a, D> {
         if nested_goals.is_empty() {
             return true;
         }
+        // The stack is walked, and not the map: no more goals are on it than the root depth and one, while the
+        // map may hold any number.
         let on_stack = self
             .stack
             .iter()
@@ -70,6 +72,8 @@ impl<'a, D: Delegate> OverStack<'a, D> {
         requires on_stack { IfSome (highest entry.now.heads) (λ head. head.0.0 < length self.now.stack) }
         ensures { result ≡ could_be_used self.now paths entry.now }
     {
+        // An entry that met overflow is used only for a goal of the same cycle, which a goal below a stored
+        // result is not.
         if entry.encountered_overflow {
             return false;
         }

@@ -29,6 +29,9 @@ pub(crate) fn settle_node<D: Delegate>(
     if let Verdict::Neither = verdict {
         return Ok(None);
     }
+    // The node of the last run will not do: its cycles were answered by the provisional result and lead to that
+    // result's node, and with an edge from the last run's node to itself a walk could close over a step of another
+    // kind than the cycle was answered for.
     if says_again(cache.cx(), state.provisional_result, verdict) {
         return Ok(state.node);
     }

@@ -46,6 +46,8 @@ impl<D: Delegate> Evaluation<D> {
         let input = entry.input();
         let node = settle_node::<D>(cache, &entry.state, own_node, progress, outcome)?;
         entry.state.heads.are_rising();
+        // First the entries are rebased, since the goal's own entry must not be rebased over the goal itself;
+        // the answer is moved into the cache last.
         let stack = self.goals.stack();
         rebase_entries::<D>(&mut self.provisional, cache.cx(), &entry, stack, reason)?;
         let answer = EvaluationResult::finalize(entry, encountered_overflow, outcome, node);

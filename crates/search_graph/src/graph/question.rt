@@ -40,6 +40,8 @@ impl<D: Delegate> Evaluation<D> {
         ensures keeps { KeepsCache D.Cx.Input.eq cache.old cache.new }
     {
         let cx = cache.cx();
+        // A question is refused before anything is looked up: whether a search is too deep must not depend on
+        // what the cache happens to hold.
         let Some(depth) = self.allowed_depth() else {
             self.goals.note_overflow()?;
             self.limits_met = true;
@@ -47,6 +49,8 @@ impl<D: Delegate> Evaluation<D> {
             return Ok(Received::without_node(Reply::Answer(answer)));
         };
         let stack = self.goals.stack();
+        // Entries come before stored results, so that the test of a stored result's nested goals need not think
+        // of a goal that has both.
         if let Some(entry) = look_up_entry::<D>(&self.provisional, stack, kind, input) {
             self.goals.note_kept(kind, entry)?;
             return Ok(Received {
@@ -89,6 +93,8 @@ impl<D: Delegate> Evaluation<D> {
         let state = &self.goals.stack()[head].state;
         let node = state.node;
         let outcome = cycle_result::<D>(cx, state.provisional_result, kind, input);
+        // The head is noted before the frame gets its answer: its next request may end the candidate or the
+        // run, and both have to count it.
         self.goals.note_cycle(step, input, head, kind)?;
         Ok(Received {
             reply: Reply::Answer(outcome),

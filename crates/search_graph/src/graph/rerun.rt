@@ -28,6 +28,8 @@ impl<D: Delegate> Evaluation<D> {
         ensures at_most { D.starts inspect.new ≤ D.starts inspect.old + 1 }
         ensures counted { D.counts ≡ true → OnOk result (CountsOne D.last (D.starts inspect.old) (D.starts inspect.new)) }
     {
+        // Entries that used the goal's result go, since that is another one now. Those that merely have the goal as a
+        // head stay: they are rebased when it is done.
         self.provisional
             .clear_for_rerun(StackDepth::new(self.goals.len() - 1));
         let progress = self.goals.take_progress();
@@ -39,6 +41,7 @@ impl<D: Delegate> Evaluation<D> {
         );
         let frame = D::start(cache.cx(), input, inspect)?;
         let own_node = cache.open_node(input)?;
+        // The goal stays on the stack: its entry has the step, depths, heads and nested goals of all its runs.
         self.goals.run_again(outcome, node, frame, own_node);
         Ok(())
     }

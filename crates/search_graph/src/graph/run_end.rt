@@ -69,6 +69,8 @@ fn end_of_run<D: Delegate>(
     ensures is_end { IsRunEnd D.Cx.Result.eq D.initial_kind D.ambiguity D.FIXPOINT_STEP_LIMIT state.now.provisional_result state.now.usages finished_runs outcome result }
     ensures fits { result ≡ Err Again → finished_runs + 1 < 2 ^ 64 }
 {
+    // A goal to which no cycle led is no head, so no entry rests on it, and a further run would see no other
+    // provisional result.
     let Some(usages) = state.usages else {
         return Ok(None);
     };
@@ -76,6 +78,7 @@ fn end_of_run<D: Delegate>(
     if let Some(reason) = stable {
         return Ok(Some(reason));
     }
+    // This run is one of the most runs, so a limit of 0 allows one run, as a limit of 1 does.
     if finished_runs < D::FIXPOINT_STEP_LIMIT.saturating_sub(1) {
         Err(Unstable::Again)
     } else {
@@ -92,6 +95,8 @@ fn stable_reason<D: Delegate>(
     ensures reason { IfSome result (IsReason D.Cx.Result.eq D.initial_kind D.ambiguity provisional_result usages outcome) }
     ensures unstable { result ≡ None → IsStable D.Cx.Result.eq D.initial_kind D.ambiguity provisional_result usages outcome → ⊥ }
 {
+    // The first reason wins, since entries are rebased by it: at a fixpoint those that used the goal are right
+    // as they are, and any other reason would drop or change them.
     if reached_fixpoint::<D>(provisional_result, usages, outcome) {
         let kind = initial_kind::<D>(provisional_result, outcome);
         return Some(RebaseReason::ReachedFixpoint(kind));
@@ -99,6 +104,8 @@ fn stable_reason<D: Delegate>(
     if usages.is_empty() {
         return Some(RebaseReason::NoCycleUsages);
     }
+    // An ambiguous goal isn't run again: to answer ambiguous is always right, and reruns of ambiguous goals
+    // below each other cost more and more.
     match D::is_ambiguous_result(outcome) {
         Some(info) => Some(RebaseReason::Ambiguity(info)),
         None => None,

@@ -33,6 +33,7 @@ impl<D: Delegate> Evaluation<D> {
         ensures plain { (n : ℕ) → IsPlainTo (D.script cache.old.cx) n input → place_of answer ≡ Success →
             IfErr result (λ fault. fault ≡ Memory) }
     {
+        // An answer with heads rests on provisional results of goals under evaluation, which may still change.
         let Some(head) = answer.heads.opt_highest_cycle_head_index() else {
             return store_for_good::<D>(cache, input, answer);
         };
@@ -45,7 +46,8 @@ impl<D: Delegate> Evaluation<D> {
 }
 
 /// Makes a provisional entry of the answer of a goal that is done, which was asked over the step and rests on the
-/// goal at `head` and perhaps on others below that. Ports `SearchGraph::insert_provisional_cache`.
+/// goal at `head` and perhaps on others below that. Ports a part of
+/// `SearchGraph::evaluate_goal`.
 fn insert_entry<D: Delegate>(
     provisional: &mut ProvisionalCache<D>,
     stack: &Stack<D::Cx>,
