@@ -9,8 +9,8 @@ use Rattle.search_graph.proofs.CycleAnswers.{cycle_fits, cycle_head_lower, head_
 use Rattle.search_graph.proofs.Finishing.{answered_newest_is_justified, overflow_noted_is_justified, pushed_goal_is_justified, stored_taken_same, neither_is, neither_fits, begin_fits}
 use Rattle.search_graph.proofs.FreeMoves.{answered_newest_free, overflow_noted_free, stored_fits, stored_taken_free}
 use Rattle.search_graph.proofs.FreeResults.{all_free_pushed_goal}
-use Rattle.search_graph.proofs.KeptQuestions.{kept_is_one, kept_path_is, entry_taken_justified, entry_fits}
-use Rattle.search_graph.proofs.Questions.{ask_kept, ask_stored, ask_refused, ask_in_cycle, ask_pushes, ask_stops}
+use Rattle.search_graph.proofs.ProvisionalQuestions.{entry_is_one, entry_path_is, entry_taken_justified, entry_fits}
+use Rattle.search_graph.proofs.Questions.{ask_provisional, ask_stored, ask_refused, ask_in_cycle, ask_pushes, ask_stops}
 use Rattle.search_graph.proofs.ReadyMoves.{ready_beside, overflow_noted_ready, ready_pushed_goal, stored_taken_ready}
 
 module _ {D C V P F I R A T : Type 0} (G : DelegateOf D C V P F I R A T) (X : CxOf C I R A T) (same : I → I → Bool) (cx : C) (kind : PathKind) (goal : I) (old : Cache C I R A T) (e : Evaluation D C V P F I R A T) (starts : ℕ) where
@@ -26,10 +26,10 @@ module _ {D C V P F I R A T : Type 0} (G : DelegateOf D C V P F I R A T) (X : Cx
     answers = record { store = record { overflow = λ counted unmet. absurd cc; definite = λ d unmet. absurd cc }; met_none = λ counted unmet. absurd cc; definite = λ d unmet. absurd cc };
   }
   asked_goes_on more exact sorts received new after later (ByEntry depth entry goals at is takes) ready call ahead h =
-      let one = kept_is_one same (asking G X same cx kind goal e) goal entry G.ENABLE_PROVISIONAL_CACHE is in
+      let one = entry_is_one same (asking G X same cx kind goal e) goal entry G.ENABLE_PROVISIONAL_CACHE is in
       record {
         goes_on =
-            ask_kept G X cx call ahead kind goal starts e.limits_met more depth entry.result entry.encountered_overflow entry.heads e.goals goals at
+            ask_provisional G X cx call ahead kind goal starts e.limits_met more depth entry.result entry.encountered_overflow entry.heads e.goals goals at
             (one (IsReady X.is_yes X.is_no (G.script cx) old.nodes (runs_of e.goals) goal) (ready goal)).no_rank
             (λ counted unmet. one (λ entry. entry.encountered_overflow ≡ false) (h.answers.met_none counted unmet goal))
             (λ decisive unmet. one (λ entry. IsDefinite X.is_yes X.is_no entry.result) (h.answers.definite decisive unmet goal))
@@ -99,7 +99,7 @@ module _ {D C V P F I R A T : Type 0} (G : DelegateOf D C V P F I R A T) (X : Cx
     fits = neither_fits X.is_yes X.is_no old.nodes (runs_of goals) (G.stack_overflow cx goal) None (neither_is X.is_yes X.is_no (G.stack_overflow cx goal) (neither cx goal));
   }
   asked_right neither sorts received new after later (ByEntry depth entry goals at is takes) asks h =
-      let ready = kept_is_one same (asking G X same cx kind goal e) goal entry G.ENABLE_PROVISIONAL_CACHE is (IsReady X.is_yes X.is_no (G.script cx) old.nodes (runs_of e.goals) goal) (h.ready goal) in
+      let ready = entry_is_one same (asking G X same cx kind goal e) goal entry G.ENABLE_PROVISIONAL_CACHE is (IsReady X.is_yes X.is_no (G.script cx) old.nodes (runs_of e.goals) goal) (h.ready goal) in
       record {
         right = record {
           justified = entry_taken_justified X.is_yes X.is_no (G.script cx) old.nodes e.goals goals kind goal entry takes h.justified ready;
@@ -107,7 +107,7 @@ module _ {D C V P F I R A T : Type 0} (G : DelegateOf D C V P F I R A T) (X : Cx
           ready = ready_beside X.is_yes X.is_no same (G.script cx) old.nodes e.provisional e.goals goals kind 0 _ _ takes h.ready;
         };
         fits = entry_fits X.is_yes X.is_no (G.script cx) old.nodes e.goals goals kind goal entry takes h.justified ready asks
-            (kept_path_is same (asking G X same cx kind goal e) goal entry G.ENABLE_PROVISIONAL_CACHE is);
+            (entry_path_is same (asking G X same cx kind goal e) goal entry G.ENABLE_PROVISIONAL_CACHE is);
       }
   asked_right neither sorts received new after later (ByStored depth hit goals at none is takes usable) asks h = record {
     right = record {

@@ -8,7 +8,7 @@ use Rattle.search_graph.specs.Words.{AreFree, AreJustified, AreReady, Asks, Awai
 use Rattle.search_graph.proofs.Asking.{pushed_right}
 use Rattle.search_graph.proofs.FreeResults.{all_free_nothing}
 use Rattle.search_graph.proofs.Justified.{nothing_is_justified}
-use Rattle.search_graph.proofs.KeptEntries.{nothing_kept}
+use Rattle.search_graph.proofs.EntriesSaid.{no_entries}
 use Rattle.search_graph.proofs.Loops.{first_stopped, first_waits}
 use Rattle.search_graph.proofs.Ready.{none_ready}
 
@@ -49,5 +49,5 @@ module _ {D C V P F I R A T : Type 0} (G : DelegateOf D C V P F I R A T) (X : Cx
         → Awaits G X same cx call (record { reply = Begin; node = None }) (record old { nodes = nodes }) (record e { goals = goals }) later
     begins_waiting starts later one counted call begins = record {
       waiting = first_waits G X cx goal kind depth starts later e.limits_met old.nodes nodes goals one counted (subst (λ gs. Pushes G X cx goal kind depth old.nodes nodes gs goals) is_new.no_goals pushes) call begins.outset;
-      answers = subst (KeepsAnswers G X cx same call e.limits_met old.results) (sym is_new.no_entries) (nothing_kept G X cx call same old.results e.limits_met begins.store);
+      answers = subst (KeepsAnswers G X cx same call e.limits_met old.results) (sym is_new.no_entries) (no_entries G X cx call same old.results e.limits_met begins.store);
     }

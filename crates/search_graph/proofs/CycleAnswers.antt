@@ -15,7 +15,7 @@ use Rattle.open_graphs.proofs.Lists.{get_cases}
 use Rattle.cycle_heads.proofs.HeadLists.{at_depth-first, at_depth-rest}
 use Rattle.cycle_heads.proofs.HeadShapes.{IsIn, in_head}
 use Rattle.cycle_heads.proofs.PathRanks.{greater_rank}
-use Rattle.search_graph.specs.Words.{OpenRun, Asks, AreJustified, MayAnswer, IsFit, asked_now, frame_of, frames_of, leads_to, LeadHome, run_of, runs_of, heads_of, tally_of, LieBelow}
+use Rattle.search_graph.specs.Words.{OpenRun, Asks, AreJustified, MayAnswer, IsFit, asked_now, frame_of, frames_of, cycles_node, LeadHome, run_of, runs_of, heads_of, tally_of, LieBelow}
 use Rattle.search_graph.proofs.Finishing.{answer_fits, heads_come, same_run}
 use Rattle.search_graph.proofs.Justified.{stack_length}
 
@@ -178,7 +178,7 @@ module _ {X F I R A T : Type 0} (is_yes is_no : R → Bool) (nodes : List (Cache
       subst (λ p. Recorded counts_now head.0 p (rank_of kind)) twice
       (heads_come is_yes is_no nodes step 0 false ((head, cycle_head step kind) ∷ []) old new a head_lower h head.0 (rank_of step) (rank_of kind) lower (cycle_recorded step kind head))
 
-  answered : verdict_of is_yes is_no (unwrap_or e.state.provisional_result initial) ≢ theory.Neither → IsAnswered (shapes_of is_yes is_no nodes) (verdict_of is_yes is_no (unwrap_or e.state.provisional_result initial)) (stack_of (frames_of is_yes is_no (runs_of a.below))) (frame_of is_yes is_no (run_of (a.entry, a.run))).entry (record { kind = rank_of step; target = leads_to (run_of (e, there.run)) }) counts_now
+  answered : verdict_of is_yes is_no (unwrap_or e.state.provisional_result initial) ≢ theory.Neither → IsAnswered (shapes_of is_yes is_no nodes) (verdict_of is_yes is_no (unwrap_or e.state.provisional_result initial)) (stack_of (frames_of is_yes is_no (runs_of a.below))) (frame_of is_yes is_no (run_of (a.entry, a.run))).entry (record { kind = rank_of step; target = cycles_node (run_of (e, there.run)) }) counts_now
   answered definite =
       let many : length (stack_of (frames_of is_yes is_no (runs_of a.below))) ≡ length a.below = stack_length is_yes is_no (runs_of a.below) ∙ length-map a.below run_of in
       cycle_is_answered (shapes_of is_yes is_no nodes) (verdict_of is_yes is_no (unwrap_or e.state.provisional_result initial)) (stack_of (frames_of is_yes is_no (runs_of a.below))) (frame_of is_yes is_no (run_of (a.entry, a.run))).entry head.0 (entry_of is_yes is_no (e, there.run)) (rank_of step) counts_now

@@ -1,10 +1,10 @@
 -- The newest goal is done: its answer is given to the goal below it, and stored where it has no heads.
 use Rattle.std.proofs.Common.{◌≡◌, ◌≢◌, ◌||◌, Bool, true, List, [], ◌∷◌, length, Option, refl, sym, ap, ◌∙◌, subst, arith}
 use Rattle.search_graph.specs.Below.{NodeId, Answer, PathKind, StoredResult, EvaluationResult, StackEntry, CacheNode, Store, Run, Next, Step, Finished, AnswersNewest}
-use Rattle.search_graph.specs.Words.{AreFree, AreJustified, GivesAnswer, Leaves, final_answer, StoresAnswer, MayPutNewest, place_of_item, runs_of, IsSettled, IsJustifiedNext}
+use Rattle.search_graph.specs.Words.{AreFree, AreJustified, GivesAnswer, Leaves, final_answer, StoresAnswer, MayPutNewest, place_of_item, runs_of, HasResultNode, IsJustifiedNext}
 use Rattle.search_graph.proofs.FreeMoves.{answered_newest_free}
 use Rattle.search_graph.proofs.FreeResults.{all_free_stored}
-use Rattle.search_graph.proofs.RunsEnd.{finished_justified, headless_is_free, leaves_step, step_justified, stored_stay_free}
+use Rattle.search_graph.proofs.FinishedRuns.{finished_justified, headless_is_free, leaves_step, step_justified, stored_stay_free}
 use Rattle.search_graph.proofs.Storing.{stored_result}
 
 module _ {X F I R A T : Type 0} (step : PathKind) (answer : EvaluationResult X I R A T) where
@@ -16,7 +16,7 @@ module _ {X F I R A T : Type 0} (step : PathKind) (answer : EvaluationResult X I
   given_to_newest [] new some a = absurd (some refl)
   given_to_newest (p ∷ below) new some a = (refl, a)
 
-module _ {X F I R A T : Type 0} (is_yes is_no : R → Bool) (before after : List (CacheNode I R)) (old : List (StackEntry X I R A T × Run X F I R A T)) (entry : StackEntry X I R A T) (run : Run X F I R A T) (rest : List (StackEntry X I R A T × Run X F I R A T)) (was : old ≡ (entry, run) ∷ rest) (r : R) (target : Option NodeId) (h : AreJustified is_yes is_no before (runs_of old)) (settled : IsSettled is_yes is_no before after entry.state.provisional_result run.node entry.state.node run.progress r target) where
+module _ {X F I R A T : Type 0} (is_yes is_no : R → Bool) (before after : List (CacheNode I R)) (old : List (StackEntry X I R A T × Run X F I R A T)) (entry : StackEntry X I R A T) (run : Run X F I R A T) (rest : List (StackEntry X I R A T × Run X F I R A T)) (was : old ≡ (entry, run) ∷ rest) (r : R) (target : Option NodeId) (h : AreJustified is_yes is_no before (runs_of old)) (settled : HasResultNode is_yes is_no before after entry.state.provisional_result run.node entry.state.node run.progress r target) where
   some_below : (p : StackEntry X I R A T × Run X F I R A T) (below : List (StackEntry X I R A T × Run X F I R A T)) → rest ≡ p ∷ below → length rest ≢ 0
   some_below p below is none = omega (arith, ap length is, none)
 

@@ -5,10 +5,10 @@ use Rattle.std.proofs.lemmas.List.{length-map}
 use Rattle.std.proofs.lemmas.Option.{slice_get_within, get_or_from_slice_get, slice_get-get_or}
 use Rattle.open_graphs.specs.Graph as theory
 use Rattle.search_graph.specs.Below.{PathKind, Verdict, Yes, No, Neither, Edge, NodeId, Request, Reply, Begin, Answer, Noted, AvailableDepth, StackEntry, IsNeither, question_of, EndsIn, progress_after, questions_answered, EndedRun, CacheNode, open_node, open_goal, with_run, IsNodeOf, IsRun, verdict_of, Run, DefiniteAnswer, NotesOverflow, TakesStored, Hit, first_entry, usages_over, with_depth, with_nested_goals, TakesAnswer, AnswersNewest, RunRecord, acted, answered, no_record, edges_of, is_kept, IsDefinite, Heads, at_depth, heads_shape, rank_of, UsagesByHead, StackDepth, EntryState, Evaluate, TakesIn}
-use Rattle.search_graph.specs.Words.{tally_of, heads_of, IsTallied, LieBelow, OpenRun, in_theory, AreEdges, Asks, HasTally, AreJustified, MayAnswer, IsFit, asked_now, run_of, runs_of, EndsNewest, EndsRun, IsSettled, Ended, LeftOpen}
+use Rattle.search_graph.specs.Words.{tally_of, heads_of, IsTallied, LieBelow, OpenRun, verdict_shape, AreEdges, Asks, HasTally, AreJustified, MayAnswer, IsFit, asked_now, run_of, runs_of, EndsNewest, EndsRun, HasResultNode, Ended, LeftOpen}
 use Rattle.search_graph.proofs.TakenTallies.{taken_tallied, taken_keeps, taken_comes_in}
 use Rattle.search_graph.specs.Runs.{Again}
-use Rattle.search_graph.proofs.Justified.{Settles, pushed_is_justified, recounted_is_justified, again_settles, neither_settles, ended_settles}
+use Rattle.search_graph.proofs.Justified.{EndsWithNode, pushed_is_justified, recounted_is_justified, again_ends, neither_ends, anew_ends}
 use Rattle.search_graph.proofs.ProgressEdges.{yes_edges_are, no_edges_are, edge_is_of_answer}
 use Rattle.search_graph.proofs.Replies.{verdict_is, in_theory_definite}
 
@@ -154,17 +154,17 @@ module _ {I R : Type 0} (is_yes is_no : R → Bool) (scripts : I → List (Reply
   open_for_run = subst (λ o. IsSomeAnd o (λ goal. IsRun is_yes is_no (scripts goal) nodes (record { replies = p.replies; edges = edges_of p v; outcome = r }))) (sym h.is_open) is_run
 
   -- a definite result settles the node
-  pub settled : v ≢ Neither → (earlier : Option R) (lead : Option NodeId) → (option_map (verdict_of is_yes is_no) earlier ≡ Some (in_theory v) → ⊥) → (after : List (CacheNode I R)) → after ≡ with_run nodes node.0 (record { replies = p.replies; edges = edges_of p v; outcome = r }) → IsSettled is_yes is_no nodes after earlier node lead p r (Some node)
+  pub settled : v ≢ Neither → (earlier : Option R) (lead : Option NodeId) → (option_map (verdict_of is_yes is_no) earlier ≡ Some (verdict_shape v) → ⊥) → (after : List (CacheNode I R)) → after ≡ with_run nodes node.0 (record { replies = p.replies; edges = edges_of p v; outcome = r }) → HasResultNode is_yes is_no nodes after earlier node lead p r (Some node)
   settled definite earlier lead anew after is =
-      let same : in_theory v ≡ verdict_of is_yes is_no r = verdict_is is_yes is_no r v holds fails definite in
+      let same : verdict_shape v ≡ verdict_of is_yes is_no r = verdict_is is_yes is_no r v holds fails definite in
       Ended (record { replies = p.replies; edges = edges_of p v; outcome = r }) refl (h.ends.on_record.request_is ∙ h.ends.is_done) (λ e. in_theory_definite v definite (same ∙ e)) (λ says. anew (says ∙ ap Some (sym same))) is
-      (λ i e at. let w = edge_placed i e at in (w.0, w.1, w.2, w.3, ap in_theory w.4 ∙ same, w.5))
+      (λ i e at. let w = edge_placed i e at in (w.0, w.1, w.2, w.3, ap verdict_shape w.4 ∙ same, w.5))
 
 module _ {I R : Type 0} (is_yes is_no : R → Bool) (nodes : List (CacheNode I R)) (earlier : Option R) (node : NodeId) (lead : Option NodeId) (p : RunRecord I R) (r : R) (v : Verdict) (holds : (v ≡ Yes) ↔ IsTrue (is_yes r)) (fails : (v ≡ No) ↔ IsTrue (is_no r)) where
   -- one that says what the provisional result said has that one's node
-  pub again : v ≢ Neither → option_map (verdict_of is_yes is_no) earlier ≡ Some (in_theory v) → IsSettled is_yes is_no nodes nodes earlier node lead p r lead
+  pub again : v ≢ Neither → option_map (verdict_of is_yes is_no) earlier ≡ Some (verdict_shape v) → HasResultNode is_yes is_no nodes nodes earlier node lead p r lead
   again definite says =
-      let same : in_theory v ≡ verdict_of is_yes is_no r = verdict_is is_yes is_no r v holds fails definite in
+      let same : verdict_shape v ≡ verdict_of is_yes is_no r = verdict_is is_yes is_no r v holds fails definite in
       Again (λ e. in_theory_definite v definite (same ∙ e)) (says ∙ ap Some same) refl
 
   not_true : (b : Bool) → (IsTrue b → ⊥) → b ≡ false
@@ -178,7 +178,7 @@ module _ {I R : Type 0} (is_yes is_no : R → Bool) (nodes : List (CacheNode I R
   neither_is_no_no is also = let e : Neither ≡ No = sym is ∙ also in cc
 
   -- any other leaves it open
-  pub left_open : v ≡ Neither → IsSettled is_yes is_no nodes nodes earlier node lead p r None
+  pub left_open : v ≡ Neither → HasResultNode is_yes is_no nodes nodes earlier node lead p r None
   left_open is = LeftOpen (neither_at (is_yes r) (is_no r) (not_true (is_yes r) (λ t. neither_is_no_yes is (holds.1 t))) (not_true (is_no r) (λ t. neither_is_no_no is (fails.1 t)))) refl
 
   -- where the result is definite, so is its verdict
@@ -191,18 +191,18 @@ module _ {X F I R A T : Type 0} (is_yes is_no : R → Bool) (before after : List
   pub ends_run : (scripts : I → List (Reply R) → Request I R) (r : R) → EndsNewest is_yes is_no scripts ((entry, run) ∷ below) r → EndsRun is_yes is_no scripts before run.node run.progress r
   ends_run scripts r ends = record { goal = entry.input; is_open = h.are_open.0; ends = ends; placed = h.placed.0 }
 
-  pub settles : (r : R) (target : Option NodeId) → IsSettled is_yes is_no before after entry.state.provisional_result run.node entry.state.node run.progress r target → Settles is_yes is_no before after (run_of (entry, run)) (runs_of below) r target
-  settles r target (Again definite says is) =
-      subst (λ l. Settles is_yes is_no before l (run_of (entry, run)) (runs_of below) r entry.state.node) (sym is)
-      (again_settles is_yes is_no before (run_of (entry, run)) (runs_of below) h r definite says)
-  settles r target (Ended ended outcome done definite anew is edges) =
-      subst (λ l. Settles is_yes is_no before l (run_of (entry, run)) (runs_of below) r (Some run.node)) (sym is)
-      (subst (λ x. Settles is_yes is_no before (with_run before run.node.0 ended) (run_of (entry, run)) (runs_of below) x (Some run.node)) outcome
-      (ended_settles is_yes is_no before (run_of (entry, run)) (runs_of below) h run.node refl ended
+  pub rebases : (r : R) (target : Option NodeId) → HasResultNode is_yes is_no before after entry.state.provisional_result run.node entry.state.node run.progress r target → EndsWithNode is_yes is_no before after (run_of (entry, run)) (runs_of below) r target
+  rebases r target (Again definite says is) =
+      subst (λ l. EndsWithNode is_yes is_no before l (run_of (entry, run)) (runs_of below) r entry.state.node) (sym is)
+      (again_ends is_yes is_no before (run_of (entry, run)) (runs_of below) h r definite says)
+  rebases r target (Ended ended outcome done definite anew is edges) =
+      subst (λ l. EndsWithNode is_yes is_no before l (run_of (entry, run)) (runs_of below) r (Some run.node)) (sym is)
+      (subst (λ x. EndsWithNode is_yes is_no before (with_run before run.node.0 ended) (run_of (entry, run)) (runs_of below) x (Some run.node)) outcome
+      (anew_ends is_yes is_no before (run_of (entry, run)) (runs_of below) h run.node refl ended
       (λ e. definite (ap (verdict_of is_yes is_no) (sym outcome) ∙ e))
       (λ says. anew (says ∙ ap (λ x. Some (verdict_of is_yes is_no x)) outcome))
       (subst (λ x. AreEdges run.progress.answers (acted run.progress).ignored (verdict_of is_yes is_no x) ended.edges) (sym outcome)
       (subst (λ ignored. AreEdges run.progress.answers ignored (verdict_of is_yes is_no r) ended.edges) (sym (ap (λ q. (answered run.progress q Neither None).ignored) done)) edges))))
-  settles r target (LeftOpen neither is) =
-      subst (λ l. Settles is_yes is_no before l (run_of (entry, run)) (runs_of below) r None) (sym is)
-      (neither_settles is_yes is_no before (run_of (entry, run)) (runs_of below) h r neither)
+  rebases r target (LeftOpen neither is) =
+      subst (λ l. EndsWithNode is_yes is_no before l (run_of (entry, run)) (runs_of below) r None) (sym is)
+      (neither_ends is_yes is_no before (run_of (entry, run)) (runs_of below) h r neither)

@@ -12,7 +12,7 @@ use Rattle.open_graphs.proofs.Asked.{final_is_answered}
 use Rattle.search_parts.proofs.Definites.{IsSomeAnd-weaker}
 use Rattle.search_parts.proofs.Nodes.{KeepsGoals-appended}
 use Rattle.search_graph.specs.Words.{OpenRun, frame_of, frames_of, Asks, AreJustified, MayAnswer, asked_now, heads_of, IsFree}
-use Rattle.search_graph.proofs.Justified.{new_run, no_tally, tally_again, shapes_opened, Settles, popped, used_at, lead_is, leads_there, no_answers}
+use Rattle.search_graph.proofs.Justified.{new_run, no_tally, tally_again, shapes_opened, EndsWithNode, popped, used_at, lead_is, leads_there, no_answers}
 
 -- ---- one final answer beside a sound state
 
@@ -95,19 +95,19 @@ module _ {I R : Type 0} (is_yes is_no : R → Bool) where
 
 -- ---- the newest goal's run is settled
 
-module _ {I R : Type 0} (is_yes is_no : R → Bool) (nodes after : List (CacheNode I R)) (o : OpenRun I R) (below : List (OpenRun I R)) (h : AreJustified is_yes is_no nodes (o ∷ below)) (r : R) (target : Option NodeId) (s : Settles is_yes is_no nodes after o below r target) where
+module _ {I R : Type 0} (is_yes is_no : R → Bool) (nodes after : List (CacheNode I R)) (o : OpenRun I R) (below : List (OpenRun I R)) (h : AreJustified is_yes is_no nodes (o ∷ below)) (r : R) (target : Option NodeId) (s : EndsWithNode is_yes is_no nodes after o below r target) where
   -- the frame of the run, with the edges that its result rests on
   abbrev last_frame : Frame
   last_frame = answering (frame_of is_yes is_no o) s.edges (heads_shape o.tally.heads)
 
-  settled_final : (verdict : theory.Verdict) (n : ℕ) → IsUsedFree is_yes is_no nodes (o ∷ below) verdict n → IsSound (shapes_of is_yes is_no nodes) (last_frame ∷ frames_of is_yes is_no below) [] (only verdict n)
-  settled_final verdict n used = with_final (shapes_of is_yes is_no nodes) (last_frame ∷ frames_of is_yes is_no below) verdict n s.sound used
+  final_graph : (verdict : theory.Verdict) (n : ℕ) → IsUsedFree is_yes is_no nodes (o ∷ below) verdict n → IsSound (shapes_of is_yes is_no nodes) (last_frame ∷ frames_of is_yes is_no below) [] (only verdict n)
+  final_graph verdict n used = with_final (shapes_of is_yes is_no nodes) (last_frame ∷ frames_of is_yes is_no below) verdict n s.sound used
 
   popped_use : (verdict : theory.Verdict) (n : ℕ) → IsUsedFree is_yes is_no nodes (o ∷ below) verdict n → IsUsedFree is_yes is_no after below verdict n
   popped_use verdict n used =
       final_use (shapes_of is_yes is_no after) (frames_of is_yes is_no below) verdict n
       (pop_keeps_sound (shapes_of is_yes is_no nodes) last_frame (frames_of is_yes is_no below) [] [] (only verdict n) (only verdict n) (verdict_of is_yes is_no r) (shapes_of is_yes is_no after) s.place s.answered
-      (λ i k is. absurd (no_answers i k is)) (λ i x is. Before i is) (settled_final verdict n used)).0
+      (λ i k is. absurd (no_answers i k is)) (λ i x is. Before i is) (final_graph verdict n used)).0
 
   -- the goal is taken
   pub free_popped : (other : I) (found : R) (at : Option NodeId) → IsFree is_yes is_no nodes (o ∷ below) other found at → IsFree is_yes is_no after below other found at
@@ -138,7 +138,7 @@ module _ {I R : Type 0} (is_yes is_no : R → Bool) (nodes after : List (CacheNo
         let frames : List Frame = frames_of is_yes is_no below in
         let again =
         rerun_keeps_sound (shapes_of is_yes is_no nodes) last_frame frames [] [] (only verdict n) v (shapes_of is_yes is_no after) s.place s.answered
-        (λ i k is. absurd (no_answers i k is)) (settled_final verdict n used) in
+        (λ i k is. absurd (no_answers i k is)) (final_graph verdict n used) in
         let lead = leads_there is_yes is_no nodes after o below h r target s own at (option_or target o.cycles_lead) (lead_is is_yes is_no nodes after o below h r target s) in
         subst (λ more. Use more verdict (stack_of (frames_of is_yes is_no next_goals)) (λ depth. 0) 0 n no_heads) (sym (shapes_opened is_yes is_no after o.goal))
         (subst (λ p. Use (shapes_of is_yes is_no after ++ theory.Unfinished ∷ []) verdict (stack_of (next_frame (frame_of is_yes is_no o) v p own.0 ∷ frames)) (λ depth. 0) 0 n no_heads) (sym lead)

@@ -4,8 +4,8 @@ use Rattle.std.specs.Option.{option_or}
 use Rattle.search_graph.specs.Below.{stack_of, PathKind, NodeId, Request, Reply, StoredResult, AvailableDepth, EvaluationResult, StackEntry, CacheNode, open_node, Store, stored_at, place_of, stored_from, AreKept, Run, first_entry, no_record}
 use Rattle.search_parts.proofs.Stores.{put_cases}
 use Rattle.search_graph.specs.Words.{IsFree, AreFree, OpenRun, frames_of, Asks, AreJustified, StoresAnswer, Put, runs_of}
-use Rattle.search_graph.specs.Results.{Kept}
-use Rattle.search_graph.proofs.Justified.{new_run, no_tally, tally_again, Settles}
+use Rattle.search_graph.specs.Results.{NotStored}
+use Rattle.search_graph.proofs.Justified.{new_run, no_tally, tally_again, EndsWithNode}
 use Rattle.search_graph.proofs.Free.{free_nothing, free_pushed, free_popped, free_rerun, free_same, free_above}
 
 -- the goal that was asked is pushed, as an item
@@ -32,7 +32,7 @@ module _ {X I R A T : Type 0} (is_yes is_no : R → Bool) (same : I → I → Bo
   all_free_pushed_goal nodes input kind depth own frame goals results at asks h = all_free_pushed nodes input kind own (runs_of goals) results at asks h
 
   -- the newest goal's run is settled, and the goal taken or run again
-  module _ (nodes after : List (CacheNode I R)) (o : OpenRun I R) (below : List (OpenRun I R)) (h : AreJustified is_yes is_no nodes (o ∷ below)) (r : R) (target : Option NodeId) (s : Settles is_yes is_no nodes after o below r target) (results : Store I (StoredResult X I R A T)) (all : AreFree is_yes is_no same nodes (o ∷ below) results) where
+  module _ (nodes after : List (CacheNode I R)) (o : OpenRun I R) (below : List (OpenRun I R)) (h : AreJustified is_yes is_no nodes (o ∷ below)) (r : R) (target : Option NodeId) (s : EndsWithNode is_yes is_no nodes after o below r target) (results : Store I (StoredResult X I R A T)) (all : AreFree is_yes is_no same nodes (o ∷ below) results) where
     pub all_free_popped : AreFree is_yes is_no same after below results
     all_free_popped = all_carried nodes after (o ∷ below) below results (free_popped is_yes is_no nodes after o below h r target s) all
 
@@ -51,7 +51,7 @@ module _ {X I R A T : Type 0} (is_yes is_no : R → Bool) (same : I → I → Bo
 
   -- an answer that has no heads, and is free, is stored
   pub all_free_stored : ((x y : I) → same x y ≡ true → x ≡ y) → (nodes : List (CacheNode I R)) (goals : List (OpenRun I R)) (old new : Store I (StoredResult X I R A T)) (goal : I) (answer : EvaluationResult X I R A T) → StoresAnswer same old new goal answer → AreFree is_yes is_no same nodes goals old → (answer.heads ≡ [] → IsFree is_yes is_no nodes goals goal answer.result answer.node) → AreFree is_yes is_no same nodes goals new
-  all_free_stored by_value nodes goals old new goal answer (Kept is) all free = λ other place s at. all other place s (ap (λ store. stored_at same store other place) (sym is) ∙ at)
+  all_free_stored by_value nodes goals old new goal answer (NotStored is) all free = λ other place s at. all other place s (ap (λ store. stored_at same store other place) (sym is) ∙ at)
   all_free_stored by_value nodes goals old new goal answer (Put token none puts) all free = λ other place s at. elim (put_cases same by_value old new goal (place_of answer) (stored_from answer token) puts other place) [
     | inl w ↦
         let here : stored_at same new other place ≡ Some (stored_from answer token) = ap₂ (stored_at same new) (sym w.0) (sym w.1) ∙ puts.here in

@@ -12,7 +12,7 @@ use Rattle.open_graphs.proofs.Runs.{answered_grows, root_is_graph}
 use Rattle.open_graphs.proofs.Closed.{closed_is_graph}
 use Rattle.open_graphs.proofs.Keep.{append_grows, growth_keeps_use, heads_keep_use}
 use Rattle.search_parts.proofs.Nodes.{KeepsNodes-appended, KeepsGoals-appended, before, with_run-is, KeepsGoals-ended}
-use Rattle.search_graph.specs.Words.{OpenRun, in_theory, leads_to, frame_of, frames_of, AreOpen, LeadHome, AllPlaced, AreEdges, Asks, HasTally, AreCharged, AllCharged, AreJustified, asked_now, MayAnswer, Tally, IsTallied, heads_of, spare_heads, SaysAgain}
+use Rattle.search_graph.specs.Words.{OpenRun, verdict_shape, cycles_node, frame_of, frames_of, AreOpen, LeadHome, AllLeadToGoals, AreEdges, Asks, HasTally, AreCharged, AllCharged, AreJustified, asked_now, MayAnswer, Tally, IsTallied, heads_of, spare_heads, SaysAgain}
 use Rattle.search_graph.proofs.Tallies.{charge_within, fresh_tallied, rerun_keeps, rerun_tallied, spare_within}
 
 -- ---- open nodes
@@ -48,15 +48,15 @@ module _ {I R : Type 0} (nodes more : List (CacheNode I R)) where
   LeadHome-kept kept [] h = tt
   LeadHome-kept kept (o ∷ below) h = (home_kept o o.cycles_lead kept h.0, LeadHome-kept kept below h.1)
 
-  AllPlaced-kept : KeepsGoals nodes more → (goals : List (OpenRun I R)) → AllPlaced nodes goals → AllPlaced more goals
-  AllPlaced-kept kept [] h = tt
-  AllPlaced-kept kept (o ∷ below) h = (λ i a is. kept a.edge.target a.edge.input (h.0 i a is), AllPlaced-kept kept below h.1)
+  AllLeadToGoals-kept : KeepsGoals nodes more → (goals : List (OpenRun I R)) → AllLeadToGoals nodes goals → AllLeadToGoals more goals
+  AllLeadToGoals-kept kept [] h = tt
+  AllLeadToGoals-kept kept (o ∷ below) h = (λ i a is. kept a.edge.target a.edge.input (h.0 i a is), AllLeadToGoals-kept kept below h.1)
 
 -- ---- answers
 
 -- an answer may be used in a longer list, too
-answered_kept : (before after : List theory.Node) (verdict : theory.Verdict) (below : List Entry) (top : Entry) (edge : theory.Edge) (heads : theory_use.Heads) → theory.Grown before after → IsAnswered before verdict below top edge heads → IsAnswered after verdict below top edge heads
-answered_kept before after verdict below top edge heads grown h = record {
+answered_again : (before after : List theory.Node) (verdict : theory.Verdict) (below : List Entry) (top : Entry) (edge : theory.Edge) (heads : theory_use.Heads) → theory.Grown before after → IsAnswered before verdict below top edge heads → IsAnswered after verdict below top edge heads
+answered_again before after verdict below top edge heads grown h = record {
   answer = h.answer;
   used = growth_keeps_use before after verdict (below ++ top ∷ []) (path_kind (below ++ top ∷ []) edge.kind) edge.kind edge.target h.answer grown h.used;
   among = h.among;
@@ -69,7 +69,7 @@ answered_more nodes verdict below top edge heads more includes h = record { answ
 AllCharged-kept : {I R : Type 0} (is_yes is_no : R → Bool) (nodes more : List (CacheNode I R)) → theory.Grown (shapes_of is_yes is_no nodes) (shapes_of is_yes is_no more) → (goals : List (OpenRun I R)) → AllCharged is_yes is_no nodes goals → AllCharged is_yes is_no more goals
 AllCharged-kept is_yes is_no nodes more grown [] h = tt
 AllCharged-kept is_yes is_no nodes more grown (o ∷ below) h = (
-  λ i a is kept. answered_kept (shapes_of is_yes is_no nodes) (shapes_of is_yes is_no more) (in_theory a.verdict) (stack_of (frames_of is_yes is_no below)) (frame_of is_yes is_no o).entry (edge_shape a.edge) (heads_of o.tally a.candidate) grown (h.0 i a is kept),
+  λ i a is kept. answered_again (shapes_of is_yes is_no nodes) (shapes_of is_yes is_no more) (verdict_shape a.verdict) (stack_of (frames_of is_yes is_no below)) (frame_of is_yes is_no o).entry (edge_shape a.edge) (heads_of o.tally a.candidate) grown (h.0 i a is kept),
   AllCharged-kept is_yes is_no nodes more grown below h.1,
 )
 
@@ -173,14 +173,14 @@ module _ {I R : Type 0} (is_yes is_no : R → Bool) (nodes : List (CacheNode I R
             (push_keeps_sound (shapes_of is_yes is_no nodes) (frames_of is_yes is_no goals) [] [] (rank_of step) (heads_shape []) h.sound)));
         are_open = (goal_open (nodes ++ open_node goal ∷ []) own.0 (open_node goal) goal last refl refl, AreOpen-kept nodes (nodes ++ open_node goal ∷ []) (KeepsNodes-appended true nodes goal) goals h.are_open);
         lead_home = (subst (λ n. IsNodeOf (nodes ++ open_node goal ∷ []) n goal) (sym at) (new_node_is goal), LeadHome-kept nodes (nodes ++ open_node goal ∷ []) (KeepsGoals-appended true nodes goal) goals h.lead_home);
-        placed = (λ i a is. absurd (no_answers i a is), AllPlaced-kept nodes (nodes ++ open_node goal ∷ []) (KeepsGoals-appended true nodes goal) goals h.placed);
+        placed = (λ i a is. absurd (no_answers i a is), AllLeadToGoals-kept nodes (nodes ++ open_node goal ∷ []) (KeepsGoals-appended true nodes goal) goals h.placed);
         asked = (asks, h.asked);
         tallies = (record { tallied = fresh_tallied (length goals); open_is = refl; finished_are = refl }, h.tallies);
         charged = (λ i a is. absurd (no_answers i a is), AllCharged-kept is_yes is_no nodes (nodes ++ open_node goal ∷ []) (opened_grows goal) goals h.charged);
       }
 
   -- the newest goal gets a definite answer, in the candidate that is open
-  pub answered_is_justified : (a : DefiniteAnswer I) (o : OpenRun I R) (below : List (OpenRun I R)) → a.candidate ≡ asked_now o → MayAnswer is_yes is_no nodes o below (in_theory a.verdict) a.edge.kind a.edge.input a.edge.target → AreJustified is_yes is_no nodes (o ∷ below) → AreJustified is_yes is_no nodes (record o { answers = o.answers ++ a ∷ [] } ∷ below)
+  pub answered_is_justified : (a : DefiniteAnswer I) (o : OpenRun I R) (below : List (OpenRun I R)) → a.candidate ≡ asked_now o → MayAnswer is_yes is_no nodes o below (verdict_shape a.verdict) a.edge.kind a.edge.input a.edge.target → AreJustified is_yes is_no nodes (o ∷ below) → AreJustified is_yes is_no nodes (record o { answers = o.answers ++ a ∷ [] } ∷ below)
   answered_is_justified a o below inside may h = record {
     sound = h.sound;
     are_open = h.are_open;
@@ -198,8 +198,8 @@ module _ {I R : Type 0} (is_yes is_no : R → Bool) (nodes : List (CacheNode I R
       λ i b is kept. elim (get_cases o.answers a i b is) [
         | inl old ↦ h.charged.0 i b old kept
         | inr new ↦
-            subst (λ (d : DefiniteAnswer I). IsAnswered (shapes_of is_yes is_no nodes) (in_theory d.verdict) (stack_of (frames_of is_yes is_no below)) (frame_of is_yes is_no o).entry (edge_shape d.edge) (heads_of o.tally d.candidate)) new.1
-            (subst (λ c. IsAnswered (shapes_of is_yes is_no nodes) (in_theory a.verdict) (stack_of (frames_of is_yes is_no below)) (frame_of is_yes is_no o).entry (edge_shape a.edge) (heads_of o.tally c)) (sym inside) may.answered)
+            subst (λ (d : DefiniteAnswer I). IsAnswered (shapes_of is_yes is_no nodes) (verdict_shape d.verdict) (stack_of (frames_of is_yes is_no below)) (frame_of is_yes is_no o).entry (edge_shape d.edge) (heads_of o.tally d.candidate)) new.1
+            (subst (λ c. IsAnswered (shapes_of is_yes is_no nodes) (verdict_shape a.verdict) (stack_of (frames_of is_yes is_no below)) (frame_of is_yes is_no o).entry (edge_shape a.edge) (heads_of o.tally c)) (sym inside) may.answered)
       ],
       h.charged.1,
     );
@@ -218,7 +218,7 @@ module _ {I R : Type 0} (is_yes is_no : R → Bool) (nodes : List (CacheNode I R
     charged = (
       λ i a is kept.
           let was = keeps a.candidate kept in
-          answered_more (shapes_of is_yes is_no nodes) (in_theory a.verdict) (stack_of (frames_of is_yes is_no below)) (frame_of is_yes is_no o).entry (edge_shape a.edge) (heads_of o.tally a.candidate) (heads_of tally a.candidate) (λ depth path cycle lower recorded. was.1 depth path cycle recorded)
+          answered_more (shapes_of is_yes is_no nodes) (verdict_shape a.verdict) (stack_of (frames_of is_yes is_no below)) (frame_of is_yes is_no o).entry (edge_shape a.edge) (heads_of o.tally a.candidate) (heads_of tally a.candidate) (λ depth path cycle lower recorded. was.1 depth path cycle recorded)
           (h.charged.0 i a is was.0),
       h.charged.1,
     );
@@ -260,7 +260,7 @@ module _ {I R : Type 0} (is_yes is_no : R → Bool) (nodes : List (CacheNode I R
 
 -- The run of the newest goal came to a result: in the theory's words, with the edges that the result rests on and the place of the
 -- answer's node.
-pub record Settles {I R : Type 0} (is_yes is_no : R → Bool) (nodes after : List (CacheNode I R)) (o : OpenRun I R) (below : List (OpenRun I R)) (r : R) (target : Option NodeId) : Type 0 where
+pub record EndsWithNode {I R : Type 0} (is_yes is_no : R → Bool) (nodes after : List (CacheNode I R)) (o : OpenRun I R) (below : List (OpenRun I R)) (r : R) (target : Option NodeId) : Type 0 where
   pub edges : theory.Verdict → List theory.Edge
   pub place : ℕ
   pub sound : IsSound (shapes_of is_yes is_no nodes) (answering (frame_of is_yes is_no o) edges (heads_shape o.tally.heads) ∷ frames_of is_yes is_no below) [] []
@@ -268,18 +268,18 @@ pub record Settles {I R : Type 0} (is_yes is_no : R → Bool) (nodes after : Lis
   pub goals_kept : KeepsGoals nodes after
   pub open_below : AreOpen after below
   pub definite : verdict_of is_yes is_no r ≢ theory.Neither → IsSomeAnd target (λ n. (n.0 ≡ place) × IsNodeOf after n.0 o.goal)
-  pub neither : verdict_of is_yes is_no r ≡ theory.Neither → (target ≡ None) × (leads_to o ≡ place)
+  pub neither : verdict_of is_yes is_no r ≡ theory.Neither → (target ≡ None) × (cycles_node o ≡ place)
 
 module _ {I R : Type 0} (is_yes is_no : R → Bool) (nodes : List (CacheNode I R)) (o : OpenRun I R) (below : List (OpenRun I R)) (h : AreJustified is_yes is_no nodes (o ∷ below)) where
-  home : (lead : Option NodeId) → o.cycles_lead ≡ lead → IsSomeAnd lead (λ n. IsNodeOf nodes n.0 o.goal) → IsSomeAnd lead (λ n. (n.0 ≡ leads_to o) × IsNodeOf nodes n.0 o.goal)
+  home : (lead : Option NodeId) → o.cycles_lead ≡ lead → IsSomeAnd lead (λ n. IsNodeOf nodes n.0 o.goal) → IsSomeAnd lead (λ n. (n.0 ≡ cycles_node o) × IsNodeOf nodes n.0 o.goal)
   home None is at = absurd at
   home (Some n) is at = (ap (λ l. elim l [ None ↦ o.own | Some m ↦ m.0 ]) (sym is), at)
 
   -- it says what the provisional result said
-  pub again_settles : (r : R) → verdict_of is_yes is_no r ≢ theory.Neither → SaysAgain is_yes is_no o.provisional r → Settles is_yes is_no nodes nodes o below r o.cycles_lead
-  again_settles r definite says = record {
+  pub again_ends : (r : R) → verdict_of is_yes is_no r ≢ theory.Neither → SaysAgain is_yes is_no o.provisional r → EndsWithNode is_yes is_no nodes nodes o below r o.cycles_lead
+  again_ends r definite says = record {
     edges = λ verdict. [];
-    place = leads_to o;
+    place = cycles_node o;
     sound = h.sound;
     answered = Again says;
     goals_kept = λ at goal is. is;
@@ -289,10 +289,10 @@ module _ {I R : Type 0} (is_yes is_no : R → Bool) (nodes : List (CacheNode I R
   }
 
   -- it isn't definite
-  pub neither_settles : (r : R) → verdict_of is_yes is_no r ≡ theory.Neither → Settles is_yes is_no nodes nodes o below r None
-  neither_settles r neither = record {
+  pub neither_ends : (r : R) → verdict_of is_yes is_no r ≡ theory.Neither → EndsWithNode is_yes is_no nodes nodes o below r None
+  neither_ends r neither = record {
     edges = λ verdict. [];
-    place = leads_to o;
+    place = cycles_node o;
     sound = h.sound;
     answered = Without neither;
     goals_kept = λ at goal is. is;
@@ -321,8 +321,8 @@ module _ {I R : Type 0} (is_yes is_no : R → Bool) (nodes : List (CacheNode I R
         let w = open_is (slice_get nodes o.own) o.goal h.are_open.0 in
         KeepsGoals-ended nodes o.own run (λ goal. goal ≡ o.goal) is_open o.own o.goal (ap (option_map (λ n. n.goal)) w.1 ∙ ap Some w.3)
 
-    pub ended_settles : Settles is_yes is_no nodes (with_run nodes o.own run) o below run.outcome (Some node)
-    ended_settles =
+    pub anew_ends : EndsWithNode is_yes is_no nodes (with_run nodes o.own run) o below run.outcome (Some node)
+    anew_ends =
         let v = verdict_of is_yes is_no run.outcome in
         record {
           edges = chosen_edges is_yes is_no nodes v run.edges;
@@ -337,7 +337,7 @@ module _ {I R : Type 0} (is_yes is_no : R → Bool) (nodes : List (CacheNode I R
         }
 
 -- what follows once the run is settled
-module _ {I R : Type 0} (is_yes is_no : R → Bool) (nodes after : List (CacheNode I R)) (o : OpenRun I R) (below : List (OpenRun I R)) (h : AreJustified is_yes is_no nodes (o ∷ below)) (r : R) (target : Option NodeId) (s : Settles is_yes is_no nodes after o below r target) where
+module _ {I R : Type 0} (is_yes is_no : R → Bool) (nodes after : List (CacheNode I R)) (o : OpenRun I R) (below : List (OpenRun I R)) (h : AreJustified is_yes is_no nodes (o ∷ below)) (r : R) (target : Option NodeId) (s : EndsWithNode is_yes is_no nodes after o below r target) where
   grown : theory.Grown (shapes_of is_yes is_no nodes) (shapes_of is_yes is_no after)
   grown = answered_grows (shapes_of is_yes is_no nodes) (frame_of is_yes is_no o).entry o.own s.edges (verdict_of is_yes is_no r) h.sound.running.0.unfinished s.answered
 
@@ -352,7 +352,7 @@ module _ {I R : Type 0} (is_yes is_no : R → Bool) (nodes after : List (CacheNo
     sound = popped.0;
     are_open = s.open_below;
     lead_home = LeadHome-kept nodes after s.goals_kept below h.lead_home.1;
-    placed = AllPlaced-kept nodes after s.goals_kept below h.placed.1;
+    placed = AllLeadToGoals-kept nodes after s.goals_kept below h.placed.1;
     asked = h.asked.1;
     tallies = h.tallies.1;
     charged = AllCharged-kept is_yes is_no nodes after grown below h.charged.1;
@@ -397,7 +397,7 @@ module _ {I R : Type 0} (is_yes is_no : R → Bool) (nodes after : List (CacheNo
   or_first Q None lead at = absurd at
   or_first Q (Some n) lead at = at
 
-  home_then : (lead : Option NodeId) → leads_to o ≡ s.place → IsSomeAnd lead (λ n. (n.0 ≡ leads_to o) × IsNodeOf nodes n.0 o.goal) → IsSomeAnd lead (λ n. (n.0 ≡ s.place) × IsNodeOf after n.0 o.goal)
+  home_then : (lead : Option NodeId) → cycles_node o ≡ s.place → IsSomeAnd lead (λ n. (n.0 ≡ cycles_node o) × IsNodeOf nodes n.0 o.goal) → IsSomeAnd lead (λ n. (n.0 ≡ s.place) × IsNodeOf after n.0 o.goal)
   home_then None same at = absurd at
   home_then (Some n) same at = (at.0 ∙ same, s.goals_kept n.0 o.goal at.1)
 
@@ -435,7 +435,7 @@ module _ {I R : Type 0} (is_yes is_no : R → Bool) (nodes after : List (CacheNo
               (subst (λ n. IsSound (shapes_of is_yes is_no after ++ theory.Unfinished ∷ []) (next_frame (frame_of is_yes is_no o) v s.place n ∷ frames_of is_yes is_no below) [] []) many again)));
           are_open = (goal_open (after ++ open_node o.goal ∷ []) own.0 (open_node o.goal) o.goal last refl refl, AreOpen-kept after (after ++ open_node o.goal ∷ []) (KeepsNodes-appended true after o.goal) below s.open_below);
           lead_home = (leads_home (option_or target o.cycles_lead) lead_is, LeadHome-kept after (after ++ open_node o.goal ∷ []) (KeepsGoals-appended true after o.goal) below (LeadHome-kept nodes after s.goals_kept below h.lead_home.1));
-          placed = (λ i a is. absurd (no_answers i a is), AllPlaced-kept after (after ++ open_node o.goal ∷ []) (KeepsGoals-appended true after o.goal) below (AllPlaced-kept nodes after s.goals_kept below h.placed.1));
+          placed = (λ i a is. absurd (no_answers i a is), AllLeadToGoals-kept after (after ++ open_node o.goal ∷ []) (KeepsGoals-appended true after o.goal) below (AllLeadToGoals-kept nodes after s.goals_kept below h.placed.1));
           asked = h.asked;
           tallies = (record { tallied = rerun_tallied (length below) o.tally h.tallies.0.tallied; open_is = refl; finished_are = refl }, h.tallies.1);
           charged = (λ i a is. absurd (no_answers i a is), AllCharged-kept is_yes is_no after (after ++ open_node o.goal ∷ []) (opened_grows is_yes is_no after o.goal) below (AllCharged-kept is_yes is_no nodes after grown below h.charged.1));

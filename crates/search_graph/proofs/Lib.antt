@@ -6,7 +6,7 @@ pub mod Justified
 pub mod ProgressLaws
 pub mod ProgressEdges
 pub mod Verdicts
-pub mod Kept
+pub mod Flags
 pub mod Replies
 pub mod Moves
 pub mod Finishing
@@ -17,14 +17,14 @@ pub mod Noted
 pub mod Loops
 pub mod Promises
 pub mod Storing
-pub mod RunsEnd
-pub mod RunEnds
+pub mod FinishedRuns
+pub mod EndOfRunLaws
 pub mod CycleAnswers
 pub mod DecidedGoals
 pub mod Free
-pub mod KeptAnswers
-pub mod KeptMoves
-pub mod KeptQuestions
+pub mod ProvisionalAnswers
+pub mod ProvisionalMoves
+pub mod ProvisionalQuestions
 pub mod FreeResults
 pub mod FreeMoves
 pub mod Ready
@@ -41,11 +41,11 @@ pub mod ReadyReruns
 pub mod RebasedAnswers
 pub mod RebasedRising
 pub mod ReadyPops
-pub mod SettledEntries
+pub mod RebasedEntries
 pub mod RebasedLeft
 pub mod LeftOver
 pub mod PoppedEntries
-pub mod KeptEntries
+pub mod EntriesSaid
 mod Asking
 mod Advancing
 mod Beginning

@@ -11,7 +11,7 @@ use Rattle.search_parts.proofs.Definites.{HasGraph-finished, definite_is_whole}
 use Rattle.search_parts.proofs.Finished.{KeepsFinished-then}
 use Rattle.search_parts.proofs.Stores.{KeepsResults-then}
 use Rattle.search_graph.specs.Words.{IsProved, IsRefuted, HadCause, HasAnswer}
-use Rattle.search_graph.specs.Lists.{Appends, IsAnswered}
+use Rattle.search_graph.specs.Lists.{AppendsEach, IsAnsweredQuery}
 use Rattle.search_graph.proofs.Promises.{yes_is_proved, no_is_refuted, neither_is_none}
 
 appended : {A : Type 0} (old more : List A) (a : A) → (old ++ more) ++ a ∷ [] ≡ old ++ (more ++ a ∷ [])
@@ -38,16 +38,16 @@ module _ {Q A : Type 0} where
   AllZip-weaker Holds Also so (q ∷ queries) (b ∷ more) h = (so q b h.0, AllZip-weaker Holds Also so queries more h.1)
 
   -- one query more
-  pub Appends-more : (Holds : Q → A → Type 0) (queries : List Q) (i : ℕ) (query : Q) → i < length queries → query ≡ get_or queries i query → (old new newer : List A) (a : A)
-      → Appends Holds (take i queries) old new → Holds query a → newer ≡ new ++ a ∷ [] → Appends Holds (take (i + 1) queries) old newer
-  Appends-more Holds queries i query below is old new newer a h holds grown = record {
+  pub AppendsEach-more : (Holds : Q → A → Type 0) (queries : List Q) (i : ℕ) (query : Q) → i < length queries → query ≡ get_or queries i query → (old new newer : List A) (a : A)
+      → AppendsEach Holds (take i queries) old new → Holds query a → newer ≡ new ++ a ∷ [] → AppendsEach Holds (take (i + 1) queries) old newer
+  AppendsEach-more Holds queries i query below is old new newer a h holds grown = record {
     more = h.more ++ a ∷ [];
     is = grown ∙ (ap (λ l. l ++ a ∷ []) h.is ∙ appended old h.more a);
     each = subst (λ qs. AllZip Holds qs (h.more ++ a ∷ [])) (ap (λ q. take i queries ++ q ∷ []) is ∙ sym (take_more queries i query below)) (AllZip-more Holds (take i queries) h.more query a h.each holds);
   }
 
-  pub Appends-weaker : (Holds Also : Q → A → Type 0) → ((query : Q) (a : A) → Holds query a → Also query a) → (queries : List Q) (old new : List A) → Appends Holds queries old new → Appends Also queries old new
-  Appends-weaker Holds Also so queries old new h = record { more = h.more; is = h.is; each = AllZip-weaker Holds Also so queries h.more h.each }
+  pub AppendsEach-weaker : (Holds Also : Q → A → Type 0) → ((query : Q) (a : A) → Holds query a → Also query a) → (queries : List Q) (old new : List A) → AppendsEach Holds queries old new → AppendsEach Also queries old new
+  AppendsEach-weaker Holds Also so queries old new h = record { more = h.more; is = h.is; each = AllZip-weaker Holds Also so queries h.more h.each }
 
 pub IfErr-weaker : {A E : Type 0} (r : Result A E) (P Q : E → Type 0) → ((e : E) → P e → Q e) → IfErr r P → IfErr r Q
 IfErr-weaker (Ok a) P Q so h = tt
@@ -79,7 +79,7 @@ module _ {D C V P F I R A T : Type 0} (G : DelegateOf D C V P F I R A T) (X : Cx
       (clash : (goal : I) (held failed : List (Question I)) → X.proves cache.cx goal held → X.refutes cache.cx goal failed → Overlap held failed)
       (proved : KeepsRule X.is_yes (G.script cache.cx) (X.proves cache.cx)) (refuted : KeepsRule X.is_no (G.script cache.cx) (X.refutes cache.cx))
       (one_sort : (r : R) → X.is_yes r ≡ true → X.is_no r ≡ false) where
-    pub answer_is_shown : (query : ℕ × I × PathKind) (answer : Result (Answer R) (Fault I R)) → HasAnswer G X same cache query answer → IsAnswered G X same cache query answer
+    pub answer_is_shown : (query : ℕ × I × PathKind) (answer : Result (Answer R) (Fault I R)) → HasAnswer G X same cache query answer → IsAnsweredQuery G X same cache query answer
     answer_is_shown query answer h = record {
       has = h;
       yes = IfOk-weaker answer (λ a. HasGraph X.is_yes X.is_no cache.nodes query.1 a.result a.node) (λ a. X.is_yes a.result ≡ true → IsProved X cache query.1 a.node)

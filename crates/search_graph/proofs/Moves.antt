@@ -227,8 +227,8 @@ module _ {D C V P F I R A T : Type 0} (G : DelegateOf D C V P F I R A T) (X : Cx
       })
 
   -- a kept answer of a goal without a rank is taken over
-  pub kept_goes_on : (ahead : ℕ) (kind : PathKind) (goal : I) (r : R) (overflow : Bool) (answer : Heads) (depth : ℕ) (old new : List Goal) (starts : ℕ) (met : Bool) → ((s : Goal) (below : List Goal) → old ≡ s ∷ below → IsAllowed (seen G X cx s) depth) → HasNoRank (G.script cx) goal → (IsCounted G X cx call → met ≡ false → overflow ≡ false) → Decidedly G X cx call met (IsDefinite X.is_yes X.is_no r) → AnswersNewest kind 0 overflow answer old new → HasAsked G X cx call ahead (Evaluate kind goal) old starts met → GoesOn G X cx call ahead (Answer r) new starts met
-  kept_goes_on ahead kind goal r overflow answer depth old new starts met may no_rank calm definite t h =
+  pub provisional_goes_on : (ahead : ℕ) (kind : PathKind) (goal : I) (r : R) (overflow : Bool) (answer : Heads) (depth : ℕ) (old new : List Goal) (starts : ℕ) (met : Bool) → ((s : Goal) (below : List Goal) → old ≡ s ∷ below → IsAllowed (seen G X cx s) depth) → HasNoRank (G.script cx) goal → (IsCounted G X cx call → met ≡ false → overflow ≡ false) → Decidedly G X cx call met (IsDefinite X.is_yes X.is_no r) → AnswersNewest kind 0 overflow answer old new → HasAsked G X cx call ahead (Evaluate kind goal) old starts met → GoesOn G X cx call ahead (Answer r) new starts met
+  provisional_goes_on ahead kind goal r overflow answer depth old new starts met may no_rank calm definite t h =
       let was : HasAsked G X cx call ahead (Evaluate kind goal) ((t.entry, t.run) ∷ t.below) starts met = subst (λ v. HasAsked G X cx call ahead (Evaluate kind goal) v starts met) t.was h in
       let w = answered_waits (seen G X cx) (Stood G X cx) (G.script cx) (limits G X cx call) (IsCounted G X cx call) call.top (bound G X cx call) (some_runs G.FIXPOINT_STEP_LIMIT) ahead starts met (t.entry, t.run) t.below kind goal depth (record { result = r; required = 0; met_overflow = overflow; in_cycle = some_heads answer }) (record t.entry { state = t.state }, t.run)
       (may (t.entry, t.run) t.below t.was) (unranked_is_safe (G.script cx) goal depth (record { result = r; required = 0; met_overflow = overflow; in_cycle = some_heads answer }) no_rank (omega arith)) calm

@@ -41,26 +41,26 @@ something_in None otherwise is = absurd cc
 something_in (Some x) otherwise is = refl
 
 -- one more finished candidate, which isn't ignored, changes nothing of the others
-marked_longer : (ignored : List Bool) (n : ℕ) → is_marked (ignored ++ false ∷ []) n ≡ is_marked ignored n
-marked_longer [] zero = refl
-marked_longer [] (suc n) = refl
-marked_longer (b ∷ ignored) zero = refl
-marked_longer (b ∷ ignored) (suc n) = marked_longer ignored n
+ignored_longer : (ignored : List Bool) (n : ℕ) → is_marked (ignored ++ false ∷ []) n ≡ is_marked ignored n
+ignored_longer [] zero = refl
+ignored_longer [] (suc n) = refl
+ignored_longer (b ∷ ignored) zero = refl
+ignored_longer (b ∷ ignored) (suc n) = ignored_longer ignored n
 
-kept_longer : (ignored : List Bool) (c : Option ℕ) → is_kept (ignored ++ false ∷ []) c ≡ is_kept ignored c
-kept_longer ignored None = refl
-kept_longer ignored (Some n) = ap not (marked_longer ignored n)
+counted_longer : (ignored : List Bool) (c : Option ℕ) → is_kept (ignored ++ false ∷ []) c ≡ is_kept ignored c
+counted_longer ignored None = refl
+counted_longer ignored (Some n) = ap not (ignored_longer ignored n)
 
 -- what is kept once a candidate is ignored is another one's, and was kept before
-kept_before : (ignored : List Bool) (n : ℕ) (c : Option ℕ) → n < length ignored → is_kept (slice_set ignored n true) c ≡ true → (is_kept ignored c ≡ true) × (c ≢ Some n)
-kept_before ignored n None within kept = (refl, λ e. absurd cc)
-kept_before ignored n (Some m) within kept =
-    let other : m ≢ n = λ same. marked_is_not_kept (get_or (slice_set ignored n true) m false) (ap (λ k. get_or (slice_set ignored n true) k false) same ∙ get_or-set_same ignored n true false within) kept in
+counted_before : (ignored : List Bool) (n : ℕ) (c : Option ℕ) → n < length ignored → is_kept (slice_set ignored n true) c ≡ true → (is_kept ignored c ≡ true) × (c ≢ Some n)
+counted_before ignored n None within kept = (refl, λ e. absurd cc)
+counted_before ignored n (Some m) within kept =
+    let other : m ≢ n = λ same. ignored_is_not_counted (get_or (slice_set ignored n true) m false) (ap (λ k. get_or (slice_set ignored n true) k false) same ∙ get_or-set_same ignored n true false within) kept in
     (ap not (sym (get_or-set_other ignored n m true false other)) ∙ kept, λ e. let same : m ≡ n = cc in other same)
   where
-    marked_is_not_kept : (b : Bool) → b ≡ true → not b ≡ true → ⊥
-    marked_is_not_kept true is kept = cc
-    marked_is_not_kept false is kept = cc
+    ignored_is_not_counted : (b : Bool) → b ≡ true → not b ≡ true → ⊥
+    ignored_is_not_counted true is kept = cc
+    ignored_is_not_counted false is kept = cc
 
 -- which candidate is open, and which are ignored, doesn't rest on the verdict of an answer
 module _ {I R : Type 0} (p : RunRecord I R) (verdict : Verdict) (target : Option NodeId) where
@@ -139,8 +139,8 @@ module _ {D C V P F I R A T : Type 0} (G : DelegateOf D C V P F I R A T) (X : Cx
     has_finished : length s.run.candidates ≡ length replied_record.ignored
     has_finished = got.tallies.0.finished_are ∙ ap length (sym (ignored_same s.run.progress s.verdict given.node s.run.progress.request))
 
-    kept_as_before : (c : Option ℕ) → is_kept replied_record.ignored c ≡ true → is_kept replied_goal.ignored c ≡ true
-    kept_as_before c kept = ap (λ ignored. is_kept ignored c) (sym (ignored_same s.run.progress s.verdict given.node s.run.progress.request)) ∙ kept
+    counted_as_before : (c : Option ℕ) → is_kept replied_record.ignored c ≡ true → is_kept replied_goal.ignored c ≡ true
+    counted_as_before c kept = ap (λ ignored. is_kept ignored c) (sym (ignored_same s.run.progress s.verdict given.node s.run.progress.request)) ∙ kept
 
     abbrev tally_before : Tally
     tally_before = tally_of s.entry.state s.run.candidates
@@ -159,7 +159,7 @@ module _ {D C V P F I R A T : Type 0} (G : DelegateOf D C V P F I R A T) (X : Cx
     asking_is_justified =
         recounted_is_justified X.is_yes X.is_no nodes tally_before replied_record.is_open replied_record.ignored (Some request) replied_goal (runs_of s.below)
         (record { tallied = tallied_before; open_is = has_open; finished_are = has_finished })
-        (λ c kept. (kept_as_before c kept, λ depth path cycle recorded. recorded)) got
+        (λ c kept. (counted_as_before c kept, λ depth path cycle recorded. recorded)) got
 
     -- a candidate is entered
     entered_is_justified : replied_record.is_open ≡ false → AreJustified X.is_yes X.is_no nodes (record replied_goal { tally = record tally_before { current = Some [] }; is_open = true; ignored = replied_record.ignored; request = Some request } ∷ runs_of s.below)
@@ -167,7 +167,7 @@ module _ {D C V P F I R A T : Type 0} (G : DelegateOf D C V P F I R A T) (X : Cx
         let none : s.entry.state.candidate_usages ≡ None = nothing_in s.entry.state.candidate_usages (has_open ∙ closed) in
         recounted_is_justified X.is_yes X.is_no nodes (record tally_before { current = Some [] }) true replied_record.ignored (Some request) replied_goal (runs_of s.below)
         (record { tallied = entered_tallied (length (runs_of s.below)) tally_before none tallied_before; open_is = refl; finished_are = has_finished })
-        (λ c kept. (kept_as_before c kept, entered_keeps tally_before none c)) got
+        (λ c kept. (counted_as_before c kept, entered_keeps tally_before none c)) got
 
     -- the open one is finished
     finished_is_justified : replied_record.is_open ≡ true → AreJustified X.is_yes X.is_no nodes (record replied_goal { tally = record tally_before { current = None; finished = s.run.candidates ++ unwrap_or s.entry.state.candidate_usages [] ∷ [] }; is_open = false; ignored = replied_record.ignored ++ false ∷ []; request = Some request } ∷ runs_of s.below)
@@ -179,7 +179,7 @@ module _ {D C V P F I R A T : Type 0} (G : DelegateOf D C V P F I R A T) (X : Cx
           open_is = refl;
           finished_are = omega (arith, length-append s.run.candidates (unwrap_or s.entry.state.candidate_usages [] ∷ []), length-append replied_record.ignored (false ∷ []), has_finished);
         })
-        (λ c kept. (kept_as_before c (sym (kept_longer replied_record.ignored c) ∙ kept), finished_keeps tally_before (unwrap_or s.entry.state.candidate_usages []) some c)) got
+        (λ c kept. (counted_as_before c (sym (counted_longer replied_record.ignored c) ∙ kept), finished_keeps tally_before (unwrap_or s.entry.state.candidate_usages []) some c)) got
 
     -- a finished one is ignored
     module _ (number : ℕ) (candidate : UsagesByHead) (state : EntryState C I R A T) (is_at : slice_get s.run.candidates number ≡ Some candidate) (ignores : Ignores (record { 0 = length s.below }) candidate s.entry.state state) (within : number < length replied_record.ignored) where
@@ -194,8 +194,8 @@ module _ {D C V P F I R A T : Type 0} (G : DelegateOf D C V P F I R A T) (X : Cx
             finished_are = length-set s.run.candidates number [] ∙ has_finished ∙ sym (length-set replied_record.ignored number true);
           })
           (λ c kept.
-          let was = kept_before replied_record.ignored number c within kept in
-          (kept_as_before c was.0, ignored_keeps (record { 0 = length s.below }) s.entry.state state s.run.candidates number candidate ignores is_at tallied_here c was.1)) got
+          let was = counted_before replied_record.ignored number c within kept in
+          (counted_as_before c was.0, ignored_keeps (record { 0 = length s.below }) s.entry.state state s.run.candidates number candidate ignores is_at tallied_here c was.1)) got
 
   -- ---- what was requested can be done, and keeps the goals justified
 

@@ -8,12 +8,12 @@ use Rattle.open_graphs.specs.Graph as theory
 use Rattle.search_graph.specs.Below.{IsTrueReason, Entry, path_kind, Kept, AfterPop, Lower, Unused, Fixpoint, Other, IsMoved, stack_of, StackDepth, CycleHead, at_depth, highest, IsRising, heads_shape, rank_of, NodeId, Request, Reply, StackEntry, ProvisionalCacheEntry, RebaseReason, CacheNode, path_kind_from, HasNoRank, rebased, settled, verdict_of, Run}
 use Rattle.open_graphs.specs.Use as uses
 use Rattle.open_graphs.proofs.Rebased.{rebased_is_after_pop}
-use Rattle.search_graph.specs.Words.{AreJustified, frame_of, frames_of, IsKept, depths_of, highest_depth, kept_shape, reason_shape, IsHead, IsReady, final_answer, kept_answer, kept_of, run_of, runs_of, LieBelow}
-use Rattle.search_graph.specs.KeptAnswers.{in_theory}
+use Rattle.search_graph.specs.Words.{AreJustified, frame_of, frames_of, IsReusable, depths_of, highest_depth, entry_shape, reason_shape, IsHead, IsReady, final_answer, answer_of_entry, entries_for, run_of, runs_of, LieBelow}
+use Rattle.search_graph.specs.ProvisionalAnswers.{provisional_shape}
 use Rattle.search_graph.proofs.CycleAnswers.{path_kind_is}
 use Rattle.search_graph.proofs.HeadOrder.{ascends, at_most_highest, highest_there, no_highest}
-use Rattle.search_graph.proofs.Justified.{Settles, stack_length}
-use Rattle.search_graph.proofs.KeptAnswers.{kept_added, kept_popped}
+use Rattle.search_graph.proofs.Justified.{EndsWithNode, stack_length}
+use Rattle.search_graph.proofs.ProvisionalAnswers.{reusable_added, reusable_popped}
 use Rattle.search_graph.proofs.LeftOver.{IsLeftOver, other_head, own_head}
 use Rattle.search_graph.proofs.Ready.{all_at_depths, is_below, on_stack_many}
 use Rattle.search_graph.proofs.RebasedAnswers.{are_depths, goal_rebased, highest_is, rebasable}
@@ -35,10 +35,10 @@ moved_node below top k after n moved = record {
 with_node : (below : List Entry) (top : Entry) (verdict : theory.Verdict) (top_heads : uses.Heads) (k after : Kept) (n : ℕ) → AfterPop below top verdict top_heads k after → AfterPop below top verdict top_heads (record k { node = n }) (record after { node = n })
 with_node below top verdict top_heads k after n (Lower lower) = Lower lower
 with_node below top verdict top_heads k after n (Unused moved none) = Unused (moved_node below top k after n moved) none
-with_node below top verdict top_heads k after n (Fixpoint moved definite kept_definite fixpoint kinds takes) = Fixpoint (moved_node below top k after n moved) definite kept_definite fixpoint kinds takes
+with_node below top verdict top_heads k after n (Fixpoint moved definite entry_definite fixpoint kinds takes) = Fixpoint (moved_node below top k after n moved) definite entry_definite fixpoint kinds takes
 with_node below top verdict top_heads k after n (Other moved other) = Other (moved_node below top k after n moved) other
 
-module _ {X F I R A T : Type 0} (is_yes is_no : R → Bool) (scripts : I → List (Reply R) → Request I R) (nodes after : List (CacheNode I R)) (s : StackEntry X I R A T × Run X F I R A T) (below : List (StackEntry X I R A T × Run X F I R A T)) (r : R) (target : Option NodeId) (h : AreJustified is_yes is_no nodes (runs_of (s ∷ below))) (settles : Settles is_yes is_no nodes after (run_of s) (runs_of below) r target) where
+module _ {X F I R A T : Type 0} (is_yes is_no : R → Bool) (scripts : I → List (Reply R) → Request I R) (nodes after : List (CacheNode I R)) (s : StackEntry X I R A T × Run X F I R A T) (below : List (StackEntry X I R A T × Run X F I R A T)) (r : R) (target : Option NodeId) (h : AreJustified is_yes is_no nodes (runs_of (s ∷ below))) (rebases : EndsWithNode is_yes is_no nodes after (run_of s) (runs_of below) r target) where
   many : length (runs_of below) ≡ length below
   many = length-map below run_of
 
@@ -78,7 +78,7 @@ module _ {X F I R A T : Type 0} (is_yes is_no : R → Bool) (scripts : I → Lis
     -- so it stays
     pub unused_is_left : s.0.state.usages ≡ None → IsLeft goal entry
     unused_is_left none = record {
-      kept = kept_popped is_yes is_no nodes after (run_of s) (runs_of below) h r target settles goal (kept_answer entry) (kept_answer entry) refl refl (λ d n. Lower (top_lower none (highest entry.heads) refl)) ready.kept;
+      kept = reusable_popped is_yes is_no nodes after (run_of s) (runs_of below) h r target rebases goal (answer_of_entry entry) (answer_of_entry entry) refl refl (λ d n. Lower (top_lower none (highest entry.heads) refl)) ready.kept;
       some = ready.some;
       rising = ready.rising;
       are_heads = λ head there. others head there (apart none head there);
@@ -96,20 +96,20 @@ module _ {X F I R A T : Type 0} (is_yes is_no : R → Bool) (scripts : I → Lis
       left : LeavesEntry is_yes is_no (reverse (map (λ s. s.0) below)) s.0 entry later
       left = leaves_entry is_yes is_no (reverse (map (λ s. s.0) below)) s.0 propagated overflow unsure overflow_unsure reason lower_real entry later ready.rising within_real ready.some is
 
-      after_pop : verdict_of is_yes is_no later.result ≢ theory.Neither → AfterPop (stack_of (frames_of is_yes is_no (runs_of below))) (frame_of is_yes is_no (run_of s)).entry (verdict_of is_yes is_no r) (heads_shape s.0.state.heads) (kept_shape is_yes is_no entry) (kept_shape is_yes is_no later)
+      after_pop : verdict_of is_yes is_no later.result ≢ theory.Neither → AfterPop (stack_of (frames_of is_yes is_no (runs_of below))) (frame_of is_yes is_no (run_of s)).entry (verdict_of is_yes is_no r) (heads_shape s.0.state.heads) (entry_shape is_yes is_no entry) (entry_shape is_yes is_no later)
       after_pop definite =
-          rebased_is_after_pop (reason_shape reason) (stack_of (frames_of is_yes is_no (runs_of below))) (frame_of is_yes is_no (run_of s)).entry (depths_of entry.heads) (depths_of s.0.state.heads) (verdict_of is_yes is_no r) (heads_shape s.0.state.heads) (kept_shape is_yes is_no entry) (kept_shape is_yes is_no later)
+          rebased_is_after_pop (reason_shape reason) (stack_of (frames_of is_yes is_no (runs_of below))) (frame_of is_yes is_no (run_of s)).entry (depths_of entry.heads) (depths_of s.0.state.heads) (verdict_of is_yes is_no r) (heads_shape s.0.state.heads) (entry_shape is_yes is_no entry) (entry_shape is_yes is_no later)
           (rebasable is_yes is_no (reverse (map (λ s. s.0) below)) s.0 (stack_of (frames_of is_yes is_no (runs_of below))) (frame_of is_yes is_no (run_of s)).entry (on_stack_many below ∙ sym theory_many) lower_real reason (verdict_of is_yes is_no r) entry
           (record { some = ready.some; within = all_at_depths (λ head. head.0 ≤ length (reverse (map (λ (t : StackEntry X I R A T × Run X F I R A T). t.0) below))) entry.heads within_real }) ready.rising is_true)
           definite
           (goal_rebased is_yes is_no s below lower propagated overflow unsure overflow_unsure reason entry later ready.some ready.rising definite is)
 
-      same_answer : later.result ≡ entry.result → later.node ≡ entry.node → IsKept is_yes is_no after (runs_of below) goal (kept_answer later)
+      same_answer : later.result ≡ entry.result → later.node ≡ entry.node → IsReusable is_yes is_no after (runs_of below) goal (answer_of_entry later)
       same_answer same_result same_target =
-          kept_popped is_yes is_no nodes after (run_of s) (runs_of below) h r target settles goal (kept_answer entry) (kept_answer later) same_result same_target
-          (λ d n. subst (λ v. AfterPop (stack_of (frames_of is_yes is_no (runs_of below))) (frame_of is_yes is_no (run_of s)).entry (verdict_of is_yes is_no r) (heads_shape s.0.state.heads) (in_theory is_yes is_no (kept_answer entry) n) (record (in_theory is_yes is_no (kept_answer later) n) { verdict = v }))
+          reusable_popped is_yes is_no nodes after (run_of s) (runs_of below) h r target rebases goal (answer_of_entry entry) (answer_of_entry later) same_result same_target
+          (λ d n. subst (λ v. AfterPop (stack_of (frames_of is_yes is_no (runs_of below))) (frame_of is_yes is_no (run_of s)).entry (verdict_of is_yes is_no r) (heads_shape s.0.state.heads) (provisional_shape is_yes is_no (answer_of_entry entry) n) (record (provisional_shape is_yes is_no (answer_of_entry later) n) { verdict = v }))
           (ap (verdict_of is_yes is_no) same_result)
-          (with_node (stack_of (frames_of is_yes is_no (runs_of below))) (frame_of is_yes is_no (run_of s)).entry (verdict_of is_yes is_no r) (heads_shape s.0.state.heads) (kept_shape is_yes is_no entry) (kept_shape is_yes is_no later) n
+          (with_node (stack_of (frames_of is_yes is_no (runs_of below))) (frame_of is_yes is_no (run_of s)).entry (verdict_of is_yes is_no r) (heads_shape s.0.state.heads) (entry_shape is_yes is_no entry) (entry_shape is_yes is_no later) n
           (after_pop (λ neither. d (ap (verdict_of is_yes is_no) (sym same_result) ∙ neither)))))
           ready.kept
 
@@ -148,7 +148,7 @@ module _ {X F I R A T : Type 0} (is_yes is_no : R → Bool) (scripts : I → Lis
         let place = lower head.0 (subst IsSome (sym (highest_there s.0.state.heads head asc top_is)) refl) in
         let some : s.0.state.heads ≢ [] = λ none. (let wrong : None ≡ Some head = ap highest (sym none) ∙ top_is in absurd cc) in
         record {
-          kept = kept_added is_yes is_no nodes after (run_of s) (runs_of below) h r target settles (kept_answer (own_entry head)) refl refl refl
+          kept = reusable_added is_yes is_no nodes after (run_of s) (runs_of below) h r target rebases (answer_of_entry (own_entry head)) refl refl refl
               (path_kind_is is_yes is_no s.0.step_kind_from_parent head.0.0 below ∙ ap (path_kind (stack_of (frames_of is_yes is_no (runs_of below))) (rank_of s.0.step_kind_from_parent)) (sym depth_is))
               (omega (arith, depth_is, place, theory_many))
               (λ depth path cycle recorded. subst (λ n. depth ≤ n) (sym depth_is) (at_most_highest s.0.state.heads head asc top_is (record { 0 = depth }) ((are_depths s.0.state.heads).usages depth cycle recorded.1)));
@@ -159,8 +159,8 @@ module _ {X F I R A T : Type 0} (is_yes is_no : R → Bool) (scripts : I → Lis
         }
 
     -- where it is kept, it is left
-    pub own_kept : (goal : I) → s.0.input ≡ goal → All (IsLeft goal) (kept_of (reverse (map (λ s. s.0) below)) s.0.step_kind_from_parent (final_answer s r target))
-    own_kept goal is = at (highest s.0.state.heads) refl
+    pub own_pushed : (goal : I) → s.0.input ≡ goal → All (IsLeft goal) (entries_for (reverse (map (λ s. s.0) below)) s.0.step_kind_from_parent (final_answer s r target))
+    own_pushed goal is = at (highest s.0.state.heads) refl
       where
         at : (o : Option (StackDepth × CycleHead)) → highest s.0.state.heads ≡ o → All (IsLeft goal) (elim o [ None ↦ [] | Some head ↦ own_entry head ∷ [] ])
         at None none = All-nil (IsLeft goal)

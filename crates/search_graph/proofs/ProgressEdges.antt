@@ -6,7 +6,7 @@ use Rattle.std.proofs.lemmas.Option.{slice_get_within, get_or_from_slice_get}
 use Rattle.std.proofs.lemmas.Simd.{map-map}
 use Rattle.search_graph.specs.Below.{Request, Done, Reply, Verdict, Yes, No, Edge, Question, question_of, CacheNode, IsRun, IsNodeOf, Progress, Asked, progress_after, is_counted, questions_answered, IsFitting, DefiniteAnswer, RunRecord, is_same_verdict, asked_of, asked_in, asked_with, is_kept, edges_of, IsEdgeOfAnswer, Agrees, Records}
 use Rattle.open_goals.specs.Progress.{rests_on}
-use Rattle.search_graph.proofs.Kept.{kept_twice}
+use Rattle.search_graph.proofs.Flags.{kept_twice}
 use Rattle.search_graph.proofs.Verdicts.{same_verdict}
 
 second_true : (a b : Bool) → (a && b) ≡ true → b ≡ true

@@ -4,7 +4,7 @@ use Rattle.std.specs.List.{filter}
 use Rattle.std.proofs.lemmas.List.{append-nil, reverse-append, length-append, length-set}
 use Rattle.std.proofs.lemmas.Bool.Decides.{nat_tests}
 use Rattle.search_graph.specs.Below.{Request, Evaluate, EnterCandidate, FinishCandidate, Ignore, Done, Reply, Begin, Answer, Noted, Verdict, Yes, No, Neither, NodeId, PathKind, Progress, Asked, request_after, progress_after, progress_with, order_fault, fault_after, IsInOrder, is_ignored, open_candidate, Fits, RunRecord, no_record, is_same_verdict, asked_of, asked_in, asked_with, open_number, edge_to, answers_with, answers_after, KeepsAnswer, received, requested, answered, fault_of, Agrees, Records, IsSortedAs, IsReplySorted}
-use Rattle.search_graph.proofs.Kept.{kept_more, marked_after_finish, marked_after_ignore}
+use Rattle.search_graph.proofs.Flags.{kept_more, marked_after_finish, marked_after_ignore}
 use Rattle.search_graph.proofs.Verdicts.{told_by_test}
 
 none_is_no_node : IsSome {T = NodeId} None → ⊥
@@ -19,8 +19,8 @@ module _ {I R : Type 0} (test : R → Bool) (w : Verdict) (p : RunRecord I R) (d
   latest = record { question = record { kind = kind; goal = goal }; answer = r; candidate = open_candidate done }
 
   -- an answer has the verdict exactly where its result passes the test,
-  same_after_kept : (v : Verdict) (node : NodeId) → is_same_verdict v w ≡ test r → open_number p ≡ open_candidate done → asked_with w (record p { answers = answers_with p (edge_to kind goal node) v }) ≡ map asked_in (filter (λ a. test a.answer) (done.asked ++ latest ∷ []))
-  same_after_kept v node sorted number =
+  same_after_answer : (v : Verdict) (node : NodeId) → is_same_verdict v w ≡ test r → open_number p ≡ open_candidate done → asked_with w (record p { answers = answers_with p (edge_to kind goal node) v }) ≡ map asked_in (filter (λ a. test a.answer) (done.asked ++ latest ∷ []))
+  same_after_answer v node sorted number =
       kept_more asked_of (λ d. is_same_verdict d.verdict w) p.answers (record { edge = edge_to kind goal node; verdict = v; candidate = open_number p }) (test r) sorted
       ∙ ap₂ (λ ys c. ys ++ cond (test r) ((record { kind = kind; goal = goal }, c) ∷ []) []) same number
       ∙ sym (kept_more asked_in (λ (a : Asked I R). test a.answer) done.asked latest (test r) refl)
@@ -60,19 +60,19 @@ module _ {I R : Type 0} (is_yes is_no : R → Bool) where
     finished_within : (m : ℕ) → order_fault done (Some (Ignore m)) ≡ None → m < length p.ignored
     finished_within m orderly = rw h.finished_are (finished_unless m done.finished 4 3 (is_ignored done.ignored m) orderly)
 
-    agrees_kept : (kind : PathKind) (goal : I) (r : R) (v : Verdict) (node : NodeId) (target : Option NodeId) → IsSortedAs is_yes is_no r v target → Agrees is_yes is_no (record p { answers = answers_with p (edge_to kind goal node) v }) (progress_with done (Some (Evaluate kind goal)) (Answer r))
-    agrees_kept kind goal r v node target s = record {
+    agrees_counted : (kind : PathKind) (goal : I) (r : R) (v : Verdict) (node : NodeId) (target : Option NodeId) → IsSortedAs is_yes is_no r v target → Agrees is_yes is_no (record p { answers = answers_with p (edge_to kind goal node) v }) (progress_with done (Some (Evaluate kind goal)) (Answer r))
+    agrees_counted kind goal r v node target s = record {
       open_is = h.open_is;
       finished_are = h.finished_are;
       ignored_are = h.ignored_are;
-      yes = same_after_kept is_yes Yes p done h.yes kind goal r v node (told_by_test v Yes (is_yes r) s.yes) same_number;
-      no = same_after_kept is_no No p done h.no kind goal r v node (told_by_test v No (is_no r) s.no) same_number;
+      yes = same_after_answer is_yes Yes p done h.yes kind goal r v node (told_by_test v Yes (is_yes r) s.yes) same_number;
+      no = same_after_answer is_no No p done h.no kind goal r v node (told_by_test v No (is_no r) s.no) same_number;
     }
 
     -- the record agrees with the run after each answer,
     agrees_answered : (kind : PathKind) (goal : I) (r : R) (v : Verdict) (target : Option NodeId) → IsSortedAs is_yes is_no r v target → Agrees is_yes is_no (answered p (Some (Evaluate kind goal)) v target) (progress_with done (Some (Evaluate kind goal)) (Answer r))
-    agrees_answered kind goal r Yes (Some node) s = agrees_kept kind goal r Yes node (Some node) s
-    agrees_answered kind goal r No (Some node) s = agrees_kept kind goal r No node (Some node) s
+    agrees_answered kind goal r Yes (Some node) s = agrees_counted kind goal r Yes node (Some node) s
+    agrees_answered kind goal r No (Some node) s = agrees_counted kind goal r No node (Some node) s
     agrees_answered kind goal r Yes None s = absurd (none_is_no_node (s.yes_node (s.yes.0 refl)))
     agrees_answered kind goal r No None s = absurd (none_is_no_node (s.no_node (s.no.0 refl)))
     agrees_answered kind goal r Neither target s = record {

@@ -5,7 +5,7 @@ use Rattle.std.proofs.lemmas.Bool.{cases_eq, false≢true}
 use Rattle.std.proofs.lemmas.List.{length-map, length-reverse}
 use Rattle.std.proofs.lemmas.List.Elements.{All-cons, All-nil, All-weaker}
 use Rattle.search_graph.specs.Below.{StackDepth, CycleHead, Heads, at_depth, highest, Request, Reply, StackEntry, ProvisionalCacheEntry, CacheNode, Lists, entries_at, Run}
-use Rattle.search_graph.specs.Words.{OpenRun, HaveTallies, KeptAnswer, IsKept, AreOnStack, IsHead, IsReady, AreReady, runs_of, run_of, Tally, counted, LieBelow}
+use Rattle.search_graph.specs.Words.{OpenRun, HaveTallies, ProvisionalAnswer, IsReusable, AreOnStack, IsHead, IsReady, AreReady, runs_of, run_of, Tally, counted, LieBelow}
 use Rattle.search_graph.proofs.HeadOrder.{ascends, at_here, at_later, highest_there}
 
 -- ---- heads by their depths
@@ -90,7 +90,7 @@ module _ {X F I R A T : Type 0} where
 
 module _ {X I R A T : Type 0} (is_yes is_no : R → Bool) (same : I → I → Bool) (scripts : I → List (Reply R) → Request I R) where
   -- what keeps each answer and each head keeps all entries ready
-  pub all_ready_carried : (nodes after : List (CacheNode I R)) (goals later : List (OpenRun I R)) (lists : Lists I (ProvisionalCacheEntry X I R A T)) → ((goal : I) (k : KeptAnswer R) → IsKept is_yes is_no nodes goals goal k → IsKept is_yes is_no after later goal k) → ((head : StackDepth) → IsHead goals head → IsHead later head) → AreReady is_yes is_no same scripts nodes goals lists → AreReady is_yes is_no same scripts after later lists
+  pub all_ready_carried : (nodes after : List (CacheNode I R)) (goals later : List (OpenRun I R)) (lists : Lists I (ProvisionalCacheEntry X I R A T)) → ((goal : I) (k : ProvisionalAnswer R) → IsReusable is_yes is_no nodes goals goal k → IsReusable is_yes is_no after later goal k) → ((head : StackDepth) → IsHead goals head → IsHead later head) → AreReady is_yes is_no same scripts nodes goals lists → AreReady is_yes is_no same scripts after later lists
   all_ready_carried nodes after goals later lists kept heads ready = λ goal.
       All-weaker (IsReady is_yes is_no scripts nodes goals goal) (IsReady is_yes is_no scripts after later goal)
       (λ entry one. record {

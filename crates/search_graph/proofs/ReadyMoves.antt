@@ -7,7 +7,7 @@ use Rattle.search_graph.specs.Words.{OpenRun, AreJustified, IsHead, AreReady, ru
 use Rattle.search_graph.proofs.Finishing.{same_run, stored_taken_same, overflow_noted_same}
 use Rattle.search_graph.proofs.Free.{same_stack}
 use Rattle.search_graph.proofs.Justified.{new_run, no_tally}
-use Rattle.search_graph.proofs.KeptAnswers.{kept_pushed, kept_same}
+use Rattle.search_graph.proofs.ProvisionalAnswers.{reusable_pushed, reusable_same}
 use Rattle.search_graph.proofs.Ready.{all_ready_carried}
 
 -- ---- what is counted stays counted
@@ -44,7 +44,7 @@ module _ {X I R A T : Type 0} (is_yes is_no : R → Bool) (same : I → I → Bo
   pub ready_pushed : (nodes : List (CacheNode I R)) (goal : I) (step : PathKind) (own : NodeId) (goals : List (OpenRun I R)) (lists : Lists I (ProvisionalCacheEntry X I R A T)) → own.0 ≡ length nodes → AreJustified is_yes is_no nodes goals → AreReady is_yes is_no same scripts nodes goals lists → AreReady is_yes is_no same scripts (nodes ++ open_node goal ∷ []) (new_run goal step own (Some own) None no_tally ∷ goals) lists
   ready_pushed nodes goal step own goals lists at h =
       all_ready_carried is_yes is_no same scripts nodes (nodes ++ open_node goal ∷ []) goals (new_run goal step own (Some own) None no_tally ∷ goals) lists
-      (kept_pushed is_yes is_no nodes goal step own goals at h) (λ head is. inr is)
+      (reusable_pushed is_yes is_no nodes goal step own goals at h) (λ head is. inr is)
 
   -- also as an item
   pub ready_pushed_goal : {F : Type 0} (nodes : List (CacheNode I R)) (input : I) (kind : PathKind) (depth : AvailableDepth) (own : NodeId) (frame : F) (goals : List (StackEntry X I R A T × Run X F I R A T)) (lists : Lists I (ProvisionalCacheEntry X I R A T)) → own.0 ≡ length nodes → AreJustified is_yes is_no nodes (runs_of goals) → AreReady is_yes is_no same scripts nodes (runs_of goals) lists → AreReady is_yes is_no same scripts (nodes ++ open_node input ∷ []) (runs_of ((first_entry input kind depth own, record { frame = frame; node = own; progress = no_record; finished_runs = 0; met_overflow_before = false; candidates = [] }) ∷ goals)) lists
@@ -55,7 +55,7 @@ module _ {X I R A T : Type 0} (is_yes is_no : R → Bool) (same : I → I → Bo
   pub ready_above : (nodes : List (CacheNode I R)) (o p : OpenRun I R) (below : List (OpenRun I R)) (lists : Lists I (ProvisionalCacheEntry X I R A T)) → o.step ≡ p.step → o.provisional ≡ p.provisional → o.own ≡ p.own → o.cycles_lead ≡ p.cycles_lead → CountsAll o.tally p.tally → AreReady is_yes is_no same scripts nodes (o ∷ below) lists → AreReady is_yes is_no same scripts nodes (p ∷ below) lists
   ready_above nodes o p below lists steps earlier owns leads counts =
       all_ready_carried is_yes is_no same scripts nodes nodes (o ∷ below) (p ∷ below) lists
-      (kept_same is_yes is_no nodes (o ∷ below) (p ∷ below) (same_stack is_yes is_no o p below steps earlier owns leads))
+      (reusable_same is_yes is_no nodes (o ∷ below) (p ∷ below) (same_stack is_yes is_no o p below steps earlier owns leads))
       heads
     where
       heads : (head : StackDepth) → IsHead (o ∷ below) head → IsHead (p ∷ below) head

@@ -4,10 +4,10 @@ use Rattle.std.specs.List.{cons_option, filter_map}
 use Rattle.std.proofs.lemmas.List.Elements.{All-append, All-cons, All-head, All-nil, All-tail, All-weaker}
 use Rattle.open_graphs.specs.Graph as theory
 use Rattle.search_graph.specs.Below.{IsRising, NodeId, Request, Reply, StackEntry, ProvisionalCacheEntry, RebaseReason, CacheNode, Lists, entries_at, rebased, settled, verdict_of, Run, Next}
-use Rattle.search_graph.specs.Words.{AreJustified, GivesAnswer, AreReady, HasReason, IsNewestUnranked, IsReady, final_answer, kept_of, left_of, run_of, runs_of}
-use Rattle.search_graph.proofs.Justified.{Settles}
+use Rattle.search_graph.specs.Words.{AreJustified, GivesAnswer, AreReady, HasReason, IsNewestUnranked, IsReady, final_answer, entries_for, rebased_for, run_of, runs_of}
+use Rattle.search_graph.proofs.Justified.{EndsWithNode}
 use Rattle.search_graph.proofs.LeftOver.{left_over_ready}
-use Rattle.search_graph.proofs.PoppedEntries.{IsLeft, lower, own_kept, rebased_is_left, unused_is_left}
+use Rattle.search_graph.proofs.PoppedEntries.{IsLeft, lower, own_pushed, rebased_is_left, unused_is_left}
 
 -- what is given of each element has a property that follows from one of the elements
 all_given : {X Y : Type 0} (P : X → Type 0) (Q : Y → Type 0) (f : X → Option Y) → ((x : X) (y : Y) → P x → f x ≡ Some y → Q y) → (xs : List X) → All P xs → All Q (filter_map f xs)
@@ -18,23 +18,23 @@ all_given P Q f gives (x ∷ xs) all = at (f x) refl (all_given P Q f gives xs (
     at None none rest = subst (λ o. All Q (cons_option o (filter_map f xs))) (sym none) rest
     at (Some y) some rest = subst (λ o. All Q (cons_option o (filter_map f xs))) (sym some) (All-cons Q y (filter_map f xs) (gives x y (All-head P x xs all) some) rest)
 
-module _ {X F I R A T : Type 0} (is_yes is_no : R → Bool) (same : I → I → Bool) (by_value : (x y : I) → same x y ≡ true → x ≡ y) (scripts : I → List (Reply R) → Request I R) (nodes after : List (CacheNode I R)) (s : StackEntry X I R A T × Run X F I R A T) (below : List (StackEntry X I R A T × Run X F I R A T)) (r : R) (target : Option NodeId) (h : AreJustified is_yes is_no nodes (runs_of (s ∷ below))) (settles : Settles is_yes is_no nodes after (run_of s) (runs_of below) r target) (propagated : I → A → R) (overflow : I → R) (unsure : (goal : I) (info : A) → verdict_of is_yes is_no (propagated goal info) ≡ theory.Neither) (overflow_unsure : (goal : I) → verdict_of is_yes is_no (overflow goal) ≡ theory.Neither) (reason : Option (RebaseReason X I R A T)) (holds : HasReason is_yes is_no reason (s ∷ below) r) (rising : IsRising s.0.state.heads) (unranked : IsNewestUnranked scripts (s ∷ below)) (enabled : Bool) (old new : Lists I (ProvisionalCacheEntry X I R A T)) where
+module _ {X F I R A T : Type 0} (is_yes is_no : R → Bool) (same : I → I → Bool) (by_value : (x y : I) → same x y ≡ true → x ≡ y) (scripts : I → List (Reply R) → Request I R) (nodes after : List (CacheNode I R)) (s : StackEntry X I R A T × Run X F I R A T) (below : List (StackEntry X I R A T × Run X F I R A T)) (r : R) (target : Option NodeId) (h : AreJustified is_yes is_no nodes (runs_of (s ∷ below))) (rebases : EndsWithNode is_yes is_no nodes after (run_of s) (runs_of below) r target) (propagated : I → A → R) (overflow : I → R) (unsure : (goal : I) (info : A) → verdict_of is_yes is_no (propagated goal info) ≡ theory.Neither) (overflow_unsure : (goal : I) → verdict_of is_yes is_no (overflow goal) ≡ theory.Neither) (reason : Option (RebaseReason X I R A T)) (holds : HasReason is_yes is_no reason (s ∷ below) r) (rising : IsRising s.0.state.heads) (unranked : IsNewestUnranked scripts (s ∷ below)) (enabled : Bool) (old new : Lists I (ProvisionalCacheEntry X I R A T)) where
   -- an entry of the goal that is left
   abbrev IsLeftOf : I → ProvisionalCacheEntry X I R A T → Type 0
-  IsLeftOf = IsLeft is_yes is_no scripts nodes after s below r target h settles
+  IsLeftOf = IsLeft is_yes is_no scripts nodes after s below r target h rebases
 
   -- the entries that were there
-  old_left : (goal : I) (entries : List (ProvisionalCacheEntry X I R A T)) → All (IsReady is_yes is_no scripts nodes (runs_of (s ∷ below)) goal) entries → (why : Option (RebaseReason X I R A T)) → HasReason is_yes is_no why (s ∷ below) r → All (IsLeftOf goal) (left_of (propagated goal) (overflow goal) why (reverse (map (λ s. s.0) below)) s.0 entries)
+  old_left : (goal : I) (entries : List (ProvisionalCacheEntry X I R A T)) → All (IsReady is_yes is_no scripts nodes (runs_of (s ∷ below)) goal) entries → (why : Option (RebaseReason X I R A T)) → HasReason is_yes is_no why (s ∷ below) r → All (IsLeftOf goal) (rebased_for (propagated goal) (overflow goal) why (reverse (map (λ s. s.0) below)) s.0 entries)
   old_left goal entries ready None unused =
       All-weaker (IsReady is_yes is_no scripts nodes (runs_of (s ∷ below)) goal) (IsLeftOf goal)
-      (λ entry is_ready. unused_is_left is_yes is_no scripts nodes after s below r target h settles goal entry is_ready unused) entries ready
+      (λ entry is_ready. unused_is_left is_yes is_no scripts nodes after s below r target h rebases goal entry is_ready unused) entries ready
   old_left goal entries ready (Some why) is_true =
       all_given (IsReady is_yes is_no scripts nodes (runs_of (s ∷ below)) goal) (IsLeftOf goal) (rebased (reverse (map (λ s. s.0) below)) s.0 (settled (propagated goal) (overflow goal) why))
-      (λ entry later is_ready is. rebased_is_left is_yes is_no scripts nodes after s below r target h settles goal entry is_ready (propagated goal) (overflow goal) (unsure goal) (overflow_unsure goal) why is_true later is) entries ready
+      (λ entry later is_ready is. rebased_is_left is_yes is_no scripts nodes after s below r target h rebases goal entry is_ready (propagated goal) (overflow goal) (unsure goal) (overflow_unsure goal) why is_true later is) entries ready
 
   -- and the newest goal's own answer
-  own_left : (goal : I) (is_kept : Bool) → (is_kept ≡ true → s.0.input ≡ goal) → All (IsLeftOf goal) (if is_kept then kept_of (reverse (map (λ s. s.0) below)) s.0.step_kind_from_parent (final_answer s r target) else [])
-  own_left goal true is = own_kept is_yes is_no scripts nodes after s below r target h settles rising unranked goal (is refl)
+  own_left : (goal : I) (is_kept : Bool) → (is_kept ≡ true → s.0.input ≡ goal) → All (IsLeftOf goal) (if is_kept then entries_for (reverse (map (λ s. s.0) below)) s.0.step_kind_from_parent (final_answer s r target) else [])
+  own_left goal true is = own_pushed is_yes is_no scripts nodes after s below r target h rebases rising unranked goal (is refl)
   own_left goal false is = All-nil (IsLeftOf goal)
 
   its_goal : (goal : I) (on : Bool) → (on && same s.0.input goal) ≡ true → s.0.input ≡ goal
@@ -42,16 +42,16 @@ module _ {X F I R A T : Type 0} (is_yes is_no : R → Bool) (same : I → I → 
   its_goal goal false is = absurd cc
 
   -- the entries that are left, and the newest goal's own answer, are ready over the goals that are left
-  pub settled_ready :
-      ((goal : I) → entries_at same new goal ≡ left_of (propagated goal) (overflow goal) reason (reverse (map (λ s. s.0) below)) s.0 (entries_at same old goal) ++ (if enabled && same s.0.input goal then kept_of (reverse (map (λ s. s.0) below)) s.0.step_kind_from_parent (final_answer s r target) else []))
+  pub rebased_ready :
+      ((goal : I) → entries_at same new goal ≡ rebased_for (propagated goal) (overflow goal) reason (reverse (map (λ s. s.0) below)) s.0 (entries_at same old goal) ++ (if enabled && same s.0.input goal then entries_for (reverse (map (λ s. s.0) below)) s.0.step_kind_from_parent (final_answer s r target) else []))
       → AreReady is_yes is_no same scripts nodes (runs_of (s ∷ below)) old
       → (next : Next R) (later : List (StackEntry X I R A T × Run X F I R A T)) → GivesAnswer s.0.step_kind_from_parent (final_answer s r target) below next later
       → AreReady is_yes is_no same scripts after (runs_of later) new
-  settled_ready entries_are ready next later given = λ goal.
-      let left = left_of (propagated goal) (overflow goal) reason (reverse (map (λ s. s.0) below)) s.0 (entries_at same old goal) in
-      let own = if enabled && same s.0.input goal then kept_of (reverse (map (λ s. s.0) below)) s.0.step_kind_from_parent (final_answer s r target) else [] in
+  rebased_ready entries_are ready next later given = λ goal.
+      let left = rebased_for (propagated goal) (overflow goal) reason (reverse (map (λ s. s.0) below)) s.0 (entries_at same old goal) in
+      let own = if enabled && same s.0.input goal then entries_for (reverse (map (λ s. s.0) below)) s.0.step_kind_from_parent (final_answer s r target) else [] in
       subst (All (IsReady is_yes is_no scripts after (runs_of later) goal)) (sym (entries_are goal))
       (All-weaker (IsLeftOf goal) (IsReady is_yes is_no scripts after (runs_of later) goal)
-      (left_over_ready is_yes is_no scripts after s.0.step_kind_from_parent (final_answer s r target) below later next (lower is_yes is_no scripts nodes after s below r target h settles) given goal)
+      (left_over_ready is_yes is_no scripts after s.0.step_kind_from_parent (final_answer s r target) below later next (lower is_yes is_no scripts nodes after s below r target h rebases) given goal)
       (left ++ own)
       (All-append (IsLeftOf goal) left own (old_left goal (entries_at same old goal) (ready goal) reason holds) (own_left goal (enabled && same s.0.input goal) (its_goal goal enabled))))

@@ -3,8 +3,8 @@ use Rattle.std.proofs.Common.{◌≡◌, ◌≢◌, ℕ, Bool, true, List, [], �
 use Rattle.open_graphs.specs.Rebased as theory
 use Rattle.search_graph.specs.Below.{PathKind, Inductive, Unknown, Coinductive, ForcedAmbiguity, HeadUsages, Heads, rank_of, DelegateOf, CxOf, Done, RebaseReason, StackEntry, IsCycleResult, verdict_of, Run, some_heads, newest, Stood}
 use Rattle.evaluations.proofs.Mirrors.{leaves_safe}
-use Rattle.search_graph.specs.Words.{Unstable, Call, limits, bound, IsCounted, seen, HasAsked, frame_of, reason_shape, HasReason, IsNewestUnranked, IsReason, IsRunEnd, Repeated, Initial, WithoutUsages, Ambiguous, Stable, Limited, Repeats, run_of}
-use Rattle.search_graph.specs.RunEnds.{Unused}
+use Rattle.search_graph.specs.Words.{Unstable, Call, limits, bound, IsCounted, seen, HasAsked, frame_of, reason_shape, HasReason, IsNewestUnranked, IsReason, IsEndOfRun, Repeated, Initial, WithoutUsages, Ambiguous, Stable, Limited, Repeats, run_of}
+use Rattle.search_graph.specs.EndOfRun.{Unused}
 use Rattle.search_graph.proofs.Moves.{leaving, outcome_of}
 
 -- ---- the reason
@@ -25,18 +25,18 @@ module _ {X F I R A T : Type 0} (is_yes is_no : R → Bool) (same : R → R → 
   is_true s usages r why (Ambiguous info never used is) = tt
 
   -- so what becomes of the goal has a reason
-  reason_at : (limit finished_runs : ℕ) (s : StackEntry X I R A T × Run X F I R A T) (below : List (StackEntry X I R A T × Run X F I R A T)) (r : R) (e : Result (Option (RebaseReason X I R A T)) Unstable) (why : Option (RebaseReason X I R A T)) → IsRunEnd same initial_kind ambiguity limit s.0.state.provisional_result s.0.state.usages finished_runs r e → e ≡ Ok why → HasReason is_yes is_no why (s ∷ below) r
+  reason_at : (limit finished_runs : ℕ) (s : StackEntry X I R A T × Run X F I R A T) (below : List (StackEntry X I R A T × Run X F I R A T)) (r : R) (e : Result (Option (RebaseReason X I R A T)) Unstable) (why : Option (RebaseReason X I R A T)) → IsEndOfRun same initial_kind ambiguity limit s.0.state.provisional_result s.0.state.usages finished_runs r e → e ≡ Ok why → HasReason is_yes is_no why (s ∷ below) r
   reason_at limit finished_runs s below r e why (Unused is) at = let found : None ≡ why = cc in subst (λ w. HasReason is_yes is_no w (s ∷ below) r) found is
   reason_at limit finished_runs s below r e why (Stable used reason is stable) at =
       let found : Some reason ≡ why = cc in subst (λ w. HasReason is_yes is_no w (s ∷ below) r) found (is_true s used r reason stable)
   reason_at limit finished_runs s below r e why (Limited used is never many) at = absurd cc
   reason_at limit finished_runs s below r e why (Repeats used is never few) at = absurd cc
 
-  pub newest_reason : (limit finished_runs : ℕ) (goals : List (StackEntry X I R A T × Run X F I R A T)) (d : StackEntry X I R A T) (r : R) (e : Result (Option (RebaseReason X I R A T)) Unstable) (why : Option (RebaseReason X I R A T)) → option_map (λ s. s.0) (newest goals) ≡ Some d → IsRunEnd same initial_kind ambiguity limit d.state.provisional_result d.state.usages finished_runs r e → e ≡ Ok why → HasReason is_yes is_no why goals r
+  pub newest_reason : (limit finished_runs : ℕ) (goals : List (StackEntry X I R A T × Run X F I R A T)) (d : StackEntry X I R A T) (r : R) (e : Result (Option (RebaseReason X I R A T)) Unstable) (why : Option (RebaseReason X I R A T)) → option_map (λ s. s.0) (newest goals) ≡ Some d → IsEndOfRun same initial_kind ambiguity limit d.state.provisional_result d.state.usages finished_runs r e → e ≡ Ok why → HasReason is_yes is_no why goals r
   newest_reason limit finished_runs [] d r e why is end at = absurd cc
   newest_reason limit finished_runs (s ∷ below) d r e why is end at =
       let first : s.0 ≡ d = cc in
-      reason_at limit finished_runs s below r e why (subst (λ (x : StackEntry X I R A T). IsRunEnd same initial_kind ambiguity limit x.state.provisional_result x.state.usages finished_runs r e) (sym first) end) at
+      reason_at limit finished_runs s below r e why (subst (λ (x : StackEntry X I R A T). IsEndOfRun same initial_kind ambiguity limit x.state.provisional_result x.state.usages finished_runs r e) (sym first) end) at
 
 -- ---- the rank
 

@@ -9,11 +9,11 @@ use Rattle.search_graph.specs.Below.{Entry, path_kind, Stored, Use, stack_of, Ar
 use Rattle.open_graphs.proofs.Rebased.{rebased_keeps_stored}
 use Rattle.cycle_heads.proofs.PathRanks.{greater_rank}
 use Rattle.search_parts.proofs.RebasedEntries.{is_used, is_unused}
-use Rattle.search_graph.specs.Words.{frame_of, frames_of, depths_of, highest_depth, kept_shape, reason_shape, run_of, runs_of, LieBelow}
+use Rattle.search_graph.specs.Words.{frame_of, frames_of, depths_of, highest_depth, entry_shape, reason_shape, run_of, runs_of, LieBelow}
 use Rattle.search_graph.proofs.CycleAnswers.{path_kind_is}
 use Rattle.search_graph.proofs.HeadOrder.{Ascends, ascends, at_later, at_most_highest, highest_there, no_highest}
 use Rattle.search_graph.proofs.Justified.{stack_length}
-use Rattle.search_graph.proofs.RebasedPaths.{is_settled, is_zero, not_zero, passes_path_test}
+use Rattle.search_graph.proofs.RebasedPaths.{is_changed, is_zero, not_zero, passes_path_test}
 use Rattle.search_graph.proofs.RebasedShapes.{inserts_empty, inserts_heads, left_there, new_ascends, popped_head, there_left, with_all}
 
 -- ---- heads by depth
@@ -66,8 +66,8 @@ module _ {X I R A T : Type 0} (is_yes is_no : R → Bool) (stack : List (StackEn
 
     module _ (paths : CycleHead → PathsToNested) (usages : CycleHead → HeadUsages) (entry middle after : ProvisionalCacheEntry X I R A T) (head : StackDepth × CycleHead) (asc : Ascends entry.heads) (top_is : highest entry.heads ≡ Some head) (at : head.0.0 ≡ length below) where
       taken_out : HasNewHead middle after → middle.heads ≡ with_all paths usages done.state.heads (but_highest entry.heads) → middle.path_from_head ≡ entry.path_from_head
-          → (kept_shape is_yes is_no after).node ≡ (kept_shape is_yes is_no entry).node
-          → IsTakenOut below top (depths_of entry.heads) (depths_of done.state.heads) (kept_shape is_yes is_no entry) (kept_shape is_yes is_no after)
+          → (entry_shape is_yes is_no after).node ≡ (entry_shape is_yes is_no entry).node
+          → IsTakenOut below top (depths_of entry.heads) (depths_of done.state.heads) (entry_shape is_yes is_no entry) (entry_shape is_yes is_no after)
       taken_out new heads_are path_is node_is =
           let after_heads : after.heads ≡ with_all paths usages done.state.heads (but_highest entry.heads) = new.same_heads ∙ heads_are in
           let after_ascends : Ascends after.heads = subst Ascends (sym after_heads) (new_ascends paths usages entry.heads done.state.heads head (length below) asc top_is at lower_there) in
@@ -94,7 +94,7 @@ module _ {X I R A T : Type 0} (is_yes is_no : R → Bool) (stack : List (StackEn
     module _ (propagated : A → R) (overflow : R) (unsure : (info : A) → verdict_of is_yes is_no (propagated info) ≡ theory.Neither) (overflow_unsure : verdict_of is_yes is_no overflow ≡ theory.Neither) (reason : RebaseReason X I R A T) (entry after : ProvisionalCacheEntry X I R A T) where
       -- the rule in the theory's words
       abbrev pub IsRebasedBy : ProvisionalCacheEntry X I R A T → Type 0
-      IsRebasedBy new = RebasedBy (reason_shape reason) below top (depths_of entry.heads) (depths_of done.state.heads) (heads_shape done.state.heads) (kept_shape is_yes is_no entry) (kept_shape is_yes is_no new)
+      IsRebasedBy new = RebasedBy (reason_shape reason) below top (depths_of entry.heads) (depths_of done.state.heads) (heads_shape done.state.heads) (entry_shape is_yes is_no entry) (entry_shape is_yes is_no new)
 
       module _ (head : StackDepth × CycleHead) (asc : Ascends entry.heads) (top_is : highest entry.heads ≡ Some head) where
         unused : head.0.0 ≡ length stack → has_usages head.1.usages ≡ false → from_new_head stack done (record entry { heads = with_unused done.state.heads (but_highest entry.heads) }) ≡ Some after → IsRebasedBy after
@@ -108,20 +108,20 @@ module _ {X I R A T : Type 0} (is_yes is_no : R → Bool) (stack : List (StackEn
             (subst (λ h. InsertsEmpty (length below) (heads_shape entry.heads) (heads_shape h)) (sym new.same_heads) (inserts_empty entry.heads done.state.heads head (length below) asc top_is here lower_there))
             (ap (verdict_of is_yes is_no) new.same_result)
 
-        used_settled : head.0.0 ≡ length stack → has_usages head.1.usages ≡ true → keeps_kinds stack done entry.path_from_head head.1.paths_to_head ≡ true → verdict_of is_yes is_no after.result ≢ theory.Neither
+        used_changed : head.0.0 ≡ length stack → has_usages head.1.usages ≡ true → keeps_kinds stack done entry.path_from_head head.1.paths_to_head ≡ true → verdict_of is_yes is_no after.result ≢ theory.Neither
             → (kept : ProvisionalCacheEntry X I R A T) → settled propagated overflow reason head.1.usages entry ≡ Some kept
             → from_new_head stack done (record kept { heads = with_used done.state.heads head.1.paths_to_head (but_highest kept.heads) }) ≡ Some after → IsRebasedBy after
-        used_settled at some keeps definite kept settles is =
+        used_changed at some keeps definite kept rebases is =
             let here : head.0.0 ≡ length below = at ∙ many in
             let middle : ProvisionalCacheEntry X I R A T = record kept { heads = with_used done.state.heads head.1.paths_to_head (but_highest kept.heads) } in
             let new = new_head middle after is in
-            let left = is_settled is_yes is_no propagated overflow unsure overflow_unsure reason head.1 entry kept settles in
+            let left = is_changed is_yes is_no propagated overflow unsure overflow_unsure reason head.1 entry kept rebases in
             let heads_are : middle.heads ≡ with_used done.state.heads head.1.paths_to_head (but_highest entry.heads) = ap (λ h. with_used done.state.heads head.1.paths_to_head (but_highest h)) left.same_heads in
             let popped = popped_head entry.heads done.state.heads head (length below) asc top_is here lower_there in
-            let kept_definite : verdict_of is_yes is_no kept.result ≢ theory.Neither = λ neither. definite (ap (verdict_of is_yes is_no) new.same_result ∙ neither) in
+            let entry_definite : verdict_of is_yes is_no kept.result ≢ theory.Neither = λ neither. definite (ap (verdict_of is_yes is_no) new.same_result ∙ neither) in
             Needed
             (taken_out (λ h. extended_by_each head.1.paths_to_head h.paths_to_head) (λ h. h.usages) entry middle after head asc top_is here new heads_are left.same_path
-            (ap (λ o. elim o [ None ↦ 0 | Some n ↦ n.0 ]) (new.same_node ∙ left.same_node kept_definite)))
+            (ap (λ o. elim o [ None ↦ 0 | Some n ↦ n.0 ]) (new.same_node ∙ left.same_node entry_definite)))
             (λ zeros. not_zero head.1 some (subst (λ h. (cycle : ℕ) → h.usages cycle ≡ 0) popped zeros))
             (passes_path_test stack done below top kinds entry.path_from_head (heads_shape entry.heads) head.1 popped keeps)
             (subst (λ h. InsertsHeads (length below) (heads_shape entry.heads) (heads_shape done.state.heads) (heads_shape h)) (sym (new.same_heads ∙ heads_are)) (inserts_heads entry.heads done.state.heads head (length below) asc top_is here lower_there))
@@ -131,15 +131,15 @@ module _ {X I R A T : Type 0} (is_yes is_no : R → Bool) (stack : List (StackEn
         used : head.0.0 ≡ length stack → has_usages head.1.usages ≡ true → verdict_of is_yes is_no after.result ≢ theory.Neither → rebased_used stack done (settled propagated overflow reason) entry head.1 ≡ Some after → IsRebasedBy after
         used at some definite is = tested (keeps_kinds stack done entry.path_from_head head.1.paths_to_head) refl is
           where
-            settles : keeps_kinds stack done entry.path_from_head head.1.paths_to_head ≡ true → (o : Option (ProvisionalCacheEntry X I R A T)) → settled propagated overflow reason head.1.usages entry ≡ o
+            rebases : keeps_kinds stack done entry.path_from_head head.1.paths_to_head ≡ true → (o : Option (ProvisionalCacheEntry X I R A T)) → settled propagated overflow reason head.1.usages entry ≡ o
                 → option_and_then (λ kept. from_new_head stack done (record kept { heads = with_used done.state.heads head.1.paths_to_head (but_highest kept.heads) })) o ≡ Some after → IsRebasedBy after
-            settles keeps None is left = absurd cc
-            settles keeps (Some kept) is left = used_settled at some keeps definite kept is left
+            rebases keeps None is left = absurd cc
+            rebases keeps (Some kept) is left = used_changed at some keeps definite kept is left
 
             tested : (b : Bool) → keeps_kinds stack done entry.path_from_head head.1.paths_to_head ≡ b
                 → (if b then option_and_then (λ kept. from_new_head stack done (record kept { heads = with_used done.state.heads head.1.paths_to_head (but_highest kept.heads) })) (settled propagated overflow reason head.1.usages entry) else None) ≡ Some after → IsRebasedBy after
             tested false keeps is = absurd cc
-            tested true keeps is = settles keeps (settled propagated overflow reason head.1.usages entry) refl is
+            tested true keeps is = rebases keeps (settled propagated overflow reason head.1.usages entry) refl is
 
         at_head : verdict_of is_yes is_no after.result ≢ theory.Neither → rebased stack done (settled propagated overflow reason) entry ≡ Some after → IsRebasedBy after
         at_head definite is = elim (cases_eq head.0.0 (length stack)) [
@@ -176,10 +176,10 @@ module _ {X I R A T : Type 0} (is_yes is_no : R → Bool) (stack : List (StackEn
 
   -- where the reason is true, an answer with heads that rise, on the stack or at the place above it, can be rebased in the theory's words
   pub rebasable : (reason : RebaseReason X I R A T) (verdict : theory.Verdict) (entry : ProvisionalCacheEntry X I R A T) → CanBeRebased (length stack) entry → IsRising entry.heads → IsTrueReason (reason_shape reason) verdict top
-      → IsRebasable (reason_shape reason) below top (depths_of entry.heads) (depths_of done.state.heads) verdict (heads_shape done.state.heads) (kept_shape is_yes is_no entry)
+      → IsRebasable (reason_shape reason) below top (depths_of entry.heads) (depths_of done.state.heads) verdict (heads_shape done.state.heads) (entry_shape is_yes is_no entry)
   rebasable reason verdict entry can rising is_true = at (highest entry.heads) refl
     where
-      at : (o : Option (StackDepth × CycleHead)) → highest entry.heads ≡ o → IsRebasable (reason_shape reason) below top (depths_of entry.heads) (depths_of done.state.heads) verdict (heads_shape done.state.heads) (kept_shape is_yes is_no entry)
+      at : (o : Option (StackDepth × CycleHead)) → highest entry.heads ≡ o → IsRebasable (reason_shape reason) below top (depths_of entry.heads) (depths_of done.state.heads) verdict (heads_shape done.state.heads) (entry_shape is_yes is_no entry)
       at None none = absurd (can.some (no_highest entry.heads none))
       at (Some head) top_is =
           let asc = ascends entry.heads rising in
@@ -210,7 +210,7 @@ module _ {X F I R A T : Type 0} (is_yes is_no : R → Bool) (goal : StackEntry X
   pub goal_rebased : LieBelow (length goals) goal.0.state.heads → (propagated : A → R) (overflow : R) → ((info : A) → verdict_of is_yes is_no (propagated info) ≡ theory.Neither) → verdict_of is_yes is_no overflow ≡ theory.Neither
       → (reason : RebaseReason X I R A T) (entry after : ProvisionalCacheEntry X I R A T) → entry.heads ≢ [] → IsRising entry.heads → verdict_of is_yes is_no after.result ≢ theory.Neither
       → rebased real_below goal.0 (settled propagated overflow reason) entry ≡ Some after
-      → RebasedBy (reason_shape reason) theory_below (frame_of is_yes is_no (run_of goal)).entry (depths_of entry.heads) (depths_of goal.0.state.heads) (heads_shape goal.0.state.heads) (kept_shape is_yes is_no entry) (kept_shape is_yes is_no after)
+      → RebasedBy (reason_shape reason) theory_below (frame_of is_yes is_no (run_of goal)).entry (depths_of entry.heads) (depths_of goal.0.state.heads) (heads_shape goal.0.state.heads) (entry_shape is_yes is_no entry) (entry_shape is_yes is_no after)
   goal_rebased lower propagated overflow unsure overflow_unsure reason entry after =
       rebased_shape is_yes is_no real_below goal.0 theory_below (frame_of is_yes is_no (run_of goal)).entry same_length
       (λ depth. path_kind_is is_yes is_no goal.0.step_kind_from_parent depth goals)
@@ -219,7 +219,7 @@ module _ {X F I R A T : Type 0} (is_yes is_no : R → Bool) (goal : StackEntry X
 
   -- the answer is stored over these entries
   abbrev pub IsStored : List theory.Node → List Entry → ProvisionalCacheEntry X I R A T → Type 0
-  IsStored nodes stack entry = Stored nodes (kept_shape is_yes is_no entry).verdict stack (kept_shape is_yes is_no entry).highest (kept_shape is_yes is_no entry).path (kept_shape is_yes is_no entry).node (kept_shape is_yes is_no entry).heads
+  IsStored nodes stack entry = Stored nodes (entry_shape is_yes is_no entry).verdict stack (entry_shape is_yes is_no entry).highest (entry_shape is_yes is_no entry).path (entry_shape is_yes is_no entry).node (entry_shape is_yes is_no entry).heads
 
   -- and it stays stored without the newest goal, where the reason is true of that goal's verdict, and its own answer may be used
   pub goal_keeps_stored : LieBelow (length goals) goal.0.state.heads → (propagated : A → R) (overflow : R) → ((info : A) → verdict_of is_yes is_no (propagated info) ≡ theory.Neither) → verdict_of is_yes is_no overflow ≡ theory.Neither
@@ -232,6 +232,6 @@ module _ {X F I R A T : Type 0} (is_yes is_no : R → Bool) (goal : StackEntry X
   goal_keeps_stored lower propagated overflow unsure overflow_unsure nodes reason verdict entry after use_there is_true can rising definite is =
       let top = (frame_of is_yes is_no (run_of goal)).entry in
       let lower_there = subst (λ n. LieBelow n goal.0.state.heads) (sym (length-reverse (map (λ s. s.0) goals) ∙ length-map goals (λ s. s.0))) lower in
-      rebased_keeps_stored nodes (reason_shape reason) theory_below top (depths_of entry.heads) (depths_of goal.0.state.heads) verdict (heads_shape goal.0.state.heads) (kept_shape is_yes is_no entry) (kept_shape is_yes is_no after)
+      rebased_keeps_stored nodes (reason_shape reason) theory_below top (depths_of entry.heads) (depths_of goal.0.state.heads) verdict (heads_shape goal.0.state.heads) (entry_shape is_yes is_no entry) (entry_shape is_yes is_no after)
       use_there (rebasable is_yes is_no real_below goal.0 theory_below top same_length lower_there reason verdict entry can rising is_true) definite
       (goal_rebased lower propagated overflow unsure overflow_unsure reason entry after can.some rising definite is)

@@ -9,7 +9,7 @@ use Rattle.search_parts.proofs.RebasedEntries.{is_used, is_unused}
 use Rattle.search_graph.specs.Words.{depths_of, LieBelow}
 use Rattle.search_graph.proofs.HeadOrder.{Ascends, ascends, at_most_highest, highest_there, no_highest}
 use Rattle.search_graph.proofs.RebasedAnswers.{HasNewHead, new_head}
-use Rattle.search_graph.proofs.RebasedRising.{settled_same_heads}
+use Rattle.search_graph.proofs.RebasedRising.{changed_heads_same}
 use Rattle.search_graph.proofs.RebasedShapes.{left_there, with_all}
 
 module _ {X I R A T : Type 0} (is_yes is_no : R → Bool) where
@@ -28,12 +28,12 @@ module _ {X I R A T : Type 0} (is_yes is_no : R → Bool) where
         let same : record before { result = result; node = None } ≡ after = cc in
         subst (KeepsResult before) same (inr (neither, refl))
 
-    settled_keeps : (reason : RebaseReason X I R A T) (usages : HeadUsages) (before after : ProvisionalCacheEntry X I R A T) → settled propagated overflow reason usages before ≡ Some after → KeepsResult before after
-    settled_keeps NoCycleUsages usages before after is = absurd cc
-    settled_keeps (Ambiguity info) usages before after is = replaced before after (propagated info) (unsure info) is
-    settled_keeps Overflow usages before after is = replaced before after overflow overflow_unsure is
-    settled_keeps (ReachedFixpoint None) usages before after is = unchanged before after is
-    settled_keeps (ReachedFixpoint (Some kind)) usages before after is = at (has_usages (other_usages usages kind)) is
+    changed_keeps : (reason : RebaseReason X I R A T) (usages : HeadUsages) (before after : ProvisionalCacheEntry X I R A T) → settled propagated overflow reason usages before ≡ Some after → KeepsResult before after
+    changed_keeps NoCycleUsages usages before after is = absurd cc
+    changed_keeps (Ambiguity info) usages before after is = replaced before after (propagated info) (unsure info) is
+    changed_keeps Overflow usages before after is = replaced before after overflow overflow_unsure is
+    changed_keeps (ReachedFixpoint None) usages before after is = unchanged before after is
+    changed_keeps (ReachedFixpoint (Some kind)) usages before after is = at (has_usages (other_usages usages kind)) is
       where
         at : (b : Bool) → (if b then None else Some before) ≡ Some after → KeepsResult before after
         at true is = absurd cc
@@ -87,17 +87,17 @@ module _ {X I R A T : Type 0} (is_yes is_no : R → Bool) where
         used : head.0.0 ≡ length stack → rebased_used stack done (settled propagated overflow reason) entry head.1 ≡ Some after → LeavesEntry entry after
         used at is = tested (keeps_kinds stack done entry.path_from_head head.1.paths_to_head) is
           where
-            settles : (o : Option (ProvisionalCacheEntry X I R A T)) → settled propagated overflow reason head.1.usages entry ≡ o
+            rebases : (o : Option (ProvisionalCacheEntry X I R A T)) → settled propagated overflow reason head.1.usages entry ≡ o
                 → option_and_then (λ kept. from_new_head stack done (record kept { heads = with_used done.state.heads head.1.paths_to_head (but_highest kept.heads) })) o ≡ Some after → LeavesEntry entry after
-            settles None settles_to left = absurd cc
-            settles (Some kept) settles_to left =
+            rebases None ends_with left = absurd cc
+            rebases (Some kept) ends_with left =
                 moved (λ h. extended_by_each head.1.paths_to_head h.paths_to_head) (λ h. h.usages) (record kept { heads = with_used done.state.heads head.1.paths_to_head (but_highest kept.heads) }) at
-                (ap (λ h. with_used done.state.heads head.1.paths_to_head (but_highest h)) (settled_same_heads propagated overflow reason head.1.usages entry kept settles_to))
-                (settled_keeps propagated overflow unsure overflow_unsure reason head.1.usages entry kept settles_to) left
+                (ap (λ h. with_used done.state.heads head.1.paths_to_head (but_highest h)) (changed_heads_same propagated overflow reason head.1.usages entry kept ends_with))
+                (changed_keeps propagated overflow unsure overflow_unsure reason head.1.usages entry kept ends_with) left
 
             tested : (b : Bool) → (if b then option_and_then (λ kept. from_new_head stack done (record kept { heads = with_used done.state.heads head.1.paths_to_head (but_highest kept.heads) })) (settled propagated overflow reason head.1.usages entry) else None) ≡ Some after → LeavesEntry entry after
             tested false left = absurd cc
-            tested true left = settles (settled propagated overflow reason head.1.usages entry) refl left
+            tested true left = rebases (settled propagated overflow reason head.1.usages entry) refl left
 
         at_head : rebased stack done (settled propagated overflow reason) entry ≡ Some after → LeavesEntry entry after
         at_head is = elim (cases_eq head.0.0 (length stack)) [

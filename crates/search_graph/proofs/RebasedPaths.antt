@@ -124,32 +124,32 @@ is_single head kind none = none_but head.usages kind ((none_of_others head.usage
 module _ {X I R A T : Type 0} (is_yes is_no : R → Bool) (propagated : A → R) (overflow : R) (unsure : (info : A) → verdict_of is_yes is_no (propagated info) ≡ theory.Neither) (overflow_unsure : verdict_of is_yes is_no overflow ≡ theory.Neither) where
   -- What is settled of an answer that used this head: its result is the one that the theory has for the reason, the heads and the path
   -- stay, and so does the node of an answer with a verdict.
-  pub record IsSettled (reason : RebaseReason X I R A T) (head : CycleHead) (before after : ProvisionalCacheEntry X I R A T) : Type 0 where
+  pub record IsChanged (reason : RebaseReason X I R A T) (head : CycleHead) (before after : ProvisionalCacheEntry X I R A T) : Type 0 where
     pub result : HasResult (reason_shape reason) (head_shape (Some head)) (verdict_of is_yes is_no before.result) (verdict_of is_yes is_no after.result)
     pub same_heads : after.heads ≡ before.heads
     pub same_path : after.path_from_head ≡ before.path_from_head
     pub same_node : verdict_of is_yes is_no after.result ≢ theory.Neither → after.node ≡ before.node
 
-  unsettled : (reason : RebaseReason X I R A T) (head : CycleHead) (before after : ProvisionalCacheEntry X I R A T) → HasResult (reason_shape reason) (head_shape (Some head)) (verdict_of is_yes is_no before.result) (verdict_of is_yes is_no before.result)
-      → Some before ≡ Some after → IsSettled reason head before after
-  unsettled reason head before after result is =
+  is_unchanged : (reason : RebaseReason X I R A T) (head : CycleHead) (before after : ProvisionalCacheEntry X I R A T) → HasResult (reason_shape reason) (head_shape (Some head)) (verdict_of is_yes is_no before.result) (verdict_of is_yes is_no before.result)
+      → Some before ≡ Some after → IsChanged reason head before after
+  is_unchanged reason head before after result is =
       let same : before ≡ after = cc in
-      subst (IsSettled reason head before) same (record { result = result; same_heads = refl; same_path = refl; same_node = λ definite. refl })
+      subst (IsChanged reason head before) same (record { result = result; same_heads = refl; same_path = refl; same_node = λ definite. refl })
 
   replaced : (reason : RebaseReason X I R A T) (head : CycleHead) (before after : ProvisionalCacheEntry X I R A T) (result : R) → verdict_of is_yes is_no result ≡ theory.Neither
       → HasResult (reason_shape reason) (head_shape (Some head)) (verdict_of is_yes is_no before.result) (verdict_of is_yes is_no result)
-      → Some (record before { result = result; node = None }) ≡ Some after → IsSettled reason head before after
+      → Some (record before { result = result; node = None }) ≡ Some after → IsChanged reason head before after
   replaced reason head before after result neither has is =
       let same : record before { result = result; node = None } ≡ after = cc in
-      subst (IsSettled reason head before) same (record { result = has; same_heads = refl; same_path = refl; same_node = λ definite. absurd (definite neither) })
+      subst (IsChanged reason head before) same (record { result = has; same_heads = refl; same_path = refl; same_node = λ definite. absurd (definite neither) })
 
-  pub is_settled : (reason : RebaseReason X I R A T) (head : CycleHead) (before after : ProvisionalCacheEntry X I R A T) → settled propagated overflow reason head.usages before ≡ Some after → IsSettled reason head before after
-  is_settled NoCycleUsages head before after is = absurd cc
-  is_settled (Ambiguity info) head before after is = replaced (Ambiguity info) head before after (propagated info) (unsure info) (unsure info) is
-  is_settled Overflow head before after is = replaced Overflow head before after overflow overflow_unsure overflow_unsure is
-  is_settled (ReachedFixpoint None) head before after is = unsettled (ReachedFixpoint None) head before after refl is
-  is_settled (ReachedFixpoint (Some kind)) head before after is = at (has_usages (other_usages head.usages kind)) refl is
+  pub is_changed : (reason : RebaseReason X I R A T) (head : CycleHead) (before after : ProvisionalCacheEntry X I R A T) → settled propagated overflow reason head.usages before ≡ Some after → IsChanged reason head before after
+  is_changed NoCycleUsages head before after is = absurd cc
+  is_changed (Ambiguity info) head before after is = replaced (Ambiguity info) head before after (propagated info) (unsure info) (unsure info) is
+  is_changed Overflow head before after is = replaced Overflow head before after overflow overflow_unsure overflow_unsure is
+  is_changed (ReachedFixpoint None) head before after is = is_unchanged (ReachedFixpoint None) head before after refl is
+  is_changed (ReachedFixpoint (Some kind)) head before after is = at (has_usages (other_usages head.usages kind)) refl is
     where
-      at : (b : Bool) → has_usages (other_usages head.usages kind) ≡ b → (if b then None else Some before) ≡ Some after → IsSettled (ReachedFixpoint (Some kind)) head before after
+      at : (b : Bool) → has_usages (other_usages head.usages kind) ≡ b → (if b then None else Some before) ≡ Some after → IsChanged (ReachedFixpoint (Some kind)) head before after
       at true others is = absurd cc
-      at false none is = unsettled (ReachedFixpoint (Some kind)) head before after (is_single head kind none, refl) is
+      at false none is = is_unchanged (ReachedFixpoint (Some kind)) head before after (is_single head kind none, refl) is

@@ -9,12 +9,12 @@ left_rise : (paths : CycleHead → PathsToNested) (usages : CycleHead → HeadUs
 left_rise paths usages done own rising = rises (with_all paths usages done (but_highest own)) (all_ascends paths usages done (but_highest own) (left_ascends own (ascends own rising)))
 
 module _ {X I R A T : Type 0} where
-  pub settled_same_heads : (propagated : A → R) (overflow : R) (reason : RebaseReason X I R A T) (usages : HeadUsages) (entry after : ProvisionalCacheEntry X I R A T) → settled propagated overflow reason usages entry ≡ Some after → after.heads ≡ entry.heads
-  settled_same_heads propagated overflow NoCycleUsages usages entry after is = absurd cc
-  settled_same_heads propagated overflow (Ambiguity info) usages entry after is = cc
-  settled_same_heads propagated overflow Overflow usages entry after is = cc
-  settled_same_heads propagated overflow (ReachedFixpoint None) usages entry after is = cc
-  settled_same_heads propagated overflow (ReachedFixpoint (Some kind)) usages entry after is = at (has_usages (other_usages usages kind)) is
+  pub changed_heads_same : (propagated : A → R) (overflow : R) (reason : RebaseReason X I R A T) (usages : HeadUsages) (entry after : ProvisionalCacheEntry X I R A T) → settled propagated overflow reason usages entry ≡ Some after → after.heads ≡ entry.heads
+  changed_heads_same propagated overflow NoCycleUsages usages entry after is = absurd cc
+  changed_heads_same propagated overflow (Ambiguity info) usages entry after is = cc
+  changed_heads_same propagated overflow Overflow usages entry after is = cc
+  changed_heads_same propagated overflow (ReachedFixpoint None) usages entry after is = cc
+  changed_heads_same propagated overflow (ReachedFixpoint (Some kind)) usages entry after is = at (has_usages (other_usages usages kind)) is
     where
       at : (b : Bool) → (if b then None else Some entry) ≡ Some after → after.heads ≡ entry.heads
       at true is = absurd cc
@@ -37,17 +37,17 @@ module _ {X I R A T : Type 0} where
       used_rises : (head : CycleHead) → rebased_used stack done (settled propagated overflow reason) entry head ≡ Some after → IsRising after.heads
       used_rises head is = tested (keeps_kinds stack done entry.path_from_head head.paths_to_head) is
         where
-          settles : (o : Option (ProvisionalCacheEntry X I R A T)) → settled propagated overflow reason head.usages entry ≡ o
+          rebases : (o : Option (ProvisionalCacheEntry X I R A T)) → settled propagated overflow reason head.usages entry ≡ o
               → option_and_then (λ kept. from_new_head stack done (record kept { heads = with_used done.state.heads head.paths_to_head (but_highest kept.heads) })) o ≡ Some after → IsRising after.heads
-          settles None settles_to left = absurd cc
-          settles (Some kept) settles_to left =
+          rebases None ends_with left = absurd cc
+          rebases (Some kept) ends_with left =
               subst IsRising (sym (moved_heads (record kept { heads = with_used done.state.heads head.paths_to_head (but_highest kept.heads) }) after left))
               (left_rise (λ h. extended_by_each head.paths_to_head h.paths_to_head) (λ h. h.usages) done.state.heads kept.heads
-              (subst IsRising (sym (settled_same_heads propagated overflow reason head.usages entry kept settles_to)) rising))
+              (subst IsRising (sym (changed_heads_same propagated overflow reason head.usages entry kept ends_with)) rising))
 
           tested : (b : Bool) → (if b then option_and_then (λ kept. from_new_head stack done (record kept { heads = with_used done.state.heads head.paths_to_head (but_highest kept.heads) })) (settled propagated overflow reason head.usages entry) else None) ≡ Some after → IsRising after.heads
           tested false left = absurd cc
-          tested true left = settles (settled propagated overflow reason head.usages entry) refl left
+          tested true left = rebases (settled propagated overflow reason head.usages entry) refl left
 
       -- so that what holds of rising heads holds of the answer at each later pop, too
       pub rebased_rising : rebased stack done (settled propagated overflow reason) entry ≡ Some after → IsRising after.heads

@@ -3,7 +3,7 @@ use Rattle.std.proofs.Common.{◌≡◌, ◌≢◌, ℕ, Bool, true, false, IsTr
 use Rattle.std.specs.Option.{IsSomeAnd}
 use Rattle.open_graphs.specs.Graph as theory
 use Rattle.search_graph.specs.Below.{DelegateOf, CxOf, PathKind, Verdict, Yes, No, Neither, NodeId, Request, Evaluate, EnterCandidate, FinishCandidate, Ignore, Done, Reply, Begin, Answer, Noted, StackEntry, CacheNode, verdict_of, Fits, IsFitting, request_after, Run, Received, DefiniteAnswer, RunRecord, received, answered, answers_after, IsReplySorted, KeepsAnswer, open_number, edge_to, IsVerdict}
-use Rattle.search_graph.specs.Words.{in_theory, AreJustified, MayAnswer, IsFit, run_of, runs_of, Call, IsWaiting}
+use Rattle.search_graph.specs.Words.{verdict_shape, AreJustified, MayAnswer, IsFit, run_of, runs_of, Call, IsWaiting}
 use Rattle.search_graph.proofs.Justified.{answered_is_justified}
 use Rattle.search_graph.proofs.Moves.{can_step_record}
 use Rattle.search_graph.proofs.ProgressLaws.{answers_received}
@@ -32,7 +32,7 @@ no_is_not_yes : No ≡ Yes → ⊥
 no_is_not_yes e = cc
 
 -- the verdict of an answer in the theory's words
-pub verdict_is : {R : Type 0} (is_yes is_no : R → Bool) (r : R) (v : Verdict) → ((v ≡ Yes) ↔ IsTrue (is_yes r)) → ((v ≡ No) ↔ IsTrue (is_no r)) → v ≢ Neither → in_theory v ≡ verdict_of is_yes is_no r
+pub verdict_is : {R : Type 0} (is_yes is_no : R → Bool) (r : R) (v : Verdict) → ((v ≡ Yes) ↔ IsTrue (is_yes r)) → ((v ≡ No) ↔ IsTrue (is_no r)) → v ≢ Neither → verdict_shape v ≡ verdict_of is_yes is_no r
 verdict_is is_yes is_no r Yes holds fails d = sym (yes_at (is_yes r) (is_no r) (holds.0 refl))
 verdict_is is_yes is_no r No holds fails d = sym (no_at (is_yes r) (is_no r) (λ y. no_is_not_yes (holds.1 y)) (fails.0 refl))
 verdict_is is_yes is_no r Neither holds fails d = absurd (d refl)
@@ -69,7 +69,7 @@ yes_is_definite e = cc
 no_is_definite : No ≡ Neither → ⊥
 no_is_definite e = cc
 
-pub in_theory_definite : (v : Verdict) → v ≢ Neither → in_theory v ≢ theory.Neither
+pub in_theory_definite : (v : Verdict) → v ≢ Neither → verdict_shape v ≢ theory.Neither
 in_theory_definite Yes d e = cc
 in_theory_definite No d e = cc
 in_theory_definite Neither d e = d refl
@@ -103,7 +103,7 @@ module _ {D C V P F I R A T : Type 0} (G : DelegateOf D C V P F I R A T) (X : Cx
   -- an answer of the theory's verdict
   answered_at : (entry : StackEntry C I R A T) (run : Run C F I R A T) (r : R) (node : Option NodeId) (v : Verdict) (below : Goals) → v ≢ Neither → IsVerdict X.is_yes X.is_no (Answer r) v → IsFit X.is_yes X.is_no nodes (runs_of ((entry, run) ∷ below)) (Answer r) node → AreJustified X.is_yes X.is_no nodes (runs_of ((entry, run) ∷ below)) → (answers : List (DefiniteAnswer I)) → KeepsAnswer run.progress v node answers → AreJustified X.is_yes X.is_no nodes (record (run_of (entry, run)) { answers = answers } ∷ runs_of below)
   answered_at entry run r node v below definite verdict fit h answers keeps =
-      let same : in_theory v ≡ verdict_of X.is_yes X.is_no r = verdict_is X.is_yes X.is_no r v verdict.0 verdict.1 definite in
+      let same : verdict_shape v ≡ verdict_of X.is_yes X.is_no r = verdict_is X.is_yes X.is_no r v verdict.0 verdict.1 definite in
       let never : verdict_of X.is_yes X.is_no r ≢ theory.Neither = λ e. in_theory_definite v definite (same ∙ e) in
       let may = subst (λ (o : Option NodeId). IsSomeAnd o (λ a. MayAnswer X.is_yes X.is_no nodes (run_of (entry, run)) (runs_of below) (verdict_of X.is_yes X.is_no r) keeps.kind keeps.input a.0)) keeps.target_is (fit r keeps.kind keeps.input refl keeps.was never) in
       subst (λ (l : List (DefiniteAnswer I)). AreJustified X.is_yes X.is_no nodes (record (run_of (entry, run)) { answers = l } ∷ runs_of below)) (sym keeps.kept)

@@ -4,18 +4,18 @@ use Rattle.std.specs.Cmp.{IsEquivalence}
 use Rattle.search_graph.specs.Below.{DelegateOf, CxOf, Fault, Conflict, Memory, NodeId, Place, Success, WithOverflow, StoredResult, EvaluationResult, Cache, AreRuns, HasGraph, Question, Overlap, Store, stored_at, place_of, stored_from, AnswersStoring, Puts}
 use Rattle.search_parts.proofs.Bridge.{KeepsRule}
 use Rattle.search_graph.specs.Words.{ComesTo, IsCaused, OutOfMemory, OtherResult, IsStoredAt, StoresAnswer, Put, MayPut, Same, WithResult}
-use Rattle.search_graph.specs.Results.{Kept}
+use Rattle.search_graph.specs.Results.{NotStored}
 use Rattle.search_graph.proofs.Promises.{yes_is_proved, no_is_refuted}
 
 module _ {X I R A T : Type 0} (same : I → I → Bool) (old new : Store I (StoredResult X I R A T)) (goal : I) (answer : EvaluationResult X I R A T) where
   -- the answer was stored, or nothing was
   pub stored_either : {U E : Type 0} (token : T) (r : Result U E) → answer.heads ≡ [] → OnOk r (Puts same old new goal (place_of answer) (stored_from answer token)) → OnErr r (new ≡ old) → StoresAnswer same old new goal answer
   stored_either token (Ok u) none puts err = Put token none puts
-  stored_either token (Err e) none puts err = Kept err
+  stored_either token (Err e) none puts err = NotStored err
 
   -- with the result at the place
   pub stored_result : (place : Place) (r : R) → place_of answer ≡ place → answer.result ≡ r → StoresAnswer same old new goal answer → MayPut same old new goal place r
-  stored_result place r at is (Kept unchanged) = Same unchanged
+  stored_result place r at is (NotStored unchanged) = Same unchanged
   stored_result place r at is (Put token none puts) = WithResult (stored_from answer token) is (subst (λ p. Puts same old new goal p (stored_from answer token)) at puts)
 
 -- what was put is stored

@@ -4,7 +4,7 @@ use Rattle.std.specs.Option.{option_and_then}
 use Rattle.std.specs.List.{list_any}
 use Rattle.search_graph.specs.Below.{DelegateOf, CxOf, Received, ProvisionalCacheEntry, PathKind, StackEntry, StackDepth, AvailableDepth, Run, Cache, CacheNode, NotesOverflow, TakesStored, AnswersNewest, Hit, first_accepted, usable, depth_below, newest, CountsOne}
 use Rattle.search_parts.specs.declared.context.Reply.TheVariants as reply
-use Rattle.search_graph.specs.LookUp.{Asking, is_applicable, kept_for, IsUsable}
+use Rattle.search_graph.specs.LookUp.{Asking, is_applicable, usable_entry, IsUsable}
 use Rattle.search_graph.specs.declared.graph.evaluation.Evaluation.{Evaluation}
 use Rattle.search_graph.specs.Moves.{ClosesCycle, Pushes}
 
@@ -19,7 +19,7 @@ module _ {D C V P F I R A T : Type 0} (G : DelegateOf D C V P F I R A T) (X : Cx
 
   -- the provisional entry that answers its question
   abbrev pub entry_for : Evaluation D C V P F I R A T → Option (ProvisionalCacheEntry C I R A T)
-  entry_for e = kept_for same G.ENABLE_PROVISIONAL_CACHE (asking e) goal
+  entry_for e = usable_entry same G.ENABLE_PROVISIONAL_CACHE (asking e) goal
 
   -- the stored result that answers it at this depth
   abbrev pub stored_for : Cache C I R A T → Evaluation D C V P F I R A T → ℕ → Option (Hit I R T)

@@ -22,20 +22,20 @@ pub record OpenRun (I R : Type 0) : Type 0 where
   pub answers : List (DefiniteAnswer I)
 
 -- a verdict in the theory's words
-abbrev pub in_theory : Verdict → theory.Verdict
-in_theory Yes = theory.Yes
-in_theory No = theory.No
-in_theory Neither = theory.Neither
+abbrev pub verdict_shape : Verdict → theory.Verdict
+verdict_shape Yes = theory.Yes
+verdict_shape No = theory.No
+verdict_shape Neither = theory.Neither
 
 -- the place of the node to which the answers of a goal's cycles lead
-abbrev pub leads_to : {I R : Type 0} → OpenRun I R → ℕ
-leads_to o = elim o.cycles_lead [ None ↦ o.own | Some n ↦ n.0 ]
+abbrev pub cycles_node : {I R : Type 0} → OpenRun I R → ℕ
+cycles_node o = elim o.cycles_lead [ None ↦ o.own | Some n ↦ n.0 ]
 
 -- The run as a frame of the theory: the heads that it keeps are those used outside candidates, in this run or earlier. Its answers
 -- are kept beside it, since they rest on other heads than these.
 abbrev pub frame_of : {I R : Type 0} → (R → Bool) → (R → Bool) → OpenRun I R → Frame
 frame_of is_yes is_no o = record {
-  entry = record { step = rank_of o.step; provisional = option_map (verdict_of is_yes is_no) o.provisional; node = leads_to o };
+  entry = record { step = rank_of o.step; provisional = option_map (verdict_of is_yes is_no) o.provisional; node = cycles_node o };
   own = o.own;
   edges = λ verdict. [];
   kept = spare_heads o.tally;
@@ -57,20 +57,20 @@ LeadHome nodes [] = Unit {0}
 LeadHome nodes (o ∷ below) = IsSomeAnd o.cycles_lead (λ n. IsNodeOf nodes n.0 o.goal) × LeadHome nodes below
 
 -- the edge of each answer leads to a node of the goal that it asks
-abbrev pub ArePlaced : {I R : Type 0} → List (CacheNode I R) → List (DefiniteAnswer I) → Type 0
-ArePlaced nodes answers =
+abbrev pub LeadToGoals : {I R : Type 0} → List (CacheNode I R) → List (DefiniteAnswer I) → Type 0
+LeadToGoals nodes answers =
     (i : ℕ) (a : DefiniteAnswer _) → slice_get answers i ≡ Some a → IsNodeOf nodes a.edge.target a.edge.input
 
 -- the edges are among those of the answers with this verdict outside ignored candidates
 abbrev pub AreEdges : {I : Type 0} → List (DefiniteAnswer I) → List Bool → theory.Verdict → List (Edge I) → Type 0
 AreEdges {I} answers ignored verdict edges =
     (i : ℕ) (e : Edge I) → slice_get edges i ≡ Some e →
-    (j : ℕ) × (a : DefiniteAnswer I) × (slice_get answers j ≡ Some a) × (a.edge ≡ e) × (in_theory a.verdict ≡ verdict) × (is_kept ignored a.candidate ≡ true)
+    (j : ℕ) × (a : DefiniteAnswer I) × (slice_get answers j ≡ Some a) × (a.edge ≡ e) × (verdict_shape a.verdict ≡ verdict) × (is_kept ignored a.candidate ≡ true)
 
 -- the same for all goals
-abbrev pub AllPlaced : {I R : Type 0} → List (CacheNode I R) → List (OpenRun I R) → Type 0
-AllPlaced nodes [] = Unit {0}
-AllPlaced nodes (o ∷ below) = ArePlaced nodes o.answers × AllPlaced nodes below
+abbrev pub AllLeadToGoals : {I R : Type 0} → List (CacheNode I R) → List (OpenRun I R) → Type 0
+AllLeadToGoals nodes [] = Unit {0}
+AllLeadToGoals nodes (o ∷ below) = LeadToGoals nodes o.answers × AllLeadToGoals nodes below
 
 -- the newest goal asked for this goal by this step; an outer call asks for anything
 abbrev pub Asks : {I R : Type 0} → List (OpenRun I R) → PathKind → I → Type 0
@@ -78,9 +78,9 @@ Asks [] step goal = Unit {0}
 Asks (o ∷ below) step goal = o.request ≡ Some (Evaluate step goal)
 
 -- each goal was asked for by the one below it
-abbrev pub AreAsked : {I R : Type 0} → List (OpenRun I R) → Type 0
-AreAsked [] = Unit {0}
-AreAsked (o ∷ below) = Asks below o.step o.goal × AreAsked below
+abbrev pub AreAskedBelow : {I R : Type 0} → List (OpenRun I R) → Type 0
+AreAskedBelow [] = Unit {0}
+AreAskedBelow (o ∷ below) = Asks below o.step o.goal × AreAskedBelow below
 
 -- what the goal counts agrees, and its candidates are those on record
 pub record HasTally {I R : Type 0} (parent : ℕ) (o : OpenRun I R) : Type 0 where
@@ -98,7 +98,7 @@ HaveTallies (o ∷ below) = HasTally (length below) o × HaveTallies below
 abbrev pub AreCharged : {I R : Type 0} → (R → Bool) → (R → Bool) → List (CacheNode I R) → OpenRun I R → List (OpenRun I R) → Type 0
 AreCharged {I} is_yes is_no nodes o below =
     (i : ℕ) (a : DefiniteAnswer I) → slice_get o.answers i ≡ Some a → is_kept o.ignored a.candidate ≡ true →
-    IsAnswered (shapes_of is_yes is_no nodes) (in_theory a.verdict) (stack_of (frames_of is_yes is_no below)) (frame_of is_yes is_no o).entry (edge_shape a.edge) (heads_of o.tally a.candidate)
+    IsAnswered (shapes_of is_yes is_no nodes) (verdict_shape a.verdict) (stack_of (frames_of is_yes is_no below)) (frame_of is_yes is_no o).entry (edge_shape a.edge) (heads_of o.tally a.candidate)
 
 -- the same for all goals
 abbrev pub AllCharged : {I R : Type 0} → (R → Bool) → (R → Bool) → List (CacheNode I R) → List (OpenRun I R) → Type 0
@@ -110,8 +110,8 @@ pub record AreJustified {I R : Type 0} (is_yes is_no : R → Bool) (nodes : List
   pub sound : IsSound (shapes_of is_yes is_no nodes) (frames_of is_yes is_no goals) [] []
   pub are_open : AreOpen nodes goals
   pub lead_home : LeadHome nodes goals
-  pub placed : AllPlaced nodes goals
-  pub asked : AreAsked goals
+  pub placed : AllLeadToGoals nodes goals
+  pub asked : AreAskedBelow goals
   pub tallies : HaveTallies goals
   pub charged : AllCharged is_yes is_no nodes goals
 

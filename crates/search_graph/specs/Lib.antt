@@ -7,11 +7,11 @@ pub mod Graph
 pub mod Tallies
 pub mod Justified
 pub mod Free
-pub mod KeptAnswers
+pub mod ProvisionalAnswers
 pub mod Runs
-pub mod RunEnds
+pub mod EndOfRun
 pub mod Lists
-pub mod KeptShapes
+pub mod EntryShapes
 pub mod Provisional
 pub mod Evaluating
 pub mod Evaluations

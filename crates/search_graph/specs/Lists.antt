@@ -6,7 +6,7 @@ use Rattle.search_parts.specs.declared.context.Answer.{Answer}
 use Rattle.search_graph.specs.Graph.{IsProved, IsRefuted, IsCaused}
 
 -- the new list has the items of the old one, and then one for each query, in order, of which this holds
-pub record Appends {Q A : Type 0} (Holds : Q → A → Type 0) (queries : List Q) (old new : List A) : Type 0 where
+pub record AppendsEach {Q A : Type 0} (Holds : Q → A → Type 0) (queries : List Q) (old new : List A) : Type 0 where
   pub more : List A
   pub is : new ≡ old ++ more
   pub each : AllZip Holds queries more
@@ -33,7 +33,7 @@ module _ {D C V P F I R A T : Type 0} (G : DelegateOf D C V P F I R A T) (X : Cx
     pub faults : IfErr answer HadCause
 
   -- Besides, where the answer is definite, its goal has no graph of the other sort anywhere, and its own can be handed out.
-  pub record IsAnswered (query : ℕ × I × PathKind) (answer : Result (Answer R) (Fault I R)) : Type 0 where
+  pub record IsAnsweredQuery (query : ℕ × I × PathKind) (answer : Result (Answer R) (Fault I R)) : Type 0 where
     pub has : HasAnswer query answer
     pub yes : IfOk answer (λ a. X.is_yes a.result ≡ true → IsProved X cache query.1 a.node)
     pub no : IfOk answer (λ a. X.is_no a.result ≡ true → IsRefuted X cache query.1 a.node)

@@ -33,8 +33,8 @@ module _ {X I R A T : Type 0} (same : I → I → Bool) where
       && list_all (λ goal. not (meets_entry asking goal.0 goal.1)) nested
 
   -- the entry that answers the goal, if such entries are kept and one may be used
-  abbrev pub kept_for : (enabled : Bool) → Asking X I R A T → I → Option (ProvisionalCacheEntry X I R A T)
-  kept_for enabled asking goal = if enabled then find (may_be_used asking.stack asking.step) (entries_at same asking.entries goal) else None
+  abbrev pub usable_entry : (enabled : Bool) → Asking X I R A T → I → Option (ProvisionalCacheEntry X I R A T)
+  usable_entry enabled asking goal = if enabled then find (may_be_used asking.stack asking.step) (entries_at same asking.entries goal) else None
 
   -- The result is stored of the goal and may be used at the depth. If the goal has a rank, it is the plain value; or it met overflow,
   -- and the depth is below the rank.

@@ -4,7 +4,7 @@ use Rattle.search_graph.specs.Below.{DelegateOf, CxOf, RebaseReason, Next, Cache
 use Rattle.search_graph.specs.declared.graph.evaluation.Evaluation.{Evaluation}
 use Rattle.search_graph.specs.Evaluations.{IsRight, IsRightNext}
 use Rattle.search_graph.specs.Moves.{CanLeave, Leaves}
-use Rattle.search_graph.specs.Provisional.{HasReason, IsNewestUnranked, SettlesNewest}
+use Rattle.search_graph.specs.Provisional.{HasReason, IsNewestUnranked, RebasesNewest}
 use Rattle.search_graph.specs.Results.{IsNewestStored, NewestComesTo, NewestIsPlain}
 use Rattle.search_graph.specs.Runs.{EndsNewest}
 
@@ -25,5 +25,5 @@ module _ {D C V P F I R A T : Type 0} (G : DelegateOf D C V P F I R A T) (X : Cx
   pub record Pops (next : Next R) (new : Cache C I R A T) (after : Evaluation D C V P F I R A T) : Type 0 where
     pub left : Leaves outcome before.goals next after.goals
     pub stored : IsNewestStored same before.goals outcome new.results
-    pub rebased : SettlesNewest same G.ENABLE_PROVISIONAL_CACHE (G.propagated old.cx) (G.fixpoint_overflow old.cx) reason outcome before.goals before.provisional after.provisional
+    pub rebased : RebasesNewest same G.ENABLE_PROVISIONAL_CACHE (G.propagated old.cx) (G.fixpoint_overflow old.cx) reason outcome before.goals before.provisional after.provisional
     pub right : IsRightNext G X same old.cx before.goals next new after

@@ -3,8 +3,8 @@ use Rattle.std.specs.Prelude.{◌≡◌, ◌≢◌, ◌⊎◌, ◌||◌, ◌&&�
 use Rattle.std.specs.List.{filter_map}
 use Rattle.search_graph.specs.Below.{IsTrueReason, StackDepth, PathKind, at_depth, highest, IsRising, heads_shape, rank_of, NodeId, Request, Reply, EvaluationResult, StackEntry, ProvisionalCacheEntry, RebaseReason, CacheNode, path_kind_from, IsDefinite, Lists, entries_at, HasNoRank, rebased, settled, verdict_of, Run}
 use Rattle.search_graph.specs.Justified.{OpenRun, frame_of}
-use Rattle.search_graph.specs.KeptAnswers.{KeptAnswer, IsKept}
-use Rattle.search_graph.specs.KeptShapes.{highest_depth, reason_shape}
+use Rattle.search_graph.specs.ProvisionalAnswers.{ProvisionalAnswer, IsReusable}
+use Rattle.search_graph.specs.EntryShapes.{highest_depth, reason_shape}
 use Rattle.search_graph.specs.Runs.{run_of}
 use Rattle.search_graph.specs.Tallies.{counted}
 
@@ -15,12 +15,12 @@ IsHead (o ∷ below) head = IsSome (counted (length below) o.tally head) ⊎ IsH
 
 module _ {X I R A T : Type 0} where
   -- an entry as an answer that is kept
-  abbrev pub kept_answer : ProvisionalCacheEntry X I R A T → KeptAnswer R
-  kept_answer entry = record { result = entry.result; target = entry.node; highest = highest_depth entry.heads; path = rank_of entry.path_from_head; heads = heads_shape entry.heads }
+  abbrev pub answer_of_entry : ProvisionalCacheEntry X I R A T → ProvisionalAnswer R
+  answer_of_entry entry = record { result = entry.result; target = entry.node; highest = highest_depth entry.heads; path = rank_of entry.path_from_head; heads = heads_shape entry.heads }
 
   -- The entry may be used for the goal: it is kept over these goals, by their heads, and the goal is in a cycle, so it has no rank.
   pub record IsReady (is_yes is_no : R → Bool) (scripts : I → List (Reply R) → Request I R) (nodes : List (CacheNode I R)) (goals : List (OpenRun I R)) (goal : I) (entry : ProvisionalCacheEntry X I R A T) : Type 0 where
-    pub kept : IsKept is_yes is_no nodes goals goal (kept_answer entry)
+    pub kept : IsReusable is_yes is_no nodes goals goal (answer_of_entry entry)
     pub some : entry.heads ≢ []
     pub rising : IsRising entry.heads
     pub are_heads : (head : StackDepth) → IsSome (at_depth entry.heads head) → IsHead goals head
@@ -40,9 +40,9 @@ module _ {X I R A T : Type 0} where
 
   -- the entries of a goal, once a goal is done that is taken from above the stack: where it was used as a head, the reason tells how they
   -- are settled
-  abbrev pub left_of : (A → R) → R → Option (RebaseReason X I R A T) → List (StackEntry X I R A T) → StackEntry X I R A T → List (ProvisionalCacheEntry X I R A T) → List (ProvisionalCacheEntry X I R A T)
-  left_of propagated overflow None stack done entries = entries
-  left_of propagated overflow (Some reason) stack done entries = filter_map (rebased stack done (settled propagated overflow reason)) entries
+  abbrev pub rebased_for : (A → R) → R → Option (RebaseReason X I R A T) → List (StackEntry X I R A T) → StackEntry X I R A T → List (ProvisionalCacheEntry X I R A T) → List (ProvisionalCacheEntry X I R A T)
+  rebased_for propagated overflow None stack done entries = entries
+  rebased_for propagated overflow (Some reason) stack done entries = filter_map (rebased stack done (settled propagated overflow reason)) entries
 
   -- the entry for an answer that was asked over the step and whose highest head is this one
   abbrev pub entry_of : List (StackEntry X I R A T) → ℕ → PathKind → EvaluationResult X I R A T → ProvisionalCacheEntry X I R A T
@@ -55,8 +55,8 @@ module _ {X I R A T : Type 0} where
   }
 
   -- the entry for an answer that was asked over the step and rests on goals of the stack; another one has none
-  abbrev pub kept_of : List (StackEntry X I R A T) → PathKind → EvaluationResult X I R A T → List (ProvisionalCacheEntry X I R A T)
-  kept_of stack step answer = elim (highest answer.heads) [
+  abbrev pub entries_for : List (StackEntry X I R A T) → PathKind → EvaluationResult X I R A T → List (ProvisionalCacheEntry X I R A T)
+  entries_for stack step answer = elim (highest answer.heads) [
     | None ↦ []
     | Some head ↦ entry_of stack head.0.0 step answer ∷ []
   ]
@@ -75,18 +75,18 @@ module _ {X I R A T : Type 0} where
 
     -- The newest goal was taken with this result: the entries that rest on it are settled for the reason, and its own answer is kept, if it
     -- rests on a goal below, and if answers are kept at all.
-    pub record SettlesEntries (same : I → I → Bool) (enabled : Bool) (propagated : I → A → R) (overflow : I → R) (reason : Option (RebaseReason X I R A T)) (r : R) (s : StackEntry X I R A T × Run X F I R A T) (below : List (StackEntry X I R A T × Run X F I R A T)) (old new : Lists I (ProvisionalCacheEntry X I R A T)) : Type 0 where
+    pub record RebasesEntries (same : I → I → Bool) (enabled : Bool) (propagated : I → A → R) (overflow : I → R) (reason : Option (RebaseReason X I R A T)) (r : R) (s : StackEntry X I R A T × Run X F I R A T) (below : List (StackEntry X I R A T × Run X F I R A T)) (old new : Lists I (ProvisionalCacheEntry X I R A T)) : Type 0 where
       pub node : Option NodeId
       pub entries :
           (goal : I)
           → entries_at same new goal
-          ≡ left_of (propagated goal) (overflow goal) reason (reverse (map (λ s. s.0) below)) s.0 (entries_at same old goal)
-          ++ (if enabled && same s.0.input goal then kept_of (reverse (map (λ s. s.0) below)) s.0.step_kind_from_parent (final_answer s r node) else [])
+          ≡ rebased_for (propagated goal) (overflow goal) reason (reverse (map (λ s. s.0) below)) s.0 (entries_at same old goal)
+          ++ (if enabled && same s.0.input goal then entries_for (reverse (map (λ s. s.0) below)) s.0.step_kind_from_parent (final_answer s r node) else [])
 
     -- the same of the newest one of the goals
-    abbrev pub SettlesNewest : (I → I → Bool) → Bool → (I → A → R) → (I → R) → Option (RebaseReason X I R A T) → R → List (StackEntry X I R A T × Run X F I R A T) → (old new : Lists I (ProvisionalCacheEntry X I R A T)) → Type 0
-    SettlesNewest same enabled propagated overflow reason r [] old new = ⊥
-    SettlesNewest same enabled propagated overflow reason r (s ∷ below) old new = SettlesEntries same enabled propagated overflow reason r s below old new
+    abbrev pub RebasesNewest : (I → I → Bool) → Bool → (I → A → R) → (I → R) → Option (RebaseReason X I R A T) → R → List (StackEntry X I R A T × Run X F I R A T) → (old new : Lists I (ProvisionalCacheEntry X I R A T)) → Type 0
+    RebasesNewest same enabled propagated overflow reason r [] old new = ⊥
+    RebasesNewest same enabled propagated overflow reason r (s ∷ below) old new = RebasesEntries same enabled propagated overflow reason r s below old new
 
     -- The reason is true of the newest goal, which came to this result. Without one, the goal was not used as a head.
     abbrev pub HasReason : (is_yes is_no : R → Bool) → Option (RebaseReason X I R A T) → List (StackEntry X I R A T × Run X F I R A T) → R → Type 0

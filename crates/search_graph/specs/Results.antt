@@ -19,7 +19,7 @@ IsStoredAt same results goal place r = option_map (λ s. s.result.result) (store
 
 -- the answer was stored, which has no heads, or nothing was
 pub data StoresAnswer {X I R A T : Type 0} (same : I → I → Bool) (old new : Store I (StoredResult X I R A T)) (goal : I) (answer : EvaluationResult X I R A T) : Type 0 where
-  Kept : new ≡ old → StoresAnswer same old new goal answer
+  NotStored : new ≡ old → StoresAnswer same old new goal answer
   Put : (token : T) → answer.heads ≡ [] → Puts same old new goal (place_of answer) (stored_from answer token) → StoresAnswer same old new goal answer
 
 -- the new store has this result of the goal at the place besides what the old one has, or is the old one

@@ -4,7 +4,7 @@ use Rattle.std.specs.Option.{option_map}
 use Rattle.open_graphs.specs.Graph as theory
 use Rattle.search_graph.specs.Below.{NodeId, Request, Done, Reply, StackEntry, IsFitting, request_after, EndedRun, CacheNode, open_goal, with_run, verdict_of, Run, Next, Step, Finished, RunRecord, Records, acted, HasGraph}
 use Rattle.search_graph.specs.Tallies.{tally_of}
-use Rattle.search_graph.specs.Justified.{OpenRun, AreJustified, IsFit, ArePlaced, AreEdges}
+use Rattle.search_graph.specs.Justified.{OpenRun, AreJustified, IsFit, LeadToGoals, AreEdges}
 
 module _ {X F I R A T : Type 0} where
   -- an item as a run with its nodes
@@ -33,7 +33,7 @@ module _ {X F I R A T : Type 0} where
   IsJustifiedNext is_yes is_no nodes (s ∷ below) goals (Finished answer) = HasGraph is_yes is_no nodes s.0.input answer.result answer.node
 
 -- the record is that of a run that came to this result
-pub record IsDone {I R : Type 0} (is_yes is_no : R → Bool) (script : List (Reply R) → Request I R) (p : RunRecord I R) (r : R) : Type 0 where
+pub record CameTo {I R : Type 0} (is_yes is_no : R → Bool) (script : List (Reply R) → Request I R) (p : RunRecord I R) (r : R) : Type 0 where
   pub replies : List (Reply R)
   pub is_fitting : IsFitting script replies
   pub is_done : request_after script replies ≡ Some (Done r)
@@ -42,14 +42,14 @@ pub record IsDone {I R : Type 0} (is_yes is_no : R → Bool) (script : List (Rep
 -- the newest goal's run came to this result
 abbrev pub EndsNewest : {X F I R A T : Type 0} → (R → Bool) → (R → Bool) → (I → List (Reply R) → Request I R) → List (StackEntry X I R A T × Run X F I R A T) → R → Type 0
 EndsNewest is_yes is_no scripts [] r = ⊥
-EndsNewest is_yes is_no scripts (s ∷ below) r = IsDone is_yes is_no (scripts s.0.input) s.1.progress r
+EndsNewest is_yes is_no scripts (s ∷ below) r = CameTo is_yes is_no (scripts s.0.input) s.1.progress r
 
 -- a definite result of a goal's run: the run of its open node came to it
 pub record EndsRun {I R : Type 0} (is_yes is_no : R → Bool) (scripts : I → List (Reply R) → Request I R) (nodes : List (CacheNode I R)) (node : NodeId) (p : RunRecord I R) (r : R) : Type 0 where
   pub goal : I
   pub is_open : open_goal nodes node.0 ≡ Some goal
-  pub ends : IsDone is_yes is_no (scripts goal) p r
-  pub placed : ArePlaced nodes p.answers
+  pub ends : CameTo is_yes is_no (scripts goal) p r
+  pub placed : LeadToGoals nodes p.answers
 
 -- the result says what the provisional one says
 abbrev pub SaysAgain : {R : Type 0} → (R → Bool) → (R → Bool) → Option R → R → Type 0
@@ -57,12 +57,12 @@ SaysAgain is_yes is_no earlier r = option_map (verdict_of is_yes is_no) earlier 
 
 -- The node of a result: of a definite one that says what the provisional one said, the node of that; of any other definite one the
 -- run's own, which was finished by edges of the answers that have its verdict; and none of a result that isn't definite.
-pub data IsSettled {I R : Type 0} (is_yes is_no : R → Bool) (before after : List (CacheNode I R)) (earlier : Option R) (node : NodeId) (cycles_lead : Option NodeId) (p : RunRecord I R) (r : R) : Option NodeId → Type 0 where
+pub data HasResultNode {I R : Type 0} (is_yes is_no : R → Bool) (before after : List (CacheNode I R)) (earlier : Option R) (node : NodeId) (cycles_lead : Option NodeId) (p : RunRecord I R) (r : R) : Option NodeId → Type 0 where
   Again :
       verdict_of is_yes is_no r ≢ theory.Neither → SaysAgain is_yes is_no earlier r → after ≡ before
-      → IsSettled is_yes is_no before after earlier node cycles_lead p r cycles_lead
+      → HasResultNode is_yes is_no before after earlier node cycles_lead p r cycles_lead
   Ended :
       (run : EndedRun I R)
       → run.outcome ≡ r → p.request ≡ Some (Done r) → verdict_of is_yes is_no r ≢ theory.Neither → (SaysAgain is_yes is_no earlier r → ⊥) → after ≡ with_run before node.0 run → AreEdges p.answers p.ignored (verdict_of is_yes is_no r) run.edges
-      → IsSettled is_yes is_no before after earlier node cycles_lead p r (Some node)
-  LeftOpen : verdict_of is_yes is_no r ≡ theory.Neither → after ≡ before → IsSettled is_yes is_no before after earlier node cycles_lead p r None
+      → HasResultNode is_yes is_no before after earlier node cycles_lead p r (Some node)
+  LeftOpen : verdict_of is_yes is_no r ≡ theory.Neither → after ≡ before → HasResultNode is_yes is_no before after earlier node cycles_lead p r None

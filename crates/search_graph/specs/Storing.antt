@@ -3,7 +3,7 @@ use Rattle.std.specs.Prelude.{◌≡◌, ◌&&◌, ◌++◌, if◌then◌else◌
 use Rattle.search_graph.specs.Below.{DelegateOf, CxOf, Cache, EvaluationResult, HasGraph, IsPlainAt, KeepsResults, PathKind, entries_at, place_of}
 use Rattle.search_graph.specs.declared.graph.evaluation.Evaluation.{Evaluation}
 use Rattle.search_graph.specs.Graph.{ComesTo}
-use Rattle.search_graph.specs.Provisional.{kept_of}
+use Rattle.search_graph.specs.Provisional.{entries_for}
 use Rattle.search_graph.specs.Results.{IsStoredAt}
 
 -- of a cache only the stored results changed, and each is there still, or an equal one
@@ -23,4 +23,4 @@ module _ {D C V P F I R A T : Type 0} (G : DelegateOf D C V P F I R A T) (X : Cx
   pub record Stores (same : I → I → Bool) (step : PathKind) (goal : I) (answer : EvaluationResult C I R A T) (old new : Evaluation D C V P F I R A T) (cache : Cache C I R A T) : Type 0 where
     pub result : answer.heads ≡ [] → IsStoredAt same cache.results goal (place_of answer) answer.result
     pub entry : (other : I) → entries_at same new.provisional other
-        ≡ entries_at same old.provisional other ++ (if G.ENABLE_PROVISIONAL_CACHE && same goal other then kept_of (reverse (map (λ s. s.0) old.goals)) step answer else [])
+        ≡ entries_at same old.provisional other ++ (if G.ENABLE_PROVISIONAL_CACHE && same goal other then entries_for (reverse (map (λ s. s.0) old.goals)) step answer else [])

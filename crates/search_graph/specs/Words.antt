@@ -5,23 +5,23 @@ pub use Rattle.search_graph.specs.Evaluating.{Begins, Decidedly, GoesOn, HasAske
 pub use Rattle.search_graph.specs.Evaluating.{IsOnly, IsWaiting, KeepsAnswers, KeepsStore, Leads, seen, work_left}
 pub use Rattle.search_graph.specs.Free.{AreFree, IsFree}
 pub use Rattle.search_graph.specs.Graph.{ComesTo, Graph, IsCaused, IsProved, IsRefuted, OtherResult, OutOfMemory}
-pub use Rattle.search_graph.specs.Justified.{AllCharged, AllPlaced, AreCharged, AreEdges, AreJustified, AreOpen, asked_now}
-pub use Rattle.search_graph.specs.Justified.{Asks, frame_of, frames_of, HasTally, HaveTallies, in_theory, IsFit, LeadHome}
-pub use Rattle.search_graph.specs.Justified.{leads_to, MayAnswer, OpenRun}
-pub use Rattle.search_graph.specs.KeptAnswers.{IsKept, KeptAnswer}
-pub use Rattle.search_graph.specs.KeptShapes.{depths_of, highest_depth, kept_shape, reason_shape}
+pub use Rattle.search_graph.specs.Justified.{AllCharged, AllLeadToGoals, AreCharged, AreEdges, AreJustified, AreOpen, asked_now}
+pub use Rattle.search_graph.specs.Justified.{Asks, frame_of, frames_of, HasTally, HaveTallies, verdict_shape, IsFit, LeadHome}
+pub use Rattle.search_graph.specs.Justified.{cycles_node, MayAnswer, OpenRun}
+pub use Rattle.search_graph.specs.ProvisionalAnswers.{IsReusable, ProvisionalAnswer}
+pub use Rattle.search_graph.specs.EntryShapes.{depths_of, highest_depth, entry_shape, reason_shape}
 pub use Rattle.search_graph.specs.Lists.{frames_for, HadCause, HasAnswer}
-pub use Rattle.search_graph.specs.LookUp.{AreOnStack, Asking, could_be_used, is_applicable, IsUsable, kept_for, meets_entry}
+pub use Rattle.search_graph.specs.LookUp.{AreOnStack, Asking, could_be_used, is_applicable, IsUsable, usable_entry, meets_entry}
 pub use Rattle.search_graph.specs.LookUp.{UsesStored}
 pub use Rattle.search_graph.specs.Moves.{CanLeave, ClosesCycle, first_run, GivesAnswer, IsFresh, Leaves, Pushes, Reruns}
 pub use Rattle.search_graph.specs.Provisional.{AreReady, final_answer, HasReason, IsHead, IsNewestUnranked, IsReady}
-pub use Rattle.search_graph.specs.Provisional.{kept_answer, kept_of, left_of, SettlesEntries, SettlesNewest}
+pub use Rattle.search_graph.specs.Provisional.{answer_of_entry, entries_for, rebased_for, RebasesEntries, RebasesNewest}
 pub use Rattle.search_graph.specs.Results.{AreDefinite, HaveNoOverflow, IsNewestPlainTo, IsNewestStored, IsStoredAt, MayPut}
 pub use Rattle.search_graph.specs.Results.{MayPutNewest, NewestComesTo, NewestIsPlain, place_of_item, Put, Same}
 pub use Rattle.search_graph.specs.Results.{StoresAnswer, WithResult}
-pub use Rattle.search_graph.specs.RunEnds.{Ambiguous, Initial, IsReason, IsRunEnd, IsStable, IsUsed, Limited, Repeated}
-pub use Rattle.search_graph.specs.RunEnds.{Repeats, Stable, WithoutUsages}
-pub use Rattle.search_graph.specs.Runs.{Ended, EndsNewest, EndsRun, IsJustifiedNext, IsSettled, LeftOpen, run_of, runs_of}
+pub use Rattle.search_graph.specs.EndOfRun.{Ambiguous, Initial, IsReason, IsEndOfRun, IsStable, IsUsed, Limited, Repeated}
+pub use Rattle.search_graph.specs.EndOfRun.{Repeats, Stable, WithoutUsages}
+pub use Rattle.search_graph.specs.Runs.{Ended, EndsNewest, EndsRun, IsJustifiedNext, HasResultNode, LeftOpen, run_of, runs_of}
 pub use Rattle.search_graph.specs.Runs.{SaysAgain}
 pub use Rattle.search_graph.specs.Tallies.{candidate_at, candidates_count, counted, head_with, heads_of, heads_with}
 pub use Rattle.search_graph.specs.Tallies.{IsCovered, IsTallied, LieBelow, spare, spare_count, spare_heads, Tally, tally_of}

@@ -7,9 +7,9 @@
 //! | `Calls`, `Evaluating` | an outer call, and what holds of the goals under evaluation between two moves |
 //! | `Moves`, `LookUp` | a goal is put on top, run again or taken; which stored result or kept answer is used |
 //! | `Tallies` | what goals count, and their candidates of that |
-//! | `RunEnds`, `Runs` | what becomes of a goal whose run has ended, and of its node |
+//! | `EndOfRun`, `Runs` | what becomes of a goal whose run has ended, and of its node |
 //! | `Justified`, `Free` | why each definite answer is right; answers that rest on no goal under evaluation |
-//! | `KeptAnswers`, `KeptShapes`, `Provisional` | answers that rest on such goals: why each may be used, and what becomes of them |
+//! | `ProvisionalAnswers`, `EntryShapes`, `Provisional` | answers that rest on such goals: why each may be used, and what becomes of them |
 //! | `Decided` | goals whose answers are all yes or no |
 #![tactic(auto)]
 

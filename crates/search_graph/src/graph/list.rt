@@ -2,7 +2,7 @@
 ghost use Rattle.std.specs.Prelude.{◌≡◌, ◌≤◌, ◌<◌, ◌+◌, max, length, vec_len, vec_capacity, OnOk, OnErr};
 ghost use Rattle.search_graph.specs.Below.{KeepsFinished, KeepsWhole, frames_within, KeepsResults};
 ghost use Rattle.search_graph.specs.Words.{HasAnswer, frames_for};
-ghost use Rattle.search_graph.specs.Lists.{Appends, IsAnswered};
+ghost use Rattle.search_graph.specs.Lists.{AppendsEach, IsAnsweredQuery};
 
 use super::SearchGraph;
 use search_parts::context::{Answer, Cx, Delegate, Fault, NoMemory};
@@ -29,7 +29,7 @@ impl<D: Delegate> SearchGraph<D> {
         >,
     ) -> Result<(), NoMemory>
         // There is one answer for each query, right over the cache as it is when the call ends.
-        ensures answered { OnOk result (Appends (IsAnswered D.Delegate D.Cx.Cx D.Cx.Input.eq cache.new) queries.now answers.old.items answers.new.items) }
+        ensures answered { OnOk result (AppendsEach (IsAnsweredQuery D.Delegate D.Cx.Cx D.Cx.Input.eq cache.new) queries.now answers.old.items answers.new.items) }
 
         // A refusal comes only where the room for the answers isn't there yet, and changes nothing.
         ensures refused { OnErr result (vec_capacity answers.old < vec_len answers.old + length queries.now) }

@@ -3,7 +3,7 @@ ghost use Rattle.std.specs.Prelude.{◌≡◌, ◌≢◌, ◌<◌, [], length, A
 ghost use Rattle.std.specs.List.{list_any};
 ghost use Rattle.std.specs.Option.{option_copied, option_map};
 ghost use Rattle.search_graph.specs.Below.{highest, HasGraph, first_accepted, hit_of, usable, entries_at};
-ghost use Rattle.search_graph.specs.Words.{kept_for, could_be_used, is_applicable, meets_entry, AreOnStack, IsUsable};
+ghost use Rattle.search_graph.specs.Words.{usable_entry, could_be_used, is_applicable, meets_entry, AreOnStack, IsUsable};
 
 use bitflags::Flags;
 use search_parts::context::{Cx, Delegate};
@@ -94,7 +94,7 @@ pub(crate) fn look_up_entry<'a, D: Delegate>(
     input: <D::Cx as Cx>::Input,
 ) -> Option<&'a ProvisionalCacheEntry<D::Cx>>
     requires { AreOnStack D.Cx.Input.eq stack.now provisional.now }
-    ensures { option_copied result ≡ kept_for D.Cx.Input.eq D.ENABLE_PROVISIONAL_CACHE
+    ensures { option_copied result ≡ usable_entry D.Cx.Input.eq D.ENABLE_PROVISIONAL_CACHE
         (record { stack = stack.now; entries = provisional.now; step = step }) input }
 {
     if D::ENABLE_PROVISIONAL_CACHE {

@@ -2,7 +2,7 @@
 ghost use Rattle.std.specs.Prelude.{◌≡◌, ◌↔◌, IsTrue, IfOk, Some};
 ghost use Rattle.std.specs.Option.{option_map};
 ghost use Rattle.search_graph.specs.Below.{KeepsFinished, IsDefinite, verdict_of};
-ghost use Rattle.search_graph.specs.Words.{in_theory, EndsRun, IsSettled};
+ghost use Rattle.search_graph.specs.Words.{verdict_shape, EndsRun, HasResultNode};
 
 use open_goals::progress::Progress;
 use search_parts::context::{Cx, Delegate, NoMemory, NodeId, Verdict};
@@ -12,7 +12,7 @@ use search_parts::parts::EntryState;
 /// The node of a run's definite result. A run whose result says what the provisional one said has that
 /// one's node, and its own stays open, as does that of a run that came to no definite result. So the node of
 /// a goal is that of the first of its last runs that said the same.
-pub(crate) fn settle_node<D: Delegate>(
+pub(crate) fn result_node<D: Delegate>(
     cache: &mut GlobalCache<D>,
     state: &EntryState<D::Cx>,
     own_node: NodeId,
@@ -20,7 +20,7 @@ pub(crate) fn settle_node<D: Delegate>(
     outcome: <D::Cx as Cx>::Result,
 ) -> Result<Option<NodeId>, NoMemory>
     requires { IsDefinite D.Cx.is_yes D.Cx.is_no outcome → EndsRun D.Cx.is_yes D.Cx.is_no (D.script cache.old.cx) cache.old.nodes own_node progress outcome }
-    ensures settled { IfOk result (λ answer. IsSettled D.Cx.is_yes D.Cx.is_no cache.old.nodes cache.new.nodes state.now.provisional_result own_node state.now.node progress outcome answer) }
+    ensures settled { IfOk result (λ answer. HasResultNode D.Cx.is_yes D.Cx.is_no cache.old.nodes cache.new.nodes state.now.provisional_result own_node state.now.node progress outcome answer) }
     ensures same_context { cache.new.cx ≡ cache.old.cx }
     ensures same_results { cache.new.results ≡ cache.old.results }
     ensures kept { KeepsFinished cache.old.nodes cache.new.nodes }
@@ -43,7 +43,7 @@ pub(crate) fn settle_node<D: Delegate>(
 
 /// Whether the provisional result, if there is one, has this verdict.
 fn says_again<X: Cx>(cx: X, provisional_result: Option<X::Result>, verdict: Verdict) -> bool
-    ensures { IsTrue result ↔ (option_map (verdict_of X.is_yes X.is_no) provisional_result ≡ Some (in_theory verdict)) }
+    ensures { IsTrue result ↔ (option_map (verdict_of X.is_yes X.is_no) provisional_result ≡ Some (verdict_shape verdict)) }
 {
     match provisional_result {
         Some(earlier) => cx.sort(earlier) == verdict,

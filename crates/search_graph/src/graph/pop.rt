@@ -4,7 +4,7 @@ ghost use Rattle.search_graph.specs.Below.{Memory};
 ghost use Rattle.search_graph.specs.Words.{IsCaused, IsNewestPlainTo, MayPutNewest, GivesAnswer, MayPop, Pops, IsRightNext, KeepsCache};
 
 use crate::graph::evaluation::Evaluation;
-use crate::graph::nodes::settle_node;
+use crate::graph::nodes::result_node;
 use crate::graph::rebase::rebase_entries;
 use open_goals::goals::{Next, OpenGoals, Received, Run};
 use search_parts::context::{Answer, Cx, Delegate, Fault, NoMemory, Reply};
@@ -44,7 +44,7 @@ impl<D: Delegate> Evaluation<D> {
         let mut encountered_overflow = entry.state.encountered_overflow;
         encountered_overflow |= met_overflow_before;
         let input = entry.input();
-        let node = settle_node::<D>(cache, &entry.state, own_node, progress, outcome)?;
+        let node = result_node::<D>(cache, &entry.state, own_node, progress, outcome)?;
         entry.state.heads.are_rising();
         // First the entries are rebased, since the goal's own entry must not be rebased over the goal itself;
         // the answer is moved into the cache last.

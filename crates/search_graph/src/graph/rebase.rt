@@ -1,7 +1,7 @@
 //! Provisional entries are rebased when a goal that they rest on is popped.
 ghost use Rattle.std.specs.Prelude.{◌≡◌, ◌≤◌, ◌<◌, length, All, OnOk};
 ghost use Rattle.search_graph.specs.Below.{entries_at};
-ghost use Rattle.search_graph.specs.Words.{left_of};
+ghost use Rattle.search_graph.specs.Words.{rebased_for};
 
 use search_parts::context::{Cx, Delegate, NoMemory};
 use search_parts::parts::{ProvisionalCache, RebaseReason, Stack, StackEntry};
@@ -19,7 +19,7 @@ pub(crate) fn rebase_entries<D: Delegate>(
     requires within { (input : D.Cx.Input) → All (λ entry. All (λ head. head.0.0 ≤ length stack.now) entry.heads)
         (entries_at D.Cx.Input.eq provisional.old input) }
     ensures { OnOk result ((input : D.Cx.Input) → entries_at D.Cx.Input.eq provisional.new input
-        ≡ left_of (D.propagated cx input) (D.fixpoint_overflow cx input) reason stack.now done.now
+        ≡ rebased_for (D.propagated cx input) (D.fixpoint_overflow cx input) reason stack.now done.now
         (entries_at D.Cx.Input.eq provisional.old input)) }
 {
     match reason {

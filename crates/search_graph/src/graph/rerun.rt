@@ -4,7 +4,7 @@ ghost use Rattle.search_graph.specs.Below.{CountsOne, KeepsFinished};
 ghost use Rattle.search_graph.specs.Words.{MayRunAgain, RunsAgain};
 
 use crate::graph::evaluation::Evaluation;
-use crate::graph::nodes::settle_node;
+use crate::graph::nodes::result_node;
 use search_parts::context::{Cx, Delegate, NoMemory};
 use search_parts::global_cache::GlobalCache;
 use search_parts::parts::StackDepth;
@@ -36,7 +36,7 @@ impl<D: Delegate> Evaluation<D> {
         let own_node = self.goals.last_run().node;
         let entry = self.goals.last_entry();
         let input = entry.input();
-        let node = settle_node::<D>(cache, &entry.state, own_node, progress, outcome)?.or(
+        let node = result_node::<D>(cache, &entry.state, own_node, progress, outcome)?.or(
             entry.state.node,
         );
         let frame = D::start(cache.cx(), input, inspect)?;

@@ -2,8 +2,8 @@
 ghost use Rattle.std.specs.Prelude.{◌≡◌, ◌↔◌, ◌<◌, ◌+◌, ◌^◌, ℕ, IsTrue, IsSome, IfOk, IfErr, IfSome, Err, None, Some};
 ghost use Rattle.search_graph.specs.Below.{Done};
 ghost use Rattle.search_graph.specs.declared.graph.run_end.Unstable.TheVariants.{Again};
-ghost use Rattle.search_graph.specs.RunEnds.{ReachedFixpoint};
-ghost use Rattle.search_graph.specs.Words.{IsCaused, IsReason, IsRunEnd, IsStable, HasRequest, Moves, IsRightNext, KeepsCache};
+ghost use Rattle.search_graph.specs.EndOfRun.{ReachedFixpoint};
+ghost use Rattle.search_graph.specs.Words.{IsCaused, IsReason, IsEndOfRun, IsStable, HasRequest, Moves, IsRightNext, KeepsCache};
 
 use crate::graph::evaluation::Evaluation;
 use open_goals::goals::{Next, Received};
@@ -66,7 +66,7 @@ fn end_of_run<D: Delegate>(
     finished_runs: usize,
     outcome: <D::Cx as Cx>::Result,
 ) -> Result<Option<RebaseReason<D::Cx>>, Unstable>
-    ensures is_end { IsRunEnd D.Cx.Result.eq D.initial_kind D.ambiguity D.FIXPOINT_STEP_LIMIT state.now.provisional_result state.now.usages finished_runs outcome result }
+    ensures is_end { IsEndOfRun D.Cx.Result.eq D.initial_kind D.ambiguity D.FIXPOINT_STEP_LIMIT state.now.provisional_result state.now.usages finished_runs outcome result }
     ensures fits { result ≡ Err Again → finished_runs + 1 < 2 ^ 64 }
 {
     // A goal to which no cycle led is no head, so no entry rests on it, and a further run would see no other

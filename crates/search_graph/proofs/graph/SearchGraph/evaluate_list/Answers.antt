@@ -6,8 +6,8 @@ use Rattle.search_parts.proofs.Finished.{KeepsFinished-then}
 use Rattle.search_parts.proofs.Stores.{KeepsResults-then}
 use Rattle.search_parts.proofs.Whole.{whole_stays}
 use Rattle.search_graph.specs.Words.{HasAnswer}
-use Rattle.search_graph.specs.Lists.{Appends, IsAnswered}
-use Rattle.search_graph.proofs.ListAnswers.{Appends-more, Appends-weaker, sum_by-more, HasAnswer-kept, answer_is_shown}
+use Rattle.search_graph.specs.Lists.{AppendsEach, IsAnsweredQuery}
+use Rattle.search_graph.proofs.ListAnswers.{AppendsEach-more, AppendsEach-weaker, sum_by-more, HasAnswer-kept, answer_is_shown}
 use Rattle.search_graph.proofs.graph.SearchGraph.evaluate_list.Goals as goal
 
 pub loop-query-preserved : goal.loop-query-preserved
@@ -28,8 +28,8 @@ loop-query-preserved g c =
     let within : g.D.Delegate.starts c.evaluate_query-answer.new.inspect ≤ g.D.Delegate.starts c.loop-query.inspect + frames_within runs width query.0 =
     subst (λ cx. g.D.Delegate.starts c.evaluate_query-answer.new.inspect ≤ g.D.Delegate.starts c.loop-query.inspect + frames_within runs (g.D.Delegate.width cx) query.0) then.same_context now.frames in
     record {
-      answered = Appends-more (HasAnswer g.D.Delegate g.D.Cx.Cx same new) queries at query below c.query-item.is answers c.loop-query.answers.items c.push_reserved.new.self.items c.evaluate_query-answer.result
-          (Appends-weaker (HasAnswer g.D.Delegate g.D.Cx.Cx same old) (HasAnswer g.D.Delegate g.D.Cx.Cx same new)
+      answered = AppendsEach-more (HasAnswer g.D.Delegate g.D.Cx.Cx same new) queries at query below c.query-item.is answers c.loop-query.answers.items c.push_reserved.new.self.items c.evaluate_query-answer.result
+          (AppendsEach-weaker (HasAnswer g.D.Delegate g.D.Cx.Cx same old) (HasAnswer g.D.Delegate g.D.Cx.Cx same new)
           (HasAnswer-kept g.D.Delegate g.D.Cx.Cx same old new now.same_context now.kept_results now.kept) (take at queries) answers c.loop-query.answers.items then.answered)
           now.answered c.push_reserved.ensures.items;
       room = grind (arith, common_steps);
@@ -47,8 +47,8 @@ returns-clause-answered g c =
     let same = g.D.Cx.Input.PartialEq.eq in
     let cache = c.loop-query.cache in
     let all = take_all c.loop-query.query-index c.args.queries.now c.loop-query-test.false in
-    let has = subst (λ old. Appends (HasAnswer g.D.Delegate g.D.Cx.Cx same cache) (take c.loop-query.query-index c.args.queries.now) old c.loop-query.answers.items) c.reserve.ensures.items c.loop-query.invariant.answered in
-    Appends-weaker (HasAnswer g.D.Delegate g.D.Cx.Cx same cache) (IsAnswered g.D.Delegate g.D.Cx.Cx same cache)
+    let has = subst (λ old. AppendsEach (HasAnswer g.D.Delegate g.D.Cx.Cx same cache) (take c.loop-query.query-index c.args.queries.now) old c.loop-query.answers.items) c.reserve.ensures.items c.loop-query.invariant.answered in
+    AppendsEach-weaker (HasAnswer g.D.Delegate g.D.Cx.Cx same cache) (IsAnsweredQuery g.D.Delegate g.D.Cx.Cx same cache)
     (answer_is_shown g.D.Delegate g.D.Cx.Cx same cache c.has_runs.ensures (g.met.D.Cx.Cx.clash cache.cx) (g.met.D.Delegate.yes_is_proved cache.cx) (g.met.D.Delegate.no_is_refuted cache.cx) g.met.D.Cx.Cx.one_sort)
     c.args.queries.now c.args.answers.now.items c.loop-query.answers.items
-    (subst (λ queries. Appends (HasAnswer g.D.Delegate g.D.Cx.Cx same cache) queries c.args.answers.now.items c.loop-query.answers.items) all has)
+    (subst (λ queries. AppendsEach (HasAnswer g.D.Delegate g.D.Cx.Cx same cache) queries c.args.answers.now.items c.loop-query.answers.items) all has)

@@ -1,13 +1,13 @@
 use Rattle.std.proofs.Common.{◌≡◌, ◌≤◌, ◌+◌, ◌-◌, max, length, take, vec_len, vec_capacity}
 use Rattle.search_graph.specs.Below.{KeepsFinished, KeepsResults}
 use Rattle.search_graph.specs.Words.{HasAnswer, frames_for}
-use Rattle.search_graph.specs.Lists.{Appends}
+use Rattle.search_graph.specs.Lists.{AppendsEach}
 use Rattle.search_graph.proofs.graph.SearchGraph.evaluate_list.Given as goal
 
 -- the first queries have their answers, and there is room for the others'
 abbrev pub invariant-loop-query : goal.invariant-loop-query
 invariant-loop-query g l = record {
-  answered : Appends (HasAnswer g.D.Delegate g.D.Cx.Cx g.D.Cx.Input.PartialEq.eq l.cache) (take l.query-index l.queries) l.initial.answers.items l.answers.items;
+  answered : AppendsEach (HasAnswer g.D.Delegate g.D.Cx.Cx g.D.Cx.Input.PartialEq.eq l.cache) (take l.query-index l.queries) l.initial.answers.items l.answers.items;
   room : vec_len l.answers + (length l.queries - l.query-index) ≤ vec_capacity l.answers;
   frames : g.D.Delegate.starts l.inspect ≤ g.D.Delegate.starts l.initial.inspect + frames_for (max 1 g.D.Delegate.FIXPOINT_STEP_LIMIT) (g.D.Delegate.width l.initial.cache.cx) (take l.query-index l.queries);
   same_context : l.cache.cx ≡ l.initial.cache.cx;

@@ -1,7 +1,7 @@
 use Rattle.std.proofs.Common.{arith}
 use Rattle.std.proofs.lemmas.Grind.{common_steps}
 use Rattle.search_graph.specs.Words.{Stable, Limited, Repeats}
-use Rattle.search_graph.specs.RunEnds.{Unused}
+use Rattle.search_graph.specs.EndOfRun.{Unused}
 use Rattle.search_graph.proofs.graph.run_end.end_of_run.Goals as goal
 
 pub returns-in_default-clause-is_end : goal.returns-in_default-clause-is_end

@@ -1,7 +1,7 @@
 use Rattle.std.proofs.Common.{arith, ◌≡◌, None, Some, option_map, is_some, true, sym, ap, ◌∙◌, subst}
 use Rattle.std.specs.Option.{option_copied}
 use Rattle.search_graph.specs.Below.{Answer, Begin, first_accepted, usable, hit_of}
-use Rattle.search_graph.specs.Words.{AreOnStack, Asked, Refused, ByEntry, ByStored, OverCycle, Pushed, is_applicable, kept_for, ClosesCycle}
+use Rattle.search_graph.specs.Words.{AreOnStack, Asked, Refused, ByEntry, ByStored, OverCycle, Pushed, is_applicable, usable_entry, ClosesCycle}
 use Rattle.search_graph.proofs.Asking.{push_stops}
 use Rattle.search_graph.proofs.Questions.{asked_depth_fits, if_err, if_ok_then, none_of}
 use Rattle.search_graph.proofs.Ready.{are_on_stack}
@@ -23,7 +23,7 @@ look_up_entry-requires g c =
 pub returns-in-Some-look_up_entry-clause-asked : goal.returns-in-Some-look_up_entry-clause-asked
 returns-in-Some-look_up_entry-clause-asked g c =
     ByEntry c.in-Some.depth c.in-Some-look_up_entry.entry.now c.note_kept.new.self c.in-Some.ensures
-    (subst (λ stack. kept_for g.D.Cx.Input.PartialEq.eq g.D.Delegate.ENABLE_PROVISIONAL_CACHE (record { stack = stack; entries = c.args.self.now.provisional; step = c.args.kind }) c.args.input ≡ Some c.in-Some-look_up_entry.entry.now) c.stack-stack.ensures (sym c.in-Some-look_up_entry.ensures))
+    (subst (λ stack. usable_entry g.D.Cx.Input.PartialEq.eq g.D.Delegate.ENABLE_PROVISIONAL_CACHE (record { stack = stack; entries = c.args.self.now.provisional; step = c.args.kind }) c.args.input ≡ Some c.in-Some-look_up_entry.entry.now) c.stack-stack.ensures (sym c.in-Some-look_up_entry.ensures))
     c.in_ok-note_kept.ensures
 
 -- a stored result answers it
@@ -40,7 +40,7 @@ note_stored-requires-clause-fits g c =
 pub returns-in-Some-look_up-clause-asked : goal.returns-in-Some-look_up-clause-asked
 returns-in-Some-look_up-clause-asked g c =
     ByStored c.in-Some.depth (hit_of c.in-Some-look_up.stored) c.note_stored.new.self c.in-Some.ensures
-    (subst (λ stack. kept_for g.D.Cx.Input.PartialEq.eq g.D.Delegate.ENABLE_PROVISIONAL_CACHE (record { stack = stack; entries = c.args.self.now.provisional; step = c.args.kind }) c.args.input ≡ None) c.stack-stack.ensures (sym c.look_up_entry.ensures ∙ ap option_copied c.in_default-look_up_entry.is))
+    (subst (λ stack. usable_entry g.D.Cx.Input.PartialEq.eq g.D.Delegate.ENABLE_PROVISIONAL_CACHE (record { stack = stack; entries = c.args.self.now.provisional; step = c.args.kind }) c.args.input ≡ None) c.stack-stack.ensures (sym c.look_up_entry.ensures ∙ ap option_copied c.in_default-look_up_entry.is))
     (subst (λ stack. first_accepted (is_applicable g.D.Cx.Input.PartialEq.eq (record { stack = stack; entries = c.args.self.now.provisional; step = c.args.kind })) (usable g.D.Cx.Input.PartialEq.eq c.args.cache.now.results c.args.input c.in-Some.depth.0) ≡ Some (hit_of c.in-Some-look_up.stored)) c.stack-stack-2.ensures (sym c.in-Some-look_up.ensures.exact))
     c.in_ok-note_stored.ensures c.in-Some-look_up.ensures.usable
 
@@ -51,7 +51,7 @@ returns-in-Some-find-clause-asked g c =
     (λ given closes.
     subst (λ after. Asked g.D.Delegate g.D.Cx.Cx g.D.Cx.Input.PartialEq.eq c.args.cache.now.cx c.args.kind c.args.input c.args.cache.now c.args.self.now (g.D.Delegate.starts c.args.inspect.now) given c.args.cache.now after (g.D.Delegate.starts c.args.inspect.now)) (sym c.answer_cycle.ensures.rest)
     (OverCycle c.in-Some.depth c.in-Some-find.head given c.answer_cycle.new.self.goals c.in-Some.ensures
-    (subst (λ stack. kept_for g.D.Cx.Input.PartialEq.eq g.D.Delegate.ENABLE_PROVISIONAL_CACHE (record { stack = stack; entries = c.args.self.now.provisional; step = c.args.kind }) c.args.input ≡ None) c.stack-stack.ensures (sym c.look_up_entry.ensures ∙ ap option_copied c.in_default-look_up_entry.is))
+    (subst (λ stack. usable_entry g.D.Cx.Input.PartialEq.eq g.D.Delegate.ENABLE_PROVISIONAL_CACHE (record { stack = stack; entries = c.args.self.now.provisional; step = c.args.kind }) c.args.input ≡ None) c.stack-stack.ensures (sym c.look_up_entry.ensures ∙ ap option_copied c.in_default-look_up_entry.is))
     (subst (λ stack. first_accepted (is_applicable g.D.Cx.Input.PartialEq.eq (record { stack = stack; entries = c.args.self.now.provisional; step = c.args.kind })) (usable g.D.Cx.Input.PartialEq.eq c.args.cache.now.results c.args.input c.in-Some.depth.0) ≡ None) c.stack-stack-2.ensures (sym c.look_up.ensures.exact ∙ ap (option_map hit_of) c.in_default-look_up.is))
     (sym c.find.ensures.present ∙ ap is_some c.in-Some-find.is)
     (subst (λ x. ClosesCycle g.D.Delegate g.D.Cx.Cx x c.args.kind c.args.input c.in-Some-find.head given c.args.self.now.goals c.answer_cycle.new.self.goals) c.cx-cx.ensures closes)))
@@ -69,6 +69,6 @@ returns-clause-asked g c =
     (subst (λ cache. Asked g.D.Delegate g.D.Cx.Cx g.D.Cx.Input.PartialEq.eq c.args.cache.now.cx c.args.kind c.args.input c.args.cache.now c.args.self.now (g.D.Delegate.starts c.args.inspect.now) (record { reply = Begin; node = None }) cache c.push_goal.new.self (g.D.Delegate.starts c.push_goal.new.inspect)) (sym c.push_goal.ensures.cache)
     (subst (λ after. Asked g.D.Delegate g.D.Cx.Cx g.D.Cx.Input.PartialEq.eq c.args.cache.now.cx c.args.kind c.args.input c.args.cache.now c.args.self.now (g.D.Delegate.starts c.args.inspect.now) (record { reply = Begin; node = None }) (record c.args.cache.now { nodes = c.push_goal.new.cache.nodes }) after (g.D.Delegate.starts c.push_goal.new.inspect)) (sym c.push_goal.ensures.rest)
     (Pushed c.in-Some.depth c.push_goal.new.self.goals c.push_goal.new.cache.nodes (g.D.Delegate.starts c.push_goal.new.inspect) c.in-Some.ensures
-    (subst (λ stack. kept_for g.D.Cx.Input.PartialEq.eq g.D.Delegate.ENABLE_PROVISIONAL_CACHE (record { stack = stack; entries = c.args.self.now.provisional; step = c.args.kind }) c.args.input ≡ None) c.stack-stack.ensures (sym c.look_up_entry.ensures ∙ ap option_copied c.in_default-look_up_entry.is))
+    (subst (λ stack. usable_entry g.D.Cx.Input.PartialEq.eq g.D.Delegate.ENABLE_PROVISIONAL_CACHE (record { stack = stack; entries = c.args.self.now.provisional; step = c.args.kind }) c.args.input ≡ None) c.stack-stack.ensures (sym c.look_up_entry.ensures ∙ ap option_copied c.in_default-look_up_entry.is))
     (subst (λ stack. first_accepted (is_applicable g.D.Cx.Input.PartialEq.eq (record { stack = stack; entries = c.args.self.now.provisional; step = c.args.kind })) (usable g.D.Cx.Input.PartialEq.eq c.args.cache.now.results c.args.input c.in-Some.depth.0) ≡ None) c.stack-stack-2.ensures (sym c.look_up.ensures.exact ∙ ap (option_map hit_of) c.in_default-look_up.is))
     c.in_ok-push_goal.ensures.pushed c.push_goal.ensures.at_most c.in_ok-push_goal.ensures.counted)))

@@ -1,4 +1,4 @@
-use Rattle.search_graph.proofs.KeptEntries.{done_keeps, end_leaves, met_keeps_answers, rerun_keeps}
+use Rattle.search_graph.proofs.EntriesSaid.{done_keeps, end_leaves, met_keeps_answers, rerun_keeps}
 use Rattle.std.proofs.Common.{rules, Err, refl, sym, ap, ap₂, subst, ◌∙◌}
 use Rattle.search_graph.specs.Below.{Memory, Step, verdict_of}
 use Rattle.search_graph.specs.Words.{GoesOn, KeepsAnswers, KeepsStore, LeadsTo, StopsWith}
@@ -7,7 +7,7 @@ use Rattle.search_graph.proofs.Moves.{asked_stopped_by, can_leave, ends_newest, 
 use Rattle.search_graph.proofs.Questions.{if_err_and, if_ok_then, no_ok}
 use Rattle.search_graph.proofs.DoneRuns.{limit_comes, limited_plain, memory_alone, met_keeps, newest_comes, newest_plain, put_keeps, stopped_by, stopped_each}
 use Rattle.search_graph.proofs.Reasons.{newest_reason, newest_unranked}
-use Rattle.search_graph.proofs.RunEnds.{limited, unstable, newest_limited, newest_unstable}
+use Rattle.search_graph.proofs.EndOfRunLaws.{limited, unstable, newest_limited, newest_unstable}
 use Rattle.search_graph.proofs.graph.evaluation.Evaluation.finish_run.Goals as goal
 
 -- ---- its result stands

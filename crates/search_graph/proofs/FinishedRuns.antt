@@ -3,11 +3,11 @@ use Rattle.std.proofs.Common.{◌≡◌, ◌≢◌, suc, ◌+◌, ◌<◌, ◌^�
 use Rattle.std.specs.Option.{IsSomeAnd, option_or}
 use Rattle.std.proofs.lemmas.List.{length-map}
 use Rattle.search_graph.specs.Below.{stack_of, TakesIn, DelegateOf, CxOf, NodeId, Request, Reply, Answer, StackEntry, CacheNode, open_node, HasGraph, IsDefinite, heads_shape, rank_of, verdict_of, Run, Step, Finished, AnswersNewest, rerun_with, with_no_record, newest, change_newest, RunRecord, StoredResult, Store}
-use Rattle.search_graph.specs.Words.{Asks, AreJustified, MayAnswer, IsFit, asked_now, frames_of, IsFresh, Reruns, CanLeave, Leaves, IsFree, AreFree, run_of, runs_of, EndsRun, EndsNewest, IsSettled, IsJustifiedNext, heads_of, tally_of, LieBelow}
-use Rattle.search_graph.proofs.Justified.{Settles, below_is_justified, stack_length, may_answer_parent, last_has_graph, headless_has_graph, rerun_is_justified}
+use Rattle.search_graph.specs.Words.{Asks, AreJustified, MayAnswer, IsFit, asked_now, frames_of, IsFresh, Reruns, CanLeave, Leaves, IsFree, AreFree, run_of, runs_of, EndsRun, EndsNewest, HasResultNode, IsJustifiedNext, heads_of, tally_of, LieBelow}
+use Rattle.search_graph.proofs.Justified.{EndsWithNode, below_is_justified, stack_length, may_answer_parent, last_has_graph, headless_has_graph, rerun_is_justified}
 use Rattle.search_graph.proofs.Free.{done_is_free}
 use Rattle.search_graph.proofs.FreeResults.{all_free_popped, all_free_rerun}
-use Rattle.search_graph.proofs.Finishing.{answer_fits, answered_newest_is_justified, ends_run, heads_come, same_run, settles}
+use Rattle.search_graph.proofs.Finishing.{answer_fits, answered_newest_is_justified, ends_run, heads_come, same_run, rebases}
 
 -- ---- the goal is run again
 
@@ -47,24 +47,24 @@ module _ {X F I R A T : Type 0} where
       then ∙ ap (change_newest (rerun_with r lead frame own)) is ∙ ap (λ l. change_newest (rerun_with r lead frame own) (change_newest with_no_record l)) was
 
   -- the goals stay justified
-  pub rerun_justified : (is_yes is_no : R → Bool) (before after : List (CacheNode I R)) (old taken new : List (StackEntry X I R A T × Run X F I R A T)) (e : StackEntry X I R A T) (y : Run X F I R A T) (p : RunRecord I R) (r : R) (target : Option NodeId) (frame : F) (own : NodeId) → TakenFrom old e y p → taken ≡ change_newest with_no_record old → new ≡ change_newest (rerun_with r (option_or target e.state.node) frame own) taken → IsSettled is_yes is_no before after e.state.provisional_result y.node e.state.node p r target → own.0 ≡ length after → AreJustified is_yes is_no before (runs_of old) → AreJustified is_yes is_no (after ++ open_node e.input ∷ []) (runs_of new)
+  pub rerun_justified : (is_yes is_no : R → Bool) (before after : List (CacheNode I R)) (old taken new : List (StackEntry X I R A T × Run X F I R A T)) (e : StackEntry X I R A T) (y : Run X F I R A T) (p : RunRecord I R) (r : R) (target : Option NodeId) (frame : F) (own : NodeId) → TakenFrom old e y p → taken ≡ change_newest with_no_record old → new ≡ change_newest (rerun_with r (option_or target e.state.node) frame own) taken → HasResultNode is_yes is_no before after e.state.provisional_result y.node e.state.node p r target → own.0 ≡ length after → AreJustified is_yes is_no before (runs_of old) → AreJustified is_yes is_no (after ++ open_node e.input ∷ []) (runs_of new)
   rerun_justified is_yes is_no before after old taken new e y p r target frame own t is then settled at h =
       let was : AreJustified is_yes is_no before (runs_of ((e, t.run) ∷ t.below)) = subst (λ l. AreJustified is_yes is_no before (runs_of l)) t.was h in
-      let so : IsSettled is_yes is_no before after e.state.provisional_result t.run.node e.state.node t.run.progress r target =
-      subst (λ n. IsSettled is_yes is_no before after e.state.provisional_result n e.state.node t.run.progress r target) t.same_node
-      (subst (λ q. IsSettled is_yes is_no before after e.state.provisional_result y.node e.state.node q r target) t.progress_is settled) in
+      let so : HasResultNode is_yes is_no before after e.state.provisional_result t.run.node e.state.node t.run.progress r target =
+      subst (λ n. HasResultNode is_yes is_no before after e.state.provisional_result n e.state.node t.run.progress r target) t.same_node
+      (subst (λ q. HasResultNode is_yes is_no before after e.state.provisional_result y.node e.state.node q r target) t.progress_is settled) in
       subst (λ l. AreJustified is_yes is_no (after ++ open_node e.input ∷ []) (runs_of l)) (sym (again_is old taken new e t.run t.below r (option_or target e.state.node) frame own t.was is then))
-      (rerun_is_justified is_yes is_no before after (run_of (e, t.run)) (runs_of t.below) was r target (settles is_yes is_no before after e t.run t.below was r target so) own at)
+      (rerun_is_justified is_yes is_no before after (run_of (e, t.run)) (runs_of t.below) was r target (rebases is_yes is_no before after e t.run t.below was r target so) own at)
 
   -- and stored results rest on none of them
-  pub rerun_free : (is_yes is_no : R → Bool) (same : I → I → Bool) (results : Store I (StoredResult X I R A T)) (before after : List (CacheNode I R)) (old taken new : List (StackEntry X I R A T × Run X F I R A T)) (e : StackEntry X I R A T) (y : Run X F I R A T) (p : RunRecord I R) (r : R) (target : Option NodeId) (frame : F) (own : NodeId) → TakenFrom old e y p → taken ≡ change_newest with_no_record old → new ≡ change_newest (rerun_with r (option_or target e.state.node) frame own) taken → IsSettled is_yes is_no before after e.state.provisional_result y.node e.state.node p r target → own.0 ≡ length after → AreJustified is_yes is_no before (runs_of old) → AreFree is_yes is_no same before (runs_of old) results → AreFree is_yes is_no same (after ++ open_node e.input ∷ []) (runs_of new) results
+  pub rerun_free : (is_yes is_no : R → Bool) (same : I → I → Bool) (results : Store I (StoredResult X I R A T)) (before after : List (CacheNode I R)) (old taken new : List (StackEntry X I R A T × Run X F I R A T)) (e : StackEntry X I R A T) (y : Run X F I R A T) (p : RunRecord I R) (r : R) (target : Option NodeId) (frame : F) (own : NodeId) → TakenFrom old e y p → taken ≡ change_newest with_no_record old → new ≡ change_newest (rerun_with r (option_or target e.state.node) frame own) taken → HasResultNode is_yes is_no before after e.state.provisional_result y.node e.state.node p r target → own.0 ≡ length after → AreJustified is_yes is_no before (runs_of old) → AreFree is_yes is_no same before (runs_of old) results → AreFree is_yes is_no same (after ++ open_node e.input ∷ []) (runs_of new) results
   rerun_free is_yes is_no same results before after old taken new e y p r target frame own t is then settled at h free =
       let was : AreJustified is_yes is_no before (runs_of ((e, t.run) ∷ t.below)) = subst (λ l. AreJustified is_yes is_no before (runs_of l)) t.was h in
-      let so : IsSettled is_yes is_no before after e.state.provisional_result t.run.node e.state.node t.run.progress r target =
-      subst (λ n. IsSettled is_yes is_no before after e.state.provisional_result n e.state.node t.run.progress r target) t.same_node
-      (subst (λ q. IsSettled is_yes is_no before after e.state.provisional_result y.node e.state.node q r target) t.progress_is settled) in
+      let so : HasResultNode is_yes is_no before after e.state.provisional_result t.run.node e.state.node t.run.progress r target =
+      subst (λ n. HasResultNode is_yes is_no before after e.state.provisional_result n e.state.node t.run.progress r target) t.same_node
+      (subst (λ q. HasResultNode is_yes is_no before after e.state.provisional_result y.node e.state.node q r target) t.progress_is settled) in
       subst (λ l. AreFree is_yes is_no same (after ++ open_node e.input ∷ []) (runs_of l) results) (sym (again_is old taken new e t.run t.below r (option_or target e.state.node) frame own t.was is then))
-      (all_free_rerun is_yes is_no same before after (run_of (e, t.run)) (runs_of t.below) was r target (settles is_yes is_no before after e t.run t.below was r target so) results (subst (λ l. AreFree is_yes is_no same before (runs_of l) results) t.was free) own at)
+      (all_free_rerun is_yes is_no same before after (run_of (e, t.run)) (runs_of t.below) was r target (rebases is_yes is_no before after e t.run t.below was r target so) results (subst (λ l. AreFree is_yes is_no same before (runs_of l) results) t.was free) own at)
 
 -- and the newest is run again
 pub reran : {D C V P F I R A T : Type 0} (G : DelegateOf D C V P F I R A T) (X : CxOf C I R A T) (cx : C) (old taken new : List (StackEntry C I R A T × Run C F I R A T)) (e : StackEntry C I R A T) (y : Run C F I R A T) (p : RunRecord I R) (r : R) (lead : Option NodeId) (frame : F) (own : NodeId) → TakenFrom old e y p → taken ≡ change_newest with_no_record old → new ≡ change_newest (rerun_with r lead frame own) taken → IsFresh G X cx frame e.input → Reruns G X cx r old new
@@ -89,9 +89,9 @@ module _ {X F I R A T : Type 0} (is_yes is_no : R → Bool) (before after : List
   taken_run_ends scripts r h ends definite =
       ends_run is_yes is_no before before entry run rest (justified_then h) scripts r (subst (λ l. EndsNewest is_yes is_no scripts l r) was (ends definite))
 
-  module _ (r : R) (target : Option NodeId) (h : AreJustified is_yes is_no before (runs_of old)) (settled : IsSettled is_yes is_no before after entry.state.provisional_result run.node entry.state.node run.progress r target) where
-    so : Settles is_yes is_no before after (run_of (entry, run)) (runs_of rest) r target
-    so = settles is_yes is_no before after entry run rest (justified_then h) r target settled
+  module _ (r : R) (target : Option NodeId) (h : AreJustified is_yes is_no before (runs_of old)) (settled : HasResultNode is_yes is_no before after entry.state.provisional_result run.node entry.state.node run.progress r target) where
+    so : EndsWithNode is_yes is_no before after (run_of (entry, run)) (runs_of rest) r target
+    so = rebases is_yes is_no before after entry run rest (justified_then h) r target settled
 
     -- no goal is left
     pub finished_justified : (new : List (StackEntry X I R A T × Run X F I R A T)) → length rest ≡ 0 → IsJustifiedNext is_yes is_no after old new (Finished (record { result = r; node = target }))

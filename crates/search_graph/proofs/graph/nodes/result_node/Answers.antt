@@ -4,7 +4,7 @@ use Rattle.search_graph.specs.Below.{open_goal, with_run, IsRun, KeepsFinished, 
 use Rattle.search_parts.proofs.Finished.{KeepsFinished-ended}
 use Rattle.search_graph.proofs.Finishing.{again, definite_result, open_for_run, settled, left_open}
 use Rattle.search_graph.proofs.Verdicts.{fails_at}
-use Rattle.search_graph.proofs.graph.nodes.settle_node.Goals as goal
+use Rattle.search_graph.proofs.graph.nodes.result_node.Goals as goal
 
 pub returns-in-Neither-clause-settled : goal.returns-in-Neither-clause-settled
 returns-in-Neither-clause-settled g c = left_open g.D.Cx.Cx.is_yes g.D.Cx.Cx.is_no c.args.cache.now.nodes c.args.state.now.provisional_result c.args.own_node c.args.state.now.node c.args.progress c.args.outcome c.sort-verdict.result c.sort-verdict.ensures.yes c.sort-verdict.ensures.no c.in-Neither.is

@@ -3,11 +3,11 @@ use Rattle.std.proofs.Common.{◌≡◌, ℕ, suc, Bool, List, ◌∷◌, length
 use Rattle.std.specs.Option.{IsSomeAnd}
 use Rattle.std.proofs.lemmas.List.{length-map}
 use Rattle.search_graph.specs.Below.{path_kind, TakesIn, stack_of, PathKind, Heads, heads_shape, rank_of, Answer, StackEntry, CacheNode, IsDefinite, verdict_of, Run, AnswersNewest}
-use Rattle.search_graph.specs.Words.{frames_of, Asks, AreJustified, IsFit, MayAnswer, asked_now, KeptAnswer, IsKept, run_of, runs_of, heads_of, tally_of, LieBelow}
+use Rattle.search_graph.specs.Words.{frames_of, Asks, AreJustified, IsFit, MayAnswer, asked_now, ProvisionalAnswer, IsReusable, run_of, runs_of, heads_of, tally_of, LieBelow}
 use Rattle.search_graph.proofs.Finishing.{answer_fits, heads_come, same_run}
 use Rattle.search_graph.proofs.Free.{same_stack}
 use Rattle.search_graph.proofs.Justified.{stack_length}
-use Rattle.search_graph.proofs.KeptAnswers.{kept_answers, kept_same}
+use Rattle.search_graph.proofs.ProvisionalAnswers.{reusable_answers, reusable_same}
 
 module _ {X F I R A T : Type 0} (is_yes is_no : R → Bool) (nodes : List (CacheNode I R)) (old new : List (StackEntry X I R A T × Run X F I R A T)) (step : PathKind) (required : ℕ) (overflow : Bool) (answer : Heads) (a : AnswersNewest step required overflow answer old new) where
   -- the newest goal, once it took an answer over, in words of its run
@@ -15,16 +15,16 @@ module _ {X F I R A T : Type 0} (is_yes is_no : R → Bool) (nodes : List (Cache
   taken_run = same_run (record { 0 = length a.below }) step required overflow answer a.entry.state a.state a.takes a.entry a.run refl
 
   -- answers stay kept while the newest goal takes one over,
-  pub kept_beside : (goal : I) (k : KeptAnswer R) → IsKept is_yes is_no nodes (runs_of old) goal k → IsKept is_yes is_no nodes (runs_of new) goal k
-  kept_beside goal k kept =
-      subst (λ l. IsKept is_yes is_no nodes (runs_of l) goal k) (sym a.is)
-      (subst (λ o. IsKept is_yes is_no nodes (o ∷ runs_of a.below) goal k) (sym taken_run)
-      (kept_same is_yes is_no nodes (run_of (a.entry, a.run) ∷ runs_of a.below) (record (run_of (a.entry, a.run)) { tally = tally_of a.state a.run.candidates } ∷ runs_of a.below)
+  pub reusable_beside : (goal : I) (k : ProvisionalAnswer R) → IsReusable is_yes is_no nodes (runs_of old) goal k → IsReusable is_yes is_no nodes (runs_of new) goal k
+  reusable_beside goal k kept =
+      subst (λ l. IsReusable is_yes is_no nodes (runs_of l) goal k) (sym a.is)
+      (subst (λ o. IsReusable is_yes is_no nodes (o ∷ runs_of a.below) goal k) (sym taken_run)
+      (reusable_same is_yes is_no nodes (run_of (a.entry, a.run) ∷ runs_of a.below) (record (run_of (a.entry, a.run)) { tally = tally_of a.state a.run.candidates } ∷ runs_of a.below)
       (same_stack is_yes is_no (run_of (a.entry, a.run)) (record (run_of (a.entry, a.run)) { tally = tally_of a.state a.run.candidates }) (runs_of a.below) refl refl refl refl) goal k
-      (subst (λ l. IsKept is_yes is_no nodes (runs_of l) goal k) a.was kept)))
+      (subst (λ l. IsReusable is_yes is_no nodes (runs_of l) goal k) a.was kept)))
 
   -- and this may be a kept one, where the path kind from its highest head through the step is the kept one
-  module _ (h : AreJustified is_yes is_no nodes (runs_of old)) (lower : LieBelow (suc (length a.below)) answer) (goal : I) (asks : Asks (runs_of old) step goal) (k : KeptAnswer R) (heads_are : k.heads ≡ heads_shape answer) (path : path_kind (stack_of (frames_of is_yes is_no (runs_of old))) (rank_of step) k.highest ≡ k.path) (kept : IsKept is_yes is_no nodes (runs_of old) goal k) where
+  module _ (h : AreJustified is_yes is_no nodes (runs_of old)) (lower : LieBelow (suc (length a.below)) answer) (goal : I) (asks : Asks (runs_of old) step goal) (k : ProvisionalAnswer R) (heads_are : k.heads ≡ heads_shape answer) (path : path_kind (stack_of (frames_of is_yes is_no (runs_of old))) (rank_of step) k.highest ≡ k.path) (kept : IsReusable is_yes is_no nodes (runs_of old) goal k) where
     takes_in : TakesIn (length (stack_of (frames_of is_yes is_no (runs_of a.below)))) (rank_of step) k.heads (heads_of (tally_of a.state a.run.candidates) (asked_now (run_of (a.entry, a.run))))
     takes_in =
         let many : length a.below ≡ length (stack_of (frames_of is_yes is_no (runs_of a.below))) = sym (stack_length is_yes is_no (runs_of a.below) ∙ length-map a.below run_of) in
@@ -35,12 +35,12 @@ module _ {X F I R A T : Type 0} (is_yes is_no : R → Bool) (nodes : List (Cache
     may_answer : IsDefinite is_yes is_no k.result → IsSomeAnd k.target (λ n. MayAnswer is_yes is_no nodes (run_of (record a.entry { state = a.state }, a.run)) (runs_of a.below) (verdict_of is_yes is_no k.result) step goal n.0)
     may_answer definite =
         subst (λ o. IsSomeAnd k.target (λ n. MayAnswer is_yes is_no nodes o (runs_of a.below) (verdict_of is_yes is_no k.result) step goal n.0)) (sym taken_run)
-        (kept_answers is_yes is_no nodes (record (run_of (a.entry, a.run)) { tally = tally_of a.state a.run.candidates }) (runs_of a.below) goal k step
+        (reusable_answers is_yes is_no nodes (record (run_of (a.entry, a.run)) { tally = tally_of a.state a.run.candidates }) (runs_of a.below) goal k step
         (ap (λ l. path_kind (stack_of (frames_of is_yes is_no (runs_of l))) (rank_of step) k.highest) (sym a.was) ∙ path) takes_in
-        (subst (λ o. IsKept is_yes is_no nodes (o ∷ runs_of a.below) goal k) taken_run (subst (λ l. IsKept is_yes is_no nodes (runs_of l) goal k) a.is (kept_beside goal k kept))) definite)
+        (subst (λ o. IsReusable is_yes is_no nodes (o ∷ runs_of a.below) goal k) taken_run (subst (λ l. IsReusable is_yes is_no nodes (runs_of l) goal k) a.is (reusable_beside goal k kept))) definite)
 
-    pub kept_fits : IsFit is_yes is_no nodes (runs_of new) (Answer k.result) k.target
-    kept_fits =
+    pub reusable_fits : IsFit is_yes is_no nodes (runs_of new) (Answer k.result) k.target
+    reusable_fits =
         subst (λ l. IsFit is_yes is_no nodes (runs_of l) (Answer k.result) k.target) (sym a.is)
         (answer_fits is_yes is_no nodes (run_of (record a.entry { state = a.state }, a.run)) (runs_of a.below) k.result step goal k.target
         (subst (λ l. Asks (runs_of l) step goal) a.was asks) may_answer)

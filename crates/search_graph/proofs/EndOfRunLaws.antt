@@ -3,9 +3,9 @@ use Rattle.std.proofs.Common.{◌≡◌, ℕ, ◌+◌, ◌^◌, ◌<◌, ◌≤�
 use Rattle.std.proofs.lemmas.Bool.{cases_eq}
 use Rattle.search_graph.specs.Below.{PathKind, Inductive, Unknown, Coinductive, ForcedAmbiguity, HeadUsages, count_of, RebaseReason, StackEntry, Run, is_in_cycle, some_heads, newest}
 use Rattle.search_parts.specs.declared.parts.provisional_cache.RebaseReason.TheVariants as reason
-use Rattle.search_graph.specs.Words.{Unstable, AtLimit, IsReason, IsRunEnd, IsUsed, Repeated, Initial, Stable, Limited, Repeats}
+use Rattle.search_graph.specs.Words.{Unstable, AtLimit, IsReason, IsEndOfRun, IsUsed, Repeated, Initial, Stable, Limited, Repeats}
 use Rattle.search_graph.specs.declared.graph.run_end.Unstable.TheVariants.{Again}
-use Rattle.search_graph.specs.RunEnds.{ReachedFixpoint, Unused}
+use Rattle.search_graph.specs.EndOfRun.{ReachedFixpoint, Unused}
 
 -- usages that are not none are some
 pub used_somehow : (usages : HeadUsages) → (((kind : PathKind) → count_of usages kind ≡ 0) → ⊥) → IsUsed usages
@@ -33,14 +33,14 @@ module _ {X I R A T : Type 0} (same : R → R → Bool) (initial_kind : R → Op
 
 module _ {X I R A T : Type 0} (same : R → R → Bool) (initial_kind : R → Option PathKind) (ambiguity : R → Option A) (limit : ℕ) (earlier : Option R) (usages : Option HeadUsages) (finished_runs : ℕ) (r : R) where
   -- a goal that had its most runs was used as a head,
-  pub limited : (e : Result (Option (RebaseReason X I R A T)) Unstable) → IsRunEnd same initial_kind ambiguity limit earlier usages finished_runs r e → e ≡ Err AtLimit → (is_some usages ≡ true) × (limit ≤ finished_runs + 1)
+  pub limited : (e : Result (Option (RebaseReason X I R A T)) Unstable) → IsEndOfRun same initial_kind ambiguity limit earlier usages finished_runs r e → e ≡ Err AtLimit → (is_some usages ≡ true) × (limit ≤ finished_runs + 1)
   limited e (Unused is) at = absurd cc
   limited e (Stable used why is stable) at = absurd cc
   limited e (Limited used is never many) at = (ap is_some is, many)
   limited e (Repeats used is never few) at = absurd cc
 
   -- and so was one that is run again
-  pub unstable : (e : Result (Option (RebaseReason X I R A T)) Unstable) → IsRunEnd same initial_kind ambiguity limit earlier usages finished_runs r e → e ≡ Err Again → (is_some usages ≡ true) × (finished_runs + 1 < limit)
+  pub unstable : (e : Result (Option (RebaseReason X I R A T)) Unstable) → IsEndOfRun same initial_kind ambiguity limit earlier usages finished_runs r e → e ≡ Err Again → (is_some usages ≡ true) × (finished_runs + 1 < limit)
   unstable e (Unused is) at = absurd cc
   unstable e (Stable used why is stable) at = absurd cc
   unstable e (Limited used is never many) at = absurd cc

@@ -6,10 +6,10 @@ use Rattle.std.proofs.lemmas.Bool.Decides.{nat_tests}
 use Rattle.std.proofs.lemmas.List.{length-map}
 use Rattle.std.proofs.lemmas.List.Elements.{All-head, All-tail}
 use Rattle.search_graph.specs.Below.{StackDepth, CycleHead, PathKind, highest, rank_of, Request, Reply, Answer, StackEntry, ProvisionalCacheEntry, CacheNode, path_kind_from, entries_at, asking_heads, has_head_up_to, may_be_used, Run, AnswersNewest}
-use Rattle.search_graph.specs.Words.{Asks, AreJustified, IsFit, highest_depth, Asking, kept_for, kept_answer, IsReady, run_of, runs_of, LieBelow}
+use Rattle.search_graph.specs.Words.{Asks, AreJustified, IsFit, highest_depth, Asking, usable_entry, answer_of_entry, IsReady, run_of, runs_of, LieBelow}
 use Rattle.search_graph.proofs.CycleAnswers.{path_kind_is}
 use Rattle.search_graph.proofs.Finishing.{answered_newest_is_justified}
-use Rattle.search_graph.proofs.KeptMoves.{kept_fits}
+use Rattle.search_graph.proofs.ProvisionalMoves.{reusable_fits}
 use Rattle.search_graph.proofs.Ready.{is_below}
 
 -- ---- the entry that a look-up finds
@@ -42,13 +42,13 @@ found_holds P test (y ∷ ys) x is all = elim (first_or_later (test y) y x (find
 ]
 
 module _ {X I R A T : Type 0} (same : I → I → Bool) (asking : Asking X I R A T) (goal : I) (entry : ProvisionalCacheEntry X I R A T) where
-  look_up_finds : (enabled : Bool) → kept_for same enabled asking goal ≡ Some entry → find (may_be_used asking.stack asking.step) (entries_at same asking.entries goal) ≡ Some entry
-  look_up_finds true is = is
-  look_up_finds false is = absurd cc
+  usable_entry_is_found : (enabled : Bool) → usable_entry same enabled asking goal ≡ Some entry → find (may_be_used asking.stack asking.step) (entries_at same asking.entries goal) ≡ Some entry
+  usable_entry_is_found true is = is
+  usable_entry_is_found false is = absurd cc
 
   -- the entry is one of the goal's
-  pub kept_is_one : (enabled : Bool) → kept_for same enabled asking goal ≡ Some entry → (P : ProvisionalCacheEntry X I R A T → Type 0) → All P (entries_at same asking.entries goal) → P entry
-  kept_is_one enabled is P all = found_holds P (may_be_used asking.stack asking.step) (entries_at same asking.entries goal) entry (look_up_finds enabled is) all
+  pub entry_is_one : (enabled : Bool) → usable_entry same enabled asking goal ≡ Some entry → (P : ProvisionalCacheEntry X I R A T → Type 0) → All P (entries_at same asking.entries goal) → P entry
+  entry_is_one enabled is P all = found_holds P (may_be_used asking.stack asking.step) (entries_at same asking.entries goal) entry (usable_entry_is_found enabled is) all
 
   path_at : (o : Option (StackDepth × CycleHead)) → unwrap_or (option_map (λ h. (not entry.encountered_overflow || has_head_up_to h.0.0 (asking_heads asking.stack)) && nat_eq (rank_of entry.path_from_head) (rank_of (path_kind_from asking.stack h.0.0 asking.step))) o) false ≡ true → rank_of (path_kind_from asking.stack (elim o [ None ↦ 0 | Some head ↦ head.0.0 ]) asking.step) ≡ rank_of entry.path_from_head
   path_at None passes = absurd cc
@@ -57,8 +57,8 @@ module _ {X I R A T : Type 0} (same : I → I → Bool) (asking : Asking X I R A
       (second_of (not entry.encountered_overflow || has_head_up_to h.0.0 (asking_heads asking.stack)) (nat_eq (rank_of entry.path_from_head) (rank_of (path_kind_from asking.stack h.0.0 asking.step))) passes))
 
   -- and the path from its highest head is of the kind that it was
-  pub kept_path_is : (enabled : Bool) → kept_for same enabled asking goal ≡ Some entry → rank_of (path_kind_from asking.stack (highest_depth entry.heads) asking.step) ≡ rank_of entry.path_from_head
-  kept_path_is enabled is = path_at (highest entry.heads) (found_passes (may_be_used asking.stack asking.step) (entries_at same asking.entries goal) entry (look_up_finds enabled is))
+  pub entry_path_is : (enabled : Bool) → usable_entry same enabled asking goal ≡ Some entry → rank_of (path_kind_from asking.stack (highest_depth entry.heads) asking.step) ≡ rank_of entry.path_from_head
+  entry_path_is enabled is = path_at (highest entry.heads) (found_passes (may_be_used asking.stack asking.step) (entries_at same asking.entries goal) entry (usable_entry_is_found enabled is))
 
 -- ---- the newest goal takes the answer over
 
@@ -76,5 +76,5 @@ module _ {X F I R A T : Type 0} (is_yes is_no : R → Bool) (scripts : I → Lis
   -- and the answer fits its question
   pub entry_fits : Asks (runs_of old) step goal → rank_of (path_kind_from (reverse (map (λ s. s.0) old)) (highest_depth entry.heads) step) ≡ rank_of entry.path_from_head → IsFit is_yes is_no nodes (runs_of new) (Answer entry.result) entry.node
   entry_fits asks path =
-      kept_fits is_yes is_no nodes old new step 0 entry.encountered_overflow entry.heads a h heads_lower goal asks (kept_answer entry) refl
+      reusable_fits is_yes is_no nodes old new step 0 entry.encountered_overflow entry.heads a h heads_lower goal asks (answer_of_entry entry) refl
       (sym (path_kind_is is_yes is_no step (highest_depth entry.heads) old) ∙ path) ready.kept

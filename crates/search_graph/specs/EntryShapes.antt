@@ -20,8 +20,8 @@ reason_shape Overflow = theory.Overflow
 reason_shape (ReachedFixpoint kind) = theory.ReachedFixpoint (option_map rank_of kind)
 
 -- the answer in the theory's words; without a node it has the number 0, which says nothing: only an answer without a verdict may lack one
-abbrev pub kept_shape : {X I R A T : Type 0} → (R → Bool) → (R → Bool) → ProvisionalCacheEntry X I R A T → Kept
-kept_shape is_yes is_no entry = record {
+abbrev pub entry_shape : {X I R A T : Type 0} → (R → Bool) → (R → Bool) → ProvisionalCacheEntry X I R A T → Kept
+entry_shape is_yes is_no entry = record {
   verdict = verdict_of is_yes is_no entry.result;
   highest = highest_depth entry.heads;
   path = rank_of entry.path_from_head;

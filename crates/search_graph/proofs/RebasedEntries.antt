@@ -5,7 +5,7 @@ use Rattle.std.proofs.lemmas.Grind.{reverse_onto}
 use Rattle.std.proofs.lemmas.List.{append-nil, drop-map, map-append}
 use Rattle.search_graph.specs.Below.{StackDepth, CycleHead, PathKind, Heads, highest, greatest_kind, EvaluationResult, StackEntry, ProvisionalCacheEntry, path_kind_from, Lists, entries_at, Appends, NodeId, RebaseReason, Run, Next}
 use Rattle.search_parts.proofs.RebasedHeads.{highest_within}
-use Rattle.search_graph.specs.Words.{GivesAnswer, final_answer, kept_of, left_of}
+use Rattle.search_graph.specs.Words.{GivesAnswer, final_answer, entries_for, rebased_for}
 use Rattle.search_graph.proofs.Ready.{on_stack_many}
 use Rattle.search_graph.proofs.HeadOrder.{no_highest}
 
@@ -25,9 +25,9 @@ module _ {X I R A T : Type 0} (stack : List (StackEntry X I R A T)) (step : Path
   entries_from None = []
   entries_from (Some top) = entry_from top.0 ∷ []
 
-  kept_is : (o : Option (StackDepth × CycleHead)) → highest answer.heads ≡ o → kept_of stack step answer ≡ entries_from o
-  kept_is None is = rw (is, kept_of) refl
-  kept_is (Some top) is = rw (is, kept_of) refl
+  entries_for_are : (o : Option (StackDepth × CycleHead)) → highest answer.heads ≡ o → entries_for stack step answer ≡ entries_from o
+  entries_for_are None is = rw (is, entries_for) refl
+  entries_for_are (Some top) is = rw (is, entries_for) refl
 
   entry_at : (o : Option (StackDepth × CycleHead)) (head : StackDepth) → option_map (λ e. e.0) o ≡ Some head → entries_from o ≡ entry_from head ∷ []
   entry_at None head is = absurd cc
@@ -35,20 +35,20 @@ module _ {X I R A T : Type 0} (stack : List (StackEntry X I R A T)) (step : Path
 
   module _ (same : I → I → Bool) (input : I) (old new : Lists I (ProvisionalCacheEntry X I R A T)) where
     -- the answer is the last entry of its goal
-    pub answer_kept : ((x y : I) → same x y ≡ true → x ≡ y) → (enabled : Bool) → enabled ≡ true → (head : StackDepth) → option_map (λ e. e.0) (highest answer.heads) ≡ Some head → Appends same old new input (entry_from head) → (goal : I) → entries_at same new goal ≡ entries_at same old goal ++ (if enabled && same input goal then kept_of stack step answer else [])
-    answer_kept by_value enabled on head is put goal =
-        subst (λ b. entries_at same new goal ≡ entries_at same old goal ++ (if b && same input goal then kept_of stack step answer else [])) (sym on) (at (same input goal) refl)
+    pub entry_pushed : ((x y : I) → same x y ≡ true → x ≡ y) → (enabled : Bool) → enabled ≡ true → (head : StackDepth) → option_map (λ e. e.0) (highest answer.heads) ≡ Some head → Appends same old new input (entry_from head) → (goal : I) → entries_at same new goal ≡ entries_at same old goal ++ (if enabled && same input goal then entries_for stack step answer else [])
+    entry_pushed by_value enabled on head is put goal =
+        subst (λ b. entries_at same new goal ≡ entries_at same old goal ++ (if b && same input goal then entries_for stack step answer else [])) (sym on) (at (same input goal) refl)
       where
-        at : (b : Bool) → same input goal ≡ b → entries_at same new goal ≡ entries_at same old goal ++ (if b then kept_of stack step answer else [])
+        at : (b : Bool) → same input goal ≡ b → entries_at same new goal ≡ entries_at same old goal ++ (if b then entries_for stack step answer else [])
         at true here =
-            subst (λ x. entries_at same new x ≡ entries_at same old x ++ kept_of stack step answer) (by_value input goal here)
-            (put.here ∙ ap (λ l. entries_at same old input ++ l) (sym (kept_is (highest answer.heads) refl ∙ entry_at (highest answer.heads) head is)))
+            subst (λ x. entries_at same new x ≡ entries_at same old x ++ entries_for stack step answer) (by_value input goal here)
+            (put.here ∙ ap (λ l. entries_at same old input ++ l) (sym (entries_for_are (highest answer.heads) refl ∙ entry_at (highest answer.heads) head is)))
         at false other = put.others goal other ∙ sym (append-nil (entries_at same old goal))
 
     -- no answer is kept
-    pub none_kept : (enabled : Bool) → enabled ≡ false → (goal : I) → entries_at same old goal ≡ entries_at same old goal ++ (if enabled && same input goal then kept_of stack step answer else [])
-    none_kept enabled off goal =
-        subst (λ b. entries_at same old goal ≡ entries_at same old goal ++ (if b && same input goal then kept_of stack step answer else [])) (sym off) (sym (append-nil (entries_at same old goal)))
+    pub none_pushed : (enabled : Bool) → enabled ≡ false → (goal : I) → entries_at same old goal ≡ entries_at same old goal ++ (if enabled && same input goal then entries_for stack step answer else [])
+    none_pushed enabled off goal =
+        subst (λ b. entries_at same old goal ≡ entries_at same old goal ++ (if b && same input goal then entries_for stack step answer else [])) (sym off) (sym (append-nil (entries_at same old goal)))
 
 -- without a highest head there is none
 pub headless : {X I R A T : Type 0} (answer : EvaluationResult X I R A T) (o : Option StackDepth) → o ≡ option_map (λ e. e.0) (highest answer.heads) → o ≡ None → answer.heads ≡ []
@@ -88,9 +88,9 @@ module _ {X I R A T : Type 0} where
     same_entries step answer (Some top) = ap (λ kind. record (entry_from stack step answer top.0) { path_from_head = kind } ∷ []) (same_path top.0.0 step)
 
     -- and so does what is kept
-    same_kept : (step : PathKind) (answer : EvaluationResult X I R A T) → kept_of stack step answer ≡ kept_of other step answer
-    same_kept step answer =
-        kept_is stack step answer (highest answer.heads) refl ∙ same_entries step answer (highest answer.heads) ∙ sym (kept_is other step answer (highest answer.heads) refl)
+    same_pushed : (step : PathKind) (answer : EvaluationResult X I R A T) → entries_for stack step answer ≡ entries_for other step answer
+    same_pushed step answer =
+        entries_for_are stack step answer (highest answer.heads) refl ∙ same_entries step answer (highest answer.heads) ∙ sym (entries_for_are other step answer (highest answer.heads) refl)
 
 module _ {X F I R A T : Type 0} where
   -- the stack of the goals
@@ -119,26 +119,26 @@ module _ {X F I R A T : Type 0} where
         (highest_within (length (stack_of below)) heads on_stack)
 
 -- The entries were settled for the reason once the goal was taken, and the answer was put last once it was given.
-module _ {C X F I R A T : Type 0} (same : I → I → Bool) (enabled : Bool) (propagated : C → I → A → R) (overflow : C → I → R) (used cx : C) (same_context : used ≡ cx) (reason : Option (RebaseReason X I R A T)) (r : R) (target : Option NodeId) (s : StackEntry X I R A T × Run X F I R A T) (below later : List (StackEntry X I R A T × Run X F I R A T)) (next : Next R) (stack after : List (StackEntry X I R A T)) (stack_is : stack ≡ reverse (map (λ s. s.0) below)) (after_is : after ≡ reverse (map (λ s. s.0) later)) (step : PathKind) (step_is : step ≡ s.0.step_kind_from_parent) (input : I) (input_is : input ≡ s.0.input) (answer : EvaluationResult X I R A T) (answer_is : answer ≡ final_answer s r target) (given : GivesAnswer step answer below next later) (old middle new : Lists I (ProvisionalCacheEntry X I R A T)) (settled : (goal : I) → entries_at same middle goal ≡ left_of (propagated used goal) (overflow used goal) reason stack s.0 (entries_at same old goal)) (put : (goal : I) → entries_at same new goal ≡ entries_at same middle goal ++ (if enabled && same input goal then kept_of after step answer else [])) where
+module _ {C X F I R A T : Type 0} (same : I → I → Bool) (enabled : Bool) (propagated : C → I → A → R) (overflow : C → I → R) (used cx : C) (same_context : used ≡ cx) (reason : Option (RebaseReason X I R A T)) (r : R) (target : Option NodeId) (s : StackEntry X I R A T × Run X F I R A T) (below later : List (StackEntry X I R A T × Run X F I R A T)) (next : Next R) (stack after : List (StackEntry X I R A T)) (stack_is : stack ≡ reverse (map (λ s. s.0) below)) (after_is : after ≡ reverse (map (λ s. s.0) later)) (step : PathKind) (step_is : step ≡ s.0.step_kind_from_parent) (input : I) (input_is : input ≡ s.0.input) (answer : EvaluationResult X I R A T) (answer_is : answer ≡ final_answer s r target) (given : GivesAnswer step answer below next later) (old middle new : Lists I (ProvisionalCacheEntry X I R A T)) (settled : (goal : I) → entries_at same middle goal ≡ rebased_for (propagated used goal) (overflow used goal) reason stack s.0 (entries_at same old goal)) (put : (goal : I) → entries_at same new goal ≡ entries_at same middle goal ++ (if enabled && same input goal then entries_for after step answer else [])) where
   -- the old entries, settled
-  abbrev settled_by : C → List (StackEntry X I R A T) → I → List (ProvisionalCacheEntry X I R A T)
-  settled_by x l goal = left_of (propagated x goal) (overflow x goal) reason l s.0 (entries_at same old goal)
+  abbrev rebased_by : C → List (StackEntry X I R A T) → I → List (ProvisionalCacheEntry X I R A T)
+  rebased_by x l goal = rebased_for (propagated x goal) (overflow x goal) reason l s.0 (entries_at same old goal)
 
   -- what is put for the goal, where answers are kept
   abbrev put_by : I → List (ProvisionalCacheEntry X I R A T) → I → List (ProvisionalCacheEntry X I R A T)
   put_by i l goal = if enabled && same i goal then l else []
 
   -- so the entries of each goal are the old ones, settled, and the answer over the stack that was left
-  pub entries_settled : (goal : I) → entries_at same new goal
-      ≡ left_of (propagated cx goal) (overflow cx goal) reason (reverse (map (λ s. s.0) below)) s.0 (entries_at same old goal)
-      ++ (if enabled && same s.0.input goal then kept_of (reverse (map (λ s. s.0) below)) s.0.step_kind_from_parent (final_answer s r target) else [])
-  entries_settled goal =
+  pub entries_rebased : (goal : I) → entries_at same new goal
+      ≡ rebased_for (propagated cx goal) (overflow cx goal) reason (reverse (map (λ s. s.0) below)) s.0 (entries_at same old goal)
+      ++ (if enabled && same s.0.input goal then entries_for (reverse (map (λ s. s.0) below)) s.0.step_kind_from_parent (final_answer s r target) else [])
+  entries_rebased goal =
       put goal
-      ∙ ap (λ l. l ++ put_by input (kept_of after step answer) goal) (settled goal ∙ ap (λ x. settled_by x stack goal) same_context ∙ ap (λ l. settled_by cx l goal) stack_is)
-      ∙ ap (λ l. settled_by cx (stack_of below) goal ++ l)
-      (ap (λ i. put_by i (kept_of after step answer) goal) input_is
+      ∙ ap (λ l. l ++ put_by input (entries_for after step answer) goal) (settled goal ∙ ap (λ x. rebased_by x stack goal) same_context ∙ ap (λ l. rebased_by cx l goal) stack_is)
+      ∙ ap (λ l. rebased_by cx (stack_of below) goal ++ l)
+      (ap (λ i. put_by i (entries_for after step answer) goal) input_is
       ∙ ap (λ l. put_by s.0.input l goal)
-      (ap (λ l. kept_of l step answer) after_is
-      ∙ same_kept (stack_of later) (stack_of below) (steps_stay step answer below later next given) step answer
-      ∙ ap (λ k. kept_of (stack_of below) k answer) step_is
-      ∙ ap (kept_of (stack_of below) s.0.step_kind_from_parent) answer_is))
+      (ap (λ l. entries_for l step answer) after_is
+      ∙ same_pushed (stack_of later) (stack_of below) (steps_stay step answer below later next given) step answer
+      ∙ ap (λ k. entries_for (stack_of below) k answer) step_is
+      ∙ ap (entries_for (stack_of below) s.0.step_kind_from_parent) answer_is))

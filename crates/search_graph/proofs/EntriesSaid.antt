@@ -6,8 +6,8 @@ use Rattle.std.proofs.lemmas.List.Elements.{All-append, All-cons, All-filter, Al
 use Rattle.search_graph.specs.Below.{StackDepth, CycleHead, PathKind, HeadUsages, highest, greater_kind, has_usages, other_usages, DelegateOf, CxOf, Done, StoredResult, ProvisionalCacheEntry, RebaseReason, EvaluationResult, StackEntry, path_kind_from, IsDefinite, IsNeither, Lists, entries_at, but_highest, from_head, from_new_head, keeps_kinds, rebased, rebased_at, rebased_used, rebased_unused, settled, with_unused, with_used, Store, Run}
 use Rattle.search_parts.specs.declared.parts.provisional_cache.RebaseReason.TheVariants as why
 use Rattle.search_parts.proofs.RebasedKept.{All-filter_map}
-use Rattle.search_graph.specs.Words.{Unstable, Call, IsCounted, HasAsked, KeepsAnswers, KeepsStore, final_answer, kept_of, left_of, SettlesEntries, SettlesNewest, MayPutNewest, IsReason, IsRunEnd, Ambiguous, Initial, Limited, Repeated, Repeats, Stable, WithoutUsages}
-use Rattle.search_graph.specs.RunEnds.{Unused}
+use Rattle.search_graph.specs.Words.{Unstable, Call, IsCounted, HasAsked, KeepsAnswers, KeepsStore, final_answer, entries_for, rebased_for, RebasesEntries, RebasesNewest, MayPutNewest, IsReason, IsEndOfRun, Ambiguous, Initial, Limited, Repeated, Repeats, Stable, WithoutUsages}
+use Rattle.search_graph.specs.EndOfRun.{Unused}
 use Rattle.search_graph.proofs.DoneRuns.{calm_of, met_keeps, put_keeps}
 use Rattle.search_graph.proofs.Finishing.{neither_is}
 use Rattle.search_graph.proofs.Moves.{done_definite}
@@ -39,15 +39,15 @@ module _ {X I R A T : Type 0} (P : Bool → R → Type 0) where
       used_said : (entry after : ProvisionalCacheEntry X I R A T) (head : CycleHead) → rebased_used stack done settle entry head ≡ Some after → SaidOf entry → SaidOf after
       used_said entry after head is h = tested (keeps_kinds stack done entry.path_from_head head.paths_to_head) is
         where
-          settles : (o : Option (ProvisionalCacheEntry X I R A T)) → settle head.usages entry ≡ o
+          rebases : (o : Option (ProvisionalCacheEntry X I R A T)) → settle head.usages entry ≡ o
               → option_and_then (λ kept. from_new_head stack done (record kept { heads = with_used done.state.heads head.paths_to_head (but_highest kept.heads) })) o ≡ Some after → SaidOf after
-          settles None at left = absurd cc
-          settles (Some kept) at left = new_head_said (record kept { heads = with_used done.state.heads head.paths_to_head (but_highest kept.heads) }) after left (keeps head.usages entry kept at h)
+          rebases None at left = absurd cc
+          rebases (Some kept) at left = new_head_said (record kept { heads = with_used done.state.heads head.paths_to_head (but_highest kept.heads) }) after left (keeps head.usages entry kept at h)
 
           tested : (b : Bool)
               → (if b then option_and_then (λ kept. from_new_head stack done (record kept { heads = with_used done.state.heads head.paths_to_head (but_highest kept.heads) })) (settle head.usages entry) else None) ≡ Some after → SaidOf after
           tested false is = absurd cc
-          tested true is = settles (settle head.usages entry) refl is
+          tested true is = rebases (settle head.usages entry) refl is
 
       -- nor does rebasing, but for how answers are settled
       rebased_said : (entry after : ProvisionalCacheEntry X I R A T) → SaidOf entry → rebased stack done settle entry ≡ Some after → SaidOf after
@@ -69,21 +69,21 @@ module _ {X I R A T : Type 0} (P : Bool → R → Type 0) where
           at (Some head) is = here head.1 (nat_eq head.0.0 (length stack)) is
 
   -- settling for the reason keeps what is said, if it may be said of what an ambiguous goal and one that had its most runs leave
-  settled_said : (propagated : A → R) (overflow : R) (reason : RebaseReason X I R A T)
+  changed_said : (propagated : A → R) (overflow : R) (reason : RebaseReason X I R A T)
       → ((info : A) → reason ≡ why.Ambiguity info → (met : Bool) (r : R) → P met r → P met (propagated info))
       → (reason ≡ why.Overflow → (met : Bool) (r : R) → P met r → P met overflow)
       → KeepsSaid (settled propagated overflow reason)
-  settled_said propagated overflow why.NoCycleUsages ambiguous limited usages entry kept is h = absurd cc
-  settled_said propagated overflow (why.Ambiguity info) ambiguous limited usages entry kept is h =
+  changed_said propagated overflow why.NoCycleUsages ambiguous limited usages entry kept is h = absurd cc
+  changed_said propagated overflow (why.Ambiguity info) ambiguous limited usages entry kept is h =
       let same : record entry { result = propagated info; node = None } ≡ kept = cc in
       subst SaidOf same (ambiguous info refl entry.encountered_overflow entry.result h)
-  settled_said propagated overflow why.Overflow ambiguous limited usages entry kept is h =
+  changed_said propagated overflow why.Overflow ambiguous limited usages entry kept is h =
       let same : record entry { result = overflow; node = None } ≡ kept = cc in
       subst SaidOf same (limited refl entry.encountered_overflow entry.result h)
-  settled_said propagated overflow (why.ReachedFixpoint None) ambiguous limited usages entry kept is h =
+  changed_said propagated overflow (why.ReachedFixpoint None) ambiguous limited usages entry kept is h =
       let same : entry ≡ kept = cc in
       subst SaidOf same h
-  settled_said propagated overflow (why.ReachedFixpoint (Some kind)) ambiguous limited usages entry kept is h = tested (has_usages (other_usages usages kind)) is
+  changed_said propagated overflow (why.ReachedFixpoint (Some kind)) ambiguous limited usages entry kept is h = tested (has_usages (other_usages usages kind)) is
     where
       tested : (b : Bool) → (if b then None else Some entry) ≡ Some kept → SaidOf kept
       tested true is = absurd cc
@@ -92,14 +92,14 @@ module _ {X I R A T : Type 0} (P : Bool → R → Type 0) where
   -- the same of all entries of a goal,
   left_said : (propagated : A → R) (overflow : R) (reason : Option (RebaseReason X I R A T)) (stack : List (StackEntry X I R A T)) (done : StackEntry X I R A T) (entries : List (ProvisionalCacheEntry X I R A T))
       → ((reasoned : RebaseReason X I R A T) → reason ≡ Some reasoned → KeepsSaid (settled propagated overflow reasoned))
-      → All SaidOf entries → All SaidOf (left_of propagated overflow reason stack done entries)
+      → All SaidOf entries → All SaidOf (rebased_for propagated overflow reason stack done entries)
   left_said propagated overflow None stack done entries keeps all = all
   left_said propagated overflow (Some reasoned) stack done entries keeps all =
       All-filter_map SaidOf SaidOf (rebased stack done (settled propagated overflow reasoned)) (rebased_said stack done (settled propagated overflow reasoned) (keeps reasoned refl)) entries all
 
   -- and of the entry for an answer
-  kept_said : (stack : List (StackEntry X I R A T)) (step : PathKind) (answer : EvaluationResult X I R A T) → P answer.encountered_overflow answer.result → All SaidOf (kept_of stack step answer)
-  kept_said stack step answer h = at (highest answer.heads)
+  entry_said : (stack : List (StackEntry X I R A T)) (step : PathKind) (answer : EvaluationResult X I R A T) → P answer.encountered_overflow answer.result → All SaidOf (entries_for stack step answer)
+  entry_said stack step answer h = at (highest answer.heads)
     where
       at : (o : Option (StackDepth × CycleHead))
           → All SaidOf
@@ -117,8 +117,8 @@ module _ {X I R A T : Type 0} (P : Bool → R → Type 0) where
       at None = All-nil SaidOf
       at (Some head) = All-cons SaidOf (record { encountered_overflow = answer.encountered_overflow; heads = answer.heads; path_from_head = path_kind_from stack head.0.0 step; result = answer.result; node = answer.node }) [] h (All-nil SaidOf)
 
-  put_said : (b : Bool) (stack : List (StackEntry X I R A T)) (step : PathKind) (answer : EvaluationResult X I R A T) → P answer.encountered_overflow answer.result → All SaidOf (if b then kept_of stack step answer else [])
-  put_said true stack step answer h = kept_said stack step answer h
+  put_said : (b : Bool) (stack : List (StackEntry X I R A T)) (step : PathKind) (answer : EvaluationResult X I R A T) → P answer.encountered_overflow answer.result → All SaidOf (if b then entries_for stack step answer else [])
+  put_said true stack step answer h = entry_said stack step answer h
   put_said false stack step answer h = All-nil SaidOf
 
   -- it is said of each entry
@@ -133,13 +133,13 @@ module _ {X I R A T : Type 0} (P : Bool → R → Type 0) where
   taken_said : {F : Type 0} (same : I → I → Bool) (enabled : Bool) (propagated : I → A → R) (overflow : I → R) (reason : Option (RebaseReason X I R A T)) (r : R) (s : StackEntry X I R A T × Run X F I R A T) (below : List (StackEntry X I R A T × Run X F I R A T)) (old new : Lists I (ProvisionalCacheEntry X I R A T))
       → ((goal : I) (reasoned : RebaseReason X I R A T) → reason ≡ Some reasoned → KeepsSaid (settled (propagated goal) (overflow goal) reasoned))
       → P (s.0.state.encountered_overflow || s.1.met_overflow_before) r
-      → SettlesEntries same enabled propagated overflow reason r s below old new → SaidOfAll same old → SaidOfAll same new
-  taken_said same enabled propagated overflow reason r s below old new keeps here settles all = λ goal.
-      subst (All SaidOf) (sym (settles.entries goal))
-      (All-append SaidOf (left_of (propagated goal) (overflow goal) reason (reverse (map (λ p. p.0) below)) s.0 (entries_at same old goal))
-      (if enabled && same s.0.input goal then kept_of (reverse (map (λ p. p.0) below)) s.0.step_kind_from_parent (final_answer s r settles.node) else [])
+      → RebasesEntries same enabled propagated overflow reason r s below old new → SaidOfAll same old → SaidOfAll same new
+  taken_said same enabled propagated overflow reason r s below old new keeps here rebases all = λ goal.
+      subst (All SaidOf) (sym (rebases.entries goal))
+      (All-append SaidOf (rebased_for (propagated goal) (overflow goal) reason (reverse (map (λ p. p.0) below)) s.0 (entries_at same old goal))
+      (if enabled && same s.0.input goal then entries_for (reverse (map (λ p. p.0) below)) s.0.step_kind_from_parent (final_answer s r rebases.node) else [])
       (left_said (propagated goal) (overflow goal) reason (reverse (map (λ p. p.0) below)) s.0 (entries_at same old goal) (keeps goal) (all goal))
-      (put_said (enabled && same s.0.input goal) (reverse (map (λ p. p.0) below)) s.0.step_kind_from_parent (final_answer s r settles.node) here))
+      (put_said (enabled && same s.0.input goal) (reverse (map (λ p. p.0) below)) s.0.step_kind_from_parent (final_answer s r rebases.node) here))
 
 -- ---- reasons
 
@@ -159,7 +159,7 @@ module _ {X I R A T : Type 0} (is_yes is_no : R → Bool) (same : R → R → Bo
   reason_leaves earlier usages r reason (Ambiguous info never used is) definite = absurd (definite (neither_is is_yes is_no r (neither r info is)))
 
   -- so where a run's end has a definite result and needs no other run, entries keep their results
-  pub end_leaves : (limit : ℕ) (earlier : Option R) (usages : Option HeadUsages) (finished_runs : ℕ) (r : R) (end : Result (Option (RebaseReason X I R A T)) Unstable) (reason : Option (RebaseReason X I R A T)) → IsRunEnd same initial_kind ambiguity limit earlier usages finished_runs r end → end ≡ Ok reason → IsDefinite is_yes is_no r → (reasoned : RebaseReason X I R A T) → reason ≡ Some reasoned → LeavesResults reasoned
+  pub end_leaves : (limit : ℕ) (earlier : Option R) (usages : Option HeadUsages) (finished_runs : ℕ) (r : R) (end : Result (Option (RebaseReason X I R A T)) Unstable) (reason : Option (RebaseReason X I R A T)) → IsEndOfRun same initial_kind ambiguity limit earlier usages finished_runs r end → end ≡ Ok reason → IsDefinite is_yes is_no r → (reasoned : RebaseReason X I R A T) → reason ≡ Some reasoned → LeavesResults reasoned
   end_leaves limit earlier usages finished_runs r end reason (Unused is) at definite reasoned found = absurd cc
   end_leaves limit earlier usages finished_runs r end reason (Stable used first is known) at definite reasoned found =
       let same : first ≡ reasoned = cc in
@@ -179,8 +179,8 @@ module _ {D C V P F I R A T : Type 0} (G : DelegateOf D C V P F I R A T) (X : Cx
   }
 
   -- before the first goal is done there are no entries
-  pub nothing_kept : (results : Store I (StoredResult C I R A T)) (met : Bool) → KeepsStore G X cx same call met results → KeepsAnswers G X cx same call met results []
-  nothing_kept results met store = record { store = store; met_none = λ counted unmet goal. All-nil _; definite = λ decisive unmet goal. All-nil _ }
+  pub no_entries : (results : Store I (StoredResult C I R A T)) (met : Bool) → KeepsStore G X cx same call met results → KeepsAnswers G X cx same call met results []
+  no_entries results met store = record { store = store; met_none = λ counted unmet goal. All-nil _; definite = λ decisive unmet goal. All-nil _ }
 
   -- a further run gives up some entries
   pub rerun_keeps : (results : Store I (StoredResult C I R A T)) (met : Bool) (left : ProvisionalCacheEntry C I R A T → Bool) (old new : Lists I (ProvisionalCacheEntry C I R A T)) → ((goal : I) → entries_at same new goal ≡ filter left (entries_at same old goal)) → KeepsAnswers G X cx same call met results old → KeepsAnswers G X cx same call met results new
@@ -193,29 +193,29 @@ module _ {D C V P F I R A T : Type 0} (G : DelegateOf D C V P F I R A T) (X : Cx
   module _ (ahead : ℕ) (done : R) (starts : ℕ) (met : Bool) (enabled : Bool) (reason : Option (RebaseReason C I R A T)) (leaves_results : IsDefinite X.is_yes X.is_no done → (reasoned : RebaseReason C I R A T) → reason ≡ Some reasoned → LeavesResults reasoned) where
     -- the result is definite, so entries keep theirs
     results_stay : IsDefinite X.is_yes X.is_no done → (propagated : A → R) (overflow : R) (reasoned : RebaseReason C I R A T) → reason ≡ Some reasoned → KeepsSaid {X = C} {I = I} {T = T} (λ met r. IsDefinite X.is_yes X.is_no r) (settled propagated overflow reasoned)
-    results_stay definite propagated overflow reasoned is = settled_said (λ met r. IsDefinite X.is_yes X.is_no r) propagated overflow reasoned
+    results_stay definite propagated overflow reasoned is = changed_said (λ met r. IsDefinite X.is_yes X.is_no r) propagated overflow reasoned
         (λ info ambiguous. absurd (subst LeavesResults ambiguous (leaves_results definite reasoned is)))
         (λ limited. absurd (subst LeavesResults limited (leaves_results definite reasoned is)))
 
     entries_met_none : (s : StackEntry C I R A T × Run C F I R A T) (below : List (StackEntry C I R A T × Run C F I R A T)) (old new : Lists I (ProvisionalCacheEntry C I R A T)) → IsCounted G X cx call → met ≡ false → HasAsked G X cx call ahead (Done done) (s ∷ below) starts met
-        → SettlesEntries same enabled (G.propagated cx) (G.fixpoint_overflow cx) reason done s below old new → SaidOfAll (λ met r. met ≡ false) same old → SaidOfAll (λ met r. met ≡ false) same new
-    entries_met_none s below old new counted unmet h settles =
+        → RebasesEntries same enabled (G.propagated cx) (G.fixpoint_overflow cx) reason done s below old new → SaidOfAll (λ met r. met ≡ false) same old → SaidOfAll (λ met r. met ≡ false) same new
+    entries_met_none s below old new counted unmet h rebases =
         taken_said (λ met r. met ≡ false) same enabled (G.propagated cx) (G.fixpoint_overflow cx) reason done s below old new
-        (λ goal reasoned is. settled_said (λ met r. met ≡ false) (G.propagated cx goal) (G.fixpoint_overflow cx goal) reasoned (λ info ambiguous met r none. none) (λ limited met r none. none))
-        (calm_of G X cx call ahead done starts met s below counted unmet h) settles
+        (λ goal reasoned is. changed_said (λ met r. met ≡ false) (G.propagated cx goal) (G.fixpoint_overflow cx goal) reasoned (λ info ambiguous met r none. none) (λ limited met r none. none))
+        (calm_of G X cx call ahead done starts met s below counted unmet h) rebases
 
     entries_definite : (s : StackEntry C I R A T × Run C F I R A T) (below : List (StackEntry C I R A T × Run C F I R A T)) (old new : Lists I (ProvisionalCacheEntry C I R A T)) → IsDefinite X.is_yes X.is_no done
-        → SettlesEntries same enabled (G.propagated cx) (G.fixpoint_overflow cx) reason done s below old new → SaidOfAll (λ met r. IsDefinite X.is_yes X.is_no r) same old → SaidOfAll (λ met r. IsDefinite X.is_yes X.is_no r) same new
-    entries_definite s below old new definite settles =
+        → RebasesEntries same enabled (G.propagated cx) (G.fixpoint_overflow cx) reason done s below old new → SaidOfAll (λ met r. IsDefinite X.is_yes X.is_no r) same old → SaidOfAll (λ met r. IsDefinite X.is_yes X.is_no r) same new
+    entries_definite s below old new definite rebases =
         taken_said (λ met r. IsDefinite X.is_yes X.is_no r) same enabled (G.propagated cx) (G.fixpoint_overflow cx) reason done s below old new
         (λ goal reasoned is. results_stay definite (G.propagated cx goal) (G.fixpoint_overflow cx goal) reasoned is)
-        definite settles
+        definite rebases
 
     -- the newest goal was taken
-    pub done_keeps : ((x y : I) → same x y ≡ true → x ≡ y) → (before after : Store I (StoredResult C I R A T)) (goals : List (StackEntry C I R A T × Run C F I R A T)) (old new : Lists I (ProvisionalCacheEntry C I R A T)) → MayPutNewest same goals done before after → SettlesNewest same enabled (G.propagated cx) (G.fixpoint_overflow cx) reason done goals old new → HasAsked G X cx call ahead (Done done) goals starts met → KeepsAnswers G X cx same call met before old → KeepsAnswers G X cx same call met after new
-    done_keeps by_value before after [] old new put settles h keeps = absurd put
-    done_keeps by_value before after (s ∷ below) old new put settles h keeps = record {
+    pub done_keeps : ((x y : I) → same x y ≡ true → x ≡ y) → (before after : Store I (StoredResult C I R A T)) (goals : List (StackEntry C I R A T × Run C F I R A T)) (old new : Lists I (ProvisionalCacheEntry C I R A T)) → MayPutNewest same goals done before after → RebasesNewest same enabled (G.propagated cx) (G.fixpoint_overflow cx) reason done goals old new → HasAsked G X cx call ahead (Done done) goals starts met → KeepsAnswers G X cx same call met before old → KeepsAnswers G X cx same call met after new
+    done_keeps by_value before after [] old new put rebases h keeps = absurd put
+    done_keeps by_value before after (s ∷ below) old new put rebases h keeps = record {
       store = put_keeps G X cx call same by_value before after ahead done (s ∷ below) starts met put h keeps.store;
-      met_none = λ counted unmet. entries_met_none s below old new counted unmet h settles (keeps.met_none counted unmet);
-      definite = λ decisive unmet. entries_definite s below old new (done_definite G X cx call ahead done (s ∷ below) starts met h decisive unmet) settles (keeps.definite decisive unmet);
+      met_none = λ counted unmet. entries_met_none s below old new counted unmet h rebases (keeps.met_none counted unmet);
+      definite = λ decisive unmet. entries_definite s below old new (done_definite G X cx call ahead done (s ∷ below) starts met h decisive unmet) rebases (keeps.definite decisive unmet);
     }

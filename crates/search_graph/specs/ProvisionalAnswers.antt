@@ -7,7 +7,7 @@ use Rattle.open_graphs.specs.Use.{Heads}
 use Rattle.search_graph.specs.Justified.{OpenRun, frames_of}
 
 -- An answer with its node: the place of its highest head, the kind of the path from there, and its heads.
-pub record KeptAnswer (R : Type 0) : Type 0 where
+pub record ProvisionalAnswer (R : Type 0) : Type 0 where
   pub result : R
   pub target : Option NodeId
   pub highest : ℕ
@@ -15,12 +15,12 @@ pub record KeptAnswer (R : Type 0) : Type 0 where
   pub heads : Heads
 
 -- the answer as the theory keeps it, with this node
-abbrev pub in_theory : {R : Type 0} → (R → Bool) → (R → Bool) → KeptAnswer R → ℕ → Kept
-in_theory is_yes is_no k n = record { verdict = verdict_of is_yes is_no k.result; highest = k.highest; path = k.path; node = n; heads = k.heads }
+abbrev pub provisional_shape : {R : Type 0} → (R → Bool) → (R → Bool) → ProvisionalAnswer R → ℕ → Kept
+provisional_shape is_yes is_no k n = record { verdict = verdict_of is_yes is_no k.result; highest = k.highest; path = k.path; node = n; heads = k.heads }
 
 -- A definite answer comes with a node of its goal, which may be used wherever the path kind from its highest head is the kept one;
 -- another one comes with none.
-pub record IsKept {I R : Type 0} (is_yes is_no : R → Bool) (nodes : List (CacheNode I R)) (goals : List (OpenRun I R)) (goal : I) (k : KeptAnswer R) : Type 0 where
+pub record IsReusable {I R : Type 0} (is_yes is_no : R → Bool) (nodes : List (CacheNode I R)) (goals : List (OpenRun I R)) (goal : I) (k : ProvisionalAnswer R) : Type 0 where
   pub definite :
       IsDefinite is_yes is_no k.result
       → IsSomeAnd k.target (λ n. IsNodeOf nodes n.0 goal × Stored (shapes_of is_yes is_no nodes) (verdict_of is_yes is_no k.result) (stack_of (frames_of is_yes is_no goals)) k.highest k.path n.0 k.heads)

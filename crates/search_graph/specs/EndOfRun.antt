@@ -30,8 +30,8 @@ module _ {R A : Type 0} (same : R → R → Bool) (initial_kind : R → Option P
 
     -- A goal that wasn't used as a head is done, and so is one whose result is stable. Any other is run again, unless it had its most
     -- runs.
-    pub data IsRunEnd (limit : ℕ) (earlier : Option R) (usages : Option HeadUsages) (finished_runs : ℕ) (r : R) : Result (Option (RebaseReason X I R A T)) Unstable → Type 0 where
-      Unused : usages ≡ None → IsRunEnd limit earlier usages finished_runs r (Ok None)
-      Stable : (used : HeadUsages) (why : RebaseReason X I R A T) → usages ≡ Some used → IsReason earlier used r why → IsRunEnd limit earlier usages finished_runs r (Ok (Some why))
-      Limited : (used : HeadUsages) → usages ≡ Some used → (IsStable earlier used r → ⊥) → limit ≤ finished_runs + 1 → IsRunEnd limit earlier usages finished_runs r (Err AtLimit)
-      Repeats : (used : HeadUsages) → usages ≡ Some used → (IsStable earlier used r → ⊥) → finished_runs + 1 < limit → IsRunEnd limit earlier usages finished_runs r (Err Again)
+    pub data IsEndOfRun (limit : ℕ) (earlier : Option R) (usages : Option HeadUsages) (finished_runs : ℕ) (r : R) : Result (Option (RebaseReason X I R A T)) Unstable → Type 0 where
+      Unused : usages ≡ None → IsEndOfRun limit earlier usages finished_runs r (Ok None)
+      Stable : (used : HeadUsages) (why : RebaseReason X I R A T) → usages ≡ Some used → IsReason earlier used r why → IsEndOfRun limit earlier usages finished_runs r (Ok (Some why))
+      Limited : (used : HeadUsages) → usages ≡ Some used → (IsStable earlier used r → ⊥) → limit ≤ finished_runs + 1 → IsEndOfRun limit earlier usages finished_runs r (Err AtLimit)
+      Repeats : (used : HeadUsages) → usages ≡ Some used → (IsStable earlier used r → ⊥) → finished_runs + 1 < limit → IsEndOfRun limit earlier usages finished_runs r (Err Again)
