@@ -1,6 +1,6 @@
 //! Tests of requests in any order: which of them are refused and as what, and that the graph and the cache
 //! can be used afterwards.
-use parts_tests::countdown::{Outcome, Starts};
+use delegate_parts::{Builder, Outcome};
 use parts_tests::scripts::{Goal, Line, Scripts};
 use search_graph::graph::SearchGraph;
 use search_parts::context::Fault;
@@ -41,9 +41,9 @@ fn evaluate_and_count(
     };
     let mut cache = GlobalCache::<Scripts>::new(alloc, scripts);
     let mut graph = SearchGraph::<Scripts>::new(alloc, 4);
-    let mut starts = Starts::new();
-    let answer = graph.evaluate_goal(&mut cache, FIRST, PathKind::Inductive, &mut starts)?;
-    Ok((answer.result, starts.started()))
+    let mut builder = Builder::new(true);
+    let answer = graph.evaluate_goal(&mut cache, FIRST, PathKind::Inductive, &mut builder)?;
+    Ok((answer.result, builder.started()))
 }
 
 #[test]
@@ -121,21 +121,21 @@ fn a_goal_that_is_done_before_a_fault_stays_stored(rt: HostRuntime) -> Result<()
     };
     let mut cache = GlobalCache::<Scripts>::new(rt.alloc(), scripts);
     let mut graph = SearchGraph::<Scripts>::new(rt.alloc(), 4);
-    let mut starts = Starts::new();
-    let found = graph.evaluate_goal(&mut cache, asking, PathKind::Inductive, &mut starts);
+    let mut builder = Builder::new(true);
+    let found = graph.evaluate_goal(&mut cache, asking, PathKind::Inductive, &mut builder);
     assert_eq!(rt; found.err(), Some(Fault::Protocol(2)));
     assert!(rt; graph.is_empty());
     assert_eq!(rt; graph.debug_current_depth(), 0);
-    assert_eq!(rt; starts.started(), 3);
+    assert_eq!(rt; builder.started(), 3);
     assert_eq!(rt; cache.success_of(asking), None);
     assert_eq!(rt; cache.success_of(done), Some((Outcome::Yes, 0)));
     assert_eq!(rt; cache.success_of(faulty), None);
 
-    let mut later_starts = Starts::new();
-    let answer = graph.evaluate_goal(&mut cache, done, PathKind::Inductive, &mut later_starts)?;
+    let mut later_builder = Builder::new(true);
+    let answer = graph.evaluate_goal(&mut cache, done, PathKind::Inductive, &mut later_builder)?;
     assert_eq!(rt; answer.result, Outcome::Yes);
     assert!(rt; answer.node.is_some());
-    assert_eq!(rt; later_starts.started(), 0);
+    assert_eq!(rt; later_builder.started(), 0);
     Ok(())
 }
 
@@ -147,15 +147,15 @@ fn another_goal_is_answered_after_a_fault(rt: HostRuntime) -> Result<(), Fail> {
     };
     let mut cache = GlobalCache::<Scripts>::new(rt.alloc(), scripts);
     let mut graph = SearchGraph::<Scripts>::new(rt.alloc(), 4);
-    let mut starts = Starts::new();
-    let found = graph.evaluate_goal(&mut cache, faulty, PathKind::Inductive, &mut starts);
+    let mut builder = Builder::new(true);
+    let found = graph.evaluate_goal(&mut cache, faulty, PathKind::Inductive, &mut builder);
     assert_eq!(rt; found.err(), Some(Fault::Protocol(2)));
     assert!(rt; graph.is_empty());
     assert_eq!(rt; graph.debug_current_depth(), 0);
     assert_eq!(rt; cache.success_of(faulty), None);
 
-    let answer = graph.evaluate_goal(&mut cache, other, PathKind::Inductive, &mut starts)?;
+    let answer = graph.evaluate_goal(&mut cache, other, PathKind::Inductive, &mut builder)?;
     assert_eq!(rt; answer.result, Outcome::Yes);
-    assert_eq!(rt; starts.started(), 2);
+    assert_eq!(rt; builder.started(), 2);
     Ok(())
 }

@@ -4,9 +4,8 @@ use Rattle.std.proofs.Common.{◌≡◌, ℕ, zero, suc, max, List, [], ◌∷�
 use Rattle.std.proofs.lemmas.Option.{slice_get-map}
 use Rattle.open_graphs.specs.Graph as theory
 use Rattle.open_graphs.proofs.Verdicts.{is_finished}
-use Rattle.parts_tests.specs.Below.{NodeId, Begin, Place, Success, WithOverflow, PathKind, CacheNode, HasGraph, rank_of, IsRanked, HasNoRank, verdict_of, shape_of, shapes_of, IsPlainAt}
-use Rattle.parts_tests.specs.Words.{Loops, is_yes, is_no, loop_run, loop_script}
-use Rattle.parts_tests.specs.declared.loops.Outcome.{Outcome}
+use Rattle.parts_tests.specs.Below.{NodeId, Begin, Place, Success, WithOverflow, PathKind, CacheNode, HasGraph, rank_of, IsRanked, HasNoRank, verdict_of, shape_of, shapes_of, IsPlainAt, Outcome, is_yes, is_no}
+use Rattle.parts_tests.specs.Words.{Loops, loop_run, loop_script}
 
 unranked : (cx : Loops) (n : ℕ) (goal : PathKind) → IsRanked (loop_script cx) n goal → ⊥
 unranked cx zero goal h = h (Begin ∷ []) goal goal (tt, tt) refl

@@ -2,9 +2,12 @@
 pub use Rattle.cycle_heads.specs.Path.{rank_of}
 pub use Rattle.cycle_heads.specs.declared.path.PathKind.{PathKind}
 pub use Rattle.cycle_heads.specs.declared.path.PathKind.TheVariants.{Coinductive, ForcedAmbiguity, Inductive, Unknown}
+pub use Rattle.delegate_parts.specs.Outcome.{is_no, is_yes}
+pub use Rattle.delegate_parts.specs.declared.outcome.Outcome.{Outcome}
+pub use Rattle.delegate_parts.specs.declared.outcome.Outcome.TheVariants.{Maybe, No, Overflow, Yes}
 pub use Rattle.search_parts.specs.Cache.{CacheNode, EndedRun, IsNodeOf, KeepsNodes, open_goal, open_node, with_run}
 pub use Rattle.search_parts.specs.Definite.{HasGraph}
-pub use Rattle.search_parts.specs.Delegate.{CanTake, CountsOne, IsCycleResult, IsNeither, Steps}
+pub use Rattle.search_parts.specs.Delegate.{CanTake, Steps}
 pub use Rattle.search_parts.specs.Provisional.{Appends, entries_at, Lists}
 pub use Rattle.search_parts.specs.Question.{IsWithin, Overlap, Question}
 pub use Rattle.search_parts.specs.Rank.{HasNoRank, IsRanked}

@@ -1,9 +1,7 @@
 -- The frames of goals that count down: one question or two, and then what the answers come to as the result.
 use Rattle.std.specs.Prelude.{◌≡◌, ◌==◌, ℕ, Bool, true, false, List, [], ◌∷◌}
-use Rattle.parts_tests.specs.Below.{Request, Evaluate, Done, Reply, Begin, Answer, Noted}
+use Rattle.parts_tests.specs.Below.{Request, Evaluate, Done, Reply, Begin, Answer, Noted, Outcome, Yes, Maybe}
 use Rattle.parts_tests.specs.declared.countdown.Count.{Count}
-use Rattle.parts_tests.specs.declared.countdown.Outcome.{Outcome}
-use Rattle.parts_tests.specs.declared.countdown.Outcome.TheVariants.{Yes, Maybe}
 use Rattle.parts_tests.specs.declared.countdown.Countdown.{Countdown}
 use Rattle.parts_tests.specs.declared.countdown.Stage.{Stage}
 use Rattle.parts_tests.specs.declared.countdown.Stage.TheVariants.{New, Once, Twice, Over}

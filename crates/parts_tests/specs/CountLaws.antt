@@ -1,31 +1,19 @@
 -- The laws of goals that count down: a yes rests on a question that was answered yes, and a no on one that was answered no.
-use Rattle.std.specs.Prelude.{◌≡◌, ◌<◌, ◌==◌, ℕ, Bool, true, false, List, [], ◌∷◌, Option, Some, None, Contains, refl}
+use Rattle.std.specs.Prelude.{◌≡◌, ◌<◌, ◌==◌, ℕ, Bool, true, false, List, [], ◌∷◌, Some, Contains, refl}
 use Rattle.std.proofs.Common.{zero, suc, inl, inr, sym, subst, arith}
 use Rattle.std.proofs.lemmas.Bool.{eqb-true}
-use Rattle.parts_tests.specs.Below.{Request, Done, Reply, Begin, Answer, Noted, Question, EndsIn, Fits, progress_after, questions_answered}
+use Rattle.parts_tests.specs.Below.{Reply, Begin, Answer, Question, EndsIn, progress_after, questions_answered, Outcome, Yes, No, Maybe, Overflow, is_yes, is_no}
+use Rattle.parts_tests.specs.Requests.{done, none_after_done, nothing_done}
 use Rattle.parts_tests.specs.declared.countdown.Count.{Count}
-use Rattle.parts_tests.specs.declared.countdown.Outcome.{Outcome}
-use Rattle.parts_tests.specs.declared.countdown.Outcome.TheVariants.{Yes, No, Maybe, Overflow}
 use Rattle.parts_tests.specs.declared.countdown.Countdown.{Countdown}
-use Rattle.parts_tests.specs.Countdown.{Proves, Refutes, is_yes, is_no, both, question_below}
+use Rattle.parts_tests.specs.Countdown.{Proves, Refutes, both, question_below}
 use Rattle.parts_tests.specs.CountFrames.{asks_below, outcome_after, script_of, count_script}
 
-none_after_done : (a : Outcome) (x : Reply Outcome) → Fits {I = Count} (Some (Done a)) x → ⊥
-none_after_done a Begin h = h
-none_after_done a (Answer r) h = h
-none_after_done a Noted h = h
-
-abbrev done : Outcome → Option (Request Count Outcome)
-done r = Some (Done r)
-
-nothing_done : (r : Outcome) → None ≡ done r → ⊥
-nothing_done r e = absurd cc
-
-question_not_done : (goal : Count) (r : Outcome) → Some (asks_below goal) ≡ done r → ⊥
+question_not_done : (goal : Count) (r : Outcome) → Some (asks_below goal) ≡ done Count r → ⊥
 question_not_done goal r e = absurd cc
 
 -- the run's result has what is said of the request
-result_is : (test : Outcome → Bool) (s r : Outcome) → done s ≡ done r → test r ≡ true → test s ≡ true
+result_is : (test : Outcome → Bool) (s r : Outcome) → done Count s ≡ done Count r → test r ≡ true → test s ≡ true
 result_is test s r e is = let same : s ≡ r = cc in subst (λ v. test v ≡ true) (sym same) is
 
 not_so : false ≡ true → ⊥
@@ -47,19 +35,19 @@ rests_on_answers : (test : Outcome → Bool) (Law : List (Question Count) → Ty
     ((a b : Outcome) → test (both (both Yes b) a) ≡ true → Law (questions_answered test (progress_after (script_of false true goal) (Answer a ∷ Answer b ∷ Begin ∷ [])))) →
     (asks_twice : Bool) (replies : List (Reply Outcome)) (r : Outcome) → EndsIn (script_of false asks_twice goal) replies r → test r ≡ true →
     Law (questions_answered test (progress_after (script_of false asks_twice goal) replies))
-rests_on_answers test Law goal once twice asks_twice [] r h is = absurd (nothing_done r h.is_done)
+rests_on_answers test Law goal once twice asks_twice [] r h is = absurd (nothing_done Count r h.is_done)
 rests_on_answers test Law goal once twice asks_twice (x ∷ []) r h is = absurd (question_not_done goal r h.is_done)
 rests_on_answers test Law goal once twice false (Answer a ∷ Begin ∷ []) r h is = once a (result_is test (both Yes a) r h.is_done is)
 rests_on_answers test Law goal once twice false (Answer a ∷ y ∷ []) r h is = absurd h.is_fitting.1.0
 rests_on_answers test Law goal once twice false (x ∷ y ∷ []) r h is = absurd h.is_fitting.0
-rests_on_answers test Law goal once twice false (x ∷ y ∷ z ∷ []) r h is = absurd (none_after_done (outcome_after (y ∷ z ∷ [])) x h.is_fitting.0)
+rests_on_answers test Law goal once twice false (x ∷ y ∷ z ∷ []) r h is = absurd (none_after_done Count (outcome_after (y ∷ z ∷ [])) x h.is_fitting.0)
 rests_on_answers test Law goal once twice true (x ∷ y ∷ []) r h is = absurd (question_not_done goal r h.is_done)
 rests_on_answers test Law goal once twice true (Answer a ∷ Answer b ∷ Begin ∷ []) r h is = twice a b (result_is test (both (both Yes b) a) r h.is_done is)
 rests_on_answers test Law goal once twice true (Answer a ∷ Answer b ∷ z ∷ []) r h is = absurd h.is_fitting.1.1.0
 rests_on_answers test Law goal once twice true (Answer a ∷ y ∷ z ∷ []) r h is = absurd h.is_fitting.1.0
 rests_on_answers test Law goal once twice true (x ∷ y ∷ z ∷ []) r h is = absurd h.is_fitting.0
-rests_on_answers test Law goal once twice asks_twice (x ∷ y ∷ z ∷ w ∷ []) r h is = absurd (none_after_done (outcome_after (y ∷ z ∷ w ∷ [])) x h.is_fitting.0)
-rests_on_answers test Law goal once twice asks_twice (x ∷ y ∷ z ∷ w ∷ v ∷ earlier) r h is = absurd (none_after_done (outcome_after (y ∷ z ∷ w ∷ v ∷ earlier)) x h.is_fitting.0)
+rests_on_answers test Law goal once twice asks_twice (x ∷ y ∷ z ∷ w ∷ []) r h is = absurd (none_after_done Count (outcome_after (y ∷ z ∷ w ∷ [])) x h.is_fitting.0)
+rests_on_answers test Law goal once twice asks_twice (x ∷ y ∷ z ∷ w ∷ v ∷ earlier) r h is = absurd (none_after_done Count (outcome_after (y ∷ z ∷ w ∷ v ∷ earlier)) x h.is_fitting.0)
 
 yes_once : (goal : Count) (a : Outcome) → is_yes (both Yes a) ≡ true → Contains (questions_answered is_yes (progress_after (script_of false false goal) (Answer a ∷ Begin ∷ []))) (question_below goal)
 yes_once goal Yes is = (0, omega arith, refl)
@@ -108,7 +96,7 @@ yes_rests true asks_twice goal replies r at h is = inl (number_is_zero goal at)
 yes_rests false asks_twice goal replies r at h is = inr (rests_on_answers is_yes (λ held. Contains held (question_below goal)) goal (yes_once goal) (yes_twice goal) asks_twice replies r h is)
 
 no_rests : (is_zero asks_twice : Bool) (goal : Count) (replies : List (Reply Outcome)) (r : Outcome) → (goal.0 == 0) ≡ is_zero → EndsIn (script_of is_zero asks_twice goal) replies r → is_no r ≡ true → Refutes goal (questions_answered is_no (progress_after (script_of is_zero asks_twice goal) replies))
-no_rests true asks_twice goal [] r at h is = absurd (nothing_done r h.is_done)
+no_rests true asks_twice goal [] r at h is = absurd (nothing_done Count r h.is_done)
 no_rests true asks_twice goal (x ∷ earlier) r at h is = absurd (not_so (result_is is_no Yes r h.is_done is))
 no_rests false asks_twice goal replies r at h is = (above_zero goal at, rests_on_answers is_no (λ failed. Contains failed (question_below goal)) goal (no_once goal) (no_twice goal) asks_twice replies r h is)
 

@@ -1,14 +1,13 @@
 -- The frames of goals that ask themselves: one question, and then the answer as the result.
-use Rattle.std.specs.Prelude.{◌≡◌, ℕ, true, List, [], ◌∷◌, Some, refl}
+use Rattle.std.specs.Prelude.{◌≡◌, ℕ, true, List, [], ◌∷◌, refl}
 use Rattle.std.proofs.Common.{sym, ap, subst, arith}
-use Rattle.parts_tests.specs.Below.{PathKind, Request, Evaluate, Done, Reply, Begin, Answer, Noted, EndsIn, Fits, progress_after, questions_answered}
-use Rattle.parts_tests.specs.declared.loops.Outcome.{Outcome}
-use Rattle.parts_tests.specs.declared.loops.Outcome.TheVariants.{Yes, No, Maybe, Overflow}
+use Rattle.parts_tests.specs.Below.{PathKind, Request, Evaluate, Done, Reply, Begin, Answer, Noted, EndsIn, progress_after, questions_answered, Outcome, Yes, No, Maybe, Overflow, is_yes, is_no}
+use Rattle.parts_tests.specs.Requests.{done, none_after_done}
 use Rattle.parts_tests.specs.declared.loops.Loops.{Loops}
 use Rattle.parts_tests.specs.declared.loops.Stage.{Stage}
 use Rattle.parts_tests.specs.declared.loops.Stage.TheVariants.{New, Asked, Done as Over}
 use Rattle.parts_tests.specs.declared.loops.Frame.{Frame}
-use Rattle.parts_tests.specs.Loops.{Asks, is_yes, is_no}
+use Rattle.parts_tests.specs.Loops.{Asks}
 
 abbrev pub answer_in : Reply Outcome → Outcome
 answer_in (Answer r) = r
@@ -46,22 +45,14 @@ pub record Stands (frame : Frame) (cx : Loops) (goal : PathKind) (replies : List
   pub same_goal : frame.goal ≡ goal
   pub same_stage : frame.stage ≡ stage_after replies
 
-none_after_done : (a : Outcome) (x : Reply Outcome) → Fits {I = PathKind} (Some (Done a)) x → ⊥
-none_after_done a Begin h = h
-none_after_done a (Answer r) h = h
-none_after_done a Noted h = h
-
-abbrev done : Outcome → Request PathKind Outcome
-done r = Done r
-
 -- a run ends with the answer to its only question
 pub ends_by_answer : (cx : Loops) (goal : PathKind) (replies : List (Reply Outcome)) (r : Outcome) → EndsIn (loop_script cx goal) replies r → replies ≡ Answer r ∷ Begin ∷ []
 ends_by_answer cx goal [] r h = let e = h.is_done in absurd cc
 ends_by_answer cx goal (x ∷ []) r h = let e = h.is_done in absurd cc
-ends_by_answer cx goal (Answer a ∷ Begin ∷ []) r h = let e : Some (done a) ≡ Some (Done r) = h.is_done in let same : a ≡ r = cc in ap (λ v. Answer v ∷ Begin ∷ []) same
+ends_by_answer cx goal (Answer a ∷ Begin ∷ []) r h = let e : done PathKind a ≡ done PathKind r = h.is_done in let same : a ≡ r = cc in ap (λ v. Answer v ∷ Begin ∷ []) same
 ends_by_answer cx goal (Answer a ∷ y ∷ []) r h = absurd h.is_fitting.1.0
 ends_by_answer cx goal (x ∷ y ∷ []) r h = absurd h.is_fitting.0
-ends_by_answer cx goal (x ∷ y ∷ z ∷ earlier) r h = absurd (none_after_done (answer_in y) x h.is_fitting.0)
+ends_by_answer cx goal (x ∷ y ∷ z ∷ earlier) r h = absurd (none_after_done PathKind (answer_in y) x h.is_fitting.0)
 
 yes_asks : (cx : Loops) (goal : PathKind) (r : Outcome) → is_yes r ≡ true → Asks goal (questions_answered is_yes (progress_after (loop_script cx goal) (Answer r ∷ Begin ∷ [])))
 yes_asks cx goal Yes is = (0, omega arith, refl)

@@ -1,3 +1,4 @@
+pub mod Requests
 pub mod Loops
 pub mod Frames
 pub mod NestedTests

@@ -1,15 +1,13 @@
 -- Goals with scripts: the requests of a goal, whatever it is replied, and the laws of such goals.
-use Rattle.std.specs.Prelude.{◌≡◌, ◌-◌, nat_lt, ℕ, true, ◌&&◌, if◌then◌else◌, List, [], ◌∷◌, length, slice_index_or, Option, Some, None, ⊤}
+use Rattle.std.specs.Prelude.{◌≡◌, ◌-◌, nat_lt, ℕ, true, ◌&&◌, if◌then◌else◌, List, [], ◌∷◌, length, slice_index_or, Some, ⊤}
 use Rattle.std.proofs.Common.{subst, sym}
-use Rattle.parts_tests.specs.Below.{Request, Evaluate, EnterCandidate, FinishCandidate, Ignore, Done, Reply, Question, Overlap, EndsIn, progress_after, questions_answered}
-use Rattle.parts_tests.specs.declared.countdown.Outcome.{Outcome}
-use Rattle.parts_tests.specs.declared.countdown.Outcome.TheVariants.{Yes}
+use Rattle.parts_tests.specs.Below.{Request, Evaluate, EnterCandidate, FinishCandidate, Ignore, Done, Reply, Question, Overlap, EndsIn, progress_after, questions_answered, Outcome, Yes, is_yes, is_no}
+use Rattle.parts_tests.specs.Requests.{done, nothing_done}
 use Rattle.parts_tests.specs.declared.scripts.Goal.{Goal}
 use Rattle.parts_tests.specs.declared.scripts.Line.{Line}
 use Rattle.parts_tests.specs.declared.scripts.Line.TheVariants.{Evaluate as Asks, EnterCandidate as Enters, FinishCandidate as Finishes, Ignore as Ignores, End}
 use Rattle.parts_tests.specs.declared.scripts.Scripts.{Scripts}
 use Rattle.parts_tests.specs.declared.scripts.Frame.{Frame}
-use Rattle.parts_tests.specs.Countdown.{is_yes, is_no}
 
 -- each goal holds, whatever holds beside it
 abbrev pub Proves : Scripts → Goal → List (Question Goal) → Type 0
@@ -49,20 +47,14 @@ pub record Stands (frame : Frame) (cx : Scripts) (goal : Goal) (replies : List (
 pub yes_is_proved : (cx : Scripts) (goal : Goal) (replies : List (Reply Outcome)) (r : Outcome) → EndsIn (script_of cx goal) replies r → is_yes r ≡ true → Proves cx goal (questions_answered is_yes (progress_after (script_of cx goal) replies))
 yes_is_proved cx goal replies r ends is = tt
 
-abbrev done : Outcome → Option (Request Goal Outcome)
-done r = Some (Done r)
-
 -- a line gives no result but yes
-result_is_yes : (line : Line) (r : Outcome) → Some (request_of line) ≡ done r → is_no r ≡ true → ⊥
+result_is_yes : (line : Line) (r : Outcome) → Some (request_of line) ≡ done Goal r → is_no r ≡ true → ⊥
 result_is_yes (Asks kind goal) r e is = absurd cc
 result_is_yes Enters r e is = absurd cc
 result_is_yes Finishes r e is = absurd cc
 result_is_yes (Ignores candidate) r e is = absurd cc
 result_is_yes End r e is = let same : Yes ≡ r = cc in let none : is_no Yes ≡ true = subst (λ v. is_no v ≡ true) (sym same) is in absurd cc
 
-nothing_done : (r : Outcome) → None ≡ done r → ⊥
-nothing_done r e = absurd cc
-
 pub no_is_refuted : (cx : Scripts) (goal : Goal) (replies : List (Reply Outcome)) (r : Outcome) → EndsIn (script_of cx goal) replies r → is_no r ≡ true → Refutes cx goal (questions_answered is_no (progress_after (script_of cx goal) replies))
-no_is_refuted cx goal [] r ends is = nothing_done r ends.is_done
+no_is_refuted cx goal [] r ends is = nothing_done Goal r ends.is_done
 no_is_refuted cx goal (x ∷ earlier) r ends is = result_is_yes (line_at cx goal (length earlier)) r ends.is_done is

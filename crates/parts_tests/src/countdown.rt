@@ -1,7 +1,9 @@
 //! Goals that count down. A goal is a number: 0 holds, and any other goal asks the number below it, once or twice,
 //! and holds if that does.
-ghost use Rattle.std.specs.Prelude.{◌≡◌, ◌<◌, ◌+◌, ◌^◌, ◌-◌, IfOk, OnOk};
+ghost use Rattle.std.specs.Prelude.{◌≡◌, ◌<◌, ◌^◌, ◌-◌, IfOk, OnOk};
+ghost use Rattle.parts_tests.specs.Countdown as countdown;
 
+use delegate_parts::{Builder, NoScope, Outcome};
 use search_parts::context::{Cx, Delegate, NoMemory, Reply, Request, Verdict};
 use search_parts::path::PathKind;
 
@@ -9,27 +11,14 @@ use search_parts::path::PathKind;
 #[derive(Clone, Copy, Debug, PartialEq, Eq, Hash)]
 pub struct Count(pub u32);
 
-/// What is known of a goal.
-#[derive(Clone, Copy, Debug, PartialEq, Eq, Hash)]
-pub enum Outcome {
-    Yes,
-    No,
-    Maybe,
-    Overflow,
-}
-
-impl Outcome {
-    ghost use Rattle.parts_tests.specs.Countdown.{both};
-
-    /// What two answers come to: yes if both are yes, no if one is no, and else maybe.
-    pub fn and(self, other: Outcome) -> Outcome
-        ensures { result ≡ both self other }
-    {
-        match (self, other) {
-            (Outcome::Yes, Outcome::Yes) => Outcome::Yes,
-            (Outcome::No, _) | (_, Outcome::No) => Outcome::No,
-            _ => Outcome::Maybe,
-        }
+/// What two answers come to: yes if both are yes, no if one is no, and else maybe.
+fn both(one: Outcome, other: Outcome) -> Outcome
+    ensures { result ≡ countdown.both one other }
+{
+    match (one, other) {
+        (Outcome::Yes, Outcome::Yes) => Outcome::Yes,
+        (Outcome::No, _) | (_, Outcome::No) => Outcome::No,
+        _ => Outcome::Maybe,
     }
 }
 
@@ -42,7 +31,8 @@ pub struct Countdown {
 
 impl Cx for Countdown {
     ghost use Rattle.std.proofs.Common.{rules};
-    ghost use Rattle.parts_tests.specs.Countdown as countdown;
+    ghost use Rattle.delegate_parts.specs.Laws as laws;
+    ghost use Rattle.delegate_parts.specs.Outcome as outcomes;
 
     type Input = Count;
 
@@ -56,9 +46,9 @@ impl Cx for Countdown {
 
     ghost refutes = { λ cx. countdown.Refutes };
 
-    ghost is_yes = { countdown.is_yes };
+    ghost is_yes = { outcomes.is_yes };
 
-    ghost is_no = { countdown.is_no };
+    ghost is_no = { outcomes.is_no };
 
     ghost proves_more = { λ cx. countdown.proves_more };
 
@@ -66,7 +56,7 @@ impl Cx for Countdown {
 
     ghost clash = { λ cx. countdown.clash };
 
-    ghost one_sort = { countdown.one_sort };
+    ghost one_sort = { laws.one_sort };
 
     ghost same_input = { Prim.search rules };
 
@@ -75,11 +65,7 @@ impl Cx for Countdown {
     fn dep_node(self, _input: Count) {}
 
     fn sort(self, outcome: Outcome) -> Verdict {
-        match outcome {
-            Outcome::Yes => Verdict::Yes,
-            Outcome::No => Verdict::No,
-            Outcome::Maybe | Outcome::Overflow => Verdict::Neither,
-        }
+        outcome.verdict()
     }
 }
 
@@ -134,54 +120,21 @@ impl Frame {
     }
 }
 
-/// Counts the frames that are started.
-#[derive(Debug, Drop)]
-pub struct Starts {
-    started: u64,
-}
-
-impl Starts {
-    ghost use Rattle.parts_tests.specs.Below.{CountsOne};
-
-    /// No frame was started.
-    pub fn new() -> Starts
-        ensures { result.started ≡ 0 }
-    {
-        Starts { started: 0 }
-    }
-
-    /// How many frames were started. The count stays at 18446744073709551615.
-    pub fn started(&self) -> u64
-        ensures { result ≡ self.now.started }
-    {
-        self.started
-    }
-
-    pub(crate) fn note_start(&mut self)
-        ensures { CountsOne (2 ^ 64 - 1) self.old.started self.new.started }
-    {
-        self.started = self.started.saturating_add(1);
-    }
-}
-
-/// A scope that is never given.
-#[derive(Drop)]
-pub enum NoScope {}
-
 impl Delegate for Countdown {
     ghost use Rattle.std.proofs.Common.{rules};
     ghost use Rattle.std.specs.Prelude.{false, true};
-    ghost use Rattle.parts_tests.specs.declared.countdown.Outcome.TheVariants.{Maybe, Overflow};
+    ghost use Rattle.delegate_parts.specs.Builder.{is_noop_of, started_in};
+    ghost use Rattle.delegate_parts.specs.Laws as laws;
+    ghost use Rattle.delegate_parts.specs.Outcome as outcomes;
     ghost use Rattle.parts_tests.specs.CountFrames.{count_script, Stands, steps_left};
     ghost use Rattle.parts_tests.specs.CountLaws.{yes_is_proved, no_is_refuted};
-    ghost use Rattle.parts_tests.specs.Countdown as countdown;
-    ghost use Rattle.parts_tests.specs.Below.{CanTake, Steps};
+    ghost use Rattle.parts_tests.specs.Below.{CanTake, Maybe, Overflow, Steps};
 
     type Cx = Countdown;
 
     type ValidationScope = NoScope;
 
-    type ProofTreeBuilder = Starts;
+    type ProofTreeBuilder = Builder;
 
     type Frame = Frame;
 
@@ -205,25 +158,25 @@ impl Delegate for Countdown {
 
     ghost width = { λ cx. 3 };
 
-    ghost initial_result = { λ cx kind goal. countdown.initial_outcome kind };
+    ghost initial_result = { λ cx kind goal. outcomes.initial_outcome kind };
 
-    ghost initial_kind = { countdown.kind_of };
+    ghost initial_kind = { outcomes.kind_of };
 
     ghost stack_overflow = { λ cx goal. Overflow };
 
     ghost fixpoint_overflow = { λ cx goal. Overflow };
 
-    ghost ambiguity = { countdown.ambiguity_of };
+    ghost ambiguity = { outcomes.ambiguity_of };
 
     ghost propagated = { λ cx goal info. Maybe };
 
-    ghost starts = { λ builder. builder.started };
+    ghost starts = { started_in };
 
     ghost counts = { true };
 
     ghost last = { 2 ^ 64 - 1 };
 
-    ghost noop = { λ builder. false };
+    ghost noop = { is_noop_of };
 
     ghost scoped = { λ cx goal. false };
 
@@ -231,17 +184,17 @@ impl Delegate for Countdown {
 
     ghost no_is_refuted = { no_is_refuted };
 
-    ghost initial_sort = { λ cx kind goal. countdown.initial_sort kind };
+    ghost initial_sort = { λ cx kind goal. laws.initial_sort kind };
 
-    ghost recognised_sort = { countdown.recognised_sort };
+    ghost recognised_sort = { laws.recognised_sort };
 
-    ghost stack_overflow_is_neither = { λ cx goal. countdown.overflow_is_neither };
+    ghost stack_overflow_is_neither = { λ cx goal. laws.overflow_is_neither };
 
-    ghost fixpoint_overflow_is_neither = { λ cx goal. countdown.overflow_is_neither };
+    ghost fixpoint_overflow_is_neither = { λ cx goal. laws.overflow_is_neither };
 
-    ghost ambiguous_is_neither = { countdown.ambiguous_is_neither };
+    ghost ambiguous_is_neither = { laws.ambiguous_is_neither };
 
-    ghost propagated_is_neither = { λ cx goal info. countdown.maybe_is_neither };
+    ghost propagated_is_neither = { λ cx goal info. laws.maybe_is_neither };
 
     ghost divides = { Prim.search rules };
 
@@ -249,24 +202,16 @@ impl Delegate for Countdown {
         None
     }
 
-    fn inspect_is_noop(_inspect: &mut Starts) -> bool {
-        false
+    fn inspect_is_noop(inspect: &mut Builder) -> bool {
+        inspect.is_noop()
     }
 
     fn initial_provisional_result(_cx: Countdown, kind: PathKind, _input: Count) -> Outcome {
-        match kind {
-            PathKind::Coinductive => Outcome::Yes,
-            PathKind::Inductive => Outcome::No,
-            PathKind::Unknown | PathKind::ForcedAmbiguity => Outcome::Maybe,
-        }
+        Outcome::initial(kind)
     }
 
     fn is_initial_provisional_result(outcome: Outcome) -> Option<PathKind> {
-        match outcome {
-            Outcome::Yes => Some(PathKind::Coinductive),
-            Outcome::No => Some(PathKind::Inductive),
-            Outcome::Maybe | Outcome::Overflow => None,
-        }
+        outcome.initial_kind()
     }
 
     fn stack_overflow_result(_cx: Countdown, _input: Count) -> Outcome {
@@ -278,17 +223,14 @@ impl Delegate for Countdown {
     }
 
     fn is_ambiguous_result(outcome: Outcome) -> Option<()> {
-        match outcome {
-            Outcome::Maybe | Outcome::Overflow => Some(()),
-            Outcome::Yes | Outcome::No => None,
-        }
+        outcome.ambiguity()
     }
 
     fn propagate_ambiguity(_cx: Countdown, _for_input: Count, _ambiguity_info: ()) -> Outcome {
         Outcome::Maybe
     }
 
-    fn start(cx: Countdown, input: Count, inspect: &mut Starts) -> Result<Frame, NoMemory> {
+    fn start(cx: Countdown, input: Count, inspect: &mut Builder) -> Result<Frame, NoMemory> {
         inspect.note_start();
         Ok(Frame {
             asks_twice: cx.asks_twice,
@@ -301,15 +243,16 @@ impl Delegate for Countdown {
     fn step(
         frame: &mut Frame,
         reply: Reply<Outcome>,
-        inspect: &mut Starts,
+        inspect: &mut Builder,
     ) -> Result<Request<Count, Outcome>, NoMemory>
         requires { CanTake Stands count_script frame.old reply }
         ensures request { IfOk result (λ request. Steps Stands count_script frame.old reply request frame.new) }
         ensures falls { OnOk result (steps_left frame.new.stage < steps_left frame.old.stage) }
-        ensures same_starts { inspect.new.started ≡ inspect.old.started }
+        ensures same_starts { started_in inspect.new ≡ started_in inspect.old }
+        ensures same_noop { is_noop_of inspect.new ≡ is_noop_of inspect.old }
     {
         if let Reply::Answer(outcome) = reply {
-            frame.outcome = frame.outcome.and(outcome);
+            frame.outcome = both(frame.outcome, outcome);
         }
         let request = frame.request();
         frame.stage = frame.stage.next();

@@ -1,5 +1,5 @@
 //! Tests of the texts of faults.
-use crate::loops::Outcome;
+use delegate_parts::Outcome;
 use search_parts::context::{Fault, NoMemory};
 use search_parts::path::PathKind;
 use std::test::Fail;

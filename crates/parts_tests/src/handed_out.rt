@@ -1,5 +1,6 @@
 //! Tests of graphs that are handed out as data.
-use crate::loops::{Loops, Outcome, answered_loop, finish_towards};
+use crate::loops::{Loops, answered_loop, finish_towards};
+use delegate_parts::Outcome;
 use search_parts::context::{Edge, Node, NodeId, Reply};
 use search_parts::global_cache::GlobalCache;
 use search_parts::path::PathKind;

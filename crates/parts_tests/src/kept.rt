@@ -2,7 +2,8 @@
 ghost use Rattle.std.specs.Prelude.{◌≡◌, ◌≢◌, ◌≤◌, [], All, IfOk};
 ghost use Rattle.parts_tests.specs.Below.{entries_at, PathKind};
 
-use crate::loops::{Loops, Outcome};
+use crate::loops::Loops;
+use delegate_parts::Outcome;
 use search_parts::context::{NoMemory, NodeId};
 use search_parts::parts::{
     CycleHeads, HeadUsages, ProvisionalCache, ProvisionalCacheEntry, StackDepth,

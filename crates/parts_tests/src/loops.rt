@@ -4,20 +4,11 @@ ghost use Rattle.std.specs.Prelude.{◌≡◌, ◌<◌, Some, IfOk, OnOk, OnErr,
 ghost use Rattle.parts_tests.specs.Below.{open_goal, with_run, IsNodeOf};
 ghost use Rattle.parts_tests.specs.Words.{loop_run};
 
+use delegate_parts::{NoScope, Outcome};
 use search_parts::context::{Cx, Delegate, Edge, NoMemory, NodeId, Reply, Request, Verdict};
 use search_parts::global_cache::GlobalCache;
 use search_parts::path::PathKind;
 use std::alloc::Global;
-
-/// What a goal may come to.
-#[derive(Clone, Copy, Debug, PartialEq, Eq, Hash)]
-pub enum Outcome {
-    Yes,
-    No,
-    Maybe,
-    /// Neither is known, since a limit was met.
-    Overflow,
-}
 
 /// The context of goals that ask themselves.
 #[derive(Clone, Copy, Debug)]
@@ -25,6 +16,8 @@ pub struct Loops;
 
 impl Cx for Loops {
     ghost use Rattle.std.proofs.Common.{rules};
+    ghost use Rattle.delegate_parts.specs.Laws as laws;
+    ghost use Rattle.delegate_parts.specs.Outcome as outcomes;
     ghost use Rattle.parts_tests.specs.Loops as loops;
 
     type Input = PathKind;
@@ -39,9 +32,9 @@ impl Cx for Loops {
 
     ghost refutes = { λ cx. loops.Asks };
 
-    ghost is_yes = { loops.is_yes };
+    ghost is_yes = { outcomes.is_yes };
 
-    ghost is_no = { loops.is_no };
+    ghost is_no = { outcomes.is_no };
 
     ghost proves_more = { λ cx. loops.asks_more };
 
@@ -49,7 +42,7 @@ impl Cx for Loops {
 
     ghost clash = { λ cx. loops.clash };
 
-    ghost one_sort = { loops.one_sort };
+    ghost one_sort = { laws.one_sort };
 
     ghost same_input = { Prim.search rules };
 
@@ -58,11 +51,7 @@ impl Cx for Loops {
     fn dep_node(self, _input: PathKind) {}
 
     fn sort(self, outcome: Outcome) -> Verdict {
-        match outcome {
-            Outcome::Yes => Verdict::Yes,
-            Outcome::No => Verdict::No,
-            Outcome::Maybe | Outcome::Overflow => Verdict::Neither,
-        }
+        outcome.verdict()
     }
 }
 
@@ -108,17 +97,13 @@ impl Frame {
     }
 }
 
-/// A scope that is never given.
-#[derive(Drop)]
-pub enum NoScope {}
-
 impl Delegate for Loops {
     ghost use Rattle.std.proofs.Common.{rules};
     ghost use Rattle.std.specs.Prelude.{false, true};
-    ghost use Rattle.parts_tests.specs.declared.loops.Outcome.TheVariants.{Maybe, Overflow};
+    ghost use Rattle.delegate_parts.specs.Laws as laws;
+    ghost use Rattle.delegate_parts.specs.Outcome as outcomes;
     ghost use Rattle.parts_tests.specs.Frames.{loop_script, Stands, steps_left, yes_is_proved, no_is_refuted};
-    ghost use Rattle.parts_tests.specs.Loops as loops;
-    ghost use Rattle.parts_tests.specs.Below.{CanTake, Steps};
+    ghost use Rattle.parts_tests.specs.Below.{CanTake, Maybe, Overflow, Steps};
 
     type Cx = Loops;
 
@@ -148,15 +133,15 @@ impl Delegate for Loops {
 
     ghost width = { λ cx. 2 };
 
-    ghost initial_result = { λ cx kind goal. loops.initial_outcome kind };
+    ghost initial_result = { λ cx kind goal. outcomes.initial_outcome kind };
 
-    ghost initial_kind = { loops.kind_of };
+    ghost initial_kind = { outcomes.kind_of };
 
     ghost stack_overflow = { λ cx goal. Overflow };
 
     ghost fixpoint_overflow = { λ cx goal. Overflow };
 
-    ghost ambiguity = { loops.ambiguity_of };
+    ghost ambiguity = { outcomes.ambiguity_of };
 
     ghost propagated = { λ cx goal info. Maybe };
 
@@ -174,17 +159,17 @@ impl Delegate for Loops {
 
     ghost no_is_refuted = { no_is_refuted };
 
-    ghost initial_sort = { λ cx kind goal. loops.initial_sort kind };
+    ghost initial_sort = { λ cx kind goal. laws.initial_sort kind };
 
-    ghost recognised_sort = { loops.recognised_sort };
+    ghost recognised_sort = { laws.recognised_sort };
 
-    ghost stack_overflow_is_neither = { λ cx goal. loops.overflow_is_neither };
+    ghost stack_overflow_is_neither = { λ cx goal. laws.overflow_is_neither };
 
-    ghost fixpoint_overflow_is_neither = { λ cx goal. loops.overflow_is_neither };
+    ghost fixpoint_overflow_is_neither = { λ cx goal. laws.overflow_is_neither };
 
-    ghost ambiguous_is_neither = { loops.ambiguous_is_neither };
+    ghost ambiguous_is_neither = { laws.ambiguous_is_neither };
 
-    ghost propagated_is_neither = { λ cx goal info. loops.maybe_is_neither };
+    ghost propagated_is_neither = { λ cx goal info. laws.maybe_is_neither };
 
     ghost divides = { Prim.search rules };
 
@@ -197,19 +182,11 @@ impl Delegate for Loops {
     }
 
     fn initial_provisional_result(_cx: Loops, kind: PathKind, _input: PathKind) -> Outcome {
-        match kind {
-            PathKind::Coinductive => Outcome::Yes,
-            PathKind::Inductive => Outcome::No,
-            PathKind::Unknown | PathKind::ForcedAmbiguity => Outcome::Maybe,
-        }
+        Outcome::initial(kind)
     }
 
     fn is_initial_provisional_result(outcome: Outcome) -> Option<PathKind> {
-        match outcome {
-            Outcome::Yes => Some(PathKind::Coinductive),
-            Outcome::No => Some(PathKind::Inductive),
-            Outcome::Maybe | Outcome::Overflow => None,
-        }
+        outcome.initial_kind()
     }
 
     fn stack_overflow_result(_cx: Loops, _input: PathKind) -> Outcome {
@@ -221,10 +198,7 @@ impl Delegate for Loops {
     }
 
     fn is_ambiguous_result(outcome: Outcome) -> Option<()> {
-        match outcome {
-            Outcome::Maybe | Outcome::Overflow => Some(()),
-            Outcome::Yes | Outcome::No => None,
-        }
+        outcome.ambiguity()
     }
 
     fn propagate_ambiguity(_cx: Loops, _for_input: PathKind, _ambiguity_info: ()) -> Outcome {

@@ -1,5 +1,6 @@
 //! Tests of the provisional cache: of answers that rest on goals under evaluation.
-use crate::loops::{Loops, Outcome};
+use crate::loops::Loops;
+use delegate_parts::Outcome;
 use search_parts::parts::{
     CycleHeads, HeadUsages, ProvisionalCache, ProvisionalCacheEntry, StackDepth,
 };

@@ -3,7 +3,8 @@
 ghost use Rattle.std.specs.Prelude.{◌≡◌, ◌<◌, length, All, IfOk};
 
 use crate::kept::{GOAL, Kept, NODE, cache_of, used};
-use crate::loops::{Loops, Outcome};
+use crate::loops::Loops;
+use delegate_parts::Outcome;
 use search_parts::context::{NoMemory, NodeId};
 use search_parts::parts::{
     AvailableDepth, CycleHeads, HeadUsages, ProvisionalCache, RebaseReason, Stack, StackDepth,

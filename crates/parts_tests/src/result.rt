@@ -1,5 +1,6 @@
 //! Tests of what is known of a goal once its evaluation has ended.
-use crate::loops::{Loops, Outcome};
+use crate::loops::Loops;
+use delegate_parts::Outcome;
 use search_parts::parts::{
     AvailableDepth, EvaluationResult, HeadUsages, Stack, StackDepth, StackEntry,
 };

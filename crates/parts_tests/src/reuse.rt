@@ -1,6 +1,7 @@
 //! Tests of which provisional entries are used, and which are cleared when a goal is rerun.
 use crate::kept::{GOAL, Kept, cache_of, used};
-use crate::loops::{Loops, Outcome};
+use crate::loops::Loops;
+use delegate_parts::Outcome;
 use search_parts::context::NoMemory;
 use search_parts::parts::{AvailableDepth, Stack, StackDepth, StackEntry};
 use search_parts::path::{PathKind, PathsToNested};

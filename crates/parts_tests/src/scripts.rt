@@ -2,7 +2,7 @@
 //! stand, and whatever it is replied; at the script's end it holds.
 ghost use Rattle.std.specs.Prelude.{◌≡◌, ◌<◌, ◌^◌, ◌-◌, IfOk, OnOk};
 
-use crate::countdown::{NoScope, Outcome, Starts};
+use delegate_parts::{Builder, NoScope, Outcome};
 use search_parts::context::{Cx, Delegate, NoMemory, Reply, Request, Verdict};
 use search_parts::path::PathKind;
 
@@ -59,7 +59,8 @@ impl Scripts {
 
 impl Cx for Scripts {
     ghost use Rattle.std.proofs.Common.{rules};
-    ghost use Rattle.parts_tests.specs.Countdown as countdown;
+    ghost use Rattle.delegate_parts.specs.Laws as laws;
+    ghost use Rattle.delegate_parts.specs.Outcome as outcomes;
     ghost use Rattle.parts_tests.specs.Scripts as scripts;
 
     type Input = Goal;
@@ -74,9 +75,9 @@ impl Cx for Scripts {
 
     ghost refutes = { scripts.Refutes };
 
-    ghost is_yes = { countdown.is_yes };
+    ghost is_yes = { outcomes.is_yes };
 
-    ghost is_no = { countdown.is_no };
+    ghost is_no = { outcomes.is_no };
 
     ghost proves_more = { λ cx goal some more within held. held };
 
@@ -84,7 +85,7 @@ impl Cx for Scripts {
 
     ghost clash = { scripts.clash };
 
-    ghost one_sort = { countdown.one_sort };
+    ghost one_sort = { laws.one_sort };
 
     ghost same_input = { Prim.search rules };
 
@@ -93,11 +94,7 @@ impl Cx for Scripts {
     fn dep_node(self, _input: Goal) {}
 
     fn sort(self, outcome: Outcome) -> Verdict {
-        match outcome {
-            Outcome::Yes => Verdict::Yes,
-            Outcome::No => Verdict::No,
-            Outcome::Maybe | Outcome::Overflow => Verdict::Neither,
-        }
+        outcome.verdict()
     }
 }
 
@@ -113,16 +110,17 @@ pub struct Frame {
 impl Delegate for Scripts {
     ghost use Rattle.std.proofs.Common.{rules};
     ghost use Rattle.std.specs.Prelude.{false, true};
-    ghost use Rattle.parts_tests.specs.declared.countdown.Outcome.TheVariants.{Maybe, Overflow};
-    ghost use Rattle.parts_tests.specs.Countdown as countdown;
+    ghost use Rattle.delegate_parts.specs.Builder.{is_noop_of, started_in};
+    ghost use Rattle.delegate_parts.specs.Laws as laws;
+    ghost use Rattle.delegate_parts.specs.Outcome as outcomes;
     ghost use Rattle.parts_tests.specs.Scripts.{script_of, Stands, lines_left, yes_is_proved, no_is_refuted};
-    ghost use Rattle.parts_tests.specs.Below.{CanTake, Steps};
+    ghost use Rattle.parts_tests.specs.Below.{CanTake, Maybe, Overflow, Steps};
 
     type Cx = Scripts;
 
     type ValidationScope = NoScope;
 
-    type ProofTreeBuilder = Starts;
+    type ProofTreeBuilder = Builder;
 
     type Frame = Frame;
 
@@ -146,25 +144,25 @@ impl Delegate for Scripts {
 
     ghost width = { λ cx. 6 };
 
-    ghost initial_result = { λ cx kind goal. countdown.initial_outcome kind };
+    ghost initial_result = { λ cx kind goal. outcomes.initial_outcome kind };
 
-    ghost initial_kind = { countdown.kind_of };
+    ghost initial_kind = { outcomes.kind_of };
 
     ghost stack_overflow = { λ cx goal. Overflow };
 
     ghost fixpoint_overflow = { λ cx goal. Overflow };
 
-    ghost ambiguity = { countdown.ambiguity_of };
+    ghost ambiguity = { outcomes.ambiguity_of };
 
     ghost propagated = { λ cx goal info. Maybe };
 
-    ghost starts = { λ builder. builder.started };
+    ghost starts = { started_in };
 
     ghost counts = { true };
 
     ghost last = { 2 ^ 64 - 1 };
 
-    ghost noop = { λ builder. true };
+    ghost noop = { is_noop_of };
 
     ghost scoped = { λ cx goal. false };
 
@@ -172,17 +170,17 @@ impl Delegate for Scripts {
 
     ghost no_is_refuted = { no_is_refuted };
 
-    ghost initial_sort = { λ cx kind goal. countdown.initial_sort kind };
+    ghost initial_sort = { λ cx kind goal. laws.initial_sort kind };
 
-    ghost recognised_sort = { countdown.recognised_sort };
+    ghost recognised_sort = { laws.recognised_sort };
 
-    ghost stack_overflow_is_neither = { λ cx goal. countdown.overflow_is_neither };
+    ghost stack_overflow_is_neither = { λ cx goal. laws.overflow_is_neither };
 
-    ghost fixpoint_overflow_is_neither = { λ cx goal. countdown.overflow_is_neither };
+    ghost fixpoint_overflow_is_neither = { λ cx goal. laws.overflow_is_neither };
 
-    ghost ambiguous_is_neither = { countdown.ambiguous_is_neither };
+    ghost ambiguous_is_neither = { laws.ambiguous_is_neither };
 
-    ghost propagated_is_neither = { λ cx goal info. countdown.maybe_is_neither };
+    ghost propagated_is_neither = { λ cx goal info. laws.maybe_is_neither };
 
     ghost divides = { Prim.search rules };
 
@@ -190,25 +188,16 @@ impl Delegate for Scripts {
         None
     }
 
-    // The count of frames is no record of how goals are worked out, so stored results may be used.
-    fn inspect_is_noop(_inspect: &mut Starts) -> bool {
-        true
+    fn inspect_is_noop(inspect: &mut Builder) -> bool {
+        inspect.is_noop()
     }
 
     fn initial_provisional_result(_cx: Scripts, kind: PathKind, _input: Goal) -> Outcome {
-        match kind {
-            PathKind::Coinductive => Outcome::Yes,
-            PathKind::Inductive => Outcome::No,
-            PathKind::Unknown | PathKind::ForcedAmbiguity => Outcome::Maybe,
-        }
+        Outcome::initial(kind)
     }
 
     fn is_initial_provisional_result(outcome: Outcome) -> Option<PathKind> {
-        match outcome {
-            Outcome::Yes => Some(PathKind::Coinductive),
-            Outcome::No => Some(PathKind::Inductive),
-            Outcome::Maybe | Outcome::Overflow => None,
-        }
+        outcome.initial_kind()
     }
 
     fn stack_overflow_result(_cx: Scripts, _input: Goal) -> Outcome {
@@ -220,17 +209,14 @@ impl Delegate for Scripts {
     }
 
     fn is_ambiguous_result(outcome: Outcome) -> Option<()> {
-        match outcome {
-            Outcome::Maybe | Outcome::Overflow => Some(()),
-            Outcome::Yes | Outcome::No => None,
-        }
+        outcome.ambiguity()
     }
 
     fn propagate_ambiguity(_cx: Scripts, _for_input: Goal, _ambiguity_info: ()) -> Outcome {
         Outcome::Maybe
     }
 
-    fn start(cx: Scripts, input: Goal, inspect: &mut Starts) -> Result<Frame, NoMemory> {
+    fn start(cx: Scripts, input: Goal, inspect: &mut Builder) -> Result<Frame, NoMemory> {
         inspect.note_start();
         Ok(Frame {
             scripts: cx,
@@ -242,12 +228,13 @@ impl Delegate for Scripts {
     fn step(
         frame: &mut Frame,
         _reply: Reply<Outcome>,
-        _inspect: &mut Starts,
+        _inspect: &mut Builder,
     ) -> Result<Request<Goal, Outcome>, NoMemory>
         requires { CanTake Stands script_of frame.old _reply }
         ensures request { IfOk result (λ request. Steps Stands script_of frame.old _reply request frame.new) }
         ensures falls { OnOk result (lines_left frame.new.place < lines_left frame.old.place) }
-        ensures same_starts { _inspect.new.started ≡ _inspect.old.started }
+        ensures same_starts { started_in _inspect.new ≡ started_in _inspect.old }
+        ensures same_noop { is_noop_of _inspect.new ≡ is_noop_of _inspect.old }
     {
         let line = frame.scripts.line(frame.goal, frame.place);
         frame.place += 1;

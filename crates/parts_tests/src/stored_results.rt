@@ -2,10 +2,10 @@
 #![tactic(auto, using(crate::proofs::StoredLoops::needs_no_graph, crate::proofs::StoredLoops::has_loop))]
 
 ghost use Rattle.std.specs.Prelude.{◌≡◌, [], None, false, true};
-ghost use Rattle.parts_tests.specs.Below.{HasGraph};
-ghost use Rattle.parts_tests.specs.Words.{is_yes, is_no};
+ghost use Rattle.parts_tests.specs.Below.{HasGraph, is_no, is_yes};
 
-use crate::loops::{Loops, Outcome, answered_loop};
+use crate::loops::{Loops, answered_loop};
+use delegate_parts::Outcome;
 use search_parts::context::Fault;
 use search_parts::global_cache::{CacheData, GlobalCache, NestedTest};
 use search_parts::parts::{AvailableDepth, CycleHeads, EvaluationResult, NestedGoals};

@@ -1,4 +1,5 @@
-use crate::loops::{Loops, Outcome, answered_loop, finish_loop};
+use crate::loops::{Loops, answered_loop, finish_loop};
+use delegate_parts::Outcome;
 use search_parts::context::{Edge, NodeId, Reply};
 use search_parts::global_cache::GlobalCache;
 use search_parts::path::PathKind;

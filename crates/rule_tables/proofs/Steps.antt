@@ -4,8 +4,8 @@ use Rattle.std.specs.Option.{option_map_or}
 use Rattle.std.proofs.lemmas.Option.{slice_get_within, get_or_from_slice_get}
 use Rattle.std.proofs.lemmas.List.Sums.{sum_by-take-drop, sum_by-drop_more, get_or-le-sum_by}
 use Rattle.std.proofs.lemmas.Bool.Decides.{nat_tests}
-use Rattle.rule_tables.specs.Below.{Request, Evaluate, EnterCandidate, FinishCandidate, Ignore, Reply, Begin, Answer, Noted, Fits}
-use Rattle.rule_tables.specs.Words.{Goal, Outcome, Asking, Candidate, State, Rules, number_of, candidates_of, marked_from, with_ignored, ignoring, entering_next, asking_next, asking_in, with_answer, state_with, steps_of, questions_left, steps_left, steps_within}
+use Rattle.rule_tables.specs.Below.{Request, Evaluate, EnterCandidate, FinishCandidate, Ignore, Reply, Begin, Answer, Noted, Fits, Outcome}
+use Rattle.rule_tables.specs.Words.{Goal, Asking, Candidate, State, Rules, number_of, candidates_of, marked_from, with_ignored, ignoring, entering_next, asking_next, asking_in, with_answer, state_with, steps_of, questions_left, steps_left, steps_within}
 
 marked_from-cons : (b : Bool) (at : ℕ) (cs : List Candidate) (from n : ℕ) → (nat_le from at ≡ false → b ≡ false) → (marked_from (at + 1) cs from ≡ Some n → (n < at + 1 + length cs) × (from ≤ n)) →
     cond b (Some at) (marked_from (at + 1) cs from) ≡ Some n → (n < at + 1 + length cs) × (from ≤ n)

@@ -2,8 +2,11 @@
 pub use Rattle.cycle_heads.specs.declared.memory.NoMemory.{NoMemory}
 pub use Rattle.cycle_heads.specs.declared.path.PathKind.{PathKind}
 pub use Rattle.cycle_heads.specs.declared.path.PathKind.TheVariants.{Coinductive, ForcedAmbiguity, Inductive, Unknown}
+pub use Rattle.delegate_parts.specs.Outcome.{is_no, is_yes}
+pub use Rattle.delegate_parts.specs.declared.outcome.Outcome.{Outcome}
+pub use Rattle.delegate_parts.specs.declared.outcome.Outcome.TheVariants.{Maybe, No, Overflow, Yes}
 pub use Rattle.search_parts.specs.Definite.{HasGraph, IsDefinite}
-pub use Rattle.search_parts.specs.Delegate.{CanTake, CountsOne, IsCycleResult, IsNeither, Steps}
+pub use Rattle.search_parts.specs.Delegate.{CanTake, Steps}
 pub use Rattle.search_parts.specs.Question.{IsWithin, Overlap, Question}
 pub use Rattle.search_parts.specs.Run.{Asked, EndsIn, Fits, is_counted, is_ignored, IsFitting, open_candidate, Progress}
 pub use Rattle.search_parts.specs.Run.{progress_after, progress_with, questions_answered, request_after}
@@ -15,4 +18,3 @@ pub use Rattle.search_parts.specs.declared.context.Request.{Request}
 pub use Rattle.search_parts.specs.declared.context.Request.TheVariants.{Done, EnterCandidate, Evaluate, FinishCandidate}
 pub use Rattle.search_parts.specs.declared.context.Request.TheVariants.{Ignore}
 pub use Rattle.search_parts.specs.declared.context.Verdict.{Verdict}
-pub use Rattle.search_parts.specs.declared.context.Verdict.TheVariants.{No, Yes}

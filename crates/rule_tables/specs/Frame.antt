@@ -2,15 +2,12 @@
 -- each marked one is then ignored.
 use Rattle.std.specs.Prelude.{ℕ, ◌+◌, ◌-◌, nat_le, true, false, not, ◌&&◌, ◌||◌, if◌then◌else◌, List, [], ◌∷◌, length, drop, sum_by, slice_get, Option, Some, None}
 use Rattle.std.specs.Option.{unwrap_or}
-use Rattle.rule_tables.specs.Below.{Request, Evaluate, EnterCandidate, FinishCandidate, Ignore, Done, Reply, Begin, Answer, Noted}
+use Rattle.rule_tables.specs.Below.{Request, Evaluate, EnterCandidate, FinishCandidate, Ignore, Done, Reply, Begin, Answer, Noted, Outcome, Yes, No, Maybe, is_yes, is_no}
 use Rattle.rule_tables.specs.declared.rules.Goal.{Goal}
-use Rattle.rule_tables.specs.declared.outcome.Outcome.{Outcome}
-use Rattle.rule_tables.specs.declared.outcome.Outcome.TheVariants.{Yes, No, Maybe}
 use Rattle.rule_tables.specs.declared.rules.Asking.{Asking}
 use Rattle.rule_tables.specs.declared.rules.Candidate.{Candidate}
 use Rattle.rule_tables.specs.declared.frame.State.{State}
 use Rattle.rule_tables.specs.declared.rules.Rules.{Rules}
-use Rattle.rule_tables.specs.Outcome.{outcome_is_yes, outcome_is_no}
 
 -- no reply has come
 abbrev pub fresh : State
@@ -61,7 +58,7 @@ asking cs s = asking_in cs s (slice_get cs s.candidate)
 
 -- one more answer in the open candidate
 abbrev pub with_answer : State → Outcome → State
-with_answer s r = record s { holds = s.holds && outcome_is_yes r; fails = s.fails || outcome_is_no r }
+with_answer s r = record s { holds = s.holds && is_yes r; fails = s.fails || is_no r }
 
 -- the state after one more reply to the request
 abbrev pub state_with : List Candidate → State → Option (Request Goal Outcome) → Reply Outcome → State

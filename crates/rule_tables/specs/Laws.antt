@@ -2,5 +2,4 @@
 -- name nothing outside of `specs`.
 pub mod Members
 pub mod Meanings
-pub mod Sorts
 pub mod Runs

@@ -1,11 +1,10 @@
-pub mod Builder
 pub mod Names
-pub mod Outcome
 pub mod Rules
 pub mod Table
 pub mod Frame
 pub mod Standing
 pub mod Grammar
+pub mod LineWords
 pub mod Words
 pub mod Question
 pub mod Line

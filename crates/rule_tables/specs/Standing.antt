@@ -1,8 +1,7 @@
 -- Where a frame of the rule table stands. `rules_of` gives the rules that a lender lends.
 use Rattle.std.specs.Prelude.{◌≡◌, ℕ, List}
-use Rattle.rule_tables.specs.Below.{Request, Reply}
+use Rattle.rule_tables.specs.Below.{Request, Reply, Outcome}
 use Rattle.rule_tables.specs.declared.rules.Goal.{Goal}
-use Rattle.rule_tables.specs.declared.outcome.Outcome.{Outcome}
 use Rattle.rule_tables.specs.declared.rules.Rules.{Rules}
 use Rattle.rule_tables.specs.declared.delegate.Table.{Table}
 use Rattle.rule_tables.specs.declared.delegate.TableFrame.{TableFrame}

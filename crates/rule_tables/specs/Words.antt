@@ -13,9 +13,8 @@ pub use Rattle.rule_tables.specs.Stop.{status_of}
 pub use Rattle.rule_tables.specs.Table.{Adds, AreAsked, candidate_in, first_mentions, IsAsked, IsCandidate, IsTableOf}
 pub use Rattle.rule_tables.specs.Table.{IsToBeAnswered, Mentions, NamedCandidate, names_in, question_in}
 pub use Rattle.rule_tables.specs.Text.{IsFirstBadLine, Reads}
-pub use Rattle.rule_tables.specs.Words.{words_left}
+pub use Rattle.rule_tables.specs.LineWords.{words_left}
 pub use Rattle.rule_tables.specs.declared.frame.State.{State}
-pub use Rattle.rule_tables.specs.declared.outcome.Outcome.{Outcome}
 pub use Rattle.rule_tables.specs.declared.program.Stop.{Stop}
 pub use Rattle.rule_tables.specs.declared.program.Stop.TheVariants.{BadLine, InputOrOutput, Memory}
 pub use Rattle.rule_tables.specs.declared.rules.Asking.{Asking}

@@ -2,10 +2,9 @@
 ghost use Rattle.std.specs.Prelude.{◌≡◌};
 ghost use Rattle.std.proofs.Common.{rules};
 
-use crate::builder::Builder;
 use crate::frame::State;
-use crate::outcome::Outcome;
 use crate::rules::{Goal, Rules};
+use delegate_parts::{Builder, NoScope, Outcome};
 use search_parts::context::{Cx, Delegate, NoMemory, Reply, Request, Verdict};
 use search_parts::path::PathKind;
 use std::marker::PhantomData;
@@ -35,10 +34,10 @@ pub struct Table<T> {
 }
 
 impl<T: LendsRules> Cx for Table<T> {
-    ghost use Rattle.rule_tables.specs.Outcome.{outcome_is_yes, outcome_is_no};
+    ghost use Rattle.delegate_parts.specs.Laws as laws;
+    ghost use Rattle.delegate_parts.specs.Outcome as outcomes;
     ghost use Rattle.rule_tables.specs.Rules.{Proves, Refutes, number_of};
     ghost use Rattle.rule_tables.specs.Laws.Meanings as meanings;
-    ghost use Rattle.rule_tables.specs.Laws.Sorts as sorts;
 
     type Input = Goal;
 
@@ -52,9 +51,9 @@ impl<T: LendsRules> Cx for Table<T> {
 
     ghost refutes = { λ cx goal failed. Refutes (T.rules_of cx.lender) goal failed };
 
-    ghost is_yes = { outcome_is_yes };
+    ghost is_yes = { outcomes.is_yes };
 
-    ghost is_no = { outcome_is_no };
+    ghost is_no = { outcomes.is_no };
 
     ghost proves_more = { λ cx. meanings.Proves-more (T.rules_of cx.lender) };
 
@@ -62,7 +61,7 @@ impl<T: LendsRules> Cx for Table<T> {
 
     ghost clash = { λ cx. meanings.clash (T.rules_of cx.lender) };
 
-    ghost one_sort = { sorts.one_sort };
+    ghost one_sort = { laws.one_sort };
 
     ghost same_input = { Prim.search rules };
 
@@ -75,11 +74,7 @@ impl<T: LendsRules> Cx for Table<T> {
     }
 
     fn sort(self, outcome: Outcome) -> Verdict {
-        match outcome {
-            Outcome::Yes => Verdict::Yes,
-            Outcome::No => Verdict::No,
-            Outcome::Maybe | Outcome::Overflow => Verdict::Neither,
-        }
+        outcome.verdict()
     }
 }
 
@@ -90,10 +85,6 @@ pub struct TableFrame<T> {
     goal: Goal,
     state: State,
 }
-
-/// A scope that is never given.
-#[derive(Drop)]
-pub enum NoScope {}
 
 /// The delegate of the rules that a `T` lends.
 pub struct RulesDelegate<T, const LIMIT: usize, const PROVISIONAL: usize> {
@@ -111,15 +102,13 @@ pub type TableDelegate<'a, const LIMIT: usize, const PROVISIONAL: usize> = Rules
 impl<T: LendsRules, const LIMIT: usize, const PROVISIONAL: usize> Delegate
     for RulesDelegate<T, LIMIT, PROVISIONAL> {
     ghost use Rattle.std.specs.Prelude.{Bool, true, false, not, nat_eq, ◌^◌, ◌-◌, ◌<◌, List, IfOk, OnOk};
-    ghost use Rattle.rule_tables.specs.Below.{CanTake, Steps};
-    ghost use Rattle.rule_tables.specs.Builder.{started_in, is_noop_of};
+    ghost use Rattle.delegate_parts.specs.Builder.{is_noop_of, started_in};
+    ghost use Rattle.delegate_parts.specs.Laws as laws;
+    ghost use Rattle.delegate_parts.specs.Outcome as outcomes;
+    ghost use Rattle.rule_tables.specs.Below.{CanTake, Maybe, Overflow, Steps};
     ghost use Rattle.rule_tables.specs.Frame.{steps_within};
-    ghost use Rattle.rule_tables.specs.Outcome.{initial_outcome, kind_of, ambiguity_of};
     ghost use Rattle.rule_tables.specs.Standing.{FrameStands, table_script, frame_left};
-    ghost use Rattle.rule_tables.specs.declared.outcome.Outcome.{Outcome};
-    ghost use Rattle.rule_tables.specs.declared.outcome.Outcome.TheVariants.{Overflow, Maybe};
     ghost use Rattle.rule_tables.specs.Laws.Runs as runs;
-    ghost use Rattle.rule_tables.specs.Laws.Sorts as sorts;
 
     type Cx = Table<T>;
 
@@ -149,15 +138,15 @@ impl<T: LendsRules, const LIMIT: usize, const PROVISIONAL: usize> Delegate
 
     ghost width = { λ cx. steps_within (T.rules_of cx.lender) };
 
-    ghost initial_result = { λ cx kind goal. initial_outcome kind };
+    ghost initial_result = { λ cx kind goal. outcomes.initial_outcome kind };
 
-    ghost initial_kind = { kind_of };
+    ghost initial_kind = { outcomes.kind_of };
 
     ghost stack_overflow = { λ cx goal. Overflow };
 
     ghost fixpoint_overflow = { λ cx goal. Overflow };
 
-    ghost ambiguity = { ambiguity_of };
+    ghost ambiguity = { outcomes.ambiguity_of };
 
     ghost propagated = { λ cx goal info. Maybe };
 
@@ -175,17 +164,17 @@ impl<T: LendsRules, const LIMIT: usize, const PROVISIONAL: usize> Delegate
 
     ghost no_is_refuted = { λ cx. runs.no_is_refuted (T.rules_of cx.lender) };
 
-    ghost initial_sort = { λ cx kind goal. sorts.initial_sort kind };
+    ghost initial_sort = { λ cx kind goal. laws.initial_sort kind };
 
-    ghost recognised_sort = { sorts.recognised_sort };
+    ghost recognised_sort = { laws.recognised_sort };
 
-    ghost stack_overflow_is_neither = { λ cx goal. sorts.overflow_is_neither };
+    ghost stack_overflow_is_neither = { λ cx goal. laws.overflow_is_neither };
 
-    ghost fixpoint_overflow_is_neither = { λ cx goal. sorts.overflow_is_neither };
+    ghost fixpoint_overflow_is_neither = { λ cx goal. laws.overflow_is_neither };
 
-    ghost ambiguous_is_neither = { sorts.ambiguous_is_neither };
+    ghost ambiguous_is_neither = { laws.ambiguous_is_neither };
 
-    ghost propagated_is_neither = { λ cx goal info. sorts.maybe_is_neither };
+    ghost propagated_is_neither = { λ cx goal info. laws.maybe_is_neither };
 
     ghost divides = { Prim.search rules };
 
@@ -198,19 +187,11 @@ impl<T: LendsRules, const LIMIT: usize, const PROVISIONAL: usize> Delegate
     }
 
     fn initial_provisional_result(_cx: Table<T>, kind: PathKind, _input: Goal) -> Outcome {
-        match kind {
-            PathKind::Coinductive => Outcome::Yes,
-            PathKind::Inductive => Outcome::No,
-            PathKind::Unknown | PathKind::ForcedAmbiguity => Outcome::Maybe,
-        }
+        Outcome::initial(kind)
     }
 
     fn is_initial_provisional_result(outcome: Outcome) -> Option<PathKind> {
-        match outcome {
-            Outcome::Yes => Some(PathKind::Coinductive),
-            Outcome::No => Some(PathKind::Inductive),
-            Outcome::Maybe | Outcome::Overflow => None,
-        }
+        outcome.initial_kind()
     }
 
     fn stack_overflow_result(_cx: Table<T>, _input: Goal) -> Outcome {
@@ -222,10 +203,7 @@ impl<T: LendsRules, const LIMIT: usize, const PROVISIONAL: usize> Delegate
     }
 
     fn is_ambiguous_result(outcome: Outcome) -> Option<()> {
-        match outcome {
-            Outcome::Maybe | Outcome::Overflow => Some(()),
-            Outcome::Yes | Outcome::No => None,
-        }
+        outcome.ambiguity()
     }
 
     fn propagate_ambiguity(_cx: Table<T>, _for_input: Goal, _ambiguity_info: ()) -> Outcome {

@@ -2,8 +2,8 @@
 ghost use Rattle.std.specs.Prelude.{◌≡◌, ◌<◌, IfSome, length};
 ghost use Rattle.rule_tables.specs.Words.{marked_from};
 
-use crate::outcome::Outcome;
 use crate::rules::{Candidate, Goal};
+use delegate_parts::Outcome;
 use search_parts::context::{Reply, Request};
 
 /// Where a frame stands between two steps.

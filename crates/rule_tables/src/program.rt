@@ -4,7 +4,7 @@ ghost use Rattle.std.specs.Io.KnownBytes.{Keeps};
 ghost use Rattle.rule_tables.specs.Words.{Reads, IsFirstBadLine};
 
 mod questions;
-pub(crate) mod shown;
+mod shown;
 
 use crate::delegate::{Table, TableDelegate};
 use crate::reading::ReadFault;

@@ -6,16 +6,13 @@ use Rattle.std.proofs.lemmas.Bool.Decides.{eqb_tells}
 use Rattle.std.proofs.lemmas.List.Elements.{Contains-append_left, Contains-push}
 use Rattle.rule_tables.specs.Laws.Members.{Contains-from_slice_get, slice_get-from_Contains, Contains-mapped, Contains-filtered, before_end}
 use Rattle.search_parts.proofs.Graphs.{Contains-map}
-use Rattle.rule_tables.specs.Below.{PathKind, Request, Evaluate, EnterCandidate, FinishCandidate, Ignore, Done, Reply, Begin, Answer, Noted, Question, EndsIn, Asked, Progress, progress_with, progress_after, request_after, IsFitting, Fits, questions_answered, is_counted, is_ignored, open_candidate}
+use Rattle.rule_tables.specs.Below.{PathKind, Request, Evaluate, EnterCandidate, FinishCandidate, Ignore, Done, Reply, Begin, Answer, Noted, Question, EndsIn, Asked, Progress, progress_with, progress_after, request_after, IsFitting, Fits, questions_answered, is_counted, is_ignored, open_candidate, Outcome, Yes, No, Maybe, Overflow, is_yes, is_no}
 use Rattle.rule_tables.specs.declared.rules.Goal.{Goal}
-use Rattle.rule_tables.specs.declared.outcome.Outcome.{Outcome}
-use Rattle.rule_tables.specs.declared.outcome.Outcome.TheVariants.{Yes, No, Maybe, Overflow}
 use Rattle.rule_tables.specs.declared.rules.Asking.{Asking}
 use Rattle.rule_tables.specs.declared.rules.Candidate.{Candidate}
 use Rattle.rule_tables.specs.declared.frame.State.{State}
 use Rattle.rule_tables.specs.declared.rules.Rules.{Rules}
 use Rattle.rule_tables.specs.Rules.{candidates_of, question_of, Proves, Refutes}
-use Rattle.rule_tables.specs.Outcome.{outcome_is_yes, outcome_is_no}
 use Rattle.rule_tables.specs.Frame.{marked_from, with_ignored, ignoring, entering_next, asking_next, asking_in, asking, with_answer, outcome_of, script_of, state_after, state_with}
 
 -- the state has made a request
@@ -236,13 +233,13 @@ asking-good cs s p settled is_open finished inside =
 
 -- Answers
 
-yes_only : (r : Outcome) → outcome_is_yes r ≡ true → r ≡ Yes
+yes_only : (r : Outcome) → is_yes r ≡ true → r ≡ Yes
 yes_only Yes e = refl
 yes_only No e = absurd cc
 yes_only Maybe e = absurd cc
 yes_only Overflow e = absurd cc
 
-no_only : (r : Outcome) → outcome_is_no r ≡ true → r ≡ No
+no_only : (r : Outcome) → is_no r ≡ true → r ≡ No
 no_only No e = refl
 no_only Yes e = absurd cc
 no_only Maybe e = absurd cc
@@ -303,13 +300,13 @@ yes_with asked place n c asking r is_at old is j a l e =
 
 inside_with : (cs : List Candidate) (asked : List (Asked Goal Outcome)) (place n : ℕ) (holds fails : Bool) (asking : Asking) (r : Outcome) →
     (inside : InCandidate cs asked place n holds fails) → slice_get inside.candidate.questions.items n ≡ Some asking →
-    InCandidate cs (asked ++ answered asking r place ∷ []) place (n + 1) (holds && outcome_is_yes r) (fails || outcome_is_no r)
+    InCandidate cs (asked ++ answered asking r place ∷ []) place (n + 1) (holds && is_yes r) (fails || is_no r)
 inside_with cs asked place n holds fails asking r inside is_asking = record {
   candidate = inside.candidate;
   is_at = inside.is_at;
-  yes_so_far = λ h. let b = both_true holds (outcome_is_yes r) h in
+  yes_so_far = λ h. let b = both_true holds (is_yes r) h in
       yes_with asked place n inside.candidate asking r is_asking (inside.yes_so_far b.0) (yes_only r b.1);
-  no_so_far = λ h. elim (or_cases fails (outcome_is_no r) h) [
+  no_so_far = λ h. elim (or_cases fails (is_no r) h) [
     | inl e ↦ SomeNo-more cs asked place (answered asking r place) inside.candidate (inside.no_so_far e)
     | inr e ↦ record {
       at = n;
@@ -329,8 +326,8 @@ answer-good cs s p kind goal r good =
     asking-good cs (with_answer s r) (progress_with p (Some (Evaluate kind goal)) (Answer r))
     (Settled-more cs p.asked new p.ignored s.candidate s.some_holds s.unmarked_holds s.each_fails good.settled)
     good.mode.0 good.mode.1
-    (subst (λ x. InCandidate cs (p.asked ++ x ∷ []) s.candidate s.question (s.holds && outcome_is_yes r) (s.fails || outcome_is_no r)) (sym is)
-    (subst (λ n. InCandidate cs (p.asked ++ answered at.asking r s.candidate ∷ []) s.candidate n (s.holds && outcome_is_yes r) (s.fails || outcome_is_no r)) at.count
+    (subst (λ x. InCandidate cs (p.asked ++ x ∷ []) s.candidate s.question (s.holds && is_yes r) (s.fails || is_no r)) (sym is)
+    (subst (λ n. InCandidate cs (p.asked ++ answered at.asking r s.candidate ∷ []) s.candidate n (s.holds && is_yes r) (s.fails || is_no r)) at.count
     (inside_with cs p.asked s.candidate at.earlier s.holds s.fails at.asking r at.inside at.is_asking)))
 
 -- Whole runs
@@ -377,12 +374,12 @@ end-good : (cs : List Candidate) (replies : List (Reply Outcome)) (r : Outcome) 
 end-good cs replies r ends =
     subst (Good cs (state_after cs replies) (progress_after (script_of cs) replies)) (sym (request_after-is cs replies ends.is_fitting) ∙ ends.is_done) (run-good cs replies ends.is_fitting)
 
-yes_flags : (some_holds each_fails : Bool) → outcome_is_yes (cond some_holds Yes (cond each_fails No Maybe)) ≡ true → some_holds ≡ true
+yes_flags : (some_holds each_fails : Bool) → is_yes (cond some_holds Yes (cond each_fails No Maybe)) ≡ true → some_holds ≡ true
 yes_flags true each_fails e = refl
 yes_flags false true e = absurd cc
 yes_flags false false e = absurd cc
 
-no_flags : (some_holds each_fails : Bool) → outcome_is_no (cond some_holds Yes (cond each_fails No Maybe)) ≡ true → (some_holds ≡ false) × (each_fails ≡ true)
+no_flags : (some_holds each_fails : Bool) → is_no (cond some_holds Yes (cond each_fails No Maybe)) ≡ true → (some_holds ≡ false) × (each_fails ≡ true)
 no_flags true each_fails e = absurd cc
 no_flags false true e = (refl, refl)
 no_flags false false e = absurd cc
@@ -402,41 +399,41 @@ marked_apart : (cs : List Candidate) (place : ℕ) (c : Candidate) → slice_get
 marked_apart cs place c e is m = let same : c ≡ m.candidate = same_at cs place place c m.candidate e m.is_at refl in let f : c.is_marked ≡ m.candidate.is_marked = ap (λ d. d.is_marked) same in let t = m.is_marked in cc
 
 -- a result of yes rests on the questions that were answered yes
-pub yes_is_proved : (rules : Rules) (goal : Goal) (replies : List (Reply Outcome)) (r : Outcome) → EndsIn (script_of (candidates_of rules goal)) replies r → outcome_is_yes r ≡ true →
-    Proves rules goal (questions_answered outcome_is_yes (progress_after (script_of (candidates_of rules goal)) replies))
+pub yes_is_proved : (rules : Rules) (goal : Goal) (replies : List (Reply Outcome)) (r : Outcome) → EndsIn (script_of (candidates_of rules goal)) replies r → is_yes r ≡ true →
+    Proves rules goal (questions_answered is_yes (progress_after (script_of (candidates_of rules goal)) replies))
 yes_is_proved rules goal replies r ends is =
     let cs = candidates_of rules goal in
     let s = state_after cs replies in
     let p = progress_after (script_of cs) replies in
     let good = end-good cs replies r ends in
-    let w = good.settled.holder (yes_flags s.some_holds s.each_fails (ap outcome_is_yes (sym good.mode.1) ∙ is)) in
+    let w = good.settled.holder (yes_flags s.some_holds s.each_fails (ap is_yes (sym good.mode.1) ∙ is)) in
     record {
       candidate = w.candidate;
       is_candidate = Contains-from_slice_get cs w.place w.candidate w.is_at;
       within = λ q has.
           let a = Contains-map question_of w.candidate.questions.items q has in
           let at = slice_get-from_Contains w.candidate.questions.items a.0 a.1 in
-          subst (Contains (questions_answered outcome_is_yes p)) a.2
-          (counts_kept outcome_is_yes p a.0 Yes w.place refl
+          subst (Contains (questions_answered is_yes p)) a.2
+          (counts_kept is_yes p a.0 Yes w.place refl
           (λ e. let m = good.settled.only_marked w.place e in marked_apart cs w.place w.candidate w.is_at (w.is_unmarked m.0) m.1)
           (w.all_yes a.1.0 a.0 a.1.1 at));
     }
 
 -- a result of no rests on the questions that were answered no
-pub no_is_refuted : (rules : Rules) (goal : Goal) (replies : List (Reply Outcome)) (r : Outcome) → EndsIn (script_of (candidates_of rules goal)) replies r → outcome_is_no r ≡ true →
-    Refutes rules goal (questions_answered outcome_is_no (progress_after (script_of (candidates_of rules goal)) replies))
+pub no_is_refuted : (rules : Rules) (goal : Goal) (replies : List (Reply Outcome)) (r : Outcome) → EndsIn (script_of (candidates_of rules goal)) replies r → is_no r ≡ true →
+    Refutes rules goal (questions_answered is_no (progress_after (script_of (candidates_of rules goal)) replies))
 no_is_refuted rules goal replies r ends is =
     let cs = candidates_of rules goal in
     let s = state_after cs replies in
     let p = progress_after (script_of cs) replies in
     let good = end-good cs replies r ends in
-    let flags = no_flags s.some_holds s.each_fails (ap outcome_is_no (sym good.mode.1) ∙ is) in
+    let flags = no_flags s.some_holds s.each_fails (ap is_no (sym good.mode.1) ∙ is) in
     λ c has.
     let at = slice_get-from_Contains cs c has in
     let w = good.settled.failing flags.1 has.0 c (before_end cs has.0 s.candidate good.mode.0 has.1) at in (
       question_of w.asking,
       Contains-mapped question_of c.questions.items w.asking (Contains-from_slice_get c.questions.items w.at w.asking w.is_at),
-      counts_kept outcome_is_no p w.asking No has.0 refl
+      counts_kept is_no p w.asking No has.0 refl
           (λ e. let m = good.settled.only_marked has.0 e in let t : s.some_holds ≡ true = good.settled.some m.0 in let f = flags.0 in cc)
           w.is_asked,
     )

@@ -1,11 +1,10 @@
 //! The questions of a table: each is asked, and told on a line.
 ghost use Rattle.std.specs.Prelude.{◌≡◌, ◌≢◌, ◌⊎◌, IfErr, IfOk};
 
-use crate::builder::Builder;
-use crate::outcome::Outcome;
 use crate::program::Stop;
 use crate::program::shown::ShownNodes;
 use crate::rules::{Goal, Rules};
+use delegate_parts::{Builder, Outcome};
 use search_graph::graph::SearchGraph;
 use search_parts::context::{Cx, Delegate, Fault};
 use search_parts::global_cache::GlobalCache;

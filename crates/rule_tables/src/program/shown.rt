@@ -2,9 +2,8 @@
 ghost use Rattle.std.specs.Prelude.{IsTrue, IfOk, Some};
 ghost use Rattle.rule_tables.specs.Below.{IsDefinite, HasGraph};
 
-use crate::builder::Builder;
-use crate::outcome::Outcome;
 use crate::rules::Goal;
+use delegate_parts::{Builder, Outcome};
 use graph_check::check_graph;
 use search_parts::context::{Cx, Delegate, NoMemory, NodeId};
 use search_parts::global_cache::GlobalCache;
@@ -51,7 +50,7 @@ impl ShownNodes {
 }
 
 /// Whether a graph of the node is handed out, and the checker accepts it for the goal and the outcome.
-pub(crate) fn is_shown<X, D>(
+fn is_shown<X, D>(
     alloc: Global,
     cache: &GlobalCache<D>,
     goal: Goal,

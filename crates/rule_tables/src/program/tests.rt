@@ -1,14 +1,13 @@
 //! Runs of the program over memory.
 ghost use Rattle.std.specs.Prelude.{◌≤◌, length};
 
-mod cases;
-mod options;
+mod malformed;
 
-use crate::outcome::Outcome;
 use crate::program::questions::fault_word;
 use crate::program::{answer, run};
 use crate::rules::Rules;
-use cases::{MALFORMED, RUNS};
+use delegate_parts::Outcome;
+use malformed::MALFORMED;
 use search_parts::context::Fault;
 use std::alloc::Global;
 use std::io;
@@ -118,19 +117,6 @@ fn answers_and_counts(rt: HostRuntime) -> Result<(), Fail> {
     ] {
         expect_run(&rt, input.as_bytes(), 0, out, "")?;
     }
-    Ok(())
-}
-
-#[test]
-fn answers_as_rustc_does(rt: HostRuntime) -> Result<(), Fail> {
-    let mut count = 0u32;
-    for case in RUNS.split("\n\n") {
-        let (input, answer) = case.split_once("\n> ").ok_or("a case without an answer")?;
-        let out = format!(in rt.alloc(); "{answer}\n")?;
-        expect_run(&rt, input.as_bytes(), 0, out.as_str(), "")?;
-        count = count.saturating_add(1);
-    }
-    assert_eq!(rt; count, 35);
     Ok(())
 }
 

@@ -11,7 +11,7 @@ pub struct Words<'a> {
 }
 
 impl<'a> Words<'a> {
-    ghost use Rattle.rule_tables.specs.Words.{words_left};
+    ghost use Rattle.rule_tables.specs.LineWords.{words_left};
     ghost use Rattle.rule_tables.specs.Grammar.{words_of};
 
     pub fn new(line: &'a [u8]) -> Words<'a>
@@ -23,7 +23,7 @@ impl<'a> Words<'a> {
 
 impl<'a> Iterator for Words<'a> {
     ghost use Rattle.std.specs.Iterator.{YieldsFirstRef, item_count};
-    ghost use Rattle.rule_tables.specs.Words.{words_left};
+    ghost use Rattle.rule_tables.specs.LineWords.{words_left};
 
     type Item = &'a [u8];
 

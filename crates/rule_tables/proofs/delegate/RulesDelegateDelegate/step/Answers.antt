@@ -1,6 +1,6 @@
 use Rattle.std.proofs.Common.{List, ◌∷◌, ◌≡◌, ◌∙◌, ap, sym, subst}
-use Rattle.rule_tables.specs.Below.{Reply, IsFitting, Fits}
-use Rattle.rule_tables.specs.Words.{Outcome, Candidate, State, candidates_of, script_of, state_after, request_after-is}
+use Rattle.rule_tables.specs.Below.{Reply, IsFitting, Fits, Outcome}
+use Rattle.rule_tables.specs.Words.{Candidate, State, candidates_of, script_of, state_after, request_after-is}
 use Rattle.rule_tables.proofs.Steps.{falls_at}
 use Rattle.rule_tables.proofs.delegate.RulesDelegateDelegate.step.Goals as goal
 

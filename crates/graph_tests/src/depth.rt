@@ -1,4 +1,7 @@
-use parts_tests::countdown::{Count, Countdown, Outcome, Starts};
+//! How deep a search may go, and how many frames it starts: goals that count down.
+
+use delegate_parts::{Builder, Outcome};
+use parts_tests::countdown::{Count, Countdown};
 use search_graph::graph::SearchGraph;
 use search_parts::context::Fault;
 use search_parts::global_cache::GlobalCache;
@@ -16,40 +19,44 @@ struct Evaluated {
     limits_met: bool,
 }
 
+/// A yes with its graph, for which so many frames were started within the limits.
+fn yes_after(frames: u64) -> Evaluated {
+    Evaluated {
+        outcome: Outcome::Yes,
+        has_graph: true,
+        frames,
+        limits_met: false,
+    }
+}
+
 /// Evaluates the goal on a new graph of this depth, whose goals ask the number below once or twice.
 fn evaluate(
     alloc: Global,
+    mut builder: Builder,
     asks_twice: bool,
     root_depth: usize,
     goal: u32,
 ) -> Result<Evaluated, Fault<Count, Outcome>> {
     let mut cache = GlobalCache::<Countdown>::new(alloc, Countdown { asks_twice });
     let mut graph = SearchGraph::<Countdown>::new(alloc, root_depth);
-    let mut starts = Starts::new();
-    let answer = graph.evaluate_goal(&mut cache, Count(goal), PathKind::Inductive, &mut starts)?;
+    let answer = graph.evaluate_goal(&mut cache, Count(goal), PathKind::Inductive, &mut builder)?;
     Ok(Evaluated {
         outcome: answer.result,
         has_graph: answer.node.is_some(),
-        frames: starts.started(),
+        frames: builder.started(),
         limits_met: graph.limits_met(),
     })
 }
 
 #[test]
 fn a_long_chain_takes_no_native_stack(rt: HostRuntime) {
-    let evaluated = evaluate(rt.alloc(), false, 100_000, 100_000);
-    let wanted = Evaluated {
-        outcome: Outcome::Yes,
-        has_graph: true,
-        frames: 100_001,
-        limits_met: false,
-    };
-    assert_eq!(rt; evaluated, Ok(wanted));
+    let evaluated = evaluate(rt.alloc(), Builder::new(true), false, 100_000, 100_000);
+    assert_eq!(rt; evaluated, Ok(yes_after(100_001)));
 }
 
 #[test]
 fn a_chain_ends_where_its_depth_does(rt: HostRuntime) {
-    let evaluated = evaluate(rt.alloc(), false, 999, 1000);
+    let evaluated = evaluate(rt.alloc(), Builder::new(true), false, 999, 1000);
     let wanted = Evaluated {
         outcome: Outcome::Maybe,
         has_graph: false,
@@ -61,14 +68,15 @@ fn a_chain_ends_where_its_depth_does(rt: HostRuntime) {
 
 #[test]
 fn a_goal_that_is_asked_twice_starts_one_frame(rt: HostRuntime) {
-    let evaluated = evaluate(rt.alloc(), true, 3, 3);
-    let wanted = Evaluated {
-        outcome: Outcome::Yes,
-        has_graph: true,
-        frames: 4,
-        limits_met: false,
-    };
-    assert_eq!(rt; evaluated, Ok(wanted));
+    let evaluated = evaluate(rt.alloc(), Builder::new(true), true, 3, 3);
+    assert_eq!(rt; evaluated, Ok(yes_after(4)));
+}
+
+// There are no proof trees yet, so a builder that records uses the cache as well.
+#[test]
+fn a_builder_that_records_uses_the_cache(rt: HostRuntime) {
+    let evaluated = evaluate(rt.alloc(), Builder::new(false), true, 3, 3);
+    assert_eq!(rt; evaluated, Ok(yes_after(4)));
 }
 
 #[test]
@@ -94,10 +102,10 @@ fn a_graph_without_goals_has_no_candidates(rt: HostRuntime) -> Result<(), Fail> 
     assert!(rt; graph.is_empty());
     assert_eq!(rt; graph.debug_current_depth(), 0);
 
-    let mut starts = Starts::new();
-    let answer = graph.evaluate_goal(&mut cache, Count(2), PathKind::Inductive, &mut starts)?;
+    let mut builder = Builder::new(true);
+    let answer = graph.evaluate_goal(&mut cache, Count(2), PathKind::Inductive, &mut builder)?;
     assert_eq!(rt; answer.result, Outcome::Yes);
     assert!(rt; answer.node.is_some());
-    assert_eq!(rt; starts.started(), 3);
+    assert_eq!(rt; builder.started(), 3);
     Ok(())
 }

@@ -1,6 +1,6 @@
 -- What a builder has recorded.
 use Rattle.std.specs.Prelude.{ℕ, Bool}
-use Rattle.rule_tables.specs.declared.builder.Builder.{Builder}
+use Rattle.delegate_parts.specs.declared.builder.Builder.{Builder}
 
 -- the frames that it has seen start
 abbrev pub started_in : Builder → ℕ

@@ -1,10 +1,9 @@
 //! Worked examples: what is stored of the questions of small tables, and how it answers later questions.
 
-use super::worked;
-use crate::builder::Builder;
-use crate::delegate::{Table, TableDelegate};
-use crate::outcome::Outcome;
-use crate::rules::{Goal, Rules};
+use crate::answers::{Table, TableDelegate, expect_shown, start_line};
+use crate::cycles::{answers_over, parts};
+use delegate_parts::{Builder, Outcome};
+use rule_tables::{Goal, Rules};
 use search_graph::graph::SearchGraph;
 use search_parts::context::{Cx, Delegate};
 use search_parts::global_cache::GlobalCache;
@@ -105,7 +104,7 @@ A yes from 2
 B yes from 2";
 
 /// The same form: answers in the provisional cache are not stored, and where one is used, it requires no depth.
-const KEPT: &str = "\
+const PROVISIONAL: &str = "\
 rule A = c:B c:B
 rule B = c:A
 ask 4 A
@@ -301,7 +300,7 @@ fn a_goal_that_is_asked_again_starts_no_frame(rt: HostRuntime) -> Result<(), Fai
 fn results_that_rest_on_goals_above_are_not_stored(rt: HostRuntime) -> Result<(), Fail> {
     assert_eq!(rt; first_wrong(rt.alloc(), CYCLES)?, None);
     assert_eq!(rt; first_wrong(rt.alloc(), IGNORED)?, None);
-    assert_eq!(rt; first_wrong(rt.alloc(), KEPT)?, None);
+    assert_eq!(rt; first_wrong(rt.alloc(), PROVISIONAL)?, None);
     Ok(())
 }
 
@@ -315,9 +314,7 @@ fn results_are_used_at_the_depths_that_they_fit(rt: HostRuntime) -> Result<(), F
 #[test]
 fn a_list_has_an_answer_for_each_query(rt: HostRuntime) -> Result<(), Fail> {
     for example in LISTS.split("\n\n") {
-        let (text, wanted) = example
-            .split_once("\ngives\n")
-            .ok_or("an example without answers")?;
+        let (text, wanted) = parts(example, "\ngives\n")?;
         let rules = Rules::read(rt.alloc(), text.as_bytes())?;
         let cx = Table { lender: &rules };
         let given = answers_of_lists::<Table<&Rules>, TableDelegate<'_, 8, 1>>(
@@ -337,18 +334,14 @@ fn a_list_has_an_answer_for_each_query(rt: HostRuntime) -> Result<(), Fail> {
 /// The first example whose questions come to something else, or of which something else is stored.
 fn first_wrong(alloc: Global, examples: &str) -> Result<Option<&str>, Fail> {
     for example in examples.split("\n\n") {
-        let (text, rest) = example
-            .split_once("\ngives\n")
-            .ok_or("an example without answers")?;
-        let (wanted, kept) = rest
-            .split_once("\nstores\n")
-            .ok_or("an example that stores nothing")?;
+        let (text, rest) = parts(example, "\ngives\n")?;
+        let (wanted, results) = parts(rest, "\nstores\n")?;
         let rules = Rules::read(alloc, text.as_bytes())?;
         let cx = Table { lender: &rules };
         let (given, stored) = answers_and_stored::<Table<&Rules>, TableDelegate<'_, 8, 1>>(
             alloc, cx, &rules,
         )?;
-        if given.as_slice() != wanted.as_bytes() || stored.as_slice() != kept.as_bytes() {
+        if given.as_slice() != wanted.as_bytes() || stored.as_slice() != results.as_bytes() {
             return Ok(Some(example));
         }
     }
@@ -362,7 +355,7 @@ where
     D: Delegate<Cx = X, ProofTreeBuilder = Builder>,
 {
     let mut cache = GlobalCache::<D>::new(alloc, cx);
-    let given = worked::answers_over(alloc, &mut cache, rules)?;
+    let given = answers_over(alloc, &mut cache, rules)?;
     let stored = stored_results(alloc, &cache, rules)?;
     Ok((given, stored))
 }
@@ -383,25 +376,19 @@ where
             continue;
         };
         if let Some((outcome, required_depth)) = cache.success_of(goal) {
-            start_line(&mut lines, letter)?;
+            start_line(&mut lines)?;
+            lines.push(letter)?;
             write!(lines, " {outcome} from {required_depth}")?;
         }
         for depth in 0..MOST_DEPTH {
             if let Some(outcome) = cache.overflow_at(goal, depth) {
-                start_line(&mut lines, letter)?;
+                start_line(&mut lines)?;
+                lines.push(letter)?;
                 write!(lines, " {outcome} at {depth}")?;
             }
         }
     }
     Ok(lines)
-}
-
-fn start_line(lines: &mut Vec<u8>, letter: u8) -> Result<(), Fail> {
-    if !lines.is_empty() {
-        lines.push(b'\n')?;
-    }
-    lines.push(letter)?;
-    Ok(())
 }
 
 /// A line for the answer to each question of the table, and one for the frames that they start together. The first question
@@ -428,7 +415,7 @@ where
     let mut lines = Vec::new(alloc);
     for ((_, goal, _), answer) in queries.iter().zip(answers.iter()) {
         let answer = (*answer)?;
-        worked::expect_shown::<X, D>(alloc, &cache, *goal, answer)?;
+        expect_shown::<X, D>(alloc, &cache, *goal, answer)?;
         let outcome = answer.result;
         lines.extend_from_slice(rules.name(*goal).ok_or("no name")?)?;
         writeln!(lines, " {outcome}")?;

@@ -1,17 +1,9 @@
 //! The graphs that are handed out for answers, laid beside ones that are worked out by hand.
 
-mod dense;
-mod flaws;
-mod kept;
-mod shown;
-mod stored;
-mod worked;
-
-use crate::builder::Builder;
-use crate::delegate::{Table, TableDelegate};
-use crate::outcome::Outcome;
-use crate::rules::{Goal, Rules};
-use search_graph::graph::SearchGraph;
+use crate::answers::{Table, TableDelegate, ask, start_line};
+use crate::cycles::parts;
+use delegate_parts::{Builder, Outcome};
+use rule_tables::{Goal, Rules};
 use search_parts::context::{Cx, Delegate, Edge, Node, Reply};
 use search_parts::global_cache::GlobalCache;
 use search_parts::path::PathKind;
@@ -233,9 +225,7 @@ i:A yes: begin noted yes noted
 fn answers_name_their_graphs(rt: HostRuntime) -> Result<(), Fail> {
     let mut count = 0u32;
     for case in GRAPHS.split("\n\n") {
-        let (text, graph) = case
-            .split_once("\ngives\n")
-            .ok_or("a case without a graph")?;
+        let (text, graph) = parts(case, "\ngives\n")?;
         let rules = Rules::read(rt.alloc(), text.as_bytes())?;
         let cx = Table { lender: &rules };
         let drawn = draw_answer::<Table<&Rules>, TableDelegate<'_, 8, 1>>(rt.alloc(), cx, &rules)?;
@@ -255,9 +245,7 @@ where
     let mut cache = GlobalCache::<D>::new(alloc, cx);
     let mut drawn = Vec::new(alloc);
     for (depth, goal) in rules.questions() {
-        let mut graph = SearchGraph::<D>::new(alloc, *depth);
-        let mut builder = Builder::new(true);
-        let answer = graph.evaluate_goal(&mut cache, *goal, PathKind::Inductive, &mut builder)?;
+        let answer = ask::<X, D>(alloc, &mut cache, *depth, *goal)?.answer;
         drawn.clear();
         match answer.node {
             Some(root) => {
@@ -319,9 +307,7 @@ fn draw_node(
     if node.input != edge.input {
         return Err("a node of another goal")?;
     }
-    if !drawn.is_empty() {
-        drawn.push(b'\n')?;
-    }
+    start_line(drawn)?;
     for _ in 0..depth {
         drawn.push(b' ')?;
     }

@@ -1,9 +1,9 @@
 //! Graphs made by hand that the check of graphs must refuse, beside ones that it must accept.
 
-use crate::outcome::Outcome;
-use crate::outcome::Outcome::{Maybe, No, Yes};
-use crate::rules::Rules;
-use crate::tests::shown::{ShownEdge, ShownGraph, ShownNode};
+use crate::plain_graph::{ShownEdge, ShownGraph, ShownNode};
+use delegate_parts::Outcome;
+use delegate_parts::Outcome::{Maybe, No, Yes};
+use rule_tables::Rules;
 use search_parts::path::PathKind;
 use search_parts::path::PathKind::{Coinductive, ForcedAmbiguity, Inductive, Unknown};
 use std::alloc::Global;

@@ -1,15 +1,11 @@
 //! All tables of two goals that ask two questions each: what is answered, and the graphs of the answers.
 
-use crate::builder::Builder;
-use crate::delegate::{Table, TableDelegate};
-use crate::outcome::Outcome;
-use crate::program::shown::is_shown;
-use crate::rules::{Goal, Rules};
-use crate::tests::shown::ShownGraph;
-use search_graph::graph::SearchGraph;
+use crate::answers::{Table, TableDelegate, ask, is_definite, is_shown};
+use crate::plain_graph::ShownGraph;
+use delegate_parts::{Builder, Outcome};
+use rule_tables::{Goal, Rules};
 use search_parts::context::{Answer, Cx, Delegate};
 use search_parts::global_cache::GlobalCache;
-use search_parts::path::PathKind;
 use std::alloc::Global;
 use std::io::Write;
 use std::process::Abort;
@@ -64,7 +60,7 @@ struct Said {
 impl Said {
     /// Whether the result is definite, and the goal came to the other definite one before.
     fn contradicts(&mut self, goal: Goal, outcome: Outcome) -> Result<bool, Fail> {
-        if !matches!(outcome, Outcome::Yes | Outcome::No) {
+        if !is_definite(outcome) {
             return Ok(false);
         }
         let contradicts = self
@@ -79,72 +75,48 @@ impl Said {
 // The original, run on the same tables, comes to as many of each result, with its provisional cache and without it.
 #[test]
 fn tables_of_alternatives_are_answered_with_graphs(rt: HostRuntime) -> Result<(), Fail> {
-    let counts = check_tables(&rt, Body::Alternatives, Body::Alternatives)?;
-    let wanted = Counts {
-        yes: 17992,
-        no: 776,
-        neither: 14000,
-    };
-    assert_eq!(rt; counts, wanted);
-    Ok(())
+    expect_counts(
+        &rt,
+        Body::Alternatives,
+        Body::Alternatives,
+        [17992, 776, 14000],
+    )
 }
 
 #[test]
 fn tables_whose_first_goal_has_alternatives_are_answered_with_graphs(
     rt: HostRuntime,
 ) -> Result<(), Fail> {
-    let counts = check_tables(&rt, Body::Alternatives, Body::Together)?;
-    let wanted = Counts {
-        yes: 7736,
-        no: 6008,
-        neither: 19024,
-    };
-    assert_eq!(rt; counts, wanted);
-    Ok(())
+    expect_counts(&rt, Body::Alternatives, Body::Together, [7736, 6008, 19024])
 }
 
 #[test]
 fn tables_whose_second_goal_has_alternatives_are_answered_with_graphs(
     rt: HostRuntime,
 ) -> Result<(), Fail> {
-    let counts = check_tables(&rt, Body::Together, Body::Alternatives)?;
-    let wanted = Counts {
-        yes: 7736,
-        no: 6008,
-        neither: 19024,
-    };
-    assert_eq!(rt; counts, wanted);
-    Ok(())
+    expect_counts(&rt, Body::Together, Body::Alternatives, [7736, 6008, 19024])
 }
 
 #[test]
 fn tables_of_pairs_are_answered_with_graphs(rt: HostRuntime) -> Result<(), Fail> {
-    let counts = check_tables(&rt, Body::Together, Body::Together)?;
-    let wanted = Counts {
-        yes: 1352,
-        no: 13832,
-        neither: 17584,
-    };
-    assert_eq!(rt; counts, wanted);
-    Ok(())
+    expect_counts(&rt, Body::Together, Body::Together, [1352, 13832, 17584])
 }
 
-/// How often the questions of all tables of these bodies came to each result at depth 4, with the provisional cache and
-/// without it. Nothing may be wrong with any answer, and no goal may be both yes and no.
-fn check_tables(
+/// The questions of all tables of these bodies come to so many yes, no and neither at depth 4, with the provisional cache
+/// and without it. Nothing is wrong with any answer, and no goal is both yes and no.
+fn expect_counts(
     rt: &(impl Abort + AllocGlobal),
     first: Body,
     second: Body,
-) -> Result<Counts, Fail> {
+    [yes, no, neither]: [u32; 3],
+) -> Result<(), Fail> {
     let mut counts = Counts {
         yes: 0,
         no: 0,
         neither: 0,
     };
     for table in 0..PAIRS * PAIRS {
-        let mut text = Vec::new(rt.alloc());
-        write_body(&mut text, "A", first, table / PAIRS)?;
-        write_body(&mut text, "B", second, table % PAIRS)?;
+        let text = text_of(rt.alloc(), first, second, table)?;
         let rules = Rules::read(rt.alloc(), text.as_slice())?;
         let cx = Table { lender: &rules };
         let mut said = Said {
@@ -167,7 +139,8 @@ fn check_tables(
         )?;
         assert_eq!(rt; flaw, None, "table {table} without the provisional cache");
     }
-    Ok(counts)
+    assert_eq!(rt; counts, Counts { yes, no, neither });
+    Ok(())
 }
 
 #[test]
@@ -193,13 +166,10 @@ fn settled_tables<const PROVISIONAL: usize>(
 ) -> Result<u32, Fail> {
     let mut count = 0u32;
     for table in 0..PAIRS * PAIRS {
-        let (pair, other) = (table / PAIRS, table % PAIRS);
-        if has_unknown_step(pair) || has_unknown_step(other) {
+        if has_unknown_step(table / PAIRS) || has_unknown_step(table % PAIRS) {
             continue;
         }
-        let mut text = Vec::new(alloc);
-        write_body(&mut text, "A", first, pair)?;
-        write_body(&mut text, "B", second, other)?;
+        let text = text_of(alloc, first, second, table)?;
         let rules = Rules::read(alloc, text.as_slice())?;
         let cx = Table { lender: &rules };
         if both_are_settled::<Table<&Rules>, TableDelegate<'_, 8, PROVISIONAL>>(
@@ -220,6 +190,14 @@ fn questions_of(pair: usize) -> (usize, usize) {
 fn has_unknown_step(pair: usize) -> bool {
     let (first, second) = questions_of(pair);
     first >= 4 || second >= 4
+}
+
+/// The table of this number: the rules of A with its first pair of questions, and those of B with its second one.
+fn text_of(alloc: Global, first: Body, second: Body, table: usize) -> Result<Vec<u8>, Fail> {
+    let mut text = Vec::new(alloc);
+    write_body(&mut text, "A", first, table / PAIRS)?;
+    write_body(&mut text, "B", second, table % PAIRS)?;
+    Ok(text)
 }
 
 /// The rules of the goal of this name with a pair of questions.
@@ -270,11 +248,7 @@ where
 {
     for (depth, name) in asked {
         let goal = rules.goal(name).ok_or("no goal")?;
-        let mut graph = SearchGraph::<D>::new(alloc, *depth);
-        let mut builder = Builder::new(true);
-        let Ok(answer) = graph.evaluate_goal(cache, goal, PathKind::Inductive, &mut builder) else {
-            return Ok(Some("a fault"));
-        };
+        let answer = ask::<X, D>(alloc, cache, *depth, goal)?.answer;
         if *depth == 4 {
             counts.note(answer.result);
         }
@@ -301,10 +275,9 @@ where
     X: Cx<Input = Goal, Result = Outcome>,
     D: Delegate<Cx = X, ProofTreeBuilder = Builder>,
 {
-    let is_definite = matches!(answer.result, Outcome::Yes | Outcome::No);
     let root = match answer.node {
-        Some(root) if is_definite => root,
-        None if !is_definite => return Ok(None),
+        Some(root) if is_definite(answer.result) => root,
+        None if !is_definite(answer.result) => return Ok(None),
         _ => return Ok(Some("a graph of another result")),
     };
     if !is_shown::<X, D>(alloc, cache, goal, answer.result, root)? {
@@ -325,11 +298,8 @@ where
     let mut cache = GlobalCache::<D>::new(alloc, cx);
     for name in [b"A", b"B"] {
         let goal = rules.goal(name).ok_or("no goal")?;
-        let mut graph = SearchGraph::<D>::new(alloc, 4);
-        let mut builder = Builder::new(true);
-        let answer = graph.evaluate_goal(&mut cache, goal, PathKind::Inductive, &mut builder)?;
-        let is_definite = matches!(answer.result, Outcome::Yes | Outcome::No);
-        if !is_definite || graph.limits_met() {
+        let answered = ask::<X, D>(alloc, &mut cache, 4, goal)?;
+        if !is_definite(answered.answer.result) || answered.limits_met {
             return Ok(false);
         }
     }

@@ -1,6 +1,6 @@
 //! Worked examples: provisional entries, which are used until they can't be right any more, and what that spares.
 
-use super::worked;
+use crate::cycles::{answers_of, parts};
 use std::alloc::Global;
 use std::test::Fail;
 
@@ -69,7 +69,7 @@ without
 A yes 5";
 
 /// The same form: B is a no, by an inductive cycle with A, and D, which asks B, is a no with it. From A over D that cycle
-/// is coinductive, so the no of D is dropped once B is done. A search that kept it would say no of A, too.
+/// is coinductive, so the no of D is dropped once B is done. A search that left it there would say no of A, too.
 const OTHER_CYCLE: &str = "\
 rule A = i:B
 rule A = c:D
@@ -132,7 +132,7 @@ A yes 4";
 
 /// The same form, of two questions over one cache: the maybe that is stored of D met overflow at A. By the time that B
 /// asks D, A has a provisional entry which D would use, so that D is worked out again.
-const MEETS_KEPT: &str = "\
+const MEETS_ENTRY: &str = "\
 rule A = i:B
 rule B = c:A i:D
 rule D = c:A
@@ -226,7 +226,7 @@ fn an_answer_that_used_no_result_outlives_a_rerun(rt: HostRuntime) -> Result<(),
 fn a_stored_result_is_passed_over_where_a_goal_below_it_has_an_answer(
     rt: HostRuntime,
 ) -> Result<(), Fail> {
-    assert_eq!(rt; first_wrong(rt.alloc(), MEETS_KEPT)?, None);
+    assert_eq!(rt; first_wrong(rt.alloc(), MEETS_ENTRY)?, None);
     assert_eq!(rt; first_wrong(rt.alloc(), MEETS_NONE)?, None);
     Ok(())
 }
@@ -234,15 +234,11 @@ fn a_stored_result_is_passed_over_where_a_goal_below_it_has_an_answer(
 /// The first example whose questions come to something else, with the provisional cache or without it.
 fn first_wrong(alloc: Global, examples: &str) -> Result<Option<&str>, Fail> {
     for example in examples.split("\n\n") {
-        let (text, rest) = example
-            .split_once("\ngives\n")
-            .ok_or("an example without answers")?;
-        let (kept, without) = rest
-            .split_once("\nwithout\n")
-            .ok_or("an example with the provisional cache alone")?;
-        let given = worked::answers_of::<8, 1>(alloc, text)?;
-        let given_without = worked::answers_of::<8, 0>(alloc, text)?;
-        if given.as_slice() != kept.as_bytes() || given_without.as_slice() != without.as_bytes() {
+        let (text, rest) = parts(example, "\ngives\n")?;
+        let (wanted, without) = parts(rest, "\nwithout\n")?;
+        let given = answers_of::<8, 1>(alloc, text)?;
+        let given_without = answers_of::<8, 0>(alloc, text)?;
+        if given.as_slice() != wanted.as_bytes() || given_without.as_slice() != without.as_bytes() {
             return Ok(Some(example));
         }
     }

@@ -1,14 +1,10 @@
 //! Worked examples: what the questions of small tables come to, with how many frames, and whether a limit is met.
 
-use crate::builder::Builder;
-use crate::delegate::{Table, TableDelegate};
-use crate::outcome::Outcome;
-use crate::program::shown::is_shown;
-use crate::rules::{Goal, Rules};
-use search_graph::graph::SearchGraph;
-use search_parts::context::{Answer, Cx, Delegate};
+use crate::answers::{Table, TableDelegate, ask, expect_shown, start_line, write_answer};
+use delegate_parts::{Builder, Outcome};
+use rule_tables::{Goal, Rules};
+use search_parts::context::{Cx, Delegate};
 use search_parts::global_cache::GlobalCache;
-use search_parts::path::PathKind;
 use std::alloc::Global;
 use std::io::Write;
 use std::test::Fail;
@@ -188,10 +184,8 @@ fn first_wrong<'a, const LIMIT: usize, const PROVISIONAL: usize>(
     examples: &'a str,
 ) -> Result<Option<&'a str>, Fail> {
     for example in examples.split("\n\n") {
-        let (text, wanted) = example
-            .split_once("\ngives\n")
-            .ok_or("an example without answers")?;
-        let given = answers_of::<LIMIT, PROVISIONAL>(alloc, text)?;
+        let (table, wanted) = parts(example, "\ngives\n")?;
+        let given = answers_of::<LIMIT, PROVISIONAL>(alloc, table)?;
         if given.as_slice() != wanted.as_bytes() {
             return Ok(Some(example));
         }
@@ -199,27 +193,9 @@ fn first_wrong<'a, const LIMIT: usize, const PROVISIONAL: usize>(
     Ok(None)
 }
 
-/// An answer that names a node is shown by the graph that is handed out for that, and any other is not definite.
-pub fn expect_shown<X, D>(
-    alloc: Global,
-    cache: &GlobalCache<D>,
-    goal: Goal,
-    answer: Answer<Outcome>,
-) -> Result<(), Fail>
-where
-    X: Cx<Input = Goal, Result = Outcome>,
-    D: Delegate<Cx = X, ProofTreeBuilder = Builder>,
-{
-    let outcome = answer.result;
-    match answer.node {
-        Some(node) if !is_shown::<X, D>(alloc, cache, goal, outcome, node)? => {
-            Err("no graph that the checker accepts")?
-        }
-        None if matches!(outcome, Outcome::Yes | Outcome::No) => {
-            Err("a definite answer without a node")?
-        }
-        _ => Ok(()),
-    }
+/// What stands before this line of an example, and what stands after it.
+pub fn parts<'a>(example: &'a str, line: &str) -> Result<(&'a str, &'a str), Fail> {
+    Ok(example.split_once(line).ok_or("a part is missing")?)
 }
 
 /// A line for each question of the text, over one cache.
@@ -254,18 +230,13 @@ where
 {
     let mut lines = Vec::new(alloc);
     for (depth, goal) in rules.questions() {
-        let mut graph = SearchGraph::<D>::new(alloc, *depth);
-        let mut builder = Builder::new(true);
-        let answer = graph.evaluate_goal(cache, *goal, PathKind::Inductive, &mut builder)?;
-        expect_shown::<X, D>(alloc, cache, *goal, answer)?;
-        if !lines.is_empty() {
-            lines.push(b'\n')?;
+        let answered = ask::<X, D>(alloc, cache, *depth, *goal)?;
+        expect_shown::<X, D>(alloc, cache, *goal, answered.answer)?;
+        start_line(&mut lines)?;
+        write_answer(&mut lines, rules, *goal, answered)?;
+        if answered.limits_met {
+            write!(lines, " limit")?;
         }
-        lines.extend_from_slice(rules.name(*goal).ok_or("no name")?)?;
-        let outcome = answer.result;
-        let started = builder.started();
-        let limit = if graph.limits_met() { " limit" } else { "" };
-        write!(lines, " {outcome} {started}{limit}")?;
     }
     Ok(lines)
 }

@@ -9,8 +9,8 @@ pub struct Builder {
 }
 
 impl Builder {
-    ghost use Rattle.rule_tables.specs.Below.{CountsOne};
-    ghost use Rattle.rule_tables.specs.Builder.{started_in, is_noop_of};
+    ghost use Rattle.delegate_parts.specs.Below.{CountsOne};
+    ghost use Rattle.delegate_parts.specs.Builder.{started_in, is_noop_of};
 
     /// A builder that has seen no frame. A search may use its cache in full only if the builder is
     /// a no-op.
@@ -31,13 +31,15 @@ impl Builder {
         self.started
     }
 
-    pub(crate) fn is_noop(&self) -> bool
+    /// Whether a search may use its cache in full.
+    pub fn is_noop(&self) -> bool
         ensures { result ≡ is_noop_of self.now }
     {
         self.is_noop
     }
 
-    pub(crate) fn note_start(&mut self)
+    /// Counts a frame that is started.
+    pub fn note_start(&mut self)
         ensures counted { CountsOne (2 ^ 64 - 1) (started_in self.old) (started_in self.new) }
         ensures same_noop { is_noop_of self.new ≡ is_noop_of self.old }
     {

@@ -1,7 +1,7 @@
 //! The graph that an answer names, read node by node, and a plain check of it by the table's rules alone.
 
-use crate::outcome::Outcome;
-use crate::rules::{Goal, Rules};
+use delegate_parts::Outcome;
+use rule_tables::{Goal, Rules};
 use search_parts::context::{Cx, Delegate, Node, NodeId};
 use search_parts::global_cache::GlobalCache;
 use search_parts::path::PathKind;

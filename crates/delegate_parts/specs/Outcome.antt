@@ -1,22 +1,22 @@
 -- The results of a goal, and of which sort they are.
 use Rattle.std.specs.Prelude.{Bool, true, false, Option, Some, None}
-use Rattle.rule_tables.specs.Below.{PathKind, Inductive, Unknown, Coinductive, ForcedAmbiguity}
-use Rattle.rule_tables.specs.declared.outcome.Outcome.{Outcome}
-use Rattle.rule_tables.specs.declared.outcome.Outcome.TheVariants.{Yes, No, Maybe, Overflow}
+use Rattle.delegate_parts.specs.Below.{PathKind, Inductive, Unknown, Coinductive, ForcedAmbiguity}
+use Rattle.delegate_parts.specs.declared.outcome.Outcome.{Outcome}
+use Rattle.delegate_parts.specs.declared.outcome.Outcome.TheVariants.{Yes, No, Maybe, Overflow}
 
 -- the goal holds
-abbrev pub outcome_is_yes : Outcome → Bool
-outcome_is_yes Yes = true
-outcome_is_yes No = false
-outcome_is_yes Maybe = false
-outcome_is_yes Overflow = false
+abbrev pub is_yes : Outcome → Bool
+is_yes Yes = true
+is_yes No = false
+is_yes Maybe = false
+is_yes Overflow = false
 
 -- the goal does not hold
-abbrev pub outcome_is_no : Outcome → Bool
-outcome_is_no Yes = false
-outcome_is_no No = true
-outcome_is_no Maybe = false
-outcome_is_no Overflow = false
+abbrev pub is_no : Outcome → Bool
+is_no Yes = false
+is_no No = true
+is_no Maybe = false
+is_no Overflow = false
 
 -- the first answer over a cycle of this kind
 abbrev pub initial_outcome : PathKind → Outcome

@@ -1,0 +1,5 @@
+pub mod Below
+pub mod Words
+pub mod Outcome
+pub mod Laws
+pub mod Builder
