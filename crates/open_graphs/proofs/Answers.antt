@@ -1,6 +1,6 @@
 -- Edges: answers for a goal on the stack, and for a finished goal.
 use Rattle.std.proofs.Common.{◌≡◌, ℕ, suc, max, ◌≤◌, List, Some, slice_get, drop, arith, refl, sym, subst, inl}
-use Rattle.open_graphs.specs.Words.{Verdict, Node, Walk, stay, go, Entry, IsLeaf, Accepts, path_kind, Step, Recorded, CycleGivesUse, UseGivesEdge}
+use Rattle.open_graphs.specs.Words.{Verdict, Node, Walk, stay, go, Entry, IsLeaf, Accepts, path_kind, Step, Recorded, DistinctNodes, Heads, Use}
 use Rattle.open_graphs.proofs.Paths.{to_walk}
 use Rattle.open_graphs.proofs.PathKinds.{step_le}
 use Rattle.open_graphs.proofs.Keep.{recorded_at, accepts_at}
@@ -10,7 +10,14 @@ pub from_leaf : (nodes : List Node) (verdict : Verdict) (stack : List Entry) {a 
 from_leaf nodes verdict stack l stay = (refl, refl)
 from_leaf nodes verdict stack l (go s w) = absurd (s.inner l)
 
-pub cycle_gives_use : CycleGivesUse
+-- A goal on the stack may be used as an answer. It has one head, itself, with the path of the step and a usage of the
+-- cycle's kind.
+pub cycle_gives_use :
+    (nodes : List Node) (verdict : Verdict) (stack : List Entry) (depth : ℕ) (entry : Entry) (step : ℕ)
+    (heads : Heads)
+    → DistinctNodes stack → slice_get stack depth ≡ Some entry → Accepts verdict entry (path_kind stack step depth)
+    → Recorded heads depth step (path_kind stack step depth)
+    → Use nodes verdict stack (path_kind stack step) step entry.node heads
 cycle_gives_use nodes verdict stack depth entry step heads distinct at accepts recorded =
     let l : IsLeaf stack entry.node = (depth, entry, at, refl) in
     record {
@@ -30,7 +37,11 @@ cycle_gives_use nodes verdict stack depth entry step heads distinct at accepts r
           );
     }
 
-pub use_gives_edge : UseGivesEdge
+-- A finished goal that is asked by a step gives an edge: the paths of its heads get the step in front.
+pub use_gives_edge :
+    (nodes : List Node) (verdict : Verdict) (stack : List Entry) (step a : ℕ) (heads extended : Heads)
+    → ((depth path cycle : ℕ) → Recorded heads depth path cycle → Recorded extended depth (max step path) cycle) → Use nodes verdict stack (path_kind stack step) 0 a heads
+    → Use nodes verdict stack (path_kind stack step) step a extended
 use_gives_edge nodes verdict stack step a heads extended extends u = record {
   settled = u.settled;
   covered = λ depth entry q on at p.

@@ -1,6 +1,6 @@
 -- A value without heads is a graph.
 use Rattle.std.proofs.Common.{ℕ, List, [], sym, subst, inl, inr}
-use Rattle.open_graphs.specs.Words.{Verdict, Node, HasEdge, Walk, stay, IsGraph, Entry, IsLeaf, Step, Heads, Use, UsesNo, ClosedIsGraph, GraphIsUse, GrowthKeepsGraph}
+use Rattle.open_graphs.specs.Words.{Verdict, Node, HasEdge, Walk, stay, IsGraph, Entry, IsLeaf, Step, Heads, Use, UsesNo, Grown}
 use Rattle.open_graphs.proofs.Verdicts.{edges_of, is_finished}
 use Rattle.open_graphs.proofs.Walks.{carried_on, carried, then_step}
 use Rattle.open_graphs.proofs.Paths.{covered_walk}
@@ -25,10 +25,16 @@ module _ (nodes : List Node) (verdict : Verdict) (stack : List Entry) (from_head
         u.settled.closed b q k c r v e' (edge_walk (then_step (Step nodes verdict stack) v e') x);
   }
 
-pub closed_is_graph : ClosedIsGraph
+-- A use without heads is a graph, whatever the stack is.
+pub closed_is_graph :
+    (nodes : List Node) (verdict : Verdict) (stack : List Entry) (from_head : ℕ → ℕ) (front a : ℕ) (heads : Heads)
+    → ((depth : ℕ) → UsesNo heads depth) → Use nodes verdict stack from_head front a heads → IsGraph nodes verdict a
 closed_is_graph nodes verdict stack from_head front a heads none u = without_heads nodes verdict stack from_head front a heads none u
 
-pub growth_keeps_graph : GrowthKeepsGraph
+-- A graph stays one while the list grows.
+pub growth_keeps_graph :
+    (before after : List Node) (verdict : Verdict) (a : ℕ)
+    → Grown before after → IsGraph before verdict a → IsGraph after verdict a
 growth_keeps_graph before after verdict a grown g =
     let back = λ (b q k c : ℕ) (w : Walk (HasEdge before verdict) a q b) (e : HasEdge after verdict b k c). edge_before before after verdict b k c grown (edges_of before verdict b (g.finished b q w)) e in
     record {
@@ -42,7 +48,10 @@ growth_keeps_graph before after verdict a grown g =
 edges_only : (nodes : List Node) (verdict : Verdict) (stack : List Entry) {a q b : ℕ} → Walk (Step nodes verdict stack) a q b → Walk (HasEdge nodes verdict) a q b
 edges_only nodes verdict stack w = carried (HasEdge nodes verdict) (Step nodes verdict stack) (λ b. Unit {0}) (λ b k c h e. e.edge) (λ b k c h e. tt) tt w
 
-pub graph_is_use : GraphIsUse
+-- A graph may be used under an empty stack.
+pub graph_is_use :
+    (nodes : List Node) (verdict : Verdict) (from_head : ℕ → ℕ) (front a : ℕ) (heads : Heads)
+    → IsGraph nodes verdict a → Use nodes verdict [] from_head front a heads
 graph_is_use nodes verdict from_head front a heads g = record {
   settled = record {
     placed = λ b q w. inr (edges_of nodes verdict b (g.finished b q (edges_only nodes verdict [] w)));

@@ -1,6 +1,6 @@
 -- The end of a run: its node gets its edges.
 use Rattle.std.proofs.Common.{◌≡◌, ◌≢◌, ℕ, max, ◌<◌, List, [], ◌∷◌, ◌++◌, Some, length, slice_get, slice_set, arith, refl, sym, subst, ◌∙◌, ◌⊎◌, inl, inr}
-use Rattle.open_graphs.specs.Words.{Verdict, cycle_kind, Edge, Node, Unfinished, Finished, IsFinished, Walk, stay, Path, end, then, Avoids, Entry, IsLeaf, Accepts, path_kind, Step, Heads, Recorded, Use, IsAnswered, IsRunsNode, FinishGivesUse}
+use Rattle.open_graphs.specs.Words.{Verdict, cycle_kind, Edge, Node, Unfinished, Finished, IsFinished, Walk, stay, Path, end, then, Avoids, Entry, IsLeaf, Accepts, path_kind, Step, Heads, Recorded, Use, IsAnswered, IsRunsNode, AllAnswered}
 use Rattle.open_graphs.proofs.Lists.{get_left, get_end, get_below, get_set_other, get_set_same}
 use Rattle.open_graphs.proofs.Walks.{closed_walk, placed_walk}
 use Rattle.open_graphs.proofs.Paths.{Covered, covered_walk, carried_past}
@@ -114,5 +114,12 @@ module _ (nodes : List Node) (verdict : Verdict) (below : List Entry) (top : Ent
     covered = λ depth entry q on at w. covered depth entry at refl w;
   }
 
-pub finish_gives_use : FinishGivesUse
+-- A run of the top entry ended with a verdict. Its node gets an edge for each answer of the verdict, and may then be used
+-- below the entry.
+pub finish_gives_use :
+    (nodes : List Node) (verdict : Verdict) (below : List Entry) (top : Entry) (n : ℕ) (edges : List Edge)
+    (heads : Heads)
+    → slice_get nodes n ≡ Some Unfinished → ¬ IsLeaf below n → IsRunsNode verdict top n
+    → AllAnswered nodes verdict below top edges heads
+    → Use (slice_set nodes n (Finished verdict edges)) verdict below (path_kind below top.step) 0 n heads
 finish_gives_use nodes verdict below top n edges heads unfinished lower run answered = finished_use nodes verdict below top n edges heads unfinished lower run answered

@@ -1,15 +1,19 @@
 -- What keeps the use of a value: growth of the list, more heads, pushes, pops and reruns of what it doesn't reach.
-use Rattle.std.proofs.Common.{◌≡◌, ℕ, max, List, [], ◌∷◌, ◌++◌, Some, length, slice_get, refl, ap, sym, subst, ◌∙◌, ◌⊎◌, inl, inr}
+use Rattle.std.proofs.Common.{◌≡◌, ℕ, max, List, [], ◌∷◌, ◌++◌, Some, length, slice_get, refl, ap, sym, subst, ◌∙◌, ◌⊎◌, inl, inr, None, slice_set, ◌≢◌}
 use native.Mathlib.Decide.{ℕ_discrete}
-use Rattle.open_graphs.specs.Words.{Verdict, cycle_kind, Node, Unfinished, Finished, IsFinished, HasEdge, Walk, Grown, Entry, IsLeaf, Accepts, Step, Settled, Heads, Recorded, Use, Unreached, AppendGrows, FinishGrows, GrowthKeepsUse, HeadsKeepUse, PushKeepsUse, PopKeepsUse, RerunKeepsUse, UnusedIsUnreached, OtherIsUnreached}
+use Rattle.open_graphs.specs.Words.{Verdict, cycle_kind, Node, Unfinished, Finished, IsFinished, HasEdge, Walk, Grown, Entry, IsLeaf, Accepts, Step, Settled, Heads, Recorded, Use, Unreached, Includes, IsSameOrFresh, UsesNo}
 use Rattle.open_graphs.proofs.Lists.{get_left, get_end, get_cases, get_set_other}
 use Rattle.open_graphs.proofs.Paths.{covered_walk}
 use Rattle.open_graphs.proofs.Transfer.{same_walk, transfer_use}
 
-pub append_grows : AppendGrows
+-- An unfinished node is appended: the list has grown.
+pub append_grows : (nodes : List Node) → Grown nodes (nodes ++ Unfinished ∷ [])
 append_grows nodes a verdict edges e = get_left nodes (Unfinished ∷ []) a (Finished verdict edges) e
 
-pub finish_grows : FinishGrows
+-- An unfinished node is finished: the list has grown.
+pub finish_grows :
+    (nodes : List Node) (n : ℕ) (node : Node)
+    → slice_get nodes n ≡ Some Unfinished → Grown nodes (slice_set nodes n node)
 finish_grows nodes n node unfinished a verdict edges e = elim (ℕ_discrete a n) [
   | yes same ↦ let e' : slice_get nodes n ≡ Some (Finished verdict edges) = subst (λ x. slice_get nodes x ≡ Some (Finished verdict edges)) same e in absurd (cc)
   | no d ↦ get_set_other nodes n node a d ∙ e
@@ -33,7 +37,12 @@ module _ (before after : List Node) (verdict : Verdict) (stack : List Entry) (a 
   pub growth_place : (b q : ℕ) → Walk (Step before verdict stack) a q b → IsLeaf stack b ⊎ IsFinished before verdict b → IsLeaf stack b ⊎ IsFinished after verdict b
   growth_place b q w p = elim p [ inl l ↦ inl l | inr f ↦ inr (f.0, grown b verdict f.0 f.1) ]
 
-pub growth_keeps_use : GrowthKeepsUse
+-- A use stays while the list grows.
+pub growth_keeps_use :
+    (before after : List Node) (verdict : Verdict) (stack : List Entry) (from_head : ℕ → ℕ) (front a : ℕ)
+    (heads : Heads)
+    → Grown before after → Use before verdict stack from_head front a heads
+    → Use after verdict stack from_head front a heads
 growth_keeps_use before after verdict stack from_head front a heads grown u =
     transfer_use before after verdict stack stack a (growth_back before after verdict stack a grown u.settled) (growth_place before after verdict stack a grown u.settled) from_head front heads (λ depth entry q at w. at) u
 
@@ -43,7 +52,12 @@ recorded_at heads depth p c p' c' h e e' = subst (λ x. Recorded heads depth x c
 pub accepts_at : (verdict : Verdict) (entry : Entry) (c c' : ℕ) → Accepts verdict entry c → c ≡ c' → Accepts verdict entry c'
 accepts_at verdict entry c c' h e = subst (λ x. Accepts verdict entry x) e h
 
-pub heads_keep_use : HeadsKeepUse
+-- It stays under more heads, and where the path kind from each recorded head is the same.
+pub heads_keep_use :
+    (nodes : List Node) (verdict : Verdict) (stack : List Entry) (from_head other : ℕ → ℕ) (front a : ℕ)
+    (heads more : Heads)
+    → Includes heads more → ((depth path cycle : ℕ) → Recorded heads depth path cycle → from_head depth ≡ other depth)
+    → Use nodes verdict stack from_head front a heads → Use nodes verdict stack other front a more
 heads_keep_use nodes verdict stack from_head other front a heads more includes same u = record {
   settled = u.settled;
   covered = λ depth entry q on at w.
@@ -84,7 +98,13 @@ fresh_unreached nodes verdict stack a b s unfinished ne q w = elim (s.placed b q
   | inr f ↦ let e = f.1 in absurd (cc)
 ]
 
-pub push_keeps_use : PushKeepsUse
+-- It stays when an entry with a fresh node is pushed.
+pub push_keeps_use :
+    (nodes : List Node) (verdict : Verdict) (stack : List Entry) (entry : Entry) (from_head : ℕ → ℕ) (front a : ℕ)
+    (heads : Heads)
+    → slice_get nodes entry.node ≡ Some Unfinished → ¬ IsLeaf stack entry.node
+    → Use nodes verdict stack from_head front a heads
+    → Use nodes verdict (stack ++ entry ∷ []) from_head front a heads
 push_keeps_use nodes verdict stack entry from_head front a heads unfinished ne u =
     push_unreached nodes verdict stack entry a from_head front heads (fresh_unreached nodes verdict stack a entry.node u.settled unfinished ne) u
 
@@ -107,12 +127,23 @@ module _ (nodes : List Node) (verdict : Verdict) (below : List Entry) (top : Ent
     | inr f ↦ inr f
   ]
 
-pub pop_keeps_use : PopKeepsUse
+-- It stays when an entry is popped that it doesn't reach.
+pub pop_keeps_use :
+    (nodes : List Node) (verdict : Verdict) (below : List Entry) (top : Entry) (from_head : ℕ → ℕ) (front a : ℕ)
+    (heads : Heads)
+    → Unreached nodes verdict (below ++ top ∷ []) a top.node
+    → Use nodes verdict (below ++ top ∷ []) from_head front a heads → Use nodes verdict below from_head front a heads
 pop_keeps_use nodes verdict below top from_head front a heads un u =
     transfer_use nodes nodes verdict (below ++ top ∷ []) below a (pop_back nodes verdict below top a un) (pop_place nodes verdict below top a un) from_head front heads
     (λ depth e q at w. get_left below (top ∷ []) depth e at) u
 
-pub rerun_keeps_use : RerunKeepsUse
+-- It stays when such an entry is run again, with another provisional result and perhaps a fresh node.
+pub rerun_keeps_use :
+    (nodes : List Node) (verdict : Verdict) (below : List Entry) (top again : Entry) (from_head : ℕ → ℕ) (front a : ℕ)
+    (heads : Heads)
+    → IsSameOrFresh nodes below top again → Unreached nodes verdict (below ++ top ∷ []) a top.node
+    → Use nodes verdict (below ++ top ∷ []) from_head front a heads
+    → Use nodes verdict (below ++ again ∷ []) from_head front a heads
 rerun_keeps_use nodes verdict below top again from_head front a heads new un u =
     let v = pop_keeps_use nodes verdict below top from_head front a heads un u in
     let back = pop_back nodes verdict below top a un in
@@ -124,12 +155,25 @@ rerun_keeps_use nodes verdict below top again from_head front a heads new un u =
     ])
     v
 
-pub unused_is_unreached : UnusedIsUnreached
+-- An entry isn't reached by what records no usage of it.
+pub unused_is_unreached :
+    (nodes : List Node) (verdict : Verdict) (below : List Entry) (top : Entry) (from_head : ℕ → ℕ) (front a : ℕ)
+    (heads : Heads)
+    → UsesNo heads (length below) → Use nodes verdict (below ++ top ∷ []) from_head front a heads
+    → Unreached nodes verdict (below ++ top ∷ []) a top.node
 unused_is_unreached nodes verdict below top from_head front a heads unused u q w =
     let h = covered_walk nodes verdict (below ++ top ∷ []) from_head front a heads u (length below) top q (get_end below top) w in
     unused _ _ h.recorded
 
-pub other_is_unreached : OtherIsUnreached
+-- Nor is it reached where its cycles were answered with another verdict: its provisional result has another one, or all
+-- recorded usages of its first run are of a kind that gives another one.
+pub other_is_unreached :
+    (nodes : List Node) (verdict : Verdict) (below : List Entry) (top : Entry) (from_head : ℕ → ℕ) (front a : ℕ)
+    (heads : Heads)
+    → (top.provisional ≢ Some verdict)
+    → (top.provisional ≡ None → (path : ℕ) → Recorded heads (length below) path (cycle_kind verdict) → ⊥)
+    → Use nodes verdict (below ++ top ∷ []) from_head front a heads
+    → Unreached nodes verdict (below ++ top ∷ []) a top.node
 other_is_unreached nodes verdict below top from_head front a heads other first u q w =
     let h = covered_walk nodes verdict (below ++ top ∷ []) from_head front a heads u (length below) top q (get_end below top) w in
     elim h.accepted [

@@ -1,7 +1,7 @@
 -- Stored answers when their highest head is popped.
 use Rattle.std.proofs.Common.{◌≡◌, ◌≢◌, ℕ, max, ◌<◌, List, [], ◌∷◌, ◌++◌, Some, length, slice_get, arith, refl, ap, sym, subst, ◌⊎◌, inl, inr}
 use native.Mathlib.Decide.{ℕ_discrete}
-use Rattle.open_graphs.specs.Words.{Verdict, cycle_kind, Node, IsFinished, Walk, stay, go, Path, end, then, Avoids, Entry, IsLeaf, Accepts, path_kind, path_through, Step, Heads, Recorded, Use, HeadsWithin, Stored, IncludesBelow, UnreachedHeadKeepsStored, RebaseKeepsStored, KeepsCycleKinds, TakesOver}
+use Rattle.open_graphs.specs.Words.{Verdict, cycle_kind, Node, IsFinished, Walk, stay, go, Path, end, then, Avoids, Entry, IsLeaf, Accepts, path_kind, path_through, Step, Heads, Recorded, Use, HeadsWithin, Stored, IncludesBelow, KeepsCycleKinds, TakesOver, Unreached}
 use Rattle.open_graphs.proofs.Lists.{get_left, get_end, get_below}
 use Rattle.open_graphs.proofs.PathKinds.{path_kind_below, through_top, through_popped}
 use Rattle.open_graphs.proofs.Keep.{leaf_cases, recorded_at, accepts_at, pop_keeps_use}
@@ -120,7 +120,16 @@ stored_below nodes verdict below top path a rebased highest on_stack within u = 
       (λ depth h. sym (through_popped below top.step path highest depth h)) u;
 }
 
-pub rebase_keeps_stored : RebaseKeepsStored
+-- When its highest head is popped with an answer of the same verdict, it stays where each cycle through the head keeps its
+-- kind. It takes over the heads of the popped one.
+pub rebase_keeps_stored :
+    (nodes : List Node) (verdict : Verdict) (below : List Entry) (top : Entry) (path a : ℕ)
+    (heads top_heads rebased : Heads) (highest : ℕ)
+    → Use nodes verdict below (path_kind below top.step) 0 top.node top_heads
+    → KeepsCycleKinds below top path heads top_heads → IncludesBelow (length below) heads rebased
+    → TakesOver (length below) heads top_heads rebased → highest < length below → HeadsWithin rebased highest
+    → Stored nodes verdict (below ++ top ∷ []) (length below) path a heads
+    → Stored nodes verdict below highest (max path (path_kind below top.step highest)) a rebased
 rebase_keeps_stored nodes verdict below top path a heads top_heads rebased highest top_use keeps includes takes on_stack within s =
     stored_below nodes verdict below top path a rebased highest on_stack within
     (rebased_use nodes verdict below top path a heads top_heads rebased top_use keeps includes takes (from_top nodes verdict below top path a heads s))
@@ -136,7 +145,14 @@ with_heads_below nodes verdict below from_head other a heads rebased includes sa
       (recorded_at rebased depth (max 0 q) _ (max 0 q) _ (includes depth _ _ within h.0) refl e, accepts_at verdict entry _ _ h.1 e);
 }
 
-pub unreached_head_keeps_stored : UnreachedHeadKeepsStored
+-- When its highest head is popped, it stays where it doesn't reach that head.
+pub unreached_head_keeps_stored :
+    (nodes : List Node) (verdict : Verdict) (below : List Entry) (top : Entry) (path a : ℕ) (heads rebased : Heads)
+    (highest : ℕ)
+    → Unreached nodes verdict (below ++ top ∷ []) a top.node → IncludesBelow (length below) heads rebased
+    → highest < length below → HeadsWithin rebased highest
+    → Stored nodes verdict (below ++ top ∷ []) (length below) path a heads
+    → Stored nodes verdict below highest (max path (path_kind below top.step highest)) a rebased
 unreached_head_keeps_stored nodes verdict below top path a heads rebased highest unreached includes on_stack within s =
     stored_below nodes verdict below top path a rebased highest on_stack within
     (with_heads_below nodes verdict below (path_kind (below ++ top ∷ []) path) (λ depth. max path (path_kind below top.step depth)) a heads rebased includes

@@ -1,8 +1,8 @@
 -- The rule of rebasing leaves only what stays true.
 use Rattle.std.proofs.Common.{◌≡◌, ◌≢◌, ℕ, max, List, Some, None, length, Bool, arith, refl, sym, ◌∙◌, ◌⊎◌, inl, inr}
 use native.Mathlib.Decide.{ℕ_discrete}
-use Rattle.open_graphs.specs.Words.{Verdict, Yes, No, Neither, cycle_kind, Entry, Head, Heads, IncludesBelow, Kept, stack_of, IsMoved, IsFixpoint, IsOther, Lower, Unused, Fixpoint, Other, Reason, NoCycleUsages, Ambiguity, Overflow, ReachedFixpoint, IsInitial, Inductive, Unknown, Coinductive, ForcedAmbiguity, IsTrueReason, HasResult, IsSingle, IsTakenOut, Stays, NotNeeded, Needed, IsRebasable, RebasedIsAfterPop, RebasedKeepsStored, IsLeftByRule, Rebased, Own, RebasedKeepsSound, IsLeft, Survives, Added}
-use Rattle.open_graphs.proofs.States.{verdict_cases, fixpoint_keeps_stored, pop_keeps_sound}
+use Rattle.open_graphs.specs.Words.{Verdict, Yes, No, Neither, cycle_kind, Entry, Head, Heads, IncludesBelow, Kept, IsMoved, IsFixpoint, IsOther, Lower, Unused, Fixpoint, Other, Reason, NoCycleUsages, Ambiguity, Overflow, ReachedFixpoint, IsInitial, Inductive, Unknown, Coinductive, ForcedAmbiguity, IsTrueReason, HasResult, IsSingle, IsTakenOut, Stays, NotNeeded, Needed, IsRebasable, RebasedIsAfterPop, RebasedKeepsStored}
+use Rattle.open_graphs.proofs.States.{verdict_cases, fixpoint_keeps_stored}
 
 moved : (reason : Reason) (below : List Entry) (top : Entry) (own others : ℕ → Bool) (verdict : Verdict) (top_heads : Heads) (k after : Kept) → IsRebasable reason below top own others verdict top_heads k → IsTakenOut below top own others k after → IncludesBelow (length below) k.heads after.heads → after.verdict ≡ k.verdict → IsMoved below top k after
 moved reason below top own others verdict top_heads k after now out includes same = record {
@@ -88,13 +88,3 @@ rebased_is_after_pop reason below top own others verdict top_heads k after now d
 pub rebased_keeps_stored : RebasedKeepsStored
 rebased_keeps_stored nodes reason below top own others verdict top_heads k after u now definite r s =
     fixpoint_keeps_stored nodes below top verdict top_heads k after (λ d fix. u d) (rebased_is_after_pop reason below top own others verdict top_heads k after now definite r) s
-
-is_left : (reason : Reason) (below : List Entry) (top : Entry) (others : ℕ → Bool) (verdict : Verdict) (a : ℕ) (heads : Heads) (provisional : List Kept) {k : Kept} → IsLeftByRule reason below top others verdict a heads provisional k → IsLeft below top verdict a heads provisional k
-is_left reason below top others verdict a heads provisional {k} (Rebased {old = old} i own at now definite r) =
-    Survives i at (rebased_is_after_pop reason below top own others verdict heads old k now definite r)
-is_left reason below top others verdict a heads provisional (Own highest definite lower within) = Added highest definite lower within
-
-pub rebased_keeps_sound : RebasedKeepsSound
-rebased_keeps_sound nodes f frames provisional left final done verdict later a reason others answer provisional_left final_left s =
-    pop_keeps_sound nodes f frames provisional left final done verdict later a answer
-    (λ i k at. is_left reason (stack_of frames) f.entry others verdict a f.heads provisional (provisional_left i k at)) final_left s

@@ -1,6 +1,6 @@
 -- Runs of a goal on the stack.
 use Rattle.std.proofs.Common.{◌≡◌, ◌≢◌, ℕ, ◌<◌, List, [], ◌∷◌, ◌++◌, Some, None, length, slice_get, arith, refl, ap, sym, subst, ◌∙◌, inl, inr, length-append, false}
-use Rattle.open_graphs.specs.Words.{Verdict, Neither, Edge, Node, Unfinished, Finished, Grown, Entry, IsLeaf, path_kind, Heads, Use, Running, IsStack, Answered, Again, Anew, Without, FirstRunStarts, GrowthKeepsRunning, AnswersKeepRunning, RunGivesUse, NextRunStarts, RootIsGraph, ClosedGivesUse}
+use Rattle.open_graphs.specs.Words.{Verdict, Neither, Edge, Node, Unfinished, Finished, Grown, Entry, IsLeaf, path_kind, Heads, Use, Running, IsStack, Answered, Again, Anew, Without, AllAnswered, Includes, IsGraph, UsesNo}
 use Rattle.open_graphs.proofs.Lists.{get_left, get_end, get_cases}
 use Rattle.open_graphs.proofs.Keep.{append_grows, finish_grows, growth_keeps_use, heads_keep_use}
 use Rattle.open_graphs.proofs.Finish.{finish_gives_use}
@@ -35,7 +35,12 @@ pop_is_stack nodes below top s = record {
 pub not_leaf : (nodes : List Node) (stack : List Entry) → IsStack nodes stack → ¬ IsLeaf stack (length nodes)
 not_leaf nodes stack s l = let h = s.in_list l.0 l.1 l.2 in let e = l.3 in absurd (omega arith)
 
-pub first_run_starts : FirstRunStarts
+-- A new entry gets a new node and begins its first run.
+pub first_run_starts :
+    (nodes : List Node) (stack : List Entry) (step : ℕ) (heads : Heads)
+    → IsStack nodes stack
+    → Running (nodes ++ Unfinished ∷ []) stack (record { step = step; provisional = None; node = length nodes }) (length nodes) (λ verdict. []) heads heads
+    × IsStack (nodes ++ Unfinished ∷ []) (stack ++ record { step = step; provisional = None; node = length nodes } ∷ [])
 first_run_starts nodes stack step heads s = (
   record {
     unfinished = get_end nodes Unfinished;
@@ -48,7 +53,12 @@ first_run_starts nodes stack step heads s = (
   push_is_stack nodes stack (record { step = step; provisional = None; node = length nodes }) s (omega (arith, length-append nodes (Unfinished ∷ []))) (not_leaf nodes stack s),
 )
 
-pub growth_keeps_running : GrowthKeepsRunning
+-- A run goes on while other nodes are appended and finished.
+pub growth_keeps_running :
+    (before after : List Node) (below : List Entry) (top : Entry) (own : ℕ) (edges : Verdict → List Edge)
+    (kept heads : Heads)
+    → Grown before after → slice_get after own ≡ Some Unfinished → Running before below top own edges kept heads
+    → Running after below top own edges kept heads
 growth_keeps_running before after below top own edges kept heads grown unfinished r = record {
   unfinished = unfinished;
   lower = r.lower;
@@ -59,7 +69,13 @@ growth_keeps_running before after below top own edges kept heads grown unfinishe
       record { answer = h.answer; used = growth_keeps_use before after verdict (below ++ top ∷ []) (path_kind (below ++ top ∷ []) edge.kind) edge.kind edge.target h.answer grown h.used; among = h.among };
 }
 
-pub answers_keep_running : AnswersKeepRunning
+-- It goes on with other answers, if each is among the heads.
+pub answers_keep_running :
+    (nodes : List Node) (below : List Entry) (top : Entry) (own : ℕ) (edges more : Verdict → List Edge)
+    (kept heads other : Heads)
+    → Includes kept other
+    → ((verdict : Verdict) → AllAnswered nodes verdict below top (more verdict) other) → Running nodes below top own edges kept heads
+    → Running nodes below top own more kept other
 answers_keep_running nodes below top own edges more kept heads other still answered r = record {
   unfinished = r.unfinished;
   lower = r.lower;
@@ -83,11 +99,22 @@ answered_use nodes below top own edges kept heads verdict definite (Anew ne) r =
     (r.answered verdict)
 answered_use nodes below top own edges kept heads verdict definite (Without e) r = absurd (definite e)
 
-pub run_gives_use : RunGivesUse
+-- A run that ended with a verdict gives a node that may be used below, with the heads of all runs.
+pub run_gives_use :
+    (nodes : List Node) (below : List Entry) (top : Entry) (own : ℕ) (edges : Verdict → List Edge)
+    (kept heads : Heads) (verdict : Verdict) (later : List Node) (a : ℕ)
+    → verdict ≢ Neither → Answered nodes top own edges verdict later a → Running nodes below top own edges kept heads
+    → Grown nodes later × Use later verdict below (path_kind below top.step) 0 a heads
 run_gives_use nodes below top own edges kept heads verdict later a definite answer r =
     (answered_grows nodes top own edges verdict r.unfinished answer, answered_use nodes below top own edges kept heads verdict definite answer r)
 
-pub next_run_starts : NextRunStarts
+-- The goal is then run again under this result, with a new node and no answers.
+pub next_run_starts :
+    (nodes : List Node) (below : List Entry) (top : Entry) (verdict : Verdict) (a : ℕ) (heads : Heads)
+    → IsStack nodes (below ++ top ∷ []) → a < length nodes → ¬ IsLeaf below a
+    → (verdict ≢ Neither → Use nodes verdict below (path_kind below top.step) 0 a heads)
+    → Running (nodes ++ Unfinished ∷ []) below (record { step = top.step; provisional = Some verdict; node = a }) (length nodes) (λ verdict. []) heads heads
+    × IsStack (nodes ++ Unfinished ∷ []) (below ++ record { step = top.step; provisional = Some verdict; node = a } ∷ [])
 next_run_starts nodes below top verdict a heads s bound lower u =
     let under : IsStack nodes below = pop_is_stack nodes below top s in (
       record {
@@ -103,13 +130,21 @@ next_run_starts nodes below top verdict a heads s bound lower u =
       push_is_stack nodes below (record { step = top.step; provisional = Some verdict; node = a }) under (omega (arith, length-append nodes (Unfinished ∷ []))) lower,
     )
 
-pub closed_gives_use : ClosedGivesUse
+-- A use without heads may be used under any stack entries' path kinds and with any heads.
+pub closed_gives_use :
+    (nodes : List Node) (verdict : Verdict) (stack : List Entry) (from_head other : ℕ → ℕ) (front step a : ℕ)
+    (heads any : Heads)
+    → ((depth : ℕ) → UsesNo heads depth) → Use nodes verdict stack from_head front a heads
+    → Use nodes verdict stack other step a any
 closed_gives_use nodes verdict stack from_head other front step a heads any none u = record {
   settled = u.settled;
   covered = λ depth entry q on at p. absurd (none depth _ _ (u.covered depth entry q on at p).0);
 }
 
-pub root_is_graph : RootIsGraph
+-- Under an empty stack a use is a graph.
+pub root_is_graph :
+    (nodes : List Node) (verdict : Verdict) (from_head : ℕ → ℕ) (front a : ℕ) (heads : Heads)
+    → Use nodes verdict [] from_head front a heads → IsGraph nodes verdict a
 root_is_graph nodes verdict from_head front a heads u =
     let empty : Heads = λ depth. record { paths = λ q. false; usages = λ c. 0 } in
     closed_is_graph nodes verdict [] from_head front a empty (λ depth p c h. h.1 refl)

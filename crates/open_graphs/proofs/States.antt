@@ -1,6 +1,6 @@
 -- Each move keeps a sound state sound.
 use Rattle.std.proofs.Common.{◌≡◌, ◌≢◌, ℕ, ◌<◌, ◌≤◌, max, List, [], ◌∷◌, ◌++◌, Some, None, length, slice_get, slice_set, arith, refl, sym, subst, ◌∙◌, ◌⊎◌, inl, inr, length-set}
-use Rattle.open_graphs.specs.Words.{Verdict, Yes, No, Neither, cycle_kind, Edge, Node, Unfinished, Finished, Grown, Entry, IsLeaf, path_kind, IsSameOrFresh, Heads, Use, Unreached, Stored, UsesNo, KeepsCycleKinds, TakesOver, Running, IsStack, Answered, Again, Anew, Without, Frame, Kept, Final, stack_of, no_heads, AllRunning, OwnsOther, AllStored, AllFinal, IsMoved, IsFixpoint, Lower, Unused, Fixpoint, Other, FixpointKeepsStored, PushKeepsSound, AnswersKeepSound, IsLeft, Survives, Added, IsDone, Before, Now, PopKeepsSound, RerunKeepsSound, StartIsSound, FinalIsGraph}
+use Rattle.open_graphs.specs.Words.{Verdict, Yes, No, Neither, cycle_kind, Edge, Node, Unfinished, Finished, Grown, Entry, IsLeaf, path_kind, IsSameOrFresh, Heads, Use, Unreached, Stored, UsesNo, KeepsCycleKinds, TakesOver, Running, IsStack, Answered, Again, Anew, Without, Frame, Kept, Final, stack_of, no_heads, AllRunning, OwnsOther, AllStored, AllFinal, IsMoved, IsFixpoint, Lower, Unused, Fixpoint, Other, PushKeepsSound, AnswersKeepSound, IsLeft, Survives, Added, IsDone, Before, Now, PopKeepsSound, RerunKeepsSound, StartIsSound, FinalIsGraph, AfterPop}
 use Rattle.open_graphs.proofs.Lists.{get_left, get_end, get_below, get_set_other}
 use Rattle.open_graphs.proofs.Keep.{append_grows, growth_keeps_use, push_keeps_use, pop_keeps_use, rerun_keeps_use, unused_is_unreached, other_is_unreached}
 use Rattle.open_graphs.proofs.Store.{use_gives_stored, growth_keeps_stored, push_keeps_stored, pop_keeps_stored, rerun_keeps_stored}
@@ -48,7 +48,15 @@ moved_rebased nodes below top verdict top_heads k after u m e keeps takes s =
     (subst (λ v. Use nodes v below (path_kind below top.step) 0 top.node top_heads) (sym e) u) keeps m.heads takes m.on_stack m.within
     (subst (λ h. Stored nodes k.verdict (below ++ top ∷ []) h k.path k.node k.heads) m.was s))
 
-pub fixpoint_keeps_stored : FixpointKeepsStored
+-- What is stored under a popped head may be stored without it, where `AfterPop` leaves it. Where the head reached its fixpoint
+-- with a verdict, its own answer may be used below.
+pub fixpoint_keeps_stored :
+    (nodes : List Node) (below : List Entry) (top : Entry) (verdict : Verdict) (top_heads : Heads) (k after : Kept)
+    → (verdict ≢ Neither → IsFixpoint verdict top (length below) k.heads
+    → Use nodes verdict below (path_kind below top.step) 0 top.node top_heads)
+    → AfterPop below top verdict top_heads k after
+    → Stored nodes k.verdict (below ++ top ∷ []) k.highest k.path k.node k.heads
+    → Stored nodes after.verdict below after.highest after.path after.node after.heads
 fixpoint_keeps_stored nodes below top verdict top_heads k after u (Lower lower) s = pop_keeps_stored nodes k.verdict below top k.highest k.path k.node k.heads lower s
 fixpoint_keeps_stored nodes below top verdict top_heads k after u (Unused m unused) s =
     moved_unreached nodes below top k after m (unused_is_unreached nodes k.verdict below top _ 0 k.node k.heads unused s.use_there) s

@@ -1,12 +1,10 @@
 -- The rule by which the provisional answers are rebased when the newest entry is popped, and that each answer with a verdict
 -- that it leaves is one of `AfterPop`. A path of no step is none of the paths here.
-use Rattle.std.specs.Prelude.{◌≡◌, ◌≢◌, ℕ, max, ◌≤◌, ◌<◌, List, [], ◌∷◌, ◌++◌, Option, Some, None, slice_get, length, ◌⊎◌, Bool, IsTrue}
+use Rattle.std.specs.Prelude.{◌≡◌, ◌≢◌, ℕ, max, ◌≤◌, ◌<◌, List, [], ◌∷◌, ◌++◌, Option, Some, None, length, ◌⊎◌, Bool, IsTrue}
 use Rattle.open_graphs.specs.Graph.{Verdict, Yes, No, Neither, Node}
 use Rattle.open_graphs.specs.Stack.{Entry, path_kind}
-use Rattle.open_graphs.specs.Use.{Head, Heads, Use, HeadsWithin, Stored}
-use Rattle.open_graphs.specs.Run.{Answered}
-use Rattle.open_graphs.specs.State.{Frame, Kept, Final, stack_of, IsSound, AfterPop}
-use Rattle.open_graphs.specs.StateLaws.{IsDone}
+use Rattle.open_graphs.specs.Use.{Head, Heads, Use, Stored}
+use Rattle.open_graphs.specs.State.{Kept, AfterPop}
 
 -- why the popped goal is done; at a fixpoint of its first run with the kind whose initial result it reached
 pub data Reason : Type 0 where
@@ -142,28 +140,3 @@ RebasedKeepsStored =
     → RebasedBy reason below top own others top_heads k after
     → Stored nodes k.verdict (below ++ top ∷ []) k.highest k.path k.node k.heads
     → Stored nodes after.verdict below after.highest after.path after.node after.heads
-
--- The provisional answers with a verdict after the rule: those that it leaves, and perhaps the popped goal's own answer.
-pub data IsLeftByRule (reason : Reason) (below : List Entry) (top : Entry) (others : ℕ → Bool) (verdict : Verdict) (a : ℕ) (heads : Heads) (provisional : List Kept) :
-    Kept → Type 0 where
-  Rebased :
-      {old k : Kept} (i : ℕ) (own : ℕ → Bool)
-      → slice_get provisional i ≡ Some old → IsRebasable reason below top own others verdict heads old
-      → k.verdict ≢ Neither → RebasedBy reason below top own others heads old k
-      → IsLeftByRule reason below top others verdict a heads provisional k
-  Own :
-      (highest : ℕ)
-      → verdict ≢ Neither → highest < length below → HeadsWithin heads highest
-      → IsLeftByRule reason below top others verdict a heads provisional (record { verdict = verdict; highest = highest; path = path_kind below top.step highest; node = a; heads = heads })
-
--- A sound state stays sound when the newest goal is done and the rule is applied.
-abbrev pub RebasedKeepsSound : Type 0
-RebasedKeepsSound =
-    (nodes : List Node) (f : Frame) (frames : List Frame) (provisional left : List Kept) (final done : List Final)
-    (verdict : Verdict) (later : List Node) (a : ℕ) (reason : Reason) (others : ℕ → Bool)
-    → Answered nodes f.entry f.own f.edges verdict later a
-    → ((i : ℕ) (k : Kept) → slice_get left i ≡ Some k → IsLeftByRule reason (stack_of frames) f.entry others verdict a f.heads provisional k)
-    → ((i : ℕ) (x : Final) → slice_get done i ≡ Some x → IsDone verdict a f.heads final x)
-    → IsSound nodes (f ∷ frames) provisional final
-    → IsSound later frames left done
-    × (verdict ≢ Neither → Use later verdict (stack_of frames) (path_kind (stack_of frames) f.entry.step) 0 a f.heads)

@@ -2,20 +2,9 @@
 use Rattle.std.specs.Prelude.{◌≡◌, ◌≢◌, ℕ, ◌<◌, List, [], ◌∷◌, ◌++◌, Some, slice_get, length}
 use Rattle.open_graphs.specs.Graph.{Verdict, Neither, Edge, Node, Unfinished, IsGraph}
 use Rattle.open_graphs.specs.Stack.{Entry, path_kind}
-use Rattle.open_graphs.specs.Use.{Heads, Use, HeadsWithin, Stored, Includes, UsesNo}
+use Rattle.open_graphs.specs.Use.{Heads, Use, HeadsWithin, Includes, UsesNo}
 use Rattle.open_graphs.specs.Run.{AllAnswered, Answered}
-use Rattle.open_graphs.specs.State.{Frame, Kept, Final, first_frame, next_frame, answering, stack_of, IsSound, AfterPop, IsFixpoint}
-
--- What is stored under a popped head may be stored without it, where `AfterPop` leaves it. Where the head reached its fixpoint
--- with a verdict, its own answer may be used below.
-abbrev pub FixpointKeepsStored : Type 0
-FixpointKeepsStored =
-    (nodes : List Node) (below : List Entry) (top : Entry) (verdict : Verdict) (top_heads : Heads) (k after : Kept)
-    → (verdict ≢ Neither → IsFixpoint verdict top (length below) k.heads
-    → Use nodes verdict below (path_kind below top.step) 0 top.node top_heads)
-    → AfterPop below top verdict top_heads k after
-    → Stored nodes k.verdict (below ++ top ∷ []) k.highest k.path k.node k.heads
-    → Stored nodes after.verdict below after.highest after.path after.node after.heads
+use Rattle.open_graphs.specs.State.{Frame, Kept, Final, first_frame, next_frame, answering, stack_of, IsSound, AfterPop}
 
 -- A goal is pushed and begins its first run.
 abbrev pub PushKeepsSound : Type 0

@@ -15,22 +15,22 @@
 //!   its leaf, and how often a cycle of each kind was answered by it.
 //! - An answer with an open graph may be *used* over a stack where the recorded heads cover each path to a
 //!   leaf, and each of these heads answered cycles of that kind with the answer's own verdict.
-//! - A *provisional entry* is an answer with heads, for when its goal is asked again: it has its highest head and
-//!   the path kind from there, and may be used where that path kind is the same.
-//! - The runs of a goal that is rerun change its provisional result. The node of its answer is that of
+//! - An answer is *stored*, as a provisional one, with its highest head and the path kind from there.
+//! - The runs of a goal that is run again change its provisional result. The node of its answer is that of
 //!   the first run of its last unbroken stretch of runs with the answer's verdict, and not that of its last
 //!   run, whose cycles may lead to the earlier node.
 //!
 //! | File of `specs/` | Has |
 //! |---|---|
-//! | `Graph`, `GraphLaws` | nodes, edges, walks and paths, the growing list, graphs |
+//! | `Graph` | nodes, edges, walks and paths, the growing list, graphs |
 //! | `Stack` | entries, leaves, path kinds from an entry, and the verdict that its cycles get |
-//! | `Use`, `UseLaws` | heads; answers that may be used, how they come about and what they outlast |
-//! | `Use`, `TakeOver`, `StoredLaws` | provisional entries, and what they outlast |
-//! | `Run`, `RunLaws` | a run of a goal, and what holds between its steps |
+//! | `Use`, `TakeOver` | heads; answers that may be used, and provisional entries |
+//! | `Run` | a run of a goal, and what holds between its steps |
 //! | `State`, `StateLaws`, `AnswerLaws` | the whole state, and that each move of an evaluation keeps it sound |
 //! | `Rebased` | the rule by which provisional entries outlive their highest head |
-//! | `Held`, `Tally` | what the recorded heads and the counts of usages still cover |
+//!
+//! How answers come about and what they outlast is said by the lemmas of `proofs/`: `Answers`, `Finish`,
+//! `Keep` and `Closed` for answers that may be used, `Store` and `Rebase` for provisional entries, `Runs` for runs.
 //!
 //! A driver carries `State.IsSound` along, one theorem of `state` for each of its moves, and takes the graph
 //! of an answer from `state::final_is_graph`. Beside it a driver has to show what this theory does not
@@ -39,15 +39,10 @@
 //!
 //! Of a count of usages the theory asks only whether it is zero. A path of no step is not among the paths of
 //! a head, so the rule of rebasing may add more paths than `Rebased` asks for. Answers that are neither yes
-//! nor no are not in the state. Which provisional entries the rule drops is not said here.
+//! nor no are not in the state. Which stored answers the rule drops is not said here.
 //!
-//! `proofs/CycleExample`, `RerunExample` and `SparedExample` put the definitions to use on small searches.
+//! `proofs/RerunExample` puts the definitions to use on a small search.
 #![tactic(auto)]
 
-pub mod answer;
-pub mod graph;
 pub mod rebasing;
-pub mod run;
 pub mod state;
-pub mod stored;
-pub mod usages;
