@@ -1,8 +1,8 @@
 -- How many frames an evaluation starts.
-use Rattle.std.proofs.Common.{◌≡◌, ℕ, zero, suc, ◌+◌, ◌-◌, ◌*◌, ◌<◌, ◌≤◌, ◌∷◌, refl, arith}
+use Rattle.std.proofs.Common.{◌≡◌, ℕ, zero, suc, ◌+◌, ◌-◌, ◌*◌, ◌<◌, ◌≤◌, ◌∷◌, refl, arith, List, []}
 use Rattle.std.proofs.Math.Nat.{mul-le-mul_right, mul-le-mul_left}
 use Rattle.evaluations.specs.Below.{frames_within}
-use Rattle.evaluations.specs.Words.{fresh, stepped, run_again, frames_below, frames_ahead, steps_in_runs, StepSpends, QuestionSpends, RerunSpends, PopSpends, FirstStaysWithin, MoveStaysWithin, StartsAreWithin, DeeperStartsMore}
+use Rattle.evaluations.specs.Words.{fresh, stepped, run_again, frames_below, frames_ahead, steps_in_runs, Frame, Spends, StaysWithin}
 
 -- one more in front of a product leaves one factor free
 one_free : (x y a : ℕ) → x + 1 ≤ y → x * a + a ≤ y * a
@@ -13,7 +13,9 @@ unfolding frames_within
 within_is runs width zero = omega arith
 within_is runs width (suc depth) = refl
 
-pub deeper_starts_more : DeeperStartsMore
+-- A deeper goal may start more frames.
+pub deeper_starts_more :
+    (runs width depth deeper : ℕ) → 1 ≤ runs → depth ≤ deeper → frames_within runs width depth ≤ frames_within runs width deeper
 unfolding frames_within
 deeper_starts_more runs width zero zero some h = omega arith
 deeper_starts_more runs width zero (suc deeper) some h =
@@ -46,7 +48,10 @@ steps_fall_with width ahead less steps fewer h k =
     let l : (width + 1) * less ≤ (width + 1) * ahead = mul-le-mul_left (width + 1) h in omega (arith, l)
 
 module _ (I R : Type 0) where
-  pub step_spends : StepSpends I R
+  -- A request that isn't a question, or a question that is answered at once, starts no frame.
+  pub step_spends :
+      (runs width : ℕ) (f : Frame I R) (below : List (Frame I R)) (left : ℕ)
+      → left < f.left → Spends runs width 0 (f ∷ below) (stepped f left ∷ below)
   step_spends runs width f below left less =
       let k : left * frames_below runs width f.available ≤ f.left * frames_below runs width f.available = mul-le-mul_right (frames_below runs width f.available) (omega arith) in
       let l : frames_ahead runs width (stepped f left ∷ below) ≤ frames_ahead runs width (f ∷ below) = omega (arith, k) in
@@ -55,7 +60,11 @@ module _ (I R : Type 0) where
         steps = steps_fall_with width (frames_ahead runs width (f ∷ below)) (frames_ahead runs width (stepped f left ∷ below)) (steps_in_runs runs width (f ∷ below)) (steps_in_runs runs width (stepped f left ∷ below)) l (omega arith);
       }
 
-  pub question_spends : QuestionSpends I R
+  -- A question that is pushed starts one frame.
+  pub question_spends :
+      (runs width : ℕ) (f : Frame I R) (below : List (Frame I R)) (goal : I) (depth left first : ℕ)
+      → 1 ≤ runs → depth < f.available → left < f.left → first ≤ width
+      → Spends runs width 1 (f ∷ below) (fresh goal depth first ∷ stepped f left ∷ below)
   question_spends runs width f below goal depth left first some deep less fits =
       let k : left * frames_below runs width f.available + frames_below runs width f.available ≤ f.left * frames_below runs width f.available = one_free left f.left (frames_below runs width f.available) (omega arith) in
       let q = question_within runs width depth f.available some deep in
@@ -66,7 +75,11 @@ module _ (I R : Type 0) where
         steps = steps_fall width (frames_ahead runs width (f ∷ below)) (frames_ahead runs width (fresh goal depth first ∷ stepped f left ∷ below)) (steps_in_runs runs width (f ∷ below)) (steps_in_runs runs width (fresh goal depth first ∷ stepped f left ∷ below)) l (omega arith);
       }
 
-  pub rerun_spends : RerunSpends I R
+  -- A further run starts one frame.
+  pub rerun_spends :
+      (runs width : ℕ) (f : Frame I R) (below : List (Frame I R)) (left first : ℕ)
+      → f.finished_runs + 1 < runs → left < f.left → first ≤ width
+      → Spends runs width 1 (f ∷ below) (run_again (stepped f left) first ∷ below)
   rerun_spends runs width f below left first again less fits =
       let k : first * frames_below runs width f.available ≤ width * frames_below runs width f.available = mul-le-mul_right (frames_below runs width f.available) fits in
       let m = one_free (runs - (suc f.finished_runs + 1)) (runs - (f.finished_runs + 1)) (1 + width * frames_below runs width f.available) (omega arith) in
@@ -76,19 +89,33 @@ module _ (I R : Type 0) where
         steps = steps_fall width (frames_ahead runs width (f ∷ below)) (frames_ahead runs width (run_again (stepped f left) first ∷ below)) (steps_in_runs runs width (f ∷ below)) (steps_in_runs runs width (run_again (stepped f left) first ∷ below)) l (omega arith);
       }
 
-  pub pop_spends : PopSpends I R
+  -- A pop starts none.
+  pub pop_spends :
+      (runs width : ℕ) (f : Frame I R) (below : List (Frame I R)) (left : ℕ)
+      → left < f.left → Spends runs width 0 (f ∷ below) below
   pop_spends runs width f below left less = record {
     frames = omega arith;
     steps = steps_fall_with width (frames_ahead runs width (f ∷ below)) (frames_ahead runs width below) (steps_in_runs runs width (f ∷ below)) (steps_in_runs runs width below) (omega arith) (omega arith);
   }
 
-  pub first_stays_within : FirstStaysWithin I R
+  -- An evaluation begins within its bound.
+  pub first_stays_within :
+      (runs width starts now : ℕ) (goal : I) (depth first : ℕ)
+      → 1 ≤ runs → first ≤ width → now ≤ starts + 1
+      → StaysWithin {I = I} {R = R} runs width (starts + frames_within runs width depth) now (fresh goal depth first ∷ [])
   first_stays_within runs width starts now goal depth first some fits one =
       let a = first_within runs width depth first some fits in omega (arith, a)
 
-  pub move_stays_within : MoveStaysWithin I R
+  -- A move that takes its starts from those ahead stays within the bound.
+  pub move_stays_within :
+      (runs width bound starts now started : ℕ) (old new : List (Frame I R))
+      → Spends runs width started old new → now ≤ starts + started
+      → StaysWithin runs width bound starts old → StaysWithin runs width bound now new
   move_stays_within runs width bound starts now started old new spends counts within =
       let l : started + frames_ahead runs width new ≤ frames_ahead runs width old = spends.frames in omega arith
 
-  pub starts_are_within : StartsAreWithin I R
+  -- So no more frames were started than the bound.
+  pub starts_are_within :
+      (runs width bound starts : ℕ) (frames : List (Frame I R))
+      → StaysWithin runs width bound starts frames → starts ≤ bound
   starts_are_within runs width bound starts frames within = omega arith

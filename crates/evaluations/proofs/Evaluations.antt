@@ -1,11 +1,11 @@
 -- An evaluation as a whole goes on by every move.
 use Rattle.std.proofs.Common.{◌≡◌, ◌≢◌, ℕ, ◌+◌, ◌<◌, ◌≤◌, Bool, true, false, List, [], ◌∷◌, None, refl, sym, ◌∙◌, subst, arith}
 use Rattle.evaluations.specs.Below.{Request, Reply, Begin, frames_within, IsPlainTo, fault_after}
-use Rattle.evaluations.specs.Words.{Frame, Outcome, fresh, stepped, replied, answered, refused, released, run_again, Asks, IsAllowed, IsSafeOutcome, Leaves, Spends, IsPriced, State, at, Limits, IsStarted, Move, Pushed, Ignored, Answered, Refused, RunAgain, Popped, PoppedAtLimit, Moves, NoMove, MoreMoves, IsRooted, IsEvaluating, GoesOn, Ends, Stops}
+use Rattle.evaluations.specs.Words.{Frame, Outcome, fresh, stepped, replied, answered, refused, run_again, Asks, IsAllowed, IsSafeOutcome, Leaves, Spends, IsPriced, State, at, Limits, IsStarted, Move, Pushed, Answered, Refused, RunAgain, Popped, PoppedAtLimit, IsRooted, IsEvaluating, GoesOn, Ends, Stops}
 use Rattle.evaluations.specs.Evaluation.{Noted}
-use Rattle.evaluations.proofs.Plains.{push_keeps_safe, step_keeps_safe, reply_keeps_safe, answer_keeps_safe, refusal_keeps_safe, release_keeps_safe, rerun_keeps_safe, pop_keeps_safe, left_is_safe, fitting_is_plain, push_keeps_room, room_is_enough}
+use Rattle.evaluations.proofs.Plains.{push_keeps_safe, step_keeps_safe, reply_keeps_safe, answer_keeps_safe, refusal_keeps_safe, rerun_keeps_safe, pop_keeps_safe, left_is_safe, fitting_is_plain, push_keeps_room, room_is_enough}
 use Rattle.evaluations.proofs.Counts.{step_spends, question_spends, rerun_spends, pop_spends, first_stays_within, move_stays_within, starts_are_within}
-use Rattle.evaluations.proofs.Prices.{first_is_priced, push_keeps_priced, step_keeps_priced, reply_keeps_priced, answer_keeps_priced, release_keeps_priced, rerun_keeps_priced, pop_keeps_priced, later_keeps_priced, refusal_is_paid, last_run_is_paid}
+use Rattle.evaluations.proofs.Prices.{first_is_priced, push_keeps_priced, step_keeps_priced, reply_keeps_priced, answer_keeps_priced, rerun_keeps_priced, pop_keeps_priced, later_keeps_priced, refusal_is_paid, last_run_is_paid}
 
 module _ {I R : Type 0} (scripts : I → List (Reply R) → Request I R) (limits : Limits) (is_counted : Type 0) (top : I) where
   rooted_with : (f g : Frame I R) (below : List (Frame I R)) → g.goal ≡ f.goal → g.available ≡ f.available → IsRooted top limits.root (f ∷ below) → IsRooted top limits.root (g ∷ below)
@@ -55,20 +55,6 @@ module _ {I R : Type 0} (scripts : I → List (Reply R) → Request I R) (limits
             within = move_stays_within I R limits.runs limits.width bound starts starts 0 (f ∷ below) (stepped f left ∷ below) spent (omega arith) h.within;
             priced = λ c. reply_keeps_priced I R limits.runs limits.root limits.last limits.before starts met (stepped f left) below reply
                 (step_keeps_priced I R limits.runs limits.root limits.last limits.before starts met f below left (h.priced c));
-          };
-          falls = spent.steps;
-        }
-    move_goes_on old new (Ignored {f = f} {below = below} {left = left} {starts = starts} {met = met} {reply = reply} less fits) h =
-        let spent = step_spends I R limits.runs limits.width f below left less in
-        record {
-          evaluating = record {
-            rooted = rooted_with f (released (replied (stepped f left) reply)) below refl refl h.rooted;
-            safe = release_keeps_safe scripts (replied (stepped f left) reply) below (reply_keeps_safe scripts (stepped f left) below reply fits (step_keeps_safe scripts f below left h.safe));
-            room = h.room;
-            within = move_stays_within I R limits.runs limits.width bound starts starts 0 (f ∷ below) (stepped f left ∷ below) spent (omega arith) h.within;
-            priced = λ c. release_keeps_priced I R limits.runs limits.root limits.last limits.before starts met (replied (stepped f left) reply) below
-                (reply_keeps_priced I R limits.runs limits.root limits.last limits.before starts met (stepped f left) below reply
-                (step_keeps_priced I R limits.runs limits.root limits.last limits.before starts met f below left (h.priced c)));
           };
           falls = spent.steps;
         }
@@ -164,16 +150,6 @@ module _ {I R : Type 0} (scripts : I → List (Reply R) → Request I R) (limits
     within = starts_are_within I R limits.runs limits.width bound now new (move_stays_within I R limits.runs limits.width bound s.starts now 1 s.frames new spends one h.within);
     paid = λ c e. (later_keeps_priced I R limits.runs limits.root limits.last limits.before s.starts now s.limits_met s.frames more (h.priced c)).paid e;
   }
-
-  pub moves_go_on : (bound : ℕ) → 1 ≤ limits.runs → (old new : State I R) → Moves scripts limits is_counted old new → IsEvaluating scripts limits is_counted top bound old → IsEvaluating scripts limits is_counted top bound new
-  moves_go_on bound some old new NoMove h = h
-  moves_go_on bound some old new (MoreMoves {t = t} moves move) h = (move_goes_on bound some t new move (moves_go_on bound some old t moves h)).evaluating
-
-  pub evaluation_ends : (first now starts : ℕ) (was met : Bool) (f : Frame I R) (o : Outcome R) → 1 ≤ limits.runs → first ≤ limits.width → IsStarted limits.last is_counted limits.before now → (is_counted → was ≡ false) → Moves scripts limits is_counted (at (replied (fresh top limits.root first) Begin ∷ []) now was) (at (f ∷ []) starts met) → Leaves scripts f o → Ends scripts limits is_counted top (limits.before + frames_within limits.runs limits.width limits.root) starts met o
-  evaluation_ends first now starts was met f o some fits started unmet moves leaves =
-      last_frame_ends (limits.before + frames_within limits.runs limits.width limits.root) starts met f o leaves
-      (moves_go_on (limits.before + frames_within limits.runs limits.width limits.root) some (at (replied (fresh top limits.root first) Begin ∷ []) now was) (at (f ∷ []) starts met) moves
-      (root_is_evaluating first now was some fits started unmet))
 
   pub fitting_meets_no_limit : (bound n : ℕ) (f : Frame I R) (below : List (Frame I R)) (starts : ℕ) (met : Bool) → IsPlainTo scripts n top → n ≤ limits.root → IsEvaluating scripts limits is_counted top bound (at (f ∷ below) starts met) → ((goal : I) → Asks scripts f goal → 0 < f.available) × (f.in_cycle ≡ false) × (f.met_overflow ≡ false) × (fault_after (scripts f.goal) f.replies ≡ None)
   fitting_meets_no_limit bound n f below starts met p fits h =

@@ -1,7 +1,7 @@
 -- A driver's items mirror the frames from move to move.
 use Rattle.std.proofs.Common.{◌≡◌, ℕ, ◌+◌, ◌*◌, ◌<◌, ◌≤◌, Bool, true, false, inl, inr, List, [], ◌∷◌, map, Some, refl, sym, ◌∙◌, ap, ap₂, subst, arith}
 use Rattle.evaluations.specs.Below.{Request, Reply, Evaluate, Done, Begin, Answer, PathKind, frames_within, IsPlainTo, HasNoRank, request_after, IsReplyTo, IsFitting}
-use Rattle.evaluations.specs.Words.{Frame, Outcome, fresh, stepped, replied, answered, refused, released, run_again, IsAllowed, IsSafeOutcome, IsOnStack, Leaves, HasRoom, frames_ahead, frames_ahead_of, steps_in_runs, steps_ahead, at, Limits, IsStarted, Move, Pushed, Ignored, Answered, Refused, RunAgain, Popped, PoppedAtLimit, IsEvaluating, Ends, Stops, with_replies, IsSeen, IsPending, AreSeen, Mirror, work, Waits, HasRequested, TakesStep, TakesReply, ItemLeaves, IsAmong}
+use Rattle.evaluations.specs.Words.{Frame, Outcome, fresh, stepped, replied, answered, refused, run_again, IsAllowed, IsSafeOutcome, IsOnStack, Leaves, HasRoom, frames_ahead, frames_ahead_of, steps_in_runs, steps_ahead, at, Limits, IsStarted, Move, Pushed, Answered, Refused, RunAgain, Popped, PoppedAtLimit, IsEvaluating, Ends, Stops, with_replies, IsSeen, IsPending, AreSeen, Mirror, work, Waits, HasRequested, TakesStep, TakesReply, ItemLeaves, IsAmong}
 use Rattle.evaluations.specs.Evaluation.{Noted}
 use Rattle.evaluations.proofs.Evaluations.{root_is_evaluating, move_goes_on, last_frame_ends, last_run_ends, evaluation_stops, failed_start_stops, fitting_meets_no_limit}
 use Rattle.evaluations.proofs.Plains.{step_keeps_safe, left_is_safe, cycle_has_no_rank}
@@ -102,13 +102,6 @@ module _ {E I R : Type 0} (seen : E → Frame I R) (stands : E → List (Reply R
         move_waits some ahead request reply (e ∷ es) (later ∷ es) starts starts met met (replied (stepped h.f h.left) reply ∷ h.below) h
         (Noted h.falls (subst (λ q. IsReplyTo (λ _ _. ⊥) q reply) (sym h.requested) fits))
         (reply_pending seen stands scripts (λ g. replied g reply) reply e later (stepped h.f h.left) h.mirror.0 takes, h.mirror.1)
-
-    -- one that takes back what was recorded of cycles,
-    pub ignored_waits : (request : Request I R) (reply : Reply R) (later : E) → IsReplyTo (λ _ _. ⊥) (Some request) reply → TakesReply seen stands scripts (λ g. released (replied g reply)) reply e later → Requested ahead request (e ∷ es) starts met → WaitsWithLess ahead reply (later ∷ es) starts met
-    ignored_waits request reply later fits takes h =
-        move_waits some ahead request reply (e ∷ es) (later ∷ es) starts starts met met (released (replied (stepped h.f h.left) reply) ∷ h.below) h
-        (Ignored h.falls (subst (λ q. IsReplyTo (λ _ _. ⊥) q reply) (sym h.requested) fits))
-        (reply_pending seen stands scripts (λ g. released (replied g reply)) reply e later (stepped h.f h.left) h.mirror.0 takes, h.mirror.1)
 
     -- a question that is answered at once,
     pub answered_waits : (kind : PathKind) (goal : I) (depth : ℕ) (o : Outcome R) (later : E) → IsAllowed (seen e) depth → IsSafeOutcome scripts goal depth o → (is_counted → met ≡ false → o.met_overflow ≡ false) → TakesReply seen stands scripts (λ g. answered g o) (Answer o.result) e later → Requested ahead (Evaluate kind goal) (e ∷ es) starts met → WaitsWithLess ahead (Answer o.result) (later ∷ es) starts met

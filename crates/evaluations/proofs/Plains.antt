@@ -1,9 +1,8 @@
 -- Goals with a rank answer their plain values.
-use Rattle.std.proofs.Common.{◌≡◌, ℕ, zero, suc, ◌+◌, ◌-◌, ◌<◌, ◌≤◌, ◌⊎◌, inl, inr, Bool, true, false, ◌||◌, List, [], ◌∷◌, Option, Some, None, refl, sym, ◌∙◌, subst, arith}
-use Rattle.evaluations.specs.Below.{PathKind, Request, Evaluate, EnterCandidate, FinishCandidate, Ignore, Done, Reply, Begin, Answer, Noted, request_after, IsReplyTo, IsAnswered, IsFitting, IsOrderly, AsksOnly, IsPlainValue, IsPlainTo, HasNoRank, IsPlain, IsBelowRank}
+use Rattle.std.proofs.Common.{◌≡◌, ℕ, zero, suc, ◌<◌, ◌≤◌, ◌⊎◌, inl, inr, Bool, true, false, List, [], ◌∷◌, Option, Some, None, refl, sym, ◌∙◌, subst, arith, ◌≢◌, ◌||◌}
+use Rattle.evaluations.specs.Below.{PathKind, Request, Evaluate, EnterCandidate, FinishCandidate, Ignore, Done, Reply, Begin, Answer, Noted, request_after, IsReplyTo, IsAnswered, IsFitting, IsOrderly, AsksOnly, IsPlainValue, IsPlainTo, HasNoRank, IsPlain, IsBelowRank, fault_after}
 use Rattle.search_parts.proofs.Runs.{IsReplyTo-weaker}
-use Rattle.search_parts.proofs.Ranks.{IsPlainValue-suc, one_plain_value}
-use Rattle.evaluations.specs.Words.{Frame, Outcome, Asks, IsAllowed, IsSafeOutcome, IsSafe, AreSafe, IsOnStack, Leaves, PushKeepsSafe, StepKeepsSafe, ReplyKeepsSafe, AnswerKeepsSafe, RefusalKeepsSafe, ReleaseKeepsSafe, RerunKeepsSafe, PopKeepsSafe, LeftIsSafe, CycleHasNoRank, UnrankedIsSafe, StoredIsPlain, SuccessIsSafe, KeyIsBelowRank, OverflowIsSafe, FittingIsPlain, QuestionIsSmaller, PushKeepsRoom, RoomIsEnough, PlainIsOne, KeyIsUnused, RankIsEnough}
+use Rattle.evaluations.specs.Words.{Frame, Outcome, Asks, IsAllowed, IsSafeOutcome, IsSafe, AreSafe, IsOnStack, Leaves, AsksAt, HasRoom, HaveRoom, answered, fresh, refused, replied, run_again, stepped}
 
 or_cases : (a b : Bool) → (a || b) ≡ true → (a ≡ true) ⊎ (b ≡ true)
 or_cases true b h = inl refl
@@ -73,28 +72,31 @@ module _ {I R : Type 0} (scripts : I → List (Reply R) → Request I R) where
   no_rank_is_above : (goal : I) (depth : ℕ) → HasNoRank scripts goal → IsBelowRank scripts goal depth
   no_rank_is_above goal depth none n p = absurd (none n p)
 
-  pub push_keeps_safe : PushKeepsSafe scripts
+  -- Safe frames stay safe when a goal is pushed that the newest asks for.
+  pub push_keeps_safe :
+      (frames : List (Frame I R)) (goal : I) (depth left : ℕ)
+      → AsksAt scripts frames goal depth → AreSafe scripts frames → AreSafe scripts (fresh goal depth left ∷ frames)
   push_keeps_safe frames goal depth left asks safe = (
     record { fitting = tt; values = λ _. tt; overflow = λ e. absurd cc; before = λ e. absurd cc; cycle = λ e. absurd cc; within = omega arith },
     asks,
     safe,
   )
 
-  pub step_keeps_safe : StepKeepsSafe scripts
+  -- They stay safe when the newest takes a step.
+  pub step_keeps_safe :
+      (f : Frame I R) (below : List (Frame I R)) (left : ℕ)
+      → AreSafe scripts (f ∷ below) → AreSafe scripts (stepped f left ∷ below)
   step_keeps_safe f below left safe = (
     record { fitting = safe.0.fitting; values = safe.0.values; overflow = safe.0.overflow; before = safe.0.before; cycle = safe.0.cycle; within = safe.0.within },
     safe.1,
     safe.2,
   )
 
-  pub release_keeps_safe : ReleaseKeepsSafe scripts
-  release_keeps_safe f below safe = (
-    record { fitting = safe.0.fitting; values = safe.0.values; overflow = safe.0.overflow; before = safe.0.before; cycle = λ e. absurd cc; within = safe.0.within },
-    safe.1,
-    safe.2,
-  )
-
-  pub reply_keeps_safe : ReplyKeepsSafe scripts
+  -- They stay safe when the newest gets a reply to a request that is no question.
+  pub reply_keeps_safe :
+      (f : Frame I R) (below : List (Frame I R)) (reply : Reply R)
+      → IsReplyTo (λ _ _. ⊥) (request_after (scripts f.goal) f.replies) reply
+      → AreSafe scripts (f ∷ below) → AreSafe scripts (replied f reply ∷ below)
   reply_keeps_safe f below reply fits safe = (
     record {
       fitting = (IsReplyTo-weaker (λ _ _. ⊥) (λ _ _. Unit {0}) (λ _ _ _. tt) (request_after (scripts f.goal) f.replies) reply fits, safe.0.fitting);
@@ -115,7 +117,11 @@ module _ {I R : Type 0} (scripts : I → List (Reply R) → Request I R) where
     | inr its ↦ below_rank_up f.goal goal asks.0 f.replies depth f.available safe.fitting asks.1 (allowed.is_next e) (safe_outcome.overflow its)
   ]
 
-  pub answer_keeps_safe : AnswerKeepsSafe scripts
+  -- They stay safe when its question gets a safe answer.
+  pub answer_keeps_safe :
+      (f : Frame I R) (below : List (Frame I R)) (goal : I) (depth : ℕ) (o : Outcome R)
+      → Asks scripts f goal → IsAllowed f depth → IsSafeOutcome scripts goal depth o
+      → AreSafe scripts (f ∷ below) → AreSafe scripts (answered f o ∷ below)
   answer_keeps_safe f below goal depth o asks allowed safe_outcome safe =
       let small : o.required ≤ depth = safe_outcome.within in
       let less : depth < f.available = allowed.is_less in
@@ -136,7 +142,11 @@ module _ {I R : Type 0} (scripts : I → List (Reply R) → Request I R) where
         safe.2,
       )
 
-  pub refusal_keeps_safe : RefusalKeepsSafe scripts
+  -- They stay safe when its question is refused at depth 0.
+  pub refusal_keeps_safe :
+      (f : Frame I R) (below : List (Frame I R)) (goal : I) (r : R)
+      → Asks scripts f goal → f.available ≡ 0
+      → AreSafe scripts (f ∷ below) → AreSafe scripts (refused f r ∷ below)
   refusal_keeps_safe f below goal r asks none safe = (
     record {
       fitting = (answer_fits (λ _ _. Unit {0}) (request_after (scripts f.goal) f.replies) asks.0 goal r asks.1 tt, safe.0.fitting);
@@ -150,7 +160,10 @@ module _ {I R : Type 0} (scripts : I → List (Reply R) → Request I R) where
     safe.2,
   )
 
-  pub rerun_keeps_safe : RerunKeepsSafe scripts
+  -- They stay safe when the newest goal is run again.
+  pub rerun_keeps_safe :
+      (f : Frame I R) (below : List (Frame I R)) (left : ℕ)
+      → AreSafe scripts (f ∷ below) → AreSafe scripts (run_again f left ∷ below)
   rerun_keeps_safe f below left safe = (
     record {
       fitting = tt;
@@ -170,7 +183,10 @@ module _ {I R : Type 0} (scripts : I → List (Reply R) → Request I R) where
     | inr cycle ↦ no_rank_is_plain f.goal o.result (safe.cycle cycle)
   ]
 
-  pub left_is_safe : LeftIsSafe scripts
+  -- What a safe frame leaves is a safe answer.
+  pub left_is_safe :
+      (f : Frame I R) (o : Outcome R)
+      → Leaves scripts f o → IsSafe scripts f → IsSafeOutcome scripts f.goal f.available o
   left_is_safe f o leaves safe =
       let same : o.required ≡ f.required = leaves.required in
       let small : f.required ≤ f.available = safe.within in
@@ -181,7 +197,10 @@ module _ {I R : Type 0} (scripts : I → List (Reply R) → Request I R) where
         within = omega arith;
       }
 
-  pub pop_keeps_safe : PopKeepsSafe scripts
+  -- They stay safe when it is popped, and what it leaves answers the frame below.
+  pub pop_keeps_safe :
+      (child f : Frame I R) (below : List (Frame I R)) (o : Outcome R)
+      → Leaves scripts child o → AreSafe scripts (child ∷ f ∷ below) → AreSafe scripts (answered f o ∷ below)
   pop_keeps_safe child f below o leaves safe = answer_keeps_safe f below child.goal child.available o safe.1.0 safe.1.1 (left_is_safe child o leaves safe.0) safe.2
 
   -- the rank of the newest frame is at most that of each frame below it
@@ -207,10 +226,16 @@ module _ {I R : Type 0} (scripts : I → List (Reply R) → Request I R) where
       let v = asked w.0 f.goal goal asks.0 f.replies w.2 safe.0.fitting asks.1 in
       let e : suc v.0 ≡ w.0 = v.1 in no_rank_under goal f below safe asks on bound v.0 (omega arith) v.2
 
-  pub cycle_has_no_rank : CycleHasNoRank scripts
+  -- A goal that is found on the stack has no rank.
+  pub cycle_has_no_rank :
+      (f : Frame I R) (below : List (Frame I R)) (goal : I)
+      → AreSafe scripts (f ∷ below) → Asks scripts f goal → IsOnStack scripts goal (f ∷ below) → HasNoRank scripts goal
   cycle_has_no_rank f below goal safe asks on n p = no_rank_under goal f below safe asks on (suc n) n (omega arith) p
 
-  pub unranked_is_safe : UnrankedIsSafe scripts
+  -- For a goal without a rank every outcome is safe: that of a cycle, and that of a provisional answer.
+  pub unranked_is_safe :
+      (goal : I) (depth : ℕ) (o : Outcome R)
+      → HasNoRank scripts goal → o.required ≤ depth → IsSafeOutcome scripts goal depth o
   unranked_is_safe goal depth o none within = record {
     value = λ _. no_rank_is_plain goal o.result none;
     overflow = λ _. no_rank_is_above goal depth none;
@@ -218,34 +243,34 @@ module _ {I R : Type 0} (scripts : I → List (Reply R) → Request I R) where
     within = within;
   }
 
-  pub stored_is_plain : StoredIsPlain scripts
-  stored_is_plain goal depth o safe calm = safe.value calm
-
-  pub success_is_safe : SuccessIsSafe scripts
-  success_is_safe goal depth required r plain within = record { value = λ _. plain; overflow = λ e. absurd cc; cycle = λ e. absurd cc; within = within }
-
-  pub key_is_below_rank : KeyIsBelowRank scripts
-  key_is_below_rank goal depth o safe met n p = let l : depth < n = safe.overflow met n p in let w : o.required ≤ depth = safe.within in omega arith
-
-  pub overflow_is_safe : OverflowIsSafe scripts
-  overflow_is_safe goal depth r low = record { value = λ e. absurd cc; overflow = λ _. low; cycle = λ e. absurd cc; within = omega arith }
-
   no_overflow : (goal : I) (depth n : ℕ) (met : Bool) → IsPlainTo scripts n goal → n ≤ depth → (met ≡ true → IsBelowRank scripts goal depth) → met ≡ false
   no_overflow goal depth n met p fits low = false_unless met (λ e. let l : depth < n = low e n p in omega arith)
 
-  pub fitting_is_plain : FittingIsPlain scripts
+  -- Where the rank fits the depth, a safe answer is the plain value, without overflow and without heads.
+  pub fitting_is_plain :
+      (goal : I) (depth n : ℕ) (o : Outcome R)
+      → IsPlainTo scripts n goal → n ≤ depth → IsSafeOutcome scripts goal depth o
+      → IsPlainValue scripts n goal o.result × (o.met_overflow ≡ false) × (o.in_cycle ≡ false)
   fitting_is_plain goal depth n o p fits safe =
       let calm : o.met_overflow ≡ false = no_overflow goal depth n o.met_overflow p fits safe.overflow in
       (safe.value calm n p, calm, false_unless o.in_cycle (λ e. safe.cycle e n p))
 
-  pub question_is_smaller : QuestionIsSmaller scripts
+  -- A question of a goal whose rank fits is of a goal with a smaller rank, which fits the depth that it gets.
+  pub question_is_smaller :
+      (f : Frame I R) (goal : I) (depth n : ℕ)
+      → IsSafe scripts f → IsPlainTo scripts n f.goal → n ≤ f.available → Asks scripts f goal → IsAllowed f depth
+      → (m : ℕ) × (m < n) × IsPlainTo scripts m goal × (m ≤ depth)
   question_is_smaller f goal depth n safe p fits asks allowed =
       let w = asked n f.goal goal asks.0 f.replies p safe.fitting asks.1 in
       let e : suc w.0 ≡ n = w.1 in
       let next : f.available ≡ suc depth = allowed.is_next (no_overflow f.goal f.available n f.met_overflow p fits safe.overflow) in
       (w.0, omega arith, w.2, omega arith)
 
-  pub push_keeps_room : PushKeepsRoom scripts
+  -- Frames that have room keep it when a goal is pushed.
+  pub push_keeps_room :
+      (f : Frame I R) (below : List (Frame I R)) (goal : I) (depth left : ℕ)
+      → Asks scripts f goal → IsAllowed f depth → AreSafe scripts (f ∷ below) → HaveRoom scripts (f ∷ below)
+      → HaveRoom scripts (fresh goal depth left ∷ f ∷ below)
   push_keeps_room f below goal depth left asks allowed safe room =
       let w = question_is_smaller f goal depth room.0.0 safe.0 room.0.1 room.0.2 asks allowed in
       ((w.0, w.2, w.3), room)
@@ -254,7 +279,13 @@ module _ {I R : Type 0} (scripts : I → List (Reply R) → Request I R) where
   in_order zero goal p = p.is_orderly
   in_order (suc n) goal p = p.is_orderly.0
 
-  pub room_is_enough : RoomIsEnough scripts
+  -- A frame that has room never asks at depth 0, meets no overflow and no cycle, and requests nothing out of order.
+  pub room_is_enough :
+      (f : Frame I R)
+      → IsSafe scripts f → HasRoom scripts f
+      → ((goal : I) → Asks scripts f goal → f.available ≢ 0)
+      × (f.met_overflow ≡ false) × (f.met_before ≡ false) × (f.in_cycle ≡ false)
+      × (fault_after (scripts f.goal) f.replies ≡ None)
   room_is_enough f safe room = (
     λ goal asks none. let w = asked room.0 f.goal goal asks.0 f.replies room.1 safe.fitting asks.1 in
         let e : suc w.0 ≡ room.0 = w.1 in let l : room.0 ≤ f.available = room.2 in let z : f.available ≡ 0 = none in omega arith,
@@ -262,21 +293,4 @@ module _ {I R : Type 0} (scripts : I → List (Reply R) → Request I R) where
     no_overflow f.goal f.available room.0 f.met_before room.1 room.2 safe.before,
     false_unless f.in_cycle (λ e. safe.cycle e room.0 room.1),
     in_order room.0 f.goal room.1 f.replies safe.fitting,
-  )
-
-  pub plain_is_one : PlainIsOne scripts
-  plain_is_one goal n r other p h k = one_plain_value scripts n goal r other (h n p) (k n p)
-
-  pub key_is_unused : KeyIsUnused scripts
-  key_is_unused goal depth key n p fits low e = let l : key < n = low n p in let same : key ≡ depth = e in omega arith
-
-  plain_at_more : (goal : I) (r : R) (n more m : ℕ) → n + more ≡ m → IsPlainValue scripts n goal r → IsPlainValue scripts m goal r
-  plain_at_more goal r n zero m e h = subst (λ k. IsPlainValue scripts k goal r) (omega (arith, e)) h
-  plain_at_more goal r n (suc more) zero e h = absurd (omega (arith, e))
-  plain_at_more goal r n (suc more) (suc m) e h = IsPlainValue-suc scripts m goal r (plain_at_more goal r n more m (omega (arith, e)) h)
-
-  pub rank_is_enough : RankIsEnough scripts
-  rank_is_enough goal n rank = (
-    λ r h m p. let l : n ≤ m = rank.is_least m p.is_ranked in plain_at_more goal r n (m - n) m (omega arith) h,
-    λ key low m p. let l : n ≤ m = rank.is_least m p.is_ranked in omega arith,
   )

@@ -1,7 +1,7 @@
 -- What it costs to meet a limit.
-use Rattle.std.proofs.Common.{◌≡◌, ℕ, suc, ◌+◌, ◌≤◌, min, inl, inr, Bool, true, false, ◌||◌, List, [], ◌∷◌, length, refl, sym, ◌∙◌, ap, subst, arith}
-use Rattle.evaluations.specs.Below.{CountsOne}
-use Rattle.evaluations.specs.Words.{Frame, stepped, replied, answered, released, HasCounted, HaveFullDepths, frames_started, IsPaid, IsPriced, FirstIsPriced, PushKeepsPriced, StepKeepsPriced, ReplyKeepsPriced, AnswerKeepsPriced, ReleaseKeepsPriced, RerunKeepsPriced, PopKeepsPriced, RefusalIsPaid, LastRunIsPaid, LaterKeepsPriced}
+use Rattle.std.proofs.Common.{◌≡◌, ℕ, suc, ◌+◌, ◌≤◌, min, inl, inr, Bool, true, false, List, [], ◌∷◌, length, refl, sym, ◌∙◌, ap, subst, arith, ◌||◌}
+use Rattle.evaluations.specs.Below.{CountsOne, Reply}
+use Rattle.evaluations.specs.Words.{Frame, stepped, replied, answered, HasCounted, HaveFullDepths, frames_started, IsPaid, IsPriced, IsAllowed, Outcome, fresh, refused, run_again}
 
 neither_of : (a b : Bool) → a ≡ false → b ≡ false → (a || b) ≡ false
 neither_of true b h k = absurd cc
@@ -44,13 +44,22 @@ module _ (I R : Type 0) where
     paid = h.paid;
   }
 
-  pub first_is_priced : FirstIsPriced I R
+  -- An evaluation begins with one frame, at the root depth.
+  pub first_is_priced :
+      (runs root last before now : ℕ) (goal : I) (left : ℕ)
+      → CountsOne last before now
+      → IsPriced {I = I} {R = R} runs root last before now false (fresh goal root left ∷ [])
   first_is_priced runs root last before now goal left one = record {
     not_yet = λ _. record { depths = (omega arith, refl, refl, tt); counted = counted_one last before before now 0 one (inl (omega arith)) };
     paid = λ e. absurd cc;
   }
 
-  pub push_keeps_priced : PushKeepsPriced I R
+  -- A push keeps the price, where its start is counted.
+  pub push_keeps_priced :
+      (runs root last before now later : ℕ) (met : Bool) (f : Frame I R) (below : List (Frame I R)) (goal : I) (depth left : ℕ)
+      → IsAllowed f depth → CountsOne last now later
+      → IsPriced runs root last before now met (f ∷ below)
+      → IsPriced runs root last before later met (fresh goal depth left ∷ f ∷ below)
   push_keeps_priced runs root last before now later met f below goal depth left allowed one h = record {
     not_yet = λ e. let u = h.not_yet e in
         let next : f.available ≡ suc depth = allowed.is_next u.depths.1 in
@@ -62,19 +71,34 @@ module _ (I R : Type 0) where
     paid = λ e. counted_still last before now later (min runs (root + 1)) one (h.paid e);
   }
 
-  pub step_keeps_priced : StepKeepsPriced I R
+  -- A step keeps the price.
+  pub step_keeps_priced :
+      (runs root last before now : ℕ) (met : Bool) (f : Frame I R) (below : List (Frame I R)) (left : ℕ)
+      → IsPriced runs root last before now met (f ∷ below)
+      → IsPriced runs root last before now met (stepped f left ∷ below)
   step_keeps_priced runs root last before now met f below left h = changed runs root last before now met f (stepped f left) below refl refl (λ _ a b. (a, b)) h
 
-  pub reply_keeps_priced : ReplyKeepsPriced I R
+  -- A reply keeps the price.
+  pub reply_keeps_priced :
+      (runs root last before now : ℕ) (met : Bool) (f : Frame I R) (below : List (Frame I R)) (reply : Reply R)
+      → IsPriced runs root last before now met (f ∷ below)
+      → IsPriced runs root last before now met (replied f reply ∷ below)
   reply_keeps_priced runs root last before now met f below reply h = changed runs root last before now met f (replied f reply) below refl refl (λ _ a b. (a, b)) h
 
-  pub answer_keeps_priced : AnswerKeepsPriced I R
+  -- An answer keeps the price, where it met no overflow before a limit was met.
+  pub answer_keeps_priced :
+      (runs root last before now : ℕ) (met : Bool) (f : Frame I R) (below : List (Frame I R)) (o : Outcome R)
+      → (met ≡ false → o.met_overflow ≡ false)
+      → IsPriced runs root last before now met (f ∷ below)
+      → IsPriced runs root last before now met (answered f o ∷ below)
   answer_keeps_priced runs root last before now met f below o calm h = changed runs root last before now met f (answered f o) below refl refl (λ e a b. (neither_of f.met_overflow o.met_overflow a (calm e), b)) h
 
-  pub release_keeps_priced : ReleaseKeepsPriced I R
-  release_keeps_priced runs root last before now met f below h = changed runs root last before now met f (released f) below refl refl (λ _ a b. (a, b)) h
-
-  pub rerun_keeps_priced : RerunKeepsPriced I R
+  -- A further run keeps the price, where its start is counted.
+  pub rerun_keeps_priced :
+      (runs root last before now later : ℕ) (met : Bool) (f : Frame I R) (below : List (Frame I R)) (left : ℕ)
+      → CountsOne last now later
+      → IsPriced runs root last before now met (f ∷ below)
+      → IsPriced runs root last before later met (run_again f left ∷ below)
   rerun_keeps_priced runs root last before now later met f below left one h = record {
     not_yet = λ e. let u = h.not_yet e in
         record {
@@ -84,7 +108,11 @@ module _ (I R : Type 0) where
     paid = λ e. counted_still last before now later (min runs (root + 1)) one (h.paid e);
   }
 
-  pub pop_keeps_priced : PopKeepsPriced I R
+  -- A pop keeps the price, and what the frame leaves met no overflow before a limit was met.
+  pub pop_keeps_priced :
+      (runs root last before now : ℕ) (met : Bool) (f : Frame I R) (below : List (Frame I R))
+      → IsPriced runs root last before now met (f ∷ below)
+      → IsPriced runs root last before now met below × (met ≡ false → (f.met_overflow || f.met_before) ≡ false)
   pop_keeps_priced runs root last before now met f below h = (
     record {
       not_yet = λ e. let u = h.not_yet e in
@@ -94,7 +122,11 @@ module _ (I R : Type 0) where
     λ e. let u = h.not_yet e in neither_of f.met_overflow f.met_before u.depths.1 u.depths.2,
   )
 
-  pub later_keeps_priced : LaterKeepsPriced I R
+  -- A start that failed keeps the price, whether it counted or not.
+  pub later_keeps_priced :
+      (runs root last before now later : ℕ) (met : Bool) (frames : List (Frame I R))
+      → now ≤ later
+      → IsPriced runs root last before now met frames → IsPriced runs root last before later met frames
   later_keeps_priced runs root last before now later met frames more h = record {
     not_yet = λ e. let u = h.not_yet e in record { depths = u.depths; counted = counted_later last before now later (frames_started frames) more u.counted };
     paid = λ e. counted_later last before now later (min runs (root + 1)) more (h.paid e);
@@ -106,13 +138,23 @@ module _ (I R : Type 0) where
   paid_now runs root last before now false f below enough h =
       let u = h.not_yet refl in counted_fewer last before now (frames_started (f ∷ below)) (min runs (root + 1)) (enough u.depths) u.counted
 
-  pub refusal_is_paid : RefusalIsPaid I R
+  -- A question at depth 0 is paid by the frames from the root on.
+  pub refusal_is_paid :
+      (runs root last before now : ℕ) (met : Bool) (f : Frame I R) (below : List (Frame I R)) (r : R)
+      → f.available ≡ 0
+      → IsPriced runs root last before now met (f ∷ below)
+      → IsPriced runs root last before now true (refused f r ∷ below)
   refusal_is_paid runs root last before now met f below r none h = record {
     not_yet = λ e. absurd cc;
     paid = λ _. paid_now runs root last before now met f below (λ d. let at : f.available + length below ≡ root = d.0 in let k = all_started below in omega (arith, at, k)) h;
   }
 
-  pub last_run_is_paid : LastRunIsPaid I R
+  -- The end of the last run that a goal may have is paid by its runs.
+  pub last_run_is_paid :
+      (runs root last before now : ℕ) (met : Bool) (f : Frame I R) (below : List (Frame I R))
+      → runs ≤ f.finished_runs + 1
+      → IsPriced runs root last before now met (f ∷ below)
+      → IsPriced runs root last before now true (f ∷ below)
   last_run_is_paid runs root last before now met f below last_run h = record {
     not_yet = λ e. absurd cc;
     paid = λ _. paid_now runs root last before now met f below (λ d. omega arith) h;

@@ -2,7 +2,7 @@
 -- with its newest reply.
 use Rattle.std.specs.Prelude.{◌≡◌, ℕ, ◌+◌, ◌<◌, ◌≤◌, Bool, true, false, List, [], ◌∷◌}
 use Rattle.evaluations.specs.Below.{Request, Reply, Begin, CountsOne, IsPlainValue, IsPlainTo, request_after, IsReplyTo}
-use Rattle.evaluations.specs.Frames.{Frame, Outcome, fresh, stepped, replied, answered, refused, released, run_again, Asks, IsAllowed}
+use Rattle.evaluations.specs.Frames.{Frame, Outcome, fresh, stepped, replied, answered, refused, run_again, Asks, IsAllowed}
 use Rattle.evaluations.specs.Plain.{IsSafeOutcome, AreSafe, Leaves, HaveRoom}
 use Rattle.evaluations.specs.Starts.{StaysWithin, steps_ahead}
 use Rattle.evaluations.specs.Price.{IsPriced, IsPaid}
@@ -50,10 +50,6 @@ module _ {I R : Type 0} (scripts : I → List (Reply R) → Request I R) (limits
         {f : Frame I R} {below : List (Frame I R)} {left starts : ℕ} {met : Bool} {reply : Reply R}
         → left < f.left → IsReplyTo (λ _ _. ⊥) (request_after (scripts f.goal) f.replies) reply
         → Move (at (f ∷ below) starts met) (at (replied (stepped f left) reply ∷ below) starts met)
-    Ignored :
-        {f : Frame I R} {below : List (Frame I R)} {left starts : ℕ} {met : Bool} {reply : Reply R}
-        → left < f.left → IsReplyTo (λ _ _. ⊥) (request_after (scripts f.goal) f.replies) reply
-        → Move (at (f ∷ below) starts met) (at (released (replied (stepped f left) reply) ∷ below) starts met)
     Answered :
         {f : Frame I R} {below : List (Frame I R)} {goal : I} {depth left starts : ℕ} {met : Bool} {o : Outcome R}
         → left < f.left → Asks scripts f goal → IsAllowed f depth → IsSafeOutcome scripts goal depth o
@@ -75,11 +71,6 @@ module _ {I R : Type 0} (scripts : I → List (Reply R) → Request I R) (limits
         {child f : Frame I R} {below : List (Frame I R)} {left starts : ℕ} {met : Bool} {o : Outcome R}
         → left < child.left → Leaves scripts child o → limits.runs ≤ child.finished_runs + 1
         → Move (at (child ∷ f ∷ below) starts met) (at (answered f o ∷ below) starts true)
-
-  -- a run of moves
-  pub data Moves : State I R → State I R → Type 0 where
-    NoMove : {s : State I R} → Moves s s
-    MoreMoves : {s t u : State I R} → Moves s t → Move t u → Moves s u
 
   -- what holds between two moves of an evaluation of the goal `top`
   pub record IsEvaluating (top : I) (bound : ℕ) (s : State I R) : Type 0 where

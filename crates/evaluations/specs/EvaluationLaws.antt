@@ -4,7 +4,7 @@ use Rattle.evaluations.specs.Below.{Request, Reply, Begin, frames_within, IsPlai
 use Rattle.evaluations.specs.Frames.{Frame, Outcome, fresh, replied, Asks}
 use Rattle.evaluations.specs.Plain.{Leaves}
 use Rattle.evaluations.specs.Starts.{Spends}
-use Rattle.evaluations.specs.Evaluation.{State, at, Limits, IsStarted, Move, Moves, IsEvaluating, GoesOn, Ends, Stops}
+use Rattle.evaluations.specs.Evaluation.{State, at, Limits, IsStarted, Move, IsEvaluating, GoesOn, Ends, Stops}
 
 module _ {I R : Type 0} (scripts : I → List (Reply R) → Request I R) where
   -- An evaluation begins with its root.
@@ -51,16 +51,6 @@ module _ {I R : Type 0} (scripts : I → List (Reply R) → Request I R) where
       (limits : Limits) (counted : Bool) (top : I) (bound now : ℕ) (s : State I R) (new : List (Frame I R))
       → Spends limits.runs limits.width 1 s.frames new → s.starts ≤ now → now ≤ s.starts + 1
       → IsEvaluating scripts limits (counted ≡ true) top bound s → Stops scripts limits (counted ≡ true) bound now s.limits_met
-
-  -- Whatever moves lead from the root to its end, the promises are kept.
-  abbrev pub EvaluationEnds : Type 0
-  EvaluationEnds =
-      (limits : Limits) (counted : Bool) (top : I) (first now starts : ℕ) (was met : Bool) (f : Frame I R) (o : Outcome R)
-      → 1 ≤ limits.runs → first ≤ limits.width → IsStarted limits.last (counted ≡ true) limits.before now
-      → (counted ≡ true → was ≡ false)
-      → Moves scripts limits (counted ≡ true) (at (replied (fresh top limits.root first) Begin ∷ []) now was) (at (f ∷ []) starts met)
-      → Leaves scripts f o
-      → Ends scripts limits (counted ≡ true) top (limits.before + frames_within limits.runs limits.width limits.root) starts met o
 
   -- Where the root's rank fits its depth, no question comes at depth 0, no overflow and no cycle is met, and no request is
   -- out of order.

@@ -1,6 +1,6 @@
 -- Goals with a rank answer their plain values: what holds of each frame, each outcome and each stored result. Nothing is
 -- said of a goal that has no rank, so frames of both sorts stand on one stack.
-use Rattle.std.specs.Prelude.{◌≡◌, ℕ, ◌≤◌, true, false, ◌||◌, List, [], ◌∷◌, Some, ◌⊎◌}
+use Rattle.std.specs.Prelude.{◌≡◌, ℕ, ◌≤◌, true, false, List, [], ◌∷◌, Some, ◌⊎◌, ◌||◌}
 use Rattle.evaluations.specs.Below.{Request, Done, Reply, request_after, IsAnswered, IsFitting, IsPlainTo, HasNoRank, IsPlain, IsBelowRank}
 use Rattle.evaluations.specs.Frames.{Frame, Outcome, AsksAt}
 

@@ -1,5 +1,5 @@
 //! An evaluation as a whole: plain values, the bound and the price in one invariant, which each move keeps.
-ghost use Rattle.evaluations.specs.Words.{RootIsEvaluating, MoveGoesOn, LastFrameEnds, LastRunEnds, EvaluationEnds, EvaluationStops, FailedStartStops, FittingMeetsNoLimit};
+ghost use Rattle.evaluations.specs.Words.{RootIsEvaluating, MoveGoesOn, LastFrameEnds, LastRunEnds, EvaluationStops, FailedStartStops, FittingMeetsNoLimit};
 
 use search_parts::context::Delegate;
 
@@ -9,12 +9,10 @@ pub fn moves_go_on<D: Delegate>()
     ensures moves { (cx : D.Cx) → MoveGoesOn (D.script cx) }
 {}
 
-/// It ends with its promises: where the root is popped, where its last run meets the limit, and whatever the
-/// moves from the first frame on were.
+/// It ends with its promises: where the root is popped, and where its last run meets the limit.
 pub fn evaluation_ends<D: Delegate>()
     ensures root { (cx : D.Cx) → LastFrameEnds (D.script cx) }
     ensures last_run { (cx : D.Cx) → LastRunEnds (D.script cx) }
-    ensures moves { (cx : D.Cx) → EvaluationEnds (D.script cx) }
 {}
 
 /// It keeps the bound and the price where it stops with a fault, also that of a start that failed.

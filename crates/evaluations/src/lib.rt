@@ -19,20 +19,17 @@
 //! | File of `specs/` | Has |
 //! |---|---|
 //! | `Frames` | frames, outcomes, and how each move changes the newest frame |
-//! | `Plain`, `PlainLaws` | safe frames and outcomes; room for goals with a rank |
-//! | `Starts`, `StartLaws` | how many frames and steps are still ahead, which is also a loop's measure |
-//! | `Price`, `PriceLaws` | the price of a limit |
+//! | `Plain` | safe frames and outcomes; room for goals with a rank |
+//! | `Starts` | how many frames and steps are still ahead, which is also a loop's measure |
+//! | `Price` | the price of a limit |
 //! | `Evaluation`, `EvaluationLaws` | the moves, and all of this as one invariant, `IsEvaluating` |
 //! | `Mirror` | a driver's list of items seen as frames |
+//!
+//! That each move keeps one of the three is said by the lemmas of `proofs/Plains`, `Counts` and `Prices`.
 //!
 //! A driver has no frames of this kind but items of its own. `Mirror` says how its items are seen as frames,
 //! `Mirror.Waits` is its loop's invariant and `Mirror.work` its measure, and `proofs/Mirrors` has one lemma
 //! for each branch of the loop.
-//!
-//! `proofs/ChainExample` and `MixedExample` put the definitions to use on small evaluations.
 #![tactic(auto)]
 
 pub mod evaluation;
-pub mod plain;
-pub mod price;
-pub mod starts;

@@ -1,5 +1,5 @@
 use Rattle.std.proofs.Common.{◌≡◌, true}
-use Rattle.evaluations.proofs.Evaluations.{last_frame_ends, last_run_ends, evaluation_ends}
+use Rattle.evaluations.proofs.Evaluations.{last_frame_ends, last_run_ends}
 use Rattle.evaluations.proofs.evaluation.evaluation_ends.Goals as goal
 
 pub returns-clause-root : goal.returns-clause-root
@@ -7,6 +7,3 @@ returns-clause-root g c = λ cx. λ limits counted top. last_frame_ends (g.D.Del
 
 pub returns-clause-last_run : goal.returns-clause-last_run
 returns-clause-last_run g c = λ cx. λ limits counted top. last_run_ends (g.D.Delegate.script cx) limits (counted ≡ true) top
-
-pub returns-clause-moves : goal.returns-clause-moves
-returns-clause-moves g c = λ cx. λ limits counted top. evaluation_ends (g.D.Delegate.script cx) limits (counted ≡ true) top
