@@ -37,23 +37,12 @@ count_at-of usages ForcedAmbiguity = refl
 
 -- ---- joined heads
 
-or_left : (a b : Bool) → IsTrue a → IsTrue (a || b)
-or_left true b is = refl
-or_left false b is = absurd cc
-
 or_right : (a b : Bool) → IsTrue b → IsTrue (a || b)
 or_right true b is = refl
 or_right false b is = is
 
-sum_left : (n m : ℕ) → n ≢ 0 → sticking_sum n m ≢ 0
-sum_left n m some none = some (omega (arith, none))
-
 sum_right : (n m : ℕ) → m ≢ 0 → sticking_sum n (min m 1) ≢ 0
 sum_right n m some none = some (omega (arith, none))
-
-nested_left : (usages nested : HeadUsages) (kind : PathKind) → count_of usages kind ≢ 0 → count_of (with_nested usages nested) kind ≢ 0
-nested_left usages nested kind some none =
-    sum_left (count_of usages kind) (min (count_of nested kind) 1) some (sym (count_of-usages_by (λ k. sticking_sum (count_of usages k) (min (count_of nested k) 1)) kind) ∙ none)
 
 nested_right : (usages nested : HeadUsages) (kind : PathKind) → count_of nested kind ≢ 0 → count_of (with_nested usages nested) kind ≢ 0
 nested_right usages nested kind some none =
@@ -83,19 +72,6 @@ kinds_in_head head path cycle is =
     let p = path_of_rank head.paths_to_head path is.0 in
     let c = cycle_of_rank head.usages cycle is.1 in
     record { path_kind = p.0; cycle_kind = c.0; path_is = p.1; cycle_is = c.1; both = (p.2, c.2) }
-
--- a head keeps what it records when more is joined to it
-pub joined_keeps : (own : Option CycleHead) (paths : PathsToNested) (usages : HeadUsages) (path cycle : ℕ) → IsIn own path cycle → IsIn (Some (joined_head own paths usages)) path cycle
-joined_keeps None paths usages path cycle is = absurd (is.1 refl)
-joined_keeps (Some head) paths usages path cycle is =
-    let k = kinds_in_head head path cycle is in
-    let joined = joined_head (Some head) paths usages in
-    subst (λ c. IsIn (Some (joined_head (Some head) paths usages)) path c) k.cycle_is
-    (subst (λ p. IsIn (Some (joined_head (Some head) paths usages)) p (rank_of k.cycle_kind)) k.path_is
-    (in_head joined k.path_kind k.cycle_kind (
-      subst IsTrue (sym (has_kind-union head.paths_to_head paths k.path_kind)) (or_left (has_kind head.paths_to_head k.path_kind) (has_kind paths k.path_kind) k.both.0),
-      nested_left head.usages usages k.cycle_kind k.both.1,
-    )))
 
 -- and records that
 pub joined_adds : (own : Option CycleHead) (paths : PathsToNested) (usages : HeadUsages) (path cycle : PathKind) → HasBoth paths usages path cycle → IsIn (Some (joined_head own paths usages)) (rank_of path) (rank_of cycle)

@@ -200,13 +200,6 @@ module _ {E I R : Type 0} (seen : E → Frame I R) (stands : E → List (Reply R
   pub requested_stops : (ahead : ℕ) (request : Request I R) (items : List E) (starts : ℕ) (met : Bool) → Requested ahead request items starts met → Stops scripts limits is_counted bound starts met
   requested_stops ahead request items starts met h = evaluation_stops scripts limits is_counted top bound (at (h.f ∷ h.below) starts met) h.evaluating
 
-  -- a fault after a limit was noted
-  pub refused_stops : (ahead : ℕ) (request : Request I R) (e : E) (es : List E) (starts : ℕ) (met : Bool) (r : R) → (seen e).available ≡ 0 → Requested ahead request (e ∷ es) starts met → Stops scripts limits is_counted bound starts true
-  refused_stops ahead request e es starts met r none h = record {
-    within = (requested_stops ahead request (e ∷ es) starts met h).within;
-    paid = λ c _. (refusal_is_paid I R limits.runs limits.root limits.last limits.before starts met h.f h.below r (ap (λ g. g.available) h.mirror.0.is ∙ none) (h.evaluating.priced c)).paid refl;
-  }
-
   pub last_run_stops : (ahead : ℕ) (request : Request I R) (e : E) (es : List E) (starts : ℕ) (met : Bool) → limits.runs ≤ (seen e).finished_runs + 1 → Requested ahead request (e ∷ es) starts met → Stops scripts limits is_counted bound starts true
   last_run_stops ahead request e es starts met last_run h =
       let runs : h.f.finished_runs ≡ (seen e).finished_runs = ap (λ g. g.finished_runs) h.mirror.0.is in

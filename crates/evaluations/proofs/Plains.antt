@@ -1,7 +1,6 @@
 -- Goals with a rank answer their plain values.
 use Rattle.std.proofs.Common.{◌≡◌, ℕ, zero, suc, ◌<◌, ◌≤◌, ◌⊎◌, inl, inr, Bool, true, false, List, [], ◌∷◌, Option, Some, None, refl, sym, ◌∙◌, subst, arith, ◌≢◌, ◌||◌}
 use Rattle.evaluations.specs.Below.{PathKind, Request, Evaluate, EnterCandidate, FinishCandidate, Ignore, Done, Reply, Begin, Answer, Noted, request_after, IsReplyTo, IsAnswered, IsFitting, IsOrderly, AsksOnly, IsPlainValue, IsPlainTo, HasNoRank, IsPlain, IsBelowRank, fault_after}
-use Rattle.search_parts.proofs.Runs.{IsReplyTo-weaker}
 use Rattle.evaluations.specs.Words.{Frame, Outcome, Asks, IsAllowed, IsSafeOutcome, IsSafe, AreSafe, IsOnStack, Leaves, AsksAt, HasRoom, HaveRoom, answered, fresh, refused, replied, run_again, stepped}
 
 or_cases : (a b : Bool) → (a || b) ≡ true → (a ≡ true) ⊎ (b ≡ true)
@@ -99,8 +98,8 @@ module _ {I R : Type 0} (scripts : I → List (Reply R) → Request I R) where
       → AreSafe scripts (f ∷ below) → AreSafe scripts (replied f reply ∷ below)
   reply_keeps_safe f below reply fits safe = (
     record {
-      fitting = (IsReplyTo-weaker (λ _ _. ⊥) (λ _ _. Unit {0}) (λ _ _ _. tt) (request_after (scripts f.goal) f.replies) reply fits, safe.0.fitting);
-      values = λ e. (IsReplyTo-weaker (λ _ _. ⊥) (IsPlain scripts) (λ _ _ h. absurd h) (request_after (scripts f.goal) f.replies) reply fits, safe.0.values e);
+      fitting = (reply_among (λ _ _. ⊥) (λ _ _. Unit {0}) (λ _. Unit {0}) (λ _ _ _ _. tt) (request_after (scripts f.goal) f.replies) (λ _ _ _. tt) reply fits, safe.0.fitting);
+      values = λ e. (reply_among (λ _ _. ⊥) (IsPlain scripts) (λ _. Unit {0}) (λ _ _ _ h. absurd h) (request_after (scripts f.goal) f.replies) (λ _ _ _. tt) reply fits, safe.0.values e);
       overflow = safe.0.overflow;
       before = safe.0.before;
       cycle = safe.0.cycle;

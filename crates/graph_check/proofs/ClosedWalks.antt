@@ -199,10 +199,6 @@ found_of nodes P Q same found is = (λ h. to (is.0 h), λ c. is.1 (from c))
     from : HasCycle Q nodes → HasCycle P nodes
     from c = record { place = c.place; edge = c.edge; rest = c.rest; closed = c.closed; kind = (same (walk_kind (c.edge ∷ c.rest))).1 c.kind }
 
--- no kind is greater than all of them, and none is lesser than the first
-pub none_greater : {I : Type 0} (nodes : List (GraphNode I)) (kind : PathKind) → rank_of kind ≡ 3 → HasCycle (IsGreater kind) nodes → ⊥
-none_greater nodes kind e c = let h = c.kind in let m = rank_most (walk_kind (c.edge ∷ c.rest)) in omega arith
-
 -- where no greater cycle is found, whether a lesser one is found tells whether all have the kind
 pub all_of_kind : {I : Type 0} (nodes : List (GraphNode I)) (kind : PathKind) (greater lesser : Bool)
     → IsTrue greater ↔ HasCycle (IsGreater kind) nodes → IsTrue lesser ↔ HasCycle (IsLesser kind) nodes → greater ≡ false

@@ -47,13 +47,6 @@ module _ (parent : StackDepth) where
   abbrev pub left_at : StackDepth → Option CycleHead → Option HeadUsages → Option CycleHead
   left_at depth own used = if depth.0 == parent.0 then own else option_map (less_head used) own
 
-  -- nothing is left to be taken away
-  pub nothing_left : (depth : StackDepth) (own : Option CycleHead) → left_at depth own None ≡ own
-  nothing_left depth own = elim (cases_eq depth.0 parent.0) [
-    | inl same ↦ rw (eq-eqb depth.0 parent.0 same) refl
-    | inr other ↦ rw (ne_eqb depth.0 parent.0 other) (head_left own)
-  ]
-
   module _ {X I R A T : Type 0} (head : StackDepth) (usages : HeadUsages) (rest : UsagesByHead) (once : at_depth rest head ≡ None) (s : EntryState X I R A T) where
     heads_here : (depth : StackDepth) → depth.0 ≢ head.0 → at_depth (without_head parent head usages s).heads depth ≡ at_depth s.heads depth
     heads_here depth apart = elim (cases_eq head.0 parent.0) [

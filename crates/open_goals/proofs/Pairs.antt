@@ -22,9 +22,6 @@ pub is_none : {A : Type 0} (o : Option A) → is_some o ≡ false → o ≡ None
 is_none None absent = refl
 is_none (Some x) absent = cc
 
-none_is_not_some : {A : Type 0} {x : A} → ◌≡◌ {A = Option A} None (Some x) → ⊥
-none_is_not_some is = cc
-
 module _ {E F : Type 0} where
   pub length-paired : (below : List (E × F)) (es : List E) (fs : List F) → length es ≡ length fs → length (paired below es fs) ≡ length below + length fs
   length-paired below [] [] same = omega arith
@@ -52,14 +49,6 @@ module _ {E I : Type 0} (f : E → I) where
   pub is_some_position_map : (p : I → Bool) (es : List E) → is_some (position p (map f es)) ≡ list_any (λ e. p (f e)) es
   is_some_position_map p [] = refl
   is_some_position_map p (e ∷ es) = found-step p e es (is_some_position_map p es)
-
-  pub position_none_map : (p : I → Bool) (es : List E) → list_any (λ e. p (f e)) es ≡ false → position p (map f es) ≡ None
-  position_none_map p es none = is_none _ (is_some_position_map p es ∙ none)
-
-  -- what `position` gives is an index of the list
-  pub position_below : (p : I → Bool) (es : List E) (i : ℕ) → position p (map f es) ≡ Some i → i < length es
-  position_below p [] i is = absurd (none_is_not_some is)
-  position_below p (e ∷ es) i is = simp length-map at ((position-Some p (map f (e ∷ es)) i (f e) is).0)
 
   -- what a look-up among the first halves says of the pairs
   pub found_in_paired : {F : Type 0} (p : I → Bool) (es : List E) (fs : List F) (view : List (E × F)) (b : Bool) → length es ≡ length fs → paired [] es fs ≡ view → b ≡ is_some (position p (map f es)) → b ≡ list_any (λ s. p (f s.0)) view

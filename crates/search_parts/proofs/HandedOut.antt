@@ -24,9 +24,6 @@ past_end [] at e = omega arith
 past_end (x ∷ xs) zero e = absurd cc
 past_end (x ∷ xs) (suc at) e = let h : length xs ≤ at = past_end xs at e in omega arith
 
-at_place : {A : Type 0} (xs : List A) (at : ℕ) (x : A) → slice_get xs at ≡ Some x → Contains xs x
-at_place xs at x e = (at, slice_get_within xs at x e, get_or_from_slice_get xs at x x e)
-
 place_in : {A : Type 0} (xs : List A) (x : A) → Contains xs x → (at : ℕ) × (slice_get xs at ≡ Some x)
 place_in xs x (k, l, e) = (k, slice_get-get_or xs k x l ∙ ap Some e)
 

@@ -1,5 +1,5 @@
 -- A list whose last element is changed.
-use Rattle.std.proofs.Common.{◌≡◌, ℕ, zero, suc, ◌+◌, ◌<◌, List, [], ◌∷◌, ◌++◌, length, map, get_or, slice_set, refl, ap, ◌∙◌, arith}
+use Rattle.std.proofs.Common.{◌≡◌, ℕ, zero, suc, ◌+◌, ◌<◌, List, [], ◌∷◌, length, map, get_or, slice_set, refl, ap, ◌∙◌, arith}
 use Rattle.search_parts.specs.Words.{change_last}
 
 module _ {E : Type 0} where
@@ -13,11 +13,6 @@ module _ {E : Type 0} where
   -- e is the last element, read at its index n
   pub change_last_from_set : (f : E → E) (es : List E) (n : ℕ) (e : E) → n + 1 ≡ length es → e ≡ get_or es n e → slice_set es n (f e) ≡ change_last f es
   change_last_from_set f es n e at is = ap (λ x. slice_set es n (f x)) is ∙ set_is_change_last f es n e (omega arith)
-
-  pub change_last_snoc : (f : E → E) (es : List E) (e : E) → change_last f (es ++ e ∷ []) ≡ es ++ f e ∷ []
-  change_last_snoc f [] e = refl
-  change_last_snoc f (x ∷ []) e = refl
-  change_last_snoc f (x ∷ y ∷ es) e = ap (λ l. x ∷ l) (change_last_snoc f (y ∷ es) e)
 
   pub map_change_last : {B : Type 0} (g : E → B) (f : E → E) → ((e : E) → g (f e) ≡ g e) → (es : List E) → map g (change_last f es) ≡ map g es
   map_change_last g f kept [] = refl

@@ -1,6 +1,5 @@
 pub mod Pigeonhole
 pub mod Graphs
-pub mod Runs
 pub mod Ranks
 pub mod Copies
 pub mod Nodes

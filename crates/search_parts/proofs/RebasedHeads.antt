@@ -1,22 +1,15 @@
 -- Heads when a goal that is done is given up as a head: what is taken out, and that what is left is on the stack.
-use Rattle.std.proofs.Common.{◌≡◌, ℕ, zero, suc, ◌-◌, ◌<◌, ◌≤◌, [], ◌∷◌, ◌++◌, All, Some, length, take, ap, ◌∙◌, subst, inl, inr, arith}
-use Rattle.std.proofs.Math.Seq.{take-append_seam, drop-append_seam}
+use Rattle.std.proofs.Common.{◌≡◌, ℕ, zero, suc, ◌-◌, ◌<◌, ◌≤◌, [], ◌∷◌, ◌++◌, All, Some, length, ap, ◌∙◌, subst, inl, inr, arith}
+use Rattle.std.proofs.Math.Seq.{drop-append_seam}
 use Rattle.std.proofs.lemmas.Bool.{cases_lt, cases_eq}
-use Rattle.std.proofs.lemmas.List.{length_push}
 use Rattle.std.proofs.lemmas.List.Elements.{All-cons, All-drop, All-head, All-tail, All-weaker}
 use Rattle.std.specs.BTreeMap.{insert_entry}
 use Rattle.std.specs.List.{slice_get}
 use Rattle.std.specs.Option.{IfSome}
 use Rattle.search_parts.specs.Below.{StackDepth, CycleHead, HeadUsages, PathsToNested, at_depth, depth_cmp, highest, joined_head, with_head, Heads, extended_by_each, path_of_no_step, no_usages}
-use Rattle.search_parts.specs.Words.{but_highest, with_unused, with_used}
+use Rattle.search_parts.specs.Words.{with_unused, with_used}
 use Rattle.cycle_heads.proofs.HeadLists.{placed_first, placed_here, placed_later}
 use Rattle.cycle_heads.proofs.HighestHeads.{highest-push}
-
--- where a head at the end is the highest one, the others are those before it
-pub but_highest-push : (heads : Heads) (head : StackDepth × CycleHead) → but_highest (heads ++ head ∷ []) ≡ heads
-but_highest-push heads head =
-    let last : length (heads ++ head ∷ []) - 1 ≡ length heads = omega (arith, length_push heads head) in
-    ap (λ n. take n (heads ++ head ∷ [])) last ∙ take-append_seam heads (head ∷ [])
 
 -- the head at the end is at most at n, where all are
 last_within : (heads : Heads) (depth : StackDepth) (head : CycleHead) (n : ℕ) → All (λ e. e.0.0 ≤ n) (heads ++ (depth, head) ∷ []) → depth.0 ≤ n

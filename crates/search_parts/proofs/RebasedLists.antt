@@ -46,12 +46,6 @@ module _ {I E : Type 0} {same : I → I → Bool} (P : E → Type 0) (f : I → 
         distinct = subst (IsDistinct same) (sym keys) distinct;
       })
 
-  pub ends : (all done rest : Lists I E) → rest ≡ [] → IsRebasing same P f all done rest → (q : I) → entries_at same done q ≡ filter_map (f q) (entries_at same all q)
-  ends all done rest none so_far q =
-      sym (at_end (entries_at same done q))
-      ∙ ap (λ l. entries_at same done q ++ filter_map (f q) (entries_at same l q)) (sym none)
-      ∙ so_far.agrees q
-
   module _ (laws : IsEquivalence same) (by_value : (x y : I) → same x y ≡ true → x ≡ y) (goal : I) (list : List E) (rest : Lists I E) where
     -- the first list is that of its goal
     first_found : lookup (same goal) ((goal, list) ∷ rest) ≡ Some list
