@@ -170,9 +170,11 @@ impl CycleHeads {
 
 /// A head that is recorded, or replaced, is found at its depth, and other depths keep what they have.
 pub fn heads_are_found_by_depth()
-    ensures recorded { (heads : Heads) (depth : StackDepth) (paths : PathsToNested) (usages : HeadUsages)
+    ensures recorded { (heads : Heads) (depth : StackDepth)
+        (paths : PathsToNested) (usages : HeadUsages)
         → at_depth (with_head heads depth paths usages) depth ≡ Some (joined_head (at_depth heads depth) paths usages) }
-    ensures others { (heads : Heads) (depth other : StackDepth) (paths : PathsToNested) (usages : HeadUsages)
+    ensures others { (heads : Heads) (depth other : StackDepth)
+        (paths : PathsToNested) (usages : HeadUsages)
         → other.0 ≢ depth.0 → at_depth (with_head heads depth paths usages) other ≡ at_depth heads other }
     ensures replaced { (heads : Heads) (depth : StackDepth) (head : CycleHead)
         → IsSome (at_depth heads depth) → at_depth (replace_head heads depth head) depth ≡ Some head }

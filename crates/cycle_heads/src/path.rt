@@ -39,7 +39,8 @@ impl PathKind {
 /// The laws of `extend`: paths may be joined in any order and any grouping, a path that is repeated
 /// counts once, and an inductive step changes nothing.
 pub fn extend_keeps_its_laws()
-    ensures associative { (a b c : PathKind) → greater_kind (greater_kind a b) c ≡ greater_kind a (greater_kind b c) }
+    ensures associative { (a b c : PathKind)
+        → greater_kind (greater_kind a b) c ≡ greater_kind a (greater_kind b c) }
     ensures commutative { (a b : PathKind) → greater_kind a b ≡ greater_kind b a }
     ensures idempotent { (a : PathKind) → greater_kind a a ≡ a }
     ensures neutral { (a : PathKind) → greater_kind PathKind.Inductive a ≡ a }
@@ -174,7 +175,8 @@ pub fn extend_with_keeps_its_laws()
     ensures each_step { (paths more : PathsToNested) (kind : PathKind)
         → IsTrue (has_kind (extended_by_each paths more) kind)
         ↔ ((step : PathKind) × IsTrue (has_kind more step) × IsTrue (has_kind (extended paths step) kind)) }
-    ensures some_step { (paths : PathsToNested) (step : PathKind) → has_empty (extended paths step) ≡ false }
+    ensures some_step { (paths : PathsToNested) (step : PathKind)
+        → has_empty (extended paths step) ≡ false }
 {}
 
 /// A union has the kinds of both sets.

@@ -27,7 +27,8 @@ fn has_greater_cycle<I, R>(
     kind: PathKind,
 ) -> Result<bool, NoMemory>
     requires { AreClosed (goal_nodes_of nodes.now) }
-    ensures { IfOk result (λ found. IsTrue found ↔ HasCycle (IsGreater kind) (goal_nodes_of nodes.now)) }
+    ensures { IfOk result (λ found.
+        IsTrue found ↔ HasCycle (IsGreater kind) (goal_nodes_of nodes.now)) }
 {
     match kind_above(kind) {
         Some(least) => has_cycle(alloc, nodes, least, PathKind::ForcedAmbiguity),
@@ -41,7 +42,8 @@ fn has_lesser_cycle<I, R>(
     kind: PathKind,
 ) -> Result<bool, NoMemory>
     requires { AreClosed (goal_nodes_of nodes.now) }
-    ensures { IfOk result (λ found. IsTrue found ↔ HasCycle (IsLesser kind) (goal_nodes_of nodes.now)) }
+    ensures { IfOk result (λ found.
+        IsTrue found ↔ HasCycle (IsLesser kind) (goal_nodes_of nodes.now)) }
 {
     match kind_below(kind) {
         Some(most) => has_cycle(alloc, nodes, PathKind::Inductive, most),
@@ -82,7 +84,8 @@ fn has_cycle<I, R>(
     most: PathKind,
 ) -> Result<bool, NoMemory>
     requires { AreClosed (goal_nodes_of nodes.now) }
-    ensures { IfOk result (λ found. IsTrue found ↔ HasCycle (IsBetween least most) (goal_nodes_of nodes.now)) }
+    ensures { IfOk result (λ found.
+        IsTrue found ↔ HasCycle (IsBetween least most) (goal_nodes_of nodes.now)) }
 {
     let steps = steps_up_to(alloc, nodes, most)?;
     let numbers = components(alloc, &steps)?;
@@ -95,7 +98,8 @@ fn steps_up_to<I, R>(
     nodes: &[Node<I, R>],
     most: PathKind,
 ) -> Result<Vec<Vec<usize>>, AllocError>
-    ensures { IfOk result (λ steps. successor_lists steps.items ≡ steps_over most (goal_nodes_of nodes.now)) }
+    ensures { IfOk result (λ steps.
+        successor_lists steps.items ≡ steps_over most (goal_nodes_of nodes.now)) }
 {
     let mut steps = Vec::with_capacity(alloc, nodes.len())?;
     for node in nodes {

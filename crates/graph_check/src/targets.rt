@@ -24,7 +24,8 @@ pub(crate) fn are_closed<X: Cx>(nodes: &[Node<X::Input, X::Result>]) -> bool
 }
 
 fn reach_their_goals<X: Cx>(nodes: &[Node<X::Input, X::Result>], edges: &[Edge<X::Input>]) -> bool
-    ensures { IsTrue result ↔ All (λ e. HasGoal (goal_nodes_of nodes.now) e.target e.input) edges.now }
+    ensures { IsTrue result
+        ↔ All (λ e. HasGoal (goal_nodes_of nodes.now) e.target e.input) edges.now }
 {
     for edge in edges {
         if !has_goal::<X>(nodes, edge.target, edge.input) {

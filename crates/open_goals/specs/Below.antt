@@ -15,7 +15,7 @@ pub use Rattle.search_parts.specs.LookUp.{Hit, hit_of}
 pub use Rattle.search_parts.specs.Nested.{joined_paths, JoinsPaths, NestedPaths, paths_at}
 pub use Rattle.search_parts.specs.Question.{Question}
 pub use Rattle.search_parts.specs.Run.{Asked, is_ignored, IsFitting, IsInOrder, Progress, progress_after, request_after}
-pub use Rattle.search_parts.specs.Stack.{allowed_depth, depth_below, fresh_entry}
+pub use Rattle.search_parts.specs.Stack.{allowed_depth, depth_below, fresh_entry, position_of}
 pub use Rattle.search_parts.specs.declared.context.Cx.{Ghosts as CxOf}
 pub use Rattle.search_parts.specs.declared.context.Delegate.{Ghosts as DelegateOf}
 pub use Rattle.search_parts.specs.declared.context.Edge.{Edge}
@@ -25,7 +25,8 @@ pub use Rattle.search_parts.specs.declared.context.NodeId.{NodeId}
 pub use Rattle.search_parts.specs.declared.context.Reply.{Reply}
 pub use Rattle.search_parts.specs.declared.context.Reply.TheVariants.{Answer, Begin, Noted}
 pub use Rattle.search_parts.specs.declared.context.Request.{Request}
-pub use Rattle.search_parts.specs.declared.context.Request.TheVariants.{EnterCandidate, Evaluate, FinishCandidate, Ignore}
+pub use Rattle.search_parts.specs.declared.context.Request.TheVariants.{EnterCandidate, Evaluate, FinishCandidate}
+pub use Rattle.search_parts.specs.declared.context.Request.TheVariants.{Ignore}
 pub use Rattle.search_parts.specs.declared.context.Verdict.{Verdict}
 pub use Rattle.search_parts.specs.declared.context.Verdict.TheVariants.{Neither, No, Yes}
 pub use Rattle.search_parts.specs.declared.parts.depth.AvailableDepth.{AvailableDepth}

@@ -1,7 +1,8 @@
 //! The goals under evaluation, each with the run of its frame.
 ghost use Rattle.std.specs.Prelude.{◌≡◌, ℕ, ◌+◌, ◌^◌, ◌<◌, List, [], ◌∷◌, length, false, Some, None, OnOk, OnErr, IfOk, IfErr, IfSome, is_some, map, reverse};
-ghost use Rattle.std.specs.List.{list_any, position};
+ghost use Rattle.std.specs.List.{list_any};
 ghost use Rattle.std.specs.Option.{option_map};
+ghost use Rattle.open_goals.specs.Below.{position_of};
 ghost use Rattle.open_goals.specs.Words.{CanStep, IsVerdict, HasStepped, IsStepFault};
 
 mod candidates;
@@ -106,7 +107,8 @@ impl<X: Cx, F: Drop> OpenGoals<X, F> {
 
     /// The place of the goal, if it is under evaluation, counted from the first one up.
     pub fn find(&self, input: X::Input) -> Option<StackDepth>
-        ensures found { option_map (λ d. d.0) result ≡ position (X.Input.eq input) (map (λ e. e.input) (reverse (map (λ s. s.0) self.now))) }
+        ensures found { option_map (λ d. d.0) result
+            ≡ position_of X.Input.eq input (reverse (map (λ s. s.0) self.now)) }
         ensures present { is_some result ≡ list_any (λ s. X.Input.eq input s.0.input) self.now }
     {
         self.stack.find(input)
@@ -185,7 +187,8 @@ impl<X: Cx, F: Drop> OpenGoals<X, F> {
         kept: &ProvisionalCacheEntry<X>,
     ) -> Result<(), NoMemory>
         requires { 0 < length self.old }
-        ensures { OnOk result (AnswersNewest step 0 kept.now.encountered_overflow kept.now.heads self.old self.new) }
+        ensures { OnOk result (AnswersNewest step 0 kept.now.encountered_overflow kept.now.heads
+            self.old self.new) }
     {
         let parent = StackDepth::new(self.stack.len() - 1);
         let input = self.stack.last().input();
@@ -206,7 +209,8 @@ impl<X: Cx, F: Drop> OpenGoals<X, F> {
     ) -> Result<(), NoMemory>
         requires some { 0 < length self.old }
         requires fits { answer.now.required_depth + 1 < 2 ^ 64 }
-        ensures { OnOk result (AnswersNewest step answer.now.required_depth answer.now.encountered_overflow answer.now.heads self.old self.new) }
+        ensures { OnOk result (AnswersNewest step answer.now.required_depth
+            answer.now.encountered_overflow answer.now.heads self.old self.new) }
     {
         let parent = StackDepth::new(self.stack.len() - 1);
         let input = self.stack.last().input();
@@ -225,7 +229,8 @@ impl<X: Cx, F: Drop> OpenGoals<X, F> {
         kind: PathKind,
     ) -> Result<(), NoMemory>
         requires { 0 < length self.old }
-        ensures { OnOk result (AnswersNewest step 0 false ((head, cycle_head step kind) ∷ []) self.old self.new) }
+        ensures { OnOk result (AnswersNewest step 0 false ((head, cycle_head step kind) ∷ [])
+            self.old self.new) }
     {
         let used = cycle_head(step, kind);
         let parent = StackDepth::new(self.stack.len() - 1);
@@ -273,7 +278,8 @@ impl<X: Cx, F: Drop> OpenGoals<X, F> {
     )
         requires some { 0 < length self.old }
         requires fits { IfSome (newest self.old) (λ s. s.1.finished_runs + 1 < 2 ^ 64) }
-        ensures { self.new ≡ change_newest (rerun_with provisional_result node frame own_node) self.old }
+        ensures { self.new
+            ≡ change_newest (rerun_with provisional_result node frame own_node) self.old }
     {
         let state = self.stack.last_mut();
         let met_overflow = state.encountered_overflow;
@@ -318,8 +324,10 @@ pub fn step<D: Delegate>(
     Fault<<D::Cx as Cx>::Input, <D::Cx as Cx>::Result>,
 >
     requires { CanStep D.Delegate D.Cx.Cx cx received.reply goals.old }
-    ensures stepped { IfOk result (λ request. HasStepped D.Delegate D.Cx.Cx cx received request goals.old goals.new) }
-    ensures fault { IfErr result (λ fault. IsStepFault D.Delegate D.Cx.Cx cx received goals.old fault) }
+    ensures stepped { IfOk result (λ request.
+        HasStepped D.Delegate D.Cx.Cx cx received request goals.old goals.new) }
+    ensures fault { IfErr result (λ fault.
+        IsStepFault D.Delegate D.Cx.Cx cx received goals.old fault) }
     ensures same_starts { D.starts inspect.new ≡ D.starts inspect.old }
 {
     let verdict = sort_of(cx, received.reply);

@@ -89,7 +89,8 @@ impl<I: Copy, R: Copy> Progress<I, R> {
 
     /// Keeps an answer with this edge, asked in the open candidate if there is one.
     fn keep(&mut self, edge: Edge<I>, verdict: Verdict) -> Result<(), NoMemory>
-        ensures { OnOk result (self.new ≡ record self.old { answers = answers_with self.old edge verdict }) }
+        ensures { OnOk result
+            (self.new ≡ record self.old { answers = answers_with self.old edge verdict }) }
     {
         let candidate = self.is_open.then_some(self.ignored.len());
         self.answers.push(DefiniteAnswer {

@@ -105,7 +105,8 @@ pub fn note_nested_goals<X: Cx>(
     nested_goals: &NestedGoals<X>,
 ) -> Result<(), NoMemory>
     ensures others { state.new ≡ with_nested_goals state.old state.new.nested_goals }
-    ensures taken { OnOk result (TakesNestedGoals X.Input.eq own step nested_goals.now state.old.nested_goals state.new.nested_goals) }
+    ensures taken { OnOk result (TakesNestedGoals X.Input.eq own step nested_goals.now
+        state.old.nested_goals state.new.nested_goals) }
 {
     if nested_goals.is_empty() {
         return Ok(());

@@ -1,7 +1,7 @@
 -- What a cache holds: its context, a list of nodes, and the results that are stored. A node stands for one run of a goal.
 -- It is open until that run has ended, and never changes from then on.
 use Rattle.std.specs.Prelude.{◌≡◌, ℕ, Bool, true, List, [], map, reverse, Option, None, Some, slice_get, slice_set}
-use Rattle.std.specs.Option.{option_map}
+use Rattle.std.specs.Option.{option_map, IsSomeAnd}
 use Rattle.search_parts.specs.declared.context.Request.{Request}
 use Rattle.search_parts.specs.declared.context.Reply.{Reply}
 use Rattle.search_parts.specs.declared.context.Edge.{Edge}
@@ -50,6 +50,10 @@ with_run nodes at run =
 abbrev pub IsNodeOf : {I R : Type 0} → List (CacheNode I R) → ℕ → I → Type 0
 IsNodeOf nodes at goal = option_map (λ n. n.goal) (slice_get nodes at) ≡ Some goal
 
+-- the run that ended so
+abbrev pub ended_run : {I R : Type 0} → List (Reply R) → List (Edge I) → R → EndedRun I R
+ended_run replies edges outcome = record { replies = replies; edges = edges; outcome = outcome }
+
 -- each node is still at its place
 abbrev pub KeepsNodes : {I R : Type 0} → List (CacheNode I R) → List (CacheNode I R) → Type 0
 KeepsNodes {I} {R} old new = (at : ℕ) (n : CacheNode I R) → slice_get old at ≡ Some n → slice_get new at ≡ Some n
@@ -70,6 +74,11 @@ pub record IsRun {I R : Type 0} (is_yes is_no : R → Bool) (script : List (Repl
   pub yes : is_yes run.outcome ≡ true → map question_of run.edges ≡ questions_answered is_yes (progress_after script (reverse run.replies))
   pub no : is_no run.outcome ≡ true → map question_of run.edges ≡ questions_answered is_no (progress_after script (reverse run.replies))
   pub targets : (i : ℕ) (e : Edge I) → slice_get run.edges i ≡ Some e → IsNodeOf nodes e.target e.input
+
+-- the node is open, and the run is one of its goal
+abbrev pub CanFinish : {I R : Type 0} → (R → Bool) → (R → Bool) → (I → List (Reply R) → Request I R) → List (CacheNode I R) → ℕ → EndedRun I R → Type 0
+CanFinish is_yes is_no scripts nodes at run =
+    IsSomeAnd (open_goal nodes at) (λ goal. IsRun is_yes is_no (scripts goal) nodes run)
 
 -- each run of the list that has ended is one of its goal
 abbrev pub AreRuns : {I R : Type 0} → (R → Bool) → (R → Bool) → (I → List (Reply R) → Request I R) → List (CacheNode I R) → Type 0

@@ -14,7 +14,25 @@ change_last f [] = []
 change_last f (e ∷ []) = f e ∷ []
 change_last f (e ∷ d ∷ es) = e ∷ change_last f (d ∷ es)
 
-module _ (X I R A T : RattleType) (C : Cx.Ghosts X.Denot I.Denot R.Denot A.Denot T.Denot) (Di : Debug.Ghosts I.Denot) (Ei : PartialEq.Ghosts I.Denot) (Hi : Hash.Ghosts I.Denot) (Dr : Debug.Ghosts R.Denot) (Er : PartialEq.Ghosts R.Denot) (Hr : Hash.Ghosts R.Denot) (Da : Debug.Ghosts A.Denot) (Ea : PartialEq.Ghosts A.Denot) (Ha : Hash.Ghosts A.Denot) where
+-- how the values of a type are shown, compared and hashed
+pub record Traits (V : RattleType) : Type 1 where
+  pub debug : Debug.Ghosts V.Denot
+  pub eq : PartialEq.Ghosts V.Denot
+  pub hash : Hash.Ghosts V.Denot
+
+-- the same of three
+abbrev pub traits : {V : RattleType} → Debug.Ghosts V.Denot → PartialEq.Ghosts V.Denot → Hash.Ghosts V.Denot → Traits V
+traits debug eq hash = record { debug = debug; eq = eq; hash = hash }
+
+module _ (X I R A T : RattleType) (C : Cx.Ghosts X.Denot I.Denot R.Denot A.Denot T.Denot) (i : Traits I) (r : Traits R) (a : Traits A) where
+  -- the row of the stack
+  abbrev Stack : RattleType
+  Stack = the_row X I R A T C i.debug i.eq i.hash r.debug r.eq r.hash a.debug a.eq a.hash
+
+  -- the row of what is lent of an entry
+  abbrev State : RattleType
+  State = state.the_row X I R A T C i.debug i.eq i.hash r.debug r.eq r.hash a.debug a.eq a.hash
+
   -- the stack ends with the last value behind r as the last entry's state
-  abbrev pub LendsLastState : MutBor (the_row X I R A T C Di Ei Hi Dr Er Hr Da Ea Ha).Denot → MutBor (state.the_row X I R A T C Di Ei Hi Dr Er Hr Da Ea Ha).Denot → Fml
-  LendsLastState s r = Lends (the_row X I R A T C Di Ei Hi Dr Er Hr Da Ea Ha) (state.the_row X I R A T C Di Ei Hi Dr Er Hr Da Ea Ha) s r (λ w. change_last (λ e. record e { state = w }) s.now)
+  abbrev pub LendsLastState : MutBor Stack.Denot → MutBor State.Denot → Fml
+  LendsLastState s r = Lends Stack State s r (λ w. change_last (λ e. record e { state = w }) s.now)

@@ -25,3 +25,7 @@ shape_of is_yes is_no n = elim n.run [ None ↦ theory.Unfinished | Some run ↦
 -- the shapes of the nodes, at the same places
 abbrev pub shapes_of : {I R : Type 0} → (R → Bool) → (R → Bool) → List (CacheNode I R) → List theory.Node
 shapes_of is_yes is_no nodes = map (shape_of is_yes is_no) nodes
+
+-- the list has grown: each node whose run has ended is there with its verdict and edges
+abbrev pub HasGrown : {I R : Type 0} → (R → Bool) → (R → Bool) → List (CacheNode I R) → List (CacheNode I R) → Type 0
+HasGrown is_yes is_no old new = theory.Grown (shapes_of is_yes is_no old) (shapes_of is_yes is_no new)

@@ -1,7 +1,9 @@
 -- What is read of a stack, whose first entry stands first.
-use Rattle.std.specs.Prelude.{ℕ, ◌-◌, ◌/◌, nat_eq, if◌then◌else◌, false, List, [], ◌∷◌, Option, Some, None}
+use Rattle.std.specs.Prelude.{◌≡◌, ℕ, ◌-◌, ◌/◌, nat_eq, if◌then◌else◌, Bool, false, List, [], ◌∷◌, length, map, slice_index_or, Option, Some, None}
+use Rattle.std.specs.List.{position}
 use Rattle.search_parts.specs.Below.{PathKind}
 use Rattle.search_parts.specs.declared.parts.depth.AvailableDepth.{AvailableDepth}
+use Rattle.search_parts.specs.declared.parts.stack.EntryState.{EntryState}
 use Rattle.search_parts.specs.declared.parts.stack.StackEntry.{StackEntry}
 
 module _ {X I R A T : Type 0} where
@@ -22,6 +24,15 @@ module _ {X I R A T : Type 0} where
       node = None;
     };
   }
+
+  -- where the goal stands, if it is there
+  abbrev pub position_of : (I → I → Bool) → I → List (StackEntry X I R A T) → Option ℕ
+  position_of eq goal entries = position (eq goal) (map (λ e. e.input) entries)
+
+  -- what the last entry is, whatever stands for one that is not there
+  abbrev pub IsLastState : List (StackEntry X I R A T) → EntryState X I R A T → Type 0
+  IsLastState entries state =
+      (d : StackEntry X I R A T) → state ≡ (slice_index_or entries (length entries - 1) d).state
 
   -- the depth that a question of this goal gets, if any
   abbrev pub depth_below : ℕ → StackEntry X I R A T → Option ℕ

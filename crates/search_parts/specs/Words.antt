@@ -1,12 +1,12 @@
 -- The words of this crate, from one place.
-pub use Rattle.search_parts.specs.Cache.{AreRuns, Cache, CacheNode, EndedRun, finished_node, graph_node_of, graph_nodes_of}
-pub use Rattle.search_parts.specs.Cache.{IsNodeOf, IsRun, KeepsFinished, KeepsGoals, KeepsNodes, open_goal, open_node}
-pub use Rattle.search_parts.specs.Cache.{with_run}
+pub use Rattle.search_parts.specs.Cache.{AreRuns, Cache, CacheNode, CanFinish, ended_run, EndedRun, finished_node}
+pub use Rattle.search_parts.specs.Cache.{graph_node_of, graph_nodes_of, IsNodeOf, IsRun, KeepsFinished, KeepsGoals}
+pub use Rattle.search_parts.specs.Cache.{KeepsNodes, open_goal, open_node, with_run}
 pub use Rattle.search_parts.specs.Cycle.{step_kinds_above}
 pub use Rattle.search_parts.specs.Definite.{HasGraph}
 pub use Rattle.search_parts.specs.Found.{ArePlaced, Finds}
-pub use Rattle.search_parts.specs.Graph.{GraphNode, HasEdge, HasGoal, IsCopy, IsProofGraph, IsReached, IsRefutationGraph}
-pub use Rattle.search_parts.specs.Graph.{IsWalk, original_edge, question_of, walk_kind}
+pub use Rattle.search_parts.specs.Graph.{GraphNode, HasEdge, HasGoal, IsCopy, IsProofGraph, IsReached}
+pub use Rattle.search_parts.specs.Graph.{IsRefutationGraph, IsWalk, original_edge, question_of, walk_kind}
 pub use Rattle.search_parts.specs.HandedOut.{Copies, IsCopyFrom, IsWhole, KeepsWhole, original_node}
 pub use Rattle.search_parts.specs.Lent.{change_last}
 pub use Rattle.search_parts.specs.LookUp.{first_accepted, Hit, hit_at, hit_of, overflows, successes, usable}
@@ -14,16 +14,16 @@ pub use Rattle.search_parts.specs.Nested.{joined_paths, JoinsPaths, NestedPaths,
 pub use Rattle.search_parts.specs.Provisional.{Appends, entries_at, Lists, lists_of, PutsLast}
 pub use Rattle.search_parts.specs.Question.{Overlap, Question}
 pub use Rattle.search_parts.specs.Rank.{IsBelowRank, IsPlain, IsPlainTo, IsPlainValue, IsRanked, IsResultOf}
-pub use Rattle.search_parts.specs.Rebasing.{but_highest, CanBeRebased, from_head, from_new_head, keeps_kind, keeps_kinds}
-pub use Rattle.search_parts.specs.Rebasing.{rebased, rebased_at, rebased_unused, rebased_used, settled, with_unused}
-pub use Rattle.search_parts.specs.Rebasing.{with_used}
+pub use Rattle.search_parts.specs.Rebasing.{but_highest, CanBeRebased, from_head, from_new_head, keeps_kind}
+pub use Rattle.search_parts.specs.Rebasing.{keeps_kinds, rebased, rebased_at, rebased_unused, rebased_used, settled}
+pub use Rattle.search_parts.specs.Rebasing.{with_unused, with_used}
 pub use Rattle.search_parts.specs.Reuse.{has_head_up_to, highest_passes, is_used_at, may_be_used, rests_on}
 pub use Rattle.search_parts.specs.Run.{EndsIn, IsAnswered, IsFitting, IsReplyTo, progress_after, questions_answered}
 pub use Rattle.search_parts.specs.Run.{request_after}
 pub use Rattle.search_parts.specs.Settlement.{settled_by}
-pub use Rattle.search_parts.specs.Shapes.{edge_shape, run_shape, shape_of, shapes_of, verdict_of}
+pub use Rattle.search_parts.specs.Shapes.{edge_shape, HasGrown, run_shape, shape_of, shapes_of, verdict_of}
 pub use Rattle.search_parts.specs.Sound.{IsSound}
-pub use Rattle.search_parts.specs.Stack.{allowed_depth, depth_below}
+pub use Rattle.search_parts.specs.Stack.{allowed_depth, depth_below, IsLastState, position_of}
 pub use Rattle.search_parts.specs.StackIndex.{IsIndex}
 pub use Rattle.search_parts.specs.Store.{AnswersStoring, KeepsResults, place_of, Puts, same_key, same_place, Store}
 pub use Rattle.search_parts.specs.Store.{stored_at, stored_from}
@@ -49,6 +49,7 @@ pub use Rattle.search_parts.specs.declared.global_cache.results.StoredResult.{St
 pub use Rattle.search_parts.specs.declared.parts.provisional_cache.ProvisionalCacheEntry.{ProvisionalCacheEntry}
 pub use Rattle.search_parts.specs.declared.parts.provisional_cache.rebasing.Settlement.{Settlement}
 pub use Rattle.search_parts.specs.declared.parts.provisional_cache.rebasing.Settlement.TheVariants.{Dropped, Kept}
-pub use Rattle.search_parts.specs.declared.parts.provisional_cache.rebasing.Settlement.TheVariants.{KeptIfSingle, Replaced}
+pub use Rattle.search_parts.specs.declared.parts.provisional_cache.rebasing.Settlement.TheVariants.{KeptIfSingle}
+pub use Rattle.search_parts.specs.declared.parts.provisional_cache.rebasing.Settlement.TheVariants.{Replaced}
 pub use Rattle.search_parts.specs.declared.parts.result.EvaluationResult.{EvaluationResult}
 pub use Rattle.search_parts.specs.declared.parts.stack.StackEntry.{StackEntry}

@@ -311,7 +311,8 @@ pub trait Delegate: Sized {
         ensures within { IfOk result (λ frame. left frame ≤ width cx) }
         ensures at_least { starts inspect.old ≤ starts inspect.new }
         ensures at_most { starts inspect.new ≤ starts inspect.old + 1 }
-        ensures counted { counts ≡ true → OnOk result (CountsOne last (starts inspect.old) (starts inspect.new)) }
+        ensures counted { counts ≡ true
+            → OnOk result (CountsOne last (starts inspect.old) (starts inspect.new)) }
         ensures same_noop { noop inspect.new ≡ noop inspect.old };
 
     /// The frame's next request. After a refusal nothing is known of the frame.
@@ -321,7 +322,8 @@ pub trait Delegate: Sized {
         inspect: &mut Self::ProofTreeBuilder,
     ) -> Result<Request<<Self::Cx as Cx>::Input, <Self::Cx as Cx>::Result>, NoMemory>
         requires { CanTake stands script frame.old reply }
-        ensures request { IfOk result (λ request. Steps stands script frame.old reply request frame.new) }
+        ensures request { IfOk result (λ request.
+            Steps stands script frame.old reply request frame.new) }
         ensures falls { OnOk result (left frame.new < left frame.old) }
         ensures same_starts { starts inspect.new ≡ starts inspect.old }
         ensures same_noop { noop inspect.new ≡ noop inspect.old };

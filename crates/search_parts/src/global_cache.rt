@@ -69,7 +69,8 @@ impl<D: Delegate> GlobalCache<D> {
 
     /// Each stored result has its graph, if it is yes or no, and is what its goal's rank allows.
     pub fn has_sound_results(&self)
-        ensures { AreKept D.Cx.Input.eq D.Cx.is_yes D.Cx.is_no (D.script self.now.cx) self.now.nodes self.now.results }
+        ensures { AreKept D.Cx.Input.eq D.Cx.is_yes D.Cx.is_no
+            (D.script self.now.cx) self.now.nodes self.now.results }
     {
         let _ = &self.results;
     }

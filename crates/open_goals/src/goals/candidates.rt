@@ -39,7 +39,8 @@ impl<X: Cx, F: Drop> OpenGoals<X, F> {
     /// Ends the open candidate of the newest goal, and hands out what it used.
     pub fn finish_candidate(&mut self) -> CandidateHeadUsages
         requires some { 0 < length self.old }
-        requires is_open { IfSome (newest self.old) (λ s. is_some s.0.state.candidate_usages ≡ true) }
+        requires is_open { IfSome (newest self.old) (λ s.
+            is_some s.0.state.candidate_usages ≡ true) }
         ensures ended { self.new ≡ change_newest leaves self.old }
         ensures used { IfSome (newest self.old) (λ s. s.0.state.candidate_usages ≡ Some result) }
     {

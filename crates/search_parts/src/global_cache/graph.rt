@@ -52,8 +52,9 @@ impl<D: Delegate> GlobalCache<D> {
         &self,
         root: NodeId,
     ) -> Result<Option<Vec<Node<<D::Cx as Cx>::Input, <D::Cx as Cx>::Result>>>, NoMemory>
-        ensures { IfOk result (λ copy. MatchOption copy (IsWhole self.now.nodes root.0 → ⊥) (λ nodes.
-            IsCopyFrom self.now.nodes root.0 nodes.items)) }
+        ensures { IfOk result (λ copy. MatchOption copy
+            (IsWhole self.now.nodes root.0 → ⊥)
+            (λ nodes. IsCopyFrom self.now.nodes root.0 nodes.items)) }
     {
         let alloc = *self.nodes.allocator();
         let mut found = Found::new(alloc);
@@ -75,7 +76,8 @@ fn copied<I: Copy, R: Copy>(
     found: &mut Found,
     node: &Node<I, R>,
 ) -> Result<Node<I, R>, NoMemory>
-    ensures same { IfOk result (λ copy. ended_node node.now ≡ original_node (slice_index found.new) copy) }
+    ensures same { IfOk result (λ copy.
+        ended_node node.now ≡ original_node (slice_index found.new) copy) }
     ensures inside { IfOk result (λ copy. (i : ℕ) (e : Edge I) →
         slice_get copy.edges.items i ≡ Some e → e.target < length found.new) }
     ensures finds { Finds found.old found.new (map (λ e. e.target) node.now.edges.items) }

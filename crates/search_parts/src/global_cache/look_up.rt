@@ -55,10 +55,15 @@ impl<D: Delegate> GlobalCache<D> {
         available: AvailableDepth,
         test: &T,
     ) -> Option<CacheData<'_, D::Cx>>
-        ensures found { option_map hit_of result ≡ first_accepted (T.accepts test.now) (usable D.Cx.Input.eq self.now.results input available.0) }
-        ensures graph { IfSome result (λ hit. HasGraph D.Cx.is_yes D.Cx.is_no self.now.nodes input hit.result hit.node) }
-        ensures value { IfSome result (λ hit. hit.encountered_overflow ≡ false → IsPlain (D.script self.now.cx) input hit.result) }
-        ensures overflow { IfSome result (λ hit. hit.encountered_overflow ≡ true → IsBelowRank (D.script self.now.cx) input available.0) }
+        ensures found { option_map hit_of result
+            ≡ first_accepted (T.accepts test.now)
+            (usable D.Cx.Input.eq self.now.results input available.0) }
+        ensures graph { IfSome result (λ hit.
+            HasGraph D.Cx.is_yes D.Cx.is_no self.now.nodes input hit.result hit.node) }
+        ensures value { IfSome result (λ hit.
+            hit.encountered_overflow ≡ false → IsPlain (D.script self.now.cx) input hit.result) }
+        ensures overflow { IfSome result (λ hit. hit.encountered_overflow ≡ true
+            → IsBelowRank (D.script self.now.cx) input available.0) }
         ensures within { IfSome result (λ hit. hit.required_depth ≤ available.0) }
     {
         look_up(&self.results, input, available, test)
@@ -72,7 +77,9 @@ fn look_up<'a, X: Cx, T: NestedTest<X>>(
     available: AvailableDepth,
     test: &T,
 ) -> Option<CacheData<'a, X>>
-    ensures { option_map hit_of result ≡ first_accepted (T.accepts test.now) (usable X.Input.eq results.now.entries input available.0) }
+    ensures { option_map hit_of result
+        ≡ first_accepted (T.accepts test.now)
+        (usable X.Input.eq results.now.entries input available.0) }
 {
     let success = results.get(&(input, Place::Success));
     if let Some(hit) = use_success(success, available, test) {
@@ -88,7 +95,9 @@ fn use_success<'a, X: Cx, T: NestedTest<X>>(
     available: AvailableDepth,
     test: &T,
 ) -> Option<CacheData<'a, X>>
-    ensures { option_map hit_of result ≡ first_accepted (T.accepts test.now) (successes available.0 (option_copied success.entry)) }
+    ensures { option_map hit_of result
+        ≡ first_accepted (T.accepts test.now)
+        (successes available.0 (option_copied success.entry)) }
 {
     let stored = success?;
     if !available.cache_entry_is_applicable(stored.required_depth) {
@@ -103,7 +112,9 @@ fn use_overflow<'a, X: Cx, T: NestedTest<X>>(
     available: AvailableDepth,
     test: &T,
 ) -> Option<CacheData<'a, X>>
-    ensures { option_map hit_of result ≡ first_accepted (T.accepts test.now) (overflows available.0 (option_copied overflow.entry)) }
+    ensures { option_map hit_of result
+        ≡ first_accepted (T.accepts test.now)
+        (overflows available.0 (option_copied overflow.entry)) }
 {
     overflow?.used_at(available.0, true, test)
 }
@@ -116,7 +127,9 @@ impl<X: Cx> StoredResult<X> {
         encountered_overflow: bool,
         test: &T,
     ) -> Option<CacheData<'_, X>>
-        ensures { option_map hit_of result ≡ first_accepted (T.accepts test.now) (hit_at required_depth encountered_overflow self.now ∷ []) }
+        ensures { option_map hit_of result
+            ≡ first_accepted (T.accepts test.now)
+            (hit_at required_depth encountered_overflow self.now ∷ []) }
     {
         if !test.accepts(&self.nested_goals) {
             return None;

@@ -1,8 +1,7 @@
 //! The list of nodes: the runs of goals that have ended, which the graphs of answers are made of.
 ghost use Rattle.std.specs.Prelude.{◌≡◌, ◌∷◌, ◌++◌, [], length, IfOk, OnErr, IfSome};
-ghost use Rattle.std.specs.Option.{is_some, option_map, IsSomeAnd};
-ghost use Rattle.search_parts.specs.Below.{Grown};
-ghost use Rattle.search_parts.specs.Words.{open_node as new_node, open_goal, finished_node, with_run, IsRun, KeepsNodes, KeepsFinished, KeepsGoals, shapes_of, node_of, run_of, ended_node};
+ghost use Rattle.std.specs.Option.{is_some, option_map};
+ghost use Rattle.search_parts.specs.Words.{open_node as new_node, open_goal, finished_node, with_run, IsRun, KeepsNodes, KeepsFinished, KeepsGoals, HasGrown, CanFinish, ended_run, node_of, run_of, ended_node};
 
 use crate::context::{Cx, Delegate, Edge, NoMemory, Node, NodeId, Reply};
 use crate::global_cache::GlobalCache;
@@ -33,11 +32,12 @@ impl<D: Delegate> GlobalCache<D> {
     /// the cache as it was.
     pub fn open_node(&mut self, input: <D::Cx as Cx>::Input) -> Result<NodeId, NoMemory>
         ensures node { IfOk result (λ node. node.0 ≡ length self.old.nodes) }
-        ensures opened { IfOk result (λ _. self.new ≡ record self.old { nodes = self.old.nodes ++ new_node input ∷ [] }) }
+        ensures opened { IfOk result (λ _.
+            self.new ≡ record self.old { nodes = self.old.nodes ++ new_node input ∷ [] }) }
         ensures refused { OnErr result (self.new ≡ self.old) }
         ensures kept { KeepsNodes self.old.nodes self.new.nodes }
         ensures goals { KeepsGoals self.old.nodes self.new.nodes }
-        ensures grown { Grown (shapes_of D.Cx.is_yes D.Cx.is_no self.old.nodes) (shapes_of D.Cx.is_yes D.Cx.is_no self.new.nodes) }
+        ensures grown { HasGrown D.Cx.is_yes D.Cx.is_no self.old.nodes self.new.nodes }
     {
         let node = NodeId(self.nodes.len());
         self.nodes.push(Slot::Open(input))?;
@@ -60,11 +60,13 @@ impl<D: Delegate> GlobalCache<D> {
         edges: Vec<Edge<<D::Cx as Cx>::Input>>,
         outcome: <D::Cx as Cx>::Result,
     )
-        requires { IsSomeAnd (open_goal self.old.nodes node.0) (λ goal. IsRun D.Cx.is_yes D.Cx.is_no (D.script self.old.cx goal) self.old.nodes (record { replies = replies.items; edges = edges.items; outcome = outcome })) }
-        ensures ended { self.new ≡ record self.old { nodes = with_run self.old.nodes node.0 (record { replies = replies.items; edges = edges.items; outcome = outcome }) } }
+        requires { CanFinish D.Cx.is_yes D.Cx.is_no (D.script self.old.cx) self.old.nodes node.0
+            (ended_run replies.items edges.items outcome) }
+        ensures ended { self.new ≡ record self.old {
+            nodes = with_run self.old.nodes node.0 (ended_run replies.items edges.items outcome) } }
         ensures kept { KeepsFinished self.old.nodes self.new.nodes }
         ensures goals { KeepsGoals self.old.nodes self.new.nodes }
-        ensures grown { Grown (shapes_of D.Cx.is_yes D.Cx.is_no self.old.nodes) (shapes_of D.Cx.is_yes D.Cx.is_no self.new.nodes) }
+        ensures grown { HasGrown D.Cx.is_yes D.Cx.is_no self.old.nodes self.new.nodes }
     {
         let input = self.nodes[node.0].input();
         self.nodes[node.0] = Slot::Finished(Node {
@@ -77,8 +79,11 @@ impl<D: Delegate> GlobalCache<D> {
 
     /// The node, if it is in the list and its run has ended: a run of its goal.
     pub fn node(&self, node: NodeId) -> Option<&Node<<D::Cx as Cx>::Input, <D::Cx as Cx>::Result>>
-        ensures lent { option_map (λ n. ended_node n.now) result ≡ finished_node self.now.nodes node.0 }
-        ensures is_run { IfSome result (λ n. IsRun D.Cx.is_yes D.Cx.is_no (D.script self.now.cx n.now.input) self.now.nodes (run_of n.now)) }
+        ensures lent { option_map (λ n. ended_node n.now) result
+            ≡ finished_node self.now.nodes node.0 }
+        ensures is_run { IfSome result (λ n.
+            IsRun D.Cx.is_yes D.Cx.is_no (D.script self.now.cx n.now.input) self.now.nodes
+            (run_of n.now)) }
     {
         match self.nodes.get(node.0)? {
             Slot::Open(_) => None,

@@ -80,15 +80,22 @@ impl<D: Delegate> GlobalCache<D> {
         token: <D::Cx as Cx>::DepNodeIndex,
     ) -> Result<(), Fault<<D::Cx as Cx>::Input, <D::Cx as Cx>::Result>>
         requires no_heads { evaluation_result.heads ≡ [] }
-        requires graph { HasGraph D.Cx.is_yes D.Cx.is_no self.old.nodes input evaluation_result.result evaluation_result.node }
-        requires plain { IsPlainAt (D.script self.old.cx) input (place_of evaluation_result) evaluation_result.result }
-        ensures ok { OnOk result (Puts D.Cx.Input.eq self.old.results self.new.results input (place_of evaluation_result) (stored_from evaluation_result token)) }
+        requires graph { HasGraph D.Cx.is_yes D.Cx.is_no self.old.nodes input
+            evaluation_result.result evaluation_result.node }
+        requires plain { IsPlainAt (D.script self.old.cx) input
+            (place_of evaluation_result) evaluation_result.result }
+        ensures ok { OnOk result (Puts D.Cx.Input.eq self.old.results self.new.results input
+            (place_of evaluation_result) (stored_from evaluation_result token)) }
         ensures rest { self.new ≡ record self.old { results = self.new.results } }
         ensures err { OnErr result (self.new ≡ self.old) }
-        ensures answer { AnswersStoring D.Cx.Result.eq input (stored_at D.Cx.Input.eq self.old.results input (place_of evaluation_result)) evaluation_result.result result }
+        ensures answer { AnswersStoring D.Cx.Result.eq input
+            (stored_at D.Cx.Input.eq self.old.results input (place_of evaluation_result))
+            evaluation_result.result result }
         ensures kept { KeepsResults D.Cx.Input.eq self.old.results self.new.results }
         // A success of a goal that has a rank never conflicts.
-        ensures ranked { (n : ℕ) → IsPlainTo (D.script self.old.cx) n input → evaluation_result.encountered_overflow ≡ false → IfErr result (λ fault. fault ≡ Memory) }
+        ensures ranked { (n : ℕ) → IsPlainTo (D.script self.old.cx) n input
+            → evaluation_result.encountered_overflow ≡ false
+            → IfErr result (λ fault. fault ≡ Memory) }
     {
         let place = Place::of(&evaluation_result);
         let found = StoredResult::new(evaluation_result, token);
@@ -97,7 +104,8 @@ impl<D: Delegate> GlobalCache<D> {
 
     /// The goal's success and the depth that it requires, if one is stored.
     pub fn success_of(&self, input: <D::Cx as Cx>::Input) -> Option<(<D::Cx as Cx>::Result, usize)>
-        ensures { result ≡ option_map (λ s. (s.result.result, s.required_depth)) (stored_at D.Cx.Input.eq self.now.results input Success) }
+        ensures { result ≡ option_map (λ s. (s.result.result, s.required_depth))
+            (stored_at D.Cx.Input.eq self.now.results input Success) }
     {
         let stored = self.results.get(&(input, Place::Success))?;
         Some((stored.result.result, stored.required_depth))
@@ -109,7 +117,8 @@ impl<D: Delegate> GlobalCache<D> {
         input: <D::Cx as Cx>::Input,
         depth: usize,
     ) -> Option<<D::Cx as Cx>::Result>
-        ensures { result ≡ option_map (λ s. s.result.result) (stored_at D.Cx.Input.eq self.now.results input (WithOverflow depth)) }
+        ensures { result ≡ option_map (λ s. s.result.result)
+            (stored_at D.Cx.Input.eq self.now.results input (WithOverflow depth)) }
     {
         let stored = self.results.get(&(input, Place::WithOverflow(depth)))?;
         Some(stored.result.result)
@@ -123,7 +132,8 @@ fn agrees<X: Cx>(
     place: Place,
     found: &StoredResult<X>,
 ) -> Result<(), Fault<X::Input, X::Result>>
-    ensures { AnswersStoring X.Result.eq input (stored_at X.Input.eq results.now.entries input place) found.now.result.result result }
+    ensures { AnswersStoring X.Result.eq input
+        (stored_at X.Input.eq results.now.entries input place) found.now.result.result result }
 {
     match results.get(&(input, place)) {
         Some(known) => {
@@ -150,9 +160,11 @@ fn put<X: Cx>(
     place: Place,
     found: StoredResult<X>,
 ) -> Result<(), Fault<X::Input, X::Result>>
-    ensures ok { OnOk result (Puts X.Input.eq results.old.entries results.new.entries input place found) }
+    ensures ok { OnOk result
+        (Puts X.Input.eq results.old.entries results.new.entries input place found) }
     ensures err { OnErr result (results.new.entries ≡ results.old.entries) }
-    ensures answer { AnswersStoring X.Result.eq input (stored_at X.Input.eq results.old.entries input place) found.result.result result }
+    ensures answer { AnswersStoring X.Result.eq input
+        (stored_at X.Input.eq results.old.entries input place) found.result.result result }
     ensures kept { KeepsResults X.Input.eq results.old.entries results.new.entries }
 {
     if let Err(conflict) = agrees(results, input, place, &found) {

@@ -20,7 +20,8 @@ impl AvailableDepth {
         root_depth: AvailableDepth,
         stack: &Stack<D::Cx>,
     ) -> Option<AvailableDepth>
-        ensures { option_map (λ depth. depth.0) result ≡ allowed_depth D.DIVIDE_AVAILABLE_DEPTH_ON_OVERFLOW root_depth.0 stack.now }
+        ensures { option_map (λ depth. depth.0) result
+            ≡ allowed_depth D.DIVIDE_AVAILABLE_DEPTH_ON_OVERFLOW root_depth.0 stack.now }
     {
         if stack.is_empty() {
             return Some(root_depth);

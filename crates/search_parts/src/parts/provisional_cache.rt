@@ -84,7 +84,8 @@ impl<D: Delegate> ProvisionalCache<D> {
     /// Whether no goal has an entry.
     pub fn is_empty(&self) -> bool
         ensures lists { IsTrue result ↔ (self.now ≡ []) }
-        ensures entries { IsTrue result ↔ ((input : D.Cx.Input) → entries_at D.Cx.Input.eq self.now input ≡ []) }
+        ensures entries { IsTrue result
+            ↔ ((input : D.Cx.Input) → entries_at D.Cx.Input.eq self.now input ≡ []) }
     {
         self.lists.is_empty()
     }
@@ -110,8 +111,10 @@ impl<D: Delegate> ProvisionalCache<D> {
         stack: &Stack<D::Cx>,
         step: PathKind,
     ) -> Option<&ProvisionalCacheEntry<D::Cx>>
-        requires { All (λ entry. IfSome (highest entry.heads) (λ head. head.0.0 < length stack.now)) (entries_at D.Cx.Input.eq self.now input) }
-        ensures { option_copied result ≡ find (may_be_used stack.now step) (entries_at D.Cx.Input.eq self.now input) }
+        requires { All (λ entry. IfSome (highest entry.heads) (λ head. head.0.0 < length stack.now))
+            (entries_at D.Cx.Input.eq self.now input) }
+        ensures { option_copied result
+            ≡ find (may_be_used stack.now step) (entries_at D.Cx.Input.eq self.now input) }
     {
         lookup::first_usable(self.entries_of(input), stack, step)
     }
@@ -137,7 +140,9 @@ impl<D: Delegate> ProvisionalCache<D> {
         reason: RebaseReason<D::Cx>,
     ) -> Result<(), NoMemory>
         requires on_stack { All (λ head. head.0.0 < length stack.now) done.now.state.heads }
-        requires within { (input : D.Cx.Input) → All (λ entry. All (λ head. head.0.0 ≤ length stack.now) entry.heads) (entries_at D.Cx.Input.eq self.old input) }
+        requires within { (input : D.Cx.Input)
+            → All (λ entry. All (λ head. head.0.0 ≤ length stack.now) entry.heads)
+            (entries_at D.Cx.Input.eq self.old input) }
         ensures ok { OnOk result ((input : D.Cx.Input) → entries_at D.Cx.Input.eq self.new input
             ≡ filter_map (rebased stack.now done.now (settled (D.propagated cx input) (D.fixpoint_overflow cx input) reason)) (entries_at D.Cx.Input.eq self.old input)) }
         ensures err { OnErr result (self.new ≡ []) }
@@ -172,7 +177,8 @@ fn append<I: Eq + Hash + Copy, E: Drop>(
     input: I,
     entry: E,
 ) -> Result<(), NoMemory>
-    ensures ok { OnOk result (PutsLast I.eq (lists_of lists.old.entries) (lists_of lists.new.entries) input entry) }
+    ensures ok { OnOk result
+        (PutsLast I.eq (lists_of lists.old.entries) (lists_of lists.new.entries) input entry) }
     ensures err { OnErr result (lists_of lists.new.entries ≡ lists_of lists.old.entries) }
 {
     if let Some(entries) = lists.get_mut(&input) {

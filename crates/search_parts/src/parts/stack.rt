@@ -1,9 +1,9 @@
 //! The goals under evaluation, from the first one up.
 ghost use Rattle.std.specs.Prelude.{◌≡◌, ℕ, ◌+◌, ◌-◌, ◌<◌, List, [], ◌∷◌, ◌++◌, length, IfOk, OnErr, IfSome, is_some, IsTrue, ◌↔◌, None, false, slice_index_or, map};
-ghost use Rattle.std.specs.List.{position};
 ghost use Rattle.std.specs.Option.{option_map};
 ghost use Rattle.std.specs.Slice.Iter.{iter_rest};
 ghost use Rattle.search_parts.specs.Below.{greatest_kind, greater_kind};
+ghost use Rattle.search_parts.specs.Words.{position_of};
 
 use crate::context::{Cx, NoMemory, NodeId};
 use crate::parts::candidates::CandidateHeadUsages;
@@ -157,8 +157,8 @@ impl<X: Cx> Stack<X> {
 
     /// The place of the entry with that input.
     pub fn find(&self, input: X::Input) -> Option<StackDepth>
-        ensures found { option_map (λ d. d.0) result ≡ position (X.Input.eq input) (map (λ e. e.input) self.now) }
-        ensures present { is_some result ≡ is_some (position (X.Input.eq input) (map (λ e. e.input) self.now)) }
+        ensures found { option_map (λ d. d.0) result ≡ position_of X.Input.eq input self.now }
+        ensures present { is_some result ≡ is_some (position_of X.Input.eq input self.now) }
         ensures on_stack { IfSome result (λ d. d.0 < length self.now) }
     {
         match self.depths.get(&input) {
@@ -177,8 +177,9 @@ impl<X: Cx> Stack<X> {
 
     /// Appends an entry whose input isn't on the stack. A refusal leaves the stack as it was.
     pub fn push(&mut self, entry: StackEntry<X>) -> Result<StackDepth, NoMemory>
-        requires { position (X.Input.eq entry.input) (map (λ e. e.input) self.old) ≡ None }
-        ensures ok { IfOk result (λ d. (d.0 ≡ length self.old) × (self.new ≡ self.old ++ entry ∷ [])) }
+        requires { position_of X.Input.eq entry.input self.old ≡ None }
+        ensures ok { IfOk result (λ d. (d.0 ≡ length self.old)
+            × (self.new ≡ self.old ++ entry ∷ [])) }
         ensures err { OnErr result (self.new ≡ self.old) }
     {
         self.entries.reserve(1)?;
@@ -200,15 +201,21 @@ impl<X: Cx> Stack<X> {
 }
 
 impl<X: Cx> Stack<X> {
-    ghost use Rattle.std.specs.Prelude.{◌≡◌, ◌<◌, ◌+◌, ◌-◌, length, slice_index_or};
+    ghost use Rattle.std.specs.Prelude.{◌≡◌, ◌<◌, ◌+◌, length};
     ghost use Rattle.std.specs.Borrow.{sem};
-    ghost use Rattle.search_parts.specs.Lent.{LendsLastState};
+    ghost use Rattle.search_parts.specs.Stack.{IsLastState};
+    ghost use Rattle.search_parts.specs.Lent.{LendsLastState, traits};
 
     /// What may change of the last entry. Its input is not lent, so that it is found as before.
     pub fn last_mut(&mut self) -> &mut EntryState<X>
         requires { 0 < length self.old }
-        ensures* writes_back { sem 𝓛 (LendsLastState X.row X.Input.row X.Result.row X.AmbiguityInfo.row X.DepNodeIndex.row X.Cx X.Input.Debug X.Input.PartialEq X.Input.Hash.own X.Result.Debug X.Result.PartialEq X.Result.Hash.own X.AmbiguityInfo.Debug X.AmbiguityInfo.PartialEq X.AmbiguityInfo.Hash.own self.entry result) }
-        ensures value { (d : _) → result.now ≡ (slice_index_or self.old (length self.old - 1) d).state }
+        ensures* writes_back { sem 𝓛 (LendsLastState
+            X.row X.Input.row X.Result.row X.AmbiguityInfo.row X.DepNodeIndex.row X.Cx
+            (traits X.Input.Debug X.Input.PartialEq X.Input.Hash.own)
+            (traits X.Result.Debug X.Result.PartialEq X.Result.Hash.own)
+            (traits X.AmbiguityInfo.Debug X.AmbiguityInfo.PartialEq X.AmbiguityInfo.Hash.own)
+            self.entry result) }
+        ensures value { IsLastState self.old result.now }
     {
         let last = self.entries.len() - 1;
         let entry = &mut self.entries[last];
@@ -218,8 +225,13 @@ impl<X: Cx> Stack<X> {
     /// The place of the last entry, and what may change of it. Ports `Stack::last_mut_with_index`.
     pub fn last_mut_with_index(&mut self) -> (StackDepth, &mut EntryState<X>)
         requires { 0 < length self.old }
-        ensures* writes_back { sem 𝓛 (LendsLastState X.row X.Input.row X.Result.row X.AmbiguityInfo.row X.DepNodeIndex.row X.Cx X.Input.Debug X.Input.PartialEq X.Input.Hash.own X.Result.Debug X.Result.PartialEq X.Result.Hash.own X.AmbiguityInfo.Debug X.AmbiguityInfo.PartialEq X.AmbiguityInfo.Hash.own self.entry result.1) }
-        ensures value { (d : _) → result.1.now ≡ (slice_index_or self.old (length self.old - 1) d).state }
+        ensures* writes_back { sem 𝓛 (LendsLastState
+            X.row X.Input.row X.Result.row X.AmbiguityInfo.row X.DepNodeIndex.row X.Cx
+            (traits X.Input.Debug X.Input.PartialEq X.Input.Hash.own)
+            (traits X.Result.Debug X.Result.PartialEq X.Result.Hash.own)
+            (traits X.AmbiguityInfo.Debug X.AmbiguityInfo.PartialEq X.AmbiguityInfo.Hash.own)
+            self.entry result.1) }
+        ensures value { IsLastState self.old result.1.now }
         ensures place { result.0.0 + 1 ≡ length self.old }
     {
         let depth = StackDepth::new(self.len() - 1);

@@ -18,11 +18,13 @@ pub(super) fn remove_users<I: Eq + Hash + Copy, X: Cx>(
 )
     ensures others { (input : I) → entries_at I.eq (lists_of lists.new.entries) input
         ≡ filter (λ entry. not (rests_on depth entry)) (entries_at I.eq (lists_of lists.old.entries) input) }
-    ensures left { (input : I) → IfSome (lookup (I.eq input) (lists_of lists.new.entries)) (λ entries. entries ≢ []) }
+    ensures left { (input : I)
+        → IfSome (lookup (I.eq input) (lists_of lists.new.entries)) (λ entries. entries ≢ []) }
 {
     lists.retain(
         |_, entries|
-            ensures others { entries.new.items ≡ filter (λ entry. not (rests_on depth entry)) entries.old.items }
+            ensures others { entries.new.items
+                ≡ filter (λ entry. not (rests_on depth entry)) entries.old.items }
             ensures left { IsTrue result ↔ (entries.new.items ≢ []) }
         { remove_users_of_list(entries, depth) },
     );
@@ -33,7 +35,8 @@ fn remove_users_of_list<X: Cx>(
     entries: &mut Vec<ProvisionalCacheEntry<X>>,
     depth: StackDepth,
 ) -> bool
-    ensures others { entries.new.items ≡ filter (λ entry. not (rests_on depth entry)) entries.old.items }
+    ensures others { entries.new.items
+        ≡ filter (λ entry. not (rests_on depth entry)) entries.old.items }
     ensures left { IsTrue result ↔ (entries.new.items ≢ []) }
 {
     entries.retain(|entry| !is_used_at(&entry.heads, depth));

@@ -14,7 +14,9 @@ pub(super) fn concerns_lists<I: Eq + Hash + Copy, X: Cx>(
     lists: &HashMap<I, Vec<ProvisionalCacheEntry<X>>>,
     depth: StackDepth,
 ) -> bool
-    ensures { result ≡ list_any (λ list. list_any (λ entry. highest_passes (λ at _. nat_eq at depth.0) entry.heads) list.1) (lists_of lists.now.entries) }
+    ensures { result ≡ list_any
+        (λ list. list_any (λ entry. highest_passes (λ at _. nat_eq at depth.0) entry.heads) list.1)
+        (lists_of lists.now.entries) }
 {
     for (_, entries) in lists.iter() {
         if concerns_list(entries.as_slice(), depth) {
@@ -26,7 +28,8 @@ pub(super) fn concerns_lists<I: Eq + Hash + Copy, X: Cx>(
 
 // Whether an entry is concerned by the goal at the depth.
 pub(super) fn concerns_list<X: Cx>(entries: &[ProvisionalCacheEntry<X>], depth: StackDepth) -> bool
-    ensures { result ≡ list_any (λ entry. highest_passes (λ at _. nat_eq at depth.0) entry.heads) entries.now }
+    ensures { result ≡ list_any (λ entry.
+        highest_passes (λ at _. nat_eq at depth.0) entry.heads) entries.now }
 {
     entries.iter().any(|entry| concerns_entry(entry, depth))
 }

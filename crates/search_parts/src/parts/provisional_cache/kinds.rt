@@ -35,7 +35,9 @@ fn keeps_kinds_from(
     to_done: PathsToNested,
     to_head: PathsToNested,
 ) -> bool
-    ensures { result ≡ list_all (λ to_head. list_all (λ own. keeps_kind from_head to_entry own to_head) (kinds_in to_done)) (kinds_in to_head) }
+    ensures { result ≡ list_all
+        (λ to_head. list_all (λ own. keeps_kind from_head to_entry own to_head) (kinds_in to_done))
+        (kinds_in to_head) }
 {
     to_head.iter_paths().all(|to_head| keeps_kinds_over(from_head, to_entry, to_done, to_head))
 }
@@ -47,7 +49,8 @@ fn keeps_kinds_over(
     to_done: PathsToNested,
     to_head: PathKind,
 ) -> bool
-    ensures { result ≡ list_all (λ own. keeps_kind from_head to_entry own to_head) (kinds_in to_done) }
+    ensures { result ≡ list_all (λ own.
+        keeps_kind from_head to_entry own to_head) (kinds_in to_done) }
 {
     to_done
         .iter_paths()

@@ -19,7 +19,8 @@ pub(super) fn first_usable<'a, X: Cx>(
     step: PathKind,
 ) -> Option<&'a ProvisionalCacheEntry<X>>
     requires heads { All (λ entry. entry.heads ≢ []) entries.now }
-    requires on_stack { All (λ entry. IfSome (highest entry.heads) (λ head. head.0.0 < length stack.now)) entries.now }
+    requires on_stack { All (λ entry.
+        IfSome (highest entry.heads) (λ head. head.0.0 < length stack.now)) entries.now }
     ensures { option_copied result ≡ find (may_be_used stack.now step) entries.now }
 {
     for entry in entries {

@@ -65,7 +65,8 @@ pub(super) fn settlement_for<D: Delegate>(
     input: <D::Cx as Cx>::Input,
     reason: &RebaseReason<D::Cx>,
 ) -> Settlement<D::Cx>
-    ensures { settled_by result ≡ settled (D.propagated cx input) (D.fixpoint_overflow cx input) reason.now }
+    ensures { settled_by result
+        ≡ settled (D.propagated cx input) (D.fixpoint_overflow cx input) reason.now }
 {
     match reason {
         RebaseReason::NoCycleUsages => Settlement::Dropped,
@@ -87,11 +88,18 @@ pub(super) fn rebase_lists<D: Delegate>(
     stack: &Stack<D::Cx>,
     reason: &RebaseReason<D::Cx>,
 ) -> Result<HashMap<<D::Cx as Cx>::Input, Vec<ProvisionalCacheEntry<D::Cx>>>, NoMemory>
-    requires can { (input : D.Cx.Input) → All (CanBeRebased (length stack.now)) (entries_at D.Cx.Input.eq (lists_of lists.entries) input) }
+    requires can { (input : D.Cx.Input)
+        → All (CanBeRebased (length stack.now))
+            (entries_at D.Cx.Input.eq (lists_of lists.entries) input) }
     requires on_stack { All (λ head. head.0.0 < length stack.now) done.now.state.heads }
-    ensures rebased { IfOk result (λ left. (input : D.Cx.Input) → entries_at D.Cx.Input.eq (lists_of left.entries) input
-        ≡ filter_map (rebased stack.now done.now (settled (D.propagated cx input) (D.fixpoint_overflow cx input) reason.now)) (entries_at D.Cx.Input.eq (lists_of lists.entries) input)) }
-    ensures left { IfOk result (λ left. (input : D.Cx.Input) → IfSome (lookup (D.Cx.Input.eq input) (lists_of left.entries)) (λ entries. entries ≢ [])) }
+    ensures rebased { IfOk result (λ left. (input : D.Cx.Input)
+        → entries_at D.Cx.Input.eq (lists_of left.entries) input
+        ≡ filter_map
+            (rebased stack.now done.now
+                (settled (D.propagated cx input) (D.fixpoint_overflow cx input) reason.now))
+            (entries_at D.Cx.Input.eq (lists_of lists.entries) input)) }
+    ensures left { IfOk result (λ left. (input : D.Cx.Input)
+        → IfSome (lookup (D.Cx.Input.eq input) (lists_of left.entries)) (λ entries. entries ≢ [])) }
 {
     let mut left = HashMap::new(alloc);
     left.reserve(lists.len())?;
@@ -128,7 +136,8 @@ pub(super) fn rebase_list<X: Cx>(
 ) -> Result<Vec<ProvisionalCacheEntry<X>>, NoMemory>
     requires can { All (CanBeRebased (length stack.now)) entries.items }
     requires on_stack { All (λ head. head.0.0 < length stack.now) done.now.state.heads }
-    ensures { IfOk result (λ left. left.items ≡ filter_map (rebased stack.now done.now (settled_by settlement.now)) entries.items) }
+    ensures { IfOk result (λ left.
+        left.items ≡ filter_map (rebased stack.now done.now (settled_by settlement.now)) entries.items) }
 {
     if !concerns_list(entries.as_slice(), stack.next_index()) {
         return Ok(entries);
@@ -151,7 +160,8 @@ fn rebase_entry<X: Cx>(
 ) -> Result<Option<ProvisionalCacheEntry<X>>, NoMemory>
     requires can { CanBeRebased (length stack.now) entry }
     requires on_stack { All (λ head. head.0.0 < length stack.now) done.now.state.heads }
-    ensures { IfOk result (λ after. after ≡ rebased stack.now done.now (settled_by settlement.now) entry) }
+    ensures { IfOk result (λ after.
+        after ≡ rebased stack.now done.now (settled_by settlement.now) entry) }
 {
     let (depth, head) = entry.heads.highest_cycle_head();
     if depth != stack.next_index() {
@@ -196,7 +206,8 @@ fn rebase_used<X: Cx>(
 ) -> Result<Option<ProvisionalCacheEntry<X>>, NoMemory>
     requires can { CanBeRebased (length stack.now) entry }
     requires on_stack { All (λ head. head.0.0 < length stack.now) done.now.state.heads }
-    ensures { IfOk result (λ after. after ≡ rebased_used stack.now done.now (settled_by settlement.now) entry head) }
+    ensures { IfOk result (λ after.
+        after ≡ rebased_used stack.now done.now (settled_by settlement.now) entry head) }
 {
     if !keeps_kinds(entry.path_from_head, head.paths_to_head, done, stack) {
         return Ok(None);
