@@ -1,7 +1,7 @@
 -- An evaluation as a whole goes on by every move.
-use Rattle.std.proofs.Common.{◌≡◌, ◌≢◌, ℕ, ◌+◌, ◌<◌, ◌≤◌, Bool, true, false, List, [], ◌∷◌, None, refl, sym, ◌∙◌, subst, arith}
-use Rattle.evaluations.specs.Below.{Request, Reply, Begin, frames_within, IsPlainTo, fault_after}
-use Rattle.evaluations.specs.Words.{Frame, Outcome, fresh, stepped, replied, answered, refused, run_again, Asks, IsAllowed, IsSafeOutcome, Leaves, Spends, IsPriced, State, at, Limits, IsStarted, Move, Pushed, Answered, Refused, RunAgain, Popped, PoppedAtLimit, IsRooted, IsEvaluating, GoesOn, Ends, Stops}
+use Rattle.std.proofs.Common.{◌≡◌, ◌≢◌, ℕ, ◌+◌, ◌<◌, ◌≤◌, Bool, true, false, List, [], ◌∷◌, None, refl, sym, ◌∙◌, subst, arith, max, ◌||◌}
+use Rattle.evaluations.specs.Below.{Request, Reply, Begin, frames_within, IsPlainTo, fault_after, Answer}
+use Rattle.evaluations.specs.Words.{Frame, Outcome, fresh, stepped, replied, answered, run_again, Asks, IsAllowed, IsSafeOutcome, Leaves, Spends, IsPriced, State, at, Limits, IsStarted, Move, Pushed, Answered, Refused, RunAgain, Popped, PoppedAtLimit, IsRooted, IsEvaluating, GoesOn, Ends, Stops, AreSafe}
 use Rattle.evaluations.specs.Evaluation.{Noted}
 use Rattle.evaluations.proofs.Plains.{push_keeps_safe, step_keeps_safe, reply_keeps_safe, answer_keeps_safe, refusal_keeps_safe, rerun_keeps_safe, pop_keeps_safe, left_is_safe, fitting_is_plain, push_keeps_room, room_is_enough}
 use Rattle.evaluations.proofs.Counts.{step_spends, question_spends, rerun_spends, pop_spends, first_stays_within, move_stays_within, starts_are_within}
@@ -28,6 +28,49 @@ module _ {I R : Type 0} (scripts : I → List (Reply R) → Request I R) (limits
       answer_keeps_priced I R limits.runs limits.root limits.last limits.before starts met f below o (λ e. leaves.met_overflow ∙ w.1 e) w.0
 
   module _ (bound : ℕ) (some : 1 ≤ limits.runs) where
+    abbrev Priced : ℕ → Bool → List (Frame I R) → Type 0
+    Priced = IsPriced limits.runs limits.root limits.last limits.before
+
+    -- the frame after its step, with other replies and what they changed
+    abbrev changed : Frame I R → ℕ → List (Reply R) → ℕ → Bool → Bool → Frame I R
+    changed f left replies required overflow cycle = record f { left = left; replies = replies; required = required; met_overflow = overflow; in_cycle = cycle }
+
+    replying : (f : Frame I R) (below : List (Frame I R)) (left starts : ℕ) (met after : Bool) (replies : List (Reply R)) (required : ℕ) (overflow cycle : Bool)
+        → left < f.left → AreSafe scripts (changed f left replies required overflow cycle ∷ below)
+        → (is_counted → Priced starts met (stepped f left ∷ below) → Priced starts after (changed f left replies required overflow cycle ∷ below))
+        → IsEvaluating scripts limits is_counted top bound (at (f ∷ below) starts met)
+        → GoesOn scripts limits is_counted top bound (at (f ∷ below) starts met) (at (changed f left replies required overflow cycle ∷ below) starts after)
+    replying f below left starts met after replies required overflow cycle less safe priced h =
+        let spent = step_spends I R limits.runs limits.width f below left less in
+        record {
+          evaluating = record {
+            rooted = rooted_with f (changed f left replies required overflow cycle) below refl refl h.rooted;
+            safe = safe;
+            room = h.room;
+            within = move_stays_within I R limits.runs limits.width bound starts starts 0 (f ∷ below) (stepped f left ∷ below) spent (omega arith) h.within;
+            priced = λ c. priced c (step_keeps_priced I R limits.runs limits.root limits.last limits.before starts met f below left (h.priced c));
+          };
+          falls = spent.steps;
+        }
+
+    popping : (child f : Frame I R) (below : List (Frame I R)) (left starts : ℕ) (met after : Bool) (o : Outcome R)
+        → left < child.left → Leaves scripts child o
+        → (is_counted → Priced starts met (child ∷ f ∷ below) → Priced starts after (child ∷ f ∷ below))
+        → IsEvaluating scripts limits is_counted top bound (at (child ∷ f ∷ below) starts met)
+        → GoesOn scripts limits is_counted top bound (at (child ∷ f ∷ below) starts met) (at (answered f o ∷ below) starts after)
+    popping child f below left starts met after o less leaves priced h =
+        let spent = pop_spends I R limits.runs limits.width child (f ∷ below) left less in
+        record {
+          evaluating = record {
+            rooted = rooted_with f (answered f o) below refl refl h.rooted;
+            safe = pop_keeps_safe scripts child f below o leaves h.safe;
+            room = λ n p enough. (h.room n p enough).1;
+            within = move_stays_within I R limits.runs limits.width bound starts starts 0 (child ∷ f ∷ below) (f ∷ below) spent (omega arith) h.within;
+            priced = λ c. popped_priced starts after child f below o leaves (priced c (h.priced c));
+          };
+          falls = spent.steps;
+        }
+
     pub move_goes_on : (old new : State I R) → Move scripts limits is_counted old new → IsEvaluating scripts limits is_counted top bound old → GoesOn scripts limits is_counted top bound old new
     move_goes_on old new (Pushed {f = f} {below = below} {goal = goal} {depth = depth} {left = left} {first = first} {starts = starts} {now = now} {met = met} less asks allowed fits started) h =
         let spent = question_spends I R limits.runs limits.width f below goal depth left first some allowed.is_less less fits in
@@ -46,44 +89,17 @@ module _ {I R : Type 0} (scripts : I → List (Reply R) → Request I R) (limits
           falls = spent.steps;
         }
     move_goes_on old new (Noted {f = f} {below = below} {left = left} {starts = starts} {met = met} {reply = reply} less fits) h =
-        let spent = step_spends I R limits.runs limits.width f below left less in
-        record {
-          evaluating = record {
-            rooted = rooted_with f (replied (stepped f left) reply) below refl refl h.rooted;
-            safe = reply_keeps_safe scripts (stepped f left) below reply fits (step_keeps_safe scripts f below left h.safe);
-            room = h.room;
-            within = move_stays_within I R limits.runs limits.width bound starts starts 0 (f ∷ below) (stepped f left ∷ below) spent (omega arith) h.within;
-            priced = λ c. reply_keeps_priced I R limits.runs limits.root limits.last limits.before starts met (stepped f left) below reply
-                (step_keeps_priced I R limits.runs limits.root limits.last limits.before starts met f below left (h.priced c));
-          };
-          falls = spent.steps;
-        }
+        replying f below left starts met met (reply ∷ f.replies) f.required f.met_overflow f.in_cycle less
+        (reply_keeps_safe scripts (stepped f left) below reply fits (step_keeps_safe scripts f below left h.safe))
+        (λ _. reply_keeps_priced I R limits.runs limits.root limits.last limits.before starts met (stepped f left) below reply) h
     move_goes_on old new (Answered {f = f} {below = below} {goal = goal} {depth = depth} {left = left} {starts = starts} {met = met} {o = o} less asks allowed outcome calm) h =
-        let spent = step_spends I R limits.runs limits.width f below left less in
-        record {
-          evaluating = record {
-            rooted = rooted_with f (answered (stepped f left) o) below refl refl h.rooted;
-            safe = answer_keeps_safe scripts (stepped f left) below goal depth o asks (record { is_less = allowed.is_less; is_next = allowed.is_next }) outcome (step_keeps_safe scripts f below left h.safe);
-            room = h.room;
-            within = move_stays_within I R limits.runs limits.width bound starts starts 0 (f ∷ below) (stepped f left ∷ below) spent (omega arith) h.within;
-            priced = λ c. answer_keeps_priced I R limits.runs limits.root limits.last limits.before starts met (stepped f left) below o (calm c)
-                (step_keeps_priced I R limits.runs limits.root limits.last limits.before starts met f below left (h.priced c));
-          };
-          falls = spent.steps;
-        }
+        replying f below left starts met met (Answer o.result ∷ f.replies) (max f.required (o.required + 1)) (f.met_overflow || o.met_overflow) (f.in_cycle || o.in_cycle) less
+        (answer_keeps_safe scripts (stepped f left) below goal depth o asks (record { is_less = allowed.is_less; is_next = allowed.is_next }) outcome (step_keeps_safe scripts f below left h.safe))
+        (λ c. answer_keeps_priced I R limits.runs limits.root limits.last limits.before starts met (stepped f left) below o (calm c)) h
     move_goes_on old new (Refused {f = f} {below = below} {goal = goal} {left = left} {starts = starts} {met = met} {r = r} less asks none) h =
-        let spent = step_spends I R limits.runs limits.width f below left less in
-        record {
-          evaluating = record {
-            rooted = rooted_with f (refused (stepped f left) r) below refl refl h.rooted;
-            safe = refusal_keeps_safe scripts (stepped f left) below goal r asks none (step_keeps_safe scripts f below left h.safe);
-            room = h.room;
-            within = move_stays_within I R limits.runs limits.width bound starts starts 0 (f ∷ below) (stepped f left ∷ below) spent (omega arith) h.within;
-            priced = λ c. refusal_is_paid I R limits.runs limits.root limits.last limits.before starts met (stepped f left) below r none
-                (step_keeps_priced I R limits.runs limits.root limits.last limits.before starts met f below left (h.priced c));
-          };
-          falls = spent.steps;
-        }
+        replying f below left starts met true (Answer r ∷ f.replies) f.required true f.in_cycle less
+        (refusal_keeps_safe scripts (stepped f left) below goal r asks none (step_keeps_safe scripts f below left h.safe))
+        (λ _. refusal_is_paid I R limits.runs limits.root limits.last limits.before starts met (stepped f left) below r none) h
     move_goes_on old new (RunAgain {f = f} {below = below} {left = left} {first = first} {starts = starts} {now = now} {met = met} less again fits started) h =
         let spent = rerun_spends I R limits.runs limits.width f below left first again less fits in
         record {
@@ -99,29 +115,9 @@ module _ {I R : Type 0} (scripts : I → List (Reply R) → Request I R) (limits
           falls = spent.steps;
         }
     move_goes_on old new (Popped {child = child} {f = f} {below = below} {left = left} {starts = starts} {met = met} {o = o} less leaves) h =
-        let spent = pop_spends I R limits.runs limits.width child (f ∷ below) left less in
-        record {
-          evaluating = record {
-            rooted = rooted_with f (answered f o) below refl refl h.rooted;
-            safe = pop_keeps_safe scripts child f below o leaves h.safe;
-            room = λ n p enough. (h.room n p enough).1;
-            within = move_stays_within I R limits.runs limits.width bound starts starts 0 (child ∷ f ∷ below) (f ∷ below) spent (omega arith) h.within;
-            priced = λ c. popped_priced starts met child f below o leaves (h.priced c);
-          };
-          falls = spent.steps;
-        }
+        popping child f below left starts met met o less leaves (λ _ priced. priced) h
     move_goes_on old new (PoppedAtLimit {child = child} {f = f} {below = below} {left = left} {starts = starts} {met = met} {o = o} less leaves last_run) h =
-        let spent = pop_spends I R limits.runs limits.width child (f ∷ below) left less in
-        record {
-          evaluating = record {
-            rooted = rooted_with f (answered f o) below refl refl h.rooted;
-            safe = pop_keeps_safe scripts child f below o leaves h.safe;
-            room = λ n p enough. (h.room n p enough).1;
-            within = move_stays_within I R limits.runs limits.width bound starts starts 0 (child ∷ f ∷ below) (f ∷ below) spent (omega arith) h.within;
-            priced = λ c. popped_priced starts true child f below o leaves (last_run_is_paid I R limits.runs limits.root limits.last limits.before starts met child (f ∷ below) last_run (h.priced c));
-          };
-          falls = spent.steps;
-        }
+        popping child f below left starts met true o less leaves (λ _. last_run_is_paid I R limits.runs limits.root limits.last limits.before starts met child (f ∷ below) last_run) h
 
   pub last_frame_ends : (bound starts : ℕ) (met : Bool) (f : Frame I R) (o : Outcome R) → Leaves scripts f o → IsEvaluating scripts limits is_counted top bound (at (f ∷ []) starts met) → Ends scripts limits is_counted top bound starts met o
   last_frame_ends bound starts met f o leaves h =

@@ -6,7 +6,7 @@ use Rattle.evaluations.specs.Evaluation.{Noted}
 use Rattle.evaluations.proofs.Evaluations.{root_is_evaluating, move_goes_on, last_frame_ends, last_run_ends, evaluation_stops, failed_start_stops, fitting_meets_no_limit}
 use Rattle.evaluations.proofs.Plains.{step_keeps_safe, left_is_safe, cycle_has_no_rank}
 use Rattle.evaluations.proofs.Counts.{question_spends, rerun_spends}
-use Rattle.evaluations.proofs.Prices.{pop_keeps_priced, refusal_is_paid, last_run_is_paid}
+use Rattle.evaluations.proofs.Prices.{pop_keeps_priced, last_run_is_paid}
 
 module _ {E I R : Type 0} (seen : E → Frame I R) (stands : E → List (Reply R) → Type 0) (runs width : ℕ) where
   seen_ahead : (items : List E) (frames : List (Frame I R)) → AreSeen seen stands items frames → frames_ahead runs width frames ≡ frames_ahead runs width (map seen items)
