@@ -28,3 +28,4 @@ pub mod Stores
 pub mod LookUps
 pub mod Stored
 pub mod Sound
+pub mod Filtered
