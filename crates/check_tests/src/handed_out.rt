@@ -3,20 +3,11 @@
 use rule_tables::{Builder, Goal, Outcome};
 use search_graph::graph::SearchGraph;
 use search_graph::graph_check::check_graph;
-use search_parts::context::{Cx, Delegate, Edge, Node, ProofGraph, Reply, Verdict};
+use search_parts::context::{Cx, Delegate, Edge, Node, ProofGraph, Reply};
 use search_parts::global_cache::GlobalCache;
 use search_parts::path::PathKind;
 use std::alloc::Global;
 use std::test::Fail;
-
-/// The sort of an outcome.
-pub fn verdict_of(outcome: Outcome) -> Verdict {
-    match outcome {
-        Outcome::Yes => Verdict::Yes,
-        Outcome::No => Verdict::No,
-        Outcome::Maybe | Outcome::Overflow => Verdict::Neither,
-    }
-}
 
 /// The goal's answer at this depth, and the graph that is handed out for it, if it is definite.
 pub fn graph_for<X, D>(
@@ -54,7 +45,7 @@ where
     D: Delegate<Cx = X, ProofTreeBuilder = Builder>,
 {
     let mut builder = Builder::new(true);
-    Ok(check_graph::<D>(alloc, cx, graph, goal, verdict_of(outcome), &mut builder)?)
+    Ok(check_graph::<D>(alloc, cx, graph, goal, outcome.verdict(), &mut builder)?)
 }
 
 /// A copy of the node.

@@ -1,6 +1,5 @@
 //! Graphs made by hand, and what the checker says of them.
 
-use crate::handed_out::verdict_of;
 use graph_check::check_graph;
 use rule_tables::Outcome::{No, Yes};
 use rule_tables::delegate::Table;
@@ -244,7 +243,7 @@ where
 
 #[test]
 fn outcomes_are_sorted(rt: HostRuntime) {
-    assert_eq!(rt; verdict_of(Yes), Verdict::Yes);
-    assert_eq!(rt; verdict_of(No), Verdict::No);
-    assert_eq!(rt; verdict_of(Outcome::Overflow), Verdict::Neither);
+    assert_eq!(rt; Yes.verdict(), Verdict::Yes);
+    assert_eq!(rt; No.verdict(), Verdict::No);
+    assert_eq!(rt; Outcome::Overflow.verdict(), Verdict::Neither);
 }

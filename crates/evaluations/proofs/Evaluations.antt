@@ -1,7 +1,7 @@
 -- An evaluation as a whole goes on by every move.
 use Rattle.std.proofs.Common.{◌≡◌, ◌≢◌, ℕ, ◌+◌, ◌<◌, ◌≤◌, Bool, true, false, List, [], ◌∷◌, None, refl, sym, ◌∙◌, subst, arith, max, ◌||◌}
 use Rattle.evaluations.specs.Below.{Request, Reply, Begin, frames_within, IsPlainTo, fault_after, Answer}
-use Rattle.evaluations.specs.Words.{Frame, Outcome, fresh, stepped, replied, answered, run_again, Asks, IsAllowed, IsSafeOutcome, Leaves, Spends, IsPriced, State, at, Limits, IsStarted, Move, Pushed, Answered, Refused, RunAgain, Popped, PoppedAtLimit, IsRooted, IsEvaluating, GoesOn, Ends, Stops, AreSafe}
+use Rattle.evaluations.specs.Words.{Frame, Outcome, fresh, stepped, replied, answered, run_again, Asks, IsAllowed, IsSafeOutcome, LeavesOutcome, Spends, IsPriced, State, at, Limits, IsStarted, Move, Pushed, Answered, Refused, RunAgain, Popped, PoppedAtLimit, IsRooted, IsEvaluating, GoesOn, Ends, Stops, AreSafe}
 use Rattle.evaluations.specs.Evaluation.{Noted}
 use Rattle.evaluations.proofs.Plains.{push_keeps_safe, step_keeps_safe, reply_keeps_safe, answer_keeps_safe, refusal_keeps_safe, rerun_keeps_safe, pop_keeps_safe, left_is_safe, fitting_is_plain, push_keeps_room, room_is_enough}
 use Rattle.evaluations.proofs.Counts.{step_spends, question_spends, rerun_spends, pop_spends, first_stays_within, move_stays_within, starts_are_within}
@@ -22,7 +22,7 @@ module _ {I R : Type 0} (scripts : I → List (Reply R) → Request I R) (limits
         (reply_keeps_priced I R limits.runs limits.root limits.last limits.before now false (fresh top limits.root first) [] Begin (first_is_priced I R limits.runs limits.root limits.last limits.before now top first (started.exactly c)));
   }
 
-  popped_priced : (starts : ℕ) (met : Bool) (child f : Frame I R) (below : List (Frame I R)) (o : Outcome R) → Leaves scripts child o → IsPriced limits.runs limits.root limits.last limits.before starts met (child ∷ f ∷ below) → IsPriced limits.runs limits.root limits.last limits.before starts met (answered f o ∷ below)
+  popped_priced : (starts : ℕ) (met : Bool) (child f : Frame I R) (below : List (Frame I R)) (o : Outcome R) → LeavesOutcome scripts child o → IsPriced limits.runs limits.root limits.last limits.before starts met (child ∷ f ∷ below) → IsPriced limits.runs limits.root limits.last limits.before starts met (answered f o ∷ below)
   popped_priced starts met child f below o leaves h =
       let w = pop_keeps_priced I R limits.runs limits.root limits.last limits.before starts met child (f ∷ below) h in
       answer_keeps_priced I R limits.runs limits.root limits.last limits.before starts met f below o (λ e. leaves.met_overflow ∙ w.1 e) w.0
@@ -54,7 +54,7 @@ module _ {I R : Type 0} (scripts : I → List (Reply R) → Request I R) (limits
         }
 
     popping : (child f : Frame I R) (below : List (Frame I R)) (left starts : ℕ) (met after : Bool) (o : Outcome R)
-        → left < child.left → Leaves scripts child o
+        → left < child.left → LeavesOutcome scripts child o
         → (is_counted → Priced starts met (child ∷ f ∷ below) → Priced starts after (child ∷ f ∷ below))
         → IsEvaluating scripts limits is_counted top bound (at (child ∷ f ∷ below) starts met)
         → GoesOn scripts limits is_counted top bound (at (child ∷ f ∷ below) starts met) (at (answered f o ∷ below) starts after)
@@ -119,7 +119,7 @@ module _ {I R : Type 0} (scripts : I → List (Reply R) → Request I R) (limits
     move_goes_on old new (PoppedAtLimit {child = child} {f = f} {below = below} {left = left} {starts = starts} {met = met} {o = o} less leaves last_run) h =
         popping child f below left starts met true o less leaves (λ _. last_run_is_paid I R limits.runs limits.root limits.last limits.before starts met child (f ∷ below) last_run) h
 
-  pub last_frame_ends : (bound starts : ℕ) (met : Bool) (f : Frame I R) (o : Outcome R) → Leaves scripts f o → IsEvaluating scripts limits is_counted top bound (at (f ∷ []) starts met) → Ends scripts limits is_counted top bound starts met o
+  pub last_frame_ends : (bound starts : ℕ) (met : Bool) (f : Frame I R) (o : Outcome R) → LeavesOutcome scripts f o → IsEvaluating scripts limits is_counted top bound (at (f ∷ []) starts met) → Ends scripts limits is_counted top bound starts met o
   last_frame_ends bound starts met f o leaves h =
       let safe = subst (λ d. IsSafeOutcome scripts top d o) h.rooted.1 (subst (λ g. IsSafeOutcome scripts g f.available o) h.rooted.0 (left_is_safe scripts f o leaves h.safe.0)) in
       record {
@@ -129,7 +129,7 @@ module _ {I R : Type 0} (scripts : I → List (Reply R) → Request I R) (limits
         paid = λ c e. (h.priced c).paid e;
       }
 
-  pub last_run_ends : (bound starts : ℕ) (met : Bool) (f : Frame I R) (o : Outcome R) → limits.runs ≤ f.finished_runs + 1 → Leaves scripts f o → IsEvaluating scripts limits is_counted top bound (at (f ∷ []) starts met) → Ends scripts limits is_counted top bound starts true o
+  pub last_run_ends : (bound starts : ℕ) (met : Bool) (f : Frame I R) (o : Outcome R) → limits.runs ≤ f.finished_runs + 1 → LeavesOutcome scripts f o → IsEvaluating scripts limits is_counted top bound (at (f ∷ []) starts met) → Ends scripts limits is_counted top bound starts true o
   last_run_ends bound starts met f o last_run leaves h = last_frame_ends bound starts true f o leaves (record {
     rooted = h.rooted;
     safe = h.safe;

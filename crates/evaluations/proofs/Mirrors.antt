@@ -1,7 +1,7 @@
 -- A driver's items mirror the frames from move to move.
 use Rattle.std.proofs.Common.{◌≡◌, ℕ, ◌+◌, ◌*◌, ◌<◌, ◌≤◌, Bool, true, false, inl, inr, List, [], ◌∷◌, map, Some, refl, sym, ◌∙◌, ap, ap₂, subst, arith}
 use Rattle.evaluations.specs.Below.{Request, Reply, Evaluate, Done, Begin, Answer, PathKind, frames_within, IsPlainTo, HasNoRank, request_after, IsReplyTo, IsFitting}
-use Rattle.evaluations.specs.Words.{Frame, Outcome, fresh, stepped, replied, answered, refused, run_again, IsAllowed, IsSafeOutcome, IsOnStack, Leaves, HasRoom, frames_ahead, frames_ahead_of, steps_in_runs, steps_ahead, at, Limits, IsStarted, Move, Pushed, Answered, Refused, RunAgain, Popped, PoppedAtLimit, IsEvaluating, Ends, Stops, with_replies, IsSeen, IsPending, AreSeen, Mirror, work, Waits, HasRequested, TakesStep, TakesReply, ItemLeaves, IsAmong}
+use Rattle.evaluations.specs.Words.{Frame, Outcome, fresh, stepped, replied, answered, refused, run_again, IsAllowed, IsSafeOutcome, IsOnStack, LeavesOutcome, HasRoom, frames_ahead, frames_ahead_of, steps_in_runs, steps_ahead, at, Limits, IsStarted, Move, Pushed, Answered, Refused, RunAgain, Popped, PoppedAtLimit, IsEvaluating, Ends, Stops, with_replies, IsSeen, IsPending, AreSeen, Mirror, work, Waits, HasRequested, TakesStep, TakesReply, ItemLeaves, IsAmong}
 use Rattle.evaluations.specs.Evaluation.{Noted}
 use Rattle.evaluations.proofs.Evaluations.{root_is_evaluating, move_goes_on, last_frame_ends, last_run_ends, evaluation_stops, failed_start_stops, fitting_meets_no_limit}
 use Rattle.evaluations.proofs.Plains.{step_keeps_safe, left_is_safe, cycle_has_no_rank}
@@ -85,7 +85,7 @@ module _ {E I R : Type 0} (seen : E → Frame I R) (stands : E → List (Reply R
       let b : IsAllowed (stepped f left) depth = subst (λ g. IsAllowed g depth) (sym s.is) (record { is_less = a.is_less; is_next = a.is_next }) in
       record { is_less = b.is_less; is_next = b.is_next }
 
-  leaves_at : (e : E) (f : Frame I R) (left : ℕ) (r : R) (o : Outcome R) → IsSeen seen stands e (stepped f left) → request_after (scripts f.goal) f.replies ≡ Some (Done r) → ItemLeaves r (seen e) o → Leaves scripts f o
+  leaves_at : (e : E) (f : Frame I R) (left : ℕ) (r : R) (o : Outcome R) → IsSeen seen stands e (stepped f left) → request_after (scripts f.goal) f.replies ≡ Some (Done r) → ItemLeaves r (seen e) o → LeavesOutcome scripts f o
   leaves_at e f left r o s done l =
       let b : ItemLeaves r (stepped f left) o = subst (λ g. ItemLeaves r g o) (sym s.is) (record { result = l.result; required = l.required; met_overflow = l.met_overflow; in_cycle = l.in_cycle }) in
       record {
@@ -156,25 +156,23 @@ module _ {E I R : Type 0} (seen : E → Frame I R) (stands : E → List (Reply R
         let runs : h.f.finished_runs ≡ (seen e).finished_runs = ap (λ g. g.finished_runs) h.mirror.0.is in
         popped_at r o p later true h.below h refl h.mirror.1 (λ q rest. PoppedAtLimit {left = h.left} h.falls (leaves_at e h.f h.left r o h.mirror.0 h.requested leaves) (omega arith)) takes
 
-  ends_at : (r : R) (o : Outcome R) (ahead starts : ℕ) (met : Bool) (e : E) (below : List (Frame I R)) (h : Requested ahead (Done r) (e ∷ []) starts met) → h.below ≡ below → AreSeen seen stands [] below → ItemLeaves r (seen e) o → Ends scripts limits is_counted top bound starts met o
-  ends_at r o ahead starts met e (q ∷ rest) h is m leaves = absurd m
-  ends_at r o ahead starts met e [] h is m leaves =
-      last_frame_ends scripts limits is_counted top bound starts met h.f o (leaves_at e h.f h.left r o h.mirror.0 h.requested leaves)
-      (subst (λ b. IsEvaluating scripts limits is_counted top bound (at (h.f ∷ b) starts met)) is h.evaluating)
+  -- one item has one frame,
+  alone : (below : List (Frame I R)) → AreSeen seen stands [] below → below ≡ []
+  alone [] m = refl
+  alone (q ∷ rest) m = absurd m
+
+  last_evaluating : (ahead : ℕ) (request : Request I R) (starts : ℕ) (met : Bool) (e : E) (h : Requested ahead request (e ∷ []) starts met) → IsEvaluating scripts limits is_counted top bound (at (h.f ∷ []) starts met)
+  last_evaluating ahead request starts met e h = subst (λ b. IsEvaluating scripts limits is_counted top bound (at (h.f ∷ b) starts met)) (alone h.below h.mirror.1) h.evaluating
 
   -- and in the end the promises are kept
   pub last_item_ends : (r : R) (o : Outcome R) (ahead starts : ℕ) (met : Bool) (e : E) → ItemLeaves r (seen e) o → Requested ahead (Done r) (e ∷ []) starts met → Ends scripts limits is_counted top bound starts met o
-  last_item_ends r o ahead starts met e leaves h = ends_at r o ahead starts met e h.below h refl h.mirror.1 leaves
-
-  ends_at_limit : (r : R) (o : Outcome R) (ahead starts : ℕ) (met : Bool) (e : E) (below : List (Frame I R)) (h : Requested ahead (Done r) (e ∷ []) starts met) → h.below ≡ below → AreSeen seen stands [] below → limits.runs ≤ (seen e).finished_runs + 1 → ItemLeaves r (seen e) o → Ends scripts limits is_counted top bound starts true o
-  ends_at_limit r o ahead starts met e (q ∷ rest) h is m last_run leaves = absurd m
-  ends_at_limit r o ahead starts met e [] h is m last_run leaves =
-      let runs : h.f.finished_runs ≡ (seen e).finished_runs = ap (λ g. g.finished_runs) h.mirror.0.is in
-      last_run_ends scripts limits is_counted top bound starts met h.f o (omega arith) (leaves_at e h.f h.left r o h.mirror.0 h.requested leaves)
-      (subst (λ b. IsEvaluating scripts limits is_counted top bound (at (h.f ∷ b) starts met)) is h.evaluating)
+  last_item_ends r o ahead starts met e leaves h =
+      last_frame_ends scripts limits is_counted top bound starts met h.f o (leaves_at e h.f h.left r o h.mirror.0 h.requested leaves) (last_evaluating ahead (Done r) starts met e h)
 
   pub last_item_ends_at_limit : (r : R) (o : Outcome R) (ahead starts : ℕ) (met : Bool) (e : E) → limits.runs ≤ (seen e).finished_runs + 1 → ItemLeaves r (seen e) o → Requested ahead (Done r) (e ∷ []) starts met → Ends scripts limits is_counted top bound starts true o
-  last_item_ends_at_limit r o ahead starts met e last_run leaves h = ends_at_limit r o ahead starts met e h.below h refl h.mirror.1 last_run leaves
+  last_item_ends_at_limit r o ahead starts met e last_run leaves h =
+      let runs : h.f.finished_runs ≡ (seen e).finished_runs = ap (λ g. g.finished_runs) h.mirror.0.is in
+      last_run_ends scripts limits is_counted top bound starts met h.f o (omega arith) (leaves_at e h.f h.left r o h.mirror.0 h.requested leaves) (last_evaluating ahead (Done r) starts met e h)
 
   -- the newest item may take its step
   can_take_at : (reply : Reply R) (e : E) (es : List E) (starts : ℕ) (met : Bool) (frames : List (Frame I R)) → Mirror seen stands reply (e ∷ es) frames → IsEvaluating scripts limits is_counted top bound (at frames starts met) → (earlier : List (Reply R)) × stands e earlier × IsFitting (scripts (seen e).goal) (reply ∷ earlier)

@@ -1,7 +1,7 @@
 -- Goals with a rank answer their plain values.
 use Rattle.std.proofs.Common.{◌≡◌, ℕ, zero, suc, ◌<◌, ◌≤◌, ◌⊎◌, inl, inr, Bool, true, false, List, [], ◌∷◌, Option, Some, None, refl, sym, ◌∙◌, subst, arith, ◌≢◌, ◌||◌}
-use Rattle.evaluations.specs.Below.{PathKind, Request, Evaluate, EnterCandidate, FinishCandidate, Ignore, Done, Reply, Begin, Answer, Noted, request_after, IsReplyTo, IsAnswered, IsFitting, IsOrderly, AsksOnly, IsPlainValue, IsPlainTo, HasNoRank, IsPlain, IsBelowRank, fault_after}
-use Rattle.evaluations.specs.Words.{Frame, Outcome, Asks, IsAllowed, IsSafeOutcome, IsSafe, AreSafe, IsOnStack, Leaves, AsksAt, HasRoom, HaveRoom, answered, fresh, refused, replied, run_again, stepped}
+use Rattle.evaluations.specs.Below.{PathKind, Request, Evaluate, EnterCandidate, FinishCandidate, Ignore, Done, Reply, Begin, Answer, Noted, request_after, IsReplyTo, AreRepliesTo, IsFitting, IsOrderly, AsksOnly, IsPlainValue, IsPlainTo, HasNoRank, IsPlain, IsBelowRank, fault_after}
+use Rattle.evaluations.specs.Words.{Frame, Outcome, Asks, IsAllowed, IsSafeOutcome, IsSafe, AreSafe, IsOnStack, LeavesOutcome, AsksAt, HasRoom, HaveRoom, answered, fresh, refused, replied, run_again, stepped}
 
 or_cases : (a b : Bool) → (a || b) ≡ true → (a ≡ true) ⊎ (b ≡ true)
 or_cases true b h = inl refl
@@ -45,13 +45,13 @@ module _ {I R : Type 0} (scripts : I → List (Reply R) → Request I R) where
       let l : depth < w.0 = low w.0 w.2 in
       let e : suc w.0 ≡ n = w.1 in omega arith
 
-  answered_among : (goal : I) (P Q : I → R → Type 0) (among : I → Type 0) → AsksOnly (λ _ h. among h) (scripts goal) → ((h : I) (r : R) → among h → P h r → Q h r) → (replies : List (Reply R)) → IsFitting (scripts goal) replies → IsAnswered P (scripts goal) replies → IsAnswered Q (scripts goal) replies
+  answered_among : (goal : I) (P Q : I → R → Type 0) (among : I → Type 0) → AsksOnly (λ _ h. among h) (scripts goal) → ((h : I) (r : R) → among h → P h r → Q h r) → (replies : List (Reply R)) → IsFitting (scripts goal) replies → AreRepliesTo P (scripts goal) replies → AreRepliesTo Q (scripts goal) replies
   answered_among goal P Q among only more [] fits h = tt
   answered_among goal P Q among only more (r ∷ earlier) fits h =
       (reply_among P Q among more (request_after (scripts goal) earlier) (λ kind g is. only earlier kind g fits.1 is) r h.0, answered_among goal P Q among only more earlier fits.1 h.1)
 
   -- plain answers lead to the plain value
-  plain_result : (goal : I) (replies : List (Reply R)) (r : R) → IsFitting (scripts goal) replies → IsAnswered (IsPlain scripts) (scripts goal) replies → request_after (scripts goal) replies ≡ Some (Done r) → IsPlain scripts goal r
+  plain_result : (goal : I) (replies : List (Reply R)) (r : R) → IsFitting (scripts goal) replies → AreRepliesTo (IsPlain scripts) (scripts goal) replies → request_after (scripts goal) replies ≡ Some (Done r) → IsPlain scripts goal r
   plain_result goal replies r fits h is zero p = record {
     replies = replies;
     is_answered = answered_among goal (IsPlain scripts) (λ _ _. ⊥) (λ _. ⊥) p.is_ranked (λ _ _ none _. none) replies fits h;
@@ -176,7 +176,7 @@ module _ {I R : Type 0} (scripts : I → List (Reply R) → Request I R) where
     safe.2,
   )
 
-  left_value : (f : Frame I R) (o : Outcome R) → Leaves scripts f o → IsSafe scripts f → f.met_overflow ≡ false → IsPlain scripts f.goal o.result
+  left_value : (f : Frame I R) (o : Outcome R) → LeavesOutcome scripts f o → IsSafe scripts f → f.met_overflow ≡ false → IsPlain scripts f.goal o.result
   left_value f o leaves safe calm = elim leaves.result [
     | inl done ↦ plain_result f.goal f.replies o.result safe.fitting (safe.values calm) done
     | inr cycle ↦ no_rank_is_plain f.goal o.result (safe.cycle cycle)
@@ -185,7 +185,7 @@ module _ {I R : Type 0} (scripts : I → List (Reply R) → Request I R) where
   -- What a safe frame leaves is a safe answer.
   pub left_is_safe :
       (f : Frame I R) (o : Outcome R)
-      → Leaves scripts f o → IsSafe scripts f → IsSafeOutcome scripts f.goal f.available o
+      → LeavesOutcome scripts f o → IsSafe scripts f → IsSafeOutcome scripts f.goal f.available o
   left_is_safe f o leaves safe =
       let same : o.required ≡ f.required = leaves.required in
       let small : f.required ≤ f.available = safe.within in
@@ -199,7 +199,7 @@ module _ {I R : Type 0} (scripts : I → List (Reply R) → Request I R) where
   -- They stay safe when it is popped, and what it leaves answers the frame below.
   pub pop_keeps_safe :
       (child f : Frame I R) (below : List (Frame I R)) (o : Outcome R)
-      → Leaves scripts child o → AreSafe scripts (child ∷ f ∷ below) → AreSafe scripts (answered f o ∷ below)
+      → LeavesOutcome scripts child o → AreSafe scripts (child ∷ f ∷ below) → AreSafe scripts (answered f o ∷ below)
   pop_keeps_safe child f below o leaves safe = answer_keeps_safe f below child.goal child.available o safe.1.0 safe.1.1 (left_is_safe child o leaves safe.0) safe.2
 
   -- the rank of the newest frame is at most that of each frame below it

@@ -14,14 +14,11 @@ counted_one last before now later many one h = elim one [
   | inr ended ↦ let k = ended.1 in inr (omega (arith, k))
 ]
 
-counted_still : (last before now later many : ℕ) → CountsOne last now later → HasCounted last before now many → HasCounted last before later many
-counted_still last before now later many one h = elim one [
-  | inl up ↦ elim h [ inl c ↦ inl (omega (arith, up, c)) | inr e ↦ inr (omega (arith, up, e)) ]
-  | inr ended ↦ let k = ended.1 in inr (omega (arith, k))
-]
-
 counted_fewer : (last before now many fewer : ℕ) → fewer ≤ many → HasCounted last before now many → HasCounted last before now fewer
 counted_fewer last before now many fewer less h = elim h [ inl c ↦ inl (omega (arith, c)) | inr e ↦ inr e ]
+
+counted_still : (last before now later many : ℕ) → CountsOne last now later → HasCounted last before now many → HasCounted last before later many
+counted_still last before now later many one h = counted_fewer last before later (many + 1) many (omega arith) (counted_one last before now later many one h)
 
 counted_later : (last before now later many : ℕ) → now ≤ later → HasCounted last before now many → HasCounted last before later many
 counted_later last before now later many more h = elim h [ inl c ↦ inl (omega (arith, more, c)) | inr e ↦ inr (omega (arith, more, e)) ]

@@ -5,7 +5,7 @@ pub use Rattle.search_parts.specs.Delegate.{CountsOne}
 pub use Rattle.search_parts.specs.Rank.{AsksOnly, HasNoRank, HasRank, IsBelowRank, IsOrderlyTo, IsPlain, IsPlainTo}
 pub use Rattle.search_parts.specs.Rank.{IsPlainValue, IsRanked}
 unfoldable pub use Rattle.search_parts.specs.Rank.{frames_within}
-pub use Rattle.search_parts.specs.Run.{fault_after, IsAnswered, IsFitting, IsOrderly, IsReplyTo, order_fault, Progress}
+pub use Rattle.search_parts.specs.Run.{fault_after, AreRepliesTo, IsFitting, IsOrderly, IsReplyTo, order_fault, Progress}
 pub use Rattle.search_parts.specs.Run.{progress_after, request_after}
 pub use Rattle.search_parts.specs.declared.context.Reply.{Reply}
 pub use Rattle.search_parts.specs.declared.context.Reply.TheVariants.{Answer, Begin, Noted}

@@ -3,7 +3,7 @@
 use Rattle.std.specs.Prelude.{◌≡◌, ℕ, ◌+◌, ◌<◌, ◌≤◌, Bool, true, false, List, [], ◌∷◌}
 use Rattle.evaluations.specs.Below.{Request, Reply, Begin, CountsOne, IsPlainValue, IsPlainTo, request_after, IsReplyTo}
 use Rattle.evaluations.specs.Frames.{Frame, Outcome, fresh, stepped, replied, answered, refused, run_again, Asks, IsAllowed}
-use Rattle.evaluations.specs.Plain.{IsSafeOutcome, AreSafe, Leaves, HaveRoom}
+use Rattle.evaluations.specs.Plain.{IsSafeOutcome, AreSafe, LeavesOutcome, HaveRoom}
 use Rattle.evaluations.specs.Starts.{StaysWithin, steps_ahead}
 use Rattle.evaluations.specs.Price.{IsPriced, IsPaid}
 
@@ -65,11 +65,11 @@ module _ {I R : Type 0} (scripts : I → List (Reply R) → Request I R) (limits
         → Move (at (f ∷ below) starts met) (at (replied (run_again (stepped f left) first) Begin ∷ below) now met)
     Popped :
         {child f : Frame I R} {below : List (Frame I R)} {left starts : ℕ} {met : Bool} {o : Outcome R}
-        → left < child.left → Leaves scripts child o
+        → left < child.left → LeavesOutcome scripts child o
         → Move (at (child ∷ f ∷ below) starts met) (at (answered f o ∷ below) starts met)
     PoppedAtLimit :
         {child f : Frame I R} {below : List (Frame I R)} {left starts : ℕ} {met : Bool} {o : Outcome R}
-        → left < child.left → Leaves scripts child o → limits.runs ≤ child.finished_runs + 1
+        → left < child.left → LeavesOutcome scripts child o → limits.runs ≤ child.finished_runs + 1
         → Move (at (child ∷ f ∷ below) starts met) (at (answered f o ∷ below) starts true)
 
   -- what holds between two moves of an evaluation of the goal `top`

@@ -2,7 +2,7 @@
 use Rattle.std.specs.Prelude.{◌≡◌, ℕ, ◌+◌, ◌<◌, ◌≤◌, Bool, true, false, List, [], ◌∷◌, None}
 use Rattle.evaluations.specs.Below.{Request, Reply, Begin, frames_within, IsPlainTo, fault_after}
 use Rattle.evaluations.specs.Frames.{Frame, Outcome, fresh, replied, Asks}
-use Rattle.evaluations.specs.Plain.{Leaves}
+use Rattle.evaluations.specs.Plain.{LeavesOutcome}
 use Rattle.evaluations.specs.Starts.{Spends}
 use Rattle.evaluations.specs.Evaluation.{State, at, Limits, IsStarted, Move, IsEvaluating, GoesOn, Ends, Stops}
 
@@ -28,14 +28,14 @@ module _ {I R : Type 0} (scripts : I → List (Reply R) → Request I R) where
   abbrev pub LastFrameEnds : Type 0
   LastFrameEnds =
       (limits : Limits) (counted : Bool) (top : I) (bound starts : ℕ) (met : Bool) (f : Frame I R) (o : Outcome R)
-      → Leaves scripts f o → IsEvaluating scripts limits (counted ≡ true) top bound (at (f ∷ []) starts met)
+      → LeavesOutcome scripts f o → IsEvaluating scripts limits (counted ≡ true) top bound (at (f ∷ []) starts met)
       → Ends scripts limits (counted ≡ true) top bound starts met o
 
   -- It keeps its promises also where its last run meets the limit.
   abbrev pub LastRunEnds : Type 0
   LastRunEnds =
       (limits : Limits) (counted : Bool) (top : I) (bound starts : ℕ) (met : Bool) (f : Frame I R) (o : Outcome R)
-      → limits.runs ≤ f.finished_runs + 1 → Leaves scripts f o
+      → limits.runs ≤ f.finished_runs + 1 → LeavesOutcome scripts f o
       → IsEvaluating scripts limits (counted ≡ true) top bound (at (f ∷ []) starts met)
       → Ends scripts limits (counted ≡ true) top bound starts true o
 

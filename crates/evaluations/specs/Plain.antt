@@ -1,7 +1,7 @@
 -- Goals with a rank answer their plain values: what holds of each frame, each outcome and each stored result. Nothing is
 -- said of a goal that has no rank, so frames of both sorts stand on one stack.
 use Rattle.std.specs.Prelude.{◌≡◌, ℕ, ◌≤◌, true, false, List, [], ◌∷◌, Some, ◌⊎◌, ◌||◌}
-use Rattle.evaluations.specs.Below.{Request, Done, Reply, request_after, IsAnswered, IsFitting, IsPlainTo, HasNoRank, IsPlain, IsBelowRank}
+use Rattle.evaluations.specs.Below.{Request, Done, Reply, request_after, AreRepliesTo, IsFitting, IsPlainTo, HasNoRank, IsPlain, IsBelowRank}
 use Rattle.evaluations.specs.Frames.{Frame, Outcome, AsksAt}
 
 module _ {I R : Type 0} (scripts : I → List (Reply R) → Request I R) where
@@ -16,7 +16,7 @@ module _ {I R : Type 0} (scripts : I → List (Reply R) → Request I R) where
   -- the rank if it did, and it is in no cycle.
   pub record IsSafe (f : Frame I R) : Type 0 where
     pub fitting : IsFitting (scripts f.goal) f.replies
-    pub values : f.met_overflow ≡ false → IsAnswered (IsPlain scripts) (scripts f.goal) f.replies
+    pub values : f.met_overflow ≡ false → AreRepliesTo (IsPlain scripts) (scripts f.goal) f.replies
     pub overflow : f.met_overflow ≡ true → IsBelowRank scripts f.goal f.available
     pub before : f.met_before ≡ true → IsBelowRank scripts f.goal f.available
     pub cycle : f.in_cycle ≡ true → HasNoRank scripts f.goal
@@ -33,7 +33,7 @@ module _ {I R : Type 0} (scripts : I → List (Reply R) → Request I R) where
   IsOnStack goal (f ∷ below) = (f.goal ≡ goal) ⊎ IsOnStack goal below
 
   -- what a frame leaves as it is popped: the result of its run, or, of a goal in a cycle, any result
-  pub record Leaves (f : Frame I R) (o : Outcome R) : Type 0 where
+  pub record LeavesOutcome (f : Frame I R) (o : Outcome R) : Type 0 where
     pub result : (request_after (scripts f.goal) f.replies ≡ Some (Done o.result)) ⊎ (f.in_cycle ≡ true)
     pub required : o.required ≡ f.required
     pub met_overflow : o.met_overflow ≡ (f.met_overflow || f.met_before)

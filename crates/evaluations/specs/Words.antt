@@ -7,7 +7,7 @@ pub use Rattle.evaluations.specs.Frames.{answered, Asks, AsksAt, Frame, fresh, I
 pub use Rattle.evaluations.specs.Frames.{run_again, stepped}
 pub use Rattle.evaluations.specs.Mirror.{AreSeen, HasRequested, IsAmong, IsPending, IsSeen, ItemLeaves, Mirror}
 pub use Rattle.evaluations.specs.Mirror.{TakesReply, TakesStep, Waits, with_replies, work}
-pub use Rattle.evaluations.specs.Plain.{AreSafe, HasRoom, HaveRoom, IsOnStack, IsSafe, IsSafeOutcome, Leaves}
+pub use Rattle.evaluations.specs.Plain.{AreSafe, HasRoom, HaveRoom, IsOnStack, IsSafe, IsSafeOutcome, LeavesOutcome}
 pub use Rattle.evaluations.specs.Price.{frames_started, HasCounted, HaveFullDepths, IsPaid, IsPriced}
 pub use Rattle.evaluations.specs.Starts.{frames_ahead, frames_ahead_of, frames_below, Spends, StaysWithin, steps_ahead}
 pub use Rattle.evaluations.specs.Starts.{steps_in_runs}

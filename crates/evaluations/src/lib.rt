@@ -1,6 +1,8 @@
 //! What an evaluation of a goal promises beside its graph: a goal with a rank answers its plain value, the
 //! number of frames has a bound, and a limit that is met has its price in frames. This crate is a theory: its
-//! functions have empty bodies, and the contract of each is a theorem.
+//! functions have empty bodies, and the contract of each is a theorem. It is a crate of its own since it knows
+//! scripts and ranks alone: no stack of entries, no head, no node and no cache. So it is proved beside the crates
+//! that do, and it stays when one of them changes.
 //!
 //! Its words:
 //!

@@ -1,5 +1,5 @@
 pub mod Elements
-pub mod KeptQuestions
+pub mod CountedQuestions
 pub mod RunRecords
 pub mod Replaying
 pub mod ClosedWalks

@@ -2,9 +2,9 @@
 use Rattle.std.proofs.Common.{◌≡◌, ℕ, ◌+◌, ◌≤◌, Bool, true, false, List, [], ◌∷◌, ◌++◌, map, length, reverse, take, drop, Some, None, refl, sym, subst, ap, ◌∙◌}
 use Rattle.std.proofs.lemmas.List.{take_all}
 use Rattle.graph_check.specs.Below.{Node, Request, Done, Reply, question_of, request_after, progress_after, order_fault, fault_after, Fits, IsFitting, IsInOrder, IsRunOfSort}
-use Rattle.graph_check.specs.Words.{Replayed, nothing_replayed, replied, requested, is_answer, is_orderly, questions_kept, Agrees, IsLegal, Replays}
+use Rattle.graph_check.specs.Words.{Replayed, nothing_replayed, replied, requested, is_answer, is_orderly, questions_counted, Agrees, IsLegal, Replays}
 use Rattle.graph_check.proofs.Elements.{IsAt, taken_last, reversed_around}
-use Rattle.graph_check.proofs.RunRecords.{no_fault, some_fault, agrees_replied, kept_are_answered}
+use Rattle.graph_check.proofs.RunRecords.{no_fault, some_fault, agrees_replied, counted_are_answered}
 
 -- no request that was made is out of order, nor is the last
 last_in_order : {I R : Type 0} (script : List (Reply R) → Request I R) (replies : List (Reply R)) → IsInOrder script replies → fault_after script replies ≡ None
@@ -80,15 +80,15 @@ module _ {I R : Type 0} {test : R → Bool} {script : List (Reply R) → Request
   replays_all = subst (λ l. Replays test script p (reverse l)) (take_all i n.replies.items all) h
 
   -- what was replayed to the end is a run exactly where it is done, and the edges are those that count
-  pub is_run_if : test n.result ≡ true → (p.request ≡ Some (Done n.result)) → (map question_of n.edges.items ≡ questions_kept p) → IsRunOfSort test script n
+  pub is_run_if : test n.result ≡ true → (p.request ≡ Some (Done n.result)) → (map question_of n.edges.items ≡ questions_counted p) → IsRunOfSort test script n
   is_run_if sort done edges = record {
     ends = record { is_fitting = replays_all.legal.is_fitting; is_in_order = replays_all.legal.is_in_order; is_done = sym replays_all.request_is ∙ done };
     sort = sort;
-    edges = edges ∙ kept_are_answered test p (progress_after script (reverse n.replies.items)) replays_all.agrees;
+    edges = edges ∙ counted_are_answered test p (progress_after script (reverse n.replies.items)) replays_all.agrees;
   }
 
   pub run_is_done : IsRunOfSort test script n → p.request ≡ Some (Done n.result)
   run_is_done run = replays_all.request_is ∙ run.ends.is_done
 
-  pub run_has_edges : IsRunOfSort test script n → map question_of n.edges.items ≡ questions_kept p
-  run_has_edges run = run.edges ∙ sym (kept_are_answered test p (progress_after script (reverse n.replies.items)) replays_all.agrees)
+  pub run_has_edges : IsRunOfSort test script n → map question_of n.edges.items ≡ questions_counted p
+  run_has_edges run = run.edges ∙ sym (counted_are_answered test p (progress_after script (reverse n.replies.items)) replays_all.agrees)

@@ -5,8 +5,8 @@ use Rattle.std.proofs.lemmas.List.{append-nil, map-append, length-append, length
 use Rattle.std.proofs.lemmas.List.Elements.{filter_agree}
 use Rattle.std.proofs.lemmas.Bool.Decides.{nat_tests}
 use Rattle.graph_check.specs.Below.{PathKind, Request, Evaluate, EnterCandidate, FinishCandidate, Ignore, Done, Reply, Begin, Answer, Noted, Question, Progress, Asked, progress_with, order_fault, is_ignored, is_counted, open_candidate, questions_answered, Fits}
-use Rattle.graph_check.specs.Words.{Replayed, replied, is_answer, is_orderly, is_kept, is_marked, open_number, asked_in, asked_by, questions_kept, Agrees}
-use Rattle.search_parts.proofs.Filtered.{kept_more, kept_twice, kept_halves, marked_after_finish, marked_after_ignore}
+use Rattle.graph_check.specs.Words.{Replayed, replied, is_answer, is_orderly, counted_by, ignored_by, open_number, asked_in, asked_by, questions_counted, Agrees}
+use Rattle.search_parts.proofs.Filtered.{filtered_more, filtered_twice, filtered_halves, ignored_after_finish, ignored_after_ignore}
 
 -- a candidate may begin or end, or else that is a fault
 module _ (fault : ℕ) where
@@ -45,7 +45,7 @@ module _ {I R : Type 0} (test : R → Bool) (p : Replayed I R) (done : Progress 
   same_number : open_number p ≡ open_candidate done
   same_number = ap₂ (λ b n. if b then Some n else None) h.open_is h.finished_are
 
-  same_to_ignore : (n : ℕ) → nat_lt n (length p.ignored) && not (is_marked p.ignored n) ≡ nat_lt n done.finished && not (is_ignored done.ignored n)
+  same_to_ignore : (n : ℕ) → nat_lt n (length p.ignored) && not (ignored_by p.ignored n) ≡ nat_lt n done.finished && not (is_ignored done.ignored n)
   same_to_ignore n = ap₂ (λ m b. nat_lt n m && not b) h.finished_are (sym (h.ignored_are n))
 
   -- what is orderly by the record is no fault of the run,
@@ -73,7 +73,7 @@ module _ {I R : Type 0} (test : R → Bool) (p : Replayed I R) (done : Progress 
     asked_are =
         map-append asked_in p.asked (record { kind = kind; input = goal; candidate = open_number p } ∷ [])
         ∙ ap₂ (λ asked c. asked ++ (record { kind = kind; goal = goal }, c) ∷ []) h.asked_are same_number
-        ∙ sym (kept_more asked_by (λ (a : Asked I R). test a.answer) done.asked (record { question = record { kind = kind; goal = goal }; answer = r; candidate = open_candidate done }) true is);
+        ∙ sym (filtered_more asked_by (λ (a : Asked I R). test a.answer) done.asked (record { question = record { kind = kind; goal = goal }; answer = r; candidate = open_candidate done }) true is);
   }
   agrees_answered kind goal r false is = record {
     open_is = h.open_is;
@@ -82,7 +82,7 @@ module _ {I R : Type 0} (test : R → Bool) (p : Replayed I R) (done : Progress 
     asked_are =
         h.asked_are
         ∙ sym (append-nil _)
-        ∙ sym (kept_more asked_by (λ (a : Asked I R). test a.answer) done.asked (record { question = record { kind = kind; goal = goal }; answer = r; candidate = open_candidate done }) false is);
+        ∙ sym (filtered_more asked_by (λ (a : Asked I R). test a.answer) done.asked (record { question = record { kind = kind; goal = goal }; answer = r; candidate = open_candidate done }) false is);
   }
 
   -- the record agrees with the run after each reply to a request that isn't out of order
@@ -94,7 +94,7 @@ module _ {I R : Type 0} (test : R → Bool) (p : Replayed I R) (done : Progress 
   agrees_replied (Some FinishCandidate) Noted orderly fits = record {
     open_is = refl;
     finished_are = length-append p.ignored (false ∷ []) ∙ ap (λ n. n + 1) h.finished_are;
-    ignored_are = λ n. h.ignored_are n ∙ sym (marked_after_finish p.ignored n);
+    ignored_are = λ n. h.ignored_are n ∙ sym (ignored_after_finish p.ignored n);
     asked_are = h.asked_are;
   }
   agrees_replied (Some (Ignore m)) Noted orderly fits =
@@ -102,19 +102,19 @@ module _ {I R : Type 0} (test : R → Bool) (p : Replayed I R) (done : Progress 
       record {
         open_is = h.open_is;
         finished_are = length-set p.ignored m true ∙ h.finished_are;
-        ignored_are = λ n. ap (λ b. m == n || b) (h.ignored_are n) ∙ sym (marked_after_ignore p.ignored m n within);
+        ignored_are = λ n. ap (λ b. m == n || b) (h.ignored_are n) ∙ sym (ignored_after_ignore p.ignored m n within);
         asked_are = h.asked_are;
       }
   agrees_replied request reply orderly fits = absurd fits
 
-  kept_as_counted : (candidate : Option ℕ) → is_kept p.ignored candidate ≡ is_counted done.ignored candidate
-  kept_as_counted None = refl
-  kept_as_counted (Some n) = ap not (sym (h.ignored_are n))
+  counted_by_number : (candidate : Option ℕ) → counted_by p.ignored candidate ≡ is_counted done.ignored candidate
+  counted_by_number None = refl
+  counted_by_number (Some n) = ap not (sym (h.ignored_are n))
 
   -- the record keeps the questions that the result rests on
-  pub kept_are_answered : questions_kept p ≡ questions_answered test done
-  kept_are_answered =
-      kept_halves asked_in (is_kept p.ignored) p.asked
-      ∙ ap (λ (asked : List (Question I × Option ℕ)). map (λ q. q.0) (filter (λ q. is_kept p.ignored q.1) asked)) h.asked_are
-      ∙ ap (map (λ (q : Question I × Option ℕ). q.0)) (filter_agree (λ q. is_kept p.ignored q.1) (λ q. is_counted done.ignored q.1) (λ q. kept_as_counted q.1) (map asked_by (filter (λ (a : Asked I R). test a.answer) done.asked)))
-      ∙ sym (kept_twice asked_by (λ (a : Asked I R). test a.answer) (is_counted done.ignored) done.asked)
+  pub counted_are_answered : questions_counted p ≡ questions_answered test done
+  counted_are_answered =
+      filtered_halves asked_in (counted_by p.ignored) p.asked
+      ∙ ap (λ (asked : List (Question I × Option ℕ)). map (λ q. q.0) (filter (λ q. counted_by p.ignored q.1) asked)) h.asked_are
+      ∙ ap (map (λ (q : Question I × Option ℕ). q.0)) (filter_agree (λ q. counted_by p.ignored q.1) (λ q. is_counted done.ignored q.1) (λ q. counted_by_number q.1) (map asked_by (filter (λ (a : Asked I R). test a.answer) done.asked)))
+      ∙ sym (filtered_twice asked_by (λ (a : Asked I R). test a.answer) (is_counted done.ignored) done.asked)

@@ -21,12 +21,12 @@ module _ {I R : Type 0} (is_of_sort : R → Bool) (scripts : I → List (Reply R
   valid_is_graph kind rule goal keeps valid = record {
     rooted = valid.rooted;
     closed = λ at e reached has. valid.closed at e has;
-    settled = λ at m reached is.
+    is_shown = λ at m reached is.
         let n = node_behind (slice_get nodes at) m (sym (slice_get-map goal_node_of nodes at) ∙ is) in
         let run = valid.runs at n.0 n.1 in
-        let settled : rule n.0.input (map question_of n.0.edges.items) =
+        let is_shown : rule n.0.input (map question_of n.0.edges.items) =
         subst (rule n.0.input) (sym run.edges) (keeps n.0.input (reverse n.0.replies.items) n.0.result run.ends run.sort) in
-        subst (λ (x : GraphNode I). rule x.goal (map question_of x.edges)) n.2 settled;
+        subst (λ (x : GraphNode I). rule x.goal (map question_of x.edges)) n.2 is_shown;
     cycles = λ at e rest reached walk. valid.cycles at e rest walk;
   }
 

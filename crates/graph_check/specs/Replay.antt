@@ -23,13 +23,13 @@ pub record Replayed (I R : Type 0) : Type 0 where
   pub ignored : List Bool
 
 -- whether the candidate of this number is ignored
-abbrev pub is_marked : List Bool → ℕ → Bool
-is_marked ignored n = get_or ignored n false
+abbrev pub ignored_by : List Bool → ℕ → Bool
+ignored_by ignored n = get_or ignored n false
 
 -- what is asked outside candidates stays, and what is asked in a candidate unless that is ignored
-abbrev pub is_kept : List Bool → Option ℕ → Bool
-is_kept ignored None = true
-is_kept ignored (Some n) = not (is_marked ignored n)
+abbrev pub counted_by : List Bool → Option ℕ → Bool
+counted_by ignored None = true
+counted_by ignored (Some n) = not (ignored_by ignored n)
 
 -- what was asked
 abbrev pub question_asked : {I : Type 0} → AskedQuestion I → Question I
@@ -62,12 +62,12 @@ module _ {I R : Type 0} where
   abbrev pub is_orderly : Replayed I R → Request I R → Bool
   is_orderly p EnterCandidate = not p.is_open
   is_orderly p FinishCandidate = p.is_open
-  is_orderly p (Ignore n) = nat_lt n (length p.ignored) && not (is_marked p.ignored n)
+  is_orderly p (Ignore n) = nat_lt n (length p.ignored) && not (ignored_by p.ignored n)
   is_orderly p _ = true
 
   -- the questions outside ignored candidates, in the order of asking
-  abbrev pub questions_kept : Replayed I R → List (Question I)
-  questions_kept p = map question_asked (filter (λ a. is_kept p.ignored a.candidate) p.asked)
+  abbrev pub questions_counted : Replayed I R → List (Question I)
+  questions_counted p = map question_asked (filter (λ a. counted_by p.ignored a.candidate) p.asked)
 
 -- a question and its candidate, in the record
 abbrev pub asked_in : {I : Type 0} → AskedQuestion I → Question I × Option ℕ
@@ -81,7 +81,7 @@ asked_by a = (a.question, a.candidate)
 pub record Agrees {I R : Type 0} (test : R → Bool) (p : Replayed I R) (done : Progress I R) : Type 0 where
   pub open_is : p.is_open ≡ done.is_open
   pub finished_are : length p.ignored ≡ done.finished
-  pub ignored_are : (n : ℕ) → is_ignored done.ignored n ≡ is_marked p.ignored n
+  pub ignored_are : (n : ℕ) → is_ignored done.ignored n ≡ ignored_by p.ignored n
   pub asked_are : map asked_in p.asked ≡ map asked_by (filter (λ a. test a.answer) done.asked)
 
 -- the replies can be replayed: each fits, and no request comes out of order

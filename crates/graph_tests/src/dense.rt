@@ -118,25 +118,12 @@ fn expect_counts(
     for table in 0..PAIRS * PAIRS {
         let text = text_of(rt.alloc(), first, second, table)?;
         let rules = Rules::read(rt.alloc(), text.as_slice())?;
-        let cx = Table { lender: &rules };
         let mut said = Said {
             definite: Vec::new(rt.alloc()),
         };
-        let flaw = flaw_of_table::<Table<&Rules>, TableDelegate<'_, 8, 1>>(
-            rt.alloc(),
-            cx,
-            &rules,
-            &mut said,
-            &mut counts,
-        )?;
+        let flaw = flaw_of_rules::<1>(rt.alloc(), &rules, &mut said, &mut counts)?;
         assert_eq!(rt; flaw, None, "table {table}");
-        let flaw = flaw_of_table::<Table<&Rules>, TableDelegate<'_, 8, 0>>(
-            rt.alloc(),
-            cx,
-            &rules,
-            &mut said,
-            &mut counts,
-        )?;
+        let flaw = flaw_of_rules::<0>(rt.alloc(), &rules, &mut said, &mut counts)?;
         assert_eq!(rt; flaw, None, "table {table} without the provisional cache");
     }
     assert_eq!(rt; counts, Counts { yes, no, neither });
@@ -210,6 +197,19 @@ fn write_body(text: &mut Vec<u8>, name: &str, body: Body, pair: usize) -> Result
         Body::Together => write!(text, "rule {name} = {first} {second}\n")?,
     }
     Ok(())
+}
+
+/// What is wrong with the answers of a search over these rules, without the provisional cache where `PROVISIONAL` is 0.
+fn flaw_of_rules<const PROVISIONAL: usize>(
+    alloc: Global,
+    rules: &Rules,
+    said: &mut Said,
+    counts: &mut Counts,
+) -> Result<Option<&'static str>, Fail> {
+    let cx = Table { lender: rules };
+    flaw_of_table::<Table<&Rules>, TableDelegate<'_, 8, PROVISIONAL>>(
+        alloc, cx, rules, said, counts,
+    )
 }
 
 /// What is wrong with the answers to the table's questions over two caches, if anything is. The results at depth 4 are

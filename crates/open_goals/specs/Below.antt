@@ -11,7 +11,7 @@ pub use Rattle.cycle_heads.specs.declared.usages.HeadUsages.{HeadUsages}
 pub use Rattle.search_parts.specs.Delegate.{CanTake, Steps}
 pub use Rattle.search_parts.specs.Graph.{question_of}
 pub use Rattle.search_parts.specs.Lent.{change_last}
-pub use Rattle.search_parts.specs.LookUp.{Hit, hit_of}
+pub use Rattle.search_parts.specs.Hits.{Hit, hit_of}
 pub use Rattle.search_parts.specs.Nested.{joined_paths, JoinsPaths, NestedPaths, paths_at}
 pub use Rattle.search_parts.specs.Question.{Question}
 pub use Rattle.search_parts.specs.Run.{Asked, is_ignored, IsFitting, IsInOrder, Progress, progress_after, request_after}

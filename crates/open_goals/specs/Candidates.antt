@@ -60,12 +60,12 @@ module _ {X F I R A T : Type 0} where
   leaves s = (record s.0 { state = record s.0.state { candidate_usages = None } }, s.1)
 
   -- one more candidate of the goal is finished
-  abbrev pub keeps_candidate : UsagesByHead → StackEntry X I R A T × Run X F I R A T → StackEntry X I R A T × Run X F I R A T
-  keeps_candidate candidate s = (s.0, record s.1 { candidates = s.1.candidates ++ candidate ∷ [] })
+  abbrev pub records_candidate : UsagesByHead → StackEntry X I R A T × Run X F I R A T → StackEntry X I R A T × Run X F I R A T
+  records_candidate candidate s = (s.0, record s.1 { candidates = s.1.candidates ++ candidate ∷ [] })
 
   -- the open candidate of the goal is finished
   abbrev pub finishes : StackEntry X I R A T × Run X F I R A T → StackEntry X I R A T × Run X F I R A T
-  finishes s = keeps_candidate (unwrap_or s.0.state.candidate_usages []) (leaves s)
+  finishes s = records_candidate (unwrap_or s.0.state.candidate_usages []) (leaves s)
 
   -- all that the candidate used is counted by the newest goal
   abbrev pub CanIgnoreUsages : UsagesByHead → List (StackEntry X I R A T × Run X F I R A T) → Type 0

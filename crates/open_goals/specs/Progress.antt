@@ -12,8 +12,8 @@ pub record RunRecord (I R : Type 0) : Type 0 where
   pub ignored : List Bool
 
 -- whether the candidate of this number is ignored
-abbrev pub is_marked : List Bool → ℕ → Bool
-is_marked ignored n = get_or ignored n false
+abbrev pub ignored_by : List Bool → ℕ → Bool
+ignored_by ignored n = get_or ignored n false
 
 -- whether the two verdicts are the same
 abbrev pub is_same_verdict : Verdict → Verdict → Bool
@@ -23,13 +23,13 @@ is_same_verdict Neither Neither = true
 is_same_verdict _ _ = false
 
 -- what is asked outside candidates stays, and what is asked in a candidate unless that is ignored
-abbrev pub is_kept : List Bool → Option ℕ → Bool
-is_kept ignored None = true
-is_kept ignored (Some n) = not (is_marked ignored n)
+abbrev pub counted_by : List Bool → Option ℕ → Bool
+counted_by ignored None = true
+counted_by ignored (Some n) = not (ignored_by ignored n)
 
 -- whether a result of this verdict rests on the answer
 abbrev pub rests_on : {I : Type 0} → List Bool → Verdict → DefiniteAnswer I → Bool
-rests_on ignored verdict d = is_same_verdict d.verdict verdict && is_kept ignored d.candidate
+rests_on ignored verdict d = is_same_verdict d.verdict verdict && counted_by ignored d.candidate
 
 -- what a definite answer was asked, and in which candidate
 abbrev pub asked_of : {I : Type 0} → DefiniteAnswer I → Question I × Option ℕ
@@ -87,7 +87,7 @@ module _ {I R : Type 0} where
   abbrev pub fault_of : RunRecord I R → Request I R → Option ℕ
   fault_of p EnterCandidate = if p.is_open then Some 1 else None
   fault_of p FinishCandidate = if p.is_open then None else Some 2
-  fault_of p (Ignore n) = if nat_lt n (length p.ignored) then (if is_marked p.ignored n then Some 4 else None) else Some 3
+  fault_of p (Ignore n) = if nat_lt n (length p.ignored) then (if ignored_by p.ignored n then Some 4 else None) else Some 3
   fault_of p _ = None
 
   -- the edges that a result of this verdict rests on, in the order of asking
@@ -102,7 +102,7 @@ module _ {I R : Type 0} where
 pub record Agrees {I R : Type 0} (is_yes is_no : R → Bool) (p : RunRecord I R) (done : Progress I R) : Type 0 where
   pub open_is : p.is_open ≡ done.is_open
   pub finished_are : length p.ignored ≡ done.finished
-  pub ignored_are : (n : ℕ) → is_ignored done.ignored n ≡ is_marked p.ignored n
+  pub ignored_are : (n : ℕ) → is_ignored done.ignored n ≡ ignored_by p.ignored n
   pub yes : asked_with Yes p ≡ map asked_in (filter (λ a. is_yes a.answer) done.asked)
   pub no : asked_with No p ≡ map asked_in (filter (λ a. is_no a.answer) done.asked)
 
@@ -132,7 +132,7 @@ pub record IsEdgeOfAnswer {I : Type 0} (answers : List (DefiniteAnswer I)) (igno
   pub is_in : Contains answers answer
   pub verdict_is : answer.verdict ≡ verdict
   pub edge_is : answer.edge ≡ e
-  pub kept : is_kept ignored answer.candidate ≡ true
+  pub kept : counted_by ignored answer.candidate ≡ true
 
 -- the answers are those of the record and one more, to its last request
 pub record KeepsAnswer {I R : Type 0} (p : RunRecord I R) (verdict : Verdict) (target : Option NodeId) (answers : List (DefiniteAnswer I)) : Type 0 where

@@ -1,13 +1,13 @@
 -- The words of this crate, from one place.
 pub use Rattle.open_goals.specs.Candidates.{CanIgnore, CanIgnoreNewest, CanIgnoreUsages, CanNote, Covers, enters, Ignores}
-pub use Rattle.open_goals.specs.Candidates.{IgnoresNewest, IgnoresUsages, keeps_candidate, leaves, less_head, less_usages}
+pub use Rattle.open_goals.specs.Candidates.{IgnoresNewest, IgnoresUsages, records_candidate, leaves, less_head, less_usages}
 pub use Rattle.open_goals.specs.Candidates.{NotesCandidate, usages_at, with_replaced, without_head}
 pub use Rattle.open_goals.specs.Entries.{candidate_over, cycle_head, is_in_cycle, joined_over, rerun_under, some_heads}
 pub use Rattle.open_goals.specs.Entries.{TakesHeads, usages_over, with_depth, with_nested_goals, with_used_head}
 pub use Rattle.open_goals.specs.Items.{AnswersNewest, rerun_with}
 pub use Rattle.open_goals.specs.NestedGoals.{Joined, NotesOverflow, TakesNestedGoals, TakesStored}
 pub use Rattle.open_goals.specs.Newest.{change_newest, newest, paired}
-pub use Rattle.open_goals.specs.Progress.{answers_with, edges_of, fault_of, is_marked, no_record, received, requested}
+pub use Rattle.open_goals.specs.Progress.{answers_with, edges_of, fault_of, ignored_by, no_record, received, requested}
 pub use Rattle.open_goals.specs.Progress.{rests_on}
 pub use Rattle.open_goals.specs.Steps.{CanStep, HasStepped, IsStepFault, IsVerdict, OutOfOrder}
 pub use Rattle.open_goals.specs.declared.goals.Received.{Received}

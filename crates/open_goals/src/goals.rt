@@ -181,20 +181,21 @@ impl<X: Cx, F: Drop> OpenGoals<X, F> {
 
     /// The newest goal was answered over a step of this kind by an answer that rests on goals below. A refusal
     /// may leave a part of that noted.
-    pub fn note_kept(
+    pub fn note_provisional(
         &mut self,
         step: PathKind,
-        kept: &ProvisionalCacheEntry<X>,
+        provisional: &ProvisionalCacheEntry<X>,
     ) -> Result<(), NoMemory>
         requires { 0 < length self.old }
-        ensures { OnOk result (AnswersNewest step 0 kept.now.encountered_overflow kept.now.heads
+        ensures { OnOk result (AnswersNewest step 0 provisional.now.encountered_overflow
+            provisional.now.heads
             self.old self.new) }
     {
         let parent = StackDepth::new(self.stack.len() - 1);
         let input = self.stack.last().input();
         let state = self.stack.last_mut();
-        note_depth(state, 0, kept.encountered_overflow);
-        note_heads(state, parent, step, &kept.heads)?;
+        note_depth(state, 0, provisional.encountered_overflow);
+        note_heads(state, parent, step, &provisional.heads)?;
         state.nested_goals.insert(input, PathsToNested::EMPTY)
     }
 

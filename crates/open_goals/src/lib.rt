@@ -1,5 +1,6 @@
 //! The goals under evaluation, each with the run of its frame: the newest one asks, is answered, is run again,
-//! and is taken.
+//! and is taken. It is a crate of its own since it knows no cache and says nothing of why an answer is right:
+//! each function says what becomes of the newest goal, exactly, and the search rests its reasons on that.
 //!
 //! | File of `specs/` | Has |
 //! |---|---|

@@ -1,6 +1,6 @@
 //! What a run has done so far.
 ghost use Rattle.std.specs.Prelude.{◌≡◌, OnOk, IfOk};
-ghost use Rattle.open_goals.specs.Words.{no_record, received, requested, answers_with, fault_of, edges_of, rests_on, is_marked};
+ghost use Rattle.open_goals.specs.Words.{no_record, received, requested, answers_with, fault_of, edges_of, rests_on, ignored_by};
 
 use search_parts::context::{Edge, NoMemory, NodeId, Reply, Request, Verdict};
 use std::alloc::Global;
@@ -151,7 +151,7 @@ impl<I: Copy, R: Copy> Progress<I, R> {
 
     /// Whether the finished candidate of this number is ignored.
     fn is_ignored(&self, number: usize) -> bool
-        ensures { result ≡ is_marked self.now.ignored number }
+        ensures { result ≡ ignored_by self.now.ignored number }
     {
         self.ignored.get(number) == Some(&true)
     }

@@ -21,7 +21,7 @@ pub cycle_gives_use :
 cycle_gives_use nodes verdict stack depth entry step heads distinct at accepts recorded =
     let l : IsLeaf stack entry.node = (depth, entry, at, refl) in
     record {
-      settled = record {
+      open_graph = record {
         placed = λ b q w. inl (depth, entry, at, sym (from_leaf nodes verdict stack l w).0);
         closed = λ b q k c r w e x. absurd (e.inner (depth, entry, at, sym (from_leaf nodes verdict stack l w).0));
       };
@@ -43,7 +43,7 @@ pub use_gives_edge :
     → ((depth path cycle : ℕ) → Recorded heads depth path cycle → Recorded extended depth (max step path) cycle) → Use nodes verdict stack (path_kind stack step) 0 a heads
     → Use nodes verdict stack (path_kind stack step) step a extended
 use_gives_edge nodes verdict stack step a heads extended extends u = record {
-  settled = u.settled;
+  open_graph = u.open_graph;
   covered = λ depth entry q on at p.
       let h = u.covered depth entry q on at p in
       let le : step ≤ path_kind stack step depth = step_le step (drop (suc depth) stack) in

@@ -1,7 +1,7 @@
 -- Answers that a run gets.
 use Rattle.std.proofs.Common.{◌≡◌, ◌≢◌, ℕ, max, ◌≤◌, ◌<◌, List, [], ◌∷◌, ◌++◌, length, cond, Bool, true, false, IsTrue, ltb, lt-ltb, le-ltb, inl, inr, subst, sym, refl, arith}
 use native.Mathlib.Decide.{dec_lt}
-use Rattle.open_graphs.specs.Words.{Verdict, Edge, Node, same_verdict, Entry, path_kind, Head, Heads, Recorded, IncludesBelow, IsAnswered, AllAnswered, no_heads, stack_of, with_edge, OneAnswerKeepsSound, CycleIsAnswered, DoneIsAnswered, StoredIsAnswered, FinalIsAnswered}
+use Rattle.open_graphs.specs.Words.{Verdict, Edge, Node, same_verdict, Entry, path_kind, Head, Heads, Recorded, IncludesBelow, IsAnsweredEdge, AllAnswered, no_heads, stack_of, with_edge, OneAnswerKeepsSound, CycleIsAnswered, DoneIsAnswered, ProvisionalIsAnswered, FinalIsAnswered}
 use Rattle.open_graphs.proofs.Lists.{get_cases}
 use Rattle.open_graphs.proofs.Verdicts.{same}
 use Rattle.open_graphs.proofs.Answers.{cycle_gives_use, use_gives_edge}
@@ -47,7 +47,7 @@ done_is_answered nodes verdict below top step a answer heads u takes = record {
   among = below_filled (length below) heads;
 }
 
-pub stored_is_answered : StoredIsAnswered
+pub stored_is_answered : ProvisionalIsAnswered
 stored_is_answered nodes verdict below top step highest path a answer heads same s takes =
     done_is_answered nodes verdict below top step a answer heads (stored_gives_use nodes verdict (below ++ top ∷ []) step a answer highest path same s) takes
 
@@ -59,11 +59,11 @@ final_is_answered nodes verdict below top step a heads u = record {
 }
 
 -- the answers of each verdict, of which one has one more
-more_answered : (nodes : List Node) (below : List Entry) (top : Entry) (verdict other : Verdict) (edges : List Edge) (edge : Edge) (heads : Heads) (b : Bool) → same_verdict verdict other ≡ b → IsAnswered nodes verdict below top edge heads → AllAnswered nodes other below top edges heads → AllAnswered nodes other below top (cond b (edges ++ edge ∷ []) edges) heads
+more_answered : (nodes : List Node) (below : List Entry) (top : Entry) (verdict other : Verdict) (edges : List Edge) (edge : Edge) (heads : Heads) (b : Bool) → same_verdict verdict other ≡ b → IsAnsweredEdge nodes verdict below top edge heads → AllAnswered nodes other below top edges heads → AllAnswered nodes other below top (cond b (edges ++ edge ∷ []) edges) heads
 more_answered nodes below top verdict other edges edge heads false e new old = old
 more_answered nodes below top verdict other edges edge heads true e new old = λ i x at. elim (get_cases edges edge i x at) [
   | inl before ↦ old i x before
-  | inr now ↦ subst (λ y. IsAnswered nodes other below top y heads) now.1 (subst (λ v. IsAnswered nodes v below top edge heads) (sym (same verdict other e)) new)
+  | inr now ↦ subst (λ y. IsAnsweredEdge nodes other below top y heads) now.1 (subst (λ v. IsAnsweredEdge nodes v below top edge heads) (sym (same verdict other e)) new)
 ]
 
 pub one_answer_keeps_sound : OneAnswerKeepsSound

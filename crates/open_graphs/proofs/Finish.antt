@@ -1,6 +1,6 @@
 -- The end of a run: its node gets its edges.
 use Rattle.std.proofs.Common.{◌≡◌, ◌≢◌, ℕ, max, ◌<◌, List, [], ◌∷◌, ◌++◌, Some, length, slice_get, slice_set, arith, refl, sym, subst, ◌∙◌, ◌⊎◌, inl, inr}
-use Rattle.open_graphs.specs.Words.{Verdict, cycle_kind, Edge, Node, Unfinished, Finished, IsFinished, Walk, stay, Path, end, then, Avoids, Entry, IsLeaf, Accepts, path_kind, Step, Heads, Recorded, Use, IsAnswered, IsRunsNode, AllAnswered}
+use Rattle.open_graphs.specs.Words.{Verdict, cycle_kind, Edge, Node, Unfinished, Finished, IsFinished, Walk, stay, Path, end, then, Avoids, Entry, IsLeaf, Accepts, path_kind, Step, Heads, Recorded, Use, IsAnsweredEdge, IsRunsNode, AllAnswered}
 use Rattle.open_graphs.proofs.Lists.{get_left, get_end, get_below, get_set_other, get_set_same}
 use Rattle.open_graphs.proofs.Walks.{closed_walk, placed_walk}
 use Rattle.open_graphs.proofs.Paths.{Covered, covered_walk, carried_past}
@@ -9,7 +9,7 @@ use Rattle.open_graphs.proofs.Keep.{leaf_cases, recorded_at, accepts_at}
 
 module _ (nodes : List Node) (verdict : Verdict) (below : List Entry) (top : Entry) (n : ℕ) (edges : List Edge) (heads : Heads)
     (unfinished : slice_get nodes n ≡ Some Unfinished) (lower : ¬ IsLeaf below n) (run : IsRunsNode verdict top n)
-    (answered : (i : ℕ) (edge : Edge) → slice_get edges i ≡ Some edge → IsAnswered nodes verdict below top edge heads) where
+    (answered : (i : ℕ) (edge : Edge) → slice_get edges i ≡ Some edge → IsAnsweredEdge nodes verdict below top edge heads) where
   abbrev stack : List Entry
   stack = below ++ top ∷ []
 
@@ -72,17 +72,17 @@ module _ (nodes : List Node) (verdict : Verdict) (below : List Entry) (top : Ent
               | inl same ↦ absurd (let none = first.1 in cc)
               | inr same ↦ let e' = same.1 in omega arith
             ]
-        | inr other ↦ elim (u.settled.placed n q w) [
+        | inr other ↦ elim (u.open_graph.placed n q w) [
           | inl l ↦ elim (leaf_cases below top n l) [ inl x ↦ absurd (lower x) | inr e ↦ absurd (other.0 e) ]
           | inr f ↦ let e = f.1 in absurd (cc)
         ]
       ]
 
   old_closed : (k a q b r c s : ℕ) → out k a → Walk old a q b → old b r c → Walk old c s b → max r s ≡ cycle_kind verdict
-  old_closed k a q b r c s o w e x = (answered o.0 (record { kind = k; target = a }) o.1).used.settled.closed b q r c s w e x
+  old_closed k a q b r c s o w e x = (answered o.0 (record { kind = k; target = a }) o.1).used.open_graph.closed b q r c s w e x
 
   placed : (k a q b : ℕ) → out k a → Walk old a q b → b ≢ n → IsLeaf below b ⊎ IsFinished later verdict b
-  placed k a q b o w d = elim ((answered o.0 (record { kind = k; target = a }) o.1).used.settled.placed b q w) [
+  placed k a q b o w d = elim ((answered o.0 (record { kind = k; target = a }) o.1).used.open_graph.placed b q w) [
     | inl l ↦ elim (leaf_cases below top b l) [
       | inl x ↦ inl x
       | inr e ↦ absurd (d (sym e ∙ top_is_n k a q o (subst (λ x. Walk old a q x) (sym e) w)))
@@ -107,7 +107,7 @@ module _ (nodes : List Node) (verdict : Verdict) (below : List Entry) (top : Ent
 
   finished_use : Use later verdict below (path_kind below top.step) 0 n heads
   finished_use = record {
-    settled = record {
+    open_graph = record {
       placed = λ b q w. placed_walk old new out n (cycle_kind verdict) from_new elsewhere segment old_closed (λ b. IsLeaf below b ⊎ IsFinished later verdict b) (inr (edges, at_n)) placed b q w;
       closed = closed_walk old new out n (cycle_kind verdict) from_new elsewhere segment old_closed;
     };

@@ -1,7 +1,7 @@
 -- What keeps the use of a value: growth of the list, more heads, pushes, pops and reruns of what it doesn't reach.
 use Rattle.std.proofs.Common.{◌≡◌, ℕ, max, List, [], ◌∷◌, ◌++◌, Some, length, slice_get, refl, ap, sym, subst, ◌∙◌, ◌⊎◌, inl, inr, None, slice_set, ◌≢◌}
 use native.Mathlib.Decide.{ℕ_discrete}
-use Rattle.open_graphs.specs.Words.{Verdict, cycle_kind, Node, Unfinished, Finished, IsFinished, HasEdge, Walk, Grown, Entry, IsLeaf, Accepts, Step, Settled, Heads, Recorded, Use, Unreached, Includes, IsSameOrFresh, UsesNo}
+use Rattle.open_graphs.specs.Words.{Verdict, cycle_kind, Node, Unfinished, Finished, IsFinished, HasShapeEdge, Walk, Grown, Entry, IsLeaf, Accepts, Step, OpenGraph, Heads, Recorded, Use, Unreached, Includes, IsSameOrFresh, UsesNo}
 use Rattle.open_graphs.proofs.Lists.{get_left, get_end, get_cases, get_set_other}
 use Rattle.open_graphs.proofs.Paths.{covered_walk}
 use Rattle.open_graphs.proofs.Transfer.{same_walk, transfer_use}
@@ -20,14 +20,14 @@ finish_grows nodes n node unfinished a verdict edges e = elim (ℕ_discrete a n)
 ]
 
 -- an edge of a node that was finished before was its edge before
-pub edge_before : (before after : List Node) (verdict : Verdict) (b k c : ℕ) → Grown before after → IsFinished before verdict b → HasEdge after verdict b k c → HasEdge before verdict b k c
+pub edge_before : (before after : List Node) (verdict : Verdict) (b k c : ℕ) → Grown before after → IsFinished before verdict b → HasShapeEdge after verdict b k c → HasShapeEdge before verdict b k c
 edge_before before after verdict b k c grown f e =
     let then = grown b verdict f.0 f.1 in
     let now = e.finished in
     let same : e.edges ≡ f.0 = cc in
     record { edges = e.edges; index = e.index; finished = f.1 ∙ ap (λ x. Some (Finished verdict x)) (sym same); edge = e.edge }
 
-module _ (before after : List Node) (verdict : Verdict) (stack : List Entry) (a : ℕ) (grown : Grown before after) (s : Settled before verdict stack a) where
+module _ (before after : List Node) (verdict : Verdict) (stack : List Entry) (a : ℕ) (grown : Grown before after) (s : OpenGraph before verdict stack a) where
   pub growth_back : (b q k c : ℕ) → Walk (Step before verdict stack) a q b → Step after verdict stack b k c → Step before verdict stack b k c
   growth_back b q k c w e = elim (s.placed b q w) [
     | inl l ↦ absurd (e.inner l)
@@ -44,7 +44,7 @@ pub growth_keeps_use :
     → Grown before after → Use before verdict stack from_head front a heads
     → Use after verdict stack from_head front a heads
 growth_keeps_use before after verdict stack from_head front a heads grown u =
-    transfer_use before after verdict stack stack a (growth_back before after verdict stack a grown u.settled) (growth_place before after verdict stack a grown u.settled) from_head front heads (λ depth entry q at w. at) u
+    transfer_use before after verdict stack stack a (growth_back before after verdict stack a grown u.open_graph) (growth_place before after verdict stack a grown u.open_graph) from_head front heads (λ depth entry q at w. at) u
 
 pub recorded_at : (heads : Heads) (depth p c p' c' : ℕ) → Recorded heads depth p c → p ≡ p' → c ≡ c' → Recorded heads depth p' c'
 recorded_at heads depth p c p' c' h e e' = subst (λ x. Recorded heads depth x c') e (subst (λ x. Recorded heads depth p x) e' h)
@@ -59,7 +59,7 @@ pub heads_keep_use :
     → Includes heads more → ((depth path cycle : ℕ) → Recorded heads depth path cycle → from_head depth ≡ other depth)
     → Use nodes verdict stack from_head front a heads → Use nodes verdict stack other front a more
 heads_keep_use nodes verdict stack from_head other front a heads more includes same u = record {
-  settled = u.settled;
+  open_graph = u.open_graph;
   covered = λ depth entry q on at w.
       let h = u.covered depth entry q on at w in
       let e : max (max front q) (from_head depth) ≡ max (max front q) (other depth) = ap (λ x. max (max front q) x) (same depth (max front q) (max (max front q) (from_head depth)) h.0) in
@@ -92,7 +92,7 @@ module _ (nodes : List Node) (verdict : Verdict) (stack : List Entry) (entry : E
       u
 
 -- an open graph reaches no unfinished node but leaves
-pub fresh_unreached : (nodes : List Node) (verdict : Verdict) (stack : List Entry) (a b : ℕ) → Settled nodes verdict stack a → slice_get nodes b ≡ Some Unfinished → ¬ IsLeaf stack b → Unreached nodes verdict stack a b
+pub fresh_unreached : (nodes : List Node) (verdict : Verdict) (stack : List Entry) (a b : ℕ) → OpenGraph nodes verdict stack a → slice_get nodes b ≡ Some Unfinished → ¬ IsLeaf stack b → Unreached nodes verdict stack a b
 fresh_unreached nodes verdict stack a b s unfinished ne q w = elim (s.placed b q w) [
   | inl l ↦ ne l
   | inr f ↦ let e = f.1 in absurd (cc)
@@ -106,7 +106,7 @@ pub push_keeps_use :
     → Use nodes verdict stack from_head front a heads
     → Use nodes verdict (stack ++ entry ∷ []) from_head front a heads
 push_keeps_use nodes verdict stack entry from_head front a heads unfinished ne u =
-    push_unreached nodes verdict stack entry a from_head front heads (fresh_unreached nodes verdict stack a entry.node u.settled unfinished ne) u
+    push_unreached nodes verdict stack entry a from_head front heads (fresh_unreached nodes verdict stack a entry.node u.open_graph unfinished ne) u
 
 module _ (nodes : List Node) (verdict : Verdict) (below : List Entry) (top : Entry) (a : ℕ) (un : Unreached nodes verdict (below ++ top ∷ []) a top.node) where
   pub pop_back : (b q k c : ℕ) → Walk (Step nodes verdict (below ++ top ∷ [])) a q b → Step nodes verdict below b k c → Step nodes verdict (below ++ top ∷ []) b k c
@@ -151,7 +151,7 @@ rerun_keeps_use nodes verdict below top again from_head front a heads new un u =
     push_unreached nodes verdict below again a from_head front heads
     (elim new [
       | inl same ↦ λ q w. un q (same_walk nodes nodes verdict (below ++ top ∷ []) below a back place (subst (λ x. Walk (Step nodes verdict below) a q x) same w))
-      | inr h ↦ fresh_unreached nodes verdict below a again.node v.settled h.0 h.1
+      | inr h ↦ fresh_unreached nodes verdict below a again.node v.open_graph h.0 h.1
     ])
     v
 

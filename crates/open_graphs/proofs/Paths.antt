@@ -71,6 +71,6 @@ pub record Covered (verdict : Verdict) (heads : Heads) (entry : Entry) (depth be
 
 pub covered_walk : (nodes : List Node) (verdict : Verdict) (stack : List Entry) (from_head : ℕ → ℕ) (before a : ℕ) (heads : Heads) → Use nodes verdict stack from_head before a heads → (depth : ℕ) (entry : Entry) (q : ℕ) → slice_get stack depth ≡ Some entry → Walk (Step nodes verdict stack) a q entry.node → Covered verdict heads entry depth before (from_head depth) q
 covered_walk nodes verdict stack from_head before a heads u depth entry q at w =
-    let e = erase (Step nodes verdict stack) (cycle_kind verdict) u.settled.closed w in
+    let e = erase (Step nodes verdict stack) (cycle_kind verdict) u.open_graph.closed w in
     let h = u.covered depth entry e.kind e.on at e.path in
     record { path = e.kind; above = e.above; below = e.below; recorded = h.0; accepted = h.1 }

@@ -1,7 +1,7 @@
 -- Stored answers when their highest head is popped.
 use Rattle.std.proofs.Common.{◌≡◌, ◌≢◌, ℕ, max, ◌<◌, List, [], ◌∷◌, ◌++◌, Some, length, slice_get, arith, refl, ap, sym, subst, ◌⊎◌, inl, inr}
 use native.Mathlib.Decide.{ℕ_discrete}
-use Rattle.open_graphs.specs.Words.{Verdict, cycle_kind, Node, IsFinished, Walk, stay, go, Path, end, then, Avoids, Entry, IsLeaf, Accepts, path_kind, path_through, Step, Heads, Recorded, Use, HeadsWithin, Stored, IncludesBelow, KeepsCycleKinds, TakesOver, Unreached}
+use Rattle.open_graphs.specs.Words.{Verdict, cycle_kind, Node, IsFinished, Walk, stay, go, Path, end, then, Avoids, Entry, IsLeaf, Accepts, path_kind, path_through, Step, Heads, Recorded, Use, HeadsWithin, ProvisionalUse, IncludesBelow, KeepsCycleKinds, TakesOver, Unreached}
 use Rattle.open_graphs.proofs.Lists.{get_left, get_end, get_below}
 use Rattle.open_graphs.proofs.PathKinds.{path_kind_below, through_top, through_popped}
 use Rattle.open_graphs.proofs.Keep.{leaf_cases, recorded_at, accepts_at, pop_keeps_use}
@@ -61,23 +61,23 @@ module _ (nodes : List Node) (verdict : Verdict) (below : List Entry) (top : Ent
   split_at_top w = split old new top.node elsewhere w
 
   placed : (b q : ℕ) → Split old new top.node a q b → IsLeaf below b ⊎ IsFinished nodes verdict b
-  placed b q (direct v) = elim (u.settled.placed b q v) [
+  placed b q (direct v) = elim (u.open_graph.placed b q v) [
     | inl l ↦ elim (leaf_cases below top b l) [
       | inl x ↦ inl x
-      | inr same ↦ subst (λ x. IsLeaf below x ⊎ IsFinished nodes verdict x) same (top_use.settled.placed top.node 0 stay)
+      | inr same ↦ subst (λ x. IsLeaf below x ⊎ IsFinished nodes verdict x) same (top_use.open_graph.placed top.node 0 stay)
     ]
     | inr f ↦ inr f
   ]
-  placed b q (through p r v w e) = top_use.settled.placed b r w
+  placed b q (through p r v w e) = top_use.open_graph.placed b r w
 
   closed_elsewhere : (b q k c r : ℕ) → Walk old a q b → new b k c → old b k c → Walk new c r b → Split old new top.node c r b → max k r ≡ cycle_kind verdict
-  closed_elsewhere b q k c r v e e' x (direct y) = u.settled.closed b q k c r v e' y
-  closed_elsewhere b q k c r v e e' x (through p s y z same) = top_use.settled.closed b s k c r z e x
+  closed_elsewhere b q k c r v e e' x (direct y) = u.open_graph.closed b q k c r v e' y
+  closed_elsewhere b q k c r v e e' x (through p s y z same) = top_use.open_graph.closed b s k c r z e x
 
   closed : (b q k c r : ℕ) → Split old new top.node a q b → new b k c → Walk new c r b → max k r ≡ cycle_kind verdict
-  closed b q k c r (through p s v w same) e x = top_use.settled.closed b s k c r w e x
+  closed b q k c r (through p s v w same) e x = top_use.open_graph.closed b s k c r w e x
   closed b q k c r (direct v) e x = elim (ℕ_discrete b top.node) [
-    | yes same ↦ top_use.settled.closed b 0 k c r (subst (λ y. Walk new y 0 b) same stay) e x
+    | yes same ↦ top_use.open_graph.closed b 0 k c r (subst (λ y. Walk new y 0 b) same stay) e x
     | no ne ↦ closed_elsewhere b q k c r v e (elsewhere b k c ne e) x (split_at_top x)
   ]
 
@@ -90,7 +90,7 @@ module _ (nodes : List Node) (verdict : Verdict) (below : List Entry) (top : Ent
   covered depth entry q on at (PathSplit.through p r first second v w e within) =
       let own = u.covered (length below) top p first (get_end below top) v in
       let its = top_use.covered depth entry r second at w in
-      let kept = keeps depth (max 0 r) (max (max 0 r) (path_kind below top.step depth)) (max 0 p) (max (max 0 p) (path_kind stack path (length below))) its.0 own.0 in
+      let heads_before = keeps depth (max 0 r) (max (max 0 r) (path_kind below top.step depth)) (max 0 p) (max (max 0 p) (path_kind stack path (length below))) its.0 own.0 in
       let same : max (max 0 r) (path_kind below top.step depth) ≡ max (max 0 q) (max path (path_kind below top.step depth)) = omega arith in (
         recorded_at rebased depth (max (max 0 p) (max 0 r)) (max (max 0 r) (path_kind below top.step depth)) (max 0 q) (max (max 0 q) (max path (path_kind below top.step depth)))
             (takes depth (max 0 r) (max (max 0 r) (path_kind below top.step depth)) (max 0 p) (max (max 0 p) (path_kind stack path (length below))) its.0 own.0) (omega arith) same,
@@ -99,7 +99,7 @@ module _ (nodes : List Node) (verdict : Verdict) (below : List Entry) (top : Ent
 
   pub rebased_use : Use nodes verdict below (λ depth. max path (path_kind below top.step depth)) 0 a rebased
   rebased_use = record {
-    settled = record {
+    open_graph = record {
       placed = λ b q w. placed b q (split_at_top w);
       closed = λ b q k c r w e x. closed b q k c r (split_at_top w) e x;
     };
@@ -107,12 +107,12 @@ module _ (nodes : List Node) (verdict : Verdict) (below : List Entry) (top : Ent
   }
 
 -- what was stored under the top as its highest head is used by the path kind through the top
-from_top : (nodes : List Node) (verdict : Verdict) (below : List Entry) (top : Entry) (path a : ℕ) (heads : Heads) → Stored nodes verdict (below ++ top ∷ []) (length below) path a heads → Use nodes verdict (below ++ top ∷ []) (path_kind (below ++ top ∷ []) path) 0 a heads
+from_top : (nodes : List Node) (verdict : Verdict) (below : List Entry) (top : Entry) (path a : ℕ) (heads : Heads) → ProvisionalUse nodes verdict (below ++ top ∷ []) (length below) path a heads → Use nodes verdict (below ++ top ∷ []) (path_kind (below ++ top ∷ []) path) 0 a heads
 from_top nodes verdict below top path a heads s =
     along nodes verdict (below ++ top ∷ []) (path_through (below ++ top ∷ []) (length below) path) (path_kind (below ++ top ∷ []) path) a heads (length below) s.within
     (λ depth h. through_top below top path depth h) s.use_there
 
-stored_below : (nodes : List Node) (verdict : Verdict) (below : List Entry) (top : Entry) (path a : ℕ) (rebased : Heads) (highest : ℕ) → highest < length below → HeadsWithin rebased highest → Use nodes verdict below (λ depth. max path (path_kind below top.step depth)) 0 a rebased → Stored nodes verdict below highest (max path (path_kind below top.step highest)) a rebased
+stored_below : (nodes : List Node) (verdict : Verdict) (below : List Entry) (top : Entry) (path a : ℕ) (rebased : Heads) (highest : ℕ) → highest < length below → HeadsWithin rebased highest → Use nodes verdict below (λ depth. max path (path_kind below top.step depth)) 0 a rebased → ProvisionalUse nodes verdict below highest (max path (path_kind below top.step highest)) a rebased
 stored_below nodes verdict below top path a rebased highest on_stack within u = record {
   on_stack = on_stack;
   within = within;
@@ -128,8 +128,8 @@ pub rebase_keeps_stored :
     → Use nodes verdict below (path_kind below top.step) 0 top.node top_heads
     → KeepsCycleKinds below top path heads top_heads → IncludesBelow (length below) heads rebased
     → TakesOver (length below) heads top_heads rebased → highest < length below → HeadsWithin rebased highest
-    → Stored nodes verdict (below ++ top ∷ []) (length below) path a heads
-    → Stored nodes verdict below highest (max path (path_kind below top.step highest)) a rebased
+    → ProvisionalUse nodes verdict (below ++ top ∷ []) (length below) path a heads
+    → ProvisionalUse nodes verdict below highest (max path (path_kind below top.step highest)) a rebased
 rebase_keeps_stored nodes verdict below top path a heads top_heads rebased highest top_use keeps includes takes on_stack within s =
     stored_below nodes verdict below top path a rebased highest on_stack within
     (rebased_use nodes verdict below top path a heads top_heads rebased top_use keeps includes takes (from_top nodes verdict below top path a heads s))
@@ -137,7 +137,7 @@ rebase_keeps_stored nodes verdict below top path a heads top_heads rebased highe
 -- the same use under other heads that include the first ones below a depth which the stack doesn't pass
 with_heads_below : (nodes : List Node) (verdict : Verdict) (below : List Entry) (from_head other : ℕ → ℕ) (a : ℕ) (heads rebased : Heads) → IncludesBelow (length below) heads rebased → ((depth : ℕ) → depth < length below → from_head depth ≡ other depth) → Use nodes verdict below from_head 0 a heads → Use nodes verdict below other 0 a rebased
 with_heads_below nodes verdict below from_head other a heads rebased includes same u = record {
-  settled = u.settled;
+  open_graph = u.open_graph;
   covered = λ depth entry q on at w.
       let within : depth < length below = get_below below depth entry at in
       let h = u.covered depth entry q on at w in
@@ -151,8 +151,8 @@ pub unreached_head_keeps_stored :
     (highest : ℕ)
     → Unreached nodes verdict (below ++ top ∷ []) a top.node → IncludesBelow (length below) heads rebased
     → highest < length below → HeadsWithin rebased highest
-    → Stored nodes verdict (below ++ top ∷ []) (length below) path a heads
-    → Stored nodes verdict below highest (max path (path_kind below top.step highest)) a rebased
+    → ProvisionalUse nodes verdict (below ++ top ∷ []) (length below) path a heads
+    → ProvisionalUse nodes verdict below highest (max path (path_kind below top.step highest)) a rebased
 unreached_head_keeps_stored nodes verdict below top path a heads rebased highest unreached includes on_stack within s =
     stored_below nodes verdict below top path a rebased highest on_stack within
     (with_heads_below nodes verdict below (path_kind (below ++ top ∷ []) path) (λ depth. max path (path_kind below top.step depth)) a heads rebased includes

@@ -1,10 +1,10 @@
 -- The rule of rebasing leaves only what stays true.
 use Rattle.std.proofs.Common.{◌≡◌, ◌≢◌, ℕ, max, List, Some, None, length, Bool, arith, refl, sym, ◌∙◌, ◌⊎◌, inl, inr}
 use native.Mathlib.Decide.{ℕ_discrete}
-use Rattle.open_graphs.specs.Words.{Verdict, Yes, No, Neither, cycle_kind, Entry, Head, Heads, IncludesBelow, Kept, IsMoved, IsFixpoint, IsOther, Lower, Unused, Fixpoint, Other, Reason, NoCycleUsages, Ambiguity, Overflow, ReachedFixpoint, IsInitial, Inductive, Unknown, Coinductive, ForcedAmbiguity, IsTrueReason, HasResult, IsSingle, IsTakenOut, Stays, NotNeeded, Needed, IsRebasable, RebasedIsAfterPop, RebasedKeepsStored}
+use Rattle.open_graphs.specs.Words.{Verdict, Yes, No, Neither, cycle_kind, Entry, Head, Heads, IncludesBelow, ProvisionalEntry, IsMoved, IsFixpoint, IsOther, Lower, Unused, Fixpoint, Other, Reason, NoCycleUsages, Ambiguity, Overflow, ReachedFixpoint, IsInitial, Inductive, Unknown, Coinductive, ForcedAmbiguity, IsTrueReason, HasResult, IsSingle, IsTakenOut, Stays, NotNeeded, Needed, IsRebasable, RebasedIsAfterPop, RebasedKeepsStored}
 use Rattle.open_graphs.proofs.States.{verdict_cases, fixpoint_keeps_stored}
 
-moved : (reason : Reason) (below : List Entry) (top : Entry) (own others : ℕ → Bool) (verdict : Verdict) (top_heads : Heads) (k after : Kept) → IsRebasable reason below top own others verdict top_heads k → IsTakenOut below top own others k after → IncludesBelow (length below) k.heads after.heads → after.verdict ≡ k.verdict → IsMoved below top k after
+moved : (reason : Reason) (below : List Entry) (top : Entry) (own others : ℕ → Bool) (verdict : Verdict) (top_heads : Heads) (k after : ProvisionalEntry) → IsRebasable reason below top own others verdict top_heads k → IsTakenOut below top own others k after → IncludesBelow (length below) k.heads after.heads → after.verdict ≡ k.verdict → IsMoved below top k after
 moved reason below top own others verdict top_heads k after now out includes same = record {
   was = out.was;
   same_verdict = same;

@@ -1,6 +1,6 @@
 -- Runs of a goal on the stack.
 use Rattle.std.proofs.Common.{◌≡◌, ◌≢◌, ℕ, ◌<◌, List, [], ◌∷◌, ◌++◌, Some, None, length, slice_get, arith, refl, ap, sym, subst, ◌∙◌, inl, inr, length-append, false}
-use Rattle.open_graphs.specs.Words.{Verdict, Neither, Edge, Node, Unfinished, Finished, Grown, Entry, IsLeaf, path_kind, Heads, Use, Running, IsStack, Answered, Again, Anew, Without, AllAnswered, Includes, IsGraph, UsesNo}
+use Rattle.open_graphs.specs.Words.{Verdict, Neither, Edge, Node, Unfinished, Finished, Grown, Entry, IsLeaf, path_kind, Heads, Use, Running, IsStack, Answered, Again, Anew, Without, AllAnswered, Includes, IsClosedGraph, UsesNo}
 use Rattle.open_graphs.proofs.Lists.{get_left, get_end, get_cases}
 use Rattle.open_graphs.proofs.Keep.{append_grows, finish_grows, growth_keeps_use, heads_keep_use}
 use Rattle.open_graphs.proofs.Finish.{finish_gives_use}
@@ -56,14 +56,14 @@ first_run_starts nodes stack step heads s = (
 -- A run goes on while other nodes are appended and finished.
 pub growth_keeps_running :
     (before after : List Node) (below : List Entry) (top : Entry) (own : ℕ) (edges : Verdict → List Edge)
-    (kept heads : Heads)
-    → Grown before after → slice_get after own ≡ Some Unfinished → Running before below top own edges kept heads
-    → Running after below top own edges kept heads
-growth_keeps_running before after below top own edges kept heads grown unfinished r = record {
+    (heads_before heads : Heads)
+    → Grown before after → slice_get after own ≡ Some Unfinished → Running before below top own edges heads_before heads
+    → Running after below top own edges heads_before heads
+growth_keeps_running before after below top own edges heads_before heads grown unfinished r = record {
   unfinished = unfinished;
   lower = r.lower;
   which_run = r.which_run;
-  earlier = λ verdict definite e. growth_keeps_use before after verdict below (path_kind below top.step) 0 top.node kept grown (r.earlier verdict definite e);
+  earlier = λ verdict definite e. growth_keeps_use before after verdict below (path_kind below top.step) 0 top.node heads_before grown (r.earlier verdict definite e);
   still = r.still;
   answered = λ verdict i edge e. let h = r.answered verdict i edge e in
       record { answer = h.answer; used = growth_keeps_use before after verdict (below ++ top ∷ []) (path_kind (below ++ top ∷ []) edge.kind) edge.kind edge.target h.answer grown h.used; among = h.among };
@@ -72,11 +72,11 @@ growth_keeps_running before after below top own edges kept heads grown unfinishe
 -- It goes on with other answers, if each is among the heads.
 pub answers_keep_running :
     (nodes : List Node) (below : List Entry) (top : Entry) (own : ℕ) (edges more : Verdict → List Edge)
-    (kept heads other : Heads)
-    → Includes kept other
-    → ((verdict : Verdict) → AllAnswered nodes verdict below top (more verdict) other) → Running nodes below top own edges kept heads
-    → Running nodes below top own more kept other
-answers_keep_running nodes below top own edges more kept heads other still answered r = record {
+    (heads_before heads other : Heads)
+    → Includes heads_before other
+    → ((verdict : Verdict) → AllAnswered nodes verdict below top (more verdict) other) → Running nodes below top own edges heads_before heads
+    → Running nodes below top own more heads_before other
+answers_keep_running nodes below top own edges more heads_before heads other still answered r = record {
   unfinished = r.unfinished;
   lower = r.lower;
   which_run = r.which_run;
@@ -90,23 +90,23 @@ answered_grows nodes top own edges verdict unfinished (Again e) = λ b v es h. h
 answered_grows nodes top own edges verdict unfinished (Anew ne) = finish_grows nodes own (Finished verdict (edges verdict)) unfinished
 answered_grows nodes top own edges verdict unfinished (Without e) = λ b v es h. h
 
-answered_use : (nodes : List Node) (below : List Entry) (top : Entry) (own : ℕ) (edges : Verdict → List Edge) (kept heads : Heads) (verdict : Verdict) {later : List Node} {a : ℕ} → verdict ≢ Neither → Answered nodes top own edges verdict later a → Running nodes below top own edges kept heads → Use later verdict below (path_kind below top.step) 0 a heads
-answered_use nodes below top own edges kept heads verdict definite (Again e) r =
-    heads_keep_use nodes verdict below (path_kind below top.step) (path_kind below top.step) 0 top.node kept heads r.still (λ d p c h. refl) (r.earlier verdict definite e)
-answered_use nodes below top own edges kept heads verdict definite (Anew ne) r =
+answered_use : (nodes : List Node) (below : List Entry) (top : Entry) (own : ℕ) (edges : Verdict → List Edge) (heads_before heads : Heads) (verdict : Verdict) {later : List Node} {a : ℕ} → verdict ≢ Neither → Answered nodes top own edges verdict later a → Running nodes below top own edges heads_before heads → Use later verdict below (path_kind below top.step) 0 a heads
+answered_use nodes below top own edges heads_before heads verdict definite (Again e) r =
+    heads_keep_use nodes verdict below (path_kind below top.step) (path_kind below top.step) 0 top.node heads_before heads r.still (λ d p c h. refl) (r.earlier verdict definite e)
+answered_use nodes below top own edges heads_before heads verdict definite (Anew ne) r =
     finish_gives_use nodes verdict below top own (edges verdict) heads r.unfinished r.lower
     (elim r.which_run [ inl first ↦ inl first | inr later ↦ inr (later.0, later.1, ne) ])
     (r.answered verdict)
-answered_use nodes below top own edges kept heads verdict definite (Without e) r = absurd (definite e)
+answered_use nodes below top own edges heads_before heads verdict definite (Without e) r = absurd (definite e)
 
 -- A run that ended with a verdict gives a node that may be used below, with the heads of all runs.
 pub run_gives_use :
     (nodes : List Node) (below : List Entry) (top : Entry) (own : ℕ) (edges : Verdict → List Edge)
-    (kept heads : Heads) (verdict : Verdict) (later : List Node) (a : ℕ)
-    → verdict ≢ Neither → Answered nodes top own edges verdict later a → Running nodes below top own edges kept heads
+    (heads_before heads : Heads) (verdict : Verdict) (later : List Node) (a : ℕ)
+    → verdict ≢ Neither → Answered nodes top own edges verdict later a → Running nodes below top own edges heads_before heads
     → Grown nodes later × Use later verdict below (path_kind below top.step) 0 a heads
-run_gives_use nodes below top own edges kept heads verdict later a definite answer r =
-    (answered_grows nodes top own edges verdict r.unfinished answer, answered_use nodes below top own edges kept heads verdict definite answer r)
+run_gives_use nodes below top own edges heads_before heads verdict later a definite answer r =
+    (answered_grows nodes top own edges verdict r.unfinished answer, answered_use nodes below top own edges heads_before heads verdict definite answer r)
 
 -- The goal is then run again under this result, with a new node and no answers.
 pub next_run_starts :
@@ -137,15 +137,15 @@ pub closed_gives_use :
     → ((depth : ℕ) → UsesNo heads depth) → Use nodes verdict stack from_head front a heads
     → Use nodes verdict stack other step a any
 closed_gives_use nodes verdict stack from_head other front step a heads any none u = record {
-  settled = u.settled;
+  open_graph = u.open_graph;
   covered = λ depth entry q on at p. absurd (none depth _ _ (u.covered depth entry q on at p).0);
 }
 
 -- Under an empty stack a use is a graph.
 pub root_is_graph :
     (nodes : List Node) (verdict : Verdict) (from_head : ℕ → ℕ) (front a : ℕ) (heads : Heads)
-    → Use nodes verdict [] from_head front a heads → IsGraph nodes verdict a
+    → Use nodes verdict [] from_head front a heads → IsClosedGraph nodes verdict a
 root_is_graph nodes verdict from_head front a heads u =
     let empty : Heads = λ depth. record { paths = λ q. false; usages = λ c. 0 } in
     closed_is_graph nodes verdict [] from_head front a empty (λ depth p c h. h.1 refl)
-    (record { settled = u.settled; covered = λ depth entry q on at p. absurd (cc) })
+    (record { open_graph = u.open_graph; covered = λ depth entry q on at p. absurd (cc) })

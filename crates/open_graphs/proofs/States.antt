@@ -1,6 +1,6 @@
 -- Each move keeps a sound state sound.
 use Rattle.std.proofs.Common.{◌≡◌, ◌≢◌, ℕ, ◌<◌, ◌≤◌, max, List, [], ◌∷◌, ◌++◌, Some, None, length, slice_get, slice_set, arith, refl, sym, subst, ◌∙◌, ◌⊎◌, inl, inr, length-set}
-use Rattle.open_graphs.specs.Words.{Verdict, Yes, No, Neither, cycle_kind, Edge, Node, Unfinished, Finished, Grown, Entry, IsLeaf, path_kind, IsSameOrFresh, Heads, Use, Unreached, Stored, UsesNo, KeepsCycleKinds, TakesOver, Running, IsStack, Answered, Again, Anew, Without, Frame, Kept, Final, stack_of, no_heads, AllRunning, OwnsOther, AllStored, AllFinal, IsMoved, IsFixpoint, Lower, Unused, Fixpoint, Other, PushKeepsSound, AnswersKeepSound, IsLeft, Survives, Added, IsDone, Before, Now, PopKeepsSound, RerunKeepsSound, StartIsSound, FinalIsGraph, AfterPop}
+use Rattle.open_graphs.specs.Words.{Verdict, Yes, No, Neither, cycle_kind, Edge, Node, Unfinished, Finished, Grown, Entry, IsLeaf, path_kind, IsSameOrFresh, Heads, Use, Unreached, ProvisionalUse, UsesNo, KeepsCycleKinds, TakesOver, Running, IsStack, Answered, Again, Anew, Without, RunningGoal, ProvisionalEntry, Final, stack_of, no_heads, AllRunning, OwnsOther, AllProvisional, AllFinal, IsMoved, IsFixpoint, Lower, Unused, Fixpoint, Other, PushKeepsSound, AnswersKeepSound, IsLeft, Survives, Added, IsFinalAfter, Before, Now, PopKeepsSound, RerunKeepsSound, StartIsSound, FinalIsGraph, AfterPop}
 use Rattle.open_graphs.proofs.Lists.{get_left, get_end, get_below, get_set_other}
 use Rattle.open_graphs.proofs.Keep.{append_grows, growth_keeps_use, push_keeps_use, pop_keeps_use, rerun_keeps_use, unused_is_unreached, other_is_unreached}
 use Rattle.open_graphs.proofs.Store.{use_gives_stored, growth_keeps_stored, push_keeps_stored, pop_keeps_stored, rerun_keeps_stored}
@@ -30,33 +30,33 @@ same_cycles No Neither h h' e = absurd (h' refl)
 same_cycles Neither w h h' e = absurd (h refl)
 
 -- a stored answer at equal data
-stored_at : (nodes : List Node) (below : List Entry) (verdict verdict' : Verdict) (highest path path' node node' : ℕ) (heads : Heads) → verdict' ≡ verdict → path' ≡ path → node' ≡ node → Stored nodes verdict below highest path node heads → Stored nodes verdict' below highest path' node' heads
+stored_at : (nodes : List Node) (below : List Entry) (verdict verdict' : Verdict) (highest path path' node node' : ℕ) (heads : Heads) → verdict' ≡ verdict → path' ≡ path → node' ≡ node → ProvisionalUse nodes verdict below highest path node heads → ProvisionalUse nodes verdict' below highest path' node' heads
 stored_at nodes below verdict verdict' highest path path' node node' heads e e' e'' s =
-    subst (λ v. Stored nodes v below highest path' node' heads) (sym e) (subst (λ p. Stored nodes verdict below highest p node' heads) (sym e') (subst (λ n. Stored nodes verdict below highest path n heads) (sym e'') s))
+    subst (λ v. ProvisionalUse nodes v below highest path' node' heads) (sym e) (subst (λ p. ProvisionalUse nodes verdict below highest p node' heads) (sym e') (subst (λ n. ProvisionalUse nodes verdict below highest path n heads) (sym e'') s))
 
 -- a stored answer that the popped entry is not reached from
-moved_unreached : (nodes : List Node) (below : List Entry) (top : Entry) (k after : Kept) → IsMoved below top k after → Unreached nodes k.verdict (below ++ top ∷ []) k.node top.node → Stored nodes k.verdict (below ++ top ∷ []) k.highest k.path k.node k.heads → Stored nodes after.verdict below after.highest after.path after.node after.heads
+moved_unreached : (nodes : List Node) (below : List Entry) (top : Entry) (k after : ProvisionalEntry) → IsMoved below top k after → Unreached nodes k.verdict (below ++ top ∷ []) k.node top.node → ProvisionalUse nodes k.verdict (below ++ top ∷ []) k.highest k.path k.node k.heads → ProvisionalUse nodes after.verdict below after.highest after.path after.node after.heads
 moved_unreached nodes below top k after m un s =
     stored_at nodes below k.verdict after.verdict after.highest (max k.path (path_kind below top.step after.highest)) after.path k.node after.node after.heads m.same_verdict m.path m.same_node
     (unreached_head_keeps_stored nodes k.verdict below top k.path k.node k.heads after.heads after.highest un m.heads m.on_stack m.within
-    (subst (λ h. Stored nodes k.verdict (below ++ top ∷ []) h k.path k.node k.heads) m.was s))
+    (subst (λ h. ProvisionalUse nodes k.verdict (below ++ top ∷ []) h k.path k.node k.heads) m.was s))
 
-moved_rebased : (nodes : List Node) (below : List Entry) (top : Entry) (verdict : Verdict) (top_heads : Heads) (k after : Kept) → Use nodes verdict below (path_kind below top.step) 0 top.node top_heads → IsMoved below top k after → k.verdict ≡ verdict → KeepsCycleKinds below top k.path k.heads top_heads → TakesOver (length below) k.heads top_heads after.heads → Stored nodes k.verdict (below ++ top ∷ []) k.highest k.path k.node k.heads → Stored nodes after.verdict below after.highest after.path after.node after.heads
+moved_rebased : (nodes : List Node) (below : List Entry) (top : Entry) (verdict : Verdict) (top_heads : Heads) (k after : ProvisionalEntry) → Use nodes verdict below (path_kind below top.step) 0 top.node top_heads → IsMoved below top k after → k.verdict ≡ verdict → KeepsCycleKinds below top k.path k.heads top_heads → TakesOver (length below) k.heads top_heads after.heads → ProvisionalUse nodes k.verdict (below ++ top ∷ []) k.highest k.path k.node k.heads → ProvisionalUse nodes after.verdict below after.highest after.path after.node after.heads
 moved_rebased nodes below top verdict top_heads k after u m e keeps takes s =
     stored_at nodes below k.verdict after.verdict after.highest (max k.path (path_kind below top.step after.highest)) after.path k.node after.node after.heads m.same_verdict m.path m.same_node
     (rebase_keeps_stored nodes k.verdict below top k.path k.node k.heads top_heads after.heads after.highest
     (subst (λ v. Use nodes v below (path_kind below top.step) 0 top.node top_heads) (sym e) u) keeps m.heads takes m.on_stack m.within
-    (subst (λ h. Stored nodes k.verdict (below ++ top ∷ []) h k.path k.node k.heads) m.was s))
+    (subst (λ h. ProvisionalUse nodes k.verdict (below ++ top ∷ []) h k.path k.node k.heads) m.was s))
 
 -- What is stored under a popped head may be stored without it, where `AfterPop` leaves it. Where the head reached its fixpoint
 -- with a verdict, its own answer may be used below.
 pub fixpoint_keeps_stored :
-    (nodes : List Node) (below : List Entry) (top : Entry) (verdict : Verdict) (top_heads : Heads) (k after : Kept)
+    (nodes : List Node) (below : List Entry) (top : Entry) (verdict : Verdict) (top_heads : Heads) (k after : ProvisionalEntry)
     → (verdict ≢ Neither → IsFixpoint verdict top (length below) k.heads
     → Use nodes verdict below (path_kind below top.step) 0 top.node top_heads)
     → AfterPop below top verdict top_heads k after
-    → Stored nodes k.verdict (below ++ top ∷ []) k.highest k.path k.node k.heads
-    → Stored nodes after.verdict below after.highest after.path after.node after.heads
+    → ProvisionalUse nodes k.verdict (below ++ top ∷ []) k.highest k.path k.node k.heads
+    → ProvisionalUse nodes after.verdict below after.highest after.path after.node after.heads
 fixpoint_keeps_stored nodes below top verdict top_heads k after u (Lower lower) s = pop_keeps_stored nodes k.verdict below top k.highest k.path k.node k.heads lower s
 fixpoint_keeps_stored nodes below top verdict top_heads k after u (Unused m unused) s =
     moved_unreached nodes below top k after m (unused_is_unreached nodes k.verdict below top _ 0 k.node k.heads unused s.use_there) s
@@ -73,36 +73,36 @@ fixpoint_keeps_stored nodes below top verdict top_heads k after u (Other m other
     moved_unreached nodes below top k after m (other_is_unreached nodes k.verdict below top _ 0 k.node k.heads other.result other.kinds s.use_there) s
 
 -- the runs' nodes stay unfinished when a node is appended, and when another run's node is finished
-AllUnfinished : List Node → List Frame → Type 0
+AllUnfinished : List Node → List RunningGoal → Type 0
 AllUnfinished nodes [] = Unit {0}
 AllUnfinished nodes (f ∷ fs) = (slice_get nodes f.own ≡ Some Unfinished) × AllUnfinished nodes fs
 
-still_unfinished : (nodes : List Node) (frames : List Frame) → AllRunning nodes frames → AllUnfinished nodes frames
+still_unfinished : (nodes : List Node) (frames : List RunningGoal) → AllRunning nodes frames → AllUnfinished nodes frames
 unfolding AllUnfinished
 still_unfinished nodes [] r = tt
 still_unfinished nodes (f ∷ fs) r = (r.0.unfinished, still_unfinished nodes fs r.1)
 
-after_append : (nodes : List Node) (frames : List Frame) → AllUnfinished nodes frames → AllUnfinished (nodes ++ Unfinished ∷ []) frames
+after_append : (nodes : List Node) (frames : List RunningGoal) → AllUnfinished nodes frames → AllUnfinished (nodes ++ Unfinished ∷ []) frames
 unfolding AllUnfinished
 after_append nodes [] r = tt
 after_append nodes (f ∷ fs) r = (get_left nodes (Unfinished ∷ []) f.own Unfinished r.0, after_append nodes fs r.1)
 
-after_finish : (nodes : List Node) (own : ℕ) (node : Node) (frames : List Frame) → OwnsOther own frames → AllUnfinished nodes frames → AllUnfinished (slice_set nodes own node) frames
+after_finish : (nodes : List Node) (own : ℕ) (node : Node) (frames : List RunningGoal) → OwnsOther own frames → AllUnfinished nodes frames → AllUnfinished (slice_set nodes own node) frames
 unfolding AllUnfinished
 after_finish nodes own node [] other r = tt
 after_finish nodes own node (f ∷ fs) other r = (get_set_other nodes own node f.own (λ e. other.0 (sym e)) ∙ r.0, after_finish nodes own node fs other.1 r.1)
 
-after_answer : (nodes : List Node) (f : Frame) (verdict : Verdict) {later : List Node} {a : ℕ} (frames : List Frame) → OwnsOther f.own frames → Answered nodes f.entry f.own f.edges verdict later a → AllUnfinished nodes frames → AllUnfinished later frames
+after_answer : (nodes : List Node) (f : RunningGoal) (verdict : Verdict) {later : List Node} {a : ℕ} (frames : List RunningGoal) → OwnsOther f.own frames → Answered nodes f.entry f.own f.edges verdict later a → AllUnfinished nodes frames → AllUnfinished later frames
 after_answer nodes f verdict frames other (Again e) r = r
 after_answer nodes f verdict frames other (Anew ne) r = after_finish nodes f.own (Finished verdict (f.edges verdict)) frames other r
 after_answer nodes f verdict frames other (Without e) r = r
 
-all_grow : (nodes later : List Node) (frames : List Frame) → Grown nodes later → AllUnfinished later frames → AllRunning nodes frames → AllRunning later frames
+all_grow : (nodes later : List Node) (frames : List RunningGoal) → Grown nodes later → AllUnfinished later frames → AllRunning nodes frames → AllRunning later frames
 unfolding AllUnfinished
 all_grow nodes later [] grown u r = tt
-all_grow nodes later (f ∷ fs) grown u r = (growth_keeps_running nodes later (stack_of fs) f.entry f.own f.edges f.kept f.heads grown u.0 r.0, all_grow nodes later fs grown u.1 r.1)
+all_grow nodes later (f ∷ fs) grown u r = (growth_keeps_running nodes later (stack_of fs) f.entry f.own f.edges f.heads_before f.heads grown u.0 r.0, all_grow nodes later fs grown u.1 r.1)
 
-new_owner : (nodes : List Node) (own : ℕ) (frames : List Frame) → length nodes ≤ own → AllRunning nodes frames → OwnsOther own frames
+new_owner : (nodes : List Node) (own : ℕ) (frames : List RunningGoal) → length nodes ≤ own → AllRunning nodes frames → OwnsOther own frames
 new_owner nodes own [] le r = tt
 new_owner nodes own (f ∷ fs) le r = ((λ e. let h : f.own < length nodes = get_below nodes f.own Unfinished r.0.unfinished in absurd (omega arith)), new_owner nodes own fs le r.1)
 
@@ -133,7 +133,7 @@ push_keeps_sound nodes frames provisional final step heads s =
 pub answers_keep_sound : AnswersKeepSound
 answers_keep_sound nodes f frames provisional final edges heads still answered s = record {
   is_stack = s.is_stack;
-  running = (answers_keep_running nodes (stack_of frames) f.entry f.own f.edges edges f.kept f.heads heads still answered s.running.0, s.running.1);
+  running = (answers_keep_running nodes (stack_of frames) f.entry f.own f.edges edges f.heads_before f.heads heads still answered s.running.0, s.running.1);
   apart = s.apart;
   stored = s.stored;
   closed = s.closed;
@@ -143,7 +143,7 @@ pub none_used : (depth : ℕ) → UsesNo no_heads depth
 none_used depth path cycle h = h.1 refl
 
 -- the node of the first run, and the node of a provisional result of the same verdict, are the entry's
-own_is_node : (nodes : List Node) (below : List Entry) (f : Frame) (verdict : Verdict) (heads : Heads) {later : List Node} {a : ℕ} → Answered nodes f.entry f.own f.edges verdict later a → Running nodes below f.entry f.own f.edges f.kept f.heads → IsFixpoint verdict f.entry (length below) heads → a ≡ f.entry.node
+own_is_node : (nodes : List Node) (below : List Entry) (f : RunningGoal) (verdict : Verdict) (heads : Heads) {later : List Node} {a : ℕ} → Answered nodes f.entry f.own f.edges verdict later a → Running nodes below f.entry f.own f.edges f.heads_before f.heads → IsFixpoint verdict f.entry (length below) heads → a ≡ f.entry.node
 own_is_node nodes below f verdict heads (Again e) r fix = refl
 own_is_node nodes below f verdict heads (Anew ne) r fix = elim fix [
   | inl e ↦ absurd (ne e)
@@ -151,14 +151,14 @@ own_is_node nodes below f verdict heads (Anew ne) r fix = elim fix [
 ]
 own_is_node nodes below f verdict heads (Without e) r fix = refl
 
-left_stored : (nodes later : List Node) (f : Frame) (frames : List Frame) (provisional : List Kept) (verdict : Verdict) (a : ℕ) → Grown nodes later → AllStored nodes (stack_of frames ++ f.entry ∷ []) provisional → ((heads : Heads) → verdict ≢ Neither → IsFixpoint verdict f.entry (length (stack_of frames)) heads → Use later verdict (stack_of frames) (path_kind (stack_of frames) f.entry.step) 0 f.entry.node f.heads) → (verdict ≢ Neither → Use later verdict (stack_of frames) (path_kind (stack_of frames) f.entry.step) 0 a f.heads) → {k : Kept} → IsLeft (stack_of frames) f.entry verdict a f.heads provisional k → Stored later k.verdict (stack_of frames) k.highest k.path k.node k.heads
+left_stored : (nodes later : List Node) (f : RunningGoal) (frames : List RunningGoal) (provisional : List ProvisionalEntry) (verdict : Verdict) (a : ℕ) → Grown nodes later → AllProvisional nodes (stack_of frames ++ f.entry ∷ []) provisional → ((heads : Heads) → verdict ≢ Neither → IsFixpoint verdict f.entry (length (stack_of frames)) heads → Use later verdict (stack_of frames) (path_kind (stack_of frames) f.entry.step) 0 f.entry.node f.heads) → (verdict ≢ Neither → Use later verdict (stack_of frames) (path_kind (stack_of frames) f.entry.step) 0 a f.heads) → {k : ProvisionalEntry} → IsLeft (stack_of frames) f.entry verdict a f.heads provisional k → ProvisionalUse later k.verdict (stack_of frames) k.highest k.path k.node k.heads
 left_stored nodes later f frames provisional verdict a grown stored fix u {k} (Survives {old = old} i at after) =
     fixpoint_keeps_stored later (stack_of frames) f.entry verdict f.heads old k (fix old.heads) after
     (growth_keeps_stored nodes later old.verdict (stack_of frames ++ f.entry ∷ []) old.highest old.path old.node old.heads grown (stored i old at))
 left_stored nodes later f frames provisional verdict a grown stored fix u (Added highest definite on_stack within) =
     use_gives_stored later verdict (stack_of frames) f.entry.step a f.heads highest on_stack within (u definite)
 
-left_final : (nodes later : List Node) (f : Frame) (frames : List Frame) (final : List Final) (verdict : Verdict) (a : ℕ) → Grown nodes later → AllFinal nodes (stack_of frames ++ f.entry ∷ []) final → (verdict ≢ Neither → Use later verdict (stack_of frames) (path_kind (stack_of frames) f.entry.step) 0 a f.heads) → {x : Final} → IsDone verdict a f.heads final x → Use later x.verdict (stack_of frames) (λ depth. 0) 0 x.node no_heads
+left_final : (nodes later : List Node) (f : RunningGoal) (frames : List RunningGoal) (final : List Final) (verdict : Verdict) (a : ℕ) → Grown nodes later → AllFinal nodes (stack_of frames ++ f.entry ∷ []) final → (verdict ≢ Neither → Use later verdict (stack_of frames) (path_kind (stack_of frames) f.entry.step) 0 a f.heads) → {x : Final} → IsFinalAfter verdict a f.heads final x → Use later x.verdict (stack_of frames) (λ depth. 0) 0 x.node no_heads
 left_final nodes later f frames final verdict a grown closed u {x} (Before i at) =
     let v = growth_keeps_use nodes later x.verdict (stack_of frames ++ f.entry ∷ []) (λ depth. 0) 0 x.node no_heads grown (closed i x at) in
     pop_keeps_use later x.verdict (stack_of frames) f.entry (λ depth. 0) 0 x.node no_heads
@@ -171,7 +171,7 @@ pop_keeps_sound nodes f frames provisional left final done verdict later a answe
     let below : List Entry = stack_of frames in
     let r = s.running.0 in
     let grown : Grown nodes later = answered_grows nodes f.entry f.own f.edges verdict r.unfinished answer in
-    let u : verdict ≢ Neither → Use later verdict below (path_kind below f.entry.step) 0 a f.heads = λ definite. (run_gives_use nodes below f.entry f.own f.edges f.kept f.heads verdict later a definite answer r).1 in (
+    let u : verdict ≢ Neither → Use later verdict below (path_kind below f.entry.step) 0 a f.heads = λ definite. (run_gives_use nodes below f.entry f.own f.edges f.heads_before f.heads verdict later a definite answer r).1 in (
       record {
         is_stack = longer_is_stack nodes later below (same_length nodes f.entry f.own f.edges verdict answer) (pop_is_stack nodes below f.entry s.is_stack);
         running = all_grow nodes later frames grown (after_answer nodes f verdict frames s.apart.0 answer (still_unfinished nodes frames s.running.1)) s.running.1;
@@ -183,7 +183,7 @@ pop_keeps_sound nodes f frames provisional left final done verdict later a answe
     )
 
 -- the node of an answer is the entry's or a fresh one, and no leaf below
-answer_is_fresh : (nodes : List Node) (below : List Entry) (f : Frame) (verdict : Verdict) (again : Entry) {later : List Node} {a : ℕ} → again.node ≡ a → Answered nodes f.entry f.own f.edges verdict later a → Running nodes below f.entry f.own f.edges f.kept f.heads → IsSameOrFresh nodes below f.entry again
+answer_is_fresh : (nodes : List Node) (below : List Entry) (f : RunningGoal) (verdict : Verdict) (again : Entry) {later : List Node} {a : ℕ} → again.node ≡ a → Answered nodes f.entry f.own f.edges verdict later a → Running nodes below f.entry f.own f.edges f.heads_before f.heads → IsSameOrFresh nodes below f.entry again
 answer_is_fresh nodes below f verdict again same (Again e) r = inl same
 answer_is_fresh nodes below f verdict again same (Anew ne) r = inr (subst (λ n. slice_get nodes n ≡ Some Unfinished) (sym same) r.unfinished, subst (λ n. ¬ IsLeaf below n) (sym same) r.lower)
 answer_is_fresh nodes below f verdict again same (Without e) r = inl same
@@ -194,7 +194,7 @@ top_is_no_leaf nodes below top s l =
     let e : l.0 ≡ length below = s.distinct l.0 (length below) l.1 top (get_left below (top ∷ []) l.0 l.1 l.2) (get_end below top) l.3 in
     absurd (omega arith)
 
-answer_in_list : (nodes : List Node) (below : List Entry) (f : Frame) (verdict : Verdict) {later : List Node} {a : ℕ} → Answered nodes f.entry f.own f.edges verdict later a → Running nodes below f.entry f.own f.edges f.kept f.heads → IsStack nodes (below ++ f.entry ∷ []) → (a < length later) × ¬ IsLeaf below a
+answer_in_list : (nodes : List Node) (below : List Entry) (f : RunningGoal) (verdict : Verdict) {later : List Node} {a : ℕ} → Answered nodes f.entry f.own f.edges verdict later a → Running nodes below f.entry f.own f.edges f.heads_before f.heads → IsStack nodes (below ++ f.entry ∷ []) → (a < length later) × ¬ IsLeaf below a
 answer_in_list nodes below f verdict (Again e) r s = (s.in_list (length below) f.entry (get_end below f.entry), top_is_no_leaf nodes below f.entry s)
 answer_in_list nodes below f verdict (Anew ne) r s = (let h : f.own < length nodes = get_below nodes f.own Unfinished r.unfinished in omega (arith, length-set nodes f.own (Finished verdict (f.edges verdict))), r.lower)
 answer_in_list nodes below f verdict (Without e) r s = (s.in_list (length below) f.entry (get_end below f.entry), top_is_no_leaf nodes below f.entry s)
@@ -207,10 +207,10 @@ rerun_keeps_sound nodes f frames provisional left final verdict later a answer l
     let longer : List Node = later ++ Unfinished ∷ [] in
     let grown' : Grown nodes longer = λ b v es h. append_grows later b v es (grown b v es h) in
     let again : Entry = record { step = f.entry.step; provisional = Some verdict; node = a } in
-    let kept_length : length later ≡ length nodes = same_length nodes f.entry f.own f.edges verdict answer in
+    let entries_length : length later ≡ length nodes = same_length nodes f.entry f.own f.edges verdict answer in
     let at_a = answer_in_list nodes below f verdict answer r s.is_stack in
-    let new = next_run_starts later below f.entry verdict a f.heads (longer_is_stack nodes later (below ++ f.entry ∷ []) kept_length s.is_stack) at_a.0 at_a.1
-    (λ definite. (run_gives_use nodes below f.entry f.own f.edges f.kept f.heads verdict later a definite answer r).1) in
+    let new = next_run_starts later below f.entry verdict a f.heads (longer_is_stack nodes later (below ++ f.entry ∷ []) entries_length s.is_stack) at_a.0 at_a.1
+    (λ definite. (run_gives_use nodes below f.entry f.own f.edges f.heads_before f.heads verdict later a definite answer r).1) in
     let fresh = answer_is_fresh nodes below f verdict again refl answer r in
     let lower = after_answer nodes f verdict frames s.apart.0 answer (still_unfinished nodes frames s.running.1) in
     record {

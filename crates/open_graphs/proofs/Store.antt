@@ -1,6 +1,6 @@
 -- Provisional entries, for when their goals are asked later.
 use Rattle.std.proofs.Common.{◌≡◌, ℕ, ◌≤◌, List, [], ◌∷◌, ◌++◌, length, arith, ap, sym, ◌∙◌, length-append, Some, slice_get, ◌<◌}
-use Rattle.open_graphs.specs.Words.{Verdict, Node, Entry, path_kind, path_through, Heads, Use, HeadsWithin, Includes, Grown, IsLeaf, IsSameOrFresh, Stored, Unfinished, UsesNo}
+use Rattle.open_graphs.specs.Words.{Verdict, Node, Entry, path_kind, path_through, Heads, Use, HeadsWithin, Includes, Grown, IsLeaf, IsSameOrFresh, ProvisionalUse, Unfinished, UsesNo}
 use Rattle.open_graphs.proofs.PathKinds.{through_step, through_push, through_same}
 use Rattle.open_graphs.proofs.Keep.{growth_keeps_use, heads_keep_use, push_keeps_use, pop_keeps_use, rerun_keeps_use, unused_is_unreached}
 
@@ -15,7 +15,7 @@ along nodes verdict stack from_head other a heads highest within same u = heads_
 pub use_gives_stored :
     (nodes : List Node) (verdict : Verdict) (stack : List Entry) (step a : ℕ) (heads : Heads) (highest : ℕ)
     → highest < length stack → HeadsWithin heads highest → Use nodes verdict stack (path_kind stack step) 0 a heads
-    → Stored nodes verdict stack highest (path_kind stack step highest) a heads
+    → ProvisionalUse nodes verdict stack highest (path_kind stack step highest) a heads
 use_gives_stored nodes verdict stack step a heads highest on_stack within u = record {
   on_stack = on_stack;
   within = within;
@@ -25,7 +25,7 @@ use_gives_stored nodes verdict stack step a heads highest on_stack within u = re
 -- It may be given again wherever that path kind is the same.
 pub stored_gives_use :
     (nodes : List Node) (verdict : Verdict) (stack : List Entry) (step a : ℕ) (heads : Heads) (highest path : ℕ)
-    → path_kind stack step highest ≡ path → Stored nodes verdict stack highest path a heads
+    → path_kind stack step highest ≡ path → ProvisionalUse nodes verdict stack highest path a heads
     → Use nodes verdict stack (path_kind stack step) 0 a heads
 stored_gives_use nodes verdict stack step a heads highest path same s =
     along nodes verdict stack (path_through stack highest path) (path_kind stack step) a heads highest s.within
@@ -34,8 +34,8 @@ stored_gives_use nodes verdict stack step a heads highest path same s =
 -- What is stored stays while the list grows.
 pub growth_keeps_stored :
     (before after : List Node) (verdict : Verdict) (stack : List Entry) (highest path a : ℕ) (heads : Heads)
-    → Grown before after → Stored before verdict stack highest path a heads
-    → Stored after verdict stack highest path a heads
+    → Grown before after → ProvisionalUse before verdict stack highest path a heads
+    → ProvisionalUse after verdict stack highest path a heads
 growth_keeps_stored before after verdict stack highest path a heads grown s = record {
   on_stack = s.on_stack;
   within = s.within;
@@ -46,8 +46,8 @@ growth_keeps_stored before after verdict stack highest path a heads grown s = re
 pub push_keeps_stored :
     (nodes : List Node) (verdict : Verdict) (stack : List Entry) (entry : Entry) (highest path a : ℕ) (heads : Heads)
     → slice_get nodes entry.node ≡ Some Unfinished → ¬ IsLeaf stack entry.node
-    → Stored nodes verdict stack highest path a heads
-    → Stored nodes verdict (stack ++ entry ∷ []) highest path a heads
+    → ProvisionalUse nodes verdict stack highest path a heads
+    → ProvisionalUse nodes verdict (stack ++ entry ∷ []) highest path a heads
 push_keeps_stored nodes verdict stack entry highest path a heads unfinished ne s = let on = s.on_stack in record {
   on_stack = omega (arith, length-append stack (entry ∷ []));
   within = s.within;
@@ -59,8 +59,8 @@ push_keeps_stored nodes verdict stack entry highest path a heads unfinished ne s
 -- It stays when an entry above its highest head is popped.
 pub pop_keeps_stored :
     (nodes : List Node) (verdict : Verdict) (below : List Entry) (top : Entry) (highest path a : ℕ) (heads : Heads)
-    → highest < length below → Stored nodes verdict (below ++ top ∷ []) highest path a heads
-    → Stored nodes verdict below highest path a heads
+    → highest < length below → ProvisionalUse nodes verdict (below ++ top ∷ []) highest path a heads
+    → ProvisionalUse nodes verdict below highest path a heads
 pop_keeps_stored nodes verdict below top highest path a heads lower s = record {
   on_stack = lower;
   within = s.within;
@@ -76,8 +76,8 @@ pub rerun_keeps_stored :
     (nodes : List Node) (verdict : Verdict) (below : List Entry) (top again : Entry) (highest path a : ℕ)
     (heads : Heads)
     → again.step ≡ top.step → IsSameOrFresh nodes below top again → UsesNo heads (length below)
-    → Stored nodes verdict (below ++ top ∷ []) highest path a heads
-    → Stored nodes verdict (below ++ again ∷ []) highest path a heads
+    → ProvisionalUse nodes verdict (below ++ top ∷ []) highest path a heads
+    → ProvisionalUse nodes verdict (below ++ again ∷ []) highest path a heads
 rerun_keeps_stored nodes verdict below top again highest path a heads step new unused s = let on = s.on_stack in record {
   on_stack = omega (arith, length-append below (top ∷ []), length-append below (again ∷ []));
   within = s.within;

@@ -3,8 +3,8 @@
 use Rattle.std.specs.Prelude.{◌≡◌, ◌≢◌, ℕ, max, ◌≤◌, ◌<◌, List, [], ◌∷◌, ◌++◌, Option, Some, None, length, ◌⊎◌, Bool, IsTrue}
 use Rattle.open_graphs.specs.Graph.{Verdict, Yes, No, Neither, Node}
 use Rattle.open_graphs.specs.Stack.{Entry, path_kind}
-use Rattle.open_graphs.specs.Use.{Head, Heads, Use, Stored}
-use Rattle.open_graphs.specs.State.{Kept, AfterPop}
+use Rattle.open_graphs.specs.Use.{Head, Heads, Use, ProvisionalUse}
+use Rattle.open_graphs.specs.State.{ProvisionalEntry, AfterPop}
 
 -- why the popped goal is done; at a fixpoint of its first run with the kind whose initial result it reached
 pub data Reason : Type 0 where
@@ -89,7 +89,7 @@ abbrev pub IsLeftHead : ℕ → (ℕ → Bool) → (ℕ → Bool) → ℕ → Ty
 IsLeftHead popped own others depth = (depth ≢ popped) × (IsTrue (own depth) ⊎ IsTrue (others depth))
 
 -- an answer without the popped head, with a new highest head and the path kind from there
-pub record IsTakenOut (below : List Entry) (top : Entry) (own others : ℕ → Bool) (k after : Kept) : Type 0 where
+pub record IsTakenOut (below : List Entry) (top : Entry) (own others : ℕ → Bool) (k after : ProvisionalEntry) : Type 0 where
   pub was : k.highest ≡ length below
   pub same_node : after.node ≡ k.node
   pub path : after.path ≡ max k.path (path_kind below top.step after.highest)
@@ -99,14 +99,14 @@ pub record IsTakenOut (below : List Entry) (top : Entry) (own others : ℕ → B
 
 -- What a provisional answer is after the pop. One that isn't left stands in no relation: without heads, after a failed path
 -- test, or with a result that isn't left.
-pub data RebasedBy (reason : Reason) (below : List Entry) (top : Entry) (own others : ℕ → Bool) (top_heads : Heads) : Kept → Kept → Type 0 where
-  Stays : {k : Kept} → k.highest ≢ length below → RebasedBy reason below top own others top_heads k k
+pub data RebasedBy (reason : Reason) (below : List Entry) (top : Entry) (own others : ℕ → Bool) (top_heads : Heads) : ProvisionalEntry → ProvisionalEntry → Type 0 where
+  Stays : {k : ProvisionalEntry} → k.highest ≢ length below → RebasedBy reason below top own others top_heads k k
   NotNeeded :
-      {k after : Kept} → IsTakenOut below top own others k after → IsZero (k.heads (length below))
+      {k after : ProvisionalEntry} → IsTakenOut below top own others k after → IsZero (k.heads (length below))
       → InsertsEmpty (length below) k.heads after.heads → after.verdict ≡ k.verdict
       → RebasedBy reason below top own others top_heads k after
   Needed :
-      {k after : Kept} → IsTakenOut below top own others k after → ¬ IsZero (k.heads (length below))
+      {k after : ProvisionalEntry} → IsTakenOut below top own others k after → ¬ IsZero (k.heads (length below))
       → PassesPathTest below top k.path k.heads top_heads
       → InsertsHeads (length below) k.heads top_heads after.heads
       → HasResult reason (k.heads (length below)) k.verdict after.verdict
@@ -114,7 +114,7 @@ pub data RebasedBy (reason : Reason) (below : List Entry) (top : Entry) (own oth
 
 -- what holds at the pop, where `own` are the depths in the answer's map and `others` those in the popped entry's: the reason
 -- is true, the popped entry's heads lie below it, and the answer's highest head is the greatest in its map and on the stack
-pub record IsRebasable (reason : Reason) (below : List Entry) (top : Entry) (own others : ℕ → Bool) (verdict : Verdict) (top_heads : Heads) (k : Kept) : Type 0 where
+pub record IsRebasable (reason : Reason) (below : List Entry) (top : Entry) (own others : ℕ → Bool) (verdict : Verdict) (top_heads : Heads) (k : ProvisionalEntry) : Type 0 where
   pub is_true : IsTrueReason reason verdict top
   pub own_within : (depth : ℕ) → IsTrue (own depth) → depth ≤ k.highest
   pub top_depths : AreDepths others top_heads
@@ -125,7 +125,7 @@ pub record IsRebasable (reason : Reason) (below : List Entry) (top : Entry) (own
 abbrev pub RebasedIsAfterPop : Type 0
 RebasedIsAfterPop =
     (reason : Reason) (below : List Entry) (top : Entry) (own others : ℕ → Bool) (verdict : Verdict)
-    (top_heads : Heads) (k after : Kept)
+    (top_heads : Heads) (k after : ProvisionalEntry)
     → IsRebasable reason below top own others verdict top_heads k → after.verdict ≢ Neither
     → RebasedBy reason below top own others top_heads k after
     → AfterPop below top verdict top_heads k after
@@ -134,9 +134,9 @@ RebasedIsAfterPop =
 abbrev pub RebasedKeepsStored : Type 0
 RebasedKeepsStored =
     (nodes : List Node) (reason : Reason) (below : List Entry) (top : Entry) (own others : ℕ → Bool)
-    (verdict : Verdict) (top_heads : Heads) (k after : Kept)
+    (verdict : Verdict) (top_heads : Heads) (k after : ProvisionalEntry)
     → (verdict ≢ Neither → Use nodes verdict below (path_kind below top.step) 0 top.node top_heads)
     → IsRebasable reason below top own others verdict top_heads k → after.verdict ≢ Neither
     → RebasedBy reason below top own others top_heads k after
-    → Stored nodes k.verdict (below ++ top ∷ []) k.highest k.path k.node k.heads
-    → Stored nodes after.verdict below after.highest after.path after.node after.heads
+    → ProvisionalUse nodes k.verdict (below ++ top ∷ []) k.highest k.path k.node k.heads
+    → ProvisionalUse nodes after.verdict below after.highest after.path after.node after.heads

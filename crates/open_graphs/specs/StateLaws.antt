@@ -1,34 +1,34 @@
 -- The theorems on whole states: each move of an evaluation keeps a sound state sound.
 use Rattle.std.specs.Prelude.{◌≡◌, ◌≢◌, ℕ, ◌<◌, List, [], ◌∷◌, ◌++◌, Some, slice_get, length}
-use Rattle.open_graphs.specs.Graph.{Verdict, Neither, Edge, Node, Unfinished, IsGraph}
+use Rattle.open_graphs.specs.Graph.{Verdict, Neither, Edge, Node, Unfinished, IsClosedGraph}
 use Rattle.open_graphs.specs.Stack.{Entry, path_kind}
 use Rattle.open_graphs.specs.Use.{Heads, Use, HeadsWithin, Includes, UsesNo}
 use Rattle.open_graphs.specs.Run.{AllAnswered, Answered}
-use Rattle.open_graphs.specs.State.{Frame, Kept, Final, first_frame, next_frame, answering, stack_of, IsSound, AfterPop}
+use Rattle.open_graphs.specs.State.{RunningGoal, ProvisionalEntry, Final, in_first_run, in_next_run, answering, stack_of, IsSoundState, AfterPop}
 
 -- A goal is pushed and begins its first run.
 abbrev pub PushKeepsSound : Type 0
 PushKeepsSound =
-    (nodes : List Node) (frames : List Frame) (provisional : List Kept) (final : List Final) (step : ℕ)
+    (nodes : List Node) (frames : List RunningGoal) (provisional : List ProvisionalEntry) (final : List Final) (step : ℕ)
     (heads : Heads)
-    → IsSound nodes frames provisional final
-    → IsSound (nodes ++ Unfinished ∷ []) (first_frame step (length nodes) heads ∷ frames) provisional final
+    → IsSoundState nodes frames provisional final
+    → IsSoundState (nodes ++ Unfinished ∷ []) (in_first_run step (length nodes) heads ∷ frames) provisional final
 
 -- The newest run gets other answers, each of which may be used and whose heads are among the run's.
 abbrev pub AnswersKeepSound : Type 0
 AnswersKeepSound =
-    (nodes : List Node) (f : Frame) (frames : List Frame) (provisional : List Kept) (final : List Final)
+    (nodes : List Node) (f : RunningGoal) (frames : List RunningGoal) (provisional : List ProvisionalEntry) (final : List Final)
     (edges : Verdict → List Edge) (heads : Heads)
-    → Includes f.kept heads
+    → Includes f.heads_before heads
     → ((verdict : Verdict) → AllAnswered nodes verdict (stack_of frames) f.entry (edges verdict) heads)
-    → IsSound nodes (f ∷ frames) provisional final
-    → IsSound nodes (answering f edges heads ∷ frames) provisional final
+    → IsSoundState nodes (f ∷ frames) provisional final
+    → IsSoundState nodes (answering f edges heads ∷ frames) provisional final
 
 -- The provisional answers after a goal is done: those that `AfterPop` leaves, and perhaps the goal's own answer.
-pub data IsLeft (below : List Entry) (top : Entry) (verdict : Verdict) (a : ℕ) (heads : Heads) (provisional : List Kept) :
-    Kept → Type 0 where
+pub data IsLeft (below : List Entry) (top : Entry) (verdict : Verdict) (a : ℕ) (heads : Heads) (provisional : List ProvisionalEntry) :
+    ProvisionalEntry → Type 0 where
   Survives :
-      {old k : Kept} (i : ℕ) → slice_get provisional i ≡ Some old → AfterPop below top verdict heads old k
+      {old k : ProvisionalEntry} (i : ℕ) → slice_get provisional i ≡ Some old → AfterPop below top verdict heads old k
       → IsLeft below top verdict a heads provisional k
   Added :
       (highest : ℕ)
@@ -36,49 +36,49 @@ pub data IsLeft (below : List Entry) (top : Entry) (verdict : Verdict) (a : ℕ)
       → IsLeft below top verdict a heads provisional (record { verdict = verdict; highest = highest; path = path_kind below top.step highest; node = a; heads = heads })
 
 -- The final answers are those from before, and the answer itself if it has no heads.
-pub data IsDone (verdict : Verdict) (a : ℕ) (heads : Heads) (final : List Final) : Final → Type 0 where
-  Before : {f : Final} (i : ℕ) → slice_get final i ≡ Some f → IsDone verdict a heads final f
+pub data IsFinalAfter (verdict : Verdict) (a : ℕ) (heads : Heads) (final : List Final) : Final → Type 0 where
+  Before : {f : Final} (i : ℕ) → slice_get final i ≡ Some f → IsFinalAfter verdict a heads final f
   Now :
       verdict ≢ Neither → ((depth : ℕ) → UsesNo heads depth)
-      → IsDone verdict a heads final (record { verdict = verdict; node = a })
+      → IsFinalAfter verdict a heads final (record { verdict = verdict; node = a })
 
 -- The newest goal is done: the state stays sound, and a definite answer may be used below.
 abbrev pub PopKeepsSound : Type 0
 PopKeepsSound =
-    (nodes : List Node) (f : Frame) (frames : List Frame) (provisional left : List Kept) (final done : List Final)
+    (nodes : List Node) (f : RunningGoal) (frames : List RunningGoal) (provisional left : List ProvisionalEntry) (final done : List Final)
     (verdict : Verdict) (later : List Node) (a : ℕ)
     → Answered nodes f.entry f.own f.edges verdict later a
-    → ((i : ℕ) (k : Kept) → slice_get left i ≡ Some k → IsLeft (stack_of frames) f.entry verdict a f.heads provisional k)
-    → ((i : ℕ) (x : Final) → slice_get done i ≡ Some x → IsDone verdict a f.heads final x)
-    → IsSound nodes (f ∷ frames) provisional final
-    → IsSound later frames left done
+    → ((i : ℕ) (k : ProvisionalEntry) → slice_get left i ≡ Some k → IsLeft (stack_of frames) f.entry verdict a f.heads provisional k)
+    → ((i : ℕ) (x : Final) → slice_get done i ≡ Some x → IsFinalAfter verdict a f.heads final x)
+    → IsSoundState nodes (f ∷ frames) provisional final
+    → IsSoundState later frames left done
     × (verdict ≢ Neither → Use later verdict (stack_of frames) (path_kind (stack_of frames) f.entry.step) 0 a f.heads)
 
 -- The provisional answers after a goal is run again: those that record no usage of it.
-abbrev pub LeftByRerun : List Entry → List Kept → List Kept → Type 0
+abbrev pub LeftByRerun : List Entry → List ProvisionalEntry → List ProvisionalEntry → Type 0
 LeftByRerun below before after =
-    (i : ℕ) (k : Kept)
+    (i : ℕ) (k : ProvisionalEntry)
     → slice_get after i ≡ Some k → (j : ℕ) × (slice_get before j ≡ Some k) × UsesNo k.heads (length below)
 
 -- The newest goal is run again: the state stays sound.
 abbrev pub RerunKeepsSound : Type 0
 RerunKeepsSound =
-    (nodes : List Node) (f : Frame) (frames : List Frame) (provisional left : List Kept) (final : List Final)
+    (nodes : List Node) (f : RunningGoal) (frames : List RunningGoal) (provisional left : List ProvisionalEntry) (final : List Final)
     (verdict : Verdict) (later : List Node) (a : ℕ)
     → Answered nodes f.entry f.own f.edges verdict later a → LeftByRerun (stack_of frames) provisional left
-    → IsSound nodes (f ∷ frames) provisional final
-    → IsSound (later ++ Unfinished ∷ []) (next_frame f verdict a (length later) ∷ frames) left final
+    → IsSoundState nodes (f ∷ frames) provisional final
+    → IsSoundState (later ++ Unfinished ∷ []) (in_next_run f verdict a (length later) ∷ frames) left final
 
 -- An evaluation begins with an empty stack and final answers that have their graphs.
 abbrev pub StartIsSound : Type 0
 StartIsSound =
     (nodes : List Node) (final : List Final)
-    → ((i : ℕ) (x : Final) → slice_get final i ≡ Some x → IsGraph nodes x.verdict x.node)
-    → IsSound nodes [] [] final
+    → ((i : ℕ) (x : Final) → slice_get final i ≡ Some x → IsClosedGraph nodes x.verdict x.node)
+    → IsSoundState nodes [] [] final
 
 -- At each moment, also after a fault, the final answers have their graphs.
 abbrev pub FinalIsGraph : Type 0
 FinalIsGraph =
-    (nodes : List Node) (frames : List Frame) (provisional : List Kept) (final : List Final) (i : ℕ) (x : Final)
-    → IsSound nodes frames provisional final
-    → slice_get final i ≡ Some x → IsGraph nodes x.verdict x.node
+    (nodes : List Node) (frames : List RunningGoal) (provisional : List ProvisionalEntry) (final : List Final) (i : ℕ) (x : Final)
+    → IsSoundState nodes frames provisional final
+    → slice_get final i ≡ Some x → IsClosedGraph nodes x.verdict x.node

@@ -1,16 +1,16 @@
 -- What an answer that still depends on the stack promises.
 use Rattle.std.specs.Prelude.{◌≡◌, ◌≢◌, ℕ, max, ◌≤◌, ◌<◌, List, Some, slice_get, length, ◌⊎◌, Bool, IsTrue}
-use Rattle.open_graphs.specs.Graph.{Verdict, cycle_kind, Node, IsFinished, HasEdge, Walk, Path}
+use Rattle.open_graphs.specs.Graph.{Verdict, cycle_kind, Node, IsFinished, HasShapeEdge, Walk, Path}
 use Rattle.open_graphs.specs.Stack.{Entry, path_through, IsLeaf, Accepts}
 
 -- an edge whose source is no leaf
 pub record Step (nodes : List Node) (verdict : Verdict) (stack : List Entry) (source kind target : ℕ) : Type 0 where
-  pub edge : HasEdge nodes verdict source kind target
+  pub edge : HasShapeEdge nodes verdict source kind target
   pub inner : ¬ IsLeaf stack source
 
 -- what is reached from a node is a leaf or a finished node of the verdict, and every closed walk has the kind of the
 -- verdict's cycles
-pub record Settled (nodes : List Node) (verdict : Verdict) (stack : List Entry) (a : ℕ) : Type 0 where
+pub record OpenGraph (nodes : List Node) (verdict : Verdict) (stack : List Entry) (a : ℕ) : Type 0 where
   pub placed : (b q : ℕ) → Walk (Step nodes verdict stack) a q b → IsLeaf stack b ⊎ IsFinished nodes verdict b
   pub closed :
       (b q k c r : ℕ)
@@ -50,7 +50,7 @@ UsesNo heads depth = (path cycle : ℕ) → Recorded heads depth path cycle → 
 -- is among the paths of that head, the kind of its cycle among the head's usages, and cycles of that kind were answered
 -- with the verdict. The paths of the heads begin with `front`: 0 for a finished goal, the step for an edge.
 pub record Use (nodes : List Node) (verdict : Verdict) (stack : List Entry) (from_head : ℕ → ℕ) (front a : ℕ) (heads : Heads) : Type 0 where
-  pub settled : Settled nodes verdict stack a
+  pub open_graph : OpenGraph nodes verdict stack a
   pub covered :
       (depth : ℕ) (entry : Entry) (q : ℕ) (on : List ℕ)
       → slice_get stack depth ≡ Some entry → Path (Step nodes verdict stack) a q entry.node on
@@ -66,7 +66,7 @@ abbrev pub HeadsWithin : Heads → ℕ → Type 0
 HeadsWithin heads highest = (depth path cycle : ℕ) → Recorded heads depth path cycle → depth ≤ highest
 
 -- a provisional entry, for when its goal is asked later: it holds wherever the path kind from its highest head is the stored one
-pub record Stored (nodes : List Node) (verdict : Verdict) (stack : List Entry) (highest path a : ℕ) (heads : Heads) : Type 0 where
+pub record ProvisionalUse (nodes : List Node) (verdict : Verdict) (stack : List Entry) (highest path a : ℕ) (heads : Heads) : Type 0 where
   pub on_stack : highest < length stack
   pub within : HeadsWithin heads highest
   pub use_there : Use nodes verdict stack (path_through stack highest path) 0 a heads

@@ -32,7 +32,7 @@
 //! How answers come about and what they outlast is said by the lemmas of `proofs/`: `Answers`, `Finish`,
 //! `Keep` and `Closed` for answers that may be used, `Store` and `Rebase` for provisional entries, `Runs` for runs.
 //!
-//! A driver carries `State.IsSound` along, one theorem of `state` for each of its moves, and takes the graph
+//! A driver carries `State.IsSoundState` along, one theorem of `state` for each of its moves, and takes the graph
 //! of an answer from `state::final_is_graph`. Beside it a driver has to show what this theory does not
 //! speak of: that an edge leads to a node of the goal that it asks, and that a node's goal is proved or
 //! refuted by its edges' questions.

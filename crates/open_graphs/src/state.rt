@@ -1,5 +1,5 @@
 //! Whole states of an evaluation.
-ghost use Rattle.open_graphs.specs.Words.{OneAnswerKeepsSound, CycleIsAnswered, DoneIsAnswered, StoredIsAnswered, FinalIsAnswered, StartIsSound, PushKeepsSound, AnswersKeepSound, PopKeepsSound, RerunKeepsSound, FinalIsGraph};
+ghost use Rattle.open_graphs.specs.Words.{OneAnswerKeepsSound, CycleIsAnswered, DoneIsAnswered, ProvisionalIsAnswered, FinalIsAnswered, StartIsSound, PushKeepsSound, AnswersKeepSound, PopKeepsSound, RerunKeepsSound, FinalIsGraph};
 
 /// An evaluation begins in a sound state.
 pub fn start_is_sound()
@@ -21,7 +21,7 @@ pub fn answer_keeps_sound()
     ensures one_more { OneAnswerKeepsSound }
     ensures cycle { CycleIsAnswered }
     ensures done { DoneIsAnswered }
-    ensures stored { StoredIsAnswered }
+    ensures stored { ProvisionalIsAnswered }
     ensures final_answer { FinalIsAnswered }
 {}
 

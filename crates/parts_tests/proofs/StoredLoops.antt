@@ -38,13 +38,13 @@ module _ (nodes : List theory.Node) (verdict : theory.Verdict) (n kind : ℕ) (h
       (ap (λ (e : theory.Edge). e.kind) same, ap (λ (e : theory.Edge). e.target) same)
   only_edge (suc index) k b is = absurd cc
 
-  edge_is : (a k b : ℕ) → a ≡ n → theory.HasEdge nodes verdict a k b → (k ≡ kind) × (b ≡ n)
+  edge_is : (a k b : ℕ) → a ≡ n → theory.HasShapeEdge nodes verdict a k b → (k ≡ kind) × (b ≡ n)
   edge_is a k b at e =
       let same : Some (theory.Finished verdict e.edges) ≡ Some (theory.Finished verdict itself) = sym e.finished ∙ (ap (slice_get nodes) at ∙ here) in
       let edges : e.edges ≡ itself = cc in
       only_edge e.index k b (ap (λ list. slice_get list e.index) (sym edges) ∙ e.edge)
 
-  stays_there : {a q b : ℕ} → a ≡ n → theory.Walk (theory.HasEdge nodes verdict) a q b → (b ≡ n) × ((q ≡ 0) ⊎ (q ≡ kind))
+  stays_there : {a q b : ℕ} → a ≡ n → theory.Walk (theory.HasShapeEdge nodes verdict) a q b → (b ≡ n) × ((q ≡ 0) ⊎ (q ≡ kind))
   stays_there at theory.stay = (at, inl refl)
   stays_there {a = a} at (theory.go {k = k} {b = b} {q = q} e w) =
       let first = edge_is a k b at e in
@@ -56,7 +56,7 @@ module _ (nodes : List theory.Node) (verdict : theory.Verdict) (n kind : ℕ) (h
         ]),
       )
 
-  pub loop_is_graph : kind ≡ theory.cycle_kind verdict → theory.IsGraph nodes verdict n
+  pub loop_is_graph : kind ≡ theory.cycle_kind verdict → theory.IsClosedGraph nodes verdict n
   loop_is_graph cycles = record {
     finished = λ b q w. is_finished nodes verdict b (itself, ap (slice_get nodes) (stays_there refl w).0 ∙ here);
     closed = λ b q k c r w e x.

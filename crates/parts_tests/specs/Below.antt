@@ -8,7 +8,7 @@ pub use Rattle.delegate_parts.specs.declared.outcome.Outcome.TheVariants.{Maybe,
 pub use Rattle.search_parts.specs.Cache.{CacheNode, EndedRun, IsNodeOf, KeepsNodes, open_goal, open_node, with_run}
 pub use Rattle.search_parts.specs.Definite.{HasGraph}
 pub use Rattle.search_parts.specs.Delegate.{CanTake, Steps}
-pub use Rattle.search_parts.specs.Provisional.{Appends, entries_at, Lists}
+pub use Rattle.search_parts.specs.Provisional.{AppendsEntry, entries_at, Lists}
 pub use Rattle.search_parts.specs.Question.{IsWithin, Overlap, Question}
 pub use Rattle.search_parts.specs.Rank.{HasNoRank, IsRanked}
 pub use Rattle.search_parts.specs.Run.{EndsIn, Fits, progress_after, questions_answered}

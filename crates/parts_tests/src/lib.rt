@@ -7,11 +7,11 @@ pub mod countdown;
 #[cfg(test)]
 mod depth;
 #[cfg(test)]
+mod entries;
+#[cfg(test)]
 mod faults;
 #[cfg(test)]
 mod handed_out;
-#[cfg(test)]
-mod kept;
 pub mod loops;
 #[cfg(test)]
 mod nested_goals;

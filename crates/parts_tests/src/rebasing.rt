@@ -2,7 +2,7 @@
 //! the stack, asked over an inductive step.
 ghost use Rattle.std.specs.Prelude.{◌≡◌, ◌<◌, length, All, IfOk};
 
-use crate::kept::{GOAL, Kept, NODE, cache_of, used};
+use crate::entries::{GOAL, NODE, TestEntry, cache_of, used};
 use crate::loops::Loops;
 use delegate_parts::Outcome;
 use search_parts::context::{NoMemory, NodeId};
@@ -34,7 +34,7 @@ impl Head {
 // The answers after a goal with this head, or without heads, is done for this reason.
 fn rebased(
     alloc: Global,
-    answers: &[Kept],
+    answers: &[TestEntry],
     head: Option<Head>,
     reason: RebaseReason<Loops>,
 ) -> Result<ProvisionalCache<Loops>, NoMemory> {
@@ -130,8 +130,8 @@ fn reasons() -> [RebaseReason<Loops>; 6] {
 }
 
 #[test]
-fn an_answer_that_used_the_goal_is_settled_by_the_reason(rt: HostRuntime) -> Result<(), Fail> {
-    let kept = Kept::yes(1, used(0, 1));
+fn an_entry_that_used_the_goal_is_rebased_by_the_reason(rt: HostRuntime) -> Result<(), Fail> {
+    let kept = TestEntry::yes(1, used(0, 1));
     let yes = LeftAnswer::yes(PathsToNested::COINDUCTIVE, used(0, 1));
     let maybe = LeftAnswer {
         result: Outcome::Maybe,
@@ -161,7 +161,7 @@ fn an_answer_that_used_the_goal_is_settled_by_the_reason(rt: HostRuntime) -> Res
 
 #[test]
 fn an_answer_that_did_not_use_the_goal_stays(rt: HostRuntime) -> Result<(), Fail> {
-    let kept = Kept::yes(1, used(0, 0));
+    let kept = TestEntry::yes(1, used(0, 0));
     let want = LeftAnswer::yes(PathsToNested::EMPTY, used(0, 0));
     for reason in reasons() {
         let cache = rebased(rt.alloc(), &[kept], Some(Head::coinductive()), reason)?;
@@ -172,7 +172,7 @@ fn an_answer_that_did_not_use_the_goal_stays(rt: HostRuntime) -> Result<(), Fail
 
 #[test]
 fn an_answer_that_changes_a_cycle_is_dropped(rt: HostRuntime) -> Result<(), Fail> {
-    let kept = Kept::yes(1, used(0, 1));
+    let kept = TestEntry::yes(1, used(0, 1));
     let inductive = Head {
         paths: PathsToNested::INDUCTIVE,
         usages: used(1, 0),
@@ -187,7 +187,7 @@ fn an_answer_that_changes_a_cycle_is_dropped(rt: HostRuntime) -> Result<(), Fail
 
 #[test]
 fn an_answer_without_another_head_is_dropped(rt: HostRuntime) -> Result<(), Fail> {
-    let kept = Kept::yes(1, used(0, 1));
+    let kept = TestEntry::yes(1, used(0, 1));
     for reason in reasons() {
         let cache = rebased(rt.alloc(), &[kept], None, reason)?;
         assert_eq!(rt; left(&cache)?, None);
@@ -198,15 +198,15 @@ fn an_answer_without_another_head_is_dropped(rt: HostRuntime) -> Result<(), Fail
 
 #[test]
 fn other_answers_stay_in_order(rt: HostRuntime) -> Result<(), Fail> {
-    let lower = Kept {
+    let lower = TestEntry {
         result: Outcome::No,
-        ..Kept::yes(0, used(1, 1))
+        ..TestEntry::yes(0, used(1, 1))
     };
-    let single = Kept {
+    let single = TestEntry {
         result: Outcome::Maybe,
-        ..Kept::yes(1, used(0, 2))
+        ..TestEntry::yes(1, used(0, 2))
     };
-    let answers = [lower, Kept::yes(1, used(1, 1)), single];
+    let answers = [lower, TestEntry::yes(1, used(1, 1)), single];
     let reason = RebaseReason::ReachedFixpoint(Some(PathKind::Coinductive));
     let cache = rebased(rt.alloc(), &answers, Some(Head::coinductive()), reason)?;
     let mut results = cache.entries_of(GOAL).iter().map(|entry| entry.result);

@@ -1,5 +1,5 @@
 //! Tests of which provisional entries are used, and which are cleared when a goal is rerun.
-use crate::kept::{GOAL, Kept, cache_of, used};
+use crate::entries::{GOAL, TestEntry, cache_of, used};
 use crate::loops::Loops;
 use delegate_parts::Outcome;
 use search_parts::context::NoMemory;
@@ -33,7 +33,7 @@ fn stack_of_three(alloc: Global, head: Option<usize>) -> Result<Stack<Loops>, No
 // The result of the answer that is used for the goal, if one is.
 fn found(
     alloc: Global,
-    answers: &[Kept],
+    answers: &[TestEntry],
     head: Option<usize>,
     step: PathKind,
 ) -> Result<Option<Outcome>, NoMemory> {
@@ -48,13 +48,13 @@ fn found(
 #[test]
 fn the_first_answer_with_the_path_is_used(rt: HostRuntime) -> Result<(), Fail> {
     let usages = used(1, 0);
-    let inductive = Kept::yes(1, usages);
-    let coinductive = Kept {
+    let inductive = TestEntry::yes(1, usages);
+    let coinductive = TestEntry {
         path_from_head: PathKind::Coinductive,
         result: Outcome::No,
         ..inductive
     };
-    let later = Kept {
+    let later = TestEntry {
         result: Outcome::Maybe,
         ..coinductive
     };
@@ -68,7 +68,7 @@ fn the_first_answer_with_the_path_is_used(rt: HostRuntime) -> Result<(), Fail> {
         assert_eq!(rt; found(rt.alloc(), &answers, None, step)?, want, "{step:?}");
     }
     // Above the first goal a coinductive step is on the path, whatever step is asked.
-    let from_first = Kept {
+    let from_first = TestEntry {
         head: 0,
         ..coinductive
     };
@@ -80,9 +80,9 @@ fn the_first_answer_with_the_path_is_used(rt: HostRuntime) -> Result<(), Fail> {
 
 #[test]
 fn an_answer_that_met_overflow_is_used_within_its_cycle(rt: HostRuntime) -> Result<(), Fail> {
-    let overflow = Kept {
+    let overflow = TestEntry {
         encountered_overflow: true,
-        ..Kept::yes(1, used(1, 0))
+        ..TestEntry::yes(1, used(1, 0))
     };
     for (head, want) in [
         (None, None),
@@ -98,18 +98,18 @@ fn an_answer_that_met_overflow_is_used_within_its_cycle(rt: HostRuntime) -> Resu
 
 #[test]
 fn a_rerun_gives_up_what_used_the_goal(rt: HostRuntime) -> Result<(), Fail> {
-    let unused = Kept {
+    let unused = TestEntry {
         result: Outcome::No,
-        ..Kept::yes(1, used(0, 0))
+        ..TestEntry::yes(1, used(0, 0))
     };
-    let lower = Kept {
+    let lower = TestEntry {
         result: Outcome::Maybe,
-        ..Kept::yes(0, used(1, 1))
+        ..TestEntry::yes(0, used(1, 1))
     };
     let answers = [
-        Kept::yes(1, used(0, 1)),
+        TestEntry::yes(1, used(0, 1)),
         unused,
-        Kept::yes(1, used(1, 0)),
+        TestEntry::yes(1, used(1, 0)),
         lower,
     ];
     let mut cache = cache_of(rt.alloc(), &answers)?;
@@ -118,7 +118,7 @@ fn a_rerun_gives_up_what_used_the_goal(rt: HostRuntime) -> Result<(), Fail> {
     assert_eq!(rt; results.next(), Some(Outcome::No));
     assert_eq!(rt; results.next(), Some(Outcome::Maybe));
     assert_eq!(rt; results.next(), None);
-    let mut cache = cache_of(rt.alloc(), &[Kept::yes(1, used(0, 1))])?;
+    let mut cache = cache_of(rt.alloc(), &[TestEntry::yes(1, used(0, 1))])?;
     cache.clear_for_rerun(StackDepth::new(1));
     assert!(rt; cache.is_empty());
     Ok(())

@@ -168,7 +168,7 @@ fn a_result_whose_goals_are_refused_gives_way(rt: HostRuntime) -> Result<(), Fai
 }
 
 #[test]
-fn a_look_up_lends_the_goals_below(rt: HostRuntime) -> Result<(), Fail> {
+fn a_lookup_lends_the_nested_goals(rt: HostRuntime) -> Result<(), Fail> {
     let alloc = rt.alloc();
     let [goal, below, other] = [
         PathKind::Unknown,

@@ -8,7 +8,7 @@ use Rattle.std.proofs.lemmas.List.Quantifiers.{position-Some}
 use Rattle.std.proofs.lemmas.Option.{slice_get-map, slice_get-get_or, slice_get_within}
 use Rattle.std.proofs.lemmas.Bool.{cases_eq}
 use Rattle.open_graphs.specs.Graph as theory
-use Rattle.search_graph.specs.Below.{Entry, Accepts, greatest, path_kind, Recorded, IsAnswered, stack_of, PathKind, Inductive, Unknown, Coinductive, ForcedAmbiguity, NodeId, Answer, StackDepth, StackEntry, CacheNode, IsNodeOf, path_kind_from, IsCycleResult, heads_shape, CycleHead, at_depth, rank_of, greater_kind, greatest_kind, is_coinductive, is_inductive, has_kind, paths_of, verdict_of, shapes_of, count_of, no_usages, with_usage, Run, cycle_head, AnswersNewest}
+use Rattle.search_graph.specs.Below.{Entry, Accepts, greatest, path_kind, Recorded, IsAnsweredEdge, stack_of, PathKind, Inductive, Unknown, Coinductive, ForcedAmbiguity, NodeId, Answer, StackDepth, StackEntry, CacheNode, IsNodeOf, path_kind_from, IsCycleResult, heads_shape, CycleHead, at_depth, rank_of, greater_kind, greatest_kind, is_coinductive, is_inductive, has_kind, paths_of, verdict_of, shapes_of, count_of, no_usages, with_usage, Run, cycle_head, AnswersNewest}
 use Rattle.open_graphs.specs.Use.{Heads}
 use Rattle.open_graphs.proofs.Asked.{cycle_is_answered}
 use Rattle.open_graphs.proofs.Lists.{get_cases}
@@ -178,7 +178,7 @@ module _ {X F I R A T : Type 0} (is_yes is_no : R → Bool) (nodes : List (Cache
       subst (λ p. Recorded counts_now head.0 p (rank_of kind)) twice
       (heads_come is_yes is_no nodes step 0 false ((head, cycle_head step kind) ∷ []) old new a head_lower h head.0 (rank_of step) (rank_of kind) lower (cycle_recorded step kind head))
 
-  answered : verdict_of is_yes is_no (unwrap_or e.state.provisional_result initial) ≢ theory.Neither → IsAnswered (shapes_of is_yes is_no nodes) (verdict_of is_yes is_no (unwrap_or e.state.provisional_result initial)) (stack_of (frames_of is_yes is_no (runs_of a.below))) (frame_of is_yes is_no (run_of (a.entry, a.run))).entry (record { kind = rank_of step; target = cycles_node (run_of (e, there.run)) }) counts_now
+  answered : verdict_of is_yes is_no (unwrap_or e.state.provisional_result initial) ≢ theory.Neither → IsAnsweredEdge (shapes_of is_yes is_no nodes) (verdict_of is_yes is_no (unwrap_or e.state.provisional_result initial)) (stack_of (frames_of is_yes is_no (runs_of a.below))) (frame_of is_yes is_no (run_of (a.entry, a.run))).entry (record { kind = rank_of step; target = cycles_node (run_of (e, there.run)) }) counts_now
   answered definite =
       let many : length (stack_of (frames_of is_yes is_no (runs_of a.below))) ≡ length a.below = stack_length is_yes is_no (runs_of a.below) ∙ length-map a.below run_of in
       cycle_is_answered (shapes_of is_yes is_no nodes) (verdict_of is_yes is_no (unwrap_or e.state.provisional_result initial)) (stack_of (frames_of is_yes is_no (runs_of a.below))) (frame_of is_yes is_no (run_of (a.entry, a.run))).entry head.0 (entry_of is_yes is_no (e, there.run)) (rank_of step) counts_now
@@ -192,7 +192,7 @@ module _ {X F I R A T : Type 0} (is_yes is_no : R → Bool) (nodes : List (Cache
       subst (λ o. MayAnswer is_yes is_no nodes o (runs_of a.below) (verdict_of is_yes is_no (unwrap_or e.state.provisional_result initial)) step input n.0) (sym (same_run (record { 0 = length a.below }) step 0 false ((head, cycle_head step kind) ∷ []) a.entry.state a.state a.takes a.entry a.run refl))
       (record {
         of_goal = subst (IsNodeOf nodes n.0) same_goal home;
-        answered = subst (λ t. IsAnswered (shapes_of is_yes is_no nodes) (verdict_of is_yes is_no (unwrap_or e.state.provisional_result initial)) (stack_of (frames_of is_yes is_no (runs_of a.below))) (frame_of is_yes is_no (run_of (a.entry, a.run))).entry (record { kind = rank_of step; target = t }) counts_now)
+        answered = subst (λ t. IsAnsweredEdge (shapes_of is_yes is_no nodes) (verdict_of is_yes is_no (unwrap_or e.state.provisional_result initial)) (stack_of (frames_of is_yes is_no (runs_of a.below))) (frame_of is_yes is_no (run_of (a.entry, a.run))).entry (record { kind = rank_of step; target = t }) counts_now)
             (ap (λ l. elim l [ None ↦ there.run.node.0 | Some m ↦ m.0 ]) is) (answered definite);
       })
 

@@ -3,9 +3,9 @@ use Rattle.std.proofs.Common.{◌≡◌, ℕ, ◌&&◌, ◌||◌, if◌then◌el
 use Rattle.std.specs.List.{filter}
 use Rattle.std.specs.Option.{option_map, option_and_then}
 use Rattle.std.proofs.lemmas.List.Elements.{All-append, All-cons, All-filter, All-nil}
-use Rattle.search_graph.specs.Below.{StackDepth, CycleHead, PathKind, HeadUsages, highest, greater_kind, has_usages, other_usages, DelegateOf, CxOf, Done, StoredResult, ProvisionalCacheEntry, RebaseReason, EvaluationResult, StackEntry, path_kind_from, IsDefinite, IsNeither, Lists, entries_at, but_highest, from_head, from_new_head, keeps_kinds, rebased, rebased_at, rebased_used, rebased_unused, settled, with_unused, with_used, Store, Run}
+use Rattle.search_graph.specs.Below.{StackDepth, CycleHead, PathKind, HeadUsages, highest, greater_kind, has_usages, other_usages, DelegateOf, CxOf, Done, StoredResult, ProvisionalCacheEntry, RebaseReason, EvaluationResult, StackEntry, path_kind_from, IsDefinite, IsNeither, Lists, entries_at, but_highest, from_head, from_new_head, keeps_kinds, rebased, rebased_at, rebased_used, rebased_unused, changed_for, with_unused, with_used, Store, Run}
 use Rattle.search_parts.specs.declared.parts.provisional_cache.RebaseReason.TheVariants as why
-use Rattle.search_parts.proofs.RebasedKept.{All-filter_map}
+use Rattle.search_parts.proofs.RebasedEntryLists.{All-filter_map}
 use Rattle.search_graph.specs.Words.{Unstable, Call, IsCounted, HasAsked, KeepsAnswers, KeepsStore, final_answer, entries_for, rebased_for, RebasesEntries, RebasesNewest, MayPutNewest, IsReason, IsEndOfRun, Ambiguous, Initial, Limited, Repeated, Repeats, Stable, WithoutUsages}
 use Rattle.search_graph.specs.EndOfRun.{Unused}
 use Rattle.search_graph.proofs.DoneRuns.{calm_of, met_keeps, put_keeps}
@@ -19,9 +19,9 @@ module _ {X I R A T : Type 0} (P : Bool → R → Type 0) where
   abbrev pub SaidOf : ProvisionalCacheEntry X I R A T → Type 0
   SaidOf entry = P entry.encountered_overflow entry.result
 
-  -- what is settled so keeps it
+  -- what is changed so keeps it
   abbrev pub KeepsSaid : (HeadUsages → ProvisionalCacheEntry X I R A T → Option (ProvisionalCacheEntry X I R A T)) → Type 0
-  KeepsSaid settle = (usages : HeadUsages) (entry kept : ProvisionalCacheEntry X I R A T) → settle usages entry ≡ Some kept → SaidOf entry → SaidOf kept
+  KeepsSaid change_entry = (usages : HeadUsages) (entry kept : ProvisionalCacheEntry X I R A T) → change_entry usages entry ≡ Some kept → SaidOf entry → SaidOf kept
 
   module _ (stack : List (StackEntry X I R A T)) (done : StackEntry X I R A T) where
     -- a new highest head changes nothing of it
@@ -35,36 +35,36 @@ module _ {X I R A T : Type 0} (P : Bool → R → Type 0) where
             let same : record entry { path_from_head = greater_kind entry.path_from_head (from_head stack done head.0.0) } ≡ after = cc in
             subst SaidOf same h
 
-    module _ (settle : HeadUsages → ProvisionalCacheEntry X I R A T → Option (ProvisionalCacheEntry X I R A T)) (keeps : KeepsSaid settle) where
-      used_said : (entry after : ProvisionalCacheEntry X I R A T) (head : CycleHead) → rebased_used stack done settle entry head ≡ Some after → SaidOf entry → SaidOf after
+    module _ (change_entry : HeadUsages → ProvisionalCacheEntry X I R A T → Option (ProvisionalCacheEntry X I R A T)) (keeps : KeepsSaid change_entry) where
+      used_said : (entry after : ProvisionalCacheEntry X I R A T) (head : CycleHead) → rebased_used stack done change_entry entry head ≡ Some after → SaidOf entry → SaidOf after
       used_said entry after head is h = tested (keeps_kinds stack done entry.path_from_head head.paths_to_head) is
         where
-          rebases : (o : Option (ProvisionalCacheEntry X I R A T)) → settle head.usages entry ≡ o
+          rebases : (o : Option (ProvisionalCacheEntry X I R A T)) → change_entry head.usages entry ≡ o
               → option_and_then (λ kept. from_new_head stack done (record kept { heads = with_used done.state.heads head.paths_to_head (but_highest kept.heads) })) o ≡ Some after → SaidOf after
           rebases None at left = absurd cc
           rebases (Some kept) at left = new_head_said (record kept { heads = with_used done.state.heads head.paths_to_head (but_highest kept.heads) }) after left (keeps head.usages entry kept at h)
 
           tested : (b : Bool)
-              → (if b then option_and_then (λ kept. from_new_head stack done (record kept { heads = with_used done.state.heads head.paths_to_head (but_highest kept.heads) })) (settle head.usages entry) else None) ≡ Some after → SaidOf after
+              → (if b then option_and_then (λ kept. from_new_head stack done (record kept { heads = with_used done.state.heads head.paths_to_head (but_highest kept.heads) })) (change_entry head.usages entry) else None) ≡ Some after → SaidOf after
           tested false is = absurd cc
-          tested true is = rebases (settle head.usages entry) refl is
+          tested true is = rebases (change_entry head.usages entry) refl is
 
-      -- nor does rebasing, but for how answers are settled
-      rebased_said : (entry after : ProvisionalCacheEntry X I R A T) → SaidOf entry → rebased stack done settle entry ≡ Some after → SaidOf after
+      -- nor does rebasing, but for how entries are changed
+      rebased_said : (entry after : ProvisionalCacheEntry X I R A T) → SaidOf entry → rebased stack done change_entry entry ≡ Some after → SaidOf after
       rebased_said entry after h is = at (highest entry.heads) is
         where
           stays : Some entry ≡ Some after → SaidOf after
           stays is = let same : entry ≡ after = cc in subst SaidOf same h
 
-          used : (head : CycleHead) (b : Bool) → (if b then rebased_used stack done settle entry head else rebased_unused stack done entry) ≡ Some after → SaidOf after
+          used : (head : CycleHead) (b : Bool) → (if b then rebased_used stack done change_entry entry head else rebased_unused stack done entry) ≡ Some after → SaidOf after
           used head true is = used_said entry after head is h
           used head false is = new_head_said (record entry { heads = with_unused done.state.heads (but_highest entry.heads) }) after is h
 
-          here : (head : CycleHead) (b : Bool) → (if b then (if has_usages head.usages then rebased_used stack done settle entry head else rebased_unused stack done entry) else Some entry) ≡ Some after → SaidOf after
+          here : (head : CycleHead) (b : Bool) → (if b then (if has_usages head.usages then rebased_used stack done change_entry entry head else rebased_unused stack done entry) else Some entry) ≡ Some after → SaidOf after
           here head true is = used head (has_usages head.usages) is
           here head false is = stays is
 
-          at : (o : Option (StackDepth × CycleHead)) → rebased_at stack done settle entry o ≡ Some after → SaidOf after
+          at : (o : Option (StackDepth × CycleHead)) → rebased_at stack done change_entry entry o ≡ Some after → SaidOf after
           at None is = stays is
           at (Some head) is = here head.1 (nat_eq head.0.0 (length stack)) is
 
@@ -72,7 +72,7 @@ module _ {X I R A T : Type 0} (P : Bool → R → Type 0) where
   changed_said : (propagated : A → R) (overflow : R) (reason : RebaseReason X I R A T)
       → ((info : A) → reason ≡ why.Ambiguity info → (met : Bool) (r : R) → P met r → P met (propagated info))
       → (reason ≡ why.Overflow → (met : Bool) (r : R) → P met r → P met overflow)
-      → KeepsSaid (settled propagated overflow reason)
+      → KeepsSaid (changed_for propagated overflow reason)
   changed_said propagated overflow why.NoCycleUsages ambiguous limited usages entry kept is h = absurd cc
   changed_said propagated overflow (why.Ambiguity info) ambiguous limited usages entry kept is h =
       let same : record entry { result = propagated info; node = None } ≡ kept = cc in
@@ -91,11 +91,11 @@ module _ {X I R A T : Type 0} (P : Bool → R → Type 0) where
 
   -- the same of all entries of a goal,
   left_said : (propagated : A → R) (overflow : R) (reason : Option (RebaseReason X I R A T)) (stack : List (StackEntry X I R A T)) (done : StackEntry X I R A T) (entries : List (ProvisionalCacheEntry X I R A T))
-      → ((reasoned : RebaseReason X I R A T) → reason ≡ Some reasoned → KeepsSaid (settled propagated overflow reasoned))
+      → ((reasoned : RebaseReason X I R A T) → reason ≡ Some reasoned → KeepsSaid (changed_for propagated overflow reasoned))
       → All SaidOf entries → All SaidOf (rebased_for propagated overflow reason stack done entries)
   left_said propagated overflow None stack done entries keeps all = all
   left_said propagated overflow (Some reasoned) stack done entries keeps all =
-      All-filter_map SaidOf SaidOf (rebased stack done (settled propagated overflow reasoned)) (rebased_said stack done (settled propagated overflow reasoned) (keeps reasoned refl)) entries all
+      All-filter_map SaidOf SaidOf (rebased stack done (changed_for propagated overflow reasoned)) (rebased_said stack done (changed_for propagated overflow reasoned) (keeps reasoned refl)) entries all
 
   -- and of the entry for an answer
   entry_said : (stack : List (StackEntry X I R A T)) (step : PathKind) (answer : EvaluationResult X I R A T) → P answer.encountered_overflow answer.result → All SaidOf (entries_for stack step answer)
@@ -131,7 +131,7 @@ module _ {X I R A T : Type 0} (P : Bool → R → Type 0) where
 
   -- the newest goal was taken, of whose answer it may be said
   taken_said : {F : Type 0} (same : I → I → Bool) (enabled : Bool) (propagated : I → A → R) (overflow : I → R) (reason : Option (RebaseReason X I R A T)) (r : R) (s : StackEntry X I R A T × Run X F I R A T) (below : List (StackEntry X I R A T × Run X F I R A T)) (old new : Lists I (ProvisionalCacheEntry X I R A T))
-      → ((goal : I) (reasoned : RebaseReason X I R A T) → reason ≡ Some reasoned → KeepsSaid (settled (propagated goal) (overflow goal) reasoned))
+      → ((goal : I) (reasoned : RebaseReason X I R A T) → reason ≡ Some reasoned → KeepsSaid (changed_for (propagated goal) (overflow goal) reasoned))
       → P (s.0.state.encountered_overflow || s.1.met_overflow_before) r
       → RebasesEntries same enabled propagated overflow reason r s below old new → SaidOfAll same old → SaidOfAll same new
   taken_said same enabled propagated overflow reason r s below old new keeps here rebases all = λ goal.
@@ -192,7 +192,7 @@ module _ {D C V P F I R A T : Type 0} (G : DelegateOf D C V P F I R A T) (X : Cx
 
   module _ (ahead : ℕ) (done : R) (starts : ℕ) (met : Bool) (enabled : Bool) (reason : Option (RebaseReason C I R A T)) (leaves_results : IsDefinite X.is_yes X.is_no done → (reasoned : RebaseReason C I R A T) → reason ≡ Some reasoned → LeavesResults reasoned) where
     -- the result is definite, so entries keep theirs
-    results_stay : IsDefinite X.is_yes X.is_no done → (propagated : A → R) (overflow : R) (reasoned : RebaseReason C I R A T) → reason ≡ Some reasoned → KeepsSaid {X = C} {I = I} {T = T} (λ met r. IsDefinite X.is_yes X.is_no r) (settled propagated overflow reasoned)
+    results_stay : IsDefinite X.is_yes X.is_no done → (propagated : A → R) (overflow : R) (reasoned : RebaseReason C I R A T) → reason ≡ Some reasoned → KeepsSaid {X = C} {I = I} {T = T} (λ met r. IsDefinite X.is_yes X.is_no r) (changed_for propagated overflow reasoned)
     results_stay definite propagated overflow reasoned is = changed_said (λ met r. IsDefinite X.is_yes X.is_no r) propagated overflow reasoned
         (λ info ambiguous. absurd (subst LeavesResults ambiguous (leaves_results definite reasoned is)))
         (λ limited. absurd (subst LeavesResults limited (leaves_results definite reasoned is)))

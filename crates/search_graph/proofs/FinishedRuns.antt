@@ -35,7 +35,7 @@ module _ {X F I R A T : Type 0} where
         progress_is = cc;
       }
 
-  -- the run that is settled ended as the newest one
+  -- the run that has its node ended as the newest one
   pub taken_ends : (is_yes is_no : R → Bool) (scripts : I → List (Reply R) → Request I R) (nodes : List (CacheNode I R)) (old : List (StackEntry X I R A T × Run X F I R A T)) (e : StackEntry X I R A T) (y : Run X F I R A T) (p : RunRecord I R) (r : R) → TakenFrom old e y p → AreJustified is_yes is_no nodes (runs_of old) → EndsNewest is_yes is_no scripts old r → EndsRun is_yes is_no scripts nodes y.node p r
   taken_ends is_yes is_no scripts nodes old e y p r t h ends =
       subst (λ n. EndsRun is_yes is_no scripts nodes n p r) (sym t.same_node)
@@ -48,21 +48,21 @@ module _ {X F I R A T : Type 0} where
 
   -- the goals stay justified
   pub rerun_justified : (is_yes is_no : R → Bool) (before after : List (CacheNode I R)) (old taken new : List (StackEntry X I R A T × Run X F I R A T)) (e : StackEntry X I R A T) (y : Run X F I R A T) (p : RunRecord I R) (r : R) (target : Option NodeId) (frame : F) (own : NodeId) → TakenFrom old e y p → taken ≡ change_newest with_no_record old → new ≡ change_newest (rerun_with r (option_or target e.state.node) frame own) taken → HasResultNode is_yes is_no before after e.state.provisional_result y.node e.state.node p r target → own.0 ≡ length after → AreJustified is_yes is_no before (runs_of old) → AreJustified is_yes is_no (after ++ open_node e.input ∷ []) (runs_of new)
-  rerun_justified is_yes is_no before after old taken new e y p r target frame own t is then settled at h =
+  rerun_justified is_yes is_no before after old taken new e y p r target frame own t is then ended at h =
       let was : AreJustified is_yes is_no before (runs_of ((e, t.run) ∷ t.below)) = subst (λ l. AreJustified is_yes is_no before (runs_of l)) t.was h in
       let so : HasResultNode is_yes is_no before after e.state.provisional_result t.run.node e.state.node t.run.progress r target =
       subst (λ n. HasResultNode is_yes is_no before after e.state.provisional_result n e.state.node t.run.progress r target) t.same_node
-      (subst (λ q. HasResultNode is_yes is_no before after e.state.provisional_result y.node e.state.node q r target) t.progress_is settled) in
+      (subst (λ q. HasResultNode is_yes is_no before after e.state.provisional_result y.node e.state.node q r target) t.progress_is ended) in
       subst (λ l. AreJustified is_yes is_no (after ++ open_node e.input ∷ []) (runs_of l)) (sym (again_is old taken new e t.run t.below r (option_or target e.state.node) frame own t.was is then))
       (rerun_is_justified is_yes is_no before after (run_of (e, t.run)) (runs_of t.below) was r target (rebases is_yes is_no before after e t.run t.below was r target so) own at)
 
   -- and stored results rest on none of them
   pub rerun_free : (is_yes is_no : R → Bool) (same : I → I → Bool) (results : Store I (StoredResult X I R A T)) (before after : List (CacheNode I R)) (old taken new : List (StackEntry X I R A T × Run X F I R A T)) (e : StackEntry X I R A T) (y : Run X F I R A T) (p : RunRecord I R) (r : R) (target : Option NodeId) (frame : F) (own : NodeId) → TakenFrom old e y p → taken ≡ change_newest with_no_record old → new ≡ change_newest (rerun_with r (option_or target e.state.node) frame own) taken → HasResultNode is_yes is_no before after e.state.provisional_result y.node e.state.node p r target → own.0 ≡ length after → AreJustified is_yes is_no before (runs_of old) → AreFree is_yes is_no same before (runs_of old) results → AreFree is_yes is_no same (after ++ open_node e.input ∷ []) (runs_of new) results
-  rerun_free is_yes is_no same results before after old taken new e y p r target frame own t is then settled at h free =
+  rerun_free is_yes is_no same results before after old taken new e y p r target frame own t is then ended at h free =
       let was : AreJustified is_yes is_no before (runs_of ((e, t.run) ∷ t.below)) = subst (λ l. AreJustified is_yes is_no before (runs_of l)) t.was h in
       let so : HasResultNode is_yes is_no before after e.state.provisional_result t.run.node e.state.node t.run.progress r target =
       subst (λ n. HasResultNode is_yes is_no before after e.state.provisional_result n e.state.node t.run.progress r target) t.same_node
-      (subst (λ q. HasResultNode is_yes is_no before after e.state.provisional_result y.node e.state.node q r target) t.progress_is settled) in
+      (subst (λ q. HasResultNode is_yes is_no before after e.state.provisional_result y.node e.state.node q r target) t.progress_is ended) in
       subst (λ l. AreFree is_yes is_no same (after ++ open_node e.input ∷ []) (runs_of l) results) (sym (again_is old taken new e t.run t.below r (option_or target e.state.node) frame own t.was is then))
       (all_free_rerun is_yes is_no same before after (run_of (e, t.run)) (runs_of t.below) was r target (rebases is_yes is_no before after e t.run t.below was r target so) results (subst (λ l. AreFree is_yes is_no same before (runs_of l) results) t.was free) own at)
 
@@ -89,9 +89,9 @@ module _ {X F I R A T : Type 0} (is_yes is_no : R → Bool) (before after : List
   taken_run_ends scripts r h ends definite =
       ends_run is_yes is_no before before entry run rest (justified_then h) scripts r (subst (λ l. EndsNewest is_yes is_no scripts l r) was (ends definite))
 
-  module _ (r : R) (target : Option NodeId) (h : AreJustified is_yes is_no before (runs_of old)) (settled : HasResultNode is_yes is_no before after entry.state.provisional_result run.node entry.state.node run.progress r target) where
+  module _ (r : R) (target : Option NodeId) (h : AreJustified is_yes is_no before (runs_of old)) (ended : HasResultNode is_yes is_no before after entry.state.provisional_result run.node entry.state.node run.progress r target) where
     so : EndsWithNode is_yes is_no before after (run_of (entry, run)) (runs_of rest) r target
-    so = rebases is_yes is_no before after entry run rest (justified_then h) r target settled
+    so = rebases is_yes is_no before after entry run rest (justified_then h) r target ended
 
     -- no goal is left
     pub finished_justified : (new : List (StackEntry X I R A T × Run X F I R A T)) → length rest ≡ 0 → IsJustifiedNext is_yes is_no after old new (Finished (record { result = r; node = target }))

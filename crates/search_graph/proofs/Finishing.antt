@@ -4,7 +4,7 @@ use Rattle.std.specs.Option.{IsSomeAnd}
 use Rattle.std.proofs.lemmas.List.{length-map}
 use Rattle.std.proofs.lemmas.Option.{slice_get_within, get_or_from_slice_get, slice_get-get_or}
 use Rattle.open_graphs.specs.Graph as theory
-use Rattle.search_graph.specs.Below.{PathKind, Verdict, Yes, No, Neither, Edge, NodeId, Request, Reply, Begin, Answer, Noted, AvailableDepth, StackEntry, IsNeither, question_of, EndsIn, progress_after, questions_answered, EndedRun, CacheNode, open_node, open_goal, with_run, IsNodeOf, IsRun, verdict_of, Run, DefiniteAnswer, NotesOverflow, TakesStored, Hit, first_entry, usages_over, with_depth, with_nested_goals, TakesAnswer, AnswersNewest, RunRecord, acted, answered, no_record, edges_of, is_kept, IsDefinite, Heads, at_depth, heads_shape, rank_of, UsagesByHead, StackDepth, EntryState, Evaluate, TakesIn}
+use Rattle.search_graph.specs.Below.{PathKind, Verdict, Yes, No, Neither, Edge, NodeId, Request, Reply, Begin, Answer, Noted, AvailableDepth, StackEntry, IsNeither, question_of, EndsIn, progress_after, questions_answered, EndedRun, CacheNode, open_node, open_goal, with_run, IsNodeOf, IsRun, verdict_of, Run, DefiniteAnswer, NotesOverflow, TakesStored, Hit, first_entry, usages_over, with_depth, with_nested_goals, TakesAnswer, AnswersNewest, RunRecord, acted, answered, no_record, edges_of, counted_by, IsDefinite, Heads, at_depth, heads_shape, rank_of, UsagesByHead, StackDepth, EntryState, Evaluate, TakesIn}
 use Rattle.search_graph.specs.Words.{tally_of, heads_of, IsTallied, LieBelow, OpenRun, verdict_shape, AreEdges, Asks, HasTally, AreJustified, MayAnswer, IsFit, asked_now, run_of, runs_of, EndsNewest, EndsRun, HasResultNode, Ended, LeftOpen}
 use Rattle.search_graph.proofs.TakenTallies.{taken_tallied, taken_keeps, taken_comes_in}
 use Rattle.search_graph.specs.Runs.{Again}
@@ -129,7 +129,7 @@ answer_fits is_yes is_no nodes p below r step goal target asks may s kind asked 
 -- ---- the run that a node is finished with
 
 module _ {I R : Type 0} (is_yes is_no : R → Bool) (scripts : I → List (Reply R) → Request I R) (nodes : List (CacheNode I R)) (node : NodeId) (p : RunRecord I R) (r : R) (h : EndsRun is_yes is_no scripts nodes node p r) (v : Verdict) (holds : (v ≡ Yes) ↔ IsTrue (is_yes r)) (fails : (v ≡ No) ↔ IsTrue (is_no r)) where
-  edge_placed : (i : ℕ) (e : Edge I) → slice_get (edges_of p v) i ≡ Some e → (j : ℕ) × (a : DefiniteAnswer I) × (slice_get p.answers j ≡ Some a) × (a.edge ≡ e) × (a.verdict ≡ v) × (is_kept p.ignored a.candidate ≡ true)
+  edge_placed : (i : ℕ) (e : Edge I) → slice_get (edges_of p v) i ≡ Some e → (j : ℕ) × (a : DefiniteAnswer I) × (slice_get p.answers j ≡ Some a) × (a.edge ≡ e) × (a.verdict ≡ v) × (counted_by p.ignored a.candidate ≡ true)
   edge_placed i e at =
       let from = edge_is_of_answer p v e (contains_at (edges_of p v) i e at) in
       let place = place_of p.answers from.answer from.is_in in
@@ -154,8 +154,8 @@ module _ {I R : Type 0} (is_yes is_no : R → Bool) (scripts : I → List (Reply
   open_for_run = subst (λ o. IsSomeAnd o (λ goal. IsRun is_yes is_no (scripts goal) nodes (record { replies = p.replies; edges = edges_of p v; outcome = r }))) (sym h.is_open) is_run
 
   -- a definite result settles the node
-  pub settled : v ≢ Neither → (earlier : Option R) (lead : Option NodeId) → (option_map (verdict_of is_yes is_no) earlier ≡ Some (verdict_shape v) → ⊥) → (after : List (CacheNode I R)) → after ≡ with_run nodes node.0 (record { replies = p.replies; edges = edges_of p v; outcome = r }) → HasResultNode is_yes is_no nodes after earlier node lead p r (Some node)
-  settled definite earlier lead anew after is =
+  pub ended_node : v ≢ Neither → (earlier : Option R) (lead : Option NodeId) → (option_map (verdict_of is_yes is_no) earlier ≡ Some (verdict_shape v) → ⊥) → (after : List (CacheNode I R)) → after ≡ with_run nodes node.0 (record { replies = p.replies; edges = edges_of p v; outcome = r }) → HasResultNode is_yes is_no nodes after earlier node lead p r (Some node)
+  ended_node definite earlier lead anew after is =
       let same : verdict_shape v ≡ verdict_of is_yes is_no r = verdict_is is_yes is_no r v holds fails definite in
       Ended (record { replies = p.replies; edges = edges_of p v; outcome = r }) refl (h.ends.on_record.request_is ∙ h.ends.is_done) (λ e. in_theory_definite v definite (same ∙ e)) (λ says. anew (says ∙ ap Some (sym same))) is
       (λ i e at. let w = edge_placed i e at in (w.0, w.1, w.2, w.3, ap verdict_shape w.4 ∙ same, w.5))

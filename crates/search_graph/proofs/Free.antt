@@ -4,7 +4,7 @@ use Rattle.std.proofs.Common.{◌≡◌, ℕ, zero, suc, Bool, true, List, [], �
 use Rattle.std.specs.Option.{IsSomeAnd, option_or}
 use Rattle.std.proofs.lemmas.List.{length-map}
 use Rattle.open_graphs.specs.Graph as theory
-use Rattle.search_graph.specs.Below.{IsGraph, Entry, path_kind, Use, UsesNo, Frame, Final, stack_of, no_heads, first_frame, next_frame, answering, IsSound, AllFinal, Before, PathKind, NodeId, heads_shape, rank_of, CacheNode, open_node, IsNodeOf, KeepsGoals, IsDefinite, HasGraph, verdict_of, shape_of, shapes_of}
+use Rattle.search_graph.specs.Below.{IsClosedGraph, Entry, path_kind, Use, UsesNo, RunningGoal, Final, stack_of, no_heads, in_first_run, in_next_run, answering, IsSoundState, AllFinal, Before, PathKind, NodeId, heads_shape, rank_of, CacheNode, open_node, IsNodeOf, KeepsGoals, IsDefinite, HasGraph, verdict_of, shape_of, shapes_of}
 use Rattle.open_graphs.proofs.States.{push_keeps_sound, pop_keeps_sound, rerun_keeps_sound, none_used}
 use Rattle.open_graphs.proofs.Runs.{closed_gives_use}
 use Rattle.open_graphs.proofs.Closed.{closed_is_graph, graph_is_use}
@@ -26,7 +26,7 @@ only_closed nodes stack verdict n used zero x is =
     subst (λ y. Use nodes y.verdict stack (λ depth. 0) 0 y.node no_heads) same used
 only_closed nodes stack verdict n used (suc i) x is = absurd (no_answers i x is)
 
-with_final : (nodes : List theory.Node) (frames : List Frame) (verdict : theory.Verdict) (n : ℕ) → IsSound nodes frames [] [] → Use nodes verdict (stack_of frames) (λ depth. 0) 0 n no_heads → IsSound nodes frames [] (only verdict n)
+with_final : (nodes : List theory.Node) (frames : List RunningGoal) (verdict : theory.Verdict) (n : ℕ) → IsSoundState nodes frames [] [] → Use nodes verdict (stack_of frames) (λ depth. 0) 0 n no_heads → IsSoundState nodes frames [] (only verdict n)
 with_final nodes frames verdict n h used = record {
   is_stack = h.is_stack;
   running = h.running;
@@ -35,7 +35,7 @@ with_final nodes frames verdict n h used = record {
   closed = only_closed nodes (stack_of frames) verdict n used;
 }
 
-final_use : (nodes : List theory.Node) (frames : List Frame) (verdict : theory.Verdict) (n : ℕ) → IsSound nodes frames [] (only verdict n) → Use nodes verdict (stack_of frames) (λ depth. 0) 0 n no_heads
+final_use : (nodes : List theory.Node) (frames : List RunningGoal) (verdict : theory.Verdict) (n : ℕ) → IsSoundState nodes frames [] (only verdict n) → Use nodes verdict (stack_of frames) (λ depth. 0) 0 n no_heads
 final_use nodes frames verdict n h = h.closed 0 (record { verdict = verdict; node = n }) refl
 
 module _ {I R : Type 0} (is_yes is_no : R → Bool) where
@@ -60,7 +60,7 @@ module _ {I R : Type 0} (is_yes is_no : R → Bool) where
   pub free_nothing : (nodes : List (CacheNode I R)) (goal : I) (r : R) (target : Option NodeId) → HasGraph is_yes is_no nodes goal r target → IsFree is_yes is_no nodes [] goal r target
   free_nothing nodes goal r target h = record {
     definite = λ d.
-        IsSomeAnd-weaker (λ n. IsNodeOf nodes n.0 goal × IsGraph (shapes_of is_yes is_no nodes) (verdict_of is_yes is_no r) n.0)
+        IsSomeAnd-weaker (λ n. IsNodeOf nodes n.0 goal × IsClosedGraph (shapes_of is_yes is_no nodes) (verdict_of is_yes is_no r) n.0)
         (λ n. IsNodeOf nodes n.0 goal × IsUsedFree nodes [] (verdict_of is_yes is_no r) n.0)
         (λ n g. (g.0, graph_is_use (shapes_of is_yes is_no nodes) (verdict_of is_yes is_no r) (λ depth. 0) 0 n.0 no_heads g.1))
         target (h.definite d);
@@ -72,7 +72,7 @@ module _ {I R : Type 0} (is_yes is_no : R → Bool) where
   free_has_graph nodes goals goal r target h = record {
     definite = λ d.
         IsSomeAnd-weaker (λ n. IsNodeOf nodes n.0 goal × IsUsedFree nodes goals (verdict_of is_yes is_no r) n.0)
-        (λ n. IsNodeOf nodes n.0 goal × IsGraph (shapes_of is_yes is_no nodes) (verdict_of is_yes is_no r) n.0)
+        (λ n. IsNodeOf nodes n.0 goal × IsClosedGraph (shapes_of is_yes is_no nodes) (verdict_of is_yes is_no r) n.0)
         (λ n u. (u.0, closed_is_graph (shapes_of is_yes is_no nodes) (verdict_of is_yes is_no r) (stack_of (frames_of is_yes is_no goals)) (λ depth. 0) 0 n.0 no_heads none_used u.1))
         target (h.definite d);
     neither = h.neither;
@@ -83,24 +83,24 @@ module _ {I R : Type 0} (is_yes is_no : R → Bool) where
   pushed_use : (nodes : List (CacheNode I R)) (goal : I) (step : PathKind) (own : NodeId) (goals : List (OpenRun I R)) → own.0 ≡ length nodes → AreJustified is_yes is_no nodes goals → (verdict : theory.Verdict) (n : ℕ) → IsUsedFree nodes goals verdict n → IsUsedFree (nodes ++ open_node goal ∷ []) (new_run goal step own (Some own) None no_tally ∷ goals) verdict n
   pushed_use nodes goal step own goals at h verdict n used =
       let many : length (shapes_of is_yes is_no nodes) ≡ own.0 = length-map nodes (shape_of is_yes is_no) ∙ sym at in
-      let frames : List Frame = frames_of is_yes is_no goals in
+      let frames : List RunningGoal = frames_of is_yes is_no goals in
       subst (λ more. Use more verdict (stack_of (frames_of is_yes is_no (new_run goal step own (Some own) None no_tally ∷ goals))) (λ depth. 0) 0 n no_heads) (sym (shapes_opened is_yes is_no nodes goal))
-      (subst (λ m. Use (shapes_of is_yes is_no nodes ++ theory.Unfinished ∷ []) verdict (stack_of (first_frame (rank_of step) m (heads_shape []) ∷ frames)) (λ depth. 0) 0 n no_heads) many
-      (final_use (shapes_of is_yes is_no nodes ++ theory.Unfinished ∷ []) (first_frame (rank_of step) (length (shapes_of is_yes is_no nodes)) (heads_shape []) ∷ frames) verdict n
+      (subst (λ m. Use (shapes_of is_yes is_no nodes ++ theory.Unfinished ∷ []) verdict (stack_of (in_first_run (rank_of step) m (heads_shape []) ∷ frames)) (λ depth. 0) 0 n no_heads) many
+      (final_use (shapes_of is_yes is_no nodes ++ theory.Unfinished ∷ []) (in_first_run (rank_of step) (length (shapes_of is_yes is_no nodes)) (heads_shape []) ∷ frames) verdict n
       (push_keeps_sound (shapes_of is_yes is_no nodes) frames [] (only verdict n) (rank_of step) (heads_shape []) (with_final (shapes_of is_yes is_no nodes) frames verdict n h.sound used))))
 
   pub free_pushed : (nodes : List (CacheNode I R)) (goal : I) (step : PathKind) (own : NodeId) (goals : List (OpenRun I R)) → own.0 ≡ length nodes → Asks goals step goal → AreJustified is_yes is_no nodes goals → (other : I) (r : R) (target : Option NodeId) → IsFree is_yes is_no nodes goals other r target → IsFree is_yes is_no (nodes ++ open_node goal ∷ []) (new_run goal step own (Some own) None no_tally ∷ goals) other r target
   free_pushed nodes goal step own goals at asks h =
       IsFree-carried nodes (nodes ++ open_node goal ∷ []) goals (new_run goal step own (Some own) None no_tally ∷ goals) (KeepsGoals-appended true nodes goal) (pushed_use nodes goal step own goals at h)
 
--- ---- the newest goal's run is settled
+-- ---- the newest goal's run has ended
 
 module _ {I R : Type 0} (is_yes is_no : R → Bool) (nodes after : List (CacheNode I R)) (o : OpenRun I R) (below : List (OpenRun I R)) (h : AreJustified is_yes is_no nodes (o ∷ below)) (r : R) (target : Option NodeId) (s : EndsWithNode is_yes is_no nodes after o below r target) where
   -- the frame of the run, with the edges that its result rests on
-  abbrev last_frame : Frame
+  abbrev last_frame : RunningGoal
   last_frame = answering (frame_of is_yes is_no o) s.edges (heads_shape o.tally.heads)
 
-  final_graph : (verdict : theory.Verdict) (n : ℕ) → IsUsedFree is_yes is_no nodes (o ∷ below) verdict n → IsSound (shapes_of is_yes is_no nodes) (last_frame ∷ frames_of is_yes is_no below) [] (only verdict n)
+  final_graph : (verdict : theory.Verdict) (n : ℕ) → IsUsedFree is_yes is_no nodes (o ∷ below) verdict n → IsSoundState (shapes_of is_yes is_no nodes) (last_frame ∷ frames_of is_yes is_no below) [] (only verdict n)
   final_graph verdict n used = with_final (shapes_of is_yes is_no nodes) (last_frame ∷ frames_of is_yes is_no below) verdict n s.sound used
 
   popped_use : (verdict : theory.Verdict) (n : ℕ) → IsUsedFree is_yes is_no nodes (o ∷ below) verdict n → IsUsedFree is_yes is_no after below verdict n
@@ -135,14 +135,14 @@ module _ {I R : Type 0} (is_yes is_no : R → Bool) (nodes after : List (CacheNo
     rerun_use : (verdict : theory.Verdict) (n : ℕ) → IsUsedFree is_yes is_no nodes (o ∷ below) verdict n → IsUsedFree is_yes is_no (after ++ open_node o.goal ∷ []) next_goals verdict n
     rerun_use verdict n used =
         let v = verdict_of is_yes is_no r in
-        let frames : List Frame = frames_of is_yes is_no below in
+        let frames : List RunningGoal = frames_of is_yes is_no below in
         let again =
         rerun_keeps_sound (shapes_of is_yes is_no nodes) last_frame frames [] [] (only verdict n) v (shapes_of is_yes is_no after) s.place s.answered
         (λ i k is. absurd (no_answers i k is)) (final_graph verdict n used) in
         let lead = leads_there is_yes is_no nodes after o below h r target s own at (option_or target o.cycles_lead) (lead_is is_yes is_no nodes after o below h r target s) in
         subst (λ more. Use more verdict (stack_of (frames_of is_yes is_no next_goals)) (λ depth. 0) 0 n no_heads) (sym (shapes_opened is_yes is_no after o.goal))
-        (subst (λ p. Use (shapes_of is_yes is_no after ++ theory.Unfinished ∷ []) verdict (stack_of (next_frame (frame_of is_yes is_no o) v p own.0 ∷ frames)) (λ depth. 0) 0 n no_heads) (sym lead)
-        (final_use (shapes_of is_yes is_no after ++ theory.Unfinished ∷ []) (next_frame last_frame v s.place (length (shapes_of is_yes is_no after)) ∷ frames) verdict n again))
+        (subst (λ p. Use (shapes_of is_yes is_no after ++ theory.Unfinished ∷ []) verdict (stack_of (in_next_run (frame_of is_yes is_no o) v p own.0 ∷ frames)) (λ depth. 0) 0 n no_heads) (sym lead)
+        (final_use (shapes_of is_yes is_no after ++ theory.Unfinished ∷ []) (in_next_run last_frame v s.place (length (shapes_of is_yes is_no after)) ∷ frames) verdict n again))
 
     pub free_rerun : (other : I) (found : R) (place : Option NodeId) → IsFree is_yes is_no nodes (o ∷ below) other found place → IsFree is_yes is_no (after ++ open_node o.goal ∷ []) (new_run o.goal o.step own (option_or target o.cycles_lead) (Some r) (tally_again o.tally) ∷ below) other found place
     free_rerun = IsFree-carried is_yes is_no nodes (after ++ open_node o.goal ∷ []) (o ∷ below) next_goals (λ k goal is. KeepsGoals-appended true after o.goal k goal (s.goals_kept k goal is)) rerun_use

@@ -1,7 +1,7 @@
 -- All stored results stay free of the goals under evaluation through each move of the driver.
 use Rattle.std.proofs.Common.{◌≡◌, Bool, true, false, List, [], ◌∷◌, ◌++◌, length, Option, None, Some, inl, inr, sym, ap, ap₂, ◌∙◌, subst}
 use Rattle.std.specs.Option.{option_or}
-use Rattle.search_graph.specs.Below.{stack_of, PathKind, NodeId, Request, Reply, StoredResult, AvailableDepth, EvaluationResult, StackEntry, CacheNode, open_node, Store, stored_at, place_of, stored_from, AreKept, Run, first_entry, no_record}
+use Rattle.search_graph.specs.Below.{stack_of, PathKind, NodeId, Request, Reply, StoredResult, AvailableDepth, EvaluationResult, StackEntry, CacheNode, open_node, Store, stored_at, place_of, stored_from, AreSoundResults, Run, first_entry, no_record}
 use Rattle.search_parts.proofs.Stores.{put_cases}
 use Rattle.search_graph.specs.Words.{IsFree, AreFree, OpenRun, frames_of, Asks, AreJustified, StoresAnswer, Put, runs_of}
 use Rattle.search_graph.specs.Results.{NotStored}
@@ -18,7 +18,7 @@ module _ {X I R A T : Type 0} (is_yes is_no : R → Bool) (same : I → I → Bo
   all_carried nodes after goals later results kept all = λ goal place s at. kept goal s.result.result s.node (all goal place s at)
 
   -- no goal is under evaluation
-  pub all_free_nothing : (scripts : I → List (Reply R) → Request I R) (nodes : List (CacheNode I R)) (results : Store I (StoredResult X I R A T)) → AreKept same is_yes is_no scripts nodes results → AreFree is_yes is_no same nodes [] results
+  pub all_free_nothing : (scripts : I → List (Reply R) → Request I R) (nodes : List (CacheNode I R)) (results : Store I (StoredResult X I R A T)) → AreSoundResults same is_yes is_no scripts nodes results → AreFree is_yes is_no same nodes [] results
   all_free_nothing scripts nodes results kept = λ goal place s at. free_nothing is_yes is_no nodes goal s.result.result s.node (kept goal place s at).graph
 
   -- a goal is pushed,
@@ -31,7 +31,7 @@ module _ {X I R A T : Type 0} (is_yes is_no : R → Bool) (same : I → I → Bo
   pub all_free_pushed_goal : {F : Type 0} (nodes : List (CacheNode I R)) (input : I) (kind : PathKind) (depth : AvailableDepth) (own : NodeId) (frame : F) (goals : List (StackEntry X I R A T × Run X F I R A T)) (results : Store I (StoredResult X I R A T)) → own.0 ≡ length nodes → Asks (runs_of goals) kind input → AreJustified is_yes is_no nodes (runs_of goals) → AreFree is_yes is_no same nodes (runs_of goals) results → AreFree is_yes is_no same (nodes ++ open_node input ∷ []) (runs_of ((first_entry input kind depth own, record { frame = frame; node = own; progress = no_record; finished_runs = 0; met_overflow_before = false; candidates = [] }) ∷ goals)) results
   all_free_pushed_goal nodes input kind depth own frame goals results at asks h = all_free_pushed nodes input kind own (runs_of goals) results at asks h
 
-  -- the newest goal's run is settled, and the goal taken or run again
+  -- the newest goal's run has ended, and the goal taken or run again
   module _ (nodes after : List (CacheNode I R)) (o : OpenRun I R) (below : List (OpenRun I R)) (h : AreJustified is_yes is_no nodes (o ∷ below)) (r : R) (target : Option NodeId) (s : EndsWithNode is_yes is_no nodes after o below r target) (results : Store I (StoredResult X I R A T)) (all : AreFree is_yes is_no same nodes (o ∷ below) results) where
     pub all_free_popped : AreFree is_yes is_no same after below results
     all_free_popped = all_carried nodes after (o ∷ below) below results (free_popped is_yes is_no nodes after o below h r target s) all

@@ -3,7 +3,7 @@ use Rattle.std.proofs.Common.{◌≡◌, ◌≢◌, ℕ, zero, suc, Bool, true, 
 use Rattle.std.specs.Option.{IsSomeAnd, option_or}
 use Rattle.std.proofs.lemmas.List.{map-append, map-set, length-map}
 use Rattle.open_graphs.specs.Graph as theory
-use Rattle.search_graph.specs.Below.{Entry, path_kind, IsGraph, Use, Includes, IncludesBelow, UsesNo, Frame, Kept, Final, stack_of, first_frame, next_frame, answering, OwnsOther, IsSound, TakesIn, Answered, Again, Anew, Without, IsAnswered, AllAnswered, PathKind, Edge, Request, NodeId, heads_shape, no_usages, rank_of, EndedRun, CacheNode, open_node, open_goal, with_run, IsNodeOf, KeepsNodes, KeepsGoals, verdict_of, edge_shape, shape_of, shapes_of, DefiniteAnswer, HasGraph, is_kept}
+use Rattle.search_graph.specs.Below.{Entry, path_kind, IsClosedGraph, Use, Includes, IncludesBelow, UsesNo, RunningGoal, ProvisionalEntry, Final, stack_of, in_first_run, in_next_run, answering, OwnsOther, IsSoundState, TakesIn, Answered, Again, Anew, Without, IsAnsweredEdge, AllAnswered, PathKind, Edge, Request, NodeId, heads_shape, no_usages, rank_of, EndedRun, CacheNode, open_node, open_goal, with_run, IsNodeOf, KeepsNodes, KeepsGoals, verdict_of, edge_shape, shape_of, shapes_of, DefiniteAnswer, HasGraph, counted_by}
 use Rattle.open_graphs.specs.Use as theory_use
 use Rattle.open_graphs.proofs.Lists.{get_cases, get_set_other}
 use Rattle.open_graphs.proofs.States.{push_keeps_sound, answers_keep_sound, pop_keeps_sound, rerun_keeps_sound, start_is_sound, verdict_cases}
@@ -55,7 +55,7 @@ module _ {I R : Type 0} (nodes more : List (CacheNode I R)) where
 -- ---- answers
 
 -- an answer may be used in a longer list, too
-answered_again : (before after : List theory.Node) (verdict : theory.Verdict) (below : List Entry) (top : Entry) (edge : theory.Edge) (heads : theory_use.Heads) → theory.Grown before after → IsAnswered before verdict below top edge heads → IsAnswered after verdict below top edge heads
+answered_again : (before after : List theory.Node) (verdict : theory.Verdict) (below : List Entry) (top : Entry) (edge : theory.Edge) (heads : theory_use.Heads) → theory.Grown before after → IsAnsweredEdge before verdict below top edge heads → IsAnsweredEdge after verdict below top edge heads
 answered_again before after verdict below top edge heads grown h = record {
   answer = h.answer;
   used = growth_keeps_use before after verdict (below ++ top ∷ []) (path_kind (below ++ top ∷ []) edge.kind) edge.kind edge.target h.answer grown h.used;
@@ -63,7 +63,7 @@ answered_again before after verdict below top edge heads grown h = record {
 }
 
 -- and where more is recorded of its heads
-answered_more : (nodes : List theory.Node) (verdict : theory.Verdict) (below : List Entry) (top : Entry) (edge : theory.Edge) (heads more : theory_use.Heads) → IncludesBelow (length below) heads more → IsAnswered nodes verdict below top edge heads → IsAnswered nodes verdict below top edge more
+answered_more : (nodes : List theory.Node) (verdict : theory.Verdict) (below : List Entry) (top : Entry) (edge : theory.Edge) (heads more : theory_use.Heads) → IncludesBelow (length below) heads more → IsAnsweredEdge nodes verdict below top edge heads → IsAnsweredEdge nodes verdict below top edge more
 answered_more nodes verdict below top edge heads more includes h = record { answer = h.answer; used = h.used; among = λ depth path cycle lower recorded. includes depth path cycle lower (h.among depth path cycle lower recorded) }
 
 AllCharged-kept : {I R : Type 0} (is_yes is_no : R → Bool) (nodes more : List (CacheNode I R)) → theory.Grown (shapes_of is_yes is_no nodes) (shapes_of is_yes is_no more) → (goals : List (OpenRun I R)) → AllCharged is_yes is_no nodes goals → AllCharged is_yes is_no more goals
@@ -106,7 +106,7 @@ pub no_answers : {A : Type 0} (i : ℕ) (a : A) → slice_get [] i ≡ Some a �
 no_answers i a is = cc
 
 -- A frame without edges may keep more, and record other heads, as long as what it keeps is among them.
-heads_change : (nodes : List theory.Node) (f : Frame) (frames : List Frame) (provisional : List Kept) (final : List Final) (kept heads : theory_use.Heads) → Includes f.kept kept → Includes kept heads → IsSound nodes (f ∷ frames) provisional final → IsSound nodes (record { entry = f.entry; own = f.own; edges = λ verdict. []; kept = kept; heads = heads } ∷ frames) provisional final
+heads_change : (nodes : List theory.Node) (f : RunningGoal) (frames : List RunningGoal) (provisional : List ProvisionalEntry) (final : List Final) (kept heads : theory_use.Heads) → Includes f.heads_before kept → Includes kept heads → IsSoundState nodes (f ∷ frames) provisional final → IsSoundState nodes (record { entry = f.entry; own = f.own; edges = λ verdict. []; heads_before = kept; heads = heads } ∷ frames) provisional final
 heads_change nodes f frames provisional final kept heads more within h =
     let r = h.running.0 in
     record {
@@ -116,7 +116,7 @@ heads_change nodes f frames provisional final kept heads more within h =
           unfinished = r.unfinished;
           lower = r.lower;
           which_run = r.which_run;
-          earlier = λ v definite says. heads_keep_use nodes v (stack_of frames) (path_kind (stack_of frames) f.entry.step) (path_kind (stack_of frames) f.entry.step) 0 f.entry.node f.kept kept more (λ depth path cycle recorded. refl) (r.earlier v definite says);
+          earlier = λ v definite says. heads_keep_use nodes v (stack_of frames) (path_kind (stack_of frames) f.entry.step) (path_kind (stack_of frames) f.entry.step) 0 f.entry.node f.heads_before kept more (λ depth path cycle recorded. refl) (r.earlier v definite says);
           still = within;
           answered = λ v i edge at. absurd (no_answers i edge at);
         },
@@ -167,9 +167,9 @@ module _ {I R : Type 0} (is_yes is_no : R → Bool) (nodes : List (CacheNode I R
       let last : slice_get (nodes ++ open_node goal ∷ []) own.0 ≡ Some (open_node goal) = ap (slice_get (nodes ++ open_node goal ∷ [])) at ∙ get_last nodes (open_node goal) in
       record {
         sound =
-            subst (λ more. IsSound more (frames_of is_yes is_no (new_run goal step own (Some own) None no_tally ∷ goals)) [] []) (sym (shapes_opened goal))
-            (heads_change (shapes_of is_yes is_no nodes ++ theory.Unfinished ∷ []) (first_frame (rank_of step) own.0 (heads_shape [])) (frames_of is_yes is_no goals) [] [] (spare_heads no_tally) (heads_shape []) (λ depth path cycle recorded. absurd (recorded.1 refl)) (λ depth path cycle recorded. absurd (recorded.1 refl))
-            (subst (λ n. IsSound (shapes_of is_yes is_no nodes ++ theory.Unfinished ∷ []) (first_frame (rank_of step) n (heads_shape []) ∷ frames_of is_yes is_no goals) [] []) many
+            subst (λ more. IsSoundState more (frames_of is_yes is_no (new_run goal step own (Some own) None no_tally ∷ goals)) [] []) (sym (shapes_opened goal))
+            (heads_change (shapes_of is_yes is_no nodes ++ theory.Unfinished ∷ []) (in_first_run (rank_of step) own.0 (heads_shape [])) (frames_of is_yes is_no goals) [] [] (spare_heads no_tally) (heads_shape []) (λ depth path cycle recorded. absurd (recorded.1 refl)) (λ depth path cycle recorded. absurd (recorded.1 refl))
+            (subst (λ n. IsSoundState (shapes_of is_yes is_no nodes ++ theory.Unfinished ∷ []) (in_first_run (rank_of step) n (heads_shape []) ∷ frames_of is_yes is_no goals) [] []) many
             (push_keeps_sound (shapes_of is_yes is_no nodes) (frames_of is_yes is_no goals) [] [] (rank_of step) (heads_shape []) h.sound)));
         are_open = (goal_open (nodes ++ open_node goal ∷ []) own.0 (open_node goal) goal last refl refl, AreOpen-kept nodes (nodes ++ open_node goal ∷ []) (KeepsNodes-appended true nodes goal) goals h.are_open);
         lead_home = (subst (λ n. IsNodeOf (nodes ++ open_node goal ∷ []) n goal) (sym at) (new_node_is goal), LeadHome-kept nodes (nodes ++ open_node goal ∷ []) (KeepsGoals-appended true nodes goal) goals h.lead_home);
@@ -198,8 +198,8 @@ module _ {I R : Type 0} (is_yes is_no : R → Bool) (nodes : List (CacheNode I R
       λ i b is kept. elim (get_cases o.answers a i b is) [
         | inl old ↦ h.charged.0 i b old kept
         | inr new ↦
-            subst (λ (d : DefiniteAnswer I). IsAnswered (shapes_of is_yes is_no nodes) (verdict_shape d.verdict) (stack_of (frames_of is_yes is_no below)) (frame_of is_yes is_no o).entry (edge_shape d.edge) (heads_of o.tally d.candidate)) new.1
-            (subst (λ c. IsAnswered (shapes_of is_yes is_no nodes) (verdict_shape a.verdict) (stack_of (frames_of is_yes is_no below)) (frame_of is_yes is_no o).entry (edge_shape a.edge) (heads_of o.tally c)) (sym inside) may.answered)
+            subst (λ (d : DefiniteAnswer I). IsAnsweredEdge (shapes_of is_yes is_no nodes) (verdict_shape d.verdict) (stack_of (frames_of is_yes is_no below)) (frame_of is_yes is_no o).entry (edge_shape d.edge) (heads_of o.tally d.candidate)) new.1
+            (subst (λ c. IsAnsweredEdge (shapes_of is_yes is_no nodes) (verdict_shape a.verdict) (stack_of (frames_of is_yes is_no below)) (frame_of is_yes is_no o).entry (edge_shape a.edge) (heads_of o.tally c)) (sym inside) may.answered)
       ],
       h.charged.1,
     );
@@ -207,7 +207,7 @@ module _ {I R : Type 0} (is_yes is_no : R → Bool) (nodes : List (CacheNode I R
 
   -- What it counts changes, and its candidates, and it makes another request: for each candidate that isn't ignored afterwards it
   -- counts all that it did, and so of what was used outside candidates.
-  pub recounted_is_justified : (tally : Tally) (is_open : Bool) (ignored : List Bool) (request : Option (Request I R)) (o : OpenRun I R) (below : List (OpenRun I R)) → HasTally (length below) (record o { tally = tally; is_open = is_open; ignored = ignored }) → ((c : Option ℕ) → is_kept ignored c ≡ true → (is_kept o.ignored c ≡ true) × Includes (heads_of o.tally c) (heads_of tally c)) → AreJustified is_yes is_no nodes (o ∷ below) → AreJustified is_yes is_no nodes (record o { tally = tally; is_open = is_open; ignored = ignored; request = request } ∷ below)
+  pub recounted_is_justified : (tally : Tally) (is_open : Bool) (ignored : List Bool) (request : Option (Request I R)) (o : OpenRun I R) (below : List (OpenRun I R)) → HasTally (length below) (record o { tally = tally; is_open = is_open; ignored = ignored }) → ((c : Option ℕ) → counted_by ignored c ≡ true → (counted_by o.ignored c ≡ true) × Includes (heads_of o.tally c) (heads_of tally c)) → AreJustified is_yes is_no nodes (o ∷ below) → AreJustified is_yes is_no nodes (record o { tally = tally; is_open = is_open; ignored = ignored; request = request } ∷ below)
   recounted_is_justified tally is_open ignored request o below has keeps h = record {
     sound = heads_change (shapes_of is_yes is_no nodes) (frame_of is_yes is_no o) (frames_of is_yes is_no below) [] [] (spare_heads tally) (heads_shape tally.heads) (keeps None refl).1 (spare_within (length below) tally has.tallied) h.sound;
     are_open = h.are_open;
@@ -242,10 +242,10 @@ module _ {I R : Type 0} (is_yes is_no : R → Bool) (nodes : List (CacheNode I R
       let e = edge_in edges i edge at in
       let from = are i e.0 e.1 in
       let many : length below ≡ length (stack_of (frames_of is_yes is_no below)) = sym (stack_length is_yes is_no below) in
-      subst (λ x. IsAnswered (shapes_of is_yes is_no nodes) other (stack_of (frames_of is_yes is_no below)) (frame_of is_yes is_no o).entry x (heads_shape o.tally.heads)) (ap edge_shape from.3 ∙ e.2)
+      subst (λ x. IsAnsweredEdge (shapes_of is_yes is_no nodes) other (stack_of (frames_of is_yes is_no below)) (frame_of is_yes is_no o).entry x (heads_shape o.tally.heads)) (ap edge_shape from.3 ∙ e.2)
       (answered_more (shapes_of is_yes is_no nodes) other (stack_of (frames_of is_yes is_no below)) (frame_of is_yes is_no o).entry (edge_shape from.1.edge) (heads_of o.tally from.1.candidate) (heads_shape o.tally.heads)
       (subst (λ n. IncludesBelow n (heads_of o.tally from.1.candidate) (heads_shape o.tally.heads)) many (charge_within (length below) o.tally tallied from.1.candidate))
-      (subst (λ v. IsAnswered (shapes_of is_yes is_no nodes) v (stack_of (frames_of is_yes is_no below)) (frame_of is_yes is_no o).entry (edge_shape from.1.edge) (heads_of o.tally from.1.candidate)) (from.4 ∙ verdicts_same verdict other same)
+      (subst (λ v. IsAnsweredEdge (shapes_of is_yes is_no nodes) v (stack_of (frames_of is_yes is_no below)) (frame_of is_yes is_no o).entry (edge_shape from.1.edge) (heads_of o.tally from.1.candidate)) (from.4 ∙ verdicts_same verdict other same)
       (charged from.0 from.1 from.2 from.5)))
 
   -- other goals' nodes are still open
@@ -263,7 +263,7 @@ module _ {I R : Type 0} (is_yes is_no : R → Bool) (nodes : List (CacheNode I R
 pub record EndsWithNode {I R : Type 0} (is_yes is_no : R → Bool) (nodes after : List (CacheNode I R)) (o : OpenRun I R) (below : List (OpenRun I R)) (r : R) (target : Option NodeId) : Type 0 where
   pub edges : theory.Verdict → List theory.Edge
   pub place : ℕ
-  pub sound : IsSound (shapes_of is_yes is_no nodes) (answering (frame_of is_yes is_no o) edges (heads_shape o.tally.heads) ∷ frames_of is_yes is_no below) [] []
+  pub sound : IsSoundState (shapes_of is_yes is_no nodes) (answering (frame_of is_yes is_no o) edges (heads_shape o.tally.heads) ∷ frames_of is_yes is_no below) [] []
   pub answered : Answered (shapes_of is_yes is_no nodes) (frame_of is_yes is_no o).entry o.own edges (verdict_of is_yes is_no r) (shapes_of is_yes is_no after) place
   pub goals_kept : KeepsGoals nodes after
   pub open_below : AreOpen after below
@@ -336,12 +336,12 @@ module _ {I R : Type 0} (is_yes is_no : R → Bool) (nodes : List (CacheNode I R
           neither = λ n. absurd (definite n);
         }
 
--- what follows once the run is settled
+-- what follows once the run has ended
 module _ {I R : Type 0} (is_yes is_no : R → Bool) (nodes after : List (CacheNode I R)) (o : OpenRun I R) (below : List (OpenRun I R)) (h : AreJustified is_yes is_no nodes (o ∷ below)) (r : R) (target : Option NodeId) (s : EndsWithNode is_yes is_no nodes after o below r target) where
   grown : theory.Grown (shapes_of is_yes is_no nodes) (shapes_of is_yes is_no after)
   grown = answered_grows (shapes_of is_yes is_no nodes) (frame_of is_yes is_no o).entry o.own s.edges (verdict_of is_yes is_no r) h.sound.running.0.unfinished s.answered
 
-  pub popped : IsSound (shapes_of is_yes is_no after) (frames_of is_yes is_no below) [] [] × (verdict_of is_yes is_no r ≢ theory.Neither → Use (shapes_of is_yes is_no after) (verdict_of is_yes is_no r) (stack_of (frames_of is_yes is_no below)) (path_kind (stack_of (frames_of is_yes is_no below)) (rank_of o.step)) 0 s.place (heads_shape o.tally.heads))
+  pub popped : IsSoundState (shapes_of is_yes is_no after) (frames_of is_yes is_no below) [] [] × (verdict_of is_yes is_no r ≢ theory.Neither → Use (shapes_of is_yes is_no after) (verdict_of is_yes is_no r) (stack_of (frames_of is_yes is_no below)) (path_kind (stack_of (frames_of is_yes is_no below)) (rank_of o.step)) 0 s.place (heads_shape o.tally.heads))
   popped =
       pop_keeps_sound (shapes_of is_yes is_no nodes) (answering (frame_of is_yes is_no o) s.edges (heads_shape o.tally.heads)) (frames_of is_yes is_no below) [] [] [] [] (verdict_of is_yes is_no r) (shapes_of is_yes is_no after) s.place s.answered
       (λ i k is. absurd (no_answers i k is)) (λ i k is. absurd (no_answers i k is)) s.sound
@@ -375,7 +375,7 @@ module _ {I R : Type 0} (is_yes is_no : R → Bool) (nodes after : List (CacheNo
   -- and has its graph where no goal is below it, or where it rests on none.
   pub last_has_graph : below ≡ [] → HasGraph is_yes is_no after o.goal r target
   last_has_graph none = record {
-    definite = λ d. used_at target d (s.definite d) (λ n. IsNodeOf after n o.goal × IsGraph (shapes_of is_yes is_no after) (verdict_of is_yes is_no r) n) (λ of_goal. (
+    definite = λ d. used_at target d (s.definite d) (λ n. IsNodeOf after n o.goal × IsClosedGraph (shapes_of is_yes is_no after) (verdict_of is_yes is_no r) n) (λ of_goal. (
       of_goal,
       root_is_graph (shapes_of is_yes is_no after) (verdict_of is_yes is_no r) (path_kind [] (rank_of o.step)) 0 s.place (heads_shape o.tally.heads)
           (subst (λ b. Use (shapes_of is_yes is_no after) (verdict_of is_yes is_no r) (stack_of (frames_of is_yes is_no b)) (path_kind (stack_of (frames_of is_yes is_no b)) (rank_of o.step)) 0 s.place (heads_shape o.tally.heads)) none (popped.1 d)),
@@ -385,7 +385,7 @@ module _ {I R : Type 0} (is_yes is_no : R → Bool) (nodes after : List (CacheNo
 
   pub headless_has_graph : o.tally.heads ≡ [] → HasGraph is_yes is_no after o.goal r target
   headless_has_graph none = record {
-    definite = λ d. used_at target d (s.definite d) (λ n. IsNodeOf after n o.goal × IsGraph (shapes_of is_yes is_no after) (verdict_of is_yes is_no r) n) (λ of_goal. (
+    definite = λ d. used_at target d (s.definite d) (λ n. IsNodeOf after n o.goal × IsClosedGraph (shapes_of is_yes is_no after) (verdict_of is_yes is_no r) n) (λ of_goal. (
       of_goal,
       closed_is_graph (shapes_of is_yes is_no after) (verdict_of is_yes is_no r) (stack_of (frames_of is_yes is_no below)) (path_kind (stack_of (frames_of is_yes is_no below)) (rank_of o.step)) 0 s.place (heads_shape o.tally.heads)
           (subst (λ heads. (depth : ℕ) → UsesNo (heads_shape heads) depth) (sym none) (λ depth path cycle recorded. recorded.1 refl)) (popped.1 d),
@@ -429,10 +429,10 @@ module _ {I R : Type 0} (is_yes is_no : R → Bool) (nodes after : List (CacheNo
         let again = rerun_keeps_sound (shapes_of is_yes is_no nodes) (answering (frame_of is_yes is_no o) s.edges (heads_shape o.tally.heads)) (frames_of is_yes is_no below) [] [] [] v (shapes_of is_yes is_no after) s.place s.answered (λ i k is. absurd (no_answers i k is)) s.sound in
         record {
           sound =
-              subst (λ more. IsSound more (frames_of is_yes is_no (new_run o.goal o.step own (option_or target o.cycles_lead) (Some r) (tally_again o.tally) ∷ below)) [] []) (sym (shapes_opened is_yes is_no after o.goal))
-              (subst (λ p. IsSound (shapes_of is_yes is_no after ++ theory.Unfinished ∷ []) (record { entry = record { step = rank_of o.step; provisional = Some v; node = p }; own = own.0; edges = λ verdict. []; kept = spare_heads (tally_again o.tally); heads = heads_shape o.tally.heads } ∷ frames_of is_yes is_no below) [] []) (sym (leads_there (option_or target o.cycles_lead) lead_is))
-              (heads_change (shapes_of is_yes is_no after ++ theory.Unfinished ∷ []) (next_frame (frame_of is_yes is_no o) v s.place own.0) (frames_of is_yes is_no below) [] [] (spare_heads (tally_again o.tally)) (heads_shape o.tally.heads) (rerun_keeps o.tally) (spare_within (length below) (tally_again o.tally) (rerun_tallied (length below) o.tally h.tallies.0.tallied))
-              (subst (λ n. IsSound (shapes_of is_yes is_no after ++ theory.Unfinished ∷ []) (next_frame (frame_of is_yes is_no o) v s.place n ∷ frames_of is_yes is_no below) [] []) many again)));
+              subst (λ more. IsSoundState more (frames_of is_yes is_no (new_run o.goal o.step own (option_or target o.cycles_lead) (Some r) (tally_again o.tally) ∷ below)) [] []) (sym (shapes_opened is_yes is_no after o.goal))
+              (subst (λ p. IsSoundState (shapes_of is_yes is_no after ++ theory.Unfinished ∷ []) (record { entry = record { step = rank_of o.step; provisional = Some v; node = p }; own = own.0; edges = λ verdict. []; heads_before = spare_heads (tally_again o.tally); heads = heads_shape o.tally.heads } ∷ frames_of is_yes is_no below) [] []) (sym (leads_there (option_or target o.cycles_lead) lead_is))
+              (heads_change (shapes_of is_yes is_no after ++ theory.Unfinished ∷ []) (in_next_run (frame_of is_yes is_no o) v s.place own.0) (frames_of is_yes is_no below) [] [] (spare_heads (tally_again o.tally)) (heads_shape o.tally.heads) (rerun_keeps o.tally) (spare_within (length below) (tally_again o.tally) (rerun_tallied (length below) o.tally h.tallies.0.tallied))
+              (subst (λ n. IsSoundState (shapes_of is_yes is_no after ++ theory.Unfinished ∷ []) (in_next_run (frame_of is_yes is_no o) v s.place n ∷ frames_of is_yes is_no below) [] []) many again)));
           are_open = (goal_open (after ++ open_node o.goal ∷ []) own.0 (open_node o.goal) o.goal last refl refl, AreOpen-kept after (after ++ open_node o.goal ∷ []) (KeepsNodes-appended true after o.goal) below s.open_below);
           lead_home = (leads_home (option_or target o.cycles_lead) lead_is, LeadHome-kept after (after ++ open_node o.goal ∷ []) (KeepsGoals-appended true after o.goal) below (LeadHome-kept nodes after s.goals_kept below h.lead_home.1));
           placed = (λ i a is. absurd (no_answers i a is), AllLeadToGoals-kept after (after ++ open_node o.goal ∷ []) (KeepsGoals-appended true after o.goal) below (AllLeadToGoals-kept nodes after s.goals_kept below h.placed.1));

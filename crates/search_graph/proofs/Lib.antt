@@ -6,7 +6,6 @@ pub mod Justified
 pub mod ProgressLaws
 pub mod ProgressEdges
 pub mod Verdicts
-pub mod Flags
 pub mod Replies
 pub mod Moves
 pub mod Finishing

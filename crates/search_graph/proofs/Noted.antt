@@ -4,7 +4,7 @@ use Rattle.std.specs.Option.{IfSome, IsSomeAnd}
 use Rattle.std.proofs.lemmas.Bool.Decides.{nat_tests}
 use Rattle.std.proofs.lemmas.List.{get_or-set_same, get_or-set_other, length-map, length-set}
 use Rattle.std.proofs.lemmas.Option.{slice_get-get_or}
-use Rattle.search_graph.specs.Below.{DelegateOf, CxOf, NodeId, Request, Evaluate, EnterCandidate, FinishCandidate, Ignore, Done, Noted, Verdict, Neither, StoredResult, EntryState, StackEntry, CacheNode, IsReplyTo, Store, UsagesByHead, Received, Run, enters, finishes, CanIgnore, CanNote, IgnoresNewest, Ignores, NotesCandidate, is_in_cycle, IsDefinite, change_newest, RunRecord, answered, is_kept, is_marked, received, requested, HasStepped, Stood}
+use Rattle.search_graph.specs.Below.{DelegateOf, CxOf, NodeId, Request, Evaluate, EnterCandidate, FinishCandidate, Ignore, Done, Noted, Verdict, Neither, StoredResult, EntryState, StackEntry, CacheNode, IsReplyTo, Store, UsagesByHead, Received, Run, enters, finishes, CanIgnore, CanNote, IgnoresNewest, Ignores, NotesCandidate, is_in_cycle, IsDefinite, change_newest, RunRecord, answered, counted_by, ignored_by, received, requested, HasStepped, Stood}
 use Rattle.evaluations.specs.Frames.{Frame}
 use Rattle.evaluations.proofs.Mirrors.{noted_waits}
 use Rattle.search_graph.specs.Words.{Call, limits, bound, IsCounted, IsDecided, seen, GoesOn, HasAsked, AreFree, OpenRun, AreJustified, IsFit, run_of, runs_of, Tally, tally_of, IsTallied}
@@ -41,18 +41,18 @@ something_in None otherwise is = absurd cc
 something_in (Some x) otherwise is = refl
 
 -- one more finished candidate, which isn't ignored, changes nothing of the others
-ignored_longer : (ignored : List Bool) (n : ℕ) → is_marked (ignored ++ false ∷ []) n ≡ is_marked ignored n
+ignored_longer : (ignored : List Bool) (n : ℕ) → ignored_by (ignored ++ false ∷ []) n ≡ ignored_by ignored n
 ignored_longer [] zero = refl
 ignored_longer [] (suc n) = refl
 ignored_longer (b ∷ ignored) zero = refl
 ignored_longer (b ∷ ignored) (suc n) = ignored_longer ignored n
 
-counted_longer : (ignored : List Bool) (c : Option ℕ) → is_kept (ignored ++ false ∷ []) c ≡ is_kept ignored c
+counted_longer : (ignored : List Bool) (c : Option ℕ) → counted_by (ignored ++ false ∷ []) c ≡ counted_by ignored c
 counted_longer ignored None = refl
 counted_longer ignored (Some n) = ap not (ignored_longer ignored n)
 
 -- what is kept once a candidate is ignored is another one's, and was kept before
-counted_before : (ignored : List Bool) (n : ℕ) (c : Option ℕ) → n < length ignored → is_kept (slice_set ignored n true) c ≡ true → (is_kept ignored c ≡ true) × (c ≢ Some n)
+counted_before : (ignored : List Bool) (n : ℕ) (c : Option ℕ) → n < length ignored → counted_by (slice_set ignored n true) c ≡ true → (counted_by ignored c ≡ true) × (c ≢ Some n)
 counted_before ignored n None within kept = (refl, λ e. absurd cc)
 counted_before ignored n (Some m) within kept =
     let other : m ≢ n = λ same. ignored_is_not_counted (get_or (slice_set ignored n true) m false) (ap (λ k. get_or (slice_set ignored n true) k false) same ∙ get_or-set_same ignored n true false within) kept in
@@ -139,8 +139,8 @@ module _ {D C V P F I R A T : Type 0} (G : DelegateOf D C V P F I R A T) (X : Cx
     has_finished : length s.run.candidates ≡ length replied_record.ignored
     has_finished = got.tallies.0.finished_are ∙ ap length (sym (ignored_same s.run.progress s.verdict given.node s.run.progress.request))
 
-    counted_as_before : (c : Option ℕ) → is_kept replied_record.ignored c ≡ true → is_kept replied_goal.ignored c ≡ true
-    counted_as_before c kept = ap (λ ignored. is_kept ignored c) (sym (ignored_same s.run.progress s.verdict given.node s.run.progress.request)) ∙ kept
+    counted_as_before : (c : Option ℕ) → counted_by replied_record.ignored c ≡ true → counted_by replied_goal.ignored c ≡ true
+    counted_as_before c kept = ap (λ ignored. counted_by ignored c) (sym (ignored_same s.run.progress s.verdict given.node s.run.progress.request)) ∙ kept
 
     abbrev tally_before : Tally
     tally_before = tally_of s.entry.state s.run.candidates
@@ -205,7 +205,7 @@ module _ {D C V P F I R A T : Type 0} (G : DelegateOf D C V P F I R A T) (X : Cx
   can_note_at given FinishCandidate old mid s fit h = has_open given FinishCandidate old mid s fit h ∙ one_open (replied_record given FinishCandidate old mid s fit h).is_open s.in_order
   can_note_at given (Ignore n) old mid s fit h =
       let p = received s.run.progress given.reply s.verdict given.node in
-      let may = may_ignore (nat_lt n (length p.ignored)) (is_marked p.ignored n) s.in_order in
+      let may = may_ignore (nat_lt n (length p.ignored)) (ignored_by p.ignored n) s.in_order in
       let same = has_finished given (Ignore n) old mid s fit h in
       let test = may.0 in
       let within : n < length s.run.candidates = rw same (grind (arith, nat_tests)) in
@@ -228,7 +228,7 @@ module _ {D C V P F I R A T : Type 0} (G : DelegateOf D C V P F I R A T) (X : Cx
       (finished_is_justified given FinishCandidate old mid s fit h (one_open (replied_record given FinishCandidate old mid s fit h).is_open s.in_order))
   noted_is_justified given (Ignore n) old mid after s fit h noted =
       let p = received s.run.progress given.reply s.verdict given.node in
-      let may = may_ignore (nat_lt n (length p.ignored)) (is_marked p.ignored n) s.in_order in
+      let may = may_ignore (nat_lt n (length p.ignored)) (ignored_by p.ignored n) s.in_order in
       let test = may.0 in
       let within : n < length p.ignored = grind (arith, nat_tests) in
       let here = ignores_here s.entry (later_run given (Ignore n) old mid s fit h) s.below n mid after s.is noted in

@@ -5,7 +5,7 @@ use Rattle.std.proofs.lemmas.Bool.{false≢true}
 use Rattle.std.proofs.lemmas.List.{length-map}
 use Rattle.std.proofs.lemmas.List.Elements.{All-cons, All-nil}
 use Rattle.open_graphs.specs.Graph as theory
-use Rattle.search_graph.specs.Below.{IsTrueReason, Entry, path_kind, Kept, AfterPop, Lower, Unused, Fixpoint, Other, IsMoved, stack_of, StackDepth, CycleHead, at_depth, highest, IsRising, heads_shape, rank_of, NodeId, Request, Reply, StackEntry, ProvisionalCacheEntry, RebaseReason, CacheNode, path_kind_from, HasNoRank, rebased, settled, verdict_of, Run}
+use Rattle.search_graph.specs.Below.{IsTrueReason, Entry, path_kind, ProvisionalEntry, AfterPop, Lower, Unused, Fixpoint, Other, IsMoved, stack_of, StackDepth, CycleHead, at_depth, highest, IsRising, heads_shape, rank_of, NodeId, Request, Reply, StackEntry, ProvisionalCacheEntry, RebaseReason, CacheNode, path_kind_from, HasNoRank, rebased, changed_for, verdict_of, Run}
 use Rattle.open_graphs.specs.Use as uses
 use Rattle.open_graphs.proofs.Rebased.{rebased_is_after_pop}
 use Rattle.search_graph.specs.Words.{AreJustified, frame_of, frames_of, IsReusable, depths_of, highest_depth, entry_shape, reason_shape, IsHead, IsReady, final_answer, answer_of_entry, entries_for, run_of, runs_of, LieBelow}
@@ -20,7 +20,7 @@ use Rattle.search_graph.proofs.RebasedAnswers.{are_depths, goal_rebased, highest
 use Rattle.search_graph.proofs.RebasedLeft.{LeavesEntry, leaves_entry}
 use Rattle.search_graph.proofs.RebasedRising.{rebased_rising}
 
-moved_node : (below : List Entry) (top : Entry) (k after : Kept) (n : ℕ) → IsMoved below top k after → IsMoved below top (record k { node = n }) (record after { node = n })
+moved_node : (below : List Entry) (top : Entry) (k after : ProvisionalEntry) (n : ℕ) → IsMoved below top k after → IsMoved below top (record k { node = n }) (record after { node = n })
 moved_node below top k after n moved = record {
   was = moved.was;
   same_verdict = moved.same_verdict;
@@ -32,7 +32,7 @@ moved_node below top k after n moved = record {
 }
 
 -- what an answer is after a pop doesn't rest on its node
-with_node : (below : List Entry) (top : Entry) (verdict : theory.Verdict) (top_heads : uses.Heads) (k after : Kept) (n : ℕ) → AfterPop below top verdict top_heads k after → AfterPop below top verdict top_heads (record k { node = n }) (record after { node = n })
+with_node : (below : List Entry) (top : Entry) (verdict : theory.Verdict) (top_heads : uses.Heads) (k after : ProvisionalEntry) (n : ℕ) → AfterPop below top verdict top_heads k after → AfterPop below top verdict top_heads (record k { node = n }) (record after { node = n })
 with_node below top verdict top_heads k after n (Lower lower) = Lower lower
 with_node below top verdict top_heads k after n (Unused moved none) = Unused (moved_node below top k after n moved) none
 with_node below top verdict top_heads k after n (Fixpoint moved definite entry_definite fixpoint kinds takes) = Fixpoint (moved_node below top k after n moved) definite entry_definite fixpoint kinds takes
@@ -86,7 +86,7 @@ module _ {X F I R A T : Type 0} (is_yes is_no : R → Bool) (scripts : I → Lis
     }
 
     -- and where the newest goal was used, what the rule of rebasing leaves of an entry is left, if the reason is true
-    module _ (propagated : A → R) (overflow : R) (unsure : (info : A) → verdict_of is_yes is_no (propagated info) ≡ theory.Neither) (overflow_unsure : verdict_of is_yes is_no overflow ≡ theory.Neither) (reason : RebaseReason X I R A T) (is_true : IsTrueReason (reason_shape reason) (verdict_of is_yes is_no r) (frame_of is_yes is_no (run_of s)).entry) (later : ProvisionalCacheEntry X I R A T) (is : rebased (reverse (map (λ s. s.0) below)) s.0 (settled propagated overflow reason) entry ≡ Some later) where
+    module _ (propagated : A → R) (overflow : R) (unsure : (info : A) → verdict_of is_yes is_no (propagated info) ≡ theory.Neither) (overflow_unsure : verdict_of is_yes is_no overflow ≡ theory.Neither) (reason : RebaseReason X I R A T) (is_true : IsTrueReason (reason_shape reason) (verdict_of is_yes is_no r) (frame_of is_yes is_no (run_of s)).entry) (later : ProvisionalCacheEntry X I R A T) (is : rebased (reverse (map (λ s. s.0) below)) s.0 (changed_for propagated overflow reason) entry ≡ Some later) where
       within_real : (head : StackDepth) → IsSome (at_depth entry.heads head) → head.0 ≤ length (reverse (map (λ s. s.0) below))
       within_real head there = subst (λ n. head.0 ≤ n) (sym (on_stack_many below)) (within head there)
 

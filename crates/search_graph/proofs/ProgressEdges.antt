@@ -4,9 +4,9 @@ use Rattle.std.specs.List.{filter, All, Contains}
 use Rattle.std.proofs.lemmas.List.Elements.{filter_agree, filter_passes, All-filter, All-map, All-contains, All-contains_itself}
 use Rattle.std.proofs.lemmas.Option.{slice_get_within, get_or_from_slice_get}
 use Rattle.std.proofs.lemmas.Simd.{map-map}
-use Rattle.search_graph.specs.Below.{Request, Done, Reply, Verdict, Yes, No, Edge, Question, question_of, CacheNode, IsRun, IsNodeOf, Progress, Asked, progress_after, is_counted, questions_answered, IsFitting, DefiniteAnswer, RunRecord, is_same_verdict, asked_of, asked_in, asked_with, is_kept, edges_of, IsEdgeOfAnswer, Agrees, Records}
+use Rattle.search_graph.specs.Below.{Request, Done, Reply, Verdict, Yes, No, Edge, Question, question_of, CacheNode, IsRun, IsNodeOf, Progress, Asked, progress_after, is_counted, questions_answered, IsFitting, DefiniteAnswer, RunRecord, is_same_verdict, asked_of, asked_in, asked_with, counted_by, edges_of, IsEdgeOfAnswer, Agrees, Records}
 use Rattle.open_goals.specs.Progress.{rests_on}
-use Rattle.search_graph.proofs.Flags.{kept_twice}
+use Rattle.search_parts.proofs.Filtered.{filtered_twice}
 use Rattle.search_graph.proofs.Verdicts.{same_verdict}
 
 second_true : (a b : Bool) → (a && b) ≡ true → b ≡ true
@@ -29,18 +29,18 @@ module _ {I R : Type 0} (p : RunRecord I R) (v : Verdict) where
       All-contains (IsEdgeOfAnswer p.answers p.ignored v) (edges_of p v) e (All-map (IsEdgeOfAnswer p.answers p.ignored v) (λ d. d.edge) some each) there
 
 module _ {I R : Type 0} (is_yes is_no : R → Bool) where
-  kept_as_counted : (p : RunRecord I R) (done : Progress I R) → Agrees is_yes is_no p done → (candidate : Option ℕ) → is_kept p.ignored candidate ≡ is_counted done.ignored candidate
-  kept_as_counted p done h None = refl
-  kept_as_counted p done h (Some n) = ap not (sym (h.ignored_are n))
+  counted_by_number : (p : RunRecord I R) (done : Progress I R) → Agrees is_yes is_no p done → (candidate : Option ℕ) → counted_by p.ignored candidate ≡ is_counted done.ignored candidate
+  counted_by_number p done h None = refl
+  counted_by_number p done h (Some n) = ap not (sym (h.ignored_are n))
 
   -- the edges of the answers ask the questions whose results pass the test
   questions_are : (w : Verdict) (test : R → Bool) (p : RunRecord I R) (done : Progress I R) → Agrees is_yes is_no p done → asked_with w p ≡ map asked_in (filter (λ a. test a.answer) done.asked) → map question_of (edges_of p w) ≡ questions_answered test done
   questions_are w test p done h same =
       map-map question_of (λ (d : DefiniteAnswer I). d.edge) (filter (rests_on p.ignored w) p.answers)
-      ∙ kept_twice asked_of (λ d. is_same_verdict d.verdict w) (is_kept p.ignored) p.answers
-      ∙ ap (λ (asked : List (Question I × Option ℕ)). map (λ q. q.0) (filter (λ q. is_kept p.ignored q.1) asked)) same
-      ∙ ap (map (λ (q : Question I × Option ℕ). q.0)) (filter_agree (λ q. is_kept p.ignored q.1) (λ q. is_counted done.ignored q.1) (λ q. kept_as_counted p done h q.1) (map asked_in (filter (λ (a : Asked I R). test a.answer) done.asked)))
-      ∙ sym (kept_twice asked_in (λ (a : Asked I R). test a.answer) (is_counted done.ignored) done.asked)
+      ∙ filtered_twice asked_of (λ d. is_same_verdict d.verdict w) (counted_by p.ignored) p.answers
+      ∙ ap (λ (asked : List (Question I × Option ℕ)). map (λ q. q.0) (filter (λ q. counted_by p.ignored q.1) asked)) same
+      ∙ ap (map (λ (q : Question I × Option ℕ). q.0)) (filter_agree (λ q. counted_by p.ignored q.1) (λ q. is_counted done.ignored q.1) (λ q. counted_by_number p done h q.1) (map asked_in (filter (λ (a : Asked I R). test a.answer) done.asked)))
+      ∙ sym (filtered_twice asked_in (λ (a : Asked I R). test a.answer) (is_counted done.ignored) done.asked)
 
   module _ (script : List (Reply R) → Request I R) (p : RunRecord I R) (replies : List (Reply R)) (h : Records is_yes is_no script p replies) where
     -- a result of yes rests on the questions that were answered yes,

@@ -4,7 +4,7 @@ use Rattle.std.specs.List.{filter}
 use Rattle.std.proofs.lemmas.List.{append-nil, reverse-append, length-append, length-set}
 use Rattle.std.proofs.lemmas.Bool.Decides.{nat_tests}
 use Rattle.search_graph.specs.Below.{Request, Evaluate, EnterCandidate, FinishCandidate, Ignore, Done, Reply, Begin, Answer, Noted, Verdict, Yes, No, Neither, NodeId, PathKind, Progress, Asked, request_after, progress_after, progress_with, order_fault, fault_after, IsInOrder, is_ignored, open_candidate, Fits, RunRecord, no_record, is_same_verdict, asked_of, asked_in, asked_with, open_number, edge_to, answers_with, answers_after, KeepsAnswer, received, requested, answered, fault_of, Agrees, Records, IsSortedAs, IsReplySorted}
-use Rattle.search_graph.proofs.Flags.{kept_more, marked_after_finish, marked_after_ignore}
+use Rattle.search_parts.proofs.Filtered.{filtered_more, ignored_after_finish, ignored_after_ignore}
 use Rattle.search_graph.proofs.Verdicts.{told_by_test}
 
 none_is_no_node : IsSome {T = NodeId} None → ⊥
@@ -21,13 +21,13 @@ module _ {I R : Type 0} (test : R → Bool) (w : Verdict) (p : RunRecord I R) (d
   -- an answer has the verdict exactly where its result passes the test,
   same_after_answer : (v : Verdict) (node : NodeId) → is_same_verdict v w ≡ test r → open_number p ≡ open_candidate done → asked_with w (record p { answers = answers_with p (edge_to kind goal node) v }) ≡ map asked_in (filter (λ a. test a.answer) (done.asked ++ latest ∷ []))
   same_after_answer v node sorted number =
-      kept_more asked_of (λ d. is_same_verdict d.verdict w) p.answers (record { edge = edge_to kind goal node; verdict = v; candidate = open_number p }) (test r) sorted
+      filtered_more asked_of (λ d. is_same_verdict d.verdict w) p.answers (record { edge = edge_to kind goal node; verdict = v; candidate = open_number p }) (test r) sorted
       ∙ ap₂ (λ ys c. ys ++ cond (test r) ((record { kind = kind; goal = goal }, c) ∷ []) []) same number
-      ∙ sym (kept_more asked_in (λ (a : Asked I R). test a.answer) done.asked latest (test r) refl)
+      ∙ sym (filtered_more asked_in (λ (a : Asked I R). test a.answer) done.asked latest (test r) refl)
 
   -- and one that isn't kept passes no test
   same_after_other : test r ≡ false → asked_with w p ≡ map asked_in (filter (λ a. test a.answer) (done.asked ++ latest ∷ []))
-  same_after_other fails = same ∙ sym (append-nil _) ∙ sym (kept_more asked_in (λ (a : Asked I R). test a.answer) done.asked latest false fails)
+  same_after_other fails = same ∙ sym (append-nil _) ∙ sym (filtered_more asked_in (λ (a : Asked I R). test a.answer) done.asked latest false fails)
 
 -- no request that was made is out of order, nor is the last
 last_in_order : {I R : Type 0} (script : List (Reply R) → Request I R) (replies : List (Reply R)) → IsInOrder script replies → fault_after script replies ≡ None
@@ -92,14 +92,14 @@ module _ {I R : Type 0} (is_yes is_no : R → Bool) where
     agrees_replied (Some FinishCandidate) Noted v target orderly fits sorted = record {
       open_is = refl;
       finished_are = length-append p.ignored (false ∷ []) ∙ ap (λ n. n + 1) h.finished_are;
-      ignored_are = λ n. h.ignored_are n ∙ sym (marked_after_finish p.ignored n);
+      ignored_are = λ n. h.ignored_are n ∙ sym (ignored_after_finish p.ignored n);
       yes = h.yes;
       no = h.no;
     }
     agrees_replied (Some (Ignore m)) Noted v target orderly fits sorted = record {
       open_is = h.open_is;
       finished_are = length-set p.ignored m true ∙ h.finished_are;
-      ignored_are = λ n. ap (λ b. m == n || b) (h.ignored_are n) ∙ sym (marked_after_ignore p.ignored m n (finished_within m orderly));
+      ignored_are = λ n. ap (λ b. m == n || b) (h.ignored_are n) ∙ sym (ignored_after_ignore p.ignored m n (finished_within m orderly));
       yes = h.yes;
       no = h.no;
     }

@@ -4,7 +4,7 @@ use Rattle.std.proofs.Common.{◌≡◌, ℕ, zero, suc, ◌<◌, true, Bool, Li
 use Rattle.std.specs.Option.{IsSomeAnd, option_or}
 use Rattle.std.proofs.lemmas.List.{length-map}
 use Rattle.open_graphs.specs.Graph as theory
-use Rattle.search_graph.specs.Below.{Entry, path_kind, HeadsWithin, Stored, UsesNo, Frame, Kept, stack_of, first_frame, next_frame, answering, AfterPop, AllStored, IsSound, IsLeft, Survives, Added, TakesIn, PathKind, heads_shape, rank_of, NodeId, CacheNode, open_node, IsNodeOf, KeepsGoals, IsDefinite, verdict_of, shape_of, shapes_of}
+use Rattle.search_graph.specs.Below.{Entry, path_kind, HeadsWithin, ProvisionalUse, UsesNo, RunningGoal, ProvisionalEntry, stack_of, in_first_run, in_next_run, answering, AfterPop, AllProvisional, IsSoundState, IsLeft, Survives, Added, TakesIn, PathKind, heads_shape, rank_of, NodeId, CacheNode, open_node, IsNodeOf, KeepsGoals, IsDefinite, verdict_of, shape_of, shapes_of}
 use Rattle.open_graphs.proofs.States.{push_keeps_sound, pop_keeps_sound, rerun_keeps_sound}
 use Rattle.open_graphs.proofs.Asked.{stored_is_answered}
 use Rattle.search_parts.proofs.Definites.{IsSomeAnd-weaker}
@@ -16,14 +16,14 @@ use Rattle.search_graph.proofs.Justified.{new_run, no_tally, tally_again, shapes
 -- ---- one kept answer beside a sound state
 
 -- the answer may be used over this stack
-abbrev IsStored : List theory.Node → List Entry → Kept → Type 0
-IsStored nodes stack k = Stored nodes k.verdict stack k.highest k.path k.node k.heads
+abbrev IsStored : List theory.Node → List Entry → ProvisionalEntry → Type 0
+IsStored nodes stack k = ProvisionalUse nodes k.verdict stack k.highest k.path k.node k.heads
 
-alone : (nodes : List theory.Node) (stack : List Entry) (k : Kept) → IsStored nodes stack k → AllStored nodes stack (k ∷ [])
+alone : (nodes : List theory.Node) (stack : List Entry) (k : ProvisionalEntry) → IsStored nodes stack k → AllProvisional nodes stack (k ∷ [])
 alone nodes stack k stored zero x is = let same : k ≡ x = cc in subst (IsStored nodes stack) same stored
 alone nodes stack k stored (suc i) x is = absurd (no_answers i x is)
 
-with_entry : (nodes : List theory.Node) (frames : List Frame) (k : Kept) → IsSound nodes frames [] [] → IsStored nodes (stack_of frames) k → IsSound nodes frames (k ∷ []) []
+with_entry : (nodes : List theory.Node) (frames : List RunningGoal) (k : ProvisionalEntry) → IsSoundState nodes frames [] [] → IsStored nodes (stack_of frames) k → IsSoundState nodes frames (k ∷ []) []
 with_entry nodes frames k h stored = record {
   is_stack = h.is_stack;
   running = h.running;
@@ -32,7 +32,7 @@ with_entry nodes frames k h stored = record {
   closed = h.closed;
 }
 
-entry_use : (nodes : List theory.Node) (frames : List Frame) (k : Kept) → IsSound nodes frames (k ∷ []) [] → IsStored nodes (stack_of frames) k
+entry_use : (nodes : List theory.Node) (frames : List RunningGoal) (k : ProvisionalEntry) → IsSoundState nodes frames (k ∷ []) [] → IsStored nodes (stack_of frames) k
 entry_use nodes frames k h = h.stored 0 k refl
 
 module _ {I R : Type 0} (is_yes is_no : R → Bool) where
@@ -61,10 +61,10 @@ module _ {I R : Type 0} (is_yes is_no : R → Bool) where
       IsReusable-carried nodes (nodes ++ open_node goal ∷ []) goals (new_run goal step own (Some own) None no_tally ∷ goals) k k refl refl (KeepsGoals-appended true nodes goal)
       (λ d n used.
       let many : length (shapes_of is_yes is_no nodes) ≡ own.0 = length-map nodes (shape_of is_yes is_no) ∙ sym at in
-      let frames : List Frame = frames_of is_yes is_no goals in
+      let frames : List RunningGoal = frames_of is_yes is_no goals in
       subst (λ more. IsStored more (stack_of (frames_of is_yes is_no (new_run goal step own (Some own) None no_tally ∷ goals))) (provisional_shape is_yes is_no k n)) (sym (shapes_opened is_yes is_no nodes goal))
-      (subst (λ m. IsStored (shapes_of is_yes is_no nodes ++ theory.Unfinished ∷ []) (stack_of (first_frame (rank_of step) m (heads_shape []) ∷ frames)) (provisional_shape is_yes is_no k n)) many
-      (entry_use (shapes_of is_yes is_no nodes ++ theory.Unfinished ∷ []) (first_frame (rank_of step) (length (shapes_of is_yes is_no nodes)) (heads_shape []) ∷ frames) (provisional_shape is_yes is_no k n)
+      (subst (λ m. IsStored (shapes_of is_yes is_no nodes ++ theory.Unfinished ∷ []) (stack_of (in_first_run (rank_of step) m (heads_shape []) ∷ frames)) (provisional_shape is_yes is_no k n)) many
+      (entry_use (shapes_of is_yes is_no nodes ++ theory.Unfinished ∷ []) (in_first_run (rank_of step) (length (shapes_of is_yes is_no nodes)) (heads_shape []) ∷ frames) (provisional_shape is_yes is_no k n)
       (push_keeps_sound (shapes_of is_yes is_no nodes) frames (provisional_shape is_yes is_no k n ∷ []) [] (rank_of step) (heads_shape []) (with_entry (shapes_of is_yes is_no nodes) frames (provisional_shape is_yes is_no k n) h.sound used)))))
       other
 
@@ -87,11 +87,11 @@ module _ {I R : Type 0} (is_yes is_no : R → Bool) where
       })
       k.target (h.definite d)
 
--- ---- the newest goal's run is settled
+-- ---- the newest goal's run has ended
 
 module _ {I R : Type 0} (is_yes is_no : R → Bool) (nodes after : List (CacheNode I R)) (o : OpenRun I R) (below : List (OpenRun I R)) (h : AreJustified is_yes is_no nodes (o ∷ below)) (r : R) (target : Option NodeId) (s : EndsWithNode is_yes is_no nodes after o below r target) where
   -- the frame of the run, with the edges that its result rests on
-  abbrev last_frame : Frame
+  abbrev last_frame : RunningGoal
   last_frame = answering (frame_of is_yes is_no o) s.edges (heads_shape o.tally.heads)
 
   -- The goal is taken: an answer that the rule of rebasing leaves, perhaps with other heads, stays kept.
@@ -110,7 +110,7 @@ module _ {I R : Type 0} (is_yes is_no : R → Bool) (nodes after : List (CacheNo
       survives :
           (n : ℕ)
           → AfterPop (stack_of (frames_of is_yes is_no below)) (frame_of is_yes is_no o).entry (verdict_of is_yes is_no r) (heads_shape o.tally.heads) (provisional_shape is_yes is_no k n) (provisional_shape is_yes is_no (record moved { result = k.result }) n)
-          → (i : ℕ) (x : Kept) → slice_get (provisional_shape is_yes is_no (record moved { result = k.result }) n ∷ []) i ≡ Some x
+          → (i : ℕ) (x : ProvisionalEntry) → slice_get (provisional_shape is_yes is_no (record moved { result = k.result }) n ∷ []) i ≡ Some x
           → IsLeft (stack_of (frames_of is_yes is_no below)) (frame_of is_yes is_no o).entry (verdict_of is_yes is_no r) s.place (heads_shape o.tally.heads) (provisional_shape is_yes is_no k n ∷ []) x
       survives n leaves zero x at =
           let same : provisional_shape is_yes is_no (record moved { result = k.result }) n ≡ x = cc in
@@ -134,10 +134,10 @@ module _ {I R : Type 0} (is_yes is_no : R → Bool) (nodes after : List (CacheNo
       (subst (λ x. IsReusable is_yes is_no after below o.goal (record { result = r; target = target; highest = k.highest; path = x; heads = k.heads })) (sym path_is)
       (subst (λ x. IsReusable is_yes is_no after below o.goal (record { result = r; target = target; highest = k.highest; path = path_kind (stack_of (frames_of is_yes is_no below)) (rank_of o.step) k.highest; heads = x })) (sym heads_are) here)))
     where
-      own_answer : ℕ → Kept
+      own_answer : ℕ → ProvisionalEntry
       own_answer n = record { verdict = verdict_of is_yes is_no r; highest = k.highest; path = path_kind (stack_of (frames_of is_yes is_no below)) (rank_of o.step) k.highest; node = n; heads = heads_shape o.tally.heads }
 
-      added : IsDefinite is_yes is_no r → (i : ℕ) (x : Kept) → slice_get (own_answer s.place ∷ []) i ≡ Some x → IsLeft (stack_of (frames_of is_yes is_no below)) (frame_of is_yes is_no o).entry (verdict_of is_yes is_no r) s.place (heads_shape o.tally.heads) [] x
+      added : IsDefinite is_yes is_no r → (i : ℕ) (x : ProvisionalEntry) → slice_get (own_answer s.place ∷ []) i ≡ Some x → IsLeft (stack_of (frames_of is_yes is_no below)) (frame_of is_yes is_no o).entry (verdict_of is_yes is_no r) s.place (heads_shape o.tally.heads) [] x
       added d zero x at =
           let same : own_answer s.place ≡ x = cc in
           subst (λ y. IsLeft (stack_of (frames_of is_yes is_no below)) (frame_of is_yes is_no o).entry (verdict_of is_yes is_no r) s.place (heads_shape o.tally.heads) [] y) same (Added k.highest d lower within)
@@ -153,18 +153,18 @@ module _ {I R : Type 0} (is_yes is_no : R → Bool) (nodes after : List (CacheNo
         IsReusable-carried is_yes is_no nodes (after ++ open_node o.goal ∷ []) (o ∷ below) next_goals k k refl refl (λ n goal is. KeepsGoals-appended true after o.goal n goal (s.goals_kept n goal is))
         (λ d n used.
         let v = verdict_of is_yes is_no r in
-        let frames : List Frame = frames_of is_yes is_no below in
+        let frames : List RunningGoal = frames_of is_yes is_no below in
         let again =
         rerun_keeps_sound (shapes_of is_yes is_no nodes) last_frame frames (provisional_shape is_yes is_no k n ∷ []) (provisional_shape is_yes is_no k n ∷ []) [] v (shapes_of is_yes is_no after) s.place s.answered
         (unused_alone n) (with_entry (shapes_of is_yes is_no nodes) (last_frame ∷ frames_of is_yes is_no below) (provisional_shape is_yes is_no k n) s.sound used) in
         let lead = leads_there is_yes is_no nodes after o below h r target s own at (option_or target o.cycles_lead) (lead_is is_yes is_no nodes after o below h r target s) in
         subst (λ more. IsStored more (stack_of (frames_of is_yes is_no next_goals)) (provisional_shape is_yes is_no k n)) (sym (shapes_opened is_yes is_no after o.goal))
-        (subst (λ p. IsStored (shapes_of is_yes is_no after ++ theory.Unfinished ∷ []) (stack_of (next_frame (frame_of is_yes is_no o) v p own.0 ∷ frames)) (provisional_shape is_yes is_no k n)) (sym lead)
-        (entry_use (shapes_of is_yes is_no after ++ theory.Unfinished ∷ []) (next_frame last_frame v s.place (length (shapes_of is_yes is_no after)) ∷ frames) (provisional_shape is_yes is_no k n) again)))
+        (subst (λ p. IsStored (shapes_of is_yes is_no after ++ theory.Unfinished ∷ []) (stack_of (in_next_run (frame_of is_yes is_no o) v p own.0 ∷ frames)) (provisional_shape is_yes is_no k n)) (sym lead)
+        (entry_use (shapes_of is_yes is_no after ++ theory.Unfinished ∷ []) (in_next_run last_frame v s.place (length (shapes_of is_yes is_no after)) ∷ frames) (provisional_shape is_yes is_no k n) again)))
         other
       where
-        unused_alone : (n : ℕ) (i : ℕ) (x : Kept) → slice_get (provisional_shape is_yes is_no k n ∷ []) i ≡ Some x → (j : ℕ) × (slice_get (provisional_shape is_yes is_no k n ∷ []) j ≡ Some x) × UsesNo x.heads (length (stack_of (frames_of is_yes is_no below)))
+        unused_alone : (n : ℕ) (i : ℕ) (x : ProvisionalEntry) → slice_get (provisional_shape is_yes is_no k n ∷ []) i ≡ Some x → (j : ℕ) × (slice_get (provisional_shape is_yes is_no k n ∷ []) j ≡ Some x) × UsesNo x.heads (length (stack_of (frames_of is_yes is_no below)))
         unused_alone n zero x at =
             let same : provisional_shape is_yes is_no k n ≡ x = cc in
-            (0, at, subst (λ (y : Kept). UsesNo y.heads (length (stack_of (frames_of is_yes is_no below)))) same unused)
+            (0, at, subst (λ (y : ProvisionalEntry). UsesNo y.heads (length (stack_of (frames_of is_yes is_no below)))) same unused)
         unused_alone n (suc i) x at = absurd (no_answers i x at)

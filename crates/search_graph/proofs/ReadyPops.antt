@@ -3,7 +3,7 @@ use Rattle.std.proofs.Common.{◌≡◌, Bool, ◌&&◌, if◌then◌else◌, tr
 use Rattle.std.specs.List.{cons_option, filter_map}
 use Rattle.std.proofs.lemmas.List.Elements.{All-append, All-cons, All-head, All-nil, All-tail, All-weaker}
 use Rattle.open_graphs.specs.Graph as theory
-use Rattle.search_graph.specs.Below.{IsRising, NodeId, Request, Reply, StackEntry, ProvisionalCacheEntry, RebaseReason, CacheNode, Lists, entries_at, rebased, settled, verdict_of, Run, Next}
+use Rattle.search_graph.specs.Below.{IsRising, NodeId, Request, Reply, StackEntry, ProvisionalCacheEntry, RebaseReason, CacheNode, Lists, entries_at, rebased, changed_for, verdict_of, Run, Next}
 use Rattle.search_graph.specs.Words.{AreJustified, GivesAnswer, AreReady, HasReason, IsNewestUnranked, IsReady, final_answer, entries_for, rebased_for, run_of, runs_of}
 use Rattle.search_graph.proofs.Justified.{EndsWithNode}
 use Rattle.search_graph.proofs.LeftOver.{left_over_ready}
@@ -29,11 +29,11 @@ module _ {X F I R A T : Type 0} (is_yes is_no : R → Bool) (same : I → I → 
       All-weaker (IsReady is_yes is_no scripts nodes (runs_of (s ∷ below)) goal) (IsLeftOf goal)
       (λ entry is_ready. unused_is_left is_yes is_no scripts nodes after s below r target h rebases goal entry is_ready unused) entries ready
   old_left goal entries ready (Some why) is_true =
-      all_given (IsReady is_yes is_no scripts nodes (runs_of (s ∷ below)) goal) (IsLeftOf goal) (rebased (reverse (map (λ s. s.0) below)) s.0 (settled (propagated goal) (overflow goal) why))
+      all_given (IsReady is_yes is_no scripts nodes (runs_of (s ∷ below)) goal) (IsLeftOf goal) (rebased (reverse (map (λ s. s.0) below)) s.0 (changed_for (propagated goal) (overflow goal) why))
       (λ entry later is_ready is. rebased_is_left is_yes is_no scripts nodes after s below r target h rebases goal entry is_ready (propagated goal) (overflow goal) (unsure goal) (overflow_unsure goal) why is_true later is) entries ready
 
   -- and the newest goal's own answer
-  own_left : (goal : I) (is_kept : Bool) → (is_kept ≡ true → s.0.input ≡ goal) → All (IsLeftOf goal) (if is_kept then entries_for (reverse (map (λ s. s.0) below)) s.0.step_kind_from_parent (final_answer s r target) else [])
+  own_left : (goal : I) (counted_by : Bool) → (counted_by ≡ true → s.0.input ≡ goal) → All (IsLeftOf goal) (if counted_by then entries_for (reverse (map (λ s. s.0) below)) s.0.step_kind_from_parent (final_answer s r target) else [])
   own_left goal true is = own_pushed is_yes is_no scripts nodes after s below r target h rebases rising unranked goal (is refl)
   own_left goal false is = All-nil (IsLeftOf goal)
 

@@ -5,7 +5,7 @@ use Rattle.std.proofs.lemmas.Bool.{cases_eq, false≢true}
 use Rattle.std.proofs.lemmas.List.{length-map, length-reverse}
 use Rattle.std.proofs.lemmas.List.Elements.{All-head, All-tail}
 use Rattle.open_graphs.specs.Graph as theory
-use Rattle.search_graph.specs.Below.{Entry, path_kind, Stored, Use, stack_of, AreDepths, HasResult, InsertsEmpty, InsertsHeads, IsTakenOut, IsTrueReason, IsRebasable, IsLeftHead, RebasedBy, Stays, NotNeeded, Needed, StackDepth, PathsToNested, CycleHead, HeadUsages, Heads, at_depth, highest, IsRising, head_shape, heads_shape, rank_of, greater_kind, extended_by_each, path_of_no_step, has_usages, no_usages, StackEntry, ProvisionalCacheEntry, RebaseReason, CanBeRebased, but_highest, from_head, from_new_head, keeps_kinds, rebased, rebased_used, settled, with_used, with_unused, verdict_of, Run}
+use Rattle.search_graph.specs.Below.{Entry, path_kind, ProvisionalUse, Use, stack_of, AreDepths, HasResult, InsertsEmpty, InsertsHeads, IsTakenOut, IsTrueReason, IsRebasable, IsLeftHead, RebasedBy, Stays, NotNeeded, Needed, StackDepth, PathsToNested, CycleHead, HeadUsages, Heads, at_depth, highest, IsRising, head_shape, heads_shape, rank_of, greater_kind, extended_by_each, path_of_no_step, has_usages, no_usages, StackEntry, ProvisionalCacheEntry, RebaseReason, CanBeRebased, but_highest, from_head, from_new_head, keeps_kinds, rebased, rebased_used, changed_for, with_used, with_unused, verdict_of, Run}
 use Rattle.open_graphs.proofs.Rebased.{rebased_keeps_stored}
 use Rattle.cycle_heads.proofs.PathRanks.{greater_rank}
 use Rattle.search_parts.proofs.RebasedEntries.{is_used, is_unused}
@@ -109,7 +109,7 @@ module _ {X I R A T : Type 0} (is_yes is_no : R → Bool) (stack : List (StackEn
             (ap (verdict_of is_yes is_no) new.same_result)
 
         used_changed : head.0.0 ≡ length stack → has_usages head.1.usages ≡ true → keeps_kinds stack done entry.path_from_head head.1.paths_to_head ≡ true → verdict_of is_yes is_no after.result ≢ theory.Neither
-            → (kept : ProvisionalCacheEntry X I R A T) → settled propagated overflow reason head.1.usages entry ≡ Some kept
+            → (kept : ProvisionalCacheEntry X I R A T) → changed_for propagated overflow reason head.1.usages entry ≡ Some kept
             → from_new_head stack done (record kept { heads = with_used done.state.heads head.1.paths_to_head (but_highest kept.heads) }) ≡ Some after → IsRebasedBy after
         used_changed at some keeps definite kept rebases is =
             let here : head.0.0 ≡ length below = at ∙ many in
@@ -128,35 +128,35 @@ module _ {X I R A T : Type 0} (is_yes is_no : R → Bool) (stack : List (StackEn
             (subst (λ h. HasResult (reason_shape reason) h (verdict_of is_yes is_no entry.result) (verdict_of is_yes is_no after.result)) (sym popped)
             (subst (λ v. HasResult (reason_shape reason) (head_shape (Some head.1)) (verdict_of is_yes is_no entry.result) v) (sym (ap (verdict_of is_yes is_no) new.same_result)) left.result))
 
-        used : head.0.0 ≡ length stack → has_usages head.1.usages ≡ true → verdict_of is_yes is_no after.result ≢ theory.Neither → rebased_used stack done (settled propagated overflow reason) entry head.1 ≡ Some after → IsRebasedBy after
+        used : head.0.0 ≡ length stack → has_usages head.1.usages ≡ true → verdict_of is_yes is_no after.result ≢ theory.Neither → rebased_used stack done (changed_for propagated overflow reason) entry head.1 ≡ Some after → IsRebasedBy after
         used at some definite is = tested (keeps_kinds stack done entry.path_from_head head.1.paths_to_head) refl is
           where
-            rebases : keeps_kinds stack done entry.path_from_head head.1.paths_to_head ≡ true → (o : Option (ProvisionalCacheEntry X I R A T)) → settled propagated overflow reason head.1.usages entry ≡ o
+            rebases : keeps_kinds stack done entry.path_from_head head.1.paths_to_head ≡ true → (o : Option (ProvisionalCacheEntry X I R A T)) → changed_for propagated overflow reason head.1.usages entry ≡ o
                 → option_and_then (λ kept. from_new_head stack done (record kept { heads = with_used done.state.heads head.1.paths_to_head (but_highest kept.heads) })) o ≡ Some after → IsRebasedBy after
             rebases keeps None is left = absurd cc
             rebases keeps (Some kept) is left = used_changed at some keeps definite kept is left
 
             tested : (b : Bool) → keeps_kinds stack done entry.path_from_head head.1.paths_to_head ≡ b
-                → (if b then option_and_then (λ kept. from_new_head stack done (record kept { heads = with_used done.state.heads head.1.paths_to_head (but_highest kept.heads) })) (settled propagated overflow reason head.1.usages entry) else None) ≡ Some after → IsRebasedBy after
+                → (if b then option_and_then (λ kept. from_new_head stack done (record kept { heads = with_used done.state.heads head.1.paths_to_head (but_highest kept.heads) })) (changed_for propagated overflow reason head.1.usages entry) else None) ≡ Some after → IsRebasedBy after
             tested false keeps is = absurd cc
-            tested true keeps is = rebases keeps (settled propagated overflow reason head.1.usages entry) refl is
+            tested true keeps is = rebases keeps (changed_for propagated overflow reason head.1.usages entry) refl is
 
-        at_head : verdict_of is_yes is_no after.result ≢ theory.Neither → rebased stack done (settled propagated overflow reason) entry ≡ Some after → IsRebasedBy after
+        at_head : verdict_of is_yes is_no after.result ≢ theory.Neither → rebased stack done (changed_for propagated overflow reason) entry ≡ Some after → IsRebasedBy after
         at_head definite is = elim (cases_eq head.0.0 (length stack)) [
           | inl at ↦ at_place at (has_usages head.1.usages) refl
           | inr other ↦
-              let other_head : rebased stack done (settled propagated overflow reason) entry ≡ Some entry = rw (top_is, ne_eqb head.0.0 (length stack) other) refl in
+              let other_head : rebased stack done (changed_for propagated overflow reason) entry ≡ Some entry = rw (top_is, ne_eqb head.0.0 (length stack) other) refl in
               let stays : Some entry ≡ Some after = sym other_head ∙ is in
               let same : entry ≡ after = cc in
               subst IsRebasedBy same (Stays (λ at. other (sym (highest_is entry.heads head top_is) ∙ at ∙ sym many)))
         ]
           where
             at_place : head.0.0 ≡ length stack → (b : Bool) → has_usages head.1.usages ≡ b → IsRebasedBy after
-            at_place at true some = used at some definite (sym (is_used stack done (settled propagated overflow reason) entry head top_is at some) ∙ is)
-            at_place at false none = unused at none (sym (is_unused stack done (settled propagated overflow reason) entry head top_is at none) ∙ is)
+            at_place at true some = used at some definite (sym (is_used stack done (changed_for propagated overflow reason) entry head top_is at some) ∙ is)
+            at_place at false none = unused at none (sym (is_unused stack done (changed_for propagated overflow reason) entry head top_is at none) ∙ is)
 
       -- An answer with heads that rise, and a verdict after the rule, is what the theory's rule leaves of it.
-      pub rebased_shape : entry.heads ≢ [] → IsRising entry.heads → verdict_of is_yes is_no after.result ≢ theory.Neither → rebased stack done (settled propagated overflow reason) entry ≡ Some after → IsRebasedBy after
+      pub rebased_shape : entry.heads ≢ [] → IsRising entry.heads → verdict_of is_yes is_no after.result ≢ theory.Neither → rebased stack done (changed_for propagated overflow reason) entry ≡ Some after → IsRebasedBy after
       rebased_shape some rising definite is = at (highest entry.heads) refl
         where
           at : (o : Option (StackDepth × CycleHead)) → highest entry.heads ≡ o → IsRebasedBy after
@@ -209,7 +209,7 @@ module _ {X F I R A T : Type 0} (is_yes is_no : R → Bool) (goal : StackEntry X
 
   pub goal_rebased : LieBelow (length goals) goal.0.state.heads → (propagated : A → R) (overflow : R) → ((info : A) → verdict_of is_yes is_no (propagated info) ≡ theory.Neither) → verdict_of is_yes is_no overflow ≡ theory.Neither
       → (reason : RebaseReason X I R A T) (entry after : ProvisionalCacheEntry X I R A T) → entry.heads ≢ [] → IsRising entry.heads → verdict_of is_yes is_no after.result ≢ theory.Neither
-      → rebased real_below goal.0 (settled propagated overflow reason) entry ≡ Some after
+      → rebased real_below goal.0 (changed_for propagated overflow reason) entry ≡ Some after
       → RebasedBy (reason_shape reason) theory_below (frame_of is_yes is_no (run_of goal)).entry (depths_of entry.heads) (depths_of goal.0.state.heads) (heads_shape goal.0.state.heads) (entry_shape is_yes is_no entry) (entry_shape is_yes is_no after)
   goal_rebased lower propagated overflow unsure overflow_unsure reason entry after =
       rebased_shape is_yes is_no real_below goal.0 theory_below (frame_of is_yes is_no (run_of goal)).entry same_length
@@ -219,7 +219,7 @@ module _ {X F I R A T : Type 0} (is_yes is_no : R → Bool) (goal : StackEntry X
 
   -- the answer is stored over these entries
   abbrev pub IsStored : List theory.Node → List Entry → ProvisionalCacheEntry X I R A T → Type 0
-  IsStored nodes stack entry = Stored nodes (entry_shape is_yes is_no entry).verdict stack (entry_shape is_yes is_no entry).highest (entry_shape is_yes is_no entry).path (entry_shape is_yes is_no entry).node (entry_shape is_yes is_no entry).heads
+  IsStored nodes stack entry = ProvisionalUse nodes (entry_shape is_yes is_no entry).verdict stack (entry_shape is_yes is_no entry).highest (entry_shape is_yes is_no entry).path (entry_shape is_yes is_no entry).node (entry_shape is_yes is_no entry).heads
 
   -- and it stays stored without the newest goal, where the reason is true of that goal's verdict, and its own answer may be used
   pub goal_keeps_stored : LieBelow (length goals) goal.0.state.heads → (propagated : A → R) (overflow : R) → ((info : A) → verdict_of is_yes is_no (propagated info) ≡ theory.Neither) → verdict_of is_yes is_no overflow ≡ theory.Neither
@@ -227,7 +227,7 @@ module _ {X F I R A T : Type 0} (is_yes is_no : R → Bool) (goal : StackEntry X
       → (verdict ≢ theory.Neither → Use nodes verdict theory_below (path_kind theory_below (frame_of is_yes is_no (run_of goal)).entry.step) 0 (frame_of is_yes is_no (run_of goal)).entry.node (heads_shape goal.0.state.heads))
       → IsTrueReason (reason_shape reason) verdict (frame_of is_yes is_no (run_of goal)).entry
       → CanBeRebased (length real_below) entry → IsRising entry.heads → verdict_of is_yes is_no after.result ≢ theory.Neither
-      → rebased real_below goal.0 (settled propagated overflow reason) entry ≡ Some after
+      → rebased real_below goal.0 (changed_for propagated overflow reason) entry ≡ Some after
       → IsStored nodes (stack_of (frames_of is_yes is_no (runs_of (goal ∷ goals)))) entry → IsStored nodes theory_below after
   goal_keeps_stored lower propagated overflow unsure overflow_unsure nodes reason verdict entry after use_there is_true can rising definite is =
       let top = (frame_of is_yes is_no (run_of goal)).entry in

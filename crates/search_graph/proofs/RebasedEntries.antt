@@ -3,7 +3,7 @@ use Rattle.std.proofs.Common.{◌≡◌, ℕ, ◌+◌, ◌<◌, Bool, ◌&&◌, 
 use Rattle.std.specs.Option.{option_map, IfSome}
 use Rattle.std.proofs.lemmas.Grind.{reverse_onto}
 use Rattle.std.proofs.lemmas.List.{append-nil, drop-map, map-append}
-use Rattle.search_graph.specs.Below.{StackDepth, CycleHead, PathKind, Heads, highest, greatest_kind, EvaluationResult, StackEntry, ProvisionalCacheEntry, path_kind_from, Lists, entries_at, Appends, NodeId, RebaseReason, Run, Next}
+use Rattle.search_graph.specs.Below.{StackDepth, CycleHead, PathKind, Heads, highest, greatest_kind, EvaluationResult, StackEntry, ProvisionalCacheEntry, path_kind_from, Lists, entries_at, AppendsEntry, NodeId, RebaseReason, Run, Next}
 use Rattle.search_parts.proofs.RebasedHeads.{highest_within}
 use Rattle.search_graph.specs.Words.{GivesAnswer, final_answer, entries_for, rebased_for}
 use Rattle.search_graph.proofs.Ready.{on_stack_many}
@@ -35,7 +35,7 @@ module _ {X I R A T : Type 0} (stack : List (StackEntry X I R A T)) (step : Path
 
   module _ (same : I → I → Bool) (input : I) (old new : Lists I (ProvisionalCacheEntry X I R A T)) where
     -- the answer is the last entry of its goal
-    pub entry_pushed : ((x y : I) → same x y ≡ true → x ≡ y) → (enabled : Bool) → enabled ≡ true → (head : StackDepth) → option_map (λ e. e.0) (highest answer.heads) ≡ Some head → Appends same old new input (entry_from head) → (goal : I) → entries_at same new goal ≡ entries_at same old goal ++ (if enabled && same input goal then entries_for stack step answer else [])
+    pub entry_pushed : ((x y : I) → same x y ≡ true → x ≡ y) → (enabled : Bool) → enabled ≡ true → (head : StackDepth) → option_map (λ e. e.0) (highest answer.heads) ≡ Some head → AppendsEntry same old new input (entry_from head) → (goal : I) → entries_at same new goal ≡ entries_at same old goal ++ (if enabled && same input goal then entries_for stack step answer else [])
     entry_pushed by_value enabled on head is put goal =
         subst (λ b. entries_at same new goal ≡ entries_at same old goal ++ (if b && same input goal then entries_for stack step answer else [])) (sym on) (at (same input goal) refl)
       where
@@ -118,9 +118,9 @@ module _ {X F I R A T : Type 0} where
         subst (λ n. IfSome (highest heads) (λ head. head.0.0 < n)) (on_stack_many below ∙ sym (as_many below later next given) ∙ sym (on_stack_many later))
         (highest_within (length (stack_of below)) heads on_stack)
 
--- The entries were settled for the reason once the goal was taken, and the answer was put last once it was given.
-module _ {C X F I R A T : Type 0} (same : I → I → Bool) (enabled : Bool) (propagated : C → I → A → R) (overflow : C → I → R) (used cx : C) (same_context : used ≡ cx) (reason : Option (RebaseReason X I R A T)) (r : R) (target : Option NodeId) (s : StackEntry X I R A T × Run X F I R A T) (below later : List (StackEntry X I R A T × Run X F I R A T)) (next : Next R) (stack after : List (StackEntry X I R A T)) (stack_is : stack ≡ reverse (map (λ s. s.0) below)) (after_is : after ≡ reverse (map (λ s. s.0) later)) (step : PathKind) (step_is : step ≡ s.0.step_kind_from_parent) (input : I) (input_is : input ≡ s.0.input) (answer : EvaluationResult X I R A T) (answer_is : answer ≡ final_answer s r target) (given : GivesAnswer step answer below next later) (old middle new : Lists I (ProvisionalCacheEntry X I R A T)) (settled : (goal : I) → entries_at same middle goal ≡ rebased_for (propagated used goal) (overflow used goal) reason stack s.0 (entries_at same old goal)) (put : (goal : I) → entries_at same new goal ≡ entries_at same middle goal ++ (if enabled && same input goal then entries_for after step answer else [])) where
-  -- the old entries, settled
+-- The entries were rebased for the reason once the goal was taken, and the answer was put last once it was given.
+module _ {C X F I R A T : Type 0} (same : I → I → Bool) (enabled : Bool) (propagated : C → I → A → R) (overflow : C → I → R) (used cx : C) (same_context : used ≡ cx) (reason : Option (RebaseReason X I R A T)) (r : R) (target : Option NodeId) (s : StackEntry X I R A T × Run X F I R A T) (below later : List (StackEntry X I R A T × Run X F I R A T)) (next : Next R) (stack after : List (StackEntry X I R A T)) (stack_is : stack ≡ reverse (map (λ s. s.0) below)) (after_is : after ≡ reverse (map (λ s. s.0) later)) (step : PathKind) (step_is : step ≡ s.0.step_kind_from_parent) (input : I) (input_is : input ≡ s.0.input) (answer : EvaluationResult X I R A T) (answer_is : answer ≡ final_answer s r target) (given : GivesAnswer step answer below next later) (old middle new : Lists I (ProvisionalCacheEntry X I R A T)) (changed : (goal : I) → entries_at same middle goal ≡ rebased_for (propagated used goal) (overflow used goal) reason stack s.0 (entries_at same old goal)) (put : (goal : I) → entries_at same new goal ≡ entries_at same middle goal ++ (if enabled && same input goal then entries_for after step answer else [])) where
+  -- the old entries, rebased
   abbrev rebased_by : C → List (StackEntry X I R A T) → I → List (ProvisionalCacheEntry X I R A T)
   rebased_by x l goal = rebased_for (propagated x goal) (overflow x goal) reason l s.0 (entries_at same old goal)
 
@@ -128,13 +128,13 @@ module _ {C X F I R A T : Type 0} (same : I → I → Bool) (enabled : Bool) (pr
   abbrev put_by : I → List (ProvisionalCacheEntry X I R A T) → I → List (ProvisionalCacheEntry X I R A T)
   put_by i l goal = if enabled && same i goal then l else []
 
-  -- so the entries of each goal are the old ones, settled, and the answer over the stack that was left
+  -- so the entries of each goal are the old ones, rebased, and the answer over the stack that was left
   pub entries_rebased : (goal : I) → entries_at same new goal
       ≡ rebased_for (propagated cx goal) (overflow cx goal) reason (reverse (map (λ s. s.0) below)) s.0 (entries_at same old goal)
       ++ (if enabled && same s.0.input goal then entries_for (reverse (map (λ s. s.0) below)) s.0.step_kind_from_parent (final_answer s r target) else [])
   entries_rebased goal =
       put goal
-      ∙ ap (λ l. l ++ put_by input (entries_for after step answer) goal) (settled goal ∙ ap (λ x. rebased_by x stack goal) same_context ∙ ap (λ l. rebased_by cx l goal) stack_is)
+      ∙ ap (λ l. l ++ put_by input (entries_for after step answer) goal) (changed goal ∙ ap (λ x. rebased_by x stack goal) same_context ∙ ap (λ l. rebased_by cx l goal) stack_is)
       ∙ ap (λ l. rebased_by cx (stack_of below) goal ++ l)
       (ap (λ i. put_by i (entries_for after step answer) goal) input_is
       ∙ ap (λ l. put_by s.0.input l goal)

@@ -4,7 +4,7 @@ use Rattle.std.proofs.Common.{◌≡◌, ◌≢◌, ◌≤◌, Bool, true, false
 use Rattle.std.specs.Option.{option_and_then}
 use Rattle.std.proofs.lemmas.Bool.{cases_eq}
 use Rattle.open_graphs.specs.Graph as theory
-use Rattle.search_graph.specs.Below.{IsLeftHead, StackDepth, PathsToNested, CycleHead, HeadUsages, at_depth, highest, IsRising, extended_by_each, path_of_no_step, has_usages, no_usages, other_usages, StackEntry, ProvisionalCacheEntry, RebaseReason, NoCycleUsages, Ambiguity, Overflow, ReachedFixpoint, but_highest, from_new_head, keeps_kinds, rebased, rebased_used, settled, with_unused, with_used, verdict_of}
+use Rattle.search_graph.specs.Below.{IsLeftHead, StackDepth, PathsToNested, CycleHead, HeadUsages, at_depth, highest, IsRising, extended_by_each, path_of_no_step, has_usages, no_usages, other_usages, StackEntry, ProvisionalCacheEntry, RebaseReason, NoCycleUsages, Ambiguity, Overflow, ReachedFixpoint, but_highest, from_new_head, keeps_kinds, rebased, rebased_used, changed_for, with_unused, with_used, verdict_of}
 use Rattle.search_parts.proofs.RebasedEntries.{is_used, is_unused}
 use Rattle.search_graph.specs.Words.{depths_of, LieBelow}
 use Rattle.search_graph.proofs.HeadOrder.{Ascends, ascends, at_most_highest, highest_there, no_highest}
@@ -17,7 +17,7 @@ module _ {X I R A T : Type 0} (is_yes is_no : R → Bool) where
   abbrev pub KeepsResult : (before after : ProvisionalCacheEntry X I R A T) → Type 0
   KeepsResult before after = ((after.result ≡ before.result) × (after.node ≡ before.node)) ⊎ ((verdict_of is_yes is_no after.result ≡ theory.Neither) × (after.node ≡ None))
 
-  -- ---- what is settled
+  -- ---- what is changed
 
   module _ (propagated : A → R) (overflow : R) (unsure : (info : A) → verdict_of is_yes is_no (propagated info) ≡ theory.Neither) (overflow_unsure : verdict_of is_yes is_no overflow ≡ theory.Neither) where
     unchanged : (before after : ProvisionalCacheEntry X I R A T) → Some before ≡ Some after → KeepsResult before after
@@ -28,7 +28,7 @@ module _ {X I R A T : Type 0} (is_yes is_no : R → Bool) where
         let same : record before { result = result; node = None } ≡ after = cc in
         subst (KeepsResult before) same (inr (neither, refl))
 
-    changed_keeps : (reason : RebaseReason X I R A T) (usages : HeadUsages) (before after : ProvisionalCacheEntry X I R A T) → settled propagated overflow reason usages before ≡ Some after → KeepsResult before after
+    changed_keeps : (reason : RebaseReason X I R A T) (usages : HeadUsages) (before after : ProvisionalCacheEntry X I R A T) → changed_for propagated overflow reason usages before ≡ Some after → KeepsResult before after
     changed_keeps NoCycleUsages usages before after is = absurd cc
     changed_keeps (Ambiguity info) usages before after is = replaced before after (propagated info) (unsure info) is
     changed_keeps Overflow usages before after is = replaced before after overflow overflow_unsure is
@@ -84,10 +84,10 @@ module _ {X I R A T : Type 0} (is_yes is_no : R → Bool) where
         unused : head.0.0 ≡ length stack → from_new_head stack done (record entry { heads = with_unused done.state.heads (but_highest entry.heads) }) ≡ Some after → LeavesEntry entry after
         unused at is = moved (λ _. path_of_no_step) (λ _. no_usages) (record entry { heads = with_unused done.state.heads (but_highest entry.heads) }) at refl (inl (refl, refl)) is
 
-        used : head.0.0 ≡ length stack → rebased_used stack done (settled propagated overflow reason) entry head.1 ≡ Some after → LeavesEntry entry after
+        used : head.0.0 ≡ length stack → rebased_used stack done (changed_for propagated overflow reason) entry head.1 ≡ Some after → LeavesEntry entry after
         used at is = tested (keeps_kinds stack done entry.path_from_head head.1.paths_to_head) is
           where
-            rebases : (o : Option (ProvisionalCacheEntry X I R A T)) → settled propagated overflow reason head.1.usages entry ≡ o
+            rebases : (o : Option (ProvisionalCacheEntry X I R A T)) → changed_for propagated overflow reason head.1.usages entry ≡ o
                 → option_and_then (λ kept. from_new_head stack done (record kept { heads = with_used done.state.heads head.1.paths_to_head (but_highest kept.heads) })) o ≡ Some after → LeavesEntry entry after
             rebases None ends_with left = absurd cc
             rebases (Some kept) ends_with left =
@@ -95,25 +95,25 @@ module _ {X I R A T : Type 0} (is_yes is_no : R → Bool) where
                 (ap (λ h. with_used done.state.heads head.1.paths_to_head (but_highest h)) (changed_heads_same propagated overflow reason head.1.usages entry kept ends_with))
                 (changed_keeps propagated overflow unsure overflow_unsure reason head.1.usages entry kept ends_with) left
 
-            tested : (b : Bool) → (if b then option_and_then (λ kept. from_new_head stack done (record kept { heads = with_used done.state.heads head.1.paths_to_head (but_highest kept.heads) })) (settled propagated overflow reason head.1.usages entry) else None) ≡ Some after → LeavesEntry entry after
+            tested : (b : Bool) → (if b then option_and_then (λ kept. from_new_head stack done (record kept { heads = with_used done.state.heads head.1.paths_to_head (but_highest kept.heads) })) (changed_for propagated overflow reason head.1.usages entry) else None) ≡ Some after → LeavesEntry entry after
             tested false left = absurd cc
-            tested true left = rebases (settled propagated overflow reason head.1.usages entry) refl left
+            tested true left = rebases (changed_for propagated overflow reason head.1.usages entry) refl left
 
-        at_head : rebased stack done (settled propagated overflow reason) entry ≡ Some after → LeavesEntry entry after
+        at_head : rebased stack done (changed_for propagated overflow reason) entry ≡ Some after → LeavesEntry entry after
         at_head is = elim (cases_eq head.0.0 (length stack)) [
           | inl at ↦ at_place at (has_usages head.1.usages) refl
           | inr other ↦
-              let other_head : rebased stack done (settled propagated overflow reason) entry ≡ Some entry = rw (top_is, ne_eqb head.0.0 (length stack) other) refl in
+              let other_head : rebased stack done (changed_for propagated overflow reason) entry ≡ Some entry = rw (top_is, ne_eqb head.0.0 (length stack) other) refl in
               let still : Some entry ≡ Some after = sym other_head ∙ is in
               let same : entry ≡ after = cc in
               subst (LeavesEntry entry) same (stays other)
         ]
           where
             at_place : head.0.0 ≡ length stack → (b : Bool) → has_usages head.1.usages ≡ b → LeavesEntry entry after
-            at_place at true some = used at (sym (is_used stack done (settled propagated overflow reason) entry head top_is at some) ∙ is)
-            at_place at false none = unused at (sym (is_unused stack done (settled propagated overflow reason) entry head top_is at none) ∙ is)
+            at_place at true some = used at (sym (is_used stack done (changed_for propagated overflow reason) entry head top_is at some) ∙ is)
+            at_place at false none = unused at (sym (is_unused stack done (changed_for propagated overflow reason) entry head top_is at none) ∙ is)
 
-      pub leaves_entry : entry.heads ≢ [] → rebased stack done (settled propagated overflow reason) entry ≡ Some after → LeavesEntry entry after
+      pub leaves_entry : entry.heads ≢ [] → rebased stack done (changed_for propagated overflow reason) entry ≡ Some after → LeavesEntry entry after
       leaves_entry some is = at (highest entry.heads) refl
         where
           at : (o : Option (StackDepth × CycleHead)) → highest entry.heads ≡ o → LeavesEntry entry after

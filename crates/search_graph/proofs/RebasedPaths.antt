@@ -5,7 +5,7 @@ use Rattle.std.specs.List.{list_all}
 use Rattle.std.proofs.lemmas.Bool.{cases_eq, eqb-true, false≢true}
 use Rattle.std.proofs.lemmas.Grind.{common_steps}
 use Rattle.open_graphs.specs.Graph as theory
-use Rattle.search_graph.specs.Below.{Entry, path_kind, PassesPathTest, IsZero, IsSingle, HasResult, StackDepth, PathKind, Inductive, Unknown, Coinductive, ForcedAmbiguity, CycleHead, HeadUsages, Heads, at_depth, count_at, head_shape, heads_shape, rank_of, greater_kind, kinds_in, count_of, has_usages, other_usages, StackEntry, ProvisionalCacheEntry, RebaseReason, NoCycleUsages, Ambiguity, Overflow, ReachedFixpoint, from_head, keeps_kind, keeps_kinds, settled, verdict_of}
+use Rattle.search_graph.specs.Below.{Entry, path_kind, PassesPathTest, IsZero, IsSingle, HasResult, StackDepth, PathKind, Inductive, Unknown, Coinductive, ForcedAmbiguity, CycleHead, HeadUsages, Heads, at_depth, count_at, head_shape, heads_shape, rank_of, greater_kind, kinds_in, count_of, has_usages, other_usages, StackEntry, ProvisionalCacheEntry, RebaseReason, NoCycleUsages, Ambiguity, Overflow, ReachedFixpoint, from_head, keeps_kind, keeps_kinds, changed_for, verdict_of}
 use Rattle.open_graphs.specs.Use as uses
 use Rattle.cycle_heads.proofs.Counts.{none_of_others, used_by_test}
 use Rattle.cycle_heads.proofs.HeadShapes.{count_at-of, path_of_rank}
@@ -122,7 +122,7 @@ is_single head kind none = none_but head.usages kind ((none_of_others head.usage
 -- ---- the result
 
 module _ {X I R A T : Type 0} (is_yes is_no : R → Bool) (propagated : A → R) (overflow : R) (unsure : (info : A) → verdict_of is_yes is_no (propagated info) ≡ theory.Neither) (overflow_unsure : verdict_of is_yes is_no overflow ≡ theory.Neither) where
-  -- What is settled of an answer that used this head: its result is the one that the theory has for the reason, the heads and the path
+  -- What becomes of an answer that used this head: its result is the one that the theory has for the reason, the heads and the path
   -- stay, and so does the node of an answer with a verdict.
   pub record IsChanged (reason : RebaseReason X I R A T) (head : CycleHead) (before after : ProvisionalCacheEntry X I R A T) : Type 0 where
     pub result : HasResult (reason_shape reason) (head_shape (Some head)) (verdict_of is_yes is_no before.result) (verdict_of is_yes is_no after.result)
@@ -143,7 +143,7 @@ module _ {X I R A T : Type 0} (is_yes is_no : R → Bool) (propagated : A → R)
       let same : record before { result = result; node = None } ≡ after = cc in
       subst (IsChanged reason head before) same (record { result = has; same_heads = refl; same_path = refl; same_node = λ definite. absurd (definite neither) })
 
-  pub is_changed : (reason : RebaseReason X I R A T) (head : CycleHead) (before after : ProvisionalCacheEntry X I R A T) → settled propagated overflow reason head.usages before ≡ Some after → IsChanged reason head before after
+  pub is_changed : (reason : RebaseReason X I R A T) (head : CycleHead) (before after : ProvisionalCacheEntry X I R A T) → changed_for propagated overflow reason head.usages before ≡ Some after → IsChanged reason head before after
   is_changed NoCycleUsages head before after is = absurd cc
   is_changed (Ambiguity info) head before after is = replaced (Ambiguity info) head before after (propagated info) (unsure info) (unsure info) is
   is_changed Overflow head before after is = replaced Overflow head before after overflow overflow_unsure overflow_unsure is

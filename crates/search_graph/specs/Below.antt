@@ -1,16 +1,16 @@
 -- What the crates below have, from one place.
 pub use Rattle.open_graphs.specs.AnswerLaws.{TakesIn}
-pub use Rattle.open_graphs.specs.Graph.{IsGraph}
+pub use Rattle.open_graphs.specs.Graph.{IsClosedGraph}
 pub use Rattle.open_graphs.specs.Rebased.{AreDepths, HasResult, InsertsEmpty, InsertsHeads, IsInserted, IsJoined}
 pub use Rattle.open_graphs.specs.Rebased.{IsLeftHead, IsRebasable, IsSingle, IsTakenOut, IsTrueReason, IsZero, Needed}
 pub use Rattle.open_graphs.specs.Rebased.{NotNeeded, PassesPathTest, RebasedBy, Stays}
-pub use Rattle.open_graphs.specs.Run.{Again, AllAnswered, Anew, Answered, IsAnswered, Without}
+pub use Rattle.open_graphs.specs.Run.{Again, AllAnswered, Anew, Answered, IsAnsweredEdge, Without}
 pub use Rattle.open_graphs.specs.Stack.{Accepts, Entry, greatest, path_kind}
-pub use Rattle.open_graphs.specs.State.{AfterPop, AllFinal, AllStored, answering, Final, first_frame, Fixpoint, Frame}
-pub use Rattle.open_graphs.specs.State.{IsMoved, IsSound, Kept, Lower, next_frame, no_heads, Other, OwnsOther, stack_of}
+pub use Rattle.open_graphs.specs.State.{AfterPop, AllFinal, AllProvisional, answering, Final, in_first_run, Fixpoint, RunningGoal}
+pub use Rattle.open_graphs.specs.State.{IsMoved, IsSoundState, ProvisionalEntry, Lower, in_next_run, no_heads, Other, OwnsOther, stack_of}
 pub use Rattle.open_graphs.specs.State.{Unused}
 pub use Rattle.open_graphs.specs.StateLaws.{Added, Before, IsLeft, Survives}
-pub use Rattle.open_graphs.specs.Use.{HeadsWithin, Includes, IncludesBelow, Recorded, Stored, Use, UsesNo}
+pub use Rattle.open_graphs.specs.Use.{HeadsWithin, Includes, IncludesBelow, Recorded, ProvisionalUse, Use, UsesNo}
 pub use Rattle.cycle_heads.specs.Candidates.{UsagesByHead}
 pub use Rattle.cycle_heads.specs.HeadShapes.{count_at, has_rank, head_shape, heads_shape}
 pub use Rattle.cycle_heads.specs.Heads.{at_depth, depth_cmp, Heads, highest, IsRising, joined_head, with_head}
@@ -33,16 +33,16 @@ pub use Rattle.search_parts.specs.Definite.{HasGraph, IsDefinite}
 pub use Rattle.search_parts.specs.Delegate.{CountsOne, IsCycleResult, IsNeither, Steps}
 pub use Rattle.search_parts.specs.Graph.{GraphNode, IsProofGraph, IsRefutationGraph, question_of}
 pub use Rattle.search_parts.specs.HandedOut.{IsWhole, KeepsWhole}
-pub use Rattle.search_parts.specs.LookUp.{first_accepted, Hit, hit_of, usable}
+pub use Rattle.search_parts.specs.Hits.{first_accepted, Hit, hit_of, usable}
 pub use Rattle.search_parts.specs.Nested.{NestedPaths, paths_at}
-pub use Rattle.search_parts.specs.Provisional.{Appends, entries_at, Lists}
+pub use Rattle.search_parts.specs.Provisional.{AppendsEntry, entries_at, Lists}
 pub use Rattle.search_parts.specs.Question.{Overlap, Question}
 pub use Rattle.search_parts.specs.Rank.{HasNoRank, IsBelowRank, IsPlain, IsPlainTo, IsPlainValue}
 unfoldable pub use Rattle.search_parts.specs.Rank.{frames_within}
 pub use Rattle.search_parts.specs.Rebasing.{but_highest, CanBeRebased, from_head, from_new_head, keeps_kind, keeps_kinds}
-pub use Rattle.search_parts.specs.Rebasing.{rebased, rebased_at, rebased_unused, rebased_used, settled, with_unused}
+pub use Rattle.search_parts.specs.Rebasing.{rebased, rebased_at, rebased_unused, rebased_used, changed_for, with_unused}
 pub use Rattle.search_parts.specs.Rebasing.{with_used}
-pub use Rattle.search_parts.specs.Reuse.{asking_heads, has_head_up_to, highest_passes, is_used_at, may_be_used, rests_on}
+pub use Rattle.search_parts.specs.Reuse.{asking_heads, has_head_up_to, highest_passes, is_used_at, may_be_used, depends_on}
 pub use Rattle.search_parts.specs.Run.{Asked, EndsIn, fault_after, Fits, is_counted, is_ignored, IsFitting, IsInOrder}
 pub use Rattle.search_parts.specs.Run.{IsReplyTo, open_candidate, order_fault, Progress, progress_after, progress_with}
 pub use Rattle.search_parts.specs.Run.{questions_answered, request_after}
@@ -50,7 +50,7 @@ pub use Rattle.search_parts.specs.Shapes.{edge_shape, shape_of, shapes_of, verdi
 pub use Rattle.search_parts.specs.Stack.{allowed_depth, depth_below, fresh_entry}
 pub use Rattle.search_parts.specs.Store.{AnswersStoring, KeepsResults, place_of, Puts, same_key, Store, stored_at}
 pub use Rattle.search_parts.specs.Store.{stored_from}
-pub use Rattle.search_parts.specs.Stored.{AreKept, IsPlainAt}
+pub use Rattle.search_parts.specs.Stored.{AreSoundResults, IsPlainAt}
 pub use Rattle.search_parts.specs.declared.context.Cx.{Ghosts as CxOf}
 pub use Rattle.search_parts.specs.declared.context.Delegate.{Ghosts as DelegateOf}
 pub use Rattle.search_parts.specs.declared.context.Edge.{Edge}
@@ -64,7 +64,7 @@ pub use Rattle.search_parts.specs.declared.context.Request.TheVariants.{Done, En
 pub use Rattle.search_parts.specs.declared.context.Request.TheVariants.{Ignore}
 pub use Rattle.search_parts.specs.declared.context.Verdict.{Verdict}
 pub use Rattle.search_parts.specs.declared.context.Verdict.TheVariants.{Neither, No, Yes}
-pub use Rattle.search_parts.specs.declared.global_cache.look_up.CacheData.{CacheData}
+pub use Rattle.search_parts.specs.declared.global_cache.get.CacheData.{CacheData}
 pub use Rattle.search_parts.specs.declared.global_cache.results.Place.{Place}
 pub use Rattle.search_parts.specs.declared.global_cache.results.Place.TheVariants.{Success, WithOverflow}
 pub use Rattle.search_parts.specs.declared.global_cache.results.StoredResult.{StoredResult}
@@ -91,7 +91,7 @@ pub use Rattle.open_goals.specs.Items.{AnswersNewest, rerun_with, with_no_record
 pub use Rattle.open_goals.specs.NestedGoals.{NotesOverflow, TakesStored}
 pub use Rattle.open_goals.specs.Newest.{change_newest, newest}
 pub use Rattle.open_goals.specs.Progress.{acted, Agrees, answered, answers_after, answers_with, asked_in, asked_of}
-pub use Rattle.open_goals.specs.Progress.{asked_with, edge_to, edges_of, fault_of, is_kept, is_marked, is_same_verdict}
+pub use Rattle.open_goals.specs.Progress.{asked_with, edge_to, edges_of, fault_of, counted_by, ignored_by, is_same_verdict}
 pub use Rattle.open_goals.specs.Progress.{IsEdgeOfAnswer, IsReplySorted, IsSortedAs, KeepsAnswer, no_record, open_number}
 pub use Rattle.open_goals.specs.Progress.{received, Records, requested, RunRecord}
 pub use Rattle.open_goals.specs.Steps.{CanStep, HasStepped, IsStepFault, IsVerdict, Item, NoMemoryLeft, OutOfOrder}

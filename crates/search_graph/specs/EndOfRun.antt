@@ -21,7 +21,7 @@ module _ {R A : Type 0} (same : R → R → Bool) (initial_kind : R → Option P
   IsStable earlier usages r = ReachedFixpoint same initial_kind earlier usages r ⊎ (((kind : PathKind) → count_of usages kind ≡ 0) ⊎ IsSome (ambiguity r))
 
   module _ {X I T : Type 0} where
-    -- The first of these that is so is the reason why the result is stable, by which answers that rest on the goal are settled.
+    -- The first of these that is so is the reason why the result is stable, by which entries that rest on the goal are rebased.
     pub data IsReason (earlier : Option R) (usages : HeadUsages) (r : R) : RebaseReason X I R A T → Type 0 where
       Repeated : (value : R) → earlier ≡ Some value → same value r ≡ true → IsReason earlier usages r (reason.ReachedFixpoint None)
       Initial : (kind : PathKind) → earlier ≡ None → initial_kind r ≡ Some kind → ((other : PathKind) → other ≢ kind → count_of usages other ≡ 0) → IsReason earlier usages r (reason.ReachedFixpoint (Some kind))

@@ -1,7 +1,7 @@
 -- The answers in the provisional cache: why each of them may be used, and what becomes of them when the newest goal is taken.
 use Rattle.std.specs.Prelude.{◌≡◌, ◌≢◌, ◌⊎◌, ◌||◌, ◌&&◌, ℕ, Bool, false, if◌then◌else◌, List, [], ◌∷◌, ◌++◌, length, map, reverse, All, IsSome, Option, None, Some}
 use Rattle.std.specs.List.{filter_map}
-use Rattle.search_graph.specs.Below.{IsTrueReason, StackDepth, PathKind, at_depth, highest, IsRising, heads_shape, rank_of, NodeId, Request, Reply, EvaluationResult, StackEntry, ProvisionalCacheEntry, RebaseReason, CacheNode, path_kind_from, IsDefinite, Lists, entries_at, HasNoRank, rebased, settled, verdict_of, Run}
+use Rattle.search_graph.specs.Below.{IsTrueReason, StackDepth, PathKind, at_depth, highest, IsRising, heads_shape, rank_of, NodeId, Request, Reply, EvaluationResult, StackEntry, ProvisionalCacheEntry, RebaseReason, CacheNode, path_kind_from, IsDefinite, Lists, entries_at, HasNoRank, rebased, changed_for, verdict_of, Run}
 use Rattle.search_graph.specs.Justified.{OpenRun, frame_of}
 use Rattle.search_graph.specs.ProvisionalAnswers.{ProvisionalAnswer, IsReusable}
 use Rattle.search_graph.specs.EntryShapes.{highest_depth, reason_shape}
@@ -39,10 +39,10 @@ module _ {X I R A T : Type 0} where
   EntriesDefinite is_yes is_no same lists = (goal : I) → All (λ entry. IsDefinite is_yes is_no entry.result) (entries_at same lists goal)
 
   -- the entries of a goal, once a goal is done that is taken from above the stack: where it was used as a head, the reason tells how they
-  -- are settled
+  -- are rebased
   abbrev pub rebased_for : (A → R) → R → Option (RebaseReason X I R A T) → List (StackEntry X I R A T) → StackEntry X I R A T → List (ProvisionalCacheEntry X I R A T) → List (ProvisionalCacheEntry X I R A T)
   rebased_for propagated overflow None stack done entries = entries
-  rebased_for propagated overflow (Some reason) stack done entries = filter_map (rebased stack done (settled propagated overflow reason)) entries
+  rebased_for propagated overflow (Some reason) stack done entries = filter_map (rebased stack done (changed_for propagated overflow reason)) entries
 
   -- the entry for an answer that was asked over the step and whose highest head is this one
   abbrev pub entry_of : List (StackEntry X I R A T) → ℕ → PathKind → EvaluationResult X I R A T → ProvisionalCacheEntry X I R A T
@@ -73,7 +73,7 @@ module _ {X I R A T : Type 0} where
       node = node;
     }
 
-    -- The newest goal was taken with this result: the entries that rest on it are settled for the reason, and its own answer is kept, if it
+    -- The newest goal was taken with this result: the entries that rest on it are rebased for the reason, and its own answer is kept, if it
     -- rests on a goal below, and if answers are kept at all.
     pub record RebasesEntries (same : I → I → Bool) (enabled : Bool) (propagated : I → A → R) (overflow : I → R) (reason : Option (RebaseReason X I R A T)) (r : R) (s : StackEntry X I R A T × Run X F I R A T) (below : List (StackEntry X I R A T × Run X F I R A T)) (old new : Lists I (ProvisionalCacheEntry X I R A T)) : Type 0 where
       pub node : Option NodeId

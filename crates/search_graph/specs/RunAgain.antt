@@ -1,7 +1,7 @@
 -- A goal is run again.
 use Rattle.std.specs.Prelude.{◌≡◌, ◌<◌, ◌+◌, ◌-◌, ◌^◌, Bool, not, length, IfSome}
 use Rattle.std.specs.List.{filter}
-use Rattle.search_graph.specs.Below.{DelegateOf, CxOf, Cache, entries_at, rests_on, newest}
+use Rattle.search_graph.specs.Below.{DelegateOf, CxOf, Cache, entries_at, depends_on, newest}
 use Rattle.search_graph.specs.declared.graph.evaluation.Evaluation.{Evaluation}
 use Rattle.search_graph.specs.Evaluations.{IsRight}
 use Rattle.search_graph.specs.Moves.{Reruns}
@@ -19,5 +19,5 @@ module _ {D C V P F I R A T : Type 0} (G : DelegateOf D C V P F I R A T) (X : Cx
   pub record RunsAgain (new : Cache C I R A T) (after : Evaluation D C V P F I R A T) : Type 0 where
     pub reran : Reruns G X old.cx outcome before.goals after.goals
     pub cleared : (input : I) → entries_at same after.provisional input
-        ≡ filter (λ entry. not (rests_on (record { 0 = length before.goals - 1 }) entry)) (entries_at same before.provisional input)
+        ≡ filter (λ entry. not (depends_on (record { 0 = length before.goals - 1 }) entry)) (entries_at same before.provisional input)
     pub right : IsRight G X same old.cx new after

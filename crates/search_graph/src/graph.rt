@@ -97,45 +97,64 @@ impl<D: Delegate> SearchGraph<D> {
         inspect: &mut D::ProofTreeBuilder,
     ) -> Result<Answer<<D::Cx as Cx>::Result>, Fault<<D::Cx as Cx>::Input, <D::Cx as Cx>::Result>>
         // A definite answer has its graph, and the goal has none of the other sort.
-        ensures yes { IfOk result (λ answer. D.Cx.is_yes answer.result ≡ true → IsProved D.Cx.Cx cache.new input answer.node) }
-        ensures no { IfOk result (λ answer. D.Cx.is_no answer.result ≡ true → IsRefuted D.Cx.Cx cache.new input answer.node) }
-        ensures neither { IfOk result (λ answer. D.Cx.is_yes answer.result ≡ false → D.Cx.is_no answer.result ≡ false → answer.node ≡ None) }
-        ensures has_graph { IfOk result (λ answer. HasGraph D.Cx.is_yes D.Cx.is_no cache.new.nodes input answer.result answer.node) }
+        ensures yes { IfOk result (λ answer. D.Cx.is_yes answer.result ≡ true →
+            IsProved D.Cx.Cx cache.new input answer.node) }
+        ensures no { IfOk result (λ answer. D.Cx.is_no answer.result ≡ true →
+            IsRefuted D.Cx.Cx cache.new input answer.node) }
+        ensures neither { IfOk result (λ answer. D.Cx.is_yes answer.result ≡ false →
+            D.Cx.is_no answer.result ≡ false → answer.node ≡ None) }
+        ensures has_graph { IfOk result (λ answer.
+            HasGraph D.Cx.is_yes D.Cx.is_no cache.new.nodes input answer.result answer.node) }
 
         // So its graph is there to be handed out, and each graph that was stays so.
-        ensures whole { IfOk result (λ answer. IfSome answer.node (λ node. IsWhole cache.new.nodes node.0)) }
+        ensures whole { IfOk result (λ answer. IfSome answer.node (λ node.
+            IsWhole cache.new.nodes node.0)) }
         ensures kept_whole { KeepsWhole cache.old.nodes cache.new.nodes }
 
         // A goal whose questions go no deeper than the root depth, and that is orderly with all goals below it,
         // answers its plain value or that memory is out, and meets no limit.
-        ensures plain { (n : ℕ) → IsPlainTo (D.script cache.old.cx) n input → n ≤ self.old.root_depth →
+        ensures plain { (n : ℕ) → IsPlainTo (D.script cache.old.cx) n input →
+            n ≤ self.old.root_depth →
             IfOk result (λ answer. IsPlainValue (D.script cache.old.cx) n input answer.result) }
-        ensures plain_faults { (n : ℕ) → IsPlainTo (D.script cache.old.cx) n input → n ≤ self.old.root_depth →
+        ensures plain_faults { (n : ℕ) → IsPlainTo (D.script cache.old.cx) n input →
+            n ≤ self.old.root_depth →
             IfErr result (λ fault. fault ≡ Memory) }
-        ensures plain_limits { (n : ℕ) → IsPlainTo (D.script cache.old.cx) n input → n ≤ self.old.root_depth →
+        ensures plain_limits { (n : ℕ) → IsPlainTo (D.script cache.old.cx) n input →
+            n ≤ self.old.root_depth →
             self.new.limits_met ≡ self.old.limits_met }
 
         // Where scripts ask inductively and coinductively alone and decide after decided answers, and each stored
         // result is yes or no, an answer without a limit met is yes or no. So is each stored result then, also
         // after a fault.
-        ensures decisive { IsDecisive D.Cx.is_yes D.Cx.is_no (D.script cache.old.cx) → AreDefinite D.Cx.is_yes D.Cx.is_no D.Cx.Input.eq cache.old.results → self.new.limits_met ≡ false →
+        ensures decisive { IsDecisive D.Cx.is_yes D.Cx.is_no (D.script cache.old.cx) →
+            AreDefinite D.Cx.is_yes D.Cx.is_no D.Cx.Input.eq cache.old.results →
+            self.new.limits_met ≡ false →
             IfOk result (λ answer. IsDefinite D.Cx.is_yes D.Cx.is_no answer.result) }
-        ensures decisive_results { IsDecisive D.Cx.is_yes D.Cx.is_no (D.script cache.old.cx) → AreDefinite D.Cx.is_yes D.Cx.is_no D.Cx.Input.eq cache.old.results → self.new.limits_met ≡ false →
+        ensures decisive_results { IsDecisive D.Cx.is_yes D.Cx.is_no (D.script cache.old.cx) →
+            AreDefinite D.Cx.is_yes D.Cx.is_no D.Cx.Input.eq cache.old.results →
+            self.new.limits_met ≡ false →
             AreDefinite D.Cx.is_yes D.Cx.is_no D.Cx.Input.eq cache.new.results }
 
         // A goal that a stored result answers takes no memory and starts no frame.
-        ensures stored { IfSome (first_accepted (λ _. true) (usable D.Cx.Input.eq cache.old.results input self.old.root_depth)) (λ hit.
-            (result ≡ Ok (record { result = hit.result; node = hit.node })) × (D.starts inspect.new ≡ D.starts inspect.old) × (self.new ≡ self.old) × (cache.new ≡ cache.old)) }
+        ensures stored { IfSome (first_accepted (λ _. true)
+            (usable D.Cx.Input.eq cache.old.results input self.old.root_depth)) (λ hit.
+            (result ≡ Ok (record { result = hit.result; node = hit.node }))
+            × (D.starts inspect.new ≡ D.starts inspect.old)
+            × (self.new ≡ self.old) × (cache.new ≡ cache.old)) }
 
         // A fault is want of memory, a request of some goal's script out of order, or another result that is stored.
         ensures faults { IfErr result (IsCaused D.Delegate D.Cx.Cx D.Cx.Input.eq cache.new) }
 
         // The frames that are started are within a bound, and a limit has its price in frames. Until one is met, no
         // result is stored that met overflow.
-        ensures frames { D.starts inspect.new ≤ D.starts inspect.old + frames_within (max 1 D.FIXPOINT_STEP_LIMIT) (D.width cache.old.cx) self.old.root_depth }
-        ensures price { D.counts ≡ true → HaveNoOverflow D.Cx.Input.eq cache.old.results → self.old.limits_met ≡ false → self.new.limits_met ≡ true →
-            IsPaid (max 1 D.FIXPOINT_STEP_LIMIT) self.old.root_depth D.last (D.starts inspect.old) (D.starts inspect.new) }
-        ensures no_overflow { D.counts ≡ true → HaveNoOverflow D.Cx.Input.eq cache.old.results → self.old.limits_met ≡ false → self.new.limits_met ≡ false →
+        ensures frames { D.starts inspect.new ≤ D.starts inspect.old + frames_within
+            (max 1 D.FIXPOINT_STEP_LIMIT) (D.width cache.old.cx) self.old.root_depth }
+        ensures price { D.counts ≡ true → HaveNoOverflow D.Cx.Input.eq cache.old.results →
+            self.old.limits_met ≡ false → self.new.limits_met ≡ true →
+            IsPaid (max 1 D.FIXPOINT_STEP_LIMIT) self.old.root_depth D.last (D.starts inspect.old)
+            (D.starts inspect.new) }
+        ensures no_overflow { D.counts ≡ true → HaveNoOverflow D.Cx.Input.eq cache.old.results →
+            self.old.limits_met ≡ false → self.new.limits_met ≡ false →
             HaveNoOverflow D.Cx.Input.eq cache.new.results }
 
         ensures same_depth { self.new.root_depth ≡ self.old.root_depth }

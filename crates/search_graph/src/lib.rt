@@ -5,7 +5,9 @@
 //! | `Graph`, `Lists` | what a search graph is between its calls, and what its answers and faults say |
 //! | `Results` | the stored results, as calls rely on them and change them |
 //! | `Calls`, `Evaluating` | an outer call, and what holds of the goals under evaluation between two moves |
-//! | `Moves`, `LookUp` | a goal is put on top, run again or taken; which stored result or kept answer is used |
+//! | `Evaluations` | what holds of an evaluation between two of its moves, and what the moves lead to |
+//! | `Asked`, `LookUp` | what a question comes to; which stored result or provisional entry is used |
+//! | `Moves`, `RunAgain`, `Popped`, `Storing` | a goal is pushed, run again, popped, and its answer stored |
 //! | `Tallies` | what goals count, and their candidates of that |
 //! | `EndOfRun`, `Runs` | what becomes of a goal whose run has ended, and of its node |
 //! | `Justified`, `Free` | why each definite answer is right; answers that rest on no goal under evaluation |

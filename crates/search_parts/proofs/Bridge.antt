@@ -14,7 +14,7 @@ use Rattle.cycle_heads.proofs.PathRanks.{same_kind, greater_rank}
 use Rattle.search_parts.proofs.Nodes.{node_at}
 
 -- what is reached from the root of a graph is the root of one
-graph_behind : (nodes : List theory.Node) (verdict : theory.Verdict) (a k b : ℕ) → theory.HasEdge nodes verdict a k b → theory.IsGraph nodes verdict a → theory.IsGraph nodes verdict b
+graph_behind : (nodes : List theory.Node) (verdict : theory.Verdict) (a k b : ℕ) → theory.HasShapeEdge nodes verdict a k b → theory.IsClosedGraph nodes verdict a → theory.IsClosedGraph nodes verdict b
 graph_behind nodes verdict a k b edge g = record {
   finished = λ c q w. g.finished c (max k q) (go edge w);
   closed = λ c q l d r w e x. g.closed c (max k q) l d r (go edge w) e x;
@@ -39,10 +39,10 @@ module _ {I R : Type 0} (is_yes is_no : R → Bool) where
 
   module _ (nodes : List (CacheNode I R)) (verdict : theory.Verdict) where
     abbrev Known : ℕ → Type 0
-    Known at = theory.IsGraph (shapes_of is_yes is_no nodes) verdict at
+    Known at = theory.IsClosedGraph (shapes_of is_yes is_no nodes) verdict at
 
     abbrev Step : ℕ → ℕ → ℕ → Type 0
-    Step = theory.HasEdge (shapes_of is_yes is_no nodes) verdict
+    Step = theory.HasShapeEdge (shapes_of is_yes is_no nodes) verdict
 
     -- the root of a graph is finished with its verdict
     pub ended_at : (at : ℕ) → Known at → Ended verdict (slice_get nodes at)
@@ -109,8 +109,8 @@ module _ {I R : Type 0} (is_yes is_no : R → Bool) where
         let i = edge_at nodes verdict at n e h in
         HasGoal-from e.target e.input ((runs at n.node n.run n.is n.ended).targets i.0 e i.1)
 
-    settled_at : (at : ℕ) (m : GraphNode I) → Known nodes verdict at → slice_get (graph_nodes_of nodes) at ≡ Some m → rule m.goal (map question_of m.edges)
-    settled_at at m g is =
+    shown_at : (at : ℕ) (m : GraphNode I) → Known nodes verdict at → slice_get (graph_nodes_of nodes) at ≡ Some m → rule m.goal (map question_of m.edges)
+    shown_at at m g is =
         let n = ended_at nodes verdict at g in
         let both : Some (record { goal = n.node.goal; edges = n.run.edges }) ≡ Some m = sym (graph_node_at nodes verdict at n) ∙ is in
         let same : record { goal = n.node.goal; edges = n.run.edges } ≡ m = cc in
@@ -128,7 +128,7 @@ module _ {I R : Type 0} (is_yes is_no : R → Bool) where
     has_graph root goal is g = record {
       rooted = HasGoal-from root goal is;
       closed = λ at e w h. closed_at at e (known_at nodes verdict root at g w) h;
-      settled = λ at n w there. settled_at at n (known_at nodes verdict root at g w) there;
+      is_shown = λ at n w there. shown_at at n (known_at nodes verdict root at g w) there;
       cycles = λ at e rest w loop. cycle_at at e rest (known_at nodes verdict root at g w) loop;
     }
 
@@ -149,7 +149,7 @@ KeepsRule {I} {R} test scripts rule =
     → EndsIn (scripts goal) replies r → test r ≡ true → rule goal (questions_answered test (progress_after (scripts goal) replies))
 
 module _ {I R : Type 0} (is_yes is_no : R → Bool) (scripts : I → List (Reply R) → Request I R) (nodes : List (CacheNode I R)) (runs : AreRuns is_yes is_no scripts nodes) (root : ℕ) (goal : I) (is : IsNodeOf nodes root goal) where
-  pub yes_is_proof : (proves : I → List (Question I) → Type 0) → KeepsRule is_yes scripts proves → theory.IsGraph (shapes_of is_yes is_no nodes) theory.Yes root → IsProofGraph proves (graph_nodes_of nodes) root goal
+  pub yes_is_proof : (proves : I → List (Question I) → Type 0) → KeepsRule is_yes scripts proves → theory.IsClosedGraph (shapes_of is_yes is_no nodes) theory.Yes root → IsProofGraph proves (graph_nodes_of nodes) root goal
   yes_is_proof proves law g =
       has_graph is_yes is_no scripts nodes runs theory.Yes proves Coinductive refl
       (λ n run h sort.
@@ -157,7 +157,7 @@ module _ {I R : Type 0} (is_yes is_no : R → Bool) (scripts : I → List (Reply
       subst (proves n.goal) (sym (h.yes is_so)) (law n.goal (reverse run.replies) run.outcome h.ends is_so))
       root goal is g
 
-  pub no_is_refutation : (refutes : I → List (Question I) → Type 0) → KeepsRule is_no scripts refutes → theory.IsGraph (shapes_of is_yes is_no nodes) theory.No root → IsRefutationGraph refutes (graph_nodes_of nodes) root goal
+  pub no_is_refutation : (refutes : I → List (Question I) → Type 0) → KeepsRule is_no scripts refutes → theory.IsClosedGraph (shapes_of is_yes is_no nodes) theory.No root → IsRefutationGraph refutes (graph_nodes_of nodes) root goal
   no_is_refutation refutes law g =
       has_graph is_yes is_no scripts nodes runs theory.No refutes Inductive refl
       (λ n run h sort.

@@ -28,11 +28,11 @@ none_at same test (l ∷ ls) none input =
     let cases : (b : Bool) → P b = λ b. elim b as P [ true ↦ apart.0 | false ↦ none_at same test ls apart.1 input ] in
     cases (same input l.0)
 
-module _ {X I R A T : Type 0} (stack : List (StackEntry X I R A T)) (done : StackEntry X I R A T) (settle : HeadUsages → ProvisionalCacheEntry X I R A T → Option (ProvisionalCacheEntry X I R A T)) (depth : ℕ) (at : depth ≡ length stack) where
+module _ {X I R A T : Type 0} (stack : List (StackEntry X I R A T)) (done : StackEntry X I R A T) (change_entry : HeadUsages → ProvisionalCacheEntry X I R A T → Option (ProvisionalCacheEntry X I R A T)) (depth : ℕ) (at : depth ≡ length stack) where
   -- an entry that isn't concerned stays
-  pub stays : (entry : ProvisionalCacheEntry X I R A T) → is_concerned depth entry ≡ false → rebased stack done settle entry ≡ Some entry
+  pub stays : (entry : ProvisionalCacheEntry X I R A T) → is_concerned depth entry ≡ false → rebased stack done change_entry entry ≡ Some entry
   stays entry apart =
-      let P : Option (StackDepth × CycleHead) → Type 0 = λ o. unwrap_or (option_map (λ (h : StackDepth × CycleHead). nat_eq h.0.0 depth) o) false ≡ false → rebased_at stack done settle entry o ≡ Some entry in
+      let P : Option (StackDepth × CycleHead) → Type 0 = λ o. unwrap_or (option_map (λ (h : StackDepth × CycleHead). nat_eq h.0.0 depth) o) false ≡ false → rebased_at stack done change_entry entry o ≡ Some entry in
       let cases : (o : Option (StackDepth × CycleHead)) → P o = λ o. elim o as P [
         | None ↦ λ _. refl
         | Some head ↦ λ apart. let other : nat_eq head.0.0 (length stack) ≡ false = rw (← at) apart in rw other refl
@@ -40,11 +40,11 @@ module _ {X I R A T : Type 0} (stack : List (StackEntry X I R A T)) (done : Stac
       cases (highest entry.heads) apart
 
   -- and so does a list of them
-  pub all_stay : (entries : List (ProvisionalCacheEntry X I R A T)) → list_any (is_concerned depth) entries ≡ false → filter_map (rebased stack done settle) entries ≡ entries
+  pub all_stay : (entries : List (ProvisionalCacheEntry X I R A T)) → list_any (is_concerned depth) entries ≡ false → filter_map (rebased stack done change_entry) entries ≡ entries
   all_stay [] none = refl
   all_stay (e ∷ es) none =
       let apart = neither (is_concerned depth e) (list_any (is_concerned depth) es) none in
-      ap (λ o. cons_option o (filter_map (rebased stack done settle) es)) (stays e apart.0) ∙ ap (λ l. e ∷ l) (all_stay es apart.1)
+      ap (λ o. cons_option o (filter_map (rebased stack done change_entry) es)) (stays e apart.0) ∙ ap (λ l. e ∷ l) (all_stay es apart.1)
 
 module _ {L : Type 0} (test : L → Bool) (first : L) (rest left : List L) (is : left ≡ first ∷ rest) (found : Bool) (so_far : list_any test left ≡ found) where
   -- where the first one passes, one passes

@@ -16,8 +16,8 @@ module _ {I R : Type 0} (is_yes is_no : R → Bool) where
   pub HasGraph-kept : (old new : List (CacheNode I R)) → KeepsGoals old new → theory.Grown (shapes_of is_yes is_no old) (shapes_of is_yes is_no new) → (goal : I) (r : R) (node : Option NodeId) → HasGraph is_yes is_no old goal r node → HasGraph is_yes is_no new goal r node
   HasGraph-kept old new goals grown goal r node h = record {
     definite = λ definite.
-        IsSomeAnd-weaker (λ n. IsNodeOf old n.0 goal × theory.IsGraph (shapes_of is_yes is_no old) (verdict_of is_yes is_no r) n.0)
-        (λ n. IsNodeOf new n.0 goal × theory.IsGraph (shapes_of is_yes is_no new) (verdict_of is_yes is_no r) n.0)
+        IsSomeAnd-weaker (λ n. IsNodeOf old n.0 goal × theory.IsClosedGraph (shapes_of is_yes is_no old) (verdict_of is_yes is_no r) n.0)
+        (λ n. IsNodeOf new n.0 goal × theory.IsClosedGraph (shapes_of is_yes is_no new) (verdict_of is_yes is_no r) n.0)
         (λ n g. (goals n.0 goal g.0, growth_keeps_graph (shapes_of is_yes is_no old) (shapes_of is_yes is_no new) (verdict_of is_yes is_no r) n.0 grown g.1))
         node (h.definite definite);
     neither = h.neither;
@@ -27,8 +27,8 @@ module _ {I R : Type 0} (is_yes is_no : R → Bool) where
   pub HasGraph-finished : (old new : List (CacheNode I R)) → KeepsFinished old new → (goal : I) (r : R) (node : Option NodeId) → HasGraph is_yes is_no old goal r node → HasGraph is_yes is_no new goal r node
   HasGraph-finished old new kept goal r node h = record {
     definite = λ definite.
-        IsSomeAnd-weaker (λ n. IsNodeOf old n.0 goal × theory.IsGraph (shapes_of is_yes is_no old) (verdict_of is_yes is_no r) n.0)
-        (λ n. IsNodeOf new n.0 goal × theory.IsGraph (shapes_of is_yes is_no new) (verdict_of is_yes is_no r) n.0)
+        IsSomeAnd-weaker (λ n. IsNodeOf old n.0 goal × theory.IsClosedGraph (shapes_of is_yes is_no old) (verdict_of is_yes is_no r) n.0)
+        (λ n. IsNodeOf new n.0 goal × theory.IsClosedGraph (shapes_of is_yes is_no new) (verdict_of is_yes is_no r) n.0)
         (λ n g.
         let root = edges_of (shapes_of is_yes is_no old) (verdict_of is_yes is_no r) n.0 (g.1.finished n.0 zero theory.stay) in (
           ap (option_map (λ m. m.goal)) (finished_stays is_yes is_no old new kept n.0 (verdict_of is_yes is_no r) root.0 root.1) ∙ g.0,
@@ -55,18 +55,18 @@ module _ {I R : Type 0} (is_yes is_no : R → Bool) (scripts : I → List (Reply
   pub yes_is_shown : (proves : I → List (Question I) → Type 0) → KeepsRule is_yes scripts proves → is_yes r ≡ true → IsSomeAnd node (λ n. IsProofGraph proves (graph_nodes_of nodes) n.0 goal)
   yes_is_shown proves law is =
       let yes : verdict_of is_yes is_no r ≡ theory.Yes = yes_verdict (is_yes r) (is_no r) is in
-      IsSomeAnd-weaker (λ n. IsNodeOf nodes n.0 goal × theory.IsGraph (shapes_of is_yes is_no nodes) (verdict_of is_yes is_no r) n.0)
+      IsSomeAnd-weaker (λ n. IsNodeOf nodes n.0 goal × theory.IsClosedGraph (shapes_of is_yes is_no nodes) (verdict_of is_yes is_no r) n.0)
       (λ n. IsProofGraph proves (graph_nodes_of nodes) n.0 goal)
-      (λ n g. yes_is_proof is_yes is_no scripts nodes runs n.0 goal g.0 proves law (subst (λ v. theory.IsGraph (shapes_of is_yes is_no nodes) v n.0) yes g.1))
+      (λ n g. yes_is_proof is_yes is_no scripts nodes runs n.0 goal g.0 proves law (subst (λ v. theory.IsClosedGraph (shapes_of is_yes is_no nodes) v n.0) yes g.1))
       node (has.definite (definite (verdict_of is_yes is_no r) theory.Yes yes (λ e. cc)))
 
   -- a no shows that it does not
   pub no_is_shown : (refutes : I → List (Question I) → Type 0) → KeepsRule is_no scripts refutes → (is_yes r ≡ true → is_no r ≡ false) → is_no r ≡ true → IsSomeAnd node (λ n. IsRefutationGraph refutes (graph_nodes_of nodes) n.0 goal)
   no_is_shown refutes law one is =
       let no : verdict_of is_yes is_no r ≡ theory.No = no_verdict (is_yes r) (is_no r) one is in
-      IsSomeAnd-weaker (λ n. IsNodeOf nodes n.0 goal × theory.IsGraph (shapes_of is_yes is_no nodes) (verdict_of is_yes is_no r) n.0)
+      IsSomeAnd-weaker (λ n. IsNodeOf nodes n.0 goal × theory.IsClosedGraph (shapes_of is_yes is_no nodes) (verdict_of is_yes is_no r) n.0)
       (λ n. IsRefutationGraph refutes (graph_nodes_of nodes) n.0 goal)
-      (λ n g. no_is_refutation is_yes is_no scripts nodes runs n.0 goal g.0 refutes law (subst (λ v. theory.IsGraph (shapes_of is_yes is_no nodes) v n.0) no g.1))
+      (λ n g. no_is_refutation is_yes is_no scripts nodes runs n.0 goal g.0 refutes law (subst (λ v. theory.IsClosedGraph (shapes_of is_yes is_no nodes) v n.0) no g.1))
       node (has.definite (definite (verdict_of is_yes is_no r) theory.No no (λ e. cc)))
 
 is_neither : (v : theory.Verdict) → (v ≡ theory.Neither) ⊎ (v ≡ theory.Neither → ⊥)

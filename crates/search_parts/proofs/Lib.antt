@@ -18,14 +18,14 @@ pub mod Finished
 pub mod Cycles
 pub mod ProvisionalLists
 pub mod Cleared
-pub mod KeptKinds
+pub mod CycleKinds
 pub mod RebasedHeads
 pub mod RebasedEntries
 pub mod RebasedLists
-pub mod RebasedKept
+pub mod RebasedEntryLists
 pub mod Concerned
 pub mod Stores
-pub mod LookUps
+pub mod Hits
 pub mod Stored
 pub mod Sound
 pub mod Filtered

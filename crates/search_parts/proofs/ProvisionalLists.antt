@@ -7,8 +7,8 @@ use Rattle.std.specs.Global.{Vec}
 use Rattle.std.specs.List.{filter}
 use Rattle.std.specs.Option.{option_map, unwrap_or, IfSome}
 use Rattle.std.specs.Map.{lookup, set_value}
-use Rattle.search_parts.specs.Words.{ProvisionalCacheEntry, Lists, lists_of, entries_at, PutsLast, Appends}
-use Rattle.search_parts.specs.Provisional.{IsKept, AreKept}
+use Rattle.search_parts.specs.Words.{ProvisionalCacheEntry, Lists, lists_of, entries_at, PutsLast, AppendsEntry}
+use Rattle.search_parts.specs.Provisional.{IsEntryList, AreEntryLists}
 
 some_at_end : {E : Type 0} (es : List E) (e : E) → es ++ e ∷ [] ≢ []
 some_at_end [] e none = cc
@@ -33,7 +33,7 @@ module _ {I E : Type 0} where
 
   -- a list that gets one entry more
   pub appends : {same : I → I → Bool} (laws : IsEquivalence same) (old new : Lists I E) (input : I) (entry : E)
-      → PutsLast same old new input entry → Appends same old new input entry
+      → PutsLast same old new input entry → AppendsEntry same old new input entry
   appends {same} laws old new input entry puts = record {
     here = ap (λ list. unwrap_or list []) (puts input ∙ ap (λ b. cond b (Some (entries_at same old input ++ entry ∷ [])) (lookup (same input) old)) (laws.refl input));
     others = λ other apart. ap (λ list. unwrap_or list []) (puts other ∙ ap (λ b. cond b (Some (entries_at same old input ++ entry ∷ [])) (lookup (same other) old)) apart);
@@ -41,9 +41,9 @@ module _ {I E : Type 0} where
 
 module _ {X I R A T : Type 0} (same : I → I → Bool) where
   -- the entries of a goal rest on heads
-  pub heads_at : (lists : Lists I (ProvisionalCacheEntry X I R A T)) (input : I) → AreKept same lists → All (λ e. e.heads ≢ []) (entries_at same lists input)
+  pub heads_at : (lists : Lists I (ProvisionalCacheEntry X I R A T)) (input : I) → AreEntryLists same lists → All (λ e. e.heads ≢ []) (entries_at same lists input)
   heads_at lists input kept =
-      let P : Option (List (ProvisionalCacheEntry X I R A T)) → Type 0 = λ list. IfSome list IsKept → All (λ e. e.heads ≢ []) (unwrap_or list []) in
+      let P : Option (List (ProvisionalCacheEntry X I R A T)) → Type 0 = λ list. IfSome list IsEntryList → All (λ e. e.heads ≢ []) (unwrap_or list []) in
       let cases : (list : Option (List (ProvisionalCacheEntry X I R A T))) → P list = λ list. elim list as P [
         | Some es ↦ λ is_kept. is_kept.heads
         | None ↦ λ _. All-nil (λ e. e.heads ≢ [])
@@ -51,14 +51,14 @@ module _ {X I R A T : Type 0} (same : I → I → Bool) where
       cases (lookup (same input) lists) (kept input)
 
   -- a list with one entry more is a list of entries, as the others are
-  pub kept_with : (old new : Lists I (ProvisionalCacheEntry X I R A T)) (input : I) (entry : ProvisionalCacheEntry X I R A T)
-      → entry.heads ≢ [] → AreKept same old → PutsLast same old new input entry → AreKept same new
-  kept_with old new input entry heads kept puts = λ other.
+  pub lists_with : (old new : Lists I (ProvisionalCacheEntry X I R A T)) (input : I) (entry : ProvisionalCacheEntry X I R A T)
+      → entry.heads ≢ [] → AreEntryLists same old → PutsLast same old new input entry → AreEntryLists same new
+  lists_with old new input entry heads kept puts = λ other.
       let before = entries_at same old input in
-      let longer : IsKept (before ++ entry ∷ []) = record { some = some_at_end before entry; heads = All-push (λ e. e.heads ≢ []) before entry (heads_at old input kept) heads } in
-      let P : Bool → Type 0 = λ b. IfSome (cond b (Some (before ++ entry ∷ [])) (lookup (same other) old)) IsKept in
+      let longer : IsEntryList (before ++ entry ∷ []) = record { some = some_at_end before entry; heads = All-push (λ e. e.heads ≢ []) before entry (heads_at old input kept) heads } in
+      let P : Bool → Type 0 = λ b. IfSome (cond b (Some (before ++ entry ∷ [])) (lookup (same other) old)) IsEntryList in
       let cases : (b : Bool) → P b = λ b. elim b as P [ true ↦ longer | false ↦ kept other ] in
-      subst (λ list. IfSome list IsKept) (sym (puts other)) (cases (same input other))
+      subst (λ list. IfSome list IsEntryList) (sym (puts other)) (cases (same input other))
 
 -- the vector at the input gets a new item at its end
 pub puts_last : {I E : Type 0} (same : I → I → Bool) (old new : List (I × Vec E)) (input : I) (entry : E) (items : List E) (w : Vec E)
@@ -76,13 +76,13 @@ puts_last same old new input entry items w was is updates = λ other.
     list_found (same other) new ∙ ap (option_map (λ v. v.items)) (updates other) ∙ cases (same input other)
 
 -- a refused growth leaves lists of entries, too
-pub kept_after : {X I R A T E : Type 0} (same : I → I → Bool) (old new : Lists I (ProvisionalCacheEntry X I R A T)) (input : I) (entry : ProvisionalCacheEntry X I R A T)
-    → entry.heads ≢ [] → AreKept same old → (r : Result (Unit {0}) E) → OnOk r (PutsLast same old new input entry) → OnErr r (new ≡ old) → AreKept same new
-kept_after {E = E} same old new input entry heads kept r ok err =
-    let P : Result (Unit {0}) E → Type 0 = λ r. OnOk r (PutsLast same old new input entry) → OnErr r (new ≡ old) → AreKept same new in
+pub lists_after : {X I R A T E : Type 0} (same : I → I → Bool) (old new : Lists I (ProvisionalCacheEntry X I R A T)) (input : I) (entry : ProvisionalCacheEntry X I R A T)
+    → entry.heads ≢ [] → AreEntryLists same old → (r : Result (Unit {0}) E) → OnOk r (PutsLast same old new input entry) → OnErr r (new ≡ old) → AreEntryLists same new
+lists_after {E = E} same old new input entry heads kept r ok err =
+    let P : Result (Unit {0}) E → Type 0 = λ r. OnOk r (PutsLast same old new input entry) → OnErr r (new ≡ old) → AreEntryLists same new in
     let cases : (r : Result (Unit {0}) E) → P r = λ r. elim r as P [
-      | Ok _ ↦ λ puts _. kept_with same old new input entry heads kept puts
-      | Err _ ↦ λ _ unchanged. subst (AreKept same) (sym unchanged) kept
+      | Ok _ ↦ λ puts _. lists_with same old new input entry heads kept puts
+      | Err _ ↦ λ _ unchanged. subst (AreEntryLists same) (sym unchanged) kept
     ] in
     cases r ok err
 
@@ -95,11 +95,11 @@ found_at same entries lists input o view found =
     ∙ ap (λ ls. entries_at same ls input) view
 
 -- they are lists of entries where each has an entry and each entry rests on a head
-pub kept_from : {X I R A T : Type 0} (same : I → I → Bool) (lists : Lists I (ProvisionalCacheEntry X I R A T))
+pub lists_from : {X I R A T : Type 0} (same : I → I → Bool) (lists : Lists I (ProvisionalCacheEntry X I R A T))
     → ((input : I) → All (λ e. e.heads ≢ []) (entries_at same lists input)) → ((input : I) → IfSome (lookup (same input) lists) (λ es. es ≢ []))
-    → AreKept same lists
-kept_from {X} {I} {R} {A} {T} same lists heads some = λ input.
-    let P : Option (List (ProvisionalCacheEntry X I R A T)) → Type 0 = λ list. All (λ e. e.heads ≢ []) (unwrap_or list []) → IfSome list (λ es. es ≢ []) → IfSome list IsKept in
+    → AreEntryLists same lists
+lists_from {X} {I} {R} {A} {T} same lists heads some = λ input.
+    let P : Option (List (ProvisionalCacheEntry X I R A T)) → Type 0 = λ list. All (λ e. e.heads ≢ []) (unwrap_or list []) → IfSome list (λ es. es ≢ []) → IfSome list IsEntryList in
     let cases : (list : Option (List (ProvisionalCacheEntry X I R A T))) → P list = λ list. elim list as P [
       | Some es ↦ λ heads some. record { some = some; heads = heads }
       | None ↦ λ heads some. tt
@@ -107,21 +107,21 @@ kept_from {X} {I} {R} {A} {T} same lists heads some = λ input.
     cases (lookup (same input) lists) (heads input) (some input)
 
 -- and so after a filter
-pub kept_filtered : {X I R A T : Type 0} (same : I → I → Bool) (keep : ProvisionalCacheEntry X I R A T → Bool) (old new : Lists I (ProvisionalCacheEntry X I R A T))
-    → AreKept same old → ((input : I) → entries_at same new input ≡ filter keep (entries_at same old input)) → ((input : I) → IfSome (lookup (same input) new) (λ es. es ≢ []))
-    → AreKept same new
-kept_filtered same keep old new kept filtered some =
-    kept_from same new
+pub lists_filtered : {X I R A T : Type 0} (same : I → I → Bool) (keep : ProvisionalCacheEntry X I R A T → Bool) (old new : Lists I (ProvisionalCacheEntry X I R A T))
+    → AreEntryLists same old → ((input : I) → entries_at same new input ≡ filter keep (entries_at same old input)) → ((input : I) → IfSome (lookup (same input) new) (λ es. es ≢ []))
+    → AreEntryLists same new
+lists_filtered same keep old new kept filtered some =
+    lists_from same new
     (λ input. subst (All (λ e. e.heads ≢ [])) (sym (filtered input)) (All-filter keep (λ e. e.heads ≢ []) (entries_at same old input) (heads_at same old input kept)))
     some
 
 -- where no goal has an entry, there is no list
 pub none_at_all : {X I R A T : Type 0} {same : I → I → Bool} (laws : IsEquivalence same) (lists : Lists I (ProvisionalCacheEntry X I R A T))
-    → AreKept same lists → ((input : I) → entries_at same lists input ≡ []) → lists ≡ []
+    → AreEntryLists same lists → ((input : I) → entries_at same lists input ≡ []) → lists ≡ []
 none_at_all laws [] kept none = refl
 none_at_all {same = same} laws ((input, entries) ∷ rest) kept none =
     let found : lookup (same input) ((input, entries) ∷ rest) ≡ Some entries = ap (λ b. cond b (Some entries) (lookup (same input) rest)) (laws.refl input) in
-    let is_kept : IsKept entries = subst (λ o. IfSome o IsKept) found (kept input) in
+    let is_kept : IsEntryList entries = subst (λ o. IfSome o IsEntryList) found (kept input) in
     absurd (is_kept.some (ap (λ o. unwrap_or o []) (sym found) ∙ none input))
 
 -- there are no lists exactly where the map has no entry

@@ -122,8 +122,8 @@ module _ {I E : Type 0} {same : I → I → Bool} (P : E → Type 0) (f : I → 
 
 -- one element less of a list is left
 module _ {E : Type 0} (f : E → Option E) (left items rest all : List E) (x : E) (is : items ≡ x ∷ rest) (so_far : left ++ filter_map f items ≡ all) where
-  pub one_kept : (new : List E) (y : E) → f x ≡ Some y → new ≡ left ++ y ∷ [] → new ++ filter_map f rest ≡ all
-  one_kept new y kept longer =
+  pub one_left : (new : List E) (y : E) → f x ≡ Some y → new ≡ left ++ y ∷ [] → new ++ filter_map f rest ≡ all
+  one_left new y kept longer =
       ap (λ l. l ++ filter_map f rest) longer
       ∙ append_assoc left (y ∷ []) (filter_map f rest)
       ∙ ap (λ o. left ++ cons_option o (filter_map f rest)) (sym kept)

@@ -38,7 +38,7 @@ module _ {I R : Type 0} (is_yes is_no : R → Bool) (scripts : I → List (Reply
   module _ (verdict : theory.Verdict) (kind : PathKind) (cycles : rank_of kind ≡ cycle_kind verdict) (test : R → Bool)
       (has_sort : (r : R) → verdict_of is_yes is_no r ≡ verdict → test r ≡ true)
       (asks : (script : List (Reply R) → Request I R) (run : EndedRun I R) → IsRun is_yes is_no script nodes run → test run.outcome ≡ true → map question_of run.edges ≡ questions_answered test (progress_after script (reverse run.replies)))
-      (goal : I) (is : IsNodeOf nodes root goal) (known : theory.IsGraph (shapes_of is_yes is_no nodes) verdict root) where
+      (goal : I) (is : IsNodeOf nodes root goal) (known : theory.IsClosedGraph (shapes_of is_yes is_no nodes) verdict root) where
     graph : IsGraph (λ _ _. Unit {0}) kind (graph_nodes_of nodes) root goal
     graph = has_graph is_yes is_no scripts nodes runs verdict (λ _ _. Unit {0}) kind cycles (λ _ _ _ _. tt) root goal is known
 
@@ -48,7 +48,7 @@ module _ {I R : Type 0} (is_yes is_no : R → Bool) (scripts : I → List (Reply
     first_within : 0 < length copy
     first_within = let l : 0 < length numbers = slice_get_within numbers 0 root c.rooted in omega (arith, c.each)
 
-    known_there : (at : ℕ) → at < length copy → theory.IsGraph (shapes_of is_yes is_no nodes) verdict (slice_index numbers at)
+    known_there : (at : ℕ) → at < length copy → theory.IsClosedGraph (shapes_of is_yes is_no nodes) verdict (slice_index numbers at)
     known_there at l = known_at is_yes is_no nodes verdict root (slice_index numbers at) known (c.reached at l)
 
     abbrev run_there : Node I R → EndedRun I R
@@ -106,7 +106,7 @@ module _ {I R : Type 0} (is_yes is_no : R → Bool) (scripts : I → List (Reply
       let yes : verdict_of is_yes is_no r ≡ theory.Yes = yes_verdict (is_yes r) (is_no r) is in
       let g = has.definite (definite (verdict_of is_yes is_no r) theory.Yes yes (λ e. cc)) in
       copy_is_valid theory.Yes Coinductive refl is_yes (λ s e. yes_case (is_yes s) (is_no s) e) (λ script run is_run sort. is_run.yes sort)
-      goal (subst (λ x. IsNodeOf nodes x goal) here g.0) (subst (λ x. theory.IsGraph (shapes_of is_yes is_no nodes) theory.Yes x) here (subst (λ v. theory.IsGraph (shapes_of is_yes is_no nodes) v node.0) yes g.1))
+      goal (subst (λ x. IsNodeOf nodes x goal) here g.0) (subst (λ x. theory.IsClosedGraph (shapes_of is_yes is_no nodes) theory.Yes x) here (subst (λ v. theory.IsClosedGraph (shapes_of is_yes is_no nodes) v node.0) yes g.1))
 
   -- the copy of a no
   pub no_is_valid : (goal : I) (r : R) (node : NodeId) → node.0 ≡ root → (is_yes r ≡ true → is_no r ≡ false) → HasGraph is_yes is_no nodes goal r (Some node) → is_no r ≡ true → IsValid is_no Inductive scripts copy goal
@@ -114,4 +114,4 @@ module _ {I R : Type 0} (is_yes is_no : R → Bool) (scripts : I → List (Reply
       let no : verdict_of is_yes is_no r ≡ theory.No = no_verdict (is_yes r) (is_no r) one is in
       let g = has.definite (definite (verdict_of is_yes is_no r) theory.No no (λ e. cc)) in
       copy_is_valid theory.No Inductive refl is_no (λ s e. no_case (is_yes s) (is_no s) e) (λ script run is_run sort. is_run.no sort)
-      goal (subst (λ x. IsNodeOf nodes x goal) here g.0) (subst (λ x. theory.IsGraph (shapes_of is_yes is_no nodes) theory.No x) here (subst (λ v. theory.IsGraph (shapes_of is_yes is_no nodes) v node.0) no g.1))
+      goal (subst (λ x. IsNodeOf nodes x goal) here g.0) (subst (λ x. theory.IsClosedGraph (shapes_of is_yes is_no nodes) theory.No x) here (subst (λ v. theory.IsClosedGraph (shapes_of is_yes is_no nodes) v node.0) no g.1))

@@ -1,5 +1,5 @@
 -- What the crates below have, from one place.
-pub use Rattle.open_graphs.specs.Graph.{cycle_kind, go, Grown, IsGraph, Neither, No, stay, Walk, Yes}
+pub use Rattle.open_graphs.specs.Graph.{cycle_kind, go, Grown, IsClosedGraph, Neither, No, stay, Walk, Yes}
 pub use Rattle.cycle_heads.specs.Heads.{at_depth, depth_cmp, Heads, highest, joined_head, lowest, with_head}
 pub use Rattle.cycle_heads.specs.Path.{greater_kind, greatest_kind, is_coinductive, is_inductive, rank_of}
 pub use Rattle.cycle_heads.specs.Paths.{extended_by_each, kinds_in, path_of_no_step, union}

@@ -23,16 +23,16 @@ PutsLast same old new input entry = (other : _) → lookup (same other) new
     ≡ cond (same input other) (Some (entries_at same old input ++ entry ∷ [])) (lookup (same other) old)
 
 -- the goal has one entry more, at the end, and each other goal those that it had
-pub record Appends {I E : Type 0} (same : I → I → Bool) (old new : Lists I E) (input : I) (entry : E) : Type 0 where
+pub record AppendsEntry {I E : Type 0} (same : I → I → Bool) (old new : Lists I E) (input : I) (entry : E) : Type 0 where
   pub here : entries_at same new input ≡ entries_at same old input ++ entry ∷ []
   pub others : (other : I) → same input other ≡ false → entries_at same new other ≡ entries_at same old other
 
 module _ {X I R A T : Type 0} where
   -- a list has an entry, and each of its entries rests on a head
-  pub record IsKept (entries : List (ProvisionalCacheEntry X I R A T)) : Type 0 where
+  pub record IsEntryList (entries : List (ProvisionalCacheEntry X I R A T)) : Type 0 where
     pub some : entries ≢ []
     pub heads : All (λ entry. entry.heads ≢ []) entries
 
   -- each goal that is there has such a list
-  abbrev pub AreKept : (I → I → Bool) → Lists I (ProvisionalCacheEntry X I R A T) → Type 0
-  AreKept same lists = (input : I) → IfSome (lookup (same input) lists) IsKept
+  abbrev pub AreEntryLists : (I → I → Bool) → Lists I (ProvisionalCacheEntry X I R A T) → Type 0
+  AreEntryLists same lists = (input : I) → IfSome (lookup (same input) lists) IsEntryList

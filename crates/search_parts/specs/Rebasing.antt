@@ -32,12 +32,12 @@ module _ {X I R A T : Type 0} where
   -- what becomes of the answer of an entry that used the goal that is done: without cycles it is dropped; an ambiguous goal and one that
   -- had its most runs leave their results and no node; a later run that is stable leaves it as it is; and so does a stable first run,
   -- where it was used by cycles of that kind alone
-  abbrev pub settled : (A → R) → R → RebaseReason X I R A T → HeadUsages → ProvisionalCacheEntry X I R A T → Option (ProvisionalCacheEntry X I R A T)
-  settled propagated overflow NoCycleUsages usages entry = None
-  settled propagated overflow (Ambiguity info) usages entry = Some (record entry { result = propagated info; node = None })
-  settled propagated overflow Overflow usages entry = Some (record entry { result = overflow; node = None })
-  settled propagated overflow (ReachedFixpoint None) usages entry = Some entry
-  settled propagated overflow (ReachedFixpoint (Some kind)) usages entry = if has_usages (other_usages usages kind) then None else Some entry
+  abbrev pub changed_for : (A → R) → R → RebaseReason X I R A T → HeadUsages → ProvisionalCacheEntry X I R A T → Option (ProvisionalCacheEntry X I R A T)
+  changed_for propagated overflow NoCycleUsages usages entry = None
+  changed_for propagated overflow (Ambiguity info) usages entry = Some (record entry { result = propagated info; node = None })
+  changed_for propagated overflow Overflow usages entry = Some (record entry { result = overflow; node = None })
+  changed_for propagated overflow (ReachedFixpoint None) usages entry = Some entry
+  changed_for propagated overflow (ReachedFixpoint (Some kind)) usages entry = if has_usages (other_usages usages kind) then None else Some entry
 
   module _ (stack : List (StackEntry X I R A T)) (done : StackEntry X I R A T) where
     -- the kind of the path from a head through the step by which the goal that is done was asked
@@ -61,21 +61,21 @@ module _ {X I R A T : Type 0} where
 
     -- and where it did: each cycle must keep its kind, and the reason says what becomes of the result
     abbrev pub rebased_used : (HeadUsages → ProvisionalCacheEntry X I R A T → Option (ProvisionalCacheEntry X I R A T)) → ProvisionalCacheEntry X I R A T → CycleHead → Option (ProvisionalCacheEntry X I R A T)
-    rebased_used settle entry head =
+    rebased_used change_entry entry head =
         if keeps_kinds entry.path_from_head head.paths_to_head
-        then option_and_then (λ e. from_new_head (record e { heads = with_used done.state.heads head.paths_to_head (but_highest e.heads) })) (settle head.usages entry)
+        then option_and_then (λ e. from_new_head (record e { heads = with_used done.state.heads head.paths_to_head (but_highest e.heads) })) (change_entry head.usages entry)
         else None
 
     -- what becomes of an entry with this highest head
     abbrev pub rebased_at : (HeadUsages → ProvisionalCacheEntry X I R A T → Option (ProvisionalCacheEntry X I R A T)) → ProvisionalCacheEntry X I R A T → Option (StackDepth × CycleHead) → Option (ProvisionalCacheEntry X I R A T)
-    rebased_at settle entry None = Some entry
-    rebased_at settle entry (Some head) =
-        if nat_eq head.0.0 (length stack) then (if has_usages head.1.usages then rebased_used settle entry head.1 else rebased_unused entry)
+    rebased_at change_entry entry None = Some entry
+    rebased_at change_entry entry (Some head) =
+        if nat_eq head.0.0 (length stack) then (if has_usages head.1.usages then rebased_used change_entry entry head.1 else rebased_unused entry)
         else Some entry
 
     -- what becomes of an entry: one whose highest head is another one stays
     abbrev pub rebased : (HeadUsages → ProvisionalCacheEntry X I R A T → Option (ProvisionalCacheEntry X I R A T)) → ProvisionalCacheEntry X I R A T → Option (ProvisionalCacheEntry X I R A T)
-    rebased settle entry = rebased_at settle entry (highest entry.heads)
+    rebased change_entry entry = rebased_at change_entry entry (highest entry.heads)
 
   -- the entry rests on a head, and its heads are on a stack of this length or at the place above it
   pub record CanBeRebased (size : ℕ) (entry : ProvisionalCacheEntry X I R A T) : Type 0 where

@@ -31,5 +31,5 @@ module _ {X I R A T : Type 0} where
       && nat_eq (rank_of entry.path_from_head) (rank_of (path_kind_from stack at step))) entry.heads
 
   -- whether the entry rests on the result of the goal at the depth
-  abbrev pub rests_on : StackDepth → ProvisionalCacheEntry X I R A T → Bool
-  rests_on depth entry = is_used_at depth entry.heads
+  abbrev pub depends_on : StackDepth → ProvisionalCacheEntry X I R A T → Bool
+  depends_on depth entry = is_used_at depth entry.heads

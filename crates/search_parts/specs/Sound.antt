@@ -3,9 +3,9 @@ use Rattle.std.specs.Prelude.{Bool, List}
 use Rattle.search_parts.specs.declared.context.Request.{Request}
 use Rattle.search_parts.specs.declared.context.Reply.{Reply}
 use Rattle.search_parts.specs.Cache.{Cache, AreRuns}
-use Rattle.search_parts.specs.Stored.{AreKept}
+use Rattle.search_parts.specs.Stored.{AreSoundResults}
 
 -- each node that is finished is a run of its goal, and each stored result has its graph and is plain
-pub record IsSound {X I R A T : Type 0} (same : I → I → Bool) (is_yes is_no : R → Bool) (scripts : X → I → List (Reply R) → Request I R) (c : Cache X I R A T) : Type 0 where
+pub record IsSoundCache {X I R A T : Type 0} (same : I → I → Bool) (is_yes is_no : R → Bool) (scripts : X → I → List (Reply R) → Request I R) (c : Cache X I R A T) : Type 0 where
   pub runs : AreRuns is_yes is_no (scripts c.cx) c.nodes
-  pub results : AreKept same is_yes is_no (scripts c.cx) c.nodes c.results
+  pub results : AreSoundResults same is_yes is_no (scripts c.cx) c.nodes c.results

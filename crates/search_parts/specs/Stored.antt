@@ -16,12 +16,12 @@ IsPlainAt scripts input Success r = IsPlain scripts input r
 IsPlainAt scripts input (WithOverflow depth) r = IsBelowRank scripts input depth
 
 -- a result of the goal may be stored at the place
-pub record IsKept {X I R A T : Type 0} (is_yes is_no : R → Bool) (scripts : I → List (Reply R) → Request I R) (nodes : List (CacheNode I R)) (input : I) (place : Place) (stored : StoredResult X I R A T) : Type 0 where
+pub record IsSoundResult {X I R A T : Type 0} (is_yes is_no : R → Bool) (scripts : I → List (Reply R) → Request I R) (nodes : List (CacheNode I R)) (input : I) (place : Place) (stored : StoredResult X I R A T) : Type 0 where
   pub graph : HasGraph is_yes is_no nodes input stored.result.result stored.node
   pub plain : IsPlainAt scripts input place stored.result.result
 
 -- each stored result is one that may be stored at its place
-abbrev pub AreKept : {X I R A T : Type 0} → (I → I → Bool) → (R → Bool) → (R → Bool) → (I → List (Reply R) → Request I R) → List (CacheNode I R) → Store I (StoredResult X I R A T) → Type 0
-AreKept {X} {I} {R} {A} {T} same is_yes is_no scripts nodes results =
+abbrev pub AreSoundResults : {X I R A T : Type 0} → (I → I → Bool) → (R → Bool) → (R → Bool) → (I → List (Reply R) → Request I R) → List (CacheNode I R) → Store I (StoredResult X I R A T) → Type 0
+AreSoundResults {X} {I} {R} {A} {T} same is_yes is_no scripts nodes results =
     (input : I) (place : Place) (s : StoredResult X I R A T)
-    → stored_at same results input place ≡ Some s → IsKept is_yes is_no scripts nodes input place s
+    → stored_at same results input place ≡ Some s → IsSoundResult is_yes is_no scripts nodes input place s

@@ -10,14 +10,14 @@
 //! | `Rank` | goals without cycles, their plain values, and the bound on frames |
 //! | `Cache`, `View`, `Sound` | what a cache holds, as contracts see it, its list of nodes, and what holds of every cache |
 //! | `HandedOut` | which nodes have a graph to hand out, and what that is a copy of |
-//! | `Store`, `LookUp` | the results that a cache stores, and which of them a look-up gives |
+//! | `Store`, `Hits` | the results that a cache stores, and which of them a look-up gives |
 //! | `Stored` | what each stored result is worth |
 //! | `Shapes`, `Definite` | the nodes as the theory of open graphs sees them, and the graph of a definite result |
 //! | `Stack`, `StackIndex`, `Lent` | the goals under evaluation, how they are found and lent |
 //! | `Nested` | the map of nested goals |
 //! | `Decisive` | delegates whose goals are decided where no limit is met |
 //! | `Cycle`, `Provisional` | kinds of the cycles through a goal under evaluation; the provisional cache |
-//! | `Reuse`, `Rebasing`, `Settlement` | which provisional entries may be used, and how they are rebased |
+//! | `Reuse`, `Rebasing`, `EntryChange` | which provisional entries may be used, and how they are rebased |
 #![tactic(auto)]
 
 pub mod context;

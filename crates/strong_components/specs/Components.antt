@@ -28,3 +28,10 @@ pub record AreComponents (graph : List (List ℕ)) (numbers : List ℕ) : Type 0
   pub together :
       (a b : ℕ)
       → a < length graph → b < length graph → slice_index numbers a ≡ slice_index numbers b → Reaches graph a b
+
+-- A step lies on a closed walk exactly when it stays in its component.
+abbrev pub StepsWithinClose : Type 0
+StepsWithinClose =
+    (graph : List (List ℕ)) (numbers : List ℕ) (a b : ℕ)
+    → StaysInside graph → AreComponents graph numbers → HasStep graph a b
+    → (slice_index numbers a ≡ slice_index numbers b) ↔ Reaches graph b a

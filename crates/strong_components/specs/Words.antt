@@ -1,5 +1,5 @@
 -- The words of this crate, from one place.
-pub use Rattle.strong_components.specs.Components.{AreComponents, go, HasStep, Reaches, stay, StaysInside}
+pub use Rattle.strong_components.specs.Components.{AreComponents, go, HasStep, Reaches, stay, StaysInside, StepsWithinClose}
 pub use Rattle.strong_components.specs.Components.{successor_lists}
 pub use Rattle.strong_components.specs.Search.{AreLeft, AreOpened, closed_from, ClosesFrom, EndsWith, is_new, IsFromStart}
 pub use Rattle.strong_components.specs.Search.{IsOngoing, IsPath, IsRising, IsSearch, Leaves, LooksAt, MayStep, number_of}

@@ -6,7 +6,7 @@
 #![tactic(auto)]
 
 ghost use Rattle.std.specs.Prelude.{◌↔◌, ◌<◌, All, IfOk, IsTrue};
-ghost use Rattle.strong_components.specs.Words.{AreComponents, StaysInside, successor_lists};
+ghost use Rattle.strong_components.specs.Words.{AreComponents, StaysInside, StepsWithinClose, successor_lists};
 
 mod search;
 
@@ -42,6 +42,11 @@ fn all_below(places: &[usize], limit: usize) -> bool
 {
     places.iter().all(|place| *place < limit)
 }
+
+/// A step lies on a closed walk exactly when both of its ends have the same number.
+pub fn steps_within_components_close()
+    ensures { StepsWithinClose }
+{}
 
 #[cfg(test)]
 mod tests;

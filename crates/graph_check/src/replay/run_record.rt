@@ -1,7 +1,7 @@
 //! How far a run has come that is replayed.
 ghost use Rattle.std.specs.Prelude.{◌≡◌, ◌↔◌, IsTrue, OnOk, true, map};
 ghost use Rattle.graph_check.specs.Below.{question_of, Fits};
-ghost use Rattle.graph_check.specs.Words.{nothing_replayed, replied, requested, is_orderly, is_marked, is_kept, question_asked, questions_kept};
+ghost use Rattle.graph_check.specs.Words.{nothing_replayed, replied, requested, is_orderly, ignored_by, counted_by, question_asked, questions_counted};
 
 use cycle_heads::path::PathKind;
 use search_parts::context::{Cx, Edge, NoMemory, Reply, Request};
@@ -130,7 +130,7 @@ impl<I: Copy, R: Copy> RunRecord<I, R> {
 
     /// Whether the question was asked outside ignored candidates.
     fn counts(&self, asked: &AskedQuestion<I>) -> bool
-        ensures { result ≡ is_kept self.now.ignored asked.now.candidate }
+        ensures { result ≡ counted_by self.now.ignored asked.now.candidate }
     {
         asked
             .candidate
@@ -139,7 +139,7 @@ impl<I: Copy, R: Copy> RunRecord<I, R> {
 
     /// Whether the finished candidate of this number is ignored.
     fn is_ignored(&self, number: usize) -> bool
-        ensures { result ≡ is_marked self.now.ignored number }
+        ensures { result ≡ ignored_by self.now.ignored number }
     {
         self.ignored.get(number) == Some(&true)
     }
@@ -160,7 +160,7 @@ pub(crate) fn has_edges<X: Cx>(
     run: &RunRecord<X::Input, X::Result>,
     edges: &[Edge<X::Input>],
 ) -> bool
-    ensures { IsTrue result ↔ (map question_of edges.now ≡ questions_kept run.now) }
+    ensures { IsTrue result ↔ (map question_of edges.now ≡ questions_counted run.now) }
 {
     let mut left = edges;
     for asked in &run.asked {

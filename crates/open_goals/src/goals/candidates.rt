@@ -1,7 +1,7 @@
 //! The candidates of the newest goal: each is opened, finished, and may be ignored.
 ghost use Rattle.std.specs.Prelude.{◌≡◌, ◌<◌, ◌∷◌, length, is_some, true, IfSome, OnOk, Some};
 ghost use Rattle.std.specs.Option.{option_map};
-ghost use Rattle.open_goals.specs.Words.{enters, keeps_candidate, leaves, CanIgnoreNewest, CanIgnoreUsages, CanNote, IgnoresNewest, IgnoresUsages, NotesCandidate, newest, change_newest};
+ghost use Rattle.open_goals.specs.Words.{enters, records_candidate, leaves, CanIgnoreNewest, CanIgnoreUsages, CanNote, IgnoresNewest, IgnoresUsages, NotesCandidate, newest, change_newest};
 
 use crate::goals::OpenGoals;
 use crate::update;
@@ -19,7 +19,7 @@ impl<X: Cx, F: Drop> OpenGoals<X, F> {
             Request::EnterCandidate => self.enter_candidate(),
             Request::FinishCandidate => {
                 let candidate = self.finish_candidate();
-                self.keep_candidate(candidate)?;
+                self.record_candidate(candidate)?;
             }
             Request::Ignore(number) => self.ignore_candidate(number),
             Request::Evaluate(_, _) | Request::Done(_) => {}
@@ -48,9 +48,9 @@ impl<X: Cx, F: Drop> OpenGoals<X, F> {
     }
 
     /// Keeps what a finished candidate of the newest goal used.
-    fn keep_candidate(&mut self, candidate: CandidateHeadUsages) -> Result<(), NoMemory>
+    fn record_candidate(&mut self, candidate: CandidateHeadUsages) -> Result<(), NoMemory>
         requires { 0 < length self.old }
-        ensures { OnOk result (self.new ≡ change_newest (keeps_candidate candidate) self.old) }
+        ensures { OnOk result (self.new ≡ change_newest (records_candidate candidate) self.old) }
     {
         let last = self.runs.len() - 1;
         self.runs[last].candidates.push(candidate)?;

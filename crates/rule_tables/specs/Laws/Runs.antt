@@ -81,7 +81,7 @@ pub record IsMarkedAt (cs : List Candidate) (place : ℕ) : Type 0 where
   pub is_marked : candidate.is_marked ≡ true
 
 -- what is known of the candidates before a place, which are finished
-pub record Settled (cs : List Candidate) (asked : List (Asked Goal Outcome)) (ignored : List ℕ) (place : ℕ) (some_holds unmarked_holds each_fails : Bool) : Type 0 where
+pub record PastCandidates (cs : List Candidate) (asked : List (Asked Goal Outcome)) (ignored : List ℕ) (place : ℕ) (some_holds unmarked_holds each_fails : Bool) : Type 0 where
   pub holder : some_holds ≡ true → Holder cs asked unmarked_holds
   pub some : unmarked_holds ≡ true → some_holds ≡ true
   pub failing : each_fails ≡ true → (k : ℕ) (c : Candidate) → k < place → slice_get cs k ≡ Some c → SomeNo asked k c
@@ -112,7 +112,7 @@ Mode cs s p (Some (Ignore n)) = (slice_get cs s.candidate ≡ None) × (s.unmark
 Mode cs s p (Some (Done r)) = (slice_get cs s.candidate ≡ None) × (r ≡ outcome_of s)
 
 pub record Good (cs : List Candidate) (s : State) (p : Progress Goal Outcome) (q : Option (Request Goal Outcome)) : Type 0 where
-  pub settled : Settled cs p.asked p.ignored s.candidate s.some_holds s.unmarked_holds s.each_fails
+  pub past_candidates : PastCandidates cs p.asked p.ignored s.candidate s.some_holds s.unmarked_holds s.each_fails
   pub mode : Mode cs s p q
 
 -- Ignoring
@@ -139,10 +139,10 @@ ignored_found : (cs : List Candidate) (from n : ℕ) (b : Bool) → cond b (mark
 ignored_found cs from n true e = let w = marked_from-is 0 cs from n e in let same : w.0 ≡ n = omega (arith, w.1) in (refl, subst (IsMarkedAt cs) same w.2)
 ignored_found cs from n false e = absurd cc
 
-module _ (cs : List Candidate) (s : State) (p : Progress Goal Outcome) (settled : Settled cs p.asked p.ignored s.candidate s.some_holds s.unmarked_holds s.each_fails) where
+module _ (cs : List Candidate) (s : State) (p : Progress Goal Outcome) (past_candidates : PastCandidates cs p.asked p.ignored s.candidate s.some_holds s.unmarked_holds s.each_fails) where
   with_ignored-good : slice_get cs s.candidate ≡ None → (o : Option ℕ) → ((n : ℕ) → o ≡ Some n → (s.unmarked_holds ≡ true) × IsMarkedAt cs n) → Good cs (with_ignored s o) p (with_ignored s o).request
-  with_ignored-good end None h = record { settled = settled; mode = (end, refl) }
-  with_ignored-good end (Some n) h = record { settled = settled; mode = (end, (h n refl).0, (h n refl).1) }
+  with_ignored-good end None h = record { past_candidates = past_candidates; mode = (end, refl) }
+  with_ignored-good end (Some n) h = record { past_candidates = past_candidates; mode = (end, (h n refl).0, (h n refl).1) }
 
   pub ignoring-good : slice_get cs s.candidate ≡ None → Good cs (ignoring cs s) p (ignoring cs s).request
   ignoring-good end = with_ignored-good end (cond s.unmarked_holds (marked_from 0 cs s.next_ignored) None) (λ n e. ignored_found cs s.next_ignored n s.unmarked_holds e)
@@ -152,7 +152,7 @@ module _ (cs : List Candidate) (s : State) (p : Progress Goal Outcome) (settled 
   pub entering-good : p.finished ≡ s.candidate → (o : Option Candidate) → slice_get cs s.candidate ≡ o → Good cs (entering_next cs s o) p (entering_next cs s o).request
   entering-good finished None e = ignoring-good e
   entering-good finished (Some c) e = record {
-    settled = settled;
+    past_candidates = past_candidates;
     mode = (finished, record { candidate = c; is_at = e; yes_so_far = λ _ j a l. absurd (omega arith); no_so_far = λ h. absurd cc });
   }
 
@@ -199,10 +199,10 @@ failing_after cs asked place c is_at here below k d l e =
       | inr w ↦ let ne : k ≢ place = w.1 in below k d (omega arith) e
     ]
 
-pub finished_settled : (cs : List Candidate) (asked : List (Asked Goal Outcome)) (ignored : List ℕ) (place n : ℕ) (some_holds unmarked_holds each_fails holds fails : Bool) →
-    Settled cs asked ignored place some_holds unmarked_holds each_fails → (inside : InCandidate cs asked place n holds fails) → slice_get inside.candidate.questions.items n ≡ None →
-    Settled cs asked ignored (place + 1) (some_holds || holds) (unmarked_holds || (holds && not inside.candidate.is_marked)) (each_fails && fails)
-finished_settled cs asked ignored place n some_holds unmarked_holds each_fails holds fails old inside past = record {
+pub finished_past : (cs : List Candidate) (asked : List (Asked Goal Outcome)) (ignored : List ℕ) (place n : ℕ) (some_holds unmarked_holds each_fails holds fails : Bool) →
+    PastCandidates cs asked ignored place some_holds unmarked_holds each_fails → (inside : InCandidate cs asked place n holds fails) → slice_get inside.candidate.questions.items n ≡ None →
+    PastCandidates cs asked ignored (place + 1) (some_holds || holds) (unmarked_holds || (holds && not inside.candidate.is_marked)) (each_fails && fails)
+finished_past cs asked ignored place n some_holds unmarked_holds each_fails holds fails old inside past = record {
   holder = holder_after cs asked place inside.candidate some_holds unmarked_holds holds inside.candidate.is_marked old.holder old.some inside.is_at
       (λ h j a l e. inside.yes_so_far h j a (before_end inside.candidate.questions.items j n past l) e) refl;
   some = some_after some_holds unmarked_holds holds inside.candidate.is_marked old.some;
@@ -213,23 +213,23 @@ finished_settled cs asked ignored place n some_holds unmarked_holds each_fails h
 
 -- Asking
 
-asking_next-good : (cs : List Candidate) (s : State) (p : Progress Goal Outcome) → Settled cs p.asked p.ignored s.candidate s.some_holds s.unmarked_holds s.each_fails →
+asking_next-good : (cs : List Candidate) (s : State) (p : Progress Goal Outcome) → PastCandidates cs p.asked p.ignored s.candidate s.some_holds s.unmarked_holds s.each_fails →
     p.is_open ≡ true → p.finished ≡ s.candidate → (inside : InCandidate cs p.asked s.candidate s.question s.holds s.fails) →
     (o : Option Asking) → slice_get inside.candidate.questions.items s.question ≡ o → Good cs (asking_next inside.candidate s o) p (asking_next inside.candidate s o).request
-asking_next-good cs s p settled is_open finished inside None e = record {
-  settled = finished_settled cs p.asked p.ignored s.candidate s.question s.some_holds s.unmarked_holds s.each_fails s.holds s.fails settled inside e;
+asking_next-good cs s p past_candidates is_open finished inside None e = record {
+  past_candidates = finished_past cs p.asked p.ignored s.candidate s.question s.some_holds s.unmarked_holds s.each_fails s.holds s.fails past_candidates inside e;
   mode = ap (λ n. n + 1) finished;
 }
-asking_next-good cs s p settled is_open finished inside (Some a) e = record {
-  settled = settled;
+asking_next-good cs s p past_candidates is_open finished inside (Some a) e = record {
+  past_candidates = past_candidates;
   mode = (is_open, finished, record { earlier = s.question; count = refl; inside = inside; asking = a; is_asking = e; same = refl });
 }
 
-pub asking-good : (cs : List Candidate) (s : State) (p : Progress Goal Outcome) → Settled cs p.asked p.ignored s.candidate s.some_holds s.unmarked_holds s.each_fails →
+pub asking-good : (cs : List Candidate) (s : State) (p : Progress Goal Outcome) → PastCandidates cs p.asked p.ignored s.candidate s.some_holds s.unmarked_holds s.each_fails →
     p.is_open ≡ true → p.finished ≡ s.candidate → (inside : InCandidate cs p.asked s.candidate s.question s.holds s.fails) → Good cs (asking cs s) p (asking cs s).request
-asking-good cs s p settled is_open finished inside =
+asking-good cs s p past_candidates is_open finished inside =
     subst (λ o. Good cs (asking_in cs s o) p (asking_in cs s o).request) (sym inside.is_at)
-    (asking_next-good cs s p settled is_open finished inside (slice_get inside.candidate.questions.items s.question) refl)
+    (asking_next-good cs s p past_candidates is_open finished inside (slice_get inside.candidate.questions.items s.question) refl)
 
 -- Answers
 
@@ -256,9 +256,9 @@ module _ (cs : List Candidate) (asked : List (Asked Goal Outcome)) (place : ℕ)
   AllYes-more : (c : Candidate) (n : ℕ) → AllYes asked place c n → AllYes (asked ++ next ∷ []) place c n
   AllYes-more c n h j a l e = Contains-append_left asked (next ∷ []) (answered a Yes place) (h j a l e)
 
-Settled-more : (cs : List Candidate) (asked : List (Asked Goal Outcome)) (next : Asked Goal Outcome) (ignored : List ℕ) (place : ℕ) (some_holds unmarked_holds each_fails : Bool) →
-    Settled cs asked ignored place some_holds unmarked_holds each_fails → Settled cs (asked ++ next ∷ []) ignored place some_holds unmarked_holds each_fails
-Settled-more cs asked next ignored place some_holds unmarked_holds each_fails old = record {
+PastCandidates-more : (cs : List Candidate) (asked : List (Asked Goal Outcome)) (next : Asked Goal Outcome) (ignored : List ℕ) (place : ℕ) (some_holds unmarked_holds each_fails : Bool) →
+    PastCandidates cs asked ignored place some_holds unmarked_holds each_fails → PastCandidates cs (asked ++ next ∷ []) ignored place some_holds unmarked_holds each_fails
+PastCandidates-more cs asked next ignored place some_holds unmarked_holds each_fails old = record {
   holder = λ h. let w = old.holder h in record {
     place = w.place;
     candidate = w.candidate;
@@ -324,7 +324,7 @@ answer-good cs s p kind goal r good =
     let new : Asked Goal Outcome = record { question = record { kind = kind; goal = goal }; answer = r; candidate = open_candidate p } in
     let is : new ≡ answered at.asking r s.candidate = answered_is p s.candidate (record { kind = kind; goal = goal }) at.asking r good.mode.0 good.mode.1 at.same in
     asking-good cs (with_answer s r) (progress_with p (Some (Evaluate kind goal)) (Answer r))
-    (Settled-more cs p.asked new p.ignored s.candidate s.some_holds s.unmarked_holds s.each_fails good.settled)
+    (PastCandidates-more cs p.asked new p.ignored s.candidate s.some_holds s.unmarked_holds s.each_fails good.past_candidates)
     good.mode.0 good.mode.1
     (subst (λ x. InCandidate cs (p.asked ++ x ∷ []) s.candidate s.question (s.holds && is_yes r) (s.fails || is_no r)) (sym is)
     (subst (λ n. InCandidate cs (p.asked ++ answered at.asking r s.candidate ∷ []) s.candidate n (s.holds && is_yes r) (s.fails || is_no r)) at.count
@@ -342,25 +342,25 @@ ignored_more cs ignored unmarked_holds n k holds marked old h =
 
 step-good : (cs : List Candidate) (s : State) (p : Progress Goal Outcome) (q : Option (Request Goal Outcome)) (r : Reply Outcome) → Fits q r → Good cs s p q →
     Good cs (state_with cs s q r) (progress_with p q r) (state_with cs s q r).request
-step-good cs s p None Begin h good = entering-good cs s p good.settled good.mode (slice_get cs s.candidate) refl
-step-good cs s p (Some EnterCandidate) Noted h good = asking-good cs s (record p { is_open = true }) good.settled refl good.mode.0 good.mode.1
+step-good cs s p None Begin h good = entering-good cs s p good.past_candidates good.mode (slice_get cs s.candidate) refl
+step-good cs s p (Some EnterCandidate) Noted h good = asking-good cs s (record p { is_open = true }) good.past_candidates refl good.mode.0 good.mode.1
 step-good cs s p (Some (Evaluate kind goal)) (Answer r) h good = answer-good cs s p kind goal r good
 step-good cs s p (Some FinishCandidate) Noted h good =
-    entering-good cs s (record p { is_open = false; finished = p.finished + 1 }) good.settled good.mode (slice_get cs s.candidate) refl
+    entering-good cs s (record p { is_open = false; finished = p.finished + 1 }) good.past_candidates good.mode (slice_get cs s.candidate) refl
 step-good cs s p (Some (Ignore n)) Noted h good =
     ignoring-good cs s (record p { ignored = n ∷ p.ignored })
     (record {
-      holder = good.settled.holder;
-      some = good.settled.some;
-      failing = good.settled.failing;
-      only_marked = λ k. ignored_more cs p.ignored s.unmarked_holds n k good.mode.1 good.mode.2 good.settled.only_marked;
+      holder = good.past_candidates.holder;
+      some = good.past_candidates.some;
+      failing = good.past_candidates.failing;
+      only_marked = λ k. ignored_more cs p.ignored s.unmarked_holds n k good.mode.1 good.mode.2 good.past_candidates.only_marked;
     })
     good.mode.0
 step-good cs s p _ _ h good = absurd h
 
 run-good : (cs : List Candidate) (replies : List (Reply Outcome)) → IsFitting (script_of cs) replies → Good cs (state_after cs replies) (progress_after (script_of cs) replies) (state_after cs replies).request
 run-good cs [] h = record {
-  settled = record { holder = λ e. absurd cc; some = λ e. absurd cc; failing = λ _ k c l. absurd (omega arith); only_marked = λ n e. absurd cc };
+  past_candidates = record { holder = λ e. absurd cc; some = λ e. absurd cc; failing = λ _ k c l. absurd (omega arith); only_marked = λ n e. absurd cc };
   mode = refl;
 }
 run-good cs (r ∷ earlier) h =
@@ -406,7 +406,7 @@ yes_is_proved rules goal replies r ends is =
     let s = state_after cs replies in
     let p = progress_after (script_of cs) replies in
     let good = end-good cs replies r ends in
-    let w = good.settled.holder (yes_flags s.some_holds s.each_fails (ap is_yes (sym good.mode.1) ∙ is)) in
+    let w = good.past_candidates.holder (yes_flags s.some_holds s.each_fails (ap is_yes (sym good.mode.1) ∙ is)) in
     record {
       candidate = w.candidate;
       is_candidate = Contains-from_slice_get cs w.place w.candidate w.is_at;
@@ -415,7 +415,7 @@ yes_is_proved rules goal replies r ends is =
           let at = slice_get-from_Contains w.candidate.questions.items a.0 a.1 in
           subst (Contains (questions_answered is_yes p)) a.2
           (counts_kept is_yes p a.0 Yes w.place refl
-          (λ e. let m = good.settled.only_marked w.place e in marked_apart cs w.place w.candidate w.is_at (w.is_unmarked m.0) m.1)
+          (λ e. let m = good.past_candidates.only_marked w.place e in marked_apart cs w.place w.candidate w.is_at (w.is_unmarked m.0) m.1)
           (w.all_yes a.1.0 a.0 a.1.1 at));
     }
 
@@ -430,10 +430,10 @@ no_is_refuted rules goal replies r ends is =
     let flags = no_flags s.some_holds s.each_fails (ap is_no (sym good.mode.1) ∙ is) in
     λ c has.
     let at = slice_get-from_Contains cs c has in
-    let w = good.settled.failing flags.1 has.0 c (before_end cs has.0 s.candidate good.mode.0 has.1) at in (
+    let w = good.past_candidates.failing flags.1 has.0 c (before_end cs has.0 s.candidate good.mode.0 has.1) at in (
       question_of w.asking,
       Contains-mapped question_of c.questions.items w.asking (Contains-from_slice_get c.questions.items w.at w.asking w.is_at),
       counts_kept is_no p w.asking No has.0 refl
-          (λ e. let m = good.settled.only_marked has.0 e in let t : s.some_holds ≡ true = good.settled.some m.0 in let f = flags.0 in cc)
+          (λ e. let m = good.past_candidates.only_marked has.0 e in let t : s.some_holds ≡ true = good.past_candidates.some m.0 in let f = flags.0 in cc)
           w.is_asked,
     )

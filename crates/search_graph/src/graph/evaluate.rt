@@ -23,12 +23,14 @@ impl<D: Delegate> Evaluation<D> {
         ensures ended { (call : Call D.Cx.Input) →
             Begins D.Delegate D.Cx.Cx cache.old.cx D.Cx.Input.eq call input self.old.root_depth.0
             (D.starts inspect.old) self.old.limits_met cache.old.results →
-            IfOk result (λ answer. EndsWith D.Delegate D.Cx.Cx D.Cx.Input.eq cache.old.cx call answer.result
+            IfOk result (λ answer.
+            EndsWith D.Delegate D.Cx.Cx D.Cx.Input.eq cache.old.cx call answer.result
             cache.new self.new (D.starts inspect.new)) }
         ensures stopped { (call : Call D.Cx.Input) →
             Begins D.Delegate D.Cx.Cx cache.old.cx D.Cx.Input.eq call input self.old.root_depth.0
             (D.starts inspect.old) self.old.limits_met cache.old.results →
-            IfErr result (λ fault. StopsWith D.Delegate D.Cx.Cx D.Cx.Input.eq cache.old.cx call fault
+            IfErr result (λ fault.
+            StopsWith D.Delegate D.Cx.Cx D.Cx.Input.eq cache.old.cx call fault
             cache.new self.new (D.starts inspect.new)) }
         ensures stored { IfSome (first_accepted (λ _. true)
             (usable D.Cx.Input.eq cache.old.results input self.old.root_depth.0)) (λ hit.
@@ -84,7 +86,8 @@ impl<D: Delegate> Evaluation<D> {
         ensures stops { (call : Call D.Cx.Input) →
             Awaits D.Delegate D.Cx.Cx D.Cx.Input.eq cache.old.cx call received
             cache.old self.old (D.starts inspect.old) →
-            IfErr result (λ fault. StopsWith D.Delegate D.Cx.Cx D.Cx.Input.eq cache.old.cx call fault
+            IfErr result (λ fault.
+            StopsWith D.Delegate D.Cx.Cx D.Cx.Input.eq cache.old.cx call fault
             cache.new self.new (D.starts inspect.new)) }
         ensures right { IfOk result (λ next.
             IsRightNext D.Delegate D.Cx.Cx D.Cx.Input.eq cache.old.cx self.old.goals next

@@ -20,7 +20,12 @@ pub(crate) struct Evaluation<D: Delegate> {
 impl<D: Delegate> Evaluation<D> {
     /// One that has not begun, for goals that get this depth. It takes no memory yet.
     pub(crate) fn new(alloc: Global, root_depth: AvailableDepth, limits_met: bool) -> Evaluation<D>
-        ensures begins { result ≡ record { goals = []; provisional = []; root_depth = root_depth; limits_met = limits_met } }
+        ensures begins { result ≡ record {
+          goals = [];
+          provisional = [];
+          root_depth = root_depth;
+          limits_met = limits_met;
+        } }
         ensures fits { root_depth.0 < 2 ^ 64 }
     {
         Evaluation {

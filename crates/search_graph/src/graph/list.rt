@@ -29,16 +29,20 @@ impl<D: Delegate> SearchGraph<D> {
         >,
     ) -> Result<(), NoMemory>
         // There is one answer for each query, right over the cache as it is when the call ends.
-        ensures answered { OnOk result (AppendsEach (IsAnsweredQuery D.Delegate D.Cx.Cx D.Cx.Input.eq cache.new) queries.now answers.old.items answers.new.items) }
+        ensures answered { OnOk result (AppendsEach
+            (IsAnsweredQuery D.Delegate D.Cx.Cx D.Cx.Input.eq cache.new) queries.now
+            answers.old.items answers.new.items) }
 
         // A refusal comes only where the room for the answers isn't there yet, and changes nothing.
-        ensures refused { OnErr result (vec_capacity answers.old < vec_len answers.old + length queries.now) }
+        ensures refused { OnErr result
+            (vec_capacity answers.old < vec_len answers.old + length queries.now) }
         ensures same_answers { OnErr result (answers.new.items ≡ answers.old.items) }
         ensures same_cache { OnErr result (cache.new ≡ cache.old) }
         ensures same_builder { OnErr result (inspect.new ≡ inspect.old) }
 
         // The frames that are started are within the bounds of all queries together.
-        ensures frames { D.starts inspect.new ≤ D.starts inspect.old + frames_for (max 1 D.FIXPOINT_STEP_LIMIT) (D.width cache.old.cx) queries.now }
+        ensures frames { D.starts inspect.new ≤ D.starts inspect.old + frames_for
+            (max 1 D.FIXPOINT_STEP_LIMIT) (D.width cache.old.cx) queries.now }
 
         ensures same_context { cache.new.cx ≡ cache.old.cx }
         ensures kept_results { KeepsResults D.Cx.Input.eq cache.old.results cache.new.results }
@@ -64,7 +68,8 @@ fn evaluate_query<D: Delegate>(
     inspect: &mut D::ProofTreeBuilder,
 ) -> Result<Answer<<D::Cx as Cx>::Result>, Fault<<D::Cx as Cx>::Input, <D::Cx as Cx>::Result>>
     ensures answered { HasAnswer D.Delegate D.Cx.Cx D.Cx.Input.eq cache.new query result }
-    ensures frames { D.starts inspect.new ≤ D.starts inspect.old + frames_within (max 1 D.FIXPOINT_STEP_LIMIT) (D.width cache.old.cx) query.0 }
+    ensures frames { D.starts inspect.new ≤ D.starts inspect.old + frames_within
+        (max 1 D.FIXPOINT_STEP_LIMIT) (D.width cache.old.cx) query.0 }
     ensures same_context { cache.new.cx ≡ cache.old.cx }
     ensures kept_results { KeepsResults D.Cx.Input.eq cache.old.results cache.new.results }
     ensures kept { KeepsFinished cache.old.nodes cache.new.nodes }

@@ -69,7 +69,8 @@ impl<'a, D: Delegate> OverStack<'a, D> {
     /// Whether the entry could be used at the end of one of these paths. One that met overflow is not used there.
     fn could_be_used(&self, entry: &ProvisionalCacheEntry<D::Cx>, paths: PathsToNested) -> bool
         requires some { entry.now.heads ≢ [] }
-        requires on_stack { IfSome (highest entry.now.heads) (λ head. head.0.0 < length self.now.stack) }
+        requires on_stack { IfSome (highest entry.now.heads) (λ head.
+            head.0.0 < length self.now.stack) }
         ensures { result ≡ could_be_used self.now paths entry.now }
     {
         // An entry that met overflow is used only for a goal of the same cycle, which a goal below a stored
@@ -115,12 +116,14 @@ pub(crate) fn look_up<'a, D: Delegate>(
 ) -> Option<CacheData<'a, D::Cx>>
     requires { AreOnStack D.Cx.Input.eq stack.now provisional.now }
     ensures exact { option_map hit_of result ≡ first_accepted
-        (is_applicable D.Cx.Input.eq (record { stack = stack.now; entries = provisional.now; step = step }))
+        (is_applicable D.Cx.Input.eq
+        (record { stack = stack.now; entries = provisional.now; step = step }))
         (usable D.Cx.Input.eq cache.now.results input depth.0) }
     ensures graph { IfSome result (λ stored.
         HasGraph D.Cx.is_yes D.Cx.is_no cache.now.nodes input stored.result stored.node) }
     ensures usable { IfSome result (λ stored.
-        IsUsable D.Cx.Input.eq (D.script cache.now.cx) cache.now.results input depth.0 (hit_of stored)) }
+        IsUsable D.Cx.Input.eq (D.script cache.now.cx) cache.now.results input depth.0
+        (hit_of stored)) }
 {
     let test = OverStack {
         stack,

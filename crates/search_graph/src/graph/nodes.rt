@@ -19,8 +19,12 @@ pub(crate) fn result_node<D: Delegate>(
     progress: Progress<<D::Cx as Cx>::Input, <D::Cx as Cx>::Result>,
     outcome: <D::Cx as Cx>::Result,
 ) -> Result<Option<NodeId>, NoMemory>
-    requires { IsDefinite D.Cx.is_yes D.Cx.is_no outcome → EndsRun D.Cx.is_yes D.Cx.is_no (D.script cache.old.cx) cache.old.nodes own_node progress outcome }
-    ensures settled { IfOk result (λ answer. HasResultNode D.Cx.is_yes D.Cx.is_no cache.old.nodes cache.new.nodes state.now.provisional_result own_node state.now.node progress outcome answer) }
+    requires { IsDefinite D.Cx.is_yes D.Cx.is_no outcome →
+        EndsRun D.Cx.is_yes D.Cx.is_no
+        (D.script cache.old.cx) cache.old.nodes own_node progress outcome }
+    ensures has_node { IfOk result (λ answer.
+        HasResultNode D.Cx.is_yes D.Cx.is_no cache.old.nodes cache.new.nodes
+        state.now.provisional_result own_node state.now.node progress outcome answer) }
     ensures same_context { cache.new.cx ≡ cache.old.cx }
     ensures same_results { cache.new.results ≡ cache.old.results }
     ensures kept { KeepsFinished cache.old.nodes cache.new.nodes }
@@ -43,7 +47,8 @@ pub(crate) fn result_node<D: Delegate>(
 
 /// Whether the provisional result, if there is one, has this verdict.
 fn says_again<X: Cx>(cx: X, provisional_result: Option<X::Result>, verdict: Verdict) -> bool
-    ensures { IsTrue result ↔ (option_map (verdict_of X.is_yes X.is_no) provisional_result ≡ Some (verdict_shape verdict)) }
+    ensures { IsTrue result ↔ (option_map (verdict_of X.is_yes X.is_no) provisional_result
+        ≡ Some (verdict_shape verdict)) }
 {
     match provisional_result {
         Some(earlier) => cx.sort(earlier) == verdict,

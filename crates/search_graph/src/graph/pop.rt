@@ -23,9 +23,12 @@ impl<D: Delegate> Evaluation<D> {
     ) -> Result<Next<<D::Cx as Cx>::Result>, Fault<<D::Cx as Cx>::Input, <D::Cx as Cx>::Result>>
         requires { MayPop D.Delegate D.Cx.Cx D.Cx.Input.eq outcome reason cache.old self.old }
         ensures popped { IfOk result (λ next.
-            Pops D.Delegate D.Cx.Cx D.Cx.Input.eq outcome reason cache.old self.old next cache.new self.new) }
-        ensures stored { MayPutNewest D.Cx.Input.eq self.old.goals outcome cache.old.results cache.new.results }
-        ensures rest { self.new ≡ record self.old { goals = self.new.goals; provisional = self.new.provisional } }
+            Pops D.Delegate D.Cx.Cx D.Cx.Input.eq outcome reason cache.old self.old next cache.new
+            self.new) }
+        ensures stored { MayPutNewest D.Cx.Input.eq self.old.goals outcome cache.old.results
+            cache.new.results }
+        ensures rest { self.new
+            ≡ record self.old { goals = self.new.goals; provisional = self.new.provisional } }
         ensures caused { IfErr result (IsCaused D.Delegate D.Cx.Cx D.Cx.Input.eq cache.new) }
         ensures plain { (n : ℕ) → IsNewestPlainTo (D.script cache.old.cx) n self.old.goals →
             IfErr result (λ fault. fault ≡ Memory) }

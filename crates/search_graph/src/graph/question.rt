@@ -52,7 +52,7 @@ impl<D: Delegate> Evaluation<D> {
         // Entries come before stored results, so that the test of a stored result's nested goals need not think
         // of a goal that has both.
         if let Some(entry) = look_up_entry::<D>(&self.provisional, stack, kind, input) {
-            self.goals.note_kept(kind, entry)?;
+            self.goals.note_provisional(kind, entry)?;
             return Ok(Received {
                 reply: Reply::Answer(entry.result),
                 node: entry.node,
@@ -86,7 +86,8 @@ impl<D: Delegate> Evaluation<D> {
         requires found { position (D.Cx.Input.eq input)
             (map (λ e. e.input) (reverse (map (λ s. s.0) self.old.goals))) ≡ Some head.0 }
         ensures answered { IfOk result (λ received.
-            ClosesCycle D.Delegate D.Cx.Cx cx step input head received self.old.goals self.new.goals) }
+            ClosesCycle D.Delegate D.Cx.Cx cx step input head received self.old.goals
+            self.new.goals) }
         ensures rest { self.new ≡ record self.old { goals = self.new.goals } }
     {
         let kind = self.goals.stack().path_kind(step, head);
@@ -106,7 +107,8 @@ impl<D: Delegate> Evaluation<D> {
     fn allowed_depth(&self) -> Option<AvailableDepth>
         requires { 0 < length self.now.goals }
         ensures { option_map (λ d. d.0) result
-            ≡ option_and_then (λ s. depth_below D.DIVIDE_AVAILABLE_DEPTH_ON_OVERFLOW s.0) (newest self.now.goals) }
+            ≡ option_and_then (λ s. depth_below D.DIVIDE_AVAILABLE_DEPTH_ON_OVERFLOW s.0)
+            (newest self.now.goals) }
     {
         AvailableDepth::allowed_depth_for_nested::<D>(self.root_depth, self.goals.stack())
     }
@@ -129,7 +131,8 @@ impl<D: Delegate> Evaluation<D> {
         ensures kept { KeepsFinished cache.old.nodes cache.new.nodes }
         ensures at_least { D.starts inspect.old ≤ D.starts inspect.new }
         ensures at_most { D.starts inspect.new ≤ D.starts inspect.old + 1 }
-        ensures counted { D.counts ≡ true → OnOk result (CountsOne D.last (D.starts inspect.old) (D.starts inspect.new)) }
+        ensures counted { D.counts ≡ true →
+            OnOk result (CountsOne D.last (D.starts inspect.old) (D.starts inspect.new)) }
     {
         let node = cache.open_node(input)?;
         let frame = D::start(cache.cx(), input, inspect)?;

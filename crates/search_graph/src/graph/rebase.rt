@@ -16,10 +16,12 @@ pub(crate) fn rebase_entries<D: Delegate>(
     reason: Option<RebaseReason<D::Cx>>,
 ) -> Result<(), NoMemory>
     requires on_stack { All (λ head. head.0.0 < length stack.now) done.now.state.heads }
-    requires within { (input : D.Cx.Input) → All (λ entry. All (λ head. head.0.0 ≤ length stack.now) entry.heads)
+    requires within { (input : D.Cx.Input) →
+        All (λ entry. All (λ head. head.0.0 ≤ length stack.now) entry.heads)
         (entries_at D.Cx.Input.eq provisional.old input) }
     ensures { OnOk result ((input : D.Cx.Input) → entries_at D.Cx.Input.eq provisional.new input
-        ≡ rebased_for (D.propagated cx input) (D.fixpoint_overflow cx input) reason stack.now done.now
+        ≡ rebased_for (D.propagated cx input)
+        (D.fixpoint_overflow cx input) reason stack.now done.now
         (entries_at D.Cx.Input.eq provisional.old input)) }
 {
     match reason {

@@ -20,13 +20,16 @@ impl<D: Delegate> Evaluation<D> {
     ) -> Result<(), NoMemory>
         requires { MayRunAgain D.Delegate D.Cx.Cx D.Cx.Input.eq outcome cache.old self.old }
         ensures reran { OnOk result (
-            RunsAgain D.Delegate D.Cx.Cx D.Cx.Input.eq outcome cache.old self.old cache.new self.new) }
-        ensures rest { self.new ≡ record self.old { goals = self.new.goals; provisional = self.new.provisional } }
+            RunsAgain D.Delegate D.Cx.Cx D.Cx.Input.eq outcome cache.old self.old cache.new
+            self.new) }
+        ensures rest { self.new
+            ≡ record self.old { goals = self.new.goals; provisional = self.new.provisional } }
         ensures cache { cache.new ≡ record cache.old { nodes = cache.new.nodes } }
         ensures kept { KeepsFinished cache.old.nodes cache.new.nodes }
         ensures at_least { D.starts inspect.old ≤ D.starts inspect.new }
         ensures at_most { D.starts inspect.new ≤ D.starts inspect.old + 1 }
-        ensures counted { D.counts ≡ true → OnOk result (CountsOne D.last (D.starts inspect.old) (D.starts inspect.new)) }
+        ensures counted { D.counts ≡ true →
+            OnOk result (CountsOne D.last (D.starts inspect.old) (D.starts inspect.new)) }
     {
         // Entries that used the goal's result go, since that is another one now. Those that merely have the goal as a
         // head stay: they are rebased when it is done.

@@ -66,7 +66,8 @@ fn end_of_run<D: Delegate>(
     finished_runs: usize,
     outcome: <D::Cx as Cx>::Result,
 ) -> Result<Option<RebaseReason<D::Cx>>, Unstable>
-    ensures is_end { IsEndOfRun D.Cx.Result.eq D.initial_kind D.ambiguity D.FIXPOINT_STEP_LIMIT state.now.provisional_result state.now.usages finished_runs outcome result }
+    ensures is_end { IsEndOfRun D.Cx.Result.eq D.initial_kind D.ambiguity D.FIXPOINT_STEP_LIMIT
+        state.now.provisional_result state.now.usages finished_runs outcome result }
     ensures fits { result ≡ Err Again → finished_runs + 1 < 2 ^ 64 }
 {
     // A goal to which no cycle led is no head, so no entry rests on it, and a further run would see no other
@@ -92,8 +93,10 @@ fn stable_reason<D: Delegate>(
     usages: HeadUsages,
     outcome: <D::Cx as Cx>::Result,
 ) -> Option<RebaseReason<D::Cx>>
-    ensures reason { IfSome result (IsReason D.Cx.Result.eq D.initial_kind D.ambiguity provisional_result usages outcome) }
-    ensures unstable { result ≡ None → IsStable D.Cx.Result.eq D.initial_kind D.ambiguity provisional_result usages outcome → ⊥ }
+    ensures reason { IfSome result
+        (IsReason D.Cx.Result.eq D.initial_kind D.ambiguity provisional_result usages outcome) }
+    ensures unstable { result ≡ None →
+        IsStable D.Cx.Result.eq D.initial_kind D.ambiguity provisional_result usages outcome → ⊥ }
 {
     // The first reason wins, since entries are rebased by it: at a fixpoint those that used the goal are right
     // as they are, and any other reason would drop or change them.
@@ -133,7 +136,8 @@ fn reached_fixpoint<D: Delegate>(
     usages: HeadUsages,
     outcome: <D::Cx as Cx>::Result,
 ) -> bool
-    ensures { IsTrue result ↔ ReachedFixpoint D.Cx.Result.eq D.initial_kind provisional_result usages outcome }
+    ensures { IsTrue result ↔ ReachedFixpoint D.Cx.Result.eq D.initial_kind provisional_result
+        usages outcome }
 {
     match (
         provisional_result,

@@ -1,7 +1,7 @@
 //! What is stored of a goal that is done.
 ghost use Rattle.std.specs.Prelude.{◌≡◌, ◌≢◌, ◌<◌, ℕ, [], length, IfErr, IfSome, OnOk};
 ghost use Rattle.search_graph.specs.Below.{highest, IsPlainTo, place_of, Memory, Success};
-ghost use Rattle.search_parts.specs.Provisional.{Appends};
+ghost use Rattle.search_parts.specs.Provisional.{AppendsEntry};
 ghost use Rattle.search_graph.specs.Words.{ChangesResults, IsCaused, IsStorable, IsStoredAt, Stores, StoresAnswer, entry_of};
 
 use crate::graph::evaluation::Evaluation;
@@ -23,14 +23,17 @@ impl<D: Delegate> Evaluation<D> {
         answer: EvaluationResult<D::Cx>,
     ) -> Result<(), Fault<<D::Cx as Cx>::Input, <D::Cx as Cx>::Result>>
         requires storable { IsStorable D.Delegate D.Cx.Cx cache.old input answer }
-        requires on_stack { IfSome (highest answer.heads) (λ head. head.0.0 < length self.old.goals) }
-        ensures stored { StoresAnswer D.Cx.Input.eq cache.old.results cache.new.results input answer }
+        requires on_stack { IfSome (highest answer.heads) (λ head.
+            head.0.0 < length self.old.goals) }
+        ensures stored { StoresAnswer D.Cx.Input.eq cache.old.results cache.new.results
+            input answer }
         ensures stores { OnOk result (
             Stores D.Delegate D.Cx.Cx D.Cx.Input.eq step input answer self.old self.new cache.new) }
         ensures rest { self.new ≡ record self.old { provisional = self.new.provisional } }
         ensures cache { ChangesResults D.Cx.Input.eq cache.old cache.new }
         ensures caused { IfErr result (IsCaused D.Delegate D.Cx.Cx D.Cx.Input.eq cache.new) }
-        ensures plain { (n : ℕ) → IsPlainTo (D.script cache.old.cx) n input → place_of answer ≡ Success →
+        ensures plain { (n : ℕ) → IsPlainTo (D.script cache.old.cx) n input →
+            place_of answer ≡ Success →
             IfErr result (λ fault. fault ≡ Memory) }
     {
         // An answer with heads rests on provisional results of goals under evaluation, which may still change.
@@ -58,7 +61,7 @@ fn insert_entry<D: Delegate>(
 ) -> Result<(), NoMemory>
     requires some { answer.heads ≢ [] }
     requires on_stack { head.0 < length stack.now }
-    ensures kept { OnOk result (Appends D.Cx.Input.eq provisional.old provisional.new input
+    ensures kept { OnOk result (AppendsEntry D.Cx.Input.eq provisional.old provisional.new input
         (entry_of stack.now head.0 step answer)) }
 {
     let path_from_head = stack.path_kind(step, head);
@@ -87,7 +90,8 @@ fn store_for_good<D: Delegate>(
         IsStoredAt D.Cx.Input.eq cache.new.results input (place_of answer) answer.result) }
     ensures cache { ChangesResults D.Cx.Input.eq cache.old cache.new }
     ensures caused { IfErr result (IsCaused D.Delegate D.Cx.Cx D.Cx.Input.eq cache.new) }
-    ensures plain { (n : ℕ) → IsPlainTo (D.script cache.old.cx) n input → place_of answer ≡ Success →
+    ensures plain { (n : ℕ) → IsPlainTo (D.script cache.old.cx) n input →
+        place_of answer ≡ Success →
         IfErr result (λ fault. fault ≡ Memory) }
 {
     let token = cache.cx().dep_node(input);

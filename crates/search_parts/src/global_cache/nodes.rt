@@ -63,7 +63,8 @@ impl<D: Delegate> GlobalCache<D> {
         requires { CanFinish D.Cx.is_yes D.Cx.is_no (D.script self.old.cx) self.old.nodes node.0
             (ended_run replies.items edges.items outcome) }
         ensures ended { self.new ≡ record self.old {
-            nodes = with_run self.old.nodes node.0 (ended_run replies.items edges.items outcome) } }
+          nodes = with_run self.old.nodes node.0 (ended_run replies.items edges.items outcome);
+        } }
         ensures kept { KeepsFinished self.old.nodes self.new.nodes }
         ensures goals { KeepsGoals self.old.nodes self.new.nodes }
         ensures grown { HasGrown D.Cx.is_yes D.Cx.is_no self.old.nodes self.new.nodes }

@@ -3,7 +3,7 @@ ghost use Rattle.std.specs.Prelude.{◌≡◌, ◌≢◌, ◌↔◌, ◌<◌, �
 ghost use Rattle.std.specs.List.{filter, filter_map, find};
 ghost use Rattle.std.specs.Option.{option_copied};
 ghost use Rattle.search_parts.specs.Below.{highest};
-ghost use Rattle.search_parts.specs.Words.{entries_at, lists_of, Appends, PutsLast, rebased, settled, may_be_used, rests_on};
+ghost use Rattle.search_parts.specs.Words.{entries_at, lists_of, AppendsEntry, PutsLast, rebased, changed_for, may_be_used, depends_on};
 
 mod clearing;
 mod concerned;
@@ -60,14 +60,14 @@ pub struct ProvisionalCache<D: Delegate> {
 }
 
 impl<D: Delegate> Model for ProvisionalCache<D> {
-    ghost use Rattle.search_parts.specs.Provisional.{lists_of, Lists, AreKept};
+    ghost use Rattle.search_parts.specs.Provisional.{lists_of, Lists, AreEntryLists};
     ghost use Rattle.search_parts.specs.declared.parts.provisional_cache.ProvisionalCacheEntry.{ProvisionalCacheEntry};
 
     ghost Value = { Lists D.Cx.Input (ProvisionalCacheEntry D.Cx D.Cx.Input D.Cx.Result D.Cx.AmbiguityInfo D.Cx.DepNodeIndex) };
 
     ghost view = { λ c. lists_of c.lists.entries };
 
-    ghost invariant = { λ c. AreKept D.Cx.Input.eq (lists_of c.lists.entries) };
+    ghost invariant = { λ c. AreEntryLists D.Cx.Input.eq (lists_of c.lists.entries) };
 }
 
 impl<D: Delegate> ProvisionalCache<D> {
@@ -124,7 +124,7 @@ impl<D: Delegate> ProvisionalCache<D> {
     /// `clear_dependent_provisional_results_for_rerun`.
     pub fn clear_for_rerun(&mut self, index: StackDepth)
         ensures { (input : D.Cx.Input) → entries_at D.Cx.Input.eq self.new input
-            ≡ filter (λ entry. not (rests_on index entry)) (entries_at D.Cx.Input.eq self.old input) }
+            ≡ filter (λ entry. not (depends_on index entry)) (entries_at D.Cx.Input.eq self.old input) }
     {
         clearing::remove_users(&mut self.lists, index);
     }
@@ -144,7 +144,7 @@ impl<D: Delegate> ProvisionalCache<D> {
             → All (λ entry. All (λ head. head.0.0 ≤ length stack.now) entry.heads)
             (entries_at D.Cx.Input.eq self.old input) }
         ensures ok { OnOk result ((input : D.Cx.Input) → entries_at D.Cx.Input.eq self.new input
-            ≡ filter_map (rebased stack.now done.now (settled (D.propagated cx input) (D.fixpoint_overflow cx input) reason)) (entries_at D.Cx.Input.eq self.old input)) }
+            ≡ filter_map (rebased stack.now done.now (changed_for (D.propagated cx input) (D.fixpoint_overflow cx input) reason)) (entries_at D.Cx.Input.eq self.old input)) }
         ensures err { OnErr result (self.new ≡ []) }
     {
         if !concerned::concerns_lists(&self.lists, stack.next_index()) {
@@ -163,7 +163,7 @@ impl<D: Delegate> ProvisionalCache<D> {
         entry: ProvisionalCacheEntry<D::Cx>,
     ) -> Result<(), NoMemory>
         requires { entry.heads ≢ [] }
-        ensures ok { OnOk result (Appends D.Cx.Input.eq self.old self.new input entry) }
+        ensures ok { OnOk result (AppendsEntry D.Cx.Input.eq self.old self.new input entry) }
         ensures err { OnErr result (self.new ≡ self.old) }
     {
         append(&mut self.lists, self.alloc, input, entry)

@@ -2,7 +2,7 @@
 ghost use Rattle.std.specs.Prelude.{◌≡◌, ◌≢◌, ◌↔◌, [], not, IfSome, IsTrue};
 ghost use Rattle.std.specs.Map.{lookup};
 ghost use Rattle.std.specs.List.{filter};
-ghost use Rattle.search_parts.specs.Words.{entries_at, lists_of, is_used_at, rests_on};
+ghost use Rattle.search_parts.specs.Words.{entries_at, lists_of, is_used_at, depends_on};
 
 use crate::context::Cx;
 use crate::parts::depth::StackDepth;
@@ -17,14 +17,14 @@ pub(super) fn remove_users<I: Eq + Hash + Copy, X: Cx>(
     depth: StackDepth,
 )
     ensures others { (input : I) → entries_at I.eq (lists_of lists.new.entries) input
-        ≡ filter (λ entry. not (rests_on depth entry)) (entries_at I.eq (lists_of lists.old.entries) input) }
+        ≡ filter (λ entry. not (depends_on depth entry)) (entries_at I.eq (lists_of lists.old.entries) input) }
     ensures left { (input : I)
         → IfSome (lookup (I.eq input) (lists_of lists.new.entries)) (λ entries. entries ≢ []) }
 {
     lists.retain(
         |_, entries|
             ensures others { entries.new.items
-                ≡ filter (λ entry. not (rests_on depth entry)) entries.old.items }
+                ≡ filter (λ entry. not (depends_on depth entry)) entries.old.items }
             ensures left { IsTrue result ↔ (entries.new.items ≢ []) }
         { remove_users_of_list(entries, depth) },
     );
@@ -36,7 +36,7 @@ fn remove_users_of_list<X: Cx>(
     depth: StackDepth,
 ) -> bool
     ensures others { entries.new.items
-        ≡ filter (λ entry. not (rests_on depth entry)) entries.old.items }
+        ≡ filter (λ entry. not (depends_on depth entry)) entries.old.items }
     ensures left { IsTrue result ↔ (entries.new.items ≢ []) }
 {
     entries.retain(|entry| !is_used_at(&entry.heads, depth));

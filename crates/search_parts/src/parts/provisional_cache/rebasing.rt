@@ -4,7 +4,7 @@ ghost use Rattle.std.specs.List.{filter_map};
 ghost use Rattle.std.specs.Map.{lookup};
 ghost use Rattle.std.specs.Option.{option_map};
 ghost use Rattle.search_parts.specs.Below.{highest};
-ghost use Rattle.search_parts.specs.Words.{entries_at, lists_of, from_new_head, rebased, rebased_unused, rebased_used, settled, with_unused, with_used, CanBeRebased, settled_by};
+ghost use Rattle.search_parts.specs.Words.{entries_at, lists_of, from_new_head, rebased, rebased_unused, rebased_used, changed_for, with_unused, with_used, CanBeRebased, changed_by};
 
 use crate::context::{Cx, Delegate, NoMemory};
 use crate::parts::heads::{CycleHead, CycleHeads};
@@ -20,35 +20,35 @@ use std::hash::Hash;
 
 /// What becomes of the answer of an entry that used the goal that is done.
 #[derive(Drop)]
-pub(super) enum Settlement<X: Cx> {
+pub(super) enum EntryChange<X: Cx> {
     /// The entry is dropped.
     Dropped,
     /// The result becomes this one, without a node.
     Replaced(X::Result),
     /// It stays as it is.
-    Kept,
+    Unchanged,
     /// It stays as it is where the goal was used by cycles of this kind alone, and else is dropped.
-    KeptIfSingle(PathKind),
+    UnchangedIfSingle(PathKind),
 }
 
-impl<X: Cx> Settlement<X> {
+impl<X: Cx> EntryChange<X> {
     // What becomes of the entry, which used the goal that is done so often.
-    fn settle(
+    fn change_entry(
         &self,
         usages: HeadUsages,
         entry: ProvisionalCacheEntry<X>,
     ) -> Option<ProvisionalCacheEntry<X>>
-        ensures { result ≡ settled_by self.now usages entry }
+        ensures { result ≡ changed_by self.now usages entry }
     {
         match self {
-            Settlement::Dropped => None,
-            Settlement::Replaced(result) => Some(ProvisionalCacheEntry {
+            EntryChange::Dropped => None,
+            EntryChange::Replaced(result) => Some(ProvisionalCacheEntry {
                 result: *result,
                 node: None,
                 ..entry
             }),
-            Settlement::Kept => Some(entry),
-            Settlement::KeptIfSingle(kind) => {
+            EntryChange::Unchanged => Some(entry),
+            EntryChange::UnchangedIfSingle(kind) => {
                 if usages.is_single(*kind) {
                     Some(entry)
                 } else {
@@ -60,22 +60,22 @@ impl<X: Cx> Settlement<X> {
 }
 
 // What becomes of the answers of this goal.
-pub(super) fn settlement_for<D: Delegate>(
+pub(super) fn change_for<D: Delegate>(
     cx: D::Cx,
     input: <D::Cx as Cx>::Input,
     reason: &RebaseReason<D::Cx>,
-) -> Settlement<D::Cx>
-    ensures { settled_by result
-        ≡ settled (D.propagated cx input) (D.fixpoint_overflow cx input) reason.now }
+) -> EntryChange<D::Cx>
+    ensures { changed_by result
+        ≡ changed_for (D.propagated cx input) (D.fixpoint_overflow cx input) reason.now }
 {
     match reason {
-        RebaseReason::NoCycleUsages => Settlement::Dropped,
+        RebaseReason::NoCycleUsages => EntryChange::Dropped,
         RebaseReason::Ambiguity(info) => {
-            Settlement::Replaced(D::propagate_ambiguity(cx, input, *info))
+            EntryChange::Replaced(D::propagate_ambiguity(cx, input, *info))
         }
-        RebaseReason::Overflow => Settlement::Replaced(D::fixpoint_overflow_result(cx, input)),
-        RebaseReason::ReachedFixpoint(None) => Settlement::Kept,
-        RebaseReason::ReachedFixpoint(Some(kind)) => Settlement::KeptIfSingle(*kind),
+        RebaseReason::Overflow => EntryChange::Replaced(D::fixpoint_overflow_result(cx, input)),
+        RebaseReason::ReachedFixpoint(None) => EntryChange::Unchanged,
+        RebaseReason::ReachedFixpoint(Some(kind)) => EntryChange::UnchangedIfSingle(*kind),
     }
 }
 
@@ -90,22 +90,22 @@ pub(super) fn rebase_lists<D: Delegate>(
 ) -> Result<HashMap<<D::Cx as Cx>::Input, Vec<ProvisionalCacheEntry<D::Cx>>>, NoMemory>
     requires can { (input : D.Cx.Input)
         → All (CanBeRebased (length stack.now))
-            (entries_at D.Cx.Input.eq (lists_of lists.entries) input) }
+        (entries_at D.Cx.Input.eq (lists_of lists.entries) input) }
     requires on_stack { All (λ head. head.0.0 < length stack.now) done.now.state.heads }
     ensures rebased { IfOk result (λ left. (input : D.Cx.Input)
         → entries_at D.Cx.Input.eq (lists_of left.entries) input
         ≡ filter_map
-            (rebased stack.now done.now
-                (settled (D.propagated cx input) (D.fixpoint_overflow cx input) reason.now))
-            (entries_at D.Cx.Input.eq (lists_of lists.entries) input)) }
+        (rebased stack.now done.now
+        (changed_for (D.propagated cx input) (D.fixpoint_overflow cx input) reason.now))
+        (entries_at D.Cx.Input.eq (lists_of lists.entries) input)) }
     ensures left { IfOk result (λ left. (input : D.Cx.Input)
         → IfSome (lookup (D.Cx.Input.eq input) (lists_of left.entries)) (λ entries. entries ≢ [])) }
 {
     let mut left = HashMap::new(alloc);
     left.reserve(lists.len())?;
     for (input, entries) in lists {
-        let settlement = settlement_for::<D>(cx, input, reason);
-        let entries = rebase_list(alloc, entries, done, stack, &settlement)?;
+        let entry_change = change_for::<D>(cx, input, reason);
+        let entries = rebase_list(alloc, entries, done, stack, &entry_change)?;
         if !entries.is_empty() {
             insert_list(&mut left, input, entries)?;
         }
@@ -132,19 +132,19 @@ pub(super) fn rebase_list<X: Cx>(
     entries: Vec<ProvisionalCacheEntry<X>>,
     done: &StackEntry<X>,
     stack: &Stack<X>,
-    settlement: &Settlement<X>,
+    entry_change: &EntryChange<X>,
 ) -> Result<Vec<ProvisionalCacheEntry<X>>, NoMemory>
     requires can { All (CanBeRebased (length stack.now)) entries.items }
     requires on_stack { All (λ head. head.0.0 < length stack.now) done.now.state.heads }
     ensures { IfOk result (λ left.
-        left.items ≡ filter_map (rebased stack.now done.now (settled_by settlement.now)) entries.items) }
+        left.items ≡ filter_map (rebased stack.now done.now (changed_by entry_change.now)) entries.items) }
 {
     if !concerns_list(entries.as_slice(), stack.next_index()) {
         return Ok(entries);
     }
     let mut left = Vec::new(alloc);
     for entry in entries {
-        if let Some(entry) = rebase_entry(entry, done, stack, settlement)? {
+        if let Some(entry) = rebase_entry(entry, done, stack, entry_change)? {
             left.push(entry)?;
         }
     }
@@ -156,12 +156,12 @@ fn rebase_entry<X: Cx>(
     entry: ProvisionalCacheEntry<X>,
     done: &StackEntry<X>,
     stack: &Stack<X>,
-    settlement: &Settlement<X>,
+    entry_change: &EntryChange<X>,
 ) -> Result<Option<ProvisionalCacheEntry<X>>, NoMemory>
     requires can { CanBeRebased (length stack.now) entry }
     requires on_stack { All (λ head. head.0.0 < length stack.now) done.now.state.heads }
     ensures { IfOk result (λ after.
-        after ≡ rebased stack.now done.now (settled_by settlement.now) entry) }
+        after ≡ rebased stack.now done.now (changed_by entry_change.now) entry) }
 {
     let (depth, head) = entry.heads.highest_cycle_head();
     if depth != stack.next_index() {
@@ -170,7 +170,7 @@ fn rebase_entry<X: Cx>(
     if head.usages.is_empty() {
         return rebase_unused(entry, done, stack);
     }
-    rebase_used(entry, head, done, stack, settlement)
+    rebase_used(entry, head, done, stack, entry_change)
 }
 
 // The entry without its highest head, which it didn't use.
@@ -202,17 +202,17 @@ fn rebase_used<X: Cx>(
     head: CycleHead,
     done: &StackEntry<X>,
     stack: &Stack<X>,
-    settlement: &Settlement<X>,
+    entry_change: &EntryChange<X>,
 ) -> Result<Option<ProvisionalCacheEntry<X>>, NoMemory>
     requires can { CanBeRebased (length stack.now) entry }
     requires on_stack { All (λ head. head.0.0 < length stack.now) done.now.state.heads }
     ensures { IfOk result (λ after.
-        after ≡ rebased_used stack.now done.now (settled_by settlement.now) entry head) }
+        after ≡ rebased_used stack.now done.now (changed_by entry_change.now) entry head) }
 {
     if !keeps_kinds(entry.path_from_head, head.paths_to_head, done, stack) {
         return Ok(None);
     }
-    let Some(mut entry) = settlement.settle(head.usages, entry) else {
+    let Some(mut entry) = entry_change.change_entry(head.usages, entry) else {
         return Ok(None);
     };
     let _ = entry.heads.remove_highest_cycle_head();

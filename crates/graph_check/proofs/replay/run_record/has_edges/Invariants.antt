@@ -1,4 +1,4 @@
-use Rattle.graph_check.proofs.KeptQuestions.{IsLeft}
+use Rattle.graph_check.proofs.CountedQuestions.{IsLeft}
 use Rattle.graph_check.proofs.replay.run_record.has_edges.Given as goal
 
 abbrev pub invariant-loop-asked : goal.invariant-loop-asked

@@ -2,15 +2,15 @@ use Rattle.std.proofs.Common.{sym, ap, subst, ◌∙◌}
 use Rattle.std.specs.Option.{IsSomeAnd}
 use Rattle.search_graph.specs.Below.{open_goal, with_run, IsRun, KeepsFinished, edges_of}
 use Rattle.search_parts.proofs.Finished.{KeepsFinished-ended}
-use Rattle.search_graph.proofs.Finishing.{again, definite_result, open_for_run, settled, left_open}
+use Rattle.search_graph.proofs.Finishing.{again, definite_result, open_for_run, ended_node, left_open}
 use Rattle.search_graph.proofs.Verdicts.{fails_at}
 use Rattle.search_graph.proofs.graph.nodes.result_node.Goals as goal
 
-pub returns-in-Neither-clause-settled : goal.returns-in-Neither-clause-settled
-returns-in-Neither-clause-settled g c = left_open g.D.Cx.Cx.is_yes g.D.Cx.Cx.is_no c.args.cache.now.nodes c.args.state.now.provisional_result c.args.own_node c.args.state.now.node c.args.progress c.args.outcome c.sort-verdict.result c.sort-verdict.ensures.yes c.sort-verdict.ensures.no c.in-Neither.is
+pub returns-in-Neither-clause-has_node : goal.returns-in-Neither-clause-has_node
+returns-in-Neither-clause-has_node g c = left_open g.D.Cx.Cx.is_yes g.D.Cx.Cx.is_no c.args.cache.now.nodes c.args.state.now.provisional_result c.args.own_node c.args.state.now.node c.args.progress c.args.outcome c.sort-verdict.result c.sort-verdict.ensures.yes c.sort-verdict.ensures.no c.in-Neither.is
 
-pub returns-then-says_again-clause-settled : goal.returns-then-says_again-clause-settled
-returns-then-says_again-clause-settled g c =
+pub returns-then-says_again-clause-has_node : goal.returns-then-says_again-clause-has_node
+returns-then-says_again-clause-has_node g c =
     again g.D.Cx.Cx.is_yes g.D.Cx.Cx.is_no c.args.cache.now.nodes c.args.state.now.provisional_result c.args.own_node c.args.state.now.node c.args.progress c.args.outcome c.sort-verdict.result c.sort-verdict.ensures.yes c.sort-verdict.ensures.no c.in_default.not-Neither (c.says_again.ensures.0 c.if-says_again.true)
 
 pub finish_node-requires : goal.finish_node-requires
@@ -19,9 +19,9 @@ finish_node-requires g c =
     (subst (λ edges. IsSomeAnd (open_goal c.args.cache.now.nodes c.args.own_node.0) (λ goal. IsRun g.D.Cx.Cx.is_yes g.D.Cx.Cx.is_no (g.D.Delegate.script c.args.cache.now.cx goal) c.args.cache.now.nodes (record { replies = c.args.progress.replies; edges = edges; outcome = c.args.outcome }))) (sym c.in_ok-edges.ensures)
     (open_for_run g.D.Cx.Cx.is_yes g.D.Cx.Cx.is_no (g.D.Delegate.script c.args.cache.now.cx) c.args.cache.now.nodes c.args.own_node c.args.progress c.args.outcome (c.requires (definite_result g.D.Cx.Cx.is_yes g.D.Cx.Cx.is_no c.args.cache.now.nodes c.args.state.now.provisional_result c.args.own_node c.args.state.now.node c.args.progress c.args.outcome c.sort-verdict.result c.sort-verdict.ensures.yes c.sort-verdict.ensures.no c.in_default.not-Neither)) c.sort-verdict.result c.sort-verdict.ensures.yes c.sort-verdict.ensures.no))
 
-pub returns-clause-settled : goal.returns-clause-settled
-returns-clause-settled g c =
-    settled g.D.Cx.Cx.is_yes g.D.Cx.Cx.is_no (g.D.Delegate.script c.args.cache.now.cx) c.args.cache.now.nodes c.args.own_node c.args.progress c.args.outcome (c.requires (definite_result g.D.Cx.Cx.is_yes g.D.Cx.Cx.is_no c.args.cache.now.nodes c.args.state.now.provisional_result c.args.own_node c.args.state.now.node c.args.progress c.args.outcome c.sort-verdict.result c.sort-verdict.ensures.yes c.sort-verdict.ensures.no c.in_default.not-Neither)) c.sort-verdict.result c.sort-verdict.ensures.yes c.sort-verdict.ensures.no c.in_default.not-Neither c.args.state.now.provisional_result c.args.state.now.node
+pub returns-clause-has_node : goal.returns-clause-has_node
+returns-clause-has_node g c =
+    ended_node g.D.Cx.Cx.is_yes g.D.Cx.Cx.is_no (g.D.Delegate.script c.args.cache.now.cx) c.args.cache.now.nodes c.args.own_node c.args.progress c.args.outcome (c.requires (definite_result g.D.Cx.Cx.is_yes g.D.Cx.Cx.is_no c.args.cache.now.nodes c.args.state.now.provisional_result c.args.own_node c.args.state.now.node c.args.progress c.args.outcome c.sort-verdict.result c.sort-verdict.ensures.yes c.sort-verdict.ensures.no c.in_default.not-Neither)) c.sort-verdict.result c.sort-verdict.ensures.yes c.sort-verdict.ensures.no c.in_default.not-Neither c.args.state.now.provisional_result c.args.state.now.node
     (λ says. fails_at c.if-says_again.false (c.says_again.ensures.1 says)) c.finish_node.new.self.nodes
     (ap (λ cache. cache.nodes) c.finish_node.ensures.ended
     ∙ ap (λ replies. with_run c.args.cache.now.nodes c.args.own_node.0 (record { replies = replies; edges = c.in_ok-edges.edges.items; outcome = c.args.outcome })) c.into_replies-replies.ensures

@@ -1,17 +1,17 @@
 use Rattle.std.proofs.Common.{sym, subst}
 use Rattle.search_parts.specs.Below.{Grown}
-use Rattle.search_parts.specs.Words.{KeepsFinished, KeepsGoals, IsSound, shapes_of}
+use Rattle.search_parts.specs.Words.{KeepsFinished, KeepsGoals, IsSoundCache, shapes_of}
 use Rattle.search_parts.proofs.Finished.{KeepsFinished-ended}
 use Rattle.search_parts.proofs.Nodes.{KeepsGoals-ended, Grown-ended}
 use Rattle.search_parts.proofs.Slots.{nodes_ended, cache_ended}
-use Rattle.search_parts.proofs.Sound.{IsSound-ended}
+use Rattle.search_parts.proofs.Sound.{IsSoundCache-ended}
 use Rattle.search_parts.proofs.global_cache.GlobalCache.finish_node.Goals as goal
 
 pub invariant_of-self : goal.invariant_of-self
 invariant_of-self g c =
-    subst (IsSound g.D.Cx.Input.PartialEq.eq g.D.Cx.Cx.is_yes g.D.Cx.Cx.is_no g.D.Delegate.script) (sym (cache_ended _ _ _ _ _ _ _ _ c.self.view_is c.index.ensures c.input-input.ensures c.requires))
-    (IsSound-ended g.D.Cx.Input.PartialEq.eq g.D.Cx.Cx.is_yes g.D.Cx.Cx.is_no g.D.Delegate.script c.args.self.now
-    (subst (IsSound g.D.Cx.Input.PartialEq.eq g.D.Cx.Cx.is_yes g.D.Cx.Cx.is_no g.D.Delegate.script) c.self.view_is c.self.invariant) c.args.node.0 _ c.requires)
+    subst (IsSoundCache g.D.Cx.Input.PartialEq.eq g.D.Cx.Cx.is_yes g.D.Cx.Cx.is_no g.D.Delegate.script) (sym (cache_ended _ _ _ _ _ _ _ _ c.self.view_is c.index.ensures c.input-input.ensures c.requires))
+    (IsSoundCache-ended g.D.Cx.Input.PartialEq.eq g.D.Cx.Cx.is_yes g.D.Cx.Cx.is_no g.D.Delegate.script c.args.self.now
+    (subst (IsSoundCache g.D.Cx.Input.PartialEq.eq g.D.Cx.Cx.is_yes g.D.Cx.Cx.is_no g.D.Delegate.script) c.self.view_is c.self.invariant) c.args.node.0 _ c.requires)
 
 pub returns-clause-ended : goal.returns-clause-ended
 returns-clause-ended g c = cache_ended _ _ _ _ _ _ _ _ c.self.view_is c.index.ensures c.input-input.ensures c.requires

@@ -6,11 +6,11 @@ use Rattle.search_parts.proofs.global_cache.GlobalCache.get.Goals as goal
 pub returns : goal.returns
 returns g c =
     let worth = found_is_worth g.D.Cx.Input.PartialEq.eq g.D.Cx.Cx.is_yes g.D.Cx.Cx.is_no g.D.Delegate.script c.self.inside.cx _ c.self.inside.results.entries c.args.self.now c.self.view_is c.self.invariant
-    (g.T.NestedTest.accepts c.args.test.now) c.args.input c.args.available.0 c.look_up.result c.look_up.ensures in
+    (g.T.NestedTest.accepts c.args.test.now) c.args.input c.args.available.0 c.usable_result.result c.usable_result.ensures in
     record {
       found = search rules;
-      graph = IfSome-weaker _ _ (λ hit w. w.graph) c.look_up.result worth;
-      value = IfSome-weaker _ _ (λ hit w. w.value) c.look_up.result worth;
-      overflow = IfSome-weaker _ _ (λ hit w. w.overflow) c.look_up.result worth;
-      within = IfSome-weaker _ _ (λ hit w. w.within) c.look_up.result worth;
+      graph = IfSome-weaker _ _ (λ hit w. w.graph) c.usable_result.result worth;
+      value = IfSome-weaker _ _ (λ hit w. w.value) c.usable_result.result worth;
+      overflow = IfSome-weaker _ _ (λ hit w. w.overflow) c.usable_result.result worth;
+      within = IfSome-weaker _ _ (λ hit w. w.within) c.usable_result.result worth;
     }

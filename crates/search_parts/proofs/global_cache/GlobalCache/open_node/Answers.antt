@@ -1,16 +1,16 @@
 use Rattle.std.proofs.Common.{is_ok, sym, subst}
 use Rattle.search_parts.specs.Below.{Grown}
-use Rattle.search_parts.specs.Words.{KeepsNodes, KeepsGoals, IsSound, shapes_of}
+use Rattle.search_parts.specs.Words.{KeepsNodes, KeepsGoals, IsSoundCache, shapes_of}
 use Rattle.search_parts.proofs.Nodes.{KeepsNodes-appended, KeepsGoals-appended, Grown-appended}
 use Rattle.search_parts.proofs.Slots.{nodes_pushed, cache_pushed}
-use Rattle.search_parts.proofs.Sound.{IsSound-appended}
+use Rattle.search_parts.proofs.Sound.{IsSoundCache-appended}
 use Rattle.search_parts.proofs.global_cache.GlobalCache.open_node.Goals as goal
 
 pub invariant_of-self-2 : goal.invariant_of-self-2
 invariant_of-self-2 g c =
-    subst (IsSound g.D.Cx.Input.PartialEq.eq g.D.Cx.Cx.is_yes g.D.Cx.Cx.is_no g.D.Delegate.script) (sym (cache_pushed _ _ _ _ _ _ _ c.self.view_is c.push.ensures.items))
-    (IsSound-appended g.D.Cx.Input.PartialEq.eq g.D.Cx.Cx.is_yes g.D.Cx.Cx.is_no g.D.Delegate.script c.args.self.now
-    (subst (IsSound g.D.Cx.Input.PartialEq.eq g.D.Cx.Cx.is_yes g.D.Cx.Cx.is_no g.D.Delegate.script) c.self.view_is c.self.invariant) (is_ok c.push.result) c.args.input)
+    subst (IsSoundCache g.D.Cx.Input.PartialEq.eq g.D.Cx.Cx.is_yes g.D.Cx.Cx.is_no g.D.Delegate.script) (sym (cache_pushed _ _ _ _ _ _ _ c.self.view_is c.push.ensures.items))
+    (IsSoundCache-appended g.D.Cx.Input.PartialEq.eq g.D.Cx.Cx.is_yes g.D.Cx.Cx.is_no g.D.Delegate.script c.args.self.now
+    (subst (IsSoundCache g.D.Cx.Input.PartialEq.eq g.D.Cx.Cx.is_yes g.D.Cx.Cx.is_no g.D.Delegate.script) c.self.view_is c.self.invariant) (is_ok c.push.result) c.args.input)
 
 pub returns-clause-kept : goal.returns-clause-kept
 returns-clause-kept g c =

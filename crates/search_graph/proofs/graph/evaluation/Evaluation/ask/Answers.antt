@@ -22,9 +22,9 @@ look_up_entry-requires g c =
 
 pub returns-in-Some-look_up_entry-clause-asked : goal.returns-in-Some-look_up_entry-clause-asked
 returns-in-Some-look_up_entry-clause-asked g c =
-    ByEntry c.in-Some.depth c.in-Some-look_up_entry.entry.now c.note_kept.new.self c.in-Some.ensures
+    ByEntry c.in-Some.depth c.in-Some-look_up_entry.entry.now c.note_provisional.new.self c.in-Some.ensures
     (subst (λ stack. usable_entry g.D.Cx.Input.PartialEq.eq g.D.Delegate.ENABLE_PROVISIONAL_CACHE (record { stack = stack; entries = c.args.self.now.provisional; step = c.args.kind }) c.args.input ≡ Some c.in-Some-look_up_entry.entry.now) c.stack-stack.ensures (sym c.in-Some-look_up_entry.ensures))
-    c.in_ok-note_kept.ensures
+    c.in_ok-note_provisional.ensures
 
 -- a stored result answers it
 pub look_up-requires : goal.look_up-requires

@@ -50,7 +50,7 @@ store_answer-requires-clause-storable g c = record {
   graph =
       subst (λ (a : EvaluationResult _ _ _ _ _). a.heads ≡ [] → HasGraph g.D.Cx.Cx.is_yes g.D.Cx.Cx.is_no c.result_node.new.cache.nodes c.input-input.result a.result a.node) (sym c.finalize-answer.ensures)
       (λ none. subst (λ i. HasGraph g.D.Cx.Cx.is_yes g.D.Cx.Cx.is_no c.result_node.new.cache.nodes i c.args.outcome c.in_ok-node.node) (sym c.input-input.ensures)
-      (headless_graph g.D.Cx.Cx.is_yes g.D.Cx.Cx.is_no c.args.cache.now.nodes c.result_node.new.cache.nodes c.args.self.now.goals c.pop-entry.result.0 c.pop-entry.result.1 c.pop-entry.new.self c.pop-entry.ensures c.args.outcome c.in_ok-node.node c.requires.right.justified c.in_ok-node.ensures.settled none));
+      (headless_graph g.D.Cx.Cx.is_yes g.D.Cx.Cx.is_no c.args.cache.now.nodes c.result_node.new.cache.nodes c.args.self.now.goals c.pop-entry.result.0 c.pop-entry.result.1 c.pop-entry.new.self c.pop-entry.ensures c.args.outcome c.in_ok-node.node c.requires.right.justified c.in_ok-node.ensures.has_node none));
   plain =
       subst (λ (a : EvaluationResult _ _ _ _ _). IsPlainAt (g.D.Delegate.script c.result_node.new.cache.cx) c.input-input.result (place_of a) a.result) (sym c.finalize-answer.ensures)
       (subst (λ i. IsPlainAt (g.D.Delegate.script c.result_node.new.cache.cx) i (place_of (final_answer (c.pop-entry.result.0, c.pop-entry.result.1) c.args.outcome c.in_ok-node.node)) c.args.outcome) (sym c.input-input.ensures)
@@ -69,7 +69,7 @@ pub returns-in_err-next-clause-plain : goal.returns-in_err-next-clause-plain
 returns-in_err-next-clause-plain g c = λ n plain. if_err_and c.from_residual-in_err-next.result _ _ c.from_residual-in_err-next.ensures.1 (λ e is. is)
 
 pub returns-in_err-store_answer-clause-stored : goal.returns-in_err-store_answer-clause-stored
-returns-in_err-store_answer-clause-stored g c = newest_stored g.D.Cx.Cx.is_yes g.D.Cx.Cx.is_no c.args.cache.now.nodes c.result_node.new.cache.nodes c.args.self.now.goals c.pop-entry.result.0 c.pop-entry.result.1 c.pop-entry.new.self c.pop-entry.ensures c.args.outcome c.in_ok-node.node c.requires.right.justified c.in_ok-node.ensures.settled g.D.Cx.Input.PartialEq.eq c.args.cache.now.results c.store_answer.new.cache.results
+returns-in_err-store_answer-clause-stored g c = newest_stored g.D.Cx.Cx.is_yes g.D.Cx.Cx.is_no c.args.cache.now.nodes c.result_node.new.cache.nodes c.args.self.now.goals c.pop-entry.result.0 c.pop-entry.result.1 c.pop-entry.new.self c.pop-entry.ensures c.args.outcome c.in_ok-node.node c.requires.right.justified c.in_ok-node.ensures.has_node g.D.Cx.Input.PartialEq.eq c.args.cache.now.results c.store_answer.new.cache.results
     (subst (λ before. StoresAnswer g.D.Cx.Input.PartialEq.eq before c.store_answer.new.cache.results c.pop-entry.result.0.input (final_answer (c.pop-entry.result.0, c.pop-entry.result.1) c.args.outcome c.in_ok-node.node)) c.in_ok-node.ensures.same_results
     (subst (λ i. StoresAnswer g.D.Cx.Input.PartialEq.eq c.result_node.new.cache.results c.store_answer.new.cache.results i (final_answer (c.pop-entry.result.0, c.pop-entry.result.1) c.args.outcome c.in_ok-node.node)) c.input-input.ensures
     (subst (λ (a : EvaluationResult _ _ _ _ _). StoresAnswer g.D.Cx.Input.PartialEq.eq c.result_node.new.cache.results c.store_answer.new.cache.results c.input-input.result a) c.finalize-answer.ensures c.store_answer.ensures.stored)))
@@ -98,7 +98,7 @@ returns-clause-keeps g c = record {
 }
 
 pub returns-clause-stored : goal.returns-clause-stored
-returns-clause-stored g c = newest_stored g.D.Cx.Cx.is_yes g.D.Cx.Cx.is_no c.args.cache.now.nodes c.result_node.new.cache.nodes c.args.self.now.goals c.pop-entry.result.0 c.pop-entry.result.1 c.pop-entry.new.self c.pop-entry.ensures c.args.outcome c.in_ok-node.node c.requires.right.justified c.in_ok-node.ensures.settled g.D.Cx.Input.PartialEq.eq c.args.cache.now.results c.store_answer.new.cache.results
+returns-clause-stored g c = newest_stored g.D.Cx.Cx.is_yes g.D.Cx.Cx.is_no c.args.cache.now.nodes c.result_node.new.cache.nodes c.args.self.now.goals c.pop-entry.result.0 c.pop-entry.result.1 c.pop-entry.new.self c.pop-entry.ensures c.args.outcome c.in_ok-node.node c.requires.right.justified c.in_ok-node.ensures.has_node g.D.Cx.Input.PartialEq.eq c.args.cache.now.results c.store_answer.new.cache.results
     (subst (λ before. StoresAnswer g.D.Cx.Input.PartialEq.eq before c.store_answer.new.cache.results c.pop-entry.result.0.input (final_answer (c.pop-entry.result.0, c.pop-entry.result.1) c.args.outcome c.in_ok-node.node)) c.in_ok-node.ensures.same_results
     (subst (λ i. StoresAnswer g.D.Cx.Input.PartialEq.eq c.result_node.new.cache.results c.store_answer.new.cache.results i (final_answer (c.pop-entry.result.0, c.pop-entry.result.1) c.args.outcome c.in_ok-node.node)) c.input-input.ensures
     (subst (λ (a : EvaluationResult _ _ _ _ _). StoresAnswer g.D.Cx.Input.PartialEq.eq c.result_node.new.cache.results c.store_answer.new.cache.results c.input-input.result a) c.finalize-answer.ensures c.store_answer.ensures.stored)))
@@ -108,7 +108,7 @@ returns-clause-popped g c =
     subst (λ after. Pops g.D.Delegate g.D.Cx.Cx g.D.Cx.Input.PartialEq.eq c.args.outcome c.args.reason c.args.cache.now c.args.self.now c.in_ok-next.next c.store_answer.new.cache after) (sym c.store_answer.ensures.rest)
     (record {
       left =
-          given_leaves g.D.Cx.Cx.is_yes g.D.Cx.Cx.is_no c.args.cache.now.nodes c.result_node.new.cache.nodes c.args.self.now.goals c.pop-entry.result.0 c.pop-entry.result.1 c.pop-entry.new.self c.pop-entry.ensures c.args.outcome c.in_ok-node.node c.requires.right.justified c.in_ok-node.ensures.settled c.give_answer.new.goals c.in_ok-next.next
+          given_leaves g.D.Cx.Cx.is_yes g.D.Cx.Cx.is_no c.args.cache.now.nodes c.result_node.new.cache.nodes c.args.self.now.goals c.pop-entry.result.0 c.pop-entry.result.1 c.pop-entry.new.self c.pop-entry.ensures c.args.outcome c.in_ok-node.node c.requires.right.justified c.in_ok-node.ensures.has_node c.give_answer.new.goals c.in_ok-next.next
           (subst (λ step. GivesAnswer step (final_answer (c.pop-entry.result.0, c.pop-entry.result.1) c.args.outcome c.in_ok-node.node) c.pop-entry.new.self c.in_ok-next.next c.give_answer.new.goals) c.step_kind_from_parent-step.ensures
           (subst (λ (a : EvaluationResult _ _ _ _ _). GivesAnswer c.step_kind_from_parent-step.result a c.pop-entry.new.self c.in_ok-next.next c.give_answer.new.goals) c.finalize-answer.ensures c.in_ok-next.ensures));
       stored =
@@ -121,12 +121,12 @@ returns-clause-popped g c =
       right = record {
         justified =
             subst (λ nodes. IsJustifiedNext g.D.Cx.Cx.is_yes g.D.Cx.Cx.is_no nodes c.args.self.now.goals c.give_answer.new.goals c.in_ok-next.next) (sym (ap (λ cache. cache.nodes) c.store_answer.ensures.cache.rest))
-            (given_justified g.D.Cx.Cx.is_yes g.D.Cx.Cx.is_no c.args.cache.now.nodes c.result_node.new.cache.nodes c.args.self.now.goals c.pop-entry.result.0 c.pop-entry.result.1 c.pop-entry.new.self c.pop-entry.ensures c.args.outcome c.in_ok-node.node c.requires.right.justified c.in_ok-node.ensures.settled c.give_answer.new.goals c.in_ok-next.next
+            (given_justified g.D.Cx.Cx.is_yes g.D.Cx.Cx.is_no c.args.cache.now.nodes c.result_node.new.cache.nodes c.args.self.now.goals c.pop-entry.result.0 c.pop-entry.result.1 c.pop-entry.new.self c.pop-entry.ensures c.args.outcome c.in_ok-node.node c.requires.right.justified c.in_ok-node.ensures.has_node c.give_answer.new.goals c.in_ok-next.next
             (subst (λ step. GivesAnswer step (final_answer (c.pop-entry.result.0, c.pop-entry.result.1) c.args.outcome c.in_ok-node.node) c.pop-entry.new.self c.in_ok-next.next c.give_answer.new.goals) c.step_kind_from_parent-step.ensures
             (subst (λ (a : EvaluationResult _ _ _ _ _). GivesAnswer c.step_kind_from_parent-step.result a c.pop-entry.new.self c.in_ok-next.next c.give_answer.new.goals) c.finalize-answer.ensures c.in_ok-next.ensures)));
         free =
             subst (λ nodes. AreFree g.D.Cx.Cx.is_yes g.D.Cx.Cx.is_no g.D.Cx.Input.PartialEq.eq nodes (runs_of c.give_answer.new.goals) c.store_answer.new.cache.results) (sym (ap (λ cache. cache.nodes) c.store_answer.ensures.cache.rest))
-            (given_free g.D.Cx.Cx.is_yes g.D.Cx.Cx.is_no c.args.cache.now.nodes c.result_node.new.cache.nodes c.args.self.now.goals c.pop-entry.result.0 c.pop-entry.result.1 c.pop-entry.new.self c.pop-entry.ensures c.args.outcome c.in_ok-node.node c.requires.right.justified c.in_ok-node.ensures.settled g.D.Cx.Input.PartialEq.eq g.met.D.Cx.Cx.same_input c.args.cache.now.results c.store_answer.new.cache.results c.give_answer.new.goals c.in_ok-next.next
+            (given_free g.D.Cx.Cx.is_yes g.D.Cx.Cx.is_no c.args.cache.now.nodes c.result_node.new.cache.nodes c.args.self.now.goals c.pop-entry.result.0 c.pop-entry.result.1 c.pop-entry.new.self c.pop-entry.ensures c.args.outcome c.in_ok-node.node c.requires.right.justified c.in_ok-node.ensures.has_node g.D.Cx.Input.PartialEq.eq g.met.D.Cx.Cx.same_input c.args.cache.now.results c.store_answer.new.cache.results c.give_answer.new.goals c.in_ok-next.next
             (subst (λ step. GivesAnswer step (final_answer (c.pop-entry.result.0, c.pop-entry.result.1) c.args.outcome c.in_ok-node.node) c.pop-entry.new.self c.in_ok-next.next c.give_answer.new.goals) c.step_kind_from_parent-step.ensures
             (subst (λ (a : EvaluationResult _ _ _ _ _). GivesAnswer c.step_kind_from_parent-step.result a c.pop-entry.new.self c.in_ok-next.next c.give_answer.new.goals) c.finalize-answer.ensures c.in_ok-next.ensures))
             (subst (λ before. StoresAnswer g.D.Cx.Input.PartialEq.eq before c.store_answer.new.cache.results c.pop-entry.result.0.input (final_answer (c.pop-entry.result.0, c.pop-entry.result.1) c.args.outcome c.in_ok-node.node)) c.in_ok-node.ensures.same_results
@@ -136,7 +136,7 @@ returns-clause-popped g c =
             subst (λ nodes. AreReady g.D.Cx.Cx.is_yes g.D.Cx.Cx.is_no g.D.Cx.Input.PartialEq.eq (g.D.Delegate.script c.args.cache.now.cx) nodes (runs_of c.give_answer.new.goals) c.store_answer.new.self.provisional) (sym (ap (λ cache. cache.nodes) c.store_answer.ensures.cache.rest))
             (rebased_ready g.D.Cx.Cx.is_yes g.D.Cx.Cx.is_no g.D.Cx.Input.PartialEq.eq g.met.D.Cx.Cx.same_input (g.D.Delegate.script c.args.cache.now.cx) c.args.cache.now.nodes c.result_node.new.cache.nodes (c.pop-entry.result.0, c.pop-entry.result.1) c.pop-entry.new.self c.args.outcome c.in_ok-node.node
             (subst (λ l. AreJustified g.D.Cx.Cx.is_yes g.D.Cx.Cx.is_no c.args.cache.now.nodes (runs_of l)) c.pop-entry.ensures c.requires.right.justified)
-            (rebases g.D.Cx.Cx.is_yes g.D.Cx.Cx.is_no c.args.cache.now.nodes c.result_node.new.cache.nodes c.pop-entry.result.0 c.pop-entry.result.1 c.pop-entry.new.self (subst (λ l. AreJustified g.D.Cx.Cx.is_yes g.D.Cx.Cx.is_no c.args.cache.now.nodes (runs_of l)) c.pop-entry.ensures c.requires.right.justified) c.args.outcome c.in_ok-node.node c.in_ok-node.ensures.settled)
+            (rebases g.D.Cx.Cx.is_yes g.D.Cx.Cx.is_no c.args.cache.now.nodes c.result_node.new.cache.nodes c.pop-entry.result.0 c.pop-entry.result.1 c.pop-entry.new.self (subst (λ l. AreJustified g.D.Cx.Cx.is_yes g.D.Cx.Cx.is_no c.args.cache.now.nodes (runs_of l)) c.pop-entry.ensures c.requires.right.justified) c.args.outcome c.in_ok-node.node c.in_ok-node.ensures.has_node)
             (g.D.Delegate.propagated c.args.cache.now.cx) (g.D.Delegate.fixpoint_overflow c.args.cache.now.cx)
             (λ goal info. neither_is g.D.Cx.Cx.is_yes g.D.Cx.Cx.is_no (g.D.Delegate.propagated c.args.cache.now.cx goal info) (g.met.D.Delegate.propagated_is_neither c.args.cache.now.cx goal info))
             (λ goal. neither_is g.D.Cx.Cx.is_yes g.D.Cx.Cx.is_no (g.D.Delegate.fixpoint_overflow c.args.cache.now.cx goal) (g.met.D.Delegate.fixpoint_overflow_is_neither c.args.cache.now.cx goal))

@@ -1,11 +1,11 @@
 use Rattle.std.proofs.lemmas.Result.{on_ok_weaker}
 use Rattle.search_parts.specs.Words.{lists_of}
-use Rattle.search_parts.proofs.ProvisionalLists.{kept_after, appends}
+use Rattle.search_parts.proofs.ProvisionalLists.{lists_after, appends}
 use Rattle.search_parts.proofs.parts.provisional_cache.ProvisionalCache.push.Goals as goal
 
 pub invariant_of-self : goal.invariant_of-self
 invariant_of-self g c =
-    kept_after g.D.Cx.Input.PartialEq.eq (lists_of c.self.inside.lists.entries) (lists_of c.append.new.lists.entries) c.args.input c.args.entry c.requires c.self.invariant
+    lists_after g.D.Cx.Input.PartialEq.eq (lists_of c.self.inside.lists.entries) (lists_of c.append.new.lists.entries) c.args.input c.args.entry c.requires c.self.invariant
     c.append.result c.append.ensures.ok c.append.ensures.err
 
 pub returns-clause-ok : goal.returns-clause-ok

@@ -1,7 +1,7 @@
 use Rattle.std.proofs.Common.{rules, ◌≡◌, ◌∙◌, false, sym}
-use Rattle.search_parts.specs.Words.{entries_at, lists_of, settled}
+use Rattle.search_parts.specs.Words.{entries_at, lists_of, changed_for}
 use Rattle.search_parts.proofs.Concerned.{all_stay, is_concerned, none_at}
-use Rattle.search_parts.proofs.RebasedKept.{can_be_rebased, kept_rebased}
+use Rattle.search_parts.proofs.RebasedEntryLists.{can_be_rebased, lists_rebased}
 use Rattle.search_parts.proofs.parts.provisional_cache.ProvisionalCache.rebase.Goals as goal
 
 pub rebase_lists-requires-clause-can : goal.rebase_lists-requires-clause-can
@@ -17,8 +17,8 @@ invariant_of-self-2 g c =
     let old = lists_of c.self.inside.lists.entries in
     let new = lists_of c.in_ok-self-inside.field-0.entries in
     let leaves = rw c.replace-lists.ensures.value at c.in_ok-self-inside.ensures.rebased in
-    kept_rebased c.args.stack.now c.args.done.now same old new c.self.invariant
-    (λ input. settled (g.D.Delegate.propagated c.args.cx input) (g.D.Delegate.fixpoint_overflow c.args.cx input) c.args.reason)
+    lists_rebased c.args.stack.now c.args.done.now same old new c.self.invariant
+    (λ input. changed_for (g.D.Delegate.propagated c.args.cx input) (g.D.Delegate.fixpoint_overflow c.args.cx input) c.args.reason)
     leaves c.in_ok-self-inside.ensures.left
 
 -- where no entry is concerned, all stay
@@ -29,5 +29,5 @@ returns-then-not-concerns_lists-clause-ok g c = λ input.
     let lists = lists_of c.self.inside.lists.entries in
     let none : c.concerns_lists.result ≡ false = search (rules, c.if-not-concerns_lists.true) in
     let apart = none_at same (is_concerned depth) lists (sym c.concerns_lists.ensures ∙ none) input in
-    let settle = settled (g.D.Delegate.propagated c.args.cx input) (g.D.Delegate.fixpoint_overflow c.args.cx input) c.args.reason in
-    rw (← c.self.view_is) (sym (all_stay c.args.stack.now c.args.done.now settle depth c.next_index.ensures (entries_at same lists input) apart))
+    let change_entry = changed_for (g.D.Delegate.propagated c.args.cx input) (g.D.Delegate.fixpoint_overflow c.args.cx input) c.args.reason in
+    rw (← c.self.view_is) (sym (all_stay c.args.stack.now c.args.done.now change_entry depth c.next_index.ensures (entries_at same lists input) apart))

@@ -3,7 +3,7 @@ use Rattle.std.proofs.lemmas.List.Elements.{All-head, All-rest}
 use Rattle.std.proofs.lemmas.Map.Iter.{rest_more, rest_all}
 use Rattle.std.specs.Map.Iter.{deref_pair}
 use Rattle.search_parts.specs.Below.{StackDepth, CycleHead}
-use Rattle.search_parts.proofs.KeptKinds.{keep_from, keeps_from_head, first_fails, first_passes}
+use Rattle.search_parts.proofs.CycleKinds.{keep_from, keeps_from_head, first_fails, first_passes}
 use Rattle.search_parts.proofs.parts.provisional_cache.kinds.keeps_kinds.Goals as goal
 
 pub loop-depth-init : goal.loop-depth-init

@@ -1,5 +1,5 @@
 use Rattle.std.proofs.Common.{◌≡◌, ◌<◌, All, length}
-use Rattle.search_parts.proofs.KeptKinds.{keep_from}
+use Rattle.search_parts.proofs.CycleKinds.{keep_from}
 use Rattle.search_parts.proofs.parts.provisional_cache.kinds.keeps_kinds.Given as goal
 
 -- the heads that are left decide, and each is on the stack

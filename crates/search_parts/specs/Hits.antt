@@ -2,7 +2,7 @@
 use Rattle.std.specs.Prelude.{ℕ, nat_le, Bool, true, false, if◌then◌else◌, List, [], ◌∷◌, ◌++◌, Option, None, Some}
 use Rattle.std.specs.List.{find}
 use Rattle.search_parts.specs.declared.context.NodeId.{NodeId}
-use Rattle.search_parts.specs.declared.global_cache.look_up.CacheData.{CacheData}
+use Rattle.search_parts.specs.declared.global_cache.get.CacheData.{CacheData}
 use Rattle.search_parts.specs.declared.global_cache.results.Place.TheVariants.{Success, WithOverflow}
 use Rattle.search_parts.specs.declared.global_cache.results.StoredResult.{StoredResult}
 use Rattle.search_parts.specs.Nested.{NestedPaths}

@@ -2,7 +2,7 @@
 ghost use Rattle.std.specs.Prelude.{◌≡◌, ◌≤◌, Bool, true, false, ◌∷◌, [], IfSome};
 ghost use Rattle.std.specs.Option.{option_copied, option_map};
 ghost use Rattle.search_parts.specs.Definite.{HasGraph};
-ghost use Rattle.search_parts.specs.LookUp.{first_accepted, hit_at, hit_of, overflows, successes, usable};
+ghost use Rattle.search_parts.specs.Hits.{first_accepted, hit_at, hit_of, overflows, successes, usable};
 ghost use Rattle.search_parts.specs.Nested.{NestedPaths};
 ghost use Rattle.search_parts.specs.Rank.{IsBelowRank, IsPlain};
 
@@ -66,12 +66,12 @@ impl<D: Delegate> GlobalCache<D> {
             → IsBelowRank (D.script self.now.cx) input available.0) }
         ensures within { IfSome result (λ hit. hit.required_depth ≤ available.0) }
     {
-        look_up(&self.results, input, available, test)
+        usable_result(&self.results, input, available, test)
     }
 }
 
 // The stored result of the goal that may be used at the available depth.
-fn look_up<'a, X: Cx, T: NestedTest<X>>(
+fn usable_result<'a, X: Cx, T: NestedTest<X>>(
     results: &'a HashMap<(X::Input, Place), StoredResult<X>>,
     input: X::Input,
     available: AvailableDepth,

@@ -1,7 +1,7 @@
 use Rattle.std.proofs.Common.{◌-◌, ◌∙◌, refl, ap}
 use Rattle.search_parts.proofs.LastState.{length-change_last}
 use Rattle.open_goals.proofs.Changes.{newest_answered}
-use Rattle.open_goals.proofs.goals.OpenGoals.note_kept.Goals as goal
+use Rattle.open_goals.proofs.goals.OpenGoals.note_provisional.Goals as goal
 
 pub invariant_of-self : goal.invariant_of-self
 invariant_of-self g c = length-change_last _ _ ∙ c.self.invariant

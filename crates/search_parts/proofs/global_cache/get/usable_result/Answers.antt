@@ -1,8 +1,8 @@
 use Rattle.std.proofs.Common.{None, sym, ap, ◌∙◌}
 use Rattle.std.specs.Option.{option_copied, option_map}
 use Rattle.search_parts.specs.Words.{hit_of}
-use Rattle.search_parts.proofs.LookUps.{finds_success, looks_up}
-use Rattle.search_parts.proofs.global_cache.look_up.look_up.Goals as goal
+use Rattle.search_parts.proofs.Hits.{finds_success, looks_up}
+use Rattle.search_parts.proofs.global_cache.get.usable_result.Goals as goal
 
 pub returns-in-Some : goal.returns-in-Some
 returns-in-Some g c =

@@ -1,7 +1,7 @@
 use Rattle.std.proofs.Common.{◌-◌, ◌++◌, ◌∷◌, [], ap, arith}
 use Rattle.std.proofs.lemmas.Grind.{common_steps}
 use Rattle.open_goals.proofs.Changes.{run_changed}
-use Rattle.open_goals.proofs.goals.OpenGoals.keep_candidate.Goals as goal
+use Rattle.open_goals.proofs.goals.OpenGoals.record_candidate.Goals as goal
 
 pub returns : goal.returns
 returns g c =

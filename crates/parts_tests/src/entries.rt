@@ -20,7 +20,7 @@ pub const NODE: NodeId = NodeId(5);
 /// An entry of the goal. It has one head, the first goal on the stack or the second one,
 /// which is reached by coinductive paths.
 #[derive(Clone, Copy, Debug)]
-pub struct Kept {
+pub struct TestEntry {
     pub head: usize,
     pub usages: HeadUsages,
     pub encountered_overflow: bool,
@@ -28,10 +28,10 @@ pub struct Kept {
     pub result: Outcome,
 }
 
-impl Kept {
+impl TestEntry {
     /// An answer of yes over an inductive path from its head.
-    pub fn yes(head: usize, usages: HeadUsages) -> Kept {
-        Kept {
+    pub fn yes(head: usize, usages: HeadUsages) -> TestEntry {
+        TestEntry {
             head,
             usages,
             encountered_overflow: false,
@@ -74,7 +74,7 @@ pub fn used(inductive: u32, coinductive: u32) -> HeadUsages {
 }
 
 /// A cache with these answers, in order.
-pub fn cache_of(alloc: Global, answers: &[Kept]) -> Result<ProvisionalCache<Loops>, NoMemory>
+pub fn cache_of(alloc: Global, answers: &[TestEntry]) -> Result<ProvisionalCache<Loops>, NoMemory>
     ensures { IfOk result (λ cache. (input : PathKind) → All (λ entry. All (λ head. head.0.0 ≤ 1) entry.heads) (entries_at ⟦<PathKind as PartialEq>⟧.eq cache input)) }
 {
     let mut cache = ProvisionalCache::<Loops>::new(alloc);

@@ -1,0 +1,14 @@
+-- What becomes of the answers of one goal, once its delegate was asked.
+use Rattle.std.specs.Prelude.{if◌then◌else◌, Option, Some, None}
+use Rattle.search_parts.specs.Below.{HeadUsages, has_usages, other_usages}
+use Rattle.search_parts.specs.declared.parts.provisional_cache.ProvisionalCacheEntry.{ProvisionalCacheEntry}
+use Rattle.search_parts.specs.declared.parts.provisional_cache.rebasing.EntryChange.{EntryChange}
+use Rattle.search_parts.specs.declared.parts.provisional_cache.rebasing.EntryChange.TheVariants.{Dropped, Replaced, Unchanged, UnchangedIfSingle}
+
+module _ {X I R A T : Type 0} where
+  -- what becomes of an entry that used the goal that is done so often
+  abbrev pub changed_by : EntryChange X I R A T → HeadUsages → ProvisionalCacheEntry X I R A T → Option (ProvisionalCacheEntry X I R A T)
+  changed_by Dropped usages entry = None
+  changed_by (Replaced outcome) usages entry = Some (record entry { result = outcome; node = None })
+  changed_by Unchanged usages entry = Some entry
+  changed_by (UnchangedIfSingle kind) usages entry = if has_usages (other_usages usages kind) then None else Some entry
