@@ -1,6 +1,6 @@
 -- The results of a goal, and of which sort they are.
 use Rattle.std.specs.Prelude.{Bool, true, false, Option, Some, None}
-use Rattle.delegate_parts.specs.Below.{PathKind, Inductive, Unknown, Coinductive, ForcedAmbiguity}
+use Rattle.delegate_parts.specs.Below.{PathKind, Inductive, Unknown, Coinductive, ForcedAmbiguity, Verdicts}
 use Rattle.delegate_parts.specs.declared.outcome.Outcome.{Outcome}
 use Rattle.delegate_parts.specs.declared.outcome.Outcome.TheVariants.{Yes, No, Maybe, Overflow}
 
@@ -17,6 +17,10 @@ is_no Yes = false
 is_no No = true
 is_no Maybe = false
 is_no Overflow = false
+
+-- which outcomes say yes, and which say no
+abbrev pub outcome_verdicts : Verdicts Outcome
+outcome_verdicts = record { is_yes = is_yes; is_no = is_no }
 
 -- the first answer over a cycle of this kind
 abbrev pub initial_outcome : PathKind → Outcome

@@ -1,7 +1,7 @@
 -- What a valid graph shows: where the questions of each run's answers keep a rule, it is a graph of its goal by the rule.
 use Rattle.std.proofs.Common.{◌≡◌, ◌↔◌, Bool, true, IsTrue, List, Option, Some, None, option_map, map, slice_get, get_or, reverse, refl, sym, ◌∙◌, subst}
 use Rattle.std.proofs.lemmas.Option.{slice_get-map, slice_get-get_or, slice_get_within, get_or_from_slice_get}
-use Rattle.graph_check.specs.Below.{PathKind, Inductive, Coinductive, Node, Reply, Request, Verdict, Yes, No, Neither, Question, EndsIn, progress_after, questions_answered, GraphNode, question_of, HasGoal, IsGraph, IsProofGraph, IsRefutationGraph, AreClosed, CyclesHaveKind, IsRunOfSort, IsValid, IsValidFor, goal_node_of, goal_nodes_of}
+use Rattle.graph_check.specs.Below.{PathKind, Inductive, Coinductive, Node, Reply, Request, Verdict, Yes, No, Neither, Question, EndsIn, progress_after, questions_answered, GraphNode, question_of, HasGoal, IsGraph, IsProofGraph, IsRefutationGraph, AreClosed, CyclesHaveKind, IsRunOfSort, IsValid, IsValidFor, goal_node_of, goal_nodes_of, Verdicts}
 use Rattle.graph_check.specs.Words.{has_sort, AreRunsOfSort}
 
 -- a rule that the questions of each run's answers keep
@@ -50,31 +50,31 @@ IsKindOf Yes kind = kind ≡ Coinductive
 IsKindOf No kind = kind ≡ Inductive
 IsKindOf Neither kind = ⊥
 
-module _ {I R : Type 0} (is_yes is_no : R → Bool) (scripts : I → List (Reply R) → Request I R) (goal : I) (kind : PathKind) where
-  pub valid_of_sort : (sort : Verdict) (nodes : List (Node I R)) → IsKindOf sort kind → IsValidFor is_yes is_no sort scripts nodes goal → IsValid (has_sort is_yes is_no sort) kind scripts nodes goal
-  valid_of_sort Yes nodes e v = subst (λ k. IsValid is_yes k scripts nodes goal) (sym e) v
-  valid_of_sort No nodes e v = subst (λ k. IsValid is_no k scripts nodes goal) (sym e) v
+module _ {I R : Type 0} (says : Verdicts R) (scripts : I → List (Reply R) → Request I R) (goal : I) (kind : PathKind) where
+  pub valid_of_sort : (sort : Verdict) (nodes : List (Node I R)) → IsKindOf sort kind → IsValidFor says sort scripts nodes goal → IsValid (has_sort says sort) kind scripts nodes goal
+  valid_of_sort Yes nodes e v = subst (λ k. IsValid says.is_yes k scripts nodes goal) (sym e) v
+  valid_of_sort No nodes e v = subst (λ k. IsValid says.is_no k scripts nodes goal) (sym e) v
   valid_of_sort Neither nodes e v = absurd v
 
-  valid_for : (sort : Verdict) (nodes : List (Node I R)) → IsKindOf sort kind → IsValid (has_sort is_yes is_no sort) kind scripts nodes goal → IsValidFor is_yes is_no sort scripts nodes goal
-  valid_for Yes nodes e v = subst (λ k. IsValid is_yes k scripts nodes goal) e v
-  valid_for No nodes e v = subst (λ k. IsValid is_no k scripts nodes goal) e v
+  valid_for : (sort : Verdict) (nodes : List (Node I R)) → IsKindOf sort kind → IsValid (has_sort says sort) kind scripts nodes goal → IsValidFor says sort scripts nodes goal
+  valid_for Yes nodes e v = subst (λ k. IsValid says.is_yes k scripts nodes goal) e v
+  valid_for No nodes e v = subst (λ k. IsValid says.is_no k scripts nodes goal) e v
   valid_for Neither nodes e v = absurd e
 
   -- where the goal and the edges are right, the runs decide
   pub runs_decide : (sort : Verdict) (nodes : List (Node I R)) → IsKindOf sort kind
       → HasGoal (goal_nodes_of nodes) 0 goal → AreClosed (goal_nodes_of nodes) → CyclesHaveKind kind (goal_nodes_of nodes)
-      → (accepted : Bool) → IsTrue accepted ↔ AreRunsOfSort (has_sort is_yes is_no sort) scripts nodes → IsTrue accepted ↔ IsValidFor is_yes is_no sort scripts nodes goal
+      → (accepted : Bool) → IsTrue accepted ↔ AreRunsOfSort (has_sort says sort) scripts nodes → IsTrue accepted ↔ IsValidFor says sort scripts nodes goal
   runs_decide sort nodes e rooted closed cycles accepted runs = (
-    λ h. valid_for sort nodes e (valid_from_parts (has_sort is_yes is_no sort) scripts nodes kind goal rooted closed cycles (runs.0 h)),
-    λ v. runs.1 (runs_of_valid (has_sort is_yes is_no sort) scripts nodes kind goal (valid_of_sort sort nodes e v)),
+    λ h. valid_for sort nodes e (valid_from_parts (has_sort says sort) scripts nodes kind goal rooted closed cycles (runs.0 h)),
+    λ v. runs.1 (runs_of_valid (has_sort says sort) scripts nodes kind goal (valid_of_sort sort nodes e v)),
   )
 
-module _ {I R : Type 0} (is_yes is_no : R → Bool) (scripts : I → List (Reply R) → Request I R) (goal : I) (sort : Verdict) (nodes : List (Node I R)) where
+module _ {I R : Type 0} (says : Verdicts R) (scripts : I → List (Reply R) → Request I R) (goal : I) (sort : Verdict) (nodes : List (Node I R)) where
   -- a valid graph for yes is a proof graph
-  pub valid_is_proof : (proves : I → List (Question I) → Type 0) → KeepsRule is_yes scripts proves → IsValidFor is_yes is_no sort scripts nodes goal → sort ≡ Yes → IsProofGraph proves (goal_nodes_of nodes) 0 goal
-  valid_is_proof proves keeps v e = valid_is_graph is_yes scripts nodes Coinductive proves goal keeps (subst (λ s. IsValidFor is_yes is_no s scripts nodes goal) e v)
+  pub valid_is_proof : (proves : I → List (Question I) → Type 0) → KeepsRule says.is_yes scripts proves → IsValidFor says sort scripts nodes goal → sort ≡ Yes → IsProofGraph proves (goal_nodes_of nodes) 0 goal
+  valid_is_proof proves keeps v e = valid_is_graph says.is_yes scripts nodes Coinductive proves goal keeps (subst (λ s. IsValidFor says s scripts nodes goal) e v)
 
   -- a valid graph for no is a refutation graph
-  pub valid_is_refutation : (refutes : I → List (Question I) → Type 0) → KeepsRule is_no scripts refutes → IsValidFor is_yes is_no sort scripts nodes goal → sort ≡ No → IsRefutationGraph refutes (goal_nodes_of nodes) 0 goal
-  valid_is_refutation refutes keeps v e = valid_is_graph is_no scripts nodes Inductive refutes goal keeps (subst (λ s. IsValidFor is_yes is_no s scripts nodes goal) e v)
+  pub valid_is_refutation : (refutes : I → List (Question I) → Type 0) → KeepsRule says.is_no scripts refutes → IsValidFor says sort scripts nodes goal → sort ≡ No → IsRefutationGraph refutes (goal_nodes_of nodes) 0 goal
+  valid_is_refutation refutes keeps v e = valid_is_graph says.is_no scripts nodes Inductive refutes goal keeps (subst (λ s. IsValidFor says s scripts nodes goal) e v)

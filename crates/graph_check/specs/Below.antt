@@ -10,6 +10,7 @@ pub use Rattle.search_parts.specs.Question.{Question}
 pub use Rattle.search_parts.specs.Run.{Asked, EndsIn, fault_after, Fits, is_counted, is_ignored, IsFitting, IsInOrder}
 pub use Rattle.search_parts.specs.Run.{open_candidate, order_fault, Progress, progress_after, progress_with}
 pub use Rattle.search_parts.specs.Run.{questions_answered, request_after}
+pub use Rattle.search_parts.specs.Verdicts.{verdicts, Verdicts}
 pub use Rattle.search_parts.specs.Valid.{AreClosed, CyclesHaveKind, goal_node_of, goal_nodes_of, IsRunOfSort, IsValid}
 pub use Rattle.search_parts.specs.Valid.{IsValidFor}
 pub use Rattle.search_parts.specs.declared.context.Edge.{Edge}

@@ -1,13 +1,13 @@
 -- How far a run has come that is replayed, and what its record keeps of it. The newest reply stands first.
 use Rattle.std.specs.Prelude.{◌≡◌, ℕ, nat_lt, Bool, true, false, not, ◌&&◌, if◌then◌else◌, List, [], ◌∷◌, ◌++◌, map, filter, length, get_or, slice_set, Option, None, Some}
-use Rattle.graph_check.specs.Below.{Request, Evaluate, EnterCandidate, FinishCandidate, Ignore, Reply, Answer, Verdict, Yes, No, Neither, Question, Asked, Progress, request_after, progress_after, is_ignored, IsFitting, IsInOrder}
+use Rattle.graph_check.specs.Below.{Request, Evaluate, EnterCandidate, FinishCandidate, Ignore, Reply, Answer, Verdict, Yes, No, Neither, Question, Asked, Progress, request_after, progress_after, is_ignored, IsFitting, IsInOrder, Verdicts}
 use Rattle.graph_check.specs.declared.replay.run_record.AskedQuestion.{AskedQuestion}
 
 -- the test that a result is of this sort; for neither there is no test
-abbrev pub has_sort : {R : Type 0} → (R → Bool) → (R → Bool) → Verdict → R → Bool
-has_sort is_yes is_no Yes r = is_yes r
-has_sort is_yes is_no No r = is_no r
-has_sort is_yes is_no Neither r = false
+abbrev pub has_sort : {R : Type 0} → Verdicts R → Verdict → R → Bool
+has_sort says Yes r = says.is_yes r
+has_sort says No r = says.is_no r
+has_sort says Neither r = false
 
 -- the reply is an answer that passes the test
 abbrev pub is_answer : {R : Type 0} → (R → Bool) → Reply R → Bool

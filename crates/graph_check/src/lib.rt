@@ -12,7 +12,7 @@
 #![tactic(auto)]
 
 ghost use Rattle.std.specs.Prelude.{◌≡◌, ◌≢◌, ◌≤◌, ◌+◌, ◌↔◌, true, IsTrue, IfOk, Ok, length};
-ghost use Rattle.graph_check.specs.Below.{IsProofGraph, IsRefutationGraph, IsValidFor, goal_nodes_of, Verdict};
+ghost use Rattle.graph_check.specs.Below.{IsProofGraph, IsRefutationGraph, IsValidFor, goal_nodes_of, Verdict, verdicts};
 ghost use Rattle.graph_check.specs.Words.{has_sort, AreRunsOfSort};
 
 mod cycles;
@@ -43,7 +43,7 @@ pub fn check_graph<D: Delegate>(
     inspect: &mut D::ProofTreeBuilder,
 ) -> Result<bool, NoMemory>
     ensures exact { IfOk result (λ accepted. IsTrue accepted ↔
-        IsValidFor D.Cx.is_yes D.Cx.is_no sort (D.script cx) graph.now.nodes.items input) }
+        IsValidFor (verdicts D.Cx.Cx) sort (D.script cx) graph.now.nodes.items input) }
 
     // So what is accepted shows what it should, whatever it came from.
     ensures proof { result ≡ Ok true → sort ≡ Verdict.Yes →
@@ -79,7 +79,7 @@ fn are_runs<D: Delegate>(
 ) -> Result<bool, NoMemory>
     requires { sort ≢ Verdict.Neither }
     ensures exact { IfOk result (λ all. IsTrue all ↔
-        AreRunsOfSort (has_sort D.Cx.is_yes D.Cx.is_no sort) (D.script cx) nodes.now) }
+        AreRunsOfSort (has_sort (verdicts D.Cx.Cx) sort) (D.script cx) nodes.now) }
     ensures frames { D.starts inspect.new ≤ D.starts inspect.old + length nodes.now }
     ensures same_noop { D.noop inspect.new ≡ D.noop inspect.old }
 {

@@ -1,6 +1,6 @@
 //! One node of a graph: its replies are replayed on a frame of its goal.
 ghost use Rattle.std.specs.Prelude.{◌≡◌, ◌≢◌, ◌≤◌, ◌+◌, ◌↔◌, IsTrue, IfOk};
-ghost use Rattle.graph_check.specs.Below.{IsRunOfSort};
+ghost use Rattle.graph_check.specs.Below.{IsRunOfSort, verdicts};
 ghost use Rattle.graph_check.specs.Words.{has_sort, is_answer};
 
 mod run_record;
@@ -22,7 +22,7 @@ pub(crate) fn is_run<D: Delegate>(
 ) -> Result<bool, NoMemory>
     requires { sort ≢ Verdict.Neither }
     ensures exact { IfOk result (λ is_run. IsTrue is_run ↔
-        IsRunOfSort (has_sort D.Cx.is_yes D.Cx.is_no sort) (D.script cx node.now.input) node.now) }
+        IsRunOfSort (has_sort (verdicts D.Cx.Cx) sort) (D.script cx node.now.input) node.now) }
     ensures frames { D.starts inspect.new ≤ D.starts inspect.old + 1 }
     ensures same_noop { D.noop inspect.new ≡ D.noop inspect.old }
 {
@@ -48,7 +48,7 @@ pub(crate) fn is_run<D: Delegate>(
 /// Whether the reply is an answer of this sort.
 fn is_answer_of_sort<X: Cx>(cx: X, reply: Reply<X::Result>, sort: Verdict) -> bool
     requires { sort ≢ Verdict.Neither }
-    ensures { result ≡ is_answer (has_sort X.is_yes X.is_no sort) reply }
+    ensures { result ≡ is_answer (has_sort (verdicts X.Cx) sort) reply }
 {
     match reply {
         Reply::Answer(outcome) => is_of_sort(cx, outcome, sort),
@@ -59,7 +59,7 @@ fn is_answer_of_sort<X: Cx>(cx: X, reply: Reply<X::Result>, sort: Verdict) -> bo
 /// Whether the result is of this sort.
 fn is_of_sort<X: Cx>(cx: X, outcome: X::Result, sort: Verdict) -> bool
     requires { sort ≢ Verdict.Neither }
-    ensures { result ≡ has_sort X.is_yes X.is_no sort outcome }
+    ensures { result ≡ has_sort (verdicts X.Cx) sort outcome }
 {
     cx.sort(outcome) == sort
 }

@@ -1,6 +1,6 @@
 -- One step of the newest goal's frame.
 use Rattle.std.proofs.Common.{◌≡◌, ℕ, ◌-◌, ◌<◌, List, [], ◌∷◌, length, get_or, slice_set, Option, Some, None, refl, sym, ap, ◌∙◌, subst, arith}
-use Rattle.open_goals.specs.Below.{DelegateOf, CxOf, Request, StackEntry, CanTake, Steps, Verdict, Fault, Protocol}
+use Rattle.open_goals.specs.Below.{DelegateOf, CxOf, Request, StackEntry, CanTake, Steps, Verdict, Fault, Protocol, verdicts}
 use Rattle.open_goals.specs.Words.{Run, Received, received, requested, fault_of, paired, CanStep, IsVerdict, HasStepped, IsStepFault, OutOfOrder}
 use Rattle.open_goals.proofs.Pairs.{last_pair, length_of_view}
 
@@ -22,7 +22,7 @@ module _ {D C V P F I R A T : Type 0} (G : DelegateOf D C V P F I R A T) (X : Cx
         let there : CanStep G X cx given.reply ((last.entry, run) ∷ last.rest) = subst (λ (x : Run C F I R A T). CanStep G X cx given.reply ((last.entry, x) ∷ last.rest)) (sym run_is) shown in
         record { cx = cx; goal = last.entry.input; replies = there.0; stood = there.1; is_fitting = there.2 }
 
-    module _ (n : ℕ) (run : Run C F I R A T) (at : n ≡ length fs - 1) (run_is : run ≡ get_or fs n run) (verdict : Verdict) (is_verdict : IsVerdict X.is_yes X.is_no given.reply verdict) (request : Request I R) (frame : F) (steps : Steps G.stands G.script run.frame given.reply request frame) where
+    module _ (n : ℕ) (run : Run C F I R A T) (at : n ≡ length fs - 1) (run_is : run ≡ get_or fs n run) (verdict : Verdict) (is_verdict : IsVerdict (verdicts X) given.reply verdict) (request : Request I R) (frame : F) (steps : Steps G.stands G.script run.frame given.reply request frame) where
       -- the last run took the reply, and requested
       pub last_stepped : (after : Run C F I R A T) → after ≡ record run { frame = frame; progress = requested (received run.progress given.reply verdict given.node) request } → fault_of (received run.progress given.reply verdict given.node) request ≡ None → G.left frame < G.left run.frame → HasStepped G X cx given request view (paired [] es (slice_set fs n after))
       last_stepped after after_is orderly falls =

@@ -15,6 +15,7 @@ pub use Rattle.search_parts.specs.Hits.{Hit, hit_of}
 pub use Rattle.search_parts.specs.Nested.{joined_paths, JoinsPaths, NestedPaths, paths_at}
 pub use Rattle.search_parts.specs.Question.{Question}
 pub use Rattle.search_parts.specs.Run.{Asked, is_ignored, IsFitting, IsInOrder, Progress, progress_after, request_after}
+pub use Rattle.search_parts.specs.Verdicts.{verdicts, Verdicts}
 pub use Rattle.search_parts.specs.Stack.{allowed_depth, depth_below, fresh_entry, position_of}
 pub use Rattle.search_parts.specs.declared.context.Cx.{Ghosts as CxOf}
 pub use Rattle.search_parts.specs.declared.context.Delegate.{Ghosts as DelegateOf}

@@ -1,6 +1,6 @@
 -- What a run has done so far, as its record keeps it. The replies stand with the oldest first.
 use Rattle.std.specs.Prelude.{◌≡◌, ◌↔◌, ℕ, nat_lt, IsTrue, IsSome, Bool, true, false, not, ◌&&◌, if◌then◌else◌, List, [], ◌∷◌, ◌++◌, map, filter, length, reverse, get_or, slice_set, Option, None, Some, Contains}
-use Rattle.open_goals.specs.Below.{Request, Evaluate, EnterCandidate, FinishCandidate, Ignore, Reply, Answer, Verdict, Yes, No, Neither, NodeId, Edge, PathKind, Question, question_of, Asked, Progress, request_after, progress_after, is_ignored, IsInOrder}
+use Rattle.open_goals.specs.Below.{Request, Evaluate, EnterCandidate, FinishCandidate, Ignore, Reply, Answer, Verdict, Yes, No, Neither, NodeId, Edge, PathKind, Question, question_of, Asked, Progress, request_after, progress_after, is_ignored, IsInOrder, Verdicts}
 use Rattle.open_goals.specs.declared.progress.DefiniteAnswer.{DefiniteAnswer}
 
 -- the replies, the last request, the definite answers, whether a candidate is open, and for each finished candidate whether it is ignored
@@ -99,32 +99,32 @@ module _ {I R : Type 0} where
   asked_with verdict p = map asked_of (filter (λ d. is_same_verdict d.verdict verdict) p.answers)
 
 -- the record says what the run did
-pub record Agrees {I R : Type 0} (is_yes is_no : R → Bool) (p : RunRecord I R) (done : Progress I R) : Type 0 where
+pub record Agrees {I R : Type 0} (says : Verdicts R) (p : RunRecord I R) (done : Progress I R) : Type 0 where
   pub open_is : p.is_open ≡ done.is_open
   pub finished_are : length p.ignored ≡ done.finished
   pub ignored_are : (n : ℕ) → is_ignored done.ignored n ≡ ignored_by p.ignored n
-  pub yes : asked_with Yes p ≡ map asked_in (filter (λ a. is_yes a.answer) done.asked)
-  pub no : asked_with No p ≡ map asked_in (filter (λ a. is_no a.answer) done.asked)
+  pub yes : asked_with Yes p ≡ map asked_in (filter (λ a. says.is_yes a.answer) done.asked)
+  pub no : asked_with No p ≡ map asked_in (filter (λ a. says.is_no a.answer) done.asked)
 
 -- The record is that of a run of the script that has had these replies, the newest first, and has made no request out
 -- of order.
-pub record Records {I R : Type 0} (is_yes is_no : R → Bool) (script : List (Reply R) → Request I R) (p : RunRecord I R) (replies : List (Reply R)) : Type 0 where
+pub record Records {I R : Type 0} (says : Verdicts R) (script : List (Reply R) → Request I R) (p : RunRecord I R) (replies : List (Reply R)) : Type 0 where
   pub replies_are : reverse p.replies ≡ replies
   pub request_is : p.request ≡ request_after script replies
   pub in_order : IsInOrder script replies
-  pub agrees : Agrees is_yes is_no p (progress_after script replies)
+  pub agrees : Agrees says p (progress_after script replies)
 
 -- the verdict is that of the result, and a definite one has its node
-pub record IsSortedAs {R : Type 0} (is_yes is_no : R → Bool) (r : R) (verdict : Verdict) (target : Option NodeId) : Type 0 where
-  pub yes : (verdict ≡ Yes) ↔ IsTrue (is_yes r)
-  pub no : (verdict ≡ No) ↔ IsTrue (is_no r)
-  pub yes_node : IsTrue (is_yes r) → IsSome target
-  pub no_node : IsTrue (is_no r) → IsSome target
+pub record IsSortedAs {R : Type 0} (says : Verdicts R) (r : R) (verdict : Verdict) (target : Option NodeId) : Type 0 where
+  pub yes : (verdict ≡ Yes) ↔ IsTrue (says.is_yes r)
+  pub no : (verdict ≡ No) ↔ IsTrue (says.is_no r)
+  pub yes_node : IsTrue (says.is_yes r) → IsSome target
+  pub no_node : IsTrue (says.is_no r) → IsSome target
 
 -- the same of a reply, if that is an answer
-abbrev pub IsReplySorted : {R : Type 0} → (R → Bool) → (R → Bool) → Reply R → Verdict → Option NodeId → Type 0
-IsReplySorted is_yes is_no (Answer r) verdict target = IsSortedAs is_yes is_no r verdict target
-IsReplySorted is_yes is_no _ verdict target = Unit {0}
+abbrev pub IsReplySorted : {R : Type 0} → Verdicts R → Reply R → Verdict → Option NodeId → Type 0
+IsReplySorted says (Answer r) verdict target = IsSortedAs says r verdict target
+IsReplySorted says _ verdict target = Unit {0}
 
 -- the edge is that of an answer with this verdict outside ignored candidates
 pub record IsEdgeOfAnswer {I : Type 0} (answers : List (DefiniteAnswer I)) (ignored : List Bool) (verdict : Verdict) (e : Edge I) : Type 0 where

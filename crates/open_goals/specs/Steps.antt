@@ -1,15 +1,15 @@
 -- The goals under evaluation with their runs, and the step of the newest one's frame.
 use Rattle.std.specs.Prelude.{◌≡◌, ℕ, ◌<◌, ◌↔◌, Bool, IsTrue, List, [], ◌∷◌, None, Some}
-use Rattle.open_goals.specs.Below.{DelegateOf, CxOf, Request, Reply, Begin, Answer, Noted, Fault, Memory, Protocol, Verdict, Yes, No, Neither, StackEntry, IsFitting, Steps}
+use Rattle.open_goals.specs.Below.{DelegateOf, CxOf, Request, Reply, Begin, Answer, Noted, Fault, Memory, Protocol, Verdict, Yes, No, Neither, StackEntry, IsFitting, Steps, Verdicts, verdicts}
 use Rattle.open_goals.specs.Progress.{RunRecord, received, requested, fault_of, Records}
 use Rattle.open_goals.specs.declared.goals.Received.{Received}
 use Rattle.open_goals.specs.declared.goals.Run.{Run}
 
 -- the verdict is that of the answer, if the reply is one
-abbrev pub IsVerdict : {R : Type 0} → (R → Bool) → (R → Bool) → Reply R → Verdict → Type 0
-IsVerdict is_yes is_no Begin verdict = verdict ≡ Neither
-IsVerdict is_yes is_no Noted verdict = verdict ≡ Neither
-IsVerdict is_yes is_no (Answer r) verdict = ((verdict ≡ Yes) ↔ IsTrue (is_yes r)) × ((verdict ≡ No) ↔ IsTrue (is_no r))
+abbrev pub IsVerdict : {R : Type 0} → Verdicts R → Reply R → Verdict → Type 0
+IsVerdict says Begin verdict = verdict ≡ Neither
+IsVerdict says Noted verdict = verdict ≡ Neither
+IsVerdict says (Answer r) verdict = ((verdict ≡ Yes) ↔ IsTrue (says.is_yes r)) × ((verdict ≡ No) ↔ IsTrue (says.is_no r))
 
 module _ {D C V P F I R A T : Type 0} (G : DelegateOf D C V P F I R A T) (X : CxOf C I R A T) (cx : C) where
   -- a goal under evaluation with its run
@@ -18,7 +18,7 @@ module _ {D C V P F I R A T : Type 0} (G : DelegateOf D C V P F I R A T) (X : Cx
 
   -- the item's frame has had these replies, the newest first, and so says its record
   abbrev pub Stood : Item → List (Reply R) → Type 0
-  Stood s replies = G.stands s.1.frame cx s.0.input replies × Records X.is_yes X.is_no (G.script cx s.0.input) s.1.progress replies
+  Stood s replies = G.stands s.1.frame cx s.0.input replies × Records (verdicts X) (G.script cx s.0.input) s.1.progress replies
 
   -- the newest item's frame can take the reply
   abbrev pub CanStep : Reply R → List Item → Type 0
@@ -38,7 +38,7 @@ module _ {D C V P F I R A T : Type 0} (G : DelegateOf D C V P F I R A T) (X : Cx
     pub below : List Item
     pub was : old ≡ (entry, run) ∷ below
     pub is : new ≡ (entry, record run { frame = frame; progress = requested (received_by run given verdict) request }) ∷ below
-    pub is_verdict : IsVerdict X.is_yes X.is_no given.reply verdict
+    pub is_verdict : IsVerdict (verdicts X) given.reply verdict
     pub in_order : fault_of (received_by run given verdict) request ≡ None
     pub falls : G.left frame < G.left run.frame
     pub steps : Steps G.stands G.script run.frame given.reply request frame
@@ -48,5 +48,5 @@ module _ {D C V P F I R A T : Type 0} (G : DelegateOf D C V P F I R A T) (X : Cx
     NoMemoryLeft : fault ≡ Memory → IsStepFault given old fault
     OutOfOrder :
         (entry : StackEntry C I R A T) (run : Run C F I R A T) (frame : F) (verdict : Verdict) (below : List Item) (request : Request I R) (number : ℕ)
-        → old ≡ (entry, run) ∷ below → IsVerdict X.is_yes X.is_no given.reply verdict → Steps G.stands G.script run.frame given.reply request frame
+        → old ≡ (entry, run) ∷ below → IsVerdict (verdicts X) given.reply verdict → Steps G.stands G.script run.frame given.reply request frame
         → fault_of (received_by run given verdict) request ≡ Some number → fault ≡ Protocol number → IsStepFault given old fault

@@ -2,7 +2,7 @@
 ghost use Rattle.std.specs.Prelude.{◌≡◌, ℕ, ◌+◌, ◌^◌, ◌<◌, List, [], ◌∷◌, length, false, Some, None, OnOk, OnErr, IfOk, IfErr, IfSome, is_some, map, reverse};
 ghost use Rattle.std.specs.List.{list_any};
 ghost use Rattle.std.specs.Option.{option_map};
-ghost use Rattle.open_goals.specs.Below.{position_of};
+ghost use Rattle.open_goals.specs.Below.{position_of, verdicts};
 ghost use Rattle.open_goals.specs.Words.{CanStep, IsVerdict, HasStepped, IsStepFault};
 
 mod candidates;
@@ -346,7 +346,7 @@ pub fn step<D: Delegate>(
 
 /// The sort of an answer; any other reply has none.
 fn sort_of<X: Cx>(cx: X, reply: Reply<X::Result>) -> Verdict
-    ensures { IsVerdict X.is_yes X.is_no reply result }
+    ensures { IsVerdict (verdicts X.Cx) reply result }
 {
     match reply {
         Reply::Answer(outcome) => cx.sort(outcome),

@@ -4,7 +4,7 @@ use Rattle.std.proofs.Common.{◌≡◌, ℕ, zero, suc, max, List, [], ◌∷�
 use Rattle.std.proofs.lemmas.Option.{slice_get-map}
 use Rattle.open_graphs.specs.Graph as theory
 use Rattle.open_graphs.proofs.Verdicts.{is_finished}
-use Rattle.parts_tests.specs.Below.{NodeId, Begin, Place, Success, WithOverflow, PathKind, CacheNode, HasGraph, rank_of, IsRanked, HasNoRank, verdict_of, shape_of, shapes_of, IsPlainAt, Outcome, is_yes, is_no}
+use Rattle.parts_tests.specs.Below.{NodeId, Begin, Place, Success, WithOverflow, PathKind, CacheNode, HasGraph, rank_of, IsRanked, HasNoRank, verdict_of, shape_of, shapes_of, IsPlainAt, Outcome, outcome_verdicts}
 use Rattle.parts_tests.specs.Words.{Loops, loop_run, loop_script}
 
 unranked : (cx : Loops) (n : ℕ) (goal : PathKind) → IsRanked (loop_script cx) n goal → ⊥
@@ -21,7 +21,7 @@ is_plain cx goal Success r = λ n h. absurd (has_no_rank cx goal n h)
 is_plain cx goal (WithOverflow depth) r = λ n h. absurd (has_no_rank cx goal n h)
 
 -- a result that is neither yes nor no needs no node
-pub needs_no_graph : (nodes : List (CacheNode PathKind Outcome)) (goal : PathKind) (r : Outcome) → verdict_of is_yes is_no r ≡ theory.Neither → HasGraph is_yes is_no nodes goal r None
+pub needs_no_graph : (nodes : List (CacheNode PathKind Outcome)) (goal : PathKind) (r : Outcome) → verdict_of outcome_verdicts r ≡ theory.Neither → HasGraph outcome_verdicts nodes goal r None
 needs_no_graph nodes goal r neither = record { definite = λ is. absurd (is neither); neither = λ _. refl }
 
 abbrev edge_to : ℕ → ℕ → theory.Edge
@@ -72,13 +72,13 @@ module _ (nodes : List theory.Node) (verdict : theory.Verdict) (n kind : ℕ) (h
 -- a finished run of a goal shows its answer, where cycles of the goal's kind count as that
 pub has_loop : (nodes : List (CacheNode PathKind Outcome)) (node : NodeId) (goal : PathKind) (r : Outcome)
     → slice_get nodes node.0 ≡ Some (record { goal = goal; run = Some (loop_run goal node.0 r) })
-    → rank_of goal ≡ theory.cycle_kind (verdict_of is_yes is_no r) → (verdict_of is_yes is_no r ≡ theory.Neither → ⊥)
-    → HasGraph is_yes is_no nodes goal r (Some node)
+    → rank_of goal ≡ theory.cycle_kind (verdict_of outcome_verdicts r) → (verdict_of outcome_verdicts r ≡ theory.Neither → ⊥)
+    → HasGraph outcome_verdicts nodes goal r (Some node)
 has_loop nodes node goal r at cycles definite = record {
   definite = λ _. (
     ap (option_map (λ n. n.goal)) at,
-    loop_is_graph (shapes_of is_yes is_no nodes) (verdict_of is_yes is_no r) node.0 (rank_of goal)
-        (slice_get-map (shape_of is_yes is_no) nodes node.0 ∙ ap (option_map (shape_of is_yes is_no)) at) cycles,
+    loop_is_graph (shapes_of outcome_verdicts nodes) (verdict_of outcome_verdicts r) node.0 (rank_of goal)
+        (slice_get-map (shape_of outcome_verdicts) nodes node.0 ∙ ap (option_map (shape_of outcome_verdicts)) at) cycles,
   );
   neither = λ e. absurd (definite e);
 }

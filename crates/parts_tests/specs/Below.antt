@@ -2,7 +2,7 @@
 pub use Rattle.cycle_heads.specs.Path.{rank_of}
 pub use Rattle.cycle_heads.specs.declared.path.PathKind.{PathKind}
 pub use Rattle.cycle_heads.specs.declared.path.PathKind.TheVariants.{Coinductive, ForcedAmbiguity, Inductive, Unknown}
-pub use Rattle.delegate_parts.specs.Outcome.{is_no, is_yes}
+pub use Rattle.delegate_parts.specs.Outcome.{is_no, is_yes, outcome_verdicts}
 pub use Rattle.delegate_parts.specs.declared.outcome.Outcome.{Outcome}
 pub use Rattle.delegate_parts.specs.declared.outcome.Outcome.TheVariants.{Maybe, No, Overflow, Yes}
 pub use Rattle.search_parts.specs.Cache.{CacheNode, EndedRun, IsNodeOf, KeepsNodes, open_goal, open_node, with_run}
@@ -12,7 +12,8 @@ pub use Rattle.search_parts.specs.Provisional.{AppendsEntry, entries_at, Lists}
 pub use Rattle.search_parts.specs.Question.{IsWithin, Overlap, Question}
 pub use Rattle.search_parts.specs.Rank.{HasNoRank, IsRanked}
 pub use Rattle.search_parts.specs.Run.{EndsIn, Fits, progress_after, questions_answered}
-pub use Rattle.search_parts.specs.Shapes.{shape_of, shapes_of, verdict_of}
+pub use Rattle.search_parts.specs.Shapes.{shape_of, shapes_of}
+pub use Rattle.search_parts.specs.Verdicts.{verdict_of, verdicts, Verdicts}
 pub use Rattle.search_parts.specs.Store.{place_of}
 pub use Rattle.search_parts.specs.Stored.{IsPlainAt}
 pub use Rattle.search_parts.specs.declared.context.NodeId.{NodeId}

@@ -2,7 +2,7 @@
 #![tactic(auto, using(crate::proofs::StoredLoops::needs_no_graph, crate::proofs::StoredLoops::has_loop))]
 
 ghost use Rattle.std.specs.Prelude.{◌≡◌, [], None, false, true};
-ghost use Rattle.parts_tests.specs.Below.{HasGraph, is_no, is_yes};
+ghost use Rattle.parts_tests.specs.Below.{HasGraph, outcome_verdicts};
 
 use crate::loops::{Loops, answered_loop};
 use delegate_parts::Outcome;
@@ -69,7 +69,7 @@ fn store(
     evaluation_result: EvaluationResult<Loops>,
 ) -> Result<(), Fault<PathKind, Outcome>>
     requires no_heads { evaluation_result.heads ≡ [] }
-    requires graph { HasGraph is_yes is_no cache.old.nodes goal evaluation_result.result evaluation_result.node }
+    requires graph { HasGraph outcome_verdicts cache.old.nodes goal evaluation_result.result evaluation_result.node }
 {
     cache.insert(goal, evaluation_result, ())
 }

@@ -10,6 +10,7 @@ pub use Rattle.search_parts.specs.Delegate.{CanTake, Steps}
 pub use Rattle.search_parts.specs.Question.{IsWithin, Overlap, Question}
 pub use Rattle.search_parts.specs.Run.{Asked, EndsIn, Fits, is_counted, is_ignored, IsFitting, open_candidate, Progress}
 pub use Rattle.search_parts.specs.Run.{progress_after, progress_with, questions_answered, request_after}
+pub use Rattle.search_parts.specs.Verdicts.{verdicts, Verdicts}
 pub use Rattle.search_parts.specs.Valid.{IsValid, IsValidFor}
 pub use Rattle.search_parts.specs.declared.context.Node.{Node}
 pub use Rattle.search_parts.specs.declared.context.Reply.{Reply}

@@ -2,7 +2,7 @@
 use Rattle.std.proofs.Common.{◌≡◌, ◌<◌, ◌≤◌, ◌+◌, ℕ, Bool, true, false, List, ◌∷◌, ◌++◌, [], length, map, reverse, None, Some, get_or, refl, sym, subst, arith}
 use Rattle.std.proofs.lemmas.List.{length-map, length-reverse}
 use Rattle.std.proofs.lemmas.Option.{get_or_from_slice_get, slice_get_within}
-use Rattle.search_graph.specs.Below.{DelegateOf, CxOf, Evaluate, Received, Answer, Begin, Cache, IsNeither, IsCycleResult, CacheNode, AvailableDepth, first_entry, open_node, PathKind, StackEntry, Run, Memory, path_kind_from, IsDefinite}
+use Rattle.search_graph.specs.Below.{DelegateOf, CxOf, Evaluate, Received, Answer, Begin, Cache, IsNeither, IsCycleResult, CacheNode, AvailableDepth, first_entry, open_node, PathKind, StackEntry, Run, Memory, path_kind_from, IsDefinite, verdicts}
 use Rattle.search_graph.specs.declared.graph.evaluation.Evaluation.{Evaluation}
 use Rattle.search_graph.specs.Words.{Call, AreFree, AreReady, Asks, IsFit, IsReady, runs_of, asking, Asked, Refused, ByEntry, ByStored, OverCycle, Pushed, IsRight, IsRightFor, Requests, GoesOnWith, StopsWith, question_depth, AreJustified, Pushes, first_run}
 use Rattle.search_graph.proofs.CycleAnswers.{cycle_fits, cycle_head_lower, head_is}
@@ -19,7 +19,7 @@ module _ {D C V P F I R A T : Type 0} (G : DelegateOf D C V P F I R A T) (X : Cx
   pub asked_goes_on :
       2 ≤ G.DIVIDE_AVAILABLE_DEPTH_ON_OVERFLOW → ((x y : I) → same x y ≡ true → x ≡ y) → ((cycle : PathKind) (asked : I) → IsCycleResult X.is_yes X.is_no cycle (G.initial_result cx cycle asked))
       → (received : Received R) (new : Cache C I R A T) (after : Evaluation D C V P F I R A T) (later : ℕ)
-      → Asked G X same cx kind goal old e starts received new after later → AreReady X.is_yes X.is_no same (G.script cx) old.nodes (runs_of e.goals) e.provisional
+      → Asked G X same cx kind goal old e starts received new after later → AreReady (verdicts X) same (G.script cx) old.nodes (runs_of e.goals) e.provisional
       → (call : Call I) (ahead : ℕ) → Requests G X same cx (Evaluate kind goal) call ahead old e starts → GoesOnWith G X same cx call ahead received new after later
   asked_goes_on more exact sorts received new after later (Refused goals none noted) ready call ahead h = record {
     goes_on = ask_refused G X cx call ahead kind goal starts e.limits_met same (G.stack_overflow cx goal) e.goals goals none noted h.asked;
@@ -30,9 +30,9 @@ module _ {D C V P F I R A T : Type 0} (G : DelegateOf D C V P F I R A T) (X : Cx
       record {
         goes_on =
             ask_provisional G X cx call ahead kind goal starts e.limits_met more depth entry.result entry.encountered_overflow entry.heads e.goals goals at
-            (one (IsReady X.is_yes X.is_no (G.script cx) old.nodes (runs_of e.goals) goal) (ready goal)).no_rank
+            (one (IsReady (verdicts X) (G.script cx) old.nodes (runs_of e.goals) goal) (ready goal)).no_rank
             (λ counted unmet. one (λ entry. entry.encountered_overflow ≡ false) (h.answers.met_none counted unmet goal))
-            (λ decisive unmet. one (λ entry. IsDefinite X.is_yes X.is_no entry.result) (h.answers.definite decisive unmet goal))
+            (λ decisive unmet. one (λ entry. IsDefinite (verdicts X) entry.result) (h.answers.definite decisive unmet goal))
             takes h.asked;
         answers = h.answers;
       }
@@ -76,14 +76,14 @@ module _ {D C V P F I R A T : Type 0} (G : DelegateOf D C V P F I R A T) (X : Cx
   pushed_right depth goals nodes pushes asks h =
       record {
         right = record {
-          justified = carried depth goals nodes pushes (λ cs gs. AreJustified X.is_yes X.is_no cs (runs_of gs))
-              (pushed_goal_is_justified X.is_yes X.is_no old.nodes goal kind depth pushes.own pushes.frame e.goals pushes.place asks h.justified);
-          free = carried depth goals nodes pushes (λ cs gs. AreFree X.is_yes X.is_no same cs (runs_of gs) old.results)
-              (all_free_pushed_goal X.is_yes X.is_no same old.nodes goal kind depth pushes.own pushes.frame e.goals old.results pushes.place asks h.justified h.free);
-          ready = carried depth goals nodes pushes (λ cs gs. AreReady X.is_yes X.is_no same (G.script cx) cs (runs_of gs) e.provisional)
-              (ready_pushed_goal X.is_yes X.is_no same (G.script cx) old.nodes goal kind depth pushes.own pushes.frame e.goals e.provisional pushes.place h.justified h.ready);
+          justified = carried depth goals nodes pushes (λ cs gs. AreJustified (verdicts X) cs (runs_of gs))
+              (pushed_goal_is_justified (verdicts X) old.nodes goal kind depth pushes.own pushes.frame e.goals pushes.place asks h.justified);
+          free = carried depth goals nodes pushes (λ cs gs. AreFree (verdicts X) same cs (runs_of gs) old.results)
+              (all_free_pushed_goal (verdicts X) same old.nodes goal kind depth pushes.own pushes.frame e.goals old.results pushes.place asks h.justified h.free);
+          ready = carried depth goals nodes pushes (λ cs gs. AreReady (verdicts X) same (G.script cx) cs (runs_of gs) e.provisional)
+              (ready_pushed_goal (verdicts X) same (G.script cx) old.nodes goal kind depth pushes.own pushes.frame e.goals e.provisional pushes.place h.justified h.ready);
         };
-        fits = begin_fits X.is_yes X.is_no nodes (runs_of goals);
+        fits = begin_fits (verdicts X) nodes (runs_of goals);
       }
 
   pub asked_right :
@@ -92,30 +92,30 @@ module _ {D C V P F I R A T : Type 0} (G : DelegateOf D C V P F I R A T) (X : Cx
       → Asked G X same cx kind goal old e starts received new after later → Asks (runs_of e.goals) kind goal → IsRight G X same cx old e → IsRightFor G X same cx received new after
   asked_right neither sorts received new after later (Refused goals none noted) asks h = record {
     right = record {
-      justified = overflow_noted_is_justified X.is_yes X.is_no old.nodes same e.goals goals noted h.justified;
-      free = overflow_noted_free X.is_yes X.is_no same old.nodes old.results e.goals goals noted h.free;
-      ready = overflow_noted_ready X.is_yes X.is_no same (G.script cx) old.nodes e.provisional e.goals goals noted h.ready;
+      justified = overflow_noted_is_justified (verdicts X) old.nodes same e.goals goals noted h.justified;
+      free = overflow_noted_free (verdicts X) same old.nodes old.results e.goals goals noted h.free;
+      ready = overflow_noted_ready (verdicts X) same (G.script cx) old.nodes e.provisional e.goals goals noted h.ready;
     };
-    fits = neither_fits X.is_yes X.is_no old.nodes (runs_of goals) (G.stack_overflow cx goal) None (neither_is X.is_yes X.is_no (G.stack_overflow cx goal) (neither cx goal));
+    fits = neither_fits (verdicts X) old.nodes (runs_of goals) (G.stack_overflow cx goal) None (neither_is (verdicts X) (G.stack_overflow cx goal) (neither cx goal));
   }
   asked_right neither sorts received new after later (ByEntry depth entry goals at is takes) asks h =
-      let ready = entry_is_one same (asking G X same cx kind goal e) goal entry G.ENABLE_PROVISIONAL_CACHE is (IsReady X.is_yes X.is_no (G.script cx) old.nodes (runs_of e.goals) goal) (h.ready goal) in
+      let ready = entry_is_one same (asking G X same cx kind goal e) goal entry G.ENABLE_PROVISIONAL_CACHE is (IsReady (verdicts X) (G.script cx) old.nodes (runs_of e.goals) goal) (h.ready goal) in
       record {
         right = record {
-          justified = entry_taken_justified X.is_yes X.is_no (G.script cx) old.nodes e.goals goals kind goal entry takes h.justified ready;
-          free = answered_newest_free X.is_yes X.is_no same old.nodes old.results e.goals goals kind 0 _ _ takes h.free;
-          ready = ready_beside X.is_yes X.is_no same (G.script cx) old.nodes e.provisional e.goals goals kind 0 _ _ takes h.ready;
+          justified = entry_taken_justified (verdicts X) (G.script cx) old.nodes e.goals goals kind goal entry takes h.justified ready;
+          free = answered_newest_free (verdicts X) same old.nodes old.results e.goals goals kind 0 _ _ takes h.free;
+          ready = ready_beside (verdicts X) same (G.script cx) old.nodes e.provisional e.goals goals kind 0 _ _ takes h.ready;
         };
-        fits = entry_fits X.is_yes X.is_no (G.script cx) old.nodes e.goals goals kind goal entry takes h.justified ready asks
+        fits = entry_fits (verdicts X) (G.script cx) old.nodes e.goals goals kind goal entry takes h.justified ready asks
             (entry_path_is same (asking G X same cx kind goal e) goal entry G.ENABLE_PROVISIONAL_CACHE is);
       }
   asked_right neither sorts received new after later (ByStored depth hit goals at none is takes usable) asks h = record {
     right = record {
-      justified = subst (AreJustified X.is_yes X.is_no old.nodes) (stored_taken_same X.is_yes X.is_no old.nodes same e.goals goals kind hit takes) h.justified;
-      free = stored_taken_free X.is_yes X.is_no same old.nodes old.results e.goals goals kind hit takes h.free;
-      ready = stored_taken_ready X.is_yes X.is_no same (G.script cx) old.nodes e.provisional e.goals goals kind hit takes h.ready;
+      justified = subst (AreJustified (verdicts X) old.nodes) (stored_taken_same (verdicts X) old.nodes same e.goals goals kind hit takes) h.justified;
+      free = stored_taken_free (verdicts X) same old.nodes old.results e.goals goals kind hit takes h.free;
+      ready = stored_taken_ready (verdicts X) same (G.script cx) old.nodes e.provisional e.goals goals kind hit takes h.ready;
     };
-    fits = stored_fits X.is_yes X.is_no same old.nodes old.results e.goals goals (G.script cx) kind goal depth.0 hit usable takes asks h.free;
+    fits = stored_fits (verdicts X) same old.nodes old.results e.goals goals (G.script cx) kind goal depth.0 hit usable takes asks h.free;
   }
   asked_right neither sorts received new after later (OverCycle depth head given goals at none not_stored found closes) asks h =
       let stack : List (StackEntry C I R A T) = reverse (map (λ s. s.0) e.goals) in
@@ -123,13 +123,13 @@ module _ {D C V P F I R A T : Type 0} (G : DelegateOf D C V P F I R A T) (X : Cx
       let e_is : closes.entry ≡ get_or stack head.0 closes.entry = sym (get_or_from_slice_get stack head.0 closes.entry closes.entry closes.is_at) in
       record {
         right = record {
-          justified = answered_newest_is_justified X.is_yes X.is_no old.nodes kind 0 _ _ e.goals goals closes.takes
+          justified = answered_newest_is_justified (verdicts X) old.nodes kind 0 _ _ e.goals goals closes.takes
               (cycle_head_lower kind head _ e.goals goals closes.takes (omega (arith, within, length-reverse (map (λ s. s.0) e.goals), length-map e.goals (λ s. s.0)))) h.justified;
-          free = answered_newest_free X.is_yes X.is_no same old.nodes old.results e.goals goals kind 0 _ _ closes.takes h.free;
-          ready = ready_beside X.is_yes X.is_no same (G.script cx) old.nodes e.provisional e.goals goals kind 0 _ _ closes.takes h.ready;
+          free = answered_newest_free (verdicts X) same old.nodes old.results e.goals goals kind 0 _ _ closes.takes h.free;
+          ready = ready_beside (verdicts X) same (G.script cx) old.nodes e.provisional e.goals goals kind 0 _ _ closes.takes h.ready;
         };
-        fits = subst (λ given. IsFit X.is_yes X.is_no old.nodes (runs_of goals) given.reply given.node) (sym closes.is)
-            (cycle_fits X.is_yes X.is_no old.nodes e.goals goals kind (path_kind_from stack head.0 kind) head goal closes.entry (head_is X.is_yes X.is_no e.goals head.0 closes.entry within e_is) closes.of_goal
+        fits = subst (λ given. IsFit (verdicts X) old.nodes (runs_of goals) given.reply given.node) (sym closes.is)
+            (cycle_fits (verdicts X) old.nodes e.goals goals kind (path_kind_from stack head.0 kind) head goal closes.entry (head_is (verdicts X) e.goals head.0 closes.entry within e_is) closes.of_goal
             refl (G.initial_result cx (path_kind_from stack head.0 kind) goal) (sorts (path_kind_from stack head.0 kind) goal) asks closes.takes h.justified);
       }
   asked_right neither sorts received new after later (Pushed depth goals nodes now at none not_stored pushes one counted) asks h =

@@ -1,6 +1,6 @@
 -- An evaluation begins: its goal is the first one that is pushed.
 use Rattle.std.proofs.Common.{◌≡◌, ◌≤◌, ◌+◌, ℕ, Bool, true, List, None, sym, ◌∙◌, subst}
-use Rattle.search_graph.specs.Below.{AreSoundResults, AvailableDepth, Begin, Cache, CacheNode, CountsOne, CxOf, DelegateOf, Memory, PathKind, Run, StackEntry}
+use Rattle.search_graph.specs.Below.{AreSoundResults, AvailableDepth, Begin, Cache, CacheNode, CountsOne, CxOf, DelegateOf, Memory, PathKind, Run, StackEntry, verdicts}
 use Rattle.search_parts.proofs.Finished.{KeepsFinished-then}
 use Rattle.search_parts.proofs.Stores.{KeepsResults-then}
 use Rattle.search_graph.specs.declared.graph.evaluation.Evaluation.{Evaluation}
@@ -22,11 +22,11 @@ then_keeps same old mid new first second = record {
 
 module _ {D C V P F I R A T : Type 0} (G : DelegateOf D C V P F I R A T) (X : CxOf C I R A T) (same : I → I → Bool) (cx : C) (kind : PathKind) (goal : I) (old : Cache C I R A T) (e : Evaluation D C V P F I R A T) (is_new : IsNew e) where
   -- where no goal is under evaluation, all is right
-  new_right : AreSoundResults same X.is_yes X.is_no (G.script cx) old.nodes old.results → IsRight G X same cx old e
+  new_right : AreSoundResults same (verdicts X) (G.script cx) old.nodes old.results → IsRight G X same cx old e
   new_right sound = record {
-    justified = subst (λ gs. AreJustified X.is_yes X.is_no old.nodes (runs_of gs)) (sym is_new.no_goals) (nothing_is_justified X.is_yes X.is_no old.nodes);
-    free = subst (λ gs. AreFree X.is_yes X.is_no same old.nodes (runs_of gs) old.results) (sym is_new.no_goals) (all_free_nothing X.is_yes X.is_no same (G.script cx) old.nodes old.results sound);
-    ready = subst (AreReady X.is_yes X.is_no same (G.script cx) old.nodes (runs_of e.goals)) (sym is_new.no_entries) (none_ready X.is_yes X.is_no same (G.script cx) old.nodes (runs_of e.goals));
+    justified = subst (λ gs. AreJustified (verdicts X) old.nodes (runs_of gs)) (sym is_new.no_goals) (nothing_is_justified (verdicts X) old.nodes);
+    free = subst (λ gs. AreFree (verdicts X) same old.nodes (runs_of gs) old.results) (sym is_new.no_goals) (all_free_nothing (verdicts X) same (G.script cx) old.nodes old.results sound);
+    ready = subst (AreReady (verdicts X) same (G.script cx) old.nodes (runs_of e.goals)) (sym is_new.no_entries) (none_ready (verdicts X) same (G.script cx) old.nodes (runs_of e.goals));
   }
 
   -- a goal that could not be pushed ends the call
@@ -39,7 +39,7 @@ module _ {D C V P F I R A T : Type 0} (G : DelegateOf D C V P F I R A T) (X : Cx
       (record { stopped = first_stopped G X cx goal kind depth starts later e.limits_met least most call begins.outset; store = begins.store }))
 
   module _ (depth : AvailableDepth) (goals : List (StackEntry C I R A T × Run C F I R A T)) (nodes : List (CacheNode I R)) (pushes : Pushes G X cx goal kind depth old.nodes nodes e.goals goals) where
-    pub begins_right : AreSoundResults same X.is_yes X.is_no (G.script cx) old.nodes old.results → IsRightFor G X same cx (record { reply = Begin; node = None }) (record old { nodes = nodes }) (record e { goals = goals })
+    pub begins_right : AreSoundResults same (verdicts X) (G.script cx) old.nodes old.results → IsRightFor G X same cx (record { reply = Begin; node = None }) (record old { nodes = nodes }) (record e { goals = goals })
     begins_right sound =
         pushed_right G X same cx kind goal old e 0 depth goals nodes pushes (subst (λ gs. Asks (runs_of gs) kind goal) (sym is_new.no_goals) tt) (new_right sound)
 

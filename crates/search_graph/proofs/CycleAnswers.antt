@@ -8,7 +8,7 @@ use Rattle.std.proofs.lemmas.List.Quantifiers.{position-Some}
 use Rattle.std.proofs.lemmas.Option.{slice_get-map, slice_get-get_or, slice_get_within}
 use Rattle.std.proofs.lemmas.Bool.{cases_eq}
 use Rattle.open_graphs.specs.Graph as theory
-use Rattle.search_graph.specs.Below.{Entry, Accepts, greatest, path_kind, Recorded, IsAnsweredEdge, stack_of, PathKind, Inductive, Unknown, Coinductive, ForcedAmbiguity, NodeId, Answer, StackDepth, StackEntry, CacheNode, IsNodeOf, path_kind_from, IsCycleResult, heads_shape, CycleHead, at_depth, rank_of, greater_kind, greatest_kind, is_coinductive, is_inductive, has_kind, paths_of, verdict_of, shapes_of, count_of, no_usages, with_usage, Run, cycle_head, AnswersNewest}
+use Rattle.search_graph.specs.Below.{Entry, Accepts, greatest, path_kind, Recorded, IsAnsweredEdge, stack_of, PathKind, Inductive, Unknown, Coinductive, ForcedAmbiguity, NodeId, Answer, StackDepth, StackEntry, CacheNode, IsNodeOf, path_kind_from, IsCycleResult, heads_shape, CycleHead, at_depth, rank_of, greater_kind, greatest_kind, is_coinductive, is_inductive, has_kind, paths_of, verdict_of, shapes_of, count_of, no_usages, with_usage, Run, cycle_head, AnswersNewest, Verdicts}
 use Rattle.open_graphs.specs.Use.{Heads}
 use Rattle.open_graphs.proofs.Asked.{cycle_is_answered}
 use Rattle.open_graphs.proofs.Lists.{get_cases}
@@ -73,12 +73,12 @@ cycle_head_lower step head used old new a within = one_head_lower head used (suc
 
 -- ---- the stack from below
 
-module _ {X F I R A T : Type 0} (is_yes is_no : R → Bool) where
+module _ {X F I R A T : Type 0} (says : Verdicts R) where
   -- an item as an entry of the theory
   abbrev entry_of : StackEntry X I R A T × Run X F I R A T → Entry
-  entry_of s = (frame_of is_yes is_no (run_of s)).entry
+  entry_of s = (frame_of says (run_of s)).entry
 
-  stack_is : (goals : List (StackEntry X I R A T × Run X F I R A T)) → stack_of (frames_of is_yes is_no (runs_of goals)) ≡ map entry_of (reverse goals)
+  stack_is : (goals : List (StackEntry X I R A T × Run X F I R A T)) → stack_of (frames_of says (runs_of goals)) ≡ map entry_of (reverse goals)
   stack_is [] = refl
   stack_is (s ∷ below) =
       ap (λ l. l ++ entry_of s ∷ []) (stack_is below)
@@ -100,7 +100,7 @@ module _ {X F I R A T : Type 0} (is_yes is_no : R → Bool) where
       let rest = greatest_kind (map (λ e. e.step_kind_from_parent) (map (λ (t : StackEntry X I R A T × Run X F I R A T). t.0) items)) in
       omega (arith, kind_at step items, greater_rank step (greater_kind s.0.step_kind_from_parent rest), greater_rank s.0.step_kind_from_parent rest, greater_rank step rest)
 
-  pub path_kind_is : (step : PathKind) (head : ℕ) (goals : List (StackEntry X I R A T × Run X F I R A T)) → rank_of (path_kind_from (reverse (map (λ s. s.0) goals)) head step) ≡ path_kind (stack_of (frames_of is_yes is_no (runs_of goals))) (rank_of step) head
+  pub path_kind_is : (step : PathKind) (head : ℕ) (goals : List (StackEntry X I R A T × Run X F I R A T)) → rank_of (path_kind_from (reverse (map (λ s. s.0) goals)) head step) ≡ path_kind (stack_of (frames_of says (runs_of goals))) (rank_of step) head
   path_kind_is step head goals =
       let next : head + 1 ≡ suc head = omega arith in
       ap (λ l. rank_of (path_kind_from l head step)) (entries_are goals)
@@ -136,7 +136,7 @@ module _ {X F I R A T : Type 0} (is_yes is_no : R → Bool) where
 
 -- ---- the answer
 
-module _ {X F I R A T : Type 0} (is_yes is_no : R → Bool) (nodes : List (CacheNode I R)) (old new : List (StackEntry X I R A T × Run X F I R A T)) (step kind : PathKind) (head : StackDepth) (input : I) (e : StackEntry X I R A T) (there : HeadIs is_yes is_no old head.0 e) (same_goal : e.input ≡ input) (kind_is : kind ≡ path_kind_from (reverse (map (λ s. s.0) old)) head.0 step) (initial : R) (sorted : IsCycleResult is_yes is_no kind initial) (asks : Asks (runs_of old) step input) (a : AnswersNewest step 0 false ((head, cycle_head step kind) ∷ []) old new) (h : AreJustified is_yes is_no nodes (runs_of old)) where
+module _ {X F I R A T : Type 0} (says : Verdicts R) (nodes : List (CacheNode I R)) (old new : List (StackEntry X I R A T × Run X F I R A T)) (step kind : PathKind) (head : StackDepth) (input : I) (e : StackEntry X I R A T) (there : HeadIs says old head.0 e) (same_goal : e.input ≡ input) (kind_is : kind ≡ path_kind_from (reverse (map (λ s. s.0) old)) head.0 step) (initial : R) (sorted : IsCycleResult says.is_yes says.is_no kind initial) (asks : Asks (runs_of old) step input) (a : AnswersNewest step 0 false ((head, cycle_head step kind) ∷ []) old new) (h : AreJustified says nodes (runs_of old)) where
   abbrev result : R
   result = unwrap_or e.state.provisional_result initial
 
@@ -144,26 +144,26 @@ module _ {X F I R A T : Type 0} (is_yes is_no : R → Bool) (nodes : List (Cache
   newest_run_of = run_of (a.entry, a.run)
 
   abbrev entries_below : List Entry
-  entries_below = stack_of (frames_of is_yes is_no (runs_of a.below))
+  entries_below = stack_of (frames_of says (runs_of a.below))
 
-  was : AreJustified is_yes is_no nodes (newest_run_of ∷ runs_of a.below)
-  was = subst (λ l. AreJustified is_yes is_no nodes (runs_of l)) a.was h
+  was : AreJustified says nodes (newest_run_of ∷ runs_of a.below)
+  was = subst (λ l. AreJustified says nodes (runs_of l)) a.was h
 
-  stack_was : stack_of (frames_of is_yes is_no (runs_of old)) ≡ entries_below ++ (frame_of is_yes is_no newest_run_of).entry ∷ []
-  stack_was = ap (λ l. stack_of (frames_of is_yes is_no (runs_of l))) a.was
+  stack_was : stack_of (frames_of says (runs_of old)) ≡ entries_below ++ (frame_of says newest_run_of).entry ∷ []
+  stack_was = ap (λ l. stack_of (frames_of says (runs_of l))) a.was
 
-  place : slice_get (entries_below ++ (frame_of is_yes is_no newest_run_of).entry ∷ []) head.0 ≡ Some (entry_of is_yes is_no (e, there.run))
+  place : slice_get (entries_below ++ (frame_of says newest_run_of).entry ∷ []) head.0 ≡ Some (entry_of says (e, there.run))
   place =
-      ap (λ l. slice_get l head.0) (sym stack_was ∙ stack_is is_yes is_no old)
-      ∙ slice_get-map (entry_of is_yes is_no) (reverse old) head.0
-      ∙ ap (option_map (entry_of is_yes is_no)) there.at
+      ap (λ l. slice_get l head.0) (sym stack_was ∙ stack_is says old)
+      ∙ slice_get-map (entry_of says) (reverse old) head.0
+      ∙ ap (option_map (entry_of says)) there.at
 
-  rank_is : rank_of kind ≡ path_kind (entries_below ++ (frame_of is_yes is_no newest_run_of).entry ∷ []) (rank_of step) head.0
-  rank_is = ap rank_of kind_is ∙ path_kind_is is_yes is_no step head.0 old ∙ ap (λ l. path_kind l (rank_of step) head.0) stack_was
+  rank_is : rank_of kind ≡ path_kind (entries_below ++ (frame_of says newest_run_of).entry ∷ []) (rank_of step) head.0
+  rank_is = ap rank_of kind_is ∙ path_kind_is says step head.0 old ∙ ap (λ l. path_kind l (rank_of step) head.0) stack_was
 
-  accepts_at : (earlier : Option R) → e.state.provisional_result ≡ earlier → verdict_of is_yes is_no (unwrap_or earlier initial) ≢ theory.Neither → Accepts (verdict_of is_yes is_no (unwrap_or earlier initial)) (entry_of is_yes is_no (e, there.run)) (rank_of kind)
-  accepts_at None is definite = inr (ap (option_map (verdict_of is_yes is_no)) is, initial_at kind (is_yes initial) (is_no initial) sorted.yes sorted.no definite)
-  accepts_at (Some r) is definite = inl (ap (option_map (verdict_of is_yes is_no)) is)
+  accepts_at : (earlier : Option R) → e.state.provisional_result ≡ earlier → verdict_of says (unwrap_or earlier initial) ≢ theory.Neither → Accepts (verdict_of says (unwrap_or earlier initial)) (entry_of says (e, there.run)) (rank_of kind)
+  accepts_at None is definite = inr (ap (option_map (verdict_of says)) is, initial_at kind (says.is_yes initial) (says.is_no initial) sorted.yes sorted.no definite)
+  accepts_at (Some r) is definite = inl (ap (option_map (verdict_of says)) is)
 
   head_lower : LieBelow (suc (length a.below)) ((head, cycle_head step kind) ∷ [])
   head_lower = cycle_head_lower step head (cycle_head step kind) old new a (omega (arith, slice_get_within (reverse old) head.0 (e, there.run) there.at, length-reverse old))
@@ -176,32 +176,32 @@ module _ {X F I R A T : Type 0} (is_yes is_no : R → Bool) (nodes : List (Cache
   recorded lower =
       let twice : max (rank_of step) (rank_of step) ≡ rank_of step = omega arith in
       subst (λ p. Recorded counts_now head.0 p (rank_of kind)) twice
-      (heads_come is_yes is_no nodes step 0 false ((head, cycle_head step kind) ∷ []) old new a head_lower h head.0 (rank_of step) (rank_of kind) lower (cycle_recorded step kind head))
+      (heads_come says nodes step 0 false ((head, cycle_head step kind) ∷ []) old new a head_lower h head.0 (rank_of step) (rank_of kind) lower (cycle_recorded step kind head))
 
-  answered : verdict_of is_yes is_no (unwrap_or e.state.provisional_result initial) ≢ theory.Neither → IsAnsweredEdge (shapes_of is_yes is_no nodes) (verdict_of is_yes is_no (unwrap_or e.state.provisional_result initial)) (stack_of (frames_of is_yes is_no (runs_of a.below))) (frame_of is_yes is_no (run_of (a.entry, a.run))).entry (record { kind = rank_of step; target = cycles_node (run_of (e, there.run)) }) counts_now
+  answered : verdict_of says (unwrap_or e.state.provisional_result initial) ≢ theory.Neither → IsAnsweredEdge (shapes_of says nodes) (verdict_of says (unwrap_or e.state.provisional_result initial)) (stack_of (frames_of says (runs_of a.below))) (frame_of says (run_of (a.entry, a.run))).entry (record { kind = rank_of step; target = cycles_node (run_of (e, there.run)) }) counts_now
   answered definite =
-      let many : length (stack_of (frames_of is_yes is_no (runs_of a.below))) ≡ length a.below = stack_length is_yes is_no (runs_of a.below) ∙ length-map a.below run_of in
-      cycle_is_answered (shapes_of is_yes is_no nodes) (verdict_of is_yes is_no (unwrap_or e.state.provisional_result initial)) (stack_of (frames_of is_yes is_no (runs_of a.below))) (frame_of is_yes is_no (run_of (a.entry, a.run))).entry head.0 (entry_of is_yes is_no (e, there.run)) (rank_of step) counts_now
+      let many : length (stack_of (frames_of says (runs_of a.below))) ≡ length a.below = stack_length says (runs_of a.below) ∙ length-map a.below run_of in
+      cycle_is_answered (shapes_of says nodes) (verdict_of says (unwrap_or e.state.provisional_result initial)) (stack_of (frames_of says (runs_of a.below))) (frame_of says (run_of (a.entry, a.run))).entry head.0 (entry_of says (e, there.run)) (rank_of step) counts_now
       was.sound.is_stack.distinct place
-      (subst (Accepts (verdict_of is_yes is_no (unwrap_or e.state.provisional_result initial)) (entry_of is_yes is_no (e, there.run))) rank_is (accepts_at e.state.provisional_result refl definite))
+      (subst (Accepts (verdict_of says (unwrap_or e.state.provisional_result initial)) (entry_of says (e, there.run))) rank_is (accepts_at e.state.provisional_result refl definite))
       (λ lower. subst (Recorded counts_now head.0 (rank_of step)) rank_is (recorded (subst (λ n. head.0 < n) many lower)))
 
-  may_answer_at : (lead : Option NodeId) → e.state.node ≡ lead → IsSomeAnd lead (λ n. IsNodeOf nodes n.0 e.input) → verdict_of is_yes is_no (unwrap_or e.state.provisional_result initial) ≢ theory.Neither → IsSomeAnd lead (λ n. MayAnswer is_yes is_no nodes (run_of (record a.entry { state = a.state }, a.run)) (runs_of a.below) (verdict_of is_yes is_no (unwrap_or e.state.provisional_result initial)) step input n.0)
+  may_answer_at : (lead : Option NodeId) → e.state.node ≡ lead → IsSomeAnd lead (λ n. IsNodeOf nodes n.0 e.input) → verdict_of says (unwrap_or e.state.provisional_result initial) ≢ theory.Neither → IsSomeAnd lead (λ n. MayAnswer says nodes (run_of (record a.entry { state = a.state }, a.run)) (runs_of a.below) (verdict_of says (unwrap_or e.state.provisional_result initial)) step input n.0)
   may_answer_at None is home definite = absurd home
   may_answer_at (Some n) is home definite =
-      subst (λ o. MayAnswer is_yes is_no nodes o (runs_of a.below) (verdict_of is_yes is_no (unwrap_or e.state.provisional_result initial)) step input n.0) (sym (same_run (record { 0 = length a.below }) step 0 false ((head, cycle_head step kind) ∷ []) a.entry.state a.state a.takes a.entry a.run refl))
+      subst (λ o. MayAnswer says nodes o (runs_of a.below) (verdict_of says (unwrap_or e.state.provisional_result initial)) step input n.0) (sym (same_run (record { 0 = length a.below }) step 0 false ((head, cycle_head step kind) ∷ []) a.entry.state a.state a.takes a.entry a.run refl))
       (record {
         of_goal = subst (IsNodeOf nodes n.0) same_goal home;
-        answered = subst (λ t. IsAnsweredEdge (shapes_of is_yes is_no nodes) (verdict_of is_yes is_no (unwrap_or e.state.provisional_result initial)) (stack_of (frames_of is_yes is_no (runs_of a.below))) (frame_of is_yes is_no (run_of (a.entry, a.run))).entry (record { kind = rank_of step; target = t }) counts_now)
+        answered = subst (λ t. IsAnsweredEdge (shapes_of says nodes) (verdict_of says (unwrap_or e.state.provisional_result initial)) (stack_of (frames_of says (runs_of a.below))) (frame_of says (run_of (a.entry, a.run))).entry (record { kind = rank_of step; target = t }) counts_now)
             (ap (λ l. elim l [ None ↦ there.run.node.0 | Some m ↦ m.0 ]) is) (answered definite);
       })
 
-  pub cycle_fits : IsFit is_yes is_no nodes (runs_of new) (Answer (unwrap_or e.state.provisional_result initial)) e.state.node
+  pub cycle_fits : IsFit says nodes (runs_of new) (Answer (unwrap_or e.state.provisional_result initial)) e.state.node
   cycle_fits =
       let asked : Asks (run_of (a.entry, a.run) ∷ runs_of a.below) step input = subst (λ l. Asks (runs_of l) step input) a.was asks in
-      subst (λ l. IsFit is_yes is_no nodes (runs_of l) (Answer (unwrap_or e.state.provisional_result initial)) e.state.node) (sym a.is)
-      (answer_fits is_yes is_no nodes (run_of (record a.entry { state = a.state }, a.run)) (runs_of a.below) (unwrap_or e.state.provisional_result initial) step input e.state.node asked
-      (λ definite. may_answer_at e.state.node refl (home_of is_yes is_no nodes old h.lead_home head.0 (e, there.run) there.at) definite))
+      subst (λ l. IsFit says nodes (runs_of l) (Answer (unwrap_or e.state.provisional_result initial)) e.state.node) (sym a.is)
+      (answer_fits says nodes (run_of (record a.entry { state = a.state }, a.run)) (runs_of a.below) (unwrap_or e.state.provisional_result initial) step input e.state.node asked
+      (λ definite. may_answer_at e.state.node refl (home_of says nodes old h.lead_home head.0 (e, there.run) there.at) definite))
 
 -- the entry that was found by its goal has that goal
 pub found_goal : {X I R A T : Type 0} (eq : I → I → Bool) → ((x y : I) → eq x y ≡ true → x ≡ y) → (input : I) (es : List (StackEntry X I R A T)) (head : ℕ) (e : StackEntry X I R A T) → position (eq input) (map (λ d. d.input) es) ≡ Some head → e ≡ get_or es head e → (head < length es) × (e.input ≡ input)

@@ -5,7 +5,7 @@ use Rattle.std.proofs.lemmas.Grind.{reverse_onto}
 use Rattle.std.proofs.lemmas.List.{drop-map, map-append}
 use Rattle.open_graphs.specs.Graph as theory
 use Rattle.open_graphs.proofs.Lists.{get_cases}
-use Rattle.search_graph.specs.Below.{PathKind, Inductive, Unknown, Coinductive, ForcedAmbiguity, Reply, StackEntry, path_kind_from, IsDecidedKind, IsDecidedReply, AreDecided, IsDefinite, IsCycleResult, greater_kind, greatest_kind, is_coinductive, is_inductive, Run}
+use Rattle.search_graph.specs.Below.{PathKind, Inductive, Unknown, Coinductive, ForcedAmbiguity, Reply, StackEntry, path_kind_from, IsDecidedKind, IsDecidedReply, AreDecided, IsDefinite, IsCycleResult, greater_kind, greatest_kind, is_coinductive, is_inductive, Run, Verdicts}
 use Rattle.search_graph.specs.Words.{IsDecided, AllDecided}
 
 -- ---- kinds
@@ -47,32 +47,32 @@ initial_definite Coinductive true n decided says denies e = cc
 initial_definite Coinductive false n decided says denies e = cc
 initial_definite ForcedAmbiguity y n decided says denies e = absurd decided
 
-cycle_at : {R : Type 0} (is_yes is_no : R → Bool) (earlier : Option R) (initial : R) → IfSome earlier (IsDefinite is_yes is_no) → IsDefinite is_yes is_no initial → IsDefinite is_yes is_no (unwrap_or earlier initial)
-cycle_at is_yes is_no None initial first h = h
-cycle_at is_yes is_no (Some r) initial first h = first
+cycle_at : {R : Type 0} (says : Verdicts R) (earlier : Option R) (initial : R) → IfSome earlier (IsDefinite says) → IsDefinite says initial → IsDefinite says (unwrap_or earlier initial)
+cycle_at says None initial first h = h
+cycle_at says (Some r) initial first h = first
 
 -- ---- goals
 
-module _ {X F I R A T : Type 0} (is_yes is_no : R → Bool) where
-  pub newest_decided : (s : StackEntry X I R A T × Run X F I R A T) (below : List (StackEntry X I R A T × Run X F I R A T)) → AllDecided is_yes is_no (s ∷ below) → IsDecided is_yes is_no s
+module _ {X F I R A T : Type 0} (says : Verdicts R) where
+  pub newest_decided : (s : StackEntry X I R A T × Run X F I R A T) (below : List (StackEntry X I R A T × Run X F I R A T)) → AllDecided says (s ∷ below) → IsDecided says s
   newest_decided s [] h = h
   newest_decided s (p ∷ below) h = h.0
 
-  pub below_decided : (s : StackEntry X I R A T × Run X F I R A T) (below : List (StackEntry X I R A T × Run X F I R A T)) → AllDecided is_yes is_no (s ∷ below) → AllDecided is_yes is_no below
+  pub below_decided : (s : StackEntry X I R A T × Run X F I R A T) (below : List (StackEntry X I R A T × Run X F I R A T)) → AllDecided says (s ∷ below) → AllDecided says below
   below_decided s [] h = tt
   below_decided s (p ∷ below) h = h.2
 
   -- the newest goal changes, but for its step
-  pub changed_decided : (s t : StackEntry X I R A T × Run X F I R A T) (below : List (StackEntry X I R A T × Run X F I R A T)) → t.0.step_kind_from_parent ≡ s.0.step_kind_from_parent → (IsDecided is_yes is_no s → IsDecided is_yes is_no t) → AllDecided is_yes is_no (s ∷ below) → AllDecided is_yes is_no (t ∷ below)
+  pub changed_decided : (s t : StackEntry X I R A T × Run X F I R A T) (below : List (StackEntry X I R A T × Run X F I R A T)) → t.0.step_kind_from_parent ≡ s.0.step_kind_from_parent → (IsDecided says s → IsDecided says t) → AllDecided says (s ∷ below) → AllDecided says (t ∷ below)
   changed_decided s t [] same change h = change h
   changed_decided s t (p ∷ below) same change h = (change h.0, subst IsDecidedKind (sym same) h.1, h.2)
 
-  pub pushed_decided : (s : StackEntry X I R A T × Run X F I R A T) (below : List (StackEntry X I R A T × Run X F I R A T)) → IsDecided is_yes is_no s → IsDecidedKind s.0.step_kind_from_parent → AllDecided is_yes is_no below → AllDecided is_yes is_no (s ∷ below)
+  pub pushed_decided : (s : StackEntry X I R A T × Run X F I R A T) (below : List (StackEntry X I R A T × Run X F I R A T)) → IsDecided says s → IsDecidedKind s.0.step_kind_from_parent → AllDecided says below → AllDecided says (s ∷ below)
   pushed_decided s [] here kind h = here
   pushed_decided s (p ∷ below) here kind h = (here, kind, h)
 
   -- the steps above a head
-  steps_decided : (goals : List (StackEntry X I R A T × Run X F I R A T)) → AllDecided is_yes is_no goals → (n : ℕ) → KindsDecided (drop (suc n) (map (λ e. e.step_kind_from_parent) (reverse (map (λ s. s.0) goals))))
+  steps_decided : (goals : List (StackEntry X I R A T × Run X F I R A T)) → AllDecided says goals → (n : ℕ) → KindsDecided (drop (suc n) (map (λ e. e.step_kind_from_parent) (reverse (map (λ s. s.0) goals))))
   steps_decided [] h n = tt
   steps_decided (s ∷ []) h zero = tt
   steps_decided (s ∷ []) h (suc n) = tt
@@ -83,30 +83,30 @@ module _ {X F I R A T : Type 0} (is_yes is_no : R → Bool) where
       ∙ ap (map (λ (e : StackEntry X I R A T). e.step_kind_from_parent)) (sym (reverse_onto (map (λ (t : StackEntry X I R A T × Run X F I R A T). t.0) (p ∷ below)) s.0 [])))
       (drop_last (suc n) (map (λ (e : StackEntry X I R A T). e.step_kind_from_parent) (reverse (map (λ (t : StackEntry X I R A T × Run X F I R A T). t.0) (p ∷ below)))) s.0.step_kind_from_parent (steps_decided (p ∷ below) h.2 n) h.1)
 
-  path_decided : (goals : List (StackEntry X I R A T × Run X F I R A T)) (head : ℕ) (step : PathKind) → AllDecided is_yes is_no goals → IsDecidedKind step → IsDecidedKind (path_kind_from (reverse (map (λ s. s.0) goals)) head step)
+  path_decided : (goals : List (StackEntry X I R A T × Run X F I R A T)) (head : ℕ) (step : PathKind) → AllDecided says goals → IsDecidedKind step → IsDecidedKind (path_kind_from (reverse (map (λ s. s.0) goals)) head step)
   path_decided goals head step h decided =
       let next : head + 1 ≡ suc head = omega arith in
       let above = subst KindsDecided (drop-map (λ (e : StackEntry X I R A T). e.step_kind_from_parent) (suc head) (reverse (map (λ (s : StackEntry X I R A T × Run X F I R A T). s.0) goals))) (steps_decided goals h head) in
       greatest_decided (step ∷ map (λ e. e.step_kind_from_parent) (drop (head + 1) (reverse (map (λ s. s.0) goals))))
       (decided, subst (λ n. KindsDecided (map (λ (e : StackEntry X I R A T). e.step_kind_from_parent) (drop n (reverse (map (λ (s : StackEntry X I R A T × Run X F I R A T). s.0) goals))))) (sym next) above)
 
-  provisional_at : (goals : List (StackEntry X I R A T × Run X F I R A T)) → AllDecided is_yes is_no goals → (j : ℕ) (e : StackEntry X I R A T) → slice_get (reverse (map (λ s. s.0) goals)) j ≡ Some e → IfSome e.state.provisional_result (IsDefinite is_yes is_no)
+  provisional_at : (goals : List (StackEntry X I R A T × Run X F I R A T)) → AllDecided says goals → (j : ℕ) (e : StackEntry X I R A T) → slice_get (reverse (map (λ s. s.0) goals)) j ≡ Some e → IfSome e.state.provisional_result (IsDefinite says)
   provisional_at [] h j e at = absurd cc
   provisional_at (s ∷ below) h j e at = elim (get_cases (reverse (map (λ t. t.0) below)) s.0 j e (ap (λ l. slice_get l j) (sym (reverse_onto (map (λ t. t.0) below) s.0 [])) ∙ at)) [
     | inl lower ↦ provisional_at below (below_decided s below h) j e lower
-    | inr here ↦ subst (λ d. IfSome d.state.provisional_result (IsDefinite is_yes is_no)) here.1 (newest_decided s below h).provisional
+    | inr here ↦ subst (λ d. IfSome d.state.provisional_result (IsDefinite says)) here.1 (newest_decided s below h).provisional
   ]
 
   -- the answer to a cycle
-  pub cycle_decided : (goals : List (StackEntry X I R A T × Run X F I R A T)) (head : ℕ) (step : PathKind) (e : StackEntry X I R A T) (initial : R) → AllDecided is_yes is_no goals → IsDecidedKind step → slice_get (reverse (map (λ s. s.0) goals)) head ≡ Some e → IsCycleResult is_yes is_no (path_kind_from (reverse (map (λ s. s.0) goals)) head step) initial → IsDefinite is_yes is_no (unwrap_or e.state.provisional_result initial)
+  pub cycle_decided : (goals : List (StackEntry X I R A T × Run X F I R A T)) (head : ℕ) (step : PathKind) (e : StackEntry X I R A T) (initial : R) → AllDecided says goals → IsDecidedKind step → slice_get (reverse (map (λ s. s.0) goals)) head ≡ Some e → IsCycleResult says.is_yes says.is_no (path_kind_from (reverse (map (λ s. s.0) goals)) head step) initial → IsDefinite says (unwrap_or e.state.provisional_result initial)
   cycle_decided goals head step e initial h decided at sorted =
-      cycle_at is_yes is_no e.state.provisional_result initial (provisional_at goals h head e at)
-      (initial_definite (path_kind_from (reverse (map (λ s. s.0) goals)) head step) (is_yes initial) (is_no initial) (path_decided goals head step h decided) sorted.yes sorted.no)
+      cycle_at says e.state.provisional_result initial (provisional_at goals h head e at)
+      (initial_definite (path_kind_from (reverse (map (λ s. s.0) goals)) head step) (says.is_yes initial) (says.is_no initial) (path_decided goals head step h decided) sorted.yes sorted.no)
 
 reverse_snoc : {A : Type 0} (xs : List A) (x : A) → reverse (xs ++ x ∷ []) ≡ x ∷ reverse xs
 reverse_snoc [] x = refl
 reverse_snoc (y ∷ ys) x = reverse_onto (ys ++ x ∷ []) y [] ∙ ap (λ l. l ++ y ∷ []) (reverse_snoc ys x) ∙ ap (λ l. x ∷ l) (sym (reverse_onto ys y []))
 
 -- one reply more
-pub replied_decided : {R : Type 0} (is_yes is_no : R → Bool) (replies : List (Reply R)) (reply : Reply R) → IsDecidedReply is_yes is_no reply → AreDecided is_yes is_no (reverse replies) → AreDecided is_yes is_no (reverse (replies ++ reply ∷ []))
-replied_decided is_yes is_no replies reply decided h = subst (AreDecided is_yes is_no) (sym (reverse_snoc replies reply)) (decided, h)
+pub replied_decided : {R : Type 0} (says : Verdicts R) (replies : List (Reply R)) (reply : Reply R) → IsDecidedReply says reply → AreDecided says (reverse replies) → AreDecided says (reverse (replies ++ reply ∷ []))
+replied_decided says replies reply decided h = subst (AreDecided says) (sym (reverse_snoc replies reply)) (decided, h)

@@ -1,6 +1,6 @@
 -- The newest goal is done: its answer is given to the goal below it, and stored where it has no heads.
 use Rattle.std.proofs.Common.{◌≡◌, ◌≢◌, ◌||◌, Bool, true, List, [], ◌∷◌, length, Option, refl, sym, ap, ◌∙◌, subst, arith}
-use Rattle.search_graph.specs.Below.{NodeId, Answer, PathKind, StoredResult, EvaluationResult, StackEntry, CacheNode, Store, Run, Next, Step, Finished, AnswersNewest}
+use Rattle.search_graph.specs.Below.{NodeId, Answer, PathKind, StoredResult, EvaluationResult, StackEntry, CacheNode, Store, Run, Next, Step, Finished, AnswersNewest, Verdicts}
 use Rattle.search_graph.specs.Words.{AreFree, AreJustified, GivesAnswer, Leaves, final_answer, StoresAnswer, MayPutNewest, place_of_item, runs_of, HasResultNode, IsJustifiedNext}
 use Rattle.search_graph.proofs.FreeMoves.{answered_newest_free}
 use Rattle.search_graph.proofs.FreeResults.{all_free_stored}
@@ -16,7 +16,7 @@ module _ {X F I R A T : Type 0} (step : PathKind) (answer : EvaluationResult X I
   given_to_newest [] new some a = absurd (some refl)
   given_to_newest (p ∷ below) new some a = (refl, a)
 
-module _ {X F I R A T : Type 0} (is_yes is_no : R → Bool) (before after : List (CacheNode I R)) (old : List (StackEntry X I R A T × Run X F I R A T)) (entry : StackEntry X I R A T) (run : Run X F I R A T) (rest : List (StackEntry X I R A T × Run X F I R A T)) (was : old ≡ (entry, run) ∷ rest) (r : R) (target : Option NodeId) (h : AreJustified is_yes is_no before (runs_of old)) (ended : HasResultNode is_yes is_no before after entry.state.provisional_result run.node entry.state.node run.progress r target) where
+module _ {X F I R A T : Type 0} (says : Verdicts R) (before after : List (CacheNode I R)) (old : List (StackEntry X I R A T × Run X F I R A T)) (entry : StackEntry X I R A T) (run : Run X F I R A T) (rest : List (StackEntry X I R A T × Run X F I R A T)) (was : old ≡ (entry, run) ∷ rest) (r : R) (target : Option NodeId) (h : AreJustified says before (runs_of old)) (ended : HasResultNode says before after entry.state.provisional_result run.node entry.state.node run.progress r target) where
   some_below : (p : StackEntry X I R A T × Run X F I R A T) (below : List (StackEntry X I R A T × Run X F I R A T)) → rest ≡ p ∷ below → length rest ≢ 0
   some_below p below is none = omega (arith, ap length is, none)
 
@@ -25,32 +25,32 @@ module _ {X F I R A T : Type 0} (is_yes is_no : R → Bool) (before after : List
       subst (λ o. Leaves r o next new) (sym (was ∙ ap (λ l. (entry, run) ∷ l) is)) (target, given.0, given.1)
   leaves_at (p ∷ below) new next is given =
       let a : AnswersNewest entry.step_kind_from_parent entry.state.required_depth (entry.state.encountered_overflow || run.met_overflow_before) entry.state.heads rest new = subst (λ l. AnswersNewest entry.step_kind_from_parent entry.state.required_depth (entry.state.encountered_overflow || run.met_overflow_before) entry.state.heads l new) (sym is) given.1 in
-      subst (λ n. Leaves r old n new) (sym given.0) (leaves_step is_yes is_no before after old entry run rest was r target h ended new a (some_below p below is))
+      subst (λ n. Leaves r old n new) (sym given.0) (leaves_step says before after old entry run rest was r target h ended new a (some_below p below is))
 
   pub given_leaves : (new : List (StackEntry X I R A T × Run X F I R A T)) (next : Next R) → GivesAnswer entry.step_kind_from_parent (final_answer (entry, run) r target) rest next new → Leaves r old next new
   given_leaves new next given = leaves_at rest new next refl given
 
-  justified_at : (l new : List (StackEntry X I R A T × Run X F I R A T)) (next : Next R) → rest ≡ l → GivesAnswer entry.step_kind_from_parent (final_answer (entry, run) r target) l next new → IsJustifiedNext is_yes is_no after old new next
+  justified_at : (l new : List (StackEntry X I R A T × Run X F I R A T)) (next : Next R) → rest ≡ l → GivesAnswer entry.step_kind_from_parent (final_answer (entry, run) r target) l next new → IsJustifiedNext says after old new next
   justified_at [] new next is given =
-      subst (λ n. IsJustifiedNext is_yes is_no after old new n) (sym given.0) (finished_justified is_yes is_no before after old entry run rest was r target h ended new (ap length is))
+      subst (λ n. IsJustifiedNext says after old new n) (sym given.0) (finished_justified says before after old entry run rest was r target h ended new (ap length is))
   justified_at (p ∷ below) new next is given =
       let a : AnswersNewest entry.step_kind_from_parent entry.state.required_depth (entry.state.encountered_overflow || run.met_overflow_before) entry.state.heads rest new = subst (λ l. AnswersNewest entry.step_kind_from_parent entry.state.required_depth (entry.state.encountered_overflow || run.met_overflow_before) entry.state.heads l new) (sym is) given.1 in
-      subst (λ n. IsJustifiedNext is_yes is_no after old new n) (sym given.0) (step_justified is_yes is_no before after old entry run rest was r target h ended new a)
+      subst (λ n. IsJustifiedNext says after old new n) (sym given.0) (step_justified says before after old entry run rest was r target h ended new a)
 
-  pub given_justified : (new : List (StackEntry X I R A T × Run X F I R A T)) (next : Next R) → GivesAnswer entry.step_kind_from_parent (final_answer (entry, run) r target) rest next new → IsJustifiedNext is_yes is_no after old new next
+  pub given_justified : (new : List (StackEntry X I R A T × Run X F I R A T)) (next : Next R) → GivesAnswer entry.step_kind_from_parent (final_answer (entry, run) r target) rest next new → IsJustifiedNext says after old new next
   given_justified new next given = justified_at rest new next refl given
 
-  free_at : (same : I → I → Bool) (results : Store I (StoredResult X I R A T)) (l new : List (StackEntry X I R A T × Run X F I R A T)) (next : Next R) → GivesAnswer entry.step_kind_from_parent (final_answer (entry, run) r target) l next new → AreFree is_yes is_no same after (runs_of l) results → AreFree is_yes is_no same after (runs_of new) results
-  free_at same results [] new next given free = subst (λ l. AreFree is_yes is_no same after (runs_of l) results) (sym given.1) free
-  free_at same results (p ∷ below) new next given free = answered_newest_free is_yes is_no same after results (p ∷ below) new entry.step_kind_from_parent entry.state.required_depth (entry.state.encountered_overflow || run.met_overflow_before) entry.state.heads given.1 free
+  free_at : (same : I → I → Bool) (results : Store I (StoredResult X I R A T)) (l new : List (StackEntry X I R A T × Run X F I R A T)) (next : Next R) → GivesAnswer entry.step_kind_from_parent (final_answer (entry, run) r target) l next new → AreFree says same after (runs_of l) results → AreFree says same after (runs_of new) results
+  free_at same results [] new next given free = subst (λ l. AreFree says same after (runs_of l) results) (sym given.1) free
+  free_at same results (p ∷ below) new next given free = answered_newest_free says same after results (p ∷ below) new entry.step_kind_from_parent entry.state.required_depth (entry.state.encountered_overflow || run.met_overflow_before) entry.state.heads given.1 free
 
   -- the stored results rest on no goal that is left, with the answer too
-  pub given_free : (same : I → I → Bool) → ((x y : I) → same x y ≡ true → x ≡ y) → (results stored : Store I (StoredResult X I R A T)) (new : List (StackEntry X I R A T × Run X F I R A T)) (next : Next R) → GivesAnswer entry.step_kind_from_parent (final_answer (entry, run) r target) rest next new → StoresAnswer same results stored entry.input (final_answer (entry, run) r target) → AreFree is_yes is_no same before (runs_of old) results → AreFree is_yes is_no same after (runs_of new) stored
+  pub given_free : (same : I → I → Bool) → ((x y : I) → same x y ≡ true → x ≡ y) → (results stored : Store I (StoredResult X I R A T)) (new : List (StackEntry X I R A T × Run X F I R A T)) (next : Next R) → GivesAnswer entry.step_kind_from_parent (final_answer (entry, run) r target) rest next new → StoresAnswer same results stored entry.input (final_answer (entry, run) r target) → AreFree says same before (runs_of old) results → AreFree says same after (runs_of new) stored
   given_free same by_value results stored new next given stores free =
       free_at same stored rest new next given
-      (all_free_stored is_yes is_no same by_value after (runs_of rest) results stored entry.input (final_answer (entry, run) r target) stores
-      (stored_stay_free is_yes is_no before after old entry run rest was r target h ended same results free)
-      (headless_is_free is_yes is_no before after old entry run rest was r target h ended))
+      (all_free_stored says same by_value after (runs_of rest) results stored entry.input (final_answer (entry, run) r target) stores
+      (stored_stay_free says before after old entry run rest was r target h ended same results free)
+      (headless_is_free says before after old entry run rest was r target h ended))
 
   -- what was stored is the newest goal's result
   pub newest_stored : (same : I → I → Bool) (results stored : Store I (StoredResult X I R A T)) → StoresAnswer same results stored entry.input (final_answer (entry, run) r target) → MayPutNewest same old r results stored

@@ -1,6 +1,6 @@
 -- What a run that ended came to, and what storing that keeps of the cache.
 use Rattle.std.proofs.Common.{◌≡◌, ℕ, ◌<◌, ◌≤◌, ◌&&◌, ◌||◌, if◌then◌else◌, Bool, true, false, List, [], ◌∷◌, Some, Result, Ok, Err, IfErr, option_map, refl, sym, ap, ap₂, ◌∙◌, subst, inl, inr, arith}
-use Rattle.search_graph.specs.Below.{DelegateOf, CxOf, Request, Done, Reply, Place, Success, WithOverflow, StoredResult, StackEntry, IsDefinite, IsPlainTo, HasNoRank, IsPlain, IsBelowRank, Store, stored_at, same_key, IsPlainAt, IsSafeOutcome, Run, is_in_cycle, newest, Stood}
+use Rattle.search_graph.specs.Below.{DelegateOf, CxOf, Request, Done, Reply, Place, Success, WithOverflow, StoredResult, StackEntry, IsDefinite, IsPlainTo, HasNoRank, IsPlain, IsBelowRank, Store, stored_at, same_key, IsPlainAt, IsSafeOutcome, Run, is_in_cycle, newest, Stood, Verdicts, verdicts}
 use Rattle.search_parts.proofs.Stores.{put_cases}
 use Rattle.evaluations.proofs.Mirrors.{leaves_calm, leaves_safe, requested_fits}
 use Rattle.search_graph.specs.Words.{Call, limits, bound, IsCounted, KeepsStore, seen, HasAsked, AreDefinite, HaveNoOverflow, MayPut, Same, WithResult, MayPutNewest, NewestComesTo, NewestIsPlain, IsNewestPlainTo, place_of_item}
@@ -97,13 +97,13 @@ module _ {X I R A T : Type 0} (same : I → I → Bool) (by_value : (x y : I) �
   put_without_overflow success (WithResult s result puts) none = λ other depth.
       puts.others other (WithOverflow depth) (ap (λ p. same_key same (goal, p) (other, WithOverflow depth)) success ∙ apart same goal other depth) ∙ none other depth
 
-  put_definite : (is_yes is_no : R → Bool) → IsDefinite is_yes is_no r → MayPut same before after goal place r → AreDefinite is_yes is_no same before → AreDefinite is_yes is_no same after
-  put_definite is_yes is_no definite (Same is) all = subst (AreDefinite is_yes is_no same) (sym is) all
-  put_definite is_yes is_no definite (WithResult s result puts) all = λ other at t there. elim (put_cases same by_value before after goal place s puts other at) [
+  put_definite : (says : Verdicts R) → IsDefinite says r → MayPut same before after goal place r → AreDefinite says same before → AreDefinite says same after
+  put_definite says definite (Same is) all = subst (AreDefinite says same) (sym is) all
+  put_definite says definite (WithResult s result puts) all = λ other at t there. elim (put_cases same by_value before after goal place s puts other at) [
     | inl w ↦
         let here : Some s ≡ Some t = sym puts.here ∙ ap₂ (stored_at same after) w.0 w.1 ∙ there in
         let e : s ≡ t = cc in
-        subst (IsDefinite is_yes is_no) (sym result ∙ ap (λ (u : StoredResult X I R A T). u.result.result) e) definite
+        subst (IsDefinite says) (sym result ∙ ap (λ (u : StoredResult X I R A T). u.result.result) e) definite
     | inr unchanged ↦ all other at t (sym unchanged ∙ there)
   ]
 
@@ -118,5 +118,5 @@ module _ {D C V P F I R A T : Type 0} (G : DelegateOf D C V P F I R A T) (X : Cx
   put_keeps by_value before after ahead done (s ∷ below) starts met put h keeps = record {
     overflow = λ counted unmet. put_without_overflow same by_value before after s.0.input (place_of_item s) done
         (ap (λ b. if b then WithOverflow s.0.state.required_depth else Success) (calm_of G X cx call ahead done starts met s below counted unmet h)) put (keeps.overflow counted unmet);
-    definite = λ decisive unmet. put_definite same by_value before after s.0.input (place_of_item s) done X.is_yes X.is_no (done_definite G X cx call ahead done (s ∷ below) starts met h decisive unmet) put (keeps.definite decisive unmet);
+    definite = λ decisive unmet. put_definite same by_value before after s.0.input (place_of_item s) done (verdicts X) (done_definite G X cx call ahead done (s ∷ below) starts met h decisive unmet) put (keeps.definite decisive unmet);
   }

@@ -3,7 +3,7 @@ use Rattle.std.proofs.Common.{◌≡◌, ℕ, ◌&&◌, ◌||◌, if◌then◌el
 use Rattle.std.specs.List.{filter}
 use Rattle.std.specs.Option.{option_map, option_and_then}
 use Rattle.std.proofs.lemmas.List.Elements.{All-append, All-cons, All-filter, All-nil}
-use Rattle.search_graph.specs.Below.{StackDepth, CycleHead, PathKind, HeadUsages, highest, greater_kind, has_usages, other_usages, DelegateOf, CxOf, Done, StoredResult, ProvisionalCacheEntry, RebaseReason, EvaluationResult, StackEntry, path_kind_from, IsDefinite, IsNeither, Lists, entries_at, but_highest, from_head, from_new_head, keeps_kinds, rebased, rebased_at, rebased_used, rebased_unused, changed_for, with_unused, with_used, Store, Run}
+use Rattle.search_graph.specs.Below.{StackDepth, CycleHead, PathKind, HeadUsages, highest, greater_kind, has_usages, other_usages, DelegateOf, CxOf, Done, StoredResult, ProvisionalCacheEntry, RebaseReason, EvaluationResult, StackEntry, path_kind_from, IsDefinite, IsNeither, Lists, entries_at, but_highest, from_head, from_new_head, keeps_kinds, rebased, rebased_at, rebased_used, rebased_unused, changed_for, with_unused, with_used, Store, Run, Verdicts, verdicts}
 use Rattle.search_parts.specs.declared.parts.provisional_cache.RebaseReason.TheVariants as why
 use Rattle.search_parts.proofs.RebasedEntryLists.{All-filter_map}
 use Rattle.search_graph.specs.Words.{Unstable, Call, IsCounted, HasAsked, KeepsAnswers, KeepsStore, final_answer, entries_for, rebased_for, RebasesEntries, RebasesNewest, MayPutNewest, IsReason, IsEndOfRun, Ambiguous, Initial, Limited, Repeated, Repeats, Stable, WithoutUsages}
@@ -150,16 +150,16 @@ LeavesResults (why.Ambiguity info) = ⊥
 LeavesResults why.Overflow = ⊥
 LeavesResults (why.ReachedFixpoint kind) = Unit {0}
 
-module _ {X I R A T : Type 0} (is_yes is_no : R → Bool) (same : R → R → Bool) (initial_kind : R → Option PathKind) (ambiguity : R → Option A) (neither : (r : R) (info : A) → ambiguity r ≡ Some info → IsNeither is_yes is_no r) where
+module _ {X I R A T : Type 0} (says : Verdicts R) (same : R → R → Bool) (initial_kind : R → Option PathKind) (ambiguity : R → Option A) (neither : (r : R) (info : A) → ambiguity r ≡ Some info → IsNeither says.is_yes says.is_no r) where
   -- a goal with a definite result isn't ambiguous
-  reason_leaves : (earlier : Option R) (usages : HeadUsages) (r : R) (reason : RebaseReason X I R A T) → IsReason same initial_kind ambiguity earlier usages r reason → IsDefinite is_yes is_no r → LeavesResults reason
+  reason_leaves : (earlier : Option R) (usages : HeadUsages) (r : R) (reason : RebaseReason X I R A T) → IsReason same initial_kind ambiguity earlier usages r reason → IsDefinite says r → LeavesResults reason
   reason_leaves earlier usages r reason (Repeated value is again) definite = tt
   reason_leaves earlier usages r reason (Initial kind first is single) definite = tt
   reason_leaves earlier usages r reason (WithoutUsages never none) definite = tt
-  reason_leaves earlier usages r reason (Ambiguous info never used is) definite = absurd (definite (neither_is is_yes is_no r (neither r info is)))
+  reason_leaves earlier usages r reason (Ambiguous info never used is) definite = absurd (definite (neither_is says r (neither r info is)))
 
   -- so where a run's end has a definite result and needs no other run, entries keep their results
-  pub end_leaves : (limit : ℕ) (earlier : Option R) (usages : Option HeadUsages) (finished_runs : ℕ) (r : R) (end : Result (Option (RebaseReason X I R A T)) Unstable) (reason : Option (RebaseReason X I R A T)) → IsEndOfRun same initial_kind ambiguity limit earlier usages finished_runs r end → end ≡ Ok reason → IsDefinite is_yes is_no r → (reasoned : RebaseReason X I R A T) → reason ≡ Some reasoned → LeavesResults reasoned
+  pub end_leaves : (limit : ℕ) (earlier : Option R) (usages : Option HeadUsages) (finished_runs : ℕ) (r : R) (end : Result (Option (RebaseReason X I R A T)) Unstable) (reason : Option (RebaseReason X I R A T)) → IsEndOfRun same initial_kind ambiguity limit earlier usages finished_runs r end → end ≡ Ok reason → IsDefinite says r → (reasoned : RebaseReason X I R A T) → reason ≡ Some reasoned → LeavesResults reasoned
   end_leaves limit earlier usages finished_runs r end reason (Unused is) at definite reasoned found = absurd cc
   end_leaves limit earlier usages finished_runs r end reason (Stable used first is known) at definite reasoned found =
       let same : first ≡ reasoned = cc in
@@ -187,13 +187,13 @@ module _ {D C V P F I R A T : Type 0} (G : DelegateOf D C V P F I R A T) (X : Cx
   rerun_keeps results met left old new cleared keeps = record {
     store = keeps.store;
     met_none = λ counted unmet. cleared_said (λ met r. met ≡ false) same left old new cleared (keeps.met_none counted unmet);
-    definite = λ decisive unmet. cleared_said (λ met r. IsDefinite X.is_yes X.is_no r) same left old new cleared (keeps.definite decisive unmet);
+    definite = λ decisive unmet. cleared_said (λ met r. IsDefinite (verdicts X) r) same left old new cleared (keeps.definite decisive unmet);
   }
 
-  module _ (ahead : ℕ) (done : R) (starts : ℕ) (met : Bool) (enabled : Bool) (reason : Option (RebaseReason C I R A T)) (leaves_results : IsDefinite X.is_yes X.is_no done → (reasoned : RebaseReason C I R A T) → reason ≡ Some reasoned → LeavesResults reasoned) where
+  module _ (ahead : ℕ) (done : R) (starts : ℕ) (met : Bool) (enabled : Bool) (reason : Option (RebaseReason C I R A T)) (leaves_results : IsDefinite (verdicts X) done → (reasoned : RebaseReason C I R A T) → reason ≡ Some reasoned → LeavesResults reasoned) where
     -- the result is definite, so entries keep theirs
-    results_stay : IsDefinite X.is_yes X.is_no done → (propagated : A → R) (overflow : R) (reasoned : RebaseReason C I R A T) → reason ≡ Some reasoned → KeepsSaid {X = C} {I = I} {T = T} (λ met r. IsDefinite X.is_yes X.is_no r) (changed_for propagated overflow reasoned)
-    results_stay definite propagated overflow reasoned is = changed_said (λ met r. IsDefinite X.is_yes X.is_no r) propagated overflow reasoned
+    results_stay : IsDefinite (verdicts X) done → (propagated : A → R) (overflow : R) (reasoned : RebaseReason C I R A T) → reason ≡ Some reasoned → KeepsSaid {X = C} {I = I} {T = T} (λ met r. IsDefinite (verdicts X) r) (changed_for propagated overflow reasoned)
+    results_stay definite propagated overflow reasoned is = changed_said (λ met r. IsDefinite (verdicts X) r) propagated overflow reasoned
         (λ info ambiguous. absurd (subst LeavesResults ambiguous (leaves_results definite reasoned is)))
         (λ limited. absurd (subst LeavesResults limited (leaves_results definite reasoned is)))
 
@@ -204,10 +204,10 @@ module _ {D C V P F I R A T : Type 0} (G : DelegateOf D C V P F I R A T) (X : Cx
         (λ goal reasoned is. changed_said (λ met r. met ≡ false) (G.propagated cx goal) (G.fixpoint_overflow cx goal) reasoned (λ info ambiguous met r none. none) (λ limited met r none. none))
         (calm_of G X cx call ahead done starts met s below counted unmet h) rebases
 
-    entries_definite : (s : StackEntry C I R A T × Run C F I R A T) (below : List (StackEntry C I R A T × Run C F I R A T)) (old new : Lists I (ProvisionalCacheEntry C I R A T)) → IsDefinite X.is_yes X.is_no done
-        → RebasesEntries same enabled (G.propagated cx) (G.fixpoint_overflow cx) reason done s below old new → SaidOfAll (λ met r. IsDefinite X.is_yes X.is_no r) same old → SaidOfAll (λ met r. IsDefinite X.is_yes X.is_no r) same new
+    entries_definite : (s : StackEntry C I R A T × Run C F I R A T) (below : List (StackEntry C I R A T × Run C F I R A T)) (old new : Lists I (ProvisionalCacheEntry C I R A T)) → IsDefinite (verdicts X) done
+        → RebasesEntries same enabled (G.propagated cx) (G.fixpoint_overflow cx) reason done s below old new → SaidOfAll (λ met r. IsDefinite (verdicts X) r) same old → SaidOfAll (λ met r. IsDefinite (verdicts X) r) same new
     entries_definite s below old new definite rebases =
-        taken_said (λ met r. IsDefinite X.is_yes X.is_no r) same enabled (G.propagated cx) (G.fixpoint_overflow cx) reason done s below old new
+        taken_said (λ met r. IsDefinite (verdicts X) r) same enabled (G.propagated cx) (G.fixpoint_overflow cx) reason done s below old new
         (λ goal reasoned is. results_stay definite (G.propagated cx goal) (G.fixpoint_overflow cx goal) reasoned is)
         definite rebases
 

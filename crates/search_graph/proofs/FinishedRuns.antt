@@ -2,7 +2,7 @@
 use Rattle.std.proofs.Common.{◌≡◌, ◌≢◌, suc, ◌+◌, ◌<◌, ◌^◌, ◌||◌, Bool, List, [], ◌∷◌, ◌++◌, length, Option, Some, option_map, refl, sym, ap, ◌∙◌, subst, arith}
 use Rattle.std.specs.Option.{IsSomeAnd, option_or}
 use Rattle.std.proofs.lemmas.List.{length-map}
-use Rattle.search_graph.specs.Below.{stack_of, TakesIn, DelegateOf, CxOf, NodeId, Request, Reply, Answer, StackEntry, CacheNode, open_node, HasGraph, IsDefinite, heads_shape, rank_of, verdict_of, Run, Step, Finished, AnswersNewest, rerun_with, with_no_record, newest, change_newest, RunRecord, StoredResult, Store}
+use Rattle.search_graph.specs.Below.{stack_of, TakesIn, DelegateOf, CxOf, NodeId, Request, Reply, Answer, StackEntry, CacheNode, open_node, HasGraph, IsDefinite, heads_shape, rank_of, verdict_of, Run, Step, Finished, AnswersNewest, rerun_with, with_no_record, newest, change_newest, RunRecord, StoredResult, Store, Verdicts}
 use Rattle.search_graph.specs.Words.{Asks, AreJustified, MayAnswer, IsFit, asked_now, frames_of, IsFresh, Reruns, CanLeave, Leaves, IsFree, AreFree, run_of, runs_of, EndsRun, EndsNewest, HasResultNode, IsJustifiedNext, heads_of, tally_of, LieBelow}
 use Rattle.search_graph.proofs.Justified.{EndsWithNode, below_is_justified, stack_length, may_answer_parent, last_has_graph, headless_has_graph, rerun_is_justified}
 use Rattle.search_graph.proofs.Free.{done_is_free}
@@ -36,35 +36,35 @@ module _ {X F I R A T : Type 0} where
       }
 
   -- the run that has its node ended as the newest one
-  pub taken_ends : (is_yes is_no : R → Bool) (scripts : I → List (Reply R) → Request I R) (nodes : List (CacheNode I R)) (old : List (StackEntry X I R A T × Run X F I R A T)) (e : StackEntry X I R A T) (y : Run X F I R A T) (p : RunRecord I R) (r : R) → TakenFrom old e y p → AreJustified is_yes is_no nodes (runs_of old) → EndsNewest is_yes is_no scripts old r → EndsRun is_yes is_no scripts nodes y.node p r
-  taken_ends is_yes is_no scripts nodes old e y p r t h ends =
-      subst (λ n. EndsRun is_yes is_no scripts nodes n p r) (sym t.same_node)
-      (subst (λ q. EndsRun is_yes is_no scripts nodes t.run.node q r) (sym t.progress_is)
-      (ends_run is_yes is_no nodes nodes e t.run t.below (subst (λ l. AreJustified is_yes is_no nodes (runs_of l)) t.was h) scripts r (subst (λ l. EndsNewest is_yes is_no scripts l r) t.was ends)))
+  pub taken_ends : (says : Verdicts R) (scripts : I → List (Reply R) → Request I R) (nodes : List (CacheNode I R)) (old : List (StackEntry X I R A T × Run X F I R A T)) (e : StackEntry X I R A T) (y : Run X F I R A T) (p : RunRecord I R) (r : R) → TakenFrom old e y p → AreJustified says nodes (runs_of old) → EndsNewest says scripts old r → EndsRun says scripts nodes y.node p r
+  taken_ends says scripts nodes old e y p r t h ends =
+      subst (λ n. EndsRun says scripts nodes n p r) (sym t.same_node)
+      (subst (λ q. EndsRun says scripts nodes t.run.node q r) (sym t.progress_is)
+      (ends_run says nodes nodes e t.run t.below (subst (λ l. AreJustified says nodes (runs_of l)) t.was h) scripts r (subst (λ l. EndsNewest says scripts l r) t.was ends)))
 
   pub again_is : (old taken new : List (StackEntry X I R A T × Run X F I R A T)) (e : StackEntry X I R A T) (run : Run X F I R A T) (below : List (StackEntry X I R A T × Run X F I R A T)) (r : R) (lead : Option NodeId) (frame : F) (own : NodeId) → old ≡ (e, run) ∷ below → taken ≡ change_newest with_no_record old → new ≡ change_newest (rerun_with r lead frame own) taken → new ≡ rerun_with r lead frame own (with_no_record (e, run)) ∷ below
   again_is old taken new e run below r lead frame own was is then =
       then ∙ ap (change_newest (rerun_with r lead frame own)) is ∙ ap (λ l. change_newest (rerun_with r lead frame own) (change_newest with_no_record l)) was
 
   -- the goals stay justified
-  pub rerun_justified : (is_yes is_no : R → Bool) (before after : List (CacheNode I R)) (old taken new : List (StackEntry X I R A T × Run X F I R A T)) (e : StackEntry X I R A T) (y : Run X F I R A T) (p : RunRecord I R) (r : R) (target : Option NodeId) (frame : F) (own : NodeId) → TakenFrom old e y p → taken ≡ change_newest with_no_record old → new ≡ change_newest (rerun_with r (option_or target e.state.node) frame own) taken → HasResultNode is_yes is_no before after e.state.provisional_result y.node e.state.node p r target → own.0 ≡ length after → AreJustified is_yes is_no before (runs_of old) → AreJustified is_yes is_no (after ++ open_node e.input ∷ []) (runs_of new)
-  rerun_justified is_yes is_no before after old taken new e y p r target frame own t is then ended at h =
-      let was : AreJustified is_yes is_no before (runs_of ((e, t.run) ∷ t.below)) = subst (λ l. AreJustified is_yes is_no before (runs_of l)) t.was h in
-      let so : HasResultNode is_yes is_no before after e.state.provisional_result t.run.node e.state.node t.run.progress r target =
-      subst (λ n. HasResultNode is_yes is_no before after e.state.provisional_result n e.state.node t.run.progress r target) t.same_node
-      (subst (λ q. HasResultNode is_yes is_no before after e.state.provisional_result y.node e.state.node q r target) t.progress_is ended) in
-      subst (λ l. AreJustified is_yes is_no (after ++ open_node e.input ∷ []) (runs_of l)) (sym (again_is old taken new e t.run t.below r (option_or target e.state.node) frame own t.was is then))
-      (rerun_is_justified is_yes is_no before after (run_of (e, t.run)) (runs_of t.below) was r target (rebases is_yes is_no before after e t.run t.below was r target so) own at)
+  pub rerun_justified : (says : Verdicts R) (before after : List (CacheNode I R)) (old taken new : List (StackEntry X I R A T × Run X F I R A T)) (e : StackEntry X I R A T) (y : Run X F I R A T) (p : RunRecord I R) (r : R) (target : Option NodeId) (frame : F) (own : NodeId) → TakenFrom old e y p → taken ≡ change_newest with_no_record old → new ≡ change_newest (rerun_with r (option_or target e.state.node) frame own) taken → HasResultNode says before after e.state.provisional_result y.node e.state.node p r target → own.0 ≡ length after → AreJustified says before (runs_of old) → AreJustified says (after ++ open_node e.input ∷ []) (runs_of new)
+  rerun_justified says before after old taken new e y p r target frame own t is then ended at h =
+      let was : AreJustified says before (runs_of ((e, t.run) ∷ t.below)) = subst (λ l. AreJustified says before (runs_of l)) t.was h in
+      let so : HasResultNode says before after e.state.provisional_result t.run.node e.state.node t.run.progress r target =
+      subst (λ n. HasResultNode says before after e.state.provisional_result n e.state.node t.run.progress r target) t.same_node
+      (subst (λ q. HasResultNode says before after e.state.provisional_result y.node e.state.node q r target) t.progress_is ended) in
+      subst (λ l. AreJustified says (after ++ open_node e.input ∷ []) (runs_of l)) (sym (again_is old taken new e t.run t.below r (option_or target e.state.node) frame own t.was is then))
+      (rerun_is_justified says before after (run_of (e, t.run)) (runs_of t.below) was r target (rebases says before after e t.run t.below was r target so) own at)
 
   -- and stored results rest on none of them
-  pub rerun_free : (is_yes is_no : R → Bool) (same : I → I → Bool) (results : Store I (StoredResult X I R A T)) (before after : List (CacheNode I R)) (old taken new : List (StackEntry X I R A T × Run X F I R A T)) (e : StackEntry X I R A T) (y : Run X F I R A T) (p : RunRecord I R) (r : R) (target : Option NodeId) (frame : F) (own : NodeId) → TakenFrom old e y p → taken ≡ change_newest with_no_record old → new ≡ change_newest (rerun_with r (option_or target e.state.node) frame own) taken → HasResultNode is_yes is_no before after e.state.provisional_result y.node e.state.node p r target → own.0 ≡ length after → AreJustified is_yes is_no before (runs_of old) → AreFree is_yes is_no same before (runs_of old) results → AreFree is_yes is_no same (after ++ open_node e.input ∷ []) (runs_of new) results
-  rerun_free is_yes is_no same results before after old taken new e y p r target frame own t is then ended at h free =
-      let was : AreJustified is_yes is_no before (runs_of ((e, t.run) ∷ t.below)) = subst (λ l. AreJustified is_yes is_no before (runs_of l)) t.was h in
-      let so : HasResultNode is_yes is_no before after e.state.provisional_result t.run.node e.state.node t.run.progress r target =
-      subst (λ n. HasResultNode is_yes is_no before after e.state.provisional_result n e.state.node t.run.progress r target) t.same_node
-      (subst (λ q. HasResultNode is_yes is_no before after e.state.provisional_result y.node e.state.node q r target) t.progress_is ended) in
-      subst (λ l. AreFree is_yes is_no same (after ++ open_node e.input ∷ []) (runs_of l) results) (sym (again_is old taken new e t.run t.below r (option_or target e.state.node) frame own t.was is then))
-      (all_free_rerun is_yes is_no same before after (run_of (e, t.run)) (runs_of t.below) was r target (rebases is_yes is_no before after e t.run t.below was r target so) results (subst (λ l. AreFree is_yes is_no same before (runs_of l) results) t.was free) own at)
+  pub rerun_free : (says : Verdicts R) (same : I → I → Bool) (results : Store I (StoredResult X I R A T)) (before after : List (CacheNode I R)) (old taken new : List (StackEntry X I R A T × Run X F I R A T)) (e : StackEntry X I R A T) (y : Run X F I R A T) (p : RunRecord I R) (r : R) (target : Option NodeId) (frame : F) (own : NodeId) → TakenFrom old e y p → taken ≡ change_newest with_no_record old → new ≡ change_newest (rerun_with r (option_or target e.state.node) frame own) taken → HasResultNode says before after e.state.provisional_result y.node e.state.node p r target → own.0 ≡ length after → AreJustified says before (runs_of old) → AreFree says same before (runs_of old) results → AreFree says same (after ++ open_node e.input ∷ []) (runs_of new) results
+  rerun_free says same results before after old taken new e y p r target frame own t is then ended at h free =
+      let was : AreJustified says before (runs_of ((e, t.run) ∷ t.below)) = subst (λ l. AreJustified says before (runs_of l)) t.was h in
+      let so : HasResultNode says before after e.state.provisional_result t.run.node e.state.node t.run.progress r target =
+      subst (λ n. HasResultNode says before after e.state.provisional_result n e.state.node t.run.progress r target) t.same_node
+      (subst (λ q. HasResultNode says before after e.state.provisional_result y.node e.state.node q r target) t.progress_is ended) in
+      subst (λ l. AreFree says same (after ++ open_node e.input ∷ []) (runs_of l) results) (sym (again_is old taken new e t.run t.below r (option_or target e.state.node) frame own t.was is then))
+      (all_free_rerun says same before after (run_of (e, t.run)) (runs_of t.below) was r target (rebases says before after e t.run t.below was r target so) results (subst (λ l. AreFree says same before (runs_of l) results) t.was free) own at)
 
 -- and the newest is run again
 pub reran : {D C V P F I R A T : Type 0} (G : DelegateOf D C V P F I R A T) (X : CxOf C I R A T) (cx : C) (old taken new : List (StackEntry C I R A T × Run C F I R A T)) (e : StackEntry C I R A T) (y : Run C F I R A T) (p : RunRecord I R) (r : R) (lead : Option NodeId) (frame : F) (own : NodeId) → TakenFrom old e y p → taken ≡ change_newest with_no_record old → new ≡ change_newest (rerun_with r lead frame own) taken → IsFresh G X cx frame e.input → Reruns G X cx r old new
@@ -81,63 +81,63 @@ reran G X cx old taken new e y p r lead frame own t is then fresh = record {
 
 -- ---- the goal is taken
 
-module _ {X F I R A T : Type 0} (is_yes is_no : R → Bool) (before after : List (CacheNode I R)) (old : List (StackEntry X I R A T × Run X F I R A T)) (entry : StackEntry X I R A T) (run : Run X F I R A T) (rest : List (StackEntry X I R A T × Run X F I R A T)) (was : old ≡ (entry, run) ∷ rest) where
-  justified_then : AreJustified is_yes is_no before (runs_of old) → AreJustified is_yes is_no before (runs_of ((entry, run) ∷ rest))
-  justified_then h = subst (λ l. AreJustified is_yes is_no before (runs_of l)) was h
+module _ {X F I R A T : Type 0} (says : Verdicts R) (before after : List (CacheNode I R)) (old : List (StackEntry X I R A T × Run X F I R A T)) (entry : StackEntry X I R A T) (run : Run X F I R A T) (rest : List (StackEntry X I R A T × Run X F I R A T)) (was : old ≡ (entry, run) ∷ rest) where
+  justified_then : AreJustified says before (runs_of old) → AreJustified says before (runs_of ((entry, run) ∷ rest))
+  justified_then h = subst (λ l. AreJustified says before (runs_of l)) was h
 
-  pub taken_run_ends : (scripts : I → List (Reply R) → Request I R) (r : R) → AreJustified is_yes is_no before (runs_of old) → (IsDefinite is_yes is_no r → EndsNewest is_yes is_no scripts old r) → IsDefinite is_yes is_no r → EndsRun is_yes is_no scripts before run.node run.progress r
+  pub taken_run_ends : (scripts : I → List (Reply R) → Request I R) (r : R) → AreJustified says before (runs_of old) → (IsDefinite says r → EndsNewest says scripts old r) → IsDefinite says r → EndsRun says scripts before run.node run.progress r
   taken_run_ends scripts r h ends definite =
-      ends_run is_yes is_no before before entry run rest (justified_then h) scripts r (subst (λ l. EndsNewest is_yes is_no scripts l r) was (ends definite))
+      ends_run says before before entry run rest (justified_then h) scripts r (subst (λ l. EndsNewest says scripts l r) was (ends definite))
 
-  module _ (r : R) (target : Option NodeId) (h : AreJustified is_yes is_no before (runs_of old)) (ended : HasResultNode is_yes is_no before after entry.state.provisional_result run.node entry.state.node run.progress r target) where
-    so : EndsWithNode is_yes is_no before after (run_of (entry, run)) (runs_of rest) r target
-    so = rebases is_yes is_no before after entry run rest (justified_then h) r target ended
+  module _ (r : R) (target : Option NodeId) (h : AreJustified says before (runs_of old)) (ended : HasResultNode says before after entry.state.provisional_result run.node entry.state.node run.progress r target) where
+    so : EndsWithNode says before after (run_of (entry, run)) (runs_of rest) r target
+    so = rebases says before after entry run rest (justified_then h) r target ended
 
     -- no goal is left
-    pub finished_justified : (new : List (StackEntry X I R A T × Run X F I R A T)) → length rest ≡ 0 → IsJustifiedNext is_yes is_no after old new (Finished (record { result = r; node = target }))
+    pub finished_justified : (new : List (StackEntry X I R A T × Run X F I R A T)) → length rest ≡ 0 → IsJustifiedNext says after old new (Finished (record { result = r; node = target }))
     finished_justified new none =
-        subst (λ l. IsJustifiedNext is_yes is_no after l new (Finished (record { result = r; node = target }))) (sym was)
-        (last_has_graph is_yes is_no before after (run_of (entry, run)) (runs_of rest) (justified_then h) r target so (nothing rest none))
+        subst (λ l. IsJustifiedNext says after l new (Finished (record { result = r; node = target }))) (sym was)
+        (last_has_graph says before after (run_of (entry, run)) (runs_of rest) (justified_then h) r target so (nothing rest none))
       where
         nothing : (l : List (StackEntry X I R A T × Run X F I R A T)) → length l ≡ 0 → runs_of l ≡ []
         nothing [] e = refl
         nothing (x ∷ l) e = absurd (omega (arith, e))
 
     -- a goal that rests on none has its graph,
-    pub headless_graph : entry.state.heads ≡ [] → HasGraph is_yes is_no after entry.input r target
-    headless_graph none = headless_has_graph is_yes is_no before after (run_of (entry, run)) (runs_of rest) (justified_then h) r target so none
+    pub headless_graph : entry.state.heads ≡ [] → HasGraph says after entry.input r target
+    headless_graph none = headless_has_graph says before after (run_of (entry, run)) (runs_of rest) (justified_then h) r target so none
 
     -- which leads to no goal below
-    pub headless_is_free : entry.state.heads ≡ [] → IsFree is_yes is_no after (runs_of rest) entry.input r target
-    headless_is_free none = done_is_free is_yes is_no before after (run_of (entry, run)) (runs_of rest) (justified_then h) r target so none
+    pub headless_is_free : entry.state.heads ≡ [] → IsFree says after (runs_of rest) entry.input r target
+    headless_is_free none = done_is_free says before after (run_of (entry, run)) (runs_of rest) (justified_then h) r target so none
 
-    pub stored_stay_free : (same : I → I → Bool) (results : Store I (StoredResult X I R A T)) → AreFree is_yes is_no same before (runs_of old) results → AreFree is_yes is_no same after (runs_of rest) results
+    pub stored_stay_free : (same : I → I → Bool) (results : Store I (StoredResult X I R A T)) → AreFree says same before (runs_of old) results → AreFree says same after (runs_of rest) results
     stored_stay_free same results free =
-        all_free_popped is_yes is_no same before after (run_of (entry, run)) (runs_of rest) (justified_then h) r target so results (subst (λ l. AreFree is_yes is_no same before (runs_of l) results) was free)
+        all_free_popped says same before after (run_of (entry, run)) (runs_of rest) (justified_then h) r target so results (subst (λ l. AreFree says same before (runs_of l) results) was free)
 
     -- the goal below takes the answer over
     module _ (new : List (StackEntry X I R A T × Run X F I R A T)) (a : AnswersNewest entry.step_kind_from_parent entry.state.required_depth (entry.state.encountered_overflow || run.met_overflow_before) entry.state.heads rest new) where
-      below_justified : AreJustified is_yes is_no after (runs_of rest)
-      below_justified = below_is_justified is_yes is_no before after (run_of (entry, run)) (runs_of rest) (justified_then h) r target so
+      below_justified : AreJustified says after (runs_of rest)
+      below_justified = below_is_justified says before after (run_of (entry, run)) (runs_of rest) (justified_then h) r target so
 
       -- the heads of the goal lie below it
       heads_lower : LieBelow (suc (length a.below)) entry.state.heads
       heads_lower = subst (λ n. LieBelow n entry.state.heads) (length-map rest run_of ∙ ap length a.was) (justified_then h).tallies.0.tallied.lower
 
-      may_answer : IsDefinite is_yes is_no r → IsSomeAnd target (λ n. MayAnswer is_yes is_no after (run_of (record a.entry { state = a.state }, a.run)) (runs_of a.below) (verdict_of is_yes is_no r) entry.step_kind_from_parent entry.input n.0)
+      may_answer : IsDefinite says r → IsSomeAnd target (λ n. MayAnswer says after (run_of (record a.entry { state = a.state }, a.run)) (runs_of a.below) (verdict_of says r) entry.step_kind_from_parent entry.input n.0)
       may_answer definite =
-          let many : length a.below ≡ length (stack_of (frames_of is_yes is_no (runs_of a.below))) = sym (stack_length is_yes is_no (runs_of a.below) ∙ length-map a.below run_of) in
-          let come = heads_come is_yes is_no after entry.step_kind_from_parent entry.state.required_depth (entry.state.encountered_overflow || run.met_overflow_before) entry.state.heads rest new a heads_lower below_justified in
-          subst (λ o. IsSomeAnd target (λ n. MayAnswer is_yes is_no after o (runs_of a.below) (verdict_of is_yes is_no r) entry.step_kind_from_parent entry.input n.0)) (sym (same_run (record { 0 = length a.below }) entry.step_kind_from_parent entry.state.required_depth (entry.state.encountered_overflow || run.met_overflow_before) entry.state.heads a.entry.state a.state a.takes a.entry a.run refl))
-          (may_answer_parent is_yes is_no before after (run_of (entry, run)) (runs_of rest) (justified_then h) r target so (run_of (a.entry, a.run)) (runs_of a.below) (tally_of a.state a.run.candidates) (ap runs_of a.was)
+          let many : length a.below ≡ length (stack_of (frames_of says (runs_of a.below))) = sym (stack_length says (runs_of a.below) ∙ length-map a.below run_of) in
+          let come = heads_come says after entry.step_kind_from_parent entry.state.required_depth (entry.state.encountered_overflow || run.met_overflow_before) entry.state.heads rest new a heads_lower below_justified in
+          subst (λ o. IsSomeAnd target (λ n. MayAnswer says after o (runs_of a.below) (verdict_of says r) entry.step_kind_from_parent entry.input n.0)) (sym (same_run (record { 0 = length a.below }) entry.step_kind_from_parent entry.state.required_depth (entry.state.encountered_overflow || run.met_overflow_before) entry.state.heads a.entry.state a.state a.takes a.entry a.run refl))
+          (may_answer_parent says before after (run_of (entry, run)) (runs_of rest) (justified_then h) r target so (run_of (a.entry, a.run)) (runs_of a.below) (tally_of a.state a.run.candidates) (ap runs_of a.was)
           (subst (λ m. TakesIn m (rank_of entry.step_kind_from_parent) (heads_shape entry.state.heads) (heads_of (tally_of a.state a.run.candidates) (asked_now (run_of (a.entry, a.run))))) many come) definite)
 
-      pub step_justified : AreJustified is_yes is_no after (runs_of new) × IsFit is_yes is_no after (runs_of new) (Answer r) target
+      pub step_justified : AreJustified says after (runs_of new) × IsFit says after (runs_of new) (Answer r) target
       step_justified =
           let asked : Asks (run_of (a.entry, a.run) ∷ runs_of a.below) entry.step_kind_from_parent entry.input = subst (λ l. Asks (runs_of l) entry.step_kind_from_parent entry.input) a.was (justified_then h).asked.0 in (
-            answered_newest_is_justified is_yes is_no after entry.step_kind_from_parent entry.state.required_depth (entry.state.encountered_overflow || run.met_overflow_before) entry.state.heads rest new a heads_lower below_justified,
-            subst (λ l. IsFit is_yes is_no after (runs_of l) (Answer r) target) (sym a.is)
-                (answer_fits is_yes is_no after (run_of (record a.entry { state = a.state }, a.run)) (runs_of a.below) r entry.step_kind_from_parent entry.input target asked may_answer),
+            answered_newest_is_justified says after entry.step_kind_from_parent entry.state.required_depth (entry.state.encountered_overflow || run.met_overflow_before) entry.state.heads rest new a heads_lower below_justified,
+            subst (λ l. IsFit says after (runs_of l) (Answer r) target) (sym a.is)
+                (answer_fits says after (run_of (record a.entry { state = a.state }, a.run)) (runs_of a.below) r entry.step_kind_from_parent entry.input target asked may_answer),
           )
 
       leaves_at : (l : List (StackEntry X I R A T × Run X F I R A T)) → AnswersNewest entry.step_kind_from_parent entry.state.required_depth (entry.state.encountered_overflow || run.met_overflow_before) entry.state.heads l new → length l ≢ 0 → Leaves r ((entry, run) ∷ l) (Step (record { reply = Answer r; node = target })) new

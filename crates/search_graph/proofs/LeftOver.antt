@@ -2,7 +2,7 @@
 -- below it takes over.
 use Rattle.std.proofs.Common.{◌≡◌, ◌≢◌, ℕ, Bool, List, [], ◌∷◌, length, IsSome, refl, sym, subst, ◌⊎◌, inl, inr, arith}
 use Rattle.std.proofs.lemmas.List.{length-map}
-use Rattle.search_graph.specs.Below.{StackDepth, PathKind, Heads, at_depth, IsRising, Request, Reply, StackEntry, EvaluationResult, ProvisionalCacheEntry, CacheNode, HasNoRank, Run, Next, with_depth, with_nested_goals, AnswersNewest}
+use Rattle.search_graph.specs.Below.{StackDepth, PathKind, Heads, at_depth, IsRising, Request, Reply, StackEntry, EvaluationResult, ProvisionalCacheEntry, CacheNode, HasNoRank, Run, Next, with_depth, with_nested_goals, AnswersNewest, Verdicts}
 use Rattle.search_graph.specs.Words.{OpenRun, HaveTallies, IsReusable, GivesAnswer, IsHead, IsReady, answer_of_entry, run_of, runs_of, LieBelow, counted, tally_of}
 use Rattle.search_graph.proofs.HeadOrder.{at_here}
 use Rattle.search_graph.proofs.ProvisionalMoves.{reusable_beside}
@@ -45,20 +45,20 @@ first_head (e ∷ es) some = (e.0, subst IsSome (sym (at_here e es e.0 refl)) re
 -- ---- answers that are left
 
 -- The entry is kept over these goals, and each of its heads is one of theirs or of a goal that was above them.
-pub record IsLeftOver {X I R A T : Type 0} (is_yes is_no : R → Bool) (scripts : I → List (Reply R) → Request I R) (nodes : List (CacheNode I R)) (goals : List (OpenRun I R)) (heads : Heads) (goal : I) (entry : ProvisionalCacheEntry X I R A T) : Type 0 where
-  pub kept : IsReusable is_yes is_no nodes goals goal (answer_of_entry entry)
+pub record IsLeftOver {X I R A T : Type 0} (says : Verdicts R) (scripts : I → List (Reply R) → Request I R) (nodes : List (CacheNode I R)) (goals : List (OpenRun I R)) (heads : Heads) (goal : I) (entry : ProvisionalCacheEntry X I R A T) : Type 0 where
+  pub kept : IsReusable says nodes goals goal (answer_of_entry entry)
   pub some : entry.heads ≢ []
   pub rising : IsRising entry.heads
   pub are_heads : (head : StackDepth) → IsSome (at_depth entry.heads head) → IsHead goals head ⊎ IsSome (at_depth heads head)
   pub no_rank : HasNoRank scripts goal
 
 -- such an entry may be used once the answer with those heads was given
-pub left_over_ready : {X F I R A T : Type 0} (is_yes is_no : R → Bool) (scripts : I → List (Reply R) → Request I R) (nodes : List (CacheNode I R)) (step : PathKind) (answer : EvaluationResult X I R A T) (below later : List (StackEntry X I R A T × Run X F I R A T)) (next : Next R) → LieBelow (length below) answer.heads → GivesAnswer step answer below next later → (goal : I) (entry : ProvisionalCacheEntry X I R A T) → IsLeftOver is_yes is_no scripts nodes (runs_of below) answer.heads goal entry → IsReady is_yes is_no scripts nodes (runs_of later) goal entry
-left_over_ready is_yes is_no scripts nodes step answer [] later next lower given goal entry left =
+pub left_over_ready : {X F I R A T : Type 0} (says : Verdicts R) (scripts : I → List (Reply R) → Request I R) (nodes : List (CacheNode I R)) (step : PathKind) (answer : EvaluationResult X I R A T) (below later : List (StackEntry X I R A T × Run X F I R A T)) (next : Next R) → LieBelow (length below) answer.heads → GivesAnswer step answer below next later → (goal : I) (entry : ProvisionalCacheEntry X I R A T) → IsLeftOver says scripts nodes (runs_of below) answer.heads goal entry → IsReady says scripts nodes (runs_of later) goal entry
+left_over_ready says scripts nodes step answer [] later next lower given goal entry left =
     let first = first_head entry.heads left.some in
     absurd (elim (left.are_heads first.0 first.1) [ inl none ↦ none | inr own ↦ (let limit = lower first.0 own in omega (arith, limit)) ])
-left_over_ready is_yes is_no scripts nodes step answer (p ∷ below) later next lower given goal entry left = record {
-  kept = reusable_beside is_yes is_no nodes (p ∷ below) later step answer.required_depth answer.encountered_overflow answer.heads given.1 goal (answer_of_entry entry) left.kept;
+left_over_ready says scripts nodes step answer (p ∷ below) later next lower given goal entry left = record {
+  kept = reusable_beside says nodes (p ∷ below) later step answer.required_depth answer.encountered_overflow answer.heads given.1 goal (answer_of_entry entry) left.kept;
   some = left.some;
   rising = left.rising;
   are_heads = λ head there. heads_taken step answer.required_depth answer.encountered_overflow answer.heads (p ∷ below) later given.1 head (left.are_heads head there);

@@ -4,7 +4,7 @@ use Rattle.std.specs.List.{AllZip, sum_by}
 use Rattle.std.proofs.lemmas.List.{take_more}
 use Rattle.std.proofs.lemmas.List.Sums.{sum_by-append}
 use Rattle.std.proofs.lemmas.Result.{IfOk-weaker}
-use Rattle.search_graph.specs.Below.{CxOf, DelegateOf, Fault, Memory, PathKind, Cache, AreRuns, KeepsFinished, HasGraph, Question, Overlap, IsPlainTo, IsPlainValue, KeepsResults, IsWhole}
+use Rattle.search_graph.specs.Below.{CxOf, DelegateOf, Fault, Memory, PathKind, Cache, AreRuns, KeepsFinished, HasGraph, Question, Overlap, IsPlainTo, IsPlainValue, KeepsResults, IsWhole, verdicts}
 use Rattle.search_parts.specs.declared.context.Answer.{Answer}
 use Rattle.search_parts.proofs.Bridge.{KeepsRule}
 use Rattle.search_parts.proofs.Definites.{HasGraph-finished, definite_is_whole}
@@ -69,25 +69,25 @@ module _ {D C V P F I R A T : Type 0} (G : DelegateOf D C V P F I R A T) (X : Cx
     plain = subst (λ cx. (n : ℕ) → IsPlainTo (G.script cx) n query.1 → n ≤ query.0 → IfOk answer (λ a. IsPlainValue (G.script cx) n query.1 a.result)) (sym context) h.plain;
     plain_faults = subst (λ cx. (n : ℕ) → IsPlainTo (G.script cx) n query.1 → n ≤ query.0 → IfErr answer (λ fault. fault ≡ Memory)) (sym context) h.plain_faults;
     has_graph =
-        IfOk-weaker answer (λ a. HasGraph X.is_yes X.is_no old.nodes query.1 a.result a.node) (λ a. HasGraph X.is_yes X.is_no new.nodes query.1 a.result a.node)
-        (λ a. HasGraph-finished X.is_yes X.is_no old.nodes new.nodes nodes query.1 a.result a.node) h.has_graph;
+        IfOk-weaker answer (λ a. HasGraph (verdicts X) old.nodes query.1 a.result a.node) (λ a. HasGraph (verdicts X) new.nodes query.1 a.result a.node)
+        (λ a. HasGraph-finished (verdicts X) old.nodes new.nodes nodes query.1 a.result a.node) h.has_graph;
     faults = IfErr-weaker answer (HadCause G X same old) (HadCause G X same new) (HadCause-kept old new context results nodes) h.faults;
   }
 
   -- where the cache's nodes are runs, an answer's graph is one of its goal
-  module _ (cache : Cache C I R A T) (runs_are : AreRuns X.is_yes X.is_no (G.script cache.cx) cache.nodes)
+  module _ (cache : Cache C I R A T) (runs_are : AreRuns (verdicts X) (G.script cache.cx) cache.nodes)
       (clash : (goal : I) (held failed : List (Question I)) → X.proves cache.cx goal held → X.refutes cache.cx goal failed → Overlap held failed)
       (proved : KeepsRule X.is_yes (G.script cache.cx) (X.proves cache.cx)) (refuted : KeepsRule X.is_no (G.script cache.cx) (X.refutes cache.cx))
       (one_sort : (r : R) → X.is_yes r ≡ true → X.is_no r ≡ false) where
     pub answer_is_shown : (query : ℕ × I × PathKind) (answer : Result (Answer R) (Fault I R)) → HasAnswer G X same cache query answer → IsAnsweredQuery G X same cache query answer
     answer_is_shown query answer h = record {
       has = h;
-      yes = IfOk-weaker answer (λ a. HasGraph X.is_yes X.is_no cache.nodes query.1 a.result a.node) (λ a. X.is_yes a.result ≡ true → IsProved X cache query.1 a.node)
+      yes = IfOk-weaker answer (λ a. HasGraph (verdicts X) cache.nodes query.1 a.result a.node) (λ a. X.is_yes a.result ≡ true → IsProved X cache query.1 a.node)
           (λ a graph. yes_is_proved G X cache runs_are clash query.1 a.result a.node graph proved) h.has_graph;
-      no = IfOk-weaker answer (λ a. HasGraph X.is_yes X.is_no cache.nodes query.1 a.result a.node) (λ a. X.is_no a.result ≡ true → IsRefuted X cache query.1 a.node)
+      no = IfOk-weaker answer (λ a. HasGraph (verdicts X) cache.nodes query.1 a.result a.node) (λ a. X.is_no a.result ≡ true → IsRefuted X cache query.1 a.node)
           (λ a graph. no_is_refuted G X cache runs_are clash query.1 a.result a.node graph refuted (one_sort a.result)) h.has_graph;
-      neither = IfOk-weaker answer (λ a. HasGraph X.is_yes X.is_no cache.nodes query.1 a.result a.node) (λ a. X.is_yes a.result ≡ false → X.is_no a.result ≡ false → a.node ≡ None)
+      neither = IfOk-weaker answer (λ a. HasGraph (verdicts X) cache.nodes query.1 a.result a.node) (λ a. X.is_yes a.result ≡ false → X.is_no a.result ≡ false → a.node ≡ None)
           (λ a graph. neither_is_none G X cache runs_are clash query.1 a.result a.node graph) h.has_graph;
-      whole = IfOk-weaker answer (λ a. HasGraph X.is_yes X.is_no cache.nodes query.1 a.result a.node) (λ a. IfSome a.node (λ node. IsWhole cache.nodes node.0))
-          (λ a graph. definite_is_whole X.is_yes X.is_no cache.nodes query.1 a.result a.node graph) h.has_graph;
+      whole = IfOk-weaker answer (λ a. HasGraph (verdicts X) cache.nodes query.1 a.result a.node) (λ a. IfSome a.node (λ node. IsWhole cache.nodes node.0))
+          (λ a graph. definite_is_whole (verdicts X) cache.nodes query.1 a.result a.node graph) h.has_graph;
     }

@@ -1,6 +1,6 @@
 -- The loop over the moves, whatever call it serves.
 use Rattle.std.proofs.Common.{◌≡◌, ℕ, ◌+◌, ◌<◌, ◌≤◌, ◌^◌, Bool, true, false, List, [], ◌∷◌, length, Some, refl, sym, ap, subst, arith}
-use Rattle.search_graph.specs.Below.{CacheNode, DelegateOf, CxOf, Request, Begin, PathKind, AvailableDepth, StackEntry, Fault, Evaluate, CountsOne, CacheNode, Memory, Run, Received, Next, Step, Finished, requested, IsReplySorted, HasGraph, HasStepped, IsStepFault, received_by, StoredResult, Store, NotesCandidate}
+use Rattle.search_graph.specs.Below.{CacheNode, DelegateOf, CxOf, Request, Begin, PathKind, AvailableDepth, StackEntry, Fault, Evaluate, CountsOne, CacheNode, Memory, Run, Received, Next, Step, Finished, requested, IsReplySorted, HasGraph, HasStepped, IsStepFault, received_by, StoredResult, Store, NotesCandidate, verdicts}
 use Rattle.search_parts.specs.declared.context.Answer.{Answer}
 use Rattle.search_graph.specs.Words.{Asks, AreJustified, IsFit, runs_of, IsJustifiedNext, Call, Outset, Pushes, AreDefinite, HaveNoOverflow, Begins, IsWaiting, HasAsked, HasStopped, IsOnly, Leads, work_left}
 use Rattle.search_graph.proofs.Moves.{root_waits, failed_root_stopped, step_asks, step_stops}
@@ -12,7 +12,7 @@ abbrev pub call_of : {I : Type 0} (input : I) (root starts : ℕ) (met calm defi
 call_of input root starts met calm definite fits = record { top = input; root = root; fits = fits; starts = starts; limits_met = met; without_overflow = calm; all_definite = definite }
 
 module _ {D C V P F I R A T : Type 0} (G : DelegateOf D C V P F I R A T) (X : CxOf C I R A T) (cx : C) (same : I → I → Bool) (input : I) (root starts : ℕ) (met : Bool) (fits : root < 2 ^ 64) (results : Store I (StoredResult C I R A T)) where
-  pub call_begins : (calm definite : Bool) → (calm ≡ true → HaveNoOverflow same results) → (definite ≡ true → AreDefinite X.is_yes X.is_no same results) → Begins G X cx same (call_of input root starts met calm definite fits) input root starts met results
+  pub call_begins : (calm definite : Bool) → (calm ≡ true → HaveNoOverflow same results) → (definite ≡ true → AreDefinite (verdicts X) same results) → Begins G X cx same (call_of input root starts met calm definite fits) input root starts met results
   call_begins calm definite none all = record {
     outset = record { same_top = refl; same_root = refl; same_starts = refl; same_limits = refl };
     store = record { overflow = λ counted unmet. none counted.2; definite = λ decisive unmet. all decisive.1 };
@@ -40,24 +40,24 @@ module _ {D C V P F I R A T : Type 0} (G : DelegateOf D C V P F I R A T) (X : Cx
 
 module _ {D C V P F I R A T : Type 0} (G : DelegateOf D C V P F I R A T) (X : CxOf C I R A T) (cx : C) (given : Received R) (request : Request I R) (old new : List (StackEntry C I R A T × Run C F I R A T)) (starts now : ℕ) (met : Bool) where
   -- a step was taken, which starts no frame
-  pub asked_after : (made : Request I R) → made ≡ request → (s : HasStepped G X cx given made old new) → IsReplySorted X.is_yes X.is_no given.reply s.verdict given.node → now ≡ starts → (call : Call I) → IsWaiting G X cx call given.reply old starts met → HasAsked G X cx call (work_left G X cx old) request new now met
+  pub asked_after : (made : Request I R) → made ≡ request → (s : HasStepped G X cx given made old new) → IsReplySorted (verdicts X) given.reply s.verdict given.node → now ≡ starts → (call : Call I) → IsWaiting G X cx call given.reply old starts met → HasAsked G X cx call (work_left G X cx old) request new now met
   asked_after made is s sorted same call h =
       rw same (subst (λ r. HasAsked G X cx call (work_left G X cx old) r new starts met) is (step_asks G X cx call given made old new starts met s sorted h))
 
   -- the same, where the context was read and the reply fits
-  pub advance_asks : (read : C) → read ≡ cx → (made : Request I R) → made ≡ request → HasStepped G X read given made old new → now ≡ starts → (nodes : List (CacheNode I R)) → IsFit X.is_yes X.is_no nodes (runs_of old) given.reply given.node → (call : Call I) → IsWaiting G X cx call given.reply old starts met → HasAsked G X cx call (work_left G X cx old) request new now met
+  pub advance_asks : (read : C) → read ≡ cx → (made : Request I R) → made ≡ request → HasStepped G X read given made old new → now ≡ starts → (nodes : List (CacheNode I R)) → IsFit (verdicts X) nodes (runs_of old) given.reply given.node → (call : Call I) → IsWaiting G X cx call given.reply old starts met → HasAsked G X cx call (work_left G X cx old) request new now met
   advance_asks read is_cx made is s same nodes fit call h =
       let here : HasStepped G X cx given made old new = subst (λ x. HasStepped G X x given made old new) is_cx s in
       asked_after made is here (replies_sorted G X cx nodes call given old starts met h fit here.verdict here.is_verdict) same call h
 
 module _ {D C V P F I R A T : Type 0} (G : DelegateOf D C V P F I R A T) (X : CxOf C I R A T) (cx : C) (given : Received R) (old new : List (StackEntry C I R A T × Run C F I R A T)) where
   -- a step that failed
-  pub advance_stops : (read : C) → read ≡ cx → (fault : Fault I R) → IsStepFault G X read given old fault → (starts now : ℕ) (met : Bool) → now ≡ starts → (nodes : List (CacheNode I R)) → IsFit X.is_yes X.is_no nodes (runs_of old) given.reply given.node → (call : Call I) → IsWaiting G X cx call given.reply old starts met → HasStopped G X cx call fault now met
+  pub advance_stops : (read : C) → read ≡ cx → (fault : Fault I R) → IsStepFault G X read given old fault → (starts now : ℕ) (met : Bool) → now ≡ starts → (nodes : List (CacheNode I R)) → IsFit (verdicts X) nodes (runs_of old) given.reply given.node → (call : Call I) → IsWaiting G X cx call given.reply old starts met → HasStopped G X cx call fault now met
   advance_stops read is_cx fault failed starts now met same nodes fit call h =
       rw same (step_stops G X cx call given old fault starts met (replies_sorted G X cx nodes call given old starts met h fit) (subst (λ x. IsStepFault G X x given old fault) is_cx failed) h)
 
   -- a goal that asks, or is done, keeps the goals justified
-  pub advance_justified : (read : C) (request : Request I R) → HasStepped G X read given request old new → NotesCandidate request new new → (nodes : List (CacheNode I R)) → IsFit X.is_yes X.is_no nodes (runs_of old) given.reply given.node → AreJustified X.is_yes X.is_no nodes (runs_of old) → AreJustified X.is_yes X.is_no nodes (runs_of new)
+  pub advance_justified : (read : C) (request : Request I R) → HasStepped G X read given request old new → NotesCandidate request new new → (nodes : List (CacheNode I R)) → IsFit (verdicts X) nodes (runs_of old) given.reply given.node → AreJustified (verdicts X) nodes (runs_of old) → AreJustified (verdicts X) nodes (runs_of new)
   advance_justified read request s noted nodes fit h = noted_is_justified G X read nodes given request old new new s fit h noted
 
   -- the step keeps the newest goal
@@ -79,11 +79,11 @@ module _ {D C V P F I R A T : Type 0} (G : DelegateOf D C V P F I R A T) (X : Cx
   done_leads read request s call next later starts met h = leads_at read request s call (work_left G X cx old) next later starts met h
 
   -- the answer of the only goal is its own
-  pub next_before : (read : C) (request : Request I R) → HasStepped G X read given request old new → (nodes : List (CacheNode I R)) (later : List (StackEntry C I R A T × Run C F I R A T)) (next : Next R) → IsJustifiedNext X.is_yes X.is_no nodes new later next → IsJustifiedNext X.is_yes X.is_no nodes old later next
+  pub next_before : (read : C) (request : Request I R) → HasStepped G X read given request old new → (nodes : List (CacheNode I R)) (later : List (StackEntry C I R A T × Run C F I R A T)) (next : Next R) → IsJustifiedNext (verdicts X) nodes new later next → IsJustifiedNext (verdicts X) nodes old later next
   next_before read request s nodes later (Step again) h = h
   next_before read request s nodes later (Finished answer) h =
-      subst (λ (v : List (StackEntry C I R A T × Run C F I R A T)). IsJustifiedNext X.is_yes X.is_no nodes v later (Finished answer)) (sym s.was)
-      (subst (λ (v : List (StackEntry C I R A T × Run C F I R A T)). IsJustifiedNext X.is_yes X.is_no nodes v later (Finished answer)) s.is h)
+      subst (λ (v : List (StackEntry C I R A T × Run C F I R A T)). IsJustifiedNext (verdicts X) nodes v later (Finished answer)) (sym s.was)
+      (subst (λ (v : List (StackEntry C I R A T × Run C F I R A T)). IsJustifiedNext (verdicts X) nodes v later (Finished answer)) s.is h)
 
   -- the goals ask what was requested
   pub step_asks_for : (read : C) (request : Request I R) → HasStepped G X read given request old new → (kind : PathKind) (goal : I) → request ≡ Evaluate kind goal → Asks (runs_of new) kind goal
@@ -91,7 +91,7 @@ module _ {D C V P F I R A T : Type 0} (G : DelegateOf D C V P F I R A T) (X : Cx
       subst (λ (v : List (StackEntry C I R A T × Run C F I R A T)). Asks (runs_of v) kind goal) (sym s.is) (ap Some is)
 
 -- the only goal's answer is that of the goal
-pub only_has_graph : {D C V P F I R A T : Type 0} (G : DelegateOf D C V P F I R A T) (X : CxOf C I R A T) (cx : C) (nodes : List (CacheNode I R)) (old new : List (StackEntry C I R A T × Run C F I R A T)) (goal : I) (answer : Answer R) → IsOnly G X cx old goal → IsJustifiedNext X.is_yes X.is_no nodes old new (Finished answer) → HasGraph X.is_yes X.is_no nodes goal answer.result answer.node
+pub only_has_graph : {D C V P F I R A T : Type 0} (G : DelegateOf D C V P F I R A T) (X : CxOf C I R A T) (cx : C) (nodes : List (CacheNode I R)) (old new : List (StackEntry C I R A T × Run C F I R A T)) (goal : I) (answer : Answer R) → IsOnly G X cx old goal → IsJustifiedNext (verdicts X) nodes old new (Finished answer) → HasGraph (verdicts X) nodes goal answer.result answer.node
 only_has_graph G X cx nodes [] new goal answer only h = absurd only
-only_has_graph G X cx nodes (s ∷ []) new goal answer only h = subst (λ input. HasGraph X.is_yes X.is_no nodes input answer.result answer.node) only h
+only_has_graph G X cx nodes (s ∷ []) new goal answer only h = subst (λ input. HasGraph (verdicts X) nodes input answer.result answer.node) only h
 only_has_graph G X cx nodes (s ∷ p ∷ below) new goal answer only h = absurd only

@@ -2,7 +2,7 @@
 use Rattle.std.proofs.Common.{◌≡◌, ℕ, zero, suc, ◌+◌, ◌-◌, ◌*◌, ◌/◌, ◌^◌, ◌<◌, ◌≤◌, max, nat_eq, if◌then◌else◌, Bool, true, false, List, [], ◌∷◌, length, map, reverse, Option, Some, None, IfSome, unwrap_or, refl, sym, ap, ◌∙◌, subst, arith, ap₂, inl, inr, ◌||◌, ◌⊎◌, is_some, mul-le-mul_left, mul-le-mul_right}
 use Rattle.std.specs.List.{list_any}
 use Rattle.std.proofs.lemmas.Bool.Decides.{nat_tests}
-use Rattle.search_graph.specs.Below.{CacheNode, DelegateOf, CxOf, Request, Evaluate, Done, Reply, Begin, Answer, Noted, PathKind, NodeId, AvailableDepth, StackDepth, EntryState, Heads, NestedPaths, StackEntry, depth_below, frames_within, Verdict, Fault, Memory, Protocol, IsReplyTo, IsFitting, progress_after, order_fault, fault_after, CountsOne, Steps, IsCycleResult, Outcome, run_again, IsAllowed, HasNoRank, IsPlainTo, AreSafe, IsRooted, IsEvaluating, at, Ends, with_replies, TakesStep, TakesReply, ItemLeaves, IsAmong, AreSeen, Mirror, Waits, Run, Next, Step, Finished, Received, overflowed, first_entry, with_nested_goals, is_in_cycle, cycle_head, some_heads, TakesAnswer, requested, fault_of, IsReplySorted, Stood, CanStep, IsVerdict, received_by, HasStepped, IsStepFault, NoMemoryLeft, OutOfOrder, path_kind_from, IsDecidedKind, AreDecided, IsDecisive, IsDefinite, AnswersNewest, rerun_with, with_no_record}
+use Rattle.search_graph.specs.Below.{CacheNode, DelegateOf, CxOf, Request, Evaluate, Done, Reply, Begin, Answer, Noted, PathKind, NodeId, AvailableDepth, StackDepth, EntryState, Heads, NestedPaths, StackEntry, depth_below, frames_within, Verdict, Fault, Memory, Protocol, IsReplyTo, IsFitting, progress_after, order_fault, fault_after, CountsOne, Steps, IsCycleResult, Outcome, run_again, IsAllowed, HasNoRank, IsPlainTo, AreSafe, IsRooted, IsEvaluating, at, Ends, with_replies, TakesStep, TakesReply, ItemLeaves, IsAmong, AreSeen, Mirror, Waits, Run, Next, Step, Finished, Received, overflowed, first_entry, with_nested_goals, is_in_cycle, cycle_head, some_heads, TakesAnswer, requested, fault_of, IsReplySorted, Stood, CanStep, IsVerdict, received_by, HasStepped, IsStepFault, NoMemoryLeft, OutOfOrder, path_kind_from, IsDecidedKind, AreDecided, IsDecisive, IsDefinite, AnswersNewest, rerun_with, with_no_record, verdicts}
 use Rattle.evaluations.specs.Frames.{Frame, answered}
 use Rattle.evaluations.proofs.Mirrors.{step_requests, can_take, noted_waits, refused_waits, answered_waits, pushed_waits, rerun_waits, popped_waits, popped_at_limit_waits, last_item_ends, last_item_ends_at_limit, last_run_stops, failed_rerun_stops, WaitsWithLess, first_waits, waits_stops, requested_stops, failed_push_stops, cycle_found, requested_fits, requested_by}
 use Rattle.evaluations.proofs.Evaluations.{evaluation_stops, fitting_meets_no_limit}
@@ -68,15 +68,15 @@ module _ {D C V P F I R A T : Type 0} (G : DelegateOf D C V P F I R A T) (X : Cx
   can_step_record reply s below starts met h = can_take (seen G X cx) (Stood G X cx) (G.script cx) (limits G X cx call) (IsCounted G X cx call) call.top (bound G X cx call) reply s below starts met h.waits
 
   -- the record of a step
-  module _ (entry : StackEntry C I R A T) (run : Run C F I R A T) (frame : F) (verdict : Verdict) (given : Received R) (request : Request I R) (steps : Steps G.stands G.script run.frame given.reply request frame) (sorted : IsReplySorted X.is_yes X.is_no given.reply verdict given.node) where
+  module _ (entry : StackEntry C I R A T) (run : Run C F I R A T) (frame : F) (verdict : Verdict) (given : Received R) (request : Request I R) (steps : Steps G.stands G.script run.frame given.reply request frame) (sorted : IsReplySorted (verdicts X) given.reply verdict given.node) where
     record_after : fault_of (received_by G X cx run given verdict) request ≡ None → (earlier : List (Reply R)) → Stood G X cx (entry, run) earlier → IsFitting (G.script cx entry.input) (given.reply ∷ earlier) → (request ≡ G.script cx entry.input (given.reply ∷ earlier)) × Stood G X cx (entry, record run { frame = frame; progress = requested (received_by G X cx run given verdict) request }) (given.reply ∷ earlier)
     record_after orderly earlier stood fits =
         let made = steps cx entry.input earlier stood.0 fits in
-        let told = fault_is X.is_yes X.is_no (G.script cx entry.input) run.progress earlier given.reply verdict given.node stood.1 fits.0 sorted request made.0 in (
+        let told = fault_is (verdicts X) (G.script cx entry.input) run.progress earlier given.reply verdict given.node stood.1 fits.0 sorted request made.0 in (
           made.0,
           (
             made.1,
-            records_received X.is_yes X.is_no (G.script cx entry.input) run.progress earlier given.reply verdict given.node stood.1 fits.0 sorted request made.0
+            records_received (verdicts X) (G.script cx entry.input) run.progress earlier given.reply verdict given.node stood.1 fits.0 sorted request made.0
                 (ap (λ q. order_fault (progress_after (G.script cx entry.input) (given.reply ∷ earlier)) (Some q)) made.0 ∙ sym told ∙ orderly),
           ),
         )
@@ -85,10 +85,10 @@ module _ {D C V P F I R A T : Type 0} (G : DelegateOf D C V P F I R A T) (X : Cx
     pub fault_after_step : (number : ℕ) → fault_of (received_by G X cx run given verdict) request ≡ Some number → (earlier : List (Reply R)) → Stood G X cx (entry, run) earlier → IsFitting (G.script cx entry.input) (given.reply ∷ earlier) → fault_after (G.script cx entry.input) (given.reply ∷ earlier) ≡ Some number
     fault_after_step number disorderly earlier stood fits =
         let made = steps cx entry.input earlier stood.0 fits in
-        sym (fault_is X.is_yes X.is_no (G.script cx entry.input) run.progress earlier given.reply verdict given.node stood.1 fits.0 sorted request made.0) ∙ disorderly
+        sym (fault_is (verdicts X) (G.script cx entry.input) run.progress earlier given.reply verdict given.node stood.1 fits.0 sorted request made.0) ∙ disorderly
 
   -- and then has made a request
-  pub step_asks : (given : Received R) (request : Request I R) (old new : List Goal) (starts : ℕ) (met : Bool) (s : HasStepped G X cx given request old new) → IsReplySorted X.is_yes X.is_no given.reply s.verdict given.node → IsWaiting G X cx call given.reply old starts met → HasAsked G X cx call (work_left G X cx old) request new starts met
+  pub step_asks : (given : Received R) (request : Request I R) (old new : List Goal) (starts : ℕ) (met : Bool) (s : HasStepped G X cx given request old new) → IsReplySorted (verdicts X) given.reply s.verdict given.node → IsWaiting G X cx call given.reply old starts met → HasAsked G X cx call (work_left G X cx old) request new starts met
   step_asks given request old new starts met s sorted h =
       let later : Run C F I R A T = record s.run { frame = s.frame; progress = requested (received_by G X cx s.run given s.verdict) request } in
       let was : IsWaiting G X cx call given.reply ((s.entry, s.run) ∷ s.below) starts met = subst (λ v. IsWaiting G X cx call given.reply v starts met) s.was h in
@@ -102,12 +102,12 @@ module _ {D C V P F I R A T : Type 0} (G : DelegateOf D C V P F I R A T) (X : Cx
         keeps = h.keeps;
         decided = λ decisive unmet.
             let d = was.decided decisive unmet in
-            changed_decided X.is_yes X.is_no (s.entry, s.run) (s.entry, record s.run { frame = s.frame; progress = requested (received_by G X cx s.run given s.verdict) request }) s.below refl
-            (λ here. record { replies = replied_decided X.is_yes X.is_no s.run.progress.replies given.reply d.1 here.replies; provisional = here.provisional }) d.0;
+            changed_decided (verdicts X) (s.entry, s.run) (s.entry, record s.run { frame = s.frame; progress = requested (received_by G X cx s.run given s.verdict) request }) s.below refl
+            (λ here. record { replies = replied_decided (verdicts X) s.run.progress.replies given.reply d.1 here.replies; provisional = here.provisional }) d.0;
       }))
 
   -- or has failed: a fault of the order is one of a script, and comes not where the root's rank fits
-  disorder_stops : (given : Received R) (entry : StackEntry C I R A T) (run : Run C F I R A T) (frame : F) (verdict : Verdict) (below : List Goal) (request : Request I R) (number : ℕ) (fault : Fault I R) (starts : ℕ) (met : Bool) (frames : List (Frame I R)) → Steps G.stands G.script run.frame given.reply request frame → IsReplySorted X.is_yes X.is_no given.reply verdict given.node → fault_of (received_by G X cx run given verdict) request ≡ Some number → fault ≡ Protocol number → Mirror (seen G X cx) (Stood G X cx) given.reply ((entry, run) ∷ below) frames → IsEvaluating (G.script cx) (limits G X cx call) (IsCounted G X cx call) call.top (bound G X cx call) (at frames starts met) → KeepsLimits G X cx call met → HasStopped G X cx call fault starts met
+  disorder_stops : (given : Received R) (entry : StackEntry C I R A T) (run : Run C F I R A T) (frame : F) (verdict : Verdict) (below : List Goal) (request : Request I R) (number : ℕ) (fault : Fault I R) (starts : ℕ) (met : Bool) (frames : List (Frame I R)) → Steps G.stands G.script run.frame given.reply request frame → IsReplySorted (verdicts X) given.reply verdict given.node → fault_of (received_by G X cx run given verdict) request ≡ Some number → fault ≡ Protocol number → Mirror (seen G X cx) (Stood G X cx) given.reply ((entry, run) ∷ below) frames → IsEvaluating (G.script cx) (limits G X cx call) (IsCounted G X cx call) call.top (bound G X cx call) (at frames starts met) → KeepsLimits G X cx call met → HasStopped G X cx call fault starts met
   disorder_stops given entry run frame verdict below request number fault starts met [] steps sorted disorderly is m e k = absurd m
   disorder_stops given entry run frame verdict below request number fault starts met (f ∷ fs) steps sorted disorderly is m e k =
       let goal : f.goal ≡ entry.input = ap (λ g. g.goal) m.0.is in
@@ -125,7 +125,7 @@ module _ {D C V P F I R A T : Type 0} (G : DelegateOf D C V P F I R A T) (X : Cx
       }
 
   -- a step that failed
-  pub step_stops : (given : Received R) (goals : List Goal) (fault : Fault I R) (starts : ℕ) (met : Bool) → ((verdict : Verdict) → IsVerdict X.is_yes X.is_no given.reply verdict → IsReplySorted X.is_yes X.is_no given.reply verdict given.node) → IsStepFault G X cx given goals fault → IsWaiting G X cx call given.reply goals starts met → HasStopped G X cx call fault starts met
+  pub step_stops : (given : Received R) (goals : List Goal) (fault : Fault I R) (starts : ℕ) (met : Bool) → ((verdict : Verdict) → IsVerdict (verdicts X) given.reply verdict → IsReplySorted (verdicts X) given.reply verdict given.node) → IsStepFault G X cx given goals fault → IsWaiting G X cx call given.reply goals starts met → HasStopped G X cx call fault starts met
   step_stops given goals fault starts met sorts (NoMemoryLeft is) h =
       record {
         stops = waits_stops (seen G X cx) (Stood G X cx) (G.script cx) (limits G X cx call) (IsCounted G X cx call) call.top (bound G X cx call) given.reply goals starts met h.waits;
@@ -137,26 +137,26 @@ module _ {D C V P F I R A T : Type 0} (G : DelegateOf D C V P F I R A T) (X : Cx
       disorder_stops given entry run frame verdict below request number fault starts met there.waits.frames steps (sorts verdict is_verdict) disorderly is there.waits.mirror there.waits.evaluating there.keeps
 
   -- where the delegate is decisive, the newest goal's questions and its result are decided
-  asked_kind : (ahead : ℕ) (kind : PathKind) (goal : I) (goals : List Goal) (starts : ℕ) (met : Bool) → HasAsked G X cx call ahead (Evaluate kind goal) goals starts met → IsDecisive X.is_yes X.is_no (G.script cx) → IsDecidedKind kind
+  asked_kind : (ahead : ℕ) (kind : PathKind) (goal : I) (goals : List Goal) (starts : ℕ) (met : Bool) → HasAsked G X cx call ahead (Evaluate kind goal) goals starts met → IsDecisive (verdicts X) (G.script cx) → IsDecidedKind kind
   asked_kind ahead kind goal [] starts met h decisive = absurd h.asked.mirror
   asked_kind ahead kind goal (s ∷ below) starts met h decisive =
       let by = requested_by (seen G X cx) (Stood G X cx) (G.script cx) (limits G X cx call) (IsCounted G X cx call) call.top (bound G X cx call) ahead (Evaluate kind goal) s below starts met h.asked in
       decisive.asks s.0.input goal by.0 kind by.2 by.3
 
-  pub done_definite : (ahead : ℕ) (done : R) (goals : List Goal) (starts : ℕ) (met : Bool) → HasAsked G X cx call ahead (Done done) goals starts met → Decidedly G X cx call met (IsDefinite X.is_yes X.is_no done)
+  pub done_definite : (ahead : ℕ) (done : R) (goals : List Goal) (starts : ℕ) (met : Bool) → HasAsked G X cx call ahead (Done done) goals starts met → Decidedly G X cx call met (IsDefinite (verdicts X) done)
   done_definite ahead done [] starts met h decisive unmet = absurd h.asked.mirror
   done_definite ahead done (s ∷ below) starts met h decisive unmet =
       let by = requested_by (seen G X cx) (Stood G X cx) (G.script cx) (limits G X cx call) (IsCounted G X cx call) call.top (bound G X cx call) ahead (Done done) s below starts met h.asked in
-      let here = (newest_decided X.is_yes X.is_no s below (h.decided decisive unmet)).replies in
-      decisive.0.ends s.0.input by.0 done by.2 (subst (AreDecided X.is_yes X.is_no) by.1.1.replies_are here) by.3
+      let here = (newest_decided (verdicts X) s below (h.decided decisive unmet)).replies in
+      decisive.0.ends s.0.input by.0 done by.2 (subst (AreDecided (verdicts X)) by.1.1.replies_are here) by.3
 
   -- a goal that takes an answer over stays decided
-  answered_decided : (step : PathKind) (required : ℕ) (overflow : Bool) (answer : Heads) (old new : List Goal) → AnswersNewest step required overflow answer old new → AllDecided X.is_yes X.is_no old → AllDecided X.is_yes X.is_no new
+  answered_decided : (step : PathKind) (required : ℕ) (overflow : Bool) (answer : Heads) (old new : List Goal) → AnswersNewest step required overflow answer old new → AllDecided (verdicts X) old → AllDecided (verdicts X) new
   answered_decided step required overflow answer old new a h =
-      subst (AllDecided X.is_yes X.is_no) (sym a.is)
-      (changed_decided X.is_yes X.is_no (a.entry, a.run) (record a.entry { state = a.state }, a.run) a.below refl
-      (λ here. record { replies = here.replies; provisional = subst (λ (o : Option R). IfSome o (IsDefinite X.is_yes X.is_no)) (sym (ap (λ (s : EntryState C I R A T). s.provisional_result) a.takes.others)) here.provisional })
-      (subst (AllDecided X.is_yes X.is_no) a.was h))
+      subst (AllDecided (verdicts X)) (sym a.is)
+      (changed_decided (verdicts X) (a.entry, a.run) (record a.entry { state = a.state }, a.run) a.below refl
+      (λ here. record { replies = here.replies; provisional = subst (λ (o : Option R). IfSome o (IsDefinite (verdicts X))) (sym (ap (λ (s : EntryState C I R A T). s.provisional_result) a.takes.others)) here.provisional })
+      (subst (AllDecided (verdicts X)) a.was h))
 
   -- what was requested is no question: it is noted
   pub noted_goes_on : (ahead : ℕ) (request : Request I R) (goals : List Goal) (starts : ℕ) (met : Bool) → IsReplyTo (λ _ _. ⊥) (Some request) Noted → HasAsked G X cx call ahead request goals starts met → GoesOn G X cx call ahead Noted goals starts met
@@ -220,14 +220,14 @@ module _ {D C V P F I R A T : Type 0} (G : DelegateOf D C V P F I R A T) (X : Cx
           decided = λ decisive unmet.
               let d = h.decided decisive unmet in (
                 answered_decided kind 0 false ((head, cycle_head kind (path_kind_from (reverse (map (λ s. s.0) old)) head.0 kind)) ∷ []) old new t d,
-                cycle_decided X.is_yes X.is_no old head.0 kind c.entry (G.initial_result cx (path_kind_from (reverse (map (λ s. s.0) old)) head.0 kind) goal) d (asked_kind ahead kind goal old starts met h decisive.0) c.is_at (sorts (path_kind_from (reverse (map (λ s. s.0) old)) head.0 kind) goal),
+                cycle_decided (verdicts X) old head.0 kind c.entry (G.initial_result cx (path_kind_from (reverse (map (λ s. s.0) old)) head.0 kind) goal) d (asked_kind ahead kind goal old starts met h decisive.0) c.is_at (sorts (path_kind_from (reverse (map (λ s. s.0) old)) head.0 kind) goal),
               );
         };
         falls = subst (λ v. work_left G X cx v < ahead) (sym t.is) w.1;
       })
 
   -- a kept answer of a goal without a rank is taken over
-  pub provisional_goes_on : (ahead : ℕ) (kind : PathKind) (goal : I) (r : R) (overflow : Bool) (answer : Heads) (depth : ℕ) (old new : List Goal) (starts : ℕ) (met : Bool) → ((s : Goal) (below : List Goal) → old ≡ s ∷ below → IsAllowed (seen G X cx s) depth) → HasNoRank (G.script cx) goal → (IsCounted G X cx call → met ≡ false → overflow ≡ false) → Decidedly G X cx call met (IsDefinite X.is_yes X.is_no r) → AnswersNewest kind 0 overflow answer old new → HasAsked G X cx call ahead (Evaluate kind goal) old starts met → GoesOn G X cx call ahead (Answer r) new starts met
+  pub provisional_goes_on : (ahead : ℕ) (kind : PathKind) (goal : I) (r : R) (overflow : Bool) (answer : Heads) (depth : ℕ) (old new : List Goal) (starts : ℕ) (met : Bool) → ((s : Goal) (below : List Goal) → old ≡ s ∷ below → IsAllowed (seen G X cx s) depth) → HasNoRank (G.script cx) goal → (IsCounted G X cx call → met ≡ false → overflow ≡ false) → Decidedly G X cx call met (IsDefinite (verdicts X) r) → AnswersNewest kind 0 overflow answer old new → HasAsked G X cx call ahead (Evaluate kind goal) old starts met → GoesOn G X cx call ahead (Answer r) new starts met
   provisional_goes_on ahead kind goal r overflow answer depth old new starts met may no_rank calm definite t h =
       let was : HasAsked G X cx call ahead (Evaluate kind goal) ((t.entry, t.run) ∷ t.below) starts met = subst (λ v. HasAsked G X cx call ahead (Evaluate kind goal) v starts met) t.was h in
       let w = answered_waits (seen G X cx) (Stood G X cx) (G.script cx) (limits G X cx call) (IsCounted G X cx call) call.top (bound G X cx call) (some_runs G.FIXPOINT_STEP_LIMIT) ahead starts met (t.entry, t.run) t.below kind goal depth (record { result = r; required = 0; met_overflow = overflow; in_cycle = some_heads answer }) (record t.entry { state = t.state }, t.run)
@@ -245,13 +245,13 @@ module _ {D C V P F I R A T : Type 0} (G : DelegateOf D C V P F I R A T) (X : Cx
   -- the asked goal was put on top
   pub pushed_goes_on : {before after : List (CacheNode I R)} → (ahead : ℕ) (kind : PathKind) (goal : I) (depth : AvailableDepth) (s : Goal) (below new : List Goal) (starts now : ℕ) (met : Bool) → IsAllowed (seen G X cx s) depth.0 → now ≤ starts + 1 → (G.counts ≡ true → CountsOne G.last starts now) → Pushes G X cx goal kind depth before after (s ∷ below) new → HasAsked G X cx call ahead (Evaluate kind goal) (s ∷ below) starts met → GoesOn G X cx call ahead Begin new now met
   pushed_goes_on ahead kind goal depth s below new starts now met may one counted push h =
-      let w = pushed_waits (seen G X cx) (Stood G X cx) (G.script cx) (limits G X cx call) (IsCounted G X cx call) call.top (bound G X cx call) (some_runs G.FIXPOINT_STEP_LIMIT) ahead starts met s below kind goal depth.0 now (first_entry goal kind depth push.own, first_run G X cx push.frame push.own) may push.fresh.within refl (push.fresh.stood, records_new X.is_yes X.is_no (G.script cx goal)) (record { at_most = one; exactly = λ c. counted c.0 }) h.asked in
+      let w = pushed_waits (seen G X cx) (Stood G X cx) (G.script cx) (limits G X cx call) (IsCounted G X cx call) call.top (bound G X cx call) (some_runs G.FIXPOINT_STEP_LIMIT) ahead starts met s below kind goal depth.0 now (first_entry goal kind depth push.own, first_run G X cx push.frame push.own) may push.fresh.within refl (push.fresh.stood, records_new (verdicts X) (G.script cx goal)) (record { at_most = one; exactly = λ c. counted c.0 }) h.asked in
       subst (λ v. GoesOn G X cx call ahead Begin v now met) (sym push.is)
       (record {
         waiting = record {
           waits = w.0;
           keeps = h.keeps;
-          decided = λ decisive unmet. (pushed_decided X.is_yes X.is_no (first_entry goal kind depth push.own, first_run G X cx push.frame push.own) (s ∷ below) (record { replies = tt; provisional = tt }) (asked_kind ahead kind goal (s ∷ below) starts met h decisive.0) (h.decided decisive unmet), tt);
+          decided = λ decisive unmet. (pushed_decided (verdicts X) (first_entry goal kind depth push.own, first_run G X cx push.frame push.own) (s ∷ below) (record { replies = tt; provisional = tt }) (asked_kind ahead kind goal (s ∷ below) starts met h decisive.0) (h.decided decisive unmet), tt);
         };
         falls = w.1;
       })
@@ -267,14 +267,14 @@ module _ {D C V P F I R A T : Type 0} (G : DelegateOf D C V P F I R A T) (X : Cx
       let was : HasAsked G X cx call ahead (Done done) (again.item ∷ again.below) starts met = subst (λ v. HasAsked G X cx call ahead (Done done) v starts met) again.was h in
       let can = may again.item again.below again.was in
       let w = rerun_waits (seen G X cx) (Stood G X cx) (G.script cx) (limits G X cx call) (IsCounted G X cx call) call.top (bound G X cx call) (some_runs G.FIXPOINT_STEP_LIMIT) ahead starts met again.item again.below done now (rerun_with done again.target again.frame again.own (with_no_record again.item))
-      can.1 again.fresh.within (again_seen again.item done again.target again.frame again.own can.0) (again.fresh.stood, records_new X.is_yes X.is_no (G.script cx again.item.0.input)) (record { at_most = one; exactly = λ c. counted c.0 }) was.asked in
+      can.1 again.fresh.within (again_seen again.item done again.target again.frame again.own can.0) (again.fresh.stood, records_new (verdicts X) (G.script cx again.item.0.input)) (record { at_most = one; exactly = λ c. counted c.0 }) was.asked in
       subst (λ v. GoesOn G X cx call ahead Begin v now met) (sym again.is)
       (record {
         waiting = record {
           waits = w.0;
           keeps = h.keeps;
           decided = λ decisive unmet. (
-            changed_decided X.is_yes X.is_no again.item (rerun_with done again.target again.frame again.own (with_no_record again.item)) again.below refl (λ here. record { replies = tt; provisional = done_definite ahead done old starts met h decisive unmet }) (was.decided decisive unmet),
+            changed_decided (verdicts X) again.item (rerun_with done again.target again.frame again.own (with_no_record again.item)) again.below refl (λ here. record { replies = tt; provisional = done_definite ahead done old starts met h decisive unmet }) (was.decided decisive unmet),
             tt,
           );
         };
@@ -363,7 +363,7 @@ module _ {D C V P F I R A T : Type 0} (G : DelegateOf D C V P F I R A T) (X : Cx
 
   -- and what comes then
   module _ (ahead : ℕ) (done r : R) (next : Next R) where
-    popped_leads : (s p : Goal) (below new : List Goal) (starts : ℕ) (met after : Bool) (target : Option NodeId) → next ≡ Step (record { reply = Answer r; node = target }) → KeepsLimits G X cx call after → Decidedly G X cx call after (AllDecided X.is_yes X.is_no (p ∷ below) × IsDefinite X.is_yes X.is_no r)
+    popped_leads : (s p : Goal) (below new : List Goal) (starts : ℕ) (met after : Bool) (target : Option NodeId) → next ≡ Step (record { reply = Answer r; node = target }) → KeepsLimits G X cx call after → Decidedly G X cx call after (AllDecided (verdicts X) (p ∷ below) × IsDefinite (verdicts X) r)
         → (t : AnswersNewest s.0.step_kind_from_parent s.0.state.required_depth (s.0.state.encountered_overflow || s.1.met_overflow_before) s.0.state.heads (p ∷ below) new)
         → ((later : Goal) → TakesReply (seen G X cx) (Stood G X cx) (G.script cx) (λ g. answered g (outcome_of G X cx r s)) (Answer r) (t.entry, t.run) later → WaitsWithLess (seen G X cx) (Stood G X cx) (G.script cx) (limits G X cx call) (IsCounted G X cx call) call.top (bound G X cx call) ahead (Answer r) (later ∷ t.below) starts after)
         → Leads G X cx call ahead (s ∷ p ∷ below) next new starts after
@@ -376,12 +376,12 @@ module _ {D C V P F I R A T : Type 0} (G : DelegateOf D C V P F I R A T) (X : Cx
             keeps = keeps;
             decided = λ decisive unmet.
                 let d = decided decisive unmet in
-                (subst (AllDecided X.is_yes X.is_no) t.is (answered_decided s.0.step_kind_from_parent s.0.state.required_depth (s.0.state.encountered_overflow || s.1.met_overflow_before) s.0.state.heads (p ∷ below) new t d.0), d.1);
+                (subst (AllDecided (verdicts X)) t.is (answered_decided s.0.step_kind_from_parent s.0.state.required_depth (s.0.state.encountered_overflow || s.1.met_overflow_before) s.0.state.heads (p ∷ below) new t d.0), d.1);
           };
           falls = w.1;
         }))
 
-    ended_leads : (s : Goal) (new : List Goal) (starts : ℕ) (met after : Bool) (target : Option NodeId) → next ≡ Finished (record { result = r; node = target }) → new ≡ [] → KeepsLimits G X cx call after → Decidedly G X cx call after (IsDefinite X.is_yes X.is_no r) → HasAsked G X cx call ahead (Done done) (s ∷ []) starts met → Ends (G.script cx) (limits G X cx call) (IsCounted G X cx call) call.top (bound G X cx call) starts after (outcome_of G X cx r s) → Leads G X cx call ahead (s ∷ []) next new starts after
+    ended_leads : (s : Goal) (new : List Goal) (starts : ℕ) (met after : Bool) (target : Option NodeId) → next ≡ Finished (record { result = r; node = target }) → new ≡ [] → KeepsLimits G X cx call after → Decidedly G X cx call after (IsDefinite (verdicts X) r) → HasAsked G X cx call ahead (Done done) (s ∷ []) starts met → Ends (G.script cx) (limits G X cx call) (IsCounted G X cx call) call.top (bound G X cx call) starts after (outcome_of G X cx r s) → Leads G X cx call ahead (s ∷ []) next new starts after
     ended_leads s new starts met after target is none keeps decided h ends =
         subst (λ n. Leads G X cx call ahead (s ∷ []) n new starts after) (sym is)
         (none, only_top s h.asked.f h.asked.below (ap (λ g. g.goal) h.asked.mirror.0.is) h.asked.mirror.1 h.asked.evaluating.rooted, record { outcome = outcome_of G X cx r s; result_is = refl; ends = ends; keeps = keeps; decided = decided })
@@ -390,12 +390,12 @@ module _ {D C V P F I R A T : Type 0} (G : DelegateOf D C V P F I R A T) (X : Cx
     pub leave_leads : (old new : List Goal) (starts : ℕ) (met : Bool) → r ≡ done → Leaves r old next new → HasAsked G X cx call ahead (Done done) old starts met → Leads G X cx call ahead old next new starts met
     leave_leads [] new starts met same l h = absurd l
     leave_leads (s ∷ []) new starts met same l h =
-        ended_leads s new starts met met l.0 l.1 l.2 h.keeps (λ decisive unmet. subst (IsDefinite X.is_yes X.is_no) (sym same) (done_definite ahead done (s ∷ []) starts met h decisive unmet)) h
+        ended_leads s new starts met met l.0 l.1 l.2 h.keeps (λ decisive unmet. subst (IsDefinite (verdicts X)) (sym same) (done_definite ahead done (s ∷ []) starts met h decisive unmet)) h
         (last_item_ends (seen G X cx) (Stood G X cx) (G.script cx) (limits G X cx call) (IsCounted G X cx call) call.top (bound G X cx call) done (outcome_of G X cx r s) ahead starts met s (leaving G X cx done r s (inl same)) h.asked)
     leave_leads (s ∷ p ∷ below) new starts met same l h =
         let t = l.2 in
         let was : HasAsked G X cx call ahead (Done done) (s ∷ (t.entry, t.run) ∷ t.below) starts met = subst (λ v. HasAsked G X cx call ahead (Done done) (s ∷ v) starts met) t.was h in
-        popped_leads s p below new starts met met l.0 l.1 h.keeps (λ decisive unmet. (below_decided X.is_yes X.is_no s (p ∷ below) (h.decided decisive unmet), subst (IsDefinite X.is_yes X.is_no) (sym same) (done_definite ahead done (s ∷ p ∷ below) starts met h decisive unmet))) t
+        popped_leads s p below new starts met met l.0 l.1 h.keeps (λ decisive unmet. (below_decided (verdicts X) s (p ∷ below) (h.decided decisive unmet), subst (IsDefinite (verdicts X)) (sym same) (done_definite ahead done (s ∷ p ∷ below) starts met h decisive unmet))) t
         (λ later takes. popped_waits (seen G X cx) (Stood G X cx) (G.script cx) (limits G X cx call) (IsCounted G X cx call) call.top (bound G X cx call) (some_runs G.FIXPOINT_STEP_LIMIT) ahead starts met s t.below done (outcome_of G X cx r s) (t.entry, t.run) later (leaving G X cx done r s (inl same)) takes was.asked)
 
     -- and where the goal had its most runs
@@ -413,7 +413,7 @@ module _ {D C V P F I R A T : Type 0} (G : DelegateOf D C V P F I R A T) (X : Cx
         (λ later takes. popped_at_limit_waits (seen G X cx) (Stood G X cx) (G.script cx) (limits G X cx call) (IsCounted G X cx call) call.top (bound G X cx call) (some_runs G.FIXPOINT_STEP_LIMIT) ahead starts met s t.below done (outcome_of G X cx r s) (t.entry, t.run) later can.1 (leaving G X cx done r s (inr can.0)) takes was.asked)
 
   -- the run that ended is on record
-  pub ends_newest : (ahead : ℕ) (r : R) (goals : List Goal) (starts : ℕ) (met : Bool) → HasAsked G X cx call ahead (Done r) goals starts met → EndsNewest X.is_yes X.is_no (G.script cx) goals r
+  pub ends_newest : (ahead : ℕ) (r : R) (goals : List Goal) (starts : ℕ) (met : Bool) → HasAsked G X cx call ahead (Done r) goals starts met → EndsNewest (verdicts X) (G.script cx) goals r
   ends_newest ahead r [] starts met h = absurd h.asked.mirror
   ends_newest ahead r (s ∷ below) starts met h =
       let by = requested_by (seen G X cx) (Stood G X cx) (G.script cx) (limits G X cx call) (IsCounted G X cx call) call.top (bound G X cx call) ahead (Done r) s below starts met h.asked in
@@ -429,7 +429,7 @@ module _ {D C V P F I R A T : Type 0} (G : DelegateOf D C V P F I R A T) (X : Cx
       subst (λ v. IsWaiting G X cx call Begin v now call.limits_met) (sym push.is)
       (record {
         waits = first_waits (seen G X cx) (Stood G X cx) (G.script cx) (limits G X cx call) (IsCounted G X cx call) call.top (bound G X cx call) now call.limits_met (first_entry call.top kind depth push.own, first_run G X cx push.frame push.own) refl (some_runs G.FIXPOINT_STEP_LIMIT) push.fresh.within
-            (ap (λ n. record (seen G X cx (first_entry call.top kind depth push.own, first_run G X cx push.frame push.own)) { available = n }) same) (push.fresh.stood, records_new X.is_yes X.is_no (G.script cx call.top)) (record { at_most = one; exactly = λ c. counted c.0 }) (λ c. c.1);
+            (ap (λ n. record (seen G X cx (first_entry call.top kind depth push.own, first_run G X cx push.frame push.own)) { available = n }) same) (push.fresh.stood, records_new (verdicts X) (G.script cx call.top)) (record { at_most = one; exactly = λ c. counted c.0 }) (λ c. c.1);
         keeps = kept now;
         decided = λ decisive unmet. (record { replies = tt; provisional = tt }, tt);
       })

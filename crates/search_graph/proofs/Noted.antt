@@ -4,7 +4,7 @@ use Rattle.std.specs.Option.{IfSome, IsSomeAnd}
 use Rattle.std.proofs.lemmas.Bool.Decides.{nat_tests}
 use Rattle.std.proofs.lemmas.List.{get_or-set_same, get_or-set_other, length-map, length-set}
 use Rattle.std.proofs.lemmas.Option.{slice_get-get_or}
-use Rattle.search_graph.specs.Below.{DelegateOf, CxOf, NodeId, Request, Evaluate, EnterCandidate, FinishCandidate, Ignore, Done, Noted, Verdict, Neither, StoredResult, EntryState, StackEntry, CacheNode, IsReplyTo, Store, UsagesByHead, Received, Run, enters, finishes, CanIgnore, CanNote, IgnoresNewest, Ignores, NotesCandidate, is_in_cycle, IsDefinite, change_newest, RunRecord, answered, counted_by, ignored_by, received, requested, HasStepped, Stood}
+use Rattle.search_graph.specs.Below.{DelegateOf, CxOf, NodeId, Request, Evaluate, EnterCandidate, FinishCandidate, Ignore, Done, Noted, Verdict, Neither, StoredResult, EntryState, StackEntry, CacheNode, IsReplyTo, Store, UsagesByHead, Received, Run, enters, finishes, CanIgnore, CanNote, IgnoresNewest, Ignores, NotesCandidate, is_in_cycle, IsDefinite, change_newest, RunRecord, answered, counted_by, ignored_by, received, requested, HasStepped, Stood, Verdicts, verdicts}
 use Rattle.evaluations.specs.Frames.{Frame}
 use Rattle.evaluations.proofs.Mirrors.{noted_waits}
 use Rattle.search_graph.specs.Words.{Call, limits, bound, IsCounted, IsDecided, seen, GoesOn, HasAsked, AreFree, OpenRun, AreJustified, IsFit, run_of, runs_of, Tally, tally_of, IsTallied}
@@ -116,7 +116,7 @@ module _ {D C V P F I R A T : Type 0} (G : DelegateOf D C V P F I R A T) (X : Cx
   abbrev Goals : Type 0
   Goals = List (StackEntry C I R A T × Run C F I R A T)
 
-  module _ (given : Received R) (request : Request I R) (old mid : Goals) (s : HasStepped G X cx given request old mid) (fit : IsFit X.is_yes X.is_no nodes (runs_of old) given.reply given.node) (h : AreJustified X.is_yes X.is_no nodes (runs_of old)) where
+  module _ (given : Received R) (request : Request I R) (old mid : Goals) (s : HasStepped G X cx given request old mid) (fit : IsFit (verdicts X) nodes (runs_of old) given.reply given.node) (h : AreJustified (verdicts X) nodes (runs_of old)) where
     -- the record with the reply, the run with the request, and the goal with the answer that it got
     abbrev replied_record : RunRecord I R
     replied_record = received s.run.progress given.reply s.verdict given.node
@@ -127,11 +127,11 @@ module _ {D C V P F I R A T : Type 0} (G : DelegateOf D C V P F I R A T) (X : Cx
     abbrev replied_goal : OpenRun I R
     replied_goal = record (run_of (s.entry, s.run)) { answers = (received s.run.progress given.reply s.verdict given.node).answers }
 
-    got : AreJustified X.is_yes X.is_no nodes (replied_goal ∷ runs_of s.below)
+    got : AreJustified (verdicts X) nodes (replied_goal ∷ runs_of s.below)
     got =
         replied_is_justified G X cx nodes s.entry s.run given.reply given.node s.verdict s.below s.is_verdict
-        (subst (λ (v : Goals). IsFit X.is_yes X.is_no nodes (runs_of v) given.reply given.node) s.was fit)
-        (subst (λ (v : Goals). AreJustified X.is_yes X.is_no nodes (runs_of v)) s.was h)
+        (subst (λ (v : Goals). IsFit (verdicts X) nodes (runs_of v) given.reply given.node) s.was fit)
+        (subst (λ (v : Goals). AreJustified (verdicts X) nodes (runs_of v)) s.was h)
 
     has_open : is_some s.entry.state.candidate_usages ≡ replied_record.is_open
     has_open = got.tallies.0.open_is ∙ sym (open_same s.run.progress s.verdict given.node s.run.progress.request)
@@ -155,25 +155,25 @@ module _ {D C V P F I R A T : Type 0} (G : DelegateOf D C V P F I R A T) (X : Cx
     tallied_here = subst (λ n. IsTallied n tally_before) many tallied_before
 
     -- nothing is requested of candidates
-    pub asking_is_justified : AreJustified X.is_yes X.is_no nodes (record replied_goal { is_open = replied_record.is_open; ignored = replied_record.ignored; request = Some request } ∷ runs_of s.below)
+    pub asking_is_justified : AreJustified (verdicts X) nodes (record replied_goal { is_open = replied_record.is_open; ignored = replied_record.ignored; request = Some request } ∷ runs_of s.below)
     asking_is_justified =
-        recounted_is_justified X.is_yes X.is_no nodes tally_before replied_record.is_open replied_record.ignored (Some request) replied_goal (runs_of s.below)
+        recounted_is_justified (verdicts X) nodes tally_before replied_record.is_open replied_record.ignored (Some request) replied_goal (runs_of s.below)
         (record { tallied = tallied_before; open_is = has_open; finished_are = has_finished })
         (λ c kept. (counted_as_before c kept, λ depth path cycle recorded. recorded)) got
 
     -- a candidate is entered
-    entered_is_justified : replied_record.is_open ≡ false → AreJustified X.is_yes X.is_no nodes (record replied_goal { tally = record tally_before { current = Some [] }; is_open = true; ignored = replied_record.ignored; request = Some request } ∷ runs_of s.below)
+    entered_is_justified : replied_record.is_open ≡ false → AreJustified (verdicts X) nodes (record replied_goal { tally = record tally_before { current = Some [] }; is_open = true; ignored = replied_record.ignored; request = Some request } ∷ runs_of s.below)
     entered_is_justified closed =
         let none : s.entry.state.candidate_usages ≡ None = nothing_in s.entry.state.candidate_usages (has_open ∙ closed) in
-        recounted_is_justified X.is_yes X.is_no nodes (record tally_before { current = Some [] }) true replied_record.ignored (Some request) replied_goal (runs_of s.below)
+        recounted_is_justified (verdicts X) nodes (record tally_before { current = Some [] }) true replied_record.ignored (Some request) replied_goal (runs_of s.below)
         (record { tallied = entered_tallied (length (runs_of s.below)) tally_before none tallied_before; open_is = refl; finished_are = has_finished })
         (λ c kept. (counted_as_before c kept, entered_keeps tally_before none c)) got
 
     -- the open one is finished
-    finished_is_justified : replied_record.is_open ≡ true → AreJustified X.is_yes X.is_no nodes (record replied_goal { tally = record tally_before { current = None; finished = s.run.candidates ++ unwrap_or s.entry.state.candidate_usages [] ∷ [] }; is_open = false; ignored = replied_record.ignored ++ false ∷ []; request = Some request } ∷ runs_of s.below)
+    finished_is_justified : replied_record.is_open ≡ true → AreJustified (verdicts X) nodes (record replied_goal { tally = record tally_before { current = None; finished = s.run.candidates ++ unwrap_or s.entry.state.candidate_usages [] ∷ [] }; is_open = false; ignored = replied_record.ignored ++ false ∷ []; request = Some request } ∷ runs_of s.below)
     finished_is_justified is_open =
         let some : s.entry.state.candidate_usages ≡ Some (unwrap_or s.entry.state.candidate_usages []) = something_in s.entry.state.candidate_usages [] (has_open ∙ is_open) in
-        recounted_is_justified X.is_yes X.is_no nodes (record tally_before { current = None; finished = s.run.candidates ++ unwrap_or s.entry.state.candidate_usages [] ∷ [] }) false (replied_record.ignored ++ false ∷ []) (Some request) replied_goal (runs_of s.below)
+        recounted_is_justified (verdicts X) nodes (record tally_before { current = None; finished = s.run.candidates ++ unwrap_or s.entry.state.candidate_usages [] ∷ [] }) false (replied_record.ignored ++ false ∷ []) (Some request) replied_goal (runs_of s.below)
         (record {
           tallied = finished_tallied (length (runs_of s.below)) tally_before (unwrap_or s.entry.state.candidate_usages []) some tallied_before;
           open_is = refl;
@@ -183,9 +183,9 @@ module _ {D C V P F I R A T : Type 0} (G : DelegateOf D C V P F I R A T) (X : Cx
 
     -- a finished one is ignored
     module _ (number : ℕ) (candidate : UsagesByHead) (state : EntryState C I R A T) (is_at : slice_get s.run.candidates number ≡ Some candidate) (ignores : Ignores (record { 0 = length s.below }) candidate s.entry.state state) (within : number < length replied_record.ignored) where
-      ignored_is_justified : AreJustified X.is_yes X.is_no nodes (record replied_goal { tally = tally_of state (slice_set s.run.candidates number []); is_open = replied_record.is_open; ignored = slice_set replied_record.ignored number true; request = Some request } ∷ runs_of s.below)
+      ignored_is_justified : AreJustified (verdicts X) nodes (record replied_goal { tally = tally_of state (slice_set s.run.candidates number []); is_open = replied_record.is_open; ignored = slice_set replied_record.ignored number true; request = Some request } ∷ runs_of s.below)
       ignored_is_justified =
-          recounted_is_justified X.is_yes X.is_no nodes (tally_of state (slice_set s.run.candidates number [])) replied_record.is_open (slice_set replied_record.ignored number true) (Some request) replied_goal (runs_of s.below)
+          recounted_is_justified (verdicts X) nodes (tally_of state (slice_set s.run.candidates number [])) replied_record.is_open (slice_set replied_record.ignored number true) (Some request) replied_goal (runs_of s.below)
           (record {
             tallied =
                 subst (λ n. IsTallied n (tally_of state (slice_set s.run.candidates number []))) (sym many)
@@ -199,7 +199,7 @@ module _ {D C V P F I R A T : Type 0} (G : DelegateOf D C V P F I R A T) (X : Cx
 
   -- ---- what was requested can be done, and keeps the goals justified
 
-  can_note_at : (given : Received R) (request : Request I R) (old mid : Goals) (s : HasStepped G X cx given request old mid) (fit : IsFit X.is_yes X.is_no nodes (runs_of old) given.reply given.node) (h : AreJustified X.is_yes X.is_no nodes (runs_of old)) → CanNote request ((s.entry, later_run given request old mid s fit h) ∷ s.below)
+  can_note_at : (given : Received R) (request : Request I R) (old mid : Goals) (s : HasStepped G X cx given request old mid) (fit : IsFit (verdicts X) nodes (runs_of old) given.reply given.node) (h : AreJustified (verdicts X) nodes (runs_of old)) → CanNote request ((s.entry, later_run given request old mid s fit h) ∷ s.below)
   can_note_at given (Evaluate kind goal) old mid s fit h = tt
   can_note_at given EnterCandidate old mid s fit h = tt
   can_note_at given FinishCandidate old mid s fit h = has_open given FinishCandidate old mid s fit h ∙ one_open (replied_record given FinishCandidate old mid s fit h).is_open s.in_order
@@ -214,17 +214,17 @@ module _ {D C V P F I R A T : Type 0} (G : DelegateOf D C V P F I R A T) (X : Cx
       (can_ignore (record { 0 = length s.below }) s.entry.state s.entry.state s.run.candidates n (get_or s.run.candidates n []) (tallied_here given (Ignore n) old mid s fit h) there)
   can_note_at given (Done r) old mid s fit h = tt
 
-  pub can_note : (given : Received R) (request : Request I R) (old mid : Goals) → HasStepped G X cx given request old mid → IsFit X.is_yes X.is_no nodes (runs_of old) given.reply given.node → AreJustified X.is_yes X.is_no nodes (runs_of old) → CanNote request mid
+  pub can_note : (given : Received R) (request : Request I R) (old mid : Goals) → HasStepped G X cx given request old mid → IsFit (verdicts X) nodes (runs_of old) given.reply given.node → AreJustified (verdicts X) nodes (runs_of old) → CanNote request mid
   can_note given request old mid s fit h = subst (λ (v : Goals). CanNote request v) (sym s.is) (can_note_at given request old mid s fit h)
 
-  pub noted_is_justified : (given : Received R) (request : Request I R) (old mid after : Goals) → HasStepped G X cx given request old mid → IsFit X.is_yes X.is_no nodes (runs_of old) given.reply given.node → AreJustified X.is_yes X.is_no nodes (runs_of old) → NotesCandidate request mid after → AreJustified X.is_yes X.is_no nodes (runs_of after)
+  pub noted_is_justified : (given : Received R) (request : Request I R) (old mid after : Goals) → HasStepped G X cx given request old mid → IsFit (verdicts X) nodes (runs_of old) given.reply given.node → AreJustified (verdicts X) nodes (runs_of old) → NotesCandidate request mid after → AreJustified (verdicts X) nodes (runs_of after)
   noted_is_justified given (Evaluate kind goal) old mid after s fit h noted =
-      subst (λ (v : Goals). AreJustified X.is_yes X.is_no nodes (runs_of v)) (sym (noted ∙ s.is)) (asking_is_justified given (Evaluate kind goal) old mid s fit h)
+      subst (λ (v : Goals). AreJustified (verdicts X) nodes (runs_of v)) (sym (noted ∙ s.is)) (asking_is_justified given (Evaluate kind goal) old mid s fit h)
   noted_is_justified given EnterCandidate old mid after s fit h noted =
-      subst (λ (v : Goals). AreJustified X.is_yes X.is_no nodes (runs_of v)) (sym (noted ∙ ap (change_newest enters) s.is))
+      subst (λ (v : Goals). AreJustified (verdicts X) nodes (runs_of v)) (sym (noted ∙ ap (change_newest enters) s.is))
       (entered_is_justified given EnterCandidate old mid s fit h (none_open (replied_record given EnterCandidate old mid s fit h).is_open s.in_order))
   noted_is_justified given FinishCandidate old mid after s fit h noted =
-      subst (λ (v : Goals). AreJustified X.is_yes X.is_no nodes (runs_of v)) (sym (noted ∙ ap (change_newest finishes) s.is))
+      subst (λ (v : Goals). AreJustified (verdicts X) nodes (runs_of v)) (sym (noted ∙ ap (change_newest finishes) s.is))
       (finished_is_justified given FinishCandidate old mid s fit h (one_open (replied_record given FinishCandidate old mid s fit h).is_open s.in_order))
   noted_is_justified given (Ignore n) old mid after s fit h noted =
       let p = received s.run.progress given.reply s.verdict given.node in
@@ -233,21 +233,21 @@ module _ {D C V P F I R A T : Type 0} (G : DelegateOf D C V P F I R A T) (X : Cx
       let within : n < length p.ignored = grind (arith, nat_tests) in
       let here = ignores_here s.entry (later_run given (Ignore n) old mid s fit h) s.below n mid after s.is noted in
       let later : Run C F I R A T = record s.run { frame = s.frame; progress = requested (received s.run.progress given.reply s.verdict given.node) (Ignore n); candidates = slice_set s.run.candidates n [] } in
-      subst (λ (v : Goals). AreJustified X.is_yes X.is_no nodes (runs_of v)) (sym here.is)
-      (subst (λ (o : OpenRun I R). AreJustified X.is_yes X.is_no nodes (o ∷ runs_of s.below)) (sym (ignoring_run s.entry (later_run given (Ignore n) old mid s fit h) s.below here.state (record s.run { frame = s.frame; progress = requested (received s.run.progress given.reply s.verdict given.node) (Ignore n); candidates = slice_set s.run.candidates n [] }) here.ignores.others))
+      subst (λ (v : Goals). AreJustified (verdicts X) nodes (runs_of v)) (sym here.is)
+      (subst (λ (o : OpenRun I R). AreJustified (verdicts X) nodes (o ∷ runs_of s.below)) (sym (ignoring_run s.entry (later_run given (Ignore n) old mid s fit h) s.below here.state (record s.run { frame = s.frame; progress = requested (received s.run.progress given.reply s.verdict given.node) (Ignore n); candidates = slice_set s.run.candidates n [] }) here.ignores.others))
       (ignored_is_justified given (Ignore n) old mid s fit h n here.candidate here.state here.is_at here.ignores within))
   noted_is_justified given (Done r) old mid after s fit h noted =
-      subst (λ (v : Goals). AreJustified X.is_yes X.is_no nodes (runs_of v)) (sym (noted ∙ s.is)) (asking_is_justified given (Done r) old mid s fit h)
+      subst (λ (v : Goals). AreJustified (verdicts X) nodes (runs_of v)) (sym (noted ∙ s.is)) (asking_is_justified given (Done r) old mid s fit h)
 
 -- ---- the goals wait for the next reply
 
 module _ {D C V P F I R A T : Type 0} (G : DelegateOf D C V P F I R A T) (X : CxOf C I R A T) (cx : C) (call : Call I) where
   -- the newest goal changed, but not what is seen of it
-  module _ (ahead : ℕ) (request : Request I R) (item later : StackEntry C I R A T × Run C F I R A T) (below : List (StackEntry C I R A T × Run C F I R A T)) (starts : ℕ) (met : Bool) (fits : IsReplyTo (λ _ _. ⊥) (Some request) Noted) (same : seen G X cx item ≡ seen G X cx later) (stood : (replies : List _) → Stood G X cx item replies → Stood G X cx later replies) (step : later.0.step_kind_from_parent ≡ item.0.step_kind_from_parent) (decided : IsDecided X.is_yes X.is_no item → IsDecided X.is_yes X.is_no later) where
+  module _ (ahead : ℕ) (request : Request I R) (item later : StackEntry C I R A T × Run C F I R A T) (below : List (StackEntry C I R A T × Run C F I R A T)) (starts : ℕ) (met : Bool) (fits : IsReplyTo (λ _ _. ⊥) (Some request) Noted) (same : seen G X cx item ≡ seen G X cx later) (stood : (replies : List _) → Stood G X cx item replies → Stood G X cx later replies) (step : later.0.step_kind_from_parent ≡ item.0.step_kind_from_parent) (decided : IsDecided (verdicts X) item → IsDecided (verdicts X) later) where
     changed_goes_on : HasAsked G X cx call ahead request (item ∷ below) starts met → GoesOn G X cx call ahead Noted (later ∷ below) starts met
     changed_goes_on h =
         let w = noted_waits (seen G X cx) (Stood G X cx) (G.script cx) (limits G X cx call) (IsCounted G X cx call) call.top (bound G X cx call) (some_runs G.FIXPOINT_STEP_LIMIT) ahead starts met item below request Noted later fits (record { same = λ replies. ap (λ (f : Frame I R). record f { replies = Noted ∷ replies }) same; stood = stood }) h.asked in
-        record { waiting = record { waits = w.0; keeps = h.keeps; decided = λ decisive unmet. (changed_decided X.is_yes X.is_no item later below step decided (h.decided decisive unmet), tt) }; falls = w.1 }
+        record { waiting = record { waits = w.0; keeps = h.keeps; decided = λ decisive unmet. (changed_decided (verdicts X) item later below step decided (h.decided decisive unmet), tt) }; falls = w.1 }
 
   ignoring_seen : (s : StackEntry C I R A T × Run C F I R A T) (state : EntryState C I R A T) (finished : List UsagesByHead) (parent : _) (candidate : UsagesByHead) → Ignores parent candidate s.0.state state → seen G X cx s ≡ seen G X cx (record s.0 { state = state }, record s.1 { candidates = finished })
   ignoring_seen s state finished parent candidate i =
@@ -271,28 +271,28 @@ module _ {D C V P F I R A T : Type 0} (G : DelegateOf D C V P F I R A T) (X : Cx
       (changed_goes_on ahead (Ignore n) s (record s.0 { state = here.state }, record s.1 { candidates = slice_set s.1.candidates n [] }) below starts met tt
       (ignoring_seen s here.state (slice_set s.1.candidates n []) (record { 0 = length below }) here.candidate here.ignores)
       (λ replies stood. stood) refl
-      (λ d. record { replies = d.replies; provisional = subst (λ (x : EntryState C I R A T). IfSome x.provisional_result (IsDefinite X.is_yes X.is_no)) (sym here.ignores.others) d.provisional }) h)
+      (λ d. record { replies = d.replies; provisional = subst (λ (x : EntryState C I R A T). IfSome x.provisional_result (IsDefinite (verdicts X))) (sym here.ignores.others) d.provisional }) h)
   noting_goes_on ahead (Done r) mid after starts met fits noted h = absurd fits
 
 -- stored results rest on none of them
-module _ {X F I R A T : Type 0} (is_yes is_no : R → Bool) (same : I → I → Bool) (nodes : List (CacheNode I R)) (results : Store I (StoredResult X I R A T)) where
-  pub noting_keeps_free : (request : Request I R) (mid after : List (StackEntry X I R A T × Run X F I R A T)) → NotesCandidate request mid after → AreFree is_yes is_no same nodes (runs_of mid) results → AreFree is_yes is_no same nodes (runs_of after) results
-  noting_keeps_free (Evaluate kind goal) mid after noted free = subst (λ l. AreFree is_yes is_no same nodes (runs_of l) results) (sym noted) free
-  noting_keeps_free EnterCandidate [] after noted free = subst (λ l. AreFree is_yes is_no same nodes (runs_of l) results) (sym noted) free
+module _ {X F I R A T : Type 0} (says : Verdicts R) (same : I → I → Bool) (nodes : List (CacheNode I R)) (results : Store I (StoredResult X I R A T)) where
+  pub noting_keeps_free : (request : Request I R) (mid after : List (StackEntry X I R A T × Run X F I R A T)) → NotesCandidate request mid after → AreFree says same nodes (runs_of mid) results → AreFree says same nodes (runs_of after) results
+  noting_keeps_free (Evaluate kind goal) mid after noted free = subst (λ l. AreFree says same nodes (runs_of l) results) (sym noted) free
+  noting_keeps_free EnterCandidate [] after noted free = subst (λ l. AreFree says same nodes (runs_of l) results) (sym noted) free
   noting_keeps_free EnterCandidate (s ∷ below) after noted free =
-      subst (λ l. AreFree is_yes is_no same nodes (runs_of l) results) (sym noted)
-      (all_free_above is_yes is_no same nodes (run_of s) (run_of (enters s)) (runs_of below) results refl refl refl refl free)
-  noting_keeps_free FinishCandidate [] after noted free = subst (λ l. AreFree is_yes is_no same nodes (runs_of l) results) (sym noted) free
+      subst (λ l. AreFree says same nodes (runs_of l) results) (sym noted)
+      (all_free_above says same nodes (run_of s) (run_of (enters s)) (runs_of below) results refl refl refl refl free)
+  noting_keeps_free FinishCandidate [] after noted free = subst (λ l. AreFree says same nodes (runs_of l) results) (sym noted) free
   noting_keeps_free FinishCandidate (s ∷ below) after noted free =
-      subst (λ l. AreFree is_yes is_no same nodes (runs_of l) results) (sym noted)
-      (all_free_above is_yes is_no same nodes (run_of s) (run_of (finishes s)) (runs_of below) results refl refl refl refl free)
+      subst (λ l. AreFree says same nodes (runs_of l) results) (sym noted)
+      (all_free_above says same nodes (run_of s) (run_of (finishes s)) (runs_of below) results refl refl refl refl free)
   noting_keeps_free (Ignore n) mid after noted free =
-      let was : AreFree is_yes is_no same nodes (run_of (noted.entry, noted.run) ∷ runs_of noted.below) results = subst (λ l. AreFree is_yes is_no same nodes (runs_of l) results) noted.was free in
+      let was : AreFree says same nodes (run_of (noted.entry, noted.run) ∷ runs_of noted.below) results = subst (λ l. AreFree says same nodes (runs_of l) results) noted.was free in
       let later : Run X F I R A T = record noted.run { candidates = slice_set noted.run.candidates n [] } in
-      subst (λ l. AreFree is_yes is_no same nodes (runs_of l) results) (sym noted.is)
-      (all_free_above is_yes is_no same nodes (run_of (noted.entry, noted.run)) (run_of (record noted.entry { state = noted.state }, record noted.run { candidates = slice_set noted.run.candidates n [] })) (runs_of noted.below) results
+      subst (λ l. AreFree says same nodes (runs_of l) results) (sym noted.is)
+      (all_free_above says same nodes (run_of (noted.entry, noted.run)) (run_of (record noted.entry { state = noted.state }, record noted.run { candidates = slice_set noted.run.candidates n [] })) (runs_of noted.below) results
       refl (ap (λ (x : EntryState X I R A T). x.provisional_result) (sym noted.ignores.others)) refl (ap (λ (x : EntryState X I R A T). x.node) (sym noted.ignores.others)) was)
-  noting_keeps_free (Done r) mid after noted free = subst (λ l. AreFree is_yes is_no same nodes (runs_of l) results) (sym noted) free
+  noting_keeps_free (Done r) mid after noted free = subst (λ l. AreFree says same nodes (runs_of l) results) (sym noted) free
 
 -- a request that is neither a question nor the result is about candidates
 pub about_candidates : {I R : Type 0} (request : Request I R) → ((kind : _) (goal : I) → request ≡ Evaluate kind goal → ⊥) → ((r : R) → request ≡ Done r → ⊥) → IsReplyTo (λ _ _. ⊥) (Some request) Noted

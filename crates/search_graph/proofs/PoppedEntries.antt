@@ -5,7 +5,7 @@ use Rattle.std.proofs.lemmas.Bool.{false≢true}
 use Rattle.std.proofs.lemmas.List.{length-map}
 use Rattle.std.proofs.lemmas.List.Elements.{All-cons, All-nil}
 use Rattle.open_graphs.specs.Graph as theory
-use Rattle.search_graph.specs.Below.{IsTrueReason, Entry, path_kind, ProvisionalEntry, AfterPop, Lower, Unused, Fixpoint, Other, IsMoved, stack_of, StackDepth, CycleHead, at_depth, highest, IsRising, heads_shape, rank_of, NodeId, Request, Reply, StackEntry, ProvisionalCacheEntry, RebaseReason, CacheNode, path_kind_from, HasNoRank, rebased, changed_for, verdict_of, Run}
+use Rattle.search_graph.specs.Below.{IsTrueReason, Entry, path_kind, ProvisionalEntry, AfterPop, Lower, Unused, Fixpoint, Other, IsMoved, stack_of, StackDepth, CycleHead, at_depth, highest, IsRising, heads_shape, rank_of, NodeId, Request, Reply, StackEntry, ProvisionalCacheEntry, RebaseReason, CacheNode, path_kind_from, HasNoRank, rebased, changed_for, verdict_of, Run, Verdicts}
 use Rattle.open_graphs.specs.Use as uses
 use Rattle.open_graphs.proofs.Rebased.{rebased_is_after_pop}
 use Rattle.search_graph.specs.Words.{AreJustified, frame_of, frames_of, IsReusable, depths_of, highest_depth, entry_shape, reason_shape, IsHead, IsReady, final_answer, answer_of_entry, entries_for, run_of, runs_of, LieBelow}
@@ -38,12 +38,12 @@ with_node below top verdict top_heads k after n (Unused moved none) = Unused (mo
 with_node below top verdict top_heads k after n (Fixpoint moved definite entry_definite fixpoint kinds takes) = Fixpoint (moved_node below top k after n moved) definite entry_definite fixpoint kinds takes
 with_node below top verdict top_heads k after n (Other moved other) = Other (moved_node below top k after n moved) other
 
-module _ {X F I R A T : Type 0} (is_yes is_no : R → Bool) (scripts : I → List (Reply R) → Request I R) (nodes after : List (CacheNode I R)) (s : StackEntry X I R A T × Run X F I R A T) (below : List (StackEntry X I R A T × Run X F I R A T)) (r : R) (target : Option NodeId) (h : AreJustified is_yes is_no nodes (runs_of (s ∷ below))) (rebases : EndsWithNode is_yes is_no nodes after (run_of s) (runs_of below) r target) where
+module _ {X F I R A T : Type 0} (says : Verdicts R) (scripts : I → List (Reply R) → Request I R) (nodes after : List (CacheNode I R)) (s : StackEntry X I R A T × Run X F I R A T) (below : List (StackEntry X I R A T × Run X F I R A T)) (r : R) (target : Option NodeId) (h : AreJustified says nodes (runs_of (s ∷ below))) (rebases : EndsWithNode says nodes after (run_of s) (runs_of below) r target) where
   many : length (runs_of below) ≡ length below
   many = length-map below run_of
 
-  theory_many : length (stack_of (frames_of is_yes is_no (runs_of below))) ≡ length below
-  theory_many = stack_length is_yes is_no (runs_of below) ∙ many
+  theory_many : length (stack_of (frames_of says (runs_of below))) ≡ length below
+  theory_many = stack_length says (runs_of below) ∙ many
 
   -- the newest goal's heads lie below it
   pub lower : LieBelow (length below) s.0.state.heads
@@ -51,11 +51,11 @@ module _ {X F I R A T : Type 0} (is_yes is_no : R → Bool) (scripts : I → Lis
 
   -- an entry that is left
   abbrev pub IsLeft : I → ProvisionalCacheEntry X I R A T → Type 0
-  IsLeft = IsLeftOver is_yes is_no scripts after (runs_of below) s.0.state.heads
+  IsLeft = IsLeftOver says scripts after (runs_of below) s.0.state.heads
 
   -- ---- the entries
 
-  module _ (goal : I) (entry : ProvisionalCacheEntry X I R A T) (ready : IsReady is_yes is_no scripts nodes (runs_of (s ∷ below)) goal entry) where
+  module _ (goal : I) (entry : ProvisionalCacheEntry X I R A T) (ready : IsReady says scripts nodes (runs_of (s ∷ below)) goal entry) where
     within : (head : StackDepth) → IsSome (at_depth entry.heads head) → head.0 ≤ length below
     within head there = let place = is_below (runs_of (s ∷ below)) h.tallies head (ready.are_heads head there) in omega (arith, place, many)
 
@@ -66,7 +66,7 @@ module _ {X F I R A T : Type 0} (is_yes is_no : R → Bool) (scripts : I → Lis
     apart : s.0.state.usages ≡ None → (head : StackDepth) → IsSome (at_depth entry.heads head) → head.0 ≢ length below
     apart none head there same = false≢true (subst IsSome none (own_head (run_of s) (runs_of below) h.tallies.1 head (same ∙ sym many) (ready.are_heads head there)))
 
-    top_lower : s.0.state.usages ≡ None → (o : Option (StackDepth × CycleHead)) → highest entry.heads ≡ o → highest_depth entry.heads < length (stack_of (frames_of is_yes is_no (runs_of below)))
+    top_lower : s.0.state.usages ≡ None → (o : Option (StackDepth × CycleHead)) → highest entry.heads ≡ o → highest_depth entry.heads < length (stack_of (frames_of says (runs_of below)))
     top_lower none None top_is = absurd (ready.some (no_highest entry.heads top_is))
     top_lower none (Some head) top_is =
         let there : IsSome (at_depth entry.heads head.0) = subst IsSome (sym (highest_there entry.heads head (ascends entry.heads ready.rising) top_is)) refl in
@@ -78,7 +78,7 @@ module _ {X F I R A T : Type 0} (is_yes is_no : R → Bool) (scripts : I → Lis
     -- so it stays
     pub unused_is_left : s.0.state.usages ≡ None → IsLeft goal entry
     unused_is_left none = record {
-      kept = reusable_popped is_yes is_no nodes after (run_of s) (runs_of below) h r target rebases goal (answer_of_entry entry) (answer_of_entry entry) refl refl (λ d n. Lower (top_lower none (highest entry.heads) refl)) ready.kept;
+      kept = reusable_popped says nodes after (run_of s) (runs_of below) h r target rebases goal (answer_of_entry entry) (answer_of_entry entry) refl refl (λ d n. Lower (top_lower none (highest entry.heads) refl)) ready.kept;
       some = ready.some;
       rising = ready.rising;
       are_heads = λ head there. others head there (apart none head there);
@@ -86,31 +86,31 @@ module _ {X F I R A T : Type 0} (is_yes is_no : R → Bool) (scripts : I → Lis
     }
 
     -- and where the newest goal was used, what the rule of rebasing leaves of an entry is left, if the reason is true
-    module _ (propagated : A → R) (overflow : R) (unsure : (info : A) → verdict_of is_yes is_no (propagated info) ≡ theory.Neither) (overflow_unsure : verdict_of is_yes is_no overflow ≡ theory.Neither) (reason : RebaseReason X I R A T) (is_true : IsTrueReason (reason_shape reason) (verdict_of is_yes is_no r) (frame_of is_yes is_no (run_of s)).entry) (later : ProvisionalCacheEntry X I R A T) (is : rebased (reverse (map (λ s. s.0) below)) s.0 (changed_for propagated overflow reason) entry ≡ Some later) where
+    module _ (propagated : A → R) (overflow : R) (unsure : (info : A) → verdict_of says (propagated info) ≡ theory.Neither) (overflow_unsure : verdict_of says overflow ≡ theory.Neither) (reason : RebaseReason X I R A T) (is_true : IsTrueReason (reason_shape reason) (verdict_of says r) (frame_of says (run_of s)).entry) (later : ProvisionalCacheEntry X I R A T) (is : rebased (reverse (map (λ s. s.0) below)) s.0 (changed_for propagated overflow reason) entry ≡ Some later) where
       within_real : (head : StackDepth) → IsSome (at_depth entry.heads head) → head.0 ≤ length (reverse (map (λ s. s.0) below))
       within_real head there = subst (λ n. head.0 ≤ n) (sym (on_stack_many below)) (within head there)
 
       lower_real : LieBelow (length (reverse (map (λ s. s.0) below))) s.0.state.heads
       lower_real = subst (λ n. LieBelow n s.0.state.heads) (sym (on_stack_many below)) lower
 
-      left : LeavesEntry is_yes is_no (reverse (map (λ s. s.0) below)) s.0 entry later
-      left = leaves_entry is_yes is_no (reverse (map (λ s. s.0) below)) s.0 propagated overflow unsure overflow_unsure reason lower_real entry later ready.rising within_real ready.some is
+      left : LeavesEntry says (reverse (map (λ s. s.0) below)) s.0 entry later
+      left = leaves_entry says (reverse (map (λ s. s.0) below)) s.0 propagated overflow unsure overflow_unsure reason lower_real entry later ready.rising within_real ready.some is
 
-      after_pop : verdict_of is_yes is_no later.result ≢ theory.Neither → AfterPop (stack_of (frames_of is_yes is_no (runs_of below))) (frame_of is_yes is_no (run_of s)).entry (verdict_of is_yes is_no r) (heads_shape s.0.state.heads) (entry_shape is_yes is_no entry) (entry_shape is_yes is_no later)
+      after_pop : verdict_of says later.result ≢ theory.Neither → AfterPop (stack_of (frames_of says (runs_of below))) (frame_of says (run_of s)).entry (verdict_of says r) (heads_shape s.0.state.heads) (entry_shape says entry) (entry_shape says later)
       after_pop definite =
-          rebased_is_after_pop (reason_shape reason) (stack_of (frames_of is_yes is_no (runs_of below))) (frame_of is_yes is_no (run_of s)).entry (depths_of entry.heads) (depths_of s.0.state.heads) (verdict_of is_yes is_no r) (heads_shape s.0.state.heads) (entry_shape is_yes is_no entry) (entry_shape is_yes is_no later)
-          (rebasable is_yes is_no (reverse (map (λ s. s.0) below)) s.0 (stack_of (frames_of is_yes is_no (runs_of below))) (frame_of is_yes is_no (run_of s)).entry (on_stack_many below ∙ sym theory_many) lower_real reason (verdict_of is_yes is_no r) entry
+          rebased_is_after_pop (reason_shape reason) (stack_of (frames_of says (runs_of below))) (frame_of says (run_of s)).entry (depths_of entry.heads) (depths_of s.0.state.heads) (verdict_of says r) (heads_shape s.0.state.heads) (entry_shape says entry) (entry_shape says later)
+          (rebasable says (reverse (map (λ s. s.0) below)) s.0 (stack_of (frames_of says (runs_of below))) (frame_of says (run_of s)).entry (on_stack_many below ∙ sym theory_many) lower_real reason (verdict_of says r) entry
           (record { some = ready.some; within = all_at_depths (λ head. head.0 ≤ length (reverse (map (λ (t : StackEntry X I R A T × Run X F I R A T). t.0) below))) entry.heads within_real }) ready.rising is_true)
           definite
-          (goal_rebased is_yes is_no s below lower propagated overflow unsure overflow_unsure reason entry later ready.some ready.rising definite is)
+          (goal_rebased says s below lower propagated overflow unsure overflow_unsure reason entry later ready.some ready.rising definite is)
 
-      same_answer : later.result ≡ entry.result → later.node ≡ entry.node → IsReusable is_yes is_no after (runs_of below) goal (answer_of_entry later)
+      same_answer : later.result ≡ entry.result → later.node ≡ entry.node → IsReusable says after (runs_of below) goal (answer_of_entry later)
       same_answer same_result same_target =
-          reusable_popped is_yes is_no nodes after (run_of s) (runs_of below) h r target rebases goal (answer_of_entry entry) (answer_of_entry later) same_result same_target
-          (λ d n. subst (λ v. AfterPop (stack_of (frames_of is_yes is_no (runs_of below))) (frame_of is_yes is_no (run_of s)).entry (verdict_of is_yes is_no r) (heads_shape s.0.state.heads) (provisional_shape is_yes is_no (answer_of_entry entry) n) (record (provisional_shape is_yes is_no (answer_of_entry later) n) { verdict = v }))
-          (ap (verdict_of is_yes is_no) same_result)
-          (with_node (stack_of (frames_of is_yes is_no (runs_of below))) (frame_of is_yes is_no (run_of s)).entry (verdict_of is_yes is_no r) (heads_shape s.0.state.heads) (entry_shape is_yes is_no entry) (entry_shape is_yes is_no later) n
-          (after_pop (λ neither. d (ap (verdict_of is_yes is_no) (sym same_result) ∙ neither)))))
+          reusable_popped says nodes after (run_of s) (runs_of below) h r target rebases goal (answer_of_entry entry) (answer_of_entry later) same_result same_target
+          (λ d n. subst (λ v. AfterPop (stack_of (frames_of says (runs_of below))) (frame_of says (run_of s)).entry (verdict_of says r) (heads_shape s.0.state.heads) (provisional_shape says (answer_of_entry entry) n) (record (provisional_shape says (answer_of_entry later) n) { verdict = v }))
+          (ap (verdict_of says) same_result)
+          (with_node (stack_of (frames_of says (runs_of below))) (frame_of says (run_of s)).entry (verdict_of says r) (heads_shape s.0.state.heads) (entry_shape says entry) (entry_shape says later) n
+          (after_pop (λ neither. d (ap (verdict_of says) (sym same_result) ∙ neither)))))
           ready.kept
 
       pub rebased_is_left : IsLeft goal later
@@ -148,8 +148,8 @@ module _ {X F I R A T : Type 0} (is_yes is_no : R → Bool) (scripts : I → Lis
         let place = lower head.0 (subst IsSome (sym (highest_there s.0.state.heads head asc top_is)) refl) in
         let some : s.0.state.heads ≢ [] = λ none. (let wrong : None ≡ Some head = ap highest (sym none) ∙ top_is in absurd cc) in
         record {
-          kept = reusable_added is_yes is_no nodes after (run_of s) (runs_of below) h r target rebases (answer_of_entry (own_entry head)) refl refl refl
-              (path_kind_is is_yes is_no s.0.step_kind_from_parent head.0.0 below ∙ ap (path_kind (stack_of (frames_of is_yes is_no (runs_of below))) (rank_of s.0.step_kind_from_parent)) (sym depth_is))
+          kept = reusable_added says nodes after (run_of s) (runs_of below) h r target rebases (answer_of_entry (own_entry head)) refl refl refl
+              (path_kind_is says s.0.step_kind_from_parent head.0.0 below ∙ ap (path_kind (stack_of (frames_of says (runs_of below))) (rank_of s.0.step_kind_from_parent)) (sym depth_is))
               (omega (arith, depth_is, place, theory_many))
               (λ depth path cycle recorded. subst (λ n. depth ≤ n) (sym depth_is) (at_most_highest s.0.state.heads head asc top_is (record { 0 = depth }) ((are_depths s.0.state.heads).usages depth cycle recorded.1)));
           some = some;

@@ -4,7 +4,7 @@ use Rattle.std.specs.List.{filter, All, Contains}
 use Rattle.std.proofs.lemmas.List.Elements.{filter_agree, filter_passes, All-filter, All-map, All-contains, All-contains_itself}
 use Rattle.std.proofs.lemmas.Option.{slice_get_within, get_or_from_slice_get}
 use Rattle.std.proofs.lemmas.Simd.{map-map}
-use Rattle.search_graph.specs.Below.{Request, Done, Reply, Verdict, Yes, No, Edge, Question, question_of, CacheNode, IsRun, IsNodeOf, Progress, Asked, progress_after, is_counted, questions_answered, IsFitting, DefiniteAnswer, RunRecord, is_same_verdict, asked_of, asked_in, asked_with, counted_by, edges_of, IsEdgeOfAnswer, Agrees, Records}
+use Rattle.search_graph.specs.Below.{Request, Done, Reply, Verdict, Yes, No, Edge, Question, question_of, CacheNode, IsRun, IsNodeOf, Progress, Asked, progress_after, is_counted, questions_answered, IsFitting, DefiniteAnswer, RunRecord, is_same_verdict, asked_of, asked_in, asked_with, counted_by, edges_of, IsEdgeOfAnswer, Agrees, Records, Verdicts}
 use Rattle.open_goals.specs.Progress.{rests_on}
 use Rattle.search_parts.proofs.Filtered.{filtered_twice}
 use Rattle.search_graph.proofs.Verdicts.{same_verdict}
@@ -28,13 +28,13 @@ module _ {I R : Type 0} (p : RunRecord I R) (v : Verdict) where
       λ k d below. record { answer = slice_index_or some k d; is_in = within k d below; verdict_is = same_verdict _ _ (first_true _ _ (passes k d below)); edge_is = refl; kept = second_true _ _ (passes k d below) } in
       All-contains (IsEdgeOfAnswer p.answers p.ignored v) (edges_of p v) e (All-map (IsEdgeOfAnswer p.answers p.ignored v) (λ d. d.edge) some each) there
 
-module _ {I R : Type 0} (is_yes is_no : R → Bool) where
-  counted_by_number : (p : RunRecord I R) (done : Progress I R) → Agrees is_yes is_no p done → (candidate : Option ℕ) → counted_by p.ignored candidate ≡ is_counted done.ignored candidate
+module _ {I R : Type 0} (says : Verdicts R) where
+  counted_by_number : (p : RunRecord I R) (done : Progress I R) → Agrees says p done → (candidate : Option ℕ) → counted_by p.ignored candidate ≡ is_counted done.ignored candidate
   counted_by_number p done h None = refl
   counted_by_number p done h (Some n) = ap not (sym (h.ignored_are n))
 
   -- the edges of the answers ask the questions whose results pass the test
-  questions_are : (w : Verdict) (test : R → Bool) (p : RunRecord I R) (done : Progress I R) → Agrees is_yes is_no p done → asked_with w p ≡ map asked_in (filter (λ a. test a.answer) done.asked) → map question_of (edges_of p w) ≡ questions_answered test done
+  questions_are : (w : Verdict) (test : R → Bool) (p : RunRecord I R) (done : Progress I R) → Agrees says p done → asked_with w p ≡ map asked_in (filter (λ a. test a.answer) done.asked) → map question_of (edges_of p w) ≡ questions_answered test done
   questions_are w test p done h same =
       map-map question_of (λ (d : DefiniteAnswer I). d.edge) (filter (rests_on p.ignored w) p.answers)
       ∙ filtered_twice asked_of (λ d. is_same_verdict d.verdict w) (counted_by p.ignored) p.answers
@@ -42,21 +42,21 @@ module _ {I R : Type 0} (is_yes is_no : R → Bool) where
       ∙ ap (map (λ (q : Question I × Option ℕ). q.0)) (filter_agree (λ q. counted_by p.ignored q.1) (λ q. is_counted done.ignored q.1) (λ q. counted_by_number p done h q.1) (map asked_in (filter (λ (a : Asked I R). test a.answer) done.asked)))
       ∙ sym (filtered_twice asked_in (λ (a : Asked I R). test a.answer) (is_counted done.ignored) done.asked)
 
-  module _ (script : List (Reply R) → Request I R) (p : RunRecord I R) (replies : List (Reply R)) (h : Records is_yes is_no script p replies) where
+  module _ (script : List (Reply R) → Request I R) (p : RunRecord I R) (replies : List (Reply R)) (h : Records says script p replies) where
     -- a result of yes rests on the questions that were answered yes,
-    pub yes_edges_are : map question_of (edges_of p Yes) ≡ questions_answered is_yes (progress_after script replies)
-    yes_edges_are = questions_are Yes is_yes p (progress_after script replies) h.agrees h.agrees.yes
+    pub yes_edges_are : map question_of (edges_of p Yes) ≡ questions_answered says.is_yes (progress_after script replies)
+    yes_edges_are = questions_are Yes says.is_yes p (progress_after script replies) h.agrees h.agrees.yes
 
     -- and one of no on those that were answered no
-    pub no_edges_are : map question_of (edges_of p No) ≡ questions_answered is_no (progress_after script replies)
-    no_edges_are = questions_are No is_no p (progress_after script replies) h.agrees h.agrees.no
+    pub no_edges_are : map question_of (edges_of p No) ≡ questions_answered says.is_no (progress_after script replies)
+    no_edges_are = questions_are No says.is_no p (progress_after script replies) h.agrees h.agrees.no
 
     -- the record of a run that ends is the run that its node keeps
-    pub record_is_run : (nodes : List (CacheNode I R)) (r : R) (v : Verdict) → IsFitting script replies → p.request ≡ Some (Done r) → (v ≡ Yes) ↔ IsTrue (is_yes r) → (v ≡ No) ↔ IsTrue (is_no r) → ((d : DefiniteAnswer I) → Contains p.answers d → IsNodeOf nodes d.edge.target d.edge.input) → IsRun is_yes is_no script nodes (record { replies = p.replies; edges = edges_of p v; outcome = r })
+    pub record_is_run : (nodes : List (CacheNode I R)) (r : R) (v : Verdict) → IsFitting script replies → p.request ≡ Some (Done r) → (v ≡ Yes) ↔ IsTrue (says.is_yes r) → (v ≡ No) ↔ IsTrue (says.is_no r) → ((d : DefiniteAnswer I) → Contains p.answers d → IsNodeOf nodes d.edge.target d.edge.input) → IsRun says script nodes (record { replies = p.replies; edges = edges_of p v; outcome = r })
     record_is_run nodes r v fitting ends says_yes says_no targets = record {
       ends = rw h.replies_are (record { is_fitting = fitting; is_in_order = h.in_order; is_done = sym h.request_is ∙ ends });
-      yes = λ holds. rw h.replies_are (subst (λ w. map question_of (edges_of p w) ≡ questions_answered is_yes (progress_after script replies)) (sym (says_yes.1 holds)) yes_edges_are);
-      no = λ fails. rw h.replies_are (subst (λ w. map question_of (edges_of p w) ≡ questions_answered is_no (progress_after script replies)) (sym (says_no.1 fails)) no_edges_are);
+      yes = λ holds. rw h.replies_are (subst (λ w. map question_of (edges_of p w) ≡ questions_answered says.is_yes (progress_after script replies)) (sym (says_yes.1 holds)) yes_edges_are);
+      no = λ fails. rw h.replies_are (subst (λ w. map question_of (edges_of p w) ≡ questions_answered says.is_no (progress_after script replies)) (sym (says_no.1 fails)) no_edges_are);
       targets = λ i e there.
           let of = edge_is_of_answer p v e (i, slice_get_within (edges_of p v) i e there, get_or_from_slice_get (edges_of p v) i e e there) in
           subst (λ d. IsNodeOf nodes d.target d.input) of.edge_is (targets of.answer of.is_in);

@@ -3,7 +3,7 @@ use Rattle.std.proofs.Common.{◌≡◌, ℕ, ◌+◌, ◌<◌, IsSome, ◌==◌
 use Rattle.std.specs.List.{filter}
 use Rattle.std.proofs.lemmas.List.{append-nil, reverse-append, length-append, length-set}
 use Rattle.std.proofs.lemmas.Bool.Decides.{nat_tests}
-use Rattle.search_graph.specs.Below.{Request, Evaluate, EnterCandidate, FinishCandidate, Ignore, Done, Reply, Begin, Answer, Noted, Verdict, Yes, No, Neither, NodeId, PathKind, Progress, Asked, request_after, progress_after, progress_with, order_fault, fault_after, IsInOrder, is_ignored, open_candidate, Fits, RunRecord, no_record, is_same_verdict, asked_of, asked_in, asked_with, open_number, edge_to, answers_with, answers_after, KeepsAnswer, received, requested, answered, fault_of, Agrees, Records, IsSortedAs, IsReplySorted}
+use Rattle.search_graph.specs.Below.{Request, Evaluate, EnterCandidate, FinishCandidate, Ignore, Done, Reply, Begin, Answer, Noted, Verdict, Yes, No, Neither, NodeId, PathKind, Progress, Asked, request_after, progress_after, progress_with, order_fault, fault_after, IsInOrder, is_ignored, open_candidate, Fits, RunRecord, no_record, is_same_verdict, asked_of, asked_in, asked_with, open_number, edge_to, answers_with, answers_after, KeepsAnswer, received, requested, answered, fault_of, Agrees, Records, IsSortedAs, IsReplySorted, Verdicts}
 use Rattle.search_parts.proofs.Filtered.{filtered_more, ignored_after_finish, ignored_after_ignore}
 use Rattle.search_graph.proofs.Verdicts.{told_by_test}
 
@@ -34,9 +34,9 @@ last_in_order : {I R : Type 0} (script : List (Reply R) → Request I R) (replie
 last_in_order script [] orderly = refl
 last_in_order script (r ∷ earlier) orderly = orderly.0
 
-module _ {I R : Type 0} (is_yes is_no : R → Bool) where
+module _ {I R : Type 0} (says : Verdicts R) where
   -- nothing was done yet
-  pub records_new : (script : List (Reply R) → Request I R) → Records is_yes is_no script no_record []
+  pub records_new : (script : List (Reply R) → Request I R) → Records says script no_record []
   records_new script = record {
     replies_are = refl;
     request_is = refl;
@@ -44,7 +44,7 @@ module _ {I R : Type 0} (is_yes is_no : R → Bool) where
     agrees = record { open_is = refl; finished_are = refl; ignored_are = λ n. refl; yes = refl; no = refl };
   }
 
-  module _ (p : RunRecord I R) (done : Progress I R) (h : Agrees is_yes is_no p done) where
+  module _ (p : RunRecord I R) (done : Progress I R) (h : Agrees says p done) where
     -- the record and the run tell the same faults
     pub fault_agrees : (request : Request I R) → fault_of p request ≡ order_fault done (Some request)
     fault_agrees EnterCandidate = ap (λ b. if b then Some 1 else None) h.open_is
@@ -60,17 +60,17 @@ module _ {I R : Type 0} (is_yes is_no : R → Bool) where
     finished_within : (m : ℕ) → order_fault done (Some (Ignore m)) ≡ None → m < length p.ignored
     finished_within m orderly = rw h.finished_are (finished_unless m done.finished 4 3 (is_ignored done.ignored m) orderly)
 
-    agrees_counted : (kind : PathKind) (goal : I) (r : R) (v : Verdict) (node : NodeId) (target : Option NodeId) → IsSortedAs is_yes is_no r v target → Agrees is_yes is_no (record p { answers = answers_with p (edge_to kind goal node) v }) (progress_with done (Some (Evaluate kind goal)) (Answer r))
+    agrees_counted : (kind : PathKind) (goal : I) (r : R) (v : Verdict) (node : NodeId) (target : Option NodeId) → IsSortedAs says r v target → Agrees says (record p { answers = answers_with p (edge_to kind goal node) v }) (progress_with done (Some (Evaluate kind goal)) (Answer r))
     agrees_counted kind goal r v node target s = record {
       open_is = h.open_is;
       finished_are = h.finished_are;
       ignored_are = h.ignored_are;
-      yes = same_after_answer is_yes Yes p done h.yes kind goal r v node (told_by_test v Yes (is_yes r) s.yes) same_number;
-      no = same_after_answer is_no No p done h.no kind goal r v node (told_by_test v No (is_no r) s.no) same_number;
+      yes = same_after_answer says.is_yes Yes p done h.yes kind goal r v node (told_by_test v Yes (says.is_yes r) s.yes) same_number;
+      no = same_after_answer says.is_no No p done h.no kind goal r v node (told_by_test v No (says.is_no r) s.no) same_number;
     }
 
     -- the record agrees with the run after each answer,
-    agrees_answered : (kind : PathKind) (goal : I) (r : R) (v : Verdict) (target : Option NodeId) → IsSortedAs is_yes is_no r v target → Agrees is_yes is_no (answered p (Some (Evaluate kind goal)) v target) (progress_with done (Some (Evaluate kind goal)) (Answer r))
+    agrees_answered : (kind : PathKind) (goal : I) (r : R) (v : Verdict) (target : Option NodeId) → IsSortedAs says r v target → Agrees says (answered p (Some (Evaluate kind goal)) v target) (progress_with done (Some (Evaluate kind goal)) (Answer r))
     agrees_answered kind goal r Yes (Some node) s = agrees_counted kind goal r Yes node (Some node) s
     agrees_answered kind goal r No (Some node) s = agrees_counted kind goal r No node (Some node) s
     agrees_answered kind goal r Yes None s = absurd (none_is_no_node (s.yes_node (s.yes.0 refl)))
@@ -79,12 +79,12 @@ module _ {I R : Type 0} (is_yes is_no : R → Bool) where
       open_is = h.open_is;
       finished_are = h.finished_are;
       ignored_are = h.ignored_are;
-      yes = same_after_other is_yes Yes p done h.yes kind goal r (sym (told_by_test Neither Yes (is_yes r) s.yes));
-      no = same_after_other is_no No p done h.no kind goal r (sym (told_by_test Neither No (is_no r) s.no));
+      yes = same_after_other says.is_yes Yes p done h.yes kind goal r (sym (told_by_test Neither Yes (says.is_yes r) s.yes));
+      no = same_after_other says.is_no No p done h.no kind goal r (sym (told_by_test Neither No (says.is_no r) s.no));
     }
 
     -- and after each reply to a request that isn't out of order
-    agrees_replied : (request : Option (Request I R)) (reply : Reply R) (v : Verdict) (target : Option NodeId) → order_fault done request ≡ None → Fits request reply → IsReplySorted is_yes is_no reply v target → Agrees is_yes is_no (answered p request v target) (progress_with done request reply)
+    agrees_replied : (request : Option (Request I R)) (reply : Reply R) (v : Verdict) (target : Option NodeId) → order_fault done request ≡ None → Fits request reply → IsReplySorted says reply v target → Agrees says (answered p request v target) (progress_with done request reply)
     agrees_replied None Begin v target orderly fits sorted = h
     agrees_replied (Some (Evaluate kind goal)) (Answer r) v target orderly fits sorted = agrees_answered kind goal r v target sorted
     agrees_replied (Some EnterCandidate) Noted v target orderly fits sorted =
@@ -105,11 +105,11 @@ module _ {I R : Type 0} (is_yes is_no : R → Bool) where
     }
     agrees_replied request reply v target orderly fits sorted = absurd fits
 
-  module _ (script : List (Reply R) → Request I R) (p : RunRecord I R) (earlier : List (Reply R)) (reply : Reply R) (v : Verdict) (target : Option NodeId) (h : Records is_yes is_no script p earlier) (fits : Fits (request_after script earlier) reply) (sorted : IsReplySorted is_yes is_no reply v target) where
-    agrees_received : Agrees is_yes is_no (received p reply v target) (progress_after script (reply ∷ earlier))
+  module _ (script : List (Reply R) → Request I R) (p : RunRecord I R) (earlier : List (Reply R)) (reply : Reply R) (v : Verdict) (target : Option NodeId) (h : Records says script p earlier) (fits : Fits (request_after script earlier) reply) (sorted : IsReplySorted says reply v target) where
+    agrees_received : Agrees says (received p reply v target) (progress_after script (reply ∷ earlier))
     agrees_received =
         let before = agrees_replied p (progress_after script earlier) h.agrees (request_after script earlier) reply v target (last_in_order script earlier h.in_order) fits sorted in
-        let after = subst (λ request. Agrees is_yes is_no (answered p request v target) (progress_after script (reply ∷ earlier))) (sym h.request_is) before in
+        let after = subst (λ request. Agrees says (answered p request v target) (progress_after script (reply ∷ earlier))) (sym h.request_is) before in
         record { open_is = after.open_is; finished_are = after.finished_are; ignored_are = after.ignored_are; yes = after.yes; no = after.no }
 
     -- the record with the reply tells the fault of the request that follows,
@@ -119,7 +119,7 @@ module _ {I R : Type 0} (is_yes is_no : R → Bool) where
         ∙ ap (λ q. order_fault (progress_after script (reply ∷ earlier)) (Some q)) is
 
     -- and where there is none, the request may be noted
-    pub records_received : (request : Request I R) → request ≡ script (reply ∷ earlier) → order_fault (progress_after script (reply ∷ earlier)) (Some request) ≡ None → Records is_yes is_no script (requested (received p reply v target) request) (reply ∷ earlier)
+    pub records_received : (request : Request I R) → request ≡ script (reply ∷ earlier) → order_fault (progress_after script (reply ∷ earlier)) (Some request) ≡ None → Records says script (requested (received p reply v target) request) (reply ∷ earlier)
     records_received request is orderly =
         let now = agrees_received in
         record {
@@ -130,7 +130,7 @@ module _ {I R : Type 0} (is_yes is_no : R → Bool) where
         }
 
     -- the same where the record tells no fault
-    pub records_checked : (request : Request I R) → request ≡ script (reply ∷ earlier) → fault_of (received p reply v target) request ≡ None → Records is_yes is_no script (requested (received p reply v target) request) (reply ∷ earlier)
+    pub records_checked : (request : Request I R) → request ≡ script (reply ∷ earlier) → fault_of (received p reply v target) request ≡ None → Records says script (requested (received p reply v target) request) (reply ∷ earlier)
     records_checked request is orderly =
         records_received request is (sym (fault_agrees (received p reply v target) (progress_after script (reply ∷ earlier)) agrees_received request) ∙ orderly)
 

@@ -5,7 +5,7 @@ use Rattle.std.specs.Option.{option_map, unwrap_or}
 use Rattle.std.proofs.lemmas.Bool.Decides.{nat_tests}
 use Rattle.std.proofs.lemmas.List.{length-map}
 use Rattle.std.proofs.lemmas.List.Elements.{All-head, All-tail}
-use Rattle.search_graph.specs.Below.{StackDepth, CycleHead, PathKind, highest, rank_of, Request, Reply, Answer, StackEntry, ProvisionalCacheEntry, CacheNode, path_kind_from, entries_at, asking_heads, has_head_up_to, may_be_used, Run, AnswersNewest}
+use Rattle.search_graph.specs.Below.{StackDepth, CycleHead, PathKind, highest, rank_of, Request, Reply, Answer, StackEntry, ProvisionalCacheEntry, CacheNode, path_kind_from, entries_at, asking_heads, has_head_up_to, may_be_used, Run, AnswersNewest, Verdicts}
 use Rattle.search_graph.specs.Words.{Asks, AreJustified, IsFit, highest_depth, Asking, usable_entry, answer_of_entry, IsReady, run_of, runs_of, LieBelow}
 use Rattle.search_graph.proofs.CycleAnswers.{path_kind_is}
 use Rattle.search_graph.proofs.Finishing.{answered_newest_is_justified}
@@ -62,7 +62,7 @@ module _ {X I R A T : Type 0} (same : I → I → Bool) (asking : Asking X I R A
 
 -- ---- the newest goal takes the answer over
 
-module _ {X F I R A T : Type 0} (is_yes is_no : R → Bool) (scripts : I → List (Reply R) → Request I R) (nodes : List (CacheNode I R)) (old new : List (StackEntry X I R A T × Run X F I R A T)) (step : PathKind) (goal : I) (entry : ProvisionalCacheEntry X I R A T) (a : AnswersNewest step 0 entry.encountered_overflow entry.heads old new) (h : AreJustified is_yes is_no nodes (runs_of old)) (ready : IsReady is_yes is_no scripts nodes (runs_of old) goal entry) where
+module _ {X F I R A T : Type 0} (says : Verdicts R) (scripts : I → List (Reply R) → Request I R) (nodes : List (CacheNode I R)) (old new : List (StackEntry X I R A T × Run X F I R A T)) (step : PathKind) (goal : I) (entry : ProvisionalCacheEntry X I R A T) (a : AnswersNewest step 0 entry.encountered_overflow entry.heads old new) (h : AreJustified says nodes (runs_of old)) (ready : IsReady says scripts nodes (runs_of old) goal entry) where
   -- its heads are goals, so that they lie below the place above the newest goal
   heads_lower : LieBelow (suc (length a.below)) entry.heads
   heads_lower head some =
@@ -70,11 +70,11 @@ module _ {X F I R A T : Type 0} (is_yes is_no : R → Bool) (scripts : I → Lis
       omega (arith, less, length-map old run_of, ap length a.was)
 
   -- it stays justified,
-  pub entry_taken_justified : AreJustified is_yes is_no nodes (runs_of new)
-  entry_taken_justified = answered_newest_is_justified is_yes is_no nodes step 0 entry.encountered_overflow entry.heads old new a heads_lower h
+  pub entry_taken_justified : AreJustified says nodes (runs_of new)
+  entry_taken_justified = answered_newest_is_justified says nodes step 0 entry.encountered_overflow entry.heads old new a heads_lower h
 
   -- and the answer fits its question
-  pub entry_fits : Asks (runs_of old) step goal → rank_of (path_kind_from (reverse (map (λ s. s.0) old)) (highest_depth entry.heads) step) ≡ rank_of entry.path_from_head → IsFit is_yes is_no nodes (runs_of new) (Answer entry.result) entry.node
+  pub entry_fits : Asks (runs_of old) step goal → rank_of (path_kind_from (reverse (map (λ s. s.0) old)) (highest_depth entry.heads) step) ≡ rank_of entry.path_from_head → IsFit says nodes (runs_of new) (Answer entry.result) entry.node
   entry_fits asks path =
-      reusable_fits is_yes is_no nodes old new step 0 entry.encountered_overflow entry.heads a h heads_lower goal asks (answer_of_entry entry) refl
-      (sym (path_kind_is is_yes is_no step (highest_depth entry.heads) old) ∙ path) ready.kept
+      reusable_fits says nodes old new step 0 entry.encountered_overflow entry.heads a h heads_lower goal asks (answer_of_entry entry) refl
+      (sym (path_kind_is says step (highest_depth entry.heads) old) ∙ path) ready.kept

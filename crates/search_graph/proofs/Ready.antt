@@ -4,7 +4,7 @@ use Rattle.std.specs.Option.{IfSome, option_map}
 use Rattle.std.proofs.lemmas.Bool.{cases_eq, false≢true}
 use Rattle.std.proofs.lemmas.List.{length-map, length-reverse}
 use Rattle.std.proofs.lemmas.List.Elements.{All-cons, All-nil, All-weaker}
-use Rattle.search_graph.specs.Below.{StackDepth, CycleHead, Heads, at_depth, highest, Request, Reply, StackEntry, ProvisionalCacheEntry, CacheNode, Lists, entries_at, Run}
+use Rattle.search_graph.specs.Below.{StackDepth, CycleHead, Heads, at_depth, highest, Request, Reply, StackEntry, ProvisionalCacheEntry, CacheNode, Lists, entries_at, Run, Verdicts}
 use Rattle.search_graph.specs.Words.{OpenRun, HaveTallies, ProvisionalAnswer, IsReusable, AreOnStack, IsHead, IsReady, AreReady, runs_of, run_of, Tally, counted, LieBelow}
 use Rattle.search_graph.proofs.HeadOrder.{ascends, at_here, at_later, highest_there}
 
@@ -42,7 +42,7 @@ is_below (o ∷ below) tallies head (inr is) = let less = is_below below tallies
 
 -- ---- what the heads of the entries are
 
-module _ {X I R A T : Type 0} (is_yes is_no : R → Bool) (scripts : I → List (Reply R) → Request I R) (nodes : List (CacheNode I R)) (goals : List (OpenRun I R)) (goal : I) (entry : ProvisionalCacheEntry X I R A T) (ready : IsReady is_yes is_no scripts nodes goals goal entry) where
+module _ {X I R A T : Type 0} (says : Verdicts R) (scripts : I → List (Reply R) → Request I R) (nodes : List (CacheNode I R)) (goals : List (OpenRun I R)) (goal : I) (entry : ProvisionalCacheEntry X I R A T) (ready : IsReady says scripts nodes goals goal entry) where
   -- the highest head of an entry is one of the goals
   pub highest_is_head : (top : StackDepth × CycleHead) → highest entry.heads ≡ Some top → IsHead goals top.0
   highest_is_head top is = ready.are_heads top.0 (subst IsSome (sym (highest_there entry.heads top (ascends entry.heads ready.rising) is)) refl)
@@ -62,37 +62,37 @@ module _ {X F I R A T : Type 0} where
       all_at_depths (λ head. head.0 < length (reverse (map (λ (s : StackEntry X I R A T × Run X F I R A T). s.0) below))) s.0.state.heads
       (λ head some. let less = tallies.0.tallied.lower head some in omega (arith, less, on_stack_many below, length-map below run_of))
 
-  module _ (is_yes is_no : R → Bool) (same : I → I → Bool) (scripts : I → List (Reply R) → Request I R) (nodes : List (CacheNode I R)) (lists : Lists I (ProvisionalCacheEntry X I R A T)) where
+  module _ (says : Verdicts R) (same : I → I → Bool) (scripts : I → List (Reply R) → Request I R) (nodes : List (CacheNode I R)) (lists : Lists I (ProvisionalCacheEntry X I R A T)) where
     -- the highest head of each entry is on the stack
-    pub are_on_stack : (items : List (StackEntry X I R A T × Run X F I R A T)) → HaveTallies (runs_of items) → AreReady is_yes is_no same scripts nodes (runs_of items) lists → AreOnStack same (reverse (map (λ s. s.0) items)) lists
+    pub are_on_stack : (items : List (StackEntry X I R A T × Run X F I R A T)) → HaveTallies (runs_of items) → AreReady says same scripts nodes (runs_of items) lists → AreOnStack same (reverse (map (λ s. s.0) items)) lists
     are_on_stack items tallies ready = λ goal.
-        All-weaker (IsReady is_yes is_no scripts nodes (runs_of items) goal) (λ (entry : ProvisionalCacheEntry X I R A T). IfSome (highest entry.heads) (λ head. head.0.0 < length (reverse (map (λ s. s.0) items))))
+        All-weaker (IsReady says scripts nodes (runs_of items) goal) (λ (entry : ProvisionalCacheEntry X I R A T). IfSome (highest entry.heads) (λ head. head.0.0 < length (reverse (map (λ s. s.0) items))))
         (λ entry one. at goal entry one (highest entry.heads) refl) (entries_at same lists goal) (ready goal)
       where
         at :
-            (goal : I) (entry : ProvisionalCacheEntry X I R A T) → IsReady is_yes is_no scripts nodes (runs_of items) goal entry
+            (goal : I) (entry : ProvisionalCacheEntry X I R A T) → IsReady says scripts nodes (runs_of items) goal entry
             → (o : Option (StackDepth × CycleHead)) → highest entry.heads ≡ o → IfSome o (λ head. head.0.0 < length (reverse (map (λ s. s.0) items)))
         at goal entry one None is = tt
         at goal entry one (Some top) is =
-            let less = is_below (runs_of items) tallies top.0 (highest_is_head is_yes is_no scripts nodes (runs_of items) goal entry one top is) in
+            let less = is_below (runs_of items) tallies top.0 (highest_is_head says scripts nodes (runs_of items) goal entry one top is) in
             omega (arith, less, on_stack_many items, length-map items run_of)
 
     -- each head of each entry is on the stack below the newest goal, or that goal
-    pub are_within : (s : StackEntry X I R A T × Run X F I R A T) (below : List (StackEntry X I R A T × Run X F I R A T)) → HaveTallies (runs_of (s ∷ below)) → AreReady is_yes is_no same scripts nodes (runs_of (s ∷ below)) lists → (goal : I) → All (λ (entry : ProvisionalCacheEntry X I R A T). All (λ (head : StackDepth × CycleHead). head.0.0 ≤ length (reverse (map (λ s. s.0) below))) entry.heads) (entries_at same lists goal)
+    pub are_within : (s : StackEntry X I R A T × Run X F I R A T) (below : List (StackEntry X I R A T × Run X F I R A T)) → HaveTallies (runs_of (s ∷ below)) → AreReady says same scripts nodes (runs_of (s ∷ below)) lists → (goal : I) → All (λ (entry : ProvisionalCacheEntry X I R A T). All (λ (head : StackDepth × CycleHead). head.0.0 ≤ length (reverse (map (λ s. s.0) below))) entry.heads) (entries_at same lists goal)
     are_within s below tallies ready = λ goal.
-        All-weaker (IsReady is_yes is_no scripts nodes (runs_of (s ∷ below)) goal) (λ (entry : ProvisionalCacheEntry X I R A T). All (λ (head : StackDepth × CycleHead). head.0.0 ≤ length (reverse (map (λ s. s.0) below))) entry.heads)
+        All-weaker (IsReady says scripts nodes (runs_of (s ∷ below)) goal) (λ (entry : ProvisionalCacheEntry X I R A T). All (λ (head : StackDepth × CycleHead). head.0.0 ≤ length (reverse (map (λ s. s.0) below))) entry.heads)
         (λ entry one.
         All-weaker (λ (head : StackDepth × CycleHead). head.0.0 < length (runs_of (s ∷ below))) (λ (head : StackDepth × CycleHead). head.0.0 ≤ length (reverse (map (λ s. s.0) below)))
-        (λ head less. omega (arith, less, on_stack_many below, length-map below run_of)) entry.heads (heads_below is_yes is_no scripts nodes (runs_of (s ∷ below)) goal entry one tallies))
+        (λ head less. omega (arith, less, on_stack_many below, length-map below run_of)) entry.heads (heads_below says scripts nodes (runs_of (s ∷ below)) goal entry one tallies))
         (entries_at same lists goal) (ready goal)
 
 -- ---- from goals to goals
 
-module _ {X I R A T : Type 0} (is_yes is_no : R → Bool) (same : I → I → Bool) (scripts : I → List (Reply R) → Request I R) where
+module _ {X I R A T : Type 0} (says : Verdicts R) (same : I → I → Bool) (scripts : I → List (Reply R) → Request I R) where
   -- what keeps each answer and each head keeps all entries ready
-  pub all_ready_carried : (nodes after : List (CacheNode I R)) (goals later : List (OpenRun I R)) (lists : Lists I (ProvisionalCacheEntry X I R A T)) → ((goal : I) (k : ProvisionalAnswer R) → IsReusable is_yes is_no nodes goals goal k → IsReusable is_yes is_no after later goal k) → ((head : StackDepth) → IsHead goals head → IsHead later head) → AreReady is_yes is_no same scripts nodes goals lists → AreReady is_yes is_no same scripts after later lists
+  pub all_ready_carried : (nodes after : List (CacheNode I R)) (goals later : List (OpenRun I R)) (lists : Lists I (ProvisionalCacheEntry X I R A T)) → ((goal : I) (k : ProvisionalAnswer R) → IsReusable says nodes goals goal k → IsReusable says after later goal k) → ((head : StackDepth) → IsHead goals head → IsHead later head) → AreReady says same scripts nodes goals lists → AreReady says same scripts after later lists
   all_ready_carried nodes after goals later lists kept heads ready = λ goal.
-      All-weaker (IsReady is_yes is_no scripts nodes goals goal) (IsReady is_yes is_no scripts after later goal)
+      All-weaker (IsReady says scripts nodes goals goal) (IsReady says scripts after later goal)
       (λ entry one. record {
         kept = kept goal _ one.kept;
         some = one.some;
@@ -103,5 +103,5 @@ module _ {X I R A T : Type 0} (is_yes is_no : R → Bool) (same : I → I → Bo
       (entries_at same lists goal) (ready goal)
 
   -- without entries there is nothing to show
-  pub none_ready : (nodes : List (CacheNode I R)) (goals : List (OpenRun I R)) → AreReady {X = X} {A = A} {T = T} is_yes is_no same scripts nodes goals []
-  none_ready nodes goals = λ goal. All-nil (IsReady is_yes is_no scripts nodes goals goal)
+  pub none_ready : (nodes : List (CacheNode I R)) (goals : List (OpenRun I R)) → AreReady {X = X} {A = A} {T = T} says same scripts nodes goals []
+  none_ready nodes goals = λ goal. All-nil (IsReady says scripts nodes goals goal)

@@ -3,7 +3,7 @@ use Rattle.std.proofs.Common.{◌≡◌, Bool, ◌&&◌, if◌then◌else◌, tr
 use Rattle.std.specs.List.{cons_option, filter_map}
 use Rattle.std.proofs.lemmas.List.Elements.{All-append, All-cons, All-head, All-nil, All-tail, All-weaker}
 use Rattle.open_graphs.specs.Graph as theory
-use Rattle.search_graph.specs.Below.{IsRising, NodeId, Request, Reply, StackEntry, ProvisionalCacheEntry, RebaseReason, CacheNode, Lists, entries_at, rebased, changed_for, verdict_of, Run, Next}
+use Rattle.search_graph.specs.Below.{IsRising, NodeId, Request, Reply, StackEntry, ProvisionalCacheEntry, RebaseReason, CacheNode, Lists, entries_at, rebased, changed_for, verdict_of, Run, Next, Verdicts}
 use Rattle.search_graph.specs.Words.{AreJustified, GivesAnswer, AreReady, HasReason, IsNewestUnranked, IsReady, final_answer, entries_for, rebased_for, run_of, runs_of}
 use Rattle.search_graph.proofs.Justified.{EndsWithNode}
 use Rattle.search_graph.proofs.LeftOver.{left_over_ready}
@@ -18,23 +18,23 @@ all_given P Q f gives (x ∷ xs) all = at (f x) refl (all_given P Q f gives xs (
     at None none rest = subst (λ o. All Q (cons_option o (filter_map f xs))) (sym none) rest
     at (Some y) some rest = subst (λ o. All Q (cons_option o (filter_map f xs))) (sym some) (All-cons Q y (filter_map f xs) (gives x y (All-head P x xs all) some) rest)
 
-module _ {X F I R A T : Type 0} (is_yes is_no : R → Bool) (same : I → I → Bool) (by_value : (x y : I) → same x y ≡ true → x ≡ y) (scripts : I → List (Reply R) → Request I R) (nodes after : List (CacheNode I R)) (s : StackEntry X I R A T × Run X F I R A T) (below : List (StackEntry X I R A T × Run X F I R A T)) (r : R) (target : Option NodeId) (h : AreJustified is_yes is_no nodes (runs_of (s ∷ below))) (rebases : EndsWithNode is_yes is_no nodes after (run_of s) (runs_of below) r target) (propagated : I → A → R) (overflow : I → R) (unsure : (goal : I) (info : A) → verdict_of is_yes is_no (propagated goal info) ≡ theory.Neither) (overflow_unsure : (goal : I) → verdict_of is_yes is_no (overflow goal) ≡ theory.Neither) (reason : Option (RebaseReason X I R A T)) (holds : HasReason is_yes is_no reason (s ∷ below) r) (rising : IsRising s.0.state.heads) (unranked : IsNewestUnranked scripts (s ∷ below)) (enabled : Bool) (old new : Lists I (ProvisionalCacheEntry X I R A T)) where
+module _ {X F I R A T : Type 0} (says : Verdicts R) (same : I → I → Bool) (by_value : (x y : I) → same x y ≡ true → x ≡ y) (scripts : I → List (Reply R) → Request I R) (nodes after : List (CacheNode I R)) (s : StackEntry X I R A T × Run X F I R A T) (below : List (StackEntry X I R A T × Run X F I R A T)) (r : R) (target : Option NodeId) (h : AreJustified says nodes (runs_of (s ∷ below))) (rebases : EndsWithNode says nodes after (run_of s) (runs_of below) r target) (propagated : I → A → R) (overflow : I → R) (unsure : (goal : I) (info : A) → verdict_of says (propagated goal info) ≡ theory.Neither) (overflow_unsure : (goal : I) → verdict_of says (overflow goal) ≡ theory.Neither) (reason : Option (RebaseReason X I R A T)) (holds : HasReason says reason (s ∷ below) r) (rising : IsRising s.0.state.heads) (unranked : IsNewestUnranked scripts (s ∷ below)) (enabled : Bool) (old new : Lists I (ProvisionalCacheEntry X I R A T)) where
   -- an entry of the goal that is left
   abbrev IsLeftOf : I → ProvisionalCacheEntry X I R A T → Type 0
-  IsLeftOf = IsLeft is_yes is_no scripts nodes after s below r target h rebases
+  IsLeftOf = IsLeft says scripts nodes after s below r target h rebases
 
   -- the entries that were there
-  old_left : (goal : I) (entries : List (ProvisionalCacheEntry X I R A T)) → All (IsReady is_yes is_no scripts nodes (runs_of (s ∷ below)) goal) entries → (why : Option (RebaseReason X I R A T)) → HasReason is_yes is_no why (s ∷ below) r → All (IsLeftOf goal) (rebased_for (propagated goal) (overflow goal) why (reverse (map (λ s. s.0) below)) s.0 entries)
+  old_left : (goal : I) (entries : List (ProvisionalCacheEntry X I R A T)) → All (IsReady says scripts nodes (runs_of (s ∷ below)) goal) entries → (why : Option (RebaseReason X I R A T)) → HasReason says why (s ∷ below) r → All (IsLeftOf goal) (rebased_for (propagated goal) (overflow goal) why (reverse (map (λ s. s.0) below)) s.0 entries)
   old_left goal entries ready None unused =
-      All-weaker (IsReady is_yes is_no scripts nodes (runs_of (s ∷ below)) goal) (IsLeftOf goal)
-      (λ entry is_ready. unused_is_left is_yes is_no scripts nodes after s below r target h rebases goal entry is_ready unused) entries ready
+      All-weaker (IsReady says scripts nodes (runs_of (s ∷ below)) goal) (IsLeftOf goal)
+      (λ entry is_ready. unused_is_left says scripts nodes after s below r target h rebases goal entry is_ready unused) entries ready
   old_left goal entries ready (Some why) is_true =
-      all_given (IsReady is_yes is_no scripts nodes (runs_of (s ∷ below)) goal) (IsLeftOf goal) (rebased (reverse (map (λ s. s.0) below)) s.0 (changed_for (propagated goal) (overflow goal) why))
-      (λ entry later is_ready is. rebased_is_left is_yes is_no scripts nodes after s below r target h rebases goal entry is_ready (propagated goal) (overflow goal) (unsure goal) (overflow_unsure goal) why is_true later is) entries ready
+      all_given (IsReady says scripts nodes (runs_of (s ∷ below)) goal) (IsLeftOf goal) (rebased (reverse (map (λ s. s.0) below)) s.0 (changed_for (propagated goal) (overflow goal) why))
+      (λ entry later is_ready is. rebased_is_left says scripts nodes after s below r target h rebases goal entry is_ready (propagated goal) (overflow goal) (unsure goal) (overflow_unsure goal) why is_true later is) entries ready
 
   -- and the newest goal's own answer
   own_left : (goal : I) (counted_by : Bool) → (counted_by ≡ true → s.0.input ≡ goal) → All (IsLeftOf goal) (if counted_by then entries_for (reverse (map (λ s. s.0) below)) s.0.step_kind_from_parent (final_answer s r target) else [])
-  own_left goal true is = own_pushed is_yes is_no scripts nodes after s below r target h rebases rising unranked goal (is refl)
+  own_left goal true is = own_pushed says scripts nodes after s below r target h rebases rising unranked goal (is refl)
   own_left goal false is = All-nil (IsLeftOf goal)
 
   its_goal : (goal : I) (on : Bool) → (on && same s.0.input goal) ≡ true → s.0.input ≡ goal
@@ -44,14 +44,14 @@ module _ {X F I R A T : Type 0} (is_yes is_no : R → Bool) (same : I → I → 
   -- the entries that are left, and the newest goal's own answer, are ready over the goals that are left
   pub rebased_ready :
       ((goal : I) → entries_at same new goal ≡ rebased_for (propagated goal) (overflow goal) reason (reverse (map (λ s. s.0) below)) s.0 (entries_at same old goal) ++ (if enabled && same s.0.input goal then entries_for (reverse (map (λ s. s.0) below)) s.0.step_kind_from_parent (final_answer s r target) else []))
-      → AreReady is_yes is_no same scripts nodes (runs_of (s ∷ below)) old
+      → AreReady says same scripts nodes (runs_of (s ∷ below)) old
       → (next : Next R) (later : List (StackEntry X I R A T × Run X F I R A T)) → GivesAnswer s.0.step_kind_from_parent (final_answer s r target) below next later
-      → AreReady is_yes is_no same scripts after (runs_of later) new
+      → AreReady says same scripts after (runs_of later) new
   rebased_ready entries_are ready next later given = λ goal.
       let left = rebased_for (propagated goal) (overflow goal) reason (reverse (map (λ s. s.0) below)) s.0 (entries_at same old goal) in
       let own = if enabled && same s.0.input goal then entries_for (reverse (map (λ s. s.0) below)) s.0.step_kind_from_parent (final_answer s r target) else [] in
-      subst (All (IsReady is_yes is_no scripts after (runs_of later) goal)) (sym (entries_are goal))
-      (All-weaker (IsLeftOf goal) (IsReady is_yes is_no scripts after (runs_of later) goal)
-      (left_over_ready is_yes is_no scripts after s.0.step_kind_from_parent (final_answer s r target) below later next (lower is_yes is_no scripts nodes after s below r target h rebases) given goal)
+      subst (All (IsReady says scripts after (runs_of later) goal)) (sym (entries_are goal))
+      (All-weaker (IsLeftOf goal) (IsReady says scripts after (runs_of later) goal)
+      (left_over_ready says scripts after s.0.step_kind_from_parent (final_answer s r target) below later next (lower says scripts nodes after s below r target h rebases) given goal)
       (left ++ own)
       (All-append (IsLeftOf goal) left own (old_left goal (entries_at same old goal) (ready goal) reason holds) (own_left goal (enabled && same s.0.input goal) (its_goal goal enabled))))

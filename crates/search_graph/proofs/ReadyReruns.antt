@@ -4,7 +4,7 @@ use Rattle.std.specs.List.{filter}
 use Rattle.std.specs.Option.{option_or}
 use Rattle.std.proofs.lemmas.List.{length-map}
 use Rattle.std.proofs.lemmas.List.Elements.{All-filter, filter_passes}
-use Rattle.search_graph.specs.Below.{UsesNo, StackDepth, CycleHead, Heads, at_depth, highest, head_shape, heads_shape, has_usages, no_usages, NodeId, Request, Reply, StackEntry, ProvisionalCacheEntry, CacheNode, open_node, Lists, entries_at, is_used_at, depends_on, Run, rerun_with, with_no_record, change_newest, RunRecord}
+use Rattle.search_graph.specs.Below.{UsesNo, StackDepth, CycleHead, Heads, at_depth, highest, head_shape, heads_shape, has_usages, no_usages, NodeId, Request, Reply, StackEntry, ProvisionalCacheEntry, CacheNode, open_node, Lists, entries_at, is_used_at, depends_on, Run, rerun_with, with_no_record, change_newest, RunRecord, Verdicts}
 use Rattle.search_graph.specs.Words.{OpenRun, AreJustified, IsHead, IsReady, AreReady, run_of, runs_of, HasResultNode, Tally, counted}
 use Rattle.search_graph.proofs.Finishing.{rebases}
 use Rattle.search_graph.proofs.HeadOrder.{Ascends, ascends, at_most_highest, highest_there, no_highest, same_depth}
@@ -53,7 +53,7 @@ counted_again place t head some = at (head.0 == place) some
 
 -- ---- the entries that are left
 
-module _ {I R : Type 0} (is_yes is_no : R → Bool) (scripts : I → List (Reply R) → Request I R) (nodes after : List (CacheNode I R)) (o : OpenRun I R) (below : List (OpenRun I R)) (h : AreJustified is_yes is_no nodes (o ∷ below)) (r : R) (target : Option NodeId) (s : EndsWithNode is_yes is_no nodes after o below r target) (own : NodeId) (at : own.0 ≡ length after) where
+module _ {I R : Type 0} (says : Verdicts R) (scripts : I → List (Reply R) → Request I R) (nodes after : List (CacheNode I R)) (o : OpenRun I R) (below : List (OpenRun I R)) (h : AreJustified says nodes (o ∷ below)) (r : R) (target : Option NodeId) (s : EndsWithNode says nodes after o below r target) (own : NodeId) (at : own.0 ≡ length after) where
   -- the goals, of which the newest is run again
   abbrev goals_again : List (OpenRun I R)
   goals_again = new_run o.goal o.step own (option_or target o.cycles_lead) (Some r) (tally_again o.tally) ∷ below
@@ -64,13 +64,13 @@ module _ {I R : Type 0} (is_yes is_no : R → Bool) (scripts : I → List (Reply
 
   module _ {X A T : Type 0} where
     -- an entry that doesn't rest on the goal may be used
-    ready_again : (goal : I) (entry : ProvisionalCacheEntry X I R A T) → not (depends_on (record { 0 = length below }) entry) ≡ true → IsReady is_yes is_no scripts nodes (o ∷ below) goal entry → IsReady is_yes is_no scripts (after ++ open_node o.goal ∷ []) goals_again goal entry
+    ready_again : (goal : I) (entry : ProvisionalCacheEntry X I R A T) → not (depends_on (record { 0 = length below }) entry) ≡ true → IsReady says scripts nodes (o ∷ below) goal entry → IsReady says scripts (after ++ open_node o.goal ∷ []) goals_again goal entry
     ready_again goal entry unused ready =
         let lower : (depth : StackDepth) → IsSome (at_depth entry.heads depth) → depth.0 ≤ length below = λ depth some.
         let less = is_below (o ∷ below) h.tallies depth (ready.are_heads depth some) in omega (arith, less) in
         let none : UsesNo (heads_shape entry.heads) (length below) = unused_there (length below) entry.heads ready.some (ascends entry.heads ready.rising) lower unused in
         record {
-          kept = reusable_rerun is_yes is_no nodes after o below h r target s own at goal _ (subst (UsesNo (heads_shape entry.heads)) (sym (stack_length is_yes is_no below)) none) ready.kept;
+          kept = reusable_rerun says nodes after o below h r target s own at goal _ (subst (UsesNo (heads_shape entry.heads)) (sym (stack_length says below)) none) ready.kept;
           some = ready.some;
           rising = ready.rising;
           are_heads = λ head some. head_again head (ready.are_heads head some);
@@ -78,13 +78,13 @@ module _ {I R : Type 0} (is_yes is_no : R → Bool) (scripts : I → List (Reply
         }
 
     -- and those are the ones that are left
-    pub all_ready_rerun : (same : I → I → Bool) (old new : Lists I (ProvisionalCacheEntry X I R A T)) → ((goal : I) → entries_at same new goal ≡ filter (λ entry. not (depends_on (record { 0 = length below }) entry)) (entries_at same old goal)) → AreReady is_yes is_no same scripts nodes (o ∷ below) old → AreReady is_yes is_no same scripts (after ++ open_node o.goal ∷ []) (new_run o.goal o.step own (option_or target o.cycles_lead) (Some r) (tally_again o.tally) ∷ below) new
+    pub all_ready_rerun : (same : I → I → Bool) (old new : Lists I (ProvisionalCacheEntry X I R A T)) → ((goal : I) → entries_at same new goal ≡ filter (λ entry. not (depends_on (record { 0 = length below }) entry)) (entries_at same old goal)) → AreReady says same scripts nodes (o ∷ below) old → AreReady says same scripts (after ++ open_node o.goal ∷ []) (new_run o.goal o.step own (option_or target o.cycles_lead) (Some r) (tally_again o.tally) ∷ below) new
     all_ready_rerun same old new cleared ready = λ goal.
         let stays : ProvisionalCacheEntry X I R A T → Bool = λ entry. not (depends_on (record { 0 = length below }) entry) in
-        subst (All (IsReady is_yes is_no scripts (after ++ open_node o.goal ∷ []) goals_again goal)) (sym (cleared goal))
+        subst (All (IsReady says scripts (after ++ open_node o.goal ∷ []) goals_again goal)) (sym (cleared goal))
         (λ k d less.
         ready_again goal _ (filter_passes stays (entries_at same old goal) k d less)
-        (All-filter stays (IsReady is_yes is_no scripts nodes (o ∷ below) goal) (entries_at same old goal) (ready goal) k d less))
+        (All-filter stays (IsReady says scripts nodes (o ∷ below) goal) (entries_at same old goal) (ready goal) k d less))
 
 -- ---- the same of the items
 
@@ -93,15 +93,15 @@ pub cleared_at : {X I R A T : Type 0} (same : I → I → Bool) (old new : Lists
 cleared_at same old new n m is left goal = subst (λ k. entries_at same new goal ≡ filter (λ entry. not (depends_on (record { 0 = k }) entry)) (entries_at same old goal)) is (left goal)
 
 -- the entries that are left may be used over the items, of which the newest is run again
-pub rerun_ready : {X F I R A T : Type 0} (is_yes is_no : R → Bool) (same : I → I → Bool) (scripts : I → List (Reply R) → Request I R) (lists cleared : Lists I (ProvisionalCacheEntry X I R A T)) (before after : List (CacheNode I R)) (old taken new : List (StackEntry X I R A T × Run X F I R A T)) (e : StackEntry X I R A T) (y : Run X F I R A T) (p : RunRecord I R) (r : R) (target : Option NodeId) (frame : F) (own : NodeId) → TakenFrom old e y p → taken ≡ change_newest with_no_record old → new ≡ change_newest (rerun_with r (option_or target e.state.node) frame own) taken → HasResultNode is_yes is_no before after e.state.provisional_result y.node e.state.node p r target → own.0 ≡ length after → AreJustified is_yes is_no before (runs_of old) → ((goal : I) → entries_at same cleared goal ≡ filter (λ entry. not (depends_on (record { 0 = length old - 1 }) entry)) (entries_at same lists goal)) → AreReady is_yes is_no same scripts before (runs_of old) lists → AreReady is_yes is_no same scripts (after ++ open_node e.input ∷ []) (runs_of new) cleared
-rerun_ready is_yes is_no same scripts lists cleared before after old taken new e y p r target frame own t is again ended at h left ready =
-    let was : AreJustified is_yes is_no before (runs_of ((e, t.run) ∷ t.below)) = subst (λ l. AreJustified is_yes is_no before (runs_of l)) t.was h in
-    let so : HasResultNode is_yes is_no before after e.state.provisional_result t.run.node e.state.node t.run.progress r target =
-    subst (λ n. HasResultNode is_yes is_no before after e.state.provisional_result n e.state.node t.run.progress r target) t.same_node
-    (subst (λ q. HasResultNode is_yes is_no before after e.state.provisional_result y.node e.state.node q r target) t.progress_is ended) in
+pub rerun_ready : {X F I R A T : Type 0} (says : Verdicts R) (same : I → I → Bool) (scripts : I → List (Reply R) → Request I R) (lists cleared : Lists I (ProvisionalCacheEntry X I R A T)) (before after : List (CacheNode I R)) (old taken new : List (StackEntry X I R A T × Run X F I R A T)) (e : StackEntry X I R A T) (y : Run X F I R A T) (p : RunRecord I R) (r : R) (target : Option NodeId) (frame : F) (own : NodeId) → TakenFrom old e y p → taken ≡ change_newest with_no_record old → new ≡ change_newest (rerun_with r (option_or target e.state.node) frame own) taken → HasResultNode says before after e.state.provisional_result y.node e.state.node p r target → own.0 ≡ length after → AreJustified says before (runs_of old) → ((goal : I) → entries_at same cleared goal ≡ filter (λ entry. not (depends_on (record { 0 = length old - 1 }) entry)) (entries_at same lists goal)) → AreReady says same scripts before (runs_of old) lists → AreReady says same scripts (after ++ open_node e.input ∷ []) (runs_of new) cleared
+rerun_ready says same scripts lists cleared before after old taken new e y p r target frame own t is again ended at h left ready =
+    let was : AreJustified says before (runs_of ((e, t.run) ∷ t.below)) = subst (λ l. AreJustified says before (runs_of l)) t.was h in
+    let so : HasResultNode says before after e.state.provisional_result t.run.node e.state.node t.run.progress r target =
+    subst (λ n. HasResultNode says before after e.state.provisional_result n e.state.node t.run.progress r target) t.same_node
+    (subst (λ q. HasResultNode says before after e.state.provisional_result y.node e.state.node q r target) t.progress_is ended) in
     let many : length old ≡ length ((e, t.run) ∷ t.below) = ap length t.was in
     let place : length old - 1 ≡ length (runs_of t.below) = omega (arith, many, length-map t.below run_of) in
-    subst (λ l. AreReady is_yes is_no same scripts (after ++ open_node e.input ∷ []) (runs_of l) cleared) (sym (again_is old taken new e t.run t.below r (option_or target e.state.node) frame own t.was is again))
-    (all_ready_rerun is_yes is_no scripts before after (run_of (e, t.run)) (runs_of t.below) was r target (rebases is_yes is_no before after e t.run t.below was r target so) own at same lists cleared
+    subst (λ l. AreReady says same scripts (after ++ open_node e.input ∷ []) (runs_of l) cleared) (sym (again_is old taken new e t.run t.below r (option_or target e.state.node) frame own t.was is again))
+    (all_ready_rerun says scripts before after (run_of (e, t.run)) (runs_of t.below) was r target (rebases says before after e t.run t.below was r target so) own at same lists cleared
     (cleared_at same lists cleared (length old - 1) (length (runs_of t.below)) place left)
-    (subst (λ l. AreReady is_yes is_no same scripts before (runs_of l) lists) t.was ready))
+    (subst (λ l. AreReady says same scripts before (runs_of l) lists) t.was ready))

@@ -5,7 +5,7 @@ use Rattle.std.proofs.lemmas.Bool.{cases_eq, false≢true}
 use Rattle.std.proofs.lemmas.List.{length-map, length-reverse}
 use Rattle.std.proofs.lemmas.List.Elements.{All-head, All-tail}
 use Rattle.open_graphs.specs.Graph as theory
-use Rattle.search_graph.specs.Below.{Entry, path_kind, ProvisionalUse, Use, stack_of, AreDepths, HasResult, InsertsEmpty, InsertsHeads, IsTakenOut, IsTrueReason, IsRebasable, IsLeftHead, RebasedBy, Stays, NotNeeded, Needed, StackDepth, PathsToNested, CycleHead, HeadUsages, Heads, at_depth, highest, IsRising, head_shape, heads_shape, rank_of, greater_kind, extended_by_each, path_of_no_step, has_usages, no_usages, StackEntry, ProvisionalCacheEntry, RebaseReason, CanBeRebased, but_highest, from_head, from_new_head, keeps_kinds, rebased, rebased_used, changed_for, with_used, with_unused, verdict_of, Run}
+use Rattle.search_graph.specs.Below.{Entry, path_kind, ProvisionalUse, Use, stack_of, AreDepths, HasResult, InsertsEmpty, InsertsHeads, IsTakenOut, IsTrueReason, IsRebasable, IsLeftHead, RebasedBy, Stays, NotNeeded, Needed, StackDepth, PathsToNested, CycleHead, HeadUsages, Heads, at_depth, highest, IsRising, head_shape, heads_shape, rank_of, greater_kind, extended_by_each, path_of_no_step, has_usages, no_usages, StackEntry, ProvisionalCacheEntry, RebaseReason, CanBeRebased, but_highest, from_head, from_new_head, keeps_kinds, rebased, rebased_used, changed_for, with_used, with_unused, verdict_of, Run, Verdicts}
 use Rattle.open_graphs.proofs.Rebased.{rebased_keeps_stored}
 use Rattle.cycle_heads.proofs.PathRanks.{greater_rank}
 use Rattle.search_parts.proofs.RebasedEntries.{is_used, is_unused}
@@ -38,7 +38,7 @@ highest_is heads top is = ap (λ (o : Option (StackDepth × CycleHead)). elim o 
 
 -- ---- the answer from its new highest head
 
-module _ {X I R A T : Type 0} (is_yes is_no : R → Bool) (stack : List (StackEntry X I R A T)) (done : StackEntry X I R A T) where
+module _ {X I R A T : Type 0} (says : Verdicts R) (stack : List (StackEntry X I R A T)) (done : StackEntry X I R A T) where
   -- an answer with the path from its highest head
   pub record HasNewHead (before after : ProvisionalCacheEntry X I R A T) : Type 0 where
     pub head : StackDepth × CycleHead
@@ -66,8 +66,8 @@ module _ {X I R A T : Type 0} (is_yes is_no : R → Bool) (stack : List (StackEn
 
     module _ (paths : CycleHead → PathsToNested) (usages : CycleHead → HeadUsages) (entry middle after : ProvisionalCacheEntry X I R A T) (head : StackDepth × CycleHead) (asc : Ascends entry.heads) (top_is : highest entry.heads ≡ Some head) (at : head.0.0 ≡ length below) where
       taken_out : HasNewHead middle after → middle.heads ≡ with_all paths usages done.state.heads (but_highest entry.heads) → middle.path_from_head ≡ entry.path_from_head
-          → (entry_shape is_yes is_no after).node ≡ (entry_shape is_yes is_no entry).node
-          → IsTakenOut below top (depths_of entry.heads) (depths_of done.state.heads) (entry_shape is_yes is_no entry) (entry_shape is_yes is_no after)
+          → (entry_shape says after).node ≡ (entry_shape says entry).node
+          → IsTakenOut below top (depths_of entry.heads) (depths_of done.state.heads) (entry_shape says entry) (entry_shape says after)
       taken_out new heads_are path_is node_is =
           let after_heads : after.heads ≡ with_all paths usages done.state.heads (but_highest entry.heads) = new.same_heads ∙ heads_are in
           let after_ascends : Ascends after.heads = subst Ascends (sym after_heads) (new_ascends paths usages entry.heads done.state.heads head (length below) asc top_is at lower_there) in
@@ -91,10 +91,10 @@ module _ {X I R A T : Type 0} (is_yes is_no : R → Bool) (stack : List (StackEn
 
     -- ---- what becomes of an answer
 
-    module _ (propagated : A → R) (overflow : R) (unsure : (info : A) → verdict_of is_yes is_no (propagated info) ≡ theory.Neither) (overflow_unsure : verdict_of is_yes is_no overflow ≡ theory.Neither) (reason : RebaseReason X I R A T) (entry after : ProvisionalCacheEntry X I R A T) where
+    module _ (propagated : A → R) (overflow : R) (unsure : (info : A) → verdict_of says (propagated info) ≡ theory.Neither) (overflow_unsure : verdict_of says overflow ≡ theory.Neither) (reason : RebaseReason X I R A T) (entry after : ProvisionalCacheEntry X I R A T) where
       -- the rule in the theory's words
       abbrev pub IsRebasedBy : ProvisionalCacheEntry X I R A T → Type 0
-      IsRebasedBy new = RebasedBy (reason_shape reason) below top (depths_of entry.heads) (depths_of done.state.heads) (heads_shape done.state.heads) (entry_shape is_yes is_no entry) (entry_shape is_yes is_no new)
+      IsRebasedBy new = RebasedBy (reason_shape reason) below top (depths_of entry.heads) (depths_of done.state.heads) (heads_shape done.state.heads) (entry_shape says entry) (entry_shape says new)
 
       module _ (head : StackDepth × CycleHead) (asc : Ascends entry.heads) (top_is : highest entry.heads ≡ Some head) where
         unused : head.0.0 ≡ length stack → has_usages head.1.usages ≡ false → from_new_head stack done (record entry { heads = with_unused done.state.heads (but_highest entry.heads) }) ≡ Some after → IsRebasedBy after
@@ -106,29 +106,29 @@ module _ {X I R A T : Type 0} (is_yes is_no : R → Bool) (stack : List (StackEn
             (taken_out (λ _. path_of_no_step) (λ _. no_usages) entry middle after head asc top_is here new refl refl (ap (λ o. elim o [ None ↦ 0 | Some n ↦ n.0 ]) new.same_node))
             (subst (λ h. (cycle : ℕ) → h.usages cycle ≡ 0) (sym (popped_head entry.heads done.state.heads head (length below) asc top_is here lower_there)) (is_zero head.1 none))
             (subst (λ h. InsertsEmpty (length below) (heads_shape entry.heads) (heads_shape h)) (sym new.same_heads) (inserts_empty entry.heads done.state.heads head (length below) asc top_is here lower_there))
-            (ap (verdict_of is_yes is_no) new.same_result)
+            (ap (verdict_of says) new.same_result)
 
-        used_changed : head.0.0 ≡ length stack → has_usages head.1.usages ≡ true → keeps_kinds stack done entry.path_from_head head.1.paths_to_head ≡ true → verdict_of is_yes is_no after.result ≢ theory.Neither
+        used_changed : head.0.0 ≡ length stack → has_usages head.1.usages ≡ true → keeps_kinds stack done entry.path_from_head head.1.paths_to_head ≡ true → verdict_of says after.result ≢ theory.Neither
             → (kept : ProvisionalCacheEntry X I R A T) → changed_for propagated overflow reason head.1.usages entry ≡ Some kept
             → from_new_head stack done (record kept { heads = with_used done.state.heads head.1.paths_to_head (but_highest kept.heads) }) ≡ Some after → IsRebasedBy after
         used_changed at some keeps definite kept rebases is =
             let here : head.0.0 ≡ length below = at ∙ many in
             let middle : ProvisionalCacheEntry X I R A T = record kept { heads = with_used done.state.heads head.1.paths_to_head (but_highest kept.heads) } in
             let new = new_head middle after is in
-            let left = is_changed is_yes is_no propagated overflow unsure overflow_unsure reason head.1 entry kept rebases in
+            let left = is_changed says propagated overflow unsure overflow_unsure reason head.1 entry kept rebases in
             let heads_are : middle.heads ≡ with_used done.state.heads head.1.paths_to_head (but_highest entry.heads) = ap (λ h. with_used done.state.heads head.1.paths_to_head (but_highest h)) left.same_heads in
             let popped = popped_head entry.heads done.state.heads head (length below) asc top_is here lower_there in
-            let entry_definite : verdict_of is_yes is_no kept.result ≢ theory.Neither = λ neither. definite (ap (verdict_of is_yes is_no) new.same_result ∙ neither) in
+            let entry_definite : verdict_of says kept.result ≢ theory.Neither = λ neither. definite (ap (verdict_of says) new.same_result ∙ neither) in
             Needed
             (taken_out (λ h. extended_by_each head.1.paths_to_head h.paths_to_head) (λ h. h.usages) entry middle after head asc top_is here new heads_are left.same_path
             (ap (λ o. elim o [ None ↦ 0 | Some n ↦ n.0 ]) (new.same_node ∙ left.same_node entry_definite)))
             (λ zeros. not_zero head.1 some (subst (λ h. (cycle : ℕ) → h.usages cycle ≡ 0) popped zeros))
             (passes_path_test stack done below top kinds entry.path_from_head (heads_shape entry.heads) head.1 popped keeps)
             (subst (λ h. InsertsHeads (length below) (heads_shape entry.heads) (heads_shape done.state.heads) (heads_shape h)) (sym (new.same_heads ∙ heads_are)) (inserts_heads entry.heads done.state.heads head (length below) asc top_is here lower_there))
-            (subst (λ h. HasResult (reason_shape reason) h (verdict_of is_yes is_no entry.result) (verdict_of is_yes is_no after.result)) (sym popped)
-            (subst (λ v. HasResult (reason_shape reason) (head_shape (Some head.1)) (verdict_of is_yes is_no entry.result) v) (sym (ap (verdict_of is_yes is_no) new.same_result)) left.result))
+            (subst (λ h. HasResult (reason_shape reason) h (verdict_of says entry.result) (verdict_of says after.result)) (sym popped)
+            (subst (λ v. HasResult (reason_shape reason) (head_shape (Some head.1)) (verdict_of says entry.result) v) (sym (ap (verdict_of says) new.same_result)) left.result))
 
-        used : head.0.0 ≡ length stack → has_usages head.1.usages ≡ true → verdict_of is_yes is_no after.result ≢ theory.Neither → rebased_used stack done (changed_for propagated overflow reason) entry head.1 ≡ Some after → IsRebasedBy after
+        used : head.0.0 ≡ length stack → has_usages head.1.usages ≡ true → verdict_of says after.result ≢ theory.Neither → rebased_used stack done (changed_for propagated overflow reason) entry head.1 ≡ Some after → IsRebasedBy after
         used at some definite is = tested (keeps_kinds stack done entry.path_from_head head.1.paths_to_head) refl is
           where
             rebases : keeps_kinds stack done entry.path_from_head head.1.paths_to_head ≡ true → (o : Option (ProvisionalCacheEntry X I R A T)) → changed_for propagated overflow reason head.1.usages entry ≡ o
@@ -141,7 +141,7 @@ module _ {X I R A T : Type 0} (is_yes is_no : R → Bool) (stack : List (StackEn
             tested false keeps is = absurd cc
             tested true keeps is = rebases keeps (changed_for propagated overflow reason head.1.usages entry) refl is
 
-        at_head : verdict_of is_yes is_no after.result ≢ theory.Neither → rebased stack done (changed_for propagated overflow reason) entry ≡ Some after → IsRebasedBy after
+        at_head : verdict_of says after.result ≢ theory.Neither → rebased stack done (changed_for propagated overflow reason) entry ≡ Some after → IsRebasedBy after
         at_head definite is = elim (cases_eq head.0.0 (length stack)) [
           | inl at ↦ at_place at (has_usages head.1.usages) refl
           | inr other ↦
@@ -156,7 +156,7 @@ module _ {X I R A T : Type 0} (is_yes is_no : R → Bool) (stack : List (StackEn
             at_place at false none = unused at none (sym (is_unused stack done (changed_for propagated overflow reason) entry head top_is at none) ∙ is)
 
       -- An answer with heads that rise, and a verdict after the rule, is what the theory's rule leaves of it.
-      pub rebased_shape : entry.heads ≢ [] → IsRising entry.heads → verdict_of is_yes is_no after.result ≢ theory.Neither → rebased stack done (changed_for propagated overflow reason) entry ≡ Some after → IsRebasedBy after
+      pub rebased_shape : entry.heads ≢ [] → IsRising entry.heads → verdict_of says after.result ≢ theory.Neither → rebased stack done (changed_for propagated overflow reason) entry ≡ Some after → IsRebasedBy after
       rebased_shape some rising definite is = at (highest entry.heads) refl
         where
           at : (o : Option (StackDepth × CycleHead)) → highest entry.heads ≡ o → IsRebasedBy after
@@ -165,7 +165,7 @@ module _ {X I R A T : Type 0} (is_yes is_no : R → Bool) (stack : List (StackEn
 
 -- ---- when the answer may be rebased
 
-module _ {X I R A T : Type 0} (is_yes is_no : R → Bool) (stack : List (StackEntry X I R A T)) (done : StackEntry X I R A T) (below : List Entry) (top : Entry) (many : length stack ≡ length below) (lower : LieBelow (length stack) done.state.heads) where
+module _ {X I R A T : Type 0} (says : Verdicts R) (stack : List (StackEntry X I R A T)) (done : StackEntry X I R A T) (below : List Entry) (top : Entry) (many : length stack ≡ length below) (lower : LieBelow (length stack) done.state.heads) where
   -- a depth at which a list has a head is that of one of its elements
   within_all : (limit : ℕ) (heads : Heads) → All (λ head. head.0.0 ≤ limit) heads → (depth : StackDepth) → IsSome (at_depth heads depth) → depth.0 ≤ limit
   within_all limit [] all depth some = absurd (false≢true some)
@@ -176,10 +176,10 @@ module _ {X I R A T : Type 0} (is_yes is_no : R → Bool) (stack : List (StackEn
 
   -- where the reason is true, an answer with heads that rise, on the stack or at the place above it, can be rebased in the theory's words
   pub rebasable : (reason : RebaseReason X I R A T) (verdict : theory.Verdict) (entry : ProvisionalCacheEntry X I R A T) → CanBeRebased (length stack) entry → IsRising entry.heads → IsTrueReason (reason_shape reason) verdict top
-      → IsRebasable (reason_shape reason) below top (depths_of entry.heads) (depths_of done.state.heads) verdict (heads_shape done.state.heads) (entry_shape is_yes is_no entry)
+      → IsRebasable (reason_shape reason) below top (depths_of entry.heads) (depths_of done.state.heads) verdict (heads_shape done.state.heads) (entry_shape says entry)
   rebasable reason verdict entry can rising is_true = at (highest entry.heads) refl
     where
-      at : (o : Option (StackDepth × CycleHead)) → highest entry.heads ≡ o → IsRebasable (reason_shape reason) below top (depths_of entry.heads) (depths_of done.state.heads) verdict (heads_shape done.state.heads) (entry_shape is_yes is_no entry)
+      at : (o : Option (StackDepth × CycleHead)) → highest entry.heads ≡ o → IsRebasable (reason_shape reason) below top (depths_of entry.heads) (depths_of done.state.heads) verdict (heads_shape done.state.heads) (entry_shape says entry)
       at None none = absurd (can.some (no_highest entry.heads none))
       at (Some head) top_is =
           let asc = ascends entry.heads rising in
@@ -196,42 +196,42 @@ module _ {X I R A T : Type 0} (is_yes is_no : R → Bool) (stack : List (StackEn
 -- ---- the goals under evaluation
 
 -- The rule for the goals of the driver: what is left of an answer when the newest goal is done and the others stay on the stack.
-module _ {X F I R A T : Type 0} (is_yes is_no : R → Bool) (goal : StackEntry X I R A T × Run X F I R A T) (goals : List (StackEntry X I R A T × Run X F I R A T)) where
+module _ {X F I R A T : Type 0} (says : Verdicts R) (goal : StackEntry X I R A T × Run X F I R A T) (goals : List (StackEntry X I R A T × Run X F I R A T)) where
   -- the goals below as the stack that the rule takes, and as the theory has them
   abbrev pub real_below : List (StackEntry X I R A T)
   real_below = reverse (map (λ s. s.0) goals)
 
   abbrev pub theory_below : List Entry
-  theory_below = stack_of (frames_of is_yes is_no (runs_of goals))
+  theory_below = stack_of (frames_of says (runs_of goals))
 
   pub same_length : length real_below ≡ length theory_below
-  same_length = length-reverse (map (λ s. s.0) goals) ∙ length-map goals (λ s. s.0) ∙ sym (stack_length is_yes is_no (runs_of goals) ∙ length-map goals run_of)
+  same_length = length-reverse (map (λ s. s.0) goals) ∙ length-map goals (λ s. s.0) ∙ sym (stack_length says (runs_of goals) ∙ length-map goals run_of)
 
-  pub goal_rebased : LieBelow (length goals) goal.0.state.heads → (propagated : A → R) (overflow : R) → ((info : A) → verdict_of is_yes is_no (propagated info) ≡ theory.Neither) → verdict_of is_yes is_no overflow ≡ theory.Neither
-      → (reason : RebaseReason X I R A T) (entry after : ProvisionalCacheEntry X I R A T) → entry.heads ≢ [] → IsRising entry.heads → verdict_of is_yes is_no after.result ≢ theory.Neither
+  pub goal_rebased : LieBelow (length goals) goal.0.state.heads → (propagated : A → R) (overflow : R) → ((info : A) → verdict_of says (propagated info) ≡ theory.Neither) → verdict_of says overflow ≡ theory.Neither
+      → (reason : RebaseReason X I R A T) (entry after : ProvisionalCacheEntry X I R A T) → entry.heads ≢ [] → IsRising entry.heads → verdict_of says after.result ≢ theory.Neither
       → rebased real_below goal.0 (changed_for propagated overflow reason) entry ≡ Some after
-      → RebasedBy (reason_shape reason) theory_below (frame_of is_yes is_no (run_of goal)).entry (depths_of entry.heads) (depths_of goal.0.state.heads) (heads_shape goal.0.state.heads) (entry_shape is_yes is_no entry) (entry_shape is_yes is_no after)
+      → RebasedBy (reason_shape reason) theory_below (frame_of says (run_of goal)).entry (depths_of entry.heads) (depths_of goal.0.state.heads) (heads_shape goal.0.state.heads) (entry_shape says entry) (entry_shape says after)
   goal_rebased lower propagated overflow unsure overflow_unsure reason entry after =
-      rebased_shape is_yes is_no real_below goal.0 theory_below (frame_of is_yes is_no (run_of goal)).entry same_length
-      (λ depth. path_kind_is is_yes is_no goal.0.step_kind_from_parent depth goals)
+      rebased_shape says real_below goal.0 theory_below (frame_of says (run_of goal)).entry same_length
+      (λ depth. path_kind_is says goal.0.step_kind_from_parent depth goals)
       (subst (λ n. LieBelow n goal.0.state.heads) (sym (length-reverse (map (λ s. s.0) goals) ∙ length-map goals (λ s. s.0))) lower)
       propagated overflow unsure overflow_unsure reason entry after
 
   -- the answer is stored over these entries
   abbrev pub IsStored : List theory.Node → List Entry → ProvisionalCacheEntry X I R A T → Type 0
-  IsStored nodes stack entry = ProvisionalUse nodes (entry_shape is_yes is_no entry).verdict stack (entry_shape is_yes is_no entry).highest (entry_shape is_yes is_no entry).path (entry_shape is_yes is_no entry).node (entry_shape is_yes is_no entry).heads
+  IsStored nodes stack entry = ProvisionalUse nodes (entry_shape says entry).verdict stack (entry_shape says entry).highest (entry_shape says entry).path (entry_shape says entry).node (entry_shape says entry).heads
 
   -- and it stays stored without the newest goal, where the reason is true of that goal's verdict, and its own answer may be used
-  pub goal_keeps_stored : LieBelow (length goals) goal.0.state.heads → (propagated : A → R) (overflow : R) → ((info : A) → verdict_of is_yes is_no (propagated info) ≡ theory.Neither) → verdict_of is_yes is_no overflow ≡ theory.Neither
+  pub goal_keeps_stored : LieBelow (length goals) goal.0.state.heads → (propagated : A → R) (overflow : R) → ((info : A) → verdict_of says (propagated info) ≡ theory.Neither) → verdict_of says overflow ≡ theory.Neither
       → (nodes : List theory.Node) (reason : RebaseReason X I R A T) (verdict : theory.Verdict) (entry after : ProvisionalCacheEntry X I R A T)
-      → (verdict ≢ theory.Neither → Use nodes verdict theory_below (path_kind theory_below (frame_of is_yes is_no (run_of goal)).entry.step) 0 (frame_of is_yes is_no (run_of goal)).entry.node (heads_shape goal.0.state.heads))
-      → IsTrueReason (reason_shape reason) verdict (frame_of is_yes is_no (run_of goal)).entry
-      → CanBeRebased (length real_below) entry → IsRising entry.heads → verdict_of is_yes is_no after.result ≢ theory.Neither
+      → (verdict ≢ theory.Neither → Use nodes verdict theory_below (path_kind theory_below (frame_of says (run_of goal)).entry.step) 0 (frame_of says (run_of goal)).entry.node (heads_shape goal.0.state.heads))
+      → IsTrueReason (reason_shape reason) verdict (frame_of says (run_of goal)).entry
+      → CanBeRebased (length real_below) entry → IsRising entry.heads → verdict_of says after.result ≢ theory.Neither
       → rebased real_below goal.0 (changed_for propagated overflow reason) entry ≡ Some after
-      → IsStored nodes (stack_of (frames_of is_yes is_no (runs_of (goal ∷ goals)))) entry → IsStored nodes theory_below after
+      → IsStored nodes (stack_of (frames_of says (runs_of (goal ∷ goals)))) entry → IsStored nodes theory_below after
   goal_keeps_stored lower propagated overflow unsure overflow_unsure nodes reason verdict entry after use_there is_true can rising definite is =
-      let top = (frame_of is_yes is_no (run_of goal)).entry in
+      let top = (frame_of says (run_of goal)).entry in
       let lower_there = subst (λ n. LieBelow n goal.0.state.heads) (sym (length-reverse (map (λ s. s.0) goals) ∙ length-map goals (λ s. s.0))) lower in
-      rebased_keeps_stored nodes (reason_shape reason) theory_below top (depths_of entry.heads) (depths_of goal.0.state.heads) verdict (heads_shape goal.0.state.heads) (entry_shape is_yes is_no entry) (entry_shape is_yes is_no after)
-      use_there (rebasable is_yes is_no real_below goal.0 theory_below top same_length lower_there reason verdict entry can rising is_true) definite
+      rebased_keeps_stored nodes (reason_shape reason) theory_below top (depths_of entry.heads) (depths_of goal.0.state.heads) verdict (heads_shape goal.0.state.heads) (entry_shape says entry) (entry_shape says after)
+      use_there (rebasable says real_below goal.0 theory_below top same_length lower_there reason verdict entry can rising is_true) definite
       (goal_rebased lower propagated overflow unsure overflow_unsure reason entry after can.some rising definite is)

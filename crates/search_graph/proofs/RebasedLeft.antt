@@ -4,7 +4,7 @@ use Rattle.std.proofs.Common.{◌≡◌, ◌≢◌, ◌≤◌, Bool, true, false
 use Rattle.std.specs.Option.{option_and_then}
 use Rattle.std.proofs.lemmas.Bool.{cases_eq}
 use Rattle.open_graphs.specs.Graph as theory
-use Rattle.search_graph.specs.Below.{IsLeftHead, StackDepth, PathsToNested, CycleHead, HeadUsages, at_depth, highest, IsRising, extended_by_each, path_of_no_step, has_usages, no_usages, other_usages, StackEntry, ProvisionalCacheEntry, RebaseReason, NoCycleUsages, Ambiguity, Overflow, ReachedFixpoint, but_highest, from_new_head, keeps_kinds, rebased, rebased_used, changed_for, with_unused, with_used, verdict_of}
+use Rattle.search_graph.specs.Below.{IsLeftHead, StackDepth, PathsToNested, CycleHead, HeadUsages, at_depth, highest, IsRising, extended_by_each, path_of_no_step, has_usages, no_usages, other_usages, StackEntry, ProvisionalCacheEntry, RebaseReason, NoCycleUsages, Ambiguity, Overflow, ReachedFixpoint, but_highest, from_new_head, keeps_kinds, rebased, rebased_used, changed_for, with_unused, with_used, verdict_of, Verdicts}
 use Rattle.search_parts.proofs.RebasedEntries.{is_used, is_unused}
 use Rattle.search_graph.specs.Words.{depths_of, LieBelow}
 use Rattle.search_graph.proofs.HeadOrder.{Ascends, ascends, at_most_highest, highest_there, no_highest}
@@ -12,18 +12,18 @@ use Rattle.search_graph.proofs.RebasedAnswers.{HasNewHead, new_head}
 use Rattle.search_graph.proofs.RebasedRising.{changed_heads_same}
 use Rattle.search_graph.proofs.RebasedShapes.{left_there, with_all}
 
-module _ {X I R A T : Type 0} (is_yes is_no : R → Bool) where
+module _ {X I R A T : Type 0} (says : Verdicts R) where
   -- the result and the node stay, or the result has no verdict and no node
   abbrev pub KeepsResult : (before after : ProvisionalCacheEntry X I R A T) → Type 0
-  KeepsResult before after = ((after.result ≡ before.result) × (after.node ≡ before.node)) ⊎ ((verdict_of is_yes is_no after.result ≡ theory.Neither) × (after.node ≡ None))
+  KeepsResult before after = ((after.result ≡ before.result) × (after.node ≡ before.node)) ⊎ ((verdict_of says after.result ≡ theory.Neither) × (after.node ≡ None))
 
   -- ---- what is changed
 
-  module _ (propagated : A → R) (overflow : R) (unsure : (info : A) → verdict_of is_yes is_no (propagated info) ≡ theory.Neither) (overflow_unsure : verdict_of is_yes is_no overflow ≡ theory.Neither) where
+  module _ (propagated : A → R) (overflow : R) (unsure : (info : A) → verdict_of says (propagated info) ≡ theory.Neither) (overflow_unsure : verdict_of says overflow ≡ theory.Neither) where
     unchanged : (before after : ProvisionalCacheEntry X I R A T) → Some before ≡ Some after → KeepsResult before after
     unchanged before after is = let same : before ≡ after = cc in subst (KeepsResult before) same (inl (refl, refl))
 
-    replaced : (before after : ProvisionalCacheEntry X I R A T) (result : R) → verdict_of is_yes is_no result ≡ theory.Neither → Some (record before { result = result; node = None }) ≡ Some after → KeepsResult before after
+    replaced : (before after : ProvisionalCacheEntry X I R A T) (result : R) → verdict_of says result ≡ theory.Neither → Some (record before { result = result; node = None }) ≡ Some after → KeepsResult before after
     replaced before after result neither is =
         let same : record before { result = result; node = None } ≡ after = cc in
         subst (KeepsResult before) same (inr (neither, refl))
@@ -48,14 +48,14 @@ module _ {X I R A T : Type 0} (is_yes is_no : R → Bool) where
       pub some : after.heads ≢ []
       pub left : (depth : StackDepth) → IsSome (at_depth after.heads depth) → IsLeftHead (length stack) (depths_of entry.heads) (depths_of done.state.heads) depth.0
 
-    from_middle : (entry middle after : ProvisionalCacheEntry X I R A T) → HasNewHead is_yes is_no stack done middle after → KeepsResult entry middle → KeepsResult entry after
+    from_middle : (entry middle after : ProvisionalCacheEntry X I R A T) → HasNewHead says stack done middle after → KeepsResult entry middle → KeepsResult entry after
     from_middle entry middle after new (inl same) = inl (new.same_result ∙ same.0, new.same_node ∙ same.1)
-    from_middle entry middle after new (inr gone) = inr (ap (verdict_of is_yes is_no) new.same_result ∙ gone.0, new.same_node ∙ gone.1)
+    from_middle entry middle after new (inr gone) = inr (ap (verdict_of says) new.same_result ∙ gone.0, new.same_node ∙ gone.1)
 
     has_heads : (entry : ProvisionalCacheEntry X I R A T) (head : StackDepth × CycleHead) → highest entry.heads ≡ Some head → entry.heads ≢ []
     has_heads entry head is none = let wrong : None ≡ Some head = ap highest (sym none) ∙ is in absurd cc
 
-    module _ (propagated : A → R) (overflow : R) (unsure : (info : A) → verdict_of is_yes is_no (propagated info) ≡ theory.Neither) (overflow_unsure : verdict_of is_yes is_no overflow ≡ theory.Neither) (reason : RebaseReason X I R A T) (lower : LieBelow (length stack) done.state.heads) (entry after : ProvisionalCacheEntry X I R A T) (rising : IsRising entry.heads) (within : (depth : StackDepth) → IsSome (at_depth entry.heads depth) → depth.0 ≤ length stack) where
+    module _ (propagated : A → R) (overflow : R) (unsure : (info : A) → verdict_of says (propagated info) ≡ theory.Neither) (overflow_unsure : verdict_of says overflow ≡ theory.Neither) (reason : RebaseReason X I R A T) (lower : LieBelow (length stack) done.state.heads) (entry after : ProvisionalCacheEntry X I R A T) (rising : IsRising entry.heads) (within : (depth : StackDepth) → IsSome (at_depth entry.heads depth) → depth.0 ≤ length stack) where
       module _ (head : StackDepth × CycleHead) (top_is : highest entry.heads ≡ Some head) where
         asc : Ascends entry.heads
         asc = ascends entry.heads rising
@@ -74,7 +74,7 @@ module _ {X I R A T : Type 0} (is_yes is_no : R → Bool) where
         -- the heads of the goal that is done take the place of that goal
         moved : (paths : CycleHead → PathsToNested) (usages : CycleHead → HeadUsages) (middle : ProvisionalCacheEntry X I R A T) → head.0.0 ≡ length stack → middle.heads ≡ with_all paths usages done.state.heads (but_highest entry.heads) → KeepsResult entry middle → from_new_head stack done middle ≡ Some after → LeavesEntry entry after
         moved paths usages middle at heads_are keeps is =
-            let new = new_head is_yes is_no stack done middle after is in
+            let new = new_head says stack done middle after is in
             record {
               outcome = from_middle entry middle after new keeps;
               some = has_heads after new.head new.is_highest;

@@ -5,7 +5,7 @@ use Rattle.std.specs.List.{list_all}
 use Rattle.std.proofs.lemmas.Bool.{cases_eq, eqb-true, false≢true}
 use Rattle.std.proofs.lemmas.Grind.{common_steps}
 use Rattle.open_graphs.specs.Graph as theory
-use Rattle.search_graph.specs.Below.{Entry, path_kind, PassesPathTest, IsZero, IsSingle, HasResult, StackDepth, PathKind, Inductive, Unknown, Coinductive, ForcedAmbiguity, CycleHead, HeadUsages, Heads, at_depth, count_at, head_shape, heads_shape, rank_of, greater_kind, kinds_in, count_of, has_usages, other_usages, StackEntry, ProvisionalCacheEntry, RebaseReason, NoCycleUsages, Ambiguity, Overflow, ReachedFixpoint, from_head, keeps_kind, keeps_kinds, changed_for, verdict_of}
+use Rattle.search_graph.specs.Below.{Entry, path_kind, PassesPathTest, IsZero, IsSingle, HasResult, StackDepth, PathKind, Inductive, Unknown, Coinductive, ForcedAmbiguity, CycleHead, HeadUsages, Heads, at_depth, count_at, head_shape, heads_shape, rank_of, greater_kind, kinds_in, count_of, has_usages, other_usages, StackEntry, ProvisionalCacheEntry, RebaseReason, NoCycleUsages, Ambiguity, Overflow, ReachedFixpoint, from_head, keeps_kind, keeps_kinds, changed_for, verdict_of, Verdicts}
 use Rattle.open_graphs.specs.Use as uses
 use Rattle.cycle_heads.proofs.Counts.{none_of_others, used_by_test}
 use Rattle.cycle_heads.proofs.HeadShapes.{count_at-of, path_of_rank}
@@ -121,23 +121,23 @@ is_single head kind none = none_but head.usages kind ((none_of_others head.usage
 
 -- ---- the result
 
-module _ {X I R A T : Type 0} (is_yes is_no : R → Bool) (propagated : A → R) (overflow : R) (unsure : (info : A) → verdict_of is_yes is_no (propagated info) ≡ theory.Neither) (overflow_unsure : verdict_of is_yes is_no overflow ≡ theory.Neither) where
+module _ {X I R A T : Type 0} (says : Verdicts R) (propagated : A → R) (overflow : R) (unsure : (info : A) → verdict_of says (propagated info) ≡ theory.Neither) (overflow_unsure : verdict_of says overflow ≡ theory.Neither) where
   -- What becomes of an answer that used this head: its result is the one that the theory has for the reason, the heads and the path
   -- stay, and so does the node of an answer with a verdict.
   pub record IsChanged (reason : RebaseReason X I R A T) (head : CycleHead) (before after : ProvisionalCacheEntry X I R A T) : Type 0 where
-    pub result : HasResult (reason_shape reason) (head_shape (Some head)) (verdict_of is_yes is_no before.result) (verdict_of is_yes is_no after.result)
+    pub result : HasResult (reason_shape reason) (head_shape (Some head)) (verdict_of says before.result) (verdict_of says after.result)
     pub same_heads : after.heads ≡ before.heads
     pub same_path : after.path_from_head ≡ before.path_from_head
-    pub same_node : verdict_of is_yes is_no after.result ≢ theory.Neither → after.node ≡ before.node
+    pub same_node : verdict_of says after.result ≢ theory.Neither → after.node ≡ before.node
 
-  is_unchanged : (reason : RebaseReason X I R A T) (head : CycleHead) (before after : ProvisionalCacheEntry X I R A T) → HasResult (reason_shape reason) (head_shape (Some head)) (verdict_of is_yes is_no before.result) (verdict_of is_yes is_no before.result)
+  is_unchanged : (reason : RebaseReason X I R A T) (head : CycleHead) (before after : ProvisionalCacheEntry X I R A T) → HasResult (reason_shape reason) (head_shape (Some head)) (verdict_of says before.result) (verdict_of says before.result)
       → Some before ≡ Some after → IsChanged reason head before after
   is_unchanged reason head before after result is =
       let same : before ≡ after = cc in
       subst (IsChanged reason head before) same (record { result = result; same_heads = refl; same_path = refl; same_node = λ definite. refl })
 
-  replaced : (reason : RebaseReason X I R A T) (head : CycleHead) (before after : ProvisionalCacheEntry X I R A T) (result : R) → verdict_of is_yes is_no result ≡ theory.Neither
-      → HasResult (reason_shape reason) (head_shape (Some head)) (verdict_of is_yes is_no before.result) (verdict_of is_yes is_no result)
+  replaced : (reason : RebaseReason X I R A T) (head : CycleHead) (before after : ProvisionalCacheEntry X I R A T) (result : R) → verdict_of says result ≡ theory.Neither
+      → HasResult (reason_shape reason) (head_shape (Some head)) (verdict_of says before.result) (verdict_of says result)
       → Some (record before { result = result; node = None }) ≡ Some after → IsChanged reason head before after
   replaced reason head before after result neither has is =
       let same : record before { result = result; node = None } ≡ after = cc in

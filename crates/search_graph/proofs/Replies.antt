@@ -2,7 +2,7 @@
 use Rattle.std.proofs.Common.{◌≡◌, ◌≢◌, ℕ, Bool, true, false, IsTrue, if◌then◌else◌, ◌↔◌, List, [], ◌∷◌, length, Option, None, Some, IsSome, refl, sym, ap, ◌∙◌, subst, inl, inr}
 use Rattle.std.specs.Option.{IsSomeAnd}
 use Rattle.open_graphs.specs.Graph as theory
-use Rattle.search_graph.specs.Below.{DelegateOf, CxOf, PathKind, Verdict, Yes, No, Neither, NodeId, Request, Evaluate, EnterCandidate, FinishCandidate, Ignore, Done, Reply, Begin, Answer, Noted, StackEntry, CacheNode, verdict_of, Fits, IsFitting, request_after, Run, Received, DefiniteAnswer, RunRecord, received, answered, answers_after, IsReplySorted, KeepsAnswer, open_number, edge_to, IsVerdict}
+use Rattle.search_graph.specs.Below.{DelegateOf, CxOf, PathKind, Verdict, Yes, No, Neither, NodeId, Request, Evaluate, EnterCandidate, FinishCandidate, Ignore, Done, Reply, Begin, Answer, Noted, StackEntry, CacheNode, verdict_of, Fits, IsFitting, request_after, Run, Received, DefiniteAnswer, RunRecord, received, answered, answers_after, IsReplySorted, KeepsAnswer, open_number, edge_to, IsVerdict, Verdicts, verdicts}
 use Rattle.search_graph.specs.Words.{verdict_shape, AreJustified, MayAnswer, IsFit, run_of, runs_of, Call, IsWaiting}
 use Rattle.search_graph.proofs.Justified.{answered_is_justified}
 use Rattle.search_graph.proofs.Moves.{can_step_record}
@@ -32,10 +32,10 @@ no_is_not_yes : No ≡ Yes → ⊥
 no_is_not_yes e = cc
 
 -- the verdict of an answer in the theory's words
-pub verdict_is : {R : Type 0} (is_yes is_no : R → Bool) (r : R) (v : Verdict) → ((v ≡ Yes) ↔ IsTrue (is_yes r)) → ((v ≡ No) ↔ IsTrue (is_no r)) → v ≢ Neither → verdict_shape v ≡ verdict_of is_yes is_no r
-verdict_is is_yes is_no r Yes holds fails d = sym (yes_at (is_yes r) (is_no r) (holds.0 refl))
-verdict_is is_yes is_no r No holds fails d = sym (no_at (is_yes r) (is_no r) (λ y. no_is_not_yes (holds.1 y)) (fails.0 refl))
-verdict_is is_yes is_no r Neither holds fails d = absurd (d refl)
+pub verdict_is : {R : Type 0} (says : Verdicts R) (r : R) (v : Verdict) → ((v ≡ Yes) ↔ IsTrue (says.is_yes r)) → ((v ≡ No) ↔ IsTrue (says.is_no r)) → v ≢ Neither → verdict_shape v ≡ verdict_of says r
+verdict_is says r Yes holds fails d = sym (yes_at (says.is_yes r) (says.is_no r) (holds.0 refl))
+verdict_is says r No holds fails d = sym (no_at (says.is_yes r) (says.is_no r) (λ y. no_is_not_yes (holds.1 y)) (fails.0 refl))
+verdict_is says r Neither holds fails d = absurd (d refl)
 
 is_some_of : {A : Type 0} (o : Option A) (P : A → Type 0) → IsSomeAnd o P → IsSome o
 is_some_of None P h = absurd h
@@ -78,7 +78,7 @@ module _ {D C V P F I R A T : Type 0} (G : DelegateOf D C V P F I R A T) (X : Cx
   abbrev Goals : Type 0
   Goals = List (StackEntry C I R A T × Run C F I R A T)
 
-  sorted_at : (s : StackEntry C I R A T × Run C F I R A T) (below : Goals) (earlier : List (Reply R)) (reply : Reply R) (node : Option NodeId) (v : Verdict) → s.1.progress.request ≡ request_after (G.script cx s.0.input) earlier → IsFitting (G.script cx s.0.input) (reply ∷ earlier) → IsFit X.is_yes X.is_no nodes (runs_of (s ∷ below)) reply node → IsVerdict X.is_yes X.is_no reply v → IsReplySorted X.is_yes X.is_no reply v node
+  sorted_at : (s : StackEntry C I R A T × Run C F I R A T) (below : Goals) (earlier : List (Reply R)) (reply : Reply R) (node : Option NodeId) (v : Verdict) → s.1.progress.request ≡ request_after (G.script cx s.0.input) earlier → IsFitting (G.script cx s.0.input) (reply ∷ earlier) → IsFit (verdicts X) nodes (runs_of (s ∷ below)) reply node → IsVerdict (verdicts X) reply v → IsReplySorted (verdicts X) reply v node
   sorted_at s below earlier Begin node v request fits fit verdict = tt
   sorted_at s below earlier Noted node v request fits fit verdict = tt
   sorted_at s below earlier (Answer r) node v request fits fit verdict =
@@ -92,7 +92,7 @@ module _ {D C V P F I R A T : Type 0} (G : DelegateOf D C V P F I R A T) (X : Cx
       }
 
   -- a reply that fits the goals is sorted
-  pub replies_sorted : (call : Call I) (given : Received R) (goals : Goals) (starts : ℕ) (met : Bool) → IsWaiting G X cx call given.reply goals starts met → IsFit X.is_yes X.is_no nodes (runs_of goals) given.reply given.node → (v : Verdict) → IsVerdict X.is_yes X.is_no given.reply v → IsReplySorted X.is_yes X.is_no given.reply v given.node
+  pub replies_sorted : (call : Call I) (given : Received R) (goals : Goals) (starts : ℕ) (met : Bool) → IsWaiting G X cx call given.reply goals starts met → IsFit (verdicts X) nodes (runs_of goals) given.reply given.node → (v : Verdict) → IsVerdict (verdicts X) given.reply v → IsReplySorted (verdicts X) given.reply v given.node
   replies_sorted call given [] starts met h fit v is = absurd h.waits.mirror
   replies_sorted call given (s ∷ below) starts met h fit v is =
       let can = can_step_record G X cx call given.reply s below starts met h in
@@ -101,20 +101,20 @@ module _ {D C V P F I R A T : Type 0} (G : DelegateOf D C V P F I R A T) (X : Cx
   -- ---- the step keeps the goals justified
 
   -- an answer of the theory's verdict
-  answered_at : (entry : StackEntry C I R A T) (run : Run C F I R A T) (r : R) (node : Option NodeId) (v : Verdict) (below : Goals) → v ≢ Neither → IsVerdict X.is_yes X.is_no (Answer r) v → IsFit X.is_yes X.is_no nodes (runs_of ((entry, run) ∷ below)) (Answer r) node → AreJustified X.is_yes X.is_no nodes (runs_of ((entry, run) ∷ below)) → (answers : List (DefiniteAnswer I)) → KeepsAnswer run.progress v node answers → AreJustified X.is_yes X.is_no nodes (record (run_of (entry, run)) { answers = answers } ∷ runs_of below)
+  answered_at : (entry : StackEntry C I R A T) (run : Run C F I R A T) (r : R) (node : Option NodeId) (v : Verdict) (below : Goals) → v ≢ Neither → IsVerdict (verdicts X) (Answer r) v → IsFit (verdicts X) nodes (runs_of ((entry, run) ∷ below)) (Answer r) node → AreJustified (verdicts X) nodes (runs_of ((entry, run) ∷ below)) → (answers : List (DefiniteAnswer I)) → KeepsAnswer run.progress v node answers → AreJustified (verdicts X) nodes (record (run_of (entry, run)) { answers = answers } ∷ runs_of below)
   answered_at entry run r node v below definite verdict fit h answers keeps =
-      let same : verdict_shape v ≡ verdict_of X.is_yes X.is_no r = verdict_is X.is_yes X.is_no r v verdict.0 verdict.1 definite in
-      let never : verdict_of X.is_yes X.is_no r ≢ theory.Neither = λ e. in_theory_definite v definite (same ∙ e) in
-      let may = subst (λ (o : Option NodeId). IsSomeAnd o (λ a. MayAnswer X.is_yes X.is_no nodes (run_of (entry, run)) (runs_of below) (verdict_of X.is_yes X.is_no r) keeps.kind keeps.input a.0)) keeps.target_is (fit r keeps.kind keeps.input refl keeps.was never) in
-      subst (λ (l : List (DefiniteAnswer I)). AreJustified X.is_yes X.is_no nodes (record (run_of (entry, run)) { answers = l } ∷ runs_of below)) (sym keeps.kept)
-      (answered_is_justified X.is_yes X.is_no nodes (record { edge = edge_to keeps.kind keeps.input keeps.node; verdict = v; candidate = open_number run.progress }) (run_of (entry, run)) (runs_of below)
+      let same : verdict_shape v ≡ verdict_of (verdicts X) r = verdict_is (verdicts X) r v verdict.0 verdict.1 definite in
+      let never : verdict_of (verdicts X) r ≢ theory.Neither = λ e. in_theory_definite v definite (same ∙ e) in
+      let may = subst (λ (o : Option NodeId). IsSomeAnd o (λ a. MayAnswer (verdicts X) nodes (run_of (entry, run)) (runs_of below) (verdict_of (verdicts X) r) keeps.kind keeps.input a.0)) keeps.target_is (fit r keeps.kind keeps.input refl keeps.was never) in
+      subst (λ (l : List (DefiniteAnswer I)). AreJustified (verdicts X) nodes (record (run_of (entry, run)) { answers = l } ∷ runs_of below)) (sym keeps.kept)
+      (answered_is_justified (verdicts X) nodes (record { edge = edge_to keeps.kind keeps.input keeps.node; verdict = v; candidate = open_number run.progress }) (run_of (entry, run)) (runs_of below)
       (ap (λ q. if (answered run.progress q Neither None).is_open then Some (length (answered run.progress q Neither None).ignored) else None) (sym keeps.was))
-      (subst (λ w. MayAnswer X.is_yes X.is_no nodes (run_of (entry, run)) (runs_of below) w keeps.kind keeps.input keeps.node.0) (sym same) may) h)
+      (subst (λ w. MayAnswer (verdicts X) nodes (run_of (entry, run)) (runs_of below) w keeps.kind keeps.input keeps.node.0) (sym same) may) h)
 
-  same_answers : (entry : StackEntry C I R A T) (run : Run C F I R A T) (below : Goals) (answers : List (DefiniteAnswer I)) → answers ≡ run.progress.answers → AreJustified X.is_yes X.is_no nodes (runs_of ((entry, run) ∷ below)) → AreJustified X.is_yes X.is_no nodes (record (run_of (entry, run)) { answers = answers } ∷ runs_of below)
-  same_answers entry run below answers is h = subst (λ (l : List (DefiniteAnswer I)). AreJustified X.is_yes X.is_no nodes (record (run_of (entry, run)) { answers = l } ∷ runs_of below)) (sym is) h
+  same_answers : (entry : StackEntry C I R A T) (run : Run C F I R A T) (below : Goals) (answers : List (DefiniteAnswer I)) → answers ≡ run.progress.answers → AreJustified (verdicts X) nodes (runs_of ((entry, run) ∷ below)) → AreJustified (verdicts X) nodes (record (run_of (entry, run)) { answers = answers } ∷ runs_of below)
+  same_answers entry run below answers is h = subst (λ (l : List (DefiniteAnswer I)). AreJustified (verdicts X) nodes (record (run_of (entry, run)) { answers = l } ∷ runs_of below)) (sym is) h
 
-  definite_at_reply : (entry : StackEntry C I R A T) (run : Run C F I R A T) (reply : Reply R) (node : Option NodeId) (v : Verdict) (below : Goals) → v ≢ Neither → IsVerdict X.is_yes X.is_no reply v → IsFit X.is_yes X.is_no nodes (runs_of ((entry, run) ∷ below)) reply node → AreJustified X.is_yes X.is_no nodes (runs_of ((entry, run) ∷ below)) → AreJustified X.is_yes X.is_no nodes (record (run_of (entry, run)) { answers = (received run.progress reply v node).answers } ∷ runs_of below)
+  definite_at_reply : (entry : StackEntry C I R A T) (run : Run C F I R A T) (reply : Reply R) (node : Option NodeId) (v : Verdict) (below : Goals) → v ≢ Neither → IsVerdict (verdicts X) reply v → IsFit (verdicts X) nodes (runs_of ((entry, run) ∷ below)) reply node → AreJustified (verdicts X) nodes (runs_of ((entry, run) ∷ below)) → AreJustified (verdicts X) nodes (record (run_of (entry, run)) { answers = (received run.progress reply v node).answers } ∷ runs_of below)
   definite_at_reply entry run Begin node v below definite verdict fit h = absurd (definite verdict)
   definite_at_reply entry run Noted node v below definite verdict fit h = absurd (definite verdict)
   definite_at_reply entry run (Answer r) node v below definite verdict fit h = elim (answers_received run.progress v (Answer r) node) [
@@ -123,7 +123,7 @@ module _ {D C V P F I R A T : Type 0} (G : DelegateOf D C V P F I R A T) (X : Cx
   ]
 
   -- the reply is on record
-  pub replied_is_justified : (entry : StackEntry C I R A T) (run : Run C F I R A T) (reply : Reply R) (node : Option NodeId) (v : Verdict) (below : Goals) → IsVerdict X.is_yes X.is_no reply v → IsFit X.is_yes X.is_no nodes (runs_of ((entry, run) ∷ below)) reply node → AreJustified X.is_yes X.is_no nodes (runs_of ((entry, run) ∷ below)) → AreJustified X.is_yes X.is_no nodes (record (run_of (entry, run)) { answers = (received run.progress reply v node).answers } ∷ runs_of below)
+  pub replied_is_justified : (entry : StackEntry C I R A T) (run : Run C F I R A T) (reply : Reply R) (node : Option NodeId) (v : Verdict) (below : Goals) → IsVerdict (verdicts X) reply v → IsFit (verdicts X) nodes (runs_of ((entry, run) ∷ below)) reply node → AreJustified (verdicts X) nodes (runs_of ((entry, run) ∷ below)) → AreJustified (verdicts X) nodes (record (run_of (entry, run)) { answers = (received run.progress reply v node).answers } ∷ runs_of below)
   replied_is_justified entry run reply node Yes below verdict fit h = definite_at_reply entry run reply node Yes below (λ e. yes_is_definite e) verdict fit h
   replied_is_justified entry run reply node No below verdict fit h = definite_at_reply entry run reply node No below (λ e. no_is_definite e) verdict fit h
   replied_is_justified entry run reply node Neither below verdict fit h = same_answers entry run below (received run.progress reply Neither node).answers (unanswered run.progress run.progress.request node) h

@@ -1,6 +1,6 @@
 -- A stored result answers the newest goal's question, or the call.
 use Rattle.std.proofs.Common.{◌≡◌, ℕ, ◌<◌, ◌≤◌, ◌||◌, Bool, true, false, List, ◌∷◌, Some, None, refl, sym, ap, ◌∙◌, subst, arith}
-use Rattle.search_graph.specs.Below.{DelegateOf, CxOf, Evaluate, Answer, PathKind, WithOverflow, StoredResult, StackEntry, IsDefinite, Hit, NestedPaths, IsPlainTo, Store, stored_at, Outcome, IsAllowed, IsSafeOutcome, with_replies, TakesReply, Received, Run, with_depth, with_nested_goals, is_in_cycle, Stood}
+use Rattle.search_graph.specs.Below.{DelegateOf, CxOf, Evaluate, Answer, PathKind, WithOverflow, StoredResult, StackEntry, IsDefinite, Hit, NestedPaths, IsPlainTo, Store, stored_at, Outcome, IsAllowed, IsSafeOutcome, with_replies, TakesReply, Received, Run, with_depth, with_nested_goals, is_in_cycle, Stood, verdicts}
 use Rattle.evaluations.specs.Frames.{answered}
 use Rattle.evaluations.proofs.Mirrors.{answered_waits}
 use Rattle.search_graph.specs.Words.{Call, runs, limits, bound, IsCounted, Begins, KeepsStore, seen, HasAsked, GoesOn, HasEnded, IsUsable, UsesStored, AreDefinite, HaveNoOverflow}
@@ -30,8 +30,8 @@ module _ {D C V P F I R A T : Type 0} (G : DelegateOf D C V P F I R A T) (X : Cx
     met_none : HaveNoOverflow same results → hit.encountered_overflow ≡ false
     met_none none = met_none_at hit.encountered_overflow refl none
 
-    hit_is_definite : AreDefinite X.is_yes X.is_no same results → IsDefinite X.is_yes X.is_no hit.result
-    hit_is_definite all = subst (IsDefinite X.is_yes X.is_no) u.result_is (all goal u.place u.stored u.is_stored)
+    hit_is_definite : AreDefinite (verdicts X) same results → IsDefinite (verdicts X) hit.result
+    hit_is_definite all = subst (IsDefinite (verdicts X)) u.result_is (all goal u.place u.stored u.is_stored)
 
   in_cycle_still : (b : Bool) → (b || false) ≡ b
   in_cycle_still true = refl
@@ -60,7 +60,7 @@ module _ {D C V P F I R A T : Type 0} (G : DelegateOf D C V P F I R A T) (X : Cx
           waits = w.0;
           keeps = h.keeps;
           decided = λ decisive unmet. (
-            changed_decided X.is_yes X.is_no (t.entry, t.run) (record t.entry { state = with_nested_goals (with_depth t.entry.state uses.hit.required_depth uses.hit.encountered_overflow) t.nested }, t.run) t.below refl
+            changed_decided (verdicts X) (t.entry, t.run) (record t.entry { state = with_nested_goals (with_depth t.entry.state uses.hit.required_depth uses.hit.encountered_overflow) t.nested }, t.run) t.below refl
                 (λ here. record { replies = here.replies; provisional = here.provisional }) (was.decided decisive unmet),
             hit_is_definite goal depth uses.hit uses.usable (keeps.definite decisive unmet),
           );

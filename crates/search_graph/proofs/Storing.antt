@@ -1,7 +1,7 @@
 -- What storing the answer of a goal that is done changes, and why it may fail.
 use Rattle.std.proofs.Common.{◌≡◌, ℕ, Bool, true, false, if◌then◌else◌, List, [], Option, None, Some, Result, Ok, Err, IfErr, OnOk, OnErr, option_map, refl, sym, ap, ◌∙◌, subst}
 use Rattle.std.specs.Cmp.{IsEquivalence}
-use Rattle.search_graph.specs.Below.{DelegateOf, CxOf, Fault, Conflict, Memory, NodeId, Place, Success, WithOverflow, StoredResult, EvaluationResult, Cache, AreRuns, HasGraph, Question, Overlap, Store, stored_at, place_of, stored_from, AnswersStoring, Puts}
+use Rattle.search_graph.specs.Below.{DelegateOf, CxOf, Fault, Conflict, Memory, NodeId, Place, Success, WithOverflow, StoredResult, EvaluationResult, Cache, AreRuns, HasGraph, Question, Overlap, Store, stored_at, place_of, stored_from, AnswersStoring, Puts, verdicts}
 use Rattle.search_parts.proofs.Bridge.{KeepsRule}
 use Rattle.search_graph.specs.Words.{ComesTo, IsCaused, OutOfMemory, OtherResult, IsStoredAt, StoresAnswer, Put, MayPut, Same, WithResult}
 use Rattle.search_graph.specs.Results.{NotStored}
@@ -31,8 +31,8 @@ success_at depth false is = refl
 pub success_met_none : {X I R A T : Type 0} (answer : EvaluationResult X I R A T) → place_of answer ≡ Success → answer.encountered_overflow ≡ false
 success_met_none answer is = success_at answer.required_depth answer.encountered_overflow is
 
-module _ {D C V P F I R A T : Type 0} (G : DelegateOf D C V P F I R A T) (X : CxOf C I R A T) (same : I → I → Bool) (cache : Cache C I R A T) (runs_are : AreRuns X.is_yes X.is_no (G.script cache.cx) cache.nodes) (clash : (goal : I) (held failed : List (Question I)) → X.proves cache.cx goal held → X.refutes cache.cx goal failed → Overlap held failed) (proves : KeepsRule X.is_yes (G.script cache.cx) (X.proves cache.cx)) (refutes : KeepsRule X.is_no (G.script cache.cx) (X.refutes cache.cx)) (one : (r : R) → X.is_yes r ≡ true → X.is_no r ≡ false) (equal : R → R → Bool) (laws : IsEquivalence equal) where
-  conflict_at : (goal : I) (place : Place) (found : R) (node : Option NodeId) → HasGraph X.is_yes X.is_no cache.nodes goal found node → ComesTo (G.script cache.cx) (G.fixpoint_overflow cache.cx) goal found → (s : StoredResult C I R A T) → stored_at same cache.results goal place ≡ Some s → (b : Bool) → equal s.result.result found ≡ b → (r : Result (Unit {0}) (Fault I R)) → r ≡ (if b then Ok tt else Err (Conflict goal s.result.result found)) → IfErr r (IsCaused G X same cache)
+module _ {D C V P F I R A T : Type 0} (G : DelegateOf D C V P F I R A T) (X : CxOf C I R A T) (same : I → I → Bool) (cache : Cache C I R A T) (runs_are : AreRuns (verdicts X) (G.script cache.cx) cache.nodes) (clash : (goal : I) (held failed : List (Question I)) → X.proves cache.cx goal held → X.refutes cache.cx goal failed → Overlap held failed) (proves : KeepsRule X.is_yes (G.script cache.cx) (X.proves cache.cx)) (refutes : KeepsRule X.is_no (G.script cache.cx) (X.refutes cache.cx)) (one : (r : R) → X.is_yes r ≡ true → X.is_no r ≡ false) (equal : R → R → Bool) (laws : IsEquivalence equal) where
+  conflict_at : (goal : I) (place : Place) (found : R) (node : Option NodeId) → HasGraph (verdicts X) cache.nodes goal found node → ComesTo (G.script cache.cx) (G.fixpoint_overflow cache.cx) goal found → (s : StoredResult C I R A T) → stored_at same cache.results goal place ≡ Some s → (b : Bool) → equal s.result.result found ≡ b → (r : Result (Unit {0}) (Fault I R)) → r ≡ (if b then Ok tt else Err (Conflict goal s.result.result found)) → IfErr r (IsCaused G X same cache)
   conflict_at goal place found node has comes s at true agrees r is = subst (λ x. IfErr x (IsCaused G X same cache)) (sym is) tt
   conflict_at goal place found node has comes s at false differs r is =
       subst (λ x. IfErr x (IsCaused G X same cache)) (sym is)
@@ -42,8 +42,8 @@ module _ {D C V P F I R A T : Type 0} (G : DelegateOf D C V P F I R A T) (X : Cx
         differs = λ e. let agrees : equal s.result.result found ≡ true = ap (equal s.result.result) (sym e) ∙ laws.refl s.result.result in let clashes : true ≡ false = sym agrees ∙ differs in absurd cc;
         comes = comes;
         node = node;
-        is_proved = λ is_yes. yes_is_proved G X cache runs_are clash goal found node has proves is_yes;
-        is_refuted = λ is_no. no_is_refuted G X cache runs_are clash goal found node has refutes (one found) is_no;
+        is_proved = λ holds. yes_is_proved G X cache runs_are clash goal found node has proves holds;
+        is_refuted = λ fails. no_is_refuted G X cache runs_are clash goal found node has refutes (one found) fails;
       }) refl)
 
   memory_at : (r : Result (Unit {0}) (Fault I R)) → IfErr r (λ fault. fault ≡ Memory) → IfErr r (IsCaused G X same cache)
@@ -51,7 +51,7 @@ module _ {D C V P F I R A T : Type 0} (G : DelegateOf D C V P F I R A T) (X : Cx
   memory_at (Err fault) h = OutOfMemory h
 
   -- storing fails for want of memory, or since another result is there
-  pub storing_is_caused : (goal : I) (place : Place) (found : R) (node : Option NodeId) → HasGraph X.is_yes X.is_no cache.nodes goal found node → ComesTo (G.script cache.cx) (G.fixpoint_overflow cache.cx) goal found → (o : Option (StoredResult C I R A T)) → stored_at same cache.results goal place ≡ o → (r : Result (Unit {0}) (Fault I R)) → AnswersStoring equal goal o found r → IfErr r (IsCaused G X same cache)
+  pub storing_is_caused : (goal : I) (place : Place) (found : R) (node : Option NodeId) → HasGraph (verdicts X) cache.nodes goal found node → ComesTo (G.script cache.cx) (G.fixpoint_overflow cache.cx) goal found → (o : Option (StoredResult C I R A T)) → stored_at same cache.results goal place ≡ o → (r : Result (Unit {0}) (Fault I R)) → AnswersStoring equal goal o found r → IfErr r (IsCaused G X same cache)
   storing_is_caused goal place found node has comes None at r is = memory_at r is
   storing_is_caused goal place found node has comes (Some s) at r is = conflict_at goal place found node has comes s at (equal s.result.result found) refl r is
 

@@ -29,7 +29,7 @@ pub use Rattle.search_parts.specs.Cache.{AreRuns, Cache, CacheNode, EndedRun, gr
 pub use Rattle.search_parts.specs.Cache.{KeepsFinished, KeepsGoals, KeepsNodes, open_goal, open_node, with_run}
 pub use Rattle.search_parts.specs.Cycle.{path_kind_from}
 pub use Rattle.search_parts.specs.Decisive.{AreDecided, IsDecidedKind, IsDecidedReply, IsDecisive}
-pub use Rattle.search_parts.specs.Definite.{HasGraph, IsDefinite}
+pub use Rattle.search_parts.specs.Definite.{HasNode, HasGraph, IsDefinite}
 pub use Rattle.search_parts.specs.Delegate.{CountsOne, IsCycleResult, IsNeither, Steps}
 pub use Rattle.search_parts.specs.Graph.{GraphNode, IsProofGraph, IsRefutationGraph, question_of}
 pub use Rattle.search_parts.specs.HandedOut.{IsWhole, KeepsWhole}
@@ -46,7 +46,8 @@ pub use Rattle.search_parts.specs.Reuse.{asking_heads, has_head_up_to, highest_p
 pub use Rattle.search_parts.specs.Run.{Asked, EndsIn, fault_after, Fits, is_counted, is_ignored, IsFitting, IsInOrder}
 pub use Rattle.search_parts.specs.Run.{IsReplyTo, open_candidate, order_fault, Progress, progress_after, progress_with}
 pub use Rattle.search_parts.specs.Run.{questions_answered, request_after}
-pub use Rattle.search_parts.specs.Shapes.{edge_shape, shape_of, shapes_of, verdict_of}
+pub use Rattle.search_parts.specs.Shapes.{edge_shape, shape_of, shapes_of}
+pub use Rattle.search_parts.specs.Verdicts.{verdict_of, verdicts, Verdicts}
 pub use Rattle.search_parts.specs.Stack.{allowed_depth, depth_below, fresh_entry}
 pub use Rattle.search_parts.specs.Store.{AnswersStoring, KeepsResults, place_of, Puts, same_key, Store, stored_at}
 pub use Rattle.search_parts.specs.Store.{stored_from}

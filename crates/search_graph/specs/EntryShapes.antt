@@ -2,7 +2,7 @@
 use Rattle.std.specs.Prelude.{ℕ, Bool, is_some, None, Some}
 use Rattle.std.specs.Option.{option_map}
 use Rattle.open_graphs.specs.Rebased as theory
-use Rattle.search_graph.specs.Below.{ProvisionalEntry, Heads, at_depth, highest, heads_shape, rank_of, ProvisionalCacheEntry, RebaseReason, NoCycleUsages, Ambiguity, Overflow, ReachedFixpoint, verdict_of}
+use Rattle.search_graph.specs.Below.{ProvisionalEntry, Heads, at_depth, highest, heads_shape, rank_of, ProvisionalCacheEntry, RebaseReason, NoCycleUsages, Ambiguity, Overflow, ReachedFixpoint, verdict_of, Verdicts}
 
 -- the depths at which a head is recorded
 abbrev pub depths_of : Heads → ℕ → Bool
@@ -20,9 +20,9 @@ reason_shape Overflow = theory.Overflow
 reason_shape (ReachedFixpoint kind) = theory.ReachedFixpoint (option_map rank_of kind)
 
 -- the answer in the theory's words; without a node it has the number 0, which says nothing: only an answer without a verdict may lack one
-abbrev pub entry_shape : {X I R A T : Type 0} → (R → Bool) → (R → Bool) → ProvisionalCacheEntry X I R A T → ProvisionalEntry
-entry_shape is_yes is_no entry = record {
-  verdict = verdict_of is_yes is_no entry.result;
+abbrev pub entry_shape : {X I R A T : Type 0} → Verdicts R → ProvisionalCacheEntry X I R A T → ProvisionalEntry
+entry_shape says entry = record {
+  verdict = verdict_of says entry.result;
   highest = highest_depth entry.heads;
   path = rank_of entry.path_from_head;
   node = elim entry.node [ None ↦ 0 | Some n ↦ n.0 ];

@@ -1,6 +1,6 @@
 -- What holds of the goals under evaluation between two moves of a call.
 use Rattle.std.specs.Prelude.{◌≡◌, ℕ, ◌<◌, ◌≤◌, Bool, false, List, [], ◌∷◌, map}
-use Rattle.search_graph.specs.Below.{DelegateOf, CxOf, Request, Reply, Fault, StoredResult, ProvisionalCacheEntry, Lists, Store, Memory, Outcome, IsPlainTo, Ends, Stops, steps_ahead, Waits, HasRequested, IsDecidedReply, IsDefinite, is_in_cycle, Item, Stood, Next, Step, Finished}
+use Rattle.search_graph.specs.Below.{DelegateOf, CxOf, Request, Reply, Fault, StoredResult, ProvisionalCacheEntry, Lists, Store, Memory, Outcome, IsPlainTo, Ends, Stops, steps_ahead, Waits, HasRequested, IsDecidedReply, IsDefinite, is_in_cycle, Item, Stood, Next, Step, Finished, verdicts}
 use Rattle.search_graph.specs.Results.{AreDefinite, HaveNoOverflow}
 use Rattle.evaluations.specs.Frames.{Frame}
 use Rattle.search_graph.specs.Calls.{Call, Outset, runs, limits, bound, IsCounted, KeepsLimits}
@@ -24,25 +24,25 @@ module _ {D C V P F I R A T : Type 0} (G : DelegateOf D C V P F I R A T) (X : Cx
 
   -- what holds where the delegate is decisive, and neither stored results nor limits stand against it
   abbrev pub Decidedly : Call I → Bool → Type 0 → Type 0
-  Decidedly call met P = WhereDecisive X.is_yes X.is_no (G.script cx) call.all_definite met P
+  Decidedly call met P = WhereDecisive (verdicts X) (G.script cx) call.all_definite met P
 
   -- the newest item waits for the reply
   pub record IsWaiting (call : Call I) (reply : Reply R) (goals : List (Item G X cx)) (starts : ℕ) (met : Bool) : Type 0 where
     pub waits : Waits seen (Stood G X cx) (G.script cx) (limits G X cx call) (IsCounted G X cx call) call.top (bound G X cx call) reply goals starts met
     pub keeps : KeepsLimits G X cx call met
-    pub decided : Decidedly call met (AllDecided X.is_yes X.is_no goals × IsDecidedReply X.is_yes X.is_no reply)
+    pub decided : Decidedly call met (AllDecided (verdicts X) goals × IsDecidedReply (verdicts X) reply)
 
   -- What a call keeps of the stored results: where starts are counted, none met overflow until a limit is met; where the delegate is
   -- decisive, each is yes or no until then.
   pub record KeepsStore (same : I → I → Bool) (call : Call I) (met : Bool) (results : Store I (StoredResult C I R A T)) : Type 0 where
     pub overflow : IsCounted G X cx call → met ≡ false → HaveNoOverflow same results
-    pub definite : Decidedly call met (AreDefinite X.is_yes X.is_no same results)
+    pub definite : Decidedly call met (AreDefinite (verdicts X) same results)
 
   -- what a call keeps of those and of the answers in the provisional cache
   pub record KeepsAnswers (same : I → I → Bool) (call : Call I) (met : Bool) (results : Store I (StoredResult C I R A T)) (entries : Lists I (ProvisionalCacheEntry C I R A T)) : Type 0 where
     pub store : KeepsStore same call met results
     pub met_none : IsCounted G X cx call → met ≡ false → EntriesMetNone same entries
-    pub definite : Decidedly call met (EntriesDefinite X.is_yes X.is_no same entries)
+    pub definite : Decidedly call met (EntriesDefinite (verdicts X) same entries)
 
   -- the call begins with these stored results
   pub record Begins (same : I → I → Bool) (call : Call I) (input : I) (root starts : ℕ) (met : Bool) (results : Store I (StoredResult C I R A T)) : Type 0 where
@@ -62,7 +62,7 @@ module _ {D C V P F I R A T : Type 0} (G : DelegateOf D C V P F I R A T) (X : Cx
   pub record HasAsked (call : Call I) (ahead : ℕ) (request : Request I R) (goals : List (Item G X cx)) (starts : ℕ) (met : Bool) : Type 0 where
     pub asked : HasRequested seen (Stood G X cx) (G.script cx) (limits G X cx call) (IsCounted G X cx call) call.top (bound G X cx call) ahead request goals starts met
     pub keeps : KeepsLimits G X cx call met
-    pub decided : Decidedly call met (AllDecided X.is_yes X.is_no goals)
+    pub decided : Decidedly call met (AllDecided (verdicts X) goals)
 
   -- the newest item waits for the reply, and less work is left
   pub record GoesOn (call : Call I) (ahead : ℕ) (reply : Reply R) (goals : List (Item G X cx)) (starts : ℕ) (met : Bool) : Type 0 where
@@ -75,7 +75,7 @@ module _ {D C V P F I R A T : Type 0} (G : DelegateOf D C V P F I R A T) (X : Cx
     pub result_is : outcome.result ≡ r
     pub ends : Ends (G.script cx) (limits G X cx call) (IsCounted G X cx call) call.top (bound G X cx call) starts met outcome
     pub keeps : KeepsLimits G X cx call met
-    pub decided : Decidedly call met (IsDefinite X.is_yes X.is_no r)
+    pub decided : Decidedly call met (IsDefinite (verdicts X) r)
 
   -- the call stopped with a fault, which is want of memory where the goal's rank fits its depth
   pub record HasStopped (call : Call I) (fault : Fault I R) (starts : ℕ) (met : Bool) : Type 0 where

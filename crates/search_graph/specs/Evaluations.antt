@@ -1,6 +1,6 @@
 -- What holds of an evaluation between two of its moves, and what the moves lead to.
 use Rattle.std.specs.Prelude.{◌≡◌, ◌<◌, ◌^◌, ℕ, Bool, List, [], length, Result, IfOk, IfErr}
-use Rattle.search_graph.specs.Below.{DelegateOf, CxOf, Request, Fault, Evaluate, Next, Received, Cache, KeepsFinished, KeepsResults, PathKind, StackEntry, Run}
+use Rattle.search_graph.specs.Below.{DelegateOf, CxOf, Request, Fault, Evaluate, Next, Received, Cache, KeepsFinished, KeepsResults, PathKind, StackEntry, Run, verdicts}
 use Rattle.search_graph.specs.declared.graph.evaluation.Evaluation.{Evaluation}
 use Rattle.search_graph.specs.Calls.{Call}
 use Rattle.search_graph.specs.Evaluating.{IsWaiting, HasAsked, GoesOn, HasEnded, HasStopped, Leads, KeepsStore, KeepsAnswers}
@@ -25,20 +25,20 @@ module _ {D C V P F I R A T : Type 0} (G : DelegateOf D C V P F I R A T) (X : Cx
   -- Each definite answer that is there is right: those that the goals under evaluation had, the stored results, and the provisional
   -- entries.
   pub record IsRight (cache : Cache C I R A T) (e : Evaluation D C V P F I R A T) : Type 0 where
-    pub justified : AreJustified X.is_yes X.is_no cache.nodes (runs_of e.goals)
-    pub free : AreFree X.is_yes X.is_no same cache.nodes (runs_of e.goals) cache.results
-    pub ready : AreReady X.is_yes X.is_no same (G.script cx) cache.nodes (runs_of e.goals) e.provisional
+    pub justified : AreJustified (verdicts X) cache.nodes (runs_of e.goals)
+    pub free : AreFree (verdicts X) same cache.nodes (runs_of e.goals) cache.results
+    pub ready : AreReady (verdicts X) same (G.script cx) cache.nodes (runs_of e.goals) e.provisional
 
   -- besides, the newest goal may be given the reply
   pub record IsRightFor (received : Received R) (cache : Cache C I R A T) (e : Evaluation D C V P F I R A T) : Type 0 where
     pub right : IsRight cache e
-    pub fits : IsFit X.is_yes X.is_no cache.nodes (runs_of e.goals) received.reply received.node
+    pub fits : IsFit (verdicts X) cache.nodes (runs_of e.goals) received.reply received.node
 
   -- what comes after a move is right: the reply for the goals, or the answer of the only goal
   pub record IsRightNext (goals : List (StackEntry C I R A T × Run C F I R A T)) (next : Next R) (cache : Cache C I R A T) (e : Evaluation D C V P F I R A T) : Type 0 where
-    pub justified : IsJustifiedNext X.is_yes X.is_no cache.nodes goals e.goals next
-    pub free : AreFree X.is_yes X.is_no same cache.nodes (runs_of e.goals) cache.results
-    pub ready : AreReady X.is_yes X.is_no same (G.script cx) cache.nodes (runs_of e.goals) e.provisional
+    pub justified : IsJustifiedNext (verdicts X) cache.nodes goals e.goals next
+    pub free : AreFree (verdicts X) same cache.nodes (runs_of e.goals) cache.results
+    pub ready : AreReady (verdicts X) same (G.script cx) cache.nodes (runs_of e.goals) e.provisional
 
   -- the newest goal waits for the reply, in this call
   pub record Awaits (call : Call I) (received : Received R) (cache : Cache C I R A T) (e : Evaluation D C V P F I R A T) (starts : ℕ) : Type 0 where

@@ -3,7 +3,7 @@
 use Rattle.std.specs.Prelude.{◌≡◌, ◌≢◌, ℕ, Bool, true, if◌then◌else◌, List, [], ◌∷◌, length, map, is_some, Option, None, Some, slice_get}
 use Rattle.std.specs.Option.{IsSomeAnd, option_map}
 use Rattle.open_graphs.specs.Graph as theory
-use Rattle.search_graph.specs.Below.{IsAnsweredEdge, RunningGoal, stack_of, IsSoundState, PathKind, Verdict, Yes, No, Neither, Request, Evaluate, Reply, Answer, NodeId, Edge, heads_shape, rank_of, CacheNode, open_goal, IsNodeOf, verdict_of, edge_shape, shapes_of, DefiniteAnswer, counted_by}
+use Rattle.search_graph.specs.Below.{IsAnsweredEdge, RunningGoal, stack_of, IsSoundState, PathKind, Verdict, Yes, No, Neither, Request, Evaluate, Reply, Answer, NodeId, Edge, heads_shape, rank_of, CacheNode, open_goal, IsNodeOf, verdict_of, edge_shape, shapes_of, DefiniteAnswer, counted_by, Verdicts}
 use Rattle.search_graph.specs.Tallies.{Tally, IsTallied, spare_heads, heads_of}
 
 -- A goal under evaluation: the step by which it was asked; the node of its present run, and the one to which the answers of its
@@ -33,9 +33,9 @@ cycles_node o = elim o.cycles_lead [ None ↦ o.own | Some n ↦ n.0 ]
 
 -- The run as a frame of the theory: the heads that it keeps are those used outside candidates, in this run or earlier. Its answers
 -- are kept beside it, since they rest on other heads than these.
-abbrev pub frame_of : {I R : Type 0} → (R → Bool) → (R → Bool) → OpenRun I R → RunningGoal
-frame_of is_yes is_no o = record {
-  entry = record { step = rank_of o.step; provisional = option_map (verdict_of is_yes is_no) o.provisional; node = cycles_node o };
+abbrev pub frame_of : {I R : Type 0} → Verdicts R → OpenRun I R → RunningGoal
+frame_of says o = record {
+  entry = record { step = rank_of o.step; provisional = option_map (verdict_of says) o.provisional; node = cycles_node o };
   own = o.own;
   edges = λ verdict. [];
   heads_before = spare_heads o.tally;
@@ -43,8 +43,8 @@ frame_of is_yes is_no o = record {
 }
 
 -- the runs as frames
-abbrev pub frames_of : {I R : Type 0} → (R → Bool) → (R → Bool) → List (OpenRun I R) → List RunningGoal
-frames_of is_yes is_no goals = map (frame_of is_yes is_no) goals
+abbrev pub frames_of : {I R : Type 0} → Verdicts R → List (OpenRun I R) → List RunningGoal
+frames_of says goals = map (frame_of says) goals
 
 -- the node of each goal's run is open
 abbrev pub AreOpen : {I R : Type 0} → List (CacheNode I R) → List (OpenRun I R) → Type 0
@@ -95,38 +95,38 @@ HaveTallies (o ∷ below) = HasTally (length below) o × HaveTallies below
 
 -- Each answer of the goal outside ignored candidates may be used: it rests on goals that are counted outside candidates or by its
 -- own candidate.
-abbrev pub AreCharged : {I R : Type 0} → (R → Bool) → (R → Bool) → List (CacheNode I R) → OpenRun I R → List (OpenRun I R) → Type 0
-AreCharged {I} is_yes is_no nodes o below =
+abbrev pub AreCharged : {I R : Type 0} → Verdicts R → List (CacheNode I R) → OpenRun I R → List (OpenRun I R) → Type 0
+AreCharged {I} says nodes o below =
     (i : ℕ) (a : DefiniteAnswer I) → slice_get o.answers i ≡ Some a → counted_by o.ignored a.candidate ≡ true →
-    IsAnsweredEdge (shapes_of is_yes is_no nodes) (verdict_shape a.verdict) (stack_of (frames_of is_yes is_no below)) (frame_of is_yes is_no o).entry (edge_shape a.edge) (heads_of o.tally a.candidate)
+    IsAnsweredEdge (shapes_of says nodes) (verdict_shape a.verdict) (stack_of (frames_of says below)) (frame_of says o).entry (edge_shape a.edge) (heads_of o.tally a.candidate)
 
 -- the same for all goals
-abbrev pub AllCharged : {I R : Type 0} → (R → Bool) → (R → Bool) → List (CacheNode I R) → List (OpenRun I R) → Type 0
-AllCharged is_yes is_no nodes [] = Unit {0}
-AllCharged is_yes is_no nodes (o ∷ below) = AreCharged is_yes is_no nodes o below × AllCharged is_yes is_no nodes below
+abbrev pub AllCharged : {I R : Type 0} → Verdicts R → List (CacheNode I R) → List (OpenRun I R) → Type 0
+AllCharged says nodes [] = Unit {0}
+AllCharged says nodes (o ∷ below) = AreCharged says nodes o below × AllCharged says nodes below
 
 -- what holds of the goals between two moves
-pub record AreJustified {I R : Type 0} (is_yes is_no : R → Bool) (nodes : List (CacheNode I R)) (goals : List (OpenRun I R)) : Type 0 where
-  pub sound : IsSoundState (shapes_of is_yes is_no nodes) (frames_of is_yes is_no goals) [] []
+pub record AreJustified {I R : Type 0} (says : Verdicts R) (nodes : List (CacheNode I R)) (goals : List (OpenRun I R)) : Type 0 where
+  pub sound : IsSoundState (shapes_of says nodes) (frames_of says goals) [] []
   pub are_open : AreOpen nodes goals
   pub lead_home : LeadHome nodes goals
   pub placed : AllLeadToGoals nodes goals
   pub asked : AreAskedBelow goals
   pub tallies : HaveTallies goals
-  pub charged : AllCharged is_yes is_no nodes goals
+  pub charged : AllCharged says nodes goals
 
 -- the candidate in which the goal asks now, if one is open
 abbrev pub asked_now : {I R : Type 0} → OpenRun I R → Option ℕ
 asked_now o = if o.is_open then Some (length o.ignored) else None
 
 -- the node has the goal, and answers the newest goal's question by a step of this kind with the verdict
-pub record MayAnswer {I R : Type 0} (is_yes is_no : R → Bool) (nodes : List (CacheNode I R)) (o : OpenRun I R) (below : List (OpenRun I R)) (verdict : theory.Verdict) (kind : PathKind) (goal : I) (node : ℕ) : Type 0 where
+pub record MayAnswer {I R : Type 0} (says : Verdicts R) (nodes : List (CacheNode I R)) (o : OpenRun I R) (below : List (OpenRun I R)) (verdict : theory.Verdict) (kind : PathKind) (goal : I) (node : ℕ) : Type 0 where
   pub of_goal : IsNodeOf nodes node goal
-  pub answered : IsAnsweredEdge (shapes_of is_yes is_no nodes) verdict (stack_of (frames_of is_yes is_no below)) (frame_of is_yes is_no o).entry (record { kind = rank_of kind; target = node }) (heads_of o.tally (asked_now o))
+  pub answered : IsAnsweredEdge (shapes_of says nodes) verdict (stack_of (frames_of says below)) (frame_of says o).entry (record { kind = rank_of kind; target = node }) (heads_of o.tally (asked_now o))
 
 -- a definite answer for the newest goal comes with a node that may answer its question
-abbrev pub IsFit : {I R : Type 0} → (R → Bool) → (R → Bool) → List (CacheNode I R) → List (OpenRun I R) → Reply R → Option NodeId → Type 0
-IsFit is_yes is_no nodes [] reply target = Unit {0}
-IsFit is_yes is_no nodes (o ∷ below) reply target =
-    (r : _) (kind : PathKind) (goal : _) → reply ≡ Answer r → Asks (o ∷ below) kind goal → verdict_of is_yes is_no r ≢ theory.Neither →
-    IsSomeAnd target (λ a. MayAnswer is_yes is_no nodes o below (verdict_of is_yes is_no r) kind goal a.0)
+abbrev pub IsFit : {I R : Type 0} → Verdicts R → List (CacheNode I R) → List (OpenRun I R) → Reply R → Option NodeId → Type 0
+IsFit says nodes [] reply target = Unit {0}
+IsFit says nodes (o ∷ below) reply target =
+    (r : _) (kind : PathKind) (goal : _) → reply ≡ Answer r → Asks (o ∷ below) kind goal → verdict_of says r ≢ theory.Neither →
+    IsSomeAnd target (λ a. MayAnswer says nodes o below (verdict_of says r) kind goal a.0)

@@ -1,7 +1,7 @@
 -- What a list of queries is answered with. A query is a root depth, a goal, and the kind of the step that asks it.
 use Rattle.std.specs.Prelude.{◌≡◌, ℕ, ◌≤◌, Bool, true, false, List, ◌++◌, None, IfSome, Result, IfOk, IfErr}
 use Rattle.std.specs.List.{AllZip, sum_by}
-use Rattle.search_graph.specs.Below.{CxOf, DelegateOf, Fault, Memory, PathKind, Cache, KeepsFinished, HasGraph, IsWhole, IsPlainTo, IsPlainValue, frames_within, KeepsResults}
+use Rattle.search_graph.specs.Below.{CxOf, DelegateOf, Fault, Memory, PathKind, Cache, KeepsFinished, HasGraph, IsWhole, IsPlainTo, IsPlainValue, frames_within, KeepsResults, verdicts}
 use Rattle.search_parts.specs.declared.context.Answer.{Answer}
 use Rattle.search_graph.specs.Graph.{IsProved, IsRefuted, IsCaused}
 
@@ -29,7 +29,7 @@ module _ {D C V P F I R A T : Type 0} (G : DelegateOf D C V P F I R A T) (X : Cx
   pub record HasAnswer (query : ℕ × I × PathKind) (answer : Result (Answer R) (Fault I R)) : Type 0 where
     pub plain : (n : ℕ) → IsPlainTo (G.script cache.cx) n query.1 → n ≤ query.0 → IfOk answer (λ a. IsPlainValue (G.script cache.cx) n query.1 a.result)
     pub plain_faults : (n : ℕ) → IsPlainTo (G.script cache.cx) n query.1 → n ≤ query.0 → IfErr answer (λ fault. fault ≡ Memory)
-    pub has_graph : IfOk answer (λ a. HasGraph X.is_yes X.is_no cache.nodes query.1 a.result a.node)
+    pub has_graph : IfOk answer (λ a. HasGraph (verdicts X) cache.nodes query.1 a.result a.node)
     pub faults : IfErr answer HadCause
 
   -- Besides, where the answer is definite, its goal has no graph of the other sort anywhere, and its own can be handed out.

@@ -1,6 +1,6 @@
 -- A goal is popped with its result.
 use Rattle.std.specs.Prelude.{Bool, Option}
-use Rattle.search_graph.specs.Below.{DelegateOf, CxOf, RebaseReason, Next, Cache, IsDefinite}
+use Rattle.search_graph.specs.Below.{DelegateOf, CxOf, RebaseReason, Next, Cache, IsDefinite, verdicts}
 use Rattle.search_graph.specs.declared.graph.evaluation.Evaluation.{Evaluation}
 use Rattle.search_graph.specs.Evaluations.{IsRight, IsRightNext}
 use Rattle.search_graph.specs.Moves.{CanLeave, Leaves}
@@ -13,10 +13,10 @@ module _ {D C V P F I R A T : Type 0} (G : DelegateOf D C V P F I R A T) (X : Cx
   -- the goal has a rank; the reason is true of the goal.
   pub record MayPop : Type 0 where
     pub leaves : CanLeave before.goals
-    pub ends : IsDefinite X.is_yes X.is_no outcome → EndsNewest X.is_yes X.is_no (G.script old.cx) before.goals outcome
+    pub ends : IsDefinite (verdicts X) outcome → EndsNewest (verdicts X) (G.script old.cx) before.goals outcome
     pub comes : NewestComesTo (G.script old.cx) (G.fixpoint_overflow old.cx) before.goals outcome
     pub plain : NewestIsPlain (G.script old.cx) before.goals outcome
-    pub is_reason : HasReason X.is_yes X.is_no reason before.goals outcome
+    pub is_reason : HasReason (verdicts X) reason before.goals outcome
     pub unranked : IsNewestUnranked (G.script old.cx) before.goals
     pub right : IsRight G X same old.cx old before
 

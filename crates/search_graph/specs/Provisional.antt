@@ -1,7 +1,7 @@
 -- The answers in the provisional cache: why each of them may be used, and what becomes of them when the newest goal is taken.
 use Rattle.std.specs.Prelude.{◌≡◌, ◌≢◌, ◌⊎◌, ◌||◌, ◌&&◌, ℕ, Bool, false, if◌then◌else◌, List, [], ◌∷◌, ◌++◌, length, map, reverse, All, IsSome, Option, None, Some}
 use Rattle.std.specs.List.{filter_map}
-use Rattle.search_graph.specs.Below.{IsTrueReason, StackDepth, PathKind, at_depth, highest, IsRising, heads_shape, rank_of, NodeId, Request, Reply, EvaluationResult, StackEntry, ProvisionalCacheEntry, RebaseReason, CacheNode, path_kind_from, IsDefinite, Lists, entries_at, HasNoRank, rebased, changed_for, verdict_of, Run}
+use Rattle.search_graph.specs.Below.{IsTrueReason, StackDepth, PathKind, at_depth, highest, IsRising, heads_shape, rank_of, NodeId, Request, Reply, EvaluationResult, StackEntry, ProvisionalCacheEntry, RebaseReason, CacheNode, path_kind_from, IsDefinite, Lists, entries_at, HasNoRank, rebased, changed_for, verdict_of, Run, Verdicts}
 use Rattle.search_graph.specs.Justified.{OpenRun, frame_of}
 use Rattle.search_graph.specs.ProvisionalAnswers.{ProvisionalAnswer, IsReusable}
 use Rattle.search_graph.specs.EntryShapes.{highest_depth, reason_shape}
@@ -19,24 +19,24 @@ module _ {X I R A T : Type 0} where
   answer_of_entry entry = record { result = entry.result; target = entry.node; highest = highest_depth entry.heads; path = rank_of entry.path_from_head; heads = heads_shape entry.heads }
 
   -- The entry may be used for the goal: it is kept over these goals, by their heads, and the goal is in a cycle, so it has no rank.
-  pub record IsReady (is_yes is_no : R → Bool) (scripts : I → List (Reply R) → Request I R) (nodes : List (CacheNode I R)) (goals : List (OpenRun I R)) (goal : I) (entry : ProvisionalCacheEntry X I R A T) : Type 0 where
-    pub kept : IsReusable is_yes is_no nodes goals goal (answer_of_entry entry)
+  pub record IsReady (says : Verdicts R) (scripts : I → List (Reply R) → Request I R) (nodes : List (CacheNode I R)) (goals : List (OpenRun I R)) (goal : I) (entry : ProvisionalCacheEntry X I R A T) : Type 0 where
+    pub kept : IsReusable says nodes goals goal (answer_of_entry entry)
     pub some : entry.heads ≢ []
     pub rising : IsRising entry.heads
     pub are_heads : (head : StackDepth) → IsSome (at_depth entry.heads head) → IsHead goals head
     pub no_rank : HasNoRank scripts goal
 
   -- each entry may be used for its goal
-  abbrev pub AreReady : (is_yes is_no : R → Bool) → (I → I → Bool) → (I → List (Reply R) → Request I R) → List (CacheNode I R) → List (OpenRun I R) → Lists I (ProvisionalCacheEntry X I R A T) → Type 0
-  AreReady is_yes is_no same scripts nodes goals lists = (goal : I) → All (IsReady is_yes is_no scripts nodes goals goal) (entries_at same lists goal)
+  abbrev pub AreReady : (says : Verdicts R) → (I → I → Bool) → (I → List (Reply R) → Request I R) → List (CacheNode I R) → List (OpenRun I R) → Lists I (ProvisionalCacheEntry X I R A T) → Type 0
+  AreReady says same scripts nodes goals lists = (goal : I) → All (IsReady says scripts nodes goals goal) (entries_at same lists goal)
 
   -- none of the entries met overflow
   abbrev pub EntriesMetNone : (I → I → Bool) → Lists I (ProvisionalCacheEntry X I R A T) → Type 0
   EntriesMetNone same lists = (goal : I) → All (λ entry. entry.encountered_overflow ≡ false) (entries_at same lists goal)
 
   -- each of the entries is yes or no
-  abbrev pub EntriesDefinite : (is_yes is_no : R → Bool) → (I → I → Bool) → Lists I (ProvisionalCacheEntry X I R A T) → Type 0
-  EntriesDefinite is_yes is_no same lists = (goal : I) → All (λ entry. IsDefinite is_yes is_no entry.result) (entries_at same lists goal)
+  abbrev pub EntriesDefinite : (says : Verdicts R) → (I → I → Bool) → Lists I (ProvisionalCacheEntry X I R A T) → Type 0
+  EntriesDefinite says same lists = (goal : I) → All (λ entry. IsDefinite says entry.result) (entries_at same lists goal)
 
   -- the entries of a goal, once a goal is done that is taken from above the stack: where it was used as a head, the reason tells how they
   -- are rebased
@@ -89,10 +89,10 @@ module _ {X I R A T : Type 0} where
     RebasesNewest same enabled propagated overflow reason r (s ∷ below) old new = RebasesEntries same enabled propagated overflow reason r s below old new
 
     -- The reason is true of the newest goal, which came to this result. Without one, the goal was not used as a head.
-    abbrev pub HasReason : (is_yes is_no : R → Bool) → Option (RebaseReason X I R A T) → List (StackEntry X I R A T × Run X F I R A T) → R → Type 0
-    HasReason is_yes is_no reason [] r = ⊥
-    HasReason is_yes is_no None (s ∷ below) r = s.0.state.usages ≡ None
-    HasReason is_yes is_no (Some reason) (s ∷ below) r = IsTrueReason (reason_shape reason) (verdict_of is_yes is_no r) (frame_of is_yes is_no (run_of s)).entry
+    abbrev pub HasReason : (says : Verdicts R) → Option (RebaseReason X I R A T) → List (StackEntry X I R A T × Run X F I R A T) → R → Type 0
+    HasReason says reason [] r = ⊥
+    HasReason says None (s ∷ below) r = s.0.state.usages ≡ None
+    HasReason says (Some reason) (s ∷ below) r = IsTrueReason (reason_shape reason) (verdict_of says r) (frame_of says (run_of s)).entry
 
     -- the newest goal has no rank, if it rests on a goal below
     abbrev pub IsNewestUnranked : (I → List (Reply R) → Request I R) → List (StackEntry X I R A T × Run X F I R A T) → Type 0

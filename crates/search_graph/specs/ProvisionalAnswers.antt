@@ -2,7 +2,7 @@
 use Rattle.std.specs.Prelude.{◌≡◌, ℕ, Bool, List, Option, None}
 use Rattle.std.specs.Option.{IsSomeAnd}
 use Rattle.open_graphs.specs.Graph as theory
-use Rattle.search_graph.specs.Below.{ProvisionalUse, ProvisionalEntry, stack_of, NodeId, CacheNode, IsNodeOf, IsDefinite, verdict_of, shapes_of}
+use Rattle.search_graph.specs.Below.{ProvisionalUse, ProvisionalEntry, stack_of, NodeId, CacheNode, IsNodeOf, IsDefinite, verdict_of, shapes_of, Verdicts}
 use Rattle.open_graphs.specs.Use.{Heads}
 use Rattle.search_graph.specs.Justified.{OpenRun, frames_of}
 
@@ -15,13 +15,13 @@ pub record ProvisionalAnswer (R : Type 0) : Type 0 where
   pub heads : Heads
 
 -- the answer as the theory keeps it, with this node
-abbrev pub provisional_shape : {R : Type 0} → (R → Bool) → (R → Bool) → ProvisionalAnswer R → ℕ → ProvisionalEntry
-provisional_shape is_yes is_no k n = record { verdict = verdict_of is_yes is_no k.result; highest = k.highest; path = k.path; node = n; heads = k.heads }
+abbrev pub provisional_shape : {R : Type 0} → Verdicts R → ProvisionalAnswer R → ℕ → ProvisionalEntry
+provisional_shape says k n = record { verdict = verdict_of says k.result; highest = k.highest; path = k.path; node = n; heads = k.heads }
 
 -- A definite answer comes with a node of its goal, which may be used wherever the path kind from its highest head is the kept one;
 -- another one comes with none.
-pub record IsReusable {I R : Type 0} (is_yes is_no : R → Bool) (nodes : List (CacheNode I R)) (goals : List (OpenRun I R)) (goal : I) (k : ProvisionalAnswer R) : Type 0 where
+pub record IsReusable {I R : Type 0} (says : Verdicts R) (nodes : List (CacheNode I R)) (goals : List (OpenRun I R)) (goal : I) (k : ProvisionalAnswer R) : Type 0 where
   pub definite :
-      IsDefinite is_yes is_no k.result
-      → IsSomeAnd k.target (λ n. IsNodeOf nodes n.0 goal × ProvisionalUse (shapes_of is_yes is_no nodes) (verdict_of is_yes is_no k.result) (stack_of (frames_of is_yes is_no goals)) k.highest k.path n.0 k.heads)
-  pub neither : verdict_of is_yes is_no k.result ≡ theory.Neither → k.target ≡ None
+      IsDefinite says k.result
+      → IsSomeAnd k.target (λ n. IsNodeOf nodes n.0 goal × ProvisionalUse (shapes_of says nodes) (verdict_of says k.result) (stack_of (frames_of says goals)) k.highest k.path n.0 k.heads)
+  pub neither : verdict_of says k.result ≡ theory.Neither → k.target ≡ None

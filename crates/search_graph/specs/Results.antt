@@ -1,7 +1,7 @@
 -- The stored results, as calls rely on them and change them.
 use Rattle.std.specs.Prelude.{◌≡◌, ℕ, Bool, ◌||◌, if◌then◌else◌, List, [], ◌∷◌, None, Some}
 use Rattle.std.specs.Option.{option_map}
-use Rattle.search_graph.specs.Below.{Place, Success, WithOverflow, StoredResult, Request, Reply, EvaluationResult, StackEntry, IsDefinite, Store, stored_at, place_of, stored_from, Puts, IsPlainTo, IsPlainAt, Run}
+use Rattle.search_graph.specs.Below.{Place, Success, WithOverflow, StoredResult, Request, Reply, EvaluationResult, StackEntry, IsDefinite, Store, stored_at, place_of, stored_from, Puts, IsPlainTo, IsPlainAt, Run, Verdicts}
 use Rattle.search_graph.specs.Graph.{ComesTo}
 
 -- no result is stored that met overflow
@@ -9,9 +9,9 @@ abbrev pub HaveNoOverflow : {I S : Type 0} → (I → I → Bool) → Store I S 
 HaveNoOverflow {I} same results = (goal : I) (depth : ℕ) → stored_at same results goal (WithOverflow depth) ≡ None
 
 -- each stored result is yes or no
-abbrev pub AreDefinite : {X I R A T : Type 0} → (R → Bool) → (R → Bool) → (I → I → Bool) → Store I (StoredResult X I R A T) → Type 0
-AreDefinite {X} {I} {R} {A} {T} is_yes is_no same results =
-    (goal : I) (place : Place) (s : StoredResult X I R A T) → stored_at same results goal place ≡ Some s → IsDefinite is_yes is_no s.result.result
+abbrev pub AreDefinite : {X I R A T : Type 0} → Verdicts R → (I → I → Bool) → Store I (StoredResult X I R A T) → Type 0
+AreDefinite {X} {I} {R} {A} {T} says same results =
+    (goal : I) (place : Place) (s : StoredResult X I R A T) → stored_at same results goal place ≡ Some s → IsDefinite says s.result.result
 
 -- this result of the goal is stored at the place
 abbrev pub IsStoredAt : {X I R A T : Type 0} → (I → I → Bool) → Store I (StoredResult X I R A T) → I → Place → R → Type 0

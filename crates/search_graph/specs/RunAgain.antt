@@ -1,7 +1,7 @@
 -- A goal is run again.
 use Rattle.std.specs.Prelude.{◌≡◌, ◌<◌, ◌+◌, ◌-◌, ◌^◌, Bool, not, length, IfSome}
 use Rattle.std.specs.List.{filter}
-use Rattle.search_graph.specs.Below.{DelegateOf, CxOf, Cache, entries_at, depends_on, newest}
+use Rattle.search_graph.specs.Below.{DelegateOf, CxOf, Cache, entries_at, depends_on, newest, verdicts}
 use Rattle.search_graph.specs.declared.graph.evaluation.Evaluation.{Evaluation}
 use Rattle.search_graph.specs.Evaluations.{IsRight}
 use Rattle.search_graph.specs.Moves.{Reruns}
@@ -12,7 +12,7 @@ module _ {D C V P F I R A T : Type 0} (G : DelegateOf D C V P F I R A T) (X : Cx
   pub record MayRunAgain : Type 0 where
     pub some : 0 < length before.goals
     pub fits : IfSome (newest before.goals) (λ s. s.1.finished_runs + 1 < 2 ^ 64)
-    pub ends : EndsNewest X.is_yes X.is_no (G.script old.cx) before.goals outcome
+    pub ends : EndsNewest (verdicts X) (G.script old.cx) before.goals outcome
     pub right : IsRight G X same old.cx old before
 
   -- it runs again, and the entries that rest on it are gone

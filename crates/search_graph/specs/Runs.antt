@@ -2,7 +2,7 @@
 use Rattle.std.specs.Prelude.{◌≡◌, ◌≢◌, Bool, List, [], ◌∷◌, map, Option, None, Some}
 use Rattle.std.specs.Option.{option_map}
 use Rattle.open_graphs.specs.Graph as theory
-use Rattle.search_graph.specs.Below.{NodeId, Request, Done, Reply, StackEntry, IsFitting, request_after, EndedRun, CacheNode, open_goal, with_run, verdict_of, Run, Next, Step, Finished, RunRecord, Records, acted, HasGraph}
+use Rattle.search_graph.specs.Below.{NodeId, Request, Done, Reply, StackEntry, IsFitting, request_after, EndedRun, CacheNode, open_goal, with_run, verdict_of, Run, Next, Step, Finished, RunRecord, Records, acted, HasGraph, Verdicts}
 use Rattle.search_graph.specs.Tallies.{tally_of}
 use Rattle.search_graph.specs.Justified.{OpenRun, AreJustified, IsFit, LeadToGoals, AreEdges}
 
@@ -27,42 +27,42 @@ module _ {X F I R A T : Type 0} where
   runs_of goals = map run_of goals
 
   -- what comes next is justified: the reply for the goals, or the answer of the only goal
-  abbrev pub IsJustifiedNext : (R → Bool) → (R → Bool) → List (CacheNode I R) → List (StackEntry X I R A T × Run X F I R A T) → List (StackEntry X I R A T × Run X F I R A T) → Next R → Type 0
-  IsJustifiedNext is_yes is_no nodes old goals (Step given) = AreJustified is_yes is_no nodes (runs_of goals) × IsFit is_yes is_no nodes (runs_of goals) given.reply given.node
-  IsJustifiedNext is_yes is_no nodes [] goals (Finished answer) = ⊥
-  IsJustifiedNext is_yes is_no nodes (s ∷ below) goals (Finished answer) = HasGraph is_yes is_no nodes s.0.input answer.result answer.node
+  abbrev pub IsJustifiedNext : Verdicts R → List (CacheNode I R) → List (StackEntry X I R A T × Run X F I R A T) → List (StackEntry X I R A T × Run X F I R A T) → Next R → Type 0
+  IsJustifiedNext says nodes old goals (Step given) = AreJustified says nodes (runs_of goals) × IsFit says nodes (runs_of goals) given.reply given.node
+  IsJustifiedNext says nodes [] goals (Finished answer) = ⊥
+  IsJustifiedNext says nodes (s ∷ below) goals (Finished answer) = HasGraph says nodes s.0.input answer.result answer.node
 
 -- the record is that of a run that came to this result
-pub record CameTo {I R : Type 0} (is_yes is_no : R → Bool) (script : List (Reply R) → Request I R) (p : RunRecord I R) (r : R) : Type 0 where
+pub record CameTo {I R : Type 0} (says : Verdicts R) (script : List (Reply R) → Request I R) (p : RunRecord I R) (r : R) : Type 0 where
   pub replies : List (Reply R)
   pub is_fitting : IsFitting script replies
   pub is_done : request_after script replies ≡ Some (Done r)
-  pub on_record : Records is_yes is_no script p replies
+  pub on_record : Records says script p replies
 
 -- the newest goal's run came to this result
-abbrev pub EndsNewest : {X F I R A T : Type 0} → (R → Bool) → (R → Bool) → (I → List (Reply R) → Request I R) → List (StackEntry X I R A T × Run X F I R A T) → R → Type 0
-EndsNewest is_yes is_no scripts [] r = ⊥
-EndsNewest is_yes is_no scripts (s ∷ below) r = CameTo is_yes is_no (scripts s.0.input) s.1.progress r
+abbrev pub EndsNewest : {X F I R A T : Type 0} → Verdicts R → (I → List (Reply R) → Request I R) → List (StackEntry X I R A T × Run X F I R A T) → R → Type 0
+EndsNewest says scripts [] r = ⊥
+EndsNewest says scripts (s ∷ below) r = CameTo says (scripts s.0.input) s.1.progress r
 
 -- a definite result of a goal's run: the run of its open node came to it
-pub record EndsRun {I R : Type 0} (is_yes is_no : R → Bool) (scripts : I → List (Reply R) → Request I R) (nodes : List (CacheNode I R)) (node : NodeId) (p : RunRecord I R) (r : R) : Type 0 where
+pub record EndsRun {I R : Type 0} (says : Verdicts R) (scripts : I → List (Reply R) → Request I R) (nodes : List (CacheNode I R)) (node : NodeId) (p : RunRecord I R) (r : R) : Type 0 where
   pub goal : I
   pub is_open : open_goal nodes node.0 ≡ Some goal
-  pub ends : CameTo is_yes is_no (scripts goal) p r
+  pub ends : CameTo says (scripts goal) p r
   pub placed : LeadToGoals nodes p.answers
 
 -- the result says what the provisional one says
-abbrev pub SaysAgain : {R : Type 0} → (R → Bool) → (R → Bool) → Option R → R → Type 0
-SaysAgain is_yes is_no earlier r = option_map (verdict_of is_yes is_no) earlier ≡ Some (verdict_of is_yes is_no r)
+abbrev pub SaysAgain : {R : Type 0} → Verdicts R → Option R → R → Type 0
+SaysAgain says earlier r = option_map (verdict_of says) earlier ≡ Some (verdict_of says r)
 
 -- The node of a result: of a definite one that says what the provisional one said, the node of that; of any other definite one the
 -- run's own, which was finished by edges of the answers that have its verdict; and none of a result that isn't definite.
-pub data HasResultNode {I R : Type 0} (is_yes is_no : R → Bool) (before after : List (CacheNode I R)) (earlier : Option R) (node : NodeId) (cycles_lead : Option NodeId) (p : RunRecord I R) (r : R) : Option NodeId → Type 0 where
+pub data HasResultNode {I R : Type 0} (says : Verdicts R) (before after : List (CacheNode I R)) (earlier : Option R) (node : NodeId) (cycles_lead : Option NodeId) (p : RunRecord I R) (r : R) : Option NodeId → Type 0 where
   Again :
-      verdict_of is_yes is_no r ≢ theory.Neither → SaysAgain is_yes is_no earlier r → after ≡ before
-      → HasResultNode is_yes is_no before after earlier node cycles_lead p r cycles_lead
+      verdict_of says r ≢ theory.Neither → SaysAgain says earlier r → after ≡ before
+      → HasResultNode says before after earlier node cycles_lead p r cycles_lead
   Ended :
       (run : EndedRun I R)
-      → run.outcome ≡ r → p.request ≡ Some (Done r) → verdict_of is_yes is_no r ≢ theory.Neither → (SaysAgain is_yes is_no earlier r → ⊥) → after ≡ with_run before node.0 run → AreEdges p.answers p.ignored (verdict_of is_yes is_no r) run.edges
-      → HasResultNode is_yes is_no before after earlier node cycles_lead p r (Some node)
-  LeftOpen : verdict_of is_yes is_no r ≡ theory.Neither → after ≡ before → HasResultNode is_yes is_no before after earlier node cycles_lead p r None
+      → run.outcome ≡ r → p.request ≡ Some (Done r) → verdict_of says r ≢ theory.Neither → (SaysAgain says earlier r → ⊥) → after ≡ with_run before node.0 run → AreEdges p.answers p.ignored (verdict_of says r) run.edges
+      → HasResultNode says before after earlier node cycles_lead p r (Some node)
+  LeftOpen : verdict_of says r ≡ theory.Neither → after ≡ before → HasResultNode says before after earlier node cycles_lead p r None

@@ -1,6 +1,6 @@
 -- What is stored of a goal that is done.
 use Rattle.std.specs.Prelude.{◌≡◌, ◌&&◌, ◌++◌, if◌then◌else◌, Bool, [], map, reverse}
-use Rattle.search_graph.specs.Below.{DelegateOf, CxOf, Cache, EvaluationResult, HasGraph, IsPlainAt, KeepsResults, PathKind, entries_at, place_of}
+use Rattle.search_graph.specs.Below.{DelegateOf, CxOf, Cache, EvaluationResult, HasGraph, IsPlainAt, KeepsResults, PathKind, entries_at, place_of, verdicts}
 use Rattle.search_graph.specs.declared.graph.evaluation.Evaluation.{Evaluation}
 use Rattle.search_graph.specs.Graph.{ComesTo}
 use Rattle.search_graph.specs.Provisional.{entries_for}
@@ -14,7 +14,7 @@ pub record ChangesResults {C I R A T : Type 0} (same : I → I → Bool) (old ne
 module _ {D C V P F I R A T : Type 0} (G : DelegateOf D C V P F I R A T) (X : CxOf C I R A T) where
   -- The goal's answer may be stored: it has its graph, if it rests on no goal; it is plain, where the goal has a rank; the goal came to it.
   pub record IsStorable (cache : Cache C I R A T) (goal : I) (answer : EvaluationResult C I R A T) : Type 0 where
-    pub graph : answer.heads ≡ [] → HasGraph X.is_yes X.is_no cache.nodes goal answer.result answer.node
+    pub graph : answer.heads ≡ [] → HasGraph (verdicts X) cache.nodes goal answer.result answer.node
     pub plain : IsPlainAt (G.script cache.cx) goal (place_of answer) answer.result
     pub comes : ComesTo (G.script cache.cx) (G.fixpoint_overflow cache.cx) goal answer.result
 

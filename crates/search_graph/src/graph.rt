@@ -1,7 +1,7 @@
 //! The search graph. A call keeps the goals under evaluation in one list and works through them in one loop,
 //! so that no depth of goals takes native stack.
 ghost use Rattle.std.specs.Prelude.{◌≡◌, ◌≤◌, ◌+◌, ℕ, Bool, true, false, None, IsTrue, IfOk, IfErr, IfSome, Ok, Err, [], ◌≢◌, max};
-ghost use Rattle.search_graph.specs.Below.{first_accepted, usable, IsPlainTo, IsPlainValue, frames_within, KeepsResults, Memory, Protocol, KeepsFinished, IsWhole, KeepsWhole, IsDecisive, IsDefinite, HasGraph, IsPaid};
+ghost use Rattle.search_graph.specs.Below.{first_accepted, usable, IsPlainTo, IsPlainValue, frames_within, KeepsResults, Memory, Protocol, KeepsFinished, IsWhole, KeepsWhole, IsDecisive, IsDefinite, HasGraph, IsPaid, verdicts};
 ghost use Rattle.search_graph.specs.Words.{IsCaused, IsProved, IsRefuted, AreDefinite, HaveNoOverflow};
 
 mod evaluate;
@@ -104,7 +104,7 @@ impl<D: Delegate> SearchGraph<D> {
         ensures neither { IfOk result (λ answer. D.Cx.is_yes answer.result ≡ false →
             D.Cx.is_no answer.result ≡ false → answer.node ≡ None) }
         ensures has_graph { IfOk result (λ answer.
-            HasGraph D.Cx.is_yes D.Cx.is_no cache.new.nodes input answer.result answer.node) }
+            HasGraph (verdicts D.Cx.Cx) cache.new.nodes input answer.result answer.node) }
 
         // So its graph is there to be handed out, and each graph that was stays so.
         ensures whole { IfOk result (λ answer. IfSome answer.node (λ node.
@@ -126,14 +126,14 @@ impl<D: Delegate> SearchGraph<D> {
         // Where scripts ask inductively and coinductively alone and decide after decided answers, and each stored
         // result is yes or no, an answer without a limit met is yes or no. So is each stored result then, also
         // after a fault.
-        ensures decisive { IsDecisive D.Cx.is_yes D.Cx.is_no (D.script cache.old.cx) →
-            AreDefinite D.Cx.is_yes D.Cx.is_no D.Cx.Input.eq cache.old.results →
+        ensures decisive { IsDecisive (verdicts D.Cx.Cx) (D.script cache.old.cx) →
+            AreDefinite (verdicts D.Cx.Cx) D.Cx.Input.eq cache.old.results →
             self.new.limits_met ≡ false →
-            IfOk result (λ answer. IsDefinite D.Cx.is_yes D.Cx.is_no answer.result) }
-        ensures decisive_results { IsDecisive D.Cx.is_yes D.Cx.is_no (D.script cache.old.cx) →
-            AreDefinite D.Cx.is_yes D.Cx.is_no D.Cx.Input.eq cache.old.results →
+            IfOk result (λ answer. IsDefinite (verdicts D.Cx.Cx) answer.result) }
+        ensures decisive_results { IsDecisive (verdicts D.Cx.Cx) (D.script cache.old.cx) →
+            AreDefinite (verdicts D.Cx.Cx) D.Cx.Input.eq cache.old.results →
             self.new.limits_met ≡ false →
-            AreDefinite D.Cx.is_yes D.Cx.is_no D.Cx.Input.eq cache.new.results }
+            AreDefinite (verdicts D.Cx.Cx) D.Cx.Input.eq cache.new.results }
 
         // A goal that a stored result answers takes no memory and starts no frame.
         ensures stored { IfSome (first_accepted (λ _. true)

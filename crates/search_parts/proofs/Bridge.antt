@@ -8,7 +8,7 @@ use Rattle.std.proofs.lemmas.Option.{slice_get-map, slice_get-get_or}
 use Rattle.open_graphs.specs.Graph as theory
 use Rattle.search_parts.specs.Below.{Walk, stay, go, cycle_kind, PathKind, Inductive, Coinductive, rank_of}
 use Rattle.open_graphs.proofs.Verdicts.{edges_of}
-use Rattle.search_parts.specs.Words.{Request, Reply, Edge, Question, EndsIn, progress_after, questions_answered, GraphNode, question_of, HasGoal, HasEdge, IsWalk, IsReached, walk_kind, IsProofGraph, IsRefutationGraph, EndedRun, CacheNode, IsNodeOf, IsRun, AreRuns, graph_node_of, graph_nodes_of, IsWhole, verdict_of, edge_shape, shape_of, shapes_of}
+use Rattle.search_parts.specs.Words.{Request, Reply, Edge, Question, EndsIn, progress_after, questions_answered, GraphNode, question_of, HasGoal, HasEdge, IsWalk, IsReached, walk_kind, IsProofGraph, IsRefutationGraph, EndedRun, CacheNode, IsNodeOf, IsRun, AreRuns, graph_node_of, graph_nodes_of, IsWhole, verdict_of, edge_shape, shape_of, shapes_of, Verdicts}
 use Rattle.search_parts.specs.Graph.{IsGraph}
 use Rattle.cycle_heads.proofs.PathRanks.{same_kind, greater_rank}
 use Rattle.search_parts.proofs.Nodes.{node_at}
@@ -20,35 +20,35 @@ graph_behind nodes verdict a k b edge g = record {
   closed = λ c q l d r w e x. g.closed c (max k q) l d r (go edge w) e x;
 }
 
-module _ {I R : Type 0} (is_yes is_no : R → Bool) where
+module _ {I R : Type 0} (says : Verdicts R) where
   -- a node whose run ended with the verdict
   pub record Ended (verdict : theory.Verdict) (o : Option (CacheNode I R)) : Type 0 where
     pub node : CacheNode I R
     pub run : EndedRun I R
     pub is : o ≡ Some node
     pub ended : node.run ≡ Some run
-    pub sort : verdict_of is_yes is_no run.outcome ≡ verdict
+    pub sort : verdict_of says run.outcome ≡ verdict
 
-  ended_run : (verdict : theory.Verdict) (goal : I) (r : Option (EndedRun I R)) (edges : List theory.Edge) → Some (shape_of is_yes is_no (record { goal = goal; run = r })) ≡ Some (theory.Finished verdict edges) → Ended verdict (Some (record { goal = goal; run = r }))
+  ended_run : (verdict : theory.Verdict) (goal : I) (r : Option (EndedRun I R)) (edges : List theory.Edge) → Some (shape_of says (record { goal = goal; run = r })) ≡ Some (theory.Finished verdict edges) → Ended verdict (Some (record { goal = goal; run = r }))
   ended_run verdict goal None edges e = absurd cc
   ended_run verdict goal (Some run) edges e = record { node = record { goal = goal; run = Some run }; run = run; is = refl; ended = refl; sort = cc }
 
-  ended_node : (verdict : theory.Verdict) (o : Option (CacheNode I R)) (edges : List theory.Edge) → option_map (shape_of is_yes is_no) o ≡ Some (theory.Finished verdict edges) → Ended verdict o
+  ended_node : (verdict : theory.Verdict) (o : Option (CacheNode I R)) (edges : List theory.Edge) → option_map (shape_of says) o ≡ Some (theory.Finished verdict edges) → Ended verdict o
   ended_node verdict None edges e = absurd cc
   ended_node verdict (Some n) edges e = ended_run verdict n.goal n.run edges e
 
   module _ (nodes : List (CacheNode I R)) (verdict : theory.Verdict) where
     abbrev Known : ℕ → Type 0
-    Known at = theory.IsClosedGraph (shapes_of is_yes is_no nodes) verdict at
+    Known at = theory.IsClosedGraph (shapes_of says nodes) verdict at
 
     abbrev Step : ℕ → ℕ → ℕ → Type 0
-    Step = theory.HasShapeEdge (shapes_of is_yes is_no nodes) verdict
+    Step = theory.HasShapeEdge (shapes_of says nodes) verdict
 
     -- the root of a graph is finished with its verdict
     pub ended_at : (at : ℕ) → Known at → Ended verdict (slice_get nodes at)
     ended_at at g =
-        let f = edges_of (shapes_of is_yes is_no nodes) verdict at (g.finished at 0 stay) in
-        ended_node verdict (slice_get nodes at) f.0 (sym (slice_get-map (shape_of is_yes is_no) nodes at) ∙ f.1)
+        let f = edges_of (shapes_of says nodes) verdict at (g.finished at 0 stay) in
+        ended_node verdict (slice_get nodes at) f.0 (sym (slice_get-map (shape_of says) nodes at) ∙ f.1)
 
     graph_node_at : (at : ℕ) (n : Ended verdict (slice_get nodes at)) → slice_get (graph_nodes_of nodes) at ≡ Some (record { goal = n.node.goal; edges = n.run.edges })
     graph_node_at at n =
@@ -70,9 +70,9 @@ module _ {I R : Type 0} (is_yes is_no : R → Bool) where
           edges = map edge_shape n.run.edges;
           index = i.0;
           finished =
-              slice_get-map (shape_of is_yes is_no) nodes at
-              ∙ (ap (option_map (shape_of is_yes is_no)) n.is
-              ∙ (ap (λ r. Some (shape_of is_yes is_no (record { goal = n.node.goal; run = r }))) n.ended
+              slice_get-map (shape_of says) nodes at
+              ∙ (ap (option_map (shape_of says)) n.is
+              ∙ (ap (λ r. Some (shape_of says (record { goal = n.node.goal; run = r }))) n.ended
               ∙ ap (λ v. Some (theory.Finished v (map edge_shape n.run.edges))) n.sort));
           edge = slice_get-map edge_shape n.run.edges i.0 ∙ ap (option_map edge_shape) i.1;
         }
@@ -82,7 +82,7 @@ module _ {I R : Type 0} (is_yes is_no : R → Bool) where
     walk_of from to [] g w = (subst (λ x. Walk Step from zero x) w stay, subst Known w g)
     walk_of from to (e ∷ rest) g w =
         let s = step_of from g e w.0 in
-        let r = walk_of e.target to rest (graph_behind (shapes_of is_yes is_no nodes) verdict from (rank_of e.kind) e.target s g) w.1 in
+        let r = walk_of e.target to rest (graph_behind (shapes_of says nodes) verdict from (rank_of e.kind) e.target s g) w.1 in
         (subst (λ q. Walk Step from q to) (greater_rank e.kind (walk_kind rest)) (go s r.0), r.1)
 
     pub known_at : (root at : ℕ) → Known root → IsReached (graph_nodes_of nodes) root at → Known at
@@ -95,9 +95,9 @@ module _ {I R : Type 0} (is_yes is_no : R → Bool) where
         subst (λ o. IsSome (elim o [ None ↦ None | Some m ↦ elim m.run [ None ↦ None | Some run ↦ Some m ] ])) (sym n.is)
         (subst (λ r. IsSome (elim r [ None ↦ None | Some run ↦ Some n.node ])) (sym n.ended) refl)
 
-  module _ (scripts : I → List (Reply R) → Request I R) (nodes : List (CacheNode I R)) (runs : AreRuns is_yes is_no scripts nodes)
+  module _ (scripts : I → List (Reply R) → Request I R) (nodes : List (CacheNode I R)) (runs : AreRuns says scripts nodes)
       (verdict : theory.Verdict) (rule : I → List (Question I) → Type 0) (kind : PathKind) (cycles : rank_of kind ≡ cycle_kind verdict)
-      (settles : (n : CacheNode I R) (run : EndedRun I R) → IsRun is_yes is_no (scripts n.goal) nodes run → verdict_of is_yes is_no run.outcome ≡ verdict → rule n.goal (map question_of run.edges)) where
+      (settles : (n : CacheNode I R) (run : EndedRun I R) → IsRun says (scripts n.goal) nodes run → verdict_of says run.outcome ≡ verdict → rule n.goal (map question_of run.edges)) where
     HasGoal-from : (at : ℕ) (goal : I) → IsNodeOf nodes at goal → HasGoal (graph_nodes_of nodes) at goal
     HasGoal-from at goal h =
         let w = node_at (slice_get nodes at) goal h in
@@ -119,7 +119,7 @@ module _ {I R : Type 0} (is_yes is_no : R → Bool) where
     cycle_at : (at : ℕ) (e : Edge I) (rest : List (Edge I)) → Known nodes verdict at → IsWalk (graph_nodes_of nodes) at (e ∷ rest) at → walk_kind (e ∷ rest) ≡ kind
     cycle_at at e rest g w =
         let s = step_of nodes verdict at g e w.0 in
-        let r = walk_of nodes verdict e.target at rest (graph_behind (shapes_of is_yes is_no nodes) verdict at (rank_of e.kind) e.target s g) w.1 in
+        let r = walk_of nodes verdict e.target at rest (graph_behind (shapes_of says nodes) verdict at (rank_of e.kind) e.target s g) w.1 in
         same_kind (walk_kind (e ∷ rest)) kind
         (sym (greater_rank e.kind (walk_kind rest))
         ∙ (g.closed at 0 (rank_of e.kind) e.target (rank_of (walk_kind rest)) stay s r.0 ∙ sym cycles))
@@ -148,19 +148,19 @@ KeepsRule {I} {R} test scripts rule =
     (goal : I) (replies : List (Reply R)) (r : R)
     → EndsIn (scripts goal) replies r → test r ≡ true → rule goal (questions_answered test (progress_after (scripts goal) replies))
 
-module _ {I R : Type 0} (is_yes is_no : R → Bool) (scripts : I → List (Reply R) → Request I R) (nodes : List (CacheNode I R)) (runs : AreRuns is_yes is_no scripts nodes) (root : ℕ) (goal : I) (is : IsNodeOf nodes root goal) where
-  pub yes_is_proof : (proves : I → List (Question I) → Type 0) → KeepsRule is_yes scripts proves → theory.IsClosedGraph (shapes_of is_yes is_no nodes) theory.Yes root → IsProofGraph proves (graph_nodes_of nodes) root goal
+module _ {I R : Type 0} (says : Verdicts R) (scripts : I → List (Reply R) → Request I R) (nodes : List (CacheNode I R)) (runs : AreRuns says scripts nodes) (root : ℕ) (goal : I) (is : IsNodeOf nodes root goal) where
+  pub yes_is_proof : (proves : I → List (Question I) → Type 0) → KeepsRule says.is_yes scripts proves → theory.IsClosedGraph (shapes_of says nodes) theory.Yes root → IsProofGraph proves (graph_nodes_of nodes) root goal
   yes_is_proof proves law g =
-      has_graph is_yes is_no scripts nodes runs theory.Yes proves Coinductive refl
+      has_graph says scripts nodes runs theory.Yes proves Coinductive refl
       (λ n run h sort.
-      let is_so = yes_case (is_yes run.outcome) (is_no run.outcome) sort in
+      let is_so = yes_case (says.is_yes run.outcome) (says.is_no run.outcome) sort in
       subst (proves n.goal) (sym (h.yes is_so)) (law n.goal (reverse run.replies) run.outcome h.ends is_so))
       root goal is g
 
-  pub no_is_refutation : (refutes : I → List (Question I) → Type 0) → KeepsRule is_no scripts refutes → theory.IsClosedGraph (shapes_of is_yes is_no nodes) theory.No root → IsRefutationGraph refutes (graph_nodes_of nodes) root goal
+  pub no_is_refutation : (refutes : I → List (Question I) → Type 0) → KeepsRule says.is_no scripts refutes → theory.IsClosedGraph (shapes_of says nodes) theory.No root → IsRefutationGraph refutes (graph_nodes_of nodes) root goal
   no_is_refutation refutes law g =
-      has_graph is_yes is_no scripts nodes runs theory.No refutes Inductive refl
+      has_graph says scripts nodes runs theory.No refutes Inductive refl
       (λ n run h sort.
-      let is_so = no_case (is_yes run.outcome) (is_no run.outcome) sort in
+      let is_so = no_case (says.is_yes run.outcome) (says.is_no run.outcome) sort in
       subst (refutes n.goal) (sym (h.no is_so)) (law n.goal (reverse run.replies) run.outcome h.ends is_so))
       root goal is g

@@ -4,7 +4,7 @@ use Rattle.std.specs.Option.{IfSome, IsSomeAnd}
 use Rattle.open_graphs.specs.Graph as theory
 use Rattle.open_graphs.proofs.Closed.{growth_keeps_graph}
 use Rattle.open_graphs.proofs.Verdicts.{edges_of}
-use Rattle.search_parts.specs.Words.{NodeId, Request, Reply, IsProofGraph, IsRefutationGraph, Question, CacheNode, IsNodeOf, KeepsGoals, KeepsFinished, AreRuns, graph_nodes_of, verdict_of, shapes_of, HasGraph, IsWhole}
+use Rattle.search_parts.specs.Words.{NodeId, Request, Reply, IsProofGraph, IsRefutationGraph, Question, CacheNode, IsNodeOf, KeepsGoals, KeepsFinished, AreRuns, graph_nodes_of, verdict_of, shapes_of, HasGraph, IsWhole, Verdicts}
 use Rattle.search_parts.proofs.Finished.{finished_stays, Grown-finished}
 use Rattle.search_parts.proofs.Bridge.{KeepsRule, whole_from_graph, yes_is_proof, no_is_refutation}
 
@@ -12,27 +12,27 @@ pub IsSomeAnd-weaker : {A : Type 0} (P Q : A → Type 0) → ((x : A) → P x �
 IsSomeAnd-weaker P Q more None h = absurd h
 IsSomeAnd-weaker P Q more (Some x) h = more x h
 
-module _ {I R : Type 0} (is_yes is_no : R → Bool) where
-  pub HasGraph-kept : (old new : List (CacheNode I R)) → KeepsGoals old new → theory.Grown (shapes_of is_yes is_no old) (shapes_of is_yes is_no new) → (goal : I) (r : R) (node : Option NodeId) → HasGraph is_yes is_no old goal r node → HasGraph is_yes is_no new goal r node
+module _ {I R : Type 0} (says : Verdicts R) where
+  pub HasGraph-kept : (old new : List (CacheNode I R)) → KeepsGoals old new → theory.Grown (shapes_of says old) (shapes_of says new) → (goal : I) (r : R) (node : Option NodeId) → HasGraph says old goal r node → HasGraph says new goal r node
   HasGraph-kept old new goals grown goal r node h = record {
     definite = λ definite.
-        IsSomeAnd-weaker (λ n. IsNodeOf old n.0 goal × theory.IsClosedGraph (shapes_of is_yes is_no old) (verdict_of is_yes is_no r) n.0)
-        (λ n. IsNodeOf new n.0 goal × theory.IsClosedGraph (shapes_of is_yes is_no new) (verdict_of is_yes is_no r) n.0)
-        (λ n g. (goals n.0 goal g.0, growth_keeps_graph (shapes_of is_yes is_no old) (shapes_of is_yes is_no new) (verdict_of is_yes is_no r) n.0 grown g.1))
+        IsSomeAnd-weaker (λ n. IsNodeOf old n.0 goal × theory.IsClosedGraph (shapes_of says old) (verdict_of says r) n.0)
+        (λ n. IsNodeOf new n.0 goal × theory.IsClosedGraph (shapes_of says new) (verdict_of says r) n.0)
+        (λ n g. (goals n.0 goal g.0, growth_keeps_graph (shapes_of says old) (shapes_of says new) (verdict_of says r) n.0 grown g.1))
         node (h.definite definite);
     neither = h.neither;
   }
 
   -- all that a graph reaches is finished, so it needs no other node
-  pub HasGraph-finished : (old new : List (CacheNode I R)) → KeepsFinished old new → (goal : I) (r : R) (node : Option NodeId) → HasGraph is_yes is_no old goal r node → HasGraph is_yes is_no new goal r node
+  pub HasGraph-finished : (old new : List (CacheNode I R)) → KeepsFinished old new → (goal : I) (r : R) (node : Option NodeId) → HasGraph says old goal r node → HasGraph says new goal r node
   HasGraph-finished old new kept goal r node h = record {
     definite = λ definite.
-        IsSomeAnd-weaker (λ n. IsNodeOf old n.0 goal × theory.IsClosedGraph (shapes_of is_yes is_no old) (verdict_of is_yes is_no r) n.0)
-        (λ n. IsNodeOf new n.0 goal × theory.IsClosedGraph (shapes_of is_yes is_no new) (verdict_of is_yes is_no r) n.0)
+        IsSomeAnd-weaker (λ n. IsNodeOf old n.0 goal × theory.IsClosedGraph (shapes_of says old) (verdict_of says r) n.0)
+        (λ n. IsNodeOf new n.0 goal × theory.IsClosedGraph (shapes_of says new) (verdict_of says r) n.0)
         (λ n g.
-        let root = edges_of (shapes_of is_yes is_no old) (verdict_of is_yes is_no r) n.0 (g.1.finished n.0 zero theory.stay) in (
-          ap (option_map (λ m. m.goal)) (finished_stays is_yes is_no old new kept n.0 (verdict_of is_yes is_no r) root.0 root.1) ∙ g.0,
-          growth_keeps_graph (shapes_of is_yes is_no old) (shapes_of is_yes is_no new) (verdict_of is_yes is_no r) n.0 (Grown-finished is_yes is_no old new kept) g.1,
+        let root = edges_of (shapes_of says old) (verdict_of says r) n.0 (g.1.finished n.0 zero theory.stay) in (
+          ap (option_map (λ m. m.goal)) (finished_stays says old new kept n.0 (verdict_of says r) root.0 root.1) ∙ g.0,
+          growth_keeps_graph (shapes_of says old) (shapes_of says new) (verdict_of says r) n.0 (Grown-finished says old new kept) g.1,
         ))
         node (h.definite definite);
     neither = h.neither;
@@ -50,24 +50,24 @@ no_verdict false false one e = absurd cc
 pub definite : (v w : theory.Verdict) → v ≡ w → (w ≡ theory.Neither → ⊥) → v ≡ theory.Neither → ⊥
 definite v w same other none = other (sym same ∙ none)
 
-module _ {I R : Type 0} (is_yes is_no : R → Bool) (scripts : I → List (Reply R) → Request I R) (nodes : List (CacheNode I R)) (runs : AreRuns is_yes is_no scripts nodes) (goal : I) (r : R) (node : Option NodeId) (has : HasGraph is_yes is_no nodes goal r node) where
+module _ {I R : Type 0} (says : Verdicts R) (scripts : I → List (Reply R) → Request I R) (nodes : List (CacheNode I R)) (runs : AreRuns says scripts nodes) (goal : I) (r : R) (node : Option NodeId) (has : HasGraph says nodes goal r node) where
   -- a yes shows that its goal holds
-  pub yes_is_shown : (proves : I → List (Question I) → Type 0) → KeepsRule is_yes scripts proves → is_yes r ≡ true → IsSomeAnd node (λ n. IsProofGraph proves (graph_nodes_of nodes) n.0 goal)
+  pub yes_is_shown : (proves : I → List (Question I) → Type 0) → KeepsRule says.is_yes scripts proves → says.is_yes r ≡ true → IsSomeAnd node (λ n. IsProofGraph proves (graph_nodes_of nodes) n.0 goal)
   yes_is_shown proves law is =
-      let yes : verdict_of is_yes is_no r ≡ theory.Yes = yes_verdict (is_yes r) (is_no r) is in
-      IsSomeAnd-weaker (λ n. IsNodeOf nodes n.0 goal × theory.IsClosedGraph (shapes_of is_yes is_no nodes) (verdict_of is_yes is_no r) n.0)
+      let yes : verdict_of says r ≡ theory.Yes = yes_verdict (says.is_yes r) (says.is_no r) is in
+      IsSomeAnd-weaker (λ n. IsNodeOf nodes n.0 goal × theory.IsClosedGraph (shapes_of says nodes) (verdict_of says r) n.0)
       (λ n. IsProofGraph proves (graph_nodes_of nodes) n.0 goal)
-      (λ n g. yes_is_proof is_yes is_no scripts nodes runs n.0 goal g.0 proves law (subst (λ v. theory.IsClosedGraph (shapes_of is_yes is_no nodes) v n.0) yes g.1))
-      node (has.definite (definite (verdict_of is_yes is_no r) theory.Yes yes (λ e. cc)))
+      (λ n g. yes_is_proof says scripts nodes runs n.0 goal g.0 proves law (subst (λ v. theory.IsClosedGraph (shapes_of says nodes) v n.0) yes g.1))
+      node (has.definite (definite (verdict_of says r) theory.Yes yes (λ e. cc)))
 
   -- a no shows that it does not
-  pub no_is_shown : (refutes : I → List (Question I) → Type 0) → KeepsRule is_no scripts refutes → (is_yes r ≡ true → is_no r ≡ false) → is_no r ≡ true → IsSomeAnd node (λ n. IsRefutationGraph refutes (graph_nodes_of nodes) n.0 goal)
+  pub no_is_shown : (refutes : I → List (Question I) → Type 0) → KeepsRule says.is_no scripts refutes → (says.is_yes r ≡ true → says.is_no r ≡ false) → says.is_no r ≡ true → IsSomeAnd node (λ n. IsRefutationGraph refutes (graph_nodes_of nodes) n.0 goal)
   no_is_shown refutes law one is =
-      let no : verdict_of is_yes is_no r ≡ theory.No = no_verdict (is_yes r) (is_no r) one is in
-      IsSomeAnd-weaker (λ n. IsNodeOf nodes n.0 goal × theory.IsClosedGraph (shapes_of is_yes is_no nodes) (verdict_of is_yes is_no r) n.0)
+      let no : verdict_of says r ≡ theory.No = no_verdict (says.is_yes r) (says.is_no r) one is in
+      IsSomeAnd-weaker (λ n. IsNodeOf nodes n.0 goal × theory.IsClosedGraph (shapes_of says nodes) (verdict_of says r) n.0)
       (λ n. IsRefutationGraph refutes (graph_nodes_of nodes) n.0 goal)
-      (λ n g. no_is_refutation is_yes is_no scripts nodes runs n.0 goal g.0 refutes law (subst (λ v. theory.IsClosedGraph (shapes_of is_yes is_no nodes) v n.0) no g.1))
-      node (has.definite (definite (verdict_of is_yes is_no r) theory.No no (λ e. cc)))
+      (λ n g. no_is_refutation says scripts nodes runs n.0 goal g.0 refutes law (subst (λ v. theory.IsClosedGraph (shapes_of says nodes) v n.0) no g.1))
+      node (has.definite (definite (verdict_of says r) theory.No no (λ e. cc)))
 
 is_neither : (v : theory.Verdict) → (v ≡ theory.Neither) ⊎ (v ≡ theory.Neither → ⊥)
 is_neither theory.Yes = inr (λ e. cc)
@@ -75,9 +75,9 @@ is_neither theory.No = inr (λ e. cc)
 is_neither theory.Neither = inl refl
 
 -- all that the node of a result reaches is finished
-pub definite_is_whole : {I R : Type 0} (is_yes is_no : R → Bool) (nodes : List (CacheNode I R)) (goal : I) (r : R) (node : Option NodeId) → HasGraph is_yes is_no nodes goal r node → IfSome node (λ n. IsWhole nodes n.0)
-definite_is_whole is_yes is_no nodes goal r None has = tt
-definite_is_whole is_yes is_no nodes goal r (Some n) has = elim (is_neither (verdict_of is_yes is_no r)) [
+pub definite_is_whole : {I R : Type 0} (says : Verdicts R) (nodes : List (CacheNode I R)) (goal : I) (r : R) (node : Option NodeId) → HasGraph says nodes goal r node → IfSome node (λ n. IsWhole nodes n.0)
+definite_is_whole says nodes goal r None has = tt
+definite_is_whole says nodes goal r (Some n) has = elim (is_neither (verdict_of says r)) [
   | inl neither ↦ let none : Some n ≡ None = has.neither neither in absurd cc
-  | inr is_definite ↦ whole_from_graph is_yes is_no nodes (verdict_of is_yes is_no r) n.0 (has.definite is_definite).1
+  | inr is_definite ↦ whole_from_graph says nodes (verdict_of says r) n.0 (has.definite is_definite).1
 ]

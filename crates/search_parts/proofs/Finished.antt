@@ -4,7 +4,7 @@ use native.Mathlib.Decide.{ℕ_discrete}
 use Rattle.std.specs.Option.{IsSomeAnd}
 use Rattle.std.proofs.lemmas.Option.{slice_get-map}
 use Rattle.open_graphs.specs.Graph as theory
-use Rattle.search_parts.specs.Words.{EndedRun, CacheNode, open_goal, finished_node, with_run, KeepsNodes, KeepsFinished, run_shape, shape_of, shapes_of}
+use Rattle.search_parts.specs.Words.{EndedRun, CacheNode, open_goal, finished_node, with_run, KeepsNodes, KeepsFinished, run_shape, shape_of, shapes_of, Verdicts}
 use Rattle.search_parts.proofs.Nodes.{before, others_are}
 
 -- the list stays, or stays twice
@@ -47,28 +47,28 @@ pub found_finished : {I R : Type 0} (o : Option (CacheNode I R)) (n : CacheNode 
 found_finished None n h = absurd cc
 found_finished (Some m) n h = finished_at m n m.run h
 
-module _ {I R : Type 0} (is_yes is_no : R → Bool) where
+module _ {I R : Type 0} (says : Verdicts R) where
   has_run : (m : CacheNode I R) (run : Option (EndedRun I R)) (verdict : theory.Verdict) (edges : List theory.Edge)
-      → elim run [ None ↦ theory.Unfinished | Some r ↦ run_shape is_yes is_no r ] ≡ theory.Finished verdict edges → elim run [ None ↦ None | Some r ↦ Some m ] ≡ Some m
+      → elim run [ None ↦ theory.Unfinished | Some r ↦ run_shape says r ] ≡ theory.Finished verdict edges → elim run [ None ↦ None | Some r ↦ Some m ] ≡ Some m
   has_run m None verdict edges h = absurd cc
   has_run m (Some r) verdict edges h = refl
 
   finished_stay : (o p : Option (CacheNode I R)) (verdict : theory.Verdict) (edges : List theory.Edge)
       → ((n : CacheNode I R) → elim o [ None ↦ None | Some m ↦ elim m.run [ None ↦ None | Some run ↦ Some m ] ] ≡ Some n → elim p [ None ↦ None | Some m ↦ elim m.run [ None ↦ None | Some run ↦ Some m ] ] ≡ Some n)
-      → option_map (shape_of is_yes is_no) o ≡ Some (theory.Finished verdict edges) → p ≡ o
+      → option_map (shape_of says) o ≡ Some (theory.Finished verdict edges) → p ≡ o
   finished_stay None p verdict edges kept is = absurd cc
   finished_stay (Some m) p verdict edges kept is =
-      let shape : shape_of is_yes is_no m ≡ theory.Finished verdict edges = cc in
+      let shape : shape_of says m ≡ theory.Finished verdict edges = cc in
       found_finished p m (kept m (has_run m m.run verdict edges shape))
 
   module _ (nodes more : List (CacheNode I R)) (kept : KeepsFinished nodes more) where
     -- a node whose shape is finished stays
-    pub finished_stays : (at : ℕ) (verdict : theory.Verdict) (edges : List theory.Edge) → slice_get (shapes_of is_yes is_no nodes) at ≡ Some (theory.Finished verdict edges) → slice_get more at ≡ slice_get nodes at
+    pub finished_stays : (at : ℕ) (verdict : theory.Verdict) (edges : List theory.Edge) → slice_get (shapes_of says nodes) at ≡ Some (theory.Finished verdict edges) → slice_get more at ≡ slice_get nodes at
     finished_stays at verdict edges is =
-        finished_stay (slice_get nodes at) (slice_get more at) verdict edges (kept at) (sym (slice_get-map (shape_of is_yes is_no) nodes at) ∙ is)
+        finished_stay (slice_get nodes at) (slice_get more at) verdict edges (kept at) (sym (slice_get-map (shape_of says) nodes at) ∙ is)
 
     -- so the list has grown
-    pub Grown-finished : theory.Grown (shapes_of is_yes is_no nodes) (shapes_of is_yes is_no more)
+    pub Grown-finished : theory.Grown (shapes_of says nodes) (shapes_of says more)
     Grown-finished at verdict edges is =
-        slice_get-map (shape_of is_yes is_no) more at
-        ∙ (ap (option_map (shape_of is_yes is_no)) (finished_stays at verdict edges is) ∙ (sym (slice_get-map (shape_of is_yes is_no) nodes at) ∙ is))
+        slice_get-map (shape_of says) more at
+        ∙ (ap (option_map (shape_of says)) (finished_stays at verdict edges is) ∙ (sym (slice_get-map (shape_of says) nodes at) ∙ is))

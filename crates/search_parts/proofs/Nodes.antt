@@ -8,7 +8,7 @@ use Rattle.std.proofs.lemmas.Option.{slice_get-map}
 use Rattle.open_graphs.specs.Graph as theory
 use Rattle.open_graphs.proofs.Lists.{get_left, get_cases, get_set_same, get_set_other}
 use Rattle.open_graphs.proofs.Keep.{append_grows, finish_grows}
-use Rattle.search_parts.specs.Words.{Request, Reply, EndedRun, CacheNode, open_node, open_goal, with_run, IsNodeOf, IsRun, AreRuns, KeepsNodes, KeepsGoals, run_shape, shape_of, shapes_of}
+use Rattle.search_parts.specs.Words.{Request, Reply, EndedRun, CacheNode, open_node, open_goal, with_run, IsNodeOf, IsRun, AreRuns, KeepsNodes, KeepsGoals, run_shape, shape_of, shapes_of, Verdicts}
 
 -- what is at a place
 pub node_at : {I R : Type 0} (o : Option (CacheNode I R)) (goal : I) → option_map (λ n. n.goal) o ≡ Some goal → (n : CacheNode I R) × (o ≡ Some n) × (n.goal ≡ goal)
@@ -22,8 +22,8 @@ KeepsGoals-from : {I R : Type 0} (old new : List (CacheNode I R)) → KeepsNodes
 KeepsGoals-from old new kept at goal h = let w = node_at (slice_get old at) goal h in IsNodeOf-from new at w.0 goal (kept at w.0 w.1) w.2
 
 -- a run stays one while the nodes keep their goals
-IsRun-kept : {I R : Type 0} (is_yes is_no : R → Bool) (script : List (Reply R) → Request I R) (old new : List (CacheNode I R)) (run : EndedRun I R) → KeepsGoals old new → IsRun is_yes is_no script old run → IsRun is_yes is_no script new run
-IsRun-kept is_yes is_no script old new run kept h = record {
+IsRun-kept : {I R : Type 0} (says : Verdicts R) (script : List (Reply R) → Request I R) (old new : List (CacheNode I R)) (run : EndedRun I R) → KeepsGoals old new → IsRun says script old run → IsRun says script new run
+IsRun-kept says script old new run kept h = record {
   ends = h.ends;
   yes = h.yes;
   no = h.no;
@@ -41,20 +41,20 @@ KeepsNodes-appended false nodes goal at n is = is
 pub KeepsGoals-appended : {I R : Type 0} (grew : Bool) (nodes : List (CacheNode I R)) (goal : I) → KeepsGoals nodes (appended grew nodes goal)
 KeepsGoals-appended grew nodes goal = KeepsGoals-from nodes (appended grew nodes goal) (KeepsNodes-appended grew nodes goal)
 
-pub Grown-appended : {I R : Type 0} (is_yes is_no : R → Bool) (grew : Bool) (nodes : List (CacheNode I R)) (goal : I) → theory.Grown (shapes_of is_yes is_no nodes) (shapes_of is_yes is_no (appended grew nodes goal))
-Grown-appended is_yes is_no true nodes goal =
-    subst (theory.Grown (shapes_of is_yes is_no nodes)) (sym (map-append (shape_of is_yes is_no) nodes (open_node goal ∷ []))) (append_grows (shapes_of is_yes is_no nodes))
-Grown-appended is_yes is_no false nodes goal = λ at verdict edges is. is
+pub Grown-appended : {I R : Type 0} (says : Verdicts R) (grew : Bool) (nodes : List (CacheNode I R)) (goal : I) → theory.Grown (shapes_of says nodes) (shapes_of says (appended grew nodes goal))
+Grown-appended says true nodes goal =
+    subst (theory.Grown (shapes_of says nodes)) (sym (map-append (shape_of says) nodes (open_node goal ∷ []))) (append_grows (shapes_of says nodes))
+Grown-appended says false nodes goal = λ at verdict edges is. is
 
-AreRuns-grown : {I R : Type 0} (is_yes is_no : R → Bool) (scripts : I → List (Reply R) → Request I R) (nodes : List (CacheNode I R)) (goal : I) → AreRuns is_yes is_no scripts nodes → AreRuns is_yes is_no scripts (nodes ++ open_node goal ∷ [])
-AreRuns-grown is_yes is_no scripts nodes goal h at n run is ended = elim (get_cases nodes (open_node goal) at n is) [
-  | inl old ↦ IsRun-kept is_yes is_no (scripts n.goal) nodes (nodes ++ open_node goal ∷ []) run (KeepsGoals-appended true nodes goal) (h at n run old ended)
+AreRuns-grown : {I R : Type 0} (says : Verdicts R) (scripts : I → List (Reply R) → Request I R) (nodes : List (CacheNode I R)) (goal : I) → AreRuns says scripts nodes → AreRuns says scripts (nodes ++ open_node goal ∷ [])
+AreRuns-grown says scripts nodes goal h at n run is ended = elim (get_cases nodes (open_node goal) at n is) [
+  | inl old ↦ IsRun-kept says (scripts n.goal) nodes (nodes ++ open_node goal ∷ []) run (KeepsGoals-appended true nodes goal) (h at n run old ended)
   | inr new ↦ let none : None ≡ Some run = ap (λ x. x.run) new.1 ∙ ended in absurd cc
 ]
 
-pub AreRuns-appended : {I R : Type 0} (is_yes is_no : R → Bool) (scripts : I → List (Reply R) → Request I R) (grew : Bool) (nodes : List (CacheNode I R)) (goal : I) → AreRuns is_yes is_no scripts nodes → AreRuns is_yes is_no scripts (appended grew nodes goal)
-AreRuns-appended is_yes is_no scripts true nodes goal h = AreRuns-grown is_yes is_no scripts nodes goal h
-AreRuns-appended is_yes is_no scripts false nodes goal h = h
+pub AreRuns-appended : {I R : Type 0} (says : Verdicts R) (scripts : I → List (Reply R) → Request I R) (grew : Bool) (nodes : List (CacheNode I R)) (goal : I) → AreRuns says scripts nodes → AreRuns says scripts (appended grew nodes goal)
+AreRuns-appended says scripts true nodes goal h = AreRuns-grown says scripts nodes goal h
+AreRuns-appended says scripts false nodes goal h = h
 
 open_case : {I R : Type 0} (goal : I) (run : Option (EndedRun I R)) (P : I → Type 0) → IsSomeAnd (elim run [ None ↦ Some goal | Some r ↦ None ]) P → (run ≡ None) × P goal
 open_case goal None P h = (refl, h)
@@ -94,18 +94,18 @@ module _ {I R : Type 0} (nodes : List (CacheNode I R)) (k : ℕ) (run : EndedRun
         | no d ↦ ap (option_map (λ n. n.goal)) (others_are at d) ∙ h
       ]
 
-  pub Grown-ended : (is_yes is_no : R → Bool) → theory.Grown (shapes_of is_yes is_no nodes) (shapes_of is_yes is_no (with_run nodes k run))
-  Grown-ended is_yes is_no =
-      subst (λ more. theory.Grown (shapes_of is_yes is_no nodes) (shapes_of is_yes is_no more)) (sym with_run-is)
-      (subst (theory.Grown (shapes_of is_yes is_no nodes)) (sym (map-set (shape_of is_yes is_no) nodes k after))
-      (finish_grows (shapes_of is_yes is_no nodes) k (run_shape is_yes is_no run)
-      (slice_get-map (shape_of is_yes is_no) nodes k
-      ∙ (ap (option_map (shape_of is_yes is_no)) before.1
-      ∙ ap (λ r. Some (shape_of is_yes is_no (record { goal = before.0.goal; run = r }))) before.2))))
+  pub Grown-ended : (says : Verdicts R) → theory.Grown (shapes_of says nodes) (shapes_of says (with_run nodes k run))
+  Grown-ended says =
+      subst (λ more. theory.Grown (shapes_of says nodes) (shapes_of says more)) (sym with_run-is)
+      (subst (theory.Grown (shapes_of says nodes)) (sym (map-set (shape_of says) nodes k after))
+      (finish_grows (shapes_of says nodes) k (run_shape says run)
+      (slice_get-map (shape_of says) nodes k
+      ∙ (ap (option_map (shape_of says)) before.1
+      ∙ ap (λ r. Some (shape_of says (record { goal = before.0.goal; run = r }))) before.2))))
 
-pub AreRuns-ended : {I R : Type 0} (is_yes is_no : R → Bool) (scripts : I → List (Reply R) → Request I R) (nodes : List (CacheNode I R)) (k : ℕ) (run : EndedRun I R) → IsSomeAnd (open_goal nodes k) (λ goal. IsRun is_yes is_no (scripts goal) nodes run) → AreRuns is_yes is_no scripts nodes → AreRuns is_yes is_no scripts (with_run nodes k run)
-AreRuns-ended {I} {R} is_yes is_no scripts nodes k run is_open h at n r there ended =
-    let P : I → Type 0 = λ goal. IsRun is_yes is_no (scripts goal) nodes run in
+pub AreRuns-ended : {I R : Type 0} (says : Verdicts R) (scripts : I → List (Reply R) → Request I R) (nodes : List (CacheNode I R)) (k : ℕ) (run : EndedRun I R) → IsSomeAnd (open_goal nodes k) (λ goal. IsRun says (scripts goal) nodes run) → AreRuns says scripts nodes → AreRuns says scripts (with_run nodes k run)
+AreRuns-ended {I} {R} says scripts nodes k run is_open h at n r there ended =
+    let P : I → Type 0 = λ goal. IsRun says (scripts goal) nodes run in
     let kept = KeepsGoals-ended nodes k run P is_open in
     let w = before nodes k run P is_open in
     elim (ℕ_discrete at k) [
@@ -114,9 +114,9 @@ AreRuns-ended {I} {R} is_yes is_no scripts nodes k run is_open h at n r there en
           sym (node_is nodes k run P is_open) ∙ (ap (slice_get (with_run nodes k run)) (sym e) ∙ there) in
           let goals : w.0.goal ≡ n.goal = cc in
           let runs : run ≡ r = cc in
-          IsRun-kept is_yes is_no (scripts n.goal) nodes (with_run nodes k run) r kept
-          (subst (λ g. IsRun is_yes is_no (scripts g) nodes r) goals (subst (IsRun is_yes is_no (scripts w.0.goal) nodes) runs w.3))
+          IsRun-kept says (scripts n.goal) nodes (with_run nodes k run) r kept
+          (subst (λ g. IsRun says (scripts g) nodes r) goals (subst (IsRun says (scripts w.0.goal) nodes) runs w.3))
       | no d ↦
-          IsRun-kept is_yes is_no (scripts n.goal) nodes (with_run nodes k run) r kept
+          IsRun-kept says (scripts n.goal) nodes (with_run nodes k run) r kept
           (h at n r (sym (others_are nodes k run P is_open at d) ∙ there) ended)
     ]

@@ -3,7 +3,7 @@ use Rattle.std.proofs.Common.{◌≡◌, ℕ, ◌<◌, Bool, true, false, if◌t
 use Rattle.std.specs.Option.{IsSomeAnd}
 use Rattle.std.proofs.lemmas.List.{map-append, map-set}
 use Rattle.std.proofs.lemmas.Option.{slice_get-map, slice_get_read, get_or_from_slice_get}
-use Rattle.search_parts.specs.Words.{Node, Request, Reply, Slot, Open, Finished, StoredResult, CacheNode, Cache, open_goal, with_run, IsRun, AreRuns, Store, run_of, ended_node, node_of}
+use Rattle.search_parts.specs.Words.{Node, Request, Reply, Slot, Open, Finished, StoredResult, CacheNode, Cache, open_goal, with_run, IsRun, AreRuns, Store, run_of, ended_node, node_of, Verdicts}
 use Rattle.search_parts.proofs.Nodes.{appended, before, with_run-is}
 
 pushed_nodes : {I R : Type 0} (grew : Bool) (slots : List (Slot I R)) (goal : I) → map node_of (if grew then slots ++ Open goal ∷ [] else slots) ≡ appended grew (map node_of slots) goal
@@ -47,9 +47,9 @@ cache_ended cx slots results cache k slot n P view there goal is_open =
     λ i. record { cx = (view i).cx; nodes = nodes i; results = (view i).results }
 
 -- a finished slot is a run of its goal
-pub finished_is_run : {X I R A T : Type 0} (is_yes is_no : R → Bool) (scripts : X → I → List (Reply R) → Request I R) (cx : X) (slots items : List (Slot I R)) (results : Store I (StoredResult X I R A T)) (cache : Cache X I R A T) (at : ℕ) (slot : Slot I R) (n : Node I R) → record { cx = cx; nodes = map node_of slots; results = results } ≡ cache → AreRuns is_yes is_no (scripts cx) (map node_of slots) → items ≡ slots → at < length items → slot ≡ get_or items at slot → slot ≡ Finished n → IsRun is_yes is_no (scripts cache.cx n.input) cache.nodes (run_of n)
-finished_is_run is_yes is_no scripts cx slots items results cache at slot n view runs same within there is =
+pub finished_is_run : {X I R A T : Type 0} (says : Verdicts R) (scripts : X → I → List (Reply R) → Request I R) (cx : X) (slots items : List (Slot I R)) (results : Store I (StoredResult X I R A T)) (cache : Cache X I R A T) (at : ℕ) (slot : Slot I R) (n : Node I R) → record { cx = cx; nodes = map node_of slots; results = results } ≡ cache → AreRuns says (scripts cx) (map node_of slots) → items ≡ slots → at < length items → slot ≡ get_or items at slot → slot ≡ Finished n → IsRun says (scripts cache.cx n.input) cache.nodes (run_of n)
+finished_is_run says scripts cx slots items results cache at slot n view runs same within there is =
     let found : slice_get slots at ≡ Some (Finished n) =
     ap (λ list. slice_get list at) (sym same) ∙ (slice_get_read items (length items) at slot refl within there ∙ ap Some is) in
-    subst (λ c. IsRun is_yes is_no (scripts c.cx n.input) c.nodes (run_of n)) view
+    subst (λ c. IsRun says (scripts c.cx n.input) c.nodes (run_of n)) view
     (runs at (ended_node n) (run_of n) (slice_get-map node_of slots at ∙ ap (option_map node_of) found) refl)

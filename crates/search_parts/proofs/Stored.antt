@@ -6,36 +6,36 @@ use Rattle.std.specs.Option.{IfSome, option_map, option_or}
 use Rattle.std.proofs.lemmas.Bool.{leb-true}
 use Rattle.std.proofs.lemmas.List.Folds.{find-append}
 use Rattle.search_parts.specs.Below.{Grown}
-use Rattle.search_parts.specs.Words.{Request, Reply, Fault, Conflict, Memory, CacheData, Place, Success, WithOverflow, StoredResult, CacheNode, KeepsGoals, HasGraph, Hit, hit_of, hit_at, successes, overflows, usable, first_accepted, NestedPaths, IsPlainTo, IsPlain, IsBelowRank, shapes_of, Store, stored_at, AnswersStoring, Puts, IsSoundResult, AreSoundResults}
+use Rattle.search_parts.specs.Words.{Request, Reply, Fault, Conflict, Memory, CacheData, Place, Success, WithOverflow, StoredResult, CacheNode, KeepsGoals, HasGraph, Hit, hit_of, hit_at, successes, overflows, usable, first_accepted, NestedPaths, IsPlainTo, IsPlain, IsBelowRank, shapes_of, Store, stored_at, AnswersStoring, Puts, IsSoundResult, AreSoundResults, Verdicts}
 use Rattle.search_parts.proofs.Definites.{HasGraph-kept}
 use Rattle.search_parts.proofs.Ranks.{one_plain_value}
 use Rattle.search_parts.proofs.Stores.{put_cases}
 
-module _ {X I R A T : Type 0} (same : I → I → Bool) (is_yes is_no : R → Bool) (scripts : I → List (Reply R) → Request I R) where
-  pub AreSoundResults-grown : (old new : List (CacheNode I R)) (results : Store I (StoredResult X I R A T)) → KeepsGoals old new → Grown (shapes_of is_yes is_no old) (shapes_of is_yes is_no new)
-      → AreSoundResults same is_yes is_no scripts old results → AreSoundResults same is_yes is_no scripts new results
+module _ {X I R A T : Type 0} (same : I → I → Bool) (says : Verdicts R) (scripts : I → List (Reply R) → Request I R) where
+  pub AreSoundResults-grown : (old new : List (CacheNode I R)) (results : Store I (StoredResult X I R A T)) → KeepsGoals old new → Grown (shapes_of says old) (shapes_of says new)
+      → AreSoundResults same says scripts old results → AreSoundResults same says scripts new results
   AreSoundResults-grown old new results goals grown kept input place s is =
       let k = kept input place s is in
-      record { graph = HasGraph-kept is_yes is_no old new goals grown input s.result.result s.node k.graph; plain = k.plain }
+      record { graph = HasGraph-kept says old new goals grown input s.result.result s.node k.graph; plain = k.plain }
 
-  module _ (by_value : (x y : I) → same x y ≡ true → x ≡ y) (nodes : List (CacheNode I R)) (old new : Store I (StoredResult X I R A T)) (input : I) (place : Place) (stored : StoredResult X I R A T) (may : IsSoundResult is_yes is_no scripts nodes input place stored) (kept : AreSoundResults same is_yes is_no scripts nodes old) where
-    pub AreSoundResults-put : Puts same old new input place stored → AreSoundResults same is_yes is_no scripts nodes new
+  module _ (by_value : (x y : I) → same x y ≡ true → x ≡ y) (nodes : List (CacheNode I R)) (old new : Store I (StoredResult X I R A T)) (input : I) (place : Place) (stored : StoredResult X I R A T) (may : IsSoundResult says scripts nodes input place stored) (kept : AreSoundResults same says scripts nodes old) where
+    pub AreSoundResults-put : Puts same old new input place stored → AreSoundResults same says scripts nodes new
     AreSoundResults-put puts other at s is = elim (put_cases same by_value old new input place stored puts other at) [
       | inl w ↦
           let there : Some stored ≡ Some s = sym puts.here ∙ (ap₂ (stored_at same new) w.0 w.1 ∙ is) in
           let e : stored ≡ s = cc in
-          subst₂ (λ i p. IsSoundResult is_yes is_no scripts nodes i p s) w.0 w.1 (subst (IsSoundResult is_yes is_no scripts nodes input place) e may)
+          subst₂ (λ i p. IsSoundResult says scripts nodes i p s) w.0 w.1 (subst (IsSoundResult says scripts nodes input place) e may)
       | inr unchanged ↦ kept other at s (sym unchanged ∙ is)
     ]
 
     -- a result is stored, or nothing changes
-    pub AreSoundResults-stored : {U E : Type 0} (answer : Result U E) → OnOk answer (Puts same old new input place stored) → OnErr answer (new ≡ old) → AreSoundResults same is_yes is_no scripts nodes new
+    pub AreSoundResults-stored : {U E : Type 0} (answer : Result U E) → OnOk answer (Puts same old new input place stored) → OnErr answer (new ≡ old) → AreSoundResults same says scripts nodes new
     AreSoundResults-stored (Ok u) ok err = AreSoundResults-put ok
-    AreSoundResults-stored (Err e) ok err = subst (AreSoundResults same is_yes is_no scripts nodes) (sym err) kept
+    AreSoundResults-stored (Err e) ok err = subst (AreSoundResults same says scripts nodes) (sym err) kept
 
 -- what a used result is worth
-pub record IsWorth {I R T : Type 0} (is_yes is_no : R → Bool) (scripts : I → List (Reply R) → Request I R) (nodes : List (CacheNode I R)) (input : I) (available : ℕ) (hit : Hit I R T) : Type 0 where
-  pub graph : HasGraph is_yes is_no nodes input hit.result hit.node
+pub record IsWorth {I R T : Type 0} (says : Verdicts R) (scripts : I → List (Reply R) → Request I R) (nodes : List (CacheNode I R)) (input : I) (available : ℕ) (hit : Hit I R T) : Type 0 where
+  pub graph : HasGraph says nodes input hit.result hit.node
   pub value : hit.encountered_overflow ≡ false → IsPlain scripts input hit.result
   pub overflow : hit.encountered_overflow ≡ true → IsBelowRank scripts input available
   pub within : hit.required_depth ≤ available
@@ -80,11 +80,11 @@ module _ {X I R A T : Type 0} (P : Hit I R T → Type 0) (same : I → I → Boo
       (either P (first_accepted accepts (successes available (stored_at same results input Success))) (first_accepted accepts (overflows available (stored_at same results input (WithOverflow available))))
       (success_holds (stored_at same results input Success) success) (overflow_holds (stored_at same results input (WithOverflow available)) overflow)))
 
-pub result_is_worth : {X I R A T : Type 0} (is_yes is_no : R → Bool) (scripts : I → List (Reply R) → Request I R) (nodes : List (CacheNode I R)) (input : I) (available : ℕ) (accepts : NestedPaths I → Bool) (same : I → I → Bool) (results : Store I (StoredResult X I R A T)) (found : Option (CacheData X I R A T))
-    → AreSoundResults same is_yes is_no scripts nodes results → option_map hit_of found ≡ first_accepted accepts (usable same results input available)
-    → IfSome found (λ hit. IsWorth is_yes is_no scripts nodes input available (hit_of hit))
-result_is_worth is_yes is_no scripts nodes input available accepts same results found kept is =
-    used_holds (IsWorth is_yes is_no scripts nodes input available) same results input available accepts found
+pub result_is_worth : {X I R A T : Type 0} (says : Verdicts R) (scripts : I → List (Reply R) → Request I R) (nodes : List (CacheNode I R)) (input : I) (available : ℕ) (accepts : NestedPaths I → Bool) (same : I → I → Bool) (results : Store I (StoredResult X I R A T)) (found : Option (CacheData X I R A T))
+    → AreSoundResults same says scripts nodes results → option_map hit_of found ≡ first_accepted accepts (usable same results input available)
+    → IfSome found (λ hit. IsWorth says scripts nodes input available (hit_of hit))
+result_is_worth says scripts nodes input available accepts same results found kept is =
+    used_holds (IsWorth says scripts nodes input available) same results input available accepts found
     (λ s at within. let k = kept input Success s at in record { graph = k.graph; value = λ e. k.plain; overflow = λ e. absurd cc; within = within })
     (λ s at. let k = kept input (WithOverflow available) s at in record { graph = k.graph; value = λ e. absurd cc; overflow = λ e. k.plain; within = omega arith }) is
 
@@ -94,9 +94,9 @@ IfSome-weaker P Q weaker None h = tt
 IfSome-weaker P Q weaker (Some x) h = weaker x h
 
 -- a plain value is stored, or its equal is there
-pub ranked_never_conflicts : {X I R A T : Type 0} (same : I → I → Bool) (is_yes is_no : R → Bool) (scripts : I → List (Reply R) → Request I R) (nodes : List (CacheNode I R)) (results : Store I (StoredResult X I R A T)) (equal : R → R → Bool) → IsEquivalence equal → AreSoundResults same is_yes is_no scripts nodes results → (n : ℕ) (input : I) (found : R) → IsPlainTo scripts n input → IsPlain scripts input found → (o : Option (StoredResult X I R A T)) → stored_at same results input Success ≡ o → (answer : Result (Unit {0}) (Fault I R)) → AnswersStoring equal input o found answer → IfErr answer (λ fault. fault ≡ Memory)
-ranked_never_conflicts same is_yes is_no scripts nodes results equal laws kept n input found ranked plain None at answer is = is
-ranked_never_conflicts same is_yes is_no scripts nodes results equal laws kept n input found ranked plain (Some s) at answer is =
+pub ranked_never_conflicts : {X I R A T : Type 0} (same : I → I → Bool) (says : Verdicts R) (scripts : I → List (Reply R) → Request I R) (nodes : List (CacheNode I R)) (results : Store I (StoredResult X I R A T)) (equal : R → R → Bool) → IsEquivalence equal → AreSoundResults same says scripts nodes results → (n : ℕ) (input : I) (found : R) → IsPlainTo scripts n input → IsPlain scripts input found → (o : Option (StoredResult X I R A T)) → stored_at same results input Success ≡ o → (answer : Result (Unit {0}) (Fault I R)) → AnswersStoring equal input o found answer → IfErr answer (λ fault. fault ≡ Memory)
+ranked_never_conflicts same says scripts nodes results equal laws kept n input found ranked plain None at answer is = is
+ranked_never_conflicts same says scripts nodes results equal laws kept n input found ranked plain (Some s) at answer is =
     let one : s.result.result ≡ found = one_plain_value scripts n input s.result.result found ((kept input Success s at).plain n ranked) (plain n ranked) in
     let agrees : equal s.result.result found ≡ true = ap (equal s.result.result) (sym one) ∙ laws.refl s.result.result in
     let ok : answer ≡ Ok tt = is ∙ ap (λ b. if b then Ok tt else Err (Conflict input s.result.result found)) agrees in

@@ -5,14 +5,14 @@ use Rattle.std.proofs.lemmas.List.{length-map}
 use Rattle.std.proofs.lemmas.Option.{slice_get-map, slice_get_within, get_or_from_slice_get}
 use Rattle.open_graphs.specs.Graph as theory
 use Rattle.search_parts.specs.Below.{cycle_kind, rank_of, PathKind, Inductive, Coinductive}
-use Rattle.search_parts.specs.Words.{Edge, Node, NodeId, Reply, Request, EndedRun, CacheNode, IsNodeOf, IsRun, AreRuns, graph_node_of, graph_nodes_of, HasGraph, GraphNode, question_of, HasGoal, HasEdge, IsWalk, IsCopy, original_edge, walk_kind, original_node, Copies, progress_after, questions_answered, verdict_of, shapes_of, goal_node_of, goal_nodes_of, IsRunOfSort, IsValid}
+use Rattle.search_parts.specs.Words.{Edge, Node, NodeId, Reply, Request, EndedRun, CacheNode, IsNodeOf, IsRun, AreRuns, graph_node_of, graph_nodes_of, HasGraph, GraphNode, question_of, HasGoal, HasEdge, IsWalk, IsCopy, original_edge, walk_kind, original_node, Copies, progress_after, questions_answered, verdict_of, shapes_of, goal_node_of, goal_nodes_of, IsRunOfSort, IsValid, Verdicts}
 use Rattle.search_parts.specs.Graph.{IsGraph}
 use Rattle.search_parts.proofs.Bridge.{Ended, ended_at, known_at, has_graph, yes_case, no_case}
 use Rattle.search_parts.proofs.Copies.{original_has, original_walk, copy_goal, same_questions, same_walk_kind}
 use Rattle.search_parts.proofs.Definites.{yes_verdict, no_verdict, definite}
 use Rattle.search_parts.proofs.HandedOut.{original_there}
 
-module _ {I R : Type 0} (is_yes is_no : R → Bool) (scripts : I → List (Reply R) → Request I R) (nodes : List (CacheNode I R)) (runs : AreRuns is_yes is_no scripts nodes)
+module _ {I R : Type 0} (says : Verdicts R) (scripts : I → List (Reply R) → Request I R) (nodes : List (CacheNode I R)) (runs : AreRuns says scripts nodes)
     (root : ℕ) (copy : List (Node I R)) (numbers : List ℕ) (c : Copies nodes root copy numbers) where
   graph_case : (at : ℕ) (m : GraphNode I) (o : Option (Node I R)) → slice_get copy at ≡ o → option_map goal_node_of o ≡ Some m → slice_get (graph_nodes_of nodes) (slice_index numbers at) ≡ Some (record { goal = m.goal; edges = map (original_edge (slice_index numbers)) m.edges })
   graph_case at m None there is = absurd cc
@@ -36,11 +36,11 @@ module _ {I R : Type 0} (is_yes is_no : R → Bool) (scripts : I → List (Reply
   edge_within at (Some m) e is has = subst (λ l. at < l) as_goals (slice_get_within (goal_nodes_of copy) at m is)
 
   module _ (verdict : theory.Verdict) (kind : PathKind) (cycles : rank_of kind ≡ cycle_kind verdict) (test : R → Bool)
-      (has_sort : (r : R) → verdict_of is_yes is_no r ≡ verdict → test r ≡ true)
-      (asks : (script : List (Reply R) → Request I R) (run : EndedRun I R) → IsRun is_yes is_no script nodes run → test run.outcome ≡ true → map question_of run.edges ≡ questions_answered test (progress_after script (reverse run.replies)))
-      (goal : I) (is : IsNodeOf nodes root goal) (known : theory.IsClosedGraph (shapes_of is_yes is_no nodes) verdict root) where
+      (has_sort : (r : R) → verdict_of says r ≡ verdict → test r ≡ true)
+      (asks : (script : List (Reply R) → Request I R) (run : EndedRun I R) → IsRun says script nodes run → test run.outcome ≡ true → map question_of run.edges ≡ questions_answered test (progress_after script (reverse run.replies)))
+      (goal : I) (is : IsNodeOf nodes root goal) (known : theory.IsClosedGraph (shapes_of says nodes) verdict root) where
     graph : IsGraph (λ _ _. Unit {0}) kind (graph_nodes_of nodes) root goal
-    graph = has_graph is_yes is_no scripts nodes runs verdict (λ _ _. Unit {0}) kind cycles (λ _ _ _ _. tt) root goal is known
+    graph = has_graph says scripts nodes runs verdict (λ _ _. Unit {0}) kind cycles (λ _ _ _ _. tt) root goal is known
 
     first_is : slice_index numbers 0 ≡ root
     first_is = get_or_from_slice_get numbers 0 root 0 c.rooted
@@ -48,25 +48,25 @@ module _ {I R : Type 0} (is_yes is_no : R → Bool) (scripts : I → List (Reply
     first_within : 0 < length copy
     first_within = let l : 0 < length numbers = slice_get_within numbers 0 root c.rooted in omega (arith, c.each)
 
-    known_there : (at : ℕ) → at < length copy → theory.IsClosedGraph (shapes_of is_yes is_no nodes) verdict (slice_index numbers at)
-    known_there at l = known_at is_yes is_no nodes verdict root (slice_index numbers at) known (c.reached at l)
+    known_there : (at : ℕ) → at < length copy → theory.IsClosedGraph (shapes_of says nodes) verdict (slice_index numbers at)
+    known_there at l = known_at says nodes verdict root (slice_index numbers at) known (c.reached at l)
 
     abbrev run_there : Node I R → EndedRun I R
     run_there n = record { replies = n.replies.items; edges = map (original_edge (slice_index numbers)) n.edges.items; outcome = n.result }
 
-    verdict_there : (at : ℕ) (n : Node I R) → slice_get copy at ≡ Some n → Ended is_yes is_no verdict (slice_get nodes (slice_index numbers at)) → verdict_of is_yes is_no n.result ≡ verdict
+    verdict_there : (at : ℕ) (n : Node I R) → slice_get copy at ≡ Some n → Ended says verdict (slice_get nodes (slice_index numbers at)) → verdict_of says n.result ≡ verdict
     verdict_there at n there ended =
         let nodes_same : Some (original_node (slice_index numbers) n) ≡ Some ended.node = sym (original_there nodes root copy numbers c at n there) ∙ ended.is in
         let node_same : original_node (slice_index numbers) n ≡ ended.node = cc in
         let runs_same : Some (run_there n) ≡ Some ended.run = ap (λ x. x.run) node_same ∙ ended.ended in
         let run_same : run_there n ≡ ended.run = cc in
-        ap (λ r. verdict_of is_yes is_no r.outcome) run_same ∙ ended.sort
+        ap (λ r. verdict_of says r.outcome) run_same ∙ ended.sort
 
     run_at : (at : ℕ) (n : Node I R) → slice_get copy at ≡ Some n → IsRunOfSort test (scripts n.input) n
     run_at at n there =
         let known_here = known_there at (slice_get_within copy at n there) in
-        let sort : test n.result ≡ true = has_sort n.result (verdict_there at n there (ended_at is_yes is_no nodes verdict (slice_index numbers at) known_here)) in
-        let is_run : IsRun is_yes is_no (scripts n.input) nodes (run_there n) =
+        let sort : test n.result ≡ true = has_sort n.result (verdict_there at n there (ended_at says nodes verdict (slice_index numbers at) known_here)) in
+        let is_run : IsRun says (scripts n.input) nodes (run_there n) =
         runs (slice_index numbers at) (original_node (slice_index numbers) n) (run_there n) (original_there nodes root copy numbers c at n there) refl in
         record {
           ends = is_run.ends;
@@ -101,17 +101,17 @@ module _ {I R : Type 0} (is_yes is_no : R → Bool) (scripts : I → List (Reply
     }
 
   -- the copy of a yes
-  pub yes_is_valid : (goal : I) (r : R) (node : NodeId) → node.0 ≡ root → HasGraph is_yes is_no nodes goal r (Some node) → is_yes r ≡ true → IsValid is_yes Coinductive scripts copy goal
+  pub yes_is_valid : (goal : I) (r : R) (node : NodeId) → node.0 ≡ root → HasGraph says nodes goal r (Some node) → says.is_yes r ≡ true → IsValid says.is_yes Coinductive scripts copy goal
   yes_is_valid goal r node here has is =
-      let yes : verdict_of is_yes is_no r ≡ theory.Yes = yes_verdict (is_yes r) (is_no r) is in
-      let g = has.definite (definite (verdict_of is_yes is_no r) theory.Yes yes (λ e. cc)) in
-      copy_is_valid theory.Yes Coinductive refl is_yes (λ s e. yes_case (is_yes s) (is_no s) e) (λ script run is_run sort. is_run.yes sort)
-      goal (subst (λ x. IsNodeOf nodes x goal) here g.0) (subst (λ x. theory.IsClosedGraph (shapes_of is_yes is_no nodes) theory.Yes x) here (subst (λ v. theory.IsClosedGraph (shapes_of is_yes is_no nodes) v node.0) yes g.1))
+      let yes : verdict_of says r ≡ theory.Yes = yes_verdict (says.is_yes r) (says.is_no r) is in
+      let g = has.definite (definite (verdict_of says r) theory.Yes yes (λ e. cc)) in
+      copy_is_valid theory.Yes Coinductive refl says.is_yes (λ s e. yes_case (says.is_yes s) (says.is_no s) e) (λ script run is_run sort. is_run.yes sort)
+      goal (subst (λ x. IsNodeOf nodes x goal) here g.0) (subst (λ x. theory.IsClosedGraph (shapes_of says nodes) theory.Yes x) here (subst (λ v. theory.IsClosedGraph (shapes_of says nodes) v node.0) yes g.1))
 
   -- the copy of a no
-  pub no_is_valid : (goal : I) (r : R) (node : NodeId) → node.0 ≡ root → (is_yes r ≡ true → is_no r ≡ false) → HasGraph is_yes is_no nodes goal r (Some node) → is_no r ≡ true → IsValid is_no Inductive scripts copy goal
+  pub no_is_valid : (goal : I) (r : R) (node : NodeId) → node.0 ≡ root → (says.is_yes r ≡ true → says.is_no r ≡ false) → HasGraph says nodes goal r (Some node) → says.is_no r ≡ true → IsValid says.is_no Inductive scripts copy goal
   no_is_valid goal r node here one has is =
-      let no : verdict_of is_yes is_no r ≡ theory.No = no_verdict (is_yes r) (is_no r) one is in
-      let g = has.definite (definite (verdict_of is_yes is_no r) theory.No no (λ e. cc)) in
-      copy_is_valid theory.No Inductive refl is_no (λ s e. no_case (is_yes s) (is_no s) e) (λ script run is_run sort. is_run.no sort)
-      goal (subst (λ x. IsNodeOf nodes x goal) here g.0) (subst (λ x. theory.IsClosedGraph (shapes_of is_yes is_no nodes) theory.No x) here (subst (λ v. theory.IsClosedGraph (shapes_of is_yes is_no nodes) v node.0) no g.1))
+      let no : verdict_of says r ≡ theory.No = no_verdict (says.is_yes r) (says.is_no r) one is in
+      let g = has.definite (definite (verdict_of says r) theory.No no (λ e. cc)) in
+      copy_is_valid theory.No Inductive refl says.is_no (λ s e. no_case (says.is_yes s) (says.is_no s) e) (λ script run is_run sort. is_run.no sort)
+      goal (subst (λ x. IsNodeOf nodes x goal) here g.0) (subst (λ x. theory.IsClosedGraph (shapes_of says nodes) theory.No x) here (subst (λ v. theory.IsClosedGraph (shapes_of says nodes) v node.0) no g.1))

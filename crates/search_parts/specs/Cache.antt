@@ -9,6 +9,7 @@ use Rattle.search_parts.specs.declared.global_cache.results.StoredResult.{Stored
 use Rattle.search_parts.specs.Run.{EndsIn, progress_after, questions_answered}
 use Rattle.search_parts.specs.Graph.{GraphNode, question_of}
 use Rattle.search_parts.specs.Store.{Store}
+use Rattle.search_parts.specs.Verdicts.{Verdicts}
 
 -- a run that has ended: its replies, the oldest first, the questions that its result rests on, and the result
 pub record EndedRun (I R : Type 0) : Type 0 where
@@ -69,22 +70,22 @@ KeepsGoals {I} old new = (at : ℕ) (goal : I) → IsNodeOf old at goal → IsNo
 -- The run is one of this script: its replies end in its result, with no request out of order. Where the result is yes,
 -- the edges are the questions outside ignored candidates that were answered yes, in the order of asking; where it is
 -- no, those that were answered no. Each edge leads to a node of the goal that it asks.
-pub record IsRun {I R : Type 0} (is_yes is_no : R → Bool) (script : List (Reply R) → Request I R) (nodes : List (CacheNode I R)) (run : EndedRun I R) : Type 0 where
+pub record IsRun {I R : Type 0} (says : Verdicts R) (script : List (Reply R) → Request I R) (nodes : List (CacheNode I R)) (run : EndedRun I R) : Type 0 where
   pub ends : EndsIn script (reverse run.replies) run.outcome
-  pub yes : is_yes run.outcome ≡ true → map question_of run.edges ≡ questions_answered is_yes (progress_after script (reverse run.replies))
-  pub no : is_no run.outcome ≡ true → map question_of run.edges ≡ questions_answered is_no (progress_after script (reverse run.replies))
+  pub yes : says.is_yes run.outcome ≡ true → map question_of run.edges ≡ questions_answered says.is_yes (progress_after script (reverse run.replies))
+  pub no : says.is_no run.outcome ≡ true → map question_of run.edges ≡ questions_answered says.is_no (progress_after script (reverse run.replies))
   pub targets : (i : ℕ) (e : Edge I) → slice_get run.edges i ≡ Some e → IsNodeOf nodes e.target e.input
 
 -- the node is open, and the run is one of its goal
-abbrev pub CanFinish : {I R : Type 0} → (R → Bool) → (R → Bool) → (I → List (Reply R) → Request I R) → List (CacheNode I R) → ℕ → EndedRun I R → Type 0
-CanFinish is_yes is_no scripts nodes at run =
-    IsSomeAnd (open_goal nodes at) (λ goal. IsRun is_yes is_no (scripts goal) nodes run)
+abbrev pub CanFinish : {I R : Type 0} → Verdicts R → (I → List (Reply R) → Request I R) → List (CacheNode I R) → ℕ → EndedRun I R → Type 0
+CanFinish says scripts nodes at run =
+    IsSomeAnd (open_goal nodes at) (λ goal. IsRun says (scripts goal) nodes run)
 
 -- each run of the list that has ended is one of its goal
-abbrev pub AreRuns : {I R : Type 0} → (R → Bool) → (R → Bool) → (I → List (Reply R) → Request I R) → List (CacheNode I R) → Type 0
-AreRuns {I} {R} is_yes is_no scripts nodes =
+abbrev pub AreRuns : {I R : Type 0} → Verdicts R → (I → List (Reply R) → Request I R) → List (CacheNode I R) → Type 0
+AreRuns {I} {R} says scripts nodes =
     (at : ℕ) (n : CacheNode I R) (run : EndedRun I R)
-    → slice_get nodes at ≡ Some n → n.run ≡ Some run → IsRun is_yes is_no (scripts n.goal) nodes run
+    → slice_get nodes at ≡ Some n → n.run ≡ Some run → IsRun says (scripts n.goal) nodes run
 
 -- the list as the nodes of a graph of goals, at the same places; an open node has no edges
 abbrev pub graph_node_of : {I R : Type 0} → CacheNode I R → GraphNode I

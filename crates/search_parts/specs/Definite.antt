@@ -1,18 +1,22 @@
 -- Definite results, and the node that each of them comes with.
-use Rattle.std.specs.Prelude.{◌≡◌, ◌≢◌, Bool, List, Option, None}
+use Rattle.std.specs.Prelude.{◌≡◌, ◌≢◌, ℕ, List, Option, None}
 use Rattle.std.specs.Option.{IsSomeAnd}
+use Rattle.open_graphs.specs.Graph.{Verdict}
 use Rattle.search_parts.specs.Below.{Neither, IsClosedGraph}
 use Rattle.search_parts.specs.declared.context.NodeId.{NodeId}
 use Rattle.search_parts.specs.Cache.{CacheNode, IsNodeOf}
-use Rattle.search_parts.specs.Shapes.{verdict_of, shapes_of}
+use Rattle.search_parts.specs.Shapes.{shapes_of}
+use Rattle.search_parts.specs.Verdicts.{verdict_of, Verdicts}
 
 -- the result is yes or no
-abbrev pub IsDefinite : {R : Type 0} → (R → Bool) → (R → Bool) → R → Type 0
-IsDefinite is_yes is_no r = verdict_of is_yes is_no r ≢ Neither
+abbrev pub IsDefinite : {R : Type 0} → Verdicts R → R → Type 0
+IsDefinite says r = verdict_of says r ≢ Neither
 
--- a definite result comes with a node of the goal whose graph has the result's verdict; another one with none
-pub record HasGraph {I R : Type 0} (is_yes is_no : R → Bool) (nodes : List (CacheNode I R)) (goal : I) (r : R) (node : Option NodeId) : Type 0 where
-  pub definite :
-      IsDefinite is_yes is_no r
-      → IsSomeAnd node (λ n. IsNodeOf nodes n.0 goal × IsClosedGraph (shapes_of is_yes is_no nodes) (verdict_of is_yes is_no r) n.0)
-  pub neither : verdict_of is_yes is_no r ≡ Neither → node ≡ None
+-- a definite result comes with a node of the goal, which has a property for the result's verdict; another one comes with none
+pub record HasNode {I R : Type 0} (says : Verdicts R) (nodes : List (CacheNode I R)) (has : Verdict → ℕ → Type 0) (goal : I) (r : R) (node : Option NodeId) : Type 0 where
+  pub definite : IsDefinite says r → IsSomeAnd node (λ n. IsNodeOf nodes n.0 goal × has (verdict_of says r) n.0)
+  pub neither : verdict_of says r ≡ Neither → node ≡ None
+
+-- the node of a definite result has a graph of the result's verdict
+abbrev pub HasGraph : {I R : Type 0} → Verdicts R → List (CacheNode I R) → I → R → Option NodeId → Type 0
+HasGraph says nodes = HasNode says nodes (IsClosedGraph (shapes_of says nodes))

@@ -4,8 +4,9 @@ use Rattle.search_parts.specs.declared.context.Request.{Request}
 use Rattle.search_parts.specs.declared.context.Reply.{Reply}
 use Rattle.search_parts.specs.Cache.{Cache, AreRuns}
 use Rattle.search_parts.specs.Stored.{AreSoundResults}
+use Rattle.search_parts.specs.Verdicts.{Verdicts}
 
 -- each node that is finished is a run of its goal, and each stored result has its graph and is plain
-pub record IsSoundCache {X I R A T : Type 0} (same : I → I → Bool) (is_yes is_no : R → Bool) (scripts : X → I → List (Reply R) → Request I R) (c : Cache X I R A T) : Type 0 where
-  pub runs : AreRuns is_yes is_no (scripts c.cx) c.nodes
-  pub results : AreSoundResults same is_yes is_no (scripts c.cx) c.nodes c.results
+pub record IsSoundCache {X I R A T : Type 0} (same : I → I → Bool) (says : Verdicts R) (scripts : X → I → List (Reply R) → Request I R) (c : Cache X I R A T) : Type 0 where
+  pub runs : AreRuns says (scripts c.cx) c.nodes
+  pub results : AreSoundResults same says (scripts c.cx) c.nodes c.results

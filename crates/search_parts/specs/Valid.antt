@@ -10,6 +10,7 @@ use Rattle.search_parts.specs.declared.context.Verdict.{Verdict}
 use Rattle.search_parts.specs.declared.context.Verdict.TheVariants.{Yes, No, Neither}
 use Rattle.search_parts.specs.Graph.{GraphNode, question_of, HasGoal, HasEdge, IsWalk, walk_kind}
 use Rattle.search_parts.specs.Run.{EndsIn, progress_after, questions_answered}
+use Rattle.search_parts.specs.Verdicts.{Verdicts}
 
 -- the node without its run
 abbrev pub goal_node_of : {I R : Type 0} → Node I R → GraphNode I
@@ -44,7 +45,7 @@ pub record IsValid {I R : Type 0} (is_of_sort : R → Bool) (kind : PathKind) (s
   pub cycles : CyclesHaveKind kind (goal_nodes_of nodes)
 
 -- a valid graph of the goal for this verdict: by yes and coinductive cycles alone, or by no and inductive ones
-abbrev pub IsValidFor : {I R : Type 0} → (R → Bool) → (R → Bool) → Verdict → (I → List (Reply R) → Request I R) → List (Node I R) → I → Type 0
-IsValidFor is_yes is_no Yes = IsValid is_yes Coinductive
-IsValidFor is_yes is_no No = IsValid is_no Inductive
-IsValidFor is_yes is_no Neither = λ scripts nodes goal. ⊥
+abbrev pub IsValidFor : {I R : Type 0} → Verdicts R → Verdict → (I → List (Reply R) → Request I R) → List (Node I R) → I → Type 0
+IsValidFor says Yes = IsValid says.is_yes Coinductive
+IsValidFor says No = IsValid says.is_no Inductive
+IsValidFor says Neither = λ scripts nodes goal. ⊥

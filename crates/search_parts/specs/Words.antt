@@ -3,7 +3,7 @@ pub use Rattle.search_parts.specs.Cache.{AreRuns, Cache, CacheNode, CanFinish, e
 pub use Rattle.search_parts.specs.Cache.{graph_node_of, graph_nodes_of, IsNodeOf, IsRun, KeepsFinished, KeepsGoals}
 pub use Rattle.search_parts.specs.Cache.{KeepsNodes, open_goal, open_node, with_run}
 pub use Rattle.search_parts.specs.Cycle.{step_kinds_above}
-pub use Rattle.search_parts.specs.Definite.{HasGraph}
+pub use Rattle.search_parts.specs.Definite.{HasNode, HasGraph}
 pub use Rattle.search_parts.specs.Found.{ArePlaced, Finds}
 pub use Rattle.search_parts.specs.Graph.{GraphNode, HasEdge, HasGoal, IsCopy, IsProofGraph, IsReached}
 pub use Rattle.search_parts.specs.Graph.{IsRefutationGraph, IsWalk, original_edge, question_of, walk_kind}
@@ -21,7 +21,8 @@ pub use Rattle.search_parts.specs.Reuse.{has_head_up_to, highest_passes, is_used
 pub use Rattle.search_parts.specs.Run.{EndsIn, AreRepliesTo, IsFitting, IsReplyTo, progress_after, questions_answered}
 pub use Rattle.search_parts.specs.Run.{request_after}
 pub use Rattle.search_parts.specs.EntryChange.{changed_by}
-pub use Rattle.search_parts.specs.Shapes.{edge_shape, HasGrown, run_shape, shape_of, shapes_of, verdict_of}
+pub use Rattle.search_parts.specs.Shapes.{edge_shape, HasGrown, run_shape, shape_of, shapes_of}
+pub use Rattle.search_parts.specs.Verdicts.{verdict_of, verdicts, Verdicts}
 pub use Rattle.search_parts.specs.Sound.{IsSoundCache}
 pub use Rattle.search_parts.specs.Stack.{allowed_depth, depth_below, IsLastState, position_of}
 pub use Rattle.search_parts.specs.StackIndex.{IsIndex}

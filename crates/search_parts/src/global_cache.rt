@@ -1,7 +1,7 @@
 //! What a search keeps between its calls: the runs that have ended, as the list of nodes that the graphs
 //! of its answers are made of, and the results of goals.
 ghost use Rattle.std.specs.Prelude.{◌≡◌, []};
-ghost use Rattle.search_parts.specs.Words.{AreRuns, AreSoundResults};
+ghost use Rattle.search_parts.specs.Words.{AreRuns, AreSoundResults, verdicts};
 
 use crate::context::{Cx, Delegate};
 use std::alloc::Global;
@@ -32,13 +32,14 @@ impl<D: Delegate> Model for GlobalCache<D> {
     ghost use Rattle.std.specs.Prelude.{map};
     ghost use Rattle.search_parts.specs.Cache.{Cache};
     ghost use Rattle.search_parts.specs.Sound.{IsSoundCache};
+    ghost use Rattle.search_parts.specs.Verdicts.{verdicts};
     ghost use Rattle.search_parts.specs.View.{node_of};
 
     ghost Value = { Cache D.Cx D.Cx.Input D.Cx.Result D.Cx.AmbiguityInfo D.Cx.DepNodeIndex };
 
     ghost view = { λ c. record { cx = c.cx; nodes = map node_of c.nodes.items; results = c.results.entries } };
 
-    ghost invariant = { λ c. IsSoundCache D.Cx.Input.eq D.Cx.is_yes D.Cx.is_no D.script (record { cx = c.cx; nodes = map node_of c.nodes.items; results = c.results.entries }) };
+    ghost invariant = { λ c. IsSoundCache D.Cx.Input.eq (verdicts D.Cx.Cx) D.script (record { cx = c.cx; nodes = map node_of c.nodes.items; results = c.results.entries }) };
 }
 
 impl<D: Delegate> GlobalCache<D> {
@@ -62,14 +63,14 @@ impl<D: Delegate> GlobalCache<D> {
 
     /// Each node that is finished is a run of its goal.
     pub fn has_runs(&self)
-        ensures { AreRuns D.Cx.is_yes D.Cx.is_no (D.script self.now.cx) self.now.nodes }
+        ensures { AreRuns (verdicts D.Cx.Cx) (D.script self.now.cx) self.now.nodes }
     {
         let _ = &self.nodes;
     }
 
     /// Each stored result has its graph, if it is yes or no, and is what its goal's rank allows.
     pub fn has_sound_results(&self)
-        ensures { AreSoundResults D.Cx.Input.eq D.Cx.is_yes D.Cx.is_no
+        ensures { AreSoundResults D.Cx.Input.eq (verdicts D.Cx.Cx)
             (D.script self.now.cx) self.now.nodes self.now.results }
     {
         let _ = &self.results;

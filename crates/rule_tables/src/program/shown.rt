@@ -1,6 +1,6 @@
 //! Answers that are shown by their graphs, which are handed out and checked.
 ghost use Rattle.std.specs.Prelude.{IsTrue, IfOk, Some};
-ghost use Rattle.rule_tables.specs.Below.{IsDefinite, HasGraph};
+ghost use Rattle.rule_tables.specs.Below.{IsDefinite, HasGraph, verdicts};
 
 use crate::rules::Goal;
 use delegate_parts::{Builder, Outcome};
@@ -35,7 +35,7 @@ impl ShownNodes {
     where
         X: Cx<Input = Goal, Result = Outcome>,
         D: Delegate<Cx = X, ProofTreeBuilder = Builder>,
-        ensures { HasGraph X.is_yes X.is_no cache.now.nodes goal outcome (Some node) → IsDefinite X.is_yes X.is_no outcome →
+        ensures { HasGraph (verdicts X.Cx) cache.now.nodes goal outcome (Some node) → IsDefinite (verdicts X.Cx) outcome →
             IfOk result (λ shown. IsTrue shown) }
     {
         if self.shown.contains(&(goal, node)) {
@@ -60,7 +60,7 @@ fn is_shown<X, D>(
 where
     X: Cx<Input = Goal, Result = Outcome>,
     D: Delegate<Cx = X, ProofTreeBuilder = Builder>,
-    ensures { HasGraph X.is_yes X.is_no cache.now.nodes goal outcome (Some node) → IsDefinite X.is_yes X.is_no outcome →
+    ensures { HasGraph (verdicts X.Cx) cache.now.nodes goal outcome (Some node) → IsDefinite (verdicts X.Cx) outcome →
         IfOk result (λ shown. IsTrue shown) }
 {
     let Some(graph) = cache.graph_of(node)? else {

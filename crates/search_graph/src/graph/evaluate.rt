@@ -1,6 +1,6 @@
 //! The evaluation of a goal: one loop over the goals under evaluation.
 ghost use Rattle.std.specs.Prelude.{◌≡◌, ℕ, true, IfOk, IfErr, IfSome, Ok};
-ghost use Rattle.search_graph.specs.Below.{first_accepted, usable, HasGraph};
+ghost use Rattle.search_graph.specs.Below.{first_accepted, usable, HasGraph, verdicts};
 ghost use Rattle.search_graph.specs.Words.{Call, Begins, IsCaused, IsNew, KeepsCache, HasReply, Awaits, LeadsTo, StopsWith, EndsWith, IsRightNext, work_left};
 
 use crate::graph::evaluation::Evaluation;
@@ -39,7 +39,7 @@ impl<D: Delegate> Evaluation<D> {
             × (self.new.limits_met ≡ self.old.limits_met) × (cache.new ≡ cache.old)) }
         ensures caused { IfErr result (IsCaused D.Delegate D.Cx.Cx D.Cx.Input.eq cache.new) }
         ensures has_graph { IfOk result (λ answer.
-            HasGraph D.Cx.is_yes D.Cx.is_no cache.new.nodes input answer.result answer.node) }
+            HasGraph (verdicts D.Cx.Cx) cache.new.nodes input answer.result answer.node) }
         ensures keeps { KeepsCache D.Cx.Input.eq cache.old cache.new }
     {
         let stack = self.goals.stack();

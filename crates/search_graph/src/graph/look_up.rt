@@ -2,7 +2,7 @@
 ghost use Rattle.std.specs.Prelude.{◌≡◌, ◌≢◌, ◌<◌, [], length, All, IfSome};
 ghost use Rattle.std.specs.List.{list_any};
 ghost use Rattle.std.specs.Option.{option_copied, option_map};
-ghost use Rattle.search_graph.specs.Below.{highest, HasGraph, first_accepted, hit_of, usable, entries_at};
+ghost use Rattle.search_graph.specs.Below.{highest, HasGraph, first_accepted, hit_of, usable, entries_at, verdicts};
 ghost use Rattle.search_graph.specs.Words.{usable_entry, could_be_used, is_applicable, meets_entry, AreOnStack, IsUsable};
 
 use bitflags::Flags;
@@ -120,7 +120,7 @@ pub(crate) fn look_up<'a, D: Delegate>(
         (record { stack = stack.now; entries = provisional.now; step = step }))
         (usable D.Cx.Input.eq cache.now.results input depth.0) }
     ensures graph { IfSome result (λ stored.
-        HasGraph D.Cx.is_yes D.Cx.is_no cache.now.nodes input stored.result stored.node) }
+        HasGraph (verdicts D.Cx.Cx) cache.now.nodes input stored.result stored.node) }
     ensures usable { IfSome result (λ stored.
         IsUsable D.Cx.Input.eq (D.script cache.now.cx) cache.now.results input depth.0
         (hit_of stored)) }

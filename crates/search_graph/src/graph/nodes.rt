@@ -1,7 +1,7 @@
 //! The node of a run that has ended.
 ghost use Rattle.std.specs.Prelude.{◌≡◌, ◌↔◌, IsTrue, IfOk, Some};
 ghost use Rattle.std.specs.Option.{option_map};
-ghost use Rattle.search_graph.specs.Below.{KeepsFinished, IsDefinite, verdict_of};
+ghost use Rattle.search_graph.specs.Below.{KeepsFinished, IsDefinite, verdict_of, verdicts};
 ghost use Rattle.search_graph.specs.Words.{verdict_shape, EndsRun, HasResultNode};
 
 use open_goals::progress::Progress;
@@ -19,11 +19,11 @@ pub(crate) fn result_node<D: Delegate>(
     progress: Progress<<D::Cx as Cx>::Input, <D::Cx as Cx>::Result>,
     outcome: <D::Cx as Cx>::Result,
 ) -> Result<Option<NodeId>, NoMemory>
-    requires { IsDefinite D.Cx.is_yes D.Cx.is_no outcome →
-        EndsRun D.Cx.is_yes D.Cx.is_no
+    requires { IsDefinite (verdicts D.Cx.Cx) outcome →
+        EndsRun (verdicts D.Cx.Cx)
         (D.script cache.old.cx) cache.old.nodes own_node progress outcome }
     ensures has_node { IfOk result (λ answer.
-        HasResultNode D.Cx.is_yes D.Cx.is_no cache.old.nodes cache.new.nodes
+        HasResultNode (verdicts D.Cx.Cx) cache.old.nodes cache.new.nodes
         state.now.provisional_result own_node state.now.node progress outcome answer) }
     ensures same_context { cache.new.cx ≡ cache.old.cx }
     ensures same_results { cache.new.results ≡ cache.old.results }
@@ -47,7 +47,7 @@ pub(crate) fn result_node<D: Delegate>(
 
 /// Whether the provisional result, if there is one, has this verdict.
 fn says_again<X: Cx>(cx: X, provisional_result: Option<X::Result>, verdict: Verdict) -> bool
-    ensures { IsTrue result ↔ (option_map (verdict_of X.is_yes X.is_no) provisional_result
+    ensures { IsTrue result ↔ (option_map (verdict_of (verdicts X.Cx)) provisional_result
         ≡ Some (verdict_shape verdict)) }
 {
     match provisional_result {

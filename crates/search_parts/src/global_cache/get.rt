@@ -5,6 +5,7 @@ ghost use Rattle.search_parts.specs.Definite.{HasGraph};
 ghost use Rattle.search_parts.specs.Hits.{first_accepted, hit_at, hit_of, overflows, successes, usable};
 ghost use Rattle.search_parts.specs.Nested.{NestedPaths};
 ghost use Rattle.search_parts.specs.Rank.{IsBelowRank, IsPlain};
+ghost use Rattle.search_parts.specs.Verdicts.{verdicts};
 
 use crate::context::{Cx, Delegate, NodeId};
 use crate::global_cache::GlobalCache;
@@ -59,7 +60,7 @@ impl<D: Delegate> GlobalCache<D> {
             ≡ first_accepted (T.accepts test.now)
             (usable D.Cx.Input.eq self.now.results input available.0) }
         ensures graph { IfSome result (λ hit.
-            HasGraph D.Cx.is_yes D.Cx.is_no self.now.nodes input hit.result hit.node) }
+            HasGraph (verdicts D.Cx.Cx) self.now.nodes input hit.result hit.node) }
         ensures value { IfSome result (λ hit.
             hit.encountered_overflow ≡ false → IsPlain (D.script self.now.cx) input hit.result) }
         ensures overflow { IfSome result (λ hit. hit.encountered_overflow ≡ true

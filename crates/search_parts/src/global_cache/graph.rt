@@ -2,7 +2,7 @@
 ghost use Rattle.std.specs.Prelude.{◌≡◌, ℕ, ◌<◌, true, map, length, slice_index, MatchOption, IfOk, IsSome, IfSome, slice_get, None, Some, Ok};
 ghost use Rattle.std.specs.Option.{IsSomeAnd};
 ghost use Rattle.search_parts.specs.Below.{Inductive, Coinductive};
-ghost use Rattle.search_parts.specs.Words.{HasGraph, Finds, IsCopyFrom, IsWhole, original_node, IsValid, ended_node, Edge};
+ghost use Rattle.search_parts.specs.Words.{HasGraph, Finds, IsCopyFrom, IsWhole, original_node, IsValid, ended_node, Edge, verdicts};
 
 use crate::context::{Cx, Delegate, NoMemory, Node, NodeId, ProofGraph};
 use crate::global_cache::GlobalCache;
@@ -29,11 +29,11 @@ impl<D: Delegate> GlobalCache<D> {
 
         // That of a definite result is valid.
         ensures valid_yes { (goal : D.Cx.Input) (r : D.Cx.Result) →
-            HasGraph D.Cx.is_yes D.Cx.is_no self.now.nodes goal r (Some node) → D.Cx.is_yes r ≡ true →
+            HasGraph (verdicts D.Cx.Cx) self.now.nodes goal r (Some node) → D.Cx.is_yes r ≡ true →
             IfOk result (λ handed. IsSomeAnd handed (λ graph.
             IsValid D.Cx.is_yes Coinductive (D.script self.now.cx) graph.nodes.items goal)) }
         ensures valid_no { (goal : D.Cx.Input) (r : D.Cx.Result) →
-            HasGraph D.Cx.is_yes D.Cx.is_no self.now.nodes goal r (Some node) → D.Cx.is_no r ≡ true →
+            HasGraph (verdicts D.Cx.Cx) self.now.nodes goal r (Some node) → D.Cx.is_no r ≡ true →
             IfOk result (λ handed. IsSomeAnd handed (λ graph.
             IsValid D.Cx.is_no Inductive (D.script self.now.cx) graph.nodes.items goal)) }
     {

@@ -1,7 +1,7 @@
 //! The list of nodes: the runs of goals that have ended, which the graphs of answers are made of.
 ghost use Rattle.std.specs.Prelude.{◌≡◌, ◌∷◌, ◌++◌, [], length, IfOk, OnErr, IfSome};
 ghost use Rattle.std.specs.Option.{is_some, option_map};
-ghost use Rattle.search_parts.specs.Words.{open_node as new_node, open_goal, finished_node, with_run, IsRun, KeepsNodes, KeepsFinished, KeepsGoals, HasGrown, CanFinish, ended_run, node_of, run_of, ended_node};
+ghost use Rattle.search_parts.specs.Words.{open_node as new_node, open_goal, finished_node, with_run, IsRun, KeepsNodes, KeepsFinished, KeepsGoals, HasGrown, CanFinish, ended_run, node_of, run_of, ended_node, verdicts};
 
 use crate::context::{Cx, Delegate, Edge, NoMemory, Node, NodeId, Reply};
 use crate::global_cache::GlobalCache;
@@ -37,7 +37,7 @@ impl<D: Delegate> GlobalCache<D> {
         ensures refused { OnErr result (self.new ≡ self.old) }
         ensures kept { KeepsNodes self.old.nodes self.new.nodes }
         ensures goals { KeepsGoals self.old.nodes self.new.nodes }
-        ensures grown { HasGrown D.Cx.is_yes D.Cx.is_no self.old.nodes self.new.nodes }
+        ensures grown { HasGrown (verdicts D.Cx.Cx) self.old.nodes self.new.nodes }
     {
         let node = NodeId(self.nodes.len());
         self.nodes.push(Slot::Open(input))?;
@@ -60,14 +60,14 @@ impl<D: Delegate> GlobalCache<D> {
         edges: Vec<Edge<<D::Cx as Cx>::Input>>,
         outcome: <D::Cx as Cx>::Result,
     )
-        requires { CanFinish D.Cx.is_yes D.Cx.is_no (D.script self.old.cx) self.old.nodes node.0
+        requires { CanFinish (verdicts D.Cx.Cx) (D.script self.old.cx) self.old.nodes node.0
             (ended_run replies.items edges.items outcome) }
         ensures ended { self.new ≡ record self.old {
           nodes = with_run self.old.nodes node.0 (ended_run replies.items edges.items outcome);
         } }
         ensures kept { KeepsFinished self.old.nodes self.new.nodes }
         ensures goals { KeepsGoals self.old.nodes self.new.nodes }
-        ensures grown { HasGrown D.Cx.is_yes D.Cx.is_no self.old.nodes self.new.nodes }
+        ensures grown { HasGrown (verdicts D.Cx.Cx) self.old.nodes self.new.nodes }
     {
         let input = self.nodes[node.0].input();
         self.nodes[node.0] = Slot::Finished(Node {
@@ -83,7 +83,7 @@ impl<D: Delegate> GlobalCache<D> {
         ensures lent { option_map (λ n. ended_node n.now) result
             ≡ finished_node self.now.nodes node.0 }
         ensures is_run { IfSome result (λ n.
-            IsRun D.Cx.is_yes D.Cx.is_no (D.script self.now.cx n.now.input) self.now.nodes
+            IsRun (verdicts D.Cx.Cx) (D.script self.now.cx n.now.input) self.now.nodes
             (run_of n.now)) }
     {
         match self.nodes.get(node.0)? {

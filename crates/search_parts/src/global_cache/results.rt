@@ -2,7 +2,7 @@
 //! result that met overflow.
 ghost use Rattle.std.specs.Prelude.{◌≡◌, ℕ, false, [], IfErr, OnOk, OnErr};
 ghost use Rattle.std.specs.Option.{option_map};
-ghost use Rattle.search_parts.specs.Words.{HasGraph, IsPlainTo, Memory, IsPlainAt, Success, WithOverflow, place_of, stored_at, stored_from, AnswersStoring, KeepsResults, Puts};
+ghost use Rattle.search_parts.specs.Words.{HasGraph, IsPlainTo, Memory, IsPlainAt, Success, WithOverflow, place_of, stored_at, stored_from, AnswersStoring, KeepsResults, Puts, verdicts};
 
 use crate::context::{Cx, Delegate, Fault, NodeId, Tracked};
 use crate::global_cache::GlobalCache;
@@ -80,7 +80,7 @@ impl<D: Delegate> GlobalCache<D> {
         token: <D::Cx as Cx>::DepNodeIndex,
     ) -> Result<(), Fault<<D::Cx as Cx>::Input, <D::Cx as Cx>::Result>>
         requires no_heads { evaluation_result.heads ≡ [] }
-        requires graph { HasGraph D.Cx.is_yes D.Cx.is_no self.old.nodes input
+        requires graph { HasGraph (verdicts D.Cx.Cx) self.old.nodes input
             evaluation_result.result evaluation_result.node }
         requires plain { IsPlainAt (D.script self.old.cx) input
             (place_of evaluation_result) evaluation_result.result }

@@ -4,10 +4,11 @@ use Rattle.graph_check.proofs.Elements.{read_at, taken_last}
 use Rattle.graph_check.proofs.Replaying.{replays_nothing, replays_more, fitting_next, stops_unfit, stops_disorderly, run_is_legal, is_run_if, run_is_done, run_has_edges}
 use Rattle.graph_check.proofs.replay.is_run.Goals as goal
 use Rattle.graph_check.proofs.replay.is_run.Goals.{then-is_done, else-is_done}
+use Rattle.graph_check.specs.Below.{verdicts}
 
 pub loop-reply-init : goal.loop-reply-init
 loop-reply-init g c = record {
-  replays = rw c.new-run.ensures (replays_nothing (has_sort g.D.Cx.Cx.is_yes g.D.Cx.Cx.is_no c.args.sort) (g.D.Delegate.script c.args.cx c.args.node.now.input));
+  replays = rw c.new-run.ensures (replays_nothing (has_sort (verdicts g.D.Cx.Cx) c.args.sort) (g.D.Delegate.script c.args.cx c.args.node.now.input));
   stands = c.in_ok-frame.ensures.frame;
   starts = c.start.ensures.at_most;
   same_noop = c.start.ensures.same_noop;

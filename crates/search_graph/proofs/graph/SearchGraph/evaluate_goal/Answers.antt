@@ -5,6 +5,7 @@ use Rattle.search_graph.proofs.Loops.{call_of, call_begins, some_call_begins}
 use Rattle.search_graph.proofs.Promises.{call_is_stored, ended_plain, ended_within, ended_paid, stopped_within, stopped_paid, yes_is_proved, no_is_refuted, neither_is_none}
 use Rattle.search_graph.proofs.Questions.{if_err_and, same_err}
 use Rattle.search_graph.proofs.graph.SearchGraph.evaluate_goal.Goals as goal
+use Rattle.search_graph.specs.Below.{verdicts}
 
 -- ---- an answer
 
@@ -18,7 +19,7 @@ pub returns-clause-neither : goal.returns-clause-neither
 returns-clause-neither g c = λ not_yes not_no. neither_is_none g.D.Delegate g.D.Cx.Cx c.evaluate-outcome.new.cache c.has_runs.ensures (g.met.D.Cx.Cx.clash c.evaluate-outcome.new.cache.cx) c.args.input c.in_ok-answer.answer.result c.in_ok-answer.answer.node c.in_ok-answer.ensures.has_graph not_yes not_no
 
 pub returns-clause-whole : goal.returns-clause-whole
-returns-clause-whole g c = definite_is_whole g.D.Cx.Cx.is_yes g.D.Cx.Cx.is_no c.evaluate-outcome.new.cache.nodes c.args.input c.in_ok-answer.answer.result c.in_ok-answer.answer.node c.in_ok-answer.ensures.has_graph
+returns-clause-whole g c = definite_is_whole (verdicts g.D.Cx.Cx) c.evaluate-outcome.new.cache.nodes c.args.input c.in_ok-answer.answer.result c.in_ok-answer.answer.node c.in_ok-answer.ensures.has_graph
 
 pub returns-clause-kept_whole : goal.returns-clause-kept_whole
 returns-clause-kept_whole g c = whole_stays c.args.cache.now.nodes c.evaluate-outcome.new.cache.nodes c.evaluate-outcome.ensures.keeps.nodes

@@ -1,6 +1,6 @@
 use Rattle.std.proofs.Common.{sym, subst}
 use Rattle.search_parts.specs.Below.{Grown}
-use Rattle.search_parts.specs.Words.{KeepsFinished, KeepsGoals, IsSoundCache, shapes_of}
+use Rattle.search_parts.specs.Words.{KeepsFinished, KeepsGoals, IsSoundCache, shapes_of, verdicts}
 use Rattle.search_parts.proofs.Finished.{KeepsFinished-ended}
 use Rattle.search_parts.proofs.Nodes.{KeepsGoals-ended, Grown-ended}
 use Rattle.search_parts.proofs.Slots.{nodes_ended, cache_ended}
@@ -9,9 +9,9 @@ use Rattle.search_parts.proofs.global_cache.GlobalCache.finish_node.Goals as goa
 
 pub invariant_of-self : goal.invariant_of-self
 invariant_of-self g c =
-    subst (IsSoundCache g.D.Cx.Input.PartialEq.eq g.D.Cx.Cx.is_yes g.D.Cx.Cx.is_no g.D.Delegate.script) (sym (cache_ended _ _ _ _ _ _ _ _ c.self.view_is c.index.ensures c.input-input.ensures c.requires))
-    (IsSoundCache-ended g.D.Cx.Input.PartialEq.eq g.D.Cx.Cx.is_yes g.D.Cx.Cx.is_no g.D.Delegate.script c.args.self.now
-    (subst (IsSoundCache g.D.Cx.Input.PartialEq.eq g.D.Cx.Cx.is_yes g.D.Cx.Cx.is_no g.D.Delegate.script) c.self.view_is c.self.invariant) c.args.node.0 _ c.requires)
+    subst (IsSoundCache g.D.Cx.Input.PartialEq.eq (verdicts g.D.Cx.Cx) g.D.Delegate.script) (sym (cache_ended _ _ _ _ _ _ _ _ c.self.view_is c.index.ensures c.input-input.ensures c.requires))
+    (IsSoundCache-ended g.D.Cx.Input.PartialEq.eq (verdicts g.D.Cx.Cx) g.D.Delegate.script c.args.self.now
+    (subst (IsSoundCache g.D.Cx.Input.PartialEq.eq (verdicts g.D.Cx.Cx) g.D.Delegate.script) c.self.view_is c.self.invariant) c.args.node.0 _ c.requires)
 
 pub returns-clause-ended : goal.returns-clause-ended
 returns-clause-ended g c = cache_ended _ _ _ _ _ _ _ _ c.self.view_is c.index.ensures c.input-input.ensures c.requires
@@ -28,5 +28,5 @@ returns-clause-goals g c =
 
 pub returns-clause-grown : goal.returns-clause-grown
 returns-clause-grown g c =
-    subst (λ more. Grown (shapes_of g.D.Cx.Cx.is_yes g.D.Cx.Cx.is_no c.args.self.now.nodes) (shapes_of g.D.Cx.Cx.is_yes g.D.Cx.Cx.is_no more)) (sym (nodes_ended _ _ _ _ _ _ _ _ c.self.view_is c.index.ensures c.input-input.ensures c.requires))
-    (Grown-ended c.args.self.now.nodes c.args.node.0 _ _ c.requires g.D.Cx.Cx.is_yes g.D.Cx.Cx.is_no)
+    subst (λ more. Grown (shapes_of (verdicts g.D.Cx.Cx) c.args.self.now.nodes) (shapes_of (verdicts g.D.Cx.Cx) more)) (sym (nodes_ended _ _ _ _ _ _ _ _ c.self.view_is c.index.ensures c.input-input.ensures c.requires))
+    (Grown-ended c.args.self.now.nodes c.args.node.0 _ _ c.requires (verdicts g.D.Cx.Cx))

@@ -2,10 +2,11 @@ use Rattle.std.proofs.Common.{rules}
 use Rattle.search_parts.proofs.Sound.{found_is_worth}
 use Rattle.search_parts.proofs.Stored.{IfSome-weaker}
 use Rattle.search_parts.proofs.global_cache.GlobalCache.get.Goals as goal
+use Rattle.search_parts.specs.Words.{verdicts}
 
 pub returns : goal.returns
 returns g c =
-    let worth = found_is_worth g.D.Cx.Input.PartialEq.eq g.D.Cx.Cx.is_yes g.D.Cx.Cx.is_no g.D.Delegate.script c.self.inside.cx _ c.self.inside.results.entries c.args.self.now c.self.view_is c.self.invariant
+    let worth = found_is_worth g.D.Cx.Input.PartialEq.eq (verdicts g.D.Cx.Cx) g.D.Delegate.script c.self.inside.cx _ c.self.inside.results.entries c.args.self.now c.self.view_is c.self.invariant
     (g.T.NestedTest.accepts c.args.test.now) c.args.input c.args.available.0 c.usable_result.result c.usable_result.ensures in
     record {
       found = search rules;

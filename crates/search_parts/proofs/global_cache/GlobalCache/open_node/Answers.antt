@@ -1,6 +1,6 @@
 use Rattle.std.proofs.Common.{is_ok, sym, subst}
 use Rattle.search_parts.specs.Below.{Grown}
-use Rattle.search_parts.specs.Words.{KeepsNodes, KeepsGoals, IsSoundCache, shapes_of}
+use Rattle.search_parts.specs.Words.{KeepsNodes, KeepsGoals, IsSoundCache, shapes_of, verdicts}
 use Rattle.search_parts.proofs.Nodes.{KeepsNodes-appended, KeepsGoals-appended, Grown-appended}
 use Rattle.search_parts.proofs.Slots.{nodes_pushed, cache_pushed}
 use Rattle.search_parts.proofs.Sound.{IsSoundCache-appended}
@@ -8,9 +8,9 @@ use Rattle.search_parts.proofs.global_cache.GlobalCache.open_node.Goals as goal
 
 pub invariant_of-self-2 : goal.invariant_of-self-2
 invariant_of-self-2 g c =
-    subst (IsSoundCache g.D.Cx.Input.PartialEq.eq g.D.Cx.Cx.is_yes g.D.Cx.Cx.is_no g.D.Delegate.script) (sym (cache_pushed _ _ _ _ _ _ _ c.self.view_is c.push.ensures.items))
-    (IsSoundCache-appended g.D.Cx.Input.PartialEq.eq g.D.Cx.Cx.is_yes g.D.Cx.Cx.is_no g.D.Delegate.script c.args.self.now
-    (subst (IsSoundCache g.D.Cx.Input.PartialEq.eq g.D.Cx.Cx.is_yes g.D.Cx.Cx.is_no g.D.Delegate.script) c.self.view_is c.self.invariant) (is_ok c.push.result) c.args.input)
+    subst (IsSoundCache g.D.Cx.Input.PartialEq.eq (verdicts g.D.Cx.Cx) g.D.Delegate.script) (sym (cache_pushed _ _ _ _ _ _ _ c.self.view_is c.push.ensures.items))
+    (IsSoundCache-appended g.D.Cx.Input.PartialEq.eq (verdicts g.D.Cx.Cx) g.D.Delegate.script c.args.self.now
+    (subst (IsSoundCache g.D.Cx.Input.PartialEq.eq (verdicts g.D.Cx.Cx) g.D.Delegate.script) c.self.view_is c.self.invariant) (is_ok c.push.result) c.args.input)
 
 pub returns-clause-kept : goal.returns-clause-kept
 returns-clause-kept g c =
@@ -24,5 +24,5 @@ returns-clause-goals g c =
 
 pub returns-clause-grown : goal.returns-clause-grown
 returns-clause-grown g c =
-    subst (λ more. Grown (shapes_of g.D.Cx.Cx.is_yes g.D.Cx.Cx.is_no c.args.self.now.nodes) (shapes_of g.D.Cx.Cx.is_yes g.D.Cx.Cx.is_no more)) (sym (nodes_pushed _ _ _ _ _ _ _ c.self.view_is c.push.ensures.items))
-    (Grown-appended g.D.Cx.Cx.is_yes g.D.Cx.Cx.is_no (is_ok c.push.result) c.args.self.now.nodes c.args.input)
+    subst (λ more. Grown (shapes_of (verdicts g.D.Cx.Cx) c.args.self.now.nodes) (shapes_of (verdicts g.D.Cx.Cx) more)) (sym (nodes_pushed _ _ _ _ _ _ _ c.self.view_is c.push.ensures.items))
+    (Grown-appended (verdicts g.D.Cx.Cx) (is_ok c.push.result) c.args.self.now.nodes c.args.input)

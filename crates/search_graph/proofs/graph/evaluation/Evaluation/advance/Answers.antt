@@ -1,5 +1,5 @@
 use Rattle.std.proofs.Common.{refl, sym, subst}
-use Rattle.search_graph.specs.Below.{CanStep, Request, NotesCandidate, Evaluate, Done}
+use Rattle.search_graph.specs.Below.{CanStep, Request, NotesCandidate, Evaluate, Done, verdicts}
 use Rattle.search_graph.specs.Words.{GoesOn, IsCaused, IsFit, OutOfMemory, StopsWith, runs_of, work_left}
 use Rattle.search_graph.proofs.Advancing.{has_request, requests, step_stops, stepped_right}
 use Rattle.search_graph.proofs.Asking.{asked_goes_on, asked_right}
@@ -111,12 +111,12 @@ pub returns-in_ok-note_candidate-in_default-clause-right : goal.returns-in_ok-no
 returns-in_ok-note_candidate-in_default-clause-right g c = record {
   justified = (
     noted_is_justified g.D.Delegate g.D.Cx.Cx c.cx-cx.result c.args.cache.now.nodes c.args.received c.in_ok-request.request c.args.self.now.goals c.step.new.goals c.note_candidate.new.self c.in_ok-request.ensures.stepped c.requires.right.fits c.requires.right.right.justified c.in_ok-note_candidate-in_default.ensures,
-    subst (λ given. IsFit g.D.Cx.Cx.is_yes g.D.Cx.Cx.is_no c.args.cache.now.nodes (runs_of c.note_candidate.new.self) given.reply given.node) (sym c.without_node.ensures) (noted_fits g.D.Cx.Cx.is_yes g.D.Cx.Cx.is_no c.args.cache.now.nodes (runs_of c.note_candidate.new.self)),
+    subst (λ given. IsFit (verdicts g.D.Cx.Cx) c.args.cache.now.nodes (runs_of c.note_candidate.new.self) given.reply given.node) (sym c.without_node.ensures) (noted_fits (verdicts g.D.Cx.Cx) c.args.cache.now.nodes (runs_of c.note_candidate.new.self)),
   );
   free =
-      noting_keeps_free g.D.Cx.Cx.is_yes g.D.Cx.Cx.is_no g.D.Cx.Input.PartialEq.eq c.args.cache.now.nodes c.args.cache.now.results c.in_ok-request.request c.step.new.goals c.note_candidate.new.self c.in_ok-note_candidate-in_default.ensures
+      noting_keeps_free (verdicts g.D.Cx.Cx) g.D.Cx.Input.PartialEq.eq c.args.cache.now.nodes c.args.cache.now.results c.in_ok-request.request c.step.new.goals c.note_candidate.new.self c.in_ok-note_candidate-in_default.ensures
       (step_keeps_free g.D.Delegate g.D.Cx.Cx c.cx-cx.result g.D.Cx.Input.PartialEq.eq c.args.cache.now.nodes c.args.cache.now.results c.args.received c.in_ok-request.request c.args.self.now.goals c.step.new.goals c.in_ok-request.ensures.stepped c.requires.right.right.free);
   ready =
-      noted_ready g.D.Cx.Cx.is_yes g.D.Cx.Cx.is_no g.D.Cx.Input.PartialEq.eq (g.D.Delegate.script c.args.cache.now.cx) c.args.cache.now.nodes c.args.self.now.provisional c.in_ok-request.request c.step.new.goals c.note_candidate.new.self c.in_ok-note_candidate-in_default.ensures
+      noted_ready (verdicts g.D.Cx.Cx) g.D.Cx.Input.PartialEq.eq (g.D.Delegate.script c.args.cache.now.cx) c.args.cache.now.nodes c.args.self.now.provisional c.in_ok-request.request c.step.new.goals c.note_candidate.new.self c.in_ok-note_candidate-in_default.ensures
       (stepped_ready g.D.Delegate g.D.Cx.Cx c.cx-cx.result g.D.Cx.Input.PartialEq.eq (g.D.Delegate.script c.args.cache.now.cx) c.args.cache.now.nodes c.args.self.now.provisional c.args.received c.in_ok-request.request c.args.self.now.goals c.step.new.goals c.in_ok-request.ensures.stepped c.requires.right.right.ready);
 }

@@ -1,6 +1,6 @@
 use Rattle.std.proofs.Common.{arith, ◌≡◌, None, Some, option_map, is_some, true, sym, ap, ◌∙◌, subst}
 use Rattle.std.specs.Option.{option_copied}
-use Rattle.search_graph.specs.Below.{Answer, Begin, first_accepted, usable, hit_of}
+use Rattle.search_graph.specs.Below.{Answer, Begin, first_accepted, usable, hit_of, verdicts}
 use Rattle.search_graph.specs.Words.{AreOnStack, Asked, Refused, ByEntry, ByStored, OverCycle, Pushed, is_applicable, usable_entry, ClosesCycle}
 use Rattle.search_graph.proofs.Asking.{push_stops}
 use Rattle.search_graph.proofs.Questions.{asked_depth_fits, if_err, if_ok_then, none_of}
@@ -18,7 +18,7 @@ returns-in_default-clause-asked g c =
 pub look_up_entry-requires : goal.look_up_entry-requires
 look_up_entry-requires g c =
     subst (λ stack. AreOnStack g.D.Cx.Input.PartialEq.eq stack c.args.self.now.provisional) (sym c.stack-stack.ensures)
-    (are_on_stack g.D.Cx.Cx.is_yes g.D.Cx.Cx.is_no g.D.Cx.Input.PartialEq.eq (g.D.Delegate.script c.args.cache.now.cx) c.args.cache.now.nodes c.args.self.now.provisional c.args.self.now.goals c.requires.right.justified.tallies c.requires.right.ready)
+    (are_on_stack (verdicts g.D.Cx.Cx) g.D.Cx.Input.PartialEq.eq (g.D.Delegate.script c.args.cache.now.cx) c.args.cache.now.nodes c.args.self.now.provisional c.args.self.now.goals c.requires.right.justified.tallies c.requires.right.ready)
 
 pub returns-in-Some-look_up_entry-clause-asked : goal.returns-in-Some-look_up_entry-clause-asked
 returns-in-Some-look_up_entry-clause-asked g c =
@@ -30,7 +30,7 @@ returns-in-Some-look_up_entry-clause-asked g c =
 pub look_up-requires : goal.look_up-requires
 look_up-requires g c =
     subst (λ stack. AreOnStack g.D.Cx.Input.PartialEq.eq stack c.args.self.now.provisional) (sym c.stack-stack-2.ensures)
-    (are_on_stack g.D.Cx.Cx.is_yes g.D.Cx.Cx.is_no g.D.Cx.Input.PartialEq.eq (g.D.Delegate.script c.args.cache.now.cx) c.args.cache.now.nodes c.args.self.now.provisional c.args.self.now.goals c.requires.right.justified.tallies c.requires.right.ready)
+    (are_on_stack (verdicts g.D.Cx.Cx) g.D.Cx.Input.PartialEq.eq (g.D.Delegate.script c.args.cache.now.cx) c.args.cache.now.nodes c.args.self.now.provisional c.args.self.now.goals c.requires.right.justified.tallies c.requires.right.ready)
 
 pub note_stored-requires-clause-fits : goal.note_stored-requires-clause-fits
 note_stored-requires-clause-fits g c =

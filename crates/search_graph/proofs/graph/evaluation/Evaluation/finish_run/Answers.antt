@@ -1,6 +1,6 @@
 use Rattle.search_graph.proofs.EntriesSaid.{done_keeps, end_leaves, met_keeps_answers, rerun_keeps}
 use Rattle.std.proofs.Common.{rules, Err, refl, sym, ap, ap₂, subst, ◌∙◌}
-use Rattle.search_graph.specs.Below.{Memory, Step, verdict_of}
+use Rattle.search_graph.specs.Below.{Memory, Step, verdict_of, verdicts}
 use Rattle.search_graph.specs.Words.{GoesOn, KeepsAnswers, KeepsStore, LeadsTo, StopsWith}
 use Rattle.search_graph.proofs.Finishing.{neither_is}
 use Rattle.search_graph.proofs.Moves.{asked_stopped_by, can_leave, ends_newest, failed_rerun_stopped, leave_leads, limited_leads, limited_stopped, rerun_goes_on}
@@ -18,7 +18,7 @@ pop_goal-requires g c = record {
   ends = λ definite. ends_newest g.D.Delegate g.D.Cx.Cx c.args.cache.now.cx c.requires.call c.requires.ahead c.args.outcome c.args.self.now.goals _ _ c.requires.asked;
   comes = newest_comes g.D.Delegate g.D.Cx.Cx c.args.cache.now.cx c.requires.call c.requires.ahead c.args.outcome _ _ (g.D.Delegate.fixpoint_overflow c.args.cache.now.cx) c.args.self.now.goals c.requires.asked;
   plain = newest_plain g.D.Delegate g.D.Cx.Cx c.args.cache.now.cx c.requires.call c.requires.ahead c.args.outcome _ _ c.args.self.now.goals c.requires.asked;
-  is_reason = newest_reason g.D.Cx.Cx.is_yes g.D.Cx.Cx.is_no g.D.Cx.Result.PartialEq.eq g.met.D.Cx.Cx.same_result g.D.Delegate.initial_kind g.met.D.Delegate.recognised_sort g.D.Delegate.ambiguity g.D.Delegate.FIXPOINT_STEP_LIMIT c.last_run.result.now.finished_runs c.args.self.now.goals c.last_entry.result.now c.args.outcome c.end_of_run.result c.in-Ok.reason c.last_entry.ensures c.end_of_run.ensures.is_end c.in-Ok.is;
+  is_reason = newest_reason (verdicts g.D.Cx.Cx) g.D.Cx.Result.PartialEq.eq g.met.D.Cx.Cx.same_result g.D.Delegate.initial_kind g.met.D.Delegate.recognised_sort g.D.Delegate.ambiguity g.D.Delegate.FIXPOINT_STEP_LIMIT c.last_run.result.now.finished_runs c.args.self.now.goals c.last_entry.result.now c.args.outcome c.end_of_run.result c.in-Ok.reason c.last_entry.ensures c.end_of_run.ensures.is_end c.in-Ok.is;
   unranked = newest_unranked g.D.Delegate g.D.Cx.Cx c.args.cache.now.cx c.requires.call c.requires.ahead c.args.outcome _ _ c.args.self.now.goals c.requires.asked;
   right = c.requires.right;
 }
@@ -33,7 +33,7 @@ returns-in-Ok-clause-moves g c = record {
         leads = leave_leads g.D.Delegate g.D.Cx.Cx c.args.cache.now.cx call ahead c.args.outcome c.args.outcome next c.args.self.now.goals c.pop_goal.new.self.goals _ _ refl p.left h.asked;
         answers =
             done_keeps g.D.Delegate g.D.Cx.Cx c.args.cache.now.cx call g.D.Cx.Input.PartialEq.eq ahead c.args.outcome _ _ _ c.in-Ok.reason
-            (end_leaves g.D.Cx.Cx.is_yes g.D.Cx.Cx.is_no g.D.Cx.Result.PartialEq.eq g.D.Delegate.initial_kind g.D.Delegate.ambiguity g.met.D.Delegate.ambiguous_is_neither g.D.Delegate.FIXPOINT_STEP_LIMIT c.last_entry.result.now.state.provisional_result c.last_entry.result.now.state.usages c.last_run.result.now.finished_runs c.args.outcome c.end_of_run.result c.in-Ok.reason c.end_of_run.ensures.is_end c.in-Ok.is)
+            (end_leaves (verdicts g.D.Cx.Cx) g.D.Cx.Result.PartialEq.eq g.D.Delegate.initial_kind g.D.Delegate.ambiguity g.met.D.Delegate.ambiguous_is_neither g.D.Delegate.FIXPOINT_STEP_LIMIT c.last_entry.result.now.state.provisional_result c.last_entry.result.now.state.usages c.last_run.result.now.finished_runs c.args.outcome c.end_of_run.result c.in-Ok.reason c.end_of_run.ensures.is_end c.in-Ok.is)
             g.met.D.Cx.Cx.same_input c.args.cache.now.results c.pop_goal.new.cache.results c.args.self.now.goals c.args.self.now.provisional c.pop_goal.new.self.provisional c.pop_goal.ensures.stored p.rebased h.asked h.answers;
       }));
   stops = λ call ahead h.
@@ -53,7 +53,7 @@ pub pop_goal-requires-in-Err-AtLimit : goal.pop_goal-requires-in-Err-AtLimit
 pop_goal-requires-in-Err-AtLimit g c = record {
   leaves = can_leave g.D.Delegate g.D.Cx.Cx c.args.cache.now.cx c.requires.call c.requires.ahead c.args.outcome c.args.self.now.goals _ _ c.requires.asked;
   ends = λ definite.
-      absurd (definite (ap (verdict_of g.D.Cx.Cx.is_yes g.D.Cx.Cx.is_no) c.fixpoint_overflow_result-overflow.ensures ∙ neither_is g.D.Cx.Cx.is_yes g.D.Cx.Cx.is_no (g.D.Delegate.fixpoint_overflow c.cx.result c.input-input.result) (g.met.D.Delegate.fixpoint_overflow_is_neither c.cx.result c.input-input.result)));
+      absurd (definite (ap (verdict_of (verdicts g.D.Cx.Cx)) c.fixpoint_overflow_result-overflow.ensures ∙ neither_is (verdicts g.D.Cx.Cx) (g.D.Delegate.fixpoint_overflow c.cx.result c.input-input.result) (g.met.D.Delegate.fixpoint_overflow_is_neither c.cx.result c.input-input.result)));
   comes = limit_comes (g.D.Delegate.script c.args.cache.now.cx) (g.D.Delegate.fixpoint_overflow c.args.cache.now.cx) c.args.self.now.goals c.last_entry-in-Err-AtLimit.result.now c.fixpoint_overflow_result-overflow.result c.last_entry-in-Err-AtLimit.ensures (c.fixpoint_overflow_result-overflow.ensures ∙ ap₂ g.D.Delegate.fixpoint_overflow c.cx.ensures c.input-input.ensures);
   plain = limited_plain g.D.Delegate g.D.Cx.Cx c.args.cache.now.cx c.requires.call c.requires.ahead c.args.outcome _ _ c.args.self.now.goals c.fixpoint_overflow_result-overflow.result (λ s below is. ((newest_limited c.args.self.now.goals c.last_entry.result.now c.last_run.result.now c.last_entry.ensures c.last_run.ensures g.D.Delegate.FIXPOINT_STEP_LIMIT (limited g.D.Cx.Result.PartialEq.eq g.D.Delegate.initial_kind g.D.Delegate.ambiguity g.D.Delegate.FIXPOINT_STEP_LIMIT c.last_entry.result.now.state.provisional_result c.last_entry.result.now.state.usages c.last_run.result.now.finished_runs c.args.outcome c.end_of_run.result c.end_of_run.ensures.is_end (c.in-Err-AtLimit.is ∙ ap Err c.in-Err-AtLimit.field-0-is))) s below is).0) c.requires.asked;
   is_reason = search rules;

@@ -1,6 +1,6 @@
 use Rattle.std.proofs.Common.{List, [], ◌∷◌, length, map, reverse, All, ◌≡◌, ◌+◌, ◌<◌, ◌≤◌, ◌^◌, refl, sym, ap, subst, ◌∙◌, arith}
 use Rattle.std.specs.Option.{IfSome}
-use Rattle.search_graph.specs.Below.{highest, StackEntry, ProvisionalCacheEntry, entries_at, EvaluationResult, HasGraph, place_of, KeepsResults, IsPlainAt, KeepsFinished, IsPlainTo}
+use Rattle.search_graph.specs.Below.{highest, StackEntry, ProvisionalCacheEntry, entries_at, EvaluationResult, HasGraph, place_of, KeepsResults, IsPlainAt, KeepsFinished, IsPlainTo, verdicts}
 use Rattle.search_graph.specs.Words.{AreJustified, HaveTallies, AreReady, HasReason, IsNewestUnranked, RebasesNewest, final_answer, AreFree, ComesTo, IsNewestPlainTo, IsNewestStored, IsStoredAt, NewestComesTo, NewestIsPlain, StoresAnswer, GivesAnswer, runs_of, IsJustifiedNext, Pops}
 use Rattle.search_graph.proofs.Ready.{are_within, heads_on_stack, on_stack_many}
 use Rattle.search_graph.proofs.ReadyPops.{rebased_ready}
@@ -13,12 +13,12 @@ use Rattle.search_graph.proofs.graph.evaluation.Evaluation.pop_goal.Goals as goa
 
 pub result_node-requires : goal.result_node-requires
 result_node-requires g c = λ definite.
-    taken_run_ends g.D.Cx.Cx.is_yes g.D.Cx.Cx.is_no c.args.cache.now.nodes c.args.cache.now.nodes c.args.self.now.goals c.pop-entry.result.0 c.pop-entry.result.1 c.pop-entry.new.self c.pop-entry.ensures (g.D.Delegate.script c.args.cache.now.cx) c.args.outcome c.requires.right.justified c.requires.ends definite
+    taken_run_ends (verdicts g.D.Cx.Cx) c.args.cache.now.nodes c.args.cache.now.nodes c.args.self.now.goals c.pop-entry.result.0 c.pop-entry.result.1 c.pop-entry.new.self c.pop-entry.ensures (g.D.Delegate.script c.args.cache.now.cx) c.args.outcome c.requires.right.justified c.requires.ends definite
 
 pub give_answer-requires : goal.give_answer-requires
 give_answer-requires g c = λ some.
     subst (λ (a : EvaluationResult _ _ _ _ _). a.required_depth + 1 < 2 ^ 64) (sym c.finalize-answer.ensures)
-    (required_fits g.D.Cx.Cx.is_yes g.D.Cx.Cx.is_no c.args.cache.now.nodes c.result_node.new.cache.nodes c.args.self.now.goals c.pop-entry.result.0 c.pop-entry.result.1 c.pop-entry.new.self c.pop-entry.ensures c.requires.leaves (λ none. omega (arith, some, none)))
+    (required_fits (verdicts g.D.Cx.Cx) c.args.cache.now.nodes c.result_node.new.cache.nodes c.args.self.now.goals c.pop-entry.result.0 c.pop-entry.result.1 c.pop-entry.new.self c.pop-entry.ensures c.requires.leaves (λ none. omega (arith, some, none)))
 
 -- ---- the heads of the entry and of the entries are on the stack
 
@@ -29,9 +29,9 @@ rebase_entries-requires-clause-on_stack g c = subst (λ (stack : List (StackEntr
 pub rebase_entries-requires-clause-within : goal.rebase_entries-requires-clause-within
 rebase_entries-requires-clause-within g c = λ input.
     subst (λ (stack : List (StackEntry _ _ _ _ _)). All (λ (entry : ProvisionalCacheEntry _ _ _ _ _). All (λ head. head.0.0 ≤ length stack) entry.heads) (entries_at g.D.Cx.Input.PartialEq.eq c.args.self.now.provisional input)) (sym c.stack-stack.ensures)
-    (are_within g.D.Cx.Cx.is_yes g.D.Cx.Cx.is_no g.D.Cx.Input.PartialEq.eq (g.D.Delegate.script c.args.cache.now.cx) c.args.cache.now.nodes c.args.self.now.provisional (c.pop-entry.result.0, c.pop-entry.result.1) c.pop-entry.new.self
+    (are_within (verdicts g.D.Cx.Cx) g.D.Cx.Input.PartialEq.eq (g.D.Delegate.script c.args.cache.now.cx) c.args.cache.now.nodes c.args.self.now.provisional (c.pop-entry.result.0, c.pop-entry.result.1) c.pop-entry.new.self
     (subst (λ l. HaveTallies (runs_of l)) c.pop-entry.ensures c.requires.right.justified.tallies)
-    (subst (λ l. AreReady g.D.Cx.Cx.is_yes g.D.Cx.Cx.is_no g.D.Cx.Input.PartialEq.eq (g.D.Delegate.script c.args.cache.now.cx) c.args.cache.now.nodes (runs_of l) c.args.self.now.provisional) c.pop-entry.ensures c.requires.right.ready) input)
+    (subst (λ l. AreReady (verdicts g.D.Cx.Cx) g.D.Cx.Input.PartialEq.eq (g.D.Delegate.script c.args.cache.now.cx) c.args.cache.now.nodes (runs_of l) c.args.self.now.provisional) c.pop-entry.ensures c.requires.right.ready) input)
 
 pub store_answer-requires-clause-on_stack : goal.store_answer-requires-clause-on_stack
 store_answer-requires-clause-on_stack g c =
@@ -48,9 +48,9 @@ store_answer-requires-clause-on_stack g c =
 pub store_answer-requires-clause-storable : goal.store_answer-requires-clause-storable
 store_answer-requires-clause-storable g c = record {
   graph =
-      subst (λ (a : EvaluationResult _ _ _ _ _). a.heads ≡ [] → HasGraph g.D.Cx.Cx.is_yes g.D.Cx.Cx.is_no c.result_node.new.cache.nodes c.input-input.result a.result a.node) (sym c.finalize-answer.ensures)
-      (λ none. subst (λ i. HasGraph g.D.Cx.Cx.is_yes g.D.Cx.Cx.is_no c.result_node.new.cache.nodes i c.args.outcome c.in_ok-node.node) (sym c.input-input.ensures)
-      (headless_graph g.D.Cx.Cx.is_yes g.D.Cx.Cx.is_no c.args.cache.now.nodes c.result_node.new.cache.nodes c.args.self.now.goals c.pop-entry.result.0 c.pop-entry.result.1 c.pop-entry.new.self c.pop-entry.ensures c.args.outcome c.in_ok-node.node c.requires.right.justified c.in_ok-node.ensures.has_node none));
+      subst (λ (a : EvaluationResult _ _ _ _ _). a.heads ≡ [] → HasGraph (verdicts g.D.Cx.Cx) c.result_node.new.cache.nodes c.input-input.result a.result a.node) (sym c.finalize-answer.ensures)
+      (λ none. subst (λ i. HasGraph (verdicts g.D.Cx.Cx) c.result_node.new.cache.nodes i c.args.outcome c.in_ok-node.node) (sym c.input-input.ensures)
+      (headless_graph (verdicts g.D.Cx.Cx) c.args.cache.now.nodes c.result_node.new.cache.nodes c.args.self.now.goals c.pop-entry.result.0 c.pop-entry.result.1 c.pop-entry.new.self c.pop-entry.ensures c.args.outcome c.in_ok-node.node c.requires.right.justified c.in_ok-node.ensures.has_node none));
   plain =
       subst (λ (a : EvaluationResult _ _ _ _ _). IsPlainAt (g.D.Delegate.script c.result_node.new.cache.cx) c.input-input.result (place_of a) a.result) (sym c.finalize-answer.ensures)
       (subst (λ i. IsPlainAt (g.D.Delegate.script c.result_node.new.cache.cx) i (place_of (final_answer (c.pop-entry.result.0, c.pop-entry.result.1) c.args.outcome c.in_ok-node.node)) c.args.outcome) (sym c.input-input.ensures)
@@ -69,7 +69,7 @@ pub returns-in_err-next-clause-plain : goal.returns-in_err-next-clause-plain
 returns-in_err-next-clause-plain g c = λ n plain. if_err_and c.from_residual-in_err-next.result _ _ c.from_residual-in_err-next.ensures.1 (λ e is. is)
 
 pub returns-in_err-store_answer-clause-stored : goal.returns-in_err-store_answer-clause-stored
-returns-in_err-store_answer-clause-stored g c = newest_stored g.D.Cx.Cx.is_yes g.D.Cx.Cx.is_no c.args.cache.now.nodes c.result_node.new.cache.nodes c.args.self.now.goals c.pop-entry.result.0 c.pop-entry.result.1 c.pop-entry.new.self c.pop-entry.ensures c.args.outcome c.in_ok-node.node c.requires.right.justified c.in_ok-node.ensures.has_node g.D.Cx.Input.PartialEq.eq c.args.cache.now.results c.store_answer.new.cache.results
+returns-in_err-store_answer-clause-stored g c = newest_stored (verdicts g.D.Cx.Cx) c.args.cache.now.nodes c.result_node.new.cache.nodes c.args.self.now.goals c.pop-entry.result.0 c.pop-entry.result.1 c.pop-entry.new.self c.pop-entry.ensures c.args.outcome c.in_ok-node.node c.requires.right.justified c.in_ok-node.ensures.has_node g.D.Cx.Input.PartialEq.eq c.args.cache.now.results c.store_answer.new.cache.results
     (subst (λ before. StoresAnswer g.D.Cx.Input.PartialEq.eq before c.store_answer.new.cache.results c.pop-entry.result.0.input (final_answer (c.pop-entry.result.0, c.pop-entry.result.1) c.args.outcome c.in_ok-node.node)) c.in_ok-node.ensures.same_results
     (subst (λ i. StoresAnswer g.D.Cx.Input.PartialEq.eq c.result_node.new.cache.results c.store_answer.new.cache.results i (final_answer (c.pop-entry.result.0, c.pop-entry.result.1) c.args.outcome c.in_ok-node.node)) c.input-input.ensures
     (subst (λ (a : EvaluationResult _ _ _ _ _). StoresAnswer g.D.Cx.Input.PartialEq.eq c.result_node.new.cache.results c.store_answer.new.cache.results c.input-input.result a) c.finalize-answer.ensures c.store_answer.ensures.stored)))
@@ -98,7 +98,7 @@ returns-clause-keeps g c = record {
 }
 
 pub returns-clause-stored : goal.returns-clause-stored
-returns-clause-stored g c = newest_stored g.D.Cx.Cx.is_yes g.D.Cx.Cx.is_no c.args.cache.now.nodes c.result_node.new.cache.nodes c.args.self.now.goals c.pop-entry.result.0 c.pop-entry.result.1 c.pop-entry.new.self c.pop-entry.ensures c.args.outcome c.in_ok-node.node c.requires.right.justified c.in_ok-node.ensures.has_node g.D.Cx.Input.PartialEq.eq c.args.cache.now.results c.store_answer.new.cache.results
+returns-clause-stored g c = newest_stored (verdicts g.D.Cx.Cx) c.args.cache.now.nodes c.result_node.new.cache.nodes c.args.self.now.goals c.pop-entry.result.0 c.pop-entry.result.1 c.pop-entry.new.self c.pop-entry.ensures c.args.outcome c.in_ok-node.node c.requires.right.justified c.in_ok-node.ensures.has_node g.D.Cx.Input.PartialEq.eq c.args.cache.now.results c.store_answer.new.cache.results
     (subst (λ before. StoresAnswer g.D.Cx.Input.PartialEq.eq before c.store_answer.new.cache.results c.pop-entry.result.0.input (final_answer (c.pop-entry.result.0, c.pop-entry.result.1) c.args.outcome c.in_ok-node.node)) c.in_ok-node.ensures.same_results
     (subst (λ i. StoresAnswer g.D.Cx.Input.PartialEq.eq c.result_node.new.cache.results c.store_answer.new.cache.results i (final_answer (c.pop-entry.result.0, c.pop-entry.result.1) c.args.outcome c.in_ok-node.node)) c.input-input.ensures
     (subst (λ (a : EvaluationResult _ _ _ _ _). StoresAnswer g.D.Cx.Input.PartialEq.eq c.result_node.new.cache.results c.store_answer.new.cache.results c.input-input.result a) c.finalize-answer.ensures c.store_answer.ensures.stored)))
@@ -108,7 +108,7 @@ returns-clause-popped g c =
     subst (λ after. Pops g.D.Delegate g.D.Cx.Cx g.D.Cx.Input.PartialEq.eq c.args.outcome c.args.reason c.args.cache.now c.args.self.now c.in_ok-next.next c.store_answer.new.cache after) (sym c.store_answer.ensures.rest)
     (record {
       left =
-          given_leaves g.D.Cx.Cx.is_yes g.D.Cx.Cx.is_no c.args.cache.now.nodes c.result_node.new.cache.nodes c.args.self.now.goals c.pop-entry.result.0 c.pop-entry.result.1 c.pop-entry.new.self c.pop-entry.ensures c.args.outcome c.in_ok-node.node c.requires.right.justified c.in_ok-node.ensures.has_node c.give_answer.new.goals c.in_ok-next.next
+          given_leaves (verdicts g.D.Cx.Cx) c.args.cache.now.nodes c.result_node.new.cache.nodes c.args.self.now.goals c.pop-entry.result.0 c.pop-entry.result.1 c.pop-entry.new.self c.pop-entry.ensures c.args.outcome c.in_ok-node.node c.requires.right.justified c.in_ok-node.ensures.has_node c.give_answer.new.goals c.in_ok-next.next
           (subst (λ step. GivesAnswer step (final_answer (c.pop-entry.result.0, c.pop-entry.result.1) c.args.outcome c.in_ok-node.node) c.pop-entry.new.self c.in_ok-next.next c.give_answer.new.goals) c.step_kind_from_parent-step.ensures
           (subst (λ (a : EvaluationResult _ _ _ _ _). GivesAnswer c.step_kind_from_parent-step.result a c.pop-entry.new.self c.in_ok-next.next c.give_answer.new.goals) c.finalize-answer.ensures c.in_ok-next.ensures));
       stored =
@@ -120,31 +120,31 @@ returns-clause-popped g c =
           (record { node = c.in_ok-node.node; entries = entries_rebased g.D.Cx.Input.PartialEq.eq g.D.Delegate.ENABLE_PROVISIONAL_CACHE g.D.Delegate.propagated g.D.Delegate.fixpoint_overflow c.cx.result c.args.cache.now.cx (c.cx.ensures ∙ c.in_ok-node.ensures.same_context) c.args.reason c.args.outcome c.in_ok-node.node (c.pop-entry.result.0, c.pop-entry.result.1) c.pop-entry.new.self c.give_answer.new.goals c.in_ok-next.next c.stack-stack.result.now (reverse (map (λ s. s.0) c.give_answer.new.goals)) c.stack-stack.ensures refl c.step_kind_from_parent-step.result c.step_kind_from_parent-step.ensures c.input-input.result c.input-input.ensures c.finalize-answer.result c.finalize-answer.ensures c.in_ok-next.ensures c.args.self.now.provisional c.rebase_entries.new.provisional c.store_answer.new.self.provisional c.in_ok-rebase_entries.ensures c.in_ok-store_answer.ensures.stores.entry });
       right = record {
         justified =
-            subst (λ nodes. IsJustifiedNext g.D.Cx.Cx.is_yes g.D.Cx.Cx.is_no nodes c.args.self.now.goals c.give_answer.new.goals c.in_ok-next.next) (sym (ap (λ cache. cache.nodes) c.store_answer.ensures.cache.rest))
-            (given_justified g.D.Cx.Cx.is_yes g.D.Cx.Cx.is_no c.args.cache.now.nodes c.result_node.new.cache.nodes c.args.self.now.goals c.pop-entry.result.0 c.pop-entry.result.1 c.pop-entry.new.self c.pop-entry.ensures c.args.outcome c.in_ok-node.node c.requires.right.justified c.in_ok-node.ensures.has_node c.give_answer.new.goals c.in_ok-next.next
+            subst (λ nodes. IsJustifiedNext (verdicts g.D.Cx.Cx) nodes c.args.self.now.goals c.give_answer.new.goals c.in_ok-next.next) (sym (ap (λ cache. cache.nodes) c.store_answer.ensures.cache.rest))
+            (given_justified (verdicts g.D.Cx.Cx) c.args.cache.now.nodes c.result_node.new.cache.nodes c.args.self.now.goals c.pop-entry.result.0 c.pop-entry.result.1 c.pop-entry.new.self c.pop-entry.ensures c.args.outcome c.in_ok-node.node c.requires.right.justified c.in_ok-node.ensures.has_node c.give_answer.new.goals c.in_ok-next.next
             (subst (λ step. GivesAnswer step (final_answer (c.pop-entry.result.0, c.pop-entry.result.1) c.args.outcome c.in_ok-node.node) c.pop-entry.new.self c.in_ok-next.next c.give_answer.new.goals) c.step_kind_from_parent-step.ensures
             (subst (λ (a : EvaluationResult _ _ _ _ _). GivesAnswer c.step_kind_from_parent-step.result a c.pop-entry.new.self c.in_ok-next.next c.give_answer.new.goals) c.finalize-answer.ensures c.in_ok-next.ensures)));
         free =
-            subst (λ nodes. AreFree g.D.Cx.Cx.is_yes g.D.Cx.Cx.is_no g.D.Cx.Input.PartialEq.eq nodes (runs_of c.give_answer.new.goals) c.store_answer.new.cache.results) (sym (ap (λ cache. cache.nodes) c.store_answer.ensures.cache.rest))
-            (given_free g.D.Cx.Cx.is_yes g.D.Cx.Cx.is_no c.args.cache.now.nodes c.result_node.new.cache.nodes c.args.self.now.goals c.pop-entry.result.0 c.pop-entry.result.1 c.pop-entry.new.self c.pop-entry.ensures c.args.outcome c.in_ok-node.node c.requires.right.justified c.in_ok-node.ensures.has_node g.D.Cx.Input.PartialEq.eq g.met.D.Cx.Cx.same_input c.args.cache.now.results c.store_answer.new.cache.results c.give_answer.new.goals c.in_ok-next.next
+            subst (λ nodes. AreFree (verdicts g.D.Cx.Cx) g.D.Cx.Input.PartialEq.eq nodes (runs_of c.give_answer.new.goals) c.store_answer.new.cache.results) (sym (ap (λ cache. cache.nodes) c.store_answer.ensures.cache.rest))
+            (given_free (verdicts g.D.Cx.Cx) c.args.cache.now.nodes c.result_node.new.cache.nodes c.args.self.now.goals c.pop-entry.result.0 c.pop-entry.result.1 c.pop-entry.new.self c.pop-entry.ensures c.args.outcome c.in_ok-node.node c.requires.right.justified c.in_ok-node.ensures.has_node g.D.Cx.Input.PartialEq.eq g.met.D.Cx.Cx.same_input c.args.cache.now.results c.store_answer.new.cache.results c.give_answer.new.goals c.in_ok-next.next
             (subst (λ step. GivesAnswer step (final_answer (c.pop-entry.result.0, c.pop-entry.result.1) c.args.outcome c.in_ok-node.node) c.pop-entry.new.self c.in_ok-next.next c.give_answer.new.goals) c.step_kind_from_parent-step.ensures
             (subst (λ (a : EvaluationResult _ _ _ _ _). GivesAnswer c.step_kind_from_parent-step.result a c.pop-entry.new.self c.in_ok-next.next c.give_answer.new.goals) c.finalize-answer.ensures c.in_ok-next.ensures))
             (subst (λ before. StoresAnswer g.D.Cx.Input.PartialEq.eq before c.store_answer.new.cache.results c.pop-entry.result.0.input (final_answer (c.pop-entry.result.0, c.pop-entry.result.1) c.args.outcome c.in_ok-node.node)) c.in_ok-node.ensures.same_results
             (subst (λ i. StoresAnswer g.D.Cx.Input.PartialEq.eq c.result_node.new.cache.results c.store_answer.new.cache.results i (final_answer (c.pop-entry.result.0, c.pop-entry.result.1) c.args.outcome c.in_ok-node.node)) c.input-input.ensures
             (subst (λ (a : EvaluationResult _ _ _ _ _). StoresAnswer g.D.Cx.Input.PartialEq.eq c.result_node.new.cache.results c.store_answer.new.cache.results c.input-input.result a) c.finalize-answer.ensures c.store_answer.ensures.stored))) c.requires.right.free);
         ready =
-            subst (λ nodes. AreReady g.D.Cx.Cx.is_yes g.D.Cx.Cx.is_no g.D.Cx.Input.PartialEq.eq (g.D.Delegate.script c.args.cache.now.cx) nodes (runs_of c.give_answer.new.goals) c.store_answer.new.self.provisional) (sym (ap (λ cache. cache.nodes) c.store_answer.ensures.cache.rest))
-            (rebased_ready g.D.Cx.Cx.is_yes g.D.Cx.Cx.is_no g.D.Cx.Input.PartialEq.eq g.met.D.Cx.Cx.same_input (g.D.Delegate.script c.args.cache.now.cx) c.args.cache.now.nodes c.result_node.new.cache.nodes (c.pop-entry.result.0, c.pop-entry.result.1) c.pop-entry.new.self c.args.outcome c.in_ok-node.node
-            (subst (λ l. AreJustified g.D.Cx.Cx.is_yes g.D.Cx.Cx.is_no c.args.cache.now.nodes (runs_of l)) c.pop-entry.ensures c.requires.right.justified)
-            (rebases g.D.Cx.Cx.is_yes g.D.Cx.Cx.is_no c.args.cache.now.nodes c.result_node.new.cache.nodes c.pop-entry.result.0 c.pop-entry.result.1 c.pop-entry.new.self (subst (λ l. AreJustified g.D.Cx.Cx.is_yes g.D.Cx.Cx.is_no c.args.cache.now.nodes (runs_of l)) c.pop-entry.ensures c.requires.right.justified) c.args.outcome c.in_ok-node.node c.in_ok-node.ensures.has_node)
+            subst (λ nodes. AreReady (verdicts g.D.Cx.Cx) g.D.Cx.Input.PartialEq.eq (g.D.Delegate.script c.args.cache.now.cx) nodes (runs_of c.give_answer.new.goals) c.store_answer.new.self.provisional) (sym (ap (λ cache. cache.nodes) c.store_answer.ensures.cache.rest))
+            (rebased_ready (verdicts g.D.Cx.Cx) g.D.Cx.Input.PartialEq.eq g.met.D.Cx.Cx.same_input (g.D.Delegate.script c.args.cache.now.cx) c.args.cache.now.nodes c.result_node.new.cache.nodes (c.pop-entry.result.0, c.pop-entry.result.1) c.pop-entry.new.self c.args.outcome c.in_ok-node.node
+            (subst (λ l. AreJustified (verdicts g.D.Cx.Cx) c.args.cache.now.nodes (runs_of l)) c.pop-entry.ensures c.requires.right.justified)
+            (rebases (verdicts g.D.Cx.Cx) c.args.cache.now.nodes c.result_node.new.cache.nodes c.pop-entry.result.0 c.pop-entry.result.1 c.pop-entry.new.self (subst (λ l. AreJustified (verdicts g.D.Cx.Cx) c.args.cache.now.nodes (runs_of l)) c.pop-entry.ensures c.requires.right.justified) c.args.outcome c.in_ok-node.node c.in_ok-node.ensures.has_node)
             (g.D.Delegate.propagated c.args.cache.now.cx) (g.D.Delegate.fixpoint_overflow c.args.cache.now.cx)
-            (λ goal info. neither_is g.D.Cx.Cx.is_yes g.D.Cx.Cx.is_no (g.D.Delegate.propagated c.args.cache.now.cx goal info) (g.met.D.Delegate.propagated_is_neither c.args.cache.now.cx goal info))
-            (λ goal. neither_is g.D.Cx.Cx.is_yes g.D.Cx.Cx.is_no (g.D.Delegate.fixpoint_overflow c.args.cache.now.cx goal) (g.met.D.Delegate.fixpoint_overflow_is_neither c.args.cache.now.cx goal))
-            c.args.reason (subst (λ l. HasReason g.D.Cx.Cx.is_yes g.D.Cx.Cx.is_no c.args.reason l c.args.outcome) c.pop-entry.ensures c.requires.is_reason)
+            (λ goal info. neither_is (verdicts g.D.Cx.Cx) (g.D.Delegate.propagated c.args.cache.now.cx goal info) (g.met.D.Delegate.propagated_is_neither c.args.cache.now.cx goal info))
+            (λ goal. neither_is (verdicts g.D.Cx.Cx) (g.D.Delegate.fixpoint_overflow c.args.cache.now.cx goal) (g.met.D.Delegate.fixpoint_overflow_is_neither c.args.cache.now.cx goal))
+            c.args.reason (subst (λ l. HasReason (verdicts g.D.Cx.Cx) c.args.reason l c.args.outcome) c.pop-entry.ensures c.requires.is_reason)
             c.are_rising.ensures (subst (IsNewestUnranked (g.D.Delegate.script c.args.cache.now.cx)) c.pop-entry.ensures c.requires.unranked)
             g.D.Delegate.ENABLE_PROVISIONAL_CACHE c.args.self.now.provisional c.store_answer.new.self.provisional
             (entries_rebased g.D.Cx.Input.PartialEq.eq g.D.Delegate.ENABLE_PROVISIONAL_CACHE g.D.Delegate.propagated g.D.Delegate.fixpoint_overflow c.cx.result c.args.cache.now.cx (c.cx.ensures ∙ c.in_ok-node.ensures.same_context) c.args.reason c.args.outcome c.in_ok-node.node (c.pop-entry.result.0, c.pop-entry.result.1) c.pop-entry.new.self c.give_answer.new.goals c.in_ok-next.next c.stack-stack.result.now (reverse (map (λ s. s.0) c.give_answer.new.goals)) c.stack-stack.ensures refl c.step_kind_from_parent-step.result c.step_kind_from_parent-step.ensures c.input-input.result c.input-input.ensures c.finalize-answer.result c.finalize-answer.ensures c.in_ok-next.ensures c.args.self.now.provisional c.rebase_entries.new.provisional c.store_answer.new.self.provisional c.in_ok-rebase_entries.ensures c.in_ok-store_answer.ensures.stores.entry)
-            (subst (λ l. AreReady g.D.Cx.Cx.is_yes g.D.Cx.Cx.is_no g.D.Cx.Input.PartialEq.eq (g.D.Delegate.script c.args.cache.now.cx) c.args.cache.now.nodes (runs_of l) c.args.self.now.provisional) c.pop-entry.ensures c.requires.right.ready)
+            (subst (λ l. AreReady (verdicts g.D.Cx.Cx) g.D.Cx.Input.PartialEq.eq (g.D.Delegate.script c.args.cache.now.cx) c.args.cache.now.nodes (runs_of l) c.args.self.now.provisional) c.pop-entry.ensures c.requires.right.ready)
             c.in_ok-next.next c.give_answer.new.goals
             (subst (λ step. GivesAnswer step (final_answer (c.pop-entry.result.0, c.pop-entry.result.1) c.args.outcome c.in_ok-node.node) c.pop-entry.new.self c.in_ok-next.next c.give_answer.new.goals) c.step_kind_from_parent-step.ensures
             (subst (λ (a : EvaluationResult _ _ _ _ _). GivesAnswer c.step_kind_from_parent-step.result a c.pop-entry.new.self c.in_ok-next.next c.give_answer.new.goals) c.finalize-answer.ensures c.in_ok-next.ensures)));

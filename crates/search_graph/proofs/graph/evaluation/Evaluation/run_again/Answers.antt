@@ -1,5 +1,5 @@
 use Rattle.std.proofs.Common.{◌-◌, length, ◌++◌, ◌∷◌, [], ◌≤◌, sym, ap, subst, ◌∙◌}
-use Rattle.search_graph.specs.Below.{open_node, rerun_with, change_newest}
+use Rattle.search_graph.specs.Below.{open_node, rerun_with, change_newest, verdicts}
 use Rattle.search_parts.proofs.Finished.{KeepsFinished-nodes, KeepsFinished-then}
 use Rattle.search_graph.specs.Words.{AreFree, AreJustified, runs_of, AreReady}
 use Rattle.search_graph.proofs.ReadyReruns.{cleared_at, rerun_ready}
@@ -8,7 +8,7 @@ use Rattle.search_graph.proofs.graph.evaluation.Evaluation.run_again.Goals as go
 
 pub result_node-requires : goal.result_node-requires
 result_node-requires g c = λ definite.
-    taken_ends g.D.Cx.Cx.is_yes g.D.Cx.Cx.is_no (g.D.Delegate.script c.args.cache.now.cx) c.args.cache.now.nodes c.args.self.now.goals c.last_entry-entry.result.now c.last_run.result.now c.take_progress-progress.result c.args.outcome
+    taken_ends (verdicts g.D.Cx.Cx) (g.D.Delegate.script c.args.cache.now.cx) c.args.cache.now.nodes c.args.self.now.goals c.last_entry-entry.result.now c.last_run.result.now c.take_progress-progress.result c.args.outcome
     (taken_from c.args.self.now.goals c.take_progress-progress.new.self c.last_entry-entry.result.now c.last_run.result.now c.take_progress-progress.result c.take_progress-progress.ensures.left c.take_progress-progress.ensures.taken c.last_entry-entry.ensures c.last_run.ensures) c.requires.right.justified c.requires.ends
 
 pub returns-in_err-own_node-clause-kept : goal.returns-in_err-own_node-clause-kept
@@ -29,17 +29,17 @@ returns-clause-reran g c = record {
   cleared = cleared_at g.D.Cx.Input.PartialEq.eq c.args.self.now.provisional c.clear_for_rerun.new.self c.new.result.0 (length c.args.self.now.goals - 1) (c.new.ensures ∙ ap (λ n. n - 1) c.len.ensures) c.clear_for_rerun.ensures;
   right = record {
     justified =
-        subst (λ nodes. AreJustified g.D.Cx.Cx.is_yes g.D.Cx.Cx.is_no nodes (runs_of c.run_again.new.self)) (sym (ap (λ cache. cache.nodes) c.in_ok-own_node.ensures.opened ∙ ap (λ i. c.result_node.new.cache.nodes ++ open_node i ∷ []) c.input-input.ensures))
-        (rerun_justified g.D.Cx.Cx.is_yes g.D.Cx.Cx.is_no c.args.cache.now.nodes c.result_node.new.cache.nodes c.args.self.now.goals c.take_progress-progress.new.self c.run_again.new.self c.last_entry-entry.result.now c.last_run.result.now c.take_progress-progress.result c.args.outcome c.in_ok-result_node.field-0 c.in_ok-frame.frame c.in_ok-own_node.own_node
+        subst (λ nodes. AreJustified (verdicts g.D.Cx.Cx) nodes (runs_of c.run_again.new.self)) (sym (ap (λ cache. cache.nodes) c.in_ok-own_node.ensures.opened ∙ ap (λ i. c.result_node.new.cache.nodes ++ open_node i ∷ []) c.input-input.ensures))
+        (rerun_justified (verdicts g.D.Cx.Cx) c.args.cache.now.nodes c.result_node.new.cache.nodes c.args.self.now.goals c.take_progress-progress.new.self c.run_again.new.self c.last_entry-entry.result.now c.last_run.result.now c.take_progress-progress.result c.args.outcome c.in_ok-result_node.field-0 c.in_ok-frame.frame c.in_ok-own_node.own_node
         (taken_from c.args.self.now.goals c.take_progress-progress.new.self c.last_entry-entry.result.now c.last_run.result.now c.take_progress-progress.result c.take_progress-progress.ensures.left c.take_progress-progress.ensures.taken c.last_entry-entry.ensures c.last_run.ensures) c.take_progress-progress.ensures.left (c.run_again.ensures ∙ ap (λ lead. change_newest (rerun_with c.args.outcome lead c.in_ok-frame.frame c.in_ok-own_node.own_node) c.take_progress-progress.new.self) c.or-node.ensures) c.in_ok-result_node.ensures.has_node c.in_ok-own_node.ensures.node c.requires.right.justified);
     free =
-        subst (AreFree g.D.Cx.Cx.is_yes g.D.Cx.Cx.is_no g.D.Cx.Input.PartialEq.eq c.open_node.new.self.nodes (runs_of c.run_again.new.self)) (sym (ap (λ cache. cache.results) c.in_ok-own_node.ensures.opened ∙ c.in_ok-result_node.ensures.same_results))
-        (subst (λ nodes. AreFree g.D.Cx.Cx.is_yes g.D.Cx.Cx.is_no g.D.Cx.Input.PartialEq.eq nodes (runs_of c.run_again.new.self) c.args.cache.now.results) (sym (ap (λ cache. cache.nodes) c.in_ok-own_node.ensures.opened ∙ ap (λ i. c.result_node.new.cache.nodes ++ open_node i ∷ []) c.input-input.ensures))
-        (rerun_free g.D.Cx.Cx.is_yes g.D.Cx.Cx.is_no g.D.Cx.Input.PartialEq.eq c.args.cache.now.results c.args.cache.now.nodes c.result_node.new.cache.nodes c.args.self.now.goals c.take_progress-progress.new.self c.run_again.new.self c.last_entry-entry.result.now c.last_run.result.now c.take_progress-progress.result c.args.outcome c.in_ok-result_node.field-0 c.in_ok-frame.frame c.in_ok-own_node.own_node
+        subst (AreFree (verdicts g.D.Cx.Cx) g.D.Cx.Input.PartialEq.eq c.open_node.new.self.nodes (runs_of c.run_again.new.self)) (sym (ap (λ cache. cache.results) c.in_ok-own_node.ensures.opened ∙ c.in_ok-result_node.ensures.same_results))
+        (subst (λ nodes. AreFree (verdicts g.D.Cx.Cx) g.D.Cx.Input.PartialEq.eq nodes (runs_of c.run_again.new.self) c.args.cache.now.results) (sym (ap (λ cache. cache.nodes) c.in_ok-own_node.ensures.opened ∙ ap (λ i. c.result_node.new.cache.nodes ++ open_node i ∷ []) c.input-input.ensures))
+        (rerun_free (verdicts g.D.Cx.Cx) g.D.Cx.Input.PartialEq.eq c.args.cache.now.results c.args.cache.now.nodes c.result_node.new.cache.nodes c.args.self.now.goals c.take_progress-progress.new.self c.run_again.new.self c.last_entry-entry.result.now c.last_run.result.now c.take_progress-progress.result c.args.outcome c.in_ok-result_node.field-0 c.in_ok-frame.frame c.in_ok-own_node.own_node
         (taken_from c.args.self.now.goals c.take_progress-progress.new.self c.last_entry-entry.result.now c.last_run.result.now c.take_progress-progress.result c.take_progress-progress.ensures.left c.take_progress-progress.ensures.taken c.last_entry-entry.ensures c.last_run.ensures) c.take_progress-progress.ensures.left (c.run_again.ensures ∙ ap (λ lead. change_newest (rerun_with c.args.outcome lead c.in_ok-frame.frame c.in_ok-own_node.own_node) c.take_progress-progress.new.self) c.or-node.ensures) c.in_ok-result_node.ensures.has_node c.in_ok-own_node.ensures.node c.requires.right.justified c.requires.right.free));
     ready =
-        subst (λ nodes. AreReady g.D.Cx.Cx.is_yes g.D.Cx.Cx.is_no g.D.Cx.Input.PartialEq.eq (g.D.Delegate.script c.args.cache.now.cx) nodes (runs_of c.run_again.new.self) c.clear_for_rerun.new.self) (sym (ap (λ cache. cache.nodes) c.in_ok-own_node.ensures.opened ∙ ap (λ i. c.result_node.new.cache.nodes ++ open_node i ∷ []) c.input-input.ensures))
-        (rerun_ready g.D.Cx.Cx.is_yes g.D.Cx.Cx.is_no g.D.Cx.Input.PartialEq.eq (g.D.Delegate.script c.args.cache.now.cx) c.args.self.now.provisional c.clear_for_rerun.new.self c.args.cache.now.nodes c.result_node.new.cache.nodes c.args.self.now.goals c.take_progress-progress.new.self c.run_again.new.self c.last_entry-entry.result.now c.last_run.result.now c.take_progress-progress.result c.args.outcome c.in_ok-result_node.field-0 c.in_ok-frame.frame c.in_ok-own_node.own_node
+        subst (λ nodes. AreReady (verdicts g.D.Cx.Cx) g.D.Cx.Input.PartialEq.eq (g.D.Delegate.script c.args.cache.now.cx) nodes (runs_of c.run_again.new.self) c.clear_for_rerun.new.self) (sym (ap (λ cache. cache.nodes) c.in_ok-own_node.ensures.opened ∙ ap (λ i. c.result_node.new.cache.nodes ++ open_node i ∷ []) c.input-input.ensures))
+        (rerun_ready (verdicts g.D.Cx.Cx) g.D.Cx.Input.PartialEq.eq (g.D.Delegate.script c.args.cache.now.cx) c.args.self.now.provisional c.clear_for_rerun.new.self c.args.cache.now.nodes c.result_node.new.cache.nodes c.args.self.now.goals c.take_progress-progress.new.self c.run_again.new.self c.last_entry-entry.result.now c.last_run.result.now c.take_progress-progress.result c.args.outcome c.in_ok-result_node.field-0 c.in_ok-frame.frame c.in_ok-own_node.own_node
         (taken_from c.args.self.now.goals c.take_progress-progress.new.self c.last_entry-entry.result.now c.last_run.result.now c.take_progress-progress.result c.take_progress-progress.ensures.left c.take_progress-progress.ensures.taken c.last_entry-entry.ensures c.last_run.ensures) c.take_progress-progress.ensures.left (c.run_again.ensures ∙ ap (λ lead. change_newest (rerun_with c.args.outcome lead c.in_ok-frame.frame c.in_ok-own_node.own_node) c.take_progress-progress.new.self) c.or-node.ensures) c.in_ok-result_node.ensures.has_node c.in_ok-own_node.ensures.node c.requires.right.justified
         (cleared_at g.D.Cx.Input.PartialEq.eq c.args.self.now.provisional c.clear_for_rerun.new.self c.new.result.0 (length c.args.self.now.goals - 1) (c.new.ensures ∙ ap (λ n. n - 1) c.len.ensures) c.clear_for_rerun.ensures) c.requires.right.ready);
   };
