@@ -18,18 +18,13 @@ module _ (nodes : List Node) (verdict : Verdict) (stack : List Entry) (from_head
   edge_walk : {p b q c : ℕ} → Walk (Step nodes verdict stack) a p b → Walk (HasShapeEdge nodes verdict) b q c → Walk (Step nodes verdict stack) b q c
   edge_walk v w = carried_on (Step nodes verdict stack) (HasShapeEdge nodes verdict) a edge_steps v w
 
-  pub without_heads : IsClosedGraph nodes verdict a
-  without_heads = record {
+  -- A use without heads is a graph, whatever the stack is.
+  pub closed_is_graph : IsClosedGraph nodes verdict a
+  closed_is_graph = record {
     finished = λ b q w. let v = edge_walk stay w in elim (u.open_graph.placed b q v) [ inl l ↦ absurd (no_leaf b q v l) | inr f ↦ is_finished nodes verdict b f ];
     closed = λ b q k c r w e x. let v = edge_walk stay w in let e' = edge_steps b q k c v e in
         u.open_graph.closed b q k c r v e' (edge_walk (then_step (Step nodes verdict stack) v e') x);
   }
-
--- A use without heads is a graph, whatever the stack is.
-pub closed_is_graph :
-    (nodes : List Node) (verdict : Verdict) (stack : List Entry) (from_head : ℕ → ℕ) (front a : ℕ) (heads : Heads)
-    → ((depth : ℕ) → UsesNo heads depth) → Use nodes verdict stack from_head front a heads → IsClosedGraph nodes verdict a
-closed_is_graph nodes verdict stack from_head front a heads none u = without_heads nodes verdict stack from_head front a heads none u
 
 -- A graph stays one while the list grows.
 pub growth_keeps_graph :

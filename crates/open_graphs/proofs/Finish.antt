@@ -1,7 +1,8 @@
 -- The end of a run: its node gets its edges.
 use Rattle.std.proofs.Common.{◌≡◌, ◌≢◌, ℕ, max, ◌<◌, List, [], ◌∷◌, ◌++◌, Some, length, slice_get, slice_set, arith, refl, sym, subst, ◌∙◌, ◌⊎◌, inl, inr}
-use Rattle.open_graphs.specs.Words.{Verdict, cycle_kind, Edge, Node, Unfinished, Finished, IsFinished, Walk, stay, Path, end, then, Avoids, Entry, IsLeaf, Accepts, path_kind, Step, Heads, Recorded, Use, IsAnsweredEdge, IsRunsNode, AllAnswered}
-use Rattle.open_graphs.proofs.Lists.{get_left, get_end, get_below, get_set_other, get_set_same}
+use Rattle.std.proofs.lemmas.Option.{slice_get_within}
+use Rattle.open_graphs.specs.Words.{Verdict, cycle_kind, Edge, Node, Unfinished, Finished, IsFinished, Walk, stay, Path, end, then, Avoids, Entry, IsLeaf, Accepts, path_kind, Step, Heads, Recorded, Use, IsRunsNode, AllAnswered}
+use Rattle.open_graphs.proofs.Lists.{get_left, get_end, get_set_other, get_set_same}
 use Rattle.open_graphs.proofs.Walks.{closed_walk, placed_walk}
 use Rattle.open_graphs.proofs.Paths.{Covered, covered_walk, carried_past}
 use Rattle.open_graphs.proofs.PathKinds.{path_kind_below, path_kind_top}
@@ -9,7 +10,7 @@ use Rattle.open_graphs.proofs.Keep.{leaf_cases, recorded_at, accepts_at}
 
 module _ (nodes : List Node) (verdict : Verdict) (below : List Entry) (top : Entry) (n : ℕ) (edges : List Edge) (heads : Heads)
     (unfinished : slice_get nodes n ≡ Some Unfinished) (lower : ¬ IsLeaf below n) (run : IsRunsNode verdict top n)
-    (answered : (i : ℕ) (edge : Edge) → slice_get edges i ≡ Some edge → IsAnsweredEdge nodes verdict below top edge heads) where
+    (answered : AllAnswered nodes verdict below top edges heads) where
   abbrev stack : List Entry
   stack = below ++ top ∷ []
 
@@ -96,7 +97,7 @@ module _ (nodes : List Node) (verdict : Verdict) (below : List Entry) (top : Ent
   covered depth entry at e (then {a = a} {k = k} {b = b} {q = q} {on = on} s p avoids) =
       let o : out k b = from_new k b (subst (λ x. new x k b) e s) in
       let it = answered o.0 (record { kind = k; target = b }) o.1 in
-      let within : depth < length below = get_below below depth entry at in
+      let within : depth < length below = slice_get_within below depth entry at in
       let p' = carried_past old new n b (λ c r k' d w ne s'. elsewhere k b r c k' d o w ne s') 0 (subst (λ x. Avoids on x) e avoids) stay p in
       let h = it.used.covered depth entry q on (get_left below (top ∷ []) depth entry at) p' in
       let same : path_kind stack k depth ≡ max k (path_kind below top.step depth) = path_kind_below below top k depth within in
@@ -105,21 +106,13 @@ module _ (nodes : List Node) (verdict : Verdict) (below : List Entry) (top : Ent
         accepts_at verdict entry (max (max k q) (path_kind stack k depth)) (max (max 0 (max k q)) (path_kind below top.step depth)) h.1 same',
       )
 
-  finished_use : Use later verdict below (path_kind below top.step) 0 n heads
-  finished_use = record {
+  -- A run of the top entry ended with a verdict. Its node gets an edge for each answer of the verdict, and may then be used
+  -- below the entry.
+  pub finish_gives_use : Use later verdict below (path_kind below top.step) 0 n heads
+  finish_gives_use = record {
     open_graph = record {
       placed = λ b q w. placed_walk old new out n (cycle_kind verdict) from_new elsewhere segment old_closed (λ b. IsLeaf below b ⊎ IsFinished later verdict b) (inr (edges, at_n)) placed b q w;
       closed = closed_walk old new out n (cycle_kind verdict) from_new elsewhere segment old_closed;
     };
     covered = λ depth entry q on at w. covered depth entry at refl w;
   }
-
--- A run of the top entry ended with a verdict. Its node gets an edge for each answer of the verdict, and may then be used
--- below the entry.
-pub finish_gives_use :
-    (nodes : List Node) (verdict : Verdict) (below : List Entry) (top : Entry) (n : ℕ) (edges : List Edge)
-    (heads : Heads)
-    → slice_get nodes n ≡ Some Unfinished → ¬ IsLeaf below n → IsRunsNode verdict top n
-    → AllAnswered nodes verdict below top edges heads
-    → Use (slice_set nodes n (Finished verdict edges)) verdict below (path_kind below top.step) 0 n heads
-finish_gives_use nodes verdict below top n edges heads unfinished lower run answered = finished_use nodes verdict below top n edges heads unfinished lower run answered

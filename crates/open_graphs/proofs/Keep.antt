@@ -1,7 +1,8 @@
 -- What keeps the use of a value: growth of the list, more heads, pushes, pops and reruns of what it doesn't reach.
-use Rattle.std.proofs.Common.{◌≡◌, ℕ, max, List, [], ◌∷◌, ◌++◌, Some, length, slice_get, refl, ap, sym, subst, ◌∙◌, ◌⊎◌, inl, inr, None, slice_set, ◌≢◌}
+use Rattle.std.proofs.Common.{◌≡◌, ℕ, max, List, [], ◌∷◌, ◌++◌, Some, length, slice_get, refl, ap, sym, subst, ◌∙◌, ◌⊎◌, inl, inr, None, slice_set, ◌≢◌, ◌<◌}
 use native.Mathlib.Decide.{ℕ_discrete}
-use Rattle.open_graphs.specs.Words.{Verdict, cycle_kind, Node, Unfinished, Finished, IsFinished, HasShapeEdge, Walk, Grown, Entry, IsLeaf, Accepts, Step, OpenGraph, Heads, Recorded, Use, Unreached, Includes, IsSameOrFresh, UsesNo}
+use Rattle.std.proofs.lemmas.Option.{slice_get_within}
+use Rattle.open_graphs.specs.Words.{Verdict, cycle_kind, Node, Unfinished, Finished, IsFinished, HasShapeEdge, Walk, Grown, Entry, IsLeaf, Accepts, Step, OpenGraph, Heads, Recorded, Use, Unreached, Includes, IncludesBelow, IsSameOrFresh, UsesNo}
 use Rattle.open_graphs.proofs.Lists.{get_left, get_end, get_cases, get_set_other}
 use Rattle.open_graphs.proofs.Paths.{covered_walk}
 use Rattle.open_graphs.proofs.Transfer.{same_walk, transfer_use}
@@ -52,19 +53,30 @@ recorded_at heads depth p c p' c' h e e' = subst (λ x. Recorded heads depth x c
 pub accepts_at : (verdict : Verdict) (entry : Entry) (c c' : ℕ) → Accepts verdict entry c → c ≡ c' → Accepts verdict entry c'
 accepts_at verdict entry c c' h e = subst (λ x. Accepts verdict entry x) e h
 
--- It stays under more heads, and where the path kind from each recorded head is the same.
+-- It stays under more heads, and where the path kind from each recorded head is the same. What counts of heads is what is
+-- recorded below the end of the stack.
+pub heads_below_keep_use :
+    (nodes : List Node) (verdict : Verdict) (stack : List Entry) (from_head other : ℕ → ℕ) (front a : ℕ)
+    (heads more : Heads)
+    → IncludesBelow (length stack) heads more
+    → ((depth path cycle : ℕ) → depth < length stack → Recorded heads depth path cycle → from_head depth ≡ other depth)
+    → Use nodes verdict stack from_head front a heads → Use nodes verdict stack other front a more
+heads_below_keep_use nodes verdict stack from_head other front a heads more includes same u = record {
+  open_graph = u.open_graph;
+  covered = λ depth entry q on at w.
+      let within : depth < length stack = slice_get_within stack depth entry at in
+      let h = u.covered depth entry q on at w in
+      let e : max (max front q) (from_head depth) ≡ max (max front q) (other depth) = ap (λ x. max (max front q) x) (same depth _ _ within h.0) in
+      (recorded_at more depth (max front q) _ (max front q) _ (includes depth _ _ within h.0) refl e, accepts_at verdict entry _ _ h.1 e);
+}
+
 pub heads_keep_use :
     (nodes : List Node) (verdict : Verdict) (stack : List Entry) (from_head other : ℕ → ℕ) (front a : ℕ)
     (heads more : Heads)
     → Includes heads more → ((depth path cycle : ℕ) → Recorded heads depth path cycle → from_head depth ≡ other depth)
     → Use nodes verdict stack from_head front a heads → Use nodes verdict stack other front a more
-heads_keep_use nodes verdict stack from_head other front a heads more includes same u = record {
-  open_graph = u.open_graph;
-  covered = λ depth entry q on at w.
-      let h = u.covered depth entry q on at w in
-      let e : max (max front q) (from_head depth) ≡ max (max front q) (other depth) = ap (λ x. max (max front q) x) (same depth (max front q) (max (max front q) (from_head depth)) h.0) in
-      (recorded_at more depth (max front q) _ (max front q) _ (includes depth _ _ h.0) refl e, accepts_at verdict entry _ _ h.1 e);
-}
+heads_keep_use nodes verdict stack from_head other front a heads more includes same u =
+    heads_below_keep_use nodes verdict stack from_head other front a heads more (λ depth path cycle lt h. includes depth path cycle h) (λ depth path cycle lt h. same depth path cycle h) u
 
 pub leaf_left : (stack : List Entry) (top : Entry) (b : ℕ) → IsLeaf stack b → IsLeaf (stack ++ top ∷ []) b
 leaf_left stack top b l = (l.0, l.1, get_left stack (top ∷ []) l.0 l.1 l.2, l.3)

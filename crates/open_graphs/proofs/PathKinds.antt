@@ -1,5 +1,6 @@
 -- Path kinds from the entries of a stack.
 use Rattle.std.proofs.Common.{◌≡◌, ℕ, zero, suc, ◌<◌, ◌≤◌, max, List, [], ◌∷◌, ◌++◌, length, take, drop, arith, refl, ap, sym, ◌∙◌}
+use Rattle.std.proofs.lemmas.List.{take-append-le}
 use Rattle.open_graphs.specs.Words.{Entry, greatest, path_kind, path_through}
 
 pub greatest_max : (a b : ℕ) (es : List Entry) → greatest (max a b) es ≡ max a (greatest b es)
@@ -30,10 +31,7 @@ path_kind_top [] top k = refl
 path_kind_top (e ∷ es) top k = path_kind_top es top k
 
 pub through_step : (stack : List Entry) (highest k depth : ℕ) → depth ≤ highest → path_through stack highest (path_kind stack k highest) depth ≡ path_kind stack k depth
-through_step [] zero k zero h = refl
-through_step [] zero k (suc depth) h = refl
-through_step [] (suc highest) k zero h = refl
-through_step [] (suc highest) k (suc depth) h = refl
+through_step [] highest k depth h = refl
 through_step (e ∷ es) zero k zero h = refl
 through_step (e ∷ es) zero k (suc depth) h = absurd (omega arith)
 through_step (e ∷ es) (suc highest) k zero h = greatest_split (suc highest) k es
@@ -44,12 +42,7 @@ pub through_push : (stack : List Entry) (top : Entry) (highest k depth : ℕ) �
 through_push [] top highest k depth h = absurd (omega arith)
 through_push (e ∷ es) top zero k zero h = refl
 through_push (e ∷ es) top zero k (suc depth) h = refl
-through_push (e ∷ es) top (suc highest) k zero h = ap (greatest k) (take_push es top (suc highest) (omega arith))
-  where
-    take_push : (es : List Entry) (top : Entry) (n : ℕ) → n ≤ length es → take n (es ++ top ∷ []) ≡ take n es
-    take_push es top zero h = refl
-    take_push [] top (suc n) h = absurd (omega arith)
-    take_push (e ∷ es) top (suc n) h = ap (λ x. e ∷ x) (take_push es top n (omega arith))
+through_push (e ∷ es) top (suc highest) k zero h = ap (greatest k) (take-append-le (suc highest) es (top ∷ []) (omega arith))
 through_push (e ∷ es) top (suc highest) k (suc depth) h = through_push es top highest k depth (omega arith)
 
 pub greatest_same : (es : List Entry) (top again : Entry) (n k : ℕ) → again.step ≡ top.step → greatest k (take n (es ++ top ∷ [])) ≡ greatest k (take n (es ++ again ∷ []))

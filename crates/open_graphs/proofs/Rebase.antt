@@ -1,10 +1,11 @@
 -- Stored answers when their highest head is popped.
 use Rattle.std.proofs.Common.{◌≡◌, ◌≢◌, ℕ, max, ◌<◌, List, [], ◌∷◌, ◌++◌, Some, length, slice_get, arith, refl, ap, sym, subst, ◌⊎◌, inl, inr}
+use Rattle.std.proofs.lemmas.Option.{slice_get_within}
 use native.Mathlib.Decide.{ℕ_discrete}
 use Rattle.open_graphs.specs.Words.{Verdict, cycle_kind, Node, IsFinished, Walk, stay, go, Path, end, then, Avoids, Entry, IsLeaf, Accepts, path_kind, path_through, Step, Heads, Recorded, Use, HeadsWithin, ProvisionalUse, IncludesBelow, KeepsCycleKinds, TakesOver, Unreached}
-use Rattle.open_graphs.proofs.Lists.{get_left, get_end, get_below}
+use Rattle.open_graphs.proofs.Lists.{get_left, get_end}
 use Rattle.open_graphs.proofs.PathKinds.{path_kind_below, through_top, through_popped}
-use Rattle.open_graphs.proofs.Keep.{leaf_cases, recorded_at, accepts_at, pop_keeps_use}
+use Rattle.open_graphs.proofs.Keep.{leaf_cases, recorded_at, accepts_at, heads_below_keep_use, pop_keeps_use}
 use Rattle.open_graphs.proofs.Store.{along}
 
 -- a walk after the pop, by whether it comes to the popped node
@@ -83,7 +84,7 @@ module _ (nodes : List Node) (verdict : Verdict) (below : List Entry) (top : Ent
 
   covered : (depth : ℕ) (entry : Entry) (q : ℕ) (on : List ℕ) → slice_get below depth ≡ Some entry → PathSplit old new top.node a q entry.node on → Recorded rebased depth (max 0 q) (max (max 0 q) (max path (path_kind below top.step depth))) × Accepts verdict entry (max (max 0 q) (max path (path_kind below top.step depth)))
   covered depth entry q on at (PathSplit.direct v) =
-      let within : depth < length below = get_below below depth entry at in
+      let within : depth < length below = slice_get_within below depth entry at in
       let h = u.covered depth entry q on (get_left below (top ∷ []) depth entry at) v in
       let same : max (max 0 q) (path_kind stack path depth) ≡ max (max 0 q) (max path (path_kind below top.step depth)) = ap (λ x. max (max 0 q) x) (path_kind_below below top path depth within) in
       (recorded_at rebased depth (max 0 q) _ (max 0 q) _ (includes depth _ _ within h.0) refl same, accepts_at verdict entry _ _ h.1 same)
@@ -134,17 +135,6 @@ rebase_keeps_stored nodes verdict below top path a heads top_heads rebased highe
     stored_below nodes verdict below top path a rebased highest on_stack within
     (rebased_use nodes verdict below top path a heads top_heads rebased top_use keeps includes takes (from_top nodes verdict below top path a heads s))
 
--- the same use under other heads that include the first ones below a depth which the stack doesn't pass
-with_heads_below : (nodes : List Node) (verdict : Verdict) (below : List Entry) (from_head other : ℕ → ℕ) (a : ℕ) (heads rebased : Heads) → IncludesBelow (length below) heads rebased → ((depth : ℕ) → depth < length below → from_head depth ≡ other depth) → Use nodes verdict below from_head 0 a heads → Use nodes verdict below other 0 a rebased
-with_heads_below nodes verdict below from_head other a heads rebased includes same u = record {
-  open_graph = u.open_graph;
-  covered = λ depth entry q on at w.
-      let within : depth < length below = get_below below depth entry at in
-      let h = u.covered depth entry q on at w in
-      let e : max (max 0 q) (from_head depth) ≡ max (max 0 q) (other depth) = ap (λ x. max (max 0 q) x) (same depth within) in
-      (recorded_at rebased depth (max 0 q) _ (max 0 q) _ (includes depth _ _ within h.0) refl e, accepts_at verdict entry _ _ h.1 e);
-}
-
 -- When its highest head is popped, it stays where it doesn't reach that head.
 pub unreached_head_keeps_stored :
     (nodes : List Node) (verdict : Verdict) (below : List Entry) (top : Entry) (path a : ℕ) (heads rebased : Heads)
@@ -155,6 +145,6 @@ pub unreached_head_keeps_stored :
     → ProvisionalUse nodes verdict below highest (max path (path_kind below top.step highest)) a rebased
 unreached_head_keeps_stored nodes verdict below top path a heads rebased highest unreached includes on_stack within s =
     stored_below nodes verdict below top path a rebased highest on_stack within
-    (with_heads_below nodes verdict below (path_kind (below ++ top ∷ []) path) (λ depth. max path (path_kind below top.step depth)) a heads rebased includes
-    (λ depth h. path_kind_below below top path depth h)
+    (heads_below_keep_use nodes verdict below (path_kind (below ++ top ∷ []) path) (λ depth. max path (path_kind below top.step depth)) 0 a heads rebased includes
+    (λ depth _ _ lt _. path_kind_below below top path depth lt)
     (pop_keeps_use nodes verdict below top (path_kind (below ++ top ∷ []) path) 0 a heads unreached (from_top nodes verdict below top path a heads s)))

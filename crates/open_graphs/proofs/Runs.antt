@@ -1,6 +1,6 @@
 -- Runs of a goal on the stack.
 use Rattle.std.proofs.Common.{◌≡◌, ◌≢◌, ℕ, ◌<◌, List, [], ◌∷◌, ◌++◌, Some, None, length, slice_get, arith, refl, ap, sym, subst, ◌∙◌, inl, inr, length-append, false}
-use Rattle.open_graphs.specs.Words.{Verdict, Neither, Edge, Node, Unfinished, Finished, Grown, Entry, IsLeaf, path_kind, Heads, Use, Running, IsStack, Answered, Again, Anew, Without, AllAnswered, Includes, IsClosedGraph, UsesNo}
+use Rattle.open_graphs.specs.Words.{Verdict, Neither, Edge, Node, Unfinished, Finished, Grown, Entry, IsLeaf, path_kind, Heads, Use, Running, IsStack, Answered, Again, Anew, Without, IsClosedGraph, UsesNo}
 use Rattle.open_graphs.proofs.Lists.{get_left, get_end, get_cases}
 use Rattle.open_graphs.proofs.Keep.{append_grows, finish_grows, growth_keeps_use, heads_keep_use}
 use Rattle.open_graphs.proofs.Finish.{finish_gives_use}
@@ -67,22 +67,6 @@ growth_keeps_running before after below top own edges heads_before heads grown u
   still = r.still;
   answered = λ verdict i edge e. let h = r.answered verdict i edge e in
       record { answer = h.answer; used = growth_keeps_use before after verdict (below ++ top ∷ []) (path_kind (below ++ top ∷ []) edge.kind) edge.kind edge.target h.answer grown h.used; among = h.among };
-}
-
--- It goes on with other answers, if each is among the heads.
-pub answers_keep_running :
-    (nodes : List Node) (below : List Entry) (top : Entry) (own : ℕ) (edges more : Verdict → List Edge)
-    (heads_before heads other : Heads)
-    → Includes heads_before other
-    → ((verdict : Verdict) → AllAnswered nodes verdict below top (more verdict) other) → Running nodes below top own edges heads_before heads
-    → Running nodes below top own more heads_before other
-answers_keep_running nodes below top own edges more heads_before heads other still answered r = record {
-  unfinished = r.unfinished;
-  lower = r.lower;
-  which_run = r.which_run;
-  earlier = r.earlier;
-  still = still;
-  answered = answered;
 }
 
 pub answered_grows : (nodes : List Node) (top : Entry) (own : ℕ) (edges : Verdict → List Edge) (verdict : Verdict) {later : List Node} {a : ℕ} → slice_get nodes own ≡ Some Unfinished → Answered nodes top own edges verdict later a → Grown nodes later

@@ -1,33 +1,27 @@
 -- Each move keeps a sound state sound.
 use Rattle.std.proofs.Common.{◌≡◌, ◌≢◌, ℕ, ◌<◌, ◌≤◌, max, List, [], ◌∷◌, ◌++◌, Some, None, length, slice_get, slice_set, arith, refl, sym, subst, ◌∙◌, ◌⊎◌, inl, inr, length-set}
+use Rattle.std.proofs.lemmas.Option.{slice_get_within}
 use Rattle.open_graphs.specs.Words.{Verdict, Yes, No, Neither, cycle_kind, Edge, Node, Unfinished, Finished, Grown, Entry, IsLeaf, path_kind, IsSameOrFresh, Heads, Use, Unreached, ProvisionalUse, UsesNo, KeepsCycleKinds, TakesOver, Running, IsStack, Answered, Again, Anew, Without, RunningGoal, ProvisionalEntry, Final, stack_of, no_heads, AllRunning, OwnsOther, AllProvisional, AllFinal, IsMoved, IsFixpoint, Lower, Unused, Fixpoint, Other, PushKeepsSound, AnswersKeepSound, IsLeft, Survives, Added, IsFinalAfter, Before, Now, PopKeepsSound, RerunKeepsSound, StartIsSound, FinalIsGraph, AfterPop}
-use Rattle.open_graphs.proofs.Lists.{get_left, get_end, get_below, get_set_other}
+use Rattle.open_graphs.proofs.Lists.{get_left, get_end, get_set_other}
 use Rattle.open_graphs.proofs.Keep.{append_grows, growth_keeps_use, push_keeps_use, pop_keeps_use, rerun_keeps_use, unused_is_unreached, other_is_unreached}
 use Rattle.open_graphs.proofs.Store.{use_gives_stored, growth_keeps_stored, push_keeps_stored, pop_keeps_stored, rerun_keeps_stored}
 use Rattle.open_graphs.proofs.Closed.{closed_is_graph, graph_is_use}
 use Rattle.open_graphs.proofs.Rebase.{unreached_head_keeps_stored, rebase_keeps_stored}
-use Rattle.open_graphs.proofs.Runs.{first_run_starts, growth_keeps_running, answers_keep_running, answered_grows, run_gives_use, next_run_starts, closed_gives_use, pop_is_stack, not_leaf}
+use Rattle.open_graphs.proofs.Runs.{first_run_starts, growth_keeps_running, answered_grows, run_gives_use, next_run_starts, closed_gives_use, pop_is_stack, not_leaf}
 
 -- verdicts
 pub verdict_cases : (v w : Verdict) → (v ≡ w) ⊎ (v ≢ w)
 verdict_cases Yes Yes = inl refl
-verdict_cases Yes No = inr (λ e. absurd (cc))
-verdict_cases Yes Neither = inr (λ e. absurd (cc))
-verdict_cases No Yes = inr (λ e. absurd (cc))
 verdict_cases No No = inl refl
-verdict_cases No Neither = inr (λ e. absurd (cc))
-verdict_cases Neither Yes = inr (λ e. absurd (cc))
-verdict_cases Neither No = inr (λ e. absurd (cc))
 verdict_cases Neither Neither = inl refl
+verdict_cases _ _ = inr (λ e. absurd (cc))
 
 pub same_cycles : (v w : Verdict) → v ≢ Neither → w ≢ Neither → cycle_kind v ≡ cycle_kind w → v ≡ w
 same_cycles Yes Yes h h' e = refl
-same_cycles Yes No h h' e = absurd (omega arith)
-same_cycles Yes Neither h h' e = absurd (h' refl)
-same_cycles No Yes h h' e = absurd (omega arith)
 same_cycles No No h h' e = refl
-same_cycles No Neither h h' e = absurd (h' refl)
 same_cycles Neither w h h' e = absurd (h refl)
+same_cycles v Neither h h' e = absurd (h' refl)
+same_cycles _ _ h h' e = absurd (omega arith)
 
 -- a stored answer at equal data
 stored_at : (nodes : List Node) (below : List Entry) (verdict verdict' : Verdict) (highest path path' node node' : ℕ) (heads : Heads) → verdict' ≡ verdict → path' ≡ path → node' ≡ node → ProvisionalUse nodes verdict below highest path node heads → ProvisionalUse nodes verdict' below highest path' node' heads
@@ -104,7 +98,7 @@ all_grow nodes later (f ∷ fs) grown u r = (growth_keeps_running nodes later (s
 
 new_owner : (nodes : List Node) (own : ℕ) (frames : List RunningGoal) → length nodes ≤ own → AllRunning nodes frames → OwnsOther own frames
 new_owner nodes own [] le r = tt
-new_owner nodes own (f ∷ fs) le r = ((λ e. let h : f.own < length nodes = get_below nodes f.own Unfinished r.0.unfinished in absurd (omega arith)), new_owner nodes own fs le r.1)
+new_owner nodes own (f ∷ fs) le r = ((λ e. let h : f.own < length nodes = slice_get_within nodes f.own Unfinished r.0.unfinished in absurd (omega arith)), new_owner nodes own fs le r.1)
 
 same_length : (nodes : List Node) (top : Entry) (own : ℕ) (edges : Verdict → List Edge) (verdict : Verdict) {later : List Node} {a : ℕ} → Answered nodes top own edges verdict later a → length later ≡ length nodes
 same_length nodes top own edges verdict (Again e) = refl
@@ -133,7 +127,7 @@ push_keeps_sound nodes frames provisional final step heads s =
 pub answers_keep_sound : AnswersKeepSound
 answers_keep_sound nodes f frames provisional final edges heads still answered s = record {
   is_stack = s.is_stack;
-  running = (answers_keep_running nodes (stack_of frames) f.entry f.own f.edges edges f.heads_before f.heads heads still answered s.running.0, s.running.1);
+  running = (let r = s.running.0 in record { unfinished = r.unfinished; lower = r.lower; which_run = r.which_run; earlier = r.earlier; still = still; answered = answered }, s.running.1);
   apart = s.apart;
   stored = s.stored;
   closed = s.closed;
@@ -190,13 +184,13 @@ answer_is_fresh nodes below f verdict again same (Without e) r = inl same
 
 top_is_no_leaf : (nodes : List Node) (below : List Entry) (top : Entry) → IsStack nodes (below ++ top ∷ []) → ¬ IsLeaf below top.node
 top_is_no_leaf nodes below top s l =
-    let h : l.0 < length below = get_below below l.0 l.1 l.2 in
+    let h : l.0 < length below = slice_get_within below l.0 l.1 l.2 in
     let e : l.0 ≡ length below = s.distinct l.0 (length below) l.1 top (get_left below (top ∷ []) l.0 l.1 l.2) (get_end below top) l.3 in
     absurd (omega arith)
 
 answer_in_list : (nodes : List Node) (below : List Entry) (f : RunningGoal) (verdict : Verdict) {later : List Node} {a : ℕ} → Answered nodes f.entry f.own f.edges verdict later a → Running nodes below f.entry f.own f.edges f.heads_before f.heads → IsStack nodes (below ++ f.entry ∷ []) → (a < length later) × ¬ IsLeaf below a
 answer_in_list nodes below f verdict (Again e) r s = (s.in_list (length below) f.entry (get_end below f.entry), top_is_no_leaf nodes below f.entry s)
-answer_in_list nodes below f verdict (Anew ne) r s = (let h : f.own < length nodes = get_below nodes f.own Unfinished r.unfinished in omega (arith, length-set nodes f.own (Finished verdict (f.edges verdict))), r.lower)
+answer_in_list nodes below f verdict (Anew ne) r s = (let h : f.own < length nodes = slice_get_within nodes f.own Unfinished r.unfinished in omega (arith, length-set nodes f.own (Finished verdict (f.edges verdict))), r.lower)
 answer_in_list nodes below f verdict (Without e) r s = (s.in_list (length below) f.entry (get_end below f.entry), top_is_no_leaf nodes below f.entry s)
 
 pub rerun_keeps_sound : RerunKeepsSound

@@ -4,14 +4,9 @@ use Rattle.open_graphs.specs.Words.{Verdict, Yes, No, Neither, Node, Unfinished,
 
 pub same : (verdict other : Verdict) → IsTrue (same_verdict verdict other) → other ≡ verdict
 same Yes Yes h = refl
-same Yes No h = absurd (cc)
-same Yes Neither h = absurd (cc)
-same No Yes h = absurd (cc)
 same No No h = refl
-same No Neither h = absurd (cc)
-same Neither Yes h = absurd (cc)
-same Neither No h = absurd (cc)
 same Neither Neither h = refl
+same _ _ h = absurd (cc)
 
 self : (verdict : Verdict) → IsTrue (same_verdict verdict verdict)
 self Yes = refl
