@@ -1,11 +1,11 @@
 -- What heads record once paths and usages were joined to one of them, in the words of the theory of open graphs.
-use Rattle.std.proofs.Common.{◌≡◌, ◌≢◌, ℕ, zero, suc, ◌+◌, ◌-◌, ◌^◌, min, max, Bool, true, false, IsTrue, ◌||◌, Option, Some, None, refl, sym, ap, ◌∙◌, subst, arith}
-use Rattle.cycle_heads.specs.Below.{Head, Includes, Recorded}
-use Rattle.cycle_heads.specs.Words.{PathKind, Inductive, Unknown, Coinductive, ForcedAmbiguity, PathsToNested, CycleHead, HeadUsages, rank_of, greater_kind, extended, has_kind, union, joined_head, has_rank, count_at, head_shape, count_of, sticking_sum, with_nested}
+use Rattle.std.proofs.Common.{◌≡◌, ◌≢◌, ℕ, zero, suc, min, max, IsTrue, Option, Some, None, refl, sym, ap, ◌∙◌, subst, arith}
+use Rattle.std.proofs.lemmas.Bool.{or_right}
+use Rattle.cycle_heads.specs.Words.{PathKind, Inductive, Unknown, Coinductive, ForcedAmbiguity, PathsToNested, CycleHead, HeadUsages, rank_of, greater_kind, extended, has_kind, joined_head, has_rank, count_at, head_shape, count_of, sticking_sum, with_nested}
 use Rattle.cycle_heads.proofs.Counts.{count_of-usages_by}
 use Rattle.cycle_heads.proofs.PathLaws.{has_kind-union}
 use Rattle.cycle_heads.proofs.PathMembers.{extended-has}
-use Rattle.cycle_heads.proofs.PathRanks.{greater_rank}
+use Rattle.cycle_heads.proofs.PathRanks.{each_kind, greater_rank}
 
 -- ---- kinds and their ranks
 
@@ -24,29 +24,16 @@ cycle_of_rank usages (suc (suc (suc zero))) some = (ForcedAmbiguity, refl, some)
 cycle_of_rank usages (suc (suc (suc (suc n)))) some = absurd (some refl)
 
 pub has_rank-of : (paths : PathsToNested) (kind : PathKind) → has_rank paths (rank_of kind) ≡ has_kind paths kind
-has_rank-of paths Inductive = refl
-has_rank-of paths Unknown = refl
-has_rank-of paths Coinductive = refl
-has_rank-of paths ForcedAmbiguity = refl
+has_rank-of paths = each_kind (λ kind. has_rank paths (rank_of kind) ≡ has_kind paths kind) refl refl refl refl
 
 pub count_at-of : (usages : HeadUsages) (kind : PathKind) → count_at usages (rank_of kind) ≡ count_of usages kind
-count_at-of usages Inductive = refl
-count_at-of usages Unknown = refl
-count_at-of usages Coinductive = refl
-count_at-of usages ForcedAmbiguity = refl
+count_at-of usages = each_kind (λ kind. count_at usages (rank_of kind) ≡ count_of usages kind) refl refl refl refl
 
 -- ---- joined heads
 
-or_right : (a b : Bool) → IsTrue b → IsTrue (a || b)
-or_right true b is = refl
-or_right false b is = is
-
-sum_right : (n m : ℕ) → m ≢ 0 → sticking_sum n (min m 1) ≢ 0
-sum_right n m some none = some (omega (arith, none))
-
 nested_right : (usages nested : HeadUsages) (kind : PathKind) → count_of nested kind ≢ 0 → count_of (with_nested usages nested) kind ≢ 0
 nested_right usages nested kind some none =
-    sum_right (count_of usages kind) (count_of nested kind) some (sym (count_of-usages_by (λ k. sticking_sum (count_of usages k) (min (count_of nested k) 1)) kind) ∙ none)
+    let sum = sym (count_of-usages_by (λ k. sticking_sum (count_of usages k) (min (count_of nested k) 1)) kind) ∙ none in some (omega (arith, sum))
 
 -- a head is recorded with a path and a cycle of these kinds
 abbrev pub HasBoth : PathsToNested → HeadUsages → PathKind → PathKind → Type 0

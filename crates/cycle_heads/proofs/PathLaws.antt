@@ -1,10 +1,13 @@
 -- The laws of sets of paths, for bits that no flag has too: the flags are the five lowest bits.
-use Rattle.std.proofs.Common.{◌≡◌, ℕ, zero, suc, ◌+◌, ◌*◌, ◌/◌, ◌%◌, ◌^◌, ◌<◌, Bool, true, false, ◌||◌, not, ◌==◌, nat_lt, List, [], ◌∷◌, ◌++◌, map, filter, fold, if◌then◌else◌, Contains, IsTrue, ◌↔◌, refl, ap, sym, ◌∙◌, subst, ◌⊎◌, inl, inr, arith}
-use Rattle.std.proofs.lemmas.Bool.{eqb-true, false≢true, or_cases, ltb-true}
+use Rattle.std.proofs.Common.{◌≡◌, ℕ, ◌+◌, ◌*◌, ◌/◌, ◌%◌, ◌^◌, ◌<◌, Bool, true, false, ◌||◌, not, ◌==◌, nat_lt, List, [], ◌∷◌, ◌++◌, map, filter, fold, if◌then◌else◌, Contains, IsTrue, ◌↔◌, refl, ap, sym, ◌∙◌, subst, ◌⊎◌, inl, inr, arith}
+use Rattle.std.proofs.lemmas.Bool.{eqb-true, false≢true, or_cases, or_left, or_right, ltb-true, not-true}
 use Rattle.std.proofs.lemmas.Nat.{and_block, and_le_r, or_block, or_comm, or_mod, or_shr, or_shifted}
 use Rattle.std.specs.Int.RustNames.{bit_and, bit_or}
 use Rattle.cycle_heads.specs.Words.{PathKind, Inductive, Unknown, Coinductive, ForcedAmbiguity, PathsToNested, greater_kind, extended, has_empty, has_kind, kinds_after, no_paths, paths_of, union, union_of, unnamed_in}
-use Rattle.cycle_heads.proofs.PathSets.{all_below, passes, same_bits}
+use Rattle.open_graphs.proofs.Members.{contains_later}
+pub use Rattle.open_graphs.proofs.Members.{first_or_later}
+use Rattle.cycle_heads.proofs.PathSets.{all_below, passes, passes_each, same_bits}
+use Rattle.cycle_heads.proofs.PathRanks.{each_kind}
 
 -- a flag is read from the five lowest bits
 low_flag : (n flag : ℕ) → flag < 32 → bit_and n flag ≡ bit_and (n % 32) flag
@@ -34,29 +37,16 @@ named_low : (step : PathKind) (n : ℕ) → named step n ≡ named step (n % 32)
 named_low step n = ap (λ kinds. (union_of (map paths_of kinds)).0) (same_kinds_after n step)
 
 named_fits : (step : PathKind) (n : ℕ) → n < 32 → nat_lt (named step n) 32 ≡ true
-named_fits Inductive n lt = passes (λ m. nat_lt (named Inductive m) 32) 32 refl n lt
-named_fits Unknown n lt = passes (λ m. nat_lt (named Unknown m) 32) 32 refl n lt
-named_fits Coinductive n lt = passes (λ m. nat_lt (named Coinductive m) 32) 32 refl n lt
-named_fits ForcedAmbiguity n lt = passes (λ m. nat_lt (named ForcedAmbiguity m) 32) 32 refl n lt
-
-not-true : (b : Bool) → not b ≡ true → b ≡ false
-not-true true h = sym h
-not-true false h = refl
+named_fits step = passes_each (λ step m. nat_lt (named step m) 32) 32 refl refl refl refl step
 
 named_moves : (step : PathKind) (n : ℕ) → n < 32 → not (bit_and (named step n) 1 == 1) ≡ true
-named_moves Inductive n lt = passes (λ m. not (bit_and (named Inductive m) 1 == 1)) 32 refl n lt
-named_moves Unknown n lt = passes (λ m. not (bit_and (named Unknown m) 1 == 1)) 32 refl n lt
-named_moves Coinductive n lt = passes (λ m. not (bit_and (named Coinductive m) 1 == 1)) 32 refl n lt
-named_moves ForcedAmbiguity n lt = passes (λ m. not (bit_and (named ForcedAmbiguity m) 1 == 1)) 32 refl n lt
+named_moves step = passes_each (λ step m. not (bit_and (named step m) 1 == 1)) 32 refl refl refl refl step
 
 abbrev joins : PathKind → ℕ → ℕ → Bool
 joins step a b = named step (bit_or a b) == bit_or (named step a) (named step b)
 
 named_joins : (step : PathKind) (a : ℕ) → a < 32 → all_below (joins step a) 32 ≡ true
-named_joins Inductive a lt = passes (λ m. all_below (joins Inductive m) 32) 32 refl a lt
-named_joins Unknown a lt = passes (λ m. all_below (joins Unknown m) 32) 32 refl a lt
-named_joins Coinductive a lt = passes (λ m. all_below (joins Coinductive m) 32) 32 refl a lt
-named_joins ForcedAmbiguity a lt = passes (λ m. all_below (joins ForcedAmbiguity m) 32) 32 refl a lt
+named_joins step = passes_each (λ step m. all_below (joins step m) 32) 32 refl refl refl refl step
 
 -- the flags of a set after a step, and the bits above as they were
 extended_parts : (paths : PathsToNested) (step : PathKind) → (extended paths step).0 ≡ paths.0 / 32 * 2 ^ 5 + named step (paths.0 % 32)
@@ -82,10 +72,7 @@ extended-union some more step =
 
 pub extended-none : (step : PathKind) → extended no_paths step ≡ no_paths
 unfolding extended
-extended-none Inductive = refl
-extended-none Unknown = refl
-extended-none Coinductive = refl
-extended-none ForcedAmbiguity = refl
+extended-none = each_kind (λ step. extended no_paths step ≡ no_paths) refl refl refl refl
 
 pub extended-no_empty : (paths : PathsToNested) (step : PathKind) → has_empty (extended paths step) ≡ false
 extended-no_empty paths step =
@@ -109,10 +96,7 @@ keeps_kind kind a b = same_test (has_kind (record { 0 = bit_or a b }) kind) (has
 
 low_keeps_kind : (kind : PathKind) (a : ℕ) → a < 32 → all_below (keeps_kind kind a) 32 ≡ true
 unfolding same_test
-low_keeps_kind Inductive a lt = passes (λ m. all_below (keeps_kind Inductive m) 32) 32 refl a lt
-low_keeps_kind Unknown a lt = passes (λ m. all_below (keeps_kind Unknown m) 32) 32 refl a lt
-low_keeps_kind Coinductive a lt = passes (λ m. all_below (keeps_kind Coinductive m) 32) 32 refl a lt
-low_keeps_kind ForcedAmbiguity a lt = passes (λ m. all_below (keeps_kind ForcedAmbiguity m) 32) 32 refl a lt
+low_keeps_kind kind = passes_each (λ kind m. all_below (keeps_kind kind m) 32) 32 refl refl refl refl kind
 
 pub has_kind-union : (some more : PathsToNested) (kind : PathKind) → has_kind (union some more) kind ≡ (has_kind some kind || has_kind more kind)
 has_kind-union some more kind =
@@ -124,10 +108,7 @@ has_kind-union some more kind =
     ∙ (λ i. sym (same_kind a kind) i || sym (same_kind b kind) i)
 
 pub has_kind-none : (kind : PathKind) → has_kind no_paths kind ≡ false
-has_kind-none Inductive = refl
-has_kind-none Unknown = refl
-has_kind-none Coinductive = refl
-has_kind-none ForcedAmbiguity = refl
+has_kind-none = each_kind (λ kind. has_kind no_paths kind ≡ false) refl refl refl refl
 
 has_kind-unnamed : (paths : PathsToNested) (kind : PathKind) → has_kind (unnamed_in paths) kind ≡ false
 has_kind-unnamed paths kind =
@@ -139,38 +120,10 @@ has_kind-paths_of Inductive Inductive h = refl
 has_kind-paths_of Unknown Unknown h = refl
 has_kind-paths_of Coinductive Coinductive h = refl
 has_kind-paths_of ForcedAmbiguity ForcedAmbiguity h = refl
-has_kind-paths_of Inductive Unknown h = absurd cc
-has_kind-paths_of Inductive Coinductive h = absurd cc
-has_kind-paths_of Inductive ForcedAmbiguity h = absurd cc
-has_kind-paths_of Unknown Inductive h = absurd cc
-has_kind-paths_of Unknown Coinductive h = absurd cc
-has_kind-paths_of Unknown ForcedAmbiguity h = absurd cc
-has_kind-paths_of Coinductive Inductive h = absurd cc
-has_kind-paths_of Coinductive Unknown h = absurd cc
-has_kind-paths_of Coinductive ForcedAmbiguity h = absurd cc
-has_kind-paths_of ForcedAmbiguity Inductive h = absurd cc
-has_kind-paths_of ForcedAmbiguity Unknown h = absurd cc
-has_kind-paths_of ForcedAmbiguity Coinductive h = absurd cc
+has_kind-paths_of _ _ h = absurd cc
 
 has_own_kind : (kind : PathKind) → has_kind (paths_of kind) kind ≡ true
-has_own_kind Inductive = refl
-has_own_kind Unknown = refl
-has_own_kind Coinductive = refl
-has_own_kind ForcedAmbiguity = refl
-
-first_of_two : (a b : Bool) → a ≡ true → (a || b) ≡ true
-first_of_two a b h = rw h refl
-
-second_of_two : (a b : Bool) → b ≡ true → (a || b) ≡ true
-second_of_two true b h = refl
-second_of_two false b h = h
-
-pub contains_later : (kind first : PathKind) (rest : List PathKind) → Contains rest kind → Contains (first ∷ rest) kind
-contains_later kind first rest (k, l, e) = (suc k, omega arith, e)
-
-pub first_or_later : (y x : PathKind) (xs : List PathKind) → Contains (y ∷ xs) x → (y ≡ x) ⊎ Contains xs x
-first_or_later y x xs (zero, l, e) = inl e
-first_or_later y x xs (suc k, l, e) = inr (k, omega arith, e)
+has_own_kind = each_kind (λ kind. has_kind (paths_of kind) kind ≡ true) refl refl refl refl
 
 -- what a union of sets has, one of them has
 pub some_set : (f : PathKind → PathsToNested) (steps : List PathKind) (before : PathsToNested) (kind : PathKind)
@@ -190,7 +143,7 @@ kept : (f : PathKind → PathsToNested) (steps : List PathKind) (before : PathsT
     → has_kind before kind ≡ true → has_kind (fold union before (map f steps)) kind ≡ true
 kept f [] before kind h = h
 kept f (first ∷ rest) before kind h =
-    kept f rest (union before (f first)) kind (has_kind-union before (f first) kind ∙ first_of_two _ _ h)
+    kept f rest (union before (f first)) kind (has_kind-union before (f first) kind ∙ or_left _ _ h)
 
 pub each_set : (f : PathKind → PathsToNested) (steps : List PathKind) (before : PathsToNested) (kind step : PathKind)
     → Contains steps step → has_kind (f step) kind ≡ true → has_kind (fold union before (map f steps)) kind ≡ true
@@ -198,7 +151,7 @@ each_set f [] before kind step (k, l, e) h = absurd (omega arith)
 each_set f (first ∷ rest) before kind step there h = elim (first_or_later first step rest there) [
   | inl here ↦
       let own : has_kind (f first) kind ≡ true = subst (λ k. has_kind (f k) kind ≡ true) (sym here) h in
-      kept f rest (union before (f first)) kind (has_kind-union before (f first) kind ∙ second_of_two _ _ own)
+      kept f rest (union before (f first)) kind (has_kind-union before (f first) kind ∙ or_right _ _ own)
   | inr later ↦ each_set f rest (union before (f first)) kind step later h
 ]
 
@@ -216,5 +169,5 @@ extended-kinds paths step kind =
         ]
         | inr unnamed ↦ absurd (false≢true (sym (has_kind-unnamed paths kind) ∙ unnamed))
       ],
-      λ there. split ∙ first_of_two _ _ (each_set paths_of kinds no_paths kind kind there (has_own_kind kind)),
+      λ there. split ∙ or_left _ _ (each_set paths_of kinds no_paths kind kind there (has_own_kind kind)),
     )

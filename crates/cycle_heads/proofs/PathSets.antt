@@ -1,31 +1,30 @@
 -- Sets of paths are bytes, so what holds of each of them is found by trying them all.
 use Rattle.std.proofs.Common.{◌≡◌, ℕ, zero, suc, ◌+◌, ◌-◌, ◌<◌, Bool, true, false, ◌&&◌, not, ◌==◌, refl, subst, inl, inr, arith, if◌then◌else◌}
-use Rattle.std.proofs.lemmas.Bool.{cases_lt}
+use Rattle.std.proofs.lemmas.Bool.{and_parts, cases_lt}
 use borrow.Author.Tests.{eqb-true}
 use Rattle.std.specs.Int.RustNames.{bit_and, bit_or}
 use Rattle.bitflags.specs.Sets.{without}
 use Rattle.cycle_heads.specs.Words.{PathKind, Inductive, Unknown, Coinductive, ForcedAmbiguity, PathsToNested, extended, paths_of}
+use Rattle.cycle_heads.proofs.PathRanks.{each_kind}
 
 -- whether each number below a bound passes
 abbrev pub all_below : (ℕ → Bool) → ℕ → Bool
 all_below p zero = true
 all_below p (suc n) = p n && all_below p n
 
-passes_here : (a b : Bool) → (a && b) ≡ true → a ≡ true
-passes_here true b h = refl
-passes_here false b h = h
-
-passes_below : (a b : Bool) → (a && b) ≡ true → b ≡ true
-passes_below true b h = h
-passes_below false b h = absurd cc
-
 pub passes : (p : ℕ → Bool) (n : ℕ) → all_below p n ≡ true → (k : ℕ) → k < n → p k ≡ true
 passes p zero all k lt = absurd (omega arith)
 passes p (suc n) all k lt =
     elim (cases_lt k n) [
-      | inl below ↦ passes p n (passes_below (p n) (all_below p n) all) k below
-      | inr at_least ↦ let same : n ≡ k = omega arith in subst (λ m. p m ≡ true) same (passes_here (p n) (all_below p n) all)
+      | inl below ↦ passes p n (and_parts (p n) (all_below p n) all).1 k below
+      | inr at_least ↦ let same : n ≡ k = omega arith in subst (λ m. p m ≡ true) same (and_parts (p n) (all_below p n) all).0
     ]
+
+-- the same of a test for each kind
+pub passes_each : (p : PathKind → ℕ → Bool) (n : ℕ)
+    → all_below (p Inductive) n ≡ true → all_below (p Unknown) n ≡ true → all_below (p Coinductive) n ≡ true → all_below (p ForcedAmbiguity) n ≡ true
+    → (kind : PathKind) (k : ℕ) → k < n → p kind k ≡ true
+passes_each p n i u c f kind = passes (p kind) n (each_kind (λ kind. all_below (p kind) n ≡ true) i u c f kind)
 
 -- what the code makes of a byte, where `weaker` has the flags below that of the step
 abbrev raised : ℕ → PathKind → ℕ → ℕ
@@ -36,10 +35,7 @@ is_raised step n = (extended (record { 0 = n }) step).0 == raised n step ((paths
 
 each_is_raised : (step : PathKind) (n : ℕ) → n < 256 → is_raised step n ≡ true
 unfolding extended
-each_is_raised Inductive n lt = passes (is_raised Inductive) 256 refl n lt
-each_is_raised Unknown n lt = passes (is_raised Unknown) 256 refl n lt
-each_is_raised Coinductive n lt = passes (is_raised Coinductive) 256 refl n lt
-each_is_raised ForcedAmbiguity n lt = passes (is_raised ForcedAmbiguity) 256 refl n lt
+each_is_raised step = passes_each is_raised 256 refl refl refl refl step
 
 pub same_bits : (a b : PathsToNested) → a.0 ≡ b.0 → a ≡ b
 same_bits a b e = λ i. record { 0 = e i }

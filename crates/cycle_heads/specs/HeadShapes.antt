@@ -1,7 +1,6 @@
 -- The heads of an answer as the theory of open graphs sees them: by depth, with the kinds of paths and cycles as their ranks.
 use Rattle.std.specs.Prelude.{ℕ, zero, suc, Bool, false, Option, None, Some}
 use Rattle.open_graphs.specs.Use as theory
-use Rattle.cycle_heads.specs.declared.path.PathKind.{PathKind}
 use Rattle.cycle_heads.specs.declared.path.PathKind.TheVariants.{Inductive, Unknown, Coinductive, ForcedAmbiguity}
 use Rattle.cycle_heads.specs.declared.path.PathsToNested.{PathsToNested}
 use Rattle.cycle_heads.specs.declared.heads.CycleHead.{CycleHead}
