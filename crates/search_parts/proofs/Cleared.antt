@@ -27,11 +27,10 @@ module _ {I E F : Type 0} (T : F → I → Vec E → Bool → Vec E → F → Ty
       let P : Bool → Type 0 = λ b. (IsTrue b ↔ (w.items ≢ [])) → IfSome (lookup test (lists_of (cond b ((e.0, w) ∷ rest) rest))) (λ list. list ≢ []) in
       let Q : Bool → Type 0 = λ here. w.items ≢ [] → IfSome (cond here (Some w.items) (lookup test (lists_of rest))) (λ list. list ≢ []) in
       let first : (here : Bool) → Q here = λ here. elim here as Q [ true ↦ λ some. some | false ↦ λ some. below ] in
-      let cases : (b : Bool) → P b = λ b. elim b as P [
+      rw is ((elim b as P [
         | true ↦ λ left. first (test e.0) (left.0 refl)
         | false ↦ λ left. below
-      ] in
-      rw is (cases b did.1)
+      ]) did.1)
 
   module _ {same : I → I → Bool} (laws : IsEquivalence same) where
     -- the list of each key is filtered
@@ -52,8 +51,7 @@ module _ {I E F : Type 0} (T : F → I → Vec E → Bool → Vec E → F → Ty
               below ∙ ap (λ list. filter keep (unwrap_or list [])) absent ∙ sym none ∙ did.0
           | false ↦ λ _ _. below
         ] in
-        let cases : (b : Bool) → P b = λ b. elim b as P [
+        rw is ((elim b as P [
           | true ↦ λ left. first (same input e.0) refl
           | false ↦ λ left. gone (same input e.0) refl (none_left w.items left)
-        ] in
-        rw is (cases b did.1)
+        ]) did.1)

@@ -1,14 +1,11 @@
 -- Entries that aren't concerned by a goal that is done stay as they are.
 use Rattle.std.proofs.Common.{◌≡◌, ℕ, nat_eq, Bool, true, false, cond, ◌||◌, length, List, [], ◌∷◌, Option, Some, None, refl, sym, ap, ◌∙◌}
+use Rattle.std.proofs.lemmas.Bool.{or_parts}
 use Rattle.std.specs.List.{cons_option, filter_map, list_any}
 use Rattle.std.specs.Map.{lookup}
 use Rattle.std.specs.Option.{option_map, unwrap_or}
 use Rattle.search_parts.specs.Below.{StackDepth, CycleHead, HeadUsages, highest}
 use Rattle.search_parts.specs.Words.{StackEntry, ProvisionalCacheEntry, Lists, entries_at, rebased, rebased_at, highest_passes}
-
-neither : (a b : Bool) → (a || b) ≡ false → (a ≡ false) × (b ≡ false)
-neither true b none = absurd cc
-neither false b none = (refl, none)
 
 -- whether the highest head is at the depth
 abbrev pub is_concerned : {X I R A T : Type 0} → ℕ → ProvisionalCacheEntry X I R A T → Bool
@@ -23,27 +20,25 @@ pub none_at : {I E : Type 0} (same : I → I → Bool) (test : E → Bool) (list
     → (input : I) → list_any test (entries_at same lists input) ≡ false
 none_at same test [] none input = refl
 none_at same test (l ∷ ls) none input =
-    let apart = neither (list_any test l.1) (list_any (λ list. list_any test list.1) ls) none in
+    let apart = or_parts (list_any test l.1) (list_any (λ list. list_any test list.1) ls) none in
     let P : Bool → Type 0 = λ b. list_any test (unwrap_or (cond b (Some l.1) (lookup (same input) ls)) []) ≡ false in
-    let cases : (b : Bool) → P b = λ b. elim b as P [ true ↦ apart.0 | false ↦ none_at same test ls apart.1 input ] in
-    cases (same input l.0)
+    elim (same input l.0) as P [ true ↦ apart.0 | false ↦ none_at same test ls apart.1 input ]
 
 module _ {X I R A T : Type 0} (stack : List (StackEntry X I R A T)) (done : StackEntry X I R A T) (change_entry : HeadUsages → ProvisionalCacheEntry X I R A T → Option (ProvisionalCacheEntry X I R A T)) (depth : ℕ) (at : depth ≡ length stack) where
   -- an entry that isn't concerned stays
   pub stays : (entry : ProvisionalCacheEntry X I R A T) → is_concerned depth entry ≡ false → rebased stack done change_entry entry ≡ Some entry
   stays entry apart =
       let P : Option (StackDepth × CycleHead) → Type 0 = λ o. unwrap_or (option_map (λ (h : StackDepth × CycleHead). nat_eq h.0.0 depth) o) false ≡ false → rebased_at stack done change_entry entry o ≡ Some entry in
-      let cases : (o : Option (StackDepth × CycleHead)) → P o = λ o. elim o as P [
+      (elim (highest entry.heads) as P [
         | None ↦ λ _. refl
         | Some head ↦ λ apart. let other : nat_eq head.0.0 (length stack) ≡ false = rw (← at) apart in rw other refl
-      ] in
-      cases (highest entry.heads) apart
+      ]) apart
 
   -- and so does a list of them
   pub all_stay : (entries : List (ProvisionalCacheEntry X I R A T)) → list_any (is_concerned depth) entries ≡ false → filter_map (rebased stack done change_entry) entries ≡ entries
   all_stay [] none = refl
   all_stay (e ∷ es) none =
-      let apart = neither (is_concerned depth e) (list_any (is_concerned depth) es) none in
+      let apart = or_parts (is_concerned depth e) (list_any (is_concerned depth) es) none in
       ap (λ o. cons_option o (filter_map (rebased stack done change_entry) es)) (stays e apart.0) ∙ ap (λ l. e ∷ l) (all_stay es apart.1)
 
 module _ {L : Type 0} (test : L → Bool) (first : L) (rest left : List L) (is : left ≡ first ∷ rest) (found : Bool) (so_far : list_any test left ≡ found) where

@@ -1,5 +1,5 @@
 -- Nodes whose runs have ended stay as they are.
-use Rattle.std.proofs.Common.{◌≡◌, ℕ, Bool, List, Option, None, Some, option_map, slice_get, refl, sym, ap, ◌∙◌}
+use Rattle.std.proofs.Common.{◌≡◌, ℕ, List, Option, None, Some, option_map, slice_get, refl, sym, ap, ◌∙◌}
 use native.Mathlib.Decide.{ℕ_discrete}
 use Rattle.std.specs.Option.{IsSomeAnd}
 use Rattle.std.proofs.lemmas.Option.{slice_get-map}

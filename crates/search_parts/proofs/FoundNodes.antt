@@ -6,8 +6,8 @@ use Rattle.std.proofs.lemmas.List.Quantifiers.{position-Some}
 use Rattle.std.proofs.lemmas.Map.Views.{exact_unsigned_eq}
 use Rattle.std.proofs.lemmas.Option.{slice_get-get_or, slice_get_within, get_or_from_slice_get}
 use Rattle.open_graphs.proofs.Lists.{get_left, get_cases, get_end}
+use Rattle.open_graphs.proofs.Members.{Contains-mapped}
 use Rattle.search_parts.specs.Words.{Edge, Finds, ArePlaced, original_edge}
-use Rattle.search_parts.proofs.Copies.{Contains-mapped}
 
 -- a number stands at the place that is found for it
 pub found_place : (numbers : List ℕ) (number place : ℕ) → position (nat_eq number) numbers ≡ Some place → slice_get numbers place ≡ Some number

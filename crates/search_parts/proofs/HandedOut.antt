@@ -1,28 +1,22 @@
 -- A copy of all that a node reaches, as it grows by one finished node after the other.
-use Rattle.std.proofs.Common.{◌≡◌, ℕ, zero, suc, ◌<◌, ◌≤◌, true, false, List, [], ◌∷◌, ◌++◌, map, length, Option, None, Some, option_map, slice_get, slice_index, get_or, nat_eq, Contains, ◌⊎◌, inl, inr, refl, sym, ◌∙◌, ap, subst, arith, length-append}
+use Rattle.std.proofs.Common.{◌≡◌, ℕ, ◌<◌, ◌≤◌, true, false, List, [], ◌∷◌, ◌++◌, map, length, Option, None, Some, option_map, slice_get, slice_index, get_or, nat_eq, Contains, inl, inr, refl, sym, ◌∙◌, ap, subst, arith, length-append}
 use Rattle.std.specs.List.{IsDistinct}
 use Rattle.std.specs.Option.{IsSome, IsSomeAnd, is_some}
 use Rattle.std.proofs.lemmas.Map.Keys.{apart_from_distinct}
+use Rattle.std.proofs.lemmas.Bool.{cases_lt, cases_order}
 use Rattle.std.proofs.lemmas.Bool.Decides.{nat_tests}
-use Rattle.std.proofs.lemmas.Option.{slice_get-map, slice_get-get_or, slice_get_within, get_or_from_slice_get}
+use Rattle.std.proofs.lemmas.Option.{slice_get_cases, slice_get-map, slice_get-get_or, slice_get_within, get_or_from_slice_get}
 use Rattle.open_graphs.proofs.Lists.{get_cases}
-use Rattle.search_parts.specs.Words.{Edge, Node, CacheNode, finished_node, graph_node_of, graph_nodes_of, Finds, GraphNode, HasEdge, IsWalk, IsReached, original_edge, IsWhole, original_node, Copies, goal_node_of, goal_nodes_of, ended_node}
-use Rattle.search_parts.proofs.Copies.{edge_node}
+use Rattle.open_graphs.proofs.Members.{Contains-map}
+use Rattle.search_parts.specs.Words.{Edge, Node, CacheNode, finished_node, graph_node_of, graph_nodes_of, Finds, HasEdge, IsWalk, IsReached, original_edge, IsWhole, original_node, Copies, goal_node_of, goal_nodes_of, ended_node}
+use Rattle.search_parts.proofs.Copies.{item_at, node_with_edge}
 use Rattle.search_parts.proofs.Finished.{found_finished}
 use Rattle.search_parts.proofs.FoundNodes.{only_number, same_number, still_within, same_originals}
-use Rattle.search_parts.proofs.Graphs.{Contains-map, HasEdge-from, IsReached-step}
+use Rattle.search_parts.proofs.Graphs.{HasEdge-from, IsReached-step}
 use Rattle.search_parts.proofs.Pigeonhole.{pigeonhole}
 
--- what is at a place inside the list
-pub item_at : {A : Type 0} (xs : List A) (at : ℕ) → at < length xs → (x : A) × (slice_get xs at ≡ Some x)
-item_at [] at l = absurd (omega arith)
-item_at (x ∷ xs) zero l = (x, refl)
-item_at (x ∷ xs) (suc at) l = item_at xs at (omega arith)
-
 past_end : {A : Type 0} (xs : List A) (at : ℕ) → slice_get xs at ≡ None → length xs ≤ at
-past_end [] at e = omega arith
-past_end (x ∷ xs) zero e = absurd cc
-past_end (x ∷ xs) (suc at) e = let h : length xs ≤ at = past_end xs at e in omega arith
+past_end xs at e = elim (slice_get_cases xs at).1 [ inl there ↦ absurd (let some = there.2 in cc) | inr past ↦ past.0 ]
 
 place_in : {A : Type 0} (xs : List A) (x : A) → Contains xs x → (at : ℕ) × (slice_get xs at ≡ Some x)
 place_in xs x (k, l, e) = (k, slice_get-get_or xs k x l ∙ ap Some e)
@@ -30,21 +24,9 @@ place_in xs x (k, l, e) = (k, slice_get-get_or xs k x l ∙ ap Some e)
 pub is_some_at : {A : Type 0} (o : Option A) (x : A) → o ≡ Some x → IsSome o
 is_some_at o x e = ap is_some e
 
-below_or : (a b : ℕ) → (a < b) ⊎ (b ≤ a)
-below_or zero zero = inr (omega arith)
-below_or zero (suc b) = inl (omega arith)
-below_or (suc a) zero = inr (omega arith)
-below_or (suc a) (suc b) = elim (below_or a b) [ inl l ↦ inl (omega arith) | inr r ↦ inr (omega arith) ]
-
-order : (a b : ℕ) → (a ≡ b) ⊎ ((a < b) ⊎ (b < a))
-order zero zero = inl refl
-order zero (suc b) = inr (inl (omega arith))
-order (suc a) zero = inr (inr (omega arith))
-order (suc a) (suc b) = elim (order a b) [ inl e ↦ inl (ap suc e) | inr h ↦ inr (elim h [ inl l ↦ inl (omega arith) | inr r ↦ inr (omega arith) ]) ]
-
 -- numbers of which no two are the same stand at one place each
 pub one_place : (numbers : List ℕ) → IsDistinct nat_eq numbers → (at other : ℕ) → at < length numbers → other < length numbers → slice_index numbers at ≡ slice_index numbers other → at ≡ other
-one_place numbers distinct at other l r same = elim (order at other) [
+one_place numbers distinct at other l r same = elim (cases_order at other) [
   | inl e ↦ e
   | inr h ↦ absurd (elim h [
     | inl less ↦ let apart : nat_eq (get_or numbers at 0) (get_or numbers other 0) ≡ false = apart_from_distinct nat_eq numbers at other 0 distinct less r in grind (arith, nat_tests)
@@ -133,7 +115,7 @@ module _ {I R : Type 0} (nodes : List (CacheNode I R)) (root : ℕ) where
     finished_within at (Some m) is finished = slice_get_within nodes at m is
 
     number_below : (number : ℕ) → slice_get numbers (length copy) ≡ Some number → IsSome (finished_node nodes number) → (i : ℕ) → i ≤ length copy → slice_index numbers i < length nodes
-    number_below number queued finished i l = elim (order i (length copy)) [
+    number_below number queued finished i l = elim (cases_order i (length copy)) [
       | inl e ↦
           let is : slice_index numbers i ≡ number = ap (slice_index numbers) e ∙ get_or_from_slice_get numbers (length copy) number 0 queued in
           finished_within (slice_index numbers i) (slice_get nodes (slice_index numbers i)) refl (subst (λ v. IsSome (finished_node nodes v)) (sym is) finished)
@@ -148,7 +130,7 @@ module _ {I R : Type 0} (nodes : List (CacheNode I R)) (root : ℕ) where
 
     -- Each of the copied nodes is another one, so there are fewer of them than nodes while one is left.
     pub fewer_copied : IsDistinct nat_eq numbers → (number : ℕ) → slice_get numbers (length copy) ≡ Some number → IsSome (finished_node nodes number) → length copy < length nodes
-    fewer_copied distinct number queued finished = elim (below_or (length copy) (length nodes)) [
+    fewer_copied distinct number queued finished = elim (cases_lt (length copy) (length nodes)) [
       | inl less ↦ less
       | inr most ↦
           let l : length copy < length numbers = slice_get_within numbers (length copy) number queued in
@@ -163,18 +145,11 @@ module _ {I R : Type 0} (nodes : List (CacheNode I R)) (root : ℕ) where
         let some : IsSome (finished_node nodes number) = whole number (begun.reached (length copy) number queued) in
         let no : false ≡ true = sym (ap is_some none) ∙ some in absurd cc
 
-    node_case : (at : ℕ) (e : Edge I) (g : GraphNode I) (o : Option (Node I R)) → slice_get copy at ≡ o → option_map goal_node_of o ≡ Some g → Contains g.edges e → e.target < length numbers
-    node_case at e g None is there has = absurd cc
-    node_case at e g (Some n) is there has =
-        let same : goal_node_of n ≡ g = cc in
-        let inner : Contains n.edges.items e = subst (λ x. Contains x.edges e) (sym same) has in
-        let w = place_in n.edges.items e inner in
-        begun.inside at n is w.0 e w.1
-
     has_place : (at : ℕ) (e : Edge I) → HasEdge (goal_nodes_of copy) at e → e.target < length numbers
     has_place at e has =
-        let g = edge_node (slice_get (goal_nodes_of copy) at) e has in
-        node_case at e g.0 (slice_get copy at) refl (sym (slice_get-map goal_node_of copy at) ∙ g.1) g.2
+        let n = node_with_edge copy at e has in
+        let w = place_in n.0.edges.items e n.2 in
+        begun.inside at n.0 n.1 w.0 e w.1
 
     -- all that is found is copied
     pub copies : slice_get numbers (length copy) ≡ None → IsDistinct nat_eq numbers → Copies nodes root copy numbers

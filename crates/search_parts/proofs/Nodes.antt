@@ -6,14 +6,13 @@ use Rattle.std.specs.Option.{IsSomeAnd}
 use Rattle.std.proofs.lemmas.List.{map-append, map-set}
 use Rattle.std.proofs.lemmas.Option.{slice_get-map}
 use Rattle.open_graphs.specs.Graph as theory
-use Rattle.open_graphs.proofs.Lists.{get_left, get_cases, get_set_same, get_set_other}
+use Rattle.open_graphs.proofs.Lists.{mapped_some, get_left, get_cases, get_set_same, get_set_other}
 use Rattle.open_graphs.proofs.Keep.{append_grows, finish_grows}
 use Rattle.search_parts.specs.Words.{Request, Reply, EndedRun, CacheNode, open_node, open_goal, with_run, IsNodeOf, IsRun, AreRuns, KeepsNodes, KeepsGoals, run_shape, shape_of, shapes_of, Verdicts}
 
 -- what is at a place
 pub node_at : {I R : Type 0} (o : Option (CacheNode I R)) (goal : I) → option_map (λ n. n.goal) o ≡ Some goal → (n : CacheNode I R) × (o ≡ Some n) × (n.goal ≡ goal)
-node_at None goal h = absurd cc
-node_at (Some n) goal h = (n, refl, cc)
+node_at o goal h = mapped_some (λ n. n.goal) o goal h
 
 IsNodeOf-from : {I R : Type 0} (nodes : List (CacheNode I R)) (at : ℕ) (n : CacheNode I R) (goal : I) → slice_get nodes at ≡ Some n → n.goal ≡ goal → IsNodeOf nodes at goal
 IsNodeOf-from nodes at n goal is same = ap (option_map (λ m. m.goal)) is ∙ ap Some same

@@ -25,11 +25,10 @@ module _ {I E : Type 0} where
   lists-set_same test [] v w found same = refl
   lists-set_same test (e ∷ es) v w found same =
       let P : Bool → Type 0 = λ b. cond b (Some e.1) (lookup test es) ≡ Some v → lists_of (cond b ((e.0, w) ∷ es) (e ∷ set_value test es w)) ≡ lists_of (e ∷ es) in
-      let cases : (b : Bool) → P b = λ b. elim b as P [
+      (elim (test e.0) as P [
         | true ↦ λ here. let it : e.1 ≡ v = cc in ap (λ list. (e.0, list) ∷ lists_of es) (same ∙ ap (λ u. u.items) (sym it))
         | false ↦ λ later. ap (λ lists. (e.0, e.1.items) ∷ lists) (lists-set_same test es v w later same)
-      ] in
-      cases (test e.0) found
+      ]) found
 
   -- a list that gets one entry more
   pub appends : {same : I → I → Bool} (laws : IsEquivalence same) (old new : Lists I E) (input : I) (entry : E)
@@ -44,11 +43,10 @@ module _ {X I R A T : Type 0} (same : I → I → Bool) where
   pub heads_at : (lists : Lists I (ProvisionalCacheEntry X I R A T)) (input : I) → AreEntryLists same lists → All (λ e. e.heads ≢ []) (entries_at same lists input)
   heads_at lists input kept =
       let P : Option (List (ProvisionalCacheEntry X I R A T)) → Type 0 = λ list. IfSome list IsEntryList → All (λ e. e.heads ≢ []) (unwrap_or list []) in
-      let cases : (list : Option (List (ProvisionalCacheEntry X I R A T))) → P list = λ list. elim list as P [
+      (elim (lookup (same input) lists) as P [
         | Some es ↦ λ is_kept. is_kept.heads
         | None ↦ λ _. All-nil (λ e. e.heads ≢ [])
-      ] in
-      cases (lookup (same input) lists) (kept input)
+      ]) (kept input)
 
   -- a list with one entry more is a list of entries, as the others are
   pub lists_with : (old new : Lists I (ProvisionalCacheEntry X I R A T)) (input : I) (entry : ProvisionalCacheEntry X I R A T)
@@ -57,8 +55,7 @@ module _ {X I R A T : Type 0} (same : I → I → Bool) where
       let before = entries_at same old input in
       let longer : IsEntryList (before ++ entry ∷ []) = record { some = some_at_end before entry; heads = All-push (λ e. e.heads ≢ []) before entry (heads_at old input kept) heads } in
       let P : Bool → Type 0 = λ b. IfSome (cond b (Some (before ++ entry ∷ [])) (lookup (same other) old)) IsEntryList in
-      let cases : (b : Bool) → P b = λ b. elim b as P [ true ↦ longer | false ↦ kept other ] in
-      subst (λ list. IfSome list IsEntryList) (sym (puts other)) (cases (same input other))
+      subst (λ list. IfSome list IsEntryList) (sym (puts other)) (elim (same input other) as P [ true ↦ longer | false ↦ kept other ])
 
 -- the vector at the input gets a new item at its end
 pub puts_last : {I E : Type 0} (same : I → I → Bool) (old new : List (I × Vec E)) (input : I) (entry : E) (items : List E) (w : Vec E)
@@ -69,22 +66,20 @@ puts_last same old new input entry items w was is updates = λ other.
     let before = entries_at same (lists_of old) input in
     let now : before ≡ items = ap (λ list. unwrap_or list []) (list_found (same input) old) ∙ was in
     let P : Bool → Type 0 = λ b. option_map (λ v. v.items) (cond b (Some w) (lookup (same other) old)) ≡ cond b (Some (before ++ entry ∷ [])) (lookup (same other) (lists_of old)) in
-    let cases : (b : Bool) → P b = λ b. elim b as P [
+    list_found (same other) new ∙ ap (option_map (λ v. v.items)) (updates other) ∙ (elim (same input other) as P [
       | true ↦ ap Some (is ∙ ap (λ list. list ++ entry ∷ []) (sym now))
       | false ↦ sym (list_found (same other) old)
-    ] in
-    list_found (same other) new ∙ ap (option_map (λ v. v.items)) (updates other) ∙ cases (same input other)
+    ])
 
 -- a refused growth leaves lists of entries, too
 pub lists_after : {X I R A T E : Type 0} (same : I → I → Bool) (old new : Lists I (ProvisionalCacheEntry X I R A T)) (input : I) (entry : ProvisionalCacheEntry X I R A T)
     → entry.heads ≢ [] → AreEntryLists same old → (r : Result (Unit {0}) E) → OnOk r (PutsLast same old new input entry) → OnErr r (new ≡ old) → AreEntryLists same new
 lists_after {E = E} same old new input entry heads kept r ok err =
     let P : Result (Unit {0}) E → Type 0 = λ r. OnOk r (PutsLast same old new input entry) → OnErr r (new ≡ old) → AreEntryLists same new in
-    let cases : (r : Result (Unit {0}) E) → P r = λ r. elim r as P [
+    (elim r as P [
       | Ok _ ↦ λ puts _. lists_with same old new input entry heads kept puts
       | Err _ ↦ λ _ unchanged. subst (AreEntryLists same) (sym unchanged) kept
-    ] in
-    cases r ok err
+    ]) ok err
 
 -- what is found at a goal
 pub found_at : {I E : Type 0} (same : I → I → Bool) (entries : List (I × Vec E)) (lists : Lists I E) (input : I) (o : Option (Vec E)) → lists_of entries ≡ lists → o ≡ lookup (same input) entries
@@ -100,11 +95,10 @@ pub lists_from : {X I R A T : Type 0} (same : I → I → Bool) (lists : Lists I
     → AreEntryLists same lists
 lists_from {X} {I} {R} {A} {T} same lists heads some = λ input.
     let P : Option (List (ProvisionalCacheEntry X I R A T)) → Type 0 = λ list. All (λ e. e.heads ≢ []) (unwrap_or list []) → IfSome list (λ es. es ≢ []) → IfSome list IsEntryList in
-    let cases : (list : Option (List (ProvisionalCacheEntry X I R A T))) → P list = λ list. elim list as P [
+    (elim (lookup (same input) lists) as P [
       | Some es ↦ λ heads some. record { some = some; heads = heads }
       | None ↦ λ heads some. tt
-    ] in
-    cases (lookup (same input) lists) (heads input) (some input)
+    ]) (heads input) (some input)
 
 -- and so after a filter
 pub lists_filtered : {X I R A T : Type 0} (same : I → I → Bool) (keep : ProvisionalCacheEntry X I R A T → Bool) (old new : Lists I (ProvisionalCacheEntry X I R A T))

@@ -18,5 +18,4 @@ module _ {X I R A T : Type 0} where
   changed_same_heads Unchanged usages entry after is = cc
   changed_same_heads (UnchangedIfSingle kind) usages entry after is =
       let P : Bool → Type 0 = λ b. (if b then None else Some entry) ≡ Some after → after.heads ≡ entry.heads in
-      let cases : (b : Bool) → P b = λ b. elim b as P [ true ↦ λ is. absurd cc | false ↦ λ is. cc ] in
-      cases (has_usages (other_usages usages kind)) is
+      (elim (has_usages (other_usages usages kind)) as P [ true ↦ λ is. absurd cc | false ↦ λ is. cc ]) is

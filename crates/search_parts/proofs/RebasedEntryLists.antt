@@ -17,11 +17,10 @@ All-filter_map {X} {Y} P Q f makes (x ∷ xs) all =
     let later : All Q (filter_map f xs) = All-filter_map P Q f makes xs (All-tail P x xs all) in
     let here : P x = All-head P x xs all in
     let R : Option Y → Type 0 = λ o. f x ≡ o → All Q (cons_option o (filter_map f xs)) in
-    let cases : (o : Option Y) → R o = λ o. elim o as R [
+    (elim (f x) as R [
       | Some y ↦ λ is. All-cons Q y (filter_map f xs) (makes x y here is) later
       | None ↦ λ is. later
-    ] in
-    cases (f x) refl
+    ]) refl
 
 module _ {X I R A T : Type 0} (stack : List (StackEntry X I R A T)) (done : StackEntry X I R A T) where
   -- an entry with a new highest head has one
@@ -29,8 +28,7 @@ module _ {X I R A T : Type 0} (stack : List (StackEntry X I R A T)) (done : Stac
   from_new_head-some entry after is =
       let P : Option (StackDepth × CycleHead) → Type 0 = λ o.
       option_map (λ (head : StackDepth × CycleHead). record entry { path_from_head = greater_kind entry.path_from_head (from_head stack done head.0.0) }) o ≡ Some after → (o ≡ None → ⊥) × (after.heads ≡ entry.heads) in
-      let cases : (o : Option (StackDepth × CycleHead)) → P o = λ o. elim o as P [ None ↦ λ e. absurd cc | Some head ↦ λ e. (λ none. cc, cc) ] in
-      let both = cases (highest entry.heads) is in
+      let both = (elim (highest entry.heads) as P [ None ↦ λ e. absurd cc | Some head ↦ λ e. (λ none. cc, cc) ]) is in
       λ none. both.0 (ap highest (sym both.1 ∙ none))
 
   module _ (change_entry : HeadUsages → ProvisionalCacheEntry X I R A T → Option (ProvisionalCacheEntry X I R A T)) where
@@ -40,8 +38,7 @@ module _ {X I R A T : Type 0} (stack : List (StackEntry X I R A T)) (done : Stac
         let P : Option (ProvisionalCacheEntry X I R A T) → Type 0 = λ o. option_and_then becomes o ≡ Some after → after.heads ≢ [] in
         let after_change : (o : Option (ProvisionalCacheEntry X I R A T)) → P o = λ o. elim o as P [ None ↦ λ e. absurd cc | Some s ↦ λ e. from_new_head-some (record s { heads = with_used done.state.heads head.paths_to_head (but_highest s.heads) }) after e ] in
         let Q : Bool → Type 0 = λ b. (if b then option_and_then becomes (change_entry head.usages entry) else None) ≡ Some after → after.heads ≢ [] in
-        let cases : (b : Bool) → Q b = λ b. elim b as Q [ true ↦ after_change (change_entry head.usages entry) | false ↦ λ e. absurd cc ] in
-        cases (keeps_kinds stack done entry.path_from_head head.paths_to_head)
+        elim (keeps_kinds stack done entry.path_from_head head.paths_to_head) as Q [ true ↦ after_change (change_entry head.usages entry) | false ↦ λ e. absurd cc ]
 
     pub rebased-some : (entry after : ProvisionalCacheEntry X I R A T) → entry.heads ≢ [] → rebased stack done change_entry entry ≡ Some after → after.heads ≢ []
     rebased-some entry after some =
@@ -50,11 +47,9 @@ module _ {X I R A T : Type 0} (stack : List (StackEntry X I R A T)) (done : Stac
         let P : Bool → Type 0 = λ used. (if used then rebased_used stack done change_entry entry head.1 else rebased_unused stack done entry) ≡ Some after → after.heads ≢ [] in
         let moved : (used : Bool) → P used = λ used. elim used as P [ true ↦ used-some entry after head.1 | false ↦ from_new_head-some (record entry { heads = with_unused done.state.heads (but_highest entry.heads) }) after ] in
         let Q : Bool → Type 0 = λ here. (if here then (if has_usages head.1.usages then rebased_used stack done change_entry entry head.1 else rebased_unused stack done entry) else Some entry) ≡ Some after → after.heads ≢ [] in
-        let cases : (here : Bool) → Q here = λ here. elim here as Q [ true ↦ moved (has_usages head.1.usages) | false ↦ stays ] in
-        cases (nat_eq head.0.0 (length stack)) in
+        (elim (nat_eq head.0.0 (length stack)) as Q [ true ↦ moved (has_usages head.1.usages) | false ↦ stays ]) in
         let R : Option (StackDepth × CycleHead) → Type 0 = λ o. rebased_at stack done change_entry entry o ≡ Some after → after.heads ≢ [] in
-        let cases : (o : Option (StackDepth × CycleHead)) → R o = λ o. elim o as R [ None ↦ stays | Some head ↦ at head ] in
-        cases (highest entry.heads)
+        elim (highest entry.heads) as R [ None ↦ stays | Some head ↦ at head ]
 
   module _ (same : I → I → Bool) (old new : Lists I (ProvisionalCacheEntry X I R A T)) (kept : AreEntryLists same old) where
     -- the entries can be rebased where their heads are on the stack or at the place above it

@@ -1,8 +1,7 @@
 -- Heads when a goal that is done is given up as a head: what is taken out, and that what is left is on the stack.
 use Rattle.std.proofs.Common.{◌≡◌, ℕ, zero, suc, ◌-◌, ◌<◌, ◌≤◌, [], ◌∷◌, ◌++◌, All, Some, length, ap, ◌∙◌, subst, inl, inr, arith}
-use Rattle.std.proofs.Math.Seq.{drop-append_seam}
 use Rattle.std.proofs.lemmas.Bool.{cases_lt, cases_eq}
-use Rattle.std.proofs.lemmas.List.Elements.{All-cons, All-drop, All-head, All-tail, All-weaker}
+use Rattle.std.proofs.lemmas.List.Elements.{All-cons, All-contains, All-head, All-tail, All-weaker, Contains-push}
 use Rattle.std.specs.BTreeMap.{insert_entry}
 use Rattle.std.specs.List.{slice_get}
 use Rattle.std.specs.Option.{IfSome}
@@ -13,9 +12,7 @@ use Rattle.cycle_heads.proofs.HighestHeads.{highest-push}
 
 -- the head at the end is at most at n, where all are
 last_within : (heads : Heads) (depth : StackDepth) (head : CycleHead) (n : ℕ) → All (λ e. e.0.0 ≤ n) (heads ++ (depth, head) ∷ []) → depth.0 ≤ n
-last_within heads depth head n within =
-    let P : StackDepth × CycleHead → Type 0 = λ e. e.0.0 ≤ n in
-    All-head P (depth, head) [] (subst (All P) (drop-append_seam heads ((depth, head) ∷ [])) (All-drop P (length heads) (heads ++ (depth, head) ∷ []) within))
+last_within heads depth head n within = All-contains (λ e. e.0.0 ≤ n) (heads ++ (depth, head) ∷ []) (depth, head) within (Contains-push heads (depth, head))
 
 weaker_bound : (m n : ℕ) → m ≤ n → (d : StackDepth × CycleHead) → d.0.0 < m → d.0.0 < n
 weaker_bound m n le d lt = omega arith

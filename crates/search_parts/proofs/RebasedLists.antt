@@ -1,6 +1,7 @@
 -- A map of lists that is made anew, list by list.
 use Rattle.std.proofs.Common.{◌≡◌, ◌≢◌, Bool, true, false, cond, List, [], ◌∷◌, ◌++◌, All, Option, Some, None, IsSome, refl, sym, ap, ◌∙◌, subst, inl, inr, append_assoc}
 use Rattle.std.proofs.lemmas.Bool.{cases_Bool, false≢true}
+use Rattle.std.proofs.lemmas.List.{append-nil}
 use Rattle.std.proofs.lemmas.List.Elements.{All-nil}
 use Rattle.std.proofs.lemmas.Map.{lookup-none}
 use Rattle.std.proofs.lemmas.Map.Entries.{none_past_head}
@@ -27,10 +28,6 @@ pub record Gains {I E : Type 0} (same : I → I → Bool) (old new : Lists I E) 
   pub here : entries_at same new goal ≡ entries_at same old goal ++ more
   pub some : IfSome (lookup (same goal) new) (λ es. es ≢ [])
   pub others : (q : I) → same q goal ≡ false → lookup (same q) new ≡ lookup (same q) old
-
-at_end : {E : Type 0} (xs : List E) → xs ++ [] ≡ xs
-at_end [] = refl
-at_end (x ∷ xs) = ap (λ l. x ∷ l) (at_end xs)
 
 module _ {I E : Type 0} {same : I → I → Bool} (P : E → Type 0) (f : I → E → Option E) where
   pub starts : (given whole none : List (I × Vec E)) → whole ≡ given → none ≡ [] → ((q : I) → All P (entries_at same (lists_of given) q)) → IsDistinct same (keys_of given)
@@ -70,7 +67,7 @@ module _ {I E : Type 0} {same : I → I → Bool} (P : E → Type 0) (f : I → 
       -- nothing is left of the list
       pub gains_none : filter_map (f goal) list ≡ [] → Gains same done done goal (filter_map (f goal) list)
       gains_none none = record {
-        here = sym (ap (λ l. entries_at same done goal ++ l) none ∙ at_end (entries_at same done goal));
+        here = sym (ap (λ l. entries_at same done goal ++ l) none ∙ append-nil (entries_at same done goal));
         some = so_far.some goal;
         others = λ q _. refl;
       }
@@ -96,7 +93,7 @@ module _ {I E : Type 0} {same : I → I → Bool} (P : E → Type 0) (f : I → 
             agrees = λ q. elim (cases_Bool (same q goal)) [
               | inl here ↦ subst (λ o. entries_at same new o ++ filter_map (f o) (entries_at same rest o) ≡ filter_map (f o) (entries_at same all o)) (sym (by_value q goal here)) (
                   ap (λ o. entries_at same new goal ++ filter_map (f goal) (unwrap_or o [])) (none_later distinct goal (laws.refl goal))
-                  ∙ at_end (entries_at same new goal)
+                  ∙ append-nil (entries_at same new goal)
                   ∙ gains.here
                   ∙ ap (λ o. entries_at same done goal ++ filter_map (f goal) (unwrap_or o [])) (sym (ap (lookup (same goal)) is ∙ first_found))
                   ∙ so_far.agrees goal)
@@ -139,5 +136,4 @@ pub puts_list : {I E : Type 0} (same : I → I → Bool) (old new : List (I × V
     → (q : I) → lookup (same q) (lists_of new) ≡ cond (same input q) (Some w.items) (lookup (same q) (lists_of old))
 puts_list same old new input w updates q =
     let P : Bool → Type 0 = λ b. option_map (λ v. v.items) (cond b (Some w) (lookup (same q) old)) ≡ cond b (Some w.items) (lookup (same q) (lists_of old)) in
-    let cases : (b : Bool) → P b = λ b. elim b as P [ true ↦ refl | false ↦ sym (list_found (same q) old) ] in
-    list_found (same q) new ∙ ap (option_map (λ v. v.items)) (updates q) ∙ cases (same input q)
+    list_found (same q) new ∙ ap (option_map (λ v. v.items)) (updates q) ∙ (elim (same input q) as P [ true ↦ refl | false ↦ sym (list_found (same q) old) ])

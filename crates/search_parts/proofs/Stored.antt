@@ -88,11 +88,6 @@ result_is_worth says scripts nodes input available accepts same results found ke
     (λ s at within. let k = kept input Success s at in record { graph = k.graph; value = λ e. k.plain; overflow = λ e. absurd cc; within = within })
     (λ s at. let k = kept input (WithOverflow available) s at in record { graph = k.graph; value = λ e. absurd cc; overflow = λ e. k.plain; within = omega arith }) is
 
--- what holds of each used result, in place of all that it is worth
-pub IfSome-weaker : {A : Type 0} (P Q : A → Type 0) → ((x : A) → P x → Q x) → (o : Option A) → IfSome o P → IfSome o Q
-IfSome-weaker P Q weaker None h = tt
-IfSome-weaker P Q weaker (Some x) h = weaker x h
-
 -- a plain value is stored, or its equal is there
 pub ranked_never_conflicts : {X I R A T : Type 0} (same : I → I → Bool) (says : Verdicts R) (scripts : I → List (Reply R) → Request I R) (nodes : List (CacheNode I R)) (results : Store I (StoredResult X I R A T)) (equal : R → R → Bool) → IsEquivalence equal → AreSoundResults same says scripts nodes results → (n : ℕ) (input : I) (found : R) → IsPlainTo scripts n input → IsPlain scripts input found → (o : Option (StoredResult X I R A T)) → stored_at same results input Success ≡ o → (answer : Result (Unit {0}) (Fault I R)) → AnswersStoring equal input o found answer → IfErr answer (λ fault. fault ≡ Memory)
 ranked_never_conflicts same says scripts nodes results equal laws kept n input found ranked plain None at answer is = is

@@ -1,6 +1,6 @@
 -- A map by goal and place as a store, and that what is stored in it stays.
 use Rattle.std.proofs.Common.{◌≡◌, Bool, true, false, ◌&&◌, if◌then◌else◌, Option, None, Some, Result, Ok, Err, ◌⊎◌, inl, inr, refl, sym, ap, ap₂, ◌∙◌, subst}
-use Rattle.std.proofs.lemmas.Bool.{cases_Bool, eqb-true}
+use Rattle.std.proofs.lemmas.Bool.{and_parts, cases_Bool, eqb-true}
 use Rattle.std.specs.Map.{lookup}
 use Rattle.std.specs.Option.{IsSomeAnd, IfSome}
 use Rattle.search_parts.specs.Words.{Fault, Conflict, Place, Success, WithOverflow, StoredResult, same_place, same_key, Store, stored_at, Puts, AnswersStoring, KeepsResults}
@@ -39,16 +39,12 @@ same_place_by_value Success (WithOverflow other) e = absurd cc
 same_place_by_value (WithOverflow depth) Success e = absurd cc
 same_place_by_value (WithOverflow depth) (WithOverflow other) e = ap WithOverflow (eqb-true depth other e)
 
-both : (a b : Bool) → (a && b) ≡ true → (a ≡ true) × (b ≡ true)
-both true b e = (refl, e)
-both false b e = absurd cc
-
 -- A put leaves the new result at its own place, and what was there at each other one.
 pub put_cases : {I S : Type 0} (same : I → I → Bool) (by_value : (x y : I) → same x y ≡ true → x ≡ y) (old new : Store I S) (input : I) (place : Place) (stored : S) → Puts same old new input place stored
     → (other : I) (at : Place) → ((input ≡ other) × (place ≡ at)) ⊎ (stored_at same new other at ≡ stored_at same old other at)
 put_cases same by_value old new input place stored puts other at = elim (cases_Bool (same_key same (input, place) (other, at))) [
   | inl e ↦
-      let w = both (same input other) (same_place place at) e in
+      let w = and_parts (same input other) (same_place place at) e in
       inl (by_value input other w.0, same_place_by_value place at w.1)
   | inr e ↦ inr (puts.others other at e)
 ]

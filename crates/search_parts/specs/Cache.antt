@@ -1,6 +1,6 @@
 -- What a cache holds: its context, a list of nodes, and the results that are stored. A node stands for one run of a goal.
 -- It is open until that run has ended, and never changes from then on.
-use Rattle.std.specs.Prelude.{◌≡◌, ℕ, Bool, true, List, [], map, reverse, Option, None, Some, slice_get, slice_set}
+use Rattle.std.specs.Prelude.{◌≡◌, ℕ, true, List, [], map, reverse, Option, None, Some, slice_get, slice_set}
 use Rattle.std.specs.Option.{option_map, IsSomeAnd}
 use Rattle.search_parts.specs.declared.context.Request.{Request}
 use Rattle.search_parts.specs.declared.context.Reply.{Reply}

@@ -1,5 +1,5 @@
 -- Delegates whose goals are decided where no limit is met.
-use Rattle.std.specs.Prelude.{◌≡◌, Bool, List, [], ◌∷◌, Some}
+use Rattle.std.specs.Prelude.{◌≡◌, List, [], ◌∷◌, Some}
 use Rattle.search_parts.specs.Below.{PathKind, Inductive, Unknown, Coinductive, ForcedAmbiguity}
 use Rattle.search_parts.specs.declared.context.Request.{Request}
 use Rattle.search_parts.specs.declared.context.Request.TheVariants.{Evaluate, Done}

@@ -1,6 +1,6 @@
 -- A cache's nodes as the theory of open graphs sees them: without goals and replies, a result as its verdict, and the
 -- kind of an edge as its rank.
-use Rattle.std.specs.Prelude.{Bool, if◌then◌else◌, List, map, None, Some}
+use Rattle.std.specs.Prelude.{List, map, None, Some}
 use Rattle.open_graphs.specs.Graph as theory
 use Rattle.search_parts.specs.declared.context.Edge.{Edge}
 use Rattle.search_parts.specs.Below.{rank_of}

@@ -1,6 +1,6 @@
 use Rattle.std.proofs.Common.{rules}
 use Rattle.search_parts.proofs.Sound.{found_is_worth}
-use Rattle.search_parts.proofs.Stored.{IfSome-weaker}
+use Rattle.std.proofs.lemmas.Option.{IfSome_then}
 use Rattle.search_parts.proofs.global_cache.GlobalCache.get.Goals as goal
 use Rattle.search_parts.specs.Words.{verdicts}
 
@@ -10,8 +10,8 @@ returns g c =
     (g.T.NestedTest.accepts c.args.test.now) c.args.input c.args.available.0 c.usable_result.result c.usable_result.ensures in
     record {
       found = search rules;
-      graph = IfSome-weaker _ _ (λ hit w. w.graph) c.usable_result.result worth;
-      value = IfSome-weaker _ _ (λ hit w. w.value) c.usable_result.result worth;
-      overflow = IfSome-weaker _ _ (λ hit w. w.overflow) c.usable_result.result worth;
-      within = IfSome-weaker _ _ (λ hit w. w.within) c.usable_result.result worth;
+      graph = IfSome_then c.usable_result.result worth (λ hit w. w.graph);
+      value = IfSome_then c.usable_result.result worth (λ hit w. w.value);
+      overflow = IfSome_then c.usable_result.result worth (λ hit w. w.overflow);
+      within = IfSome_then c.usable_result.result worth (λ hit w. w.within);
     }
