@@ -8,7 +8,7 @@ use Rattle.std.proofs.lemmas.Option.{slice_get-map, slice_get-get_or}
 use Rattle.open_graphs.specs.Graph as theory
 use Rattle.search_parts.specs.Below.{Walk, stay, go, cycle_kind, PathKind, Inductive, Coinductive, rank_of}
 use Rattle.open_graphs.proofs.Verdicts.{edges_of}
-use Rattle.search_parts.specs.Words.{Request, Reply, Edge, Question, EndsIn, progress_after, questions_answered, GraphNode, question_of, HasGoal, HasEdge, IsWalk, IsReached, walk_kind, IsProofGraph, IsRefutationGraph, EndedRun, CacheNode, IsNodeOf, IsRun, AreRuns, graph_node_of, graph_nodes_of, IsWhole, verdict_of, edge_shape, shape_of, shapes_of, Verdicts}
+use Rattle.search_parts.specs.Words.{Request, Reply, Edge, Question, EndsIn, progress_after, questions_answered, GraphNode, question_of, HasGoal, HasEdge, IsWalk, IsReached, walk_kind, EndedRun, CacheNode, IsNodeOf, IsRun, AreRuns, graph_node_of, graph_nodes_of, IsWhole, verdict_of, edge_shape, shape_of, shapes_of, Verdicts}
 use Rattle.search_parts.specs.Graph.{IsGraph}
 use Rattle.cycle_heads.proofs.PathRanks.{same_kind, greater_rank}
 use Rattle.search_parts.proofs.Nodes.{node_at}
@@ -132,15 +132,30 @@ module _ {I R : Type 0} (says : Verdicts R) where
       cycles = λ at e rest w loop. cycle_at at e rest (known_at nodes verdict root at g w) loop;
     }
 
-pub yes_case : (y n : Bool) → (if y then theory.Yes else if n then theory.No else theory.Neither) ≡ theory.Yes → y ≡ true
+-- a verdict by a test of results: the results that say it pass, its cycles have the kind, and a run that passes has for
+-- edges the questions whose answers pass
+pub record IsSort (I : Type 0) {R : Type 0} (says : Verdicts R) (verdict : theory.Verdict) (test : R → Bool) (kind : PathKind) : Type 0 where
+  pub passes : (r : R) → verdict_of says r ≡ verdict → test r ≡ true
+  pub cycles : rank_of kind ≡ cycle_kind verdict
+  pub edges : (nodes : List (CacheNode I R)) (script : List (Reply R) → Request I R) (run : EndedRun I R)
+      → IsRun says script nodes run → test run.outcome ≡ true → map question_of run.edges ≡ questions_answered test (progress_after script (reverse run.replies))
+
+yes_case : (y n : Bool) → (if y then theory.Yes else if n then theory.No else theory.Neither) ≡ theory.Yes → y ≡ true
 yes_case true n e = refl
 yes_case false true e = absurd cc
 yes_case false false e = absurd cc
 
-pub no_case : (y n : Bool) → (if y then theory.Yes else if n then theory.No else theory.Neither) ≡ theory.No → n ≡ true
+no_case : (y n : Bool) → (if y then theory.Yes else if n then theory.No else theory.Neither) ≡ theory.No → n ≡ true
 no_case true n e = absurd cc
 no_case false true e = refl
 no_case false false e = absurd cc
+
+module _ {I R : Type 0} (says : Verdicts R) where
+  pub yes_sort : IsSort I says theory.Yes says.is_yes Coinductive
+  yes_sort = record { passes = λ r. yes_case (says.is_yes r) (says.is_no r); cycles = refl; edges = λ nodes script run h. h.yes }
+
+  pub no_sort : IsSort I says theory.No says.is_no Inductive
+  no_sort = record { passes = λ r. no_case (says.is_yes r) (says.is_no r); cycles = refl; edges = λ nodes script run h. h.no }
 
 -- a rule that the questions of each run's answers keep
 abbrev pub KeepsRule : {I R : Type 0} → (R → Bool) → (I → List (Reply R) → Request I R) → (I → List (Question I) → Type 0) → Type 0
@@ -148,19 +163,13 @@ KeepsRule {I} {R} test scripts rule =
     (goal : I) (replies : List (Reply R)) (r : R)
     → EndsIn (scripts goal) replies r → test r ≡ true → rule goal (questions_answered test (progress_after (scripts goal) replies))
 
-module _ {I R : Type 0} (says : Verdicts R) (scripts : I → List (Reply R) → Request I R) (nodes : List (CacheNode I R)) (runs : AreRuns says scripts nodes) (root : ℕ) (goal : I) (is : IsNodeOf nodes root goal) where
-  pub yes_is_proof : (proves : I → List (Question I) → Type 0) → KeepsRule says.is_yes scripts proves → theory.IsClosedGraph (shapes_of says nodes) theory.Yes root → IsProofGraph proves (graph_nodes_of nodes) root goal
-  yes_is_proof proves law g =
-      has_graph says scripts nodes runs theory.Yes proves Coinductive refl
-      (λ n run h sort.
-      let is_so = yes_case (says.is_yes run.outcome) (says.is_no run.outcome) sort in
-      subst (proves n.goal) (sym (h.yes is_so)) (law n.goal (reverse run.replies) run.outcome h.ends is_so))
-      root goal is g
-
-  pub no_is_refutation : (refutes : I → List (Question I) → Type 0) → KeepsRule says.is_no scripts refutes → theory.IsClosedGraph (shapes_of says nodes) theory.No root → IsRefutationGraph refutes (graph_nodes_of nodes) root goal
-  no_is_refutation refutes law g =
-      has_graph says scripts nodes runs theory.No refutes Inductive refl
-      (λ n run h sort.
-      let is_so = no_case (says.is_yes run.outcome) (says.is_no run.outcome) sort in
-      subst (refutes n.goal) (sym (h.no is_so)) (law n.goal (reverse run.replies) run.outcome h.ends is_so))
-      root goal is g
+-- the root of a graph for a verdict has a graph by each rule that the verdict's runs keep
+pub graph_by_rule : {I R : Type 0} (says : Verdicts R) (scripts : I → List (Reply R) → Request I R) (nodes : List (CacheNode I R)) (runs : AreRuns says scripts nodes) (root : ℕ) (goal : I) → IsNodeOf nodes root goal
+    → (verdict : theory.Verdict) (test : R → Bool) (kind : PathKind) → IsSort I says verdict test kind → (rule : I → List (Question I) → Type 0) → KeepsRule test scripts rule
+    → theory.IsClosedGraph (shapes_of says nodes) verdict root → IsGraph rule kind (graph_nodes_of nodes) root goal
+graph_by_rule says scripts nodes runs root goal is verdict test kind sort rule law g =
+    has_graph says scripts nodes runs verdict rule kind sort.cycles
+    (λ n run h said.
+    let passes = sort.passes run.outcome said in
+    subst (rule n.goal) (sym (sort.edges nodes (scripts n.goal) run h passes)) (law n.goal (reverse run.replies) run.outcome h.ends passes))
+    root goal is g

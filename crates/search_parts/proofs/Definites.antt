@@ -1,12 +1,15 @@
 -- Definite results keep their graphs while the list of nodes grows, and show what they say.
-use Rattle.std.proofs.Common.{◌≡◌, zero, Bool, true, false, if◌then◌else◌, List, Option, None, Some, option_map, ◌⊎◌, inl, inr, refl, sym, ap, ◌∙◌, subst}
+use Rattle.std.proofs.Common.{◌≡◌, ◌≢◌, zero, Bool, true, false, if◌then◌else◌, List, Option, None, Some, option_map, inl, inr, refl, sym, ap, ◌∙◌, subst}
 use Rattle.std.specs.Option.{IfSome, IsSomeAnd}
 use Rattle.open_graphs.specs.Graph as theory
 use Rattle.open_graphs.proofs.Closed.{growth_keeps_graph}
+use Rattle.open_graphs.proofs.States.{verdict_cases}
 use Rattle.open_graphs.proofs.Verdicts.{edges_of}
 use Rattle.search_parts.specs.Words.{NodeId, Request, Reply, IsProofGraph, IsRefutationGraph, Question, CacheNode, IsNodeOf, KeepsGoals, KeepsFinished, AreRuns, graph_nodes_of, verdict_of, shapes_of, HasGraph, IsWhole, Verdicts}
 use Rattle.search_parts.proofs.Finished.{finished_stays, Grown-finished}
-use Rattle.search_parts.proofs.Bridge.{KeepsRule, whole_from_graph, yes_is_proof, no_is_refutation}
+use Rattle.search_parts.specs.Below.{PathKind, Coinductive, Inductive}
+use Rattle.search_parts.specs.Graph.{IsGraph}
+use Rattle.search_parts.proofs.Bridge.{KeepsRule, IsSort, yes_sort, no_sort, graph_by_rule, whole_from_graph}
 
 pub IsSomeAnd-weaker : {A : Type 0} (P Q : A → Type 0) → ((x : A) → P x → Q x) → (o : Option A) → IsSomeAnd o P → IsSomeAnd o Q
 IsSomeAnd-weaker P Q more None h = absurd h
@@ -47,37 +50,25 @@ no_verdict true n one e = let other : n ≡ false = one refl in absurd cc
 no_verdict false true one e = refl
 no_verdict false false one e = absurd cc
 
-pub definite : (v w : theory.Verdict) → v ≡ w → (w ≡ theory.Neither → ⊥) → v ≡ theory.Neither → ⊥
-definite v w same other none = other (sym same ∙ none)
-
 module _ {I R : Type 0} (says : Verdicts R) (scripts : I → List (Reply R) → Request I R) (nodes : List (CacheNode I R)) (runs : AreRuns says scripts nodes) (goal : I) (r : R) (node : Option NodeId) (has : HasGraph says nodes goal r node) where
-  -- a yes shows that its goal holds
+  -- a definite result shows what it says
+  is_shown : (verdict : theory.Verdict) (test : R → Bool) (kind : PathKind) → IsSort I says verdict test kind → verdict ≢ theory.Neither → (rule : I → List (Question I) → Type 0) → KeepsRule test scripts rule → verdict_of says r ≡ verdict → IsSomeAnd node (λ n. IsGraph rule kind (graph_nodes_of nodes) n.0 goal)
+  is_shown verdict test kind sort definite rule law said =
+      IsSomeAnd-weaker (λ n. IsNodeOf nodes n.0 goal × theory.IsClosedGraph (shapes_of says nodes) (verdict_of says r) n.0)
+      (λ n. IsGraph rule kind (graph_nodes_of nodes) n.0 goal)
+      (λ n g. graph_by_rule says scripts nodes runs n.0 goal g.0 verdict test kind sort rule law (subst (λ v. theory.IsClosedGraph (shapes_of says nodes) v n.0) said g.1))
+      node (has.definite (λ none. definite (sym said ∙ none)))
+
   pub yes_is_shown : (proves : I → List (Question I) → Type 0) → KeepsRule says.is_yes scripts proves → says.is_yes r ≡ true → IsSomeAnd node (λ n. IsProofGraph proves (graph_nodes_of nodes) n.0 goal)
-  yes_is_shown proves law is =
-      let yes : verdict_of says r ≡ theory.Yes = yes_verdict (says.is_yes r) (says.is_no r) is in
-      IsSomeAnd-weaker (λ n. IsNodeOf nodes n.0 goal × theory.IsClosedGraph (shapes_of says nodes) (verdict_of says r) n.0)
-      (λ n. IsProofGraph proves (graph_nodes_of nodes) n.0 goal)
-      (λ n g. yes_is_proof says scripts nodes runs n.0 goal g.0 proves law (subst (λ v. theory.IsClosedGraph (shapes_of says nodes) v n.0) yes g.1))
-      node (has.definite (definite (verdict_of says r) theory.Yes yes (λ e. cc)))
+  yes_is_shown proves law is = is_shown theory.Yes says.is_yes Coinductive (yes_sort says) (λ e. cc) proves law (yes_verdict (says.is_yes r) (says.is_no r) is)
 
-  -- a no shows that it does not
   pub no_is_shown : (refutes : I → List (Question I) → Type 0) → KeepsRule says.is_no scripts refutes → (says.is_yes r ≡ true → says.is_no r ≡ false) → says.is_no r ≡ true → IsSomeAnd node (λ n. IsRefutationGraph refutes (graph_nodes_of nodes) n.0 goal)
-  no_is_shown refutes law one is =
-      let no : verdict_of says r ≡ theory.No = no_verdict (says.is_yes r) (says.is_no r) one is in
-      IsSomeAnd-weaker (λ n. IsNodeOf nodes n.0 goal × theory.IsClosedGraph (shapes_of says nodes) (verdict_of says r) n.0)
-      (λ n. IsRefutationGraph refutes (graph_nodes_of nodes) n.0 goal)
-      (λ n g. no_is_refutation says scripts nodes runs n.0 goal g.0 refutes law (subst (λ v. theory.IsClosedGraph (shapes_of says nodes) v n.0) no g.1))
-      node (has.definite (definite (verdict_of says r) theory.No no (λ e. cc)))
-
-is_neither : (v : theory.Verdict) → (v ≡ theory.Neither) ⊎ (v ≡ theory.Neither → ⊥)
-is_neither theory.Yes = inr (λ e. cc)
-is_neither theory.No = inr (λ e. cc)
-is_neither theory.Neither = inl refl
+  no_is_shown refutes law one is = is_shown theory.No says.is_no Inductive (no_sort says) (λ e. cc) refutes law (no_verdict (says.is_yes r) (says.is_no r) one is)
 
 -- all that the node of a result reaches is finished
 pub definite_is_whole : {I R : Type 0} (says : Verdicts R) (nodes : List (CacheNode I R)) (goal : I) (r : R) (node : Option NodeId) → HasGraph says nodes goal r node → IfSome node (λ n. IsWhole nodes n.0)
 definite_is_whole says nodes goal r None has = tt
-definite_is_whole says nodes goal r (Some n) has = elim (is_neither (verdict_of says r)) [
+definite_is_whole says nodes goal r (Some n) has = elim (verdict_cases (verdict_of says r) theory.Neither) [
   | inl neither ↦ let none : Some n ≡ None = has.neither neither in absurd cc
   | inr is_definite ↦ whole_from_graph says nodes (verdict_of says r) n.0 (has.definite is_definite).1
 ]

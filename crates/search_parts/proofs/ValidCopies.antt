@@ -1,46 +1,39 @@
 -- A copy of what a definite result's node reaches is valid.
-use Rattle.std.proofs.Common.{◌≡◌, ℕ, ◌<◌, Bool, true, false, List, ◌∷◌, map, length, Option, None, Some, option_map, slice_get, slice_index, reverse, Contains, refl, sym, ◌∙◌, ap, subst, arith}
-use Rattle.std.specs.Option.{IsSomeAnd}
+use Rattle.std.proofs.Common.{◌≡◌, ◌≢◌, ℕ, ◌<◌, Bool, true, false, List, ◌∷◌, map, length, Some, option_map, slice_get, slice_index, refl, sym, ◌∙◌, ap, subst, arith}
 use Rattle.std.proofs.lemmas.List.{length-map}
 use Rattle.std.proofs.lemmas.Option.{slice_get-map, slice_get_within, get_or_from_slice_get}
 use Rattle.open_graphs.specs.Graph as theory
-use Rattle.search_parts.specs.Below.{cycle_kind, rank_of, PathKind, Inductive, Coinductive}
-use Rattle.search_parts.specs.Words.{Edge, Node, NodeId, Reply, Request, EndedRun, CacheNode, IsNodeOf, IsRun, AreRuns, graph_node_of, graph_nodes_of, HasGraph, GraphNode, question_of, HasGoal, HasEdge, IsWalk, IsCopy, original_edge, walk_kind, original_node, Copies, progress_after, questions_answered, verdict_of, shapes_of, goal_node_of, goal_nodes_of, IsRunOfSort, IsValid, Verdicts}
+use Rattle.search_parts.specs.Below.{PathKind, Inductive, Coinductive}
+use Rattle.search_parts.specs.Words.{Edge, Node, NodeId, Reply, Request, EndedRun, CacheNode, IsNodeOf, IsRun, AreRuns, graph_node_of, graph_nodes_of, HasGraph, HasGoal, HasEdge, IsWalk, IsCopy, original_edge, walk_kind, original_node, Copies, verdict_of, shapes_of, goal_node_of, goal_nodes_of, IsRunOfSort, IsValid, Verdicts}
 use Rattle.search_parts.specs.Graph.{IsGraph}
-use Rattle.search_parts.proofs.Bridge.{Ended, ended_at, known_at, has_graph, yes_case, no_case}
-use Rattle.search_parts.proofs.Copies.{original_has, original_walk, copy_goal, same_questions, same_walk_kind}
-use Rattle.search_parts.proofs.Definites.{yes_verdict, no_verdict, definite}
+use Rattle.open_graphs.proofs.Lists.{mapped_some}
+use Rattle.search_parts.proofs.Bridge.{Ended, IsSort, yes_sort, no_sort, ended_at, known_at, has_graph}
+use Rattle.search_parts.proofs.Copies.{node_with_edge, original_has, original_walk, copy_goal, same_questions, same_walk_kind}
+use Rattle.search_parts.proofs.Definites.{yes_verdict, no_verdict}
 use Rattle.search_parts.proofs.HandedOut.{original_there}
 
 module _ {I R : Type 0} (says : Verdicts R) (scripts : I → List (Reply R) → Request I R) (nodes : List (CacheNode I R)) (runs : AreRuns says scripts nodes)
     (root : ℕ) (copy : List (Node I R)) (numbers : List ℕ) (c : Copies nodes root copy numbers) where
-  graph_case : (at : ℕ) (m : GraphNode I) (o : Option (Node I R)) → slice_get copy at ≡ o → option_map goal_node_of o ≡ Some m → slice_get (graph_nodes_of nodes) (slice_index numbers at) ≡ Some (record { goal = m.goal; edges = map (original_edge (slice_index numbers)) m.edges })
-  graph_case at m None there is = absurd cc
-  graph_case at m (Some n) there is =
-      let same : goal_node_of n ≡ m = cc in
-      subst (λ x. slice_get (graph_nodes_of nodes) (slice_index numbers at) ≡ Some (record { goal = x.goal; edges = map (original_edge (slice_index numbers)) x.edges })) same
-      (slice_get-map graph_node_of nodes (slice_index numbers at) ∙ ap (option_map graph_node_of) (original_there nodes root copy numbers c at n there))
-
   as_goals : length (goal_nodes_of copy) ≡ length copy
   as_goals = length-map copy goal_node_of
 
   -- the copy is one of the graph of goals
   is_copy : IsCopy (graph_nodes_of nodes) (goal_nodes_of copy) (slice_index numbers)
   is_copy = record {
-    same = λ at m is. graph_case at m (slice_get copy at) refl (sym (slice_get-map goal_node_of copy at) ∙ is);
+    same = λ at m is.
+        let n = mapped_some goal_node_of (slice_get copy at) m (sym (slice_get-map goal_node_of copy at) ∙ is) in
+        subst (λ x. slice_get (graph_nodes_of nodes) (slice_index numbers at) ≡ Some (record { goal = x.goal; edges = map (original_edge (slice_index numbers)) x.edges })) n.2
+        (slice_get-map graph_node_of nodes (slice_index numbers at) ∙ ap (option_map graph_node_of) (original_there nodes root copy numbers c at n.0 n.1));
     inside = λ at e has. subst (λ l. e.target < l) (sym as_goals) (c.inside at e has);
   }
 
-  edge_within : (at : ℕ) (o : Option (GraphNode I)) (e : Edge I) → slice_get (goal_nodes_of copy) at ≡ o → HasEdge (goal_nodes_of copy) at e → at < length copy
-  edge_within at None e is has = absurd (subst (λ o. IsSomeAnd o (λ n. Contains n.edges e)) is has)
-  edge_within at (Some m) e is has = subst (λ l. at < l) as_goals (slice_get_within (goal_nodes_of copy) at m is)
+  edge_within : (at : ℕ) (e : Edge I) → HasEdge (goal_nodes_of copy) at e → at < length copy
+  edge_within at e has = let n = node_with_edge copy at e has in slice_get_within copy at n.0 n.1
 
-  module _ (verdict : theory.Verdict) (kind : PathKind) (cycles : rank_of kind ≡ cycle_kind verdict) (test : R → Bool)
-      (has_sort : (r : R) → verdict_of says r ≡ verdict → test r ≡ true)
-      (asks : (script : List (Reply R) → Request I R) (run : EndedRun I R) → IsRun says script nodes run → test run.outcome ≡ true → map question_of run.edges ≡ questions_answered test (progress_after script (reverse run.replies)))
+  module _ (verdict : theory.Verdict) (test : R → Bool) (kind : PathKind) (of_sort : IsSort I says verdict test kind)
       (goal : I) (is : IsNodeOf nodes root goal) (known : theory.IsClosedGraph (shapes_of says nodes) verdict root) where
     graph : IsGraph (λ _ _. Unit {0}) kind (graph_nodes_of nodes) root goal
-    graph = has_graph says scripts nodes runs verdict (λ _ _. Unit {0}) kind cycles (λ _ _ _ _. tt) root goal is known
+    graph = has_graph says scripts nodes runs verdict (λ _ _. Unit {0}) kind of_sort.cycles (λ _ _ _ _. tt) root goal is known
 
     first_is : slice_index numbers 0 ≡ root
     first_is = get_or_from_slice_get numbers 0 root 0 c.rooted
@@ -65,13 +58,13 @@ module _ {I R : Type 0} (says : Verdicts R) (scripts : I → List (Reply R) → 
     run_at : (at : ℕ) (n : Node I R) → slice_get copy at ≡ Some n → IsRunOfSort test (scripts n.input) n
     run_at at n there =
         let known_here = known_there at (slice_get_within copy at n there) in
-        let sort : test n.result ≡ true = has_sort n.result (verdict_there at n there (ended_at says nodes verdict (slice_index numbers at) known_here)) in
+        let sort : test n.result ≡ true = of_sort.passes n.result (verdict_there at n there (ended_at says nodes verdict (slice_index numbers at) known_here)) in
         let is_run : IsRun says (scripts n.input) nodes (run_there n) =
         runs (slice_index numbers at) (original_node (slice_index numbers) n) (run_there n) (original_there nodes root copy numbers c at n there) refl in
         record {
           ends = is_run.ends;
           sort = sort;
-          edges = sym (same_questions (slice_index numbers) n.edges.items) ∙ asks (scripts n.input) (run_there n) is_run sort;
+          edges = sym (same_questions (slice_index numbers) n.edges.items) ∙ of_sort.edges nodes (scripts n.input) (run_there n) is_run sort;
         }
 
     goal_there : (at : ℕ) (g : I) → at < length copy → HasGoal (graph_nodes_of nodes) (slice_index numbers at) g → HasGoal (goal_nodes_of copy) at g
@@ -83,13 +76,13 @@ module _ {I R : Type 0} (says : Verdicts R) (scripts : I → List (Reply R) → 
     closed_at : (at : ℕ) (e : Edge I) → HasEdge (goal_nodes_of copy) at e → HasGoal (goal_nodes_of copy) e.target e.input
     closed_at at e has =
         goal_there e.target e.input (c.inside at e has)
-        (graph.closed (slice_index numbers at) (original_edge (slice_index numbers) e) (c.reached at (edge_within at (slice_get (goal_nodes_of copy) at) e refl has)) (has_original at e has))
+        (graph.closed (slice_index numbers at) (original_edge (slice_index numbers) e) (c.reached at (edge_within at e has)) (has_original at e has))
 
     cycle_at : (at : ℕ) (e : Edge I) (rest : List (Edge I)) → IsWalk (goal_nodes_of copy) at (e ∷ rest) at → walk_kind (e ∷ rest) ≡ kind
     cycle_at at e rest loop =
         sym (same_walk_kind (slice_index numbers) (e ∷ rest))
         ∙ graph.cycles (slice_index numbers at) (original_edge (slice_index numbers) e) (map (original_edge (slice_index numbers)) rest)
-        (c.reached at (edge_within at (slice_get (goal_nodes_of copy) at) e refl loop.0))
+        (c.reached at (edge_within at e loop.0))
         (original_walk (graph_nodes_of nodes) (goal_nodes_of copy) (slice_index numbers) is_copy at at (e ∷ rest) loop)
 
     copy_is_valid : IsValid test kind scripts copy goal
@@ -100,18 +93,15 @@ module _ {I R : Type 0} (says : Verdicts R) (scripts : I → List (Reply R) → 
       cycles = cycle_at;
     }
 
-  -- the copy of a yes
-  pub yes_is_valid : (goal : I) (r : R) (node : NodeId) → node.0 ≡ root → HasGraph says nodes goal r (Some node) → says.is_yes r ≡ true → IsValid says.is_yes Coinductive scripts copy goal
-  yes_is_valid goal r node here has is =
-      let yes : verdict_of says r ≡ theory.Yes = yes_verdict (says.is_yes r) (says.is_no r) is in
-      let g = has.definite (definite (verdict_of says r) theory.Yes yes (λ e. cc)) in
-      copy_is_valid theory.Yes Coinductive refl says.is_yes (λ s e. yes_case (says.is_yes s) (says.is_no s) e) (λ script run is_run sort. is_run.yes sort)
-      goal (subst (λ x. IsNodeOf nodes x goal) here g.0) (subst (λ x. theory.IsClosedGraph (shapes_of says nodes) theory.Yes x) here (subst (λ v. theory.IsClosedGraph (shapes_of says nodes) v node.0) yes g.1))
+  -- the copy of a definite result's graph
+  result_is_valid : (verdict : theory.Verdict) (test : R → Bool) (kind : PathKind) → IsSort I says verdict test kind → verdict ≢ theory.Neither → (goal : I) (r : R) (node : NodeId) → node.0 ≡ root → HasGraph says nodes goal r (Some node) → verdict_of says r ≡ verdict → IsValid test kind scripts copy goal
+  result_is_valid verdict test kind of_sort definite goal r node here has said =
+      let g = has.definite (λ none. definite (sym said ∙ none)) in
+      copy_is_valid verdict test kind of_sort goal (subst (λ x. IsNodeOf nodes x goal) here g.0)
+      (subst (λ x. theory.IsClosedGraph (shapes_of says nodes) verdict x) here (subst (λ v. theory.IsClosedGraph (shapes_of says nodes) v node.0) said g.1))
 
-  -- the copy of a no
+  pub yes_is_valid : (goal : I) (r : R) (node : NodeId) → node.0 ≡ root → HasGraph says nodes goal r (Some node) → says.is_yes r ≡ true → IsValid says.is_yes Coinductive scripts copy goal
+  yes_is_valid goal r node here has is = result_is_valid theory.Yes says.is_yes Coinductive (yes_sort says) (λ e. cc) goal r node here has (yes_verdict (says.is_yes r) (says.is_no r) is)
+
   pub no_is_valid : (goal : I) (r : R) (node : NodeId) → node.0 ≡ root → (says.is_yes r ≡ true → says.is_no r ≡ false) → HasGraph says nodes goal r (Some node) → says.is_no r ≡ true → IsValid says.is_no Inductive scripts copy goal
-  no_is_valid goal r node here one has is =
-      let no : verdict_of says r ≡ theory.No = no_verdict (says.is_yes r) (says.is_no r) one is in
-      let g = has.definite (definite (verdict_of says r) theory.No no (λ e. cc)) in
-      copy_is_valid theory.No Inductive refl says.is_no (λ s e. no_case (says.is_yes s) (says.is_no s) e) (λ script run is_run sort. is_run.no sort)
-      goal (subst (λ x. IsNodeOf nodes x goal) here g.0) (subst (λ x. theory.IsClosedGraph (shapes_of says nodes) theory.No x) here (subst (λ v. theory.IsClosedGraph (shapes_of says nodes) v node.0) no g.1))
+  no_is_valid goal r node here one has is = result_is_valid theory.No says.is_no Inductive (no_sort says) (λ e. cc) goal r node here has (no_verdict (says.is_yes r) (says.is_no r) one is)

@@ -1,7 +1,9 @@
-use Rattle.search_parts.proofs.Bridge.{no_is_refutation}
+use Rattle.search_parts.specs.Below.{Inductive, No}
+use Rattle.search_parts.proofs.Bridge.{graph_by_rule, no_sort}
 use Rattle.search_parts.proofs.law.no_is_refutation.Goals as goal
 use Rattle.search_parts.specs.Words.{verdicts}
 
 pub returns : goal.returns
 returns g c = λ cx nodes root goal runs is graph.
-    no_is_refutation (verdicts g.D.Cx.Cx) (g.D.Delegate.script cx) nodes runs root goal is (g.D.Cx.Cx.refutes cx) (g.met.D.Delegate.no_is_refuted cx) graph
+    let says = verdicts g.D.Cx.Cx in
+    graph_by_rule says (g.D.Delegate.script cx) nodes runs root goal is No says.is_no Inductive (no_sort says) (g.D.Cx.Cx.refutes cx) (g.met.D.Delegate.no_is_refuted cx) graph

@@ -1,7 +1,9 @@
-use Rattle.search_parts.proofs.Bridge.{yes_is_proof}
+use Rattle.search_parts.specs.Below.{Coinductive, Yes}
+use Rattle.search_parts.proofs.Bridge.{graph_by_rule, yes_sort}
 use Rattle.search_parts.proofs.law.yes_is_proof.Goals as goal
 use Rattle.search_parts.specs.Words.{verdicts}
 
 pub returns : goal.returns
 returns g c = λ cx nodes root goal runs is graph.
-    yes_is_proof (verdicts g.D.Cx.Cx) (g.D.Delegate.script cx) nodes runs root goal is (g.D.Cx.Cx.proves cx) (g.met.D.Delegate.yes_is_proved cx) graph
+    let says = verdicts g.D.Cx.Cx in
+    graph_by_rule says (g.D.Delegate.script cx) nodes runs root goal is Yes says.is_yes Coinductive (yes_sort says) (g.D.Cx.Cx.proves cx) (g.met.D.Delegate.yes_is_proved cx) graph
