@@ -1,20 +1,26 @@
 -- Closed walks and strongly connected components: a closed walk of a kind between two exists exactly if an edge of such a
 -- kind stays in its component, in the graph of the edges up to the greater kind.
-use Rattle.std.proofs.Common.{◌≡◌, ℕ, ◌+◌, ◌<◌, ◌≤◌, Bool, true, false, not, IsTrue, inl, inr, ◌↔◌, List, [], ◌∷◌, Option, Some, None, option_map, length, slice_get, get_or, slice_index, All, Contains, nat_le, refl, sym, ap, ◌∙◌, subst, arith}
+use Rattle.std.proofs.Common.{◌≡◌, ℕ, ◌+◌, ◌<◌, ◌≤◌, Bool, true, false, not, IsTrue, inl, inr, ◌↔◌, List, [], ◌∷◌, filter, Option, Some, None, option_map, length, slice_get, get_or, slice_index, All, Contains, nat_le, refl, sym, ap, ◌∙◌, subst, arith}
 use Rattle.std.proofs.lemmas.Bool.{cases_lt, false≢true, le-leb, leb-true}
 use Rattle.std.proofs.lemmas.List.{length-map}
 use Rattle.std.proofs.lemmas.List.Elements.{All-map, Contains-get_or}
 use Rattle.std.proofs.lemmas.Option.{slice_get-map, slice_get-get_or, unwrap_or-slice_get}
 use Rattle.std.specs.Option.{IsSomeAnd, unwrap_or}
 use Rattle.graph_check.specs.Below.{PathKind, Inductive, Unknown, Coinductive, ForcedAmbiguity, rank_of, Edge, GraphNode, HasEdge, IsWalk, walk_kind, AreClosed, CyclesHaveKind, HasStep, Reaches, StaysInside, AreComponents, stay, go}
-use Rattle.cycle_heads.proofs.PathRanks.{greater_rank, same_kind}
+use Rattle.open_graphs.proofs.Members.{Contains-filtered, Contains-map, Contains-mapped, filtered_member}
+use Rattle.strong_components.proofs.Walks.{falls_along, reaches-trans}
+use Rattle.search_parts.proofs.Copies.{HasEdge-within}
+use Rattle.search_parts.proofs.Graphs.{HasGoal-within}
+use Rattle.cycle_heads.proofs.PathRanks.{each_kind, greater_rank, same_kind}
 use Rattle.graph_check.specs.Words.{IsBetween, IsGreater, IsLesser, HasCycle, HasInnerEdge, steps_over, targets_over}
-use Rattle.graph_check.proofs.Members.{Contains-kept, source_of}
-use Rattle.graph_check.proofs.Places.{HasEdge-within, HasGoal-within}
 
 module _ {I : Type 0} (nodes : List (GraphNode I)) (most : PathKind) where
   abbrev graph : List (List ℕ)
   graph = steps_over most nodes
+
+  -- the edge is of a kind up to `most`
+  abbrev is_low : Edge I → Bool
+  is_low e = nat_le (rank_of e.kind) (rank_of most)
 
   -- the successors of a place
   successors_at : (place : ℕ) → get_or graph place [] ≡ unwrap_or (option_map (λ (n : GraphNode I). targets_over most n.edges) (slice_get nodes place)) []
@@ -27,7 +33,7 @@ module _ {I : Type 0} (nodes : List (GraphNode I)) (most : PathKind) where
     where
       there : (o : Option (GraphNode I)) → IsSomeAnd o (λ n. Contains n.edges e) → Contains (unwrap_or (option_map (λ (n : GraphNode I). targets_over most n.edges) o) []) e.target
       there None h = absurd h
-      there (Some n) h = Contains-kept (λ (x : Edge I). x.target) (λ x. nat_le (rank_of x.kind) (rank_of most)) n.edges e h (le-leb (rank_of e.kind) (rank_of most) low)
+      there (Some n) h = Contains-mapped (λ (x : Edge I). x.target) (filter is_low n.edges) e (Contains-filtered is_low n.edges e h (le-leb (rank_of e.kind) (rank_of most) low))
 
   -- the edge behind a step
   record StepEdge (place to : ℕ) : Type 0 where
@@ -45,8 +51,9 @@ module _ {I : Type 0} (nodes : List (GraphNode I)) (most : PathKind) where
           → (e : Edge I) × IsSomeAnd o (λ n. Contains n.edges e) × (rank_of e.kind ≤ rank_of most) × (e.target ≡ to)
       there None h = absurd (omega (arith, h.1))
       there (Some n) h =
-          let s = source_of (λ (x : Edge I). x.target) (λ x. nat_le (rank_of x.kind) (rank_of most)) n.edges to h in
-          (s.member, s.has, leb-true (rank_of s.member.kind) (rank_of most) s.passes, s.gives)
+          let e = Contains-map (λ (x : Edge I). x.target) (filter is_low n.edges) to h in
+          let is = filtered_member is_low n.edges e.0 e.1 in
+          (e.0, is.0, leb-true (rank_of e.0.kind) (rank_of most) is.1, e.2)
 
   -- a walk of low enough kind
   record LowWalk (from to : ℕ) : Type 0 where
@@ -71,10 +78,6 @@ module _ {I : Type 0} (nodes : List (GraphNode I)) (most : PathKind) where
         is = (e.has, subst (λ x. IsWalk nodes x w.walk to) (sym e.target) w.is);
         low = omega arith;
       }
-
-  Reaches-append : (a b c : ℕ) → Reaches graph a b → Reaches graph b c → Reaches graph a c
-  Reaches-append a b c stay q = q
-  Reaches-append a b c (go {b = next} step rest) q = go step (Reaches-append next b c rest q)
 
   -- an edge of a walk that has the walk's kind
   record Greatest (from to : ℕ) (kind : PathKind) : Type 0 where
@@ -110,12 +113,11 @@ module _ {I : Type 0} (nodes : List (GraphNode I)) (most : PathKind) where
   targets_inside : AreClosed nodes → (place : ℕ) (n : GraphNode I) → slice_get nodes place ≡ Some n → All (λ b. b < length graph) (targets_over most n.edges)
   targets_inside closed place n is = λ k d lt.
       let to = get_or (targets_over most n.edges) k d in
-      let e = source_of (λ (x : Edge I). x.target) (λ x. nat_le (rank_of x.kind) (rank_of most)) n.edges to (Contains-get_or (targets_over most n.edges) k d lt) in
-      let has : HasEdge nodes place e.member = subst (λ o. IsSomeAnd o (λ m. Contains m.edges e.member)) (sym is) e.has in
-      let there = HasGoal-within nodes e.member.target e.member.input (closed place e.member has) in
+      let e = Contains-map (λ (x : Edge I). x.target) (filter is_low n.edges) to (Contains-get_or (targets_over most n.edges) k d lt) in
+      let has : HasEdge nodes place e.0 = subst (λ o. IsSomeAnd o (λ m. Contains m.edges e.0)) (sym is) (filtered_member is_low n.edges e.0 e.1).0 in
+      let there = HasGoal-within nodes e.0.target e.0.input (closed place e.0 has) in
       let size = length-map nodes (λ (m : GraphNode I). targets_over most m.edges) in
-      let same : e.member.target ≡ to = e.gives in
-      subst (λ b. b < length graph) same (omega arith)
+      subst (λ b. b < length graph) e.2 (omega arith)
 
   pub steps_inside : AreClosed nodes → StaysInside graph
   steps_inside closed =
@@ -123,19 +125,12 @@ module _ {I : Type 0} (nodes : List (GraphNode I)) (most : PathKind) where
       (λ k d lt. targets_inside closed k (get_or nodes k d) (slice_get-get_or nodes k d lt))
 
   module _ (closed : AreClosed nodes) (numbers : List ℕ) (components : AreComponents graph numbers) where
-    numbers_fall : (a b : ℕ) → Reaches graph a b → slice_index numbers b ≤ slice_index numbers a
-    numbers_fall a b stay = omega arith
-    numbers_fall a b (go {b = next} step rest) =
-        let first = components.falls a next step in
-        let later = numbers_fall next b rest in
-        omega arith
-
     -- an edge as great as its closed walk stays in its component
     pub inner_of_cycle : (least : PathKind) → HasCycle (IsBetween least most) nodes → HasInnerEdge numbers least most nodes
     inner_of_cycle least c =
         let low = c.kind.to_most in
         let g = greatest_edge c.place c.place c.edge c.rest c.closed low in
-        let back = numbers_fall g.edge.target g.place (Reaches-append g.edge.target c.place g.place g.after g.before) in
+        let back = falls_along graph numbers components.falls (reaches-trans graph g.after g.before) in
         let on = components.falls g.place g.edge.target (step_of g.place g.edge g.has (omega (arith, g.same))) in
         record {
           place = g.place;
@@ -177,10 +172,7 @@ pub no_other_kind : {I : Type 0} (nodes : List (GraphNode I)) (kind : PathKind) 
 no_other_kind nodes kind IsOf other all c = other (subst IsOf (all c.place c.edge c.rest c.closed) c.kind)
 
 rank_most : (k : PathKind) → rank_of k ≤ 3
-rank_most Inductive = omega arith
-rank_most Unknown = omega arith
-rank_most Coinductive = omega arith
-rank_most ForcedAmbiguity = omega arith
+rank_most = each_kind (λ k. rank_of k ≤ 3) (omega arith) (omega arith) (omega arith) (omega arith)
 
 -- a kind is greater if it is from the next one up, and lesser if it is up to the one before
 pub greater_from_next : (kind next : PathKind) → rank_of next ≡ rank_of kind + 1 → (k : PathKind) → IsBetween next ForcedAmbiguity k ↔ IsGreater kind k

@@ -4,6 +4,5 @@ pub mod RunRecords
 pub mod Replaying
 pub mod ClosedWalks
 pub mod InnerEdges
-pub mod Members
 pub mod Places
 pub mod ValidGraphs

@@ -5,22 +5,8 @@ use Rattle.std.proofs.lemmas.Option.{slice_get-map, slice_get_past, slice_get_wi
 use Rattle.std.proofs.lemmas.List.Elements.{All-contains, Contains-get_or}
 use Rattle.std.specs.Cmp.{IsEquivalence}
 use Rattle.std.specs.Option.{IsSomeAnd}
+use Rattle.search_parts.proofs.Copies.{node_with_edge}
 use Rattle.graph_check.specs.Below.{Edge, Node, GraphNode, HasGoal, HasEdge, AreClosed, goal_node_of, goal_nodes_of}
-
--- a place with an edge or a goal is one of the graph
-pub HasEdge-within : {I : Type 0} (nodes : List (GraphNode I)) (at : ℕ) (e : Edge I) → HasEdge nodes at e → at < length nodes
-HasEdge-within {I} nodes at e has = of_some (slice_get nodes at) (λ n. slice_get_within nodes at n) has
-  where
-    of_some : (o : Option (GraphNode I)) → ((n : GraphNode I) → o ≡ Some n → at < length nodes) → IsSomeAnd o (λ n. Contains n.edges e) → at < length nodes
-    of_some None within h = absurd h
-    of_some (Some n) within h = within n refl
-
-pub HasGoal-within : {I : Type 0} (nodes : List (GraphNode I)) (at : ℕ) (goal : I) → HasGoal nodes at goal → at < length nodes
-HasGoal-within {I} nodes at goal has = of_some (slice_get nodes at) (λ n. slice_get_within nodes at n) has
-  where
-    of_some : (o : Option (GraphNode I)) → ((n : GraphNode I) → o ≡ Some n → at < length nodes) → option_map (λ n. n.goal) o ≡ Some goal → at < length nodes
-    of_some None within h = absurd cc
-    of_some (Some n) within h = within n refl
 
 module _ {I R : Type 0} (nodes : List (Node I R)) where
   -- a place has the goal of its node
@@ -31,15 +17,6 @@ module _ {I R : Type 0} (nodes : List (Node I R)) where
   pub edge_there : (at : ℕ) (n : Node I R) (e : Edge I) → slice_get nodes at ≡ Some n → Contains n.edges.items e → HasEdge (goal_nodes_of nodes) at e
   edge_there at n e is has =
       subst (λ o. IsSomeAnd o (λ m. Contains m.edges e)) (sym (slice_get-map goal_node_of nodes at ∙ ap (option_map goal_node_of) is)) has
-
-  -- an edge is one of the node at its place
-  pub node_with_edge : (at : ℕ) (e : Edge I) → HasEdge (goal_nodes_of nodes) at e → (n : Node I R) × (slice_get nodes at ≡ Some n) × Contains n.edges.items e
-  node_with_edge at e has =
-      of_some (slice_get nodes at) (subst (λ o. IsSomeAnd o (λ m. Contains m.edges e)) (slice_get-map goal_node_of nodes at) has)
-    where
-      of_some : (o : Option (Node I R)) → IsSomeAnd (option_map goal_node_of o) (λ m. Contains m.edges e) → (n : Node I R) × (o ≡ Some n) × Contains n.edges.items e
-      of_some None h = absurd h
-      of_some (Some n) h = (n, refl, h)
 
   -- the test of a node's goal tells whether the place has the goal
   pub goal_is_tested : (eq : I → I → Bool) → IsEquivalence eq → ((x y : I) → eq x y ≡ true → x ≡ y)
@@ -63,7 +40,7 @@ module _ {I R : Type 0} (nodes : List (Node I R)) where
     | inl below ↦ earlier at e below has
     | inr above ↦
         let same : at ≡ index = omega arith in
-        let own = node_with_edge at e has in
+        let own = node_with_edge nodes at e has in
         let one : own.0 ≡ n = same_Some own.0 n (sym own.1 ∙ (ap (slice_get nodes) same ∙ is)) in
         All-contains (λ x. HasGoal (goal_nodes_of nodes) x.target x.input) n.edges.items e here (subst (λ (m : Node I R). Contains m.edges.items e) one own.2)
   ]

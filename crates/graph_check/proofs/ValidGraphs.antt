@@ -1,28 +1,19 @@
 -- What a valid graph shows: where the questions of each run's answers keep a rule, it is a graph of its goal by the rule.
 use Rattle.std.proofs.Common.{◌≡◌, ◌↔◌, Bool, true, IsTrue, List, Option, Some, None, option_map, map, slice_get, get_or, reverse, refl, sym, ◌∙◌, subst}
 use Rattle.std.proofs.lemmas.Option.{slice_get-map, slice_get-get_or, slice_get_within, get_or_from_slice_get}
+use Rattle.open_graphs.proofs.Lists.{mapped_some}
+use Rattle.search_parts.proofs.Bridge.{KeepsRule}
 use Rattle.graph_check.specs.Below.{PathKind, Inductive, Coinductive, Node, Reply, Request, Verdict, Yes, No, Neither, Question, EndsIn, progress_after, questions_answered, GraphNode, question_of, HasGoal, IsGraph, IsProofGraph, IsRefutationGraph, AreClosed, CyclesHaveKind, IsRunOfSort, IsValid, IsValidFor, goal_node_of, goal_nodes_of, Verdicts}
 use Rattle.graph_check.specs.Words.{has_sort, AreRunsOfSort}
 
--- a rule that the questions of each run's answers keep
-abbrev pub KeepsRule : {I R : Type 0} → (R → Bool) → (I → List (Reply R) → Request I R) → (I → List (Question I) → Type 0) → Type 0
-KeepsRule {I} {R} is_of_sort scripts rule =
-    (goal : I) (replies : List (Reply R)) (r : R)
-    → EndsIn (scripts goal) replies r → is_of_sort r ≡ true → rule goal (questions_answered is_of_sort (progress_after (scripts goal) replies))
-
 module _ {I R : Type 0} (is_of_sort : R → Bool) (scripts : I → List (Reply R) → Request I R) (nodes : List (Node I R)) where
-  -- the node behind a node of the graph
-  node_behind : (o : Option (Node I R)) (m : GraphNode I) → option_map goal_node_of o ≡ Some m → (n : Node I R) × (o ≡ Some n) × (goal_node_of n ≡ m)
-  node_behind None m e = absurd cc
-  node_behind (Some n) m e = (n, refl, cc)
-
   -- a valid graph is a graph of its goal
   pub valid_is_graph : (kind : PathKind) (rule : I → List (Question I) → Type 0) (goal : I) → KeepsRule is_of_sort scripts rule → IsValid is_of_sort kind scripts nodes goal → IsGraph rule kind (goal_nodes_of nodes) 0 goal
   valid_is_graph kind rule goal keeps valid = record {
     rooted = valid.rooted;
     closed = λ at e reached has. valid.closed at e has;
     is_shown = λ at m reached is.
-        let n = node_behind (slice_get nodes at) m (sym (slice_get-map goal_node_of nodes at) ∙ is) in
+        let n = mapped_some goal_node_of (slice_get nodes at) m (sym (slice_get-map goal_node_of nodes at) ∙ is) in
         let run = valid.runs at n.0 n.1 in
         let is_shown : rule n.0.input (map question_of n.0.edges.items) =
         subst (rule n.0.input) (sym run.edges) (keeps n.0.input (reverse n.0.replies.items) n.0.result run.ends run.sort) in
@@ -51,23 +42,19 @@ IsKindOf No kind = kind ≡ Inductive
 IsKindOf Neither kind = ⊥
 
 module _ {I R : Type 0} (says : Verdicts R) (scripts : I → List (Reply R) → Request I R) (goal : I) (kind : PathKind) where
-  pub valid_of_sort : (sort : Verdict) (nodes : List (Node I R)) → IsKindOf sort kind → IsValidFor says sort scripts nodes goal → IsValid (has_sort says sort) kind scripts nodes goal
-  valid_of_sort Yes nodes e v = subst (λ k. IsValid says.is_yes k scripts nodes goal) (sym e) v
-  valid_of_sort No nodes e v = subst (λ k. IsValid says.is_no k scripts nodes goal) (sym e) v
-  valid_of_sort Neither nodes e v = absurd v
-
-  valid_for : (sort : Verdict) (nodes : List (Node I R)) → IsKindOf sort kind → IsValid (has_sort says sort) kind scripts nodes goal → IsValidFor says sort scripts nodes goal
-  valid_for Yes nodes e v = subst (λ k. IsValid says.is_yes k scripts nodes goal) e v
-  valid_for No nodes e v = subst (λ k. IsValid says.is_no k scripts nodes goal) e v
-  valid_for Neither nodes e v = absurd e
+  -- validity for a verdict is validity by its test and its kind
+  pub valid_by_sort : (sort : Verdict) (nodes : List (Node I R)) → IsKindOf sort kind → IsValidFor says sort scripts nodes goal ↔ IsValid (has_sort says sort) kind scripts nodes goal
+  valid_by_sort Yes nodes e = rw e (λ v. v, λ v. v)
+  valid_by_sort No nodes e = rw e (λ v. v, λ v. v)
+  valid_by_sort Neither nodes e = absurd e
 
   -- where the goal and the edges are right, the runs decide
   pub runs_decide : (sort : Verdict) (nodes : List (Node I R)) → IsKindOf sort kind
       → HasGoal (goal_nodes_of nodes) 0 goal → AreClosed (goal_nodes_of nodes) → CyclesHaveKind kind (goal_nodes_of nodes)
       → (accepted : Bool) → IsTrue accepted ↔ AreRunsOfSort (has_sort says sort) scripts nodes → IsTrue accepted ↔ IsValidFor says sort scripts nodes goal
   runs_decide sort nodes e rooted closed cycles accepted runs = (
-    λ h. valid_for sort nodes e (valid_from_parts (has_sort says sort) scripts nodes kind goal rooted closed cycles (runs.0 h)),
-    λ v. runs.1 (runs_of_valid (has_sort says sort) scripts nodes kind goal (valid_of_sort sort nodes e v)),
+    λ h. (valid_by_sort sort nodes e).1 (valid_from_parts (has_sort says sort) scripts nodes kind goal rooted closed cycles (runs.0 h)),
+    λ v. runs.1 (runs_of_valid (has_sort says sort) scripts nodes kind goal ((valid_by_sort sort nodes e).0 v)),
   )
 
 module _ {I R : Type 0} (says : Verdicts R) (scripts : I → List (Reply R) → Request I R) (goal : I) (sort : Verdict) (nodes : List (Node I R)) where

@@ -3,7 +3,7 @@ use Rattle.std.proofs.lemmas.Bool.{false≢true}
 use Rattle.std.proofs.lemmas.Result.{IfOk-weaker}
 use Rattle.graph_check.specs.Below.{HasGoal, AreClosed, CyclesHaveKind, IsValid, IsValidFor, goal_nodes_of, verdicts}
 use Rattle.graph_check.specs.Words.{has_sort, AreRunsOfSort}
-use Rattle.graph_check.proofs.ValidGraphs.{IsKindOf, runs_decide, valid_is_proof, valid_is_refutation, valid_of_sort}
+use Rattle.graph_check.proofs.ValidGraphs.{IsKindOf, runs_decide, valid_is_proof, valid_is_refutation, valid_by_sort}
 use Rattle.graph_check.proofs.check_graph.Goals as goal
 use Rattle.graph_check.proofs.check_graph.Goals.{in-Yes, in-No, then-not-is_rooted-via-then-not-is_rooted, then-not-is_rooted-via-else-not-is_rooted+then-not-are_closed, then-not-is_rooted-via-else-not-is_rooted+else-not-are_closed+in_ok-cycles_have_kind+then-not-branch}
 
@@ -19,7 +19,7 @@ returns-then-not-is_rooted-clause-exact g c =
       λ h. absurd (false≢true h),
       λ valid.
           let v = subst (λ nodes. IsValid (has_sort (verdicts g.D.Cx.Cx) c.args.sort) kind script nodes c.args.input) (sym c.as_slice-nodes.ensures.value)
-          (valid_of_sort (verdicts g.D.Cx.Cx) script c.args.input kind c.args.sort c.args.graph.now.nodes.items is_kind valid) in
+          ((valid_by_sort (verdicts g.D.Cx.Cx) script c.args.input kind c.args.sort c.args.graph.now.nodes.items is_kind).0 valid) in
           elim c.then-not-is_rooted.branch [
             | then-not-is_rooted-via-then-not-is_rooted w ↦ absurd (false≢true (sym w.if-not-is_rooted.true ∙ c.is_rooted.ensures.1 v.rooted))
             | then-not-is_rooted-via-else-not-is_rooted+then-not-are_closed w ↦ absurd (false≢true (sym w.if-not-are_closed.true ∙ w.are_closed.ensures.1 v.closed))
