@@ -1,6 +1,5 @@
 -- What the crates below have, from one place.
-pub use Rattle.cycle_heads.specs.declared.path.PathKind.{PathKind}
-pub use Rattle.cycle_heads.specs.declared.path.PathKind.TheVariants.{Coinductive, Inductive}
+pub use Rattle.search_parts.specs.Below.{Coinductive, Inductive, PathKind}
 pub use Rattle.search_parts.specs.Delegate.{CountsOne}
 pub use Rattle.search_parts.specs.Rank.{AsksOnly, HasNoRank, HasRank, IsBelowRank, IsOrderlyTo, IsPlain, IsPlainTo}
 pub use Rattle.search_parts.specs.Rank.{IsPlainValue, IsRanked}

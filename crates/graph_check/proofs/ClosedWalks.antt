@@ -1,16 +1,15 @@
 -- Closed walks and strongly connected components: a closed walk of a kind between two exists exactly if an edge of such a
 -- kind stays in its component, in the graph of the edges up to the greater kind.
-use Rattle.std.proofs.Common.{◌≡◌, ℕ, ◌+◌, ◌<◌, ◌≤◌, Bool, true, false, not, IsTrue, inl, inr, ◌↔◌, List, [], ◌∷◌, filter, Option, Some, None, option_map, length, slice_get, get_or, slice_index, All, Contains, nat_le, refl, sym, ap, ◌∙◌, subst, arith}
+use Rattle.std.proofs.Common.{◌≡◌, ℕ, ◌+◌, ◌<◌, ◌≤◌, Bool, true, false, not, IsTrue, inl, inr, ◌↔◌, List, [], ◌∷◌, filter, Option, Some, None, option_map, length, slice_get, get_or, All, Contains, nat_le, refl, sym, ap, ◌∙◌, subst, arith}
 use Rattle.std.proofs.lemmas.Bool.{cases_lt, false≢true, le-leb, leb-true}
 use Rattle.std.proofs.lemmas.List.{length-map}
 use Rattle.std.proofs.lemmas.List.Elements.{All-map, Contains-get_or}
 use Rattle.std.proofs.lemmas.Option.{slice_get-map, slice_get-get_or, unwrap_or-slice_get}
 use Rattle.std.specs.Option.{IsSomeAnd, unwrap_or}
-use Rattle.graph_check.specs.Below.{PathKind, Inductive, Unknown, Coinductive, ForcedAmbiguity, rank_of, Edge, GraphNode, HasEdge, IsWalk, walk_kind, AreClosed, CyclesHaveKind, HasStep, Reaches, StaysInside, AreComponents, stay, go}
-use Rattle.open_graphs.proofs.Members.{Contains-filtered, Contains-map, Contains-mapped, filtered_member}
+use Rattle.graph_check.specs.Below.{PathKind, Inductive, ForcedAmbiguity, rank_of, Edge, GraphNode, HasEdge, IsWalk, walk_kind, AreClosed, CyclesHaveKind, HasStep, Reaches, StaysInside, AreComponents, stay, go}
 use Rattle.strong_components.proofs.Walks.{falls_along, reaches-trans}
 use Rattle.search_parts.proofs.Copies.{HasEdge-within}
-use Rattle.search_parts.proofs.Graphs.{HasGoal-within}
+use Rattle.search_parts.proofs.Graphs.{Contains-filtered, Contains-map, Contains-mapped, filtered_member, HasGoal-within}
 use Rattle.cycle_heads.proofs.PathRanks.{each_kind, greater_rank, same_kind}
 use Rattle.graph_check.specs.Words.{IsBetween, IsGreater, IsLesser, HasCycle, HasInnerEdge, steps_over, targets_over}
 

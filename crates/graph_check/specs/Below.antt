@@ -1,9 +1,7 @@
 -- What the crates below have, from one place.
 pub use Rattle.strong_components.specs.Components.{AreComponents, HasStep, Reaches, StaysInside, successor_lists}
 pub use Rattle.strong_components.specs.Components.Reaches.{go, stay}
-pub use Rattle.cycle_heads.specs.Path.{rank_of}
-pub use Rattle.cycle_heads.specs.declared.path.PathKind.{PathKind}
-pub use Rattle.cycle_heads.specs.declared.path.PathKind.TheVariants.{Coinductive, ForcedAmbiguity, Inductive, Unknown}
+pub use Rattle.search_parts.specs.Below.{Coinductive, ForcedAmbiguity, Inductive, PathKind, rank_of, Unknown}
 pub use Rattle.search_parts.specs.Graph.{GraphNode, HasEdge, HasGoal, IsGraph, IsProofGraph, IsRefutationGraph, IsWalk}
 pub use Rattle.search_parts.specs.Graph.{question_of, walk_kind}
 pub use Rattle.search_parts.specs.Question.{Question}
