@@ -11,15 +11,13 @@ use Rattle.evaluations.proofs.Prices.{pop_keeps_priced, last_run_is_paid}
 module _ {E I R : Type 0} (seen : E → Frame I R) (stands : E → List (Reply R) → Type 0) (runs width : ℕ) where
   seen_ahead : (items : List E) (frames : List (Frame I R)) → AreSeen seen stands items frames → frames_ahead runs width frames ≡ frames_ahead runs width (map seen items)
   seen_ahead [] [] h = refl
-  seen_ahead [] (f ∷ fs) h = absurd h
-  seen_ahead (e ∷ es) [] h = absurd h
   seen_ahead (e ∷ es) (f ∷ fs) h = ap₂ (λ a b. a + b) (ap (frames_ahead_of runs width) h.0.is) (seen_ahead es fs h.1)
+  seen_ahead _ _ h = absurd h
 
   seen_steps : (items : List E) (frames : List (Frame I R)) → AreSeen seen stands items frames → steps_in_runs runs width frames ≡ steps_in_runs runs width (map seen items)
   seen_steps [] [] h = refl
-  seen_steps [] (f ∷ fs) h = absurd h
-  seen_steps (e ∷ es) [] h = absurd h
   seen_steps (e ∷ es) (f ∷ fs) h = ap₂ (λ a b. a + b) (ap (λ g. g.left) h.0.is) (seen_steps es fs h.1)
+  seen_steps _ _ h = absurd h
 
   pub mirror_work : (reply : Reply R) (items : List E) (frames : List (Frame I R)) → Mirror seen stands reply items frames → steps_ahead runs width frames ≡ steps_ahead runs width (map seen items)
   mirror_work reply [] frames h = absurd h

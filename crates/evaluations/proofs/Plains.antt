@@ -1,19 +1,8 @@
 -- Goals with a rank answer their plain values.
-use Rattle.std.proofs.Common.{◌≡◌, ℕ, zero, suc, ◌<◌, ◌≤◌, ◌⊎◌, inl, inr, Bool, true, false, List, [], ◌∷◌, Option, Some, None, refl, sym, ◌∙◌, subst, arith, ◌≢◌, ◌||◌}
+use Rattle.std.proofs.Common.{◌≡◌, ℕ, zero, suc, ◌<◌, ◌≤◌, inl, inr, Bool, true, false, List, [], ◌∷◌, Option, Some, None, refl, sym, ◌∙◌, subst, arith, ◌≢◌, ◌||◌}
+use Rattle.std.proofs.lemmas.Bool.{false_from_ne_true, or_cases, or_parts}
 use Rattle.evaluations.specs.Below.{PathKind, Request, Evaluate, EnterCandidate, FinishCandidate, Ignore, Done, Reply, Begin, Answer, Noted, request_after, IsReplyTo, AreRepliesTo, IsFitting, IsOrderly, AsksOnly, IsPlainValue, IsPlainTo, HasNoRank, IsPlain, IsBelowRank, fault_after}
 use Rattle.evaluations.specs.Words.{Frame, Outcome, Asks, IsAllowed, IsSafeOutcome, IsSafe, AreSafe, IsOnStack, LeavesOutcome, AsksAt, HasRoom, HaveRoom, answered, fresh, refused, replied, run_again, stepped}
-
-or_cases : (a b : Bool) → (a || b) ≡ true → (a ≡ true) ⊎ (b ≡ true)
-or_cases true b h = inl refl
-or_cases false b h = inr h
-
-neither : (a b : Bool) → (a || b) ≡ false → (a ≡ false) × (b ≡ false)
-neither true b h = absurd cc
-neither false b h = (refl, h)
-
-false_unless : (b : Bool) → (b ≡ true → ⊥) → b ≡ false
-false_unless true h = absurd (h refl)
-false_unless false h = refl
 
 -- an answer to a question
 answer_fits : {I R : Type 0} (P : I → R → Type 0) (q : Option (Request I R)) (kind : PathKind) (goal : I) (r : R) → q ≡ Some (Evaluate kind goal) → P goal r → IsReplyTo P q (Answer r)
@@ -127,7 +116,7 @@ module _ {I R : Type 0} (scripts : I → List (Reply R) → Request I R) where
       let old : f.required ≤ f.available = safe.0.within in (
         record {
           fitting = (answer_fits (λ _ _. Unit {0}) (request_after (scripts f.goal) f.replies) asks.0 goal o.result asks.1 tt, safe.0.fitting);
-          values = λ e. let none = neither f.met_overflow o.met_overflow e in
+          values = λ e. let none = or_parts f.met_overflow o.met_overflow e in
               (answer_fits (IsPlain scripts) (request_after (scripts f.goal) f.replies) asks.0 goal o.result asks.1 (safe_outcome.value none.1), safe.0.values none.0);
           overflow = λ e. answer_overflow f goal depth o asks allowed safe_outcome safe.0 f.met_overflow refl e;
           before = safe.0.before;
@@ -190,7 +179,7 @@ module _ {I R : Type 0} (scripts : I → List (Reply R) → Request I R) where
       let same : o.required ≡ f.required = leaves.required in
       let small : f.required ≤ f.available = safe.within in
       record {
-        value = λ e. left_value f o leaves safe (neither f.met_overflow f.met_before (sym leaves.met_overflow ∙ e)).0;
+        value = λ e. left_value f o leaves safe (or_parts f.met_overflow f.met_before (sym leaves.met_overflow ∙ e)).0;
         overflow = λ e. elim (or_cases f.met_overflow f.met_before (sym leaves.met_overflow ∙ e)) [ inl m ↦ safe.overflow m | inr b ↦ safe.before b ];
         cycle = λ e. safe.cycle (leaves.in_cycle e);
         within = omega arith;
@@ -243,7 +232,7 @@ module _ {I R : Type 0} (scripts : I → List (Reply R) → Request I R) where
   }
 
   no_overflow : (goal : I) (depth n : ℕ) (met : Bool) → IsPlainTo scripts n goal → n ≤ depth → (met ≡ true → IsBelowRank scripts goal depth) → met ≡ false
-  no_overflow goal depth n met p fits low = false_unless met (λ e. let l : depth < n = low e n p in omega arith)
+  no_overflow goal depth n met p fits low = false_from_ne_true met (λ e. let l : depth < n = low e n p in omega arith)
 
   -- Where the rank fits the depth, a safe answer is the plain value, without overflow and without heads.
   pub fitting_is_plain :
@@ -252,7 +241,7 @@ module _ {I R : Type 0} (scripts : I → List (Reply R) → Request I R) where
       → IsPlainValue scripts n goal o.result × (o.met_overflow ≡ false) × (o.in_cycle ≡ false)
   fitting_is_plain goal depth n o p fits safe =
       let calm : o.met_overflow ≡ false = no_overflow goal depth n o.met_overflow p fits safe.overflow in
-      (safe.value calm n p, calm, false_unless o.in_cycle (λ e. safe.cycle e n p))
+      (safe.value calm n p, calm, false_from_ne_true o.in_cycle (λ e. safe.cycle e n p))
 
   -- A question of a goal whose rank fits is of a goal with a smaller rank, which fits the depth that it gets.
   pub question_is_smaller :
@@ -290,6 +279,6 @@ module _ {I R : Type 0} (scripts : I → List (Reply R) → Request I R) where
         let e : suc w.0 ≡ room.0 = w.1 in let l : room.0 ≤ f.available = room.2 in let z : f.available ≡ 0 = none in omega arith,
     no_overflow f.goal f.available room.0 f.met_overflow room.1 room.2 safe.overflow,
     no_overflow f.goal f.available room.0 f.met_before room.1 room.2 safe.before,
-    false_unless f.in_cycle (λ e. safe.cycle e room.0 room.1),
+    false_from_ne_true f.in_cycle (λ e. safe.cycle e room.0 room.1),
     in_order room.0 f.goal room.1 f.replies safe.fitting,
   )

@@ -1,11 +1,8 @@
 -- What it costs to meet a limit.
 use Rattle.std.proofs.Common.{◌≡◌, ℕ, suc, ◌+◌, ◌≤◌, min, inl, inr, Bool, true, false, List, [], ◌∷◌, length, refl, sym, ◌∙◌, ap, subst, arith, ◌||◌}
+use Rattle.std.proofs.lemmas.Bool.{or_from}
 use Rattle.evaluations.specs.Below.{CountsOne, Reply}
 use Rattle.evaluations.specs.Words.{Frame, stepped, replied, answered, HasCounted, HaveFullDepths, frames_started, IsPaid, IsPriced, IsAllowed, Outcome, fresh, refused, run_again}
-
-neither_of : (a b : Bool) → a ≡ false → b ≡ false → (a || b) ≡ false
-neither_of true b h k = absurd cc
-neither_of false b h k = k
 
 -- counting one more, or none
 counted_one : (last before now later many : ℕ) → CountsOne last now later → HasCounted last before now many → HasCounted last before later (many + 1)
@@ -88,7 +85,7 @@ module _ (I R : Type 0) where
       → (met ≡ false → o.met_overflow ≡ false)
       → IsPriced runs root last before now met (f ∷ below)
       → IsPriced runs root last before now met (answered f o ∷ below)
-  answer_keeps_priced runs root last before now met f below o calm h = changed runs root last before now met f (answered f o) below refl refl (λ e a b. (neither_of f.met_overflow o.met_overflow a (calm e), b)) h
+  answer_keeps_priced runs root last before now met f below o calm h = changed runs root last before now met f (answered f o) below refl refl (λ e a b. (or_from f.met_overflow o.met_overflow a (calm e), b)) h
 
   -- A further run keeps the price, where its start is counted.
   pub rerun_keeps_priced :
@@ -99,7 +96,7 @@ module _ (I R : Type 0) where
   rerun_keeps_priced runs root last before now later met f below left one h = record {
     not_yet = λ e. let u = h.not_yet e in
         record {
-          depths = (u.depths.0, refl, neither_of f.met_before f.met_overflow u.depths.2 u.depths.1, u.depths.3);
+          depths = (u.depths.0, refl, or_from f.met_before f.met_overflow u.depths.2 u.depths.1, u.depths.3);
           counted = subst (λ k. HasCounted last before later k) (omega arith) (counted_one last before now later (frames_started (f ∷ below)) one u.counted);
         };
     paid = λ e. counted_still last before now later (min runs (root + 1)) one (h.paid e);
@@ -116,7 +113,7 @@ module _ (I R : Type 0) where
           record { depths = u.depths.3; counted = counted_fewer last before now (frames_started (f ∷ below)) (frames_started below) (omega arith) u.counted };
       paid = h.paid;
     },
-    λ e. let u = h.not_yet e in neither_of f.met_overflow f.met_before u.depths.1 u.depths.2,
+    λ e. let u = h.not_yet e in or_from f.met_overflow f.met_before u.depths.1 u.depths.2,
   )
 
   -- A start that failed keeps the price, whether it counted or not.

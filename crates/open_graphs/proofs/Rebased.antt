@@ -23,10 +23,9 @@ moved reason below top own others verdict top_heads k after now out includes sam
 -- the result of a definite answer that is left is the one that it had
 same_result : (reason : Reason) (head : Head) (before after : Verdict) → after ≢ Neither → HasResult reason head before after → after ≡ before
 same_result NoCycleUsages head before after definite h = absurd h
-same_result Ambiguity head before after definite h = absurd (definite h)
-same_result Overflow head before after definite h = absurd (definite h)
 same_result (ReachedFixpoint None) head before after definite h = h
 same_result (ReachedFixpoint (Some kind)) head before after definite h = h.1
+same_result _ head before after definite h = absurd (definite h)
 
 single_kind : (kind : ℕ) (head : Head) (cycle : ℕ) → IsSingle kind head → head.usages cycle ≢ 0 → cycle ≡ kind
 single_kind kind head cycle single used = elim (ℕ_discrete cycle kind) [

@@ -70,9 +70,8 @@ growth_keeps_running before after below top own edges heads_before heads grown u
 }
 
 pub answered_grows : (nodes : List Node) (top : Entry) (own : ℕ) (edges : Verdict → List Edge) (verdict : Verdict) {later : List Node} {a : ℕ} → slice_get nodes own ≡ Some Unfinished → Answered nodes top own edges verdict later a → Grown nodes later
-answered_grows nodes top own edges verdict unfinished (Again e) = λ b v es h. h
 answered_grows nodes top own edges verdict unfinished (Anew ne) = finish_grows nodes own (Finished verdict (edges verdict)) unfinished
-answered_grows nodes top own edges verdict unfinished (Without e) = λ b v es h. h
+answered_grows nodes top own edges verdict unfinished _ = λ b v es h. h
 
 answered_use : (nodes : List Node) (below : List Entry) (top : Entry) (own : ℕ) (edges : Verdict → List Edge) (heads_before heads : Heads) (verdict : Verdict) {later : List Node} {a : ℕ} → verdict ≢ Neither → Answered nodes top own edges verdict later a → Running nodes below top own edges heads_before heads → Use later verdict below (path_kind below top.step) 0 a heads
 answered_use nodes below top own edges heads_before heads verdict definite (Again e) r =

@@ -1,7 +1,7 @@
 -- Each move keeps a sound state sound.
 use Rattle.std.proofs.Common.{◌≡◌, ◌≢◌, ℕ, ◌<◌, ◌≤◌, max, List, [], ◌∷◌, ◌++◌, Some, None, length, slice_get, slice_set, arith, refl, sym, subst, ◌∙◌, ◌⊎◌, inl, inr, length-set}
 use Rattle.std.proofs.lemmas.Option.{slice_get_within}
-use Rattle.open_graphs.specs.Words.{Verdict, Yes, No, Neither, cycle_kind, Edge, Node, Unfinished, Finished, Grown, Entry, IsLeaf, path_kind, IsSameOrFresh, Heads, Use, Unreached, ProvisionalUse, UsesNo, KeepsCycleKinds, TakesOver, Running, IsStack, Answered, Again, Anew, Without, RunningGoal, ProvisionalEntry, Final, stack_of, no_heads, AllRunning, OwnsOther, AllProvisional, AllFinal, IsMoved, IsFixpoint, Lower, Unused, Fixpoint, Other, PushKeepsSound, AnswersKeepSound, IsLeft, Survives, Added, IsFinalAfter, Before, Now, PopKeepsSound, RerunKeepsSound, StartIsSound, FinalIsGraph, AfterPop}
+use Rattle.open_graphs.specs.Words.{Verdict, Yes, No, Neither, cycle_kind, Edge, Node, Unfinished, Finished, Grown, Entry, IsLeaf, path_kind, IsSameOrFresh, Heads, Use, Unreached, ProvisionalUse, UsesNo, KeepsCycleKinds, TakesOver, Running, IsStack, Answered, Anew, RunningGoal, ProvisionalEntry, Final, stack_of, no_heads, AllRunning, OwnsOther, AllProvisional, AllFinal, IsMoved, IsFixpoint, Lower, Unused, Fixpoint, Other, PushKeepsSound, AnswersKeepSound, IsLeft, Survives, Added, IsFinalAfter, Before, Now, PopKeepsSound, RerunKeepsSound, StartIsSound, FinalIsGraph, AfterPop}
 use Rattle.open_graphs.proofs.Lists.{get_left, get_end, get_set_other}
 use Rattle.open_graphs.proofs.Keep.{append_grows, growth_keeps_use, push_keeps_use, pop_keeps_use, rerun_keeps_use, unused_is_unreached, other_is_unreached}
 use Rattle.open_graphs.proofs.Store.{use_gives_stored, growth_keeps_stored, push_keeps_stored, pop_keeps_stored, rerun_keeps_stored}
@@ -87,9 +87,8 @@ after_finish nodes own node [] other r = tt
 after_finish nodes own node (f ∷ fs) other r = (get_set_other nodes own node f.own (λ e. other.0 (sym e)) ∙ r.0, after_finish nodes own node fs other.1 r.1)
 
 after_answer : (nodes : List Node) (f : RunningGoal) (verdict : Verdict) {later : List Node} {a : ℕ} (frames : List RunningGoal) → OwnsOther f.own frames → Answered nodes f.entry f.own f.edges verdict later a → AllUnfinished nodes frames → AllUnfinished later frames
-after_answer nodes f verdict frames other (Again e) r = r
 after_answer nodes f verdict frames other (Anew ne) r = after_finish nodes f.own (Finished verdict (f.edges verdict)) frames other r
-after_answer nodes f verdict frames other (Without e) r = r
+after_answer nodes f verdict frames other _ r = r
 
 all_grow : (nodes later : List Node) (frames : List RunningGoal) → Grown nodes later → AllUnfinished later frames → AllRunning nodes frames → AllRunning later frames
 unfolding AllUnfinished
@@ -101,9 +100,8 @@ new_owner nodes own [] le r = tt
 new_owner nodes own (f ∷ fs) le r = ((λ e. let h : f.own < length nodes = slice_get_within nodes f.own Unfinished r.0.unfinished in absurd (omega arith)), new_owner nodes own fs le r.1)
 
 same_length : (nodes : List Node) (top : Entry) (own : ℕ) (edges : Verdict → List Edge) (verdict : Verdict) {later : List Node} {a : ℕ} → Answered nodes top own edges verdict later a → length later ≡ length nodes
-same_length nodes top own edges verdict (Again e) = refl
 same_length nodes top own edges verdict (Anew ne) = length-set nodes own (Finished verdict (edges verdict))
-same_length nodes top own edges verdict (Without e) = refl
+same_length nodes top own edges verdict _ = refl
 
 longer_is_stack : (nodes later : List Node) (stack : List Entry) → length later ≡ length nodes → IsStack nodes stack → IsStack later stack
 longer_is_stack nodes later stack e s = record { in_list = λ depth x at. let h = s.in_list depth x at in omega arith; distinct = s.distinct }
@@ -138,12 +136,11 @@ none_used depth path cycle h = h.1 refl
 
 -- the node of the first run, and the node of a provisional result of the same verdict, are the entry's
 own_is_node : (nodes : List Node) (below : List Entry) (f : RunningGoal) (verdict : Verdict) (heads : Heads) {later : List Node} {a : ℕ} → Answered nodes f.entry f.own f.edges verdict later a → Running nodes below f.entry f.own f.edges f.heads_before f.heads → IsFixpoint verdict f.entry (length below) heads → a ≡ f.entry.node
-own_is_node nodes below f verdict heads (Again e) r fix = refl
 own_is_node nodes below f verdict heads (Anew ne) r fix = elim fix [
   | inl e ↦ absurd (ne e)
   | inr h ↦ elim r.which_run [ inl first ↦ sym first.0 | inr other ↦ absurd (other.1 h.0) ]
 ]
-own_is_node nodes below f verdict heads (Without e) r fix = refl
+own_is_node nodes below f verdict heads _ r fix = refl
 
 left_stored : (nodes later : List Node) (f : RunningGoal) (frames : List RunningGoal) (provisional : List ProvisionalEntry) (verdict : Verdict) (a : ℕ) → Grown nodes later → AllProvisional nodes (stack_of frames ++ f.entry ∷ []) provisional → ((heads : Heads) → verdict ≢ Neither → IsFixpoint verdict f.entry (length (stack_of frames)) heads → Use later verdict (stack_of frames) (path_kind (stack_of frames) f.entry.step) 0 f.entry.node f.heads) → (verdict ≢ Neither → Use later verdict (stack_of frames) (path_kind (stack_of frames) f.entry.step) 0 a f.heads) → {k : ProvisionalEntry} → IsLeft (stack_of frames) f.entry verdict a f.heads provisional k → ProvisionalUse later k.verdict (stack_of frames) k.highest k.path k.node k.heads
 left_stored nodes later f frames provisional verdict a grown stored fix u {k} (Survives {old = old} i at after) =
@@ -178,9 +175,8 @@ pop_keeps_sound nodes f frames provisional left final done verdict later a answe
 
 -- the node of an answer is the entry's or a fresh one, and no leaf below
 answer_is_fresh : (nodes : List Node) (below : List Entry) (f : RunningGoal) (verdict : Verdict) (again : Entry) {later : List Node} {a : ℕ} → again.node ≡ a → Answered nodes f.entry f.own f.edges verdict later a → Running nodes below f.entry f.own f.edges f.heads_before f.heads → IsSameOrFresh nodes below f.entry again
-answer_is_fresh nodes below f verdict again same (Again e) r = inl same
 answer_is_fresh nodes below f verdict again same (Anew ne) r = inr (subst (λ n. slice_get nodes n ≡ Some Unfinished) (sym same) r.unfinished, subst (λ n. ¬ IsLeaf below n) (sym same) r.lower)
-answer_is_fresh nodes below f verdict again same (Without e) r = inl same
+answer_is_fresh nodes below f verdict again same _ r = inl same
 
 top_is_no_leaf : (nodes : List Node) (below : List Entry) (top : Entry) → IsStack nodes (below ++ top ∷ []) → ¬ IsLeaf below top.node
 top_is_no_leaf nodes below top s l =
@@ -189,9 +185,8 @@ top_is_no_leaf nodes below top s l =
     absurd (omega arith)
 
 answer_in_list : (nodes : List Node) (below : List Entry) (f : RunningGoal) (verdict : Verdict) {later : List Node} {a : ℕ} → Answered nodes f.entry f.own f.edges verdict later a → Running nodes below f.entry f.own f.edges f.heads_before f.heads → IsStack nodes (below ++ f.entry ∷ []) → (a < length later) × ¬ IsLeaf below a
-answer_in_list nodes below f verdict (Again e) r s = (s.in_list (length below) f.entry (get_end below f.entry), top_is_no_leaf nodes below f.entry s)
 answer_in_list nodes below f verdict (Anew ne) r s = (let h : f.own < length nodes = slice_get_within nodes f.own Unfinished r.unfinished in omega (arith, length-set nodes f.own (Finished verdict (f.edges verdict))), r.lower)
-answer_in_list nodes below f verdict (Without e) r s = (s.in_list (length below) f.entry (get_end below f.entry), top_is_no_leaf nodes below f.entry s)
+answer_in_list nodes below f verdict _ r s = (s.in_list (length below) f.entry (get_end below f.entry), top_is_no_leaf nodes below f.entry s)
 
 pub rerun_keeps_sound : RerunKeepsSound
 rerun_keeps_sound nodes f frames provisional left final verdict later a answer left_by s =

@@ -146,9 +146,8 @@ yes_case false true e = absurd cc
 yes_case false false e = absurd cc
 
 no_case : (y n : Bool) → (if y then theory.Yes else if n then theory.No else theory.Neither) ≡ theory.No → n ≡ true
-no_case true n e = absurd cc
 no_case false true e = refl
-no_case false false e = absurd cc
+no_case _ _ e = absurd cc
 
 module _ {I R : Type 0} (says : Verdicts R) where
   pub yes_sort : IsSort I says theory.Yes says.is_yes Coinductive

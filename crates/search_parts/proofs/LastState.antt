@@ -4,11 +4,9 @@ use Rattle.search_parts.specs.Words.{change_last}
 
 module _ {E : Type 0} where
   set_is_change_last : (f : E → E) (es : List E) (n : ℕ) (d : E) → suc n ≡ length es → slice_set es n (f (get_or es n d)) ≡ change_last f es
-  set_is_change_last f [] n d at = absurd (omega arith)
   set_is_change_last f (x ∷ []) zero d at = refl
-  set_is_change_last f (x ∷ []) (suc n) d at = absurd (omega arith)
-  set_is_change_last f (x ∷ y ∷ es) zero d at = absurd (omega arith)
   set_is_change_last f (x ∷ y ∷ es) (suc n) d at = ap (λ l. x ∷ l) (set_is_change_last f (y ∷ es) n d (omega arith))
+  set_is_change_last f _ _ d at = absurd (omega arith)
 
   -- e is the last element, read at its index n
   pub change_last_from_set : (f : E → E) (es : List E) (n : ℕ) (e : E) → n + 1 ≡ length es → e ≡ get_or es n e → slice_set es n (f e) ≡ change_last f es

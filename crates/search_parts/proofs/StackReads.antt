@@ -5,11 +5,9 @@ use Rattle.search_parts.specs.Words.{StackEntry, depth_below, allowed_depth}
 
 module _ {X I R A T : Type 0} where
   last_allows : (divisor root n : ℕ) (e : StackEntry X I R A T) (entries : List (StackEntry X I R A T)) → suc n ≡ length entries → allowed_depth divisor root entries ≡ depth_below divisor (get_or entries n e)
-  last_allows divisor root n e [] at = absurd (omega arith)
   last_allows divisor root zero e (x ∷ []) at = refl
-  last_allows divisor root (suc n) e (x ∷ []) at = absurd (omega arith)
-  last_allows divisor root zero e (x ∷ y ∷ es) at = absurd (omega arith)
   last_allows divisor root (suc n) e (x ∷ y ∷ es) at = last_allows divisor root n e (y ∷ es) (omega arith)
+  last_allows divisor root _ e _ at = absurd (omega arith)
 
   -- e is the last entry
   module _ (divisor root depth : ℕ) (e : StackEntry X I R A T) (entries : List (StackEntry X I R A T)) (some : 0 < length entries) (last : e ≡ get_or entries (length entries - 1) e) (depth_is : depth ≡ e.available_depth.0) where

@@ -35,9 +35,8 @@ module _ {I S : Type 0} (same : I → I → Bool) where
 
 same_place_by_value : (place other : Place) → same_place place other ≡ true → place ≡ other
 same_place_by_value Success Success e = refl
-same_place_by_value Success (WithOverflow other) e = absurd cc
-same_place_by_value (WithOverflow depth) Success e = absurd cc
 same_place_by_value (WithOverflow depth) (WithOverflow other) e = ap WithOverflow (eqb-true depth other e)
+same_place_by_value _ _ e = absurd cc
 
 -- A put leaves the new result at its own place, and what was there at each other one.
 pub put_cases : {I S : Type 0} (same : I → I → Bool) (by_value : (x y : I) → same x y ≡ true → x ≡ y) (old new : Store I S) (input : I) (place : Place) (stored : S) → Puts same old new input place stored

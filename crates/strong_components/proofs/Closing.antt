@@ -6,6 +6,7 @@ use Rattle.std.proofs.lemmas.List.{get_or-take, length-take-le}
 use Rattle.strong_components.specs.Words.{State, New, Open, Closed, Reaches, AreLeft, AreOpened, EndsWith, IsFromStart, IsOngoing, IsPath, MayStep, closed_from, is_new, state_at}
 use Rattle.strong_components.proofs.Indexes.{IsFront, at_index, contains_at, front-below, front-contains, front-rises, rising_last}
 use Rattle.strong_components.proofs.Leaving.{open_left}
+use Rattle.strong_components.proofs.Lowering.{top_inside}
 use Rattle.strong_components.proofs.States.{may-step-at}
 
 pub closed_from-below : (position number i : ℕ) → i < position → closed_from position number (Open i) ≡ Open i
@@ -16,12 +17,11 @@ closed_from-above position number i le = ap (λ b. cond b (Open i) (Closed numbe
 
 -- what is open afterwards was open below the position
 was_open : (position number : ℕ) (x : State) (i : ℕ) → closed_from position number x ≡ Open i → (x ≡ Open i) × (i < position)
-was_open position number New i e = cc
-was_open position number (Closed n) i e = cc
 was_open position number (Open j) i e = elim (cases_lt j position) [
   | inl lt ↦ let same = closed_from-below position number j lt in let at : j ≡ i = cc in (ap Open at, omega arith)
   | inr le ↦ let same = closed_from-above position number j le in cc
 ]
+was_open position number _ i e = cc
 
 -- what is closed afterwards was closed, or open from the position on
 was_closed : (position number : ℕ) (x : State) (n : ℕ) → closed_from position number x ≡ Closed n → (x ≡ Closed n) ⊎ ((i : ℕ) × (x ≡ Open i) × (position ≤ i) × (n ≡ number))
@@ -55,11 +55,8 @@ may-step-closed starts front position number fewer last (Open i) (Closed n) low 
       | inl lt ↦ may-step-at front _ _ (Open i) (Closed n) (closed_from-below position number i lt) refl tt
       | inr le ↦ may-step-at front _ _ (Closed number) (Closed n) (closed_from-above position number i le) refl (low n refl)
     ]
-may-step-closed starts front position number fewer last (Open i) New low h = absurd h
 may-step-closed starts front position number fewer last (Closed m) (Closed n) low h = h
-may-step-closed starts front position number fewer last (Closed m) New low h = absurd h
-may-step-closed starts front position number fewer last (Closed m) (Open j) low h = absurd h
-may-step-closed starts front position number fewer last New y low h = absurd h
+may-step-closed starts front position number fewer last _ _ low h = absurd h
 
 module _ (graph : List (List ℕ)) (states after : List State) (left opened starts fewer path front : List ℕ) (closed position : ℕ)
     (h : IsOngoing graph states left opened starts path closed)
@@ -69,9 +66,7 @@ module _ (graph : List (List ℕ)) (states after : List State) (left opened star
     (closes : (a : ℕ) → state_at after a ≡ closed_from position closed (state_at states a))
     (fit : length after ≡ length states) (news : count_by is_new after ≡ count_by is_new states) where
   within : position < length opened
-  within =
-      let some = ends.0 in let at = ends.1 in
-      let below = h.is_path.path_inside (length path - 1) (omega arith) in omega arith
+  within = top_inside graph states left opened starts path closed position h ends
 
   -- a start other than the last one stays, and is below the position
   start_stays : (k : ℕ) → k < length starts → slice_index starts k < position → k < length fewer

@@ -9,9 +9,8 @@ use Rattle.strong_components.proofs.Counts.{news-set}
 use Rattle.strong_components.proofs.States.{state_inside}
 
 closed_from-none : (count number : ℕ) (x : State) → ((i : ℕ) → x ≡ Open i → i < count) → x ≡ closed_from count number x
-closed_from-none count number New low = refl
-closed_from-none count number (Closed n) low = refl
 closed_from-none count number (Open i) low = sym (closed_from-below count number i (low i refl))
+closed_from-none count number _ low = refl
 
 -- at first nothing is closed
 pub closes_none : (s : Search) → AreOpened s.states.items s.opened.items → ClosesFrom s s (length s.opened.items)
@@ -27,14 +26,13 @@ closes_none s opened = record {
 
 -- one position less
 closed_from-less : (position number : ℕ) (x : State) → (x ≡ Open position → ⊥) → closed_from (position + 1) number x ≡ closed_from position number x
-closed_from-less position number New other = refl
-closed_from-less position number (Closed n) other = refl
 closed_from-less position number (Open i) other = elim (cases_lt i position) [
   | inl lt ↦ closed_from-below (position + 1) number i (omega arith) ∙ sym (closed_from-below position number i lt)
   | inr le ↦
       let ne : i ≢ position = λ e. other (ap Open e) in
       closed_from-above (position + 1) number i (omega arith) ∙ sym (closed_from-above position number i le)
 ]
+closed_from-less position number _ other = refl
 
 module _ (first before : Search) (rest : List ℕ) (place : ℕ)
     (are_opened : AreOpened first.states.items first.opened.items)

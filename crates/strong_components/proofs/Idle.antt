@@ -1,7 +1,7 @@
 -- The search between two roots: the path is empty, and so no place is open.
 use Rattle.std.proofs.Common.{◌≡◌, ◌≢◌, ℕ, ◌<◌, ◌+◌, true, false, List, length, slice_index, arith, ap, sym, ◌∙◌, inl, inr, subst, refl, get_or-set_same, get_or-set_other}
 use Rattle.std.proofs.lemmas.Bool.{cases_eq, cases_lt}
-use Rattle.strong_components.specs.Words.{State, New, Open, Closed, Search, Reaches, IsOngoing, IsSearch, Opens, is_new, state_at}
+use Rattle.strong_components.specs.Words.{State, New, Open, Search, Reaches, IsOngoing, IsSearch, Opens, is_new, state_at}
 use Rattle.strong_components.proofs.Indexes.{at_index}
 use Rattle.strong_components.proofs.Opening.{open_keeps, same_search}
 
@@ -22,13 +22,11 @@ none_opened graph states left opened starts path closed h idle =
 
 pub new_by_test : (x : State) → is_new x ≡ true → x ≡ New
 new_by_test New e = refl
-new_by_test (Open i) e = cc
-new_by_test (Closed n) e = cc
+new_by_test _ e = cc
 
 pub seen_by_test : (x : State) → is_new x ≡ false → x ≢ New
 seen_by_test New e = cc
-seen_by_test (Open i) e = λ same. cc
-seen_by_test (Closed n) e = λ same. cc
+seen_by_test _ e = λ same. cc
 
 -- a place is opened that nothing leads to yet
 pub open_root : (graph : List (List ℕ)) (old new : Search) (place : ℕ) → IsSearch graph old → length old.path.items ≡ 0 → state_at old.states.items place ≡ New → place < length old.states.items → Opens old new place → IsSearch graph new

@@ -72,23 +72,20 @@ module _ (graph : List (List ℕ)) (states : List State) (left opened starts pat
   elsewhere : (a : ℕ) → a ≢ place → state_at after a ≡ state_at states a
   elsewhere a ne = get_or-set_other states place a (Open (length opened)) New ne
 
-  open_cases : (a i : ℕ) → state_at after a ≡ Open i → ((a ≡ place) × (i ≡ length opened)) ⊎ (state_at states a ≡ Open i)
-  open_cases a i is = elim (cases_eq a place) [
-    | inl e ↦ let at : state_at after a ≡ Open (length opened) = subst (λ b. state_at after b ≡ Open (length opened)) (sym e) here in inl (e, cc)
+  state_cases : (a : ℕ) (x : State) → state_at after a ≡ x → ((a ≡ place) × (x ≡ Open (length opened))) ⊎ (state_at states a ≡ x)
+  state_cases a x is = elim (cases_eq a place) [
+    | inl e ↦ inl (e, sym is ∙ subst (λ b. state_at after b ≡ Open (length opened)) (sym e) here)
     | inr ne ↦ inr (sym (elsewhere a ne) ∙ is)
   ]
 
+  open_cases : (a i : ℕ) → state_at after a ≡ Open i → ((a ≡ place) × (i ≡ length opened)) ⊎ (state_at states a ≡ Open i)
+  open_cases a i is = elim (state_cases a (Open i) is) [ inl now ↦ let at = now.1 in inl (now.0, cc) | inr old ↦ inr old ]
+
   was_closed : (a number : ℕ) → state_at after a ≡ Closed number → state_at states a ≡ Closed number
-  was_closed a number is = elim (cases_eq a place) [
-    | inl e ↦ let at : state_at after a ≡ Open (length opened) = subst (λ b. state_at after b ≡ Open (length opened)) (sym e) here in cc
-    | inr ne ↦ sym (elsewhere a ne) ∙ is
-  ]
+  was_closed a number is = elim (state_cases a (Closed number) is) [ inl now ↦ let at = now.1 in cc | inr old ↦ old ]
 
   was_new_too : (a : ℕ) → state_at after a ≡ New → state_at states a ≡ New
-  was_new_too a is = elim (cases_eq a place) [
-    | inl e ↦ subst (λ b. state_at states b ≡ New) (sym e) was_new
-    | inr ne ↦ sym (elsewhere a ne) ∙ is
-  ]
+  was_new_too a is = elim (state_cases a New is) [ inl now ↦ let at = now.1 in cc | inr old ↦ old ]
 
   still-opened : AreOpened after (opened ++ place ∷ [])
   still-opened = record {
