@@ -1,5 +1,5 @@
 -- What is known of a goal by what becomes of it.
-use Rattle.std.proofs.Common.{◌≡◌, ℕ, ◌+◌, ◌^◌, ◌<◌, ◌≤◌, max, Bool, true, ◌||◌, is_some, IsSome, List, [], ◌∷◌, Option, None, Some, IfSome, Result, Err, option_map, refl, sym, ap, ◌∙◌, subst, arith, inl, inr}
+use Rattle.std.proofs.Common.{◌≡◌, ℕ, ◌+◌, ◌<◌, ◌≤◌, max, Bool, true, ◌||◌, is_some, IsSome, List, ◌∷◌, Option, None, Some, Result, Err, option_map, refl, sym, ap, ◌∙◌, subst, arith, inl, inr}
 use Rattle.std.proofs.lemmas.Bool.{cases_eq}
 use Rattle.search_graph.specs.Below.{PathKind, Inductive, Unknown, Coinductive, ForcedAmbiguity, HeadUsages, count_of, RebaseReason, StackEntry, Run, is_in_cycle, some_heads, newest}
 use Rattle.search_parts.specs.declared.parts.provisional_cache.RebaseReason.TheVariants as reason
@@ -68,10 +68,3 @@ module _ {X F I R A T : Type 0} (goals : List (StackEntry X I R A T × Run X F I
   newest_unstable limit is =
       let few : y.finished_runs + 1 < max 1 limit = omega (arith, is.1) in
       of_newest (λ d r. (is_in_cycle d.state ≡ true) × (r.finished_runs + 1 < max 1 limit)) (used_is_in_cycle (is_some e.state.usages) (some_heads e.state.heads) is.0, few)
-
-  fits_at : (l : List (StackEntry X I R A T × Run X F I R A T)) → goals ≡ l → y.finished_runs + 1 < 2 ^ 64 → IfSome (newest l) (λ s. s.1.finished_runs + 1 < 2 ^ 64)
-  fits_at [] is fits = tt
-  fits_at (s ∷ below) is fits = of_newest (λ d r. r.finished_runs + 1 < 2 ^ 64) fits s below is
-
-  pub newest_fits : y.finished_runs + 1 < 2 ^ 64 → IfSome (newest goals) (λ s. s.1.finished_runs + 1 < 2 ^ 64)
-  newest_fits fits = fits_at goals refl fits

@@ -4,7 +4,7 @@ use Rattle.std.specs.Option.{IsSomeAnd}
 use Rattle.std.proofs.lemmas.List.{length-map}
 use Rattle.std.proofs.lemmas.Option.{slice_get_within, get_or_from_slice_get, slice_get-get_or}
 use Rattle.open_graphs.specs.Graph as theory
-use Rattle.search_graph.specs.Below.{PathKind, Verdict, Yes, No, Neither, Edge, NodeId, Request, Reply, Begin, Answer, Noted, AvailableDepth, StackEntry, IsNeither, question_of, EndsIn, progress_after, questions_answered, EndedRun, CacheNode, open_node, open_goal, with_run, IsNodeOf, IsRun, verdict_of, Run, DefiniteAnswer, NotesOverflow, TakesStored, Hit, first_entry, usages_over, with_depth, with_nested_goals, TakesAnswer, AnswersNewest, RunRecord, acted, answered, no_record, edges_of, counted_by, IsDefinite, Heads, at_depth, heads_shape, rank_of, UsagesByHead, StackDepth, EntryState, Evaluate, TakesIn, Verdicts}
+use Rattle.search_graph.specs.Below.{PathKind, Verdict, Yes, No, Neither, Edge, NodeId, Request, Reply, Begin, Answer, Noted, AvailableDepth, StackEntry, IsNeither, question_of, EndsIn, progress_after, questions_answered, CacheNode, open_node, open_goal, with_run, IsNodeOf, IsRun, verdict_of, Run, DefiniteAnswer, NotesOverflow, TakesStored, Hit, first_entry, usages_over, with_depth, with_nested_goals, TakesAnswer, AnswersNewest, RunRecord, acted, answered, no_record, edges_of, counted_by, IsDefinite, Heads, at_depth, heads_shape, rank_of, UsagesByHead, StackDepth, EntryState, Evaluate, TakesIn, Verdicts}
 use Rattle.search_graph.specs.Words.{tally_of, heads_of, IsTallied, LieBelow, OpenRun, verdict_shape, AreEdges, Asks, HasTally, AreJustified, MayAnswer, IsFit, asked_now, run_of, runs_of, EndsNewest, EndsRun, HasResultNode, Ended, LeftOpen}
 use Rattle.search_graph.proofs.TakenTallies.{taken_tallied, taken_keeps, taken_comes_in}
 use Rattle.search_graph.specs.Runs.{Again}
@@ -134,9 +134,6 @@ module _ {I R : Type 0} (says : Verdicts R) (scripts : I → List (Reply R) → 
       let from = edge_is_of_answer p v e (contains_at (edges_of p v) i e at) in
       let place = place_of p.answers from.answer from.is_in in
       (place.0, from.answer, place.1, from.edge_is, from.verdict_is, from.kept)
-
-  pub ended_run : EndedRun I R
-  ended_run = record { replies = p.replies; edges = edges_of p v; outcome = r }
 
   pub is_run : IsRun says (scripts h.goal) nodes (record { replies = p.replies; edges = edges_of p v; outcome = r })
   is_run =

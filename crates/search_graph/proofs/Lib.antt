@@ -9,7 +9,6 @@ pub mod Verdicts
 pub mod Replies
 pub mod Moves
 pub mod Finishing
-pub mod Pushed
 pub mod StoredAnswers
 pub mod Questions
 pub mod Noted

@@ -2,9 +2,9 @@
 use Rattle.std.proofs.Common.{◌≡◌, ℕ, zero, suc, ◌+◌, ◌-◌, ◌*◌, ◌/◌, ◌^◌, ◌<◌, ◌≤◌, max, nat_eq, if◌then◌else◌, Bool, true, false, List, [], ◌∷◌, length, map, reverse, Option, Some, None, IfSome, unwrap_or, refl, sym, ap, ◌∙◌, subst, arith, ap₂, inl, inr, ◌||◌, ◌⊎◌, is_some, mul-le-mul_left, mul-le-mul_right}
 use Rattle.std.specs.List.{list_any}
 use Rattle.std.proofs.lemmas.Bool.Decides.{nat_tests}
-use Rattle.search_graph.specs.Below.{CacheNode, DelegateOf, CxOf, Request, Evaluate, Done, Reply, Begin, Answer, Noted, PathKind, NodeId, AvailableDepth, StackDepth, EntryState, Heads, NestedPaths, StackEntry, depth_below, frames_within, Verdict, Fault, Memory, Protocol, IsReplyTo, IsFitting, progress_after, order_fault, fault_after, CountsOne, Steps, IsCycleResult, Outcome, run_again, IsAllowed, HasNoRank, IsPlainTo, AreSafe, IsRooted, IsEvaluating, at, Ends, with_replies, TakesStep, TakesReply, ItemLeaves, IsAmong, AreSeen, Mirror, Waits, Run, Next, Step, Finished, Received, overflowed, first_entry, with_nested_goals, is_in_cycle, cycle_head, some_heads, TakesAnswer, requested, fault_of, IsReplySorted, Stood, CanStep, IsVerdict, received_by, HasStepped, IsStepFault, NoMemoryLeft, OutOfOrder, path_kind_from, IsDecidedKind, AreDecided, IsDecisive, IsDefinite, AnswersNewest, rerun_with, with_no_record, verdicts}
+use Rattle.search_graph.specs.Below.{CacheNode, DelegateOf, CxOf, Request, Evaluate, Done, Reply, Begin, Answer, PathKind, NodeId, AvailableDepth, StackDepth, EntryState, Heads, NestedPaths, StackEntry, depth_below, frames_within, Verdict, Fault, Memory, Protocol, IsFitting, progress_after, order_fault, fault_after, CountsOne, Steps, IsCycleResult, Outcome, run_again, IsAllowed, HasNoRank, IsPlainTo, AreSafe, IsRooted, IsEvaluating, at, Ends, with_replies, TakesStep, TakesReply, ItemLeaves, IsAmong, AreSeen, Mirror, Waits, Run, Next, Step, Finished, Received, overflowed, first_entry, with_nested_goals, is_in_cycle, cycle_head, some_heads, TakesAnswer, requested, fault_of, IsReplySorted, Stood, CanStep, IsVerdict, received_by, HasStepped, IsStepFault, NoMemoryLeft, OutOfOrder, path_kind_from, IsDecidedKind, AreDecided, IsDecisive, IsDefinite, AnswersNewest, rerun_with, with_no_record, verdicts}
 use Rattle.evaluations.specs.Frames.{Frame, answered}
-use Rattle.evaluations.proofs.Mirrors.{step_requests, can_take, noted_waits, refused_waits, answered_waits, pushed_waits, rerun_waits, popped_waits, popped_at_limit_waits, last_item_ends, last_item_ends_at_limit, last_run_stops, failed_rerun_stops, WaitsWithLess, first_waits, waits_stops, requested_stops, failed_push_stops, cycle_found, requested_fits, requested_by}
+use Rattle.evaluations.proofs.Mirrors.{step_requests, can_take, refused_waits, answered_waits, pushed_waits, rerun_waits, popped_waits, popped_at_limit_waits, last_item_ends, last_item_ends_at_limit, last_run_stops, failed_rerun_stops, WaitsWithLess, first_waits, waits_stops, requested_stops, failed_push_stops, cycle_found, requested_fits, requested_by}
 use Rattle.evaluations.proofs.Evaluations.{evaluation_stops, fitting_meets_no_limit}
 use Rattle.evaluations.proofs.Plains.{unranked_is_safe}
 use Rattle.search_graph.specs.Words.{EndsNewest, Call, runs, limits, bound, IsCounted, KeepsLimits, AllDecided, Decidedly, seen, IsWaiting, work_left, HasAsked, GoesOn, HasStopped, Leads, first_run, Pushes, Reruns, CanLeave, Leaves, ClosesCycle}
@@ -157,13 +157,6 @@ module _ {D C V P F I R A T : Type 0} (G : DelegateOf D C V P F I R A T) (X : Cx
       (changed_decided (verdicts X) (a.entry, a.run) (record a.entry { state = a.state }, a.run) a.below refl
       (λ here. record { replies = here.replies; provisional = subst (λ (o : Option R). IfSome o (IsDefinite (verdicts X))) (sym (ap (λ (s : EntryState C I R A T). s.provisional_result) a.takes.others)) here.provisional })
       (subst (AllDecided (verdicts X)) a.was h))
-
-  -- what was requested is no question: it is noted
-  pub noted_goes_on : (ahead : ℕ) (request : Request I R) (goals : List Goal) (starts : ℕ) (met : Bool) → IsReplyTo (λ _ _. ⊥) (Some request) Noted → HasAsked G X cx call ahead request goals starts met → GoesOn G X cx call ahead Noted goals starts met
-  noted_goes_on ahead request [] starts met fits h = absurd h.asked.mirror
-  noted_goes_on ahead request (s ∷ below) starts met fits h =
-      let w = noted_waits (seen G X cx) (Stood G X cx) (G.script cx) (limits G X cx call) (IsCounted G X cx call) call.top (bound G X cx call) (some_runs G.FIXPOINT_STEP_LIMIT) ahead starts met s below request Noted s fits (record { same = λ replies. refl; stood = λ replies stood. stood }) h.asked in
-      record { waiting = record { waits = w.0; keeps = h.keeps; decided = λ decisive unmet. (h.decided decisive unmet, tt) }; falls = w.1 }
 
   -- a goal without depth asks: the question is refused
   pub refused_goes_on : (ahead : ℕ) (kind : PathKind) (goal : I) (r : R) (s : Goal) (below : List Goal) (nested : NestedPaths I) (starts : ℕ) (met : Bool) → s.0.available_depth.0 ≡ 0 → HasAsked G X cx call ahead (Evaluate kind goal) (s ∷ below) starts met → GoesOn G X cx call ahead (Answer r) ((overflowed (record s.0 { state = with_nested_goals s.0.state nested }), s.1) ∷ below) starts true

@@ -1,10 +1,9 @@
 -- The edges that the record of a run gives, and the run that its node keeps.
-use Rattle.std.proofs.Common.{◌≡◌, ◌↔◌, ℕ, IsTrue, Bool, true, false, not, ◌&&◌, List, map, slice_index_or, Option, Some, None, refl, sym, subst, ap, ◌∙◌}
+use Rattle.std.proofs.Common.{◌≡◌, ℕ, Bool, true, false, not, ◌&&◌, List, map, slice_index_or, Option, Some, None, refl, sym, ap, ◌∙◌}
 use Rattle.std.specs.List.{filter, All, Contains}
 use Rattle.std.proofs.lemmas.List.Elements.{filter_agree, filter_passes, All-filter, All-map, All-contains, All-contains_itself}
-use Rattle.std.proofs.lemmas.Option.{slice_get_within, get_or_from_slice_get}
 use Rattle.std.proofs.lemmas.Simd.{map-map}
-use Rattle.search_graph.specs.Below.{Request, Done, Reply, Verdict, Yes, No, Edge, Question, question_of, CacheNode, IsRun, IsNodeOf, Progress, Asked, progress_after, is_counted, questions_answered, IsFitting, DefiniteAnswer, RunRecord, is_same_verdict, asked_of, asked_in, asked_with, counted_by, edges_of, IsEdgeOfAnswer, Agrees, Records, Verdicts}
+use Rattle.search_graph.specs.Below.{Request, Reply, Verdict, Yes, No, Edge, Question, question_of, Progress, Asked, progress_after, is_counted, questions_answered, DefiniteAnswer, RunRecord, is_same_verdict, asked_of, asked_in, asked_with, counted_by, edges_of, IsEdgeOfAnswer, Agrees, Records, Verdicts}
 use Rattle.open_goals.specs.Progress.{rests_on}
 use Rattle.search_parts.proofs.Filtered.{filtered_twice}
 use Rattle.search_graph.proofs.Verdicts.{same_verdict}
@@ -50,14 +49,3 @@ module _ {I R : Type 0} (says : Verdicts R) where
     -- and one of no on those that were answered no
     pub no_edges_are : map question_of (edges_of p No) ≡ questions_answered says.is_no (progress_after script replies)
     no_edges_are = questions_are No says.is_no p (progress_after script replies) h.agrees h.agrees.no
-
-    -- the record of a run that ends is the run that its node keeps
-    pub record_is_run : (nodes : List (CacheNode I R)) (r : R) (v : Verdict) → IsFitting script replies → p.request ≡ Some (Done r) → (v ≡ Yes) ↔ IsTrue (says.is_yes r) → (v ≡ No) ↔ IsTrue (says.is_no r) → ((d : DefiniteAnswer I) → Contains p.answers d → IsNodeOf nodes d.edge.target d.edge.input) → IsRun says script nodes (record { replies = p.replies; edges = edges_of p v; outcome = r })
-    record_is_run nodes r v fitting ends says_yes says_no targets = record {
-      ends = rw h.replies_are (record { is_fitting = fitting; is_in_order = h.in_order; is_done = sym h.request_is ∙ ends });
-      yes = λ holds. rw h.replies_are (subst (λ w. map question_of (edges_of p w) ≡ questions_answered says.is_yes (progress_after script replies)) (sym (says_yes.1 holds)) yes_edges_are);
-      no = λ fails. rw h.replies_are (subst (λ w. map question_of (edges_of p w) ≡ questions_answered says.is_no (progress_after script replies)) (sym (says_no.1 fails)) no_edges_are);
-      targets = λ i e there.
-          let of = edge_is_of_answer p v e (i, slice_get_within (edges_of p v) i e there, get_or_from_slice_get (edges_of p v) i e e there) in
-          subst (λ d. IsNodeOf nodes d.target d.input) of.edge_is (targets of.answer of.is_in);
-    }

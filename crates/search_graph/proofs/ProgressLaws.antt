@@ -129,11 +129,6 @@ module _ {I R : Type 0} (says : Verdicts R) where
           agrees = record { open_is = now.open_is; finished_are = now.finished_are; ignored_are = now.ignored_are; yes = now.yes; no = now.no };
         }
 
-    -- the same where the record tells no fault
-    pub records_checked : (request : Request I R) → request ≡ script (reply ∷ earlier) → fault_of (received p reply v target) request ≡ None → Records says script (requested (received p reply v target) request) (reply ∷ earlier)
-    records_checked request is orderly =
-        records_received request is (sym (fault_agrees (received p reply v target) (progress_after script (reply ∷ earlier)) agrees_received request) ∙ orderly)
-
 module _ {I R : Type 0} (p : RunRecord I R) (v : Verdict) where
   answers_after_question : (kind : PathKind) (input : I) (w : Verdict) (target : Option NodeId) → p.request ≡ Some (Evaluate kind input) → (answers_after p kind input w target ≡ p.answers) ⊎ KeepsAnswer p w target (answers_after p kind input w target)
   answers_after_question kind input Yes (Some node) is = inr (record { kind = kind; input = input; node = node; was = is; target_is = refl; kept = refl })

@@ -1,7 +1,7 @@
 -- What storing the answer of a goal that is done changes, and why it may fail.
-use Rattle.std.proofs.Common.{◌≡◌, ℕ, Bool, true, false, if◌then◌else◌, List, [], Option, None, Some, Result, Ok, Err, IfErr, OnOk, OnErr, option_map, refl, sym, ap, ◌∙◌, subst}
+use Rattle.std.proofs.Common.{◌≡◌, Bool, true, false, if◌then◌else◌, List, [], Option, None, Some, Result, Ok, Err, IfErr, OnOk, OnErr, option_map, refl, sym, ap, ◌∙◌, subst}
 use Rattle.std.specs.Cmp.{IsEquivalence}
-use Rattle.search_graph.specs.Below.{DelegateOf, CxOf, Fault, Conflict, Memory, NodeId, Place, Success, WithOverflow, StoredResult, EvaluationResult, Cache, AreRuns, HasGraph, Question, Overlap, Store, stored_at, place_of, stored_from, AnswersStoring, Puts, verdicts}
+use Rattle.search_graph.specs.Below.{DelegateOf, CxOf, Fault, Conflict, Memory, NodeId, Place, StoredResult, EvaluationResult, Cache, AreRuns, HasGraph, Question, Overlap, Store, stored_at, place_of, stored_from, AnswersStoring, Puts, verdicts}
 use Rattle.search_parts.proofs.Bridge.{KeepsRule}
 use Rattle.search_graph.specs.Words.{ComesTo, IsCaused, OutOfMemory, OtherResult, IsStoredAt, StoresAnswer, Put, MayPut, Same, WithResult}
 use Rattle.search_graph.specs.Results.{NotStored}
@@ -22,14 +22,6 @@ module _ {X I R A T : Type 0} (same : I → I → Bool) (old new : Store I (Stor
 pub put_is_stored : {X I R A T U E : Type 0} (same : I → I → Bool) (old new : Store I (StoredResult X I R A T)) (goal : I) (place : Place) (s : StoredResult X I R A T) (r : Result U E) → OnOk r (Puts same old new goal place s) → OnOk r (IsStoredAt same new goal place s.result.result)
 put_is_stored same old new goal place s (Ok u) puts = ap (option_map (λ (t : StoredResult _ _ _ _ _). t.result.result)) puts.here
 put_is_stored same old new goal place s (Err e) puts = tt
-
-success_at : (depth : ℕ) (b : Bool) → (if b then WithOverflow depth else Success) ≡ Success → b ≡ false
-success_at depth true is = absurd cc
-success_at depth false is = refl
-
--- a success met no overflow
-pub success_met_none : {X I R A T : Type 0} (answer : EvaluationResult X I R A T) → place_of answer ≡ Success → answer.encountered_overflow ≡ false
-success_met_none answer is = success_at answer.required_depth answer.encountered_overflow is
 
 module _ {D C V P F I R A T : Type 0} (G : DelegateOf D C V P F I R A T) (X : CxOf C I R A T) (same : I → I → Bool) (cache : Cache C I R A T) (runs_are : AreRuns (verdicts X) (G.script cache.cx) cache.nodes) (clash : (goal : I) (held failed : List (Question I)) → X.proves cache.cx goal held → X.refutes cache.cx goal failed → Overlap held failed) (proves : KeepsRule X.is_yes (G.script cache.cx) (X.proves cache.cx)) (refutes : KeepsRule X.is_no (G.script cache.cx) (X.refutes cache.cx)) (one : (r : R) → X.is_yes r ≡ true → X.is_no r ≡ false) (equal : R → R → Bool) (laws : IsEquivalence equal) where
   conflict_at : (goal : I) (place : Place) (found : R) (node : Option NodeId) → HasGraph (verdicts X) cache.nodes goal found node → ComesTo (G.script cache.cx) (G.fixpoint_overflow cache.cx) goal found → (s : StoredResult C I R A T) → stored_at same cache.results goal place ≡ Some s → (b : Bool) → equal s.result.result found ≡ b → (r : Result (Unit {0}) (Fault I R)) → r ≡ (if b then Ok tt else Err (Conflict goal s.result.result found)) → IfErr r (IsCaused G X same cache)

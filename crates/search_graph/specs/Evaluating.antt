@@ -49,11 +49,6 @@ module _ {D C V P F I R A T : Type 0} (G : DelegateOf D C V P F I R A T) (X : Cx
     pub outset : Outset call input root starts met
     pub store : KeepsStore same call met results
 
-  -- the newest item waits for the reply, and the call keeps what it keeps of answers
-  pub record IsLoopWaiting (same : I → I → Bool) (call : Call I) (reply : Reply R) (goals : List (Item G X cx)) (starts : ℕ) (met : Bool) (results : Store I (StoredResult C I R A T)) (entries : Lists I (ProvisionalCacheEntry C I R A T)) : Type 0 where
-    pub waiting : IsWaiting call reply goals starts met
-    pub answers : KeepsAnswers same call met results entries
-
   -- the steps that are left at most
   abbrev pub work_left : List (Item G X cx) → ℕ
   work_left goals = steps_ahead (runs G X cx) (G.width cx) (map seen goals)

@@ -1,7 +1,7 @@
 -- The words of this crate, from one place.
 pub use Rattle.search_graph.specs.Calls.{bound, Call, IsCounted, KeepsLimits, limits, Outset, runs}
 pub use Rattle.search_graph.specs.Decided.{AllDecided, IsDecided}
-pub use Rattle.search_graph.specs.Evaluating.{Begins, Decidedly, GoesOn, HasAsked, HasEnded, HasStopped, IsLoopWaiting}
+pub use Rattle.search_graph.specs.Evaluating.{Begins, Decidedly, GoesOn, HasAsked, HasEnded, HasStopped}
 pub use Rattle.search_graph.specs.Evaluating.{IsOnly, IsWaiting, KeepsAnswers, KeepsStore, Leads, seen, work_left}
 pub use Rattle.search_graph.specs.Free.{AreFree, IsFree}
 pub use Rattle.search_graph.specs.Graph.{ComesTo, Graph, IsCaused, IsProved, IsRefuted, OtherResult, OutOfMemory}
