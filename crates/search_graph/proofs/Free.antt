@@ -1,6 +1,6 @@
 -- Answers that rest on no goal under evaluation stay so through each move of the driver: one of them at a time is taken as the
 -- final answer of the theory's state.
-use Rattle.std.proofs.Common.{◌≡◌, ℕ, zero, suc, true, List, [], ◌∷◌, ◌++◌, length, Option, None, Some, option_map, refl, sym, ◌∙◌, subst}
+use Rattle.std.proofs.Common.{◌≡◌, ℕ, zero, suc, Bool, true, List, [], ◌∷◌, ◌++◌, length, Option, None, Some, option_map, refl, sym, ◌∙◌, subst}
 use Rattle.std.specs.Option.{IsSomeAnd, option_or}
 use Rattle.std.proofs.lemmas.List.{length-map}
 use Rattle.open_graphs.specs.Graph as theory

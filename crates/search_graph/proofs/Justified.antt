@@ -206,7 +206,7 @@ module _ {I R : Type 0} (says : Verdicts R) (nodes : List (CacheNode I R)) where
   -- counts all that it did, and so of what was used outside candidates.
   pub recounted_is_justified : (tally : Tally) (is_open : Bool) (ignored : List Bool) (request : Option (Request I R)) (o : OpenRun I R) (below : List (OpenRun I R)) → HasTally (length below) (record o { tally = tally; is_open = is_open; ignored = ignored }) → ((c : Option ℕ) → counted_by ignored c ≡ true → (counted_by o.ignored c ≡ true) × Includes (heads_of o.tally c) (heads_of tally c)) → AreJustified says nodes (o ∷ below) → AreJustified says nodes (record o { tally = tally; is_open = is_open; ignored = ignored; request = request } ∷ below)
   recounted_is_justified tally is_open ignored request o below has keeps h = record {
-    sound = heads_change (shapes_of says nodes) (frame_of says o) (frames_of says below) [] [] (spare_heads tally) (heads_shape tally.heads) (keeps None refl).1 (spare_within (length below) tally has.tallied) h.sound;
+    sound = heads_change (shapes_of says nodes) (frame_of says o) (frames_of says below) [] [] (spare_heads tally) (heads_shape tally.heads) (keeps None refl).1 (spare_within (length below) tally) h.sound;
     are_open = h.are_open;
     lead_home = h.lead_home;
     placed = h.placed;
@@ -238,10 +238,9 @@ module _ {I R : Type 0} (says : Verdicts R) (nodes : List (CacheNode I R)) where
   chosen_at true verdict other edges o below same are tallied charged = λ i edge at.
       let e = edge_in edges i edge at in
       let from = are i e.0 e.1 in
-      let many : length below ≡ length (stack_of (frames_of says below)) = sym (stack_length says below) in
       subst (λ x. IsAnsweredEdge (shapes_of says nodes) other (stack_of (frames_of says below)) (frame_of says o).entry x (heads_shape o.tally.heads)) (ap edge_shape from.3 ∙ e.2)
       (answered_more (shapes_of says nodes) other (stack_of (frames_of says below)) (frame_of says o).entry (edge_shape from.1.edge) (heads_of o.tally from.1.candidate) (heads_shape o.tally.heads)
-      (subst (λ n. IncludesBelow n (heads_of o.tally from.1.candidate) (heads_shape o.tally.heads)) many (charge_within (length below) o.tally tallied from.1.candidate))
+      (λ depth path cycle lower. charge_within (length below) o.tally tallied from.1.candidate depth path cycle)
       (subst (λ v. IsAnsweredEdge (shapes_of says nodes) v (stack_of (frames_of says below)) (frame_of says o).entry (edge_shape from.1.edge) (heads_of o.tally from.1.candidate)) (from.4 ∙ verdicts_same verdict other same)
       (charged from.0 from.1 from.2 from.5)))
 
@@ -324,7 +323,7 @@ module _ {I R : Type 0} (says : Verdicts R) (nodes : List (CacheNode I R)) (o : 
         record {
           edges = chosen_edges says nodes v run.edges;
           place = o.own;
-          sound = answers_keep_sound (shapes_of says nodes) (frame_of says o) (frames_of says below) [] [] (chosen_edges says nodes v run.edges) (heads_shape o.tally.heads) (spare_within (length below) o.tally h.tallies.0.tallied)
+          sound = answers_keep_sound (shapes_of says nodes) (frame_of says o) (frames_of says below) [] [] (chosen_edges says nodes v run.edges) (heads_shape o.tally.heads) (spare_within (length below) o.tally)
               (λ u. chosen_at says nodes (theory.same_verdict v u) v u run.edges o below refl edges h.tallies.0.tallied h.charged.0) h.sound;
           answered = subst (λ more. Answered (shapes_of says nodes) (frame_of says o).entry o.own (chosen_edges says nodes v run.edges) v more o.own) later_same (Anew anew);
           goals_kept = KeepsGoals-ended nodes o.own run (λ goal. goal ≡ o.goal) is_open;
@@ -428,7 +427,7 @@ module _ {I R : Type 0} (says : Verdicts R) (nodes after : List (CacheNode I R))
           sound =
               subst (λ more. IsSoundState more (frames_of says (new_run o.goal o.step own (option_or target o.cycles_lead) (Some r) (tally_again o.tally) ∷ below)) [] []) (sym (shapes_opened says after o.goal))
               (subst (λ p. IsSoundState (shapes_of says after ++ theory.Unfinished ∷ []) (record { entry = record { step = rank_of o.step; provisional = Some v; node = p }; own = own.0; edges = λ verdict. []; heads_before = spare_heads (tally_again o.tally); heads = heads_shape o.tally.heads } ∷ frames_of says below) [] []) (sym (leads_there (option_or target o.cycles_lead) lead_is))
-              (heads_change (shapes_of says after ++ theory.Unfinished ∷ []) (in_next_run (frame_of says o) v s.place own.0) (frames_of says below) [] [] (spare_heads (tally_again o.tally)) (heads_shape o.tally.heads) (rerun_keeps o.tally) (spare_within (length below) (tally_again o.tally) (rerun_tallied (length below) o.tally h.tallies.0.tallied))
+              (heads_change (shapes_of says after ++ theory.Unfinished ∷ []) (in_next_run (frame_of says o) v s.place own.0) (frames_of says below) [] [] (spare_heads (tally_again o.tally)) (heads_shape o.tally.heads) (rerun_keeps o.tally) (spare_within (length below) (tally_again o.tally))
               (subst (λ n. IsSoundState (shapes_of says after ++ theory.Unfinished ∷ []) (in_next_run (frame_of says o) v s.place n ∷ frames_of says below) [] []) many again)));
           are_open = (goal_open (after ++ open_node o.goal ∷ []) own.0 (open_node o.goal) o.goal last refl refl, AreOpen-kept after (after ++ open_node o.goal ∷ []) (KeepsNodes-appended true after o.goal) below s.open_below);
           lead_home = (leads_home (option_or target o.cycles_lead) lead_is, LeadHome-kept after (after ++ open_node o.goal ∷ []) (KeepsGoals-appended true after o.goal) below (LeadHome-kept nodes after s.goals_kept below h.lead_home.1));

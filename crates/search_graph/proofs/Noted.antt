@@ -14,7 +14,7 @@ use Rattle.search_graph.proofs.Justified.{recounted_is_justified}
 use Rattle.search_graph.proofs.Moves.{some_runs}
 use Rattle.search_graph.proofs.Replies.{replied_is_justified}
 use Rattle.search_graph.proofs.IgnoredTallies.{can_ignore, ignored_keeps, ignored_tallied}
-use Rattle.search_graph.proofs.Tallies.{entered_keeps, entered_tallied, finished_keeps, finished_tallied}
+use Rattle.search_graph.proofs.Tallies.{IsRegrouped, entered_regroups, finished_regroups, regrouped_keeps, regrouped_tallied}
 
 -- ---- flags and candidates
 
@@ -161,25 +161,26 @@ module _ {D C V P F I R A T : Type 0} (G : DelegateOf D C V P F I R A T) (X : Cx
         (record { tallied = tallied_before; open_is = has_open; finished_are = has_finished })
         (λ c kept. (counted_as_before c kept, λ depth path cycle recorded. recorded)) got
 
+    -- each candidate keeps its number
+    regrouped_is_justified : (current : Option UsagesByHead) (finished : List UsagesByHead) (is_open : Bool) (ignored : List Bool) → IsRegrouped tally_before current finished → is_some current ≡ is_open → length finished ≡ length ignored → ((c : Option ℕ) → counted_by ignored c ≡ true → counted_by replied_record.ignored c ≡ true)
+        → AreJustified (verdicts X) nodes (record replied_goal { tally = record tally_before { current = current; finished = finished }; is_open = is_open; ignored = ignored; request = Some request } ∷ runs_of s.below)
+    regrouped_is_justified current finished is_open ignored r open_is finished_are kept_before =
+        recounted_is_justified (verdicts X) nodes (record tally_before { current = current; finished = finished }) is_open ignored (Some request) replied_goal (runs_of s.below)
+        (record { tallied = regrouped_tallied (length (runs_of s.below)) tally_before current finished r tallied_before; open_is = open_is; finished_are = finished_are })
+        (λ c kept. (counted_as_before c (kept_before c kept), regrouped_keeps (length (runs_of s.below)) tally_before current finished r tallied_before c)) got
+
     -- a candidate is entered
     entered_is_justified : replied_record.is_open ≡ false → AreJustified (verdicts X) nodes (record replied_goal { tally = record tally_before { current = Some [] }; is_open = true; ignored = replied_record.ignored; request = Some request } ∷ runs_of s.below)
     entered_is_justified closed =
-        let none : s.entry.state.candidate_usages ≡ None = nothing_in s.entry.state.candidate_usages (has_open ∙ closed) in
-        recounted_is_justified (verdicts X) nodes (record tally_before { current = Some [] }) true replied_record.ignored (Some request) replied_goal (runs_of s.below)
-        (record { tallied = entered_tallied (length (runs_of s.below)) tally_before none tallied_before; open_is = refl; finished_are = has_finished })
-        (λ c kept. (counted_as_before c kept, entered_keeps tally_before none c)) got
+        regrouped_is_justified (Some []) s.run.candidates true replied_record.ignored (entered_regroups tally_before (nothing_in s.entry.state.candidate_usages (has_open ∙ closed))) refl has_finished (λ c kept. kept)
 
     -- the open one is finished
     finished_is_justified : replied_record.is_open ≡ true → AreJustified (verdicts X) nodes (record replied_goal { tally = record tally_before { current = None; finished = s.run.candidates ++ unwrap_or s.entry.state.candidate_usages [] ∷ [] }; is_open = false; ignored = replied_record.ignored ++ false ∷ []; request = Some request } ∷ runs_of s.below)
     finished_is_justified is_open =
-        let some : s.entry.state.candidate_usages ≡ Some (unwrap_or s.entry.state.candidate_usages []) = something_in s.entry.state.candidate_usages [] (has_open ∙ is_open) in
-        recounted_is_justified (verdicts X) nodes (record tally_before { current = None; finished = s.run.candidates ++ unwrap_or s.entry.state.candidate_usages [] ∷ [] }) false (replied_record.ignored ++ false ∷ []) (Some request) replied_goal (runs_of s.below)
-        (record {
-          tallied = finished_tallied (length (runs_of s.below)) tally_before (unwrap_or s.entry.state.candidate_usages []) some tallied_before;
-          open_is = refl;
-          finished_are = omega (arith, length-append s.run.candidates (unwrap_or s.entry.state.candidate_usages [] ∷ []), length-append replied_record.ignored (false ∷ []), has_finished);
-        })
-        (λ c kept. (counted_as_before c (sym (counted_longer replied_record.ignored c) ∙ kept), finished_keeps tally_before (unwrap_or s.entry.state.candidate_usages []) some c)) got
+        regrouped_is_justified None (s.run.candidates ++ unwrap_or s.entry.state.candidate_usages [] ∷ []) false (replied_record.ignored ++ false ∷ [])
+        (finished_regroups tally_before (unwrap_or s.entry.state.candidate_usages []) (something_in s.entry.state.candidate_usages [] (has_open ∙ is_open))) refl
+        (omega (arith, length-append s.run.candidates (unwrap_or s.entry.state.candidate_usages [] ∷ []), length-append replied_record.ignored (false ∷ []), has_finished))
+        (λ c kept. sym (counted_longer replied_record.ignored c) ∙ kept)
 
     -- a finished one is ignored
     module _ (number : ℕ) (candidate : UsagesByHead) (state : EntryState C I R A T) (is_at : slice_get s.run.candidates number ≡ Some candidate) (ignores : Ignores (record { 0 = length s.below }) candidate s.entry.state state) (within : number < length replied_record.ignored) where

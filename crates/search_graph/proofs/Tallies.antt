@@ -1,38 +1,38 @@
--- What a goal counts of the goals on the stack, while its candidates are opened and finished, and when it is run again.
-use Rattle.std.proofs.Common.{◌≡◌, ◌≢◌, ℕ, zero, suc, ◌+◌, ◌-◌, ◌^◌, ◌<◌, ◌≤◌, IsTrue, List, [], ◌∷◌, ◌++◌, slice_get, Option, None, Some, option_map, is_some, IsSome, unwrap_or, refl, sym, ap, ◌∙◌, subst, ◌⊎◌, inl, inr, arith, ne_eqb, eq-eqb}
+-- What a goal counts of the goals on the stack, and that the parts of it, used outside candidates or by each of them, stay there.
+use Rattle.std.proofs.Common.{◌≡◌, ◌≢◌, ◌↔◌, ℕ, zero, suc, ◌+◌, ◌-◌, ◌^◌, ◌<◌, ◌≤◌, IsTrue, List, [], ◌∷◌, ◌++◌, slice_get, Option, None, Some, option_map, is_some, IsSome, unwrap_or, refl, sym, ap, ◌∙◌, subst, ◌⊎◌, inl, inr, arith, ne_eqb, eq-eqb}
 use Rattle.std.specs.List.{sum_by}
+use Rattle.std.specs.Option.{IsSomeAnd}
 use Rattle.std.proofs.lemmas.Bool.{cases_eq, false≢true}
 use Rattle.std.proofs.lemmas.List.Sums.{sum_by-cons, sum_by_push}
-use Rattle.search_graph.specs.Below.{Includes, IncludesBelow, StackDepth, PathKind, Inductive, Unknown, Coinductive, ForcedAmbiguity, PathsToNested, CycleHead, HeadUsages, UsagesByHead, Heads, at_depth, has_rank, count_at, heads_shape, has_kind, count_of, no_usages}
+use Rattle.search_graph.specs.Below.{Includes, IncludesBelow, StackDepth, PathKind, PathsToNested, CycleHead, HeadUsages, UsagesByHead, Heads, at_depth, has_rank, count_at, heads_shape, has_kind, count_of, no_usages}
 use Rattle.cycle_heads.proofs.Counts.{count_of-usages_by}
-use Rattle.cycle_heads.proofs.HeadShapes.{IsIn}
+use Rattle.cycle_heads.proofs.HeadShapes.{IsIn, count_at-of, cycle_of_rank, has_rank-of, path_of_rank}
 use Rattle.search_graph.specs.Words.{Tally, IsCovered, IsTallied, LieBelow, candidate_at, candidates_count, counted, head_with, heads_of, heads_with, spare, spare_count, spare_heads, usages_of}
 
 -- ---- counts
 
--- more than n usages are counted, or the count sticks
-abbrev pub IsMore : ℕ → ℕ → Type 0
-IsMore count n = (count ≡ 2 ^ 32 - 1) ⊎ (n < count)
+-- what covers some usages covers fewer, and isn't zero if they are not
+pub covers_less : (count n m : ℕ) → IsCovered count n → m ≤ n → IsCovered count m
+covers_less count n m (inl stuck) less = inl stuck
+covers_less count n m (inr covers) less = inr (omega (arith, covers, less))
 
-pub more_is_spare : (count n : ℕ) → IsMore count n → spare_count count n ≢ 0
-more_is_spare count n is = elim (cases_eq count (2 ^ 32 - 1)) [
-  | inl stuck ↦ rw (eq-eqb count (2 ^ 32 - 1) stuck) (λ none. absurd (omega (arith, stuck, none)))
-  | inr below ↦ rw (ne_eqb count (2 ^ 32 - 1) below) (elim is [ inl stuck ↦ absurd (below stuck) | inr more ↦ λ none. absurd (omega (arith, more, none)) ])
+pub covers_some : (count n : ℕ) → IsCovered count n → n ≢ 0 → count ≢ 0
+covers_some count n (inl stuck) some none = absurd (omega (arith, stuck, none))
+covers_some count n (inr covers) some none = some (omega (arith, covers, none))
+
+-- something is spare of a count exactly if it covers one usage more
+some_spare : (count n : ℕ) → (spare_count count n ≢ 0) ↔ IsCovered count (n + 1)
+some_spare count n = elim (cases_eq count (2 ^ 32 - 1)) [
+  | inl stuck ↦ rw (eq-eqb count (2 ^ 32 - 1) stuck) (λ some. inl stuck, λ covers none. absurd (omega (arith, stuck, none)))
+  | inr below ↦ rw (ne_eqb count (2 ^ 32 - 1) below) (
+    λ some. inr (omega (arith, some)),
+    λ covers none. elim covers [ inl stuck ↦ below stuck | inr more ↦ absurd (omega (arith, more, none)) ],
+  )
 ]
 
-pub spare_is_more : (count n : ℕ) → spare_count count n ≢ 0 → IsMore count n
-spare_is_more count n some = elim (cases_eq count (2 ^ 32 - 1)) [
-  | inl stuck ↦ inl stuck
-  | inr below ↦ let left : count - n ≢ 0 = rw (ne_eqb count (2 ^ 32 - 1) below) at some in inr (omega (arith, left))
-]
-
-more_than_none : (count n : ℕ) → IsMore count n → count ≢ 0
-more_than_none count n (inl stuck) none = absurd (omega (arith, stuck, none))
-more_than_none count n (inr more) none = absurd (omega (arith, more, none))
-
-pub covered_some : (count n charged : ℕ) → IsCovered count n → charged ≤ n → charged ≢ 0 → count ≢ 0
-covered_some count n charged (inl stuck) within some none = absurd (omega (arith, stuck, none))
-covered_some count n charged (inr covers) within some none = some (omega (arith, covers, within, none))
+pub spare_is : (t : Tally) (head : StackDepth) (usages : HeadUsages) (kind : PathKind) → (count_of (spare t head usages) kind ≢ 0) ↔ IsCovered (count_of usages kind) (candidates_count t head kind + 1)
+spare_is t head usages kind =
+    subst (λ n. (n ≢ 0) ↔ IsCovered (count_of usages kind) (candidates_count t head kind + 1)) (sym (count_of-usages_by (λ k. spare_count (count_of usages k) (candidates_count t head k)) kind)) (some_spare (count_of usages kind) (candidates_count t head kind))
 
 -- no kind is counted where there are no usages
 pub none_counted : (kind : PathKind) → count_of no_usages kind ≡ 0
@@ -48,28 +48,19 @@ usages_in own = option_map (λ known. known.usages) own
 
 -- ---- heads with a part of what is counted
 
-paths_by_rank : (paths more : PathsToNested) → ((kind : PathKind) → IsTrue (has_kind paths kind) → IsTrue (has_kind more kind)) → (n : ℕ) → IsTrue (has_rank paths n) → IsTrue (has_rank more n)
-paths_by_rank paths more h zero is = h Inductive is
-paths_by_rank paths more h (suc zero) is = h Unknown is
-paths_by_rank paths more h (suc (suc zero)) is = h Coinductive is
-paths_by_rank paths more h (suc (suc (suc zero))) is = h ForcedAmbiguity is
-paths_by_rank paths more h (suc (suc (suc (suc n)))) is = is
-
 pub counts_by_rank : (usages more : HeadUsages) → ((kind : PathKind) → count_of usages kind ≢ 0 → count_of more kind ≢ 0) → (n : ℕ) → count_at usages n ≢ 0 → count_at more n ≢ 0
-counts_by_rank usages more h zero some = h Inductive some
-counts_by_rank usages more h (suc zero) some = h Unknown some
-counts_by_rank usages more h (suc (suc zero)) some = h Coinductive some
-counts_by_rank usages more h (suc (suc (suc zero))) some = h ForcedAmbiguity some
-counts_by_rank usages more h (suc (suc (suc (suc n)))) some = some
+counts_by_rank usages more h n some = let k = cycle_of_rank usages n some in subst (λ m. count_at more m ≢ 0) k.1 (λ none. h k.0 k.2 (sym (count_at-of more k.0) ∙ none))
 
--- a head is there with all paths of another, and the part of it with all kinds of usages of that other's part
-abbrev pub GrowsInto : (part more : HeadUsages → HeadUsages) → CycleHead → Option CycleHead → Type 0
-GrowsInto part more head None = ⊥
-GrowsInto part more head (Some other) =
+paths_by_rank : (paths more : PathsToNested) → ((kind : PathKind) → IsTrue (has_kind paths kind) → IsTrue (has_kind more kind)) → (n : ℕ) → IsTrue (has_rank paths n) → IsTrue (has_rank more n)
+paths_by_rank paths more h n is = let k = path_of_rank paths n is in subst (λ m. IsTrue (has_rank more m)) k.1 (has_rank-of more k.0 ∙ h k.0 k.2)
+
+-- a head has all paths of another, and the part of it all kinds of usages of that other's part
+abbrev GrowsInto : (part more : HeadUsages → HeadUsages) → CycleHead → CycleHead → Type 0
+GrowsInto part more head other =
     ((kind : PathKind) → IsTrue (has_kind head.paths_to_head kind) → IsTrue (has_kind other.paths_to_head kind))
     × ((kind : PathKind) → count_of (part head.usages) kind ≢ 0 → count_of (more other.usages) kind ≢ 0)
 
-grown_at : (part more : HeadUsages → HeadUsages) (own new : Option CycleHead) → ((head : CycleHead) → own ≡ Some head → GrowsInto part more head new) → (path cycle : ℕ) → IsIn (option_map (head_with part) own) path cycle → IsIn (option_map (head_with more) new) path cycle
+grown_at : (part more : HeadUsages → HeadUsages) (own new : Option CycleHead) → ((head : CycleHead) → own ≡ Some head → IsSomeAnd new (GrowsInto part more head)) → (path cycle : ℕ) → IsIn (option_map (head_with part) own) path cycle → IsIn (option_map (head_with more) new) path cycle
 grown_at part more None new grows path cycle is = absurd (is.1 refl)
 grown_at part more (Some head) None grows path cycle is = absurd (grows head refl)
 grown_at part more (Some head) (Some other) grows path cycle is = (
@@ -77,32 +68,18 @@ grown_at part more (Some head) (Some other) grows path cycle is = (
   counts_by_rank (part head.usages) (more other.usages) (grows head refl).1 cycle is.1,
 )
 
--- heads that all grow record what they did
-pub all_grown : (heads new : Heads) (part more : StackDepth → HeadUsages → HeadUsages) → ((depth : StackDepth) (head : CycleHead) → at_depth heads depth ≡ Some head → GrowsInto (part depth) (more depth) head (at_depth new depth)) → Includes (heads_with heads part) (heads_with new more)
-all_grown heads new part more grows depth path cycle is =
-    grown_at (part (record { 0 = depth })) (more (record { 0 = depth })) (at_depth heads (record { 0 = depth })) (at_depth new (record { 0 = depth })) (grows (record { 0 = depth })) path cycle is
+-- the heads with all that is counted of them
+whole : (own : Option CycleHead) → option_map (head_with (λ usages. usages)) own ≡ own
+whole None = refl
+whole (Some head) = refl
 
--- the same heads with other parts
-pub parts_grown : (heads : Heads) (part more : StackDepth → HeadUsages → HeadUsages) → ((depth : StackDepth) (head : CycleHead) → at_depth heads depth ≡ Some head → (kind : PathKind) → count_of (part depth head.usages) kind ≢ 0 → count_of (more depth head.usages) kind ≢ 0) → Includes (heads_with heads part) (heads_with heads more)
-parts_grown heads part more grows = all_grown heads heads part more (λ depth head at. subst (GrowsInto (part depth) (more depth) head) (sym at) (λ kind has. has, grows depth head at))
+-- a part of each of the same heads
+same_heads : (heads : Heads) (part more : StackDepth → HeadUsages → HeadUsages) → ((depth : StackDepth) (head : CycleHead) → at_depth heads depth ≡ Some head → (kind : PathKind) → count_of (part depth head.usages) kind ≢ 0 → count_of (more depth head.usages) kind ≢ 0) → Includes (heads_with heads part) (heads_with heads more)
+same_heads heads part more grows depth = grown_at (part (record { 0 = depth })) (more (record { 0 = depth })) (at_depth heads (record { 0 = depth })) (at_depth heads (record { 0 = depth }))
+    (λ head at. subst (λ o. IsSomeAnd o (GrowsInto (part (record { 0 = depth })) (more (record { 0 = depth })) head)) (sym at) (λ kind has. has, grows (record { 0 = depth }) head at))
 
-part_within : (part : HeadUsages → HeadUsages) (own : Option CycleHead) → ((head : CycleHead) → own ≡ Some head → (kind : PathKind) → count_of (part head.usages) kind ≢ 0 → count_of head.usages kind ≢ 0) → (path cycle : ℕ) → IsIn (option_map (head_with part) own) path cycle → IsIn own path cycle
-part_within part None within path cycle is = absurd (is.1 refl)
-part_within part (Some head) within path cycle is = (is.0, counts_by_rank (part head.usages) head.usages (within head refl) cycle is.1)
-
-whole_within : (part : HeadUsages → HeadUsages) (own : Option CycleHead) → ((head : CycleHead) → own ≡ Some head → (kind : PathKind) → count_of head.usages kind ≢ 0 → count_of (part head.usages) kind ≢ 0) → (path cycle : ℕ) → IsIn own path cycle → IsIn (option_map (head_with part) own) path cycle
-whole_within part None within path cycle is = absurd (is.1 refl)
-whole_within part (Some head) within path cycle is = (is.0, counts_by_rank head.usages (part head.usages) (within head refl) cycle is.1)
-
--- what is left without candidates, by kind
-spare_kind : (t : Tally) (head : StackDepth) (usages : HeadUsages) (kind : PathKind) → count_of (spare t head usages) kind ≡ spare_count (count_of usages kind) (candidates_count t head kind)
-spare_kind t head usages kind = count_of-usages_by (λ k. spare_count (count_of usages k) (candidates_count t head k)) kind
-
-pub spare_more : (t : Tally) (head : StackDepth) (usages : HeadUsages) (kind : PathKind) → count_of (spare t head usages) kind ≢ 0 → IsMore (count_of usages kind) (candidates_count t head kind)
-spare_more t head usages kind some = spare_is_more (count_of usages kind) (candidates_count t head kind) (λ none. some (spare_kind t head usages kind ∙ none))
-
-pub more_spare : (t : Tally) (head : StackDepth) (usages : HeadUsages) (kind : PathKind) → IsMore (count_of usages kind) (candidates_count t head kind) → count_of (spare t head usages) kind ≢ 0
-more_spare t head usages kind more none = more_is_spare (count_of usages kind) (candidates_count t head kind) more (sym (spare_kind t head usages kind) ∙ none)
+part_within : (heads : Heads) (part : StackDepth → HeadUsages → HeadUsages) → ((depth : StackDepth) (head : CycleHead) → at_depth heads depth ≡ Some head → (kind : PathKind) → count_of (part depth head.usages) kind ≢ 0 → count_of head.usages kind ≢ 0) → Includes (heads_with heads part) (heads_shape heads)
+part_within heads part within depth path cycle is = subst (λ own. IsIn own path cycle) (whole (at_depth heads (record { 0 = depth }))) (same_heads heads part (λ _ usages. usages) within depth path cycle is)
 
 -- ---- candidates by number
 
@@ -123,30 +100,66 @@ module _ (parent : ℕ) (t : Tally) where
   pub counted_own : (head : StackDepth) → head.0 ≡ parent → counted parent t head ≡ t.own
   counted_own head own = rw (eq-eqb head.0 parent own) refl
 
-  pub counted_other : (head : StackDepth) → head.0 ≢ parent → counted parent t head ≡ option_map (λ known. known.usages) (at_depth t.heads head)
+  pub counted_other : (head : StackDepth) → head.0 ≢ parent → counted parent t head ≡ usages_in (at_depth t.heads head)
   counted_other head apart = rw (ne_eqb head.0 parent apart) refl
 
   -- of a head that is what is recorded of it
-  pub counted_head : IsTallied parent t → (head : StackDepth) (known : CycleHead) → at_depth t.heads head ≡ Some known → counted parent t head ≡ Some known.usages
-  counted_head h head known at = let lower = h.lower head (ap is_some at) in counted_other head (omega (arith, lower)) ∙ ap (option_map (λ known. known.usages)) at
-
-  pub covered_head : IsTallied parent t → (head : StackDepth) (known : CycleHead) → at_depth t.heads head ≡ Some known → (kind : PathKind) → IsCovered (count_of known.usages kind) (candidates_count t head kind)
-  covered_head h head known at kind = subst (λ o. IsCovered (count_of (unwrap_or o no_usages) kind) (candidates_count t head kind)) (counted_head h head known at) (h.covered head kind)
+  pub counted_head : LieBelow parent t.heads → (head : StackDepth) (known : CycleHead) → at_depth t.heads head ≡ Some known → counted parent t head ≡ Some known.usages
+  counted_head below head known at = let lower = below head (ap is_some at) in counted_other head (omega (arith, lower)) ∙ ap usages_in at
 
   -- what is spare is counted
-  pub spare_within : IsTallied parent t → Includes (spare_heads t) (heads_shape t.heads)
-  spare_within h depth path cycle is =
-      part_within (spare t (record { 0 = depth })) (at_depth t.heads (record { 0 = depth }))
-      (λ known at kind some. more_than_none (count_of known.usages kind) (candidates_count t (record { 0 = depth }) kind) (spare_more t (record { 0 = depth }) known.usages kind some))
-      path cycle is
+  pub spare_within : Includes (spare_heads t) (heads_shape t.heads)
+  spare_within = part_within t.heads (spare t) (λ head known at kind some. covers_some (count_of known.usages kind) (candidates_count t head kind + 1) ((spare_is t head known.usages kind).0 some) (omega arith))
 
   -- so is what a candidate used
-  pub charge_within : IsTallied parent t → (c : Option ℕ) → IncludesBelow parent (heads_of t c) (heads_shape t.heads)
-  charge_within h None depth path cycle lower is = spare_within h depth path cycle is
-  charge_within h (Some number) depth path cycle lower is =
-      part_within (λ usages. usages_of (candidate_at t number) (record { 0 = depth })) (at_depth t.heads (record { 0 = depth }))
-      (λ known at kind some. covered_some (count_of known.usages kind) (candidates_count t (record { 0 = depth }) kind) (count_of (usages_of (candidate_at t number) (record { 0 = depth })) kind) (covered_head h (record { 0 = depth }) known at kind) (candidate_within t number (record { 0 = depth }) kind) some)
-      path cycle is
+  pub charge_within : IsTallied parent t → (c : Option ℕ) → Includes (heads_of t c) (heads_shape t.heads)
+  charge_within h None = spare_within
+  charge_within h (Some number) = part_within t.heads (λ head usages. usages_of (candidate_at t number) head) (λ head known at kind some.
+      covers_some (count_of known.usages kind) (count_of (usages_of (candidate_at t number) head) kind)
+      (covers_less (count_of known.usages kind) (candidates_count t head kind) (count_of (usages_of (candidate_at t number) head) kind)
+      (subst (λ o. IsCovered (of_kind o kind) (candidates_count t head kind)) (counted_head h.lower head known at) (h.covered head kind)) (candidate_within t number head kind)) some)
+
+-- what holds of a goal's own counts, and of those of its heads, holds of all
+pub counted_by_place : (parent : StackDepth) (t u : Tally) (P : StackDepth → Option HeadUsages → Option HeadUsages → Type 0) → P parent t.own u.own → ((head : StackDepth) → head.0 ≢ parent.0 → P head (usages_in (at_depth t.heads head)) (usages_in (at_depth u.heads head))) → (head : StackDepth) → P head (counted parent.0 t head) (counted parent.0 u head)
+counted_by_place parent t u P own others head = elim (cases_eq head.0 parent.0) [
+  | inl same ↦
+      let here : parent ≡ head = λ i. record { 0 = sym same i } in
+      rw (eq-eqb head.0 parent.0 same) (subst (λ d. P d t.own u.own) here own)
+  | inr apart ↦ rw (ne_eqb head.0 parent.0 apart) (others head apart)
+]
+
+-- ---- what a move keeps
+
+-- A move keeps the heads with their paths; what a count covered beside what candidates used, it covers after it; and candidates that
+-- stay used what they did.
+pub record Carries (parent : ℕ) (t u : Tally) (Stays : Option ℕ → Type 0) : Type 0 where
+  pub lower : LieBelow parent u.heads
+  pub heads : (depth : StackDepth) (head : CycleHead) → at_depth t.heads depth ≡ Some head → IsSomeAnd (at_depth u.heads depth) (λ other. (kind : PathKind) → IsTrue (has_kind head.paths_to_head kind) → IsTrue (has_kind other.paths_to_head kind))
+  pub covers : (head : StackDepth) (kind : PathKind) (m : ℕ) → IsCovered (of_kind (counted parent t head) kind) (candidates_count t head kind + m) → IsCovered (of_kind (counted parent u head) kind) (candidates_count u head kind + m)
+  pub used : (number : ℕ) → Stays (Some number) → (head : StackDepth) (kind : PathKind) → count_of (usages_of (candidate_at t number) head) kind ≢ 0 → count_of (usages_of (candidate_at u number) head) kind ≢ 0
+
+module _ (parent : ℕ) (t u : Tally) (Stays : Option ℕ → Type 0) (move : Carries parent t u Stays) (h : IsTallied parent t) where
+  -- what candidates used is covered still
+  pub covered_still : (head : StackDepth) (kind : PathKind) → IsCovered (of_kind (counted parent u head) kind) (candidates_count u head kind)
+  covered_still head kind =
+      covers_less (of_kind (counted parent u head) kind) (candidates_count u head kind + 0) (candidates_count u head kind)
+      (move.covers head kind 0 (covers_less (of_kind (counted parent t head) kind) (candidates_count t head kind) (candidates_count t head kind + 0) (h.covered head kind) (omega arith))) (omega arith)
+
+  grows : (part more : HeadUsages → HeadUsages) (head : CycleHead) (new : Option CycleHead) → IsSomeAnd new (λ other. (kind : PathKind) → IsTrue (has_kind head.paths_to_head kind) → IsTrue (has_kind other.paths_to_head kind)) → ((other : CycleHead) → new ≡ Some other → (kind : PathKind) → count_of (part head.usages) kind ≢ 0 → count_of (more other.usages) kind ≢ 0) → IsSomeAnd new (GrowsInto part more head)
+  grows part more head None paths counts = absurd paths
+  grows part more head (Some other) paths counts = (paths, counts other refl)
+
+  -- what was spare stays spare, and what a candidate used stays with it
+  pub carried : (c : Option ℕ) → Stays c → Includes (heads_of t c) (heads_of u c)
+  carried None stays depth = grown_at (spare t (record { 0 = depth })) (spare u (record { 0 = depth })) (at_depth t.heads (record { 0 = depth })) (at_depth u.heads (record { 0 = depth })) (λ head at.
+      grows (spare t (record { 0 = depth })) (spare u (record { 0 = depth })) head (at_depth u.heads (record { 0 = depth })) (move.heads (record { 0 = depth }) head at) (λ other is kind some.
+      (spare_is u (record { 0 = depth }) other.usages kind).1
+      (subst (λ o. IsCovered (of_kind o kind) (candidates_count u (record { 0 = depth }) kind + 1)) (counted_head parent u move.lower (record { 0 = depth }) other is)
+      (move.covers (record { 0 = depth }) kind 1
+      (subst (λ o. IsCovered (of_kind o kind) (candidates_count t (record { 0 = depth }) kind + 1)) (sym (counted_head parent t h.lower (record { 0 = depth }) head at))
+      ((spare_is t (record { 0 = depth }) head.usages kind).0 some))))))
+  carried (Some number) stays depth = grown_at (λ usages. usages_of (candidate_at t number) (record { 0 = depth })) (λ usages. usages_of (candidate_at u number) (record { 0 = depth })) (at_depth t.heads (record { 0 = depth })) (at_depth u.heads (record { 0 = depth })) (λ head at.
+      grows (λ usages. usages_of (candidate_at t number) (record { 0 = depth })) (λ usages. usages_of (candidate_at u number) (record { 0 = depth })) head (at_depth u.heads (record { 0 = depth })) (move.heads (record { 0 = depth }) head at) (λ other is kind some. move.used number stays (record { 0 = depth }) kind some))
 
 -- ---- candidates that are opened or finished
 
@@ -154,38 +167,38 @@ module _ (parent : ℕ) (t : Tally) where
 abbrev regrouped : Tally → Option UsagesByHead → List UsagesByHead → Tally
 regrouped t current finished = record t { current = current; finished = finished }
 
--- nothing changes where each number has the candidate that it had
-module _ (t : Tally) (current : Option UsagesByHead) (finished : List UsagesByHead)
-    (same : (number : ℕ) → candidate_at (regrouped t current finished) number ≡ candidate_at t number)
-    (total : (head : StackDepth) (kind : PathKind) → candidates_count (regrouped t current finished) head kind ≡ candidates_count t head kind) where
-  regrouped_tallied : (parent : ℕ) → IsTallied parent t → IsTallied parent (regrouped t current finished)
-  regrouped_tallied parent h = record {
+-- each number has the candidate that it had
+pub record IsRegrouped (t : Tally) (current : Option UsagesByHead) (finished : List UsagesByHead) : Type 0 where
+  pub same : (number : ℕ) → candidate_at (regrouped t current finished) number ≡ candidate_at t number
+  pub total : (head : StackDepth) (kind : PathKind) → candidates_count (regrouped t current finished) head kind ≡ candidates_count t head kind
+
+module _ (parent : ℕ) (t : Tally) (current : Option UsagesByHead) (finished : List UsagesByHead) (r : IsRegrouped t current finished) (h : IsTallied parent t) where
+  regrouped_carries : Carries parent t (regrouped t current finished) (λ _. Unit {0})
+  regrouped_carries = record {
     lower = h.lower;
-    known = λ number head there. h.known number head (subst (λ c. IsSome (at_depth c head)) (same number) there);
-    bounded = λ number head kind. subst (λ c. count_of (usages_of c head) kind ≤ 2 ^ 32 - 1) (sym (same number)) (h.bounded number head kind);
-    covered = λ head kind. subst (IsCovered (count_of (unwrap_or (counted parent t head) no_usages) kind)) (sym (total head kind)) (h.covered head kind);
+    heads = λ depth head at. subst (λ o. IsSomeAnd o (λ other. (kind : PathKind) → IsTrue (has_kind head.paths_to_head kind) → IsTrue (has_kind other.paths_to_head kind))) (sym at) (λ kind has. has);
+    covers = λ head kind m. subst (λ n. IsCovered (of_kind (counted parent t head) kind) (n + m)) (sym (r.total head kind));
+    used = λ number stays head kind. subst (λ c. count_of (usages_of c head) kind ≢ 0) (sym (r.same number));
   }
 
-  regrouped_keeps : (c : Option ℕ) → Includes (heads_of t c) (heads_of (regrouped t current finished) c)
-  regrouped_keeps None = parts_grown t.heads (spare t) (spare (regrouped t current finished))
-      (λ depth head at kind some. more_spare (regrouped t current finished) depth head.usages kind
-      (subst (IsMore (count_of head.usages kind)) (sym (total depth kind)) (spare_more t depth head.usages kind some)))
-  regrouped_keeps (Some number) = parts_grown t.heads (λ depth usages. usages_of (candidate_at t number) depth) (λ depth usages. usages_of (candidate_at (regrouped t current finished) number) depth)
-      (λ depth head at kind some. subst (λ c. count_of (usages_of c depth) kind ≢ 0) (sym (same number)) some)
+  -- so the goal's counts agree, and candidates used what they did
+  pub regrouped_tallied : IsTallied parent (regrouped t current finished)
+  regrouped_tallied = record {
+    lower = h.lower;
+    known = λ number head there. h.known number head (subst (λ c. IsSome (at_depth c head)) (r.same number) there);
+    bounded = λ number head kind. subst (λ c. count_of (usages_of c head) kind ≤ 2 ^ 32 - 1) (sym (r.same number)) (h.bounded number head kind);
+    covered = covered_still parent t (regrouped t current finished) (λ _. Unit {0}) regrouped_carries h;
+  }
 
-module _ (t : Tally) (none_open : t.current ≡ None) where
-  entered_same : (number : ℕ) → candidate_at (regrouped t (Some []) t.finished) number ≡ candidate_at t number
-  entered_same number = ap (λ o. unwrap_or (slice_get (t.finished ++ unwrap_or o [] ∷ []) number) []) (sym none_open)
-
-  entered_total : (head : StackDepth) (kind : PathKind) → candidates_count (regrouped t (Some []) t.finished) head kind ≡ candidates_count t head kind
-  entered_total head kind = ap (λ o. count_of (usages_of (unwrap_or o []) head) kind + sum_by (λ counts. count_of (usages_of counts head) kind) t.finished) (sym none_open)
+  pub regrouped_keeps : (c : Option ℕ) → Includes (heads_of t c) (heads_of (regrouped t current finished) c)
+  regrouped_keeps c = carried parent t (regrouped t current finished) (λ _. Unit {0}) regrouped_carries h c tt
 
 -- a candidate that is opened used nothing yet
-pub entered_tallied : (parent : ℕ) (t : Tally) → t.current ≡ None → IsTallied parent t → IsTallied parent (record t { current = Some [] })
-entered_tallied parent t none_open h = regrouped_tallied t (Some []) t.finished (entered_same t none_open) (entered_total t none_open) parent h
-
-pub entered_keeps : (t : Tally) → t.current ≡ None → (c : Option ℕ) → Includes (heads_of t c) (heads_of (record t { current = Some [] }) c)
-entered_keeps t none_open c = regrouped_keeps t (Some []) t.finished (entered_same t none_open) (entered_total t none_open) c
+pub entered_regroups : (t : Tally) → t.current ≡ None → IsRegrouped t (Some []) t.finished
+entered_regroups t none_open = record {
+  same = λ number. ap (λ o. unwrap_or (slice_get (t.finished ++ unwrap_or o [] ∷ []) number) []) (sym none_open);
+  total = λ head kind. ap (λ o. count_of (usages_of (unwrap_or o []) head) kind + sum_by (λ counts. count_of (usages_of counts head) kind) t.finished) (sym none_open);
+}
 
 -- a list with an empty candidate at its end has nothing new
 padded : (all : List UsagesByHead) (number : ℕ) → unwrap_or (slice_get (all ++ [] ∷ []) number) [] ≡ unwrap_or (slice_get all number) []
@@ -194,23 +207,16 @@ padded [] (suc number) = refl
 padded (counts ∷ all) zero = refl
 padded (counts ∷ all) (suc number) = padded all number
 
-module _ (t : Tally) (counts : UsagesByHead) (is_open : t.current ≡ Some counts) where
-  finished_same : (number : ℕ) → candidate_at (regrouped t None (t.finished ++ counts ∷ [])) number ≡ candidate_at t number
-  finished_same number = padded (t.finished ++ counts ∷ []) number ∙ ap (λ o. unwrap_or (slice_get (t.finished ++ unwrap_or o [] ∷ []) number) []) (sym is_open)
-
-  finished_total : (head : StackDepth) (kind : PathKind) → candidates_count (regrouped t None (t.finished ++ counts ∷ [])) head kind ≡ candidates_count t head kind
-  finished_total head kind =
+-- the open candidate keeps its number when it is finished
+pub finished_regroups : (t : Tally) (counts : UsagesByHead) → t.current ≡ Some counts → IsRegrouped t None (t.finished ++ counts ∷ [])
+finished_regroups t counts is_open = record {
+  same = λ number. padded (t.finished ++ counts ∷ []) number ∙ ap (λ o. unwrap_or (slice_get (t.finished ++ unwrap_or o [] ∷ []) number) []) (sym is_open);
+  total = λ head kind.
       let nothing = none_counted kind in
       let whole = sum_by_push (λ c. count_of (usages_of c head) kind) t.finished counts in
       let was = ap (λ o. count_of (usages_of (unwrap_or o []) head) kind) is_open in
-      omega (arith, nothing, whole, was)
-
--- the open candidate keeps its number when it is finished
-pub finished_tallied : (parent : ℕ) (t : Tally) (counts : UsagesByHead) → t.current ≡ Some counts → IsTallied parent t → IsTallied parent (record t { current = None; finished = t.finished ++ counts ∷ [] })
-finished_tallied parent t counts is_open h = regrouped_tallied t None (t.finished ++ counts ∷ []) (finished_same t counts is_open) (finished_total t counts is_open) parent h
-
-pub finished_keeps : (t : Tally) (counts : UsagesByHead) → t.current ≡ Some counts → (c : Option ℕ) → Includes (heads_of t c) (heads_of (record t { current = None; finished = t.finished ++ counts ∷ [] }) c)
-finished_keeps t counts is_open c = regrouped_keeps t None (t.finished ++ counts ∷ []) (finished_same t counts is_open) (finished_total t counts is_open) c
+      omega (arith, nothing, whole, was);
+}
 
 -- ---- a run that begins
 
@@ -232,9 +238,9 @@ rerun_tallied parent t h = without_candidates parent t.heads (Some no_usages) h.
 
 pub rerun_keeps : (t : Tally) → Includes (heads_shape t.heads) (spare_heads (record t { own = Some no_usages; current = None; finished = [] }))
 rerun_keeps t depth path cycle is =
-    whole_within (spare (record t { own = Some no_usages; current = None; finished = [] }) (record { 0 = depth })) (at_depth t.heads (record { 0 = depth }))
-    (λ head at kind some. let nothing = none_counted kind in more_spare (record t { own = Some no_usages; current = None; finished = [] }) (record { 0 = depth }) head.usages kind (inr (omega (arith, nothing, some))))
-    path cycle is
+    same_heads t.heads (λ _ usages. usages) (spare (record t { own = Some no_usages; current = None; finished = [] }))
+    (λ head known at kind some. (spare_is (record t { own = Some no_usages; current = None; finished = [] }) head known.usages kind).1 (inr (let nothing = none_counted kind in omega (arith, nothing, some))))
+    depth path cycle (subst (λ own. IsIn own path cycle) (sym (whole (at_depth t.heads (record { 0 = depth })))) is)
 
 -- a goal that is pushed counts nothing
 pub fresh_tallied : (parent : ℕ) → IsTallied parent (record { heads = []; own = None; current = None; finished = [] })

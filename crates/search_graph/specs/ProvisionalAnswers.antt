@@ -1,5 +1,5 @@
 -- Answers that are kept while goals that they rest on are under evaluation, and why each of them is right.
-use Rattle.std.specs.Prelude.{◌≡◌, ℕ, List, Option, None}
+use Rattle.std.specs.Prelude.{◌≡◌, ℕ, Bool, List, Option, None}
 use Rattle.std.specs.Option.{IsSomeAnd}
 use Rattle.open_graphs.specs.Graph as theory
 use Rattle.search_graph.specs.Below.{ProvisionalUse, ProvisionalEntry, stack_of, NodeId, CacheNode, IsNodeOf, IsDefinite, verdict_of, shapes_of, Verdicts}
