@@ -2,16 +2,13 @@
 use Rattle.std.proofs.Common.{◌≡◌, ℕ, List, [], ◌∷◌, ◌++◌, length, map, reverse, refl, sym, ap, ◌∙◌, append_assoc, arith, ◌<◌}
 use Rattle.std.specs.Option.{option_and_then}
 use Rattle.std.proofs.lemmas.Grind.{reverse_onto}
+use Rattle.std.proofs.lemmas.List.{append-nil}
 use Rattle.open_goals.specs.Below.{StackEntry, depth_below, allowed_depth}
 use Rattle.open_goals.specs.Words.{paired, newest}
 
-append_nil : {A : Type 0} (xs : List A) → xs ++ [] ≡ xs
-append_nil [] = refl
-append_nil (x ∷ xs) = ap (λ l. x ∷ l) (append_nil xs)
-
 module _ {E F : Type 0} where
   entries_below : (below : List (E × F)) (es : List E) (fs : List F) → length es ≡ length fs → reverse (map (λ s. s.0) (paired below es fs)) ≡ reverse (map (λ s. s.0) below) ++ es
-  entries_below below [] [] same = sym (append_nil (reverse (map (λ s. s.0) below)))
+  entries_below below [] [] same = sym (append-nil (reverse (map (λ s. s.0) below)))
   entries_below below [] (f ∷ fs) same = absurd (omega arith)
   entries_below below (e ∷ es) [] same = absurd (omega arith)
   entries_below below (e ∷ es) (f ∷ fs) same =

@@ -2,6 +2,7 @@
 use Rattle.std.proofs.Common.{◌≡◌, ℕ, zero, suc, get_or, slice_set, ◌+◌, List, [], ◌∷◌, ◌++◌, length, map, Bool, true, false, ◌||◌, Option, Some, None, is_some, refl, sym, ap, ap₂, ◌∙◌, zero-add, arith}
 use Rattle.std.specs.List.{position, list_any}
 use Rattle.std.proofs.lemmas.Bool.Decides.{nat_tests}
+use Rattle.std.proofs.Math.Bool.{or-false}
 use Rattle.std.proofs.lemmas.List.{length-append}
 use Rattle.std.proofs.lemmas.List.Sums.{prefix_len-le-length}
 use Rattle.open_goals.specs.Words.{paired}
@@ -12,10 +13,6 @@ turned true true c = refl
 turned true false c = refl
 turned false true c = refl
 turned false false c = refl
-
-or_false : (a : Bool) → (a || false) ≡ a
-or_false true = refl
-or_false false = refl
 
 pub is_none : {A : Type 0} (o : Option A) → is_some o ≡ false → o ≡ None
 is_none None absent = refl
@@ -52,7 +49,7 @@ module _ {E I : Type 0} (f : E → I) where
   -- what a look-up among the first halves says of the pairs
   pub found_in_paired : {F : Type 0} (p : I → Bool) (es : List E) (fs : List F) (view : List (E × F)) (b : Bool) → length es ≡ length fs → paired [] es fs ≡ view → b ≡ is_some (position p (map f es)) → b ≡ list_any (λ s. p (f s.0)) view
   found_in_paired p es fs view b same is found =
-      found ∙ is_some_position_map p es ∙ sym (or_false _) ∙ sym (list_any-paired (λ e. p (f e)) [] es fs same) ∙ ap (list_any (λ s. p (f s.0))) is
+      found ∙ is_some_position_map p es ∙ sym (or-false _) ∙ sym (list_any-paired (λ e. p (f e)) [] es fs same) ∙ ap (list_any (λ s. p (f s.0))) is
 
   pub absent_from_paired : {F : Type 0} (p : I → Bool) (es : List E) (fs : List F) (view : List (E × F)) → length es ≡ length fs → paired [] es fs ≡ view → list_any (λ s. p (f s.0)) view ≡ false → position p (map f es) ≡ None
   absent_from_paired p es fs view same is absent = is_none _ (found_in_paired p es fs view _ same is refl ∙ absent)

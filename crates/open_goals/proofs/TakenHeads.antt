@@ -1,13 +1,10 @@
 -- The heads of an answer are taken over one by one.
 use Rattle.std.proofs.Common.{◌≡◌, ◌≢◌, ◌==◌, if◌then◌else◌, Bool, true, false, ◌||◌, is_some, [], ◌∷◌, Option, Some, None, option_map, unwrap_or, refl, sym, ap, ◌∙◌, subst, inl, inr, ne_eqb, eq-eqb}
+use Rattle.std.proofs.Math.Bool.{or-false, or-true}
 use Rattle.std.proofs.lemmas.Bool.{cases_eq}
 use Rattle.open_goals.specs.Below.{PathKind, StackDepth, CycleHead, HeadUsages, EntryState, UsagesByHead, with_noted, no_usages, with_nested, Heads, at_depth, joined_head, with_head, extended}
 use Rattle.cycle_heads.proofs.HeadLists.{at_depth-first, at_depth-rest, at_depth-insert_same, at_depth-insert_other}
 use Rattle.open_goals.specs.Words.{some_heads, joined_over, usages_over, candidate_over, is_in_cycle, with_used_head, TakesHeads}
-
-or_true : (a : Bool) → (a || true) ≡ true
-or_true true = refl
-or_true false = refl
 
 found_is_some : {x : CycleHead} (heads : Heads) (depth : StackDepth) → at_depth heads depth ≡ Some x → some_heads heads ≡ true
 found_is_some [] depth found = absurd cc
@@ -89,11 +86,11 @@ module _ (parent : StackDepth) (step : PathKind) where
     in_cycle_at = elim (cases_eq head.0 parent.0) [
       | inl own ↦ rw (eq-eqb head.0 parent.0 own) refl
       | inr other ↦ rw (ne_eqb head.0 parent.0 other)
-          (ap (λ b. is_some s.usages || b) (found_is_some (with_head s.heads head (extended used.paths_to_head step) used.usages) head (at_depth-insert_same head (joined_head (at_depth s.heads head) (extended used.paths_to_head step) used.usages) s.heads)) ∙ or_true (is_some s.usages))
+          (ap (λ b. is_some s.usages || b) (found_is_some (with_head s.heads head (extended used.paths_to_head step) used.usages) head (at_depth-insert_same head (joined_head (at_depth s.heads head) (extended used.paths_to_head step) used.usages) s.heads)) ∙ or-true (is_some s.usages))
     ]
 
     pub cycle_taken : (is_in_cycle (with_used_head parent step head used s) || some_heads rest) ≡ (is_in_cycle s || some_heads ((head, used) ∷ rest))
-    cycle_taken = ap (λ b. b || some_heads rest) in_cycle_at ∙ sym (or_true (is_in_cycle s))
+    cycle_taken = ap (λ b. b || some_heads rest) in_cycle_at ∙ sym (or-true (is_in_cycle s))
 
     candidate_here : (with_used_head parent step head used s).candidate_usages ≡ candidate_over s.candidate_usages head used
     candidate_here = elim (cases_eq head.0 parent.0) [
@@ -109,10 +106,6 @@ module _ (parent : StackDepth) (step : PathKind) where
       | inl own ↦ rw (eq-eqb head.0 parent.0 own) (ap (λ (t : EntryState X I R A T). record t { usages = usages_over s.usages (Some used); candidate_usages = candidate_over s.candidate_usages head used }) same)
       | inr other ↦ rw (ne_eqb head.0 parent.0 other) (ap (λ (t : EntryState X I R A T). record t { heads = with_head s.heads head (extended used.paths_to_head step) used.usages; candidate_usages = candidate_over s.candidate_usages head used }) same)
     ]
-
-or_false : (a : Bool) → (a || false) ≡ a
-or_false true = refl
-or_false false = refl
 
 nothing_more : (b : Bool) (o : Option CycleHead) → o ≡ (if b then o else o)
 nothing_more true o = refl
@@ -145,7 +138,7 @@ module _ {X I R A T : Type 0} (parent : StackDepth) (step : PathKind) where
         ∙ in_candidate depth
         ∙ ap (λ l. counted_over depth old.candidate_usages (at_depth l depth)) whole;
     in_cycle =
-        sym (or_false (is_in_cycle new))
+        sym (or-false (is_in_cycle new))
         ∙ ap (λ l. is_in_cycle new || some_heads l) (sym none)
         ∙ in_cycle
         ∙ ap (λ l. is_in_cycle old || some_heads l) whole;

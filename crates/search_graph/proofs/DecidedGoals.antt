@@ -2,7 +2,7 @@
 use Rattle.std.proofs.Common.{◌≡◌, ◌≢◌, ℕ, zero, suc, ◌+◌, Bool, true, false, if◌then◌else◌, List, [], ◌∷◌, ◌++◌, map, reverse, drop, Option, None, Some, unwrap_or, slice_get, refl, sym, ap, ◌∙◌, subst, inl, inr, arith}
 use Rattle.std.specs.Option.{IfSome}
 use Rattle.std.proofs.lemmas.Grind.{reverse_onto}
-use Rattle.std.proofs.lemmas.List.{drop-map, map-append}
+use Rattle.std.proofs.lemmas.List.{drop-map, map-append, reverse-append}
 use Rattle.open_graphs.specs.Graph as theory
 use Rattle.open_graphs.proofs.Lists.{get_cases}
 use Rattle.search_graph.specs.Below.{PathKind, Inductive, Unknown, Coinductive, ForcedAmbiguity, Reply, StackEntry, path_kind_from, IsDecidedKind, IsDecidedReply, AreDecided, IsDefinite, IsCycleResult, greater_kind, greatest_kind, is_coinductive, is_inductive, Run, Verdicts}
@@ -103,10 +103,6 @@ module _ {X F I R A T : Type 0} (says : Verdicts R) where
       cycle_at says e.state.provisional_result initial (provisional_at goals h head e at)
       (initial_definite (path_kind_from (reverse (map (λ s. s.0) goals)) head step) (says.is_yes initial) (says.is_no initial) (path_decided goals head step h decided) sorted.yes sorted.no)
 
-reverse_snoc : {A : Type 0} (xs : List A) (x : A) → reverse (xs ++ x ∷ []) ≡ x ∷ reverse xs
-reverse_snoc [] x = refl
-reverse_snoc (y ∷ ys) x = reverse_onto (ys ++ x ∷ []) y [] ∙ ap (λ l. l ++ y ∷ []) (reverse_snoc ys x) ∙ ap (λ l. x ∷ l) (sym (reverse_onto ys y []))
-
 -- one reply more
 pub replied_decided : {R : Type 0} (says : Verdicts R) (replies : List (Reply R)) (reply : Reply R) → IsDecidedReply says reply → AreDecided says (reverse replies) → AreDecided says (reverse (replies ++ reply ∷ []))
-replied_decided says replies reply decided h = subst (AreDecided says) (sym (reverse_snoc replies reply)) (decided, h)
+replied_decided says replies reply decided h = subst (AreDecided says) (sym (reverse-append replies (reply ∷ []))) (decided, h)

@@ -1,6 +1,6 @@
 -- What is known of a goal by what becomes of it.
 use Rattle.std.proofs.Common.{◌≡◌, ℕ, ◌+◌, ◌<◌, ◌≤◌, max, Bool, true, ◌||◌, is_some, IsSome, List, ◌∷◌, Option, None, Some, Result, Err, option_map, refl, sym, ap, ◌∙◌, subst, arith, inl, inr}
-use Rattle.std.proofs.lemmas.Bool.{cases_eq}
+use Rattle.std.proofs.lemmas.Bool.{cases_eq, or_left}
 use Rattle.search_graph.specs.Below.{PathKind, Inductive, Unknown, Coinductive, ForcedAmbiguity, HeadUsages, count_of, RebaseReason, StackEntry, Run, is_in_cycle, some_heads, newest}
 use Rattle.search_parts.specs.declared.parts.provisional_cache.RebaseReason.TheVariants as reason
 use Rattle.search_graph.specs.Words.{Unstable, AtLimit, IsReason, IsEndOfRun, IsUsed, Repeated, Initial, Stable, Limited, Repeats}
@@ -46,9 +46,6 @@ module _ {X I R A T : Type 0} (same : R → R → Bool) (initial_kind : R → Op
   unstable e (Limited used is never many) at = absurd cc
   unstable e (Repeats used is never few) at = (ap is_some is, few)
 
-used_is_in_cycle : (b c : Bool) → b ≡ true → (b || c) ≡ true
-used_is_in_cycle b c is = ap (λ x. x || c) is
-
 -- what was read of the newest goal holds of it
 module _ {X F I R A T : Type 0} (goals : List (StackEntry X I R A T × Run X F I R A T)) (e : StackEntry X I R A T) (y : Run X F I R A T) (entry_is : option_map (λ s. s.0) (newest goals) ≡ Some e) (run_is : option_map (λ s. s.1) (newest goals) ≡ Some y) where
   of_newest : (P : StackEntry X I R A T → Run X F I R A T → Type 0) → P e y → (s : StackEntry X I R A T × Run X F I R A T) (below : List (StackEntry X I R A T × Run X F I R A T)) → goals ≡ s ∷ below → P s.0 s.1
@@ -62,9 +59,9 @@ module _ {X F I R A T : Type 0} (goals : List (StackEntry X I R A T × Run X F I
   pub newest_limited : (limit : ℕ) → (is_some e.state.usages ≡ true) × (limit ≤ y.finished_runs + 1) → (s : StackEntry X I R A T × Run X F I R A T) (below : List (StackEntry X I R A T × Run X F I R A T)) → goals ≡ s ∷ below → (is_in_cycle s.0.state ≡ true) × (max 1 limit ≤ s.1.finished_runs + 1)
   newest_limited limit is =
       let many : max 1 limit ≤ y.finished_runs + 1 = omega (arith, is.1) in
-      of_newest (λ d r. (is_in_cycle d.state ≡ true) × (max 1 limit ≤ r.finished_runs + 1)) (used_is_in_cycle (is_some e.state.usages) (some_heads e.state.heads) is.0, many)
+      of_newest (λ d r. (is_in_cycle d.state ≡ true) × (max 1 limit ≤ r.finished_runs + 1)) (or_left (is_some e.state.usages) (some_heads e.state.heads) is.0, many)
 
   pub newest_unstable : (limit : ℕ) → (is_some e.state.usages ≡ true) × (y.finished_runs + 1 < limit) → (s : StackEntry X I R A T × Run X F I R A T) (below : List (StackEntry X I R A T × Run X F I R A T)) → goals ≡ s ∷ below → (is_in_cycle s.0.state ≡ true) × (s.1.finished_runs + 1 < max 1 limit)
   newest_unstable limit is =
       let few : y.finished_runs + 1 < max 1 limit = omega (arith, is.1) in
-      of_newest (λ d r. (is_in_cycle d.state ≡ true) × (r.finished_runs + 1 < max 1 limit)) (used_is_in_cycle (is_some e.state.usages) (some_heads e.state.heads) is.0, few)
+      of_newest (λ d r. (is_in_cycle d.state ≡ true) × (r.finished_runs + 1 < max 1 limit)) (or_left (is_some e.state.usages) (some_heads e.state.heads) is.0, few)

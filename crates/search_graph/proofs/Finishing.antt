@@ -11,6 +11,7 @@ use Rattle.search_graph.specs.Runs.{Again}
 use Rattle.search_graph.proofs.Justified.{EndsWithNode, pushed_is_justified, recounted_is_justified, again_ends, neither_ends, anew_ends}
 use Rattle.search_graph.proofs.ProgressEdges.{yes_edges_are, no_edges_are, edge_is_of_answer}
 use Rattle.search_graph.proofs.Replies.{verdict_is, in_theory_definite}
+use Rattle.search_graph.proofs.Verdicts.{fails_unless}
 
 -- ---- places in a list
 
@@ -164,19 +165,9 @@ module _ {I R : Type 0} (says : Verdicts R) (nodes : List (CacheNode I R)) (earl
       let same : verdict_shape v ≡ verdict_of says r = verdict_is says r v holds fails definite in
       Again (λ e. in_theory_definite v definite (same ∙ e)) (repeats ∙ ap Some same) refl
 
-  not_true : (b : Bool) → (IsTrue b → ⊥) → b ≡ false
-  not_true true never = absurd (never refl)
-  not_true false never = refl
-
-  neither_is_no_yes : v ≡ Neither → v ≡ Yes → ⊥
-  neither_is_no_yes is also = let e : Neither ≡ Yes = sym is ∙ also in cc
-
-  neither_is_no_no : v ≡ Neither → v ≡ No → ⊥
-  neither_is_no_no is also = let e : Neither ≡ No = sym is ∙ also in cc
-
   -- any other leaves it open
   pub left_open : v ≡ Neither → HasResultNode says nodes nodes earlier node lead p r None
-  left_open is = LeftOpen (neither_at (says.is_yes r) (says.is_no r) (not_true (says.is_yes r) (λ t. neither_is_no_yes is (holds.1 t))) (not_true (says.is_no r) (λ t. neither_is_no_no is (fails.1 t)))) refl
+  left_open is = LeftOpen (neither_at (says.is_yes r) (says.is_no r) (fails_unless (says.is_yes r) (λ t. let e : Neither ≡ Yes = sym is ∙ holds.1 t in cc)) (fails_unless (says.is_no r) (λ t. let e : Neither ≡ No = sym is ∙ fails.1 t in cc))) refl
 
   -- where the result is definite, so is its verdict
   pub definite_result : v ≢ Neither → IsDefinite says r

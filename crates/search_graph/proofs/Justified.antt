@@ -5,7 +5,8 @@ use Rattle.std.proofs.lemmas.List.{map-append, map-set, length-map}
 use Rattle.open_graphs.specs.Graph as theory
 use Rattle.search_graph.specs.Below.{Entry, path_kind, IsClosedGraph, Use, Includes, IncludesBelow, UsesNo, RunningGoal, ProvisionalEntry, Final, stack_of, in_first_run, in_next_run, answering, OwnsOther, IsSoundState, TakesIn, Answered, Again, Anew, Without, IsAnsweredEdge, AllAnswered, PathKind, Edge, Request, NodeId, heads_shape, no_usages, rank_of, EndedRun, CacheNode, open_node, open_goal, with_run, IsNodeOf, KeepsNodes, KeepsGoals, verdict_of, edge_shape, shape_of, shapes_of, DefiniteAnswer, HasGraph, counted_by, Verdicts}
 use Rattle.open_graphs.specs.Use as theory_use
-use Rattle.open_graphs.proofs.Lists.{get_cases, get_set_other}
+use Rattle.open_graphs.proofs.Lists.{get_cases, get_end, get_set_other}
+use Rattle.open_graphs.proofs.Verdicts.{same as same_verdicts}
 use Rattle.open_graphs.proofs.States.{push_keeps_sound, answers_keep_sound, pop_keeps_sound, rerun_keeps_sound, start_is_sound, verdict_cases}
 use Rattle.open_graphs.proofs.Asked.{done_is_answered}
 use Rattle.open_graphs.proofs.Runs.{answered_grows, root_is_graph}
@@ -84,21 +85,6 @@ same_verdict-refl theory.Yes = refl
 same_verdict-refl theory.No = refl
 same_verdict-refl theory.Neither = refl
 
-verdicts_same : (v w : theory.Verdict) → theory.same_verdict v w ≡ true → v ≡ w
-verdicts_same theory.Yes theory.Yes h = refl
-verdicts_same theory.No theory.No h = refl
-verdicts_same theory.Neither theory.Neither h = refl
-verdicts_same theory.Yes theory.No h = absurd cc
-verdicts_same theory.Yes theory.Neither h = absurd cc
-verdicts_same theory.No theory.Yes h = absurd cc
-verdicts_same theory.No theory.Neither h = absurd cc
-verdicts_same theory.Neither theory.Yes h = absurd cc
-verdicts_same theory.Neither theory.No h = absurd cc
-
-get_last : {A : Type 0} (xs : List A) (x : A) → slice_get (xs ++ x ∷ []) (length xs) ≡ Some x
-get_last [] x = refl
-get_last (y ∷ ys) x = get_last ys x
-
 pub no_answers : {A : Type 0} (i : ℕ) (a : A) → slice_get [] i ≡ Some a → ⊥
 no_answers i a is = cc
 
@@ -155,13 +141,13 @@ module _ {I R : Type 0} (says : Verdicts R) (nodes : List (CacheNode I R)) where
   opened_grows goal = subst (theory.Grown (shapes_of says nodes)) (sym (shapes_opened goal)) (append_grows (shapes_of says nodes))
 
   new_node_is : (goal : I) → IsNodeOf (nodes ++ open_node goal ∷ []) (length nodes) goal
-  new_node_is goal = ap (option_map (λ n. n.goal)) (get_last nodes (open_node goal))
+  new_node_is goal = ap (option_map (λ n. n.goal)) (get_end nodes (open_node goal))
 
   -- the goal that was asked is pushed
   pub pushed_is_justified : (goal : I) (step : PathKind) (own : NodeId) (goals : List (OpenRun I R)) → own.0 ≡ length nodes → Asks goals step goal → AreJustified says nodes goals → AreJustified says (nodes ++ open_node goal ∷ []) (new_run goal step own (Some own) None no_tally ∷ goals)
   pushed_is_justified goal step own goals at asks h =
       let many : length (shapes_of says nodes) ≡ own.0 = length-map nodes (shape_of says) ∙ sym at in
-      let last : slice_get (nodes ++ open_node goal ∷ []) own.0 ≡ Some (open_node goal) = ap (slice_get (nodes ++ open_node goal ∷ [])) at ∙ get_last nodes (open_node goal) in
+      let last : slice_get (nodes ++ open_node goal ∷ []) own.0 ≡ Some (open_node goal) = ap (slice_get (nodes ++ open_node goal ∷ [])) at ∙ get_end nodes (open_node goal) in
       record {
         sound =
             subst (λ more. IsSoundState more (frames_of says (new_run goal step own (Some own) None no_tally ∷ goals)) [] []) (sym (shapes_opened goal))
@@ -241,7 +227,7 @@ module _ {I R : Type 0} (says : Verdicts R) (nodes : List (CacheNode I R)) where
       subst (λ x. IsAnsweredEdge (shapes_of says nodes) other (stack_of (frames_of says below)) (frame_of says o).entry x (heads_shape o.tally.heads)) (ap edge_shape from.3 ∙ e.2)
       (answered_more (shapes_of says nodes) other (stack_of (frames_of says below)) (frame_of says o).entry (edge_shape from.1.edge) (heads_of o.tally from.1.candidate) (heads_shape o.tally.heads)
       (λ depth path cycle lower. charge_within (length below) o.tally tallied from.1.candidate depth path cycle)
-      (subst (λ v. IsAnsweredEdge (shapes_of says nodes) v (stack_of (frames_of says below)) (frame_of says o).entry (edge_shape from.1.edge) (heads_of o.tally from.1.candidate)) (from.4 ∙ verdicts_same verdict other same)
+      (subst (λ v. IsAnsweredEdge (shapes_of says nodes) v (stack_of (frames_of says below)) (frame_of says o).entry (edge_shape from.1.edge) (heads_of o.tally from.1.candidate)) (from.4 ∙ sym (same_verdicts verdict other same))
       (charged from.0 from.1 from.2 from.5)))
 
   -- other goals' nodes are still open
@@ -421,7 +407,7 @@ module _ {I R : Type 0} (says : Verdicts R) (nodes after : List (CacheNode I R))
     rerun_is_justified =
         let v = verdict_of says r in
         let many : length (shapes_of says after) ≡ own.0 = length-map after (shape_of says) ∙ sym at in
-        let last : slice_get (after ++ open_node o.goal ∷ []) own.0 ≡ Some (open_node o.goal) = ap (slice_get (after ++ open_node o.goal ∷ [])) at ∙ get_last after (open_node o.goal) in
+        let last : slice_get (after ++ open_node o.goal ∷ []) own.0 ≡ Some (open_node o.goal) = ap (slice_get (after ++ open_node o.goal ∷ [])) at ∙ get_end after (open_node o.goal) in
         let again = rerun_keeps_sound (shapes_of says nodes) (answering (frame_of says o) s.edges (heads_shape o.tally.heads)) (frames_of says below) [] [] [] v (shapes_of says after) s.place s.answered (λ i k is. absurd (no_answers i k is)) s.sound in
         record {
           sound =

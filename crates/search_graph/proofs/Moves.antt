@@ -1,6 +1,7 @@
 -- Each move of the driver is a move of the theory of evaluations.
 use Rattle.std.proofs.Common.{◌≡◌, ℕ, zero, suc, ◌+◌, ◌-◌, ◌*◌, ◌/◌, ◌^◌, ◌<◌, ◌≤◌, max, nat_eq, if◌then◌else◌, Bool, true, false, List, [], ◌∷◌, length, map, reverse, Option, Some, None, IfSome, unwrap_or, refl, sym, ap, ◌∙◌, subst, arith, ap₂, inl, inr, ◌||◌, ◌⊎◌, is_some, mul-le-mul_left, mul-le-mul_right}
 use Rattle.std.specs.List.{list_any}
+use Rattle.std.proofs.lemmas.Bool.{or_right, true≢false}
 use Rattle.std.proofs.lemmas.Bool.Decides.{nat_tests}
 use Rattle.search_graph.specs.Below.{CacheNode, DelegateOf, CxOf, Request, Evaluate, Done, Reply, Begin, Answer, PathKind, NodeId, AvailableDepth, StackDepth, EntryState, Heads, NestedPaths, StackEntry, depth_below, frames_within, Verdict, Fault, Memory, Protocol, IsFitting, progress_after, order_fault, fault_after, CountsOne, Steps, IsCycleResult, Outcome, run_again, IsAllowed, HasNoRank, IsPlainTo, AreSafe, IsRooted, IsEvaluating, at, Ends, with_replies, TakesStep, TakesReply, ItemLeaves, IsAmong, AreSeen, Mirror, Waits, Run, Next, Step, Finished, Received, overflowed, first_entry, with_nested_goals, is_in_cycle, cycle_head, some_heads, TakesAnswer, requested, fault_of, IsReplySorted, Stood, CanStep, IsVerdict, received_by, HasStepped, IsStepFault, NoMemoryLeft, OutOfOrder, path_kind_from, IsDecidedKind, AreDecided, IsDecisive, IsDefinite, AnswersNewest, rerun_with, with_no_record, verdicts}
 use Rattle.evaluations.specs.Frames.{Frame, answered}
@@ -10,9 +11,6 @@ use Rattle.evaluations.proofs.Plains.{unranked_is_safe}
 use Rattle.search_graph.specs.Words.{EndsNewest, Call, runs, limits, bound, IsCounted, KeepsLimits, AllDecided, Decidedly, seen, IsWaiting, work_left, HasAsked, GoesOn, HasStopped, Leads, first_run, Pushes, Reruns, CanLeave, Leaves, ClosesCycle}
 use Rattle.search_graph.proofs.ProgressLaws.{records_new, records_received, fault_is}
 use Rattle.search_graph.proofs.DecidedGoals.{below_decided, changed_decided, cycle_decided, newest_decided, pushed_decided, replied_decided}
-
-true_is_not_false : true ≡ false → ⊥
-true_is_not_false is = cc
 
 pub some_runs : (n : ℕ) → 1 ≤ max 1 n
 some_runs n = omega arith
@@ -44,13 +42,9 @@ module _ {D C V P F I R A T : Type 0} (G : DelegateOf D C V P F I R A T) (X : Cx
   abbrev pub outcome_of : R → StackEntry C I R A T × Run C F I R A T → Outcome R
   outcome_of r s = record { result = r; required = s.0.state.required_depth; met_overflow = s.0.state.encountered_overflow || s.1.met_overflow_before; in_cycle = some_heads s.0.state.heads }
 
-  in_cycle_of : (used : Bool) (heads : Heads) → some_heads heads ≡ true → (used || some_heads heads) ≡ true
-  in_cycle_of true heads some = refl
-  in_cycle_of false heads some = some
-
   -- what a popped goal leaves: its run's result, or, of a goal in a cycle, any result
   pub leaving : (done r : R) (s : StackEntry C I R A T × Run C F I R A T) → (r ≡ done) ⊎ (is_in_cycle s.0.state ≡ true) → ItemLeaves done (seen G X cx s) (outcome_of r s)
-  leaving done r s result = record { result = result; required = refl; met_overflow = refl; in_cycle = in_cycle_of (is_some s.0.state.usages) s.0.state.heads }
+  leaving done r s result = record { result = result; required = refl; met_overflow = refl; in_cycle = or_right (is_some s.0.state.usages) (some_heads s.0.state.heads) }
 
 module _ {D C V P F I R A T : Type 0} (G : DelegateOf D C V P F I R A T) (X : CxOf C I R A T) (cx : C) (call : Call I) where
   abbrev Goal : Type 0
@@ -171,7 +165,7 @@ module _ {D C V P F I R A T : Type 0} (G : DelegateOf D C V P F I R A T) (X : Cx
                 let deep : 0 < s.0.available_depth.0 = (requested_fits (seen G X cx) (Stood G X cx) (G.script cx) (limits G X cx call) (IsCounted G X cx call) call.top (bound G X cx call) ahead (Evaluate kind goal) s below starts met n p fits h.asked).1 kind goal refl in
                 absurd (omega arith);
           };
-          decided = λ decisive unmet. absurd (true_is_not_false unmet);
+          decided = λ decisive unmet. absurd (true≢false unmet);
         };
         falls = w.1;
       }
@@ -396,13 +390,13 @@ module _ {D C V P F I R A T : Type 0} (G : DelegateOf D C V P F I R A T) (X : Cx
     limited_leads [] new starts met may l h = absurd l
     limited_leads (s ∷ []) new starts met may l h =
         let can = may s [] refl in
-        ended_leads s new starts met true l.0 l.1 l.2 (limit_kept ahead (Done done) s [] starts met can.0 h) (λ decisive unmet. absurd (true_is_not_false unmet)) h
+        ended_leads s new starts met true l.0 l.1 l.2 (limit_kept ahead (Done done) s [] starts met can.0 h) (λ decisive unmet. absurd (true≢false unmet)) h
         (last_item_ends_at_limit (seen G X cx) (Stood G X cx) (G.script cx) (limits G X cx call) (IsCounted G X cx call) call.top (bound G X cx call) done (outcome_of G X cx r s) ahead starts met s can.1 (leaving G X cx done r s (inr can.0)) h.asked)
     limited_leads (s ∷ p ∷ below) new starts met may l h =
         let can = may s (p ∷ below) refl in
         let t = l.2 in
         let was : HasAsked G X cx call ahead (Done done) (s ∷ (t.entry, t.run) ∷ t.below) starts met = subst (λ v. HasAsked G X cx call ahead (Done done) (s ∷ v) starts met) t.was h in
-        popped_leads s p below new starts met true l.0 l.1 (limit_kept ahead (Done done) s (p ∷ below) starts met can.0 h) (λ decisive unmet. absurd (true_is_not_false unmet)) t
+        popped_leads s p below new starts met true l.0 l.1 (limit_kept ahead (Done done) s (p ∷ below) starts met can.0 h) (λ decisive unmet. absurd (true≢false unmet)) t
         (λ later takes. popped_at_limit_waits (seen G X cx) (Stood G X cx) (G.script cx) (limits G X cx call) (IsCounted G X cx call) call.top (bound G X cx call) (some_runs G.FIXPOINT_STEP_LIMIT) ahead starts met s t.below done (outcome_of G X cx r s) (t.entry, t.run) later can.1 (leaving G X cx done r s (inr can.0)) takes was.asked)
 
   -- the run that ended is on record

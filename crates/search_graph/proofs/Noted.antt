@@ -4,6 +4,7 @@ use Rattle.std.specs.Option.{IfSome, IsSomeAnd}
 use Rattle.std.proofs.lemmas.Bool.Decides.{nat_tests}
 use Rattle.std.proofs.lemmas.List.{get_or-set_same, get_or-set_other, length-map, length-set}
 use Rattle.std.proofs.lemmas.Option.{slice_get-get_or}
+use Rattle.open_goals.proofs.Pairs.{is_none}
 use Rattle.search_graph.specs.Below.{DelegateOf, CxOf, NodeId, Request, Evaluate, EnterCandidate, FinishCandidate, Ignore, Done, Noted, Verdict, Neither, StoredResult, EntryState, StackEntry, CacheNode, IsReplyTo, Store, UsagesByHead, Received, Run, enters, finishes, CanIgnore, CanNote, IgnoresNewest, Ignores, NotesCandidate, is_in_cycle, IsDefinite, change_newest, RunRecord, answered, counted_by, ignored_by, received, requested, HasStepped, Stood, Verdicts, verdicts}
 use Rattle.evaluations.specs.Frames.{Frame}
 use Rattle.evaluations.proofs.Mirrors.{noted_waits}
@@ -31,10 +32,6 @@ may_ignore : (finished ignored : Bool) → if◌then◌else◌ {A = Option ℕ} 
 may_ignore true true is = absurd cc
 may_ignore true false is = (refl, refl)
 may_ignore false ignored is = absurd cc
-
-nothing_in : {A : Type 0} (o : Option A) → is_some o ≡ false → o ≡ None
-nothing_in None is = refl
-nothing_in (Some x) is = absurd cc
 
 something_in : {A : Type 0} (o : Option A) (otherwise : A) → is_some o ≡ true → o ≡ Some (unwrap_or o otherwise)
 something_in None otherwise is = absurd cc
@@ -64,21 +61,9 @@ counted_before ignored n (Some m) within kept =
 
 -- which candidate is open, and which are ignored, doesn't rest on the verdict of an answer
 module _ {I R : Type 0} (p : RunRecord I R) (verdict : Verdict) (target : Option NodeId) where
-  open_same : (request : Option (Request I R)) → (answered p request verdict target).is_open ≡ (answered p request Neither None).is_open
-  open_same None = refl
-  open_same (Some (Evaluate kind goal)) = refl
-  open_same (Some EnterCandidate) = refl
-  open_same (Some FinishCandidate) = refl
-  open_same (Some (Ignore n)) = refl
-  open_same (Some (Done r)) = refl
-
-  ignored_same : (request : Option (Request I R)) → (answered p request verdict target).ignored ≡ (answered p request Neither None).ignored
-  ignored_same None = refl
-  ignored_same (Some (Evaluate kind goal)) = refl
-  ignored_same (Some EnterCandidate) = refl
-  ignored_same (Some FinishCandidate) = refl
-  ignored_same (Some (Ignore n)) = refl
-  ignored_same (Some (Done r)) = refl
+  acted_same : (request : Option (Request I R)) → record (answered p request verdict target) { answers = p.answers } ≡ record (answered p request Neither None) { answers = p.answers }
+  acted_same (Some (Evaluate kind goal)) = refl
+  acted_same request = refl
 
 -- ---- the newest goal that ignores a candidate
 
@@ -134,13 +119,13 @@ module _ {D C V P F I R A T : Type 0} (G : DelegateOf D C V P F I R A T) (X : Cx
         (subst (λ (v : Goals). AreJustified (verdicts X) nodes (runs_of v)) s.was h)
 
     has_open : is_some s.entry.state.candidate_usages ≡ replied_record.is_open
-    has_open = got.tallies.0.open_is ∙ sym (open_same s.run.progress s.verdict given.node s.run.progress.request)
+    has_open = got.tallies.0.open_is ∙ ap (λ (p : RunRecord I R). p.is_open) (sym (acted_same s.run.progress s.verdict given.node s.run.progress.request))
 
     has_finished : length s.run.candidates ≡ length replied_record.ignored
-    has_finished = got.tallies.0.finished_are ∙ ap length (sym (ignored_same s.run.progress s.verdict given.node s.run.progress.request))
+    has_finished = got.tallies.0.finished_are ∙ ap (λ (p : RunRecord I R). length p.ignored) (sym (acted_same s.run.progress s.verdict given.node s.run.progress.request))
 
     counted_as_before : (c : Option ℕ) → counted_by replied_record.ignored c ≡ true → counted_by replied_goal.ignored c ≡ true
-    counted_as_before c kept = ap (λ ignored. counted_by ignored c) (sym (ignored_same s.run.progress s.verdict given.node s.run.progress.request)) ∙ kept
+    counted_as_before c kept = ap (λ (p : RunRecord I R). counted_by p.ignored c) (sym (acted_same s.run.progress s.verdict given.node s.run.progress.request)) ∙ kept
 
     abbrev tally_before : Tally
     tally_before = tally_of s.entry.state s.run.candidates
@@ -172,7 +157,7 @@ module _ {D C V P F I R A T : Type 0} (G : DelegateOf D C V P F I R A T) (X : Cx
     -- a candidate is entered
     entered_is_justified : replied_record.is_open ≡ false → AreJustified (verdicts X) nodes (record replied_goal { tally = record tally_before { current = Some [] }; is_open = true; ignored = replied_record.ignored; request = Some request } ∷ runs_of s.below)
     entered_is_justified closed =
-        regrouped_is_justified (Some []) s.run.candidates true replied_record.ignored (entered_regroups tally_before (nothing_in s.entry.state.candidate_usages (has_open ∙ closed))) refl has_finished (λ c kept. kept)
+        regrouped_is_justified (Some []) s.run.candidates true replied_record.ignored (entered_regroups tally_before (is_none s.entry.state.candidate_usages (has_open ∙ closed))) refl has_finished (λ c kept. kept)
 
     -- the open one is finished
     finished_is_justified : replied_record.is_open ≡ true → AreJustified (verdicts X) nodes (record replied_goal { tally = record tally_before { current = None; finished = s.run.candidates ++ unwrap_or s.entry.state.candidate_usages [] ∷ [] }; is_open = false; ignored = replied_record.ignored ++ false ∷ []; request = Some request } ∷ runs_of s.below)

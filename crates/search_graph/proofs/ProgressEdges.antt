@@ -1,20 +1,13 @@
 -- The edges that the record of a run gives, and the run that its node keeps.
 use Rattle.std.proofs.Common.{◌≡◌, ℕ, Bool, true, false, not, ◌&&◌, List, map, slice_index_or, Option, Some, None, refl, sym, ap, ◌∙◌}
 use Rattle.std.specs.List.{filter, All, Contains}
+use Rattle.std.proofs.lemmas.Bool.{and_parts}
 use Rattle.std.proofs.lemmas.List.Elements.{filter_agree, filter_passes, All-filter, All-map, All-contains, All-contains_itself}
 use Rattle.std.proofs.lemmas.Simd.{map-map}
 use Rattle.search_graph.specs.Below.{Request, Reply, Verdict, Yes, No, Edge, Question, question_of, Progress, Asked, progress_after, is_counted, questions_answered, DefiniteAnswer, RunRecord, is_same_verdict, asked_of, asked_in, asked_with, counted_by, edges_of, IsEdgeOfAnswer, Agrees, Records, Verdicts}
 use Rattle.open_goals.specs.Progress.{rests_on}
 use Rattle.search_parts.proofs.Filtered.{filtered_twice}
 use Rattle.search_graph.proofs.Verdicts.{same_verdict}
-
-second_true : (a b : Bool) → (a && b) ≡ true → b ≡ true
-second_true true b is = is
-second_true false b is = absurd cc
-
-first_true : (a b : Bool) → (a && b) ≡ true → a ≡ true
-first_true true b is = refl
-first_true false b is = cc
 
 module _ {I R : Type 0} (p : RunRecord I R) (v : Verdict) where
   -- each edge is that of an answer with the verdict
@@ -24,7 +17,7 @@ module _ {I R : Type 0} (p : RunRecord I R) (v : Verdict) where
       let within = All-filter (rests_on p.ignored v) (Contains p.answers) p.answers (All-contains_itself p.answers) in
       let passes = filter_passes (rests_on p.ignored v) p.answers in
       let each : All (λ d. IsEdgeOfAnswer p.answers p.ignored v d.edge) some =
-      λ k d below. record { answer = slice_index_or some k d; is_in = within k d below; verdict_is = same_verdict _ _ (first_true _ _ (passes k d below)); edge_is = refl; kept = second_true _ _ (passes k d below) } in
+      λ k d below. record { answer = slice_index_or some k d; is_in = within k d below; verdict_is = same_verdict _ _ ((and_parts _ _ (passes k d below)).0); edge_is = refl; kept = (and_parts _ _ (passes k d below)).1 } in
       All-contains (IsEdgeOfAnswer p.answers p.ignored v) (edges_of p v) e (All-map (IsEdgeOfAnswer p.answers p.ignored v) (λ d. d.edge) some each) there
 
 module _ {I R : Type 0} (says : Verdicts R) where

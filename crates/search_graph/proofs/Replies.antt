@@ -2,6 +2,7 @@
 use Rattle.std.proofs.Common.{◌≡◌, ◌≢◌, ℕ, Bool, true, false, IsTrue, if◌then◌else◌, ◌↔◌, List, [], ◌∷◌, length, Option, None, Some, IsSome, refl, sym, ap, ◌∙◌, subst, inl, inr}
 use Rattle.std.specs.Option.{IsSomeAnd}
 use Rattle.open_graphs.specs.Graph as theory
+use Rattle.search_parts.proofs.Definites.{no_verdict, yes_verdict}
 use Rattle.search_graph.specs.Below.{DelegateOf, CxOf, PathKind, Verdict, Yes, No, Neither, NodeId, Request, Evaluate, EnterCandidate, FinishCandidate, Ignore, Done, Reply, Begin, Answer, Noted, StackEntry, CacheNode, verdict_of, Fits, IsFitting, request_after, Run, Received, DefiniteAnswer, RunRecord, received, answered, answers_after, IsReplySorted, KeepsAnswer, open_number, edge_to, IsVerdict, Verdicts, verdicts}
 use Rattle.search_graph.specs.Words.{verdict_shape, AreJustified, MayAnswer, IsFit, run_of, runs_of, Call, IsWaiting}
 use Rattle.search_graph.proofs.Justified.{answered_is_justified}
@@ -10,31 +11,18 @@ use Rattle.search_graph.proofs.ProgressLaws.{answers_received}
 
 -- ---- verdicts
 
-yes_at : (y n : Bool) → IsTrue y → (if y then theory.Yes else if n then theory.No else theory.Neither) ≡ theory.Yes
-yes_at true n is = refl
-yes_at false n is = absurd cc
-
-no_at : (y n : Bool) → (IsTrue y → ⊥) → IsTrue n → (if y then theory.Yes else if n then theory.No else theory.Neither) ≡ theory.No
-no_at true n never is = absurd (never refl)
-no_at false true never is = refl
-no_at false false never is = absurd cc
-
-definite_at : (y n : Bool) → IsTrue y → (if y then theory.Yes else if n then theory.No else theory.Neither) ≢ theory.Neither
-definite_at true n is e = cc
-definite_at false n is e = cc
+not_neither : {v : theory.Verdict} → v ≡ theory.Yes → v ≢ theory.Neither
+not_neither is e = let clash : theory.Neither ≡ theory.Yes = sym e ∙ is in cc
 
 no_definite_at : (y n : Bool) → IsTrue n → (if y then theory.Yes else if n then theory.No else theory.Neither) ≢ theory.Neither
 no_definite_at true n is e = cc
 no_definite_at false true is e = cc
 no_definite_at false false is e = cc
 
-no_is_not_yes : No ≡ Yes → ⊥
-no_is_not_yes e = cc
-
 -- the verdict of an answer in the theory's words
 pub verdict_is : {R : Type 0} (says : Verdicts R) (r : R) (v : Verdict) → ((v ≡ Yes) ↔ IsTrue (says.is_yes r)) → ((v ≡ No) ↔ IsTrue (says.is_no r)) → v ≢ Neither → verdict_shape v ≡ verdict_of says r
-verdict_is says r Yes holds fails d = sym (yes_at (says.is_yes r) (says.is_no r) (holds.0 refl))
-verdict_is says r No holds fails d = sym (no_at (says.is_yes r) (says.is_no r) (λ y. no_is_not_yes (holds.1 y)) (fails.0 refl))
+verdict_is says r Yes holds fails d = sym (yes_verdict (says.is_yes r) (says.is_no r) (holds.0 refl))
+verdict_is says r No holds fails d = sym (no_verdict (says.is_yes r) (says.is_no r) (λ y. let e : No ≡ Yes = holds.1 y in absurd cc) (fails.0 refl))
 verdict_is says r Neither holds fails d = absurd (d refl)
 
 is_some_of : {A : Type 0} (o : Option A) (P : A → Type 0) → IsSomeAnd o P → IsSome o
@@ -43,31 +31,13 @@ is_some_of (Some x) P h = refl
 
 -- only a question is answered
 question_of_answer : {I R : Type 0} (request : Option (Request I R)) (r : R) → Fits request (Answer r) → (kind : PathKind) × (goal : I) × (request ≡ Some (Evaluate kind goal))
-question_of_answer None r fits = absurd fits
 question_of_answer (Some (Evaluate kind goal)) r fits = (kind, goal, refl)
-question_of_answer (Some EnterCandidate) r fits = absurd fits
-question_of_answer (Some FinishCandidate) r fits = absurd fits
-question_of_answer (Some (Ignore n)) r fits = absurd fits
-question_of_answer (Some (Done s)) r fits = absurd fits
+question_of_answer request r fits = absurd fits
 
 -- a reply that is no definite answer adds no answer
-unanswered_at : {I R : Type 0} (p : RunRecord I R) (kind : PathKind) (goal : I) (target : Option NodeId) → answers_after p kind goal Neither target ≡ p.answers
-unanswered_at p kind goal None = refl
-unanswered_at p kind goal (Some node) = refl
-
 unanswered : {I R : Type 0} (p : RunRecord I R) (request : Option (Request I R)) (target : Option NodeId) → (answered p request Neither target).answers ≡ p.answers
-unanswered p None target = refl
-unanswered p (Some (Evaluate kind goal)) target = unanswered_at p kind goal target
-unanswered p (Some EnterCandidate) target = refl
-unanswered p (Some FinishCandidate) target = refl
-unanswered p (Some (Ignore n)) target = refl
-unanswered p (Some (Done r)) target = refl
-
-yes_is_definite : Yes ≡ Neither → ⊥
-yes_is_definite e = cc
-
-no_is_definite : No ≡ Neither → ⊥
-no_is_definite e = cc
+unanswered p (Some (Evaluate kind goal)) target = refl
+unanswered p request target = refl
 
 pub in_theory_definite : (v : Verdict) → v ≢ Neither → verdict_shape v ≢ theory.Neither
 in_theory_definite Yes d e = cc
@@ -87,7 +57,7 @@ module _ {D C V P F I R A T : Type 0} (G : DelegateOf D C V P F I R A T) (X : Cx
       record {
         yes = verdict.0;
         no = verdict.1;
-        yes_node = λ y. is_some_of node _ (fit r asked.0 asked.1 refl asks (definite_at (X.is_yes r) (X.is_no r) y));
+        yes_node = λ y. is_some_of node _ (fit r asked.0 asked.1 refl asks (not_neither (yes_verdict (X.is_yes r) (X.is_no r) y)));
         no_node = λ n. is_some_of node _ (fit r asked.0 asked.1 refl asks (no_definite_at (X.is_yes r) (X.is_no r) n));
       }
 
@@ -124,6 +94,6 @@ module _ {D C V P F I R A T : Type 0} (G : DelegateOf D C V P F I R A T) (X : Cx
 
   -- the reply is on record
   pub replied_is_justified : (entry : StackEntry C I R A T) (run : Run C F I R A T) (reply : Reply R) (node : Option NodeId) (v : Verdict) (below : Goals) → IsVerdict (verdicts X) reply v → IsFit (verdicts X) nodes (runs_of ((entry, run) ∷ below)) reply node → AreJustified (verdicts X) nodes (runs_of ((entry, run) ∷ below)) → AreJustified (verdicts X) nodes (record (run_of (entry, run)) { answers = (received run.progress reply v node).answers } ∷ runs_of below)
-  replied_is_justified entry run reply node Yes below verdict fit h = definite_at_reply entry run reply node Yes below (λ e. yes_is_definite e) verdict fit h
-  replied_is_justified entry run reply node No below verdict fit h = definite_at_reply entry run reply node No below (λ e. no_is_definite e) verdict fit h
+  replied_is_justified entry run reply node Yes below verdict fit h = definite_at_reply entry run reply node Yes below (λ e. cc) verdict fit h
+  replied_is_justified entry run reply node No below verdict fit h = definite_at_reply entry run reply node No below (λ e. cc) verdict fit h
   replied_is_justified entry run reply node Neither below verdict fit h = same_answers entry run below (received run.progress reply Neither node).answers (unanswered run.progress run.progress.request node) h

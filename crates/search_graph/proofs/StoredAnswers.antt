@@ -1,5 +1,6 @@
 -- A stored result answers the newest goal's question, or the call.
 use Rattle.std.proofs.Common.{◌≡◌, ℕ, ◌<◌, ◌≤◌, ◌||◌, Bool, true, false, List, ◌∷◌, Some, None, refl, sym, ap, ◌∙◌, subst, arith}
+use Rattle.std.proofs.Math.Bool.{or-false}
 use Rattle.search_graph.specs.Below.{DelegateOf, CxOf, Evaluate, Answer, PathKind, WithOverflow, StoredResult, StackEntry, IsDefinite, Hit, NestedPaths, IsPlainTo, Store, stored_at, Outcome, IsAllowed, IsSafeOutcome, with_replies, TakesReply, Received, Run, with_depth, with_nested_goals, is_in_cycle, Stood, verdicts}
 use Rattle.evaluations.specs.Frames.{answered}
 use Rattle.evaluations.proofs.Mirrors.{answered_waits}
@@ -33,14 +34,10 @@ module _ {D C V P F I R A T : Type 0} (G : DelegateOf D C V P F I R A T) (X : Cx
     hit_is_definite : AreDefinite (verdicts X) same results → IsDefinite (verdicts X) hit.result
     hit_is_definite all = subst (IsDefinite (verdicts X)) u.result_is (all goal u.place u.stored u.is_stored)
 
-  in_cycle_still : (b : Bool) → (b || false) ≡ b
-  in_cycle_still true = refl
-  in_cycle_still false = refl
-
   -- the newest goal takes it over
   stored_taken : (entry : StackEntry C I R A T) (run : Run C F I R A T) (hit : Hit I R T) (nested : NestedPaths I) → TakesReply (seen G X cx) (Stood G X cx) (G.script cx) (λ g. answered g (outcome_of_hit hit)) (Answer hit.result) (entry, run) (record entry { state = with_nested_goals (with_depth entry.state hit.required_depth hit.encountered_overflow) nested }, run)
   stored_taken entry run hit nested = record {
-    same = λ replies. ap (λ b. record (with_replies (seen G X cx (record entry { state = with_nested_goals (with_depth entry.state hit.required_depth hit.encountered_overflow) nested }, run)) (Answer hit.result ∷ replies)) { in_cycle = b }) (in_cycle_still (is_in_cycle entry.state));
+    same = λ replies. ap (λ b. record (with_replies (seen G X cx (record entry { state = with_nested_goals (with_depth entry.state hit.required_depth hit.encountered_overflow) nested }, run)) (Answer hit.result ∷ replies)) { in_cycle = b }) (or-false (is_in_cycle entry.state));
     stood = λ replies stood. stood;
   }
 
