@@ -9,12 +9,11 @@ use Rattle.open_goals.specs.Words.{paired, newest}
 module _ {E F : Type 0} where
   entries_below : (below : List (E × F)) (es : List E) (fs : List F) → length es ≡ length fs → reverse (map (λ s. s.0) (paired below es fs)) ≡ reverse (map (λ s. s.0) below) ++ es
   entries_below below [] [] same = sym (append-nil (reverse (map (λ s. s.0) below)))
-  entries_below below [] (f ∷ fs) same = absurd (omega arith)
-  entries_below below (e ∷ es) [] same = absurd (omega arith)
   entries_below below (e ∷ es) (f ∷ fs) same =
       entries_below ((e, f) ∷ below) es fs (omega arith)
       ∙ ap (λ l. l ++ es) (reverse_onto (map (λ s. s.0) below) e [])
       ∙ append_assoc (reverse (map (λ s. s.0) below)) (e ∷ []) es
+  entries_below below es fs same = absurd (omega arith)
 
   pub entries_of_view : (es : List E) (fs : List F) (view : List (E × F)) → length es ≡ length fs → paired [] es fs ≡ view → es ≡ reverse (map (λ s. s.0) view)
   entries_of_view es fs view same is = sym (entries_below [] es fs same) ∙ ap (λ v. reverse (map (λ s. s.0) v)) is

@@ -21,22 +21,19 @@ is_none (Some x) absent = cc
 module _ {E F : Type 0} where
   pub length-paired : (below : List (E × F)) (es : List E) (fs : List F) → length es ≡ length fs → length (paired below es fs) ≡ length below + length fs
   length-paired below [] [] same = omega arith
-  length-paired below [] (f ∷ fs) same = absurd (omega arith)
-  length-paired below (e ∷ es) [] same = absurd (omega arith)
   length-paired below (e ∷ es) (f ∷ fs) same = omega (arith, length-paired ((e, f) ∷ below) es fs (omega arith))
+  length-paired below es fs same = absurd (omega arith)
 
   pub paired_push : (below : List (E × F)) (es : List E) (fs : List F) (e : E) (f : F) → length es ≡ length fs → paired below (es ++ e ∷ []) (fs ++ f ∷ []) ≡ (e, f) ∷ paired below es fs
   paired_push below [] [] e f same = refl
-  paired_push below [] (x ∷ fs) e f same = absurd (omega arith)
-  paired_push below (x ∷ es) [] e f same = absurd (omega arith)
   paired_push below (x ∷ es) (y ∷ fs) e f same = paired_push ((x, y) ∷ below) es fs e f (omega arith)
+  paired_push below es fs e f same = absurd (omega arith)
 
   -- the test is of the first half of each pair
   pub list_any-paired : (test : E → Bool) (below : List (E × F)) (es : List E) (fs : List F) → length es ≡ length fs → list_any (λ s. test s.0) (paired below es fs) ≡ (list_any test es || list_any (λ s. test s.0) below)
   list_any-paired test below [] [] same = refl
-  list_any-paired test below [] (f ∷ fs) same = absurd (omega arith)
-  list_any-paired test below (e ∷ es) [] same = absurd (omega arith)
   list_any-paired test below (e ∷ es) (f ∷ fs) same = list_any-paired test ((e, f) ∷ below) es fs (omega arith) ∙ turned (test e) (list_any test es) (list_any (λ s. test s.0) below)
+  list_any-paired test below es fs same = absurd (omega arith)
 
 module _ {E I : Type 0} (f : E → I) where
   found-step : (p : I → Bool) (e : E) (es : List E) → is_some (position p (map f es)) ≡ list_any (λ x. p (f x)) es → is_some (position p (map f (e ∷ es))) ≡ list_any (λ x. p (f x)) (e ∷ es)
@@ -80,14 +77,8 @@ pub record LastPair {E F : Type 0} (below : List (E × F)) (es : List E) (fs : L
 
 module _ {E F : Type 0} where
   pub last_pair : (below : List (E × F)) (es : List E) (fs : List F) (n : ℕ) (d : F) → length es ≡ length fs → suc n ≡ length fs → LastPair below es fs n d
-  last_pair below [] [] n d same at = absurd (omega arith)
-  last_pair below [] (f ∷ fs) n d same at = absurd (omega arith)
-  last_pair below (e ∷ es) [] n d same at = absurd (omega arith)
   last_pair below (e ∷ []) (f ∷ []) zero d same at = record { entry = e; rest = below; is = refl; after_set = λ x. refl; after_change = λ g. refl; after_both = λ g x. refl; entry_is = λ c. refl }
-  last_pair below (e ∷ []) (f ∷ []) (suc n) d same at = absurd (omega arith)
-  last_pair below (e ∷ []) (f ∷ f' ∷ fs) n d same at = absurd (omega arith)
-  last_pair below (e ∷ e' ∷ es) (f ∷ []) n d same at = absurd (omega arith)
-  last_pair below (e ∷ e' ∷ es) (f ∷ f' ∷ fs) zero d same at = absurd (omega arith)
   last_pair below (e ∷ e' ∷ es) (f ∷ f' ∷ fs) (suc n) d same at =
       let inner = last_pair ((e, f) ∷ below) (e' ∷ es) (f' ∷ fs) n d (omega arith) (omega arith) in
       record { entry = inner.entry; rest = inner.rest; is = inner.is; after_set = inner.after_set; after_change = inner.after_change; after_both = inner.after_both; entry_is = inner.entry_is }
+  last_pair below es fs n d same at = absurd (omega arith)

@@ -11,16 +11,11 @@ use Rattle.search_graph.specs.Words.{IsDecided, AllDecided}
 -- ---- kinds
 
 greater_decided : (k l : PathKind) → IsDecidedKind k → IsDecidedKind l → IsDecidedKind (greater_kind k l)
-greater_decided Inductive Inductive a b = tt
-greater_decided Inductive Unknown a b = absurd b
-greater_decided Inductive Coinductive a b = tt
-greater_decided Inductive ForcedAmbiguity a b = absurd b
 greater_decided Unknown l a b = absurd a
-greater_decided Coinductive Inductive a b = tt
-greater_decided Coinductive Unknown a b = absurd b
-greater_decided Coinductive Coinductive a b = tt
-greater_decided Coinductive ForcedAmbiguity a b = absurd b
 greater_decided ForcedAmbiguity l a b = absurd a
+greater_decided k Unknown a b = absurd b
+greater_decided k ForcedAmbiguity a b = absurd b
+greater_decided k l a b = tt
 
 -- each kind is decided
 abbrev pub KindsDecided : List PathKind → Type 0
@@ -34,18 +29,16 @@ greatest_decided (k ∷ ks) h = greater_decided k (greatest_kind ks) h.0 (greate
 drop_last : (n : ℕ) (kinds : List PathKind) (k : PathKind) → KindsDecided (drop n kinds) → IsDecidedKind k → KindsDecided (drop n (kinds ++ k ∷ []))
 drop_last zero [] k h last = (last, tt)
 drop_last zero (j ∷ kinds) k h last = (h.0, drop_last zero kinds k h.1 last)
-drop_last (suc zero) [] k h last = tt
-drop_last (suc (suc n)) [] k h last = tt
 drop_last (suc n) (j ∷ kinds) k h last = drop_last n kinds k h last
+drop_last (suc zero) [] k h last = tt
+drop_last n kinds k h last = tt
 
 initial_definite : (kind : PathKind) (y n : Bool) → IsDecidedKind kind → y ≡ is_coinductive kind → n ≡ is_inductive kind → (if y then theory.Yes else if n then theory.No else theory.Neither) ≢ theory.Neither
-initial_definite Inductive true n decided says denies e = cc
-initial_definite Inductive false true decided says denies e = cc
-initial_definite Inductive false false decided says denies e = cc
 initial_definite Unknown y n decided says denies e = absurd decided
-initial_definite Coinductive true n decided says denies e = cc
-initial_definite Coinductive false n decided says denies e = cc
 initial_definite ForcedAmbiguity y n decided says denies e = absurd decided
+initial_definite Inductive true n decided says denies e = cc
+initial_definite Inductive false n decided says denies e = let e : theory.No ≡ theory.Neither = subst (λ b. (if b then theory.No else theory.Neither) ≡ theory.Neither) denies e in cc
+initial_definite Coinductive y n decided says denies e = let e : theory.Yes ≡ theory.Neither = subst (λ b. (if b then theory.Yes else if n then theory.No else theory.Neither) ≡ theory.Neither) says e in cc
 
 cycle_at : {R : Type 0} (says : Verdicts R) (earlier : Option R) (initial : R) → IfSome earlier (IsDefinite says) → IsDefinite says initial → IsDefinite says (unwrap_or earlier initial)
 cycle_at says None initial first h = h

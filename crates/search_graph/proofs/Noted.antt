@@ -186,8 +186,6 @@ module _ {D C V P F I R A T : Type 0} (G : DelegateOf D C V P F I R A T) (X : Cx
   -- ---- what was requested can be done, and keeps the goals justified
 
   can_note_at : (given : Received R) (request : Request I R) (old mid : Goals) (s : HasStepped G X cx given request old mid) (fit : IsFit (verdicts X) nodes (runs_of old) given.reply given.node) (h : AreJustified (verdicts X) nodes (runs_of old)) → CanNote request ((s.entry, later_run given request old mid s fit h) ∷ s.below)
-  can_note_at given (Evaluate kind goal) old mid s fit h = tt
-  can_note_at given EnterCandidate old mid s fit h = tt
   can_note_at given FinishCandidate old mid s fit h = has_open given FinishCandidate old mid s fit h ∙ one_open (replied_record given FinishCandidate old mid s fit h).is_open s.in_order
   can_note_at given (Ignore n) old mid s fit h =
       let p = received s.run.progress given.reply s.verdict given.node in
@@ -198,14 +196,12 @@ module _ {D C V P F I R A T : Type 0} (G : DelegateOf D C V P F I R A T) (X : Cx
       let there : slice_get s.run.candidates n ≡ Some (get_or s.run.candidates n []) = slice_get-get_or s.run.candidates n [] within in
       subst (λ o. IsSomeAnd o (λ candidate. CanIgnore (record { 0 = length s.below }) candidate s.entry.state)) (sym there)
       (can_ignore (record { 0 = length s.below }) s.entry.state s.entry.state s.run.candidates n (get_or s.run.candidates n []) (tallied_here given (Ignore n) old mid s fit h) there)
-  can_note_at given (Done r) old mid s fit h = tt
+  can_note_at given request old mid s fit h = tt
 
   pub can_note : (given : Received R) (request : Request I R) (old mid : Goals) → HasStepped G X cx given request old mid → IsFit (verdicts X) nodes (runs_of old) given.reply given.node → AreJustified (verdicts X) nodes (runs_of old) → CanNote request mid
   can_note given request old mid s fit h = subst (λ (v : Goals). CanNote request v) (sym s.is) (can_note_at given request old mid s fit h)
 
   pub noted_is_justified : (given : Received R) (request : Request I R) (old mid after : Goals) → HasStepped G X cx given request old mid → IsFit (verdicts X) nodes (runs_of old) given.reply given.node → AreJustified (verdicts X) nodes (runs_of old) → NotesCandidate request mid after → AreJustified (verdicts X) nodes (runs_of after)
-  noted_is_justified given (Evaluate kind goal) old mid after s fit h noted =
-      subst (λ (v : Goals). AreJustified (verdicts X) nodes (runs_of v)) (sym (noted ∙ s.is)) (asking_is_justified given (Evaluate kind goal) old mid s fit h)
   noted_is_justified given EnterCandidate old mid after s fit h noted =
       subst (λ (v : Goals). AreJustified (verdicts X) nodes (runs_of v)) (sym (noted ∙ ap (change_newest enters) s.is))
       (entered_is_justified given EnterCandidate old mid s fit h (none_open (replied_record given EnterCandidate old mid s fit h).is_open s.in_order))
@@ -222,8 +218,8 @@ module _ {D C V P F I R A T : Type 0} (G : DelegateOf D C V P F I R A T) (X : Cx
       subst (λ (v : Goals). AreJustified (verdicts X) nodes (runs_of v)) (sym here.is)
       (subst (λ (o : OpenRun I R). AreJustified (verdicts X) nodes (o ∷ runs_of s.below)) (sym (ignoring_run s.entry (later_run given (Ignore n) old mid s fit h) s.below here.state (record s.run { frame = s.frame; progress = requested (received s.run.progress given.reply s.verdict given.node) (Ignore n); candidates = slice_set s.run.candidates n [] }) here.ignores.others))
       (ignored_is_justified given (Ignore n) old mid s fit h n here.candidate here.state here.is_at here.ignores within))
-  noted_is_justified given (Done r) old mid after s fit h noted =
-      subst (λ (v : Goals). AreJustified (verdicts X) nodes (runs_of v)) (sym (noted ∙ s.is)) (asking_is_justified given (Done r) old mid s fit h)
+  noted_is_justified given request old mid after s fit h noted =
+      subst (λ (v : Goals). AreJustified (verdicts X) nodes (runs_of v)) (sym (noted ∙ s.is)) (asking_is_justified given request old mid s fit h)
 
 -- ---- the goals wait for the next reply
 
@@ -241,16 +237,13 @@ module _ {D C V P F I R A T : Type 0} (G : DelegateOf D C V P F I R A T) (X : Cx
       ∙ ap (λ (x : EntryState C I R A T). record (seen G X cx (record s.0 { state = x }, record s.1 { candidates = finished })) { in_cycle = is_in_cycle state }) (sym i.others)
 
   pub noting_goes_on : (ahead : ℕ) (request : Request I R) (mid after : List (StackEntry C I R A T × Run C F I R A T)) (starts : ℕ) (met : Bool) → IsReplyTo (λ _ _. ⊥) (Some request) Noted → NotesCandidate request mid after → HasAsked G X cx call ahead request mid starts met → GoesOn G X cx call ahead Noted after starts met
-  noting_goes_on ahead (Evaluate kind goal) mid after starts met fits noted h = absurd fits
-  noting_goes_on ahead EnterCandidate [] after starts met fits noted h = absurd h.asked.mirror
+  noting_goes_on ahead request [] after starts met fits noted h = absurd h.asked.mirror
   noting_goes_on ahead EnterCandidate (s ∷ below) after starts met fits noted h =
       subst (λ v. GoesOn G X cx call ahead Noted v starts met) (sym noted)
       (changed_goes_on ahead EnterCandidate s (enters s) below starts met tt refl (λ replies stood. stood) refl (λ d. record { replies = d.replies; provisional = d.provisional }) h)
-  noting_goes_on ahead FinishCandidate [] after starts met fits noted h = absurd h.asked.mirror
   noting_goes_on ahead FinishCandidate (s ∷ below) after starts met fits noted h =
       subst (λ v. GoesOn G X cx call ahead Noted v starts met) (sym noted)
       (changed_goes_on ahead FinishCandidate s (finishes s) below starts met tt refl (λ replies stood. stood) refl (λ d. record { replies = d.replies; provisional = d.provisional }) h)
-  noting_goes_on ahead (Ignore n) [] after starts met fits noted h = absurd h.asked.mirror
   noting_goes_on ahead (Ignore n) (s ∷ below) after starts met fits noted h =
       let here = ignores_here s.0 s.1 below n (s ∷ below) after refl noted in
       subst (λ v. GoesOn G X cx call ahead Noted v starts met) (sym here.is)
@@ -258,17 +251,14 @@ module _ {D C V P F I R A T : Type 0} (G : DelegateOf D C V P F I R A T) (X : Cx
       (ignoring_seen s here.state (slice_set s.1.candidates n []) (record { 0 = length below }) here.candidate here.ignores)
       (λ replies stood. stood) refl
       (λ d. record { replies = d.replies; provisional = subst (λ (x : EntryState C I R A T). IfSome x.provisional_result (IsDefinite (verdicts X))) (sym here.ignores.others) d.provisional }) h)
-  noting_goes_on ahead (Done r) mid after starts met fits noted h = absurd fits
+  noting_goes_on ahead request (s ∷ below) after starts met fits noted h = absurd fits
 
 -- stored results rest on none of them
 module _ {X F I R A T : Type 0} (says : Verdicts R) (same : I → I → Bool) (nodes : List (CacheNode I R)) (results : Store I (StoredResult X I R A T)) where
   pub noting_keeps_free : (request : Request I R) (mid after : List (StackEntry X I R A T × Run X F I R A T)) → NotesCandidate request mid after → AreFree says same nodes (runs_of mid) results → AreFree says same nodes (runs_of after) results
-  noting_keeps_free (Evaluate kind goal) mid after noted free = subst (λ l. AreFree says same nodes (runs_of l) results) (sym noted) free
-  noting_keeps_free EnterCandidate [] after noted free = subst (λ l. AreFree says same nodes (runs_of l) results) (sym noted) free
   noting_keeps_free EnterCandidate (s ∷ below) after noted free =
       subst (λ l. AreFree says same nodes (runs_of l) results) (sym noted)
       (all_free_above says same nodes (run_of s) (run_of (enters s)) (runs_of below) results refl refl refl refl free)
-  noting_keeps_free FinishCandidate [] after noted free = subst (λ l. AreFree says same nodes (runs_of l) results) (sym noted) free
   noting_keeps_free FinishCandidate (s ∷ below) after noted free =
       subst (λ l. AreFree says same nodes (runs_of l) results) (sym noted)
       (all_free_above says same nodes (run_of s) (run_of (finishes s)) (runs_of below) results refl refl refl refl free)
@@ -278,12 +268,10 @@ module _ {X F I R A T : Type 0} (says : Verdicts R) (same : I → I → Bool) (n
       subst (λ l. AreFree says same nodes (runs_of l) results) (sym noted.is)
       (all_free_above says same nodes (run_of (noted.entry, noted.run)) (run_of (record noted.entry { state = noted.state }, record noted.run { candidates = slice_set noted.run.candidates n [] })) (runs_of noted.below) results
       refl (ap (λ (x : EntryState X I R A T). x.provisional_result) (sym noted.ignores.others)) refl (ap (λ (x : EntryState X I R A T). x.node) (sym noted.ignores.others)) was)
-  noting_keeps_free (Done r) mid after noted free = subst (λ l. AreFree says same nodes (runs_of l) results) (sym noted) free
+  noting_keeps_free request mid after noted free = subst (λ l. AreFree says same nodes (runs_of l) results) (sym noted) free
 
 -- a request that is neither a question nor the result is about candidates
 pub about_candidates : {I R : Type 0} (request : Request I R) → ((kind : _) (goal : I) → request ≡ Evaluate kind goal → ⊥) → ((r : R) → request ≡ Done r → ⊥) → IsReplyTo (λ _ _. ⊥) (Some request) Noted
 about_candidates (Evaluate kind goal) asks done = asks kind goal refl
-about_candidates EnterCandidate asks done = tt
-about_candidates FinishCandidate asks done = tt
-about_candidates (Ignore n) asks done = tt
 about_candidates (Done r) asks done = done r refl
+about_candidates request asks done = tt

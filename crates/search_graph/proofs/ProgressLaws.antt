@@ -50,8 +50,7 @@ module _ {I R : Type 0} (says : Verdicts R) where
     fault_agrees EnterCandidate = ap (λ b. if b then Some 1 else None) h.open_is
     fault_agrees FinishCandidate = ap (λ b. if b then None else Some 2) h.open_is
     fault_agrees (Ignore n) = ap₂ (λ m b. if nat_lt n m then (if b then Some 4 else None) else Some 3) h.finished_are (sym (h.ignored_are n))
-    fault_agrees (Evaluate kind goal) = refl
-    fault_agrees (Done r) = refl
+    fault_agrees request = refl
 
     same_number : open_number p ≡ open_candidate done
     same_number = ap₂ (λ b n. if b then Some n else None) h.open_is h.finished_are

@@ -220,16 +220,12 @@ finished_regroups t counts is_open = record {
 
 -- ---- a run that begins
 
-no_candidate : (number : ℕ) → unwrap_or (slice_get {X = UsagesByHead} ([] ∷ []) number) [] ≡ []
-no_candidate zero = refl
-no_candidate (suc number) = refl
-
 -- without candidates all that is counted is spare
 without_candidates : (parent : ℕ) (heads : Heads) (own : Option HeadUsages) → LieBelow parent heads → IsTallied parent (record { heads = heads; own = own; current = None; finished = [] })
 without_candidates parent heads own lower = record {
   lower = lower;
-  known = λ number head there. absurd (false≢true (subst (λ c. IsSome (at_depth c head)) (no_candidate number) there));
-  bounded = λ number head kind. subst (λ c. count_of (usages_of c head) kind ≤ 2 ^ 32 - 1) (sym (no_candidate number)) (let nothing = none_counted kind in omega (arith, nothing));
+  known = λ number head there. absurd (false≢true (subst (λ c. IsSome (at_depth c head)) (padded [] number) there));
+  bounded = λ number head kind. subst (λ c. count_of (usages_of c head) kind ≤ 2 ^ 32 - 1) (sym (padded [] number)) (let nothing = none_counted kind in omega (arith, nothing));
   covered = λ head kind. inr (let nothing = none_counted kind in omega (arith, nothing));
 }
 
