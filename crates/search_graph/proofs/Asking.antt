@@ -4,13 +4,13 @@ use Rattle.std.proofs.lemmas.List.{length-map, length-reverse}
 use Rattle.std.proofs.lemmas.Option.{get_or_from_slice_get, slice_get_within}
 use Rattle.search_graph.specs.Below.{DelegateOf, CxOf, Evaluate, Received, Answer, Begin, Cache, IsNeither, IsCycleResult, CacheNode, AvailableDepth, first_entry, open_node, PathKind, StackEntry, Run, Memory, path_kind_from, IsDefinite, verdicts}
 use Rattle.search_graph.specs.declared.graph.evaluation.Evaluation.{Evaluation}
-use Rattle.search_graph.specs.Words.{Call, AreFree, AreReady, Asks, IsFit, IsReady, runs_of, asking, Asked, Refused, ByEntry, ByStored, OverCycle, Pushed, IsRight, IsRightFor, Requests, GoesOnWith, StopsWith, question_depth, AreJustified, Pushes, first_run}
+use Rattle.search_graph.specs.Words.{Call, AreFree, AreReady, NewestAsks, IsFit, IsReady, runs_of, asking, Asked, Refused, ByEntry, ByStored, OverCycle, Pushed, IsRight, IsRightFor, Requests, GoesOnWith, StopsWith, question_depth, AreJustified, Pushes, first_run}
 use Rattle.search_graph.proofs.CycleAnswers.{cycle_fits, cycle_head_lower, head_is}
-use Rattle.search_graph.proofs.Finishing.{answered_newest_is_justified, overflow_noted_is_justified, pushed_goal_is_justified, stored_taken_same, neither_is, neither_fits, begin_fits}
+use Rattle.search_graph.proofs.justified.Finishing.{answered_newest_is_justified, overflow_noted_is_justified, pushed_goal_is_justified, stored_taken_same, neither_is, neither_fits, begin_fits}
 use Rattle.search_graph.proofs.FreeMoves.{answered_newest_free, overflow_noted_free, stored_fits, stored_taken_free}
 use Rattle.search_graph.proofs.FreeResults.{all_free_pushed_goal}
 use Rattle.search_graph.proofs.ProvisionalQuestions.{entry_is_one, entry_path_is, entry_taken_justified, entry_fits}
-use Rattle.search_graph.proofs.Questions.{ask_provisional, ask_stored, ask_refused, ask_in_cycle, ask_pushes, ask_stops}
+use Rattle.search_graph.proofs.moves.Questions.{ask_provisional, ask_stored, ask_refused, ask_in_cycle, ask_pushes, ask_stops}
 use Rattle.search_graph.proofs.ReadyMoves.{ready_beside, overflow_noted_ready, ready_pushed_goal, stored_taken_ready}
 
 module _ {D C V P F I R A T : Type 0} (G : DelegateOf D C V P F I R A T) (X : CxOf C I R A T) (same : I → I → Bool) (cx : C) (kind : PathKind) (goal : I) (old : Cache C I R A T) (e : Evaluation D C V P F I R A T) (starts : ℕ) where
@@ -72,7 +72,7 @@ module _ {D C V P F I R A T : Type 0} (G : DelegateOf D C V P F I R A T) (X : Cx
   -- a goal that was pushed
   pub pushed_right :
       (depth : AvailableDepth) (goals : List (StackEntry C I R A T × Run C F I R A T)) (nodes : List (CacheNode I R)) → Pushes G X cx goal kind depth old.nodes nodes e.goals goals
-      → Asks (runs_of e.goals) kind goal → IsRight G X same cx old e → IsRightFor G X same cx (record { reply = Begin; node = None }) (record old { nodes = nodes }) (record e { goals = goals })
+      → NewestAsks (runs_of e.goals) kind goal → IsRight G X same cx old e → IsRightFor G X same cx (record { reply = Begin; node = None }) (record old { nodes = nodes }) (record e { goals = goals })
   pushed_right depth goals nodes pushes asks h =
       record {
         right = record {
@@ -89,7 +89,7 @@ module _ {D C V P F I R A T : Type 0} (G : DelegateOf D C V P F I R A T) (X : Cx
   pub asked_right :
       ((x : C) (asked : I) → IsNeither X.is_yes X.is_no (G.stack_overflow x asked)) → ((cycle : PathKind) (asked : I) → IsCycleResult X.is_yes X.is_no cycle (G.initial_result cx cycle asked))
       → (received : Received R) (new : Cache C I R A T) (after : Evaluation D C V P F I R A T) (later : ℕ)
-      → Asked G X same cx kind goal old e starts received new after later → Asks (runs_of e.goals) kind goal → IsRight G X same cx old e → IsRightFor G X same cx received new after
+      → Asked G X same cx kind goal old e starts received new after later → NewestAsks (runs_of e.goals) kind goal → IsRight G X same cx old e → IsRightFor G X same cx received new after
   asked_right neither sorts received new after later (Refused goals none noted) asks h = record {
     right = record {
       justified = overflow_noted_is_justified (verdicts X) old.nodes same e.goals goals noted h.justified;

@@ -4,12 +4,12 @@ use Rattle.search_graph.specs.Below.{AreSoundResults, AvailableDepth, Begin, Cac
 use Rattle.search_parts.proofs.Finished.{KeepsFinished-then}
 use Rattle.search_parts.proofs.Stores.{KeepsResults-then}
 use Rattle.search_graph.specs.declared.graph.evaluation.Evaluation.{Evaluation}
-use Rattle.search_graph.specs.Words.{AreFree, AreJustified, AreReady, Asks, Awaits, Begins, Call, IsNew, IsRight, IsRightFor, KeepsAnswers, KeepsCache, Pushes, StopsWith, runs_of}
+use Rattle.search_graph.specs.Words.{AreFree, AreJustified, AreReady, NewestAsks, Awaits, Begins, Call, IsNew, IsRight, IsRightFor, KeepsAnswers, KeepsCache, Pushes, StopsWith, runs_of}
 use Rattle.search_graph.proofs.Asking.{pushed_right}
 use Rattle.search_graph.proofs.FreeResults.{all_free_nothing}
-use Rattle.search_graph.proofs.Justified.{nothing_is_justified}
+use Rattle.search_graph.proofs.justified.Justified.{nothing_is_justified}
 use Rattle.search_graph.proofs.EntriesSaid.{no_entries}
-use Rattle.search_graph.proofs.Loops.{first_stopped, first_waits}
+use Rattle.search_graph.proofs.moves.Loops.{first_stopped, first_waits}
 use Rattle.search_graph.proofs.Ready.{none_ready}
 
 -- what two moves keep, both keep together
@@ -41,7 +41,7 @@ module _ {D C V P F I R A T : Type 0} (G : DelegateOf D C V P F I R A T) (X : Cx
   module _ (depth : AvailableDepth) (goals : List (StackEntry C I R A T × Run C F I R A T)) (nodes : List (CacheNode I R)) (pushes : Pushes G X cx goal kind depth old.nodes nodes e.goals goals) where
     pub begins_right : AreSoundResults same (verdicts X) (G.script cx) old.nodes old.results → IsRightFor G X same cx (record { reply = Begin; node = None }) (record old { nodes = nodes }) (record e { goals = goals })
     begins_right sound =
-        pushed_right G X same cx kind goal old e 0 depth goals nodes pushes (subst (λ gs. Asks (runs_of gs) kind goal) (sym is_new.no_goals) tt) (new_right sound)
+        pushed_right G X same cx kind goal old e 0 depth goals nodes pushes (subst (λ gs. NewestAsks (runs_of gs) kind goal) (sym is_new.no_goals) tt) (new_right sound)
 
     pub begins_waiting :
         (starts later : ℕ) → later ≤ starts + 1 → (G.counts ≡ true → CountsOne G.last starts later)

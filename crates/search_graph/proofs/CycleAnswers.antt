@@ -15,9 +15,9 @@ use Rattle.open_graphs.proofs.Lists.{get_cases}
 use Rattle.cycle_heads.proofs.HeadLists.{at_depth-first, at_depth-rest}
 use Rattle.cycle_heads.proofs.HeadShapes.{IsIn, in_head}
 use Rattle.cycle_heads.proofs.PathRanks.{greater_rank}
-use Rattle.search_graph.specs.Words.{OpenRun, Asks, AreJustified, MayAnswer, IsFit, asked_now, frame_of, frames_of, cycles_node, LeadHome, run_of, runs_of, heads_of, tally_of, LieBelow}
-use Rattle.search_graph.proofs.Finishing.{answer_fits, heads_come, same_run}
-use Rattle.search_graph.proofs.Justified.{stack_length}
+use Rattle.search_graph.specs.Words.{OpenRun, NewestAsks, AreJustified, MayAnswer, IsFit, asked_now, frame_of, frames_of, cycles_node, LeadHome, run_of, runs_of, heads_of, tally_of, LieBelow}
+use Rattle.search_graph.proofs.justified.Finishing.{answer_fits, heads_come, same_run}
+use Rattle.search_graph.proofs.justified.Justified.{stack_length}
 
 -- ---- kinds of cycles
 
@@ -136,7 +136,7 @@ module _ {X F I R A T : Type 0} (says : Verdicts R) where
 
 -- ---- the answer
 
-module _ {X F I R A T : Type 0} (says : Verdicts R) (nodes : List (CacheNode I R)) (old new : List (StackEntry X I R A T × Run X F I R A T)) (step kind : PathKind) (head : StackDepth) (input : I) (e : StackEntry X I R A T) (there : HeadIs says old head.0 e) (same_goal : e.input ≡ input) (kind_is : kind ≡ path_kind_from (reverse (map (λ s. s.0) old)) head.0 step) (initial : R) (sorted : IsCycleResult says.is_yes says.is_no kind initial) (asks : Asks (runs_of old) step input) (a : AnswersNewest step 0 false ((head, cycle_head step kind) ∷ []) old new) (h : AreJustified says nodes (runs_of old)) where
+module _ {X F I R A T : Type 0} (says : Verdicts R) (nodes : List (CacheNode I R)) (old new : List (StackEntry X I R A T × Run X F I R A T)) (step kind : PathKind) (head : StackDepth) (input : I) (e : StackEntry X I R A T) (there : HeadIs says old head.0 e) (same_goal : e.input ≡ input) (kind_is : kind ≡ path_kind_from (reverse (map (λ s. s.0) old)) head.0 step) (initial : R) (sorted : IsCycleResult says.is_yes says.is_no kind initial) (asks : NewestAsks (runs_of old) step input) (a : AnswersNewest step 0 false ((head, cycle_head step kind) ∷ []) old new) (h : AreJustified says nodes (runs_of old)) where
   abbrev result : R
   result = unwrap_or e.state.provisional_result initial
 
@@ -198,7 +198,7 @@ module _ {X F I R A T : Type 0} (says : Verdicts R) (nodes : List (CacheNode I R
 
   pub cycle_fits : IsFit says nodes (runs_of new) (Answer (unwrap_or e.state.provisional_result initial)) e.state.node
   cycle_fits =
-      let asked : Asks (run_of (a.entry, a.run) ∷ runs_of a.below) step input = subst (λ l. Asks (runs_of l) step input) a.was asks in
+      let asked : NewestAsks (run_of (a.entry, a.run) ∷ runs_of a.below) step input = subst (λ l. NewestAsks (runs_of l) step input) a.was asks in
       subst (λ l. IsFit says nodes (runs_of l) (Answer (unwrap_or e.state.provisional_result initial)) e.state.node) (sym a.is)
       (answer_fits says nodes (run_of (record a.entry { state = a.state }, a.run)) (runs_of a.below) (unwrap_or e.state.provisional_result initial) step input e.state.node asked
       (λ definite. may_answer_at e.state.node refl (home_of says nodes old h.lead_home head.0 (e, there.run) there.at) definite))

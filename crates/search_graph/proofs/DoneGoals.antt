@@ -1,7 +1,7 @@
 -- The newest goal is done: its answer is given to the goal below it, and stored where it has no heads.
 use Rattle.std.proofs.Common.{◌≡◌, ◌≢◌, ◌||◌, Bool, true, List, [], ◌∷◌, length, Option, refl, sym, ap, ◌∙◌, subst, arith}
 use Rattle.search_graph.specs.Below.{NodeId, Answer, PathKind, StoredResult, EvaluationResult, StackEntry, CacheNode, Store, Run, Next, Step, Finished, AnswersNewest, Verdicts}
-use Rattle.search_graph.specs.Words.{AreFree, AreJustified, GivesAnswer, Leaves, final_answer, StoresAnswer, MayPutNewest, place_of_item, runs_of, HasResultNode, IsJustifiedNext}
+use Rattle.search_graph.specs.Words.{AreFree, AreJustified, GivesAnswer, NewestLeaves, final_answer, StoresAnswer, MayPutNewest, place_of_item, runs_of, HasResultNode, IsJustifiedNext}
 use Rattle.search_graph.proofs.FreeMoves.{answered_newest_free}
 use Rattle.search_graph.proofs.FreeResults.{all_free_stored}
 use Rattle.search_graph.proofs.FinishedRuns.{finished_justified, headless_is_free, leaves_step, step_justified, stored_stay_free}
@@ -20,14 +20,14 @@ module _ {X F I R A T : Type 0} (says : Verdicts R) (before after : List (CacheN
   some_below : (p : StackEntry X I R A T × Run X F I R A T) (below : List (StackEntry X I R A T × Run X F I R A T)) → rest ≡ p ∷ below → length rest ≢ 0
   some_below p below is none = omega (arith, ap length is, none)
 
-  leaves_at : (l new : List (StackEntry X I R A T × Run X F I R A T)) (next : Next R) → rest ≡ l → GivesAnswer entry.step_kind_from_parent (final_answer (entry, run) r target) l next new → Leaves r old next new
+  leaves_at : (l new : List (StackEntry X I R A T × Run X F I R A T)) (next : Next R) → rest ≡ l → GivesAnswer entry.step_kind_from_parent (final_answer (entry, run) r target) l next new → NewestLeaves r old next new
   leaves_at [] new next is given =
-      subst (λ o. Leaves r o next new) (sym (was ∙ ap (λ l. (entry, run) ∷ l) is)) (target, given.0, given.1)
+      subst (λ o. NewestLeaves r o next new) (sym (was ∙ ap (λ l. (entry, run) ∷ l) is)) (target, given.0, given.1)
   leaves_at (p ∷ below) new next is given =
       let a : AnswersNewest entry.step_kind_from_parent entry.state.required_depth (entry.state.encountered_overflow || run.met_overflow_before) entry.state.heads rest new = subst (λ l. AnswersNewest entry.step_kind_from_parent entry.state.required_depth (entry.state.encountered_overflow || run.met_overflow_before) entry.state.heads l new) (sym is) given.1 in
-      subst (λ n. Leaves r old n new) (sym given.0) (leaves_step says before after old entry run rest was r target h ended new a (some_below p below is))
+      subst (λ n. NewestLeaves r old n new) (sym given.0) (leaves_step says before after old entry run rest was r target h ended new a (some_below p below is))
 
-  pub given_leaves : (new : List (StackEntry X I R A T × Run X F I R A T)) (next : Next R) → GivesAnswer entry.step_kind_from_parent (final_answer (entry, run) r target) rest next new → Leaves r old next new
+  pub given_leaves : (new : List (StackEntry X I R A T × Run X F I R A T)) (next : Next R) → GivesAnswer entry.step_kind_from_parent (final_answer (entry, run) r target) rest next new → NewestLeaves r old next new
   given_leaves new next given = leaves_at rest new next refl given
 
   justified_at : (l new : List (StackEntry X I R A T × Run X F I R A T)) (next : Next R) → rest ≡ l → GivesAnswer entry.step_kind_from_parent (final_answer (entry, run) r target) l next new → IsJustifiedNext says after old new next

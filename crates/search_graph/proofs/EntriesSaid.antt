@@ -8,9 +8,9 @@ use Rattle.search_parts.specs.declared.parts.provisional_cache.RebaseReason.TheV
 use Rattle.search_parts.proofs.RebasedEntryLists.{All-filter_map}
 use Rattle.search_graph.specs.Words.{Unstable, Call, IsCounted, HasAsked, KeepsAnswers, KeepsStore, final_answer, entries_for, rebased_for, RebasesEntries, RebasesNewest, MayPutNewest, IsReason, IsEndOfRun, Ambiguous, Initial, Limited, Repeated, Repeats, Stable, WithoutUsages}
 use Rattle.search_graph.specs.EndOfRun.{Unused}
-use Rattle.search_graph.proofs.DoneRuns.{calm_of, met_keeps, put_keeps}
-use Rattle.search_graph.proofs.Finishing.{neither_is}
-use Rattle.search_graph.proofs.Moves.{done_definite}
+use Rattle.search_graph.proofs.moves.DoneRuns.{calm_of, met_keeps, put_keeps}
+use Rattle.search_graph.proofs.justified.Finishing.{neither_is}
+use Rattle.search_graph.proofs.moves.Moves.{done_definite}
 
 -- ---- what is said of whether entries met overflow, and of their results
 

@@ -3,11 +3,11 @@ use Rattle.std.proofs.Common.{◌≡◌, ◌≢◌, suc, ◌+◌, ◌<◌, ◌^�
 use Rattle.std.specs.Option.{IsSomeAnd, option_or}
 use Rattle.std.proofs.lemmas.List.{length-map}
 use Rattle.search_graph.specs.Below.{stack_of, TakesIn, DelegateOf, CxOf, NodeId, Request, Reply, Answer, StackEntry, CacheNode, open_node, HasGraph, IsDefinite, heads_shape, rank_of, verdict_of, Run, Step, Finished, AnswersNewest, rerun_with, with_no_record, newest, change_newest, RunRecord, StoredResult, Store, Verdicts}
-use Rattle.search_graph.specs.Words.{Asks, AreJustified, MayAnswer, IsFit, asked_now, frames_of, IsFresh, Reruns, CanLeave, Leaves, IsFree, AreFree, run_of, runs_of, EndsRun, EndsNewest, HasResultNode, IsJustifiedNext, heads_of, tally_of, LieBelow}
-use Rattle.search_graph.proofs.Justified.{EndsWithNode, below_is_justified, stack_length, may_answer_parent, last_has_graph, headless_has_graph, rerun_is_justified}
+use Rattle.search_graph.specs.Words.{NewestAsks, AreJustified, MayAnswer, IsFit, asked_now, frames_of, IsFresh, Reruns, CanLeave, NewestLeaves, IsFree, AreFree, run_of, runs_of, EndsRun, EndsNewest, HasResultNode, IsJustifiedNext, heads_of, tally_of, LieBelow}
+use Rattle.search_graph.proofs.justified.Justified.{EndsWithNode, below_is_justified, stack_length, may_answer_parent, last_has_graph, headless_has_graph, rerun_is_justified}
 use Rattle.search_graph.proofs.Free.{done_is_free}
 use Rattle.search_graph.proofs.FreeResults.{all_free_popped, all_free_rerun}
-use Rattle.search_graph.proofs.Finishing.{answer_fits, answered_newest_is_justified, ends_run, heads_come, same_run, rebases}
+use Rattle.search_graph.proofs.justified.Finishing.{answer_fits, answered_newest_is_justified, ends_run, heads_come, same_run, rebases}
 
 -- ---- the goal is run again
 
@@ -134,18 +134,18 @@ module _ {X F I R A T : Type 0} (says : Verdicts R) (before after : List (CacheN
 
       pub step_justified : AreJustified says after (runs_of new) × IsFit says after (runs_of new) (Answer r) target
       step_justified =
-          let asked : Asks (run_of (a.entry, a.run) ∷ runs_of a.below) entry.step_kind_from_parent entry.input = subst (λ l. Asks (runs_of l) entry.step_kind_from_parent entry.input) a.was (justified_then h).asked.0 in (
+          let asked : NewestAsks (run_of (a.entry, a.run) ∷ runs_of a.below) entry.step_kind_from_parent entry.input = subst (λ l. NewestAsks (runs_of l) entry.step_kind_from_parent entry.input) a.was (justified_then h).asked.0 in (
             answered_newest_is_justified says after entry.step_kind_from_parent entry.state.required_depth (entry.state.encountered_overflow || run.met_overflow_before) entry.state.heads rest new a heads_lower below_justified,
             subst (λ l. IsFit says after (runs_of l) (Answer r) target) (sym a.is)
                 (answer_fits says after (run_of (record a.entry { state = a.state }, a.run)) (runs_of a.below) r entry.step_kind_from_parent entry.input target asked may_answer),
           )
 
-      leaves_at : (l : List (StackEntry X I R A T × Run X F I R A T)) → AnswersNewest entry.step_kind_from_parent entry.state.required_depth (entry.state.encountered_overflow || run.met_overflow_before) entry.state.heads l new → length l ≢ 0 → Leaves r ((entry, run) ∷ l) (Step (record { reply = Answer r; node = target })) new
+      leaves_at : (l : List (StackEntry X I R A T × Run X F I R A T)) → AnswersNewest entry.step_kind_from_parent entry.state.required_depth (entry.state.encountered_overflow || run.met_overflow_before) entry.state.heads l new → length l ≢ 0 → NewestLeaves r ((entry, run) ∷ l) (Step (record { reply = Answer r; node = target })) new
       leaves_at [] b some = absurd (some refl)
       leaves_at (p ∷ below) b some = (target, refl, b)
 
-      pub leaves_step : length rest ≢ 0 → Leaves r old (Step (record { reply = Answer r; node = target })) new
-      leaves_step some = subst (λ l. Leaves r l (Step (record { reply = Answer r; node = target })) new) (sym was) (leaves_at rest a some)
+      pub leaves_step : length rest ≢ 0 → NewestLeaves r old (Step (record { reply = Answer r; node = target })) new
+      leaves_step some = subst (λ l. NewestLeaves r l (Step (record { reply = Answer r; node = target })) new) (sym was) (leaves_at rest a some)
 
   -- what the goal required fits the goal below it
   fits_at : (l : List (StackEntry X I R A T × Run X F I R A T)) → CanLeave ((entry, run) ∷ l) → length l ≢ 0 → entry.state.required_depth + 1 < 2 ^ 64

@@ -11,8 +11,8 @@ use Rattle.open_graphs.proofs.Closed.{closed_is_graph, graph_is_use}
 use Rattle.open_graphs.proofs.Asked.{final_is_answered}
 use Rattle.search_parts.proofs.Definites.{IsSomeAnd-weaker}
 use Rattle.search_parts.proofs.Nodes.{KeepsGoals-appended}
-use Rattle.search_graph.specs.Words.{OpenRun, frame_of, frames_of, Asks, AreJustified, MayAnswer, asked_now, heads_of, IsFree}
-use Rattle.search_graph.proofs.Justified.{new_run, no_tally, tally_again, shapes_opened, EndsWithNode, popped, used_at, lead_is, leads_there, no_answers}
+use Rattle.search_graph.specs.Words.{OpenRun, frame_of, frames_of, NewestAsks, AreJustified, MayAnswer, asked_now, heads_of, IsFree}
+use Rattle.search_graph.proofs.justified.Justified.{new_run, no_tally, tally_again, shapes_opened, EndsWithNode, popped, used_at, lead_is, leads_there, no_answers}
 
 -- ---- one final answer beside a sound state
 
@@ -89,7 +89,7 @@ module _ {I R : Type 0} (says : Verdicts R) where
       (final_use (shapes_of says nodes ++ theory.Unfinished ∷ []) (in_first_run (rank_of step) (length (shapes_of says nodes)) (heads_shape []) ∷ frames) verdict n
       (push_keeps_sound (shapes_of says nodes) frames [] (only verdict n) (rank_of step) (heads_shape []) (with_final (shapes_of says nodes) frames verdict n h.sound used))))
 
-  pub free_pushed : (nodes : List (CacheNode I R)) (goal : I) (step : PathKind) (own : NodeId) (goals : List (OpenRun I R)) → own.0 ≡ length nodes → Asks goals step goal → AreJustified says nodes goals → (other : I) (r : R) (target : Option NodeId) → IsFree says nodes goals other r target → IsFree says (nodes ++ open_node goal ∷ []) (new_run goal step own (Some own) None no_tally ∷ goals) other r target
+  pub free_pushed : (nodes : List (CacheNode I R)) (goal : I) (step : PathKind) (own : NodeId) (goals : List (OpenRun I R)) → own.0 ≡ length nodes → NewestAsks goals step goal → AreJustified says nodes goals → (other : I) (r : R) (target : Option NodeId) → IsFree says nodes goals other r target → IsFree says (nodes ++ open_node goal ∷ []) (new_run goal step own (Some own) None no_tally ∷ goals) other r target
   free_pushed nodes goal step own goals at asks h =
       IsFree-carried nodes (nodes ++ open_node goal ∷ []) goals (new_run goal step own (Some own) None no_tally ∷ goals) (KeepsGoals-appended true nodes goal) (pushed_use nodes goal step own goals at h)
 

@@ -1,8 +1,8 @@
 -- Stored results rest on no goal under evaluation, whatever the newest goal notes; so each of them may answer its question.
 use Rattle.std.proofs.Common.{Bool, List, ◌∷◌, length, refl, sym, subst}
 use Rattle.search_graph.specs.Below.{Request, Reply, Answer, PathKind, StackEntry, StoredResult, CacheNode, Heads, Hit, Store, Run, with_depth, with_nested_goals, AnswersNewest, TakesStored, NotesOverflow, Verdicts}
-use Rattle.search_graph.specs.Words.{IsFree, AreFree, Asks, IsFit, IsUsable, run_of, runs_of, tally_of}
-use Rattle.search_graph.proofs.Finishing.{answer_fits, same_run, stored_taken_same, overflow_noted_same}
+use Rattle.search_graph.specs.Words.{IsFree, AreFree, NewestAsks, IsFit, IsUsable, run_of, runs_of, tally_of}
+use Rattle.search_graph.proofs.justified.Finishing.{answer_fits, same_run, stored_taken_same, overflow_noted_same}
 use Rattle.search_graph.proofs.Free.{free_answers}
 use Rattle.search_graph.proofs.FreeResults.{all_free_above}
 
@@ -24,10 +24,10 @@ module _ {X F I R A T : Type 0} (says : Verdicts R) (same : I → I → Bool) (n
   overflow_noted_free n free = subst (λ l. AreFree says same nodes l results) (overflow_noted_same says nodes same old new n) free
 
   -- a stored result answers the newest goal's question
-  pub stored_fits : (scripts : I → List (Reply R) → Request I R) (step : PathKind) (goal : I) (depth : _) (hit : Hit I R T) → IsUsable same scripts results goal depth hit → TakesStored same step hit old new → Asks (runs_of old) step goal → AreFree says same nodes (runs_of old) results → IsFit says nodes (runs_of new) (Answer hit.result) hit.node
+  pub stored_fits : (scripts : I → List (Reply R) → Request I R) (step : PathKind) (goal : I) (depth : _) (hit : Hit I R T) → IsUsable same scripts results goal depth hit → TakesStored same step hit old new → NewestAsks (runs_of old) step goal → AreFree says same nodes (runs_of old) results → IsFit says nodes (runs_of new) (Answer hit.result) hit.node
   stored_fits scripts step goal depth hit u t asks free =
       let later : StackEntry X I R A T × Run X F I R A T = (record t.entry { state = with_nested_goals (with_depth t.entry.state hit.required_depth hit.encountered_overflow) t.nested }, t.run) in
-      let asked : Asks (run_of (record t.entry { state = with_nested_goals (with_depth t.entry.state hit.required_depth hit.encountered_overflow) t.nested }, t.run) ∷ runs_of t.below) step goal = subst (λ l. Asks (runs_of l) step goal) t.was asks in
+      let asked : NewestAsks (run_of (record t.entry { state = with_nested_goals (with_depth t.entry.state hit.required_depth hit.encountered_overflow) t.nested }, t.run) ∷ runs_of t.below) step goal = subst (λ l. NewestAsks (runs_of l) step goal) t.was asks in
       let here : IsFree says nodes (runs_of old) goal u.stored.result.result u.stored.node = free goal u.place u.stored u.is_stored in
       let there : IsFree says nodes (run_of (record t.entry { state = with_nested_goals (with_depth t.entry.state hit.required_depth hit.encountered_overflow) t.nested }, t.run) ∷ runs_of t.below) goal hit.result hit.node =
       subst (λ r. IsFree says nodes (runs_of ((t.entry, t.run) ∷ t.below)) goal r hit.node) u.result_is

@@ -3,13 +3,13 @@ use Rattle.std.proofs.Common.{◌≡◌, Bool, true, false, List, [], ◌∷◌,
 use Rattle.std.specs.Option.{option_or}
 use Rattle.search_graph.specs.Below.{stack_of, PathKind, NodeId, Request, Reply, StoredResult, AvailableDepth, EvaluationResult, StackEntry, CacheNode, open_node, Store, stored_at, place_of, stored_from, AreSoundResults, Run, first_entry, no_record, Verdicts}
 use Rattle.search_parts.proofs.Stores.{put_cases}
-use Rattle.search_graph.specs.Words.{IsFree, AreFree, OpenRun, frames_of, Asks, AreJustified, StoresAnswer, Put, runs_of}
+use Rattle.search_graph.specs.Words.{IsFree, AreFree, OpenRun, frames_of, NewestAsks, AreJustified, StoresAnswer, Put, runs_of}
 use Rattle.search_graph.specs.Results.{NotStored}
-use Rattle.search_graph.proofs.Justified.{new_run, no_tally, tally_again, EndsWithNode}
+use Rattle.search_graph.proofs.justified.Justified.{new_run, no_tally, tally_again, EndsWithNode}
 use Rattle.search_graph.proofs.Free.{free_nothing, free_pushed, free_popped, free_rerun, free_same, free_above}
 
 -- the goal that was asked is pushed, as an item
-pub free_pushed_goal : {X F I R A T : Type 0} (says : Verdicts R) (nodes : List (CacheNode I R)) (input : I) (kind : PathKind) (depth : AvailableDepth) (own : NodeId) (frame : F) (goals : List (StackEntry X I R A T × Run X F I R A T)) → own.0 ≡ length nodes → Asks (runs_of goals) kind input → AreJustified says nodes (runs_of goals) → (other : I) (r : R) (target : Option NodeId) → IsFree says nodes (runs_of goals) other r target → IsFree says (nodes ++ open_node input ∷ []) (runs_of ((first_entry input kind depth own, record { frame = frame; node = own; progress = no_record; finished_runs = 0; met_overflow_before = false; candidates = [] }) ∷ goals)) other r target
+pub free_pushed_goal : {X F I R A T : Type 0} (says : Verdicts R) (nodes : List (CacheNode I R)) (input : I) (kind : PathKind) (depth : AvailableDepth) (own : NodeId) (frame : F) (goals : List (StackEntry X I R A T × Run X F I R A T)) → own.0 ≡ length nodes → NewestAsks (runs_of goals) kind input → AreJustified says nodes (runs_of goals) → (other : I) (r : R) (target : Option NodeId) → IsFree says nodes (runs_of goals) other r target → IsFree says (nodes ++ open_node input ∷ []) (runs_of ((first_entry input kind depth own, record { frame = frame; node = own; progress = no_record; finished_runs = 0; met_overflow_before = false; candidates = [] }) ∷ goals)) other r target
 free_pushed_goal says nodes input kind depth own frame goals at asks h = free_pushed says nodes input kind own (runs_of goals) at asks h
 
 module _ {X I R A T : Type 0} (says : Verdicts R) (same : I → I → Bool) where
@@ -22,13 +22,13 @@ module _ {X I R A T : Type 0} (says : Verdicts R) (same : I → I → Bool) wher
   all_free_nothing scripts nodes results kept = λ goal place s at. free_nothing says nodes goal s.result.result s.node (kept goal place s at).graph
 
   -- a goal is pushed,
-  pub all_free_pushed : (nodes : List (CacheNode I R)) (goal : I) (step : PathKind) (own : NodeId) (goals : List (OpenRun I R)) (results : Store I (StoredResult X I R A T)) → own.0 ≡ length nodes → Asks goals step goal → AreJustified says nodes goals → AreFree says same nodes goals results → AreFree says same (nodes ++ open_node goal ∷ []) (new_run goal step own (Some own) None no_tally ∷ goals) results
+  pub all_free_pushed : (nodes : List (CacheNode I R)) (goal : I) (step : PathKind) (own : NodeId) (goals : List (OpenRun I R)) (results : Store I (StoredResult X I R A T)) → own.0 ≡ length nodes → NewestAsks goals step goal → AreJustified says nodes goals → AreFree says same nodes goals results → AreFree says same (nodes ++ open_node goal ∷ []) (new_run goal step own (Some own) None no_tally ∷ goals) results
   all_free_pushed nodes goal step own goals results at asks h =
       all_carried nodes (nodes ++ open_node goal ∷ []) goals (new_run goal step own (Some own) None no_tally ∷ goals) results
       (free_pushed says nodes goal step own goals at asks h)
 
   -- also as an item
-  pub all_free_pushed_goal : {F : Type 0} (nodes : List (CacheNode I R)) (input : I) (kind : PathKind) (depth : AvailableDepth) (own : NodeId) (frame : F) (goals : List (StackEntry X I R A T × Run X F I R A T)) (results : Store I (StoredResult X I R A T)) → own.0 ≡ length nodes → Asks (runs_of goals) kind input → AreJustified says nodes (runs_of goals) → AreFree says same nodes (runs_of goals) results → AreFree says same (nodes ++ open_node input ∷ []) (runs_of ((first_entry input kind depth own, record { frame = frame; node = own; progress = no_record; finished_runs = 0; met_overflow_before = false; candidates = [] }) ∷ goals)) results
+  pub all_free_pushed_goal : {F : Type 0} (nodes : List (CacheNode I R)) (input : I) (kind : PathKind) (depth : AvailableDepth) (own : NodeId) (frame : F) (goals : List (StackEntry X I R A T × Run X F I R A T)) (results : Store I (StoredResult X I R A T)) → own.0 ≡ length nodes → NewestAsks (runs_of goals) kind input → AreJustified says nodes (runs_of goals) → AreFree says same nodes (runs_of goals) results → AreFree says same (nodes ++ open_node input ∷ []) (runs_of ((first_entry input kind depth own, record { frame = frame; node = own; progress = no_record; finished_runs = 0; met_overflow_before = false; candidates = [] }) ∷ goals)) results
   all_free_pushed_goal nodes input kind depth own frame goals results at asks h = all_free_pushed nodes input kind own (runs_of goals) results at asks h
 
   -- the newest goal's run has ended, and the goal taken or run again

@@ -8,8 +8,8 @@ use Rattle.search_graph.proofs.HeadOrder.{at_here}
 use Rattle.search_graph.proofs.ProvisionalMoves.{reusable_beside}
 use Rattle.search_graph.proofs.Ready.{is_below}
 use Rattle.search_graph.proofs.ReadyMoves.{some_of_usages}
-use Rattle.search_graph.proofs.Tallies.{counted_other, counted_own}
-use Rattle.search_graph.proofs.TakenTallies.{counted_has}
+use Rattle.search_graph.proofs.counts.Tallies.{counted_other, counted_own}
+use Rattle.search_graph.proofs.counts.TakenTallies.{counted_has}
 
 -- ---- heads of goals
 

@@ -12,7 +12,7 @@ use Rattle.search_graph.specs.Words.{AreJustified, frame_of, frames_of, IsReusab
 use Rattle.search_graph.specs.ProvisionalAnswers.{provisional_shape}
 use Rattle.search_graph.proofs.CycleAnswers.{path_kind_is}
 use Rattle.search_graph.proofs.HeadOrder.{ascends, at_most_highest, highest_there, no_highest}
-use Rattle.search_graph.proofs.Justified.{EndsWithNode, stack_length}
+use Rattle.search_graph.proofs.justified.Justified.{EndsWithNode, stack_length}
 use Rattle.search_graph.proofs.ProvisionalAnswers.{reusable_added, reusable_popped}
 use Rattle.search_graph.proofs.LeftOver.{IsLeftOver, other_head, own_head}
 use Rattle.search_graph.proofs.Ready.{all_at_depths, is_below, on_stack_many}

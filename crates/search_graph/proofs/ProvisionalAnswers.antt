@@ -11,7 +11,7 @@ use Rattle.search_parts.proofs.Definites.{IsSomeAnd-weaker}
 use Rattle.search_parts.proofs.Nodes.{KeepsGoals-appended}
 use Rattle.search_graph.specs.Words.{OpenRun, frame_of, frames_of, AreJustified, MayAnswer, asked_now, ProvisionalAnswer, IsReusable, heads_of}
 use Rattle.search_graph.specs.ProvisionalAnswers.{provisional_shape}
-use Rattle.search_graph.proofs.Justified.{new_run, no_tally, tally_again, shapes_opened, EndsWithNode, used_at, lead_is, leads_there, no_answers}
+use Rattle.search_graph.proofs.justified.Justified.{new_run, no_tally, tally_again, shapes_opened, EndsWithNode, used_at, lead_is, leads_there, no_answers}
 
 -- ---- one kept answer beside a sound state
 

@@ -3,10 +3,10 @@ use Rattle.std.proofs.Common.{◌≡◌, ℕ, suc, Bool, List, ◌∷◌, length
 use Rattle.std.specs.Option.{IsSomeAnd}
 use Rattle.std.proofs.lemmas.List.{length-map}
 use Rattle.search_graph.specs.Below.{path_kind, TakesIn, stack_of, PathKind, Heads, heads_shape, rank_of, Answer, StackEntry, CacheNode, IsDefinite, verdict_of, Run, AnswersNewest, Verdicts}
-use Rattle.search_graph.specs.Words.{frames_of, Asks, AreJustified, IsFit, MayAnswer, asked_now, ProvisionalAnswer, IsReusable, run_of, runs_of, heads_of, tally_of, LieBelow}
-use Rattle.search_graph.proofs.Finishing.{answer_fits, heads_come, same_run}
+use Rattle.search_graph.specs.Words.{frames_of, NewestAsks, AreJustified, IsFit, MayAnswer, asked_now, ProvisionalAnswer, IsReusable, run_of, runs_of, heads_of, tally_of, LieBelow}
+use Rattle.search_graph.proofs.justified.Finishing.{answer_fits, heads_come, same_run}
 use Rattle.search_graph.proofs.Free.{same_stack}
-use Rattle.search_graph.proofs.Justified.{stack_length}
+use Rattle.search_graph.proofs.justified.Justified.{stack_length}
 use Rattle.search_graph.proofs.ProvisionalAnswers.{reusable_answers, reusable_same}
 
 module _ {X F I R A T : Type 0} (says : Verdicts R) (nodes : List (CacheNode I R)) (old new : List (StackEntry X I R A T × Run X F I R A T)) (step : PathKind) (required : ℕ) (overflow : Bool) (answer : Heads) (a : AnswersNewest step required overflow answer old new) where
@@ -24,7 +24,7 @@ module _ {X F I R A T : Type 0} (says : Verdicts R) (nodes : List (CacheNode I R
       (subst (λ l. IsReusable says nodes (runs_of l) goal k) a.was kept)))
 
   -- and this may be a kept one, where the path kind from its highest head through the step is the kept one
-  module _ (h : AreJustified says nodes (runs_of old)) (lower : LieBelow (suc (length a.below)) answer) (goal : I) (asks : Asks (runs_of old) step goal) (k : ProvisionalAnswer R) (heads_are : k.heads ≡ heads_shape answer) (path : path_kind (stack_of (frames_of says (runs_of old))) (rank_of step) k.highest ≡ k.path) (kept : IsReusable says nodes (runs_of old) goal k) where
+  module _ (h : AreJustified says nodes (runs_of old)) (lower : LieBelow (suc (length a.below)) answer) (goal : I) (asks : NewestAsks (runs_of old) step goal) (k : ProvisionalAnswer R) (heads_are : k.heads ≡ heads_shape answer) (path : path_kind (stack_of (frames_of says (runs_of old))) (rank_of step) k.highest ≡ k.path) (kept : IsReusable says nodes (runs_of old) goal k) where
     takes_in : TakesIn (length (stack_of (frames_of says (runs_of a.below)))) (rank_of step) k.heads (heads_of (tally_of a.state a.run.candidates) (asked_now (run_of (a.entry, a.run))))
     takes_in =
         let many : length a.below ≡ length (stack_of (frames_of says (runs_of a.below))) = sym (stack_length says (runs_of a.below) ∙ length-map a.below run_of) in
@@ -43,4 +43,4 @@ module _ {X F I R A T : Type 0} (says : Verdicts R) (nodes : List (CacheNode I R
     reusable_fits =
         subst (λ l. IsFit says nodes (runs_of l) (Answer k.result) k.target) (sym a.is)
         (answer_fits says nodes (run_of (record a.entry { state = a.state }, a.run)) (runs_of a.below) k.result step goal k.target
-        (subst (λ l. Asks (runs_of l) step goal) a.was asks) may_answer)
+        (subst (λ l. NewestAsks (runs_of l) step goal) a.was asks) may_answer)

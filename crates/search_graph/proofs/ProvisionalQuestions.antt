@@ -6,9 +6,9 @@ use Rattle.std.proofs.lemmas.Bool.Decides.{nat_tests}
 use Rattle.std.proofs.lemmas.List.{length-map}
 use Rattle.std.proofs.lemmas.List.Elements.{All-head, All-tail}
 use Rattle.search_graph.specs.Below.{StackDepth, CycleHead, PathKind, highest, rank_of, Request, Reply, Answer, StackEntry, ProvisionalCacheEntry, CacheNode, path_kind_from, entries_at, asking_heads, has_head_up_to, may_be_used, Run, AnswersNewest, Verdicts}
-use Rattle.search_graph.specs.Words.{Asks, AreJustified, IsFit, highest_depth, Asking, usable_entry, answer_of_entry, IsReady, run_of, runs_of, LieBelow}
+use Rattle.search_graph.specs.Words.{NewestAsks, AreJustified, IsFit, highest_depth, Asking, usable_entry, answer_of_entry, IsReady, run_of, runs_of, LieBelow}
 use Rattle.search_graph.proofs.CycleAnswers.{path_kind_is}
-use Rattle.search_graph.proofs.Finishing.{answered_newest_is_justified}
+use Rattle.search_graph.proofs.justified.Finishing.{answered_newest_is_justified}
 use Rattle.search_graph.proofs.ProvisionalMoves.{reusable_fits}
 use Rattle.search_graph.proofs.Ready.{is_below}
 
@@ -74,7 +74,7 @@ module _ {X F I R A T : Type 0} (says : Verdicts R) (scripts : I → List (Reply
   entry_taken_justified = answered_newest_is_justified says nodes step 0 entry.encountered_overflow entry.heads old new a heads_lower h
 
   -- and the answer fits its question
-  pub entry_fits : Asks (runs_of old) step goal → rank_of (path_kind_from (reverse (map (λ s. s.0) old)) (highest_depth entry.heads) step) ≡ rank_of entry.path_from_head → IsFit says nodes (runs_of new) (Answer entry.result) entry.node
+  pub entry_fits : NewestAsks (runs_of old) step goal → rank_of (path_kind_from (reverse (map (λ s. s.0) old)) (highest_depth entry.heads) step) ≡ rank_of entry.path_from_head → IsFit says nodes (runs_of new) (Answer entry.result) entry.node
   entry_fits asks path =
       reusable_fits says nodes old new step 0 entry.encountered_overflow entry.heads a h heads_lower goal asks (answer_of_entry entry) refl
       (sym (path_kind_is says step (highest_depth entry.heads) old) ∙ path) ready.kept

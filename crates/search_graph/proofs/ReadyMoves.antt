@@ -4,9 +4,9 @@ use Rattle.std.specs.Option.{option_map}
 use Rattle.std.proofs.lemmas.Bool.{false≢true}
 use Rattle.search_graph.specs.Below.{StackDepth, CycleHead, PathKind, HeadUsages, UsagesByHead, Heads, at_depth, DelegateOf, CxOf, NodeId, Request, Evaluate, EnterCandidate, FinishCandidate, Ignore, Done, Reply, AvailableDepth, EntryState, StackEntry, ProvisionalCacheEntry, CacheNode, open_node, Hit, Lists, Received, Run, enters, finishes, less_head, less_usages, Ignores, NotesCandidate, first_entry, joined_over, usages_over, AnswersNewest, TakesStored, NotesOverflow, no_record, requested, HasStepped, received_by, Verdicts, verdicts}
 use Rattle.search_graph.specs.Words.{OpenRun, AreJustified, IsHead, AreReady, run_of, runs_of, Tally, tally_of, counted}
-use Rattle.search_graph.proofs.Finishing.{same_run, stored_taken_same, overflow_noted_same}
+use Rattle.search_graph.proofs.justified.Finishing.{same_run, stored_taken_same, overflow_noted_same}
 use Rattle.search_graph.proofs.Free.{same_stack}
-use Rattle.search_graph.proofs.Justified.{new_run, no_tally}
+use Rattle.search_graph.proofs.justified.Justified.{new_run, no_tally}
 use Rattle.search_graph.proofs.ProvisionalAnswers.{reusable_pushed, reusable_same}
 use Rattle.search_graph.proofs.Ready.{all_ready_carried}
 

@@ -5,7 +5,7 @@ use Rattle.std.proofs.lemmas.List.Elements.{All-append, All-cons, All-head, All-
 use Rattle.open_graphs.specs.Graph as theory
 use Rattle.search_graph.specs.Below.{IsRising, NodeId, Request, Reply, StackEntry, ProvisionalCacheEntry, RebaseReason, CacheNode, Lists, entries_at, rebased, changed_for, verdict_of, Run, Next, Verdicts}
 use Rattle.search_graph.specs.Words.{AreJustified, GivesAnswer, AreReady, HasReason, IsNewestUnranked, IsReady, final_answer, entries_for, rebased_for, run_of, runs_of}
-use Rattle.search_graph.proofs.Justified.{EndsWithNode}
+use Rattle.search_graph.proofs.justified.Justified.{EndsWithNode}
 use Rattle.search_graph.proofs.LeftOver.{left_over_ready}
 use Rattle.search_graph.proofs.PoppedEntries.{IsLeft, lower, own_pushed, rebased_is_left, unused_is_left}
 

@@ -5,7 +5,7 @@ use Rattle.search_graph.specs.Below.{PathKind, Inductive, Unknown, Coinductive, 
 use Rattle.evaluations.proofs.Mirrors.{leaves_safe}
 use Rattle.search_graph.specs.Words.{Unstable, Call, limits, bound, IsCounted, seen, HasAsked, frame_of, reason_shape, HasReason, IsNewestUnranked, IsReason, IsEndOfRun, Repeated, Initial, WithoutUsages, Ambiguous, Stable, Limited, Repeats, run_of}
 use Rattle.search_graph.specs.EndOfRun.{Unused}
-use Rattle.search_graph.proofs.Moves.{leaving, outcome_of}
+use Rattle.search_graph.proofs.moves.Moves.{leaving, outcome_of}
 
 -- ---- the reason
 

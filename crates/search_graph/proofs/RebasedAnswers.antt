@@ -12,7 +12,7 @@ use Rattle.search_parts.proofs.RebasedEntries.{is_used, is_unused}
 use Rattle.search_graph.specs.Words.{frame_of, frames_of, depths_of, highest_depth, entry_shape, reason_shape, run_of, runs_of, LieBelow}
 use Rattle.search_graph.proofs.CycleAnswers.{path_kind_is}
 use Rattle.search_graph.proofs.HeadOrder.{Ascends, ascends, at_later, at_most_highest, highest_there, no_highest}
-use Rattle.search_graph.proofs.Justified.{stack_length}
+use Rattle.search_graph.proofs.justified.Justified.{stack_length}
 use Rattle.search_graph.proofs.RebasedPaths.{is_changed, is_zero, not_zero, passes_path_test}
 use Rattle.search_graph.proofs.RebasedShapes.{inserts_empty, inserts_heads, left_there, new_ascends, popped_head, there_left, with_all}
 

@@ -60,7 +60,7 @@ module _ {D C V P F I R A T : Type 0} (G : DelegateOf D C V P F I R A T) (X : Cx
     pub decided : Decidedly call met (AllDecided (verdicts X) goals)
 
   -- the newest item waits for the reply, and less work is left
-  pub record GoesOn (call : Call I) (ahead : ℕ) (reply : Reply R) (goals : List (Item G X cx)) (starts : ℕ) (met : Bool) : Type 0 where
+  pub record CallGoesOn (call : Call I) (ahead : ℕ) (reply : Reply R) (goals : List (Item G X cx)) (starts : ℕ) (met : Bool) : Type 0 where
     pub waiting : IsWaiting call reply goals starts met
     pub falls : work_left goals < ahead
 
@@ -86,5 +86,5 @@ module _ {D C V P F I R A T : Type 0} (G : DelegateOf D C V P F I R A T) (X : Cx
 
   -- what may come after a request of the old goals
   abbrev pub Leads : Call I → ℕ → List (Item G X cx) → Next R → List (Item G X cx) → ℕ → Bool → Type 0
-  Leads call ahead old (Step given) goals starts met = GoesOn call ahead given.reply goals starts met
+  Leads call ahead old (Step given) goals starts met = CallGoesOn call ahead given.reply goals starts met
   Leads call ahead old (Finished answer) goals starts met = (goals ≡ []) × IsOnly old call.top × HasEnded call answer.result starts met

@@ -3,9 +3,9 @@ use Rattle.std.specs.Prelude.{◌≡◌, ◌<◌, ◌^◌, ℕ, Bool, List, [], 
 use Rattle.search_graph.specs.Below.{DelegateOf, CxOf, Request, Fault, Evaluate, Next, Received, Cache, KeepsFinished, KeepsResults, PathKind, StackEntry, Run, verdicts}
 use Rattle.search_graph.specs.declared.graph.evaluation.Evaluation.{Evaluation}
 use Rattle.search_graph.specs.Calls.{Call}
-use Rattle.search_graph.specs.Evaluating.{IsWaiting, HasAsked, GoesOn, HasEnded, HasStopped, Leads, KeepsStore, KeepsAnswers}
+use Rattle.search_graph.specs.Evaluating.{IsWaiting, HasAsked, CallGoesOn, HasEnded, HasStopped, Leads, KeepsStore, KeepsAnswers}
 use Rattle.search_graph.specs.Free.{AreFree}
-use Rattle.search_graph.specs.Justified.{AreJustified, Asks, IsFit}
+use Rattle.search_graph.specs.Justified.{AreJustified, NewestAsks, IsFit}
 use Rattle.search_graph.specs.Provisional.{AreReady}
 use Rattle.search_graph.specs.Runs.{runs_of, IsJustifiedNext}
 
@@ -56,7 +56,7 @@ module _ {D C V P F I R A T : Type 0} (G : DelegateOf D C V P F I R A T) (X : Cx
     pub call : Call I
     pub ahead : ℕ
     pub asked : HasAsked G X cx call ahead request e.goals starts e.limits_met
-    pub on_record : (kind : PathKind) (goal : I) → request ≡ Evaluate kind goal → Asks (runs_of e.goals) kind goal
+    pub on_record : (kind : PathKind) (goal : I) → request ≡ Evaluate kind goal → NewestAsks (runs_of e.goals) kind goal
     pub right : IsRight cache e
 
   -- the newest goal waits for the reply in some call, and all is right
@@ -67,7 +67,7 @@ module _ {D C V P F I R A T : Type 0} (G : DelegateOf D C V P F I R A T) (X : Cx
 
   -- the newest goal gets the reply, and less work is left
   pub record GoesOnWith (call : Call I) (ahead : ℕ) (received : Received R) (cache : Cache C I R A T) (e : Evaluation D C V P F I R A T) (starts : ℕ) : Type 0 where
-    pub goes_on : GoesOn G X cx call ahead received.reply e.goals starts e.limits_met
+    pub goes_on : CallGoesOn G X cx call ahead received.reply e.goals starts e.limits_met
     pub answers : KeepsAnswers G X cx same call e.limits_met cache.results e.provisional
 
   -- what comes after a request of the old goals: less work is left, or the call ends

@@ -73,14 +73,14 @@ AllLeadToGoals nodes [] = Unit {0}
 AllLeadToGoals nodes (o ∷ below) = LeadToGoals nodes o.answers × AllLeadToGoals nodes below
 
 -- the newest goal asked for this goal by this step; an outer call asks for anything
-abbrev pub Asks : {I R : Type 0} → List (OpenRun I R) → PathKind → I → Type 0
-Asks [] step goal = Unit {0}
-Asks (o ∷ below) step goal = o.request ≡ Some (Evaluate step goal)
+abbrev pub NewestAsks : {I R : Type 0} → List (OpenRun I R) → PathKind → I → Type 0
+NewestAsks [] step goal = Unit {0}
+NewestAsks (o ∷ below) step goal = o.request ≡ Some (Evaluate step goal)
 
 -- each goal was asked for by the one below it
 abbrev pub AreAskedBelow : {I R : Type 0} → List (OpenRun I R) → Type 0
 AreAskedBelow [] = Unit {0}
-AreAskedBelow (o ∷ below) = Asks below o.step o.goal × AreAskedBelow below
+AreAskedBelow (o ∷ below) = NewestAsks below o.step o.goal × AreAskedBelow below
 
 -- what the goal counts agrees, and its candidates are those on record
 pub record HasTally {I R : Type 0} (parent : ℕ) (o : OpenRun I R) : Type 0 where
@@ -128,5 +128,5 @@ pub record MayAnswer {I R : Type 0} (says : Verdicts R) (nodes : List (CacheNode
 abbrev pub IsFit : {I R : Type 0} → Verdicts R → List (CacheNode I R) → List (OpenRun I R) → Reply R → Option NodeId → Type 0
 IsFit says nodes [] reply target = Unit {0}
 IsFit says nodes (o ∷ below) reply target =
-    (r : _) (kind : PathKind) (goal : _) → reply ≡ Answer r → Asks (o ∷ below) kind goal → verdict_of says r ≢ theory.Neither →
+    (r : _) (kind : PathKind) (goal : _) → reply ≡ Answer r → NewestAsks (o ∷ below) kind goal → verdict_of says r ≢ theory.Neither →
     IsSomeAnd target (λ a. MayAnswer says nodes o below (verdict_of says r) kind goal a.0)

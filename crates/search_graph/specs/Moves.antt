@@ -57,9 +57,9 @@ module _ {X F I R A T : Type 0} where
 
   -- The newest goal was taken with this result, which is the answer to the goal below it, if there is one. Overflow that any of its
   -- runs met goes with it.
-  abbrev pub Leaves : R → List (StackEntry X I R A T × Run X F I R A T) → Next R → List (StackEntry X I R A T × Run X F I R A T) → Type 0
-  Leaves r [] next new = ⊥
-  Leaves r (s ∷ []) next new = (target : Option NodeId) × (next ≡ Finished (record { result = r; node = target })) × (new ≡ [])
-  Leaves r (s ∷ p ∷ below) next new =
+  abbrev pub NewestLeaves : R → List (StackEntry X I R A T × Run X F I R A T) → Next R → List (StackEntry X I R A T × Run X F I R A T) → Type 0
+  NewestLeaves r [] next new = ⊥
+  NewestLeaves r (s ∷ []) next new = (target : Option NodeId) × (next ≡ Finished (record { result = r; node = target })) × (new ≡ [])
+  NewestLeaves r (s ∷ p ∷ below) next new =
       (target : Option NodeId) × (next ≡ Step (record { reply = Answer r; node = target }))
       × AnswersNewest s.0.step_kind_from_parent s.0.state.required_depth (s.0.state.encountered_overflow || s.1.met_overflow_before) s.0.state.heads (p ∷ below) new

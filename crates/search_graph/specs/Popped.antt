@@ -3,7 +3,7 @@ use Rattle.std.specs.Prelude.{Bool, Option}
 use Rattle.search_graph.specs.Below.{DelegateOf, CxOf, RebaseReason, Next, Cache, IsDefinite, verdicts}
 use Rattle.search_graph.specs.declared.graph.evaluation.Evaluation.{Evaluation}
 use Rattle.search_graph.specs.Evaluations.{IsRight, IsRightNext}
-use Rattle.search_graph.specs.Moves.{CanLeave, Leaves}
+use Rattle.search_graph.specs.Moves.{CanLeave, NewestLeaves}
 use Rattle.search_graph.specs.Provisional.{HasReason, IsNewestUnranked, RebasesNewest}
 use Rattle.search_graph.specs.Results.{IsNewestStored, NewestComesTo, NewestIsPlain}
 use Rattle.search_graph.specs.Runs.{EndsNewest}
@@ -23,7 +23,7 @@ module _ {D C V P F I R A T : Type 0} (G : DelegateOf D C V P F I R A T) (X : Cx
   -- It was popped: its result is the answer to the goal below it, or to the call; it is stored if it rests on no goal, and else
   -- becomes a provisional entry; entries that rested on the goal are rebased.
   pub record Pops (next : Next R) (new : Cache C I R A T) (after : Evaluation D C V P F I R A T) : Type 0 where
-    pub left : Leaves outcome before.goals next after.goals
+    pub left : NewestLeaves outcome before.goals next after.goals
     pub stored : IsNewestStored same before.goals outcome new.results
     pub rebased : RebasesNewest same G.ENABLE_PROVISIONAL_CACHE (G.propagated old.cx) (G.fixpoint_overflow old.cx) reason outcome before.goals before.provisional after.provisional
     pub right : IsRightNext G X same old.cx before.goals next new after

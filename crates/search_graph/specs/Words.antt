@@ -1,19 +1,19 @@
 -- The words of this crate, from one place.
 pub use Rattle.search_graph.specs.Calls.{bound, Call, IsCounted, KeepsLimits, limits, Outset, runs}
 pub use Rattle.search_graph.specs.Decided.{AllDecided, IsDecided}
-pub use Rattle.search_graph.specs.Evaluating.{Begins, Decidedly, GoesOn, HasAsked, HasEnded, HasStopped}
+pub use Rattle.search_graph.specs.Evaluating.{Begins, Decidedly, CallGoesOn, HasAsked, HasEnded, HasStopped}
 pub use Rattle.search_graph.specs.Evaluating.{IsOnly, IsWaiting, KeepsAnswers, KeepsStore, Leads, seen, work_left}
 pub use Rattle.search_graph.specs.Free.{AreFree, IsFree}
 pub use Rattle.search_graph.specs.Graph.{ComesTo, Graph, IsCaused, IsProved, IsRefuted, OtherResult, OutOfMemory}
 pub use Rattle.search_graph.specs.Justified.{AllCharged, AllLeadToGoals, AreCharged, AreEdges, AreJustified, AreOpen, asked_now}
-pub use Rattle.search_graph.specs.Justified.{Asks, frame_of, frames_of, HasTally, HaveTallies, verdict_shape, IsFit, LeadHome}
+pub use Rattle.search_graph.specs.Justified.{NewestAsks, frame_of, frames_of, HasTally, HaveTallies, verdict_shape, IsFit, LeadHome}
 pub use Rattle.search_graph.specs.Justified.{cycles_node, MayAnswer, OpenRun}
 pub use Rattle.search_graph.specs.ProvisionalAnswers.{IsReusable, ProvisionalAnswer}
 pub use Rattle.search_graph.specs.EntryShapes.{depths_of, highest_depth, entry_shape, reason_shape}
 pub use Rattle.search_graph.specs.Lists.{frames_for, HadCause, HasAnswer}
 pub use Rattle.search_graph.specs.LookUp.{AreOnStack, Asking, could_be_used, is_applicable, IsUsable, usable_entry, meets_entry}
 pub use Rattle.search_graph.specs.LookUp.{UsesStored}
-pub use Rattle.search_graph.specs.Moves.{CanLeave, ClosesCycle, first_run, GivesAnswer, IsFresh, Leaves, Pushes, Reruns}
+pub use Rattle.search_graph.specs.Moves.{CanLeave, ClosesCycle, first_run, GivesAnswer, IsFresh, NewestLeaves, Pushes, Reruns}
 pub use Rattle.search_graph.specs.Provisional.{AreReady, final_answer, HasReason, IsHead, IsNewestUnranked, IsReady}
 pub use Rattle.search_graph.specs.Provisional.{answer_of_entry, entries_for, rebased_for, RebasesEntries, RebasesNewest}
 pub use Rattle.search_graph.specs.Results.{AreDefinite, HaveNoOverflow, IsNewestPlainTo, IsNewestStored, IsStoredAt, MayPut}

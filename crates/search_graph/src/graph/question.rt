@@ -4,7 +4,7 @@ ghost use Rattle.std.specs.Prelude.{◌≡◌, ◌≤◌, ◌<◌, ◌+◌, ℕ,
 ghost use Rattle.std.specs.List.{list_any, position};
 ghost use Rattle.std.specs.Option.{option_map, option_and_then};
 ghost use Rattle.search_graph.specs.Below.{depth_below, CountsOne, CacheNode, KeepsFinished, Lists, Store, ProvisionalCacheEntry, Evaluate, StoredResult, Memory, newest};
-ghost use Rattle.search_graph.specs.Words.{Call, AreFree, ClosesCycle, Pushes, Asks, AreJustified, IsFit, AreReady, runs_of, HasRequest, Requests, IsRightFor, GoesOnWith, StopsWith, KeepsCache, Asked};
+ghost use Rattle.search_graph.specs.Words.{Call, AreFree, ClosesCycle, Pushes, NewestAsks, AreJustified, IsFit, AreReady, runs_of, HasRequest, Requests, IsRightFor, GoesOnWith, StopsWith, KeepsCache, Asked};
 
 use crate::graph::evaluation::Evaluation;
 use crate::graph::look_up::{look_up, look_up_entry};

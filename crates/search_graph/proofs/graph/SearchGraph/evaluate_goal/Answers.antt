@@ -1,9 +1,9 @@
 use Rattle.std.proofs.Common.{◌∙◌, Ok, true, false, refl}
 use Rattle.search_parts.proofs.Definites.{definite_is_whole}
 use Rattle.search_parts.proofs.Whole.{whole_stays}
-use Rattle.search_graph.proofs.Loops.{call_of, call_begins, some_call_begins}
+use Rattle.search_graph.proofs.moves.Loops.{call_of, call_begins, some_call_begins}
 use Rattle.search_graph.proofs.Promises.{call_is_stored, ended_plain, ended_within, ended_paid, stopped_within, stopped_paid, yes_is_proved, no_is_refuted, neither_is_none}
-use Rattle.search_graph.proofs.Questions.{if_err_and, same_err}
+use Rattle.search_graph.proofs.moves.Questions.{if_err_and, same_err}
 use Rattle.search_graph.proofs.graph.SearchGraph.evaluate_goal.Goals as goal
 use Rattle.search_graph.specs.Below.{verdicts}
 

@@ -1,4 +1,4 @@
-use Rattle.search_graph.proofs.LookUps.{found_is_usable}
+use Rattle.search_graph.proofs.moves.LookUps.{found_is_usable}
 use Rattle.search_graph.proofs.graph.look_up.look_up.Goals as goal
 
 pub returns-clause-usable : goal.returns-clause-usable

@@ -2,8 +2,8 @@ use Rattle.std.proofs.Common.{sym, ap, subst, ◌∙◌}
 use Rattle.std.specs.Option.{IsSomeAnd}
 use Rattle.search_graph.specs.Below.{open_goal, with_run, IsRun, KeepsFinished, edges_of, verdicts}
 use Rattle.search_parts.proofs.Finished.{KeepsFinished-ended}
-use Rattle.search_graph.proofs.Finishing.{again, definite_result, open_for_run, ended_node, left_open}
-use Rattle.search_graph.proofs.Verdicts.{fails_at}
+use Rattle.search_graph.proofs.justified.Finishing.{again, definite_result, open_for_run, ended_node, left_open}
+use Rattle.search_graph.proofs.records.Verdicts.{fails_at}
 use Rattle.search_graph.proofs.graph.nodes.result_node.Goals as goal
 
 pub returns-in-Neither-clause-has_node : goal.returns-in-Neither-clause-has_node

@@ -1,7 +1,7 @@
 use Rattle.std.proofs.Common.{sym, ◌∙◌}
 use Rattle.search_graph.specs.Words.{WithoutUsages, Ambiguous}
-use Rattle.search_graph.proofs.EndOfRunLaws.{fixpoint_reason, used_somehow}
-use Rattle.search_graph.proofs.Verdicts.{fails_at}
+use Rattle.search_graph.proofs.moves.EndOfRunLaws.{fixpoint_reason, used_somehow}
+use Rattle.search_graph.proofs.records.Verdicts.{fails_at}
 use Rattle.search_graph.proofs.graph.run_end.stable_reason.Goals as goal
 
 pub returns-then-reached_fixpoint-clause-reason : goal.returns-then-reached_fixpoint-clause-reason

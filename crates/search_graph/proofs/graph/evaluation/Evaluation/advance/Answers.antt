@@ -1,14 +1,14 @@
 use Rattle.std.proofs.Common.{refl, sym, subst}
 use Rattle.search_graph.specs.Below.{CanStep, Request, NotesCandidate, Evaluate, Done, verdicts}
-use Rattle.search_graph.specs.Words.{GoesOn, IsCaused, IsFit, OutOfMemory, StopsWith, runs_of, work_left}
+use Rattle.search_graph.specs.Words.{CallGoesOn, IsCaused, IsFit, OutOfMemory, StopsWith, runs_of, work_left}
 use Rattle.search_graph.proofs.Advancing.{has_request, requests, step_stops, stepped_right}
 use Rattle.search_graph.proofs.Asking.{asked_goes_on, asked_right}
 use Rattle.search_graph.proofs.Causes.{step_is_caused, step_keeps_free}
-use Rattle.search_graph.proofs.Finishing.{noted_fits}
-use Rattle.search_graph.proofs.Loops.{done_leads, next_before, step_asks_for}
-use Rattle.search_graph.proofs.Moves.{asked_stopped, can_step}
-use Rattle.search_graph.proofs.Noted.{about_candidates, can_note, noted_is_justified, noting_goes_on, noting_keeps_free}
-use Rattle.search_graph.proofs.Questions.{if_err_and}
+use Rattle.search_graph.proofs.justified.Finishing.{noted_fits}
+use Rattle.search_graph.proofs.moves.Loops.{done_leads, next_before, step_asks_for}
+use Rattle.search_graph.proofs.moves.Moves.{asked_stopped, can_step}
+use Rattle.search_graph.proofs.justified.Noted.{about_candidates, can_note, noted_is_justified, noting_goes_on, noting_keeps_free}
+use Rattle.search_graph.proofs.moves.Questions.{if_err_and}
 use Rattle.search_graph.proofs.ReadyMoves.{noted_ready, stepped_ready}
 use Rattle.search_graph.proofs.graph.evaluation.Evaluation.advance.Goals as goal
 
@@ -101,7 +101,7 @@ returns-in_err-note_candidate-in_default-clause-caused g c =
 pub returns-in_ok-note_candidate-in_default-clause-leads : goal.returns-in_ok-note_candidate-in_default-clause-leads
 returns-in_ok-note_candidate-in_default-clause-leads g c = λ call h. record {
   leads =
-      subst (λ given. GoesOn g.D.Delegate g.D.Cx.Cx c.args.cache.now.cx call (work_left g.D.Delegate g.D.Cx.Cx c.args.cache.now.cx c.args.self.now.goals) given.reply c.note_candidate.new.self (g.D.Delegate.starts c.step.new.inspect) c.args.self.now.limits_met) (sym c.without_node.ensures)
+      subst (λ given. CallGoesOn g.D.Delegate g.D.Cx.Cx c.args.cache.now.cx call (work_left g.D.Delegate g.D.Cx.Cx c.args.cache.now.cx c.args.self.now.goals) given.reply c.note_candidate.new.self (g.D.Delegate.starts c.step.new.inspect) c.args.self.now.limits_met) (sym c.without_node.ensures)
       (noting_goes_on g.D.Delegate g.D.Cx.Cx c.args.cache.now.cx call _ c.in_ok-request.request c.step.new.goals c.note_candidate.new.self _ _ (about_candidates c.in_ok-request.request c.in_default.not-Evaluate c.in_default.not-Done) c.in_ok-note_candidate-in_default.ensures
       (requests g.D.Delegate g.D.Cx.Cx g.D.Cx.Input.PartialEq.eq c.args.cache.now.cx c.args.cache.now c.args.self.now c.args.received c.cx-cx.result c.cx-cx.ensures c.in_ok-request.request c.step.new.goals c.in_ok-request.ensures.stepped (g.D.Delegate.starts c.args.inspect.now) (g.D.Delegate.starts c.step.new.inspect) c.step.ensures.same_starts c.in_ok-request.request refl c.requires.right call h).asked);
   answers = h.answers;

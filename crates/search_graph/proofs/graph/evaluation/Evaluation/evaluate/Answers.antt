@@ -3,10 +3,10 @@ use Rattle.search_graph.specs.Below.{Begin, Finished, Step, hit_of}
 use Rattle.search_parts.proofs.Stores.{KeepsResults-same}
 use Rattle.search_graph.specs.Words.{Awaits, Call, HasReply, IsRightFor, IsRightNext, LeadsTo, StopsWith, work_left}
 use Rattle.search_graph.proofs.Beginning.{begins_right, begins_waiting, never_pushed, then_keeps}
-use Rattle.search_graph.proofs.Questions.{if_err_and}
-use Rattle.search_graph.proofs.LookUps.{nothing_stored, something_stored, stored_over_none}
-use Rattle.search_graph.proofs.StoredAnswers.{stored_ends}
-use Rattle.search_graph.proofs.Loops.{call_of, some_call_begins, only_has_graph}
+use Rattle.search_graph.proofs.moves.Questions.{if_err_and}
+use Rattle.search_graph.proofs.moves.LookUps.{nothing_stored, something_stored, stored_over_none}
+use Rattle.search_graph.proofs.moves.StoredAnswers.{stored_ends}
+use Rattle.search_graph.proofs.moves.Loops.{call_of, some_call_begins, only_has_graph}
 use Rattle.search_graph.proofs.graph.evaluation.Evaluation.evaluate.Goals as goal
 
 -- ---- a stored result answers the goal

@@ -1,13 +1,13 @@
 use Rattle.search_graph.proofs.EntriesSaid.{done_keeps, end_leaves, met_keeps_answers, rerun_keeps}
 use Rattle.std.proofs.Common.{rules, Err, refl, sym, ap, ap₂, subst, ◌∙◌}
 use Rattle.search_graph.specs.Below.{Memory, Step, verdict_of, verdicts}
-use Rattle.search_graph.specs.Words.{GoesOn, KeepsAnswers, KeepsStore, LeadsTo, StopsWith}
-use Rattle.search_graph.proofs.Finishing.{neither_is}
-use Rattle.search_graph.proofs.Moves.{asked_stopped_by, can_leave, ends_newest, failed_rerun_stopped, leave_leads, limited_leads, limited_stopped, rerun_goes_on}
-use Rattle.search_graph.proofs.Questions.{if_err_and, if_ok_then, no_ok}
-use Rattle.search_graph.proofs.DoneRuns.{limit_comes, limited_plain, memory_alone, met_keeps, newest_comes, newest_plain, put_keeps, stopped_by, stopped_each}
+use Rattle.search_graph.specs.Words.{CallGoesOn, KeepsAnswers, KeepsStore, LeadsTo, StopsWith}
+use Rattle.search_graph.proofs.justified.Finishing.{neither_is}
+use Rattle.search_graph.proofs.moves.Moves.{asked_stopped_by, can_leave, ends_newest, failed_rerun_stopped, leave_leads, limited_leads, limited_stopped, rerun_goes_on}
+use Rattle.search_graph.proofs.moves.Questions.{if_err_and, if_ok_then, no_ok}
+use Rattle.search_graph.proofs.moves.DoneRuns.{limit_comes, limited_plain, memory_alone, met_keeps, newest_comes, newest_plain, put_keeps, stopped_by, stopped_each}
 use Rattle.search_graph.proofs.Reasons.{newest_reason, newest_unranked}
-use Rattle.search_graph.proofs.EndOfRunLaws.{limited, unstable, newest_limited, newest_unstable}
+use Rattle.search_graph.proofs.moves.EndOfRunLaws.{limited, unstable, newest_limited, newest_unstable}
 use Rattle.search_graph.proofs.graph.evaluation.Evaluation.finish_run.Goals as goal
 
 -- ---- its result stands
@@ -103,7 +103,7 @@ returns-in_ok-run_again-in-Err-Again-clause-moves g c = record {
       subst (λ after. LeadsTo g.D.Delegate g.D.Cx.Cx g.D.Cx.Input.PartialEq.eq c.args.cache.now.cx call ahead c.args.self.now.goals (Step c.without_node.result) c.run_again.new.cache after (g.D.Delegate.starts c.run_again.new.inspect)) (sym c.run_again.ensures.rest)
       (record {
         leads =
-            subst (λ given. GoesOn g.D.Delegate g.D.Cx.Cx c.args.cache.now.cx call ahead given.reply c.run_again.new.self.goals (g.D.Delegate.starts c.run_again.new.inspect) c.args.self.now.limits_met) (sym c.without_node.ensures)
+            subst (λ given. CallGoesOn g.D.Delegate g.D.Cx.Cx c.args.cache.now.cx call ahead given.reply c.run_again.new.self.goals (g.D.Delegate.starts c.run_again.new.inspect) c.args.self.now.limits_met) (sym c.without_node.ensures)
             (rerun_goes_on g.D.Delegate g.D.Cx.Cx c.args.cache.now.cx call ahead c.args.outcome c.args.self.now.goals c.run_again.new.self.goals _ _ c.args.self.now.limits_met (newest_unstable c.args.self.now.goals c.last_entry.result.now c.last_run.result.now c.last_entry.ensures c.last_run.ensures g.D.Delegate.FIXPOINT_STEP_LIMIT (unstable g.D.Cx.Result.PartialEq.eq g.D.Delegate.initial_kind g.D.Delegate.ambiguity g.D.Delegate.FIXPOINT_STEP_LIMIT c.last_entry.result.now.state.provisional_result c.last_entry.result.now.state.usages c.last_run.result.now.finished_runs c.args.outcome c.end_of_run.result c.end_of_run.ensures.is_end (c.in-Err-Again.is ∙ ap Err c.in-Err-Again.field-0-is))) c.run_again.ensures.at_most c.in_ok-run_again-in-Err-Again.ensures.counted c.in_ok-run_again-in-Err-Again.ensures.reran.reran h.asked);
         answers =
             subst (λ results. KeepsAnswers g.D.Delegate g.D.Cx.Cx c.args.cache.now.cx g.D.Cx.Input.PartialEq.eq call c.args.self.now.limits_met results c.run_again.new.self.provisional) (sym (ap (λ cache. cache.results) c.run_again.ensures.cache))

@@ -6,8 +6,8 @@ use Rattle.search_graph.proofs.Ready.{are_within, heads_on_stack, on_stack_many}
 use Rattle.search_graph.proofs.ReadyPops.{rebased_ready}
 use Rattle.search_graph.proofs.RebasedEntries.{entries_rebased, highest_stays}
 use Rattle.search_graph.proofs.DoneGoals.{given_free, given_justified, given_leaves, newest_stored}
-use Rattle.search_graph.proofs.Finishing.{neither_is, rebases}
-use Rattle.search_graph.proofs.Questions.{if_err_and}
+use Rattle.search_graph.proofs.justified.Finishing.{neither_is, rebases}
+use Rattle.search_graph.proofs.moves.Questions.{if_err_and}
 use Rattle.search_graph.proofs.FinishedRuns.{headless_graph, required_fits, taken_run_ends}
 use Rattle.search_graph.proofs.graph.evaluation.Evaluation.pop_goal.Goals as goal
 

@@ -1,7 +1,7 @@
 use Rattle.std.proofs.Common.{ap}
 use Rattle.std.proofs.lemmas.Iterator.{YieldsList-from_slice}
 use Rattle.std.proofs.lemmas.Iterator.Adapters.{serves_from_places}
-use Rattle.search_graph.proofs.LookUps.{entry_on_stack, same_pair}
+use Rattle.search_graph.proofs.moves.LookUps.{entry_on_stack, same_pair}
 use Rattle.search_graph.proofs.graph.look_up.OverStack.meets_entry.Goals as goal
 
 pub any-requires-clause-callable : goal.any-requires-clause-callable

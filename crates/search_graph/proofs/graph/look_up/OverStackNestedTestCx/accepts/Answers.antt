@@ -4,7 +4,7 @@ use Rattle.std.proofs.lemmas.Iterator.Consumers.{YieldsList-from_rest}
 use Rattle.std.proofs.lemmas.Iterator.Search.{any_from_yields_List, all_from_yields_List}
 use Rattle.search_graph.specs.Below.{paths_at}
 use Rattle.search_graph.specs.Words.{meets_entry}
-use Rattle.search_graph.proofs.LookUps.{empty_is_applicable, refused_on_stack, decided_by_entries}
+use Rattle.search_graph.proofs.moves.LookUps.{empty_is_applicable, refused_on_stack, decided_by_entries}
 use Rattle.search_graph.proofs.graph.look_up.OverStackNestedTestCx.accepts.Goals as goal
 
 pub returns-then-is_empty : goal.returns-then-is_empty

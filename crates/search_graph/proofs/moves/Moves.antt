@@ -8,9 +8,9 @@ use Rattle.evaluations.specs.Frames.{Frame, answered}
 use Rattle.evaluations.proofs.Mirrors.{step_requests, can_take, refused_waits, answered_waits, pushed_waits, rerun_waits, popped_waits, popped_at_limit_waits, last_item_ends, last_item_ends_at_limit, last_run_stops, failed_rerun_stops, WaitsWithLess, first_waits, waits_stops, requested_stops, failed_push_stops, cycle_found, requested_fits, requested_by}
 use Rattle.evaluations.proofs.Evaluations.{evaluation_stops, fitting_meets_no_limit}
 use Rattle.evaluations.proofs.Plains.{unranked_is_safe}
-use Rattle.search_graph.specs.Words.{EndsNewest, Call, runs, limits, bound, IsCounted, KeepsLimits, AllDecided, Decidedly, seen, IsWaiting, work_left, HasAsked, GoesOn, HasStopped, Leads, first_run, Pushes, Reruns, CanLeave, Leaves, ClosesCycle}
-use Rattle.search_graph.proofs.ProgressLaws.{records_new, records_received, fault_is}
-use Rattle.search_graph.proofs.DecidedGoals.{below_decided, changed_decided, cycle_decided, newest_decided, pushed_decided, replied_decided}
+use Rattle.search_graph.specs.Words.{EndsNewest, Call, runs, limits, bound, IsCounted, KeepsLimits, AllDecided, Decidedly, seen, IsWaiting, work_left, HasAsked, CallGoesOn, HasStopped, Leads, first_run, Pushes, Reruns, CanLeave, NewestLeaves, ClosesCycle}
+use Rattle.search_graph.proofs.records.ProgressLaws.{records_new, records_received, fault_is}
+use Rattle.search_graph.proofs.moves.DecidedGoals.{below_decided, changed_decided, cycle_decided, newest_decided, pushed_decided, replied_decided}
 
 pub some_runs : (n : ℕ) → 1 ≤ max 1 n
 some_runs n = omega arith
@@ -153,7 +153,7 @@ module _ {D C V P F I R A T : Type 0} (G : DelegateOf D C V P F I R A T) (X : Cx
       (subst (AllDecided (verdicts X)) a.was h))
 
   -- a goal without depth asks: the question is refused
-  pub refused_goes_on : (ahead : ℕ) (kind : PathKind) (goal : I) (r : R) (s : Goal) (below : List Goal) (nested : NestedPaths I) (starts : ℕ) (met : Bool) → s.0.available_depth.0 ≡ 0 → HasAsked G X cx call ahead (Evaluate kind goal) (s ∷ below) starts met → GoesOn G X cx call ahead (Answer r) ((overflowed (record s.0 { state = with_nested_goals s.0.state nested }), s.1) ∷ below) starts true
+  pub refused_goes_on : (ahead : ℕ) (kind : PathKind) (goal : I) (r : R) (s : Goal) (below : List Goal) (nested : NestedPaths I) (starts : ℕ) (met : Bool) → s.0.available_depth.0 ≡ 0 → HasAsked G X cx call ahead (Evaluate kind goal) (s ∷ below) starts met → CallGoesOn G X cx call ahead (Answer r) ((overflowed (record s.0 { state = with_nested_goals s.0.state nested }), s.1) ∷ below) starts true
   refused_goes_on ahead kind goal r s below nested starts met none h =
       let w = refused_waits (seen G X cx) (Stood G X cx) (G.script cx) (limits G X cx call) (IsCounted G X cx call) call.top (bound G X cx call) (some_runs G.FIXPOINT_STEP_LIMIT) ahead starts met s below kind goal r (overflowed (record s.0 { state = with_nested_goals s.0.state nested }), s.1) none (record { same = λ replies. refl; stood = λ replies stood. stood }) h.asked in
       record {
@@ -188,7 +188,7 @@ module _ {D C V P F I R A T : Type 0} (G : DelegateOf D C V P F I R A T) (X : Cx
   }
 
   -- a goal that is under evaluation is asked: it has no rank, so that any answer is safe
-  pub cycle_goes_on : (eq : I → I → Bool) → ((x y : I) → eq x y ≡ true → x ≡ y) → ((kind : PathKind) (goal : I) → IsCycleResult X.is_yes X.is_no kind (G.initial_result cx kind goal)) → (ahead : ℕ) (kind : PathKind) (goal : I) (received : Received R) (depth : ℕ) (head : StackDepth) (old new : List Goal) (starts : ℕ) (met : Bool) → ((s : Goal) (below : List Goal) → old ≡ s ∷ below → IsAllowed (seen G X cx s) depth) → list_any (λ t. eq goal t.0.input) old ≡ true → ClosesCycle G X cx kind goal head received old new → HasAsked G X cx call ahead (Evaluate kind goal) old starts met → GoesOn G X cx call ahead received.reply new starts met
+  pub cycle_goes_on : (eq : I → I → Bool) → ((x y : I) → eq x y ≡ true → x ≡ y) → ((kind : PathKind) (goal : I) → IsCycleResult X.is_yes X.is_no kind (G.initial_result cx kind goal)) → (ahead : ℕ) (kind : PathKind) (goal : I) (received : Received R) (depth : ℕ) (head : StackDepth) (old new : List Goal) (starts : ℕ) (met : Bool) → ((s : Goal) (below : List Goal) → old ≡ s ∷ below → IsAllowed (seen G X cx s) depth) → list_any (λ t. eq goal t.0.input) old ≡ true → ClosesCycle G X cx kind goal head received old new → HasAsked G X cx call ahead (Evaluate kind goal) old starts met → CallGoesOn G X cx call ahead received.reply new starts met
   cycle_goes_on eq exact sorts ahead kind goal reply depth head old new starts met may found c h =
       let t = c.takes in
       let cycle : PathKind = path_kind_from (reverse (map (λ s. s.0) old)) head.0 kind in
@@ -199,7 +199,7 @@ module _ {D C V P F I R A T : Type 0} (G : DelegateOf D C V P F I R A T) (X : Cx
       let w = answered_waits (seen G X cx) (Stood G X cx) (G.script cx) (limits G X cx call) (IsCounted G X cx call) call.top (bound G X cx call) (some_runs G.FIXPOINT_STEP_LIMIT) ahead starts met (t.entry, t.run) t.below kind goal depth (record { result = r; required = 0; met_overflow = false; in_cycle = true }) (record t.entry { state = t.state }, t.run)
       (may (t.entry, t.run) t.below t.was) (unranked_is_safe (G.script cx) goal depth (record { result = r; required = 0; met_overflow = false; in_cycle = true }) no_rank (omega arith)) (λ c unmet. refl)
       (takes_answer r kind 0 false ((head, cycle_head kind cycle) ∷ []) t.entry t.run (record { 0 = length t.below }) t.state t.takes) was.asked in
-      subst (λ given. GoesOn G X cx call ahead given new starts met) (sym (ap (λ given. given.reply) c.is))
+      subst (λ given. CallGoesOn G X cx call ahead given new starts met) (sym (ap (λ given. given.reply) c.is))
       (record {
         waiting = record {
           waits = subst (λ v. Waits (seen G X cx) (Stood G X cx) (G.script cx) (limits G X cx call) (IsCounted G X cx call) call.top (bound G X cx call) (Answer r) v starts met) (sym t.is) w.0;
@@ -214,7 +214,7 @@ module _ {D C V P F I R A T : Type 0} (G : DelegateOf D C V P F I R A T) (X : Cx
       })
 
   -- a kept answer of a goal without a rank is taken over
-  pub provisional_goes_on : (ahead : ℕ) (kind : PathKind) (goal : I) (r : R) (overflow : Bool) (answer : Heads) (depth : ℕ) (old new : List Goal) (starts : ℕ) (met : Bool) → ((s : Goal) (below : List Goal) → old ≡ s ∷ below → IsAllowed (seen G X cx s) depth) → HasNoRank (G.script cx) goal → (IsCounted G X cx call → met ≡ false → overflow ≡ false) → Decidedly G X cx call met (IsDefinite (verdicts X) r) → AnswersNewest kind 0 overflow answer old new → HasAsked G X cx call ahead (Evaluate kind goal) old starts met → GoesOn G X cx call ahead (Answer r) new starts met
+  pub provisional_goes_on : (ahead : ℕ) (kind : PathKind) (goal : I) (r : R) (overflow : Bool) (answer : Heads) (depth : ℕ) (old new : List Goal) (starts : ℕ) (met : Bool) → ((s : Goal) (below : List Goal) → old ≡ s ∷ below → IsAllowed (seen G X cx s) depth) → HasNoRank (G.script cx) goal → (IsCounted G X cx call → met ≡ false → overflow ≡ false) → Decidedly G X cx call met (IsDefinite (verdicts X) r) → AnswersNewest kind 0 overflow answer old new → HasAsked G X cx call ahead (Evaluate kind goal) old starts met → CallGoesOn G X cx call ahead (Answer r) new starts met
   provisional_goes_on ahead kind goal r overflow answer depth old new starts met may no_rank calm definite t h =
       let was : HasAsked G X cx call ahead (Evaluate kind goal) ((t.entry, t.run) ∷ t.below) starts met = subst (λ v. HasAsked G X cx call ahead (Evaluate kind goal) v starts met) t.was h in
       let w = answered_waits (seen G X cx) (Stood G X cx) (G.script cx) (limits G X cx call) (IsCounted G X cx call) call.top (bound G X cx call) (some_runs G.FIXPOINT_STEP_LIMIT) ahead starts met (t.entry, t.run) t.below kind goal depth (record { result = r; required = 0; met_overflow = overflow; in_cycle = some_heads answer }) (record t.entry { state = t.state }, t.run)
@@ -230,10 +230,10 @@ module _ {D C V P F I R A T : Type 0} (G : DelegateOf D C V P F I R A T) (X : Cx
       }
 
   -- the asked goal was put on top
-  pub pushed_goes_on : {before after : List (CacheNode I R)} → (ahead : ℕ) (kind : PathKind) (goal : I) (depth : AvailableDepth) (s : Goal) (below new : List Goal) (starts now : ℕ) (met : Bool) → IsAllowed (seen G X cx s) depth.0 → now ≤ starts + 1 → (G.counts ≡ true → CountsOne G.last starts now) → Pushes G X cx goal kind depth before after (s ∷ below) new → HasAsked G X cx call ahead (Evaluate kind goal) (s ∷ below) starts met → GoesOn G X cx call ahead Begin new now met
+  pub pushed_goes_on : {before after : List (CacheNode I R)} → (ahead : ℕ) (kind : PathKind) (goal : I) (depth : AvailableDepth) (s : Goal) (below new : List Goal) (starts now : ℕ) (met : Bool) → IsAllowed (seen G X cx s) depth.0 → now ≤ starts + 1 → (G.counts ≡ true → CountsOne G.last starts now) → Pushes G X cx goal kind depth before after (s ∷ below) new → HasAsked G X cx call ahead (Evaluate kind goal) (s ∷ below) starts met → CallGoesOn G X cx call ahead Begin new now met
   pushed_goes_on ahead kind goal depth s below new starts now met may one counted push h =
       let w = pushed_waits (seen G X cx) (Stood G X cx) (G.script cx) (limits G X cx call) (IsCounted G X cx call) call.top (bound G X cx call) (some_runs G.FIXPOINT_STEP_LIMIT) ahead starts met s below kind goal depth.0 now (first_entry goal kind depth push.own, first_run G X cx push.frame push.own) may push.fresh.within refl (push.fresh.stood, records_new (verdicts X) (G.script cx goal)) (record { at_most = one; exactly = λ c. counted c.0 }) h.asked in
-      subst (λ v. GoesOn G X cx call ahead Begin v now met) (sym push.is)
+      subst (λ v. CallGoesOn G X cx call ahead Begin v now met) (sym push.is)
       (record {
         waiting = record {
           waits = w.0;
@@ -249,13 +249,13 @@ module _ {D C V P F I R A T : Type 0} (G : DelegateOf D C V P F I R A T) (X : Cx
       let next : item.1.finished_runs + 1 ≡ suc item.1.finished_runs = omega arith in
       ap₂ (λ b n. record (seen G X cx item) { left = G.left frame; finished_runs = n; met_overflow = false; met_before = item.1.met_overflow_before || item.0.state.encountered_overflow; in_cycle = b }) (sym cycle) next
 
-  pub rerun_goes_on : (ahead : ℕ) (done : R) (old new : List Goal) (starts now : ℕ) (met : Bool) → ((s : Goal) (below : List Goal) → old ≡ s ∷ below → (is_in_cycle s.0.state ≡ true) × (s.1.finished_runs + 1 < runs G X cx)) → now ≤ starts + 1 → (G.counts ≡ true → CountsOne G.last starts now) → Reruns G X cx done old new → HasAsked G X cx call ahead (Done done) old starts met → GoesOn G X cx call ahead Begin new now met
+  pub rerun_goes_on : (ahead : ℕ) (done : R) (old new : List Goal) (starts now : ℕ) (met : Bool) → ((s : Goal) (below : List Goal) → old ≡ s ∷ below → (is_in_cycle s.0.state ≡ true) × (s.1.finished_runs + 1 < runs G X cx)) → now ≤ starts + 1 → (G.counts ≡ true → CountsOne G.last starts now) → Reruns G X cx done old new → HasAsked G X cx call ahead (Done done) old starts met → CallGoesOn G X cx call ahead Begin new now met
   rerun_goes_on ahead done old new starts now met may one counted again h =
       let was : HasAsked G X cx call ahead (Done done) (again.item ∷ again.below) starts met = subst (λ v. HasAsked G X cx call ahead (Done done) v starts met) again.was h in
       let can = may again.item again.below again.was in
       let w = rerun_waits (seen G X cx) (Stood G X cx) (G.script cx) (limits G X cx call) (IsCounted G X cx call) call.top (bound G X cx call) (some_runs G.FIXPOINT_STEP_LIMIT) ahead starts met again.item again.below done now (rerun_with done again.target again.frame again.own (with_no_record again.item))
       can.1 again.fresh.within (again_seen again.item done again.target again.frame again.own can.0) (again.fresh.stood, records_new (verdicts X) (G.script cx again.item.0.input)) (record { at_most = one; exactly = λ c. counted c.0 }) was.asked in
-      subst (λ v. GoesOn G X cx call ahead Begin v now met) (sym again.is)
+      subst (λ v. CallGoesOn G X cx call ahead Begin v now met) (sym again.is)
       (record {
         waiting = record {
           waits = w.0;
@@ -357,7 +357,7 @@ module _ {D C V P F I R A T : Type 0} (G : DelegateOf D C V P F I R A T) (X : Cx
     popped_leads s p below new starts met after target is keeps decided t waits =
         let w = waits (record t.entry { state = t.state }, t.run) (takes_answer r s.0.step_kind_from_parent s.0.state.required_depth (s.0.state.encountered_overflow || s.1.met_overflow_before) s.0.state.heads t.entry t.run (record { 0 = length t.below }) t.state t.takes) in
         subst (λ n. Leads G X cx call ahead (s ∷ p ∷ below) n new starts after) (sym is)
-        (subst (λ v. GoesOn G X cx call ahead (Answer r) v starts after) (sym t.is) (record {
+        (subst (λ v. CallGoesOn G X cx call ahead (Answer r) v starts after) (sym t.is) (record {
           waiting = record {
             waits = w.0;
             keeps = keeps;
@@ -374,7 +374,7 @@ module _ {D C V P F I R A T : Type 0} (G : DelegateOf D C V P F I R A T) (X : Cx
         (none, only_top s h.asked.f h.asked.below (ap (λ g. g.goal) h.asked.mirror.0.is) h.asked.mirror.1 h.asked.evaluating.rooted, record { outcome = outcome_of G X cx r s; result_is = refl; ends = ends; keeps = keeps; decided = decided })
 
     -- where the run's result stands,
-    pub leave_leads : (old new : List Goal) (starts : ℕ) (met : Bool) → r ≡ done → Leaves r old next new → HasAsked G X cx call ahead (Done done) old starts met → Leads G X cx call ahead old next new starts met
+    pub leave_leads : (old new : List Goal) (starts : ℕ) (met : Bool) → r ≡ done → NewestLeaves r old next new → HasAsked G X cx call ahead (Done done) old starts met → Leads G X cx call ahead old next new starts met
     leave_leads [] new starts met same l h = absurd l
     leave_leads (s ∷ []) new starts met same l h =
         ended_leads s new starts met met l.0 l.1 l.2 h.keeps (λ decisive unmet. subst (IsDefinite (verdicts X)) (sym same) (done_definite ahead done (s ∷ []) starts met h decisive unmet)) h
@@ -386,7 +386,7 @@ module _ {D C V P F I R A T : Type 0} (G : DelegateOf D C V P F I R A T) (X : Cx
         (λ later takes. popped_waits (seen G X cx) (Stood G X cx) (G.script cx) (limits G X cx call) (IsCounted G X cx call) call.top (bound G X cx call) (some_runs G.FIXPOINT_STEP_LIMIT) ahead starts met s t.below done (outcome_of G X cx r s) (t.entry, t.run) later (leaving G X cx done r s (inl same)) takes was.asked)
 
     -- and where the goal had its most runs
-    pub limited_leads : (old new : List Goal) (starts : ℕ) (met : Bool) → ((s : Goal) (below : List Goal) → old ≡ s ∷ below → (is_in_cycle s.0.state ≡ true) × (runs G X cx ≤ s.1.finished_runs + 1)) → Leaves r old next new → HasAsked G X cx call ahead (Done done) old starts met → Leads G X cx call ahead old next new starts true
+    pub limited_leads : (old new : List Goal) (starts : ℕ) (met : Bool) → ((s : Goal) (below : List Goal) → old ≡ s ∷ below → (is_in_cycle s.0.state ≡ true) × (runs G X cx ≤ s.1.finished_runs + 1)) → NewestLeaves r old next new → HasAsked G X cx call ahead (Done done) old starts met → Leads G X cx call ahead old next new starts true
     limited_leads [] new starts met may l h = absurd l
     limited_leads (s ∷ []) new starts met may l h =
         let can = may s [] refl in

@@ -8,7 +8,7 @@ use Rattle.search_graph.specs.Below.{Includes, StackDepth, PathKind, CycleHead, 
 use Rattle.open_graphs.proofs.Lists.{get_left, get_set_same}
 use Rattle.cycle_heads.proofs.Counts.{count_of-usages_by}
 use Rattle.search_graph.specs.Words.{IsCovered, IsTallied, candidate_at, candidates_count, counted, heads_of, tally_of, usages_of}
-use Rattle.search_graph.proofs.Tallies.{Carries, candidate_within, carried, counted_by_place, covered_still, covers_less, none_counted, of_kind, usages_in}
+use Rattle.search_graph.proofs.counts.Tallies.{Carries, candidate_within, carried, counted_by_place, covered_still, covers_less, none_counted, of_kind, usages_in}
 
 -- ---- counts
 

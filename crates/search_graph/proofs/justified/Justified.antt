@@ -13,8 +13,8 @@ use Rattle.open_graphs.proofs.Runs.{answered_grows, root_is_graph}
 use Rattle.open_graphs.proofs.Closed.{closed_is_graph}
 use Rattle.open_graphs.proofs.Keep.{append_grows, growth_keeps_use, heads_keep_use}
 use Rattle.search_parts.proofs.Nodes.{KeepsNodes-appended, KeepsGoals-appended, before, with_run-is, KeepsGoals-ended}
-use Rattle.search_graph.specs.Words.{OpenRun, verdict_shape, cycles_node, frame_of, frames_of, AreOpen, LeadHome, AllLeadToGoals, AreEdges, Asks, HasTally, AreCharged, AllCharged, AreJustified, asked_now, MayAnswer, Tally, IsTallied, heads_of, spare_heads, SaysAgain}
-use Rattle.search_graph.proofs.Tallies.{charge_within, fresh_tallied, rerun_keeps, rerun_tallied, spare_within}
+use Rattle.search_graph.specs.Words.{OpenRun, verdict_shape, cycles_node, frame_of, frames_of, AreOpen, LeadHome, AllLeadToGoals, AreEdges, NewestAsks, HasTally, AreCharged, AllCharged, AreJustified, asked_now, MayAnswer, Tally, IsTallied, heads_of, spare_heads, SaysAgain}
+use Rattle.search_graph.proofs.counts.Tallies.{charge_within, fresh_tallied, rerun_keeps, rerun_tallied, spare_within}
 
 -- ---- open nodes
 
@@ -144,7 +144,7 @@ module _ {I R : Type 0} (says : Verdicts R) (nodes : List (CacheNode I R)) where
   new_node_is goal = ap (option_map (λ n. n.goal)) (get_end nodes (open_node goal))
 
   -- the goal that was asked is pushed
-  pub pushed_is_justified : (goal : I) (step : PathKind) (own : NodeId) (goals : List (OpenRun I R)) → own.0 ≡ length nodes → Asks goals step goal → AreJustified says nodes goals → AreJustified says (nodes ++ open_node goal ∷ []) (new_run goal step own (Some own) None no_tally ∷ goals)
+  pub pushed_is_justified : (goal : I) (step : PathKind) (own : NodeId) (goals : List (OpenRun I R)) → own.0 ≡ length nodes → NewestAsks goals step goal → AreJustified says nodes goals → AreJustified says (nodes ++ open_node goal ∷ []) (new_run goal step own (Some own) None no_tally ∷ goals)
   pushed_is_justified goal step own goals at asks h =
       let many : length (shapes_of says nodes) ≡ own.0 = length-map nodes (shape_of says) ∙ sym at in
       let last : slice_get (nodes ++ open_node goal ∷ []) own.0 ≡ Some (open_node goal) = ap (slice_get (nodes ++ open_node goal ∷ [])) at ∙ get_end nodes (open_node goal) in

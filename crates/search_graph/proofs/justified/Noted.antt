@@ -8,14 +8,14 @@ use Rattle.open_goals.proofs.Pairs.{is_none}
 use Rattle.search_graph.specs.Below.{DelegateOf, CxOf, NodeId, Request, Evaluate, EnterCandidate, FinishCandidate, Ignore, Done, Noted, Verdict, Neither, StoredResult, EntryState, StackEntry, CacheNode, IsReplyTo, Store, UsagesByHead, Received, Run, enters, finishes, CanIgnore, CanNote, IgnoresNewest, Ignores, NotesCandidate, is_in_cycle, IsDefinite, change_newest, RunRecord, answered, counted_by, ignored_by, received, requested, HasStepped, Stood, Verdicts, verdicts}
 use Rattle.evaluations.specs.Frames.{Frame}
 use Rattle.evaluations.proofs.Mirrors.{noted_waits}
-use Rattle.search_graph.specs.Words.{Call, limits, bound, IsCounted, IsDecided, seen, GoesOn, HasAsked, AreFree, OpenRun, AreJustified, IsFit, run_of, runs_of, Tally, tally_of, IsTallied}
-use Rattle.search_graph.proofs.DecidedGoals.{changed_decided}
+use Rattle.search_graph.specs.Words.{Call, limits, bound, IsCounted, IsDecided, seen, CallGoesOn, HasAsked, AreFree, OpenRun, AreJustified, IsFit, run_of, runs_of, Tally, tally_of, IsTallied}
+use Rattle.search_graph.proofs.moves.DecidedGoals.{changed_decided}
 use Rattle.search_graph.proofs.FreeResults.{all_free_above}
-use Rattle.search_graph.proofs.Justified.{recounted_is_justified}
-use Rattle.search_graph.proofs.Moves.{some_runs}
-use Rattle.search_graph.proofs.Replies.{replied_is_justified}
-use Rattle.search_graph.proofs.IgnoredTallies.{can_ignore, ignored_keeps, ignored_tallied}
-use Rattle.search_graph.proofs.Tallies.{IsRegrouped, entered_regroups, finished_regroups, regrouped_keeps, regrouped_tallied}
+use Rattle.search_graph.proofs.justified.Justified.{recounted_is_justified}
+use Rattle.search_graph.proofs.moves.Moves.{some_runs}
+use Rattle.search_graph.proofs.justified.Replies.{replied_is_justified}
+use Rattle.search_graph.proofs.counts.IgnoredTallies.{can_ignore, ignored_keeps, ignored_tallied}
+use Rattle.search_graph.proofs.counts.Tallies.{IsRegrouped, entered_regroups, finished_regroups, regrouped_keeps, regrouped_tallied}
 
 -- ---- flags and candidates
 
@@ -226,7 +226,7 @@ module _ {D C V P F I R A T : Type 0} (G : DelegateOf D C V P F I R A T) (X : Cx
 module _ {D C V P F I R A T : Type 0} (G : DelegateOf D C V P F I R A T) (X : CxOf C I R A T) (cx : C) (call : Call I) where
   -- the newest goal changed, but not what is seen of it
   module _ (ahead : ℕ) (request : Request I R) (item later : StackEntry C I R A T × Run C F I R A T) (below : List (StackEntry C I R A T × Run C F I R A T)) (starts : ℕ) (met : Bool) (fits : IsReplyTo (λ _ _. ⊥) (Some request) Noted) (same : seen G X cx item ≡ seen G X cx later) (stood : (replies : List _) → Stood G X cx item replies → Stood G X cx later replies) (step : later.0.step_kind_from_parent ≡ item.0.step_kind_from_parent) (decided : IsDecided (verdicts X) item → IsDecided (verdicts X) later) where
-    changed_goes_on : HasAsked G X cx call ahead request (item ∷ below) starts met → GoesOn G X cx call ahead Noted (later ∷ below) starts met
+    changed_goes_on : HasAsked G X cx call ahead request (item ∷ below) starts met → CallGoesOn G X cx call ahead Noted (later ∷ below) starts met
     changed_goes_on h =
         let w = noted_waits (seen G X cx) (Stood G X cx) (G.script cx) (limits G X cx call) (IsCounted G X cx call) call.top (bound G X cx call) (some_runs G.FIXPOINT_STEP_LIMIT) ahead starts met item below request Noted later fits (record { same = λ replies. ap (λ (f : Frame I R). record f { replies = Noted ∷ replies }) same; stood = stood }) h.asked in
         record { waiting = record { waits = w.0; keeps = h.keeps; decided = λ decisive unmet. (changed_decided (verdicts X) item later below step decided (h.decided decisive unmet), tt) }; falls = w.1 }
@@ -236,17 +236,17 @@ module _ {D C V P F I R A T : Type 0} (G : DelegateOf D C V P F I R A T) (X : Cx
       (λ k. record (seen G X cx s) { in_cycle = sym i.in_cycle k })
       ∙ ap (λ (x : EntryState C I R A T). record (seen G X cx (record s.0 { state = x }, record s.1 { candidates = finished })) { in_cycle = is_in_cycle state }) (sym i.others)
 
-  pub noting_goes_on : (ahead : ℕ) (request : Request I R) (mid after : List (StackEntry C I R A T × Run C F I R A T)) (starts : ℕ) (met : Bool) → IsReplyTo (λ _ _. ⊥) (Some request) Noted → NotesCandidate request mid after → HasAsked G X cx call ahead request mid starts met → GoesOn G X cx call ahead Noted after starts met
+  pub noting_goes_on : (ahead : ℕ) (request : Request I R) (mid after : List (StackEntry C I R A T × Run C F I R A T)) (starts : ℕ) (met : Bool) → IsReplyTo (λ _ _. ⊥) (Some request) Noted → NotesCandidate request mid after → HasAsked G X cx call ahead request mid starts met → CallGoesOn G X cx call ahead Noted after starts met
   noting_goes_on ahead request [] after starts met fits noted h = absurd h.asked.mirror
   noting_goes_on ahead EnterCandidate (s ∷ below) after starts met fits noted h =
-      subst (λ v. GoesOn G X cx call ahead Noted v starts met) (sym noted)
+      subst (λ v. CallGoesOn G X cx call ahead Noted v starts met) (sym noted)
       (changed_goes_on ahead EnterCandidate s (enters s) below starts met tt refl (λ replies stood. stood) refl (λ d. record { replies = d.replies; provisional = d.provisional }) h)
   noting_goes_on ahead FinishCandidate (s ∷ below) after starts met fits noted h =
-      subst (λ v. GoesOn G X cx call ahead Noted v starts met) (sym noted)
+      subst (λ v. CallGoesOn G X cx call ahead Noted v starts met) (sym noted)
       (changed_goes_on ahead FinishCandidate s (finishes s) below starts met tt refl (λ replies stood. stood) refl (λ d. record { replies = d.replies; provisional = d.provisional }) h)
   noting_goes_on ahead (Ignore n) (s ∷ below) after starts met fits noted h =
       let here = ignores_here s.0 s.1 below n (s ∷ below) after refl noted in
-      subst (λ v. GoesOn G X cx call ahead Noted v starts met) (sym here.is)
+      subst (λ v. CallGoesOn G X cx call ahead Noted v starts met) (sym here.is)
       (changed_goes_on ahead (Ignore n) s (record s.0 { state = here.state }, record s.1 { candidates = slice_set s.1.candidates n [] }) below starts met tt
       (ignoring_seen s here.state (slice_set s.1.candidates n []) (record { 0 = length below }) here.candidate here.ignores)
       (λ replies stood. stood) refl

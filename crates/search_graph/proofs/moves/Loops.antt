@@ -2,10 +2,10 @@
 use Rattle.std.proofs.Common.{◌≡◌, ℕ, ◌+◌, ◌<◌, ◌≤◌, ◌^◌, Bool, true, false, List, [], ◌∷◌, length, Some, refl, sym, ap, subst, arith}
 use Rattle.search_graph.specs.Below.{CacheNode, DelegateOf, CxOf, Request, Begin, PathKind, AvailableDepth, StackEntry, Fault, Evaluate, CountsOne, CacheNode, Memory, Run, Received, Next, Step, Finished, requested, IsReplySorted, HasGraph, HasStepped, IsStepFault, received_by, StoredResult, Store, NotesCandidate, verdicts}
 use Rattle.search_parts.specs.declared.context.Answer.{Answer}
-use Rattle.search_graph.specs.Words.{Asks, AreJustified, IsFit, runs_of, IsJustifiedNext, Call, Outset, Pushes, AreDefinite, HaveNoOverflow, Begins, IsWaiting, HasAsked, HasStopped, IsOnly, Leads, work_left}
-use Rattle.search_graph.proofs.Moves.{root_waits, failed_root_stopped, step_asks, step_stops}
-use Rattle.search_graph.proofs.Noted.{noted_is_justified}
-use Rattle.search_graph.proofs.Replies.{replies_sorted}
+use Rattle.search_graph.specs.Words.{NewestAsks, AreJustified, IsFit, runs_of, IsJustifiedNext, Call, Outset, Pushes, AreDefinite, HaveNoOverflow, Begins, IsWaiting, HasAsked, HasStopped, IsOnly, Leads, work_left}
+use Rattle.search_graph.proofs.moves.Moves.{root_waits, failed_root_stopped, step_asks, step_stops}
+use Rattle.search_graph.proofs.justified.Noted.{noted_is_justified}
+use Rattle.search_graph.proofs.justified.Replies.{replies_sorted}
 
 -- the call of a goal at a depth, and what is known of the stored results
 abbrev pub call_of : {I : Type 0} (input : I) (root starts : ℕ) (met calm definite : Bool) → root < 2 ^ 64 → Call I
@@ -86,9 +86,9 @@ module _ {D C V P F I R A T : Type 0} (G : DelegateOf D C V P F I R A T) (X : Cx
       (subst (λ (v : List (StackEntry C I R A T × Run C F I R A T)). IsJustifiedNext (verdicts X) nodes v later (Finished answer)) s.is h)
 
   -- the goals ask what was requested
-  pub step_asks_for : (read : C) (request : Request I R) → HasStepped G X read given request old new → (kind : PathKind) (goal : I) → request ≡ Evaluate kind goal → Asks (runs_of new) kind goal
+  pub step_asks_for : (read : C) (request : Request I R) → HasStepped G X read given request old new → (kind : PathKind) (goal : I) → request ≡ Evaluate kind goal → NewestAsks (runs_of new) kind goal
   step_asks_for read request s kind goal is =
-      subst (λ (v : List (StackEntry C I R A T × Run C F I R A T)). Asks (runs_of v) kind goal) (sym s.is) (ap Some is)
+      subst (λ (v : List (StackEntry C I R A T × Run C F I R A T)). NewestAsks (runs_of v) kind goal) (sym s.is) (ap Some is)
 
 -- the only goal's answer is that of the goal
 pub only_has_graph : {D C V P F I R A T : Type 0} (G : DelegateOf D C V P F I R A T) (X : CxOf C I R A T) (cx : C) (nodes : List (CacheNode I R)) (old new : List (StackEntry C I R A T × Run C F I R A T)) (goal : I) (answer : Answer R) → IsOnly G X cx old goal → IsJustifiedNext (verdicts X) nodes old new (Finished answer) → HasGraph (verdicts X) nodes goal answer.result answer.node

@@ -9,7 +9,7 @@ use Rattle.cycle_heads.proofs.Counts.{count_of-usages_by}
 use Rattle.cycle_heads.proofs.HeadShapes.{IsIn, joined_after}
 use Rattle.cycle_heads.proofs.PathLaws.{has_kind-union}
 use Rattle.search_graph.specs.Words.{IsCovered, IsTallied, LieBelow, candidate_at, candidates_count, counted, head_with, heads_of, spare, tally_of, usages_of}
-use Rattle.search_graph.proofs.Tallies.{Carries, carried, counted_by_place, counted_head, counts_by_rank, covered_still, covers_less, covers_some, none_counted, of_kind, spare_is, usages_in}
+use Rattle.search_graph.proofs.counts.Tallies.{Carries, carried, counted_by_place, counted_head, counts_by_rank, covered_still, covers_less, covers_some, none_counted, of_kind, spare_is, usages_in}
 
 -- ---- counts
 

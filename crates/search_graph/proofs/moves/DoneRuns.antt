@@ -4,7 +4,7 @@ use Rattle.search_graph.specs.Below.{DelegateOf, CxOf, Request, Done, Reply, Pla
 use Rattle.search_parts.proofs.Stores.{put_cases}
 use Rattle.evaluations.proofs.Mirrors.{leaves_calm, leaves_safe, requested_fits}
 use Rattle.search_graph.specs.Words.{Call, limits, bound, IsCounted, KeepsStore, seen, HasAsked, AreDefinite, HaveNoOverflow, MayPut, Same, WithResult, MayPutNewest, NewestComesTo, NewestIsPlain, IsNewestPlainTo, place_of_item}
-use Rattle.search_graph.proofs.Moves.{done_definite, ends_newest, leaving, outcome_of}
+use Rattle.search_graph.proofs.moves.Moves.{done_definite, ends_newest, leaving, outcome_of}
 
 -- where a result belongs, by whether it met overflow
 plain_at : {I R : Type 0} (scripts : I → List (Reply R) → Request I R) (goal : I) (r : R) (required : ℕ) (b : Bool) → (b ≡ false → IsPlain scripts goal r) → (b ≡ true → IsBelowRank scripts goal required) → IsPlainAt scripts goal (if b then WithOverflow required else Success) r

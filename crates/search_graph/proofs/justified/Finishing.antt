@@ -5,13 +5,13 @@ use Rattle.std.proofs.lemmas.List.{length-map}
 use Rattle.std.proofs.lemmas.Option.{slice_get_within, get_or_from_slice_get, slice_get-get_or}
 use Rattle.open_graphs.specs.Graph as theory
 use Rattle.search_graph.specs.Below.{PathKind, Verdict, Yes, No, Neither, Edge, NodeId, Request, Reply, Begin, Answer, Noted, AvailableDepth, StackEntry, IsNeither, question_of, EndsIn, progress_after, questions_answered, CacheNode, open_node, open_goal, with_run, IsNodeOf, IsRun, verdict_of, Run, DefiniteAnswer, NotesOverflow, TakesStored, Hit, first_entry, usages_over, with_depth, with_nested_goals, TakesAnswer, AnswersNewest, RunRecord, acted, answered, no_record, edges_of, counted_by, IsDefinite, Heads, at_depth, heads_shape, rank_of, UsagesByHead, StackDepth, EntryState, Evaluate, TakesIn, Verdicts}
-use Rattle.search_graph.specs.Words.{tally_of, heads_of, IsTallied, LieBelow, OpenRun, verdict_shape, AreEdges, Asks, HasTally, AreJustified, MayAnswer, IsFit, asked_now, run_of, runs_of, EndsNewest, EndsRun, HasResultNode, Ended, LeftOpen}
-use Rattle.search_graph.proofs.TakenTallies.{taken_tallied, taken_keeps, taken_comes_in}
+use Rattle.search_graph.specs.Words.{tally_of, heads_of, IsTallied, LieBelow, OpenRun, verdict_shape, AreEdges, NewestAsks, HasTally, AreJustified, MayAnswer, IsFit, asked_now, run_of, runs_of, EndsNewest, EndsRun, HasResultNode, Ended, LeftOpen}
+use Rattle.search_graph.proofs.counts.TakenTallies.{taken_tallied, taken_keeps, taken_comes_in}
 use Rattle.search_graph.specs.Runs.{Again}
-use Rattle.search_graph.proofs.Justified.{EndsWithNode, pushed_is_justified, recounted_is_justified, again_ends, neither_ends, anew_ends}
-use Rattle.search_graph.proofs.ProgressEdges.{yes_edges_are, no_edges_are, edge_is_of_answer}
-use Rattle.search_graph.proofs.Replies.{verdict_is, in_theory_definite}
-use Rattle.search_graph.proofs.Verdicts.{fails_unless}
+use Rattle.search_graph.proofs.justified.Justified.{EndsWithNode, pushed_is_justified, recounted_is_justified, again_ends, neither_ends, anew_ends}
+use Rattle.search_graph.proofs.records.ProgressEdges.{yes_edges_are, no_edges_are, edge_is_of_answer}
+use Rattle.search_graph.proofs.justified.Replies.{verdict_is, in_theory_definite}
+use Rattle.search_graph.proofs.records.Verdicts.{fails_unless}
 
 -- ---- places in a list
 
@@ -23,7 +23,7 @@ place_of xs x has = (has.0, slice_get-get_or xs has.0 x has.1 ∙ ap Some has.2)
 
 -- ---- goals that are pushed, or only change their entries
 
-pub pushed_goal_is_justified : {X F I R A T : Type 0} (says : Verdicts R) (nodes : List (CacheNode I R)) (input : I) (kind : PathKind) (depth : AvailableDepth) (own : NodeId) (frame : F) (goals : List (StackEntry X I R A T × Run X F I R A T)) → own.0 ≡ length nodes → Asks (runs_of goals) kind input → AreJustified says nodes (runs_of goals) → AreJustified says (nodes ++ open_node input ∷ []) (runs_of ((first_entry input kind depth own, record { frame = frame; node = own; progress = no_record; finished_runs = 0; met_overflow_before = false; candidates = [] }) ∷ goals))
+pub pushed_goal_is_justified : {X F I R A T : Type 0} (says : Verdicts R) (nodes : List (CacheNode I R)) (input : I) (kind : PathKind) (depth : AvailableDepth) (own : NodeId) (frame : F) (goals : List (StackEntry X I R A T × Run X F I R A T)) → own.0 ≡ length nodes → NewestAsks (runs_of goals) kind input → AreJustified says nodes (runs_of goals) → AreJustified says (nodes ++ open_node input ∷ []) (runs_of ((first_entry input kind depth own, record { frame = frame; node = own; progress = no_record; finished_runs = 0; met_overflow_before = false; candidates = [] }) ∷ goals))
 pushed_goal_is_justified says nodes input kind depth own frame goals at asks h = pushed_is_justified says nodes input kind own (runs_of goals) at asks h
 
 -- the newest goal changes, but not what stands in its run
@@ -116,7 +116,7 @@ pub noted_fits : {I R : Type 0} (says : Verdicts R) (nodes : List (CacheNode I R
 noted_fits says nodes goals = other_fits says nodes goals Noted None (λ s is. let e : Noted ≡ Answer s = is in absurd cc)
 
 -- the newest goal gets the answer that its question has
-pub answer_fits : {I R : Type 0} (says : Verdicts R) (nodes : List (CacheNode I R)) (p : OpenRun I R) (below : List (OpenRun I R)) (r : R) (step : PathKind) (goal : I) (target : Option NodeId) → Asks (p ∷ below) step goal → (verdict_of says r ≢ theory.Neither → IsSomeAnd target (λ n. MayAnswer says nodes p below (verdict_of says r) step goal n.0)) → IsFit says nodes (p ∷ below) (Answer r) target
+pub answer_fits : {I R : Type 0} (says : Verdicts R) (nodes : List (CacheNode I R)) (p : OpenRun I R) (below : List (OpenRun I R)) (r : R) (step : PathKind) (goal : I) (target : Option NodeId) → NewestAsks (p ∷ below) step goal → (verdict_of says r ≢ theory.Neither → IsSomeAnd target (λ n. MayAnswer says nodes p below (verdict_of says r) step goal n.0)) → IsFit says nodes (p ∷ below) (Answer r) target
 answer_fits says nodes p below r step goal target asks may s kind asked is asks_too definite =
     let same : r ≡ s = cc in
     let requests : Some (Evaluate step goal) ≡ Some (Evaluate kind asked) = sym asks ∙ asks_too in

@@ -7,7 +7,7 @@ use Rattle.std.proofs.lemmas.Simd.{map-map}
 use Rattle.search_graph.specs.Below.{Request, Reply, Verdict, Yes, No, Edge, Question, question_of, Progress, Asked, progress_after, is_counted, questions_answered, DefiniteAnswer, RunRecord, is_same_verdict, asked_of, asked_in, asked_with, counted_by, edges_of, IsEdgeOfAnswer, Agrees, Records, Verdicts}
 use Rattle.open_goals.specs.Progress.{rests_on}
 use Rattle.search_parts.proofs.Filtered.{filtered_twice}
-use Rattle.search_graph.proofs.Verdicts.{same_verdict}
+use Rattle.search_graph.proofs.records.Verdicts.{same_verdict}
 
 module _ {I R : Type 0} (p : RunRecord I R) (v : Verdict) where
   -- each edge is that of an answer with the verdict

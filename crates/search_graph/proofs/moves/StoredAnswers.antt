@@ -4,9 +4,9 @@ use Rattle.std.proofs.Math.Bool.{or-false}
 use Rattle.search_graph.specs.Below.{DelegateOf, CxOf, Evaluate, Answer, PathKind, WithOverflow, StoredResult, StackEntry, IsDefinite, Hit, NestedPaths, IsPlainTo, Store, stored_at, Outcome, IsAllowed, IsSafeOutcome, with_replies, TakesReply, Received, Run, with_depth, with_nested_goals, is_in_cycle, Stood, verdicts}
 use Rattle.evaluations.specs.Frames.{answered}
 use Rattle.evaluations.proofs.Mirrors.{answered_waits}
-use Rattle.search_graph.specs.Words.{Call, runs, limits, bound, IsCounted, Begins, KeepsStore, seen, HasAsked, GoesOn, HasEnded, IsUsable, UsesStored, AreDefinite, HaveNoOverflow}
-use Rattle.search_graph.proofs.DecidedGoals.{changed_decided}
-use Rattle.search_graph.proofs.Moves.{some_frames, some_runs}
+use Rattle.search_graph.specs.Words.{Call, runs, limits, bound, IsCounted, Begins, KeepsStore, seen, HasAsked, CallGoesOn, HasEnded, IsUsable, UsesStored, AreDefinite, HaveNoOverflow}
+use Rattle.search_graph.proofs.moves.DecidedGoals.{changed_decided}
+use Rattle.search_graph.proofs.moves.Moves.{some_frames, some_runs}
 
 module _ {D C V P F I R A T : Type 0} (G : DelegateOf D C V P F I R A T) (X : CxOf C I R A T) (cx : C) (call : Call I) (same : I → I → Bool) (results : Store I (StoredResult C I R A T)) where
   abbrev Goal : Type 0
@@ -41,7 +41,7 @@ module _ {D C V P F I R A T : Type 0} (G : DelegateOf D C V P F I R A T) (X : Cx
     stood = λ replies stood. stood;
   }
 
-  pub stored_goes_on : (ahead : ℕ) (kind : PathKind) (goal : I) (depth : ℕ) (received : Received R) (old new : List Goal) (starts : ℕ) (met : Bool) → ((s : Goal) (below : List Goal) → old ≡ s ∷ below → IsAllowed (seen G X cx s) depth) → UsesStored same (G.script cx) results kind goal depth received old new → KeepsStore G X cx same call met results → HasAsked G X cx call ahead (Evaluate kind goal) old starts met → GoesOn G X cx call ahead received.reply new starts met
+  pub stored_goes_on : (ahead : ℕ) (kind : PathKind) (goal : I) (depth : ℕ) (received : Received R) (old new : List Goal) (starts : ℕ) (met : Bool) → ((s : Goal) (below : List Goal) → old ≡ s ∷ below → IsAllowed (seen G X cx s) depth) → UsesStored same (G.script cx) results kind goal depth received old new → KeepsStore G X cx same call met results → HasAsked G X cx call ahead (Evaluate kind goal) old starts met → CallGoesOn G X cx call ahead received.reply new starts met
   stored_goes_on ahead kind goal depth received old new starts met may uses keeps h =
       let t = uses.takes in
       let later : Goal = (record t.entry { state = with_nested_goals (with_depth t.entry.state uses.hit.required_depth uses.hit.encountered_overflow) t.nested }, t.run) in
@@ -50,8 +50,8 @@ module _ {D C V P F I R A T : Type 0} (G : DelegateOf D C V P F I R A T) (X : Cx
       (record t.entry { state = with_nested_goals (with_depth t.entry.state uses.hit.required_depth uses.hit.encountered_overflow) t.nested }, t.run)
       (may (t.entry, t.run) t.below t.was) (usable_is_safe goal depth uses.hit uses.usable) (λ counted unmet. met_none goal depth uses.hit uses.usable (keeps.overflow counted unmet))
       (stored_taken t.entry t.run uses.hit t.nested) was.asked in
-      subst (λ (given : Received R). GoesOn G X cx call ahead given.reply new starts met) (sym uses.is)
-      (subst (λ v. GoesOn G X cx call ahead (Answer uses.hit.result) v starts met) (sym t.is)
+      subst (λ (given : Received R). CallGoesOn G X cx call ahead given.reply new starts met) (sym uses.is)
+      (subst (λ v. CallGoesOn G X cx call ahead (Answer uses.hit.result) v starts met) (sym t.is)
       (record {
         waiting = record {
           waits = w.0;

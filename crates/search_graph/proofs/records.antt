@@ -1,0 +1,4 @@
+-- What the record of a run says.
+pub mod Verdicts
+pub mod ProgressLaws
+pub mod ProgressEdges
