@@ -15,7 +15,7 @@ use Rattle.open_graphs.proofs.Lists.{get_cases}
 use Rattle.cycle_heads.proofs.HeadLists.{at_depth-first, at_depth-rest}
 use Rattle.cycle_heads.proofs.HeadShapes.{IsIn, in_head}
 use Rattle.cycle_heads.proofs.PathRanks.{greater_rank}
-use Rattle.search_graph.specs.Words.{OpenRun, NewestAsks, AreJustified, MayAnswer, IsFit, asked_now, frame_of, frames_of, cycles_node, LeadHome, run_of, runs_of, heads_of, tally_of, LieBelow}
+use Rattle.search_graph.specs.Words.{OpenRun, NewestAsks, AreJustified, MayAnswer, IsFit, asked_now, frame_of, frames_of, cycles_node, AreSupported, run_of, runs_of, heads_of, tally_of, LieBelow}
 use Rattle.search_graph.proofs.justified.Finishing.{answer_fits, heads_come, same_run}
 use Rattle.search_graph.proofs.justified.Justified.{stack_length}
 
@@ -109,11 +109,11 @@ module _ {X F I R A T : Type 0} (says : Verdicts R) where
       ∙ ap (greatest (rank_of step)) (sym (drop-map entry_of (suc head) (reverse goals)))
       ∙ ap (λ l. path_kind l (rank_of step) head) (sym (stack_is goals))
 
-  home_of : (nodes : List (CacheNode I R)) (goals : List (StackEntry X I R A T × Run X F I R A T)) → LeadHome nodes (runs_of goals) → (j : ℕ) (s : StackEntry X I R A T × Run X F I R A T) → slice_get (reverse goals) j ≡ Some s → IsSomeAnd s.0.state.node (λ n. IsNodeOf nodes n.0 s.0.input)
+  home_of : (nodes : List (CacheNode I R)) (goals : List (StackEntry X I R A T × Run X F I R A T)) → AreSupported says nodes (runs_of goals) → (j : ℕ) (s : StackEntry X I R A T × Run X F I R A T) → slice_get (reverse goals) j ≡ Some s → IsSomeAnd s.0.state.node (λ n. IsNodeOf nodes n.0 s.0.input)
   home_of nodes [] h j s at = absurd cc
   home_of nodes (g ∷ below) h j s at = elim (get_cases (reverse below) g j s (ap (λ l. slice_get l j) (sym (reverse_onto below g [])) ∙ at)) [
     | inl lower ↦ home_of nodes below h.1 j s lower
-    | inr here ↦ subst (λ (t : StackEntry X I R A T × Run X F I R A T). IsSomeAnd t.0.state.node (λ n. IsNodeOf nodes n.0 t.0.input)) here.1 h.0
+    | inr here ↦ subst (λ (t : StackEntry X I R A T × Run X F I R A T). IsSomeAnd t.0.state.node (λ n. IsNodeOf nodes n.0 t.0.input)) here.1 h.0.lead_home
   ]
 
   -- the goal at a depth, of which the entry was read
@@ -201,7 +201,7 @@ module _ {X F I R A T : Type 0} (says : Verdicts R) (nodes : List (CacheNode I R
       let asked : NewestAsks (run_of (a.entry, a.run) ∷ runs_of a.below) step input = subst (λ l. NewestAsks (runs_of l) step input) a.was asks in
       subst (λ l. IsFit says nodes (runs_of l) (Answer (unwrap_or e.state.provisional_result initial)) e.state.node) (sym a.is)
       (answer_fits says nodes (run_of (record a.entry { state = a.state }, a.run)) (runs_of a.below) (unwrap_or e.state.provisional_result initial) step input e.state.node asked
-      (λ definite. may_answer_at e.state.node refl (home_of says nodes old h.lead_home head.0 (e, there.run) there.at) definite))
+      (λ definite. may_answer_at e.state.node refl (home_of says nodes old h.supported head.0 (e, there.run) there.at) definite))
 
 -- the entry that was found by its goal has that goal
 pub found_goal : {X I R A T : Type 0} (eq : I → I → Bool) → ((x y : I) → eq x y ≡ true → x ≡ y) → (input : I) (es : List (StackEntry X I R A T)) (head : ℕ) (e : StackEntry X I R A T) → position (eq input) (map (λ d. d.input) es) ≡ Some head → e ≡ get_or es head e → (head < length es) × (e.input ≡ input)

@@ -51,11 +51,6 @@ abbrev pub AreOpen : {I R : Type 0} → List (CacheNode I R) → List (OpenRun I
 AreOpen nodes [] = Unit {0}
 AreOpen nodes (o ∷ below) = (open_goal nodes o.own ≡ Some o.goal) × AreOpen nodes below
 
--- the answers of each goal's cycles lead to a node of the goal
-abbrev pub LeadHome : {I R : Type 0} → List (CacheNode I R) → List (OpenRun I R) → Type 0
-LeadHome nodes [] = Unit {0}
-LeadHome nodes (o ∷ below) = IsSomeAnd o.cycles_lead (λ n. IsNodeOf nodes n.0 o.goal) × LeadHome nodes below
-
 -- the edge of each answer leads to a node of the goal that it asks
 abbrev pub LeadToGoals : {I R : Type 0} → List (CacheNode I R) → List (DefiniteAnswer I) → Type 0
 LeadToGoals nodes answers =
@@ -66,11 +61,6 @@ abbrev pub AreEdges : {I : Type 0} → List (DefiniteAnswer I) → List Bool →
 AreEdges {I} answers ignored verdict edges =
     (i : ℕ) (e : Edge I) → slice_get edges i ≡ Some e →
     (j : ℕ) × (a : DefiniteAnswer I) × (slice_get answers j ≡ Some a) × (a.edge ≡ e) × (verdict_shape a.verdict ≡ verdict) × (counted_by ignored a.candidate ≡ true)
-
--- the same for all goals
-abbrev pub AllLeadToGoals : {I R : Type 0} → List (CacheNode I R) → List (OpenRun I R) → Type 0
-AllLeadToGoals nodes [] = Unit {0}
-AllLeadToGoals nodes (o ∷ below) = LeadToGoals nodes o.answers × AllLeadToGoals nodes below
 
 -- the newest goal asked for this goal by this step; an outer call asks for anything
 abbrev pub NewestAsks : {I R : Type 0} → List (OpenRun I R) → PathKind → I → Type 0
@@ -100,20 +90,25 @@ AreCharged {I} says nodes o below =
     (i : ℕ) (a : DefiniteAnswer I) → slice_get o.answers i ≡ Some a → counted_by o.ignored a.candidate ≡ true →
     IsAnsweredEdge (shapes_of says nodes) (verdict_shape a.verdict) (stack_of (frames_of says below)) (frame_of says o).entry (edge_shape a.edge) (heads_of o.tally a.candidate)
 
+-- The answers of the goal's cycles lead to a node of the goal, the edges of its answers to nodes of the goals that they ask, and each
+-- answer outside ignored candidates may be used.
+pub record IsSupported {I R : Type 0} (says : Verdicts R) (nodes : List (CacheNode I R)) (o : OpenRun I R) (below : List (OpenRun I R)) : Type 0 where
+  pub lead_home : IsSomeAnd o.cycles_lead (λ n. IsNodeOf nodes n.0 o.goal)
+  pub placed : LeadToGoals nodes o.answers
+  pub charged : AreCharged says nodes o below
+
 -- the same for all goals
-abbrev pub AllCharged : {I R : Type 0} → Verdicts R → List (CacheNode I R) → List (OpenRun I R) → Type 0
-AllCharged says nodes [] = Unit {0}
-AllCharged says nodes (o ∷ below) = AreCharged says nodes o below × AllCharged says nodes below
+abbrev pub AreSupported : {I R : Type 0} → Verdicts R → List (CacheNode I R) → List (OpenRun I R) → Type 0
+AreSupported says nodes [] = Unit {0}
+AreSupported says nodes (o ∷ below) = IsSupported says nodes o below × AreSupported says nodes below
 
 -- what holds of the goals between two moves
 pub record AreJustified {I R : Type 0} (says : Verdicts R) (nodes : List (CacheNode I R)) (goals : List (OpenRun I R)) : Type 0 where
   pub sound : IsSoundState (shapes_of says nodes) (frames_of says goals) [] []
   pub are_open : AreOpen nodes goals
-  pub lead_home : LeadHome nodes goals
-  pub placed : AllLeadToGoals nodes goals
+  pub supported : AreSupported says nodes goals
   pub asked : AreAskedBelow goals
   pub tallies : HaveTallies goals
-  pub charged : AllCharged says nodes goals
 
 -- the candidate in which the goal asks now, if one is open
 abbrev pub asked_now : {I R : Type 0} → OpenRun I R → Option ℕ

@@ -5,8 +5,8 @@ pub use Rattle.search_graph.specs.Evaluating.{Begins, Decidedly, CallGoesOn, Has
 pub use Rattle.search_graph.specs.Evaluating.{IsOnly, IsWaiting, KeepsAnswers, KeepsStore, Leads, seen, work_left}
 pub use Rattle.search_graph.specs.Free.{AreFree, IsFree}
 pub use Rattle.search_graph.specs.Graph.{ComesTo, Graph, IsCaused, IsProved, IsRefuted, OtherResult, OutOfMemory}
-pub use Rattle.search_graph.specs.Justified.{AllCharged, AllLeadToGoals, AreCharged, AreEdges, AreJustified, AreOpen, asked_now}
-pub use Rattle.search_graph.specs.Justified.{NewestAsks, frame_of, frames_of, HasTally, HaveTallies, verdict_shape, IsFit, LeadHome}
+pub use Rattle.search_graph.specs.Justified.{AreCharged, AreEdges, AreJustified, AreOpen, AreSupported, asked_now}
+pub use Rattle.search_graph.specs.Justified.{NewestAsks, frame_of, frames_of, HasTally, HaveTallies, verdict_shape, IsFit}
 pub use Rattle.search_graph.specs.Justified.{cycles_node, MayAnswer, OpenRun}
 pub use Rattle.search_graph.specs.ProvisionalAnswers.{IsReusable, ProvisionalAnswer}
 pub use Rattle.search_graph.specs.EntryShapes.{depths_of, highest_depth, entry_shape, reason_shape}

@@ -177,7 +177,7 @@ module _ {I R : Type 0} (says : Verdicts R) (nodes : List (CacheNode I R)) (earl
 
 module _ {X F I R A T : Type 0} (says : Verdicts R) (before after : List (CacheNode I R)) (entry : StackEntry X I R A T) (run : Run X F I R A T) (below : List (StackEntry X I R A T × Run X F I R A T)) (h : AreJustified says before (runs_of ((entry, run) ∷ below))) where
   pub ends_run : (scripts : I → List (Reply R) → Request I R) (r : R) → EndsNewest says scripts ((entry, run) ∷ below) r → EndsRun says scripts before run.node run.progress r
-  ends_run scripts r ends = record { goal = entry.input; is_open = h.are_open.0; ends = ends; placed = h.placed.0 }
+  ends_run scripts r ends = record { goal = entry.input; is_open = h.are_open.0; ends = ends; placed = h.supported.0.placed }
 
   pub rebases : (r : R) (target : Option NodeId) → HasResultNode says before after entry.state.provisional_result run.node entry.state.node run.progress r target → EndsWithNode says before after (run_of (entry, run)) (runs_of below) r target
   rebases r target (Again definite repeats is) =

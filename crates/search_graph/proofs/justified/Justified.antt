@@ -12,8 +12,9 @@ use Rattle.open_graphs.proofs.Asked.{done_is_answered}
 use Rattle.open_graphs.proofs.Runs.{answered_grows, root_is_graph}
 use Rattle.open_graphs.proofs.Closed.{closed_is_graph}
 use Rattle.open_graphs.proofs.Keep.{append_grows, growth_keeps_use, heads_keep_use}
+use Rattle.search_parts.proofs.Definites.{IsSomeAnd-weaker}
 use Rattle.search_parts.proofs.Nodes.{KeepsNodes-appended, KeepsGoals-appended, before, with_run-is, KeepsGoals-ended}
-use Rattle.search_graph.specs.Words.{OpenRun, verdict_shape, cycles_node, frame_of, frames_of, AreOpen, LeadHome, AllLeadToGoals, AreEdges, NewestAsks, HasTally, AreCharged, AllCharged, AreJustified, asked_now, MayAnswer, Tally, IsTallied, heads_of, spare_heads, SaysAgain}
+use Rattle.search_graph.specs.Words.{OpenRun, verdict_shape, cycles_node, frame_of, frames_of, AreOpen, AreEdges, NewestAsks, HasTally, AreCharged, AreSupported, AreJustified, asked_now, MayAnswer, Tally, IsTallied, heads_of, spare_heads, SaysAgain}
 use Rattle.search_graph.proofs.counts.Tallies.{charge_within, fresh_tallied, rerun_keeps, rerun_tallied, spare_within}
 
 -- ---- open nodes
@@ -41,18 +42,6 @@ module _ {I R : Type 0} (nodes more : List (CacheNode I R)) where
   AreOpen-kept kept [] h = tt
   AreOpen-kept kept (o ∷ below) h = (open_kept o.own o.goal (kept o.own) h.0, AreOpen-kept kept below h.1)
 
-  home_kept : (o : OpenRun I R) (lead : Option NodeId) → KeepsGoals nodes more → IsSomeAnd lead (λ n. IsNodeOf nodes n.0 o.goal) → IsSomeAnd lead (λ n. IsNodeOf more n.0 o.goal)
-  home_kept o None kept h = absurd h
-  home_kept o (Some n) kept h = kept n.0 o.goal h
-
-  LeadHome-kept : KeepsGoals nodes more → (goals : List (OpenRun I R)) → LeadHome nodes goals → LeadHome more goals
-  LeadHome-kept kept [] h = tt
-  LeadHome-kept kept (o ∷ below) h = (home_kept o o.cycles_lead kept h.0, LeadHome-kept kept below h.1)
-
-  AllLeadToGoals-kept : KeepsGoals nodes more → (goals : List (OpenRun I R)) → AllLeadToGoals nodes goals → AllLeadToGoals more goals
-  AllLeadToGoals-kept kept [] h = tt
-  AllLeadToGoals-kept kept (o ∷ below) h = (λ i a is. kept a.edge.target a.edge.input (h.0 i a is), AllLeadToGoals-kept kept below h.1)
-
 -- ---- answers
 
 -- an answer may be used in a longer list, too
@@ -67,11 +56,15 @@ answered_again before after verdict below top edge heads grown h = record {
 answered_more : (nodes : List theory.Node) (verdict : theory.Verdict) (below : List Entry) (top : Entry) (edge : theory.Edge) (heads more : theory_use.Heads) → IncludesBelow (length below) heads more → IsAnsweredEdge nodes verdict below top edge heads → IsAnsweredEdge nodes verdict below top edge more
 answered_more nodes verdict below top edge heads more includes h = record { answer = h.answer; used = h.used; among = λ depth path cycle lower recorded. includes depth path cycle lower (h.among depth path cycle lower recorded) }
 
-AllCharged-kept : {I R : Type 0} (says : Verdicts R) (nodes more : List (CacheNode I R)) → theory.Grown (shapes_of says nodes) (shapes_of says more) → (goals : List (OpenRun I R)) → AllCharged says nodes goals → AllCharged says more goals
-AllCharged-kept says nodes more grown [] h = tt
-AllCharged-kept says nodes more grown (o ∷ below) h = (
-  λ i a is kept. answered_again (shapes_of says nodes) (shapes_of says more) (verdict_shape a.verdict) (stack_of (frames_of says below)) (frame_of says o).entry (edge_shape a.edge) (heads_of o.tally a.candidate) grown (h.0 i a is kept),
-  AllCharged-kept says nodes more grown below h.1,
+supported_kept : {I R : Type 0} (says : Verdicts R) (nodes more : List (CacheNode I R)) → KeepsGoals nodes more → theory.Grown (shapes_of says nodes) (shapes_of says more) → (goals : List (OpenRun I R)) → AreSupported says nodes goals → AreSupported says more goals
+supported_kept says nodes more kept grown [] h = tt
+supported_kept says nodes more kept grown (o ∷ below) h = (
+  record {
+    lead_home = IsSomeAnd-weaker (λ n. IsNodeOf nodes n.0 o.goal) (λ n. IsNodeOf more n.0 o.goal) (λ n. kept n.0 o.goal) o.cycles_lead h.0.lead_home;
+    placed = λ i a is. kept a.edge.target a.edge.input (h.0.placed i a is);
+    charged = λ i a is counts. answered_again (shapes_of says nodes) (shapes_of says more) (verdict_shape a.verdict) (stack_of (frames_of says below)) (frame_of says o).entry (edge_shape a.edge) (heads_of o.tally a.candidate) grown (h.0.charged i a is counts);
+  },
+  supported_kept says nodes more kept grown below h.1,
 )
 
 pub stack_length : {I R : Type 0} (says : Verdicts R) (goals : List (OpenRun I R)) → length (stack_of (frames_of says goals)) ≡ length goals
@@ -127,11 +120,9 @@ module _ {I R : Type 0} (says : Verdicts R) (nodes : List (CacheNode I R)) where
   nothing_is_justified = record {
     sound = start_is_sound (shapes_of says nodes) [] (λ i x is. absurd (no_answers i x is));
     are_open = tt;
-    lead_home = tt;
-    placed = tt;
+    supported = tt;
     asked = tt;
     tallies = tt;
-    charged = tt;
   }
 
   pub shapes_opened : (goal : I) → shapes_of says (nodes ++ open_node goal ∷ []) ≡ shapes_of says nodes ++ theory.Unfinished ∷ []
@@ -155,11 +146,12 @@ module _ {I R : Type 0} (says : Verdicts R) (nodes : List (CacheNode I R)) where
             (subst (λ n. IsSoundState (shapes_of says nodes ++ theory.Unfinished ∷ []) (in_first_run (rank_of step) n (heads_shape []) ∷ frames_of says goals) [] []) many
             (push_keeps_sound (shapes_of says nodes) (frames_of says goals) [] [] (rank_of step) (heads_shape []) h.sound)));
         are_open = (goal_open (nodes ++ open_node goal ∷ []) own.0 (open_node goal) goal last refl refl, AreOpen-kept nodes (nodes ++ open_node goal ∷ []) (KeepsNodes-appended true nodes goal) goals h.are_open);
-        lead_home = (subst (λ n. IsNodeOf (nodes ++ open_node goal ∷ []) n goal) (sym at) (new_node_is goal), LeadHome-kept nodes (nodes ++ open_node goal ∷ []) (KeepsGoals-appended true nodes goal) goals h.lead_home);
-        placed = (λ i a is. absurd (no_answers i a is), AllLeadToGoals-kept nodes (nodes ++ open_node goal ∷ []) (KeepsGoals-appended true nodes goal) goals h.placed);
+        supported = (
+          record { lead_home = subst (λ n. IsNodeOf (nodes ++ open_node goal ∷ []) n goal) (sym at) (new_node_is goal); placed = λ i a is. absurd (no_answers i a is); charged = λ i a is. absurd (no_answers i a is) },
+          supported_kept says nodes (nodes ++ open_node goal ∷ []) (KeepsGoals-appended true nodes goal) (opened_grows goal) goals h.supported,
+        );
         asked = (asks, h.asked);
         tallies = (record { tallied = fresh_tallied (length goals); open_is = refl; finished_are = refl }, h.tallies);
-        charged = (λ i a is. absurd (no_answers i a is), AllCharged-kept says nodes (nodes ++ open_node goal ∷ []) (opened_grows goal) goals h.charged);
       }
 
   -- the newest goal gets a definite answer, in the candidate that is open
@@ -167,25 +159,24 @@ module _ {I R : Type 0} (says : Verdicts R) (nodes : List (CacheNode I R)) where
   answered_is_justified a o below inside may h = record {
     sound = h.sound;
     are_open = h.are_open;
-    lead_home = h.lead_home;
-    placed = (
-      λ i b is. elim (get_cases o.answers a i b is) [
-        | inl old ↦ h.placed.0 i b old
-        | inr new ↦ subst (λ d. IsNodeOf nodes d.edge.target d.edge.input) new.1 may.of_goal
-      ],
-      h.placed.1,
+    supported = (
+      record {
+        lead_home = h.supported.0.lead_home;
+        placed = λ i b is. elim (get_cases o.answers a i b is) [
+          | inl old ↦ h.supported.0.placed i b old
+          | inr new ↦ subst (λ d. IsNodeOf nodes d.edge.target d.edge.input) new.1 may.of_goal
+        ];
+        charged = λ i b is kept. elim (get_cases o.answers a i b is) [
+          | inl old ↦ h.supported.0.charged i b old kept
+          | inr new ↦
+              subst (λ (d : DefiniteAnswer I). IsAnsweredEdge (shapes_of says nodes) (verdict_shape d.verdict) (stack_of (frames_of says below)) (frame_of says o).entry (edge_shape d.edge) (heads_of o.tally d.candidate)) new.1
+              (subst (λ c. IsAnsweredEdge (shapes_of says nodes) (verdict_shape a.verdict) (stack_of (frames_of says below)) (frame_of says o).entry (edge_shape a.edge) (heads_of o.tally c)) (sym inside) may.answered)
+        ];
+      },
+      h.supported.1,
     );
     asked = h.asked;
     tallies = (record { tallied = h.tallies.0.tallied; open_is = h.tallies.0.open_is; finished_are = h.tallies.0.finished_are }, h.tallies.1);
-    charged = (
-      λ i b is kept. elim (get_cases o.answers a i b is) [
-        | inl old ↦ h.charged.0 i b old kept
-        | inr new ↦
-            subst (λ (d : DefiniteAnswer I). IsAnsweredEdge (shapes_of says nodes) (verdict_shape d.verdict) (stack_of (frames_of says below)) (frame_of says o).entry (edge_shape d.edge) (heads_of o.tally d.candidate)) new.1
-            (subst (λ c. IsAnsweredEdge (shapes_of says nodes) (verdict_shape a.verdict) (stack_of (frames_of says below)) (frame_of says o).entry (edge_shape a.edge) (heads_of o.tally c)) (sym inside) may.answered)
-      ],
-      h.charged.1,
-    );
   }
 
   -- What it counts changes, and its candidates, and it makes another request: for each candidate that isn't ignored afterwards it
@@ -194,17 +185,19 @@ module _ {I R : Type 0} (says : Verdicts R) (nodes : List (CacheNode I R)) where
   recounted_is_justified tally is_open ignored request o below has keeps h = record {
     sound = heads_change (shapes_of says nodes) (frame_of says o) (frames_of says below) [] [] (spare_heads tally) (heads_shape tally.heads) (keeps None refl).1 (spare_within (length below) tally) h.sound;
     are_open = h.are_open;
-    lead_home = h.lead_home;
-    placed = h.placed;
+    supported = (
+      record {
+        lead_home = h.supported.0.lead_home;
+        placed = h.supported.0.placed;
+        charged = λ i a is kept.
+            let was = keeps a.candidate kept in
+            answered_more (shapes_of says nodes) (verdict_shape a.verdict) (stack_of (frames_of says below)) (frame_of says o).entry (edge_shape a.edge) (heads_of o.tally a.candidate) (heads_of tally a.candidate) (λ depth path cycle lower recorded. was.1 depth path cycle recorded)
+            (h.supported.0.charged i a is was.0);
+      },
+      h.supported.1,
+    );
     asked = h.asked;
     tallies = (record { tallied = has.tallied; open_is = has.open_is; finished_are = has.finished_are }, h.tallies.1);
-    charged = (
-      λ i a is kept.
-          let was = keeps a.candidate kept in
-          answered_more (shapes_of says nodes) (verdict_shape a.verdict) (stack_of (frames_of says below)) (frame_of says o).entry (edge_shape a.edge) (heads_of o.tally a.candidate) (heads_of tally a.candidate) (λ depth path cycle lower recorded. was.1 depth path cycle recorded)
-          (h.charged.0 i a is was.0),
-      h.charged.1,
-    );
   }
 
   -- ---- the newest goal's run has ended
@@ -266,7 +259,7 @@ module _ {I R : Type 0} (says : Verdicts R) (nodes : List (CacheNode I R)) (o : 
     answered = Again says;
     goals_kept = λ at goal is. is;
     open_below = h.are_open.1;
-    definite = λ d. home o.cycles_lead refl h.lead_home.0;
+    definite = λ d. home o.cycles_lead refl h.supported.0.lead_home;
     neither = λ n. absurd (definite n);
   }
 
@@ -310,7 +303,7 @@ module _ {I R : Type 0} (says : Verdicts R) (nodes : List (CacheNode I R)) (o : 
           edges = chosen_edges says nodes v run.edges;
           place = o.own;
           sound = answers_keep_sound (shapes_of says nodes) (frame_of says o) (frames_of says below) [] [] (chosen_edges says nodes v run.edges) (heads_shape o.tally.heads) (spare_within (length below) o.tally)
-              (λ u. chosen_at says nodes (theory.same_verdict v u) v u run.edges o below refl edges h.tallies.0.tallied h.charged.0) h.sound;
+              (λ u. chosen_at says nodes (theory.same_verdict v u) v u run.edges o below refl edges h.tallies.0.tallied h.supported.0.charged) h.sound;
           answered = subst (λ more. Answered (shapes_of says nodes) (frame_of says o).entry o.own (chosen_edges says nodes v run.edges) v more o.own) later_same (Anew anew);
           goals_kept = KeepsGoals-ended nodes o.own run (λ goal. goal ≡ o.goal) is_open;
           open_below = AreOpen-ended says nodes run o.own o.goal h.are_open.0 below h.sound.apart.0 h.are_open.1;
@@ -333,11 +326,9 @@ module _ {I R : Type 0} (says : Verdicts R) (nodes after : List (CacheNode I R))
   below_is_justified = record {
     sound = popped.0;
     are_open = s.open_below;
-    lead_home = LeadHome-kept nodes after s.goals_kept below h.lead_home.1;
-    placed = AllLeadToGoals-kept nodes after s.goals_kept below h.placed.1;
+    supported = supported_kept says nodes after s.goals_kept grown below h.supported.1;
     asked = h.asked.1;
     tallies = h.tallies.1;
-    charged = AllCharged-kept says nodes after grown below h.charged.1;
   }
 
   pub used_at : (t : Option NodeId) → verdict_of says r ≢ theory.Neither → IsSomeAnd t (λ n. (n.0 ≡ s.place) × IsNodeOf after n.0 o.goal) → (P : ℕ → Type 0) → (IsNodeOf after s.place o.goal → P s.place) → IsSomeAnd t (λ n. P n.0)
@@ -379,17 +370,14 @@ module _ {I R : Type 0} (says : Verdicts R) (nodes after : List (CacheNode I R))
   or_first Q None lead at = absurd at
   or_first Q (Some n) lead at = at
 
-  home_then : (lead : Option NodeId) → cycles_node o ≡ s.place → IsSomeAnd lead (λ n. (n.0 ≡ cycles_node o) × IsNodeOf nodes n.0 o.goal) → IsSomeAnd lead (λ n. (n.0 ≡ s.place) × IsNodeOf after n.0 o.goal)
-  home_then None same at = absurd at
-  home_then (Some n) same at = (at.0 ∙ same, s.goals_kept n.0 o.goal at.1)
-
   -- the node to which the answers of the goal's cycles lead from then on
   pub lead_is : IsSomeAnd (option_or target o.cycles_lead) (λ n. (n.0 ≡ s.place) × IsNodeOf after n.0 o.goal)
   lead_is = elim (verdict_cases (verdict_of says r) theory.Neither) [
     | inl neither ↦
         let n = s.neither neither in
         subst (λ t. IsSomeAnd (option_or t o.cycles_lead) (λ n. (n.0 ≡ s.place) × IsNodeOf after n.0 o.goal)) (sym n.0)
-        (home_then o.cycles_lead n.1 (home says nodes o below h o.cycles_lead refl h.lead_home.0))
+        (IsSomeAnd-weaker (λ m. (m.0 ≡ cycles_node o) × IsNodeOf nodes m.0 o.goal) (λ m. (m.0 ≡ s.place) × IsNodeOf after m.0 o.goal) (λ m at. (at.0 ∙ n.1, s.goals_kept m.0 o.goal at.1)) o.cycles_lead
+        (home says nodes o below h o.cycles_lead refl h.supported.0.lead_home))
     | inr definite ↦ or_first (λ n. (n.0 ≡ s.place) × IsNodeOf after n.0 o.goal) target o.cycles_lead (s.definite definite)
   ]
 
@@ -398,10 +386,6 @@ module _ {I R : Type 0} (says : Verdicts R) (nodes after : List (CacheNode I R))
     pub leads_there : (lead : Option NodeId) → IsSomeAnd lead (λ n. (n.0 ≡ s.place) × IsNodeOf after n.0 o.goal) → elim lead [ None ↦ own.0 | Some n ↦ n.0 ] ≡ s.place
     leads_there None is = absurd is
     leads_there (Some n) is = is.0
-
-    leads_home : (lead : Option NodeId) → IsSomeAnd lead (λ n. (n.0 ≡ s.place) × IsNodeOf after n.0 o.goal) → IsSomeAnd lead (λ n. IsNodeOf (after ++ open_node o.goal ∷ []) n.0 o.goal)
-    leads_home None is = absurd is
-    leads_home (Some n) is = KeepsGoals-appended true after o.goal n.0 o.goal is.1
 
     pub rerun_is_justified : AreJustified says (after ++ open_node o.goal ∷ []) (new_run o.goal o.step own (option_or target o.cycles_lead) (Some r) (tally_again o.tally) ∷ below)
     rerun_is_justified =
@@ -416,9 +400,14 @@ module _ {I R : Type 0} (says : Verdicts R) (nodes after : List (CacheNode I R))
               (heads_change (shapes_of says after ++ theory.Unfinished ∷ []) (in_next_run (frame_of says o) v s.place own.0) (frames_of says below) [] [] (spare_heads (tally_again o.tally)) (heads_shape o.tally.heads) (rerun_keeps o.tally) (spare_within (length below) (tally_again o.tally))
               (subst (λ n. IsSoundState (shapes_of says after ++ theory.Unfinished ∷ []) (in_next_run (frame_of says o) v s.place n ∷ frames_of says below) [] []) many again)));
           are_open = (goal_open (after ++ open_node o.goal ∷ []) own.0 (open_node o.goal) o.goal last refl refl, AreOpen-kept after (after ++ open_node o.goal ∷ []) (KeepsNodes-appended true after o.goal) below s.open_below);
-          lead_home = (leads_home (option_or target o.cycles_lead) lead_is, LeadHome-kept after (after ++ open_node o.goal ∷ []) (KeepsGoals-appended true after o.goal) below (LeadHome-kept nodes after s.goals_kept below h.lead_home.1));
-          placed = (λ i a is. absurd (no_answers i a is), AllLeadToGoals-kept after (after ++ open_node o.goal ∷ []) (KeepsGoals-appended true after o.goal) below (AllLeadToGoals-kept nodes after s.goals_kept below h.placed.1));
+          supported = (
+            record {
+              lead_home = IsSomeAnd-weaker (λ n. (n.0 ≡ s.place) × IsNodeOf after n.0 o.goal) (λ n. IsNodeOf (after ++ open_node o.goal ∷ []) n.0 o.goal) (λ n is. KeepsGoals-appended true after o.goal n.0 o.goal is.1) (option_or target o.cycles_lead) lead_is;
+              placed = λ i a is. absurd (no_answers i a is);
+              charged = λ i a is. absurd (no_answers i a is);
+            },
+            supported_kept says after (after ++ open_node o.goal ∷ []) (KeepsGoals-appended true after o.goal) (opened_grows says after o.goal) below below_is_justified.supported,
+          );
           asked = h.asked;
           tallies = (record { tallied = rerun_tallied (length below) o.tally h.tallies.0.tallied; open_is = refl; finished_are = refl }, h.tallies.1);
-          charged = (λ i a is. absurd (no_answers i a is), AllCharged-kept says after (after ++ open_node o.goal ∷ []) (opened_grows says after o.goal) below (AllCharged-kept says nodes after grown below h.charged.1));
         }
