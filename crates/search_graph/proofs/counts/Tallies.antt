@@ -1,10 +1,10 @@
 -- What a goal counts of the goals on the stack, and that the parts of it, used outside candidates or by each of them, stay there.
-use Rattle.std.proofs.Common.{◌≡◌, ◌≢◌, ◌↔◌, ℕ, zero, suc, ◌+◌, ◌-◌, ◌^◌, ◌<◌, ◌≤◌, IsTrue, List, [], ◌∷◌, ◌++◌, slice_get, Option, None, Some, option_map, is_some, IsSome, unwrap_or, refl, sym, ap, ◌∙◌, subst, ◌⊎◌, inl, inr, arith, ne_eqb, eq-eqb}
+use Rattle.std.proofs.Common.{◌≡◌, ◌≢◌, ◌↔◌, ℕ, zero, suc, ◌+◌, ◌-◌, ◌^◌, ◌≤◌, IsTrue, List, [], ◌∷◌, ◌++◌, slice_get, Option, None, Some, option_map, is_some, IsSome, unwrap_or, refl, sym, ap, ◌∙◌, subst, inl, inr, arith, ne_eqb, eq-eqb}
 use Rattle.std.specs.List.{sum_by}
 use Rattle.std.specs.Option.{IsSomeAnd}
 use Rattle.std.proofs.lemmas.Bool.{cases_eq, false≢true}
 use Rattle.std.proofs.lemmas.List.Sums.{sum_by-cons, sum_by_push}
-use Rattle.search_graph.specs.Below.{Includes, IncludesBelow, StackDepth, PathKind, PathsToNested, CycleHead, HeadUsages, UsagesByHead, Heads, at_depth, has_rank, count_at, heads_shape, has_kind, count_of, no_usages}
+use Rattle.search_graph.specs.Below.{Includes, StackDepth, PathKind, PathsToNested, CycleHead, HeadUsages, UsagesByHead, Heads, at_depth, has_rank, count_at, heads_shape, has_kind, count_of, no_usages}
 use Rattle.cycle_heads.proofs.Counts.{count_of-usages_by}
 use Rattle.cycle_heads.proofs.HeadShapes.{IsIn, count_at-of, cycle_of_rank, has_rank-of, path_of_rank}
 use Rattle.search_graph.specs.Words.{Tally, IsCovered, IsTallied, LieBelow, candidate_at, candidates_count, counted, head_with, heads_of, heads_with, spare, spare_count, spare_heads, usages_of}

@@ -3,7 +3,7 @@ use Rattle.std.proofs.Common.{◌≡◌, ◌≢◌, ℕ, Bool, true, false, IsTr
 use Rattle.std.specs.Option.{IsSomeAnd}
 use Rattle.open_graphs.specs.Graph as theory
 use Rattle.search_parts.proofs.Definites.{no_verdict, yes_verdict}
-use Rattle.search_graph.specs.Below.{DelegateOf, CxOf, PathKind, Verdict, Yes, No, Neither, NodeId, Request, Evaluate, EnterCandidate, FinishCandidate, Ignore, Done, Reply, Begin, Answer, Noted, StackEntry, CacheNode, verdict_of, Fits, IsFitting, request_after, Run, Received, DefiniteAnswer, RunRecord, received, answered, answers_after, IsReplySorted, KeepsAnswer, open_number, edge_to, IsVerdict, Verdicts, verdicts}
+use Rattle.search_graph.specs.Below.{DelegateOf, CxOf, PathKind, Verdict, Yes, No, Neither, NodeId, Request, Evaluate, Reply, Begin, Answer, Noted, StackEntry, CacheNode, verdict_of, Fits, IsFitting, request_after, Run, Received, DefiniteAnswer, RunRecord, received, answered, IsReplySorted, KeepsAnswer, open_number, edge_to, IsVerdict, Verdicts, verdicts}
 use Rattle.search_graph.specs.Words.{verdict_shape, AreJustified, MayAnswer, IsFit, run_of, runs_of, Call, IsWaiting}
 use Rattle.search_graph.proofs.justified.Justified.{answered_is_justified}
 use Rattle.search_graph.proofs.moves.Moves.{can_step_record}

@@ -3,7 +3,7 @@ use Rattle.std.proofs.Common.{◌≡◌, ℕ, ◌+◌, ◌<◌, IsSome, ◌==◌
 use Rattle.std.specs.List.{filter}
 use Rattle.std.proofs.lemmas.List.{append-nil, reverse-append, length-append, length-set}
 use Rattle.std.proofs.lemmas.Bool.Decides.{nat_tests}
-use Rattle.search_graph.specs.Below.{Request, Evaluate, EnterCandidate, FinishCandidate, Ignore, Done, Reply, Begin, Answer, Noted, Verdict, Yes, No, Neither, NodeId, PathKind, Progress, Asked, request_after, progress_after, progress_with, order_fault, fault_after, IsInOrder, is_ignored, open_candidate, Fits, RunRecord, no_record, is_same_verdict, asked_of, asked_in, asked_with, open_number, edge_to, answers_with, answers_after, KeepsAnswer, received, requested, answered, fault_of, Agrees, Records, IsSortedAs, IsReplySorted, Verdicts}
+use Rattle.search_graph.specs.Below.{Request, Evaluate, EnterCandidate, FinishCandidate, Ignore, Reply, Begin, Answer, Noted, Verdict, Yes, No, Neither, NodeId, PathKind, Progress, Asked, request_after, progress_after, progress_with, order_fault, fault_after, IsInOrder, is_ignored, open_candidate, Fits, RunRecord, no_record, is_same_verdict, asked_of, asked_in, asked_with, open_number, edge_to, answers_with, answers_after, KeepsAnswer, received, requested, answered, fault_of, Agrees, Records, IsSortedAs, IsReplySorted, Verdicts}
 use Rattle.search_parts.proofs.Filtered.{filtered_more, ignored_after_finish, ignored_after_ignore}
 use Rattle.search_graph.proofs.records.Verdicts.{told_by_test}
 
