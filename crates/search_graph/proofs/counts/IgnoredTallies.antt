@@ -1,14 +1,14 @@
 -- What a goal counts of the goals on the stack, when one of its finished candidates is ignored.
-use Rattle.std.proofs.Common.{◌≡◌, ◌≢◌, ℕ, zero, suc, ◌+◌, ◌-◌, ◌^◌, ◌≤◌, IsTrue, List, [], ◌∷◌, ◌++◌, slice_get, slice_set, Option, None, Some, option_map, is_some, IsSome, unwrap_or, refl, sym, ap, ◌∙◌, subst, inl, inr, arith, ne_eqb, eq-eqb}
+use Rattle.std.proofs.Common.{◌≡◌, ◌≢◌, ℕ, zero, suc, ◌+◌, ◌-◌, ◌^◌, ◌≤◌, List, [], ◌∷◌, ◌++◌, slice_get, slice_set, Option, None, Some, option_map, is_some, IsSome, unwrap_or, refl, sym, ap, ◌∙◌, subst, inl, inr, arith, ne_eqb, eq-eqb}
 use Rattle.std.specs.List.{sum_by}
 use Rattle.std.specs.Option.{IsSomeAnd}
 use Rattle.std.proofs.lemmas.Bool.{cases_eq, false≢true}
 use Rattle.std.proofs.lemmas.List.Sums.{sum_by-cons}
-use Rattle.search_graph.specs.Below.{Includes, StackDepth, PathKind, CycleHead, HeadUsages, UsagesByHead, at_depth, has_kind, count_of, count_without, no_usages, EntryState, CanIgnore, Covers, Ignores, less_head, less_usages}
+use Rattle.search_graph.specs.Below.{Includes, StackDepth, PathKind, CycleHead, HeadUsages, UsagesByHead, at_depth, count_of, count_without, no_usages, EntryState, CanIgnore, Covers, Ignores, less_head, less_usages}
 use Rattle.open_graphs.proofs.Lists.{get_left, get_set_same}
 use Rattle.cycle_heads.proofs.Counts.{count_of-usages_by}
 use Rattle.search_graph.specs.Words.{IsCovered, IsTallied, candidate_at, candidates_count, counted, heads_of, tally_of, usages_of}
-use Rattle.search_graph.proofs.counts.Tallies.{Carries, candidate_within, carried, counted_by_place, covered_still, covers_less, none_counted, of_kind, usages_in}
+use Rattle.search_graph.proofs.counts.Tallies.{Carries, KeepsPaths, candidate_within, carried, counted_by_place, covered_still, covers_less, none_counted, of_kind, usages_in}
 
 -- ---- counts
 
@@ -123,7 +123,7 @@ module _ {X I R A T : Type 0} (parent : StackDepth) (old new : EntryState X I R 
       ];
       heads = λ depth head at.
           let lower = h.lower depth (ap is_some at) in
-          subst (λ o. IsSomeAnd o (λ other. (kind : PathKind) → IsTrue (has_kind head.paths_to_head kind) → IsTrue (has_kind other.paths_to_head kind))) (sym (heads_other depth (omega (arith, lower)) ∙ ap (option_map (less_head (at_depth counts depth))) at)) (λ kind has. has);
+          subst (λ o. IsSomeAnd o (KeepsPaths head)) (sym (heads_other depth (omega (arith, lower)) ∙ ap (option_map (less_head (at_depth counts depth))) at)) (λ kind has. has);
       covers = λ head kind m covers.
           let total = total_less head kind in
           subst (λ o. IsCovered (of_kind o kind) (candidates_count (tally_of new (slice_set fs number [])) head kind + m)) (sym (counted_less head))

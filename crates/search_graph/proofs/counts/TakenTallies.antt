@@ -1,5 +1,5 @@
 -- What a goal counts of the goals on the stack, when it takes over the heads of an answer.
-use Rattle.std.proofs.Common.{◌≡◌, ◌≢◌, ℕ, zero, suc, ◌+◌, ◌-◌, ◌^◌, ◌≤◌, min, max, if◌then◌else◌, IsTrue, List, [], ◌∷◌, ◌++◌, length, slice_get, Option, None, Some, option_map, is_some, IsSome, unwrap_or, refl, sym, ap, ◌∙◌, subst, ◌⊎◌, inl, inr, arith, ne_eqb, eq-eqb}
+use Rattle.std.proofs.Common.{◌≡◌, ◌≢◌, ℕ, zero, suc, ◌+◌, ◌-◌, ◌^◌, ◌≤◌, min, max, if◌then◌else◌, List, [], ◌∷◌, ◌++◌, length, slice_get, Option, None, Some, option_map, is_some, IsSome, unwrap_or, refl, sym, ap, ◌∙◌, subst, ◌⊎◌, inl, inr, arith, ne_eqb, eq-eqb}
 use Rattle.std.specs.List.{sum_by}
 use Rattle.std.specs.Option.{IsSomeAnd}
 use Rattle.std.proofs.lemmas.Bool.{cases_eq, false≢true, or_left}
@@ -9,7 +9,7 @@ use Rattle.cycle_heads.proofs.Counts.{count_of-usages_by}
 use Rattle.cycle_heads.proofs.HeadShapes.{IsIn, joined_after}
 use Rattle.cycle_heads.proofs.PathLaws.{has_kind-union}
 use Rattle.search_graph.specs.Words.{IsCovered, IsTallied, LieBelow, candidate_at, candidates_count, counted, head_with, heads_of, spare, tally_of, usages_of}
-use Rattle.search_graph.proofs.counts.Tallies.{Carries, carried, counted_by_place, counted_head, counts_by_rank, covered_still, covers_less, covers_some, none_counted, of_kind, spare_is, usages_in}
+use Rattle.search_graph.proofs.counts.Tallies.{Carries, KeepsPaths, carried, counted_by_place, counted_head, counts_by_rank, covered_still, covers_less, covers_some, none_counted, of_kind, spare_is, usages_in}
 
 -- ---- counts
 
@@ -103,7 +103,7 @@ under_each_number P same (counts ∷ all) before after changed zero = same count
 under_each_number P same (counts ∷ all) before after changed (suc number) = under_each_number P same all before after changed number
 
 -- a head that more is joined to keeps its paths
-paths_kept : (step : PathKind) (head : CycleHead) (used : Option CycleHead) → IsSomeAnd (joined_over step (Some head) used) (λ other. (kind : PathKind) → IsTrue (has_kind head.paths_to_head kind) → IsTrue (has_kind other.paths_to_head kind))
+paths_kept : (step : PathKind) (head : CycleHead) (used : Option CycleHead) → IsSomeAnd (joined_over step (Some head) used) (KeepsPaths head)
 paths_kept step head None = λ kind has. has
 paths_kept step head (Some used) = λ kind has. has_kind-union head.paths_to_head (extended used.paths_to_head step) kind ∙ or_left (has_kind head.paths_to_head kind) (has_kind (extended used.paths_to_head step) kind) has
 
@@ -158,7 +158,7 @@ module _ {X I R A T : Type 0} (parent : StackDepth) (step : PathKind) (answer : 
       ];
       heads = λ depth head at.
           let lower = h.lower depth (ap is_some at) in
-          subst (λ o. IsSomeAnd o (λ other. (kind : PathKind) → IsTrue (has_kind head.paths_to_head kind) → IsTrue (has_kind other.paths_to_head kind))) (sym (heads_other depth (omega (arith, lower)) ∙ ap (λ o. joined_over step o (at_depth answer depth)) at)) (paths_kept step head (at_depth answer depth));
+          subst (λ o. IsSomeAnd o (KeepsPaths head)) (sym (heads_other depth (omega (arith, lower)) ∙ ap (λ o. joined_over step o (at_depth answer depth)) at)) (paths_kept step head (at_depth answer depth));
       covers = λ head kind m covers.
           let up_to = (charged_current head kind).up_to in
           covers_less (of_kind (counted parent.0 (tally_of new fs) head) kind) (candidates_count (tally_of old fs) head kind + m + min (count_of (used_usages (at_depth answer head)) kind) 1) (candidates_count (tally_of new fs) head kind + m)

@@ -54,11 +54,14 @@ counts_by_rank usages more h n some = let k = cycle_of_rank usages n some in sub
 paths_by_rank : (paths more : PathsToNested) → ((kind : PathKind) → IsTrue (has_kind paths kind) → IsTrue (has_kind more kind)) → (n : ℕ) → IsTrue (has_rank paths n) → IsTrue (has_rank more n)
 paths_by_rank paths more h n is = let k = path_of_rank paths n is in subst (λ m. IsTrue (has_rank more m)) k.1 (has_rank-of more k.0 ∙ h k.0 k.2)
 
--- a head has all paths of another, and the part of it all kinds of usages of that other's part
+-- a head has all paths of another
+abbrev pub KeepsPaths : CycleHead → CycleHead → Type 0
+KeepsPaths head other = (kind : PathKind) → IsTrue (has_kind head.paths_to_head kind) → IsTrue (has_kind other.paths_to_head kind)
+
+-- and the part of it all kinds of usages of that other's part
 abbrev GrowsInto : (part more : HeadUsages → HeadUsages) → CycleHead → CycleHead → Type 0
 GrowsInto part more head other =
-    ((kind : PathKind) → IsTrue (has_kind head.paths_to_head kind) → IsTrue (has_kind other.paths_to_head kind))
-    × ((kind : PathKind) → count_of (part head.usages) kind ≢ 0 → count_of (more other.usages) kind ≢ 0)
+    KeepsPaths head other × ((kind : PathKind) → count_of (part head.usages) kind ≢ 0 → count_of (more other.usages) kind ≢ 0)
 
 grown_at : (part more : HeadUsages → HeadUsages) (own new : Option CycleHead) → ((head : CycleHead) → own ≡ Some head → IsSomeAnd new (GrowsInto part more head)) → (path cycle : ℕ) → IsIn (option_map (head_with part) own) path cycle → IsIn (option_map (head_with more) new) path cycle
 grown_at part more None new grows path cycle is = absurd (is.1 refl)
@@ -134,7 +137,7 @@ counted_by_place parent t u P own others head = elim (cases_eq head.0 parent.0) 
 -- stay used what they did.
 pub record Carries (parent : ℕ) (t u : Tally) (Stays : Option ℕ → Type 0) : Type 0 where
   pub lower : LieBelow parent u.heads
-  pub heads : (depth : StackDepth) (head : CycleHead) → at_depth t.heads depth ≡ Some head → IsSomeAnd (at_depth u.heads depth) (λ other. (kind : PathKind) → IsTrue (has_kind head.paths_to_head kind) → IsTrue (has_kind other.paths_to_head kind))
+  pub heads : (depth : StackDepth) (head : CycleHead) → at_depth t.heads depth ≡ Some head → IsSomeAnd (at_depth u.heads depth) (KeepsPaths head)
   pub covers : (head : StackDepth) (kind : PathKind) (m : ℕ) → IsCovered (of_kind (counted parent t head) kind) (candidates_count t head kind + m) → IsCovered (of_kind (counted parent u head) kind) (candidates_count u head kind + m)
   pub used : (number : ℕ) → Stays (Some number) → (head : StackDepth) (kind : PathKind) → count_of (usages_of (candidate_at t number) head) kind ≢ 0 → count_of (usages_of (candidate_at u number) head) kind ≢ 0
 
@@ -145,7 +148,7 @@ module _ (parent : ℕ) (t u : Tally) (Stays : Option ℕ → Type 0) (move : Ca
       covers_less (of_kind (counted parent u head) kind) (candidates_count u head kind + 0) (candidates_count u head kind)
       (move.covers head kind 0 (covers_less (of_kind (counted parent t head) kind) (candidates_count t head kind) (candidates_count t head kind + 0) (h.covered head kind) (omega arith))) (omega arith)
 
-  grows : (part more : HeadUsages → HeadUsages) (head : CycleHead) (new : Option CycleHead) → IsSomeAnd new (λ other. (kind : PathKind) → IsTrue (has_kind head.paths_to_head kind) → IsTrue (has_kind other.paths_to_head kind)) → ((other : CycleHead) → new ≡ Some other → (kind : PathKind) → count_of (part head.usages) kind ≢ 0 → count_of (more other.usages) kind ≢ 0) → IsSomeAnd new (GrowsInto part more head)
+  grows : (part more : HeadUsages → HeadUsages) (head : CycleHead) (new : Option CycleHead) → IsSomeAnd new (KeepsPaths head) → ((other : CycleHead) → new ≡ Some other → (kind : PathKind) → count_of (part head.usages) kind ≢ 0 → count_of (more other.usages) kind ≢ 0) → IsSomeAnd new (GrowsInto part more head)
   grows part more head None paths counts = absurd paths
   grows part more head (Some other) paths counts = (paths, counts other refl)
 
@@ -176,7 +179,7 @@ module _ (parent : ℕ) (t : Tally) (current : Option UsagesByHead) (finished : 
   regrouped_carries : Carries parent t (regrouped t current finished) (λ _. Unit {0})
   regrouped_carries = record {
     lower = h.lower;
-    heads = λ depth head at. subst (λ o. IsSomeAnd o (λ other. (kind : PathKind) → IsTrue (has_kind head.paths_to_head kind) → IsTrue (has_kind other.paths_to_head kind))) (sym at) (λ kind has. has);
+    heads = λ depth head at. subst (λ o. IsSomeAnd o (KeepsPaths head)) (sym at) (λ kind has. has);
     covers = λ head kind m. subst (λ n. IsCovered (of_kind (counted parent t head) kind) (n + m)) (sym (r.total head kind));
     used = λ number stays head kind. subst (λ c. count_of (usages_of c head) kind ≢ 0) (sym (r.same number));
   }

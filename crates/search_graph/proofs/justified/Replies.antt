@@ -3,7 +3,7 @@ use Rattle.std.proofs.Common.{◌≡◌, ◌≢◌, ℕ, Bool, true, false, IsTr
 use Rattle.std.specs.Option.{IsSomeAnd}
 use Rattle.open_graphs.specs.Graph as theory
 use Rattle.search_parts.proofs.Definites.{no_verdict, yes_verdict}
-use Rattle.search_graph.specs.Below.{DelegateOf, CxOf, PathKind, Verdict, Yes, No, Neither, NodeId, Request, Evaluate, Reply, Begin, Answer, Noted, StackEntry, CacheNode, verdict_of, Fits, IsFitting, request_after, Run, Received, DefiniteAnswer, RunRecord, received, answered, IsReplySorted, KeepsAnswer, open_number, edge_to, IsVerdict, Verdicts, verdicts}
+use Rattle.search_graph.specs.Below.{DelegateOf, CxOf, PathKind, Verdict, Yes, No, Neither, NodeId, Request, Evaluate, Reply, Answer, StackEntry, CacheNode, verdict_of, Fits, IsFitting, request_after, Run, Received, DefiniteAnswer, RunRecord, received, answered, IsReplySorted, KeepsAnswer, open_number, edge_to, IsVerdict, Verdicts, verdicts}
 use Rattle.search_graph.specs.Words.{verdict_shape, AreJustified, MayAnswer, IsFit, run_of, runs_of, Call, IsWaiting}
 use Rattle.search_graph.proofs.justified.Justified.{answered_is_justified}
 use Rattle.search_graph.proofs.moves.Moves.{can_step_record}
@@ -49,8 +49,6 @@ module _ {D C V P F I R A T : Type 0} (G : DelegateOf D C V P F I R A T) (X : Cx
   Goals = List (StackEntry C I R A T × Run C F I R A T)
 
   sorted_at : (s : StackEntry C I R A T × Run C F I R A T) (below : Goals) (earlier : List (Reply R)) (reply : Reply R) (node : Option NodeId) (v : Verdict) → s.1.progress.request ≡ request_after (G.script cx s.0.input) earlier → IsFitting (G.script cx s.0.input) (reply ∷ earlier) → IsFit (verdicts X) nodes (runs_of (s ∷ below)) reply node → IsVerdict (verdicts X) reply v → IsReplySorted (verdicts X) reply v node
-  sorted_at s below earlier Begin node v request fits fit verdict = tt
-  sorted_at s below earlier Noted node v request fits fit verdict = tt
   sorted_at s below earlier (Answer r) node v request fits fit verdict =
       let asked = question_of_answer (request_after (G.script cx s.0.input) earlier) r fits.0 in
       let asks : s.1.progress.request ≡ Some (Evaluate asked.0 asked.1) = request ∙ asked.2 in
@@ -60,6 +58,7 @@ module _ {D C V P F I R A T : Type 0} (G : DelegateOf D C V P F I R A T) (X : Cx
         yes_node = λ y. is_some_of node _ (fit r asked.0 asked.1 refl asks (not_neither (yes_verdict (X.is_yes r) (X.is_no r) y)));
         no_node = λ n. is_some_of node _ (fit r asked.0 asked.1 refl asks (no_definite_at (X.is_yes r) (X.is_no r) n));
       }
+  sorted_at s below earlier reply node v request fits fit verdict = tt
 
   -- a reply that fits the goals is sorted
   pub replies_sorted : (call : Call I) (given : Received R) (goals : Goals) (starts : ℕ) (met : Bool) → IsWaiting G X cx call given.reply goals starts met → IsFit (verdicts X) nodes (runs_of goals) given.reply given.node → (v : Verdict) → IsVerdict (verdicts X) given.reply v → IsReplySorted (verdicts X) given.reply v given.node
@@ -85,12 +84,11 @@ module _ {D C V P F I R A T : Type 0} (G : DelegateOf D C V P F I R A T) (X : Cx
   same_answers entry run below answers is h = subst (λ (l : List (DefiniteAnswer I)). AreJustified (verdicts X) nodes (record (run_of (entry, run)) { answers = l } ∷ runs_of below)) (sym is) h
 
   definite_at_reply : (entry : StackEntry C I R A T) (run : Run C F I R A T) (reply : Reply R) (node : Option NodeId) (v : Verdict) (below : Goals) → v ≢ Neither → IsVerdict (verdicts X) reply v → IsFit (verdicts X) nodes (runs_of ((entry, run) ∷ below)) reply node → AreJustified (verdicts X) nodes (runs_of ((entry, run) ∷ below)) → AreJustified (verdicts X) nodes (record (run_of (entry, run)) { answers = (received run.progress reply v node).answers } ∷ runs_of below)
-  definite_at_reply entry run Begin node v below definite verdict fit h = absurd (definite verdict)
-  definite_at_reply entry run Noted node v below definite verdict fit h = absurd (definite verdict)
   definite_at_reply entry run (Answer r) node v below definite verdict fit h = elim (answers_received run.progress v (Answer r) node) [
     | inl same ↦ same_answers entry run below (received run.progress (Answer r) v node).answers same h
     | inr keeps ↦ answered_at entry run r node v below definite verdict fit h (received run.progress (Answer r) v node).answers keeps
   ]
+  definite_at_reply entry run reply node v below definite verdict fit h = absurd (definite verdict)
 
   -- the reply is on record
   pub replied_is_justified : (entry : StackEntry C I R A T) (run : Run C F I R A T) (reply : Reply R) (node : Option NodeId) (v : Verdict) (below : Goals) → IsVerdict (verdicts X) reply v → IsFit (verdicts X) nodes (runs_of ((entry, run) ∷ below)) reply node → AreJustified (verdicts X) nodes (runs_of ((entry, run) ∷ below)) → AreJustified (verdicts X) nodes (record (run_of (entry, run)) { answers = (received run.progress reply v node).answers } ∷ runs_of below)
