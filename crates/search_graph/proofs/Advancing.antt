@@ -4,8 +4,8 @@ use Rattle.search_graph.specs.Below.{DelegateOf, CxOf, Request, Received, Cache,
 use Rattle.search_graph.specs.declared.graph.evaluation.Evaluation.{Evaluation}
 use Rattle.search_graph.specs.Words.{Awaits, Call, HasReply, HasRequest, IsRight, IsRightFor, Requests, StopsWith, work_left}
 use Rattle.search_graph.proofs.Causes.{step_keeps_free}
-use Rattle.search_graph.proofs.moves.Loops.{stepped_some, advance_asks, advance_stops, advance_justified, step_asks_for}
-use Rattle.search_graph.proofs.ReadyMoves.{stepped_ready}
+use Rattle.search_graph.proofs.moves.Loops.{advance_asks, advance_justified, advance_stops, step_asks_for, stepped_some}
+use Rattle.search_graph.proofs.entries.Moves.{stepped_ready}
 
 module _ {D C V P F I R A T : Type 0} (G : DelegateOf D C V P F I R A T) (X : CxOf C I R A T) (same : I → I → Bool) (cx : C) (cache : Cache C I R A T) (e : Evaluation D C V P F I R A T) (given : Received R) where
   -- a frame that failed ends the call

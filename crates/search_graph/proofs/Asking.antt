@@ -4,14 +4,14 @@ use Rattle.std.proofs.lemmas.List.{length-map, length-reverse}
 use Rattle.std.proofs.lemmas.Option.{get_or_from_slice_get, slice_get_within}
 use Rattle.search_graph.specs.Below.{DelegateOf, CxOf, Evaluate, Received, Answer, Begin, Cache, IsNeither, IsCycleResult, CacheNode, AvailableDepth, first_entry, open_node, PathKind, StackEntry, Run, Memory, path_kind_from, IsDefinite, verdicts}
 use Rattle.search_graph.specs.declared.graph.evaluation.Evaluation.{Evaluation}
-use Rattle.search_graph.specs.Words.{Call, AreFree, AreReady, NewestAsks, IsFit, IsReady, runs_of, asking, Asked, Refused, ByEntry, ByStored, OverCycle, Pushed, IsRight, IsRightFor, Requests, GoesOnWith, StopsWith, question_depth, AreJustified, Pushes, first_run}
-use Rattle.search_graph.proofs.CycleAnswers.{cycle_fits, cycle_head_lower, head_is}
-use Rattle.search_graph.proofs.justified.Finishing.{answered_newest_is_justified, overflow_noted_is_justified, pushed_goal_is_justified, stored_taken_same, neither_is, neither_fits, begin_fits}
-use Rattle.search_graph.proofs.FreeMoves.{answered_newest_free, overflow_noted_free, stored_fits, stored_taken_free}
-use Rattle.search_graph.proofs.FreeResults.{all_free_pushed_goal}
-use Rattle.search_graph.proofs.ProvisionalQuestions.{entry_is_one, entry_path_is, entry_taken_justified, entry_fits}
-use Rattle.search_graph.proofs.moves.Questions.{ask_provisional, ask_stored, ask_refused, ask_in_cycle, ask_pushes, ask_stops}
-use Rattle.search_graph.proofs.ReadyMoves.{ready_beside, overflow_noted_ready, ready_pushed_goal, stored_taken_ready}
+use Rattle.search_graph.specs.Words.{AreFree, AreJustified, AreReady, Asked, asking, ByEntry, ByStored, Call, first_run, GoesOnWith, IsFit, IsReady, IsRight, IsRightFor, NewestAsks, OverCycle, Pushed, Pushes, question_depth, Refused, Requests, runs_of, StopsWith}
+use Rattle.search_graph.proofs.justified.Finishing.{answered_newest_is_justified, begin_fits, neither_fits, neither_is, overflow_noted_is_justified, pushed_goal_is_justified, stored_taken_same}
+use Rattle.search_graph.proofs.moves.Questions.{ask_in_cycle, ask_provisional, ask_pushes, ask_refused, ask_stops, ask_stored}
+use Rattle.search_graph.proofs.answers.Cycles.{cycle_fits, cycle_head_lower, head_is}
+use Rattle.search_graph.proofs.answers.FreeMoves.{answered_newest_free, overflow_noted_free, stored_fits, stored_taken_free}
+use Rattle.search_graph.proofs.answers.Free.{all_free_pushed_goal}
+use Rattle.search_graph.proofs.entries.Questions.{entry_fits, entry_is_one, entry_path_is, entry_taken_justified}
+use Rattle.search_graph.proofs.entries.Moves.{overflow_noted_ready, ready_beside, ready_pushed_goal, stored_taken_ready}
 
 module _ {D C V P F I R A T : Type 0} (G : DelegateOf D C V P F I R A T) (X : CxOf C I R A T) (same : I → I → Bool) (cx : C) (kind : PathKind) (goal : I) (old : Cache C I R A T) (e : Evaluation D C V P F I R A T) (starts : ℕ) where
   -- ---- the call goes on

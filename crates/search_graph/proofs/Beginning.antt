@@ -6,11 +6,11 @@ use Rattle.search_parts.proofs.Stores.{KeepsResults-then}
 use Rattle.search_graph.specs.declared.graph.evaluation.Evaluation.{Evaluation}
 use Rattle.search_graph.specs.Words.{AreFree, AreJustified, AreReady, NewestAsks, Awaits, Begins, Call, IsNew, IsRight, IsRightFor, KeepsAnswers, KeepsCache, Pushes, StopsWith, runs_of}
 use Rattle.search_graph.proofs.Asking.{pushed_right}
-use Rattle.search_graph.proofs.FreeResults.{all_free_nothing}
 use Rattle.search_graph.proofs.justified.Justified.{nothing_is_justified}
-use Rattle.search_graph.proofs.EntriesSaid.{no_entries}
 use Rattle.search_graph.proofs.moves.Loops.{first_stopped, first_waits}
-use Rattle.search_graph.proofs.Ready.{none_ready}
+use Rattle.search_graph.proofs.answers.Free.{all_free_nothing}
+use Rattle.search_graph.proofs.entries.Said.{no_entries}
+use Rattle.search_graph.proofs.entries.Ready.{none_ready}
 
 -- what two moves keep, both keep together
 pub then_keeps : {C I R A T : Type 0} (same : I → I → Bool) (old mid new : Cache C I R A T) → KeepsCache same old mid → KeepsCache same mid new → KeepsCache same old new

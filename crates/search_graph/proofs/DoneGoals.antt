@@ -1,9 +1,9 @@
 -- The newest goal is done: its answer is given to the goal below it, and stored where it has no heads.
 use Rattle.std.proofs.Common.{◌≡◌, ◌≢◌, ◌||◌, Bool, true, List, [], ◌∷◌, length, Option, refl, sym, ap, ◌∙◌, subst, arith}
 use Rattle.search_graph.specs.Below.{NodeId, Answer, PathKind, StoredResult, EvaluationResult, StackEntry, CacheNode, Store, Run, Next, Step, Finished, AnswersNewest, Verdicts}
-use Rattle.search_graph.specs.Words.{AreFree, AreJustified, GivesAnswer, NewestLeaves, final_answer, StoresAnswer, MayPutNewest, place_of_item, runs_of, HasResultNode, IsJustifiedNext}
-use Rattle.search_graph.proofs.FreeMoves.{answered_newest_free}
-use Rattle.search_graph.proofs.FreeResults.{all_free_stored}
+use Rattle.search_graph.specs.Words.{AreFree, AreJustified, final_answer, GivesAnswer, HasResultNode, IsJustifiedNext, MayPutNewest, NewestLeaves, place_of_item, runs_of, StoresAnswer}
+use Rattle.search_graph.proofs.answers.FreeMoves.{answered_newest_free}
+use Rattle.search_graph.proofs.answers.Free.{all_free_stored}
 use Rattle.search_graph.proofs.FinishedRuns.{finished_justified, headless_is_free, leaves_step, step_justified, stored_stay_free}
 use Rattle.search_graph.proofs.Storing.{stored_result}
 

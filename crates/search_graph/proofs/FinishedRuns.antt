@@ -2,12 +2,13 @@
 use Rattle.std.proofs.Common.{◌≡◌, ◌≢◌, suc, ◌+◌, ◌<◌, ◌^◌, ◌||◌, Bool, List, [], ◌∷◌, ◌++◌, length, Option, Some, option_map, refl, sym, ap, ◌∙◌, subst, arith}
 use Rattle.std.specs.Option.{IsSomeAnd, option_or}
 use Rattle.std.proofs.lemmas.List.{length-map}
-use Rattle.search_graph.specs.Below.{stack_of, TakesIn, DelegateOf, CxOf, NodeId, Request, Reply, Answer, StackEntry, CacheNode, open_node, HasGraph, IsDefinite, heads_shape, rank_of, verdict_of, Run, Step, Finished, AnswersNewest, rerun_with, with_no_record, newest, change_newest, RunRecord, StoredResult, Store, Verdicts}
-use Rattle.search_graph.specs.Words.{NewestAsks, AreJustified, MayAnswer, IsFit, asked_now, frames_of, IsFresh, Reruns, CanLeave, NewestLeaves, IsFree, AreFree, run_of, runs_of, EndsRun, EndsNewest, HasResultNode, IsJustifiedNext, heads_of, tally_of, LieBelow}
-use Rattle.search_graph.proofs.justified.Justified.{EndsWithNode, below_is_justified, stack_length, may_answer_parent, last_has_graph, headless_has_graph, rerun_is_justified}
-use Rattle.search_graph.proofs.Free.{done_is_free}
-use Rattle.search_graph.proofs.FreeResults.{all_free_popped, all_free_rerun}
-use Rattle.search_graph.proofs.justified.Finishing.{answer_fits, answered_newest_is_justified, ends_run, heads_come, same_run, rebases}
+use Rattle.search_graph.specs.Below.{Answer, AnswersNewest, CacheNode, change_newest, CxOf, DelegateOf, Finished, HasGraph, IsDefinite, newest, NodeId, open_node, Reply, Request, rerun_with, Run, RunRecord, StackEntry, Step, Store, StoredResult, verdict_of, Verdicts, with_no_record}
+use Rattle.search_graph.specs.Words.{AreFree, AreJustified, CanLeave, EndsNewest, EndsRun, HasResultNode, IsFit, IsFree, IsFresh, IsJustifiedNext, LieBelow, MayAnswer, NewestAsks, NewestLeaves, OpenRun, Reruns, run_of, runs_of, tally_of}
+use Rattle.search_graph.proofs.justified.Justified.{below_is_justified, EndsWithNode, headless_has_graph, last_has_graph, may_answer_parent, rerun_is_justified, stack_length}
+use Rattle.search_graph.proofs.justified.Finishing.{answer_fits, answered_newest_is_justified, ends_run, heads_come, rebases, same_run}
+use Rattle.search_graph.proofs.justified.Justified.{new_run, tally_again}
+use Rattle.search_graph.proofs.answers.Free.{all_free_popped, all_free_rerun, done_is_free}
+use Rattle.search_graph.proofs.answers.Taken.{later_run, taken_fits, takes_in}
 
 -- ---- the goal is run again
 
@@ -46,25 +47,36 @@ module _ {X F I R A T : Type 0} where
   again_is old taken new e run below r lead frame own was is then =
       then ∙ ap (change_newest (rerun_with r lead frame own)) is ∙ ap (λ l. change_newest (rerun_with r lead frame own) (change_newest with_no_record l)) was
 
+  -- what follows of the newest goal, as its run was read, holds of the goals once it is run again
+  module _ (says : Verdicts R) (before after : List (CacheNode I R)) (old taken new : List (StackEntry X I R A T × Run X F I R A T)) (e : StackEntry X I R A T) (y : Run X F I R A T) (p : RunRecord I R) (r : R) (target : Option NodeId) (frame : F) (own : NodeId) (t : TakenFrom old e y p) (is : taken ≡ change_newest with_no_record old) (then : new ≡ change_newest (rerun_with r (option_or target e.state.node) frame own) taken) (ended : HasResultNode says before after e.state.provisional_result y.node e.state.node p r target) (at : own.0 ≡ length after) (h : AreJustified says before (runs_of old)) where
+    justified_here : AreJustified says before (runs_of ((e, t.run) ∷ t.below))
+    justified_here = subst (λ l. AreJustified says before (runs_of l)) t.was h
+
+    ends_here : EndsWithNode says before after (run_of (e, t.run)) (runs_of t.below) r target
+    ends_here =
+        rebases says before after e t.run t.below justified_here r target
+        (subst (λ n. HasResultNode says before after e.state.provisional_result n e.state.node t.run.progress r target) t.same_node
+        (subst (λ q. HasResultNode says before after e.state.provisional_result y.node e.state.node q r target) t.progress_is ended))
+
+    pub rerun_holds : (P Q : List (OpenRun I R) → Type 0)
+        → (AreJustified says before (run_of (e, t.run) ∷ runs_of t.below) → EndsWithNode says before after (run_of (e, t.run)) (runs_of t.below) r target
+        → P (run_of (e, t.run) ∷ runs_of t.below) → Q (new_run e.input e.step_kind_from_parent own (option_or target e.state.node) (Some r) (tally_again (tally_of e.state t.run.candidates)) ∷ runs_of t.below))
+        → P (runs_of old) → Q (runs_of new)
+    rerun_holds P Q keeps was =
+        subst (λ l. Q (runs_of l)) (sym (again_is old taken new e t.run t.below r (option_or target e.state.node) frame own t.was is then))
+        (keeps justified_here ends_here (subst (λ l. P (runs_of l)) t.was was))
+
   -- the goals stay justified
   pub rerun_justified : (says : Verdicts R) (before after : List (CacheNode I R)) (old taken new : List (StackEntry X I R A T × Run X F I R A T)) (e : StackEntry X I R A T) (y : Run X F I R A T) (p : RunRecord I R) (r : R) (target : Option NodeId) (frame : F) (own : NodeId) → TakenFrom old e y p → taken ≡ change_newest with_no_record old → new ≡ change_newest (rerun_with r (option_or target e.state.node) frame own) taken → HasResultNode says before after e.state.provisional_result y.node e.state.node p r target → own.0 ≡ length after → AreJustified says before (runs_of old) → AreJustified says (after ++ open_node e.input ∷ []) (runs_of new)
   rerun_justified says before after old taken new e y p r target frame own t is then ended at h =
-      let was : AreJustified says before (runs_of ((e, t.run) ∷ t.below)) = subst (λ l. AreJustified says before (runs_of l)) t.was h in
-      let so : HasResultNode says before after e.state.provisional_result t.run.node e.state.node t.run.progress r target =
-      subst (λ n. HasResultNode says before after e.state.provisional_result n e.state.node t.run.progress r target) t.same_node
-      (subst (λ q. HasResultNode says before after e.state.provisional_result y.node e.state.node q r target) t.progress_is ended) in
-      subst (λ l. AreJustified says (after ++ open_node e.input ∷ []) (runs_of l)) (sym (again_is old taken new e t.run t.below r (option_or target e.state.node) frame own t.was is then))
-      (rerun_is_justified says before after (run_of (e, t.run)) (runs_of t.below) was r target (rebases says before after e t.run t.below was r target so) own at)
+      rerun_holds says before after old taken new e y p r target frame own t is then ended at h (AreJustified says before) (AreJustified says (after ++ open_node e.input ∷ []))
+      (λ here s was. rerun_is_justified says before after (run_of (e, t.run)) (runs_of t.below) here r target s own at) h
 
   -- and stored results rest on none of them
   pub rerun_free : (says : Verdicts R) (same : I → I → Bool) (results : Store I (StoredResult X I R A T)) (before after : List (CacheNode I R)) (old taken new : List (StackEntry X I R A T × Run X F I R A T)) (e : StackEntry X I R A T) (y : Run X F I R A T) (p : RunRecord I R) (r : R) (target : Option NodeId) (frame : F) (own : NodeId) → TakenFrom old e y p → taken ≡ change_newest with_no_record old → new ≡ change_newest (rerun_with r (option_or target e.state.node) frame own) taken → HasResultNode says before after e.state.provisional_result y.node e.state.node p r target → own.0 ≡ length after → AreJustified says before (runs_of old) → AreFree says same before (runs_of old) results → AreFree says same (after ++ open_node e.input ∷ []) (runs_of new) results
-  rerun_free says same results before after old taken new e y p r target frame own t is then ended at h free =
-      let was : AreJustified says before (runs_of ((e, t.run) ∷ t.below)) = subst (λ l. AreJustified says before (runs_of l)) t.was h in
-      let so : HasResultNode says before after e.state.provisional_result t.run.node e.state.node t.run.progress r target =
-      subst (λ n. HasResultNode says before after e.state.provisional_result n e.state.node t.run.progress r target) t.same_node
-      (subst (λ q. HasResultNode says before after e.state.provisional_result y.node e.state.node q r target) t.progress_is ended) in
-      subst (λ l. AreFree says same (after ++ open_node e.input ∷ []) (runs_of l) results) (sym (again_is old taken new e t.run t.below r (option_or target e.state.node) frame own t.was is then))
-      (all_free_rerun says same before after (run_of (e, t.run)) (runs_of t.below) was r target (rebases says before after e t.run t.below was r target so) results (subst (λ l. AreFree says same before (runs_of l) results) t.was free) own at)
+  rerun_free says same results before after old taken new e y p r target frame own t is then ended at h =
+      rerun_holds says before after old taken new e y p r target frame own t is then ended at h (λ goals. AreFree says same before goals results) (λ goals. AreFree says same (after ++ open_node e.input ∷ []) goals results)
+      (λ here s free. all_free_rerun says same before after (run_of (e, t.run)) (runs_of t.below) here r target s results free own at)
 
 -- and the newest is run again
 pub reran : {D C V P F I R A T : Type 0} (G : DelegateOf D C V P F I R A T) (X : CxOf C I R A T) (cx : C) (old taken new : List (StackEntry C I R A T × Run C F I R A T)) (e : StackEntry C I R A T) (y : Run C F I R A T) (p : RunRecord I R) (r : R) (lead : Option NodeId) (frame : F) (own : NodeId) → TakenFrom old e y p → taken ≡ change_newest with_no_record old → new ≡ change_newest (rerun_with r lead frame own) taken → IsFresh G X cx frame e.input → Reruns G X cx r old new
@@ -79,7 +91,7 @@ reran G X cx old taken new e y p r lead frame own t is then fresh = record {
   fresh = fresh;
 }
 
--- ---- the goal is taken
+-- ---- the goal is popped
 
 module _ {X F I R A T : Type 0} (says : Verdicts R) (before after : List (CacheNode I R)) (old : List (StackEntry X I R A T × Run X F I R A T)) (entry : StackEntry X I R A T) (run : Run X F I R A T) (rest : List (StackEntry X I R A T × Run X F I R A T)) (was : old ≡ (entry, run) ∷ rest) where
   justified_then : AreJustified says before (runs_of old) → AreJustified says before (runs_of ((entry, run) ∷ rest))
@@ -124,21 +136,16 @@ module _ {X F I R A T : Type 0} (says : Verdicts R) (before after : List (CacheN
       heads_lower : LieBelow (suc (length a.below)) entry.state.heads
       heads_lower = subst (λ n. LieBelow n entry.state.heads) (length-map rest run_of ∙ ap length a.was) (justified_then h).tallies.0.tallied.lower
 
-      may_answer : IsDefinite says r → IsSomeAnd target (λ n. MayAnswer says after (run_of (record a.entry { state = a.state }, a.run)) (runs_of a.below) (verdict_of says r) entry.step_kind_from_parent entry.input n.0)
-      may_answer definite =
-          let many : length a.below ≡ length (stack_of (frames_of says (runs_of a.below))) = sym (stack_length says (runs_of a.below) ∙ length-map a.below run_of) in
-          let come = heads_come says after entry.step_kind_from_parent entry.state.required_depth (entry.state.encountered_overflow || run.met_overflow_before) entry.state.heads rest new a heads_lower below_justified in
-          subst (λ o. IsSomeAnd target (λ n. MayAnswer says after o (runs_of a.below) (verdict_of says r) entry.step_kind_from_parent entry.input n.0)) (sym (same_run (record { 0 = length a.below }) entry.step_kind_from_parent entry.state.required_depth (entry.state.encountered_overflow || run.met_overflow_before) entry.state.heads a.entry.state a.state a.takes a.entry a.run refl))
-          (may_answer_parent says before after (run_of (entry, run)) (runs_of rest) (justified_then h) r target so (run_of (a.entry, a.run)) (runs_of a.below) (tally_of a.state a.run.candidates) (ap runs_of a.was)
-          (subst (λ m. TakesIn m (rank_of entry.step_kind_from_parent) (heads_shape entry.state.heads) (heads_of (tally_of a.state a.run.candidates) (asked_now (run_of (a.entry, a.run))))) many come) definite)
+      may_answer : IsDefinite says r → IsSomeAnd target (λ n. MayAnswer says after (later_run says after rest new entry.step_kind_from_parent entry.state.required_depth (entry.state.encountered_overflow || run.met_overflow_before) entry.state.heads a) (runs_of a.below) (verdict_of says r) entry.step_kind_from_parent entry.input n.0)
+      may_answer =
+          may_answer_parent says before after (run_of (entry, run)) (runs_of rest) (justified_then h) r target so (run_of (a.entry, a.run)) (runs_of a.below) (tally_of a.state a.run.candidates) (ap runs_of a.was)
+          (takes_in says after rest new entry.step_kind_from_parent entry.state.required_depth (entry.state.encountered_overflow || run.met_overflow_before) entry.state.heads a heads_lower below_justified)
 
       pub step_justified : AreJustified says after (runs_of new) × IsFit says after (runs_of new) (Answer r) target
-      step_justified =
-          let asked : NewestAsks (run_of (a.entry, a.run) ∷ runs_of a.below) entry.step_kind_from_parent entry.input = subst (λ l. NewestAsks (runs_of l) entry.step_kind_from_parent entry.input) a.was (justified_then h).asked.0 in (
-            answered_newest_is_justified says after entry.step_kind_from_parent entry.state.required_depth (entry.state.encountered_overflow || run.met_overflow_before) entry.state.heads rest new a heads_lower below_justified,
-            subst (λ l. IsFit says after (runs_of l) (Answer r) target) (sym a.is)
-                (answer_fits says after (run_of (record a.entry { state = a.state }, a.run)) (runs_of a.below) r entry.step_kind_from_parent entry.input target asked may_answer),
-          )
+      step_justified = (
+        answered_newest_is_justified says after entry.step_kind_from_parent entry.state.required_depth (entry.state.encountered_overflow || run.met_overflow_before) entry.state.heads rest new a heads_lower below_justified,
+        taken_fits says after rest new entry.step_kind_from_parent entry.state.required_depth (entry.state.encountered_overflow || run.met_overflow_before) entry.state.heads a r entry.input target (justified_then h).asked.0 may_answer,
+      )
 
       leaves_at : (l : List (StackEntry X I R A T × Run X F I R A T)) → AnswersNewest entry.step_kind_from_parent entry.state.required_depth (entry.state.encountered_overflow || run.met_overflow_before) entry.state.heads l new → length l ≢ 0 → NewestLeaves r ((entry, run) ∷ l) (Step (record { reply = Answer r; node = target })) new
       leaves_at [] b some = absurd (some refl)

@@ -9,7 +9,7 @@ pub use Rattle.open_graphs.specs.Stack.{Accepts, Entry, greatest, path_kind}
 pub use Rattle.open_graphs.specs.State.{AfterPop, AllFinal, AllProvisional, answering, Final, in_first_run, Fixpoint, RunningGoal}
 pub use Rattle.open_graphs.specs.State.{IsMoved, IsSoundState, ProvisionalEntry, Lower, in_next_run, no_heads, Other, OwnsOther, stack_of}
 pub use Rattle.open_graphs.specs.State.{Unused}
-pub use Rattle.open_graphs.specs.StateLaws.{Added, Before, IsLeft, Survives}
+pub use Rattle.open_graphs.specs.StateLaws.{Added, Before, IsLeft, LeftByRerun, Survives}
 pub use Rattle.open_graphs.specs.Use.{HeadsWithin, Includes, IncludesBelow, Recorded, ProvisionalUse, Use, UsesNo}
 pub use Rattle.cycle_heads.specs.Candidates.{UsagesByHead}
 pub use Rattle.cycle_heads.specs.HeadShapes.{count_at, has_rank, head_shape, heads_shape}

@@ -7,7 +7,6 @@ pub mod Graph
 pub mod Tallies
 pub mod Justified
 pub mod Free
-pub mod ProvisionalAnswers
 pub mod Runs
 pub mod EndOfRun
 pub mod Lists

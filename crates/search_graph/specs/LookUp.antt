@@ -32,7 +32,7 @@ module _ {X I R A T : Type 0} (same : I → I → Bool) where
       not (list_any (λ e. is_some (paths_at same nested e.input)) asking.stack)
       && list_all (λ goal. not (meets_entry asking goal.0 goal.1)) nested
 
-  -- the entry that answers the goal, if such entries are kept and one may be used
+  -- the entry that answers the goal, if such entries may be used at all, and one of them here
   abbrev pub usable_entry : (enabled : Bool) → Asking X I R A T → I → Option (ProvisionalCacheEntry X I R A T)
   usable_entry enabled asking goal = if enabled then find (may_be_used asking.stack asking.step) (entries_at same asking.entries goal) else None
 

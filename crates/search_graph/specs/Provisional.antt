@@ -1,10 +1,9 @@
--- The answers in the provisional cache: why each of them may be used, and what becomes of them when the newest goal is taken.
+-- The provisional entries: why each of them may be used, and what becomes of them when the newest goal is popped.
 use Rattle.std.specs.Prelude.{◌≡◌, ◌≢◌, ◌⊎◌, ◌||◌, ◌&&◌, ℕ, Bool, false, if◌then◌else◌, List, [], ◌∷◌, ◌++◌, length, map, reverse, All, IsSome, Option, None, Some}
 use Rattle.std.specs.List.{filter_map}
-use Rattle.search_graph.specs.Below.{IsTrueReason, StackDepth, PathKind, at_depth, highest, IsRising, heads_shape, rank_of, NodeId, Request, Reply, EvaluationResult, StackEntry, ProvisionalCacheEntry, RebaseReason, CacheNode, path_kind_from, IsDefinite, Lists, entries_at, HasNoRank, rebased, changed_for, verdict_of, Run, Verdicts}
-use Rattle.search_graph.specs.Justified.{OpenRun, frame_of}
-use Rattle.search_graph.specs.ProvisionalAnswers.{ProvisionalAnswer, IsReusable}
-use Rattle.search_graph.specs.EntryShapes.{highest_depth, reason_shape}
+use Rattle.search_graph.specs.Below.{IsTrueReason, StackDepth, PathKind, at_depth, highest, IsRising, stack_of, NodeId, Request, Reply, EvaluationResult, StackEntry, ProvisionalCacheEntry, RebaseReason, CacheNode, HasNode, shapes_of, path_kind_from, IsDefinite, Lists, entries_at, HasNoRank, rebased, changed_for, verdict_of, Run, Verdicts}
+use Rattle.search_graph.specs.Justified.{OpenRun, frame_of, frames_of}
+use Rattle.search_graph.specs.EntryShapes.{entry_shape, HoldsOver, reason_shape}
 use Rattle.search_graph.specs.Runs.{run_of}
 use Rattle.search_graph.specs.Tallies.{counted}
 
@@ -14,17 +13,21 @@ IsHead [] head = ⊥
 IsHead (o ∷ below) head = IsSome (counted (length below) o.tally head) ⊎ IsHead below head
 
 module _ {X I R A T : Type 0} where
-  -- an entry as an answer that is kept
-  abbrev pub answer_of_entry : ProvisionalCacheEntry X I R A T → ProvisionalAnswer R
-  answer_of_entry entry = record { result = entry.result; target = entry.node; highest = highest_depth entry.heads; path = rank_of entry.path_from_head; heads = heads_shape entry.heads }
+  -- A definite entry has a node of the goal, by which it may be used over these goals.
+  abbrev pub IsReusable : Verdicts R → List (CacheNode I R) → List (OpenRun I R) → I → ProvisionalCacheEntry X I R A T → Type 0
+  IsReusable says nodes goals goal entry = HasNode says nodes (λ verdict n. HoldsOver (shapes_of says nodes) (stack_of (frames_of says goals)) (entry_shape says entry n)) goal entry.result entry.node
 
-  -- The entry may be used for the goal: it is kept over these goals, by their heads, and the goal is in a cycle, so it has no rank.
-  pub record IsReady (says : Verdicts R) (scripts : I → List (Reply R) → Request I R) (nodes : List (CacheNode I R)) (goals : List (OpenRun I R)) (goal : I) (entry : ProvisionalCacheEntry X I R A T) : Type 0 where
-    pub kept : IsReusable says nodes goals goal (answer_of_entry entry)
+  -- The entry may be used for the goal, and rests on heads, all of which are of this kind. The goal is in a cycle, so it has no rank.
+  pub record RestsOn (says : Verdicts R) (scripts : I → List (Reply R) → Request I R) (nodes : List (CacheNode I R)) (goals : List (OpenRun I R)) (is_head : StackDepth → Type 0) (goal : I) (entry : ProvisionalCacheEntry X I R A T) : Type 0 where
+    pub reusable : IsReusable says nodes goals goal entry
     pub some : entry.heads ≢ []
     pub rising : IsRising entry.heads
-    pub are_heads : (head : StackDepth) → IsSome (at_depth entry.heads head) → IsHead goals head
+    pub are_heads : (head : StackDepth) → IsSome (at_depth entry.heads head) → is_head head
     pub no_rank : HasNoRank scripts goal
+
+  -- the entry rests on heads of these goals
+  abbrev pub IsReady : Verdicts R → (I → List (Reply R) → Request I R) → List (CacheNode I R) → List (OpenRun I R) → I → ProvisionalCacheEntry X I R A T → Type 0
+  IsReady says scripts nodes goals = RestsOn says scripts nodes goals (IsHead goals)
 
   -- each entry may be used for its goal
   abbrev pub AreReady : (says : Verdicts R) → (I → I → Bool) → (I → List (Reply R) → Request I R) → List (CacheNode I R) → List (OpenRun I R) → Lists I (ProvisionalCacheEntry X I R A T) → Type 0
@@ -38,7 +41,7 @@ module _ {X I R A T : Type 0} where
   abbrev pub EntriesDefinite : (says : Verdicts R) → (I → I → Bool) → Lists I (ProvisionalCacheEntry X I R A T) → Type 0
   EntriesDefinite says same lists = (goal : I) → All (λ entry. IsDefinite says entry.result) (entries_at same lists goal)
 
-  -- the entries of a goal, once a goal is done that is taken from above the stack: where it was used as a head, the reason tells how they
+  -- the entries of a goal, once a goal is done that is popped from above the stack: where it was used as a head, the reason tells how they
   -- are rebased
   abbrev pub rebased_for : (A → R) → R → Option (RebaseReason X I R A T) → List (StackEntry X I R A T) → StackEntry X I R A T → List (ProvisionalCacheEntry X I R A T) → List (ProvisionalCacheEntry X I R A T)
   rebased_for propagated overflow None stack done entries = entries
@@ -73,8 +76,8 @@ module _ {X I R A T : Type 0} where
       node = node;
     }
 
-    -- The newest goal was taken with this result: the entries that rest on it are rebased for the reason, and its own answer is kept, if it
-    -- rests on a goal below, and if answers are kept at all.
+    -- The newest goal was popped with this result: the entries that rest on it are rebased for the reason, and its own answer is an
+    -- entry, if it rests on a goal below, and if the delegate lets such entries be used.
     pub record RebasesEntries (same : I → I → Bool) (enabled : Bool) (propagated : I → A → R) (overflow : I → R) (reason : Option (RebaseReason X I R A T)) (r : R) (s : StackEntry X I R A T × Run X F I R A T) (below : List (StackEntry X I R A T × Run X F I R A T)) (old new : Lists I (ProvisionalCacheEntry X I R A T)) : Type 0 where
       pub node : Option NodeId
       pub entries :

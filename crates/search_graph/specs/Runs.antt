@@ -1,5 +1,5 @@
 -- The goals under evaluation as runs with nodes, and what becomes of a run that is done.
-use Rattle.std.specs.Prelude.{◌≡◌, ◌≢◌, Bool, List, [], ◌∷◌, map, Option, None, Some}
+use Rattle.std.specs.Prelude.{◌≡◌, ◌≢◌, List, [], ◌∷◌, map, Option, None, Some}
 use Rattle.std.specs.Option.{option_map}
 use Rattle.open_graphs.specs.Graph as theory
 use Rattle.search_graph.specs.Below.{NodeId, Request, Done, Reply, StackEntry, IsFitting, request_after, EndedRun, CacheNode, open_goal, with_run, verdict_of, Run, Next, Step, Finished, RunRecord, Records, acted, HasGraph, Verdicts}

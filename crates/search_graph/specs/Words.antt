@@ -8,14 +8,12 @@ pub use Rattle.search_graph.specs.Graph.{ComesTo, Graph, IsCaused, IsProved, IsR
 pub use Rattle.search_graph.specs.Justified.{AreCharged, AreEdges, AreJustified, AreOpen, AreSupported, asked_now}
 pub use Rattle.search_graph.specs.Justified.{NewestAsks, frame_of, frames_of, HasTally, HaveTallies, verdict_shape, IsFit}
 pub use Rattle.search_graph.specs.Justified.{cycles_node, MayAnswer, OpenRun}
-pub use Rattle.search_graph.specs.ProvisionalAnswers.{IsReusable, ProvisionalAnswer}
-pub use Rattle.search_graph.specs.EntryShapes.{depths_of, highest_depth, entry_shape, reason_shape}
+pub use Rattle.search_graph.specs.EntryShapes.{depths_of, highest_depth, entry_shape, HoldsOver, reason_shape}
 pub use Rattle.search_graph.specs.Lists.{frames_for, HadCause, HasAnswer}
 pub use Rattle.search_graph.specs.LookUp.{AreOnStack, Asking, could_be_used, is_applicable, IsUsable, usable_entry, meets_entry}
 pub use Rattle.search_graph.specs.LookUp.{UsesStored}
 pub use Rattle.search_graph.specs.Moves.{CanLeave, ClosesCycle, first_run, GivesAnswer, IsFresh, NewestLeaves, Pushes, Reruns}
-pub use Rattle.search_graph.specs.Provisional.{AreReady, final_answer, HasReason, IsHead, IsNewestUnranked, IsReady}
-pub use Rattle.search_graph.specs.Provisional.{answer_of_entry, entries_for, rebased_for, RebasesEntries, RebasesNewest}
+pub use Rattle.search_graph.specs.Provisional.{AreReady, entries_for, final_answer, HasReason, IsHead, IsNewestUnranked, IsReady, IsReusable, rebased_for, RebasesEntries, RebasesNewest, RestsOn}
 pub use Rattle.search_graph.specs.Results.{AreDefinite, HaveNoOverflow, IsNewestPlainTo, IsNewestStored, IsStoredAt, MayPut}
 pub use Rattle.search_graph.specs.Results.{MayPutNewest, NewestComesTo, NewestIsPlain, place_of_item, Put, Same}
 pub use Rattle.search_graph.specs.Results.{StoresAnswer, WithResult}

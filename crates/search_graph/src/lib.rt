@@ -11,7 +11,7 @@
 //! | `Tallies` | what goals count, and their candidates of that |
 //! | `EndOfRun`, `Runs` | what becomes of a goal whose run has ended, and of its node |
 //! | `Justified`, `Free` | why each definite answer is right; answers that rest on no goal under evaluation |
-//! | `ProvisionalAnswers`, `EntryShapes`, `Provisional` | answers that rest on such goals: why each may be used, and what becomes of them |
+//! | `EntryShapes`, `Provisional` | provisional entries: why each may be used, and what becomes of them |
 //! | `Decided` | goals whose answers are all yes or no |
 #![tactic(auto)]
 

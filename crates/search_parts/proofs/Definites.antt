@@ -1,11 +1,11 @@
 -- Definite results keep their graphs while the list of nodes grows, and show what they say.
-use Rattle.std.proofs.Common.{◌≡◌, ◌≢◌, zero, Bool, true, false, if◌then◌else◌, List, Option, None, Some, option_map, inl, inr, refl, sym, ap, ◌∙◌, subst}
+use Rattle.std.proofs.Common.{ap, Bool, false, if◌then◌else◌, inl, inr, List, None, Option, option_map, refl, Some, subst, sym, true, zero, ℕ, ◌∙◌, ◌≡◌, ◌≢◌}
 use Rattle.std.specs.Option.{IfSome, IsSomeAnd}
 use Rattle.open_graphs.specs.Graph as theory
 use Rattle.open_graphs.proofs.Closed.{growth_keeps_graph}
 use Rattle.open_graphs.proofs.States.{verdict_cases}
 use Rattle.open_graphs.proofs.Verdicts.{edges_of}
-use Rattle.search_parts.specs.Words.{NodeId, Request, Reply, IsProofGraph, IsRefutationGraph, Question, CacheNode, IsNodeOf, KeepsGoals, KeepsFinished, AreRuns, graph_nodes_of, verdict_of, shapes_of, HasGraph, IsWhole, Verdicts}
+use Rattle.search_parts.specs.Words.{NodeId, Request, Reply, IsProofGraph, IsRefutationGraph, Question, CacheNode, IsNodeOf, KeepsGoals, KeepsFinished, AreRuns, graph_nodes_of, verdict_of, shapes_of, HasNode, HasGraph, IsDefinite, IsWhole, Verdicts}
 use Rattle.search_parts.proofs.Finished.{finished_stays, Grown-finished}
 use Rattle.search_parts.specs.Below.{PathKind, Coinductive, Inductive}
 use Rattle.search_parts.specs.Graph.{IsGraph}
@@ -16,30 +16,30 @@ IsSomeAnd-weaker P Q more None h = absurd h
 IsSomeAnd-weaker P Q more (Some x) h = more x h
 
 module _ {I R : Type 0} (says : Verdicts R) where
-  pub HasGraph-kept : (old new : List (CacheNode I R)) → KeepsGoals old new → theory.Grown (shapes_of says old) (shapes_of says new) → (goal : I) (r : R) (node : Option NodeId) → HasGraph says old goal r node → HasGraph says new goal r node
-  HasGraph-kept old new goals grown goal r node h = record {
+  -- a result has its node still where each node that it may have keeps the goal and the property
+  pub HasNode-kept : (old new : List (CacheNode I R)) (was is : theory.Verdict → ℕ → Type 0) (goal : I) (r : R) (node : Option NodeId) → (IsDefinite says r → (n : ℕ) → IsNodeOf old n goal → was (verdict_of says r) n → IsNodeOf new n goal × is (verdict_of says r) n) → HasNode says old was goal r node → HasNode says new is goal r node
+  HasNode-kept old new was is goal r node kept h = record {
     definite = λ definite.
-        IsSomeAnd-weaker (λ n. IsNodeOf old n.0 goal × theory.IsClosedGraph (shapes_of says old) (verdict_of says r) n.0)
-        (λ n. IsNodeOf new n.0 goal × theory.IsClosedGraph (shapes_of says new) (verdict_of says r) n.0)
-        (λ n g. (goals n.0 goal g.0, growth_keeps_graph (shapes_of says old) (shapes_of says new) (verdict_of says r) n.0 grown g.1))
-        node (h.definite definite);
+        IsSomeAnd-weaker (λ n. IsNodeOf old n.0 goal × was (verdict_of says r) n.0)
+        (λ n. IsNodeOf new n.0 goal × is (verdict_of says r) n.0)
+        (λ n both. kept definite n.0 both.0 both.1) node (h.definite definite);
     neither = h.neither;
   }
 
+  pub HasGraph-kept : (old new : List (CacheNode I R)) → KeepsGoals old new → theory.Grown (shapes_of says old) (shapes_of says new) → (goal : I) (r : R) (node : Option NodeId) → HasGraph says old goal r node → HasGraph says new goal r node
+  HasGraph-kept old new goals grown goal r node =
+      HasNode-kept old new (theory.IsClosedGraph (shapes_of says old)) (theory.IsClosedGraph (shapes_of says new)) goal r node
+      (λ definite n of_goal graph. (goals n goal of_goal, growth_keeps_graph (shapes_of says old) (shapes_of says new) (verdict_of says r) n grown graph))
+
   -- all that a graph reaches is finished, so it needs no other node
   pub HasGraph-finished : (old new : List (CacheNode I R)) → KeepsFinished old new → (goal : I) (r : R) (node : Option NodeId) → HasGraph says old goal r node → HasGraph says new goal r node
-  HasGraph-finished old new kept goal r node h = record {
-    definite = λ definite.
-        IsSomeAnd-weaker (λ n. IsNodeOf old n.0 goal × theory.IsClosedGraph (shapes_of says old) (verdict_of says r) n.0)
-        (λ n. IsNodeOf new n.0 goal × theory.IsClosedGraph (shapes_of says new) (verdict_of says r) n.0)
-        (λ n g.
-        let root = edges_of (shapes_of says old) (verdict_of says r) n.0 (g.1.finished n.0 zero theory.stay) in (
-          ap (option_map (λ m. m.goal)) (finished_stays says old new kept n.0 (verdict_of says r) root.0 root.1) ∙ g.0,
-          growth_keeps_graph (shapes_of says old) (shapes_of says new) (verdict_of says r) n.0 (Grown-finished says old new kept) g.1,
-        ))
-        node (h.definite definite);
-    neither = h.neither;
-  }
+  HasGraph-finished old new kept goal r node =
+      HasNode-kept old new (theory.IsClosedGraph (shapes_of says old)) (theory.IsClosedGraph (shapes_of says new)) goal r node
+      (λ definite n of_goal graph.
+      let root = edges_of (shapes_of says old) (verdict_of says r) n (graph.finished n zero theory.stay) in (
+        ap (option_map (λ m. m.goal)) (finished_stays says old new kept n (verdict_of says r) root.0 root.1) ∙ of_goal,
+        growth_keeps_graph (shapes_of says old) (shapes_of says new) (verdict_of says r) n (Grown-finished says old new kept) graph,
+      ))
 
 pub yes_verdict : (y n : Bool) → y ≡ true → (if y then theory.Yes else if n then theory.No else theory.Neither) ≡ theory.Yes
 yes_verdict true n e = refl

@@ -3,7 +3,7 @@ pub use Rattle.search_parts.specs.Cache.{AreRuns, Cache, CacheNode, CanFinish, e
 pub use Rattle.search_parts.specs.Cache.{graph_node_of, graph_nodes_of, IsNodeOf, IsRun, KeepsFinished, KeepsGoals}
 pub use Rattle.search_parts.specs.Cache.{KeepsNodes, open_goal, open_node, with_run}
 pub use Rattle.search_parts.specs.Cycle.{step_kinds_above}
-pub use Rattle.search_parts.specs.Definite.{HasNode, HasGraph}
+pub use Rattle.search_parts.specs.Definite.{HasNode, HasGraph, IsDefinite}
 pub use Rattle.search_parts.specs.Found.{ArePlaced, Finds}
 pub use Rattle.search_parts.specs.Graph.{GraphNode, HasEdge, HasGoal, IsCopy, IsProofGraph, IsReached}
 pub use Rattle.search_parts.specs.Graph.{IsRefutationGraph, IsWalk, original_edge, question_of, walk_kind}

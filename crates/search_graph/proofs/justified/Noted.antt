@@ -8,14 +8,14 @@ use Rattle.open_goals.proofs.Pairs.{is_none}
 use Rattle.search_graph.specs.Below.{DelegateOf, CxOf, NodeId, Request, Evaluate, EnterCandidate, FinishCandidate, Ignore, Done, Noted, Verdict, Neither, StoredResult, EntryState, StackEntry, CacheNode, IsReplyTo, Store, UsagesByHead, Received, Run, enters, finishes, CanIgnore, CanNote, IgnoresNewest, Ignores, NotesCandidate, is_in_cycle, IsDefinite, change_newest, RunRecord, answered, counted_by, ignored_by, received, requested, HasStepped, Stood, Verdicts, verdicts}
 use Rattle.evaluations.specs.Frames.{Frame}
 use Rattle.evaluations.proofs.Mirrors.{noted_waits}
-use Rattle.search_graph.specs.Words.{Call, limits, bound, IsCounted, IsDecided, seen, CallGoesOn, HasAsked, AreFree, OpenRun, AreJustified, IsFit, run_of, runs_of, Tally, tally_of, IsTallied}
+use Rattle.search_graph.specs.Words.{AreFree, AreJustified, bound, Call, CallGoesOn, HasAsked, IsCounted, IsDecided, IsFit, IsTallied, limits, OpenRun, run_of, runs_of, seen, Tally, tally_of}
 use Rattle.search_graph.proofs.moves.DecidedGoals.{changed_decided}
-use Rattle.search_graph.proofs.FreeResults.{all_free_above}
 use Rattle.search_graph.proofs.justified.Justified.{recounted_is_justified}
 use Rattle.search_graph.proofs.moves.Moves.{some_runs}
 use Rattle.search_graph.proofs.justified.Replies.{replied_is_justified}
 use Rattle.search_graph.proofs.counts.IgnoredTallies.{can_ignore, ignored_keeps, ignored_tallied}
-use Rattle.search_graph.proofs.counts.Tallies.{IsRegrouped, entered_regroups, finished_regroups, regrouped_keeps, regrouped_tallied}
+use Rattle.search_graph.proofs.counts.Tallies.{entered_regroups, finished_regroups, IsRegrouped, regrouped_keeps, regrouped_tallied}
+use Rattle.search_graph.proofs.answers.Free.{all_free_above}
 
 -- ---- flags and candidates
 

@@ -9,7 +9,7 @@ use Rattle.search_graph.proofs.moves.Loops.{done_leads, next_before, step_asks_f
 use Rattle.search_graph.proofs.moves.Moves.{asked_stopped, can_step}
 use Rattle.search_graph.proofs.justified.Noted.{about_candidates, can_note, noted_is_justified, noting_goes_on, noting_keeps_free}
 use Rattle.search_graph.proofs.moves.Questions.{if_err_and}
-use Rattle.search_graph.proofs.ReadyMoves.{noted_ready, stepped_ready}
+use Rattle.search_graph.proofs.entries.Moves.{noted_ready, stepped_ready}
 use Rattle.search_graph.proofs.graph.evaluation.Evaluation.advance.Goals as goal
 
 pub step-requires : goal.step-requires

@@ -1,7 +1,7 @@
 use Rattle.std.proofs.Common.{◌≡◌, ◌∙◌, ◌∷◌, [], false, Some, get_or, map, reverse, unwrap_or, ap, sym, subst}
 use Rattle.std.proofs.lemmas.Option.{slice_get-get_or}
 use Rattle.search_graph.specs.Below.{cycle_head, AnswersNewest, Answer, path_kind_from}
-use Rattle.search_graph.proofs.CycleAnswers.{found_goal}
+use Rattle.search_graph.proofs.answers.Cycles.{found_goal}
 use Rattle.search_graph.proofs.graph.evaluation.Evaluation.answer_cycle.Goals as goal
 
 pub returns-clause-answered : goal.returns-clause-answered

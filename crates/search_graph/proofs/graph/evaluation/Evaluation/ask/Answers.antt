@@ -4,7 +4,7 @@ use Rattle.search_graph.specs.Below.{Answer, Begin, first_accepted, usable, hit_
 use Rattle.search_graph.specs.Words.{AreOnStack, Asked, Refused, ByEntry, ByStored, OverCycle, Pushed, is_applicable, usable_entry, ClosesCycle}
 use Rattle.search_graph.proofs.Asking.{push_stops}
 use Rattle.search_graph.proofs.moves.Questions.{asked_depth_fits, if_err, if_ok_then, none_of}
-use Rattle.search_graph.proofs.Ready.{are_on_stack}
+use Rattle.search_graph.proofs.entries.Ready.{are_on_stack}
 use Rattle.search_graph.proofs.graph.evaluation.Evaluation.ask.Goals as goal
 
 -- the question is refused

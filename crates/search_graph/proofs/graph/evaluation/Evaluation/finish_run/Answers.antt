@@ -1,4 +1,4 @@
-use Rattle.search_graph.proofs.EntriesSaid.{done_keeps, end_leaves, met_keeps_answers, rerun_keeps}
+use Rattle.search_graph.proofs.entries.Said.{done_keeps, end_leaves, met_keeps_answers, rerun_keeps}
 use Rattle.std.proofs.Common.{rules, Err, refl, sym, ap, ap₂, subst, ◌∙◌}
 use Rattle.search_graph.specs.Below.{Memory, Step, verdict_of, verdicts}
 use Rattle.search_graph.specs.Words.{CallGoesOn, KeepsAnswers, KeepsStore, LeadsTo, StopsWith}

@@ -2,9 +2,9 @@ use Rattle.std.proofs.Common.{List, [], ◌∷◌, length, map, reverse, All, �
 use Rattle.std.specs.Option.{IfSome}
 use Rattle.search_graph.specs.Below.{highest, StackEntry, ProvisionalCacheEntry, entries_at, EvaluationResult, HasGraph, place_of, KeepsResults, IsPlainAt, KeepsFinished, IsPlainTo, verdicts}
 use Rattle.search_graph.specs.Words.{AreJustified, HaveTallies, AreReady, HasReason, IsNewestUnranked, RebasesNewest, final_answer, AreFree, ComesTo, IsNewestPlainTo, IsNewestStored, IsStoredAt, NewestComesTo, NewestIsPlain, StoresAnswer, GivesAnswer, runs_of, IsJustifiedNext, Pops}
-use Rattle.search_graph.proofs.Ready.{are_within, heads_on_stack, on_stack_many}
-use Rattle.search_graph.proofs.ReadyPops.{rebased_ready}
-use Rattle.search_graph.proofs.RebasedEntries.{entries_rebased, highest_stays}
+use Rattle.search_graph.proofs.entries.Ready.{are_within, heads_on_stack, on_stack_many}
+use Rattle.search_graph.proofs.entries.Pops.{rebased_ready}
+use Rattle.search_graph.proofs.rebasing.Lists.{entries_rebased, highest_stays}
 use Rattle.search_graph.proofs.DoneGoals.{given_free, given_justified, given_leaves, newest_stored}
 use Rattle.search_graph.proofs.justified.Finishing.{neither_is, rebases}
 use Rattle.search_graph.proofs.moves.Questions.{if_err_and}

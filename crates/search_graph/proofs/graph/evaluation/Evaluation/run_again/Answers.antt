@@ -2,7 +2,7 @@ use Rattle.std.proofs.Common.{◌-◌, length, ◌++◌, ◌∷◌, [], ◌≤�
 use Rattle.search_graph.specs.Below.{open_node, rerun_with, change_newest, verdicts}
 use Rattle.search_parts.proofs.Finished.{KeepsFinished-nodes, KeepsFinished-then}
 use Rattle.search_graph.specs.Words.{AreFree, AreJustified, runs_of, AreReady}
-use Rattle.search_graph.proofs.ReadyReruns.{cleared_at, rerun_ready}
+use Rattle.search_graph.proofs.entries.Reruns.{cleared_at, rerun_ready}
 use Rattle.search_graph.proofs.FinishedRuns.{taken_from, taken_ends, rerun_free, rerun_justified, reran}
 use Rattle.search_graph.proofs.graph.evaluation.Evaluation.run_again.Goals as goal
 

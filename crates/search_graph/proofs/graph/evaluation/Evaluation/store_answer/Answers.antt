@@ -1,4 +1,4 @@
-use Rattle.search_graph.proofs.RebasedEntries.{headless}
+use Rattle.search_graph.proofs.rebasing.Lists.{headless}
 use Rattle.search_graph.proofs.graph.evaluation.Evaluation.store_answer.Goals as goal
 
 pub store_for_good-requires-clause-no_heads : goal.store_for_good-requires-clause-no_heads

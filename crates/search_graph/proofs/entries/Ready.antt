@@ -5,8 +5,10 @@ use Rattle.std.proofs.lemmas.Bool.{cases_eq, false≢true}
 use Rattle.std.proofs.lemmas.List.{length-map, length-reverse}
 use Rattle.std.proofs.lemmas.List.Elements.{All-cons, All-nil, All-weaker}
 use Rattle.search_graph.specs.Below.{StackDepth, CycleHead, Heads, at_depth, highest, Request, Reply, StackEntry, ProvisionalCacheEntry, CacheNode, Lists, entries_at, Run, Verdicts}
-use Rattle.search_graph.specs.Words.{OpenRun, HaveTallies, ProvisionalAnswer, IsReusable, AreOnStack, IsHead, IsReady, AreReady, runs_of, run_of, Tally, counted, LieBelow}
+use Rattle.search_graph.specs.Words.{OpenRun, HaveTallies, IsReusable, AreOnStack, IsHead, IsReady, AreReady, RestsOn, runs_of, run_of, Tally, counted, LieBelow}
 use Rattle.search_graph.proofs.HeadOrder.{ascends, at_here, at_later, highest_there}
+use Rattle.search_graph.proofs.answers.Kept.{KeepsUses}
+use Rattle.search_graph.proofs.entries.Reusable.{reusable_kept}
 
 -- ---- heads by their depths
 
@@ -88,18 +90,23 @@ module _ {X F I R A T : Type 0} where
 
 -- ---- from goals to goals
 
+module _ {X I R A T : Type 0} (says : Verdicts R) (scripts : I → List (Reply R) → Request I R) where
+  -- an entry stays ready where it is reusable still, and its heads are heads
+  pub RestsOn-kept : (nodes after : List (CacheNode I R)) (goals later : List (OpenRun I R)) (is_head later_head : StackDepth → Type 0) (goal : I) (entry : ProvisionalCacheEntry X I R A T) → (IsReusable says nodes goals goal entry → IsReusable says after later goal entry) → ((head : StackDepth) → IsSome (at_depth entry.heads head) → is_head head → later_head head) → RestsOn says scripts nodes goals is_head goal entry → RestsOn says scripts after later later_head goal entry
+  RestsOn-kept nodes after goals later is_head later_head goal entry reusable heads one = record {
+    reusable = reusable one.reusable;
+    some = one.some;
+    rising = one.rising;
+    are_heads = λ head some. heads head some (one.are_heads head some);
+    no_rank = one.no_rank;
+  }
+
 module _ {X I R A T : Type 0} (says : Verdicts R) (same : I → I → Bool) (scripts : I → List (Reply R) → Request I R) where
-  -- what keeps each answer and each head keeps all entries ready
-  pub all_ready_carried : (nodes after : List (CacheNode I R)) (goals later : List (OpenRun I R)) (lists : Lists I (ProvisionalCacheEntry X I R A T)) → ((goal : I) (k : ProvisionalAnswer R) → IsReusable says nodes goals goal k → IsReusable says after later goal k) → ((head : StackDepth) → IsHead goals head → IsHead later head) → AreReady says same scripts nodes goals lists → AreReady says same scripts after later lists
-  all_ready_carried nodes after goals later lists kept heads ready = λ goal.
+  -- a move keeps all answers and heads
+  pub uses_kept_ready : (nodes after : List (CacheNode I R)) (goals later : List (OpenRun I R)) (lists : Lists I (ProvisionalCacheEntry X I R A T)) → KeepsUses says nodes after goals later → AreReady says same scripts nodes goals lists → AreReady says same scripts after later lists
+  uses_kept_ready nodes after goals later lists keeps ready = λ goal.
       All-weaker (IsReady says scripts nodes goals goal) (IsReady says scripts after later goal)
-      (λ entry one. record {
-        kept = kept goal _ one.kept;
-        some = one.some;
-        rising = one.rising;
-        are_heads = λ head some. heads head (one.are_heads head some);
-        no_rank = one.no_rank;
-      })
+      (λ entry. RestsOn-kept says scripts nodes after goals later (IsHead goals) (IsHead later) goal entry (reusable_kept says nodes after goals later keeps goal entry) (λ head some. keeps.heads head))
       (entries_at same lists goal) (ready goal)
 
   -- without entries there is nothing to show

@@ -1,15 +1,15 @@
--- The heads of an answer that is left once the newest goal was taken: those of the goals below, and those of that goal, which the goal
+-- The heads of an entry that is left once the newest goal was popped: those of the goals below, and those of that goal, which the goal
 -- below it takes over.
 use Rattle.std.proofs.Common.{◌≡◌, ◌≢◌, ℕ, Bool, List, [], ◌∷◌, length, IsSome, refl, sym, subst, ◌⊎◌, inl, inr, arith}
 use Rattle.std.proofs.lemmas.List.{length-map}
-use Rattle.search_graph.specs.Below.{StackDepth, PathKind, Heads, at_depth, IsRising, Request, Reply, StackEntry, EvaluationResult, ProvisionalCacheEntry, CacheNode, HasNoRank, Run, Next, with_depth, with_nested_goals, AnswersNewest, Verdicts}
-use Rattle.search_graph.specs.Words.{OpenRun, HaveTallies, IsReusable, GivesAnswer, IsHead, IsReady, answer_of_entry, run_of, runs_of, LieBelow, counted, tally_of}
+use Rattle.search_graph.specs.Below.{StackDepth, PathKind, Heads, at_depth, Request, Reply, StackEntry, EvaluationResult, ProvisionalCacheEntry, CacheNode, Run, Next, with_depth, with_nested_goals, AnswersNewest, Verdicts}
+use Rattle.search_graph.specs.Words.{OpenRun, HaveTallies, GivesAnswer, IsHead, IsReady, RestsOn, run_of, runs_of, LieBelow, counted, tally_of}
 use Rattle.search_graph.proofs.HeadOrder.{at_here}
-use Rattle.search_graph.proofs.ProvisionalMoves.{reusable_beside}
-use Rattle.search_graph.proofs.Ready.{is_below}
-use Rattle.search_graph.proofs.ReadyMoves.{some_of_usages}
 use Rattle.search_graph.proofs.counts.Tallies.{counted_other, counted_own}
 use Rattle.search_graph.proofs.counts.TakenTallies.{counted_has}
+use Rattle.search_graph.proofs.answers.Kept.{some_of_usages, taken_keeps}
+use Rattle.search_graph.proofs.entries.Ready.{is_below, RestsOn-kept}
+use Rattle.search_graph.proofs.entries.Reusable.{reusable_kept}
 
 -- ---- heads of goals
 
@@ -42,25 +42,18 @@ first_head : (heads : Heads) → heads ≢ [] → (head : StackDepth) × IsSome 
 first_head [] some = absurd (some refl)
 first_head (e ∷ es) some = (e.0, subst IsSome (sym (at_here e es e.0 refl)) refl)
 
--- ---- answers that are left
+-- ---- entries that are left
 
--- The entry is kept over these goals, and each of its heads is one of theirs or of a goal that was above them.
-pub record IsLeftOver {X I R A T : Type 0} (says : Verdicts R) (scripts : I → List (Reply R) → Request I R) (nodes : List (CacheNode I R)) (goals : List (OpenRun I R)) (heads : Heads) (goal : I) (entry : ProvisionalCacheEntry X I R A T) : Type 0 where
-  pub kept : IsReusable says nodes goals goal (answer_of_entry entry)
-  pub some : entry.heads ≢ []
-  pub rising : IsRising entry.heads
-  pub are_heads : (head : StackDepth) → IsSome (at_depth entry.heads head) → IsHead goals head ⊎ IsSome (at_depth heads head)
-  pub no_rank : HasNoRank scripts goal
+-- the entry may be used over these goals, and each of its heads is one of theirs or of a goal that was above them
+abbrev pub IsLeftOver : {X I R A T : Type 0} → Verdicts R → (I → List (Reply R) → Request I R) → List (CacheNode I R) → List (OpenRun I R) → Heads → I → ProvisionalCacheEntry X I R A T → Type 0
+IsLeftOver says scripts nodes goals heads = RestsOn says scripts nodes goals (λ head. IsHead goals head ⊎ IsSome (at_depth heads head))
 
 -- such an entry may be used once the answer with those heads was given
 pub left_over_ready : {X F I R A T : Type 0} (says : Verdicts R) (scripts : I → List (Reply R) → Request I R) (nodes : List (CacheNode I R)) (step : PathKind) (answer : EvaluationResult X I R A T) (below later : List (StackEntry X I R A T × Run X F I R A T)) (next : Next R) → LieBelow (length below) answer.heads → GivesAnswer step answer below next later → (goal : I) (entry : ProvisionalCacheEntry X I R A T) → IsLeftOver says scripts nodes (runs_of below) answer.heads goal entry → IsReady says scripts nodes (runs_of later) goal entry
 left_over_ready says scripts nodes step answer [] later next lower given goal entry left =
     let first = first_head entry.heads left.some in
     absurd (elim (left.are_heads first.0 first.1) [ inl none ↦ none | inr own ↦ (let limit = lower first.0 own in omega (arith, limit)) ])
-left_over_ready says scripts nodes step answer (p ∷ below) later next lower given goal entry left = record {
-  kept = reusable_beside says nodes (p ∷ below) later step answer.required_depth answer.encountered_overflow answer.heads given.1 goal (answer_of_entry entry) left.kept;
-  some = left.some;
-  rising = left.rising;
-  are_heads = λ head there. heads_taken step answer.required_depth answer.encountered_overflow answer.heads (p ∷ below) later given.1 head (left.are_heads head there);
-  no_rank = left.no_rank;
-}
+left_over_ready says scripts nodes step answer (p ∷ below) later next lower given goal entry left =
+    RestsOn-kept says scripts nodes nodes (runs_of (p ∷ below)) (runs_of later) (λ head. IsHead (runs_of (p ∷ below)) head ⊎ IsSome (at_depth answer.heads head)) (IsHead (runs_of later)) goal entry
+    (reusable_kept says nodes nodes (runs_of (p ∷ below)) (runs_of later) (taken_keeps says nodes (p ∷ below) later step answer.required_depth answer.encountered_overflow answer.heads given.1) goal entry)
+    (λ head some. heads_taken step answer.required_depth answer.encountered_overflow answer.heads (p ∷ below) later given.1 head) left

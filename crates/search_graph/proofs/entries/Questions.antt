@@ -5,12 +5,14 @@ use Rattle.std.specs.Option.{option_map, unwrap_or}
 use Rattle.std.proofs.lemmas.Bool.Decides.{nat_tests}
 use Rattle.std.proofs.lemmas.List.{length-map}
 use Rattle.std.proofs.lemmas.List.Elements.{All-head, All-tail}
-use Rattle.search_graph.specs.Below.{StackDepth, CycleHead, PathKind, highest, rank_of, Request, Reply, Answer, StackEntry, ProvisionalCacheEntry, CacheNode, path_kind_from, entries_at, asking_heads, has_head_up_to, may_be_used, Run, AnswersNewest, Verdicts}
-use Rattle.search_graph.specs.Words.{NewestAsks, AreJustified, IsFit, highest_depth, Asking, usable_entry, answer_of_entry, IsReady, run_of, runs_of, LieBelow}
-use Rattle.search_graph.proofs.CycleAnswers.{path_kind_is}
+use Rattle.search_graph.specs.Below.{Answer, AnswersNewest, asking_heads, CacheNode, CycleHead, entries_at, has_head_up_to, highest, may_be_used, path_kind, path_kind_from, PathKind, ProvisionalCacheEntry, rank_of, Reply, Request, Run, stack_of, StackDepth, StackEntry, Verdicts}
+use Rattle.search_graph.specs.Words.{AreJustified, Asking, frames_of, highest_depth, IsFit, IsReady, IsReusable, LieBelow, NewestAsks, run_of, runs_of, usable_entry}
 use Rattle.search_graph.proofs.justified.Finishing.{answered_newest_is_justified}
-use Rattle.search_graph.proofs.ProvisionalMoves.{reusable_fits}
-use Rattle.search_graph.proofs.Ready.{is_below}
+use Rattle.search_graph.proofs.answers.Cycles.{path_kind_is}
+use Rattle.search_graph.proofs.answers.Kept.{taken_keeps, taken_run}
+use Rattle.search_graph.proofs.entries.Ready.{is_below}
+use Rattle.search_graph.proofs.entries.Reusable.{reusable_answers, reusable_kept}
+use Rattle.search_graph.proofs.answers.Taken.{later_run, taken_fits, takes_in}
 
 -- ---- the entry that a look-up finds
 
@@ -76,5 +78,11 @@ module _ {X F I R A T : Type 0} (says : Verdicts R) (scripts : I → List (Reply
   -- and the answer fits its question
   pub entry_fits : NewestAsks (runs_of old) step goal → rank_of (path_kind_from (reverse (map (λ s. s.0) old)) (highest_depth entry.heads) step) ≡ rank_of entry.path_from_head → IsFit says nodes (runs_of new) (Answer entry.result) entry.node
   entry_fits asks path =
-      reusable_fits says nodes old new step 0 entry.encountered_overflow entry.heads a h heads_lower goal asks (answer_of_entry entry) refl
-      (sym (path_kind_is says step (highest_depth entry.heads) old) ∙ path) ready.kept
+      let later = later_run says nodes old new step 0 entry.encountered_overflow entry.heads a in
+      taken_fits says nodes old new step 0 entry.encountered_overflow entry.heads a entry.result goal entry.node asks
+      (reusable_answers says nodes later (runs_of a.below) goal entry step
+      (ap (λ l. path_kind (stack_of (frames_of says (runs_of l))) (rank_of step) (highest_depth entry.heads)) (sym a.was) ∙ sym (path_kind_is says step (highest_depth entry.heads) old) ∙ path)
+      (takes_in says nodes old new step 0 entry.encountered_overflow entry.heads a heads_lower h)
+      (subst (λ o. IsReusable says nodes (o ∷ runs_of a.below) goal entry) (taken_run says nodes old new step 0 entry.encountered_overflow entry.heads a)
+      (subst (λ l. IsReusable says nodes (runs_of l) goal entry) a.is
+      (reusable_kept says nodes nodes (runs_of old) (runs_of new) (taken_keeps says nodes old new step 0 entry.encountered_overflow entry.heads a) goal entry ready.reusable))))

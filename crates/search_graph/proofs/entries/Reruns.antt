@@ -1,4 +1,4 @@
--- The entries of the provisional cache that are left when the newest goal is run again may be used over the goals then.
+-- The provisional entries that are left when the newest goal is run again may be used over the goals then.
 use Rattle.std.proofs.Common.{◌≡◌, ◌≢◌, ℕ, ◌-◌, ◌==◌, ◌≤◌, Bool, true, false, not, if◌then◌else◌, List, [], ◌∷◌, ◌++◌, length, All, Option, None, Some, IsSome, option_map, refl, sym, ap, ◌∙◌, subst, inl, inr, arith, eq-eqb}
 use Rattle.std.specs.List.{filter}
 use Rattle.std.specs.Option.{option_or}
@@ -9,11 +9,11 @@ use Rattle.search_graph.specs.Words.{OpenRun, AreJustified, IsHead, IsReady, Are
 use Rattle.search_graph.proofs.justified.Finishing.{rebases}
 use Rattle.search_graph.proofs.HeadOrder.{Ascends, ascends, at_most_highest, highest_there, no_highest, same_depth}
 use Rattle.search_graph.proofs.justified.Justified.{EndsWithNode, new_run, stack_length, tally_again}
-use Rattle.search_graph.proofs.ProvisionalAnswers.{reusable_rerun}
-use Rattle.search_graph.proofs.Ready.{is_below}
-use Rattle.search_graph.proofs.RebasedAnswers.{are_depths}
-use Rattle.search_graph.proofs.RebasedPaths.{is_zero}
-use Rattle.search_graph.proofs.FinishedRuns.{TakenFrom, again_is}
+use Rattle.search_graph.proofs.FinishedRuns.{rerun_holds, TakenFrom}
+use Rattle.search_graph.proofs.entries.Reusable.{reusable_rerun}
+use Rattle.search_graph.proofs.entries.Ready.{is_below, RestsOn-kept}
+use Rattle.search_graph.proofs.rebasing.Rule.{are_depths}
+use Rattle.search_graph.proofs.rebasing.Paths.{is_zero}
 
 -- ---- what is left records no usage of the goal
 
@@ -69,13 +69,9 @@ module _ {I R : Type 0} (says : Verdicts R) (scripts : I → List (Reply R) → 
         let lower : (depth : StackDepth) → IsSome (at_depth entry.heads depth) → depth.0 ≤ length below = λ depth some.
         let less = is_below (o ∷ below) h.tallies depth (ready.are_heads depth some) in omega (arith, less) in
         let none : UsesNo (heads_shape entry.heads) (length below) = unused_there (length below) entry.heads ready.some (ascends entry.heads ready.rising) lower unused in
-        record {
-          kept = reusable_rerun says nodes after o below h r target s own at goal _ (subst (UsesNo (heads_shape entry.heads)) (sym (stack_length says below)) none) ready.kept;
-          some = ready.some;
-          rising = ready.rising;
-          are_heads = λ head some. head_again head (ready.are_heads head some);
-          no_rank = ready.no_rank;
-        }
+        RestsOn-kept says scripts nodes (after ++ open_node o.goal ∷ []) (o ∷ below) goals_again (IsHead (o ∷ below)) (IsHead goals_again) goal entry
+        (reusable_rerun says nodes after o below h r target s own at goal entry (subst (UsesNo (heads_shape entry.heads)) (sym (stack_length says below)) none))
+        (λ head some. head_again head) ready
 
     -- and those are the ones that are left
     pub all_ready_rerun : (same : I → I → Bool) (old new : Lists I (ProvisionalCacheEntry X I R A T)) → ((goal : I) → entries_at same new goal ≡ filter (λ entry. not (depends_on (record { 0 = length below }) entry)) (entries_at same old goal)) → AreReady says same scripts nodes (o ∷ below) old → AreReady says same scripts (after ++ open_node o.goal ∷ []) (new_run o.goal o.step own (option_or target o.cycles_lead) (Some r) (tally_again o.tally) ∷ below) new
@@ -94,14 +90,7 @@ cleared_at same old new n m is left goal = subst (λ k. entries_at same new goal
 
 -- the entries that are left may be used over the items, of which the newest is run again
 pub rerun_ready : {X F I R A T : Type 0} (says : Verdicts R) (same : I → I → Bool) (scripts : I → List (Reply R) → Request I R) (lists cleared : Lists I (ProvisionalCacheEntry X I R A T)) (before after : List (CacheNode I R)) (old taken new : List (StackEntry X I R A T × Run X F I R A T)) (e : StackEntry X I R A T) (y : Run X F I R A T) (p : RunRecord I R) (r : R) (target : Option NodeId) (frame : F) (own : NodeId) → TakenFrom old e y p → taken ≡ change_newest with_no_record old → new ≡ change_newest (rerun_with r (option_or target e.state.node) frame own) taken → HasResultNode says before after e.state.provisional_result y.node e.state.node p r target → own.0 ≡ length after → AreJustified says before (runs_of old) → ((goal : I) → entries_at same cleared goal ≡ filter (λ entry. not (depends_on (record { 0 = length old - 1 }) entry)) (entries_at same lists goal)) → AreReady says same scripts before (runs_of old) lists → AreReady says same scripts (after ++ open_node e.input ∷ []) (runs_of new) cleared
-rerun_ready says same scripts lists cleared before after old taken new e y p r target frame own t is again ended at h left ready =
-    let was : AreJustified says before (runs_of ((e, t.run) ∷ t.below)) = subst (λ l. AreJustified says before (runs_of l)) t.was h in
-    let so : HasResultNode says before after e.state.provisional_result t.run.node e.state.node t.run.progress r target =
-    subst (λ n. HasResultNode says before after e.state.provisional_result n e.state.node t.run.progress r target) t.same_node
-    (subst (λ q. HasResultNode says before after e.state.provisional_result y.node e.state.node q r target) t.progress_is ended) in
-    let many : length old ≡ length ((e, t.run) ∷ t.below) = ap length t.was in
-    let place : length old - 1 ≡ length (runs_of t.below) = omega (arith, many, length-map t.below run_of) in
-    subst (λ l. AreReady says same scripts (after ++ open_node e.input ∷ []) (runs_of l) cleared) (sym (again_is old taken new e t.run t.below r (option_or target e.state.node) frame own t.was is again))
-    (all_ready_rerun says scripts before after (run_of (e, t.run)) (runs_of t.below) was r target (rebases says before after e t.run t.below was r target so) own at same lists cleared
-    (cleared_at same lists cleared (length old - 1) (length (runs_of t.below)) place left)
-    (subst (λ l. AreReady says same scripts before (runs_of l) lists) t.was ready))
+rerun_ready says same scripts lists cleared before after old taken new e y p r target frame own t is again ended at h left =
+    let place : length old - 1 ≡ length (runs_of t.below) = omega (arith, ap length t.was, length-map t.below run_of) in
+    rerun_holds says before after old taken new e y p r target frame own t is again ended at h (λ goals. AreReady says same scripts before goals lists) (λ goals. AreReady says same scripts (after ++ open_node e.input ∷ []) goals cleared)
+    (λ here s. all_ready_rerun says scripts before after (run_of (e, t.run)) (runs_of t.below) here r target s own at same lists cleared (cleared_at same lists cleared (length old - 1) (length (runs_of t.below)) place left))

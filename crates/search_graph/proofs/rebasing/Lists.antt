@@ -1,54 +1,13 @@
--- The entries once the newest goal is taken: its own answer is kept, where it rests on goals that are left.
-use Rattle.std.proofs.Common.{◌≡◌, ℕ, ◌+◌, ◌<◌, Bool, ◌&&◌, true, false, if◌then◌else◌, List, [], ◌∷◌, ◌++◌, length, map, drop, reverse, All, Option, None, Some, refl, sym, ap, ◌∙◌, subst}
+-- The provisional entries once the newest goal is popped: its own answer is one, where it rests on goals that are left.
+use Rattle.std.proofs.Common.{◌≡◌, ℕ, ◌+◌, ◌<◌, Bool, ◌&&◌, if◌then◌else◌, List, [], ◌∷◌, ◌++◌, length, map, drop, reverse, All, Option, None, Some, refl, sym, ap, ◌∙◌, subst}
 use Rattle.std.specs.Option.{option_map, IfSome}
 use Rattle.std.proofs.lemmas.Grind.{reverse_onto}
-use Rattle.std.proofs.lemmas.List.{append-nil, drop-map, map-append}
-use Rattle.search_graph.specs.Below.{StackDepth, CycleHead, PathKind, Heads, highest, greatest_kind, EvaluationResult, StackEntry, ProvisionalCacheEntry, path_kind_from, Lists, entries_at, AppendsEntry, NodeId, RebaseReason, Run, Next}
+use Rattle.std.proofs.lemmas.List.{drop-map, map-append}
+use Rattle.search_graph.specs.Below.{StackDepth, CycleHead, PathKind, Heads, highest, greatest_kind, EvaluationResult, StackEntry, ProvisionalCacheEntry, path_kind_from, Lists, entries_at, NodeId, RebaseReason, Run, Next}
 use Rattle.search_parts.proofs.RebasedHeads.{highest_within}
-use Rattle.search_graph.specs.Words.{GivesAnswer, final_answer, entries_for, rebased_for}
-use Rattle.search_graph.proofs.Ready.{on_stack_many}
+use Rattle.search_graph.specs.Words.{GivesAnswer, final_answer, entries_for, entry_of, rebased_for}
+use Rattle.search_graph.proofs.entries.Ready.{on_stack_many}
 use Rattle.search_graph.proofs.HeadOrder.{no_highest}
-
-module _ {X I R A T : Type 0} (stack : List (StackEntry X I R A T)) (step : PathKind) (answer : EvaluationResult X I R A T) where
-  -- the entry for the answer, whose highest head is at the depth
-  abbrev entry_from : StackDepth → ProvisionalCacheEntry X I R A T
-  entry_from head = record {
-    encountered_overflow = answer.encountered_overflow;
-    heads = answer.heads;
-    path_from_head = path_kind_from stack head.0 step;
-    result = answer.result;
-    node = answer.node;
-  }
-
-  -- and that entry alone, if there is a highest head
-  abbrev entries_from : Option (StackDepth × CycleHead) → List (ProvisionalCacheEntry X I R A T)
-  entries_from None = []
-  entries_from (Some top) = entry_from top.0 ∷ []
-
-  entries_for_are : (o : Option (StackDepth × CycleHead)) → highest answer.heads ≡ o → entries_for stack step answer ≡ entries_from o
-  entries_for_are None is = rw (is, entries_for) refl
-  entries_for_are (Some top) is = rw (is, entries_for) refl
-
-  entry_at : (o : Option (StackDepth × CycleHead)) (head : StackDepth) → option_map (λ e. e.0) o ≡ Some head → entries_from o ≡ entry_from head ∷ []
-  entry_at None head is = absurd cc
-  entry_at (Some top) head is = let same : top.0 ≡ head = cc in ap (λ depth. entry_from depth ∷ []) same
-
-  module _ (same : I → I → Bool) (input : I) (old new : Lists I (ProvisionalCacheEntry X I R A T)) where
-    -- the answer is the last entry of its goal
-    pub entry_pushed : ((x y : I) → same x y ≡ true → x ≡ y) → (enabled : Bool) → enabled ≡ true → (head : StackDepth) → option_map (λ e. e.0) (highest answer.heads) ≡ Some head → AppendsEntry same old new input (entry_from head) → (goal : I) → entries_at same new goal ≡ entries_at same old goal ++ (if enabled && same input goal then entries_for stack step answer else [])
-    entry_pushed by_value enabled on head is put goal =
-        subst (λ b. entries_at same new goal ≡ entries_at same old goal ++ (if b && same input goal then entries_for stack step answer else [])) (sym on) (at (same input goal) refl)
-      where
-        at : (b : Bool) → same input goal ≡ b → entries_at same new goal ≡ entries_at same old goal ++ (if b then entries_for stack step answer else [])
-        at true here =
-            subst (λ x. entries_at same new x ≡ entries_at same old x ++ entries_for stack step answer) (by_value input goal here)
-            (put.here ∙ ap (λ l. entries_at same old input ++ l) (sym (entries_for_are (highest answer.heads) refl ∙ entry_at (highest answer.heads) head is)))
-        at false other = put.others goal other ∙ sym (append-nil (entries_at same old goal))
-
-    -- no answer is kept
-    pub none_pushed : (enabled : Bool) → enabled ≡ false → (goal : I) → entries_at same old goal ≡ entries_at same old goal ++ (if enabled && same input goal then entries_for stack step answer else [])
-    none_pushed enabled off goal =
-        subst (λ b. entries_at same old goal ≡ entries_at same old goal ++ (if b && same input goal then entries_for stack step answer else [])) (sym off) (sym (append-nil (entries_at same old goal)))
 
 -- without a highest head there is none
 pub headless : {X I R A T : Type 0} (answer : EvaluationResult X I R A T) (o : Option StackDepth) → o ≡ option_map (λ e. e.0) (highest answer.heads) → o ≡ None → answer.heads ≡ []
@@ -83,14 +42,13 @@ module _ {X I R A T : Type 0} where
         ∙ ap (drop (head + 1)) same_steps
         ∙ drop-map (λ (e : StackEntry X I R A T). e.step_kind_from_parent) (head + 1) other)
 
-    same_entries : (step : PathKind) (answer : EvaluationResult X I R A T) (o : Option (StackDepth × CycleHead)) → entries_from stack step answer o ≡ entries_from other step answer o
-    same_entries step answer None = refl
-    same_entries step answer (Some top) = ap (λ kind. record (entry_from stack step answer top.0) { path_from_head = kind } ∷ []) (same_path top.0.0 step)
-
-    -- and so does what is kept
+    -- and so does the entry for an answer
     same_pushed : (step : PathKind) (answer : EvaluationResult X I R A T) → entries_for stack step answer ≡ entries_for other step answer
-    same_pushed step answer =
-        entries_for_are stack step answer (highest answer.heads) refl ∙ same_entries step answer (highest answer.heads) ∙ sym (entries_for_are other step answer (highest answer.heads) refl)
+    same_pushed step answer = at (highest answer.heads)
+      where
+        at : (o : Option (StackDepth × CycleHead)) → ◌≡◌ {A = List (ProvisionalCacheEntry X I R A T)} (elim o [ None ↦ [] | Some head ↦ entry_of stack head.0.0 step answer ∷ [] ]) (elim o [ None ↦ [] | Some head ↦ entry_of other head.0.0 step answer ∷ [] ])
+        at None = refl
+        at (Some top) = ap (λ kind. record (entry_of stack top.0.0 step answer) { path_from_head = kind } ∷ []) (same_path top.0.0 step)
 
 module _ {X F I R A T : Type 0} where
   -- the stack of the goals
@@ -118,13 +76,13 @@ module _ {X F I R A T : Type 0} where
         subst (λ n. IfSome (highest heads) (λ head. head.0.0 < n)) (on_stack_many below ∙ sym (as_many below later next given) ∙ sym (on_stack_many later))
         (highest_within (length (stack_of below)) heads on_stack)
 
--- The entries were rebased for the reason once the goal was taken, and the answer was put last once it was given.
+-- The entries were rebased for the reason once the goal was popped, and the answer was put last once it was given.
 module _ {C X F I R A T : Type 0} (same : I → I → Bool) (enabled : Bool) (propagated : C → I → A → R) (overflow : C → I → R) (used cx : C) (same_context : used ≡ cx) (reason : Option (RebaseReason X I R A T)) (r : R) (target : Option NodeId) (s : StackEntry X I R A T × Run X F I R A T) (below later : List (StackEntry X I R A T × Run X F I R A T)) (next : Next R) (stack after : List (StackEntry X I R A T)) (stack_is : stack ≡ reverse (map (λ s. s.0) below)) (after_is : after ≡ reverse (map (λ s. s.0) later)) (step : PathKind) (step_is : step ≡ s.0.step_kind_from_parent) (input : I) (input_is : input ≡ s.0.input) (answer : EvaluationResult X I R A T) (answer_is : answer ≡ final_answer s r target) (given : GivesAnswer step answer below next later) (old middle new : Lists I (ProvisionalCacheEntry X I R A T)) (changed : (goal : I) → entries_at same middle goal ≡ rebased_for (propagated used goal) (overflow used goal) reason stack s.0 (entries_at same old goal)) (put : (goal : I) → entries_at same new goal ≡ entries_at same middle goal ++ (if enabled && same input goal then entries_for after step answer else [])) where
   -- the old entries, rebased
   abbrev rebased_by : C → List (StackEntry X I R A T) → I → List (ProvisionalCacheEntry X I R A T)
   rebased_by x l goal = rebased_for (propagated x goal) (overflow x goal) reason l s.0 (entries_at same old goal)
 
-  -- what is put for the goal, where answers are kept
+  -- what is put for the goal, where such entries may be used
   abbrev put_by : I → List (ProvisionalCacheEntry X I R A T) → I → List (ProvisionalCacheEntry X I R A T)
   put_by i l goal = if enabled && same i goal then l else []
 

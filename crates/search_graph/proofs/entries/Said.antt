@@ -1,16 +1,16 @@
--- What a call keeps of the answers in the provisional cache where the newest goal is run again or taken.
-use Rattle.std.proofs.Common.{◌≡◌, ℕ, ◌&&◌, ◌||◌, if◌then◌else◌, nat_eq, Bool, true, false, List, [], ◌∷◌, length, map, reverse, All, Option, Some, None, Result, Ok, refl, sym, subst}
+-- What a call keeps of the provisional entries where the newest goal is run again or popped.
+use Rattle.std.proofs.Common.{◌≡◌, ℕ, ◌&&◌, ◌||◌, if◌then◌else◌, Bool, true, false, List, [], ◌∷◌, map, reverse, All, Option, Some, None, Result, Ok, refl, sym, subst}
 use Rattle.std.specs.List.{filter}
-use Rattle.std.specs.Option.{option_map, option_and_then}
 use Rattle.std.proofs.lemmas.List.Elements.{All-append, All-cons, All-filter, All-nil}
-use Rattle.search_graph.specs.Below.{StackDepth, CycleHead, PathKind, HeadUsages, highest, greater_kind, has_usages, other_usages, DelegateOf, CxOf, Done, StoredResult, ProvisionalCacheEntry, RebaseReason, EvaluationResult, StackEntry, path_kind_from, IsDefinite, IsNeither, Lists, entries_at, but_highest, from_head, from_new_head, keeps_kinds, rebased, rebased_at, rebased_used, rebased_unused, changed_for, with_unused, with_used, Store, Run, Verdicts, verdicts}
+use Rattle.search_graph.specs.Below.{StackDepth, CycleHead, PathKind, HeadUsages, highest, has_usages, other_usages, DelegateOf, CxOf, Done, StoredResult, ProvisionalCacheEntry, RebaseReason, EvaluationResult, StackEntry, IsDefinite, IsNeither, Lists, entries_at, but_highest, rebased, changed_for, with_unused, with_used, Store, Run, Verdicts, verdicts}
 use Rattle.search_parts.specs.declared.parts.provisional_cache.RebaseReason.TheVariants as why
 use Rattle.search_parts.proofs.RebasedEntryLists.{All-filter_map}
-use Rattle.search_graph.specs.Words.{Unstable, Call, IsCounted, HasAsked, KeepsAnswers, KeepsStore, final_answer, entries_for, rebased_for, RebasesEntries, RebasesNewest, MayPutNewest, IsReason, IsEndOfRun, Ambiguous, Initial, Limited, Repeated, Repeats, Stable, WithoutUsages}
+use Rattle.search_graph.specs.Words.{Unstable, Call, IsCounted, HasAsked, KeepsAnswers, KeepsStore, final_answer, entries_for, entry_of, rebased_for, RebasesEntries, RebasesNewest, MayPutNewest, IsReason, IsEndOfRun, Ambiguous, Initial, Limited, Repeated, Repeats, Stable, WithoutUsages}
 use Rattle.search_graph.specs.EndOfRun.{Unused}
 use Rattle.search_graph.proofs.moves.DoneRuns.{calm_of, met_keeps, put_keeps}
 use Rattle.search_graph.proofs.justified.Finishing.{neither_is}
 use Rattle.search_graph.proofs.moves.Moves.{done_definite}
+use Rattle.search_graph.proofs.rebasing.Cases.{HasNewHead, is_rebased, IsRebased, NotUsed, Still, Used}
 
 -- ---- what is said of whether entries met overflow, and of their results
 
@@ -25,48 +25,17 @@ module _ {X I R A T : Type 0} (P : Bool → R → Type 0) where
 
   module _ (stack : List (StackEntry X I R A T)) (done : StackEntry X I R A T) where
     -- a new highest head changes nothing of it
-    new_head_said : (entry after : ProvisionalCacheEntry X I R A T) → from_new_head stack done entry ≡ Some after → SaidOf entry → SaidOf after
-    new_head_said entry after is h = at (highest entry.heads) is
+    new_head_said : (entry after : ProvisionalCacheEntry X I R A T) → HasNewHead stack done entry after → SaidOf entry → SaidOf after
+    new_head_said entry after new h = subst (λ met. P met after.result) (sym new.same_overflow) (subst (P entry.encountered_overflow) (sym new.same_result) h)
+
+    -- nor does rebasing, but for how entries are changed
+    rebased_said : (change_entry : HeadUsages → ProvisionalCacheEntry X I R A T → Option (ProvisionalCacheEntry X I R A T)) → KeepsSaid change_entry → (entry after : ProvisionalCacheEntry X I R A T) → SaidOf entry → rebased stack done change_entry entry ≡ Some after → SaidOf after
+    rebased_said change_entry keeps entry after h is = at (is_rebased stack done change_entry entry after is)
       where
-        at : (o : Option (StackDepth × CycleHead))
-            → option_map (λ (head : StackDepth × CycleHead). record entry { path_from_head = greater_kind entry.path_from_head (from_head stack done head.0.0) }) o ≡ Some after → SaidOf after
-        at None is = absurd cc
-        at (Some head) is =
-            let same : record entry { path_from_head = greater_kind entry.path_from_head (from_head stack done head.0.0) } ≡ after = cc in
-            subst SaidOf same h
-
-    module _ (change_entry : HeadUsages → ProvisionalCacheEntry X I R A T → Option (ProvisionalCacheEntry X I R A T)) (keeps : KeepsSaid change_entry) where
-      used_said : (entry after : ProvisionalCacheEntry X I R A T) (head : CycleHead) → rebased_used stack done change_entry entry head ≡ Some after → SaidOf entry → SaidOf after
-      used_said entry after head is h = tested (keeps_kinds stack done entry.path_from_head head.paths_to_head) is
-        where
-          rebases : (o : Option (ProvisionalCacheEntry X I R A T)) → change_entry head.usages entry ≡ o
-              → option_and_then (λ kept. from_new_head stack done (record kept { heads = with_used done.state.heads head.paths_to_head (but_highest kept.heads) })) o ≡ Some after → SaidOf after
-          rebases None at left = absurd cc
-          rebases (Some kept) at left = new_head_said (record kept { heads = with_used done.state.heads head.paths_to_head (but_highest kept.heads) }) after left (keeps head.usages entry kept at h)
-
-          tested : (b : Bool)
-              → (if b then option_and_then (λ kept. from_new_head stack done (record kept { heads = with_used done.state.heads head.paths_to_head (but_highest kept.heads) })) (change_entry head.usages entry) else None) ≡ Some after → SaidOf after
-          tested false is = absurd cc
-          tested true is = rebases (change_entry head.usages entry) refl is
-
-      -- nor does rebasing, but for how entries are changed
-      rebased_said : (entry after : ProvisionalCacheEntry X I R A T) → SaidOf entry → rebased stack done change_entry entry ≡ Some after → SaidOf after
-      rebased_said entry after h is = at (highest entry.heads) is
-        where
-          stays : Some entry ≡ Some after → SaidOf after
-          stays is = let same : entry ≡ after = cc in subst SaidOf same h
-
-          used : (head : CycleHead) (b : Bool) → (if b then rebased_used stack done change_entry entry head else rebased_unused stack done entry) ≡ Some after → SaidOf after
-          used head true is = used_said entry after head is h
-          used head false is = new_head_said (record entry { heads = with_unused done.state.heads (but_highest entry.heads) }) after is h
-
-          here : (head : CycleHead) (b : Bool) → (if b then (if has_usages head.usages then rebased_used stack done change_entry entry head else rebased_unused stack done entry) else Some entry) ≡ Some after → SaidOf after
-          here head true is = used head (has_usages head.usages) is
-          here head false is = stays is
-
-          at : (o : Option (StackDepth × CycleHead)) → rebased_at stack done change_entry entry o ≡ Some after → SaidOf after
-          at None is = stays is
-          at (Some head) is = here head.1 (nat_eq head.0.0 (length stack)) is
+        at : IsRebased stack done change_entry entry after → SaidOf after
+        at (Still other same) = subst SaidOf same h
+        at (NotUsed head top place none new) = new_head_said (record entry { heads = with_unused done.state.heads (but_highest entry.heads) }) after new h
+        at (Used head changed top place used kinds ends new) = new_head_said (record changed { heads = with_used done.state.heads head.1.paths_to_head (but_highest changed.heads) }) after new (keeps head.1.usages entry changed ends h)
 
   -- settling for the reason keeps what is said, if it may be said of what an ambiguous goal and one that had its most runs leave
   changed_said : (propagated : A → R) (overflow : R) (reason : RebaseReason X I R A T)
@@ -101,21 +70,9 @@ module _ {X I R A T : Type 0} (P : Bool → R → Type 0) where
   entry_said : (stack : List (StackEntry X I R A T)) (step : PathKind) (answer : EvaluationResult X I R A T) → P answer.encountered_overflow answer.result → All SaidOf (entries_for stack step answer)
   entry_said stack step answer h = at (highest answer.heads)
     where
-      at : (o : Option (StackDepth × CycleHead))
-          → All SaidOf
-          (elim o [
-            | None ↦ []
-            | Some head ↦
-                record {
-                  encountered_overflow = answer.encountered_overflow;
-                  heads = answer.heads;
-                  path_from_head = path_kind_from stack head.0.0 step;
-                  result = answer.result;
-                  node = answer.node;
-                } ∷ []
-          ])
+      at : (o : Option (StackDepth × CycleHead)) → All SaidOf (elim o [ None ↦ [] | Some head ↦ entry_of stack head.0.0 step answer ∷ [] ])
       at None = All-nil SaidOf
-      at (Some head) = All-cons SaidOf (record { encountered_overflow = answer.encountered_overflow; heads = answer.heads; path_from_head = path_kind_from stack head.0.0 step; result = answer.result; node = answer.node }) [] h (All-nil SaidOf)
+      at (Some head) = All-cons SaidOf (entry_of stack head.0.0 step answer) [] h (All-nil SaidOf)
 
   put_said : (b : Bool) (stack : List (StackEntry X I R A T)) (step : PathKind) (answer : EvaluationResult X I R A T) → P answer.encountered_overflow answer.result → All SaidOf (if b then entries_for stack step answer else [])
   put_said true stack step answer h = entry_said stack step answer h
@@ -129,7 +86,7 @@ module _ {X I R A T : Type 0} (P : Bool → R → Type 0) where
   cleared_said : (same : I → I → Bool) (left : ProvisionalCacheEntry X I R A T → Bool) (old new : Lists I (ProvisionalCacheEntry X I R A T)) → ((goal : I) → entries_at same new goal ≡ filter left (entries_at same old goal)) → SaidOfAll same old → SaidOfAll same new
   cleared_said same left old new cleared all = λ goal. subst (All SaidOf) (sym (cleared goal)) (All-filter left SaidOf (entries_at same old goal) (all goal))
 
-  -- the newest goal was taken, of whose answer it may be said
+  -- the newest goal was popped, of whose answer it may be said
   taken_said : {F : Type 0} (same : I → I → Bool) (enabled : Bool) (propagated : I → A → R) (overflow : I → R) (reason : Option (RebaseReason X I R A T)) (r : R) (s : StackEntry X I R A T × Run X F I R A T) (below : List (StackEntry X I R A T × Run X F I R A T)) (old new : Lists I (ProvisionalCacheEntry X I R A T))
       → ((goal : I) (reasoned : RebaseReason X I R A T) → reason ≡ Some reasoned → KeepsSaid (changed_for (propagated goal) (overflow goal) reasoned))
       → P (s.0.state.encountered_overflow || s.1.met_overflow_before) r
@@ -211,7 +168,7 @@ module _ {D C V P F I R A T : Type 0} (G : DelegateOf D C V P F I R A T) (X : Cx
         (λ goal reasoned is. results_stay definite (G.propagated cx goal) (G.fixpoint_overflow cx goal) reasoned is)
         definite rebases
 
-    -- the newest goal was taken
+    -- the newest goal was popped
     pub done_keeps : ((x y : I) → same x y ≡ true → x ≡ y) → (before after : Store I (StoredResult C I R A T)) (goals : List (StackEntry C I R A T × Run C F I R A T)) (old new : Lists I (ProvisionalCacheEntry C I R A T)) → MayPutNewest same goals done before after → RebasesNewest same enabled (G.propagated cx) (G.fixpoint_overflow cx) reason done goals old new → HasAsked G X cx call ahead (Done done) goals starts met → KeepsAnswers G X cx same call met before old → KeepsAnswers G X cx same call met after new
     done_keeps by_value before after [] old new put rebases h keeps = absurd put
     done_keeps by_value before after (s ∷ below) old new put rebases h keeps = record {

@@ -1,42 +1,22 @@
--- One entry of the provisional cache, once the newest goal was taken: it stays where it didn't use that goal, or it is rebased; and that
--- goal's own answer may be kept.
-use Rattle.std.proofs.Common.{◌≡◌, ◌≢◌, ◌<◌, ◌≤◌, ℕ, Bool, List, [], ◌∷◌, length, map, reverse, Option, Some, None, IsSome, All, refl, sym, ap, ◌∙◌, subst, ◌⊎◌, inl, inr, arith}
+-- One provisional entry, once the newest goal was popped: it stays where it didn't use that goal, or it is rebased; and that goal's own
+-- answer may be an entry.
+use Rattle.std.proofs.Common.{◌≡◌, ◌≢◌, ◌<◌, ◌≤◌, ℕ, List, [], ◌∷◌, length, map, reverse, Option, Some, None, IsSome, All, refl, sym, ap, ◌∙◌, subst, ◌⊎◌, inl, inr, arith}
 use Rattle.std.proofs.lemmas.Bool.{false≢true}
 use Rattle.std.proofs.lemmas.List.{length-map}
 use Rattle.std.proofs.lemmas.List.Elements.{All-cons, All-nil}
 use Rattle.open_graphs.specs.Graph as theory
-use Rattle.search_graph.specs.Below.{IsTrueReason, Entry, path_kind, ProvisionalEntry, AfterPop, Lower, Unused, Fixpoint, Other, IsMoved, stack_of, StackDepth, CycleHead, at_depth, highest, IsRising, heads_shape, rank_of, NodeId, Request, Reply, StackEntry, ProvisionalCacheEntry, RebaseReason, CacheNode, path_kind_from, HasNoRank, rebased, changed_for, verdict_of, Run, Verdicts}
-use Rattle.open_graphs.specs.Use as uses
+use Rattle.search_graph.specs.Below.{IsTrueReason, path_kind, AfterPop, Lower, stack_of, StackDepth, CycleHead, at_depth, highest, IsRising, heads_shape, rank_of, NodeId, Request, Reply, StackEntry, ProvisionalCacheEntry, RebaseReason, CacheNode, HasNoRank, rebased, changed_for, verdict_of, Run, Verdicts}
 use Rattle.open_graphs.proofs.Rebased.{rebased_is_after_pop}
-use Rattle.search_graph.specs.Words.{AreJustified, frame_of, frames_of, IsReusable, depths_of, highest_depth, entry_shape, reason_shape, IsHead, IsReady, final_answer, answer_of_entry, entries_for, run_of, runs_of, LieBelow}
-use Rattle.search_graph.specs.ProvisionalAnswers.{provisional_shape}
-use Rattle.search_graph.proofs.CycleAnswers.{path_kind_is}
+use Rattle.search_graph.specs.Words.{AreJustified, frame_of, frames_of, depths_of, highest_depth, entry_shape, reason_shape, IsHead, IsReady, final_answer, entries_for, entry_of, run_of, runs_of, LieBelow}
+use Rattle.search_graph.proofs.answers.Cycles.{path_kind_is}
 use Rattle.search_graph.proofs.HeadOrder.{ascends, at_most_highest, highest_there, no_highest}
 use Rattle.search_graph.proofs.justified.Justified.{EndsWithNode, stack_length}
-use Rattle.search_graph.proofs.ProvisionalAnswers.{reusable_added, reusable_popped}
-use Rattle.search_graph.proofs.LeftOver.{IsLeftOver, other_head, own_head}
-use Rattle.search_graph.proofs.Ready.{all_at_depths, is_below, on_stack_many}
-use Rattle.search_graph.proofs.RebasedAnswers.{are_depths, goal_rebased, highest_is, rebasable}
-use Rattle.search_graph.proofs.RebasedLeft.{LeavesEntry, leaves_entry}
-use Rattle.search_graph.proofs.RebasedRising.{rebased_rising}
-
-moved_node : (below : List Entry) (top : Entry) (k after : ProvisionalEntry) (n : ℕ) → IsMoved below top k after → IsMoved below top (record k { node = n }) (record after { node = n })
-moved_node below top k after n moved = record {
-  was = moved.was;
-  same_verdict = moved.same_verdict;
-  same_node = refl;
-  path = moved.path;
-  heads = moved.heads;
-  within = moved.within;
-  on_stack = moved.on_stack;
-}
-
--- what an answer is after a pop doesn't rest on its node
-with_node : (below : List Entry) (top : Entry) (verdict : theory.Verdict) (top_heads : uses.Heads) (k after : ProvisionalEntry) (n : ℕ) → AfterPop below top verdict top_heads k after → AfterPop below top verdict top_heads (record k { node = n }) (record after { node = n })
-with_node below top verdict top_heads k after n (Lower lower) = Lower lower
-with_node below top verdict top_heads k after n (Unused moved none) = Unused (moved_node below top k after n moved) none
-with_node below top verdict top_heads k after n (Fixpoint moved definite entry_definite fixpoint kinds takes) = Fixpoint (moved_node below top k after n moved) definite entry_definite fixpoint kinds takes
-with_node below top verdict top_heads k after n (Other moved other) = Other (moved_node below top k after n moved) other
+use Rattle.search_graph.proofs.entries.Reusable.{reusable_added, reusable_popped}
+use Rattle.search_graph.proofs.entries.LeftOver.{IsLeftOver, other_head, own_head}
+use Rattle.search_graph.proofs.entries.Ready.{RestsOn-kept, all_at_depths, is_below, on_stack_many}
+use Rattle.search_graph.proofs.rebasing.Rule.{are_depths, goal_rebased, highest_is, rebasable}
+use Rattle.search_graph.proofs.rebasing.Left.{LeavesEntry, leaves_entry}
+use Rattle.search_graph.proofs.rebasing.Rising.{rebased_rising}
 
 module _ {X F I R A T : Type 0} (says : Verdicts R) (scripts : I → List (Reply R) → Request I R) (nodes after : List (CacheNode I R)) (s : StackEntry X I R A T × Run X F I R A T) (below : List (StackEntry X I R A T × Run X F I R A T)) (r : R) (target : Option NodeId) (h : AreJustified says nodes (runs_of (s ∷ below))) (rebases : EndsWithNode says nodes after (run_of s) (runs_of below) r target) where
   many : length (runs_of below) ≡ length below
@@ -77,13 +57,10 @@ module _ {X F I R A T : Type 0} (says : Verdicts R) (scripts : I → List (Reply
 
     -- so it stays
     pub unused_is_left : s.0.state.usages ≡ None → IsLeft goal entry
-    unused_is_left none = record {
-      kept = reusable_popped says nodes after (run_of s) (runs_of below) h r target rebases goal (answer_of_entry entry) (answer_of_entry entry) refl refl (λ d n. Lower (top_lower none (highest entry.heads) refl)) ready.kept;
-      some = ready.some;
-      rising = ready.rising;
-      are_heads = λ head there. others head there (apart none head there);
-      no_rank = ready.no_rank;
-    }
+    unused_is_left none =
+        RestsOn-kept says scripts nodes after (runs_of (s ∷ below)) (runs_of below) (IsHead (runs_of (s ∷ below))) (λ head. IsHead (runs_of below) head ⊎ IsSome (at_depth s.0.state.heads head)) goal entry
+        (reusable_popped says nodes after (run_of s) (runs_of below) h r target rebases goal entry entry refl refl (λ definite n. Lower (top_lower none (highest entry.heads) refl)))
+        (λ head there is. others head there (apart none head there)) ready
 
     -- and where the newest goal was used, what the rule of rebasing leaves of an entry is left, if the reason is true
     module _ (propagated : A → R) (overflow : R) (unsure : (info : A) → verdict_of says (propagated info) ≡ theory.Neither) (overflow_unsure : verdict_of says overflow ≡ theory.Neither) (reason : RebaseReason X I R A T) (is_true : IsTrueReason (reason_shape reason) (verdict_of says r) (frame_of says (run_of s)).entry) (later : ProvisionalCacheEntry X I R A T) (is : rebased (reverse (map (λ s. s.0) below)) s.0 (changed_for propagated overflow reason) entry ≡ Some later) where
@@ -96,27 +73,18 @@ module _ {X F I R A T : Type 0} (says : Verdicts R) (scripts : I → List (Reply
       left : LeavesEntry says (reverse (map (λ s. s.0) below)) s.0 entry later
       left = leaves_entry says (reverse (map (λ s. s.0) below)) s.0 propagated overflow unsure overflow_unsure reason lower_real entry later ready.rising within_real ready.some is
 
-      after_pop : verdict_of says later.result ≢ theory.Neither → AfterPop (stack_of (frames_of says (runs_of below))) (frame_of says (run_of s)).entry (verdict_of says r) (heads_shape s.0.state.heads) (entry_shape says entry) (entry_shape says later)
-      after_pop definite =
-          rebased_is_after_pop (reason_shape reason) (stack_of (frames_of says (runs_of below))) (frame_of says (run_of s)).entry (depths_of entry.heads) (depths_of s.0.state.heads) (verdict_of says r) (heads_shape s.0.state.heads) (entry_shape says entry) (entry_shape says later)
+      after_pop : verdict_of says later.result ≢ theory.Neither → (n : ℕ) → AfterPop (stack_of (frames_of says (runs_of below))) (frame_of says (run_of s)).entry (verdict_of says r) (heads_shape s.0.state.heads) (entry_shape says entry n) (entry_shape says later n)
+      after_pop definite n =
+          rebased_is_after_pop (reason_shape reason) (stack_of (frames_of says (runs_of below))) (frame_of says (run_of s)).entry (depths_of entry.heads) (depths_of s.0.state.heads) (verdict_of says r) (heads_shape s.0.state.heads) (entry_shape says entry n) (entry_shape says later n)
           (rebasable says (reverse (map (λ s. s.0) below)) s.0 (stack_of (frames_of says (runs_of below))) (frame_of says (run_of s)).entry (on_stack_many below ∙ sym theory_many) lower_real reason (verdict_of says r) entry
-          (record { some = ready.some; within = all_at_depths (λ head. head.0 ≤ length (reverse (map (λ (t : StackEntry X I R A T × Run X F I R A T). t.0) below))) entry.heads within_real }) ready.rising is_true)
+          (record { some = ready.some; within = all_at_depths (λ head. head.0 ≤ length (reverse (map (λ (t : StackEntry X I R A T × Run X F I R A T). t.0) below))) entry.heads within_real }) ready.rising is_true n)
           definite
-          (goal_rebased says s below lower propagated overflow unsure overflow_unsure reason entry later ready.some ready.rising definite is)
-
-      same_answer : later.result ≡ entry.result → later.node ≡ entry.node → IsReusable says after (runs_of below) goal (answer_of_entry later)
-      same_answer same_result same_target =
-          reusable_popped says nodes after (run_of s) (runs_of below) h r target rebases goal (answer_of_entry entry) (answer_of_entry later) same_result same_target
-          (λ d n. subst (λ v. AfterPop (stack_of (frames_of says (runs_of below))) (frame_of says (run_of s)).entry (verdict_of says r) (heads_shape s.0.state.heads) (provisional_shape says (answer_of_entry entry) n) (record (provisional_shape says (answer_of_entry later) n) { verdict = v }))
-          (ap (verdict_of says) same_result)
-          (with_node (stack_of (frames_of says (runs_of below))) (frame_of says (run_of s)).entry (verdict_of says r) (heads_shape s.0.state.heads) (entry_shape says entry) (entry_shape says later) n
-          (after_pop (λ neither. d (ap (verdict_of says) (sym same_result) ∙ neither)))))
-          ready.kept
+          (goal_rebased says s below lower propagated overflow unsure overflow_unsure reason entry later n ready.some ready.rising is)
 
       pub rebased_is_left : IsLeft goal later
       rebased_is_left = record {
-        kept = elim left.outcome [
-          | inl same ↦ same_answer same.0 same.1
+        reusable = elim left.outcome [
+          | inl same ↦ reusable_popped says nodes after (run_of s) (runs_of below) h r target rebases goal entry later same.0 same.1 after_pop ready.reusable
           | inr gone ↦ record { definite = λ d. absurd (d gone.0); neither = λ n. gone.1 }
         ];
         some = left.some;
@@ -133,13 +101,7 @@ module _ {X F I R A T : Type 0} (says : Verdicts R) (scripts : I → List (Reply
   module _ (rising : IsRising s.0.state.heads) (no_rank : s.0.state.heads ≢ [] → HasNoRank scripts s.0.input) where
     -- the entry of the answer, with this highest head
     abbrev own_entry : StackDepth × CycleHead → ProvisionalCacheEntry X I R A T
-    own_entry head = record {
-      encountered_overflow = (final_answer s r target).encountered_overflow;
-      heads = s.0.state.heads;
-      path_from_head = path_kind_from (reverse (map (λ s. s.0) below)) head.0.0 s.0.step_kind_from_parent;
-      result = r;
-      node = target;
-    }
+    own_entry head = entry_of (reverse (map (λ s. s.0) below)) head.0.0 s.0.step_kind_from_parent (final_answer s r target)
 
     own_is_left : (head : StackDepth × CycleHead) → highest s.0.state.heads ≡ Some head → IsLeft s.0.input (own_entry head)
     own_is_left head top_is =
@@ -148,7 +110,7 @@ module _ {X F I R A T : Type 0} (says : Verdicts R) (scripts : I → List (Reply
         let place = lower head.0 (subst IsSome (sym (highest_there s.0.state.heads head asc top_is)) refl) in
         let some : s.0.state.heads ≢ [] = λ none. (let wrong : None ≡ Some head = ap highest (sym none) ∙ top_is in absurd cc) in
         record {
-          kept = reusable_added says nodes after (run_of s) (runs_of below) h r target rebases (answer_of_entry (own_entry head)) refl refl refl
+          reusable = reusable_added says nodes after (run_of s) (runs_of below) h r target rebases (own_entry head)
               (path_kind_is says s.0.step_kind_from_parent head.0.0 below ∙ ap (path_kind (stack_of (frames_of says (runs_of below))) (rank_of s.0.step_kind_from_parent)) (sym depth_is))
               (omega (arith, depth_is, place, theory_many))
               (λ depth path cycle recorded. subst (λ n. depth ≤ n) (sym depth_is) (at_most_highest s.0.state.heads head asc top_is (record { 0 = depth }) ((are_depths s.0.state.heads).usages depth cycle recorded.1)));
@@ -158,7 +120,7 @@ module _ {X F I R A T : Type 0} (says : Verdicts R) (scripts : I → List (Reply
           no_rank = no_rank some;
         }
 
-    -- where it is kept, it is left
+    -- where it is an entry, it is left
     pub own_pushed : (goal : I) → s.0.input ≡ goal → All (IsLeft goal) (entries_for (reverse (map (λ s. s.0) below)) s.0.step_kind_from_parent (final_answer s r target))
     own_pushed goal is = at (highest s.0.state.heads) refl
       where

@@ -122,31 +122,29 @@ is_single head kind none = none_but head.usages kind ((none_of_others head.usage
 -- ---- the result
 
 module _ {X I R A T : Type 0} (says : Verdicts R) (propagated : A → R) (overflow : R) (unsure : (info : A) → verdict_of says (propagated info) ≡ theory.Neither) (overflow_unsure : verdict_of says overflow ≡ theory.Neither) where
-  -- What becomes of an answer that used this head: its result is the one that the theory has for the reason, the heads and the path
-  -- stay, and so does the node of an answer with a verdict.
+  -- what becomes of an entry that used this head: its result is the one that the theory has for the reason, the heads and the path stay
   pub record IsChanged (reason : RebaseReason X I R A T) (head : CycleHead) (before after : ProvisionalCacheEntry X I R A T) : Type 0 where
     pub result : HasResult (reason_shape reason) (head_shape (Some head)) (verdict_of says before.result) (verdict_of says after.result)
     pub same_heads : after.heads ≡ before.heads
     pub same_path : after.path_from_head ≡ before.path_from_head
-    pub same_node : verdict_of says after.result ≢ theory.Neither → after.node ≡ before.node
 
   is_unchanged : (reason : RebaseReason X I R A T) (head : CycleHead) (before after : ProvisionalCacheEntry X I R A T) → HasResult (reason_shape reason) (head_shape (Some head)) (verdict_of says before.result) (verdict_of says before.result)
       → Some before ≡ Some after → IsChanged reason head before after
   is_unchanged reason head before after result is =
       let same : before ≡ after = cc in
-      subst (IsChanged reason head before) same (record { result = result; same_heads = refl; same_path = refl; same_node = λ definite. refl })
+      subst (IsChanged reason head before) same (record { result = result; same_heads = refl; same_path = refl })
 
-  replaced : (reason : RebaseReason X I R A T) (head : CycleHead) (before after : ProvisionalCacheEntry X I R A T) (result : R) → verdict_of says result ≡ theory.Neither
+  replaced : (reason : RebaseReason X I R A T) (head : CycleHead) (before after : ProvisionalCacheEntry X I R A T) (result : R)
       → HasResult (reason_shape reason) (head_shape (Some head)) (verdict_of says before.result) (verdict_of says result)
       → Some (record before { result = result; node = None }) ≡ Some after → IsChanged reason head before after
-  replaced reason head before after result neither has is =
+  replaced reason head before after result has is =
       let same : record before { result = result; node = None } ≡ after = cc in
-      subst (IsChanged reason head before) same (record { result = has; same_heads = refl; same_path = refl; same_node = λ definite. absurd (definite neither) })
+      subst (IsChanged reason head before) same (record { result = has; same_heads = refl; same_path = refl })
 
   pub is_changed : (reason : RebaseReason X I R A T) (head : CycleHead) (before after : ProvisionalCacheEntry X I R A T) → changed_for propagated overflow reason head.usages before ≡ Some after → IsChanged reason head before after
   is_changed NoCycleUsages head before after is = absurd cc
-  is_changed (Ambiguity info) head before after is = replaced (Ambiguity info) head before after (propagated info) (unsure info) (unsure info) is
-  is_changed Overflow head before after is = replaced Overflow head before after overflow overflow_unsure overflow_unsure is
+  is_changed (Ambiguity info) head before after is = replaced (Ambiguity info) head before after (propagated info) (unsure info) is
+  is_changed Overflow head before after is = replaced Overflow head before after overflow overflow_unsure is
   is_changed (ReachedFixpoint None) head before after is = is_unchanged (ReachedFixpoint None) head before after refl is
   is_changed (ReachedFixpoint (Some kind)) head before after is = at (has_usages (other_usages head.usages kind)) refl is
     where

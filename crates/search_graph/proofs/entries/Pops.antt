@@ -1,4 +1,4 @@
--- The entries of the provisional cache are ready over the goals that are left once the newest goal was taken.
+-- The provisional entries are ready over the goals that are left once the newest goal was popped.
 use Rattle.std.proofs.Common.{◌≡◌, Bool, ◌&&◌, if◌then◌else◌, true, false, All, List, [], ◌∷◌, ◌++◌, map, reverse, Option, None, Some, refl, sym, subst}
 use Rattle.std.specs.List.{cons_option, filter_map}
 use Rattle.std.proofs.lemmas.List.Elements.{All-append, All-cons, All-head, All-nil, All-tail, All-weaker}
@@ -6,8 +6,8 @@ use Rattle.open_graphs.specs.Graph as theory
 use Rattle.search_graph.specs.Below.{IsRising, NodeId, Request, Reply, StackEntry, ProvisionalCacheEntry, RebaseReason, CacheNode, Lists, entries_at, rebased, changed_for, verdict_of, Run, Next, Verdicts}
 use Rattle.search_graph.specs.Words.{AreJustified, GivesAnswer, AreReady, HasReason, IsNewestUnranked, IsReady, final_answer, entries_for, rebased_for, run_of, runs_of}
 use Rattle.search_graph.proofs.justified.Justified.{EndsWithNode}
-use Rattle.search_graph.proofs.LeftOver.{left_over_ready}
-use Rattle.search_graph.proofs.PoppedEntries.{IsLeft, lower, own_pushed, rebased_is_left, unused_is_left}
+use Rattle.search_graph.proofs.entries.LeftOver.{left_over_ready}
+use Rattle.search_graph.proofs.entries.Popped.{IsLeft, lower, own_pushed, rebased_is_left, unused_is_left}
 
 -- what is given of each element has a property that follows from one of the elements
 all_given : {X Y : Type 0} (P : X → Type 0) (Q : Y → Type 0) (f : X → Option Y) → ((x : X) (y : Y) → P x → f x ≡ Some y → Q y) → (xs : List X) → All P xs → All Q (filter_map f xs)

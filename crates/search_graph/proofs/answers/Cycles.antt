@@ -15,9 +15,10 @@ use Rattle.open_graphs.proofs.Lists.{get_cases}
 use Rattle.cycle_heads.proofs.HeadLists.{at_depth-first, at_depth-rest}
 use Rattle.cycle_heads.proofs.HeadShapes.{IsIn, in_head}
 use Rattle.cycle_heads.proofs.PathRanks.{greater_rank}
-use Rattle.search_graph.specs.Words.{OpenRun, NewestAsks, AreJustified, MayAnswer, IsFit, asked_now, frame_of, frames_of, cycles_node, AreSupported, run_of, runs_of, heads_of, tally_of, LieBelow}
+use Rattle.search_graph.specs.Words.{AreJustified, AreSupported, asked_now, cycles_node, frame_of, frames_of, heads_of, IsFit, LieBelow, MayAnswer, NewestAsks, OpenRun, run_of, runs_of, tally_of}
 use Rattle.search_graph.proofs.justified.Finishing.{answer_fits, heads_come, same_run}
 use Rattle.search_graph.proofs.justified.Justified.{stack_length}
+use Rattle.search_graph.proofs.answers.Taken.{later_run, taken_fits}
 
 -- ---- kinds of cycles
 
@@ -186,22 +187,18 @@ module _ {X F I R A T : Type 0} (says : Verdicts R) (nodes : List (CacheNode I R
       (subst (Accepts (verdict_of says (unwrap_or e.state.provisional_result initial)) (entry_of says (e, there.run))) rank_is (accepts_at e.state.provisional_result refl definite))
       (λ lower. subst (Recorded counts_now head.0 (rank_of step)) rank_is (recorded (subst (λ n. head.0 < n) many lower)))
 
-  may_answer_at : (lead : Option NodeId) → e.state.node ≡ lead → IsSomeAnd lead (λ n. IsNodeOf nodes n.0 e.input) → verdict_of says (unwrap_or e.state.provisional_result initial) ≢ theory.Neither → IsSomeAnd lead (λ n. MayAnswer says nodes (run_of (record a.entry { state = a.state }, a.run)) (runs_of a.below) (verdict_of says (unwrap_or e.state.provisional_result initial)) step input n.0)
+  may_answer_at : (lead : Option NodeId) → e.state.node ≡ lead → IsSomeAnd lead (λ n. IsNodeOf nodes n.0 e.input) → verdict_of says (unwrap_or e.state.provisional_result initial) ≢ theory.Neither → IsSomeAnd lead (λ n. MayAnswer says nodes (later_run says nodes old new step 0 false ((head, cycle_head step kind) ∷ []) a) (runs_of a.below) (verdict_of says (unwrap_or e.state.provisional_result initial)) step input n.0)
   may_answer_at None is home definite = absurd home
-  may_answer_at (Some n) is home definite =
-      subst (λ o. MayAnswer says nodes o (runs_of a.below) (verdict_of says (unwrap_or e.state.provisional_result initial)) step input n.0) (sym (same_run (record { 0 = length a.below }) step 0 false ((head, cycle_head step kind) ∷ []) a.entry.state a.state a.takes a.entry a.run refl))
-      (record {
-        of_goal = subst (IsNodeOf nodes n.0) same_goal home;
-        answered = subst (λ t. IsAnsweredEdge (shapes_of says nodes) (verdict_of says (unwrap_or e.state.provisional_result initial)) (stack_of (frames_of says (runs_of a.below))) (frame_of says (run_of (a.entry, a.run))).entry (record { kind = rank_of step; target = t }) counts_now)
-            (ap (λ l. elim l [ None ↦ there.run.node.0 | Some m ↦ m.0 ]) is) (answered definite);
-      })
+  may_answer_at (Some n) is home definite = record {
+    of_goal = subst (IsNodeOf nodes n.0) same_goal home;
+    answered = subst (λ t. IsAnsweredEdge (shapes_of says nodes) (verdict_of says (unwrap_or e.state.provisional_result initial)) (stack_of (frames_of says (runs_of a.below))) (frame_of says (run_of (a.entry, a.run))).entry (record { kind = rank_of step; target = t }) counts_now)
+        (ap (λ l. elim l [ None ↦ there.run.node.0 | Some m ↦ m.0 ]) is) (answered definite);
+  }
 
   pub cycle_fits : IsFit says nodes (runs_of new) (Answer (unwrap_or e.state.provisional_result initial)) e.state.node
   cycle_fits =
-      let asked : NewestAsks (run_of (a.entry, a.run) ∷ runs_of a.below) step input = subst (λ l. NewestAsks (runs_of l) step input) a.was asks in
-      subst (λ l. IsFit says nodes (runs_of l) (Answer (unwrap_or e.state.provisional_result initial)) e.state.node) (sym a.is)
-      (answer_fits says nodes (run_of (record a.entry { state = a.state }, a.run)) (runs_of a.below) (unwrap_or e.state.provisional_result initial) step input e.state.node asked
-      (λ definite. may_answer_at e.state.node refl (home_of says nodes old h.supported head.0 (e, there.run) there.at) definite))
+      taken_fits says nodes old new step 0 false ((head, cycle_head step kind) ∷ []) a (unwrap_or e.state.provisional_result initial) input e.state.node asks
+      (may_answer_at e.state.node refl (home_of says nodes old h.supported head.0 (e, there.run) there.at))
 
 -- the entry that was found by its goal has that goal
 pub found_goal : {X I R A T : Type 0} (eq : I → I → Bool) → ((x y : I) → eq x y ≡ true → x ≡ y) → (input : I) (es : List (StackEntry X I R A T)) (head : ℕ) (e : StackEntry X I R A T) → position (eq input) (map (λ d. d.input) es) ≡ Some head → e ≡ get_or es head e → (head < length es) × (e.input ≡ input)

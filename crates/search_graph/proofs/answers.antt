@@ -1,0 +1,7 @@
+-- Answers of all kinds, and what the goals' moves keep of them.
+pub mod Moves
+pub mod Kept
+pub mod Taken
+pub mod Cycles
+pub mod Free
+pub mod FreeMoves
