@@ -107,7 +107,11 @@ pub struct Frame {
     place: usize,
 }
 
-impl Delegate for Scripts {
+/// The delegate of goals with scripts. A goal has the greater of 1 and `LIMIT` runs at most. One that had them comes to
+/// maybe, while a question that is refused for want of depth is answered overflow, so that the two can be told apart.
+pub struct ScriptsDelegate<const LIMIT: usize>;
+
+impl<const LIMIT: usize> Delegate for ScriptsDelegate<LIMIT> {
     ghost use Rattle.std.proofs.Common.{rules};
     ghost use Rattle.std.specs.Prelude.{false, true};
     ghost use Rattle.delegate_parts.specs.Builder.{is_noop_of, started_in};
@@ -126,13 +130,13 @@ impl Delegate for Scripts {
 
     const ENABLE_PROVISIONAL_CACHE: bool = true;
 
-    const FIXPOINT_STEP_LIMIT: usize = 8;
+    const FIXPOINT_STEP_LIMIT: usize = LIMIT;
 
     const DIVIDE_AVAILABLE_DEPTH_ON_OVERFLOW: usize = 4;
 
     ghost ENABLE_PROVISIONAL_CACHE = { true };
 
-    ghost FIXPOINT_STEP_LIMIT = { 8 };
+    ghost FIXPOINT_STEP_LIMIT = { LIMIT };
 
     ghost DIVIDE_AVAILABLE_DEPTH_ON_OVERFLOW = { 4 };
 
@@ -150,7 +154,7 @@ impl Delegate for Scripts {
 
     ghost stack_overflow = { λ cx goal. Overflow };
 
-    ghost fixpoint_overflow = { λ cx goal. Overflow };
+    ghost fixpoint_overflow = { λ cx goal. Maybe };
 
     ghost ambiguity = { outcomes.ambiguity_of };
 
@@ -176,7 +180,7 @@ impl Delegate for Scripts {
 
     ghost stack_overflow_is_neither = { λ cx goal. laws.overflow_is_neither };
 
-    ghost fixpoint_overflow_is_neither = { λ cx goal. laws.overflow_is_neither };
+    ghost fixpoint_overflow_is_neither = { λ cx goal. laws.maybe_is_neither };
 
     ghost ambiguous_is_neither = { laws.ambiguous_is_neither };
 
@@ -205,7 +209,7 @@ impl Delegate for Scripts {
     }
 
     fn fixpoint_overflow_result(_cx: Scripts, _input: Goal) -> Outcome {
-        Outcome::Overflow
+        Outcome::Maybe
     }
 
     fn is_ambiguous_result(outcome: Outcome) -> Option<()> {
