@@ -1,6 +1,6 @@
 //! Worked examples: what is stored of the questions of small tables, and how it answers later questions.
 
-use crate::answers::{Table, TableDelegate, expect_shown, start_line};
+use crate::answers::{Answered, Table, TableDelegate, ask, expect_shown, start_line};
 use crate::cycles::{answers_over, parts};
 use delegate_parts::{Builder, Outcome};
 use rule_tables::{Goal, Rules};
@@ -254,7 +254,7 @@ Q yes from 1
 Q maybe at 0
 S yes from 0";
 
-/// The same tables and questions as a list, whose answers start so many frames together.
+/// The same tables and questions as lists, whose answers start so many frames together.
 const LISTS: &str = "\
 rule A = i:B
 rule B = i:C
@@ -296,6 +296,49 @@ fn a_goal_that_is_asked_again_starts_no_frame(rt: HostRuntime) -> Result<(), Fai
     Ok(())
 }
 
+/// Tables whose only question comes to maybe: without a limit met, by a cycle of either other kind, and for want of depth.
+const MAYBES: [&str; 3] = [
+    "rule A = u:A\nask 4 A",
+    "rule A = f:A\nask 4 A",
+    "rule A = i:B\nrule B = i:C\nrule C =\nask 1 A",
+];
+
+#[test]
+fn a_maybe_has_no_node(rt: HostRuntime) -> Result<(), Fail> {
+    for text in MAYBES {
+        let rules = Rules::read(rt.alloc(), text.as_bytes())?;
+        let cx = Table { lender: &rules };
+        for answered in answered_of::<Table<&Rules>, TableDelegate<'_, 8, 1>>(
+            rt.alloc(),
+            cx,
+            &rules,
+        )? {
+            assert_eq!(rt;
+                answered.answer.result,
+                Outcome::Maybe,
+                "the result of {text}"
+            );
+            assert_eq!(rt; answered.answer.node, None, "the node of {text}");
+        }
+    }
+    Ok(())
+}
+
+#[test]
+fn a_no_that_is_stored_names_its_node_again(rt: HostRuntime) -> Result<(), Fail> {
+    let rules = Rules::read(rt.alloc(), b"rule A = i:A\nask 4 A\nask 4 A")?;
+    let cx = Table { lender: &rules };
+    let answered = answered_of::<Table<&Rules>, TableDelegate<'_, 8, 1>>(rt.alloc(), cx, &rules)?;
+    let [first, again] = answered.as_slice() else {
+        return Err("another number of answers")?;
+    };
+    assert_eq!(rt; (first.answer.result, first.started), (Outcome::No, 1));
+    assert!(rt; first.answer.node.is_some());
+    assert_eq!(rt; again.answer, first.answer);
+    assert_eq!(rt; again.started, 0);
+    Ok(())
+}
+
 #[test]
 fn results_that_rest_on_goals_above_are_not_stored(rt: HostRuntime) -> Result<(), Fail> {
     assert_eq!(rt; first_wrong(rt.alloc(), CYCLES)?, None);
@@ -317,16 +360,19 @@ fn a_list_has_an_answer_for_each_query(rt: HostRuntime) -> Result<(), Fail> {
         let (text, wanted) = parts(example, "\ngives\n")?;
         let rules = Rules::read(rt.alloc(), text.as_bytes())?;
         let cx = Table { lender: &rules };
-        let given = answers_of_lists::<Table<&Rules>, TableDelegate<'_, 8, 1>>(
-            rt.alloc(),
-            cx,
-            &rules,
-        )?;
-        assert_eq!(rt;
-            given.as_slice(),
-            wanted.as_bytes(),
-            "the answers of {text}"
-        );
+        for first_list in [0, 1] {
+            let given = answers_of_lists::<Table<&Rules>, TableDelegate<'_, 8, 1>>(
+                rt.alloc(),
+                cx,
+                &rules,
+                first_list,
+            )?;
+            assert_eq!(rt;
+                given.as_slice(),
+                wanted.as_bytes(),
+                "the answers of {text} after a list of {first_list}"
+            );
+        }
     }
     Ok(())
 }
@@ -360,6 +406,22 @@ where
     Ok((given, stored))
 }
 
+/// What each question of the table came to, over one cache.
+fn answered_of<X, D>(alloc: Global, cx: X, rules: &Rules) -> Result<Vec<Answered>, Fail>
+where
+    X: Cx<Input = Goal, Result = Outcome>,
+    D: Delegate<Cx = X, ProofTreeBuilder = Builder>,
+{
+    let mut cache = GlobalCache::<D>::new(alloc, cx);
+    let mut all = Vec::new(alloc);
+    for (depth, goal) in rules.questions() {
+        let answered = ask::<X, D>(alloc, &mut cache, *depth, *goal)?;
+        expect_shown::<X, D>(alloc, &cache, *goal, answered.answer)?;
+        all.push(answered)?;
+    }
+    Ok(all)
+}
+
 /// A line for each stored result, the goals in the order of their names.
 fn stored_results<X, D>(
     alloc: Global,
@@ -391,9 +453,14 @@ where
     Ok(lines)
 }
 
-/// A line for the answer to each question of the table, and one for the frames that they start together. The first question
-/// is a list of its own, and so are the others; and a list without questions follows.
-fn answers_of_lists<X, D>(alloc: Global, cx: X, rules: &Rules) -> Result<Vec<u8>, Fail>
+/// A line for the answer to each question of the table, and one for the frames that they start together. The first so many
+/// questions are a list of their own, and so are the others; and a list without questions follows.
+fn answers_of_lists<X, D>(
+    alloc: Global,
+    cx: X,
+    rules: &Rules,
+    first_list: usize,
+) -> Result<Vec<u8>, Fail>
 where
     X: Cx<Input = Goal, Result = Outcome>,
     D: Delegate<Cx = X, ProofTreeBuilder = Builder>,
@@ -403,7 +470,7 @@ where
     for (depth, goal) in rules.questions() {
         queries.push((*depth, *goal, PathKind::Inductive))?;
     }
-    let (first, others) = queries.split_at_checked(1).ok_or("no question")?;
+    let (first, others) = queries.split_at_checked(first_list).ok_or("no question")?;
     let mut builder = Builder::new(true);
     let mut answers = Vec::new(alloc);
     for list in [first, others, &[]] {
