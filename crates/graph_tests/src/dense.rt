@@ -4,8 +4,10 @@ use crate::answers::{Table, TableDelegate, ask, is_definite, is_shown};
 use crate::plain_graph::ShownGraph;
 use delegate_parts::{Builder, Outcome};
 use rule_tables::{Goal, Rules};
+use search_graph::graph::SearchGraph;
 use search_parts::context::{Answer, Cx, Delegate};
 use search_parts::global_cache::GlobalCache;
+use search_parts::path::PathKind;
 use std::alloc::Global;
 use std::io::Write;
 use std::process::Abort;
@@ -233,7 +235,7 @@ where
     flaw_of_questions::<X, D>(alloc, &mut cache, rules, &ASKED_ANEW, said, counts)
 }
 
-/// The same of these questions over one cache.
+/// The same of these questions over one cache. As one list over a cache of its own, they have to get the same answers.
 fn flaw_of_questions<X, D>(
     alloc: Global,
     cache: &mut GlobalCache<D>,
@@ -246,9 +248,13 @@ where
     X: Cx<Input = Goal, Result = Outcome>,
     D: Delegate<Cx = X, ProofTreeBuilder = Builder>,
 {
+    let mut queries = Vec::new(alloc);
+    let mut answers = Vec::new(alloc);
     for (depth, name) in asked {
         let goal = rules.goal(name).ok_or("no goal")?;
         let answer = ask::<X, D>(alloc, cache, *depth, goal)?.answer;
+        queries.push((*depth, goal, PathKind::Inductive))?;
+        answers.push(answer)?;
         if *depth == 4 {
             counts.note(answer.result);
         }
@@ -259,7 +265,36 @@ where
             return Ok(Some(flaw));
         }
     }
+    let mut cache = GlobalCache::<D>::new(alloc, cache.cx());
+    if !has_answers::<X, D>(alloc, &mut cache, queries.as_slice(), answers.as_slice())? {
+        return Ok(Some("another answer in a list"));
+    }
     Ok(None)
+}
+
+/// Whether the list of queries gets these answers, with the same nodes.
+fn has_answers<X, D>(
+    alloc: Global,
+    cache: &mut GlobalCache<D>,
+    queries: &[(usize, Goal, PathKind)],
+    answers: &[Answer<Outcome>],
+) -> Result<bool, Fail>
+where
+    X: Cx<Input = Goal, Result = Outcome>,
+    D: Delegate<Cx = X, ProofTreeBuilder = Builder>,
+{
+    let mut builder = Builder::new(true);
+    let mut given = Vec::new(alloc);
+    SearchGraph::<D>::evaluate_list(cache, queries, &mut builder, &mut given)?;
+    if given.len() != answers.len() {
+        return Ok(false);
+    }
+    for (answer, wanted) in given.iter().zip(answers.iter()) {
+        if (*answer)? != *wanted {
+            return Ok(false);
+        }
+    }
+    Ok(true)
 }
 
 /// What is wrong with the graph that the answer names, to a plain check and to the checker. An answer that is not
