@@ -120,6 +120,63 @@ fn answers_and_counts(rt: HostRuntime) -> Result<(), Fail> {
     Ok(())
 }
 
+/// The inputs of `examples/` and the one of the README, each with what is answered to it as a whole.
+const EXAMPLES: [(&str, &str); 4] = [
+    ("rule A = i:B\nrule B = c:A\nask 4 A\n", "A yes 2\n"),
+    ("rule A = i:B\nrule B =\nask 1 A\n", "A yes 2\n"),
+    (
+        "\
+# A holds if B holds, and B holds if C holds, which is a fact.
+rule A = i:B
+rule B = i:C
+rule C =
+
+# Deep enough: three goals are worked out.
+ask 2 A
+
+# Too shallow: C is not asked any more, so A is neither proved nor refuted.
+ask 1 A
+
+# Z has no rules, so that it fails.
+ask 0 Z
+",
+        "A yes 3\nA maybe 2\nZ no 1\n",
+    ),
+    (
+        "\
+# All questions share one cache of results.
+rule A = i:B
+rule B = i:C
+rule C =
+
+# Too shallow: C is not asked. What A and B come to is kept for these depths alone.
+ask 1 A
+
+# Deep enough: all three goals are worked out, and their results hold at any greater depth.
+ask 2 A
+
+# So this starts no run.
+ask 5 A
+
+# Nor does this: the result for exactly this depth is still there.
+ask 1 A
+
+# B met the end of the depth at 0 alone, and holds from 1 on.
+ask 0 B
+ask 1 B
+",
+        "A maybe 2\nA yes 3\nA yes 0\nA maybe 0\nB maybe 0\nB yes 0\n",
+    ),
+];
+
+#[test]
+fn answers_the_examples(rt: HostRuntime) -> Result<(), Fail> {
+    for (input, out) in EXAMPLES {
+        expect_run(&rt, input.as_bytes(), 0, out, "")?;
+    }
+    Ok(())
+}
+
 #[test]
 fn tells_the_first_malformed_line(rt: HostRuntime) -> Result<(), Fail> {
     for line in MALFORMED {
