@@ -1,5 +1,5 @@
 -- The results of a goal, and of which sort they are.
-use Rattle.std.specs.Prelude.{Bool, true, false, Option, Some, None}
+use Rattle.std.specs.Prelude.{ℕ, Bool, true, false, List, codes, Option, Some, None}
 use Rattle.delegate_parts.specs.Below.{PathKind, Inductive, Unknown, Coinductive, ForcedAmbiguity, Verdicts}
 use Rattle.delegate_parts.specs.declared.outcome.Outcome.{Outcome}
 use Rattle.delegate_parts.specs.declared.outcome.Outcome.TheVariants.{Yes, No, Maybe, Overflow}
@@ -42,3 +42,10 @@ ambiguity_of Yes = None
 ambiguity_of No = None
 ambiguity_of Maybe = Some tt
 ambiguity_of Overflow = Some tt
+
+-- the word for the outcome
+abbrev pub word_of : Outcome → List ℕ
+word_of Yes = codes "yes"
+word_of No = codes "no"
+word_of Maybe = codes "maybe"
+word_of Overflow = codes "overflow"

@@ -67,6 +67,11 @@ impl Outcome {
 }
 
 impl fmt::Display for Outcome {
+    ghost use Rattle.std.specs.Prelude.{Some};
+    ghost use Rattle.delegate_parts.specs.Outcome.{word_of};
+
+    ghost output = { λ outcome. Some (word_of outcome) };
+
     fn fmt<W: fmt::Write>(&self, f: &mut fmt::Formatter<W>) -> fmt::Result {
         f.write_str(match self {
             Outcome::Yes => "yes",

@@ -9,3 +9,4 @@ pub mod Adding
 pub mod Lines
 pub mod Bytes
 pub mod Accepted
+pub mod Answered

@@ -2,7 +2,9 @@
 pub use Rattle.cycle_heads.specs.declared.memory.NoMemory.{NoMemory}
 pub use Rattle.cycle_heads.specs.declared.path.PathKind.{PathKind}
 pub use Rattle.cycle_heads.specs.declared.path.PathKind.TheVariants.{Coinductive, ForcedAmbiguity, Inductive, Unknown}
-pub use Rattle.delegate_parts.specs.Outcome.{is_no, is_yes}
+pub use Rattle.delegate_parts.specs.Builder.{started_in}
+pub use Rattle.delegate_parts.specs.Outcome.{is_no, is_yes, word_of}
+pub use Rattle.delegate_parts.specs.declared.builder.Builder.{Builder}
 pub use Rattle.delegate_parts.specs.declared.outcome.Outcome.{Outcome}
 pub use Rattle.delegate_parts.specs.declared.outcome.Outcome.TheVariants.{Maybe, No, Overflow, Yes}
 pub use Rattle.search_parts.specs.Definite.{HasGraph, IsDefinite}
@@ -12,7 +14,21 @@ pub use Rattle.search_parts.specs.Run.{Asked, EndsIn, Fits, is_counted, is_ignor
 pub use Rattle.search_parts.specs.Run.{progress_after, progress_with, questions_answered, request_after}
 pub use Rattle.search_parts.specs.Verdicts.{verdicts, Verdicts}
 pub use Rattle.search_parts.specs.Valid.{IsValid, IsValidFor}
+pub use Rattle.search_graph.specs.Below.{IsPaid}
+pub use Rattle.search_graph.specs.Graph.{IsCaused}
+pub use Rattle.search_graph.specs.Results.{AreDefinite, HaveNoOverflow}
+pub use Rattle.search_parts.specs.Cache.{Cache, KeepsFinished}
+pub use Rattle.search_parts.specs.Decisive.{IsDecisive}
+pub use Rattle.search_parts.specs.Hits.{first_accepted, Hit, usable}
+pub use Rattle.search_parts.specs.Rank.{IsPlainTo, IsPlainValue}
+unfoldable pub use Rattle.search_parts.specs.Rank.{frames_within}
+pub use Rattle.search_parts.specs.Store.{KeepsResults}
+pub use Rattle.search_parts.specs.declared.context.Cx.{Ghosts as CxOf}
+pub use Rattle.search_parts.specs.declared.context.Delegate.{Ghosts as DelegateOf}
+pub use Rattle.search_parts.specs.declared.context.Fault.{Fault}
+pub use Rattle.search_parts.specs.declared.context.Fault.TheVariants.{Conflict, Memory, Protocol, Validation}
 pub use Rattle.search_parts.specs.declared.context.Node.{Node}
+pub use Rattle.search_parts.specs.declared.context.NodeId.{NodeId}
 pub use Rattle.search_parts.specs.declared.context.Reply.{Reply}
 pub use Rattle.search_parts.specs.declared.context.Reply.TheVariants.{Answer, Begin, Noted}
 pub use Rattle.search_parts.specs.declared.context.Request.{Request}

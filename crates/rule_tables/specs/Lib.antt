@@ -10,5 +10,7 @@ pub mod Question
 pub mod Line
 pub mod Text
 pub mod Stop
+pub mod Told
+pub mod Answers
 pub mod Laws
 pub mod Below

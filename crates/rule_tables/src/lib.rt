@@ -8,6 +8,7 @@
 //! | `Table`, `Rules` | the table that a text makes, and what it says of goals |
 //! | `Frame`, `Standing` | the frame of a goal, and where it stands |
 //! | `Laws` | the laws of the delegate, with their proofs |
+//! | `Told`, `Answers` | the line of a question, and what a question came to |
 //! | `Stop` | why a program ends early |
 #![tactic(auto)]
 

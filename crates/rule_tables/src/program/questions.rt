@@ -1,5 +1,8 @@
 //! The questions of a table: each is asked, and told on a line.
-ghost use Rattle.std.specs.Prelude.{◌≡◌, ◌≢◌, ◌⊎◌, IfErr, IfOk};
+ghost use Rattle.std.specs.Prelude.{◌≡◌, ◌≢◌, ◌⊎◌, IfErr, IfOk, OnOk, Err};
+ghost use Rattle.std.specs.Io.KnownBytes.{Appends};
+ghost use Rattle.rule_tables.specs.Answers.{AreCountedStarts, IsAnswered};
+ghost use Rattle.rule_tables.specs.Told.{fault_word_of, is_fine, line_told, told_words, words_of_answer};
 
 use crate::program::Stop;
 use crate::program::shown::ShownNodes;
@@ -10,8 +13,8 @@ use search_parts::context::{Cx, Delegate, Fault};
 use search_parts::global_cache::GlobalCache;
 use search_parts::path::PathKind;
 use std::alloc::Global;
-use std::fmt;
 use std::io::{BufWriter, Write};
+use std::{fmt, io};
 
 /// What is checked of the answers.
 #[derive(Clone, Copy, Debug, PartialEq, Eq)]
@@ -32,6 +35,11 @@ pub(super) enum Check {
 }
 
 impl fmt::Display for Check {
+    ghost use Rattle.std.specs.Prelude.{Some};
+    ghost use Rattle.rule_tables.specs.Told.{check_words};
+
+    ghost output = { λ check. Some (check_words check) };
+
     fn fmt<W: fmt::Write>(&self, f: &mut fmt::Formatter<W>) -> fmt::Result {
         f.write_str(match self {
             Check::None => "",
@@ -63,36 +71,64 @@ where
     X: Cx<Input = Goal, Result = Outcome>,
     D: Delegate<Cx = X, ProofTreeBuilder = Builder>,
     W: Write,
-    ensures fault { IfErr result (λ stop. (stop ≡ Stop.InputOrOutput) ⊎ (stop ≡ Stop.Memory)) }
+    ensures { IfErr result (λ stop. (stop ≡ Stop.InputOrOutput) ⊎ (stop ≡ Stop.Memory)) }
 {
     // A write of its own for each line would take longer than a question that the cache answers.
     let mut out = BufWriter::new(alloc, out).map_err(|_| Stop::Memory)?;
     let mut cache = GlobalCache::<D>::new(alloc, cx);
     let mut shown = ShownNodes::new(alloc);
-    let mut all_answered = true;
-    for (depth, goal) in rules.questions() {
-        let told = ask(alloc, &mut cache, *depth, *goal, checks, &mut shown);
-        out.write_all(rules.name(*goal).unwrap_or(b""))?;
-        match told {
-            Ok(
-                Told {
-                    outcome,
-                    started,
-                    check,
-                },
-            ) => {
-                writeln!(out, " {outcome} {started}{check}")?;
-                all_answered &= check != Check::Refused;
-            }
-            Err(fault) => {
-                let word = fault_word(fault);
-                writeln!(out, " fault {word}")?;
-                all_answered = false;
-            }
-        }
+    let mut all_fine = true;
+    let questions = rules.questions();
+    for question in questions {
+        let (depth, goal) = *question;
+        let came = ask(alloc, &mut cache, depth, goal, checks, &mut shown);
+        all_fine &= came_fine(came);
+        write_line(&mut out, rules.name(goal).unwrap_or(b""), came)?;
     }
     out.flush()?;
-    Ok(all_answered)
+    Ok(all_fine)
+}
+
+// Whether no fault was met, and no graph refused.
+fn came_fine(came: Result<Told, Fault<Goal, Outcome>>) -> bool
+    ensures { result ≡ is_fine came }
+{
+    match came {
+        Ok(told) => told.check != Check::Refused,
+        Err(_) => false,
+    }
+}
+
+fn write_line<W: Write>(
+    out: &mut W,
+    name: &[u8],
+    came: Result<Told, Fault<Goal, Outcome>>,
+) -> io::Result<()>
+    ensures { OnOk result (Appends (W.contents out.old) (W.contents out.new) (line_told name.now came)) }
+{
+    out.write_all(name)?;
+    match came {
+        Ok(told) => write_told(out, told),
+        Err(fault) => write_fault(out, fault),
+    }
+}
+
+fn write_told<W: Write>(out: &mut W, told: Told) -> io::Result<()>
+    ensures { OnOk result (Appends (W.contents out.old) (W.contents out.new) (told_words told)) }
+{
+    let Told {
+        outcome,
+        started,
+        check,
+    } = told;
+    writeln!(out, " {outcome} {started}{check}")
+}
+
+fn write_fault<W: Write>(out: &mut W, fault: Fault<Goal, Outcome>) -> io::Result<()>
+    ensures { OnOk result (Appends (W.contents out.old) (W.contents out.new) (words_of_answer (Err fault))) }
+{
+    let word = fault_word(fault);
+    writeln!(out, " fault {word}")
 }
 
 /// Asks the goal at this depth, and checks the graph of a definite answer if that is wanted.
@@ -108,7 +144,11 @@ where
     X: Cx<Input = Goal, Result = Outcome>,
     D: Delegate<Cx = X, ProofTreeBuilder = Builder>,
     // A graph that is handed out is accepted.
-    ensures { IfOk result (λ told. told.check ≢ Check.Refused) }
+    ensures accepted { IfOk result (λ told. told.check ≢ Check.Refused) }
+
+    // Where starts are those that the builder counts, this is the search's answer at this depth, with its frames.
+    ensures answered { AreCountedStarts D.starts → IsAnswered D.Delegate X.Cx ⟦<Goal as PartialEq>⟧.eq
+        cache.old (record { question = (depth, goal); came = result }) cache.new }
 {
     let mut graph = SearchGraph::<D>::new(alloc, depth);
     let mut builder = Builder::new(true);
@@ -130,7 +170,9 @@ where
     })
 }
 
-pub(super) fn fault_word(fault: Fault<Goal, Outcome>) -> &'static str {
+pub(super) fn fault_word(fault: Fault<Goal, Outcome>) -> &'static str
+    ensures { result.now ≡ fault_word_of fault }
+{
     match fault {
         Fault::Memory => "memory",
         Fault::Conflict { .. } => "conflict",

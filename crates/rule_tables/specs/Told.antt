@@ -1,0 +1,48 @@
+-- What a question came to, and the line that tells it.
+use Rattle.std.specs.Prelude.{ℕ, Bool, true, false, List, [], ◌∷◌, ◌++◌, Result, Ok, Err, codes, decimal}
+use Rattle.rule_tables.specs.Below.{Fault, Memory, Conflict, Validation, Protocol, Outcome, word_of}
+use Rattle.rule_tables.specs.declared.rules.Goal.{Goal}
+use Rattle.rule_tables.specs.declared.program.questions.Told.{Told}
+use Rattle.rule_tables.specs.declared.program.questions.Check.{Check}
+use Rattle.rule_tables.specs.declared.program.questions.Check.TheVariants.{None, Accepted, Refused}
+
+-- a question, by its depth and its goal, and what it came to
+pub record Answered : Type 0 where
+  pub question : ℕ × Goal
+  pub came : Result Told (Fault Goal Outcome)
+
+abbrev is_accepted : Check → Bool
+is_accepted None = true
+is_accepted Accepted = true
+is_accepted Refused = false
+
+-- no fault was met, and no graph refused
+abbrev pub is_fine : Result Told (Fault Goal Outcome) → Bool
+is_fine (Ok told) = is_accepted told.check
+is_fine (Err fault) = false
+
+-- what follows the number of frames
+abbrev pub check_words : Check → List ℕ
+check_words None = []
+check_words Accepted = codes " checked"
+check_words Refused = codes " unchecked"
+
+-- the fault's word
+abbrev pub fault_word_of : Fault Goal Outcome → List ℕ
+fault_word_of Memory = codes "memory"
+fault_word_of (Conflict input stored found) = codes "conflict"
+fault_word_of (Validation input stored found) = codes "validation"
+fault_word_of (Protocol number) = codes "protocol"
+
+-- what follows the name: ` yes 3 checked`, and a newline
+abbrev pub told_words : Told → List ℕ
+told_words told = codes " " ++ word_of told.outcome ++ codes " " ++ decimal told.started ++ check_words told.check ++ codes "\n"
+
+-- the same, or ` fault memory` and a newline
+abbrev pub words_of_answer : Result Told (Fault Goal Outcome) → List ℕ
+words_of_answer (Ok told) = told_words told
+words_of_answer (Err fault) = codes " fault " ++ fault_word_of fault ++ codes "\n"
+
+-- the line of a question: its goal's name, and what it came to
+abbrev pub line_told : List ℕ → Result Told (Fault Goal Outcome) → List ℕ
+line_told name came = name ++ words_of_answer came
