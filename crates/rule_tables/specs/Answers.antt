@@ -1,7 +1,8 @@
--- What a question came to, by what the search promises.
-use Rattle.std.specs.Prelude.{◌≡◌, ℕ, ◌≤◌, max, Bool, true, false, Option, IfSome, Result, IfOk, IfErr}
+-- What the answers of questions are, one after another over one cache.
+use Rattle.std.specs.Prelude.{◌≡◌, ℕ, ◌≤◌, max, Bool, true, false, List, [], ◌∷◌, map, Option, IfSome, Result, IfOk, IfErr}
+use Rattle.std.specs.List.{list_all}
 use Rattle.rule_tables.specs.Below.{CxOf, DelegateOf, Builder, started_in, Cache, NodeId, Fault, Memory, Outcome, verdicts, HasGraph, IsDefinite, IsPlainTo, IsPlainValue, IsDecisive, AreDefinite, HaveNoOverflow, IsPaid, IsCaused, first_accepted, usable, KeepsFinished, KeepsResults, frames_within}
-use Rattle.rule_tables.specs.Told.{Answered}
+use Rattle.rule_tables.specs.Told.{Answered, is_fine}
 use Rattle.rule_tables.specs.declared.rules.Goal.{Goal}
 
 -- the starts of frames are those that the builder counts
@@ -29,3 +30,16 @@ module _ {D C V P F A T : Type 0} (G : DelegateOf D C V P F Goal Outcome A T) (X
     pub same_context : after.cx ≡ before.cx
     pub kept_results : KeepsResults same before.results after.results
     pub kept : KeepsFinished before.nodes after.nodes
+
+  -- the questions were answered in this order, each over the cache that the one before it left
+  abbrev pub InTurn : Cache C Goal Outcome A T → List Answered → Cache C Goal Outcome A T → Type 0
+  InTurn before [] after = before ≡ after
+  InTurn before (first ∷ others) after = (between : Cache C Goal Outcome A T) × IsAnswered before first between × InTurn between others after
+
+  -- The questions, all of them and in this order, were answered in turn; `all_fine` says that none met a fault and no graph was
+  -- refused.
+  pub record AreAnswered (before : Cache C Goal Outcome A T) (questions : List (ℕ × Goal)) (after : Cache C Goal Outcome A T) (all_fine : Bool) : Type 0 where
+    pub answered : List Answered
+    pub are_questions : map (λ a. a.question) answered ≡ questions
+    pub in_turn : InTurn before answered after
+    pub fine : all_fine ≡ list_all (λ a. is_fine a.came) answered

@@ -5,7 +5,6 @@ pub mod moves
 pub mod Promises
 pub mod Storing
 pub mod FinishedRuns
-
 pub mod DoneGoals
 pub mod answers
 pub mod entries

@@ -1,8 +1,10 @@
 //! The questions of a table: each is asked, and told on a line.
-ghost use Rattle.std.specs.Prelude.{◌≡◌, ◌≢◌, ◌⊎◌, IfErr, IfOk, OnOk, Err};
+ghost use Rattle.std.specs.Prelude.{◌≡◌, ◌≢◌, ◌⊎◌, [], IfErr, IfOk, OnOk, Err};
 ghost use Rattle.std.specs.Io.KnownBytes.{Appends};
-ghost use Rattle.rule_tables.specs.Answers.{AreCountedStarts, IsAnswered};
+ghost use Rattle.rule_tables.specs.Answers.{AreAnswered, AreCountedStarts, IsAnswered};
+ghost use Rattle.rule_tables.specs.Below.{Cache};
 ghost use Rattle.rule_tables.specs.Told.{fault_word_of, is_fine, line_told, told_words, words_of_answer};
+ghost use Rattle.rule_tables.specs.Words.{questions_of};
 
 use crate::program::Stop;
 use crate::program::shown::ShownNodes;
@@ -71,7 +73,12 @@ where
     X: Cx<Input = Goal, Result = Outcome>,
     D: Delegate<Cx = X, ProofTreeBuilder = Builder>,
     W: Write,
-    ensures { IfErr result (λ stop. (stop ≡ Stop.InputOrOutput) ⊎ (stop ≡ Stop.Memory)) }
+    // Where starts are those that the builder counts, all questions were asked in order, from an empty cache on.
+    ensures answered { AreCountedStarts D.starts → IfOk result (λ all_fine.
+        (after : Cache X Goal Outcome X.AmbiguityInfo X.DepNodeIndex) × AreAnswered D.Delegate X.Cx
+        ⟦<Goal as PartialEq>⟧.eq (record { cx = cx; nodes = []; results = [] }) (questions_of rules.now) after
+        all_fine) }
+    ensures fault { IfErr result (λ stop. (stop ≡ Stop.InputOrOutput) ⊎ (stop ≡ Stop.Memory)) }
 {
     // A write of its own for each line would take longer than a question that the cache answers.
     let mut out = BufWriter::new(alloc, out).map_err(|_| Stop::Memory)?;
