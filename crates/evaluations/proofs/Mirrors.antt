@@ -1,4 +1,4 @@
--- A driver's items mirror the frames from move to move.
+-- The items of a search mirror the frames from move to move.
 use Rattle.std.proofs.Common.{◌≡◌, ℕ, ◌+◌, ◌*◌, ◌<◌, ◌≤◌, Bool, true, false, inl, inr, List, [], ◌∷◌, map, Some, refl, sym, ◌∙◌, ap, ap₂, subst, arith}
 use Rattle.evaluations.specs.Below.{Request, Reply, Evaluate, Done, Begin, Answer, PathKind, frames_within, IsPlainTo, HasNoRank, request_after, IsReplyTo, IsFitting}
 use Rattle.evaluations.specs.Words.{Frame, Outcome, fresh, stepped, replied, answered, refused, run_again, IsAllowed, IsSafeOutcome, IsOnStack, LeavesOutcome, HasRoom, frames_ahead, frames_ahead_of, steps_in_runs, steps_ahead, at, Limits, IsStarted, Move, Pushed, Answered, Refused, RunAgain, Popped, PoppedAtLimit, IsEvaluating, Ends, Stops, with_replies, IsSeen, IsPending, AreSeen, Mirror, work, Waits, HasRequested, TakesStep, TakesReply, ItemLeaves, IsAmong}
@@ -61,7 +61,7 @@ module _ {E I R : Type 0} (seen : E → Frame I R) (stands : E → List (Reply R
   pub step_requests : (reply : Reply R) (request : Request I R) (old new : E) (es : List E) (starts : ℕ) (met : Bool) → TakesStep seen stands scripts reply request old new → Waits seen stands scripts limits is_counted top bound reply (old ∷ es) starts met → HasRequested seen stands scripts limits is_counted top bound (work seen stands scripts limits is_counted top bound (old ∷ es)) request (new ∷ es) starts met
   step_requests reply request old new es starts met t h = requests_at reply request old new es starts met h.frames t h.mirror h.evaluating
 
-  -- and what the driver does then, where it is a move
+  -- and what the search does then, where it is a move
   pub move_waits : 1 ≤ limits.runs → (ahead : ℕ) (request : Request I R) (reply : Reply R) (items later : List E) (starts now : ℕ) (met after : Bool) (frames : List (Frame I R)) (h : HasRequested seen stands scripts limits is_counted top bound ahead request items starts met) → Move scripts limits is_counted (at (h.f ∷ h.below) starts met) (at frames now after) → Mirror seen stands reply later frames → Waits seen stands scripts limits is_counted top bound reply later now after × (work seen stands scripts limits is_counted top bound later < ahead)
   move_waits some ahead request reply items later starts now met after frames h move mirror =
       let on = move_goes_on scripts limits is_counted top bound some (at (h.f ∷ h.below) starts met) (at frames now after) move h.evaluating in
@@ -69,7 +69,7 @@ module _ {E I R : Type 0} (seen : E → Frame I R) (stands : E → List (Reply R
       let l : steps_ahead limits.runs limits.width frames < steps_ahead limits.runs limits.width (h.f ∷ h.below) = on.falls in
       (record { frames = frames; mirror = mirror; evaluating = on.evaluating }, rw (← same, ← h.ahead_is) l)
 
-  -- ---- what the driver does after a step, in its own terms
+  -- ---- what the search does after a step, in its own terms
 
   abbrev Requested : ℕ → Request I R → List E → ℕ → Bool → Type 0
   Requested = HasRequested seen stands scripts limits is_counted top bound
@@ -216,7 +216,7 @@ module _ {E I R : Type 0} (seen : E → Frame I R) (stands : E → List (Reply R
       failed_start_stops scripts limits is_counted top bound now (at (h.f ∷ h.below) starts met) (run_again (stepped h.f h.left) 0 ∷ h.below)
       (rerun_spends I R limits.runs limits.width h.f h.below h.left 0 (omega arith) h.falls (omega arith)) more one h.evaluating
 
-  -- ---- what a driver knows after a request
+  -- ---- what a search knows after a request
 
   seen_back : (e : E) (f : Frame I R) (left : ℕ) → IsSeen seen stands e (stepped f left) → (f.goal ≡ (seen e).goal) × (f.available ≡ (seen e).available) × (f.met_overflow ≡ (seen e).met_overflow) × (f.in_cycle ≡ (seen e).in_cycle)
   seen_back e f left s = (ap (λ g. g.goal) s.is, ap (λ g. g.available) s.is, ap (λ g. g.met_overflow) s.is, ap (λ g. g.in_cycle) s.is)

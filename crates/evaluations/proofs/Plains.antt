@@ -220,7 +220,7 @@ module _ {I R : Type 0} (scripts : I → List (Reply R) → Request I R) where
       → AreSafe scripts (f ∷ below) → Asks scripts f goal → IsOnStack scripts goal (f ∷ below) → HasNoRank scripts goal
   cycle_has_no_rank f below goal safe asks on n p = no_rank_under goal f below safe asks on (suc n) n (omega arith) p
 
-  -- For a goal without a rank every outcome is safe: that of a cycle, and that of a provisional answer.
+  -- For a goal without a rank every outcome is safe: that of a cycle, and that of a provisional entry.
   pub unranked_is_safe :
       (goal : I) (depth : ℕ) (o : Outcome R)
       → HasNoRank scripts goal → o.required ≤ depth → IsSafeOutcome scripts goal depth o

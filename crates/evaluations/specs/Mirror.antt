@@ -1,4 +1,4 @@
--- How a driver's list of items, of which the newest stands first, mirrors the frames: an item gives all of its frame but the
+-- How a search's list of items, of which the newest stands first, mirrors the frames: an item gives all of its frame but the
 -- replies, at which it stands.
 use Rattle.std.specs.Prelude.{◌≡◌, ℕ, ◌<◌, List, [], ◌∷◌, map, Bool, true, ◌⊎◌, Some, ◌||◌}
 use Rattle.evaluations.specs.Below.{Request, Reply, request_after, IsFitting}

@@ -25,13 +25,13 @@
 //! | `Starts` | how many frames and steps are still ahead, which is also a loop's measure |
 //! | `Price` | the price of a limit |
 //! | `Evaluation`, `EvaluationLaws` | the moves, and all of this as one invariant, `IsEvaluating` |
-//! | `Mirror` | a driver's list of items seen as frames |
+//! | `Mirror` | the goals of a search, seen as frames |
 //!
 //! That each move keeps one of the three is said by the lemmas of `proofs/Plains`, `Counts` and `Prices`.
 //!
-//! A driver has no frames of this kind but items of its own. `Mirror` says how its items are seen as frames,
-//! `Mirror.Waits` is its loop's invariant and `Mirror.work` its measure, and `proofs/Mirrors` has one lemma
-//! for each branch of the loop.
+//! A search has no frames of this kind but items of its own, one for each goal under evaluation. `Mirror` says
+//! how its items are seen as frames, `Mirror.Waits` is its loop's invariant and `Mirror.work` its measure, and
+//! `proofs/Mirrors` has one lemma for each branch of the loop.
 #![tactic(auto)]
 
 pub mod evaluation;

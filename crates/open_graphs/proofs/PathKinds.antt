@@ -61,7 +61,7 @@ through_same (x ∷ es) top again zero k (suc depth) e = refl
 through_same (x ∷ es) top again (suc highest) k zero e = greatest_same es top again (suc highest) k e
 through_same (x ∷ es) top again (suc highest) k (suc depth) e = through_same es top again highest k depth e
 
--- what is stored at the top is the path kind through it, and after the top is popped that through its new highest head
+-- the path kind on record at the top is that through it, and after the top is popped that through its new highest head
 pub through_top : (below : List Entry) (top : Entry) (path depth : ℕ) → depth ≤ length below → path_through (below ++ top ∷ []) (length below) path depth ≡ path_kind (below ++ top ∷ []) path depth
 through_top below top path depth h = ap (λ x. path_through (below ++ top ∷ []) (length below) x depth) (sym (path_kind_top below top path)) ∙ through_step (below ++ top ∷ []) (length below) path depth h
 

@@ -1,4 +1,4 @@
--- Stored answers when their highest head is popped.
+-- What becomes of provisional entries when their highest head is popped.
 use Rattle.std.proofs.Common.{◌≡◌, ◌≢◌, ℕ, max, ◌<◌, List, [], ◌∷◌, ◌++◌, Some, length, slice_get, arith, refl, ap, sym, subst, ◌⊎◌, inl, inr}
 use Rattle.std.proofs.lemmas.Option.{slice_get_within}
 use native.Mathlib.Decide.{ℕ_discrete}
@@ -107,7 +107,7 @@ module _ (nodes : List Node) (verdict : Verdict) (below : List Entry) (top : Ent
     covered = λ depth entry q on at w. covered depth entry q on at (split_path old new top.node elsewhere w);
   }
 
--- what was stored under the top as its highest head is used by the path kind through the top
+-- a provisional entry with the top as its highest head is used by the path kind through the top
 from_top : (nodes : List Node) (verdict : Verdict) (below : List Entry) (top : Entry) (path a : ℕ) (heads : Heads) → ProvisionalUse nodes verdict (below ++ top ∷ []) (length below) path a heads → Use nodes verdict (below ++ top ∷ []) (path_kind (below ++ top ∷ []) path) 0 a heads
 from_top nodes verdict below top path a heads s =
     along nodes verdict (below ++ top ∷ []) (path_through (below ++ top ∷ []) (length below) path) (path_kind (below ++ top ∷ []) path) a heads (length below) s.within

@@ -23,12 +23,12 @@ same_cycles Neither w h h' e = absurd (h refl)
 same_cycles v Neither h h' e = absurd (h' refl)
 same_cycles _ _ h h' e = absurd (omega arith)
 
--- a stored answer at equal data
+-- a provisional entry at equal data
 stored_at : (nodes : List Node) (below : List Entry) (verdict verdict' : Verdict) (highest path path' node node' : ℕ) (heads : Heads) → verdict' ≡ verdict → path' ≡ path → node' ≡ node → ProvisionalUse nodes verdict below highest path node heads → ProvisionalUse nodes verdict' below highest path' node' heads
 stored_at nodes below verdict verdict' highest path path' node node' heads e e' e'' s =
     subst (λ v. ProvisionalUse nodes v below highest path' node' heads) (sym e) (subst (λ p. ProvisionalUse nodes verdict below highest p node' heads) (sym e') (subst (λ n. ProvisionalUse nodes verdict below highest path n heads) (sym e'') s))
 
--- a stored answer that the popped entry is not reached from
+-- a provisional entry from which the popped goal's node is not reached
 moved_unreached : (nodes : List Node) (below : List Entry) (top : Entry) (k after : ProvisionalEntry) → IsMoved below top k after → Unreached nodes k.verdict (below ++ top ∷ []) k.node top.node → ProvisionalUse nodes k.verdict (below ++ top ∷ []) k.highest k.path k.node k.heads → ProvisionalUse nodes after.verdict below after.highest after.path after.node after.heads
 moved_unreached nodes below top k after m un s =
     stored_at nodes below k.verdict after.verdict after.highest (max k.path (path_kind below top.step after.highest)) after.path k.node after.node after.heads m.same_verdict m.path m.same_node
@@ -42,7 +42,7 @@ moved_rebased nodes below top verdict top_heads k after u m e keeps takes s =
     (subst (λ v. Use nodes v below (path_kind below top.step) 0 top.node top_heads) (sym e) u) keeps m.heads takes m.on_stack m.within
     (subst (λ h. ProvisionalUse nodes k.verdict (below ++ top ∷ []) h k.path k.node k.heads) m.was s))
 
--- What is stored under a popped head may be stored without it, where `AfterPop` leaves it. Where the head reached its fixpoint
+-- A provisional entry under a popped head may be used without it, where `AfterPop` leaves it. Where the head reached its fixpoint
 -- with a verdict, its own answer may be used below.
 pub fixpoint_keeps_stored :
     (nodes : List Node) (below : List Entry) (top : Entry) (verdict : Verdict) (top_heads : Heads) (k after : ProvisionalEntry)

@@ -11,7 +11,7 @@ included heads depth path cycle h = h
 pub along : (nodes : List Node) (verdict : Verdict) (stack : List Entry) (from_head other : ℕ → ℕ) (a : ℕ) (heads : Heads) (highest : ℕ) → HeadsWithin heads highest → ((depth : ℕ) → depth ≤ highest → from_head depth ≡ other depth) → Use nodes verdict stack from_head 0 a heads → Use nodes verdict stack other 0 a heads
 along nodes verdict stack from_head other a heads highest within same u = heads_keep_use nodes verdict stack from_head other 0 a heads heads (included heads) (λ depth path cycle h. same depth (within depth path cycle h)) u
 
--- A finished goal's answer may be stored under its highest head, with the path kind from there.
+-- A finished goal's answer may become a provisional entry, with its highest head and the path kind from there.
 pub use_gives_stored :
     (nodes : List Node) (verdict : Verdict) (stack : List Entry) (step a : ℕ) (heads : Heads) (highest : ℕ)
     → highest < length stack → HeadsWithin heads highest → Use nodes verdict stack (path_kind stack step) 0 a heads
@@ -31,7 +31,7 @@ stored_gives_use nodes verdict stack step a heads highest path same s =
     along nodes verdict stack (path_through stack highest path) (path_kind stack step) a heads highest s.within
     (λ depth h. ap (λ x. path_through stack highest x depth) (sym same) ∙ through_step stack highest step depth h) s.use_there
 
--- What is stored stays while the list grows.
+-- A provisional entry stays right while the list grows.
 pub growth_keeps_stored :
     (before after : List Node) (verdict : Verdict) (stack : List Entry) (highest path a : ℕ) (heads : Heads)
     → Grown before after → ProvisionalUse before verdict stack highest path a heads

@@ -44,7 +44,7 @@ DoneIsAnswered =
     → TakesIn (length below) step answer heads
     → IsAnsweredEdge nodes verdict below top (record { kind = step; target = a }) heads
 
--- The asked goal has a provisional answer, and the path kind from its highest head is the stored one.
+-- The asked goal has a provisional entry, and the path kind from its highest head is the entry's.
 abbrev pub ProvisionalIsAnswered : Type 0
 ProvisionalIsAnswered =
     (nodes : List Node) (verdict : Verdict) (below : List Entry) (top : Entry) (step highest path a : ℕ)

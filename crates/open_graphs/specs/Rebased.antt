@@ -1,4 +1,4 @@
--- The rule by which the provisional answers are rebased when the newest entry is popped, and that each answer with a verdict
+-- The rule by which the provisional entries are rebased when the newest goal is popped, and that each entry with a verdict
 -- that it leaves is one of `AfterPop`. A path of no step is none of the paths here.
 use Rattle.std.specs.Prelude.{◌≡◌, ◌≢◌, ℕ, max, ◌≤◌, ◌<◌, List, [], ◌∷◌, ◌++◌, Option, Some, None, length, ◌⊎◌, Bool, IsTrue}
 use Rattle.open_graphs.specs.Graph.{Verdict, Yes, No, Neither, Node}
@@ -97,7 +97,7 @@ pub record IsTakenOut (below : List Entry) (top : Entry) (own others : ℕ → B
   pub highest : (depth : ℕ) → IsLeftHead (length below) own others depth → depth ≤ after.highest
   pub only : (depth cycle : ℕ) → (after.heads depth).usages cycle ≢ 0 → IsLeftHead (length below) own others depth
 
--- What a provisional answer is after the pop. One that isn't left stands in no relation: without heads, after a failed path
+-- What a provisional entry is after the pop. One that isn't left stands in no relation: without heads, after a failed path
 -- test, or with a result that isn't left.
 pub data RebasedBy (reason : Reason) (below : List Entry) (top : Entry) (own others : ℕ → Bool) (top_heads : Heads) : ProvisionalEntry → ProvisionalEntry → Type 0 where
   Stays : {k : ProvisionalEntry} → k.highest ≢ length below → RebasedBy reason below top own others top_heads k k
@@ -121,7 +121,7 @@ pub record IsRebasable (reason : Reason) (below : List Entry) (top : Entry) (own
   pub top_within : (depth : ℕ) → IsTrue (others depth) → depth < length below
   pub on_stack : k.highest ≤ length below
 
--- What the rule leaves with a verdict is a provisional answer after the pop.
+-- What the rule leaves with a verdict is a provisional entry after the pop.
 abbrev pub RebasedIsAfterPop : Type 0
 RebasedIsAfterPop =
     (reason : Reason) (below : List Entry) (top : Entry) (own others : ℕ → Bool) (verdict : Verdict)
@@ -130,7 +130,7 @@ RebasedIsAfterPop =
     → RebasedBy reason below top own others top_heads k after
     → AfterPop below top verdict top_heads k after
 
--- Each answer with a verdict that the rule leaves may be stored without the popped entry.
+-- Each entry with a verdict that the rule leaves may be used over the goals below the popped one.
 abbrev pub RebasedKeepsStored : Type 0
 RebasedKeepsStored =
     (nodes : List Node) (reason : Reason) (below : List Entry) (top : Entry) (own others : ℕ → Bool)

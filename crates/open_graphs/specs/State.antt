@@ -15,7 +15,7 @@ pub record RunningGoal : Type 0 where
   pub heads_before : Heads
   pub heads : Heads
 
--- a provisional answer: its highest head and the path kind from there, its node, and its heads
+-- a provisional entry: its highest head and the path kind from there, its node, and its heads
 pub record ProvisionalEntry : Type 0 where
   pub verdict : Verdict
   pub highest : ℕ
@@ -76,7 +76,7 @@ abbrev pub AllApart : List RunningGoal → Type 0
 AllApart [] = Unit {0}
 AllApart (f ∷ fs) = OwnsOther f.own fs × AllApart fs
 
--- each provisional answer is stored
+-- each provisional entry may be used over the stack
 abbrev pub AllProvisional : List Node → List Entry → List ProvisionalEntry → Type 0
 AllProvisional nodes stack provisional_entries =
     (i : ℕ) (k : ProvisionalEntry)
@@ -88,8 +88,8 @@ AllFinal nodes stack finals =
     (i : ℕ) (f : Final)
     → slice_get finals i ≡ Some f → Use nodes f.verdict stack (λ depth. 0) 0 f.node no_heads
 
--- The state of an evaluation: the list, the frames with the newest first, the provisional answers with a verdict, and the
--- final ones.
+-- The state of an evaluation: the list, the frames with the newest first, the provisional entries with a verdict, and the
+-- final answers.
 pub record IsSoundState (nodes : List Node) (frames : List RunningGoal) (provisional : List ProvisionalEntry) (final : List Final) : Type 0 where
   pub is_stack : IsStack nodes (stack_of frames)
   pub running : AllRunning nodes frames
@@ -97,7 +97,7 @@ pub record IsSoundState (nodes : List Node) (frames : List RunningGoal) (provisi
   pub stored : AllProvisional nodes (stack_of frames) provisional
   pub closed : AllFinal nodes (stack_of frames) final
 
--- a provisional answer with new heads, and the path kind from the new highest one
+-- a provisional entry with new heads, and the path kind from the new highest one
 pub record IsMoved (below : List Entry) (top : Entry) (k after : ProvisionalEntry) : Type 0 where
   pub was : k.highest ≡ length below
   pub same_verdict : after.verdict ≡ k.verdict
@@ -119,7 +119,7 @@ pub record IsOther (verdict : Verdict) (top : Entry) (depth : ℕ) (heads : Head
   pub result : top.provisional ≢ Some verdict
   pub kinds : top.provisional ≡ None → (path : ℕ) → Recorded heads depth path (cycle_kind verdict) → ⊥
 
--- What a provisional answer is after the newest entry was popped: unchanged where its highest head lies lower; with other
+-- What a provisional entry is after the newest goal was popped: unchanged where its highest head lies lower; with other
 -- heads where it used the popped entry not at all, or only by cycles that were answered with another verdict than its own;
 -- and where the popped entry reached its fixpoint with a verdict, each cycle through it keeps its kind, and its heads are
 -- taken over.

@@ -24,7 +24,7 @@ AnswersKeepSound =
     → IsSoundState nodes (f ∷ frames) provisional final
     → IsSoundState nodes (answering f edges heads ∷ frames) provisional final
 
--- The provisional answers after a goal is done: those that `AfterPop` leaves, and perhaps the goal's own answer.
+-- The provisional entries after a goal is done: those that `AfterPop` leaves, and perhaps the goal's own answer.
 pub data IsLeft (below : List Entry) (top : Entry) (verdict : Verdict) (a : ℕ) (heads : Heads) (provisional : List ProvisionalEntry) :
     ProvisionalEntry → Type 0 where
   Survives :
@@ -54,7 +54,7 @@ PopKeepsSound =
     → IsSoundState later frames left done
     × (verdict ≢ Neither → Use later verdict (stack_of frames) (path_kind (stack_of frames) f.entry.step) 0 a f.heads)
 
--- The provisional answers after a goal is run again: those that record no usage of it.
+-- The provisional entries after a goal is run again: those that record no usage of it.
 abbrev pub LeftByRerun : List Entry → List ProvisionalEntry → List ProvisionalEntry → Type 0
 LeftByRerun below before after =
     (i : ℕ) (k : ProvisionalEntry)

@@ -1,9 +1,9 @@
--- A stored answer whose highest head is popped, and that goes on with the popped entry's heads.
+-- A provisional entry whose highest head is popped takes over the heads of that goal.
 use Rattle.std.specs.Prelude.{◌≡◌, ℕ, max, List, length}
 use Rattle.open_graphs.specs.Stack.{Entry, path_kind}
 use Rattle.open_graphs.specs.Use.{Heads, Recorded}
 
--- each cycle through the popped entry has the same kind with the way over the stored answer in it
+-- each cycle through the popped entry has the same kind with the way over the provisional entry in it
 abbrev pub KeepsCycleKinds : List Entry → Entry → ℕ → Heads → Heads → Type 0
 KeepsCycleKinds below top path heads top_heads =
     (depth top_path top_cycle own_path own_cycle : ℕ)

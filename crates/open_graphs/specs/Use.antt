@@ -65,7 +65,7 @@ Unreached nodes verdict stack a b = (q : ℕ) → Walk (Step nodes verdict stack
 abbrev pub HeadsWithin : Heads → ℕ → Type 0
 HeadsWithin heads highest = (depth path cycle : ℕ) → Recorded heads depth path cycle → depth ≤ highest
 
--- a provisional entry, for when its goal is asked later: it holds wherever the path kind from its highest head is the stored one
+-- a provisional entry, for when its goal is asked later: it holds wherever the path kind from its highest head is the entry's
 pub record ProvisionalUse (nodes : List Node) (verdict : Verdict) (stack : List Entry) (highest path a : ℕ) (heads : Heads) : Type 0 where
   pub on_stack : highest < length stack
   pub within : HeadsWithin heads highest

@@ -15,7 +15,8 @@
 //!   its leaf, and how often a cycle of each kind was answered by it.
 //! - An answer with an open graph may be *used* over a stack where the recorded heads cover each path to a
 //!   leaf, and each of these heads answered cycles of that kind with the answer's own verdict.
-//! - An answer is *stored*, as a provisional one, with its highest head and the path kind from there.
+//! - A *provisional entry* is such an answer for later questions, with its highest head and the path kind from
+//!   there. A *final answer* has no heads.
 //! - The runs of a goal that is run again change its provisional result. The node of its answer is that of
 //!   the first run of its last unbroken stretch of runs with the answer's verdict, and not that of its last
 //!   run, whose cycles may lead to the earlier node.
@@ -32,14 +33,14 @@
 //! How answers come about and what they outlast is said by the lemmas of `proofs/`: `Answers`, `Finish`,
 //! `Keep` and `Closed` for answers that may be used, `Store` and `Rebase` for provisional entries, `Runs` for runs.
 //!
-//! A driver carries `State.IsSoundState` along, one theorem of `state` for each of its moves, and takes the graph
-//! of an answer from `state::final_is_graph`. Beside it a driver has to show what this theory does not
+//! A search carries `State.IsSoundState` along by one theorem of `state` for each of its moves, and has the graph
+//! of an answer by `state::final_is_graph`. Beside that a search has to show what this theory does not
 //! speak of: that an edge leads to a node of the goal that it asks, and that a node's goal is proved or
 //! refuted by its edges' questions.
 //!
 //! Of a count of usages the theory asks only whether it is zero. A path of no step is not among the paths of
 //! a head, so the rule of rebasing may add more paths than `Rebased` asks for. Answers that are neither yes
-//! nor no are not in the state. Which stored answers the rule drops is not said here.
+//! nor no are not in the state. Which provisional entries the rule drops is not said here.
 //!
 //! `proofs/RerunExample` puts the definitions to use on a small search.
 #![tactic(auto)]

@@ -16,7 +16,7 @@ pub fn moves_keep_sound()
 {}
 
 /// The newest run may be answered by a goal on the stack, by a goal that was just evaluated, by a
-/// provisional answer, and by a final one.
+/// provisional entry, and by a final answer.
 pub fn answer_keeps_sound()
     ensures one_more { OneAnswerKeepsSound }
     ensures cycle { CycleIsAnswered }
