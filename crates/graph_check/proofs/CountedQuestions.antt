@@ -1,4 +1,4 @@
--- Edges are compared one by one with the questions that a record keeps.
+-- Edges are compared one by one with the questions that a record has.
 use Rattle.std.proofs.Common.{◌≡◌, ◌↔◌, ℕ, List, map, drop}
 use Rattle.std.specs.List.{filter}
 use Rattle.graph_check.specs.Below.{Edge, Question, question_of}

@@ -111,7 +111,7 @@ module _ {I R : Type 0} (test : R → Bool) (p : Replayed I R) (done : Progress 
   counted_by_number None = refl
   counted_by_number (Some n) = ap not (sym (h.ignored_are n))
 
-  -- the record keeps the questions that the result rests on
+  -- the record has the questions that the result rests on
   pub counted_are_answered : questions_counted p ≡ questions_answered test done
   counted_are_answered =
       filtered_halves asked_in (counted_by p.ignored) p.asked

@@ -1,4 +1,4 @@
--- How far a run has come that is replayed, and what its record keeps of it. The newest reply stands first.
+-- How far a run has come that is replayed, and what its record has of it. The newest reply stands first.
 use Rattle.std.specs.Prelude.{◌≡◌, ℕ, nat_lt, Bool, true, false, not, ◌&&◌, if◌then◌else◌, List, [], ◌∷◌, ◌++◌, map, filter, length, get_or, slice_set, Option, None, Some}
 use Rattle.graph_check.specs.Below.{Request, Evaluate, EnterCandidate, FinishCandidate, Ignore, Reply, Answer, Verdict, Yes, No, Neither, Question, Asked, Progress, request_after, progress_after, is_ignored, IsFitting, IsInOrder, Verdicts}
 use Rattle.graph_check.specs.declared.replay.run_record.AskedQuestion.{AskedQuestion}

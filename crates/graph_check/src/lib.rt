@@ -2,7 +2,7 @@
 //! holds, or that it does not hold. It stands on the context and the delegate alone, and knows nothing of how goals
 //! are searched.
 //!
-//! What it decides is one definition, `Valid` in `specs/` of `search_parts`.
+//! What it decides is one definition, `IsValid` in `specs/Valid.antt` of `search_parts`.
 //!
 //! | File of `specs/` | Has |
 //! |---|---|

@@ -1,4 +1,4 @@
--- What a run has done so far, as its record keeps it. The replies stand with the oldest first.
+-- What a run has done so far, as its record has it. The replies stand with the oldest first.
 use Rattle.std.specs.Prelude.{◌≡◌, ◌↔◌, ℕ, nat_lt, IsTrue, IsSome, Bool, true, false, not, ◌&&◌, if◌then◌else◌, List, [], ◌∷◌, ◌++◌, map, filter, length, reverse, get_or, slice_set, Option, None, Some, Contains}
 use Rattle.open_goals.specs.Below.{Request, Evaluate, EnterCandidate, FinishCandidate, Ignore, Reply, Answer, Verdict, Yes, No, Neither, NodeId, Edge, PathKind, Question, question_of, Asked, Progress, request_after, progress_after, is_ignored, IsInOrder, Verdicts}
 use Rattle.open_goals.specs.declared.progress.DefiniteAnswer.{DefiniteAnswer}

@@ -141,7 +141,7 @@ impl<X: Cx, F: Drop> OpenGoals<X, F> {
         Ok(())
     }
 
-    /// Takes the newest goal.
+    /// Pops the newest goal.
     pub fn pop(&mut self) -> (StackEntry<X>, Run<X, F>)
         requires { 0 < length self.old }
         ensures { self.old ≡ result ∷ self.new }

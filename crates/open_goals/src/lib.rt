@@ -1,11 +1,11 @@
 //! The goals under evaluation, each with the run of its frame: the newest one asks, is answered, is run again,
-//! and is taken. It is a crate of its own since it knows no cache and says nothing of why an answer is right:
+//! and is popped. It is a crate of its own since it knows no cache and says nothing of why an answer is right:
 //! each function says what becomes of the newest goal, exactly, and the search rests its reasons on that.
 //!
 //! | File of `specs/` | Has |
 //! |---|---|
 //! | `Newest`, `Items` | the goals, the newest first, and what becomes of the newest one |
-//! | `Entries`, `NestedGoals` | what changes of its entry |
+//! | `Entries`, `NestedGoals` | what changes of its entry, and of the goals that are recorded below it |
 //! | `Steps`, `Progress` | the step of a frame, and what a run has done so far |
 //! | `Candidates` | a candidate is opened, finished or ignored |
 #![tactic(auto)]

@@ -87,7 +87,7 @@ impl<I: Copy, R: Copy> Progress<I, R> {
         Ok(())
     }
 
-    /// Keeps an answer with this edge, asked in the open candidate if there is one.
+    /// Records an answer with this edge, asked in the open candidate if there is one.
     fn keep(&mut self, edge: Edge<I>, verdict: Verdict) -> Result<(), NoMemory>
         ensures { OnOk result
             (self.new ≡ record self.old { answers = answers_with self.old edge verdict }) }
@@ -134,7 +134,7 @@ impl<I: Copy, R: Copy> Progress<I, R> {
                 edges.push(answer.edge)?;
             }
         }
-        // The node of the run keeps them for good.
+        // The node of the run has them for good.
         edges.shrink_to_fit();
         Ok(edges)
     }

@@ -13,7 +13,7 @@ use Rattle.search_graph.proofs.answers.Taken.{later_run, taken_fits, takes_in}
 -- ---- the goal is run again
 
 module _ {X F I R A T : Type 0} where
-  -- the newest goal, read once its record was taken
+  -- the newest goal, read once its record was handed out
   pub record TakenFrom (old : List (StackEntry X I R A T × Run X F I R A T)) (e : StackEntry X I R A T) (y : Run X F I R A T) (p : RunRecord I R) : Type 0 where
     pub run : Run X F I R A T
     pub below : List (StackEntry X I R A T × Run X F I R A T)

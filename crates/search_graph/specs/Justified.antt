@@ -31,8 +31,8 @@ verdict_shape Neither = theory.Neither
 abbrev pub cycles_node : {I R : Type 0} → OpenRun I R → ℕ
 cycles_node o = elim o.cycles_lead [ None ↦ o.own | Some n ↦ n.0 ]
 
--- The run as a frame of the theory: the heads that it keeps are those used outside candidates, in this run or earlier. Its answers
--- are kept beside it, since they rest on other heads than these.
+-- The run as a frame of the theory: its heads are those used outside candidates, in this run or earlier. The run's answers stand
+-- beside it, since they rest on other heads than these.
 abbrev pub frame_of : {I R : Type 0} → Verdicts R → OpenRun I R → RunningGoal
 frame_of says o = record {
   entry = record { step = rank_of o.step; provisional = option_map (verdict_of says) o.provisional; node = cycles_node o };

@@ -1,10 +1,10 @@
--- Which stored results may be used over a stack, and what a used one is worth; which answers that rest on the stack are used.
+-- Which stored results may be used over a stack, and what a used one is worth; which provisional entries are used.
 use Rattle.std.specs.Prelude.{◌≡◌, ℕ, ◌<◌, ◌≤◌, Bool, true, false, not, ◌&&◌, if◌then◌else◌, List, length, All, Option, None, is_some, Some}
 use Rattle.std.specs.List.{find, list_all, list_any}
 use Rattle.std.specs.Option.{IfSome}
 use Rattle.search_graph.specs.Below.{highest, extended, has_kind, PathsToNested, path_kind_from, Lists, entries_at, highest_passes, may_be_used, ProvisionalCacheEntry, PathKind, Request, Reply, Answer, Place, WithOverflow, StoredResult, StackEntry, Hit, NestedPaths, paths_at, IsPlain, IsBelowRank, Store, stored_at, Received, Run, TakesStored}
 
--- where a question is asked: the stack, the answers that rest on it, by goal, and the step
+-- where a question is asked: the stack, the provisional entries by goal, and the step
 pub record Asking (X I R A T : Type 0) : Type 0 where
   pub stack : List (StackEntry X I R A T)
   pub entries : Lists I (ProvisionalCacheEntry X I R A T)

@@ -1,4 +1,4 @@
--- The moves that put a goal on top, run it again, and take it.
+-- The moves that push a goal, answer it over a cycle, run it again, and pop it.
 use Rattle.std.specs.Prelude.{◌≡◌, ◌+◌, ◌<◌, ◌≤◌, ◌^◌, ◌||◌, false, List, [], ◌∷◌, ◌++◌, length, map, reverse, Option, Some, slice_get, unwrap_or}
 use Rattle.search_graph.specs.Below.{DelegateOf, CxOf, Received, CacheNode, open_node, Answer, NodeId, PathKind, AvailableDepth, StackDepth, EvaluationResult, StackEntry, path_kind_from, cycle_head, first_entry, AnswersNewest, rerun_with, with_no_record, no_record, Item, Run, Next, Step, Finished}
 
@@ -12,7 +12,7 @@ module _ {D C V P F I R A T : Type 0} (G : DelegateOf D C V P F I R A T) (X : Cx
   abbrev pub first_run : F → NodeId → Run C F I R A T
   first_run frame own = record { frame = frame; node = own; progress = no_record; finished_runs = 0; met_overflow_before = false; candidates = [] }
 
-  -- the goal was put on top, with a node of its own and a frame that begins
+  -- the goal was pushed, with a node of its own and a frame that begins
   pub record Pushes (input : I) (kind : PathKind) (depth : AvailableDepth) (before after : List (CacheNode I R)) (old new : List (Item G X cx)) : Type 0 where
     pub frame : F
     pub own : NodeId
@@ -42,7 +42,7 @@ module _ {D C V P F I R A T : Type 0} (G : DelegateOf D C V P F I R A T) (X : Cx
     pub takes : AnswersNewest step 0 false ((head, cycle_head step (path_kind_from (reverse (map (λ s. s.0) old)) head.0 step)) ∷ []) old new
 
 module _ {X F I R A T : Type 0} where
-  -- the newest goal may be taken: what it required fits the goal below it
+  -- the newest goal may be popped: if a goal is below it, one more than the depth that it required is a number of a word
   abbrev pub CanLeave : List (StackEntry X I R A T × Run X F I R A T) → Type 0
   CanLeave [] = ⊥
   CanLeave (s ∷ []) = Unit {0}
@@ -55,7 +55,7 @@ module _ {X F I R A T : Type 0} where
       (next ≡ Step (record { reply = Answer answer.result; node = answer.node }))
       × AnswersNewest step answer.required_depth answer.encountered_overflow answer.heads (p ∷ below) new
 
-  -- The newest goal was taken with this result, which is the answer to the goal below it, if there is one. Overflow that any of its
+  -- The newest goal was popped with this result, which is the answer to the goal below it, if there is one. Overflow that any of its
   -- runs met goes with it.
   abbrev pub NewestLeaves : R → List (StackEntry X I R A T × Run X F I R A T) → Next R → List (StackEntry X I R A T × Run X F I R A T) → Type 0
   NewestLeaves r [] next new = ⊥

@@ -15,7 +15,7 @@ module _ {D C V P F I R A T : Type 0} (G : DelegateOf D C V P F I R A T) (X : Cx
     pub ends : EndsNewest (verdicts X) (G.script old.cx) before.goals outcome
     pub right : IsRight G X same old.cx old before
 
-  -- it runs again, and the entries that rest on it are gone
+  -- it runs again, and the entries that used its result are cleared
   pub record RunsAgain (new : Cache C I R A T) (after : Evaluation D C V P F I R A T) : Type 0 where
     pub reran : Reruns G X old.cx outcome before.goals after.goals
     pub cleared : (input : I) → entries_at same after.provisional input

@@ -1,4 +1,4 @@
-//! The search graph. A call keeps the goals under evaluation in one list and works through them in one loop,
+//! The search graph. A call has the goals under evaluation in one list and works through them in one loop,
 //! so that no depth of goals takes native stack.
 ghost use Rattle.std.specs.Prelude.{◌≡◌, ◌≤◌, ◌+◌, ℕ, Bool, true, false, None, IsTrue, IfOk, IfErr, IfSome, Ok, Err, [], ◌≢◌, max};
 ghost use Rattle.search_graph.specs.Below.{first_accepted, usable, IsPlainTo, IsPlainValue, frames_within, KeepsResults, Memory, Protocol, KeepsFinished, IsWhole, KeepsWhole, IsDecisive, IsDefinite, HasGraph, IsPaid, verdicts};
@@ -82,7 +82,8 @@ impl<D: Delegate> SearchGraph<D> {
     /// definite answer names its node, the root of its graph in the cache's list.
     ///
     /// The results of this goal and of those that it asks are stored in the cache, and used again. One that
-    /// rests on a goal under evaluation is kept until that is done, if the delegate lets such answers be used.
+    /// rests on a goal under evaluation is a provisional entry until that is popped, if the delegate lets
+    /// such entries be used.
     ///
     /// `Fault::Memory` where a growth was refused or a frame answered `NoMemory`, `Fault::Protocol` where a
     /// frame's request came out of order, `Fault::Conflict` where a goal came to another result than the one

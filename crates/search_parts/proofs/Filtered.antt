@@ -9,7 +9,7 @@ filtered_one : {A B : Type 0} (f : A → B) (x : A) (b : Bool) → map f (cond b
 filtered_one f x true = refl
 filtered_one f x false = refl
 
--- one more element at the end is kept if it passes the test
+-- one more element at the end stays if it passes the test
 pub filtered_more : {A B : Type 0} (f : A → B) (test : A → Bool) (xs : List A) (x : A) (b : Bool) → test x ≡ b → map f (filter test (xs ++ x ∷ [])) ≡ map f (filter test xs) ++ cond b (f x ∷ []) []
 filtered_more f test xs x b is =
     ap (map f) (filter-append test xs (x ∷ []))

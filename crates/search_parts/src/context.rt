@@ -40,7 +40,7 @@ pub trait Cx: Copy {
     /// The result says that its goal does not hold.
     ghost is_no: { Self.Result → Bool };
 
-    /// A token that the cache keeps beside the goal's result.
+    /// A token that the cache stores beside the goal's result.
     fn dep_node(self, input: Self::Input) -> Self::DepNodeIndex;
 
     /// Whether a result is definite.

@@ -1,4 +1,4 @@
-//! What a search keeps between its calls: the runs that have ended, as the list of nodes that the graphs
+//! What a search has between its calls: the runs that have ended, as the list of nodes that the graphs
 //! of its answers are made of, and the results of goals.
 ghost use Rattle.std.specs.Prelude.{◌≡◌, []};
 ghost use Rattle.search_parts.specs.Words.{AreRuns, AreSoundResults, verdicts};

@@ -4,12 +4,12 @@
 //! | File of `specs/` | Has |
 //! |---|---|
 //! | `Question`, `Run` | what a goal asks; scripts, replies, and what counts as a run |
-//! | `Delegate` | words of the laws that contexts and delegates keep |
+//! | `Delegate`, `Verdicts` | words of the laws that contexts and delegates keep; which results say yes and which say no |
 //! | `Graph` | proof graphs and refutation graphs of goals |
 //! | `Valid` | what a graph that is handed out as data has to be |
 //! | `Rank` | goals without cycles, their plain values, and the bound on frames |
-//! | `Cache`, `View`, `Sound` | what a cache holds, as contracts see it, its list of nodes, and what holds of every cache |
-//! | `HandedOut` | which nodes have a graph to hand out, and what that is a copy of |
+//! | `Cache`, `View`, `Sound` | what a cache holds, how its slots are seen as nodes, and what holds of every cache |
+//! | `HandedOut`, `Found` | which nodes have a graph to hand out, what that is a copy of, and how its nodes are found |
 //! | `Store`, `Hits` | the results that a cache stores, and which of them a look-up gives |
 //! | `Stored` | what each stored result is worth |
 //! | `Shapes`, `Definite` | the nodes as the theory of open graphs sees them, and the graph of a definite result |

@@ -47,7 +47,7 @@ impl<X: Cx, F: Drop> OpenGoals<X, F> {
         self.stack.last_mut().candidate_usages.take().unwrap()
     }
 
-    /// Keeps what a finished candidate of the newest goal used.
+    /// Records what a finished candidate of the newest goal used.
     fn record_candidate(&mut self, candidate: CandidateHeadUsages) -> Result<(), NoMemory>
         requires { 0 < length self.old }
         ensures { OnOk result (self.new ≡ change_newest (records_candidate candidate) self.old) }

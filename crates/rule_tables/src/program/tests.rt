@@ -85,7 +85,7 @@ fn answers_and_counts(rt: HostRuntime) -> Result<(), Fail> {
             "rule A = i:B\nrule B = i:C\nrule C =\nask 1 A\n",
             "A maybe 2\n",
         ),
-        // Results are kept from one question to the next, and used at the depths that they are right for.
+        // Results are stored for the questions that follow, and used at the depths that they are right for.
         (
             "rule A = i:B\nrule B = i:C\nrule C =\nask 0 A\nask 1 A\nask 2 A\nask 1 A\nask 0 A\nask 5 A\nask 1 B\nask 0 B\n",
             "A maybe 1\nA maybe 2\nA yes 3\nA maybe 0\nA maybe 0\nA yes 0\nB yes 0\nB maybe 0\n",

@@ -20,7 +20,7 @@ alone P x holds (suc i) y is = absurd (no_answers i y is)
 pub nothing : {A : Type 0} (P : A → Type 0) (i : ℕ) (y : A) → slice_get [] i ≡ Some y → P y
 nothing P i y is = absurd (no_answers i y is)
 
--- the provisional answers and the final ones may be used over the stack
+-- the provisional entries and the final answers may be used over the stack
 abbrev pub Hold : List theory.Node → List Entry → List ProvisionalEntry → List Final → Type 0
 Hold nodes stack provisional final = AllProvisional nodes stack provisional × AllFinal nodes stack final
 

@@ -1,4 +1,4 @@
--- The newest goal takes an answer over: it takes the answer's heads, and the answer fits its question.
+-- The newest goal takes an answer over: the answer's heads become heads of the goal, and the answer fits its question.
 use Rattle.std.proofs.Common.{ℕ, suc, Bool, List, ◌∷◌, length, Option, sym, ◌∙◌, subst}
 use Rattle.std.specs.Option.{IsSomeAnd}
 use Rattle.std.proofs.lemmas.List.{length-map}

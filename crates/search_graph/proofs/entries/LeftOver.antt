@@ -24,7 +24,7 @@ module _ {I R : Type 0} (o : OpenRun I R) (below : List (OpenRun I R)) where
   own_head tallies head here (inl own) = subst IsSome (counted_own (length below) o.tally head here) own
   own_head tallies head here (inr later) = let lower = is_below below tallies head later in absurd (omega (arith, here, lower))
 
--- a goal that takes an answer over takes its heads
+-- a goal that takes an answer over takes over its heads
 pub heads_taken : {X F I R A T : Type 0} (step : PathKind) (required : ℕ) (overflow : Bool) (answer : Heads) (old new : List (StackEntry X I R A T × Run X F I R A T)) → AnswersNewest step required overflow answer old new → (head : StackDepth) → IsHead (runs_of old) head ⊎ IsSome (at_depth answer head) → IsHead (runs_of new) head
 heads_taken step required overflow answer old new a head there =
     subst (λ l. IsHead (runs_of l) head) (sym a.is) (at (subst (λ l. IsHead (runs_of l) head ⊎ IsSome (at_depth answer head)) a.was there))

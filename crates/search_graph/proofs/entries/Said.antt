@@ -37,7 +37,7 @@ module _ {X I R A T : Type 0} (P : Bool → R → Type 0) where
         at (NotUsed head top place none new) = new_head_said (record entry { heads = with_unused done.state.heads (but_highest entry.heads) }) after new h
         at (Used head changed top place used kinds ends new) = new_head_said (record changed { heads = with_used done.state.heads head.1.paths_to_head (but_highest changed.heads) }) after new (keeps head.1.usages entry changed ends h)
 
-  -- settling for the reason keeps what is said, if it may be said of what an ambiguous goal and one that had its most runs leave
+  -- rebasing for the reason keeps what is said, if it may be said of what an ambiguous goal and one that had its most runs leave
   changed_said : (propagated : A → R) (overflow : R) (reason : RebaseReason X I R A T)
       → ((info : A) → reason ≡ why.Ambiguity info → (met : Bool) (r : R) → P met r → P met (propagated info))
       → (reason ≡ why.Overflow → (met : Bool) (r : R) → P met r → P met overflow)

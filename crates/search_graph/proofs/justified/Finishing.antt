@@ -151,7 +151,7 @@ module _ {I R : Type 0} (says : Verdicts R) (scripts : I → List (Reply R) → 
   pub open_for_run : IsSomeAnd (open_goal nodes node.0) (λ goal. IsRun says (scripts goal) nodes (record { replies = p.replies; edges = edges_of p v; outcome = r }))
   open_for_run = subst (λ o. IsSomeAnd o (λ goal. IsRun says (scripts goal) nodes (record { replies = p.replies; edges = edges_of p v; outcome = r }))) (sym h.is_open) is_run
 
-  -- a definite result settles the node
+  -- a definite result decides what the node is
   pub ended_node : v ≢ Neither → (earlier : Option R) (lead : Option NodeId) → (option_map (verdict_of says) earlier ≡ Some (verdict_shape v) → ⊥) → (after : List (CacheNode I R)) → after ≡ with_run nodes node.0 (record { replies = p.replies; edges = edges_of p v; outcome = r }) → HasResultNode says nodes after earlier node lead p r (Some node)
   ended_node definite earlier lead anew after is =
       let same : verdict_shape v ≡ verdict_of says r = verdict_is says r v holds fails definite in

@@ -1,4 +1,4 @@
--- Each move of the driver keeps the goals under evaluation justified.
+-- Each move of the search keeps the goals under evaluation justified.
 use Rattle.std.proofs.Common.{◌≡◌, ◌≢◌, ℕ, zero, suc, Bool, true, false, cond, List, [], ◌∷◌, ◌++◌, map, length, length-append, arith, Option, None, Some, option_map, slice_get, slice_set, refl, sym, ap, ◌∙◌, subst, inl, inr}
 use Rattle.std.specs.Option.{IsSomeAnd, option_or}
 use Rattle.std.proofs.lemmas.List.{map-append, map-set, length-map}
@@ -81,7 +81,7 @@ same_verdict-refl theory.Neither = refl
 pub no_answers : {A : Type 0} (i : ℕ) (a : A) → slice_get [] i ≡ Some a → ⊥
 no_answers i a is = cc
 
--- A frame without edges may keep more, and record other heads, as long as what it keeps is among them.
+-- A frame without edges may have more heads from before its run, and other heads now, as long as the former are among the latter.
 heads_change : (nodes : List theory.Node) (f : RunningGoal) (frames : List RunningGoal) (provisional : List ProvisionalEntry) (final : List Final) (kept heads : theory_use.Heads) → Includes f.heads_before kept → Includes kept heads → IsSoundState nodes (f ∷ frames) provisional final → IsSoundState nodes (record { entry = f.entry; own = f.own; edges = λ verdict. []; heads_before = kept; heads = heads } ∷ frames) provisional final
 heads_change nodes f frames provisional final kept heads more within h =
     let r = h.running.0 in
@@ -321,7 +321,7 @@ module _ {I R : Type 0} (says : Verdicts R) (nodes after : List (CacheNode I R))
       pop_keeps_sound (shapes_of says nodes) (answering (frame_of says o) s.edges (heads_shape o.tally.heads)) (frames_of says below) [] [] [] [] (verdict_of says r) (shapes_of says after) s.place s.answered
       (λ i k is. absurd (no_answers i k is)) (λ i k is. absurd (no_answers i k is)) s.sound
 
-  -- the goal is taken: those below stay justified,
+  -- the goal is popped: those below stay justified,
   pub below_is_justified : AreJustified says after below
   below_is_justified = record {
     sound = popped.0;

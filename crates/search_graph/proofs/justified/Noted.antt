@@ -1,4 +1,4 @@
--- A frame's request was taken, and what it asks of the candidates was done: the goals stay justified, and wait for the next reply.
+-- A frame's request was put on record, and what it asks of the candidates was done: the goals stay justified, and wait for the next reply.
 use Rattle.std.proofs.Common.{◌≡◌, ◌≢◌, ℕ, zero, suc, ◌<◌, nat_lt, Bool, true, false, not, if◌then◌else◌, List, [], ◌∷◌, ◌++◌, length, length-append, Option, None, Some, is_some, unwrap_or, slice_get, slice_set, get_or, refl, sym, ap, ◌∙◌, subst, arith}
 use Rattle.std.specs.Option.{IfSome, IsSomeAnd}
 use Rattle.std.proofs.lemmas.Bool.Decides.{nat_tests}
@@ -48,7 +48,7 @@ counted_longer : (ignored : List Bool) (c : Option ℕ) → counted_by (ignored 
 counted_longer ignored None = refl
 counted_longer ignored (Some n) = ap not (ignored_longer ignored n)
 
--- what is kept once a candidate is ignored is another one's, and was kept before
+-- what still counts once a candidate is ignored is another one's, and counted before
 counted_before : (ignored : List Bool) (n : ℕ) (c : Option ℕ) → n < length ignored → counted_by (slice_set ignored n true) c ≡ true → (counted_by ignored c ≡ true) × (c ≢ Some n)
 counted_before ignored n None within kept = (refl, λ e. absurd cc)
 counted_before ignored n (Some m) within kept =
@@ -68,7 +68,7 @@ module _ {I R : Type 0} (p : RunRecord I R) (verdict : Verdict) (target : Option
 -- ---- the newest goal that ignores a candidate
 
 module _ {X F I R A T : Type 0} (entry : StackEntry X I R A T) (run : Run X F I R A T) (below : List (StackEntry X I R A T × Run X F I R A T)) where
-  -- a goal that ignores a candidate, as it was taken
+  -- a goal that ignores a candidate, as it was before
   record IgnoresHere (number : ℕ) (after : List (StackEntry X I R A T × Run X F I R A T)) : Type 0 where
     candidate : UsagesByHead
     state : EntryState X I R A T

@@ -1,4 +1,4 @@
--- Each move of the driver is a move of the theory of evaluations.
+-- Each move of the search is a move of the theory of evaluations.
 use Rattle.std.proofs.Common.{◌≡◌, ℕ, zero, suc, ◌+◌, ◌-◌, ◌*◌, ◌/◌, ◌^◌, ◌<◌, ◌≤◌, max, nat_eq, if◌then◌else◌, Bool, true, false, List, [], ◌∷◌, length, map, reverse, Option, Some, None, IfSome, unwrap_or, refl, sym, ap, ◌∙◌, subst, arith, ap₂, inl, inr, ◌||◌, ◌⊎◌, is_some, mul-le-mul_left, mul-le-mul_right}
 use Rattle.std.specs.List.{list_any}
 use Rattle.std.proofs.lemmas.Bool.{or_right, true≢false}
@@ -213,7 +213,7 @@ module _ {D C V P F I R A T : Type 0} (G : DelegateOf D C V P F I R A T) (X : Cx
         falls = subst (λ v. work_left G X cx v < ahead) (sym t.is) w.1;
       })
 
-  -- a kept answer of a goal without a rank is taken over
+  -- a provisional entry of a goal without a rank is taken over
   pub provisional_goes_on : (ahead : ℕ) (kind : PathKind) (goal : I) (r : R) (overflow : Bool) (answer : Heads) (depth : ℕ) (old new : List Goal) (starts : ℕ) (met : Bool) → ((s : Goal) (below : List Goal) → old ≡ s ∷ below → IsAllowed (seen G X cx s) depth) → HasNoRank (G.script cx) goal → (IsCounted G X cx call → met ≡ false → overflow ≡ false) → Decidedly G X cx call met (IsDefinite (verdicts X) r) → AnswersNewest kind 0 overflow answer old new → HasAsked G X cx call ahead (Evaluate kind goal) old starts met → CallGoesOn G X cx call ahead (Answer r) new starts met
   provisional_goes_on ahead kind goal r overflow answer depth old new starts met may no_rank calm definite t h =
       let was : HasAsked G X cx call ahead (Evaluate kind goal) ((t.entry, t.run) ∷ t.below) starts met = subst (λ v. HasAsked G X cx call ahead (Evaluate kind goal) v starts met) t.was h in
@@ -229,7 +229,7 @@ module _ {D C V P F I R A T : Type 0} (G : DelegateOf D C V P F I R A T) (X : Cx
         falls = subst (λ v. work_left G X cx v < ahead) (sym t.is) w.1;
       }
 
-  -- the asked goal was put on top
+  -- the asked goal was pushed
   pub pushed_goes_on : {before after : List (CacheNode I R)} → (ahead : ℕ) (kind : PathKind) (goal : I) (depth : AvailableDepth) (s : Goal) (below new : List Goal) (starts now : ℕ) (met : Bool) → IsAllowed (seen G X cx s) depth.0 → now ≤ starts + 1 → (G.counts ≡ true → CountsOne G.last starts now) → Pushes G X cx goal kind depth before after (s ∷ below) new → HasAsked G X cx call ahead (Evaluate kind goal) (s ∷ below) starts met → CallGoesOn G X cx call ahead Begin new now met
   pushed_goes_on ahead kind goal depth s below new starts now met may one counted push h =
       let w = pushed_waits (seen G X cx) (Stood G X cx) (G.script cx) (limits G X cx call) (IsCounted G X cx call) call.top (bound G X cx call) (some_runs G.FIXPOINT_STEP_LIMIT) ahead starts met s below kind goal depth.0 now (first_entry goal kind depth push.own, first_run G X cx push.frame push.own) may push.fresh.within refl (push.fresh.stood, records_new (verdicts X) (G.script cx goal)) (record { at_most = one; exactly = λ c. counted c.0 }) h.asked in
@@ -287,7 +287,7 @@ module _ {D C V P F I R A T : Type 0} (G : DelegateOf D C V P F I R A T) (X : Cx
         absurd cc;
   }
 
-  -- and the goal could not be taken
+  -- and the goal could not be popped
   pub limited_stopped : (ahead : ℕ) (done : R) (goals : List Goal) (fault : Fault I R) (starts : ℕ) (met : Bool) → ((s : Goal) (below : List Goal) → goals ≡ s ∷ below → (is_in_cycle s.0.state ≡ true) × (runs G X cx ≤ s.1.finished_runs + 1)) → HasAsked G X cx call ahead (Done done) goals starts met → HasStopped G X cx call fault starts true
   limited_stopped ahead done [] fault starts met may h = absurd h.asked.mirror
   limited_stopped ahead done (s ∷ below) fault starts met may h =
@@ -309,7 +309,7 @@ module _ {D C V P F I R A T : Type 0} (G : DelegateOf D C V P F I R A T) (X : Cx
     plain = λ n p room. refl;
   }
 
-  -- the goal could not be taken, or there was no memory for an answer
+  -- the goal could not be popped, or there was no memory for an answer
   pub asked_stopped_by : (ahead : ℕ) (request : Request I R) (goals : List Goal) (fault : Fault I R) (starts : ℕ) (met : Bool) → ((n : ℕ) → IsPlainTo (G.script cx) n call.top → n ≤ call.root → fault ≡ Memory) → HasAsked G X cx call ahead request goals starts met → HasStopped G X cx call fault starts met
   asked_stopped_by ahead request goals fault starts met plain h = record {
     stops = requested_stops (seen G X cx) (Stood G X cx) (G.script cx) (limits G X cx call) (IsCounted G X cx call) call.top (bound G X cx call) ahead request goals starts met h.asked;
@@ -336,7 +336,7 @@ module _ {D C V P F I R A T : Type 0} (G : DelegateOf D C V P F I R A T) (X : Cx
   leave_fits s p below f (q ∷ rest) left same m rooted safe =
       omega (arith, same, safe.0.within, safe.1.1.is_less, falling q rest rooted safe.2, call.fits)
 
-  -- the newest goal may be taken
+  -- the newest goal may be popped
   pub can_leave : (ahead : ℕ) (r : R) (goals : List Goal) (starts : ℕ) (met : Bool) → HasAsked G X cx call ahead (Done r) goals starts met → CanLeave goals
   can_leave ahead r [] starts met h = absurd h.asked.mirror
   can_leave ahead r (s ∷ []) starts met h = tt
@@ -409,7 +409,7 @@ module _ {D C V P F I R A T : Type 0} (G : DelegateOf D C V P F I R A T) (X : Cx
   kept : (starts : ℕ) → KeepsLimits G X cx call call.limits_met
   kept starts = record { stays = λ was. was; plain = λ n p fits. refl }
 
-  -- the root was put on top of nothing
+  -- the root was pushed on an empty stack
   pub root_waits : (before after : List (CacheNode I R)) (kind : PathKind) (depth : AvailableDepth) (new : List Goal) (now : ℕ) → depth.0 ≡ call.root → now ≤ call.starts + 1 → (G.counts ≡ true → CountsOne G.last call.starts now) → Pushes G X cx call.top kind depth before after [] new → IsWaiting G X cx call Begin new now call.limits_met
   root_waits before after kind depth new now same one counted push =
       let item : Goal = (first_entry call.top kind depth push.own, first_run G X cx push.frame push.own) in

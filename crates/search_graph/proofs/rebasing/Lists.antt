@@ -17,7 +17,7 @@ headless answer o is none = no_highest answer.heads (at (highest answer.heads) (
     at None is = refl
     at (Some top) is = absurd cc
 
--- ---- the goal below has taken the answer
+-- ---- the goal below has taken over the answer
 
 module _ {X I R A T : Type 0} where
   -- the steps by which the goals were asked

@@ -1,4 +1,4 @@
--- The tests of a rebased answer in the theory's words: that each cycle over the goal that is done keeps its kind, whether the goal was
+-- The tests of a rebased entry in the theory's words: that each cycle over the goal that is done keeps its kind, whether the goal was
 -- used, and what becomes of the result.
 use Rattle.std.proofs.Common.{◌≡◌, ◌≢◌, ℕ, zero, suc, max, ◌&&◌, ◌==◌, Bool, true, false, not, IsTrue, if◌then◌else◌, List, [], ◌∷◌, length, Contains, Option, Some, None, refl, sym, ap, ◌∙◌, subst, inl, inr, arith}
 use Rattle.std.specs.List.{list_all}

@@ -144,7 +144,7 @@ module _ {X I R A T : Type 0} (says : Verdicts R) (stack : List (StackEntry X I 
 
 -- ---- the goals under evaluation
 
--- The rule for the goals of the driver: what is left of an entry when the newest goal is done and the others stay on the stack.
+-- The rule for the goals of the search: what is left of an entry when the newest goal is done and the others stay on the stack.
 module _ {X F I R A T : Type 0} (says : Verdicts R) (goal : StackEntry X I R A T × Run X F I R A T) (goals : List (StackEntry X I R A T × Run X F I R A T)) where
   -- the goals below as the stack that the rule takes, and as the theory has them
   abbrev pub real_below : List (StackEntry X I R A T)

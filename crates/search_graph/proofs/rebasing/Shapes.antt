@@ -1,4 +1,4 @@
--- The heads of a rebased answer in the theory's words: those of the goal that is done are inserted, and its own place is taken out.
+-- The heads of a rebased entry in the theory's words: those of the goal that is done are inserted, and its own place is taken out.
 use Rattle.std.proofs.Common.{◌≡◌, ◌≢◌, ℕ, zero, suc, ◌+◌, ◌-◌, ◌^◌, min, ◌<◌, Bool, true, false, IsTrue, ◌||◌, [], ◌∷◌, fold, Option, Some, None, IsSome, option_map, refl, sym, ap, ◌∙◌, subst, ◌⊎◌, inl, inr, arith}
 use Rattle.std.proofs.lemmas.Bool.{cases_eq, false≢true}
 use Rattle.open_graphs.specs.Use as theory

@@ -1,4 +1,4 @@
--- The edges that the record of a run gives, and the run that its node keeps.
+-- The edges that the record of a run gives, and the run that its node has.
 use Rattle.std.proofs.Common.{◌≡◌, ℕ, Bool, not, List, map, slice_index_or, Option, Some, None, refl, sym, ap, ◌∙◌}
 use Rattle.std.specs.List.{filter, All, Contains}
 use Rattle.std.proofs.lemmas.Bool.{and_parts}

@@ -25,7 +25,7 @@ module _ {I R : Type 0} (test : R → Bool) (w : Verdict) (p : RunRecord I R) (d
       ∙ ap₂ (λ ys c. ys ++ cond (test r) ((record { kind = kind; goal = goal }, c) ∷ []) []) same number
       ∙ sym (filtered_more asked_in (λ (a : Asked I R). test a.answer) done.asked latest (test r) refl)
 
-  -- and one that isn't kept passes no test
+  -- and a result that fails the test leaves the answers as they were
   same_after_other : test r ≡ false → asked_with w p ≡ map asked_in (filter (λ a. test a.answer) (done.asked ++ latest ∷ []))
   same_after_other fails = same ∙ sym (append-nil _) ∙ sym (filtered_more asked_in (λ (a : Asked I R). test a.answer) done.asked latest false fails)
 

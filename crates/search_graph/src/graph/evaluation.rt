@@ -6,7 +6,7 @@ use search_parts::context::Delegate;
 use search_parts::parts::{AvailableDepth, ProvisionalCache};
 use std::alloc::Global;
 
-/// The goals that are under evaluation in one call, each on the stack with its run, and what the call keeps
+/// The goals that are under evaluation in one call, each on the stack with its run, and what else the call has
 /// until it ends. Its methods are the moves of the search: a goal asks (`question`), its run ends
 /// (`run_end`), it is run again (`rerun`), it is popped and its result stored (`pop`, `store`).
 #[derive(Drop)]

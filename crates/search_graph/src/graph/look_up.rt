@@ -14,8 +14,8 @@ use search_parts::parts::{
 use search_parts::path::{PathKind, PathsToNested};
 use std::marker::Model;
 
-/// The test of the goals below a stored result that a stack of goals makes, with the answers that rest on them,
-/// where the last one asks over a step. Ports `SearchGraph::candidate_is_applicable`.
+/// The test of the goals below a stored result that a stack of goals makes, with the provisional entries, where
+/// the last goal asks over a step. Ports `SearchGraph::candidate_is_applicable`.
 #[derive(Drop)]
 struct OverStack<'a, D: Delegate> {
     stack: &'a Stack<D::Cx>,
@@ -36,8 +36,8 @@ impl<'a, D: Delegate> Model for OverStack<'a, D> {
 impl<'a, D: Delegate> NestedTest<D::Cx> for OverStack<'a, D> {
     ghost accepts = { is_applicable D.Cx.Input.eq };
 
-    /// Whether none of the goals is on the stack, and none could meet an answer that rests on it: the result would
-    /// be another one if it were worked out there, since it would close a cycle.
+    /// Whether none of the goals is on the stack, and none could be answered by a provisional entry: else the result
+    /// might be another one if it were worked out there.
     fn accepts(&self, nested_goals: &NestedGoals<D::Cx>) -> bool {
         if nested_goals.is_empty() {
             return true;
@@ -87,7 +87,7 @@ impl<'a, D: Delegate> OverStack<'a, D> {
 }
 
 /// The entry that answers the goal, asked over the step by the last goal on the stack, if the delegate lets
-/// such answers be used. Ports `SearchGraph::lookup_provisional_cache`.
+/// such entries be used. Ports `SearchGraph::lookup_provisional_cache`.
 pub(crate) fn look_up_entry<'a, D: Delegate>(
     provisional: &'a ProvisionalCache<D>,
     stack: &Stack<D::Cx>,

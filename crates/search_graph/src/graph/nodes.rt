@@ -9,9 +9,9 @@ use search_parts::context::{Cx, Delegate, NoMemory, NodeId, Verdict};
 use search_parts::global_cache::GlobalCache;
 use search_parts::parts::EntryState;
 
-/// The node of a run's definite result. A run whose result says what the provisional one said has that
-/// one's node, and its own stays open, as does that of a run that came to no definite result. So the node of
-/// a goal is that of the first of its last runs that said the same.
+/// The node of a run's definite result. Where the result has the verdict of the provisional one, it is that one's
+/// node, and the run's own stays open, as does that of a run that came to no definite result. So the node of
+/// a goal is that of the first of its last runs that had the same verdict.
 pub(crate) fn result_node<D: Delegate>(
     cache: &mut GlobalCache<D>,
     state: &EntryState<D::Cx>,

@@ -60,7 +60,7 @@ impl<D: Delegate> Evaluation<D> {
     }
 }
 
-/// Gives the answer of a goal that was taken to the goal below it, which asked for it by this step. Where
+/// Gives the answer of a goal that was popped to the goal below it, which asked for it by this step. Where
 /// none is left, it is the answer to the call.
 fn give_answer<X: Cx, F: Drop>(
     goals: &mut OpenGoals<X, F>,

@@ -1,5 +1,5 @@
-//! What a question comes to: it is refused, is answered by a provisional entry or a stored result or where its
-//! goal is under evaluation already, or puts its goal on top.
+//! What a question comes to: it is refused, or answered by a provisional entry, a stored result or a goal that is
+//! under evaluation already, or its goal is pushed.
 ghost use Rattle.std.specs.Prelude.{◌≡◌, ◌≤◌, ◌<◌, ◌+◌, ℕ, false, true, List, length, map, reverse, unwrap_or, IfOk, OnOk, OnErr, Some};
 ghost use Rattle.std.specs.List.{list_any, position};
 ghost use Rattle.std.specs.Option.{option_map, option_and_then};
@@ -17,7 +17,7 @@ use search_parts::parts::{AvailableDepth, StackDepth, StackEntry};
 use search_parts::path::PathKind;
 
 impl<D: Delegate> Evaluation<D> {
-    /// Answers the newest goal's question, or puts the asked goal on top, whose frame then begins. A question
+    /// Answers the newest goal's question, or pushes the asked goal, whose frame then begins. A question
     /// of a goal without depth is refused, which meets a limit.
     pub(crate) fn ask(
         &mut self,
@@ -113,7 +113,7 @@ impl<D: Delegate> Evaluation<D> {
         AvailableDepth::allowed_depth_for_nested::<D>(self.root_depth, self.goals.stack())
     }
 
-    /// Puts a goal on top, with a node of its own and a frame that begins.
+    /// Pushes a goal, with a node of its own and a frame that begins.
     pub(crate) fn push_goal(
         &mut self,
         cache: &mut GlobalCache<D>,

@@ -1,4 +1,4 @@
-//! A goal is run again.
+//! The newest goal is run again.
 ghost use Rattle.std.specs.Prelude.{◌≡◌, ◌≤◌, ◌+◌, true, OnOk};
 ghost use Rattle.search_graph.specs.Below.{CountsOne, KeepsFinished};
 ghost use Rattle.search_graph.specs.Words.{MayRunAgain, RunsAgain};
@@ -10,8 +10,8 @@ use search_parts::global_cache::GlobalCache;
 use search_parts::parts::StackDepth;
 
 impl<D: Delegate> Evaluation<D> {
-    /// Runs the newest goal again, whose run came to this result. Provisional entries that rest on the last run
-    /// are given up.
+    /// Runs the newest goal again, whose run came to this result. Provisional entries that used the goal's
+    /// provisional result are cleared.
     pub(crate) fn run_again(
         &mut self,
         cache: &mut GlobalCache<D>,
@@ -31,8 +31,8 @@ impl<D: Delegate> Evaluation<D> {
         ensures counted { D.counts ≡ true →
             OnOk result (CountsOne D.last (D.starts inspect.old) (D.starts inspect.new)) }
     {
-        // Entries that used the goal's result go, since that is another one now. Those that merely have the goal as a
-        // head stay: they are rebased when it is done.
+        // Entries that used the goal's result are cleared, since that is another one now. Those that merely have the
+        // goal as a head stay: they are rebased when it is popped.
         self.provisional
             .clear_for_rerun(StackDepth::new(self.goals.len() - 1));
         let progress = self.goals.take_progress();

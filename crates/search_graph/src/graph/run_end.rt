@@ -60,7 +60,7 @@ impl<D: Delegate> Evaluation<D> {
 }
 
 /// What becomes of a goal in this state, of which so many runs ended before the one that came to this result. If
-/// that stands, the reason is why the goal, where it was used as a head, does not need another run.
+/// the goal is done, the reason says why it does not need another run, where it was used as a head.
 fn end_of_run<D: Delegate>(
     state: &EntryState<D::Cx>,
     finished_runs: usize,
@@ -87,7 +87,7 @@ fn end_of_run<D: Delegate>(
     }
 }
 
-/// Why a further run after this result would change nothing, or isn't worth it, if that is so.
+/// Why a further run after this result would change nothing or isn't worth it, if either is so.
 fn stable_reason<D: Delegate>(
     provisional_result: Option<<D::Cx as Cx>::Result>,
     usages: HeadUsages,

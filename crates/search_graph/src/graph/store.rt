@@ -13,8 +13,8 @@ use search_parts::parts::{
 use search_parts::path::PathKind;
 
 impl<D: Delegate> Evaluation<D> {
-    /// Stores the result of a goal that is done, which was asked over the step: for good, or where it rests on
-    /// goals of the stack, as a provisional entry, if the delegate lets such entries be used.
+    /// Stores the result of a goal that is done, which was asked over the step, in the global cache; or, where it
+    /// rests on goals of the stack, makes it a provisional entry, if the delegate lets such entries be used.
     pub(crate) fn store_answer(
         &mut self,
         cache: &mut GlobalCache<D>,

@@ -24,7 +24,7 @@ pub struct EvaluationResult<X: Cx> {
 }
 
 impl<X: Cx> EvaluationResult<X> {
-    /// The result of a goal that was taken from the stack. Required depth, heads and nested goals, which
+    /// The result of a goal that was popped from the stack. Required depth, heads and nested goals, which
     /// all its runs share, are those of its entry. Takes no memory. Ports `EvaluationResult::finalize`.
     pub fn finalize(
         final_entry: StackEntry<X>,

@@ -189,7 +189,7 @@ impl<X: Cx> Stack<X> {
         Ok(StackDepth::new(depth))
     }
 
-    /// Takes the last entry. Takes no memory.
+    /// Pops the last entry. It takes no memory.
     pub fn pop(&mut self) -> StackEntry<X>
         requires { 0 < length self.old }
         ensures { self.old ≡ self.new ++ result ∷ [] }
