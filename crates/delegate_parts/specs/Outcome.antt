@@ -1,4 +1,4 @@
--- The results of a goal, and of which sort they are.
+-- The results of a goal, and which verdicts they have.
 use Rattle.std.specs.Prelude.{ℕ, Bool, true, false, List, codes, Option, Some, None}
 use Rattle.delegate_parts.specs.Below.{PathKind, Inductive, Unknown, Coinductive, ForcedAmbiguity, Verdicts}
 use Rattle.delegate_parts.specs.declared.outcome.Outcome.{Outcome}

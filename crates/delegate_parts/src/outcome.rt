@@ -21,7 +21,7 @@ pub enum Outcome {
 impl Outcome {
     ghost use Rattle.delegate_parts.specs.Outcome.{ambiguity_of, initial_outcome, is_no, is_yes, kind_of};
 
-    /// The sort of the outcome.
+    /// The verdict of the outcome.
     pub fn verdict(self) -> Verdict
         ensures yes { (result ≡ Verdict.Yes) ↔ IsTrue (is_yes self) }
         ensures no { (result ≡ Verdict.No) ↔ IsTrue (is_no self) }

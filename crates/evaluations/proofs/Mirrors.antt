@@ -227,7 +227,7 @@ module _ {E I R : Type 0} (seen : E → Frame I R) (stands : E → List (Reply R
       let same = (seen_back e h.f h.left h.mirror.0).0 in
       (h.f.replies, h.mirror.0.stood, subst (λ g. IsFitting (scripts g) h.f.replies) same h.evaluating.safe.0.fitting, subst (λ g. request_after (scripts g) h.f.replies ≡ Some request) same h.requested)
 
-  -- what is left is safe, and calm where no limit was met: so it may be stored
+  -- what is left is safe, and without overflow where no limit was met: so it may be stored
   pub leaves_safe : (ahead : ℕ) (r : R) (o : Outcome R) (e : E) (es : List E) (starts : ℕ) (met : Bool) → Requested ahead (Done r) (e ∷ es) starts met → ItemLeaves r (seen e) o → IsSafeOutcome scripts (seen e).goal (seen e).available o
   leaves_safe ahead r o e es starts met h leaves =
       let same = seen_back e h.f h.left h.mirror.0 in

@@ -81,9 +81,9 @@ A yes 12
 without
 A yes 12";
 
-/// The same form: the first run of B comes to yes, for which its coinductive cycles were taken, so that it is not run
-/// again. The answer of D used B by a marked candidate alone: in the first table by an inductive cycle, which was taken
-/// for a no, so that the no of D is dropped; and in the second by a coinductive one, so that its yes stays.
+/// The same form: the first run of B comes to yes, with which its coinductive cycles were answered, so that it is not
+/// run again. The answer of D used B by a marked candidate alone: in the first table by an inductive cycle, which was
+/// answered no, so that the no of D is dropped; and in the second by a coinductive one, so that its yes stays.
 const FIRST_RUN: &str = "\
 rule A = c:B c:D
 rule ~B = i:D
@@ -117,7 +117,7 @@ A maybe 3
 without
 A maybe 5";
 
-/// The same form: what the marked candidate of B used is given back, so the answer of B rests on A without having used its
+/// The same form: the marked candidate of B is ignored, so the answer of B rests on A without having used its
 /// result, and is still there when A is run again.
 const UNUSED: &str = "\
 rule A = i:B c:A

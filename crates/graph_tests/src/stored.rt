@@ -103,7 +103,7 @@ stores
 A yes from 2
 B yes from 2";
 
-/// The same form: answers in the provisional cache are not stored, and where one is used, it requires no depth.
+/// The same form: provisional entries are not stored, and where one is used, it requires no depth.
 const PROVISIONAL: &str = "\
 rule A = c:B c:B
 rule B = c:A

@@ -1,4 +1,4 @@
--- The newest goal, read and changed.
+-- What is read of the newest goal, and what the goals are once it was changed.
 use Rattle.std.proofs.Common.{◌≡◌, ℕ, ◌-◌, ◌<◌, List, [], ◌∷◌, length, get_or, slice_set, Bool, Option, Some, None, IfSome, Result, Ok, Err, OnOk, option_map, sym, ap, ◌∙◌, subst, arith}
 use Rattle.open_goals.specs.Below.{change_last, StackEntry, EntryState, PathKind, StackDepth, Heads, NestedPaths}
 use Rattle.search_parts.proofs.LastState.{some_element}

@@ -179,7 +179,7 @@ impl<X: Cx, F: Drop> OpenGoals<X, F> {
         note_nested_goals(state, input, step, stored.nested_goals)
     }
 
-    /// The newest goal was answered over a step of this kind by an answer that rests on goals below. A refusal
+    /// The newest goal was answered over a step of this kind by a provisional entry. A refusal
     /// may leave a part of that noted.
     pub fn note_provisional(
         &mut self,
@@ -344,7 +344,7 @@ pub fn step<D: Delegate>(
     Ok(request)
 }
 
-/// The sort of an answer; any other reply has none.
+/// The verdict of an answer; any other reply says neither yes nor no.
 fn sort_of<X: Cx>(cx: X, reply: Reply<X::Result>) -> Verdict
     ensures { IsVerdict (verdicts X.Cx) reply result }
 {

@@ -1,4 +1,4 @@
--- Answers that a run gets.
+-- A run gets one more answer, whose edge and heads become its own.
 use Rattle.std.proofs.Common.{◌≡◌, ◌≢◌, ℕ, max, ◌≤◌, ◌<◌, List, [], ◌∷◌, ◌++◌, length, cond, Bool, true, false, IsTrue, ltb, lt-ltb, le-ltb, inl, inr, subst, sym, refl, arith}
 use native.Mathlib.Decide.{dec_lt}
 use Rattle.open_graphs.specs.Words.{Verdict, Edge, Node, same_verdict, Entry, path_kind, Head, Heads, Recorded, IncludesBelow, IsAnsweredEdge, AllAnswered, no_heads, stack_of, with_edge, OneAnswerKeepsSound, CycleIsAnswered, DoneIsAnswered, ProvisionalIsAnswered, FinalIsAnswered}

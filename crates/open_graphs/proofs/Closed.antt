@@ -1,4 +1,4 @@
--- A value without heads is a graph.
+-- An answer without heads has a graph.
 use Rattle.std.proofs.Common.{ℕ, List, [], sym, subst, inl, inr}
 use Rattle.open_graphs.specs.Words.{Verdict, Node, HasShapeEdge, Walk, stay, IsClosedGraph, Entry, IsLeaf, Step, Heads, Use, UsesNo, Grown}
 use Rattle.open_graphs.proofs.Verdicts.{edges_of, is_finished}

@@ -1,4 +1,4 @@
--- What keeps the use of a value: growth of the list, more heads, pushes, pops and reruns of what it doesn't reach.
+-- An answer may still be used after growth of the list, more heads, pushes, and pops and reruns of what it doesn't reach.
 use Rattle.std.proofs.Common.{◌≡◌, ℕ, max, List, [], ◌∷◌, ◌++◌, Some, length, slice_get, refl, ap, sym, subst, ◌∙◌, ◌⊎◌, inl, inr, None, slice_set, ◌≢◌, ◌<◌}
 use native.Mathlib.Decide.{ℕ_discrete}
 use Rattle.std.proofs.lemmas.Option.{slice_get_within}

@@ -1,4 +1,4 @@
--- A value keeps its use where the list, the stack or its heads change only in what it does not reach.
+-- An answer may still be used where the list, the stack or its heads change only in what it does not reach.
 use Rattle.std.proofs.Common.{◌≡◌, ℕ, List, Some, slice_get, ◌⊎◌}
 use Rattle.open_graphs.specs.Words.{Verdict, Node, IsFinished, Walk, stay, Entry, IsLeaf, Step, OpenGraph, Heads, Use}
 use Rattle.open_graphs.proofs.Walks.{carried_on, then_step}

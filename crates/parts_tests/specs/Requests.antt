@@ -1,4 +1,4 @@
--- What fits after a result.
+-- No reply fits after a result.
 use Rattle.std.specs.Prelude.{◌≡◌, Option, Some, None}
 use Rattle.parts_tests.specs.Below.{Request, Done, Reply, Begin, Answer, Noted, Fits}
 

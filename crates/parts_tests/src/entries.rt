@@ -73,7 +73,7 @@ pub fn used(inductive: u32, coinductive: u32) -> HeadUsages {
     }
 }
 
-/// A cache with these answers, in order.
+/// A cache with these entries, in order.
 pub fn cache_of(alloc: Global, answers: &[TestEntry]) -> Result<ProvisionalCache<Loops>, NoMemory>
     ensures { IfOk result (λ cache. (input : PathKind) → All (λ entry. All (λ head. head.0.0 ≤ 1) entry.heads) (entries_at ⟦<PathKind as PartialEq>⟧.eq cache input)) }
 {

@@ -31,7 +31,7 @@ impl Head {
     }
 }
 
-// The answers after a goal with this head, or without heads, is done for this reason.
+// The entries after a goal with this head, or without heads, is done for this reason.
 fn rebased(
     alloc: Global,
     answers: &[TestEntry],
@@ -69,7 +69,7 @@ fn done_goal(alloc: Global, head: Option<Head>) -> Result<StackEntry<Loops>, NoM
     Ok(done)
 }
 
-// An answer that is left, with its one head.
+// An entry that is left, with its one head.
 #[derive(Clone, Copy, Debug, PartialEq, Eq)]
 struct LeftAnswer {
     result: Outcome,
@@ -96,7 +96,7 @@ impl LeftAnswer {
     }
 }
 
-// The one answer that is left, if one is.
+// The one entry that is left, if one is.
 fn left(cache: &ProvisionalCache<Loops>) -> Result<Option<LeftAnswer>, Fail> {
     let mut entries = cache.entries_of(GOAL).iter();
     let Some(entry) = entries.next() else {

@@ -30,7 +30,7 @@ fn stack_of_three(alloc: Global, head: Option<usize>) -> Result<Stack<Loops>, No
     Ok(stack)
 }
 
-// The result of the answer that is used for the goal, if one is.
+// The result of the entry that is used for the goal, if one is.
 fn found(
     alloc: Global,
     answers: &[TestEntry],

@@ -9,7 +9,7 @@ use Rattle.search_graph.proofs.moves.Moves.{leaving, outcome_of}
 
 -- ---- the reason
 
--- a result of a cycle's sort has the verdict of the initial one of its kind
+-- a result that is initial for a kind of cycles has the verdict of the initial result of that kind
 initial_verdict : {R : Type 0} (says : Verdicts R) (kind : PathKind) (r : R) → IsCycleResult says.is_yes says.is_no kind r → theory.IsInitial (rank_of kind) (verdict_of says r)
 initial_verdict says Inductive r is = let yes = is.yes in let no = is.no in rw (yes, no) theory.Inductive
 initial_verdict says Unknown r is = let yes = is.yes in let no = is.no in rw (yes, no) theory.Unknown

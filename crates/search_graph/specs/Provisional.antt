@@ -7,7 +7,7 @@ use Rattle.search_graph.specs.EntryShapes.{entry_shape, HoldsOver, reason_shape}
 use Rattle.search_graph.specs.Runs.{run_of}
 use Rattle.search_graph.specs.Tallies.{counted}
 
--- the goal at this place was used as a head, or a goal above it has it among its heads
+-- the goal at this place was used as a head, or is among the heads of a goal above it
 abbrev pub IsHead : {I R : Type 0} → List (OpenRun I R) → StackDepth → Type 0
 IsHead [] head = ⊥
 IsHead (o ∷ below) head = IsSome (counted (length below) o.tally head) ⊎ IsHead below head

@@ -1,4 +1,4 @@
--- What becomes of the answers of one goal, once its delegate was asked.
+-- What becomes of an entry that used the goal that is done.
 use Rattle.std.specs.Prelude.{if◌then◌else◌, Option, Some, None}
 use Rattle.search_parts.specs.Below.{HeadUsages, has_usages, other_usages}
 use Rattle.search_parts.specs.declared.parts.provisional_cache.ProvisionalCacheEntry.{ProvisionalCacheEntry}
@@ -6,7 +6,7 @@ use Rattle.search_parts.specs.declared.parts.provisional_cache.rebasing.EntryCha
 use Rattle.search_parts.specs.declared.parts.provisional_cache.rebasing.EntryChange.TheVariants.{Dropped, Replaced, Unchanged, UnchangedIfSingle}
 
 module _ {X I R A T : Type 0} where
-  -- what becomes of an entry that used the goal that is done so often
+  -- the entry after such a change, where it used the goal so often
   abbrev pub changed_by : EntryChange X I R A T → HeadUsages → ProvisionalCacheEntry X I R A T → Option (ProvisionalCacheEntry X I R A T)
   changed_by Dropped usages entry = None
   changed_by (Replaced outcome) usages entry = Some (record entry { result = outcome; node = None })

@@ -1,4 +1,4 @@
--- The provisional cache: for each goal a list of its entries, which rest on goals on the stack, the oldest first.
+-- The provisional cache: each goal has a list of its entries, which rest on goals on the stack, the oldest first.
 use Rattle.std.specs.Prelude.{◌≡◌, ◌≢◌, Bool, false, cond, List, [], ◌∷◌, ◌++◌, map, All, Some}
 use Rattle.std.specs.Global.{Vec}
 use Rattle.std.specs.Option.{unwrap_or, IfSome}

@@ -29,7 +29,7 @@ keeps_kind from_head to_entry to_done to_head =
     nat_eq (rank_of (greater_kind from_head to_head)) (rank_of (greater_kind (greater_kind (greater_kind from_head to_entry) to_done) to_head))
 
 module _ {X I R A T : Type 0} where
-  -- what becomes of the answer of an entry that used the goal that is done: without cycles it is dropped; an ambiguous goal and one that
+  -- what becomes of an entry that used the goal that is done: if no cycle was used it is dropped; an ambiguous goal and one that
   -- had its most runs leave their results and no node; a later run that is stable leaves it as it is; and so does a stable first run,
   -- where it was used by cycles of that kind alone
   abbrev pub changed_for : (A → R) → R → RebaseReason X I R A T → HeadUsages → ProvisionalCacheEntry X I R A T → Option (ProvisionalCacheEntry X I R A T)

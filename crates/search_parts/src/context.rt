@@ -43,7 +43,7 @@ pub trait Cx: Copy {
     /// A token that the cache stores beside the goal's result.
     fn dep_node(self, input: Self::Input) -> Self::DepNodeIndex;
 
-    /// Whether a result is definite.
+    /// The verdict of a result.
     fn sort(self, outcome: Self::Result) -> Verdict
         ensures yes { (result ≡ Verdict.Yes) ↔ IsTrue (is_yes outcome) }
         ensures no { (result ≡ Verdict.No) ↔ IsTrue (is_no outcome) };
@@ -94,7 +94,7 @@ pub enum Reply<R> {
     Noted,
 }
 
-/// The sort of a result.
+/// The verdict of a result: what it says of its goal.
 #[derive(Clone, Copy, Debug, PartialEq, Eq)]
 pub enum Verdict {
     /// The goal holds.
@@ -176,7 +176,7 @@ pub struct ProofGraph<X: Cx> {
 /// The ghost members say what the frames do: `script` gives each request from the goal and the replies so far, so
 /// that the builder has no part in it, and `left` falls at each step from at most `width` on. The laws at
 /// the end tie results to what goals mean: a result of yes (no) is proved (refuted) by the questions that were
-/// answered yes (no) outside ignored candidates; initial results have the sort of their cycle's kind; and
+/// answered yes (no) outside ignored candidates; initial results have the verdict of their cycle's kind; and
 /// overflow results and ambiguous ones are neither yes nor no.
 pub trait Delegate: Sized {
     ghost use Rattle.search_parts.specs.declared.context.Reply.{Reply};
@@ -269,7 +269,7 @@ pub trait Delegate: Sized {
     ) -> <Self::Cx as Cx>::Result
         ensures { result ≡ initial_result cx kind input };
 
-    /// The kind of cycles that this result is the first answer of.
+    /// The kind of cycles whose initial result this is.
     fn is_initial_provisional_result(outcome: <Self::Cx as Cx>::Result) -> Option<PathKind>
         ensures { result ≡ initial_kind outcome };
 

@@ -105,7 +105,7 @@ fn answers_and_counts(rt: HostRuntime) -> Result<(), Fail> {
             "rule ~A = i:A\nrule ~A = c:A\nrule A = i:Q\nask 4 A\n",
             "A yes 3\n",
         ),
-        // What a goal came to over one above it answers it again, over a cycle of the same kind.
+        // A provisional entry answers its goal again where the path to the goal is of the same kind.
         ("rule A = c:B c:B\nrule B = c:A\nask 4 A\n", "A yes 2\n"),
         ("rule A = c:B i:B\nrule B = c:A\nask 4 A\n", "A yes 3\n"),
         // All rules count for every question, wherever they stand.

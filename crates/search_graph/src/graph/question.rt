@@ -73,7 +73,7 @@ impl<D: Delegate> Evaluation<D> {
         Ok(Received::without_node(Reply::Begin))
     }
 
-    /// Answers the newest goal's question for a goal that is under evaluation at `head`, by its provisional
+    /// Answers the newest goal's question of a goal that is under evaluation at `head`, by its provisional
     /// result or, in its first run, by the initial one. Ports `SearchGraph::check_cycle_on_stack`.
     fn answer_cycle(
         &mut self,

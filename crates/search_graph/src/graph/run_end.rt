@@ -115,7 +115,7 @@ fn stable_reason<D: Delegate>(
     }
 }
 
-/// The kind of cycles for whose first answer the run took its result, where it was its goal's first.
+/// The kind of cycles whose initial result the run came to, if it was its goal's first run.
 fn initial_kind<D: Delegate>(
     provisional_result: Option<<D::Cx as Cx>::Result>,
     outcome: <D::Cx as Cx>::Result,
@@ -129,7 +129,7 @@ fn initial_kind<D: Delegate>(
     }
 }
 
-/// Whether a run that used its own goal's result so came to that result. Ports
+/// Whether the run came to the result that these cycles of its own goal were answered with. Ports
 /// `SearchGraph::reached_fixpoint`.
 fn reached_fixpoint<D: Delegate>(
     provisional_result: Option<<D::Cx as Cx>::Result>,

@@ -46,8 +46,8 @@ pub enum RebaseReason<X: Cx> {
     Ambiguity(X::AmbiguityInfo),
     /// The goal had its most runs, and its result isn't stable.
     Overflow,
-    /// The goal's result is stable: in its first run, which took it for the first answer of cycles of
-    /// this kind, or in a later one (`None`).
+    /// The goal reached its fixpoint: its first run came to the initial result of cycles of this kind,
+    /// or a later run to the provisional result (`None`).
     ReachedFixpoint(Option<PathKind>),
 }
 

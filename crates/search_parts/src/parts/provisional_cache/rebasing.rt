@@ -18,7 +18,7 @@ use std::alloc::Global;
 use std::collections::HashMap;
 use std::hash::Hash;
 
-/// What becomes of the answer of an entry that used the goal that is done.
+/// What becomes of an entry that used the goal that is done.
 #[derive(Drop)]
 pub(super) enum EntryChange<X: Cx> {
     /// The entry is dropped.
@@ -59,7 +59,7 @@ impl<X: Cx> EntryChange<X> {
     }
 }
 
-// What becomes of the answers of this goal.
+// What becomes of the entries that used this goal, which is done for the reason.
 pub(super) fn change_for<D: Delegate>(
     cx: D::Cx,
     input: <D::Cx as Cx>::Input,
