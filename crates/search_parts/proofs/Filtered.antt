@@ -1,4 +1,4 @@
--- Lists that are filtered, and marks by number, with one more element or one element changed.
+-- Lists that are filtered, and flags by number, with one more element or one element changed.
 use Rattle.std.proofs.Common.{◌≡◌, ℕ, zero, suc, ◌<◌, ◌==◌, Bool, true, false, ◌&&◌, ◌||◌, cond, List, [], ◌∷◌, ◌++◌, map, length, get_or, slice_set, inl, inr, refl, sym, ap, ◌∙◌}
 use Rattle.std.specs.List.{filter}
 use Rattle.std.proofs.lemmas.List.{map-append, get_or-set_same, get_or-set_other}

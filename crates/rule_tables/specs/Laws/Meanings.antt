@@ -1,4 +1,4 @@
--- What a table proves and refutes is kept when more is known, and clashes.
+-- What a table proves and refutes stays so when more is known, and what proves a goal clashes with what refutes it.
 use Rattle.std.specs.Prelude.{List}
 use Rattle.rule_tables.specs.Below.{Question, IsWithin, Overlap}
 use Rattle.rule_tables.specs.declared.rules.Goal.{Goal}
