@@ -4,5 +4,5 @@
 use std::process::ExitCode;
 
 fn main(rt: HostRuntime) -> ExitCode {
-    ExitCode::from(rule_tables::answer(rt.alloc(), rt.stdin(), rt.stdout(), rt.stderr()))
+    ExitCode::from(table_runs::answer(rt.alloc(), rt.stdin(), &mut rt.stdout(), rt.stderr()))
 }

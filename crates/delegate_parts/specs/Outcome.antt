@@ -43,6 +43,11 @@ ambiguity_of No = None
 ambiguity_of Maybe = Some tt
 ambiguity_of Overflow = Some tt
 
+-- what a goal comes to whose result is not stable after the most runs
+abbrev pub after_most_runs : (overflow : Bool) → Outcome
+after_most_runs true = Overflow
+after_most_runs false = Maybe
+
 -- the word for the outcome
 abbrev pub word_of : Outcome → List ℕ
 word_of Yes = codes "yes"

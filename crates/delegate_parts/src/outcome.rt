@@ -1,8 +1,8 @@
 //! The results of a goal, and what a search asks of them.
 ghost use Rattle.std.specs.Prelude.{◌≡◌, ◌↔◌, IsTrue};
 
-use search_parts::context::Verdict;
-use search_parts::path::PathKind;
+use cycle_heads::path::PathKind;
+use search_context::context::Verdict;
 use std::fmt;
 
 /// What is known of a goal.

@@ -1,7 +1,7 @@
 //! An evaluation as a whole: plain values, the bound and the price in one invariant, which each move keeps.
 ghost use Rattle.evaluations.specs.Words.{RootIsEvaluating, MoveGoesOn, LastFrameEnds, LastRunEnds, EvaluationStops, FailedStartStops, FittingMeetsNoLimit};
 
-use search_parts::context::Delegate;
+use search_context::context::Delegate;
 
 /// An evaluation begins with its root and goes on by every move, with fewer steps ahead.
 pub fn moves_go_on<D: Delegate>()

@@ -8,8 +8,8 @@ use Rattle.std.proofs.lemmas.Option.{slice_get-map, slice_get-get_or, unwrap_or-
 use Rattle.std.specs.Option.{IsSomeAnd, unwrap_or}
 use Rattle.graph_check.specs.Below.{PathKind, Inductive, ForcedAmbiguity, rank_of, Edge, GraphNode, HasEdge, IsWalk, walk_kind, AreClosed, CyclesHaveKind, HasStep, Reaches, StaysInside, AreComponents, stay, go}
 use Rattle.strong_components.proofs.Walks.{falls_along, reaches-trans}
-use Rattle.search_parts.proofs.Copies.{HasEdge-within}
-use Rattle.search_parts.proofs.Graphs.{Contains-filtered, Contains-map, Contains-mapped, filtered_member, HasGoal-within}
+use Rattle.search_context.proofs.Copies.{HasEdge-within}
+use Rattle.search_context.proofs.Graphs.{Contains-filtered, Contains-map, Contains-mapped, filtered_member, HasGoal-within}
 use Rattle.cycle_heads.proofs.PathRanks.{each_kind, greater_rank, same_kind}
 use Rattle.graph_check.specs.Words.{IsBetween, IsGreater, IsLesser, HasCycle, HasInnerEdge, steps_over, targets_over}
 

@@ -5,7 +5,7 @@ use Rattle.std.proofs.lemmas.Option.{slice_get-map, slice_get_past, same_Some, n
 use Rattle.std.proofs.lemmas.List.Elements.{All-contains, Contains-get_or}
 use Rattle.std.specs.Cmp.{IsEquivalence}
 use Rattle.std.specs.Option.{IsSomeAnd}
-use Rattle.search_parts.proofs.Copies.{node_with_edge}
+use Rattle.search_context.proofs.Copies.{node_with_edge}
 use Rattle.graph_check.specs.Below.{Edge, Node, GraphNode, HasGoal, HasEdge, AreClosed, goal_node_of, goal_nodes_of}
 
 module _ {I R : Type 0} (nodes : List (Node I R)) where

@@ -1,8 +1,8 @@
 -- What a valid graph shows: where the questions of each run's answers keep a rule, it is a graph of its goal by the rule.
 use Rattle.std.proofs.Common.{◌≡◌, ◌↔◌, Bool, IsTrue, List, map, slice_get, get_or, reverse, sym, ◌∙◌, subst}
 use Rattle.std.proofs.lemmas.Option.{slice_get-map, slice_get-get_or, slice_get_within, get_or_from_slice_get}
-use Rattle.search_parts.proofs.Graphs.{mapped_some}
-use Rattle.search_parts.proofs.Bridge.{KeepsRule}
+use Rattle.search_context.proofs.Graphs.{mapped_some}
+use Rattle.search_context.proofs.Rules.{KeepsRule}
 use Rattle.graph_check.specs.Below.{PathKind, Inductive, Coinductive, Node, Reply, Request, Verdict, Yes, No, Neither, Question, GraphNode, question_of, HasGoal, IsGraph, IsProofGraph, IsRefutationGraph, AreClosed, CyclesHaveKind, IsRunOfSort, IsValid, IsValidFor, goal_node_of, goal_nodes_of, Verdicts}
 use Rattle.graph_check.specs.Words.{has_sort, AreRunsOfSort}
 

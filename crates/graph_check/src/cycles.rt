@@ -5,7 +5,7 @@ ghost use Rattle.graph_check.specs.Below.{rank_of, AreClosed, CyclesHaveKind, go
 ghost use Rattle.graph_check.specs.Words.{HasCycle, HasInnerEdge, IsBetween, IsGreater, IsLesser, leads_to, steps_over, targets_over};
 
 use cycle_heads::path::PathKind;
-use search_parts::context::{Edge, NoMemory, Node};
+use search_context::context::{Edge, NoMemory, Node};
 use std::alloc::{AllocError, Global};
 use strong_components::components;
 

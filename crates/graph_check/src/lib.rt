@@ -2,7 +2,7 @@
 //! holds, or that it does not hold. It stands on the context and the delegate alone, and knows nothing of how goals
 //! are searched.
 //!
-//! What it decides is one definition, `IsValid` in `specs/Valid.antt` of `search_parts`.
+//! What it decides is one definition, `IsValid` in `specs/Valid.antt` of `search_context`.
 //!
 //! | File of `specs/` | Has |
 //! |---|---|
@@ -22,7 +22,7 @@ mod targets;
 use cycle_heads::path::PathKind;
 use cycles::cycles_have_kind;
 use replay::is_run;
-use search_parts::context::{Cx, Delegate, NoMemory, Node, ProofGraph, Verdict};
+use search_context::context::{Cx, Delegate, NoMemory, Node, ProofGraph, Verdict};
 use std::alloc::Global;
 use targets::{are_closed, is_rooted};
 

@@ -6,7 +6,7 @@ ghost use Rattle.graph_check.specs.Words.{has_sort, is_answer};
 mod run_record;
 
 use run_record::{RunRecord, has_edges, is_done};
-use search_parts::context::{Cx, Delegate, NoMemory, Node, Reply, Verdict};
+use search_context::context::{Cx, Delegate, NoMemory, Node, Reply, Verdict};
 use std::alloc::Global;
 
 /// Whether the node is a run of its goal, with a result of this sort and the edges that this rests

@@ -2,7 +2,7 @@
 ghost use Rattle.std.specs.Prelude.{◌↔◌, All, IsTrue};
 ghost use Rattle.graph_check.specs.Below.{HasGoal, AreClosed, goal_nodes_of};
 
-use search_parts::context::{Cx, Edge, Node};
+use search_context::context::{Cx, Edge, Node};
 
 /// Whether there is a first node, and it is of this goal.
 pub(crate) fn is_rooted<X: Cx>(nodes: &[Node<X::Input, X::Result>], input: X::Input) -> bool

@@ -1,4 +1,4 @@
-//! What the questions of a table are answered, on lines. Each answer of yes or no has to be shown by its graph.
+//! What the questions of a table are answered. Each answer of yes or no has to be shown by its graph.
 
 use delegate_parts::{Builder, Outcome};
 use graph_check::check_graph;
@@ -10,7 +10,6 @@ use search_parts::context::{Answer, Cx, Delegate, NodeId};
 use search_parts::global_cache::GlobalCache;
 use search_parts::path::PathKind;
 use std::alloc::Global;
-use std::io::Write;
 use std::test::Fail;
 
 /// What a question came to.
@@ -45,7 +44,7 @@ where
 }
 
 /// Whether a graph of the node is handed out, and the checker accepts it for the goal and the outcome.
-pub fn is_shown<X, D>(
+fn is_shown<X, D>(
     alloc: Global,
     cache: &GlobalCache<D>,
     goal: Goal,
@@ -64,25 +63,25 @@ where
     Ok(check_graph::<D>(alloc, cache.cx(), &graph, goal, verdict, &mut builder)?)
 }
 
-/// An answer that names a node is shown by the graph that is handed out for that, and any other is not definite.
-pub fn expect_shown<X, D>(
+/// What is wrong with the answer: a definite one has to name a node whose graph the checker accepts, and any other none.
+fn flaw_of_answer<X, D>(
     alloc: Global,
     cache: &GlobalCache<D>,
     goal: Goal,
     answer: Answer<Outcome>,
-) -> Result<(), Fail>
+) -> Result<Option<&'static str>, Fail>
 where
     X: Cx<Input = Goal, Result = Outcome>,
     D: Delegate<Cx = X, ProofTreeBuilder = Builder>,
 {
     let outcome = answer.result;
-    match answer.node {
-        Some(node) if !is_shown::<X, D>(alloc, cache, goal, outcome, node)? => {
-            Err("no graph that the checker accepts")?
+    let is_right = match answer.node {
+        Some(node) => {
+            is_definite(outcome) && is_shown::<X, D>(alloc, cache, goal, outcome, node)?
         }
-        None if is_definite(outcome) => Err("a definite answer without a node")?,
-        _ => Ok(()),
-    }
+        None => !is_definite(outcome),
+    };
+    Ok((!is_right).then_some("no graph that the checker accepts"))
 }
 
 /// Whether the outcome is yes or no.
@@ -90,41 +89,67 @@ pub fn is_definite(outcome: Outcome) -> bool {
     matches!(outcome, Outcome::Yes | Outcome::No)
 }
 
-/// A line for each question of the table, over one cache: its goal, its result and the frames that it started.
-pub fn answers_to<X, D>(alloc: Global, cx: X, rules: &Rules) -> Result<Vec<u8>, Fail>
+/// What the questions come to over one cache, or what is wrong with that. They have to get the same answers over another
+/// cache as lists: one of so many questions, for each such number, and one of the others.
+pub fn answers_to<X, D>(
+    alloc: Global,
+    cache: &mut GlobalCache<D>,
+    questions: &[(usize, Goal)],
+    lists: &[usize],
+) -> Result<Result<Vec<Answered>, &'static str>, Fail>
 where
     X: Cx<Input = Goal, Result = Outcome>,
     D: Delegate<Cx = X, ProofTreeBuilder = Builder>,
 {
-    let mut cache = GlobalCache::<D>::new(alloc, cx);
-    let mut lines = Vec::new(alloc);
-    for (depth, goal) in rules.questions() {
-        let answered = ask::<X, D>(alloc, &mut cache, *depth, *goal)?;
-        expect_shown::<X, D>(alloc, &cache, *goal, answered.answer)?;
-        start_line(&mut lines)?;
-        write_answer(&mut lines, rules, *goal, answered)?;
+    let mut answers = Vec::new(alloc);
+    for (depth, goal) in questions {
+        let answered = ask::<X, D>(alloc, cache, *depth, *goal)?;
+        if let Some(flaw) = flaw_of_answer::<X, D>(alloc, cache, *goal, answered.answer)? {
+            return Ok(Err(flaw));
+        }
+        answers.push(answered)?;
     }
-    Ok(lines)
+    for first in lists {
+        let mut cache = GlobalCache::<D>::new(alloc, cache.cx());
+        if !lists_have::<X, D>(alloc, &mut cache, questions, *first, answers.as_slice())? {
+            return Ok(Err("another answer in a list"));
+        }
+    }
+    Ok(Ok(answers))
 }
 
-/// Ends the line before, if there is one.
-pub fn start_line(lines: &mut Vec<u8>) -> Result<(), Fail> {
-    if !lines.is_empty() {
-        lines.push(b'\n')?;
+/// Whether the first so many questions as one list, and the others as another, get these answers, with the same nodes and
+/// as many frames together. A list without questions follows, which adds none.
+fn lists_have<X, D>(
+    alloc: Global,
+    cache: &mut GlobalCache<D>,
+    questions: &[(usize, Goal)],
+    first: usize,
+    answers: &[Answered],
+) -> Result<bool, Fail>
+where
+    X: Cx<Input = Goal, Result = Outcome>,
+    D: Delegate<Cx = X, ProofTreeBuilder = Builder>,
+{
+    let mut queries = Vec::new(alloc);
+    for (depth, goal) in questions {
+        queries.push((*depth, *goal, PathKind::Inductive))?;
     }
-    Ok(())
-}
-
-/// A question's goal, its result and the frames that it started.
-pub fn write_answer(
-    lines: &mut Vec<u8>,
-    rules: &Rules,
-    goal: Goal,
-    answered: Answered,
-) -> Result<(), Fail> {
-    lines.extend_from_slice(rules.name(goal).ok_or("no name")?)?;
-    let outcome = answered.answer.result;
-    let started = answered.started;
-    write!(lines, " {outcome} {started}")?;
-    Ok(())
+    let (first, others) = queries.split_at_checked(first).ok_or("no question")?;
+    let mut builder = Builder::new(true);
+    let mut given = Vec::new(alloc);
+    for list in [first, others, &[]] {
+        SearchGraph::<D>::evaluate_list(cache, list, &mut builder, &mut given)?;
+    }
+    if given.len() != answers.len() {
+        return Ok(false);
+    }
+    let mut started = 0u64;
+    for (answer, wanted) in given.iter().zip(answers.iter()) {
+        if (*answer)? != wanted.answer {
+            return Ok(false);
+        }
+        started = started.saturating_add(wanted.started);
+    }
+    Ok(builder.started() == started)
 }

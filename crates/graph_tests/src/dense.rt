@@ -1,13 +1,11 @@
 //! All tables of two goals that ask two questions each: what is answered, and the graphs of the answers.
 
-use crate::answers::{Table, TableDelegate, ask, is_definite, is_shown};
+use crate::answers::{Table, TableDelegate, answers_to, ask, is_definite};
 use crate::plain_graph::ShownGraph;
 use delegate_parts::{Builder, Outcome};
 use rule_tables::{Goal, Rules};
-use search_graph::graph::SearchGraph;
-use search_parts::context::{Answer, Cx, Delegate};
+use search_parts::context::{Cx, Delegate};
 use search_parts::global_cache::GlobalCache;
-use search_parts::path::PathKind;
 use std::alloc::Global;
 use std::io::Write;
 use std::process::Abort;
@@ -235,7 +233,7 @@ where
     flaw_of_questions::<X, D>(alloc, &mut cache, rules, &ASKED_ANEW, said, counts)
 }
 
-/// The same of these questions over one cache. As one list over a cache of its own, they have to get the same answers.
+/// The same of these questions over one cache.
 fn flaw_of_questions<X, D>(
     alloc: Global,
     cache: &mut GlobalCache<D>,
@@ -248,80 +246,33 @@ where
     X: Cx<Input = Goal, Result = Outcome>,
     D: Delegate<Cx = X, ProofTreeBuilder = Builder>,
 {
-    let mut queries = Vec::new(alloc);
-    let mut answers = Vec::new(alloc);
+    let mut questions = Vec::new(alloc);
     for (depth, name) in asked {
-        let goal = rules.goal(name).ok_or("no goal")?;
-        let answer = ask::<X, D>(alloc, cache, *depth, goal)?.answer;
-        queries.push((*depth, goal, PathKind::Inductive))?;
-        answers.push(answer)?;
+        questions.push((*depth, rules.goal(name).ok_or("no goal")?))?;
+    }
+    let answers = match answers_to::<X, D>(alloc, cache, questions.as_slice(), &[0])? {
+        Ok(answers) => answers,
+        Err(flaw) => return Ok(Some(flaw)),
+    };
+    for ((depth, goal), answered) in questions.iter().zip(answers.iter()) {
+        let outcome = answered.answer.result;
         if *depth == 4 {
-            counts.note(answer.result);
+            counts.note(outcome);
         }
-        if said.contradicts(goal, answer.result)? {
+        if said.contradicts(*goal, outcome)? {
             return Ok(Some("yes and no"));
         }
-        if let Some(flaw) = flaw_of_answer(alloc, cache, rules, goal, answer)? {
+        let Some(root) = answered.answer.node else {
+            continue;
+        };
+        let Some(shown) = ShownGraph::read::<X, D>(alloc, cache, root)? else {
+            return Ok(Some("an open node"));
+        };
+        if let Some(flaw) = shown.flaw(rules, *goal, outcome)? {
             return Ok(Some(flaw));
         }
     }
-    let mut cache = GlobalCache::<D>::new(alloc, cache.cx());
-    if !has_answers::<X, D>(alloc, &mut cache, queries.as_slice(), answers.as_slice())? {
-        return Ok(Some("another answer in a list"));
-    }
     Ok(None)
-}
-
-/// Whether the list of queries gets these answers, with the same nodes.
-fn has_answers<X, D>(
-    alloc: Global,
-    cache: &mut GlobalCache<D>,
-    queries: &[(usize, Goal, PathKind)],
-    answers: &[Answer<Outcome>],
-) -> Result<bool, Fail>
-where
-    X: Cx<Input = Goal, Result = Outcome>,
-    D: Delegate<Cx = X, ProofTreeBuilder = Builder>,
-{
-    let mut builder = Builder::new(true);
-    let mut given = Vec::new(alloc);
-    SearchGraph::<D>::evaluate_list(cache, queries, &mut builder, &mut given)?;
-    if given.len() != answers.len() {
-        return Ok(false);
-    }
-    for (answer, wanted) in given.iter().zip(answers.iter()) {
-        if (*answer)? != *wanted {
-            return Ok(false);
-        }
-    }
-    Ok(true)
-}
-
-/// What is wrong with the graph that the answer names, to a plain check and to the checker. An answer that is not
-/// definite names none.
-fn flaw_of_answer<X, D>(
-    alloc: Global,
-    cache: &GlobalCache<D>,
-    rules: &Rules,
-    goal: Goal,
-    answer: Answer<Outcome>,
-) -> Result<Option<&'static str>, Fail>
-where
-    X: Cx<Input = Goal, Result = Outcome>,
-    D: Delegate<Cx = X, ProofTreeBuilder = Builder>,
-{
-    let root = match answer.node {
-        Some(root) if is_definite(answer.result) => root,
-        None if !is_definite(answer.result) => return Ok(None),
-        _ => return Ok(Some("a graph of another result")),
-    };
-    if !is_shown::<X, D>(alloc, cache, goal, answer.result, root)? {
-        return Ok(Some("no graph that the checker accepts"));
-    }
-    match ShownGraph::read::<X, D>(alloc, cache, root)? {
-        Some(shown) => shown.flaw(rules, goal, answer.result),
-        None => Ok(Some("an open node")),
-    }
 }
 
 /// Whether both goals are answered yes or no at depth 4, and no limit is met.

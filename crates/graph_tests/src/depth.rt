@@ -1,7 +1,7 @@
 //! How deep a search may go, and how many frames it starts: goals that count down.
 
-use delegate_parts::{Builder, Outcome};
-use parts_tests::countdown::{Count, Countdown};
+use delegate_parts::{Builder, ContextOf, Outcome};
+use parts_tests::countdown::{Count, Countdown, CountdownDelegate};
 use search_graph::graph::SearchGraph;
 use search_parts::context::Fault;
 use search_parts::global_cache::GlobalCache;
@@ -37,8 +37,9 @@ fn evaluate(
     root_depth: usize,
     goal: u32,
 ) -> Result<Evaluated, Fault<Count, Outcome>> {
-    let mut cache = GlobalCache::<Countdown>::new(alloc, Countdown { asks_twice });
-    let mut graph = SearchGraph::<Countdown>::new(alloc, root_depth);
+    let cx = ContextOf(Countdown { asks_twice });
+    let mut cache = GlobalCache::<CountdownDelegate>::new(alloc, cx);
+    let mut graph = SearchGraph::<CountdownDelegate>::new(alloc, root_depth);
     let answer = graph.evaluate_goal(&mut cache, Count(goal), PathKind::Inductive, &mut builder)?;
     Ok(Evaluated {
         outcome: answer.result,
@@ -72,18 +73,17 @@ fn a_goal_that_is_asked_twice_starts_one_frame(rt: HostRuntime) {
     assert_eq!(rt; evaluated, Ok(yes_after(4)));
 }
 
-// There are no proof trees yet, so a builder that records uses the cache as well.
 #[test]
-fn a_builder_that_records_uses_the_cache(rt: HostRuntime) {
+fn a_builder_that_records_sees_each_goal_as_often_as_it_is_asked(rt: HostRuntime) {
     let evaluated = evaluate(rt.alloc(), Builder::new(false), true, 3, 3);
-    assert_eq!(rt; evaluated, Ok(yes_after(4)));
+    assert_eq!(rt; evaluated, Ok(yes_after(15)));
 }
 
 #[test]
 fn a_graph_without_goals_has_no_candidates(rt: HostRuntime) -> Result<(), Fail> {
-    let cx = Countdown { asks_twice: false };
-    let mut cache = GlobalCache::<Countdown>::new(rt.alloc(), cx);
-    let mut graph = SearchGraph::<Countdown>::new(rt.alloc(), 4);
+    let cx = ContextOf(Countdown { asks_twice: false });
+    let mut cache = GlobalCache::<CountdownDelegate>::new(rt.alloc(), cx);
+    let mut graph = SearchGraph::<CountdownDelegate>::new(rt.alloc(), 4);
     let nothing = CandidateHeadUsages::new(rt.alloc());
     assert_eq!(rt; graph.ignore_candidate_head_usages(nothing), Ok(()));
 

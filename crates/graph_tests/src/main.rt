@@ -1,32 +1,28 @@
-//! Tests of the search. Some have delegates of `parts_tests`: how deep a search may go, how many frames it starts, and
-//! requests in any order. The others have tables of rules.
+//! Tests of the search. The program reads runs over tables of rules, with the options of the search, and says of how many
+//! the search answers what stands in them. The first are worked out by hand, each named for what it shows. The others are
+//! runs of rustc's own search graph at other limits of runs, with the provisional cache and without it: their tables are
+//! those of a random generator, and each is answered otherwise at another of these limits, or at the other setting of the
+//! provisional cache.
 //!
-//! The program is a test, too. It reads runs of rustc's own search graph at other limits of runs, with the provisional
-//! cache and without it, and says of how many the search answers the same. Their tables are those of a random
-//! generator, and each is answered otherwise at another of these limits, or at the other setting of the provisional
-//! cache.
+//! The tests beside it have delegates of `parts_tests`, for how deep a search may go and for requests in any order, or many
+//! small tables of rules.
 #![tactic(auto)]
 
 mod answers;
 #[cfg(test)]
-mod cycles;
-#[cfg(test)]
 mod dense;
 #[cfg(test)]
 mod depth;
-#[cfg(test)]
 mod drawn;
 #[cfg(test)]
 mod flaws;
 #[cfg(test)]
 mod plain_graph;
 #[cfg(test)]
-mod provisional;
+mod proof_trees;
 #[cfg(test)]
 mod requests;
 mod runs;
-#[cfg(test)]
-mod stored;
 
 use runs::is_answered;
 use std::io;

@@ -1,205 +1,51 @@
-//! Tests of requests in any order: which of them are refused and as what, and that the graph and the cache
-//! can be used afterwards.
-use delegate_parts::{Builder, Outcome};
+//! Requests in any order: which of them are refused and as what, and that the graph and the cache can be used
+//! afterwards.
+
+use crate::drawn::{draw_replies, kind_of, letter_of};
+use delegate_parts::{Builder, ContextOf, Outcome};
 use graph_check::check_graph;
 use parts_tests::scripts::{Goal, Line, Scripts, ScriptsDelegate};
 use search_graph::graph::SearchGraph;
-use search_parts::context::{Answer, Edge, Fault, ProofGraph, Reply, Verdict};
+use search_parts::context::{Answer, Fault, Node, Verdict};
 use search_parts::global_cache::GlobalCache;
 use search_parts::path::PathKind;
 use std::alloc::Global;
+use std::io::Write;
 use std::test::Fail;
 
-/// Goals that have eight runs at most.
-type EightRuns = ScriptsDelegate<8>;
+/// The goals' names.
+const NAMES: [&str; 3] = ["A", "B", "C"];
 
-/// Goals that have one run.
-type OneRun = ScriptsDelegate<1>;
-
-const ENTER: Line = Line::EnterCandidate;
-
-const FINISH: Line = Line::FinishCandidate;
-
-const IGNORE_FIRST: Line = Line::Ignore(0);
-
-const END: Line = Line::End;
-
-const NO_LINES: [Line; 5] = [Line::End; 5];
-
-const FIRST: Goal = Goal(0);
-
-const SECOND: Goal = Goal(1);
-
-const THIRD: Goal = Goal(2);
-
-/// What a goal with this script comes to, which asks no other goal.
-fn evaluate(alloc: Global, lines: [Line; 5]) -> Result<Outcome, Fault<Goal, Outcome>> {
-    let (outcome, _) = evaluate_and_count(alloc, lines)?;
-    Ok(outcome)
-}
-
-/// The same, with the number of frames that it started.
-fn evaluate_and_count(
-    alloc: Global,
-    lines: [Line; 5],
-) -> Result<(Outcome, u64), Fault<Goal, Outcome>> {
-    let scripts = Scripts {
-        lines: [lines, NO_LINES, NO_LINES],
-    };
-    let mut cache = GlobalCache::<EightRuns>::new(alloc, scripts);
-    let mut graph = SearchGraph::<EightRuns>::new(alloc, 4);
-    let mut builder = Builder::new(true);
-    let answer = graph.evaluate_goal(&mut cache, FIRST, PathKind::Inductive, &mut builder)?;
-    Ok((answer.result, builder.started()))
-}
+/// A row for each run: what it shows, the scripts of A, B and C, the goals that are asked one after the other on one graph,
+/// and what each comes to. That is its result or the number of its fault, the frames that it started, the nodes of its graph,
+/// and the successes that are stored then. A node has its goal, its replies, and its edges with the places that they lead to.
+const RUNS: &str = "\
+a candidate begins while one is open | enter enter | A | A fault 1 after 1
+a candidate ends that is not open | enter finish finish | A | A fault 2 after 1
+a candidate is ignored that is not there | ignore | A | A fault 3 after 1
+a candidate is ignored that is not finished | enter ignore | A | A fault 3 after 1
+a candidate is ignored twice | enter finish ignore ignore | A | A fault 4 after 1
+a goal may end within a candidate | enter | A | A yes after 1 [A begin noted] stores A yes 0
+a candidate may be ignored within another | enter finish enter ignore finish | A | A yes after 1 [A begin noted noted noted noted noted] stores A yes 0
+a goal may ask itself in a candidate that is ignored | enter c:A finish ignore | A | A yes after 1 [A begin noted yes noted noted] stores A yes 1
+a goal may ask itself in a candidate that is ignored | enter i:A finish ignore | A | A yes after 1 [A begin noted no noted noted] stores A yes 1
+a goal may ask itself in a candidate that counts | enter c:A finish | A | A yes after 1 [A begin noted yes noted c:0] stores A yes 1
+a goal may ask itself in a candidate that counts | enter i:A finish | A | A yes after 2 [A begin noted no noted] stores A yes 1
+a goal that is done before a fault stays stored | i:B i:C; ; finish | A B | A fault 2 after 3 stores B yes 0; B yes after 0 [B begin] stores B yes 0
+another goal is answered after a fault | finish | A B | A fault 2 after 1; B yes after 1 [B begin] stores B yes 0
+a goal that asks itself is a yes after each fault | enter enter; c:B | A B | A fault 1 after 1; B yes after 1 [B begin yes c:0] stores B yes 1
+a goal that asks itself is a yes after each fault | finish; c:B | A B | A fault 2 after 1; B yes after 1 [B begin yes c:0] stores B yes 1
+a goal that asks itself is a yes after each fault | ignore; c:B | A B | A fault 3 after 1; B yes after 1 [B begin yes c:0] stores B yes 1
+a goal that asks itself is a yes after each fault | enter finish ignore ignore; c:B | A B | A fault 4 after 1; B yes after 1 [B begin yes c:0] stores B yes 1";
 
 #[test]
-fn a_candidate_begins_while_one_is_open(rt: HostRuntime) {
-    let found = evaluate(rt.alloc(), [ENTER, ENTER, END, END, END]);
-    assert_eq!(rt; found, Err(Fault::Protocol(1)));
-}
-
-#[test]
-fn a_candidate_ends_that_is_not_open(rt: HostRuntime) {
-    let found = evaluate(rt.alloc(), [ENTER, FINISH, FINISH, END, END]);
-    assert_eq!(rt; found, Err(Fault::Protocol(2)));
-}
-
-#[test]
-fn a_candidate_is_ignored_that_is_not_finished(rt: HostRuntime) {
-    let at_once = evaluate(rt.alloc(), [IGNORE_FIRST, END, END, END, END]);
-    assert_eq!(rt; at_once, Err(Fault::Protocol(3)));
-    let while_open = evaluate(rt.alloc(), [ENTER, IGNORE_FIRST, END, END, END]);
-    assert_eq!(rt; while_open, Err(Fault::Protocol(3)));
-}
-
-#[test]
-fn a_candidate_is_ignored_twice(rt: HostRuntime) {
-    let lines = [ENTER, FINISH, IGNORE_FIRST, IGNORE_FIRST, END];
-    assert_eq!(rt; evaluate(rt.alloc(), lines), Err(Fault::Protocol(4)));
-}
-
-#[test]
-fn a_goal_may_end_within_a_candidate(rt: HostRuntime) {
-    let found = evaluate(rt.alloc(), [ENTER, END, END, END, END]);
-    assert_eq!(rt; found, Ok(Outcome::Yes));
-}
-
-#[test]
-fn a_candidate_may_be_ignored_within_another(rt: HostRuntime) {
-    let found = evaluate(rt.alloc(), [ENTER, FINISH, ENTER, IGNORE_FIRST, FINISH]);
-    assert_eq!(rt; found, Ok(Outcome::Yes));
-}
-
-#[test]
-fn a_goal_may_ask_itself_in_a_candidate_that_is_ignored(rt: HostRuntime) {
-    for kind in [PathKind::Coinductive, PathKind::Inductive] {
-        let asks_itself = Line::Evaluate(kind, FIRST);
-        let ignored = [ENTER, asks_itself, FINISH, IGNORE_FIRST, END];
-        let found = evaluate_and_count(rt.alloc(), ignored);
-        assert_eq!(rt; found, Ok((Outcome::Yes, 1)), "a cycle that is {kind:?}");
-    }
-}
-
-#[test]
-fn a_goal_may_ask_itself_in_a_candidate_that_counts(rt: HostRuntime) {
-    for (kind, frames) in [(PathKind::Coinductive, 1), (PathKind::Inductive, 2)] {
-        let asks_itself = Line::Evaluate(kind, FIRST);
-        let found = evaluate_and_count(rt.alloc(), [ENTER, asks_itself, FINISH, END, END]);
-        assert_eq!(rt;
-            found,
-            Ok((Outcome::Yes, frames)),
-            "a cycle that is {kind:?}"
-        );
-    }
-}
-
-#[test]
-fn a_goal_that_is_done_before_a_fault_stays_stored(rt: HostRuntime) -> Result<(), Fail> {
-    let [asking, done, faulty] = [FIRST, SECOND, THIRD];
-    let asks_done = Line::Evaluate(PathKind::Inductive, done);
-    let asks_faulty = Line::Evaluate(PathKind::Inductive, faulty);
-    let scripts = Scripts {
-        lines: [
-            [asks_done, asks_faulty, END, END, END],
-            NO_LINES,
-            [FINISH, END, END, END, END],
-        ],
-    };
-    let mut cache = GlobalCache::<EightRuns>::new(rt.alloc(), scripts);
-    let mut graph = SearchGraph::<EightRuns>::new(rt.alloc(), 4);
-    let mut builder = Builder::new(true);
-    let found = graph.evaluate_goal(&mut cache, asking, PathKind::Inductive, &mut builder);
-    assert_eq!(rt; found.err(), Some(Fault::Protocol(2)));
-    assert!(rt; graph.is_empty());
-    assert_eq!(rt; graph.debug_current_depth(), 0);
-    assert_eq!(rt; builder.started(), 3);
-    assert_eq!(rt; cache.success_of(asking), None);
-    assert_eq!(rt; cache.success_of(done), Some((Outcome::Yes, 0)));
-    assert_eq!(rt; cache.success_of(faulty), None);
-
-    let mut later_builder = Builder::new(true);
-    let answer = graph.evaluate_goal(&mut cache, done, PathKind::Inductive, &mut later_builder)?;
-    assert_eq!(rt; answer.result, Outcome::Yes);
-    assert!(rt; answer.node.is_some());
-    assert_eq!(rt; later_builder.started(), 0);
-    Ok(())
-}
-
-#[test]
-fn another_goal_is_answered_after_a_fault(rt: HostRuntime) -> Result<(), Fail> {
-    let [faulty, other] = [FIRST, SECOND];
-    let scripts = Scripts {
-        lines: [[FINISH, END, END, END, END], NO_LINES, NO_LINES],
-    };
-    let mut cache = GlobalCache::<EightRuns>::new(rt.alloc(), scripts);
-    let mut graph = SearchGraph::<EightRuns>::new(rt.alloc(), 4);
-    let mut builder = Builder::new(true);
-    let found = graph.evaluate_goal(&mut cache, faulty, PathKind::Inductive, &mut builder);
-    assert_eq!(rt; found.err(), Some(Fault::Protocol(2)));
-    assert!(rt; graph.is_empty());
-    assert_eq!(rt; graph.debug_current_depth(), 0);
-    assert_eq!(rt; cache.success_of(faulty), None);
-
-    let answer = graph.evaluate_goal(&mut cache, other, PathKind::Inductive, &mut builder)?;
-    assert_eq!(rt; answer.result, Outcome::Yes);
-    assert_eq!(rt; builder.started(), 2);
-    Ok(())
-}
-
-// The goal that is asked after the fault asks itself, over a coinductive step.
-#[test]
-fn a_goal_that_asks_itself_is_a_yes_after_each_fault(rt: HostRuntime) -> Result<(), Fail> {
-    let [faulty, looping] = [FIRST, SECOND];
-    let asks_itself = Line::Evaluate(PathKind::Coinductive, looping);
-    for (lines, cause) in [
-        ([ENTER, ENTER, END, END, END], 1),
-        ([FINISH, END, END, END, END], 2),
-        ([IGNORE_FIRST, END, END, END, END], 3),
-        ([ENTER, FINISH, IGNORE_FIRST, IGNORE_FIRST, END], 4),
-    ] {
-        let scripts = Scripts {
-            lines: [lines, [asks_itself, END, END, END, END], NO_LINES],
-        };
-        let mut cache = GlobalCache::<EightRuns>::new(rt.alloc(), scripts);
-        let mut graph = SearchGraph::<EightRuns>::new(rt.alloc(), 4);
-        let mut builder = Builder::new(true);
-        let found = graph.evaluate_goal(&mut cache, faulty, PathKind::Inductive, &mut builder);
-        assert_eq!(rt; found.err(), Some(Fault::Protocol(cause)));
-
-        let answer = graph.evaluate_goal(&mut cache, looping, PathKind::Inductive, &mut builder)?;
-        assert_eq!(rt; answer.result, Outcome::Yes, "after fault {cause}");
-        assert_eq!(rt; builder.started(), 2, "after fault {cause}");
-        let shown = shown_graph(rt.alloc(), &cache, looping, answer)?;
-        let [root] = shown.nodes.as_slice() else {
-            return Err("another number of nodes")?;
-        };
-        let itself = Edge {
-            kind: PathKind::Coinductive,
-            input: looping,
-            target: 0,
-        };
-        assert_eq!(rt; root.edges.as_slice(), &[itself][..], "after fault {cause}");
+fn requests_are_refused_or_lead_to_a_yes(rt: HostRuntime) -> Result<(), Fail> {
+    for run in RUNS.lines() {
+        let (name, run) = run.split_once(" | ").ok_or("no name")?;
+        let (scripts, run) = run.split_once(" | ").ok_or("no scripts")?;
+        let (asked, wanted) = run.split_once(" | ").ok_or("no goals")?;
+        let told = tell::<8>(rt.alloc(), 4, scripts, asked)?;
+        assert_eq!(rt; told.as_slice(), wanted.as_bytes(), "{name}: {scripts}");
     }
     Ok(())
 }
@@ -210,59 +56,78 @@ fn a_goal_that_asks_itself_is_a_yes_after_each_fault(rt: HostRuntime) -> Result<
 fn a_goal_at_its_most_runs_and_a_refused_question_come_to_different_results(
     rt: HostRuntime,
 ) -> Result<(), Fail> {
-    let [asking, unstable, between] = [FIRST, SECOND, THIRD];
-    let asks_unstable = Line::Evaluate(PathKind::Inductive, unstable);
-    let asks_between = Line::Evaluate(PathKind::Inductive, between);
-    let scripts = Scripts {
-        lines: [
-            [asks_unstable, asks_between, END, END, END],
-            [asks_unstable, END, END, END, END],
-            [asks_unstable, END, END, END, END],
-        ],
-    };
-    let mut cache = GlobalCache::<OneRun>::new(rt.alloc(), scripts);
-    let mut graph = SearchGraph::<OneRun>::new(rt.alloc(), 2);
-    let mut builder = Builder::new(true);
-    let answer = graph.evaluate_goal(&mut cache, asking, PathKind::Inductive, &mut builder)?;
-    assert_eq!(rt; answer.result, Outcome::Yes);
-    assert_eq!(rt; builder.started(), 4);
-    assert!(rt; graph.limits_met());
-
-    let shown = shown_graph(rt.alloc(), &cache, asking, answer)?;
-    let [root, _, below] = shown.nodes.as_slice() else {
-        return Err("another number of nodes")?;
-    };
-    let [at_most_runs, done, refused] = [Outcome::Maybe, Outcome::Yes, Outcome::Overflow];
-    assert_eq!(rt;
-        root.replies.as_slice(),
-        &[
-            Reply::Begin,
-            Reply::Answer(at_most_runs),
-            Reply::Answer(done)
-        ][..]
-    );
-    assert_eq!(rt; below.input, unstable);
-    assert_eq!(rt;
-        below.replies.as_slice(),
-        &[Reply::Begin, Reply::Answer(refused)][..]
-    );
+    let told = tell::<1>(rt.alloc(), 2, "i:B i:C; i:B; i:B", "A")?;
+    let wanted =
+        "A yes after 4 limit [A begin maybe yes i:1] [C begin yes i:2] [B begin overflow] stores B maybe 1";
+    assert_eq!(rt; told.as_slice(), wanted.as_bytes());
     Ok(())
 }
 
-/// The graph of a yes, which the checker has to accept.
-fn shown_graph<const LIMIT: usize>(
+/// What the goals come to that are asked, as the rows have it.
+fn tell<const LIMIT: usize>(
     alloc: Global,
+    root_depth: usize,
+    scripts: &str,
+    asked: &str,
+) -> Result<Vec<u8>, Fail> {
+    let cx = ContextOf(scripts_of(scripts)?);
+    let mut cache = GlobalCache::<ScriptsDelegate<LIMIT>>::new(alloc, cx);
+    let mut graph = SearchGraph::<ScriptsDelegate<LIMIT>>::new(alloc, root_depth);
+    let mut told = Vec::new(alloc);
+    for name in asked.split(' ') {
+        if !told.is_empty() {
+            write!(told, "; ")?;
+        }
+        write!(told, "{name} ")?;
+        let goal = goal_of(name)?;
+        let mut builder = Builder::new(true);
+        let answer = match graph.evaluate_goal(
+            &mut cache,
+            goal,
+            PathKind::Inductive,
+            &mut builder,
+        ) {
+            Ok(answer) => {
+                let outcome = answer.result;
+                write!(told, "{outcome}")?;
+                Some(answer)
+            }
+            Err(Fault::Protocol(cause)) => {
+                write!(told, "fault {cause}")?;
+                None
+            }
+            Err(fault) => return Err(fault)?,
+        };
+        let started = builder.started();
+        write!(told, " after {started}")?;
+        if !graph.is_empty() || graph.debug_current_depth() > 0 {
+            write!(told, " open")?;
+        }
+        if graph.limits_met() {
+            write!(told, " limit")?;
+        }
+        if let Some(answer) = answer {
+            tell_graph(alloc, &mut told, &cache, goal, answer)?;
+        }
+        tell_stored(&mut told, &cache)?;
+    }
+    Ok(told)
+}
+
+/// The graph of a yes, which the checker has to accept.
+fn tell_graph<const LIMIT: usize>(
+    alloc: Global,
+    told: &mut Vec<u8>,
     cache: &GlobalCache<ScriptsDelegate<LIMIT>>,
     goal: Goal,
     answer: Answer<Outcome>,
-) -> Result<ProofGraph<Scripts>, Fail> {
+) -> Result<(), Fail> {
     let node = answer.node.ok_or("no node")?;
     let graph = cache.graph_of(node)?.ok_or("no graph")?;
     let mut builder = Builder::new(true);
-    let scripts = cache.cx();
     if !check_graph::<ScriptsDelegate<LIMIT>>(
         alloc,
-        scripts,
+        cache.cx(),
         &graph,
         goal,
         Verdict::Yes,
@@ -270,5 +135,63 @@ fn shown_graph<const LIMIT: usize>(
     )? {
         return Err("a graph that the checker refuses")?;
     }
-    Ok(graph)
+    for node in &graph.nodes {
+        tell_node(told, node)?;
+    }
+    Ok(())
+}
+
+fn tell_node(told: &mut Vec<u8>, node: &Node<Goal, Outcome>) -> Result<(), Fail> {
+    let name = NAMES.get(node.input.0).ok_or("no name")?;
+    write!(told, " [{name}")?;
+    draw_replies(told, node.replies.as_slice())?;
+    for edge in &node.edges {
+        let letter = letter_of(edge.kind);
+        let target = edge.target;
+        write!(told, " {letter}:{target}")?;
+    }
+    write!(told, "]")?;
+    Ok(())
+}
+
+fn tell_stored<const LIMIT: usize>(
+    told: &mut Vec<u8>,
+    cache: &GlobalCache<ScriptsDelegate<LIMIT>>,
+) -> Result<(), Fail> {
+    for name in NAMES {
+        if let Some((outcome, required_depth)) = cache.success_of(goal_of(name)?) {
+            write!(told, " stores {name} {outcome} {required_depth}")?;
+        }
+    }
+    Ok(())
+}
+
+/// The scripts of the goals, with `; ` between them.
+fn scripts_of(text: &str) -> Result<Scripts, Fail> {
+    let mut lines = [[Line::End; 5]; 3];
+    for (script, words) in lines.iter_mut().zip(text.split("; ")) {
+        for (line, word) in script.iter_mut().zip(words.split(' ')) {
+            *line = line_of(word)?;
+        }
+    }
+    Ok(Scripts { lines })
+}
+
+/// The line of this word. A script without lines has the empty word.
+fn line_of(word: &str) -> Result<Line, Fail> {
+    Ok(match word {
+        "" => Line::End,
+        "enter" => Line::EnterCandidate,
+        "finish" => Line::FinishCandidate,
+        "ignore" => Line::Ignore(0),
+        _ => {
+            let (letter, name) = word.split_once(':').ok_or("no line")?;
+            Line::Evaluate(kind_of(letter)?, goal_of(name)?)
+        }
+    })
+}
+
+fn goal_of(name: &str) -> Result<Goal, Fail> {
+    let place = NAMES.iter().position(|known| *known == name);
+    Ok(Goal(place.ok_or("no goal")?))
 }

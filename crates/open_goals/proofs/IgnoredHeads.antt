@@ -2,7 +2,7 @@
 use Rattle.std.proofs.Common.{◌≡◌, ◌≢◌, ◌==◌, if◌then◌else◌, Bool, true, false, ◌||◌, is_some, [], ◌∷◌, Option, Some, None, IsSome, option_map, refl, sym, ap, ◌∙◌, subst, inl, inr, ne_eqb, eq-eqb}
 use Rattle.std.specs.Option.{IsSomeAnd}
 use Rattle.std.proofs.lemmas.Bool.{cases_eq}
-use Rattle.search_parts.proofs.HandedOut.{is_some_at}
+use Rattle.global_cache.proofs.HandedOut.{is_some_at}
 use Rattle.open_goals.specs.Below.{StackDepth, CycleHead, HeadUsages, EntryState, UsagesByHead, Heads, at_depth, without_usages}
 use Rattle.cycle_heads.proofs.HeadLists.{at_depth-first, at_depth-rest, at_depth-set_same, at_depth-set_other}
 use Rattle.open_goals.specs.Words.{some_heads, is_in_cycle, less_usages, less_head, with_replaced, usages_at, without_head, CanIgnore, Covers}

@@ -8,28 +8,28 @@ pub use Rattle.cycle_heads.specs.declared.depth.StackDepth.{StackDepth}
 pub use Rattle.cycle_heads.specs.declared.heads.CycleHead.{CycleHead}
 pub use Rattle.cycle_heads.specs.declared.path.PathKind.{PathKind}
 pub use Rattle.cycle_heads.specs.declared.usages.HeadUsages.{HeadUsages}
-pub use Rattle.search_parts.specs.Delegate.{CanTake, Steps}
-pub use Rattle.search_parts.specs.Graph.{question_of}
-pub use Rattle.search_parts.specs.Lent.{change_last}
-pub use Rattle.search_parts.specs.Hits.{Hit, hit_of}
-pub use Rattle.search_parts.specs.Nested.{joined_paths, JoinsPaths, NestedPaths, paths_at}
-pub use Rattle.search_parts.specs.Question.{Question}
-pub use Rattle.search_parts.specs.Run.{Asked, is_ignored, IsFitting, IsInOrder, Progress, progress_after, request_after}
-pub use Rattle.search_parts.specs.Verdicts.{verdicts, Verdicts}
-pub use Rattle.search_parts.specs.Stack.{allowed_depth, depth_below, fresh_entry, position_of}
-pub use Rattle.search_parts.specs.declared.context.Cx.{Ghosts as CxOf}
-pub use Rattle.search_parts.specs.declared.context.Delegate.{Ghosts as DelegateOf}
-pub use Rattle.search_parts.specs.declared.context.Edge.{Edge}
-pub use Rattle.search_parts.specs.declared.context.Fault.{Fault}
-pub use Rattle.search_parts.specs.declared.context.Fault.TheVariants.{Memory, Protocol}
-pub use Rattle.search_parts.specs.declared.context.NodeId.{NodeId}
-pub use Rattle.search_parts.specs.declared.context.Reply.{Reply}
-pub use Rattle.search_parts.specs.declared.context.Reply.TheVariants.{Answer, Begin, Noted}
-pub use Rattle.search_parts.specs.declared.context.Request.{Request}
-pub use Rattle.search_parts.specs.declared.context.Request.TheVariants.{EnterCandidate, Evaluate, FinishCandidate}
-pub use Rattle.search_parts.specs.declared.context.Request.TheVariants.{Ignore}
-pub use Rattle.search_parts.specs.declared.context.Verdict.{Verdict}
-pub use Rattle.search_parts.specs.declared.context.Verdict.TheVariants.{Neither, No, Yes}
-pub use Rattle.search_parts.specs.declared.parts.depth.AvailableDepth.{AvailableDepth}
-pub use Rattle.search_parts.specs.declared.parts.stack.EntryState.{EntryState}
-pub use Rattle.search_parts.specs.declared.parts.stack.StackEntry.{StackEntry}
+pub use Rattle.search_context.specs.Delegate.{CanTake, Steps}
+pub use Rattle.search_context.specs.Graph.{question_of}
+pub use Rattle.search_context.specs.Question.{Question}
+pub use Rattle.search_context.specs.Run.{Asked, is_ignored, IsFitting, IsInOrder, Progress, progress_after, request_after}
+pub use Rattle.search_context.specs.Verdicts.{verdicts, Verdicts}
+pub use Rattle.search_context.specs.declared.context.Cx.{Ghosts as CxOf}
+pub use Rattle.search_context.specs.declared.context.Delegate.{Ghosts as DelegateOf}
+pub use Rattle.search_context.specs.declared.context.Edge.{Edge}
+pub use Rattle.search_context.specs.declared.context.Fault.{Fault}
+pub use Rattle.search_context.specs.declared.context.Fault.TheVariants.{Memory, Protocol}
+pub use Rattle.search_context.specs.declared.context.NodeId.{NodeId}
+pub use Rattle.search_context.specs.declared.context.Reply.{Reply}
+pub use Rattle.search_context.specs.declared.context.Reply.TheVariants.{Answer, Begin, Noted}
+pub use Rattle.search_context.specs.declared.context.Request.{Request}
+pub use Rattle.search_context.specs.declared.context.Request.TheVariants.{EnterCandidate, Evaluate, FinishCandidate}
+pub use Rattle.search_context.specs.declared.context.Request.TheVariants.{Ignore}
+pub use Rattle.search_context.specs.declared.context.Verdict.{Verdict}
+pub use Rattle.search_context.specs.declared.context.Verdict.TheVariants.{Neither, No, Yes}
+pub use Rattle.search_stack.specs.Lent.{change_last}
+pub use Rattle.search_stack.specs.Nested.{joined_paths, JoinsPaths, NestedPaths, paths_at}
+pub use Rattle.search_stack.specs.Stack.{allowed_depth, depth_below, fresh_entry, position_of}
+pub use Rattle.search_stack.specs.declared.depth.AvailableDepth.{AvailableDepth}
+pub use Rattle.search_stack.specs.declared.stack.EntryState.{EntryState}
+pub use Rattle.search_stack.specs.declared.stack.StackEntry.{StackEntry}
+pub use Rattle.global_cache.specs.Hits.{Hit, hit_of}

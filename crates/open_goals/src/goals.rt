@@ -47,6 +47,17 @@ pub enum Next<R> {
     Finished(Answer<R>),
 }
 
+/// What becomes of the result of a goal that is done and rests on no other goal.
+#[derive(Clone, Copy)]
+pub enum Fate<R> {
+    /// It is stored in the global cache.
+    Stored,
+    /// It is not stored: a tree of the goal is recorded.
+    NotStored,
+    /// It is compared with this result, which is stored of the goal already.
+    Compared(R),
+}
+
 /// One run of a goal: the frame that works it out, the node that stands for it, and what it has done.
 #[derive(Drop)]
 pub struct Run<X: Cx, F: Drop> {
@@ -59,16 +70,37 @@ pub struct Run<X: Cx, F: Drop> {
     pub met_overflow_before: bool,
     /// What its finished candidates used of the goals on the stack.
     pub candidates: FinishedCandidates,
+    /// What becomes of the goal's result. All its runs have the same one.
+    pub fate: Fate<X::Result>,
+}
+
+/// A goal that was popped, with its run and the scope that was held for it.
+#[derive(Drop)]
+pub struct Popped<X: Cx, F: Drop, S: Drop> {
+    pub entry: StackEntry<X>,
+    pub run: Run<X, F>,
+    pub scope: Option<S>,
+}
+
+/// A scope in which the result of a goal is compared with what is stored.
+#[derive(Drop)]
+struct Held<S: Drop> {
+    /// How many goals there were when the goal was the newest one.
+    goals: usize,
+    scope: S,
 }
 
 /// The goals under evaluation with their runs. Clauses see them with the newest first.
 #[derive(Drop)]
-pub struct OpenGoals<X: Cx, F: Drop> {
+pub struct OpenGoals<X: Cx, F: Drop, S: Drop> {
     stack: Stack<X>,
     runs: Vec<Run<X, F>>,
+    /// The scopes that are held, each for its goal. No clause sees them: nothing depends on a scope but when it is
+    /// dropped.
+    scopes: Vec<Held<S>>,
 }
 
-impl<X: Cx, F: Drop> Model for OpenGoals<X, F> {
+impl<X: Cx, F: Drop, S: Drop> Model for OpenGoals<X, F, S> {
     ghost use Rattle.std.specs.Prelude.{◌≡◌, List, [], length};
     ghost use Rattle.open_goals.specs.Below.{StackEntry};
     ghost use Rattle.open_goals.specs.declared.goals.Run.{Run};
@@ -81,20 +113,21 @@ impl<X: Cx, F: Drop> Model for OpenGoals<X, F> {
     ghost invariant = { λ t. length t.stack ≡ length t.runs.items };
 }
 
-impl<X: Cx, F: Drop> OpenGoals<X, F> {
+impl<X: Cx, F: Drop, S: Drop> OpenGoals<X, F, S> {
     ghost use Rattle.open_goals.specs.Newest.{newest, change_newest};
     ghost use Rattle.open_goals.specs.Below.{hit_of};
     ghost use Rattle.open_goals.specs.Entries.{cycle_head};
     ghost use Rattle.open_goals.specs.Items.{rerun_with, with_no_record, AnswersNewest};
-    ghost use Rattle.open_goals.specs.NestedGoals.{NotesOverflow, TakesStored};
+    ghost use Rattle.open_goals.specs.NestedGoals.{NestsAnswer, NestsHead, NestsItself, NotesOverflow, TakesStored};
 
     /// No goal.
-    pub fn new(alloc: Global) -> OpenGoals<X, F>
+    pub fn new(alloc: Global) -> OpenGoals<X, F, S>
         ensures { result ≡ [] }
     {
         OpenGoals {
             stack: Stack::new(alloc),
             runs: Vec::new(alloc),
+            scopes: Vec::new(alloc),
         }
     }
 
@@ -142,13 +175,37 @@ impl<X: Cx, F: Drop> OpenGoals<X, F> {
     }
 
     /// Pops the newest goal.
-    pub fn pop(&mut self) -> (StackEntry<X>, Run<X, F>)
+    pub fn pop(&mut self) -> Popped<X, F, S>
         requires { 0 < length self.old }
-        ensures { self.old ≡ result ∷ self.new }
+        ensures { self.old ≡ (result.entry, result.run) ∷ self.new }
     {
+        let scope = self.take_scope();
         let entry = self.stack.pop();
         let run = self.runs.pop().unwrap();
-        (entry, run)
+        Popped { entry, run, scope }
+    }
+
+    /// Holds the scope, if there is one, for the newest goal. Where that is refused, the scope is dropped at once.
+    pub fn hold(&mut self, scope: Option<S>) -> Result<(), NoMemory>
+        ensures { self.new ≡ self.old }
+    {
+        if let Some(scope) = scope {
+            let goals = self.runs.len();
+            self.scopes.push(Held { goals, scope })?;
+        }
+        Ok(())
+    }
+
+    /// Takes the scope that is held for the newest goal, if there is one.
+    fn take_scope(&mut self) -> Option<S>
+        ensures { self.new ≡ self.old }
+    {
+        let newest = self.runs.len();
+        if self.scopes.last()?.goals != newest {
+            return None;
+        }
+        let held = self.scopes.pop()?;
+        Some(held.scope)
     }
 
     /// A question of the newest goal was refused. Where memory is, a part of that may be noted.
@@ -187,16 +244,17 @@ impl<X: Cx, F: Drop> OpenGoals<X, F> {
         provisional: &ProvisionalCacheEntry<X>,
     ) -> Result<(), NoMemory>
         requires { 0 < length self.old }
-        ensures { OnOk result (AnswersNewest step 0 provisional.now.encountered_overflow
+        ensures answered { OnOk result (AnswersNewest step 0 provisional.now.encountered_overflow
             provisional.now.heads
             self.old self.new) }
+        ensures nested { OnOk result (NestsItself X.Input.eq self.old self.new) }
     {
         let parent = StackDepth::new(self.stack.len() - 1);
-        let input = self.stack.last().input();
+        let own = self.stack.last().input();
         let state = self.stack.last_mut();
         note_depth(state, 0, provisional.encountered_overflow);
         note_heads(state, parent, step, &provisional.heads)?;
-        state.nested_goals.insert(input, PathsToNested::EMPTY)
+        state.nested_goals.insert(own, PathsToNested::EMPTY)
     }
 
     /// The newest goal was answered over a step of this kind. A refusal may leave a part of that noted.
@@ -210,8 +268,10 @@ impl<X: Cx, F: Drop> OpenGoals<X, F> {
     ) -> Result<(), NoMemory>
         requires some { 0 < length self.old }
         requires fits { answer.now.required_depth + 1 < 2 ^ 64 }
-        ensures { OnOk result (AnswersNewest step answer.now.required_depth
+        ensures answered { OnOk result (AnswersNewest step answer.now.required_depth
             answer.now.encountered_overflow answer.now.heads self.old self.new) }
+        ensures nested { OnOk result (NestsAnswer X.Input.eq step answer.now.nested_goals self.old
+            self.new) }
     {
         let parent = StackDepth::new(self.stack.len() - 1);
         let input = self.stack.last().input();
@@ -230,8 +290,9 @@ impl<X: Cx, F: Drop> OpenGoals<X, F> {
         kind: PathKind,
     ) -> Result<(), NoMemory>
         requires { 0 < length self.old }
-        ensures { OnOk result (AnswersNewest step 0 false ((head, cycle_head step kind) ∷ [])
+        ensures answered { OnOk result (AnswersNewest step 0 false ((head, cycle_head step kind) ∷ [])
             self.old self.new) }
+        ensures nested { OnOk result (NestsHead X.Input.eq step goal self.old self.new) }
     {
         let used = cycle_head(step, kind);
         let parent = StackDepth::new(self.stack.len() - 1);
@@ -316,7 +377,7 @@ impl<X: Cx, F: Drop> OpenGoals<X, F> {
 /// Gives the newest frame its reply, and answers its request. `Fault::Protocol` where that is out of order.
 /// After a fault the goals may only be cleared.
 pub fn step<D: Delegate>(
-    goals: &mut OpenGoals<D::Cx, D::Frame>,
+    goals: &mut OpenGoals<D::Cx, D::Frame, D::ValidationScope>,
     cx: D::Cx,
     received: Received<<D::Cx as Cx>::Result>,
     inspect: &mut D::ProofTreeBuilder,
@@ -330,6 +391,7 @@ pub fn step<D: Delegate>(
     ensures fault { IfErr result (λ fault.
         IsStepFault D.Delegate D.Cx.Cx cx received goals.old fault) }
     ensures same_starts { D.starts inspect.new ≡ D.starts inspect.old }
+    ensures same_noop { D.noop inspect.new ≡ D.noop inspect.old }
 {
     let verdict = sort_of(cx, received.reply);
     let last = goals.runs.len() - 1;

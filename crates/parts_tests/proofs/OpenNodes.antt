@@ -3,7 +3,7 @@ use Rattle.std.proofs.Common.{◌≡◌, ℕ, List, [], ◌∷◌, ◌++◌, len
 use Rattle.std.specs.Option.{IsSomeAnd}
 use Rattle.open_graphs.proofs.Lists.{get_end}
 use Rattle.parts_tests.specs.Below.{EndedRun, CacheNode, open_node, open_goal, with_run, IsNodeOf, KeepsNodes}
-use Rattle.search_parts.proofs.Nodes.{others_are, KeepsGoals-ended}
+use Rattle.global_cache.proofs.NodeLists.{others_are, KeepsGoals-ended}
 
 module _ {I R : Type 0} (nodes more : List (CacheNode I R)) (at : ℕ) (goal : I) (is_last : at ≡ length nodes) (is_opened : more ≡ nodes ++ open_node goal ∷ []) where
   opened_there : slice_get more at ≡ Some (open_node goal)

@@ -5,20 +5,20 @@ use Rattle.std.proofs.lemmas.Option.{slice_get-map}
 use Rattle.open_graphs.specs.Graph as theory
 use Rattle.open_graphs.proofs.Verdicts.{is_finished}
 use Rattle.parts_tests.specs.Below.{NodeId, Begin, Place, Success, WithOverflow, PathKind, CacheNode, HasGraph, rank_of, IsRanked, HasNoRank, verdict_of, shape_of, shapes_of, IsPlainAt, Outcome, outcome_verdicts}
-use Rattle.parts_tests.specs.Words.{Loops, loop_run, loop_script}
+use Rattle.parts_tests.specs.Words.{loop_run, loop_script}
 
-unranked : (cx : Loops) (n : ℕ) (goal : PathKind) → IsRanked (loop_script cx) n goal → ⊥
-unranked cx zero goal h = h (Begin ∷ []) goal goal (tt, tt) refl
-unranked cx (suc n) goal h = unranked cx n goal (h (Begin ∷ []) goal goal (tt, tt) refl)
+unranked : (n : ℕ) (goal : PathKind) → IsRanked loop_script n goal → ⊥
+unranked zero goal h = h (Begin ∷ []) goal goal (tt, tt) refl
+unranked (suc n) goal h = unranked n goal (h (Begin ∷ []) goal goal (tt, tt) refl)
 
 -- a goal that asks itself has no rank
-pub has_no_rank : (cx : Loops) (goal : PathKind) → HasNoRank (loop_script cx) goal
-has_no_rank cx goal n h = unranked cx n goal h.is_ranked
+pub has_no_rank : (goal : PathKind) → HasNoRank loop_script goal
+has_no_rank goal n h = unranked n goal h.is_ranked
 
 -- so each result is plain
-pub is_plain : (cx : Loops) (goal : PathKind) (place : Place) (r : Outcome) → IsPlainAt (loop_script cx) goal place r
-is_plain cx goal Success r = λ n h. absurd (has_no_rank cx goal n h)
-is_plain cx goal (WithOverflow depth) r = λ n h. absurd (has_no_rank cx goal n h)
+pub is_plain : (goal : PathKind) (place : Place) (r : Outcome) → IsPlainAt loop_script goal place r
+is_plain goal Success r = λ n h. absurd (has_no_rank goal n h)
+is_plain goal (WithOverflow depth) r = λ n h. absurd (has_no_rank goal n h)
 
 -- a result that is neither yes nor no needs no node
 pub needs_no_graph : (nodes : List (CacheNode PathKind Outcome)) (goal : PathKind) (r : Outcome) → verdict_of outcome_verdicts r ≡ theory.Neither → HasGraph outcome_verdicts nodes goal r None

@@ -5,23 +5,22 @@ pub use Rattle.cycle_heads.specs.declared.path.PathKind.TheVariants.{Coinductive
 pub use Rattle.delegate_parts.specs.Outcome.{is_no, is_yes, outcome_verdicts}
 pub use Rattle.delegate_parts.specs.declared.outcome.Outcome.{Outcome}
 pub use Rattle.delegate_parts.specs.declared.outcome.Outcome.TheVariants.{Maybe, No, Overflow, Yes}
-pub use Rattle.search_parts.specs.Cache.{CacheNode, EndedRun, IsNodeOf, KeepsNodes, open_goal, open_node, with_run}
-pub use Rattle.search_parts.specs.Definite.{HasGraph}
-pub use Rattle.search_parts.specs.Delegate.{CanTake, Steps}
-pub use Rattle.search_parts.specs.Provisional.{AppendsEntry, entries_at, Lists}
-pub use Rattle.search_parts.specs.Question.{IsWithin, Overlap, Question}
-pub use Rattle.search_parts.specs.Rank.{HasNoRank, IsRanked}
-pub use Rattle.search_parts.specs.Run.{EndsIn, Fits, progress_after, questions_answered}
-pub use Rattle.search_parts.specs.Shapes.{shape_of, shapes_of}
-pub use Rattle.search_parts.specs.Verdicts.{verdict_of, verdicts, Verdicts}
-pub use Rattle.search_parts.specs.Store.{place_of}
-pub use Rattle.search_parts.specs.Stored.{IsPlainAt}
-pub use Rattle.search_parts.specs.declared.context.NodeId.{NodeId}
-pub use Rattle.search_parts.specs.declared.context.Reply.{Reply}
-pub use Rattle.search_parts.specs.declared.context.Reply.TheVariants.{Answer, Begin, Noted}
-pub use Rattle.search_parts.specs.declared.context.Request.{Request}
-pub use Rattle.search_parts.specs.declared.context.Request.TheVariants.{Done, EnterCandidate, Evaluate, FinishCandidate}
-pub use Rattle.search_parts.specs.declared.context.Request.TheVariants.{Ignore}
-pub use Rattle.search_parts.specs.declared.global_cache.results.Place.{Place}
-pub use Rattle.search_parts.specs.declared.global_cache.results.Place.TheVariants.{Success, WithOverflow}
-pub use Rattle.search_parts.specs.declared.parts.provisional_cache.ProvisionalCacheEntry.{ProvisionalCacheEntry}
+pub use Rattle.search_context.specs.Question.{IsWithin, Overlap, Question}
+pub use Rattle.search_context.specs.Rank.{HasNoRank, IsRanked}
+pub use Rattle.search_context.specs.Run.{EndsIn, Fits, progress_after, questions_answered}
+pub use Rattle.search_context.specs.Verdicts.{verdict_of, verdicts, Verdicts}
+pub use Rattle.search_context.specs.declared.context.NodeId.{NodeId}
+pub use Rattle.search_context.specs.declared.context.Reply.{Reply}
+pub use Rattle.search_context.specs.declared.context.Reply.TheVariants.{Answer, Begin, Noted}
+pub use Rattle.search_context.specs.declared.context.Request.{Request}
+pub use Rattle.search_context.specs.declared.context.Request.TheVariants.{Done, EnterCandidate, Evaluate, FinishCandidate}
+pub use Rattle.search_context.specs.declared.context.Request.TheVariants.{Ignore}
+pub use Rattle.provisional_cache.specs.Provisional.{AppendsEntry, entries_at, Lists}
+pub use Rattle.provisional_cache.specs.declared.ProvisionalCacheEntry.{ProvisionalCacheEntry}
+pub use Rattle.global_cache.specs.Cache.{CacheNode, EndedRun, IsNodeOf, KeepsNodes, open_goal, open_node, with_run}
+pub use Rattle.global_cache.specs.Definite.{HasGraph}
+pub use Rattle.global_cache.specs.Shapes.{shape_of, shapes_of}
+pub use Rattle.global_cache.specs.Store.{place_of}
+pub use Rattle.global_cache.specs.Stored.{IsPlainAt}
+pub use Rattle.global_cache.specs.declared.results.Place.{Place}
+pub use Rattle.global_cache.specs.declared.results.Place.TheVariants.{Success, WithOverflow}

@@ -3,7 +3,6 @@ use Rattle.std.specs.Prelude.{◌≡◌, ℕ, true, List, [], ◌∷◌, refl}
 use Rattle.std.proofs.Common.{sym, ap, subst, arith}
 use Rattle.parts_tests.specs.Below.{PathKind, Request, Evaluate, Done, Reply, Begin, Answer, Noted, EndsIn, progress_after, questions_answered, Outcome, Yes, No, Maybe, Overflow, is_yes, is_no}
 use Rattle.parts_tests.specs.Requests.{done, none_after_done}
-use Rattle.parts_tests.specs.declared.loops.Loops.{Loops}
 use Rattle.parts_tests.specs.declared.loops.Stage.{Stage}
 use Rattle.parts_tests.specs.declared.loops.Stage.TheVariants.{New, Asked, Done as Over}
 use Rattle.parts_tests.specs.declared.loops.Frame.{Frame}
@@ -15,10 +14,10 @@ answer_in Begin = Maybe
 answer_in Noted = Maybe
 
 -- first the question, and then the answer as the result
-abbrev pub loop_script : Loops → PathKind → List (Reply Outcome) → Request PathKind Outcome
-loop_script cx goal [] = Done Maybe
-loop_script cx goal (r ∷ []) = Evaluate goal goal
-loop_script cx goal (r ∷ q ∷ earlier) = Done (answer_in r)
+abbrev pub loop_script : PathKind → List (Reply Outcome) → Request PathKind Outcome
+loop_script goal [] = Done Maybe
+loop_script goal (r ∷ []) = Evaluate goal goal
+loop_script goal (r ∷ q ∷ earlier) = Done (answer_in r)
 
 abbrev pub next_stage : Stage → Stage
 next_stage New = Asked
@@ -41,35 +40,35 @@ steps_left New = 2
 steps_left Asked = 1
 steps_left Over = 0
 
-pub record Stands (frame : Frame) (cx : Loops) (goal : PathKind) (replies : List (Reply Outcome)) : Type 0 where
+pub record Stands (frame : Frame) (goal : PathKind) (replies : List (Reply Outcome)) : Type 0 where
   pub same_goal : frame.goal ≡ goal
   pub same_stage : frame.stage ≡ stage_after replies
 
 -- a run ends with the answer to its only question
-pub ends_by_answer : (cx : Loops) (goal : PathKind) (replies : List (Reply Outcome)) (r : Outcome) → EndsIn (loop_script cx goal) replies r → replies ≡ Answer r ∷ Begin ∷ []
-ends_by_answer cx goal [] r h = let e = h.is_done in absurd cc
-ends_by_answer cx goal (x ∷ []) r h = let e = h.is_done in absurd cc
-ends_by_answer cx goal (Answer a ∷ Begin ∷ []) r h = let e : done PathKind a ≡ done PathKind r = h.is_done in let same : a ≡ r = cc in ap (λ v. Answer v ∷ Begin ∷ []) same
-ends_by_answer cx goal (Answer a ∷ y ∷ []) r h = absurd h.is_fitting.1.0
-ends_by_answer cx goal (x ∷ y ∷ []) r h = absurd h.is_fitting.0
-ends_by_answer cx goal (x ∷ y ∷ z ∷ earlier) r h = absurd (none_after_done PathKind (answer_in y) x h.is_fitting.0)
+pub ends_by_answer : (goal : PathKind) (replies : List (Reply Outcome)) (r : Outcome) → EndsIn (loop_script goal) replies r → replies ≡ Answer r ∷ Begin ∷ []
+ends_by_answer goal [] r h = let e = h.is_done in absurd cc
+ends_by_answer goal (x ∷ []) r h = let e = h.is_done in absurd cc
+ends_by_answer goal (Answer a ∷ Begin ∷ []) r h = let e : done PathKind a ≡ done PathKind r = h.is_done in let same : a ≡ r = cc in ap (λ v. Answer v ∷ Begin ∷ []) same
+ends_by_answer goal (Answer a ∷ y ∷ []) r h = absurd h.is_fitting.1.0
+ends_by_answer goal (x ∷ y ∷ []) r h = absurd h.is_fitting.0
+ends_by_answer goal (x ∷ y ∷ z ∷ earlier) r h = absurd (none_after_done PathKind (answer_in y) x h.is_fitting.0)
 
-yes_asks : (cx : Loops) (goal : PathKind) (r : Outcome) → is_yes r ≡ true → Asks goal (questions_answered is_yes (progress_after (loop_script cx goal) (Answer r ∷ Begin ∷ [])))
-yes_asks cx goal Yes is = (0, omega arith, refl)
-yes_asks cx goal No is = absurd cc
-yes_asks cx goal Maybe is = absurd cc
-yes_asks cx goal Overflow is = absurd cc
+yes_asks : (goal : PathKind) (r : Outcome) → is_yes r ≡ true → Asks goal (questions_answered is_yes (progress_after (loop_script goal) (Answer r ∷ Begin ∷ [])))
+yes_asks goal Yes is = (0, omega arith, refl)
+yes_asks goal No is = absurd cc
+yes_asks goal Maybe is = absurd cc
+yes_asks goal Overflow is = absurd cc
 
-no_asks : (cx : Loops) (goal : PathKind) (r : Outcome) → is_no r ≡ true → Asks goal (questions_answered is_no (progress_after (loop_script cx goal) (Answer r ∷ Begin ∷ [])))
-no_asks cx goal Yes is = absurd cc
-no_asks cx goal No is = (0, omega arith, refl)
-no_asks cx goal Maybe is = absurd cc
-no_asks cx goal Overflow is = absurd cc
+no_asks : (goal : PathKind) (r : Outcome) → is_no r ≡ true → Asks goal (questions_answered is_no (progress_after (loop_script goal) (Answer r ∷ Begin ∷ [])))
+no_asks goal Yes is = absurd cc
+no_asks goal No is = (0, omega arith, refl)
+no_asks goal Maybe is = absurd cc
+no_asks goal Overflow is = absurd cc
 
-pub yes_is_proved : (cx : Loops) (goal : PathKind) (replies : List (Reply Outcome)) (r : Outcome) → EndsIn (loop_script cx goal) replies r → is_yes r ≡ true → Asks goal (questions_answered is_yes (progress_after (loop_script cx goal) replies))
-yes_is_proved cx goal replies r h is =
-    subst (λ all. Asks goal (questions_answered is_yes (progress_after (loop_script cx goal) all))) (sym (ends_by_answer cx goal replies r h)) (yes_asks cx goal r is)
+pub yes_is_proved : (goal : PathKind) (replies : List (Reply Outcome)) (r : Outcome) → EndsIn (loop_script goal) replies r → is_yes r ≡ true → Asks goal (questions_answered is_yes (progress_after (loop_script goal) replies))
+yes_is_proved goal replies r h is =
+    subst (λ all. Asks goal (questions_answered is_yes (progress_after (loop_script goal) all))) (sym (ends_by_answer goal replies r h)) (yes_asks goal r is)
 
-pub no_is_refuted : (cx : Loops) (goal : PathKind) (replies : List (Reply Outcome)) (r : Outcome) → EndsIn (loop_script cx goal) replies r → is_no r ≡ true → Asks goal (questions_answered is_no (progress_after (loop_script cx goal) replies))
-no_is_refuted cx goal replies r h is =
-    subst (λ all. Asks goal (questions_answered is_no (progress_after (loop_script cx goal) all))) (sym (ends_by_answer cx goal replies r h)) (no_asks cx goal r is)
+pub no_is_refuted : (goal : PathKind) (replies : List (Reply Outcome)) (r : Outcome) → EndsIn (loop_script goal) replies r → is_no r ≡ true → Asks goal (questions_answered is_no (progress_after (loop_script goal) replies))
+no_is_refuted goal replies r h is =
+    subst (λ all. Asks goal (questions_answered is_no (progress_after (loop_script goal) all))) (sym (ends_by_answer goal replies r h)) (no_asks goal r is)

@@ -1,10 +1,10 @@
 //! Goals that count down. A goal is a number: 0 holds, and any other goal asks the number below it, once or twice,
 //! and holds if that does.
-ghost use Rattle.std.specs.Prelude.{◌≡◌, ◌<◌, ◌^◌, ◌-◌, IfOk, OnOk};
+ghost use Rattle.std.specs.Prelude.{◌≡◌};
 ghost use Rattle.parts_tests.specs.Countdown as countdown;
 
-use delegate_parts::{Builder, NoScope, Outcome};
-use search_parts::context::{Cx, Delegate, NoMemory, Reply, Request, Verdict};
+use delegate_parts::{ContextOf, DelegateOf, Frames, Goals, Outcome};
+use search_parts::context::{NoMemory, Reply, Request};
 use search_parts::path::PathKind;
 
 /// A number as a goal.
@@ -22,51 +22,32 @@ fn both(one: Outcome, other: Outcome) -> Outcome
     }
 }
 
-/// The context of goals that count down.
+/// Goals that count down.
 #[derive(Clone, Copy, Debug)]
 pub struct Countdown {
     /// Whether a goal asks the number below it twice.
     pub asks_twice: bool,
 }
 
-impl Cx for Countdown {
+/// Their delegate, which has one run of a goal and no provisional cache.
+pub type CountdownDelegate = DelegateOf<Countdown, 1, 0>;
+
+impl Goals for Countdown {
     ghost use Rattle.std.proofs.Common.{rules};
-    ghost use Rattle.delegate_parts.specs.Laws as laws;
-    ghost use Rattle.delegate_parts.specs.Outcome as outcomes;
 
     type Input = Count;
 
-    type Result = Outcome;
+    ghost proves = { λ goals. countdown.Proves };
 
-    type AmbiguityInfo = ();
+    ghost refutes = { λ goals. countdown.Refutes };
 
-    type DepNodeIndex = ();
+    ghost proves_more = { λ goals. countdown.proves_more };
 
-    ghost proves = { λ cx. countdown.Proves };
+    ghost refutes_more = { λ goals. countdown.refutes_more };
 
-    ghost refutes = { λ cx. countdown.Refutes };
-
-    ghost is_yes = { outcomes.is_yes };
-
-    ghost is_no = { outcomes.is_no };
-
-    ghost proves_more = { λ cx. countdown.proves_more };
-
-    ghost refutes_more = { λ cx. countdown.refutes_more };
-
-    ghost clash = { λ cx. countdown.clash };
-
-    ghost one_sort = { laws.one_sort };
+    ghost clash = { λ goals. countdown.clash };
 
     ghost same_input = { Prim.search rules };
-
-    ghost same_result = { Prim.search rules };
-
-    fn dep_node(self, _input: Count) {}
-
-    fn sort(self, outcome: Outcome) -> Verdict {
-        outcome.verdict()
-    }
 }
 
 /// How far a frame has come.
@@ -120,137 +101,41 @@ impl Frame {
     }
 }
 
-impl Delegate for Countdown {
-    ghost use Rattle.std.proofs.Common.{rules};
-    ghost use Rattle.std.specs.Prelude.{false, true};
-    ghost use Rattle.delegate_parts.specs.Builder.{is_noop_of, started_in};
-    ghost use Rattle.delegate_parts.specs.Laws as laws;
-    ghost use Rattle.delegate_parts.specs.Outcome as outcomes;
+impl Frames for Countdown {
+    ghost use Rattle.std.specs.Prelude.{true};
     ghost use Rattle.parts_tests.specs.CountFrames.{count_script, Stands, steps_left};
     ghost use Rattle.parts_tests.specs.CountLaws.{yes_is_proved, no_is_refuted};
-    ghost use Rattle.parts_tests.specs.Below.{CanTake, Maybe, Overflow, Steps};
 
-    type Cx = Countdown;
-
-    type ValidationScope = NoScope;
-
-    type ProofTreeBuilder = Builder;
+    type Cx = ContextOf<Countdown>;
 
     type Frame = Frame;
 
-    const ENABLE_PROVISIONAL_CACHE: bool = false;
+    const MOST_RUNS_OVERFLOW: bool = true;
 
-    const FIXPOINT_STEP_LIMIT: usize = 1;
+    ghost MOST_RUNS_OVERFLOW = { true };
 
-    const DIVIDE_AVAILABLE_DEPTH_ON_OVERFLOW: usize = 4;
+    ghost script = { λ cx. count_script cx.0 };
 
-    ghost ENABLE_PROVISIONAL_CACHE = { false };
-
-    ghost FIXPOINT_STEP_LIMIT = { 1 };
-
-    ghost DIVIDE_AVAILABLE_DEPTH_ON_OVERFLOW = { 4 };
-
-    ghost script = { count_script };
-
-    ghost stands = { Stands };
+    ghost stands = { λ frame cx. Stands frame cx.0 };
 
     ghost left = { λ frame. steps_left frame.stage };
 
     ghost width = { λ cx. 3 };
 
-    ghost initial_result = { λ cx kind goal. outcomes.initial_outcome kind };
+    ghost yes_is_proved = { λ cx. yes_is_proved cx.0 };
 
-    ghost initial_kind = { outcomes.kind_of };
+    ghost no_is_refuted = { λ cx. no_is_refuted cx.0 };
 
-    ghost stack_overflow = { λ cx goal. Overflow };
-
-    ghost fixpoint_overflow = { λ cx goal. Overflow };
-
-    ghost ambiguity = { outcomes.ambiguity_of };
-
-    ghost propagated = { λ cx goal info. Maybe };
-
-    ghost starts = { started_in };
-
-    ghost counts = { true };
-
-    ghost last = { 2 ^ 64 - 1 };
-
-    ghost noop = { is_noop_of };
-
-    ghost scoped = { λ cx goal. false };
-
-    ghost yes_is_proved = { yes_is_proved };
-
-    ghost no_is_refuted = { no_is_refuted };
-
-    ghost initial_sort = { λ cx kind goal. laws.initial_sort kind };
-
-    ghost recognised_sort = { laws.recognised_sort };
-
-    ghost stack_overflow_is_neither = { λ cx goal. laws.overflow_is_neither };
-
-    ghost fixpoint_overflow_is_neither = { λ cx goal. laws.overflow_is_neither };
-
-    ghost ambiguous_is_neither = { laws.ambiguous_is_neither };
-
-    ghost propagated_is_neither = { λ cx goal info. laws.maybe_is_neither };
-
-    ghost divides = { Prim.search rules };
-
-    fn enter_validation_scope(_cx: Countdown, _input: Count) -> Option<NoScope> {
-        None
-    }
-
-    fn inspect_is_noop(inspect: &mut Builder) -> bool {
-        inspect.is_noop()
-    }
-
-    fn initial_provisional_result(_cx: Countdown, kind: PathKind, _input: Count) -> Outcome {
-        Outcome::initial(kind)
-    }
-
-    fn is_initial_provisional_result(outcome: Outcome) -> Option<PathKind> {
-        outcome.initial_kind()
-    }
-
-    fn stack_overflow_result(_cx: Countdown, _input: Count) -> Outcome {
-        Outcome::Overflow
-    }
-
-    fn fixpoint_overflow_result(_cx: Countdown, _input: Count) -> Outcome {
-        Outcome::Overflow
-    }
-
-    fn is_ambiguous_result(outcome: Outcome) -> Option<()> {
-        outcome.ambiguity()
-    }
-
-    fn propagate_ambiguity(_cx: Countdown, _for_input: Count, _ambiguity_info: ()) -> Outcome {
-        Outcome::Maybe
-    }
-
-    fn start(cx: Countdown, input: Count, inspect: &mut Builder) -> Result<Frame, NoMemory> {
-        inspect.note_start();
+    fn start(cx: ContextOf<Countdown>, input: Count) -> Result<Frame, NoMemory> {
         Ok(Frame {
-            asks_twice: cx.asks_twice,
+            asks_twice: cx.0.asks_twice,
             goal: input,
             stage: Stage::New,
             outcome: Outcome::Yes,
         })
     }
 
-    fn step(
-        frame: &mut Frame,
-        reply: Reply<Outcome>,
-        inspect: &mut Builder,
-    ) -> Result<Request<Count, Outcome>, NoMemory>
-        requires { CanTake Stands count_script frame.old reply }
-        ensures request { IfOk result (λ request. Steps Stands count_script frame.old reply request frame.new) }
-        ensures falls { OnOk result (steps_left frame.new.stage < steps_left frame.old.stage) }
-        ensures same_starts { started_in inspect.new ≡ started_in inspect.old }
-        ensures same_noop { is_noop_of inspect.new ≡ is_noop_of inspect.old }
-    {
+    fn step(frame: &mut Frame, reply: Reply<Outcome>) -> Result<Request<Count, Outcome>, NoMemory> {
         if let Reply::Answer(outcome) = reply {
             frame.outcome = both(frame.outcome, outcome);
         }

@@ -1,14 +1,14 @@
 //! Tests of the depth that a question gets, and of the depth that a stored result needs.
-use crate::loops::Loops;
+use crate::loops::{LoopsContext, LoopsDelegate};
 use search_parts::parts::{AvailableDepth, Stack, StackEntry};
 use search_parts::path::PathKind;
 use std::test::Fail;
 
 #[test]
 fn the_first_goal_gets_the_root_depth(rt: HostRuntime) {
-    let stack = Stack::<Loops>::new(rt.alloc());
+    let stack = Stack::<LoopsContext>::new(rt.alloc());
     let root = AvailableDepth(9);
-    let allowed = AvailableDepth::allowed_depth_for_nested::<Loops>(root, &stack);
+    let allowed = AvailableDepth::allowed_depth_for_nested::<LoopsDelegate>(root, &stack);
     assert_eq!(rt; allowed, Some(root));
 }
 
@@ -22,13 +22,13 @@ fn a_goal_below_gets_less_and_little_after_overflow(rt: HostRuntime) -> Result<(
         (0, false, None),
         (0, true, None),
     ] {
-        let mut stack = Stack::<Loops>::new(rt.alloc());
+        let mut stack = Stack::<LoopsContext>::new(rt.alloc());
         let [goal, step] = [PathKind::Inductive, PathKind::Unknown];
         let mut entry = StackEntry::new(rt.alloc(), goal, step, AvailableDepth(depth));
         entry.state.encountered_overflow = encountered_overflow;
         stack.push(entry)?;
         let root = AvailableDepth(9);
-        let allowed = AvailableDepth::allowed_depth_for_nested::<Loops>(root, &stack);
+        let allowed = AvailableDepth::allowed_depth_for_nested::<LoopsDelegate>(root, &stack);
         assert_eq!(rt; allowed, want, "{depth}, {encountered_overflow}");
     }
     Ok(())

@@ -2,7 +2,7 @@
 ghost use Rattle.std.specs.Prelude.{◌≡◌, ◌≢◌, ◌≤◌, [], All, IfOk};
 ghost use Rattle.parts_tests.specs.Below.{entries_at, PathKind};
 
-use crate::loops::Loops;
+use crate::loops::{LoopsContext, LoopsDelegate};
 use delegate_parts::Outcome;
 use search_parts::context::{NoMemory, NodeId};
 use search_parts::parts::{
@@ -47,7 +47,7 @@ impl TestEntry {
         }
     }
 
-    fn entry(&self, alloc: Global) -> Result<ProvisionalCacheEntry<Loops>, NoMemory>
+    fn entry(&self, alloc: Global) -> Result<ProvisionalCacheEntry<LoopsContext>, NoMemory>
         ensures some { IfOk result (λ entry. entry.heads ≢ []) }
         ensures within { IfOk result (λ entry. All (λ head. head.0.0 ≤ 1) entry.heads) }
     {
@@ -74,10 +74,13 @@ pub fn used(inductive: u32, coinductive: u32) -> HeadUsages {
 }
 
 /// A cache with these entries, in order.
-pub fn cache_of(alloc: Global, answers: &[TestEntry]) -> Result<ProvisionalCache<Loops>, NoMemory>
+pub fn cache_of(
+    alloc: Global,
+    answers: &[TestEntry],
+) -> Result<ProvisionalCache<LoopsDelegate>, NoMemory>
     ensures { IfOk result (λ cache. (input : PathKind) → All (λ entry. All (λ head. head.0.0 ≤ 1) entry.heads) (entries_at ⟦<PathKind as PartialEq>⟧.eq cache input)) }
 {
-    let mut cache = ProvisionalCache::<Loops>::new(alloc);
+    let mut cache = ProvisionalCache::<LoopsDelegate>::new(alloc);
     for answer in answers {
         cache.push(GOAL, answer.entry(alloc)?)?;
     }

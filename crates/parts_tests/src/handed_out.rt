@@ -1,6 +1,6 @@
 //! Tests of graphs that are handed out as data.
-use crate::loops::{Loops, answered_loop, finish_towards};
-use delegate_parts::Outcome;
+use crate::loops::{Loops, LoopsDelegate, answered_loop, finish_towards};
+use delegate_parts::{ContextOf, Outcome};
 use search_parts::context::{Edge, Node, NodeId, Reply};
 use search_parts::global_cache::GlobalCache;
 use search_parts::path::PathKind;
@@ -25,7 +25,7 @@ fn leads_to(node: &Node<PathKind, Outcome>, target: usize) -> bool {
 #[test]
 fn a_cycle_of_two_runs_of_one_goal_is_handed_out(rt: HostRuntime) -> Result<(), Fail> {
     let alloc = rt.alloc();
-    let mut cache = GlobalCache::<Loops>::new(alloc, Loops);
+    let mut cache = GlobalCache::<LoopsDelegate>::new(alloc, ContextOf(Loops));
     let other = answered_loop(&mut cache, alloc, PathKind::Inductive, Outcome::No)?;
     let first = cache.open_node(GOAL)?;
     let second = cache.open_node(GOAL)?;

@@ -16,9 +16,11 @@ pub mod loops;
 #[cfg(test)]
 mod nested_goals;
 #[cfg(test)]
-mod provisional_cache;
+mod provisional_lists;
 #[cfg(test)]
 mod rebasing;
+#[cfg(test)]
+mod refused;
 #[cfg(test)]
 mod result;
 #[cfg(test)]

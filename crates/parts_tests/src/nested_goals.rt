@@ -1,5 +1,5 @@
 //! Tests of the goals below a goal.
-use crate::loops::Loops;
+use crate::loops::LoopsContext;
 use bitflags::Flags;
 use search_parts::parts::NestedGoals;
 use search_parts::path::{PathKind, PathsToNested};
@@ -9,7 +9,7 @@ use std::test::Fail;
 fn paths_to_a_goal_are_joined(rt: HostRuntime) -> Result<(), Fail> {
     let goal = PathKind::Unknown;
     let other = PathKind::Inductive;
-    let mut goals = NestedGoals::<Loops>::new(rt.alloc());
+    let mut goals = NestedGoals::<LoopsContext>::new(rt.alloc());
     assert!(rt; goals.is_empty());
     goals.insert(goal, PathsToNested::EMPTY)?;
     goals.insert(goal, PathsToNested::UNKNOWN)?;
@@ -30,10 +30,10 @@ fn a_child_adds_its_goals_after_the_step(rt: HostRuntime) -> Result<(), Fail> {
         PathKind::Unknown,
         PathKind::Coinductive,
     ];
-    let mut child = NestedGoals::<Loops>::new(rt.alloc());
+    let mut child = NestedGoals::<LoopsContext>::new(rt.alloc());
     child.insert(both, PathsToNested::EMPTY)?;
     child.insert(childs, PathsToNested::COINDUCTIVE)?;
-    let mut goals = NestedGoals::<Loops>::new(rt.alloc());
+    let mut goals = NestedGoals::<LoopsContext>::new(rt.alloc());
     goals.insert(both, PathsToNested::INDUCTIVE)?;
     goals.insert(own, PathsToNested::INDUCTIVE)?;
     goals.extend_from_child(PathKind::Unknown, &child)?;

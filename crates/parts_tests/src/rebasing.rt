@@ -3,8 +3,8 @@
 ghost use Rattle.std.specs.Prelude.{◌≡◌, ◌<◌, length, All, IfOk};
 
 use crate::entries::{GOAL, NODE, TestEntry, cache_of, used};
-use crate::loops::Loops;
-use delegate_parts::Outcome;
+use crate::loops::{Loops, LoopsContext, LoopsDelegate};
+use delegate_parts::{ContextOf, Outcome};
 use search_parts::context::{NoMemory, NodeId};
 use search_parts::parts::{
     AvailableDepth, CycleHeads, HeadUsages, ProvisionalCache, RebaseReason, Stack, StackDepth,
@@ -36,27 +36,27 @@ fn rebased(
     alloc: Global,
     answers: &[TestEntry],
     head: Option<Head>,
-    reason: RebaseReason<Loops>,
-) -> Result<ProvisionalCache<Loops>, NoMemory> {
+    reason: RebaseReason<LoopsContext>,
+) -> Result<ProvisionalCache<LoopsDelegate>, NoMemory> {
     let mut cache = cache_of(alloc, answers)?;
     let stack = stack_of_one(alloc)?;
     let done = done_goal(alloc, head)?;
-    cache.rebase(Loops, &done, &stack, reason)?;
+    cache.rebase(ContextOf(Loops), &done, &stack, reason)?;
     Ok(cache)
 }
 
 // A stack with one goal.
-fn stack_of_one(alloc: Global) -> Result<Stack<Loops>, NoMemory>
+fn stack_of_one(alloc: Global) -> Result<Stack<LoopsContext>, NoMemory>
     ensures { IfOk result (λ stack. length stack ≡ 1) }
 {
     let goal = PathKind::ForcedAmbiguity;
-    let mut stack = Stack::<Loops>::new(alloc);
+    let mut stack = Stack::<LoopsContext>::new(alloc);
     stack.push(StackEntry::new(alloc, goal, goal, AvailableDepth(4)))?;
     Ok(stack)
 }
 
 // The goal that is done.
-fn done_goal(alloc: Global, head: Option<Head>) -> Result<StackEntry<Loops>, NoMemory>
+fn done_goal(alloc: Global, head: Option<Head>) -> Result<StackEntry<LoopsContext>, NoMemory>
     ensures { IfOk result (λ done. All (λ head. head.0.0 < 1) done.state.heads) }
 {
     let goal = PathKind::Inductive;
@@ -97,7 +97,7 @@ impl LeftAnswer {
 }
 
 // The one entry that is left, if one is.
-fn left(cache: &ProvisionalCache<Loops>) -> Result<Option<LeftAnswer>, Fail> {
+fn left(cache: &ProvisionalCache<LoopsDelegate>) -> Result<Option<LeftAnswer>, Fail> {
     let mut entries = cache.entries_of(GOAL).iter();
     let Some(entry) = entries.next() else {
         return Ok(None);
@@ -118,7 +118,7 @@ fn left(cache: &ProvisionalCache<Loops>) -> Result<Option<LeftAnswer>, Fail> {
     }))
 }
 
-fn reasons() -> [RebaseReason<Loops>; 6] {
+fn reasons() -> [RebaseReason<LoopsContext>; 6] {
     [
         RebaseReason::NoCycleUsages,
         RebaseReason::Ambiguity(()),
@@ -213,5 +213,26 @@ fn other_answers_stay_in_order(rt: HostRuntime) -> Result<(), Fail> {
     assert_eq!(rt; results.next(), Some(Outcome::No));
     assert_eq!(rt; results.next(), Some(Outcome::Maybe));
     assert_eq!(rt; results.next(), None);
+    Ok(())
+}
+
+#[test]
+fn a_refused_rebase_leaves_no_entry(rt: HostRuntime) -> Result<(), Fail> {
+    let alloc = rt.alloc();
+    let lower = TestEntry::yes(0, used(1, 1));
+    for reason in reasons() {
+        let mut cache = cache_of(alloc, &[lower, TestEntry::yes(1, used(0, 1))])?;
+        let stack = stack_of_one(alloc)?;
+        let done = done_goal(alloc, Some(Head::coinductive()))?;
+        if cache
+            .rebase(ContextOf(Loops), &done, &stack, reason)
+            .is_err()
+        {
+            assert!(rt; cache.is_empty());
+            assert!(rt; cache.entries_of(GOAL).is_empty());
+        } else {
+            assert!(rt; !cache.entries_of(GOAL).is_empty());
+        }
+    }
     Ok(())
 }

@@ -1,5 +1,5 @@
 //! Tests of what is known of a goal once its evaluation has ended.
-use crate::loops::Loops;
+use crate::loops::LoopsContext;
 use delegate_parts::Outcome;
 use search_parts::parts::{
     AvailableDepth, EvaluationResult, HeadUsages, Stack, StackDepth, StackEntry,
@@ -10,7 +10,7 @@ use std::test::Fail;
 #[test]
 fn a_result_takes_over_what_all_runs_share(rt: HostRuntime) -> Result<(), Fail> {
     let [below, goal] = [PathKind::Inductive, PathKind::Unknown];
-    let mut stack = Stack::<Loops>::new(rt.alloc());
+    let mut stack = Stack::<LoopsContext>::new(rt.alloc());
     for input in [below, goal] {
         if stack.find(input).is_none() {
             let entry = StackEntry::new(rt.alloc(), input, input, AvailableDepth(4));

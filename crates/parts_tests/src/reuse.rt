@@ -1,6 +1,6 @@
 //! Tests of which provisional entries are used, and which are cleared when a goal is rerun.
 use crate::entries::{GOAL, TestEntry, cache_of, used};
-use crate::loops::Loops;
+use crate::loops::LoopsContext;
 use delegate_parts::Outcome;
 use search_parts::context::NoMemory;
 use search_parts::parts::{AvailableDepth, Stack, StackDepth, StackEntry};
@@ -9,8 +9,8 @@ use std::alloc::Global;
 use std::test::Fail;
 
 // A stack of three goals, each asked over a step of its own kind. The last one may have a head.
-fn stack_of_three(alloc: Global, head: Option<usize>) -> Result<Stack<Loops>, NoMemory> {
-    let mut stack = Stack::<Loops>::new(alloc);
+fn stack_of_three(alloc: Global, head: Option<usize>) -> Result<Stack<LoopsContext>, NoMemory> {
+    let mut stack = Stack::<LoopsContext>::new(alloc);
     for goal in [
         PathKind::ForcedAmbiguity,
         PathKind::Coinductive,

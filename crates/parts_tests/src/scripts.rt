@@ -1,9 +1,9 @@
 //! Goals with scripts. A goal makes the requests of its script one after the other, in whatever order they
 //! stand, and whatever it is replied; at the script's end it holds.
-ghost use Rattle.std.specs.Prelude.{◌≡◌, ◌<◌, ◌^◌, ◌-◌, IfOk, OnOk};
+ghost use Rattle.std.specs.Prelude.{◌≡◌};
 
-use delegate_parts::{Builder, NoScope, Outcome};
-use search_parts::context::{Cx, Delegate, NoMemory, Reply, Request, Verdict};
+use delegate_parts::{ContextOf, DelegateOf, Frames, Goals, Outcome};
+use search_parts::context::{NoMemory, Reply, Request};
 use search_parts::path::PathKind;
 
 /// A goal: the place of its script.
@@ -57,45 +57,23 @@ impl Scripts {
     }
 }
 
-impl Cx for Scripts {
+impl Goals for Scripts {
     ghost use Rattle.std.proofs.Common.{rules};
-    ghost use Rattle.delegate_parts.specs.Laws as laws;
-    ghost use Rattle.delegate_parts.specs.Outcome as outcomes;
     ghost use Rattle.parts_tests.specs.Scripts as scripts;
 
     type Input = Goal;
-
-    type Result = Outcome;
-
-    type AmbiguityInfo = ();
-
-    type DepNodeIndex = ();
 
     ghost proves = { scripts.Proves };
 
     ghost refutes = { scripts.Refutes };
 
-    ghost is_yes = { outcomes.is_yes };
+    ghost proves_more = { λ goals goal some more within held. held };
 
-    ghost is_no = { outcomes.is_no };
-
-    ghost proves_more = { λ cx goal some more within held. held };
-
-    ghost refutes_more = { λ cx goal some more within failed. failed };
+    ghost refutes_more = { λ goals goal some more within failed. failed };
 
     ghost clash = { scripts.clash };
 
-    ghost one_sort = { laws.one_sort };
-
     ghost same_input = { Prim.search rules };
-
-    ghost same_result = { Prim.search rules };
-
-    fn dep_node(self, _input: Goal) {}
-
-    fn sort(self, outcome: Outcome) -> Verdict {
-        outcome.verdict()
-    }
 }
 
 /// A frame of a goal.
@@ -107,139 +85,44 @@ pub struct Frame {
     place: usize,
 }
 
-/// The delegate of goals with scripts. A goal has the greater of 1 and `LIMIT` runs at most. One that had them comes to
-/// maybe, while a question that is refused for want of depth is answered overflow, so that the two can be told apart.
-pub struct ScriptsDelegate<const LIMIT: usize>;
+/// The delegate of goals with scripts. A goal has the greater of 1 and `LIMIT` runs at most.
+pub type ScriptsDelegate<const LIMIT: usize> = DelegateOf<Scripts, LIMIT, 1>;
 
-impl<const LIMIT: usize> Delegate for ScriptsDelegate<LIMIT> {
-    ghost use Rattle.std.proofs.Common.{rules};
-    ghost use Rattle.std.specs.Prelude.{false, true};
-    ghost use Rattle.delegate_parts.specs.Builder.{is_noop_of, started_in};
-    ghost use Rattle.delegate_parts.specs.Laws as laws;
-    ghost use Rattle.delegate_parts.specs.Outcome as outcomes;
+// A goal that had its most runs comes to maybe, while a question that is refused for want of depth is answered
+// overflow, so that the two can be told apart.
+impl Frames for Scripts {
+    ghost use Rattle.std.specs.Prelude.{false};
     ghost use Rattle.parts_tests.specs.Scripts.{script_of, Stands, lines_left, yes_is_proved, no_is_refuted};
-    ghost use Rattle.parts_tests.specs.Below.{CanTake, Maybe, Overflow, Steps};
 
-    type Cx = Scripts;
-
-    type ValidationScope = NoScope;
-
-    type ProofTreeBuilder = Builder;
+    type Cx = ContextOf<Scripts>;
 
     type Frame = Frame;
 
-    const ENABLE_PROVISIONAL_CACHE: bool = true;
+    const MOST_RUNS_OVERFLOW: bool = false;
 
-    const FIXPOINT_STEP_LIMIT: usize = LIMIT;
+    ghost MOST_RUNS_OVERFLOW = { false };
 
-    const DIVIDE_AVAILABLE_DEPTH_ON_OVERFLOW: usize = 4;
+    ghost script = { λ cx. script_of cx.0 };
 
-    ghost ENABLE_PROVISIONAL_CACHE = { true };
-
-    ghost FIXPOINT_STEP_LIMIT = { LIMIT };
-
-    ghost DIVIDE_AVAILABLE_DEPTH_ON_OVERFLOW = { 4 };
-
-    ghost script = { script_of };
-
-    ghost stands = { Stands };
+    ghost stands = { λ frame cx. Stands frame cx.0 };
 
     ghost left = { λ frame. lines_left frame.place };
 
     ghost width = { λ cx. 6 };
 
-    ghost initial_result = { λ cx kind goal. outcomes.initial_outcome kind };
+    ghost yes_is_proved = { λ cx. yes_is_proved cx.0 };
 
-    ghost initial_kind = { outcomes.kind_of };
+    ghost no_is_refuted = { λ cx. no_is_refuted cx.0 };
 
-    ghost stack_overflow = { λ cx goal. Overflow };
-
-    ghost fixpoint_overflow = { λ cx goal. Maybe };
-
-    ghost ambiguity = { outcomes.ambiguity_of };
-
-    ghost propagated = { λ cx goal info. Maybe };
-
-    ghost starts = { started_in };
-
-    ghost counts = { true };
-
-    ghost last = { 2 ^ 64 - 1 };
-
-    ghost noop = { is_noop_of };
-
-    ghost scoped = { λ cx goal. false };
-
-    ghost yes_is_proved = { yes_is_proved };
-
-    ghost no_is_refuted = { no_is_refuted };
-
-    ghost initial_sort = { λ cx kind goal. laws.initial_sort kind };
-
-    ghost recognised_sort = { laws.recognised_sort };
-
-    ghost stack_overflow_is_neither = { λ cx goal. laws.overflow_is_neither };
-
-    ghost fixpoint_overflow_is_neither = { λ cx goal. laws.maybe_is_neither };
-
-    ghost ambiguous_is_neither = { laws.ambiguous_is_neither };
-
-    ghost propagated_is_neither = { λ cx goal info. laws.maybe_is_neither };
-
-    ghost divides = { Prim.search rules };
-
-    fn enter_validation_scope(_cx: Scripts, _input: Goal) -> Option<NoScope> {
-        None
-    }
-
-    fn inspect_is_noop(inspect: &mut Builder) -> bool {
-        inspect.is_noop()
-    }
-
-    fn initial_provisional_result(_cx: Scripts, kind: PathKind, _input: Goal) -> Outcome {
-        Outcome::initial(kind)
-    }
-
-    fn is_initial_provisional_result(outcome: Outcome) -> Option<PathKind> {
-        outcome.initial_kind()
-    }
-
-    fn stack_overflow_result(_cx: Scripts, _input: Goal) -> Outcome {
-        Outcome::Overflow
-    }
-
-    fn fixpoint_overflow_result(_cx: Scripts, _input: Goal) -> Outcome {
-        Outcome::Maybe
-    }
-
-    fn is_ambiguous_result(outcome: Outcome) -> Option<()> {
-        outcome.ambiguity()
-    }
-
-    fn propagate_ambiguity(_cx: Scripts, _for_input: Goal, _ambiguity_info: ()) -> Outcome {
-        Outcome::Maybe
-    }
-
-    fn start(cx: Scripts, input: Goal, inspect: &mut Builder) -> Result<Frame, NoMemory> {
-        inspect.note_start();
+    fn start(cx: ContextOf<Scripts>, input: Goal) -> Result<Frame, NoMemory> {
         Ok(Frame {
-            scripts: cx,
+            scripts: cx.0,
             goal: input,
             place: 0,
         })
     }
 
-    fn step(
-        frame: &mut Frame,
-        _reply: Reply<Outcome>,
-        _inspect: &mut Builder,
-    ) -> Result<Request<Goal, Outcome>, NoMemory>
-        requires { CanTake Stands script_of frame.old _reply }
-        ensures request { IfOk result (λ request. Steps Stands script_of frame.old _reply request frame.new) }
-        ensures falls { OnOk result (lines_left frame.new.place < lines_left frame.old.place) }
-        ensures same_starts { started_in _inspect.new ≡ started_in _inspect.old }
-        ensures same_noop { is_noop_of _inspect.new ≡ is_noop_of _inspect.old }
-    {
+    fn step(frame: &mut Frame, _reply: Reply<Outcome>) -> Result<Request<Goal, Outcome>, NoMemory> {
         let line = frame.scripts.line(frame.goal, frame.place);
         frame.place += 1;
         Ok(line.request())

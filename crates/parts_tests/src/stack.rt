@@ -1,12 +1,12 @@
 //! Tests of the goals under evaluation.
-use crate::loops::Loops;
+use crate::loops::LoopsContext;
 use search_parts::parts::{AvailableDepth, Stack, StackDepth, StackEntry};
 use search_parts::path::PathKind;
 use std::test::Fail;
 
 #[test]
 fn the_greatest_step_above_the_head_is_the_kind(rt: HostRuntime) -> Result<(), Fail> {
-    let mut stack = Stack::<Loops>::new(rt.alloc());
+    let mut stack = Stack::<LoopsContext>::new(rt.alloc());
     for (goal, step) in [
         (PathKind::Inductive, PathKind::ForcedAmbiguity),
         (PathKind::Unknown, PathKind::Coinductive),
@@ -42,7 +42,7 @@ fn the_greatest_step_above_the_head_is_the_kind(rt: HostRuntime) -> Result<(), F
 fn goals_are_found_at_their_places(rt: HostRuntime) -> Result<(), Fail> {
     let [first, second] = [PathKind::Inductive, PathKind::Unknown];
     let step = PathKind::Coinductive;
-    let mut stack = Stack::<Loops>::new(rt.alloc());
+    let mut stack = Stack::<LoopsContext>::new(rt.alloc());
     assert!(rt; stack.is_empty());
     for (place, goal) in [(0, first), (1, second)] {
         assert_eq!(rt; stack.next_index(), StackDepth::new(place));

@@ -4,8 +4,8 @@
 ghost use Rattle.std.specs.Prelude.{◌≡◌, [], None, false, true};
 ghost use Rattle.parts_tests.specs.Below.{HasGraph, outcome_verdicts};
 
-use crate::loops::{Loops, answered_loop};
-use delegate_parts::Outcome;
+use crate::loops::{Loops, LoopsContext, LoopsDelegate, answered_loop};
+use delegate_parts::{ContextOf, Outcome};
 use search_parts::context::Fault;
 use search_parts::global_cache::{CacheData, GlobalCache, NestedTest};
 use search_parts::parts::{AvailableDepth, CycleHeads, EvaluationResult, NestedGoals};
@@ -16,12 +16,12 @@ use std::test::Fail;
 /// Accepts each result.
 struct Anything;
 
-impl NestedTest<Loops> for Anything {
+impl NestedTest<LoopsContext> for Anything {
     ghost use Rattle.std.specs.Prelude.{true};
 
     ghost accepts = { λ test nested. true };
 
-    fn accepts(&self, _nested_goals: &NestedGoals<Loops>) -> bool {
+    fn accepts(&self, _nested_goals: &NestedGoals<LoopsContext>) -> bool {
         true
     }
 }
@@ -29,18 +29,18 @@ impl NestedTest<Loops> for Anything {
 /// Accepts results without goals below them.
 struct Leaves;
 
-impl NestedTest<Loops> for Leaves {
+impl NestedTest<LoopsContext> for Leaves {
     ghost use Rattle.parts_tests.specs.NestedTests.{has_none};
 
     ghost accepts = { λ test nested. has_none nested };
 
-    fn accepts(&self, nested_goals: &NestedGoals<Loops>) -> bool {
+    fn accepts(&self, nested_goals: &NestedGoals<LoopsContext>) -> bool {
         nested_goals.is_empty()
     }
 }
 
 // A result without goals below it.
-fn success(alloc: Global, outcome: Outcome, required_depth: usize) -> EvaluationResult<Loops>
+fn success(alloc: Global, outcome: Outcome, required_depth: usize) -> EvaluationResult<LoopsContext>
     ensures { result ≡ record { encountered_overflow = false; required_depth = required_depth; heads = []; nested_goals = []; result = outcome; node = None } }
 {
     EvaluationResult {
@@ -54,7 +54,11 @@ fn success(alloc: Global, outcome: Outcome, required_depth: usize) -> Evaluation
 }
 
 // The same where overflow was met.
-fn overflow(alloc: Global, outcome: Outcome, required_depth: usize) -> EvaluationResult<Loops>
+fn overflow(
+    alloc: Global,
+    outcome: Outcome,
+    required_depth: usize,
+) -> EvaluationResult<LoopsContext>
     ensures { result ≡ record { encountered_overflow = true; required_depth = required_depth; heads = []; nested_goals = []; result = outcome; node = None } }
 {
     let mut evaluation_result = success(alloc, outcome, required_depth);
@@ -64,9 +68,9 @@ fn overflow(alloc: Global, outcome: Outcome, required_depth: usize) -> Evaluatio
 
 // Stores a result of the goal. A goal that asks itself has no rank, so each result of it is plain.
 fn store(
-    cache: &mut GlobalCache<Loops>,
+    cache: &mut GlobalCache<LoopsDelegate>,
     goal: PathKind,
-    evaluation_result: EvaluationResult<Loops>,
+    evaluation_result: EvaluationResult<LoopsContext>,
 ) -> Result<(), Fault<PathKind, Outcome>>
     requires no_heads { evaluation_result.heads ≡ [] }
     requires graph { HasGraph outcome_verdicts cache.old.nodes goal evaluation_result.result evaluation_result.node }
@@ -75,7 +79,7 @@ fn store(
 }
 
 // A result's outcome, its required depth, and whether it met overflow.
-fn parts(hit: CacheData<'_, Loops>) -> (Outcome, usize, bool) {
+fn parts(hit: CacheData<'_, LoopsContext>) -> (Outcome, usize, bool) {
     (hit.result, hit.required_depth, hit.encountered_overflow)
 }
 
@@ -83,7 +87,7 @@ fn parts(hit: CacheData<'_, Loops>) -> (Outcome, usize, bool) {
 fn a_result_that_differs_is_a_conflict(rt: HostRuntime) -> Result<(), Fail> {
     let alloc = rt.alloc();
     let goal = PathKind::ForcedAmbiguity;
-    let mut cache = GlobalCache::<Loops>::new(alloc, Loops);
+    let mut cache = GlobalCache::<LoopsDelegate>::new(alloc, ContextOf(Loops));
     let first = success(alloc, Outcome::Maybe, 0);
     assert_eq!(rt; store(&mut cache, goal, first), Ok(()));
     let conflict = Fault::Conflict {
@@ -104,7 +108,7 @@ fn a_result_that_differs_is_a_conflict(rt: HostRuntime) -> Result<(), Fail> {
 fn overflow_results_are_used_at_their_depth(rt: HostRuntime) -> Result<(), Fail> {
     let alloc = rt.alloc();
     let goal = PathKind::Unknown;
-    let mut cache = GlobalCache::<Loops>::new(alloc, Loops);
+    let mut cache = GlobalCache::<LoopsDelegate>::new(alloc, ContextOf(Loops));
     store(&mut cache, goal, overflow(alloc, Outcome::Maybe, 1))?;
     store(&mut cache, goal, overflow(alloc, Outcome::Overflow, 3))?;
     assert_eq!(rt; cache.overflow_at(goal, 1), Some(Outcome::Maybe));
@@ -129,7 +133,7 @@ fn overflow_results_are_used_at_their_depth(rt: HostRuntime) -> Result<(), Fail>
 fn a_success_is_preferred_where_it_is_deep_enough(rt: HostRuntime) -> Result<(), Fail> {
     let alloc = rt.alloc();
     let goal = PathKind::Unknown;
-    let mut cache = GlobalCache::<Loops>::new(alloc, Loops);
+    let mut cache = GlobalCache::<LoopsDelegate>::new(alloc, ContextOf(Loops));
     store(&mut cache, goal, overflow(alloc, Outcome::Overflow, 1))?;
     store(&mut cache, goal, overflow(alloc, Outcome::Overflow, 2))?;
     store(&mut cache, goal, success(alloc, Outcome::Maybe, 2))?;
@@ -151,7 +155,7 @@ fn a_result_whose_goals_are_refused_gives_way(rt: HostRuntime) -> Result<(), Fai
     let alloc = rt.alloc();
     let goal = PathKind::Unknown;
     let available = AvailableDepth(2);
-    let mut cache = GlobalCache::<Loops>::new(alloc, Loops);
+    let mut cache = GlobalCache::<LoopsDelegate>::new(alloc, ContextOf(Loops));
     let mut nested = success(alloc, Outcome::Maybe, 1);
     nested
         .nested_goals
@@ -175,7 +179,7 @@ fn a_lookup_lends_the_nested_goals(rt: HostRuntime) -> Result<(), Fail> {
         PathKind::Inductive,
         PathKind::Coinductive,
     ];
-    let mut cache = GlobalCache::<Loops>::new(alloc, Loops);
+    let mut cache = GlobalCache::<LoopsDelegate>::new(alloc, ContextOf(Loops));
     for required_depth in [1, 4] {
         let mut nested = overflow(alloc, Outcome::Maybe, required_depth);
         nested.nested_goals.insert(below, PathsToNested::UNKNOWN)?;
@@ -197,7 +201,7 @@ fn a_lookup_lends_the_nested_goals(rt: HostRuntime) -> Result<(), Fail> {
 fn a_definite_result_is_found_with_its_node(rt: HostRuntime) -> Result<(), Fail> {
     let alloc = rt.alloc();
     let goal = PathKind::Coinductive;
-    let mut cache = GlobalCache::<Loops>::new(alloc, Loops);
+    let mut cache = GlobalCache::<LoopsDelegate>::new(alloc, ContextOf(Loops));
     let node = answered_loop(&mut cache, alloc, goal, Outcome::Yes)?;
     let mut definite = success(alloc, Outcome::Yes, 1);
     definite.node = Some(node);
@@ -210,5 +214,27 @@ fn a_definite_result_is_found_with_its_node(rt: HostRuntime) -> Result<(), Fail>
     };
     assert_eq!(rt; hit.node, Some(node));
     assert_eq!(rt; parts(hit), (Outcome::Yes, 1, false));
+    Ok(())
+}
+
+#[test]
+fn a_refused_result_changes_nothing(rt: HostRuntime) -> Result<(), Fail> {
+    let alloc = rt.alloc();
+    let goal = PathKind::Unknown;
+    let mut cache = GlobalCache::<LoopsDelegate>::new(alloc, ContextOf(Loops));
+    for depth in 0..40usize {
+        let stored = store(&mut cache, goal, overflow(alloc, Outcome::Maybe, depth));
+        if stored == Err(Fault::Memory) {
+            assert_eq!(rt; cache.overflow_at(goal, depth), None);
+            for below in 0..depth {
+                assert_eq!(rt; cache.overflow_at(goal, below), Some(Outcome::Maybe));
+            }
+            store(&mut cache, goal, overflow(alloc, Outcome::Maybe, depth))?;
+        }
+        assert_eq!(rt; cache.overflow_at(goal, depth), Some(Outcome::Maybe));
+        // What is stored there is replaced by an equal one without memory.
+        let stored = store(&mut cache, goal, overflow(alloc, Outcome::Maybe, depth));
+        assert_eq!(rt; stored, Ok(()));
+    }
     Ok(())
 }

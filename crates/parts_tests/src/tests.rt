@@ -1,5 +1,5 @@
-use crate::loops::{Loops, answered_loop, finish_loop};
-use delegate_parts::Outcome;
+use crate::loops::{Loops, LoopsContext, LoopsDelegate, answered_loop, finish_loop};
+use delegate_parts::{ContextOf, Outcome};
 use search_parts::context::{Edge, NodeId, Reply};
 use search_parts::global_cache::GlobalCache;
 use search_parts::path::PathKind;
@@ -9,8 +9,8 @@ use std::test::Fail;
 fn a_finished_node_is_lent(rt: HostRuntime) -> Result<(), Fail> {
     let alloc = rt.alloc();
     let goal = PathKind::Coinductive;
-    let mut cache = GlobalCache::<Loops>::new(alloc, Loops);
-    let _context: Loops = cache.cx();
+    let mut cache = GlobalCache::<LoopsDelegate>::new(alloc, ContextOf(Loops));
+    let _context: LoopsContext = cache.cx();
     let node = cache.open_node(goal)?;
     assert_eq!(rt; node, NodeId(0));
     assert!(rt; cache.node_is_open(node));
@@ -39,7 +39,7 @@ fn a_finished_node_is_lent(rt: HostRuntime) -> Result<(), Fail> {
 
 #[test]
 fn a_number_past_the_list_is_no_node(rt: HostRuntime) -> Result<(), Fail> {
-    let mut cache = GlobalCache::<Loops>::new(rt.alloc(), Loops);
+    let mut cache = GlobalCache::<LoopsDelegate>::new(rt.alloc(), ContextOf(Loops));
     assert!(rt; !cache.node_is_open(NodeId(0)));
     let first = answered_loop(&mut cache, rt.alloc(), PathKind::Inductive, Outcome::No)?;
     let second = cache.open_node(PathKind::Inductive)?;

@@ -7,6 +7,3 @@ pub mod NameLemmas
 pub mod TableLemmas
 pub mod Adding
 pub mod Lines
-pub mod Bytes
-pub mod Accepted
-pub mod Answered

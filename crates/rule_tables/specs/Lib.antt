@@ -9,8 +9,5 @@ pub mod Words
 pub mod Question
 pub mod Line
 pub mod Text
-pub mod Stop
-pub mod Told
-pub mod Answers
 pub mod Laws
 pub mod Below

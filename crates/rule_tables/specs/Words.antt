@@ -9,14 +9,11 @@ pub use Rattle.rule_tables.specs.Line.{statement_of}
 pub use Rattle.rule_tables.specs.Names.{IsNumbered, number_in, Numbers, texts_of, with_name}
 pub use Rattle.rule_tables.specs.Question.{named}
 pub use Rattle.rule_tables.specs.Rules.{candidates_of, name_of, names_of, number_of, questions_of}
-pub use Rattle.rule_tables.specs.Stop.{status_of}
 pub use Rattle.rule_tables.specs.Table.{Adds, AreAsked, candidate_in, first_mentions, IsAsked, IsCandidate, IsTableOf}
 pub use Rattle.rule_tables.specs.Table.{IsToBeAnswered, Mentions, NamedCandidate, names_in, question_in}
 pub use Rattle.rule_tables.specs.Text.{IsFirstBadLine, Reads}
 pub use Rattle.rule_tables.specs.LineWords.{words_left}
 pub use Rattle.rule_tables.specs.declared.frame.State.{State}
-pub use Rattle.rule_tables.specs.declared.program.Stop.{Stop}
-pub use Rattle.rule_tables.specs.declared.program.Stop.TheVariants.{BadLine, InputOrOutput, Memory}
 pub use Rattle.rule_tables.specs.declared.rules.Asking.{Asking}
 pub use Rattle.rule_tables.specs.declared.rules.Candidate.{Candidate}
 pub use Rattle.rule_tables.specs.declared.rules.Goal.{Goal}

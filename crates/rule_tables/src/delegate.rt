@@ -4,10 +4,8 @@ ghost use Rattle.std.proofs.Common.{rules};
 
 use crate::frame::State;
 use crate::rules::{Goal, Rules};
-use delegate_parts::{Builder, NoScope, Outcome};
-use search_parts::context::{Cx, Delegate, NoMemory, Reply, Request, Verdict};
-use search_parts::path::PathKind;
-use std::marker::PhantomData;
+use delegate_parts::{DelegateOf, Frames, Outcome, Outcomes};
+use search_context::context::{Cx, NoMemory, Reply, Request, Verdict};
 
 /// What lends a table of rules, as a reference does.
 pub trait LendsRules: Copy {
@@ -55,6 +53,8 @@ impl<T: LendsRules> Cx for Table<T> {
 
     ghost is_no = { outcomes.is_no };
 
+    ghost token = { λ cx goal. number_of goal };
+
     ghost proves_more = { λ cx. meanings.Proves-more (T.rules_of cx.lender) };
 
     ghost refutes_more = { λ cx. meanings.Refutes-more (T.rules_of cx.lender) };
@@ -67,15 +67,19 @@ impl<T: LendsRules> Cx for Table<T> {
 
     ghost same_result = { Prim.search rules };
 
-    fn dep_node(self, input: Goal) -> usize
-        ensures { result ≡ number_of input }
-    {
+    fn dep_node(self, input: Goal) -> usize {
         input.number()
     }
 
     fn sort(self, outcome: Outcome) -> Verdict {
         outcome.verdict()
     }
+}
+
+impl<T: LendsRules> Outcomes for Table<T> {
+    ghost use Rattle.delegate_parts.specs.Laws.{own_verdicts};
+
+    ghost same_verdicts = { own_verdicts };
 }
 
 /// A goal that is worked out.
@@ -87,9 +91,11 @@ pub struct TableFrame<T> {
 }
 
 /// The delegate of the rules that a `T` lends.
-pub struct RulesDelegate<T, const LIMIT: usize, const PROVISIONAL: usize> {
-    lender: PhantomData<T>,
-}
+pub type RulesDelegate<T, const LIMIT: usize, const PROVISIONAL: usize> = DelegateOf<
+    Table<T>,
+    LIMIT,
+    PROVISIONAL,
+>;
 
 /// The delegate of a table of rules. A goal has the greater of 1 and `LIMIT` runs at most, and the
 /// provisional cache may be used unless `PROVISIONAL` is 0.
@@ -99,36 +105,19 @@ pub type TableDelegate<'a, const LIMIT: usize, const PROVISIONAL: usize> = Rules
     PROVISIONAL,
 >;
 
-impl<T: LendsRules, const LIMIT: usize, const PROVISIONAL: usize> Delegate
-    for RulesDelegate<T, LIMIT, PROVISIONAL> {
-    ghost use Rattle.std.specs.Prelude.{Bool, true, false, not, nat_eq, ◌^◌, ◌-◌, ◌<◌, List, IfOk, OnOk};
-    ghost use Rattle.delegate_parts.specs.Builder.{is_noop_of, started_in};
-    ghost use Rattle.delegate_parts.specs.Laws as laws;
-    ghost use Rattle.delegate_parts.specs.Outcome as outcomes;
-    ghost use Rattle.rule_tables.specs.Below.{CanTake, Maybe, Overflow, Steps};
+impl<T: LendsRules> Frames for Table<T> {
+    ghost use Rattle.std.specs.Prelude.{true};
     ghost use Rattle.rule_tables.specs.Frame.{steps_within};
     ghost use Rattle.rule_tables.specs.Standing.{FrameStands, table_script, frame_left};
     ghost use Rattle.rule_tables.specs.Laws.Runs as runs;
 
     type Cx = Table<T>;
 
-    type ValidationScope = NoScope;
-
-    type ProofTreeBuilder = Builder;
-
     type Frame = TableFrame<T>;
 
-    const ENABLE_PROVISIONAL_CACHE: bool = PROVISIONAL != 0;
+    const MOST_RUNS_OVERFLOW: bool = true;
 
-    const FIXPOINT_STEP_LIMIT: usize = LIMIT;
-
-    const DIVIDE_AVAILABLE_DEPTH_ON_OVERFLOW: usize = 4;
-
-    ghost ENABLE_PROVISIONAL_CACHE = { not (nat_eq PROVISIONAL 0) };
-
-    ghost FIXPOINT_STEP_LIMIT = { LIMIT };
-
-    ghost DIVIDE_AVAILABLE_DEPTH_ON_OVERFLOW = { 4 };
+    ghost MOST_RUNS_OVERFLOW = { true };
 
     ghost script = { table_script T.rules_of };
 
@@ -138,80 +127,11 @@ impl<T: LendsRules, const LIMIT: usize, const PROVISIONAL: usize> Delegate
 
     ghost width = { λ cx. steps_within (T.rules_of cx.lender) };
 
-    ghost initial_result = { λ cx kind goal. outcomes.initial_outcome kind };
-
-    ghost initial_kind = { outcomes.kind_of };
-
-    ghost stack_overflow = { λ cx goal. Overflow };
-
-    ghost fixpoint_overflow = { λ cx goal. Overflow };
-
-    ghost ambiguity = { outcomes.ambiguity_of };
-
-    ghost propagated = { λ cx goal info. Maybe };
-
-    ghost starts = { started_in };
-
-    ghost counts = { true };
-
-    ghost last = { 2 ^ 64 - 1 };
-
-    ghost noop = { is_noop_of };
-
-    ghost scoped = { λ cx goal. false };
-
     ghost yes_is_proved = { λ cx. runs.yes_is_proved (T.rules_of cx.lender) };
 
     ghost no_is_refuted = { λ cx. runs.no_is_refuted (T.rules_of cx.lender) };
 
-    ghost initial_sort = { λ cx kind goal. laws.initial_sort kind };
-
-    ghost recognised_sort = { laws.recognised_sort };
-
-    ghost stack_overflow_is_neither = { λ cx goal. laws.overflow_is_neither };
-
-    ghost fixpoint_overflow_is_neither = { λ cx goal. laws.overflow_is_neither };
-
-    ghost ambiguous_is_neither = { laws.ambiguous_is_neither };
-
-    ghost propagated_is_neither = { λ cx goal info. laws.maybe_is_neither };
-
-    ghost divides = { Prim.search rules };
-
-    fn enter_validation_scope(_cx: Table<T>, _input: Goal) -> Option<NoScope> {
-        None
-    }
-
-    fn inspect_is_noop(inspect: &mut Builder) -> bool {
-        inspect.is_noop()
-    }
-
-    fn initial_provisional_result(_cx: Table<T>, kind: PathKind, _input: Goal) -> Outcome {
-        Outcome::initial(kind)
-    }
-
-    fn is_initial_provisional_result(outcome: Outcome) -> Option<PathKind> {
-        outcome.initial_kind()
-    }
-
-    fn stack_overflow_result(_cx: Table<T>, _input: Goal) -> Outcome {
-        Outcome::Overflow
-    }
-
-    fn fixpoint_overflow_result(_cx: Table<T>, _input: Goal) -> Outcome {
-        Outcome::Overflow
-    }
-
-    fn is_ambiguous_result(outcome: Outcome) -> Option<()> {
-        outcome.ambiguity()
-    }
-
-    fn propagate_ambiguity(_cx: Table<T>, _for_input: Goal, _ambiguity_info: ()) -> Outcome {
-        Outcome::Maybe
-    }
-
-    fn start(cx: Table<T>, input: Goal, inspect: &mut Builder) -> Result<TableFrame<T>, NoMemory> {
-        inspect.note_start();
+    fn start(cx: Table<T>, input: Goal) -> Result<TableFrame<T>, NoMemory> {
         Ok(TableFrame {
             lender: cx.lender,
             goal: input,
@@ -222,14 +142,7 @@ impl<T: LendsRules, const LIMIT: usize, const PROVISIONAL: usize> Delegate
     fn step(
         frame: &mut TableFrame<T>,
         reply: Reply<Outcome>,
-        inspect: &mut Builder,
-    ) -> Result<Request<Goal, Outcome>, NoMemory>
-        requires { CanTake (FrameStands T.rules_of) (table_script T.rules_of) frame.old reply }
-        ensures request { IfOk result (λ request. Steps (FrameStands T.rules_of) (table_script T.rules_of) frame.old reply request frame.new) }
-        ensures falls { OnOk result (frame_left T.rules_of frame.new < frame_left T.rules_of frame.old) }
-        ensures same_starts { started_in inspect.new ≡ started_in inspect.old }
-        ensures same_noop { is_noop_of inspect.new ≡ is_noop_of inspect.old }
-    {
+    ) -> Result<Request<Goal, Outcome>, NoMemory> {
         let candidates = frame.lender.rules().candidates(frame.goal);
         frame.state = frame.state.after(candidates, reply);
         Ok(frame.state.request())

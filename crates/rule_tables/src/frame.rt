@@ -4,7 +4,7 @@ ghost use Rattle.rule_tables.specs.Words.{marked_from};
 
 use crate::rules::{Candidate, Goal};
 use delegate_parts::Outcome;
-use search_parts::context::{Reply, Request};
+use search_context::context::{Reply, Request};
 
 /// Where a frame stands between two steps.
 #[derive(Clone, Copy, Debug)]

@@ -1,5 +1,5 @@
-//! Tables of rules as a delegate of the goal search, and the programs over them. The results of goals and what counts
-//! the frames are those of `delegate_parts`.
+//! Tables of rules as a delegate of the goal search. The results of goals and what counts the frames are those of
+//! `delegate_parts`.
 //!
 //! | File of `specs/` | Has |
 //! |---|---|
@@ -8,19 +8,15 @@
 //! | `Table`, `Rules` | the table that a text makes, and what it says of goals |
 //! | `Frame`, `Standing` | the frame of a goal, and where it stands |
 //! | `Laws` | the laws of the delegate, with their proofs |
-//! | `Told`, `Answers` | the line of a question, and what a question came to |
-//! | `Stop` | why a program ends early |
 #![tactic(auto)]
 
 pub mod delegate;
 mod frame;
 mod names;
-mod program;
 mod reading;
 pub mod rules;
 
 pub use delegate::TableDelegate;
 pub use delegate_parts::{Builder, Outcome};
-pub use program::{answer, run};
 pub use reading::ReadFault;
 pub use rules::{Candidate, Goal, Rules};

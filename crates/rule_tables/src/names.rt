@@ -3,7 +3,7 @@ ghost use Rattle.std.specs.Prelude.{◌≡◌, ◌↔◌, ℕ, List, [], length,
 ghost use Rattle.std.specs.Option.{option_copied};
 ghost use Rattle.rule_tables.specs.Words.{with_name};
 
-use search_parts::context::NoMemory;
+use search_context::context::NoMemory;
 use std::alloc::Global;
 use std::collections::HashMap;
 use std::marker::Model;

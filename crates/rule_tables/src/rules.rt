@@ -3,8 +3,8 @@ ghost use Rattle.std.specs.Prelude.{◌≡◌, length};
 
 use crate::names::Names;
 use crate::reading::question::Question;
-use search_parts::context::NoMemory;
-use search_parts::path::PathKind;
+use search_context::context::NoMemory;
+use search_context::path::PathKind;
 use std::alloc::Global;
 
 /// A goal, which is a name, by that name's number in the order of first mention.

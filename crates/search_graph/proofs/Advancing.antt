@@ -1,11 +1,11 @@
 -- The newest frame gets its reply and makes a request: what the moves after that may rest on.
 use Rattle.std.proofs.Common.{◌≡◌, ℕ, Bool, List, sym, ◌∙◌, subst}
-use Rattle.search_graph.specs.Below.{DelegateOf, CxOf, Request, Received, Cache, HasStepped, IsStepFault, NotesCandidate, StackEntry, Run, Fault}
-use Rattle.search_graph.specs.declared.graph.evaluation.Evaluation.{Evaluation}
-use Rattle.search_graph.specs.Words.{Awaits, Call, HasReply, HasRequest, IsRight, IsRightFor, Requests, StopsWith, work_left}
+use Rattle.search_graph.specs.Below.{DelegateOf, CxOf, Request, Received, Cache, HasStepped, IsStepFault, NotesCandidate, StackEntry, Run, Fault, Awaits, Call, HasReply, HasRequest, HaveExpected, IsRight, IsRightFor, Requests, StopsWith, work_left}
+use Rattle.search_moves.specs.declared.evaluation.Evaluation.{Evaluation}
 use Rattle.search_graph.proofs.Causes.{step_keeps_free}
-use Rattle.search_graph.proofs.moves.Loops.{advance_asks, advance_justified, advance_stops, step_asks_for, stepped_some}
-use Rattle.search_graph.proofs.entries.Moves.{stepped_ready}
+use Rattle.search_graph.proofs.Loops.{advance_asks, advance_justified, advance_stops, step_asks_for, stepped_some}
+use Rattle.search_rules.proofs.Fates.{fates_stepped}
+use Rattle.search_rules.proofs.entries.Moves.{stepped_ready}
 
 module _ {D C V P F I R A T : Type 0} (G : DelegateOf D C V P F I R A T) (X : CxOf C I R A T) (same : I → I → Bool) (cx : C) (cache : Cache C I R A T) (e : Evaluation D C V P F I R A T) (given : Received R) where
   -- a frame that failed ends the call
@@ -44,4 +44,5 @@ module _ {D C V P F I R A T : Type 0} (G : DelegateOf D C V P F I R A T) (X : Cx
       asked = advance_asks G X cx given request e.goals goals starts now e.limits_met read reads made is stepped same_starts cache.nodes h.right.fits h.call h.waiting;
       on_record = λ kind goal asks. step_asks_for G X cx given e.goals goals read made stepped kind goal (is ∙ asks);
       right = stepped_right (subst (λ (q : Request I R). NotesCandidate q goals goals) (sym is) none) h.right;
+      expected = subst (HaveExpected (G.scoped cx) (G.script cx) same cache.results) (sym (fates_stepped G X read e.goals goals given made stepped)) h.expected;
     }

@@ -1,12 +1,11 @@
 -- Why a step fails, and that stored results rest on no goal while steps are taken.
 use Rattle.std.proofs.Common.{◌≡◌, ℕ, Bool, List, ◌∷◌, refl, sym, subst}
-use Rattle.search_graph.specs.Below.{DelegateOf, CxOf, Request, Fault, StoredResult, StackEntry, Cache, CacheNode, Store, Run, Received, requested, HasStepped, IsStepFault, NoMemoryLeft, received_by, verdicts}
-use Rattle.search_graph.specs.Words.{Call, IsWaiting, AreFree, IsCaused, OutOfMemory, IsFit, run_of, runs_of}
-use Rattle.search_graph.specs.Graph.{OutOfOrder}
+use Rattle.search_graph.specs.Below.{DelegateOf, CxOf, Request, Fault, StoredResult, StackEntry, Cache, CacheNode, Store, Run, Received, requested, HasStepped, IsStepFault, NoMemoryLeft, received_by, verdicts, Call, IsWaiting, AreFree, IsCaused, OutOfMemory, IsFit, run_of, runs_of}
+use Rattle.search_rules.specs.Claims.{OutOfOrder}
 use Rattle.open_goals.specs.Steps as steps
-use Rattle.search_graph.proofs.moves.Moves.{can_step_record, fault_after_step}
-use Rattle.search_graph.proofs.justified.Replies.{replies_sorted}
-use Rattle.search_graph.proofs.answers.Free.{all_free_above}
+use Rattle.search_rules.proofs.moves.Moves.{can_step_record, fault_after_step}
+use Rattle.search_rules.proofs.justified.Replies.{replies_sorted}
+use Rattle.search_rules.proofs.answers.Free.{all_free_above}
 
 module _ {D C V P F I R A T : Type 0} (G : DelegateOf D C V P F I R A T) (X : CxOf C I R A T) (same : I → I → Bool) (cache : Cache C I R A T) (given : Received R) (goals : List (StackEntry C I R A T × Run C F I R A T)) (starts : ℕ) (met : Bool) where
   -- a step failed for want of memory, or since the newest goal's request was out of order

@@ -1,18 +1,12 @@
-pub mod counts
-pub mod records
-pub mod justified
-pub mod moves
+pub mod Noted
+pub mod IgnoredTallies
+pub mod Loops
 pub mod Promises
-pub mod Storing
-pub mod FinishedRuns
-pub mod DoneGoals
-pub mod answers
-pub mod entries
-pub mod rebasing
+pub mod StoredDepths
 pub mod Causes
 pub mod ListAnswers
-pub mod HeadOrder
-pub mod Reasons
-mod Asking
 mod Advancing
+mod KeptFates
 mod Beginning
+pub mod ListLimits
+pub mod WorkedOut

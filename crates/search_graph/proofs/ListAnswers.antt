@@ -4,15 +4,15 @@ use Rattle.std.specs.List.{AllZip, sum_by}
 use Rattle.std.proofs.lemmas.List.{take_more}
 use Rattle.std.proofs.lemmas.List.Sums.{sum_by-append}
 use Rattle.std.proofs.lemmas.Result.{IfOk-weaker}
-use Rattle.search_graph.specs.Below.{CxOf, DelegateOf, Fault, Memory, PathKind, Cache, AreRuns, KeepsFinished, HasGraph, Question, Overlap, IsPlainTo, IsPlainValue, KeepsResults, IsWhole, verdicts}
-use Rattle.search_parts.specs.declared.context.Answer.{Answer}
-use Rattle.search_parts.proofs.Bridge.{KeepsRule}
-use Rattle.search_parts.proofs.Definites.{HasGraph-finished, definite_is_whole}
-use Rattle.search_parts.proofs.Finished.{KeepsFinished-then}
-use Rattle.search_parts.proofs.Stores.{KeepsResults-then}
-use Rattle.search_graph.specs.Words.{IsProved, IsRefuted, HadCause, HasAnswer}
+use Rattle.search_graph.specs.Below.{CxOf, DelegateOf, Fault, Memory, PathKind, Cache, AreRuns, KeepsFinished, HasGraph, Question, Overlap, IsPlainTo, IsPlainValue, KeepsResults, IsWhole, verdicts, IsProved, IsRefuted}
+use Rattle.search_context.specs.declared.context.Answer.{Answer}
+use Rattle.search_context.proofs.Rules.{KeepsRule}
+use Rattle.global_cache.proofs.Definites.{HasGraph-finished, definite_is_whole}
+use Rattle.global_cache.proofs.Finished.{KeepsFinished-then}
+use Rattle.global_cache.proofs.Stores.{KeepsResults-then}
+use Rattle.search_graph.specs.Words.{HadCause, HasAnswer}
 use Rattle.search_graph.specs.Lists.{AppendsEach, IsAnsweredQuery}
-use Rattle.search_graph.proofs.Promises.{yes_is_proved, no_is_refuted, neither_is_none}
+use Rattle.search_rules.proofs.Shown.{yes_is_proved, no_is_refuted, neither_is_none}
 
 appended : {A : Type 0} (old more : List A) (a : A) → (old ++ more) ++ a ∷ [] ≡ old ++ (more ++ a ∷ [])
 appended [] more a = refl

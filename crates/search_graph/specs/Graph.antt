@@ -1,43 +1,7 @@
--- What a search graph is between its calls, and what its answers say.
-use Rattle.std.specs.Prelude.{◌≡◌, ◌≢◌, ◌⊎◌, ℕ, Bool, true, List, Option, Some}
-use Rattle.std.specs.Option.{IsSomeAnd, option_map}
-use Rattle.search_graph.specs.Below.{CxOf, DelegateOf, NodeId, Request, Done, Reply, Fault, Conflict, Memory, Protocol, Place, IsFitting, fault_after, request_after, stored_at, Cache, graph_nodes_of, GraphNode, IsProofGraph, IsRefutationGraph}
+-- What a search graph is between its calls.
+use Rattle.std.specs.Prelude.{ℕ, Bool}
 
 -- the depth that its goals get, and whether a limit was met
 pub record Graph : Type 0 where
   pub root_depth : ℕ
   pub limits_met : Bool
-
-module _ {C I R A T : Type 0} (X : CxOf C I R A T) (cache : Cache C I R A T) (goal : I) (node : Option NodeId) where
-  -- the node is the root of a proof graph of the goal, which has no refutation graph anywhere
-  pub record IsProved : Type 0 where
-    pub graph : IsSomeAnd node (λ root. IsProofGraph (X.proves cache.cx) (graph_nodes_of cache.nodes) root.0 goal)
-    pub never_refuted : (others : List (GraphNode I)) (top : ℕ) → IsRefutationGraph (X.refutes cache.cx) others top goal → ⊥
-
-  -- the node is the root of a refutation graph of the goal, which has no proof graph anywhere
-  pub record IsRefuted : Type 0 where
-    pub graph : IsSomeAnd node (λ root. IsRefutationGraph (X.refutes cache.cx) (graph_nodes_of cache.nodes) root.0 goal)
-    pub never_proved : (others : List (GraphNode I)) (top : ℕ) → IsProofGraph (X.proves cache.cx) others top goal → ⊥
-
--- The goal came to the result: its script did after replies that fit, or it had its most runs.
-abbrev pub ComesTo : {I R : Type 0} → (I → List (Reply R) → Request I R) → (I → R) → I → R → Type 0
-ComesTo {I} {R} scripts limit_result goal r =
-    ((replies : List (Reply R)) × IsFitting (scripts goal) replies × (request_after (scripts goal) replies ≡ Some (Done r)))
-    ⊎ (r ≡ limit_result goal)
-
-module _ {D C V P F I R A T : Type 0} (G : DelegateOf D C V P F I R A T) (X : CxOf C I R A T) (same : I → I → Bool) (cache : Cache C I R A T) where
-  -- The goal came to `found`, and the cache holds another result of it in the same place. If `found` is yes or no, that has its graph.
-  pub record Conflicts (goal : I) (stored found : R) : Type 0 where
-    pub place : Place
-    pub is_stored : option_map (λ s. s.result.result) (stored_at same cache.results goal place) ≡ Some stored
-    pub differs : stored ≢ found
-    pub comes : ComesTo (G.script cache.cx) (G.fixpoint_overflow cache.cx) goal found
-    pub node : Option NodeId
-    pub is_proved : X.is_yes found ≡ true → IsProved X cache goal node
-    pub is_refuted : X.is_no found ≡ true → IsRefuted X cache goal node
-
-  -- memory is out, some goal's script makes a request out of order after replies that fit, or two results conflict
-  pub data IsCaused (fault : Fault I R) : Type 0 where
-    OutOfMemory : fault ≡ Memory → IsCaused fault
-    OutOfOrder : (goal : I) (replies : List (Reply R)) (number : ℕ) → IsFitting (G.script cache.cx goal) replies → fault_after (G.script cache.cx goal) replies ≡ Some number → fault ≡ Protocol number → IsCaused fault
-    OtherResult : (goal : I) (stored found : R) → Conflicts goal stored found → fault ≡ Conflict goal stored found → IsCaused fault

@@ -1,9 +1,9 @@
 -- What a list of queries is answered with. A query is a root depth, a goal, and the kind of the step that asks it.
-use Rattle.std.specs.Prelude.{◌≡◌, ℕ, ◌≤◌, Bool, true, false, List, ◌++◌, None, IfSome, Result, IfOk, IfErr}
+use Rattle.std.specs.Prelude.{◌≡◌, ℕ, ◌≤◌, max, Bool, true, false, List, ◌++◌, length, slice_get, None, Some, IfSome, Result, Ok, IfOk, IfErr}
 use Rattle.std.specs.List.{AllZip, sum_by}
-use Rattle.search_graph.specs.Below.{CxOf, DelegateOf, Fault, Memory, PathKind, Cache, KeepsFinished, HasGraph, IsWhole, IsPlainTo, IsPlainValue, frames_within, KeepsResults, verdicts}
-use Rattle.search_parts.specs.declared.context.Answer.{Answer}
-use Rattle.search_graph.specs.Graph.{IsProved, IsRefuted, IsCaused}
+use Rattle.search_graph.specs.Below.{AreDefinite, CxOf, DelegateOf, Fault, HaveNoOverflow, IsDecisive, IsDefinite, IsPaid, Memory, PathKind, Cache, KeepsFinished, HasGraph, IsWhole, IsPlainTo, IsPlainValue, frames_within, KeepsResults, verdicts}
+use Rattle.search_context.specs.declared.context.Answer.{Answer}
+use Rattle.search_rules.specs.Claims.{IsProved, IsRefuted, IsCaused}
 
 -- the new list has the items of the old one, and then one for each query, in order, of which this holds
 pub record AppendsEach {Q A : Type 0} (Holds : Q → A → Type 0) (queries : List Q) (old new : List A) : Type 0 where
@@ -39,3 +39,21 @@ module _ {D C V P F I R A T : Type 0} (G : DelegateOf D C V P F I R A T) (X : Cx
     pub no : IfOk answer (λ a. X.is_no a.result ≡ true → IsRefuted X cache query.1 a.node)
     pub neither : IfOk answer (λ a. X.is_yes a.result ≡ false → X.is_no a.result ≡ false → a.node ≡ None)
     pub whole : IfOk answer (λ a. IfSome a.node (λ node. IsWhole cache.nodes node.0))
+
+module _ {D C V P F I R A T : Type 0} (G : DelegateOf D C V P F I R A T) (X : CxOf C I R A T) (same : I → I → Bool) where
+  -- one of the queries paid the price of a limit, while the starts rose to `now`
+  pub record HasPaid (queries : List (ℕ × I × PathKind)) (before now : ℕ) : Type 0 where
+    pub at : ℕ
+    pub query : ℕ × I × PathKind
+    pub is_at : slice_get queries at ≡ Some query
+    pub paid : IsPaid (max 1 G.FIXPOINT_STEP_LIMIT) query.0 G.last before now
+
+  -- Whether a limit was met while the queries were answered. Until one is, a decisive delegate's answers and stored results are yes
+  -- or no, and no result is stored that met overflow. One that is met is paid for.
+  pub record HasLimits (queries : List (ℕ × I × PathKind)) (old new : Cache C I R A T) (before now : ℕ) (answers_old answers_new : List (Result (Answer R) (Fault I R))) : Type 0 where
+    pub met : Bool
+    pub decisive : IsDecisive (verdicts X) (G.script old.cx) → AreDefinite (verdicts X) same old.results → met ≡ false → AreDefinite (verdicts X) same new.results
+    pub decided : IsDecisive (verdicts X) (G.script old.cx) → AreDefinite (verdicts X) same old.results → met ≡ false
+        → (at : ℕ) (answer : Answer R) → length answers_old ≤ at → slice_get answers_new at ≡ Some (Ok answer) → IsDefinite (verdicts X) answer.result
+    pub no_overflow : G.counts ≡ true → HaveNoOverflow same old.results → met ≡ false → HaveNoOverflow same new.results
+    pub price : G.counts ≡ true → HaveNoOverflow same old.results → met ≡ true → HasPaid queries before now

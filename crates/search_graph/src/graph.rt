@@ -1,22 +1,14 @@
 //! The search graph. A call has the goals under evaluation in one list and works through them in one loop,
 //! so that no depth of goals takes native stack.
 ghost use Rattle.std.specs.Prelude.{◌≡◌, ◌≤◌, ◌+◌, ℕ, Bool, true, false, None, IsTrue, IfOk, IfErr, IfSome, Ok, Err, [], ◌≢◌, max};
-ghost use Rattle.search_graph.specs.Below.{first_accepted, usable, IsPlainTo, IsPlainValue, frames_within, KeepsResults, Memory, Protocol, KeepsFinished, IsWhole, KeepsWhole, IsDecisive, IsDefinite, HasGraph, IsPaid, verdicts};
-ghost use Rattle.search_graph.specs.Words.{IsCaused, IsProved, IsRefuted, AreDefinite, HaveNoOverflow};
+ghost use Rattle.search_graph.specs.Below.{first_accepted, usable, IsPlainTo, IsPlainValue, frames_within, KeepsResults, Memory, Protocol, KeepsFinished, KeepsNodes, IsWhole, KeepsWhole, IsDecisive, IsDefinite, HasGraph, IsPaid, verdicts, Decides, IsRemembered, IsCaused, IsProved, IsRefuted, AreDefinite, HaveNoOverflow, StoresWithin};
 
 mod evaluate;
-mod evaluation;
 mod list;
-mod look_up;
-mod nodes;
-mod pop;
-mod question;
-mod rebase;
-mod rerun;
-mod run_end;
-mod store;
+mod proof_tree;
 
-use evaluation::Evaluation;
+use evaluate::evaluate;
+use search_moves::evaluation::Evaluation;
 use search_parts::context::{Answer, Cx, Delegate, Fault};
 use search_parts::global_cache::GlobalCache;
 use search_parts::parts::{AvailableDepth, CandidateHeadUsages};
@@ -81,13 +73,15 @@ impl<D: Delegate> SearchGraph<D> {
     /// The answer to a goal, evaluated over the cache's context, which is asked by a step of this kind. A
     /// definite answer names its node, the root of its graph in the cache's list.
     ///
-    /// The results of this goal and of those that it asks are stored in the cache, and used again. One that
-    /// rests on a goal under evaluation is a provisional entry until that is popped, if the delegate lets
-    /// such entries be used.
+    /// The results of this goal and of those that it asks are stored in the cache, and used again, unless the
+    /// builder records: it has to see each goal being worked out. One that rests on a goal under evaluation is a
+    /// provisional entry until that is popped, if the delegate lets such entries be used.
     ///
     /// `Fault::Memory` where a growth was refused or a frame answered `NoMemory`, `Fault::Protocol` where a
     /// frame's request came out of order, `Fault::Conflict` where a goal came to another result than the one
-    /// that is stored in the same place. After a fault the graph can be used again, the cache keeps every
+    /// that is stored in the same place, `Fault::Validation` where it did and the delegate has its stored results
+    /// validated. Such a goal is worked out once more, its scope is held meanwhile, and its result is compared with
+    /// the stored one instead of being stored; where it rests on a goal under evaluation nothing is compared. After a fault the graph can be used again, the cache keeps every
     /// result that it had and those that were stored since, and nodes that no answer reaches may stay in it.
     /// Ports `SearchGraph::evaluate_goal`.
     pub fn evaluate_goal(
@@ -136,14 +130,34 @@ impl<D: Delegate> SearchGraph<D> {
             self.new.limits_met ≡ false →
             AreDefinite (verdicts D.Cx.Cx) D.Cx.Input.eq cache.new.results }
 
-        // A goal that a stored result answers takes no memory and starts no frame.
-        ensures stored { IfSome (first_accepted (λ _. true)
+        // Together with the graphs that is a decision: the answer is yes if the goal has a proof graph at all, and no if
+        // it has a refutation graph.
+        ensures decides { IsDecisive (verdicts D.Cx.Cx) (D.script cache.old.cx) →
+            AreDefinite (verdicts D.Cx.Cx) D.Cx.Input.eq cache.old.results →
+            self.new.limits_met ≡ false →
+            IfOk result (λ answer. Decides D.Cx.Cx cache.old.cx input answer.result) }
+
+        // A goal that a stored result answers takes no memory and starts no frame, unless the builder records or the
+        // delegate has the result validated.
+        ensures stored { D.noop inspect.old ≡ true → D.scoped cache.old.cx input ≡ false →
+            IfSome (first_accepted (λ _. true)
             (usable D.Cx.Input.eq cache.old.results input self.old.root_depth)) (λ hit.
             (result ≡ Ok (record { result = hit.result; node = hit.node }))
             × (D.starts inspect.new ≡ D.starts inspect.old)
             × (self.new ≡ self.old) × (cache.new ≡ cache.old)) }
 
-        // A fault is want of memory, a request of some goal's script out of order, or another result that is stored.
+        // Where starts are counted, no result was stored that met overflow and no limit is met, the answer is stored, so
+        // the cache answers the same call from then on, unless the builder records or the delegate has the result validated.
+        ensures remembered { D.noop inspect.old ≡ true → D.scoped cache.old.cx input ≡ false →
+            D.counts ≡ true → HaveNoOverflow D.Cx.Input.eq cache.old.results →
+            self.old.limits_met ≡ false → self.new.limits_met ≡ false →
+            IfOk result (IsRemembered D.Cx.Input.eq cache.new.results input self.old.root_depth) }
+
+        // A builder that records leaves all stored results as they were.
+        ensures recorded { D.noop inspect.old ≡ false → cache.new.results ≡ cache.old.results }
+
+        // A fault is want of memory, a request of some goal's script out of order, another result that is stored, or one
+        // that a goal in a scope does not come to.
         ensures faults { IfErr result (IsCaused D.Delegate D.Cx.Cx D.Cx.Input.eq cache.new) }
 
         // The frames that are started are within a bound, and a limit has its price in frames. Until one is met, no
@@ -158,14 +172,29 @@ impl<D: Delegate> SearchGraph<D> {
             self.old.limits_met ≡ false → self.new.limits_met ≡ false →
             HaveNoOverflow D.Cx.Input.eq cache.new.results }
 
+        // No goal requires more than its depth: each stored result requires no more than the root depth, or as much as
+        // the one that stood in its place before.
+        ensures within { StoresWithin D.Cx.Input.eq self.old.root_depth cache.old.results
+            cache.new.results }
+
+        ensures at_least { D.starts inspect.old ≤ D.starts inspect.new }
+        ensures same_noop { D.noop inspect.new ≡ D.noop inspect.old }
         ensures same_depth { self.new.root_depth ≡ self.old.root_depth }
         ensures limits_stay { self.old.limits_met ≡ true → self.new.limits_met ≡ true }
         ensures same_context { cache.new.cx ≡ cache.old.cx }
         ensures kept_results { KeepsResults D.Cx.Input.eq cache.old.results cache.new.results }
         ensures kept { KeepsFinished cache.old.nodes cache.new.nodes }
+        // An open node stays open, too.
+        ensures kept_nodes { KeepsNodes cache.old.nodes cache.new.nodes }
     {
         let mut evaluation = Evaluation::<D>::new(self.alloc, self.root_depth, self.limits_met);
-        let outcome = evaluation.evaluate(cache, step_kind_from_parent, input, inspect);
+        let outcome = evaluate::<D>(
+            &mut evaluation,
+            cache,
+            step_kind_from_parent,
+            input,
+            inspect,
+        );
         self.limits_met = evaluation.limits_met;
         let answer = outcome?;
         cache.has_runs();

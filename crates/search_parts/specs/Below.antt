@@ -1,13 +1,7 @@
 -- What the crates below have, from one place.
-pub use Rattle.open_graphs.specs.Graph.{cycle_kind, go, Grown, IsClosedGraph, Neither, No, stay, Walk, Yes}
-pub use Rattle.cycle_heads.specs.Heads.{at_depth, depth_cmp, Heads, highest, joined_head, lowest, with_head}
-pub use Rattle.cycle_heads.specs.Path.{greater_kind, greatest_kind, is_coinductive, is_inductive, rank_of}
-pub use Rattle.cycle_heads.specs.Paths.{extended_by_each, kinds_in, path_of_no_step, union}
-unfoldable pub use Rattle.cycle_heads.specs.Paths.{extended}
-pub use Rattle.cycle_heads.specs.Usages.{has_usages, no_usages, other_usages}
-pub use Rattle.cycle_heads.specs.declared.depth.StackDepth.{StackDepth}
-pub use Rattle.cycle_heads.specs.declared.heads.CycleHead.{CycleHead}
-pub use Rattle.cycle_heads.specs.declared.path.PathKind.{PathKind}
-pub use Rattle.cycle_heads.specs.declared.path.PathKind.TheVariants.{Coinductive, ForcedAmbiguity, Inductive, Unknown}
-pub use Rattle.cycle_heads.specs.declared.path.PathsToNested.{PathsToNested}
-pub use Rattle.cycle_heads.specs.declared.usages.HeadUsages.{HeadUsages}
+pub use Rattle.search_context.specs.Graph.{IsProofGraph, IsRefutationGraph}
+pub use Rattle.search_context.specs.Verdicts.{verdicts}
+pub use Rattle.search_context.specs.declared.context.NodeId.{NodeId}
+pub use Rattle.global_cache.specs.Cache.{AreRuns, CacheNode, graph_nodes_of, IsNodeOf, KeepsFinished, KeepsGoals}
+pub use Rattle.global_cache.specs.Definite.{HasGraph}
+pub use Rattle.global_cache.specs.Shapes.{shapes_of}

@@ -4,7 +4,7 @@ ghost use Rattle.graph_check.specs.Below.{question_of, Fits};
 ghost use Rattle.graph_check.specs.Words.{nothing_replayed, replied, requested, is_orderly, ignored_by, counted_by, question_asked, questions_counted};
 
 use cycle_heads::path::PathKind;
-use search_parts::context::{Cx, Edge, NoMemory, Reply, Request};
+use search_context::context::{Cx, Edge, NoMemory, Reply, Request};
 use std::alloc::Global;
 use std::marker::Model;
 

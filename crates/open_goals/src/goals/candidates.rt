@@ -8,7 +8,7 @@ use crate::update;
 use search_parts::context::{Cx, NoMemory, Request};
 use search_parts::parts::{CandidateHeadUsages, StackDepth};
 
-impl<X: Cx, F: Drop> OpenGoals<X, F> {
+impl<X: Cx, F: Drop, S: Drop> OpenGoals<X, F, S> {
     /// Does what the newest goal's frame requested of its candidates; other requests change nothing. After a
     /// refusal the goals may only be cleared.
     pub fn note_candidate(&mut self, request: Request<X::Input, X::Result>) -> Result<(), NoMemory>

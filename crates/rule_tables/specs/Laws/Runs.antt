@@ -5,7 +5,7 @@ use Rattle.std.proofs.Common.{sym, ap, ap₂, ◌∙◌, subst, arith, nat_le, i
 use Rattle.std.proofs.lemmas.Bool.Decides.{eqb_tells}
 use Rattle.std.proofs.lemmas.List.Elements.{Contains-append_left, Contains-push}
 use Rattle.rule_tables.specs.Laws.Members.{Contains-from_slice_get, slice_get-from_Contains, Contains-mapped, Contains-filtered, before_end}
-use Rattle.search_parts.proofs.Graphs.{Contains-map}
+use Rattle.search_context.proofs.Graphs.{Contains-map}
 use Rattle.rule_tables.specs.Below.{PathKind, Request, Evaluate, EnterCandidate, FinishCandidate, Ignore, Done, Reply, Begin, Answer, Noted, Question, EndsIn, Asked, Progress, progress_with, progress_after, request_after, IsFitting, Fits, questions_answered, is_counted, is_ignored, open_candidate, Outcome, Yes, No, Maybe, Overflow, is_yes, is_no}
 use Rattle.rule_tables.specs.declared.rules.Goal.{Goal}
 use Rattle.rule_tables.specs.declared.rules.Asking.{Asking}

@@ -5,7 +5,7 @@ ghost use Rattle.rule_tables.specs.Words.{NamedQuestion, Statement, IsQuestion, 
 
 use crate::reading::question::{Question, question_of};
 use crate::reading::word::{Words, depth_of, is_name};
-use search_parts::context::NoMemory;
+use search_context::context::NoMemory;
 use std::alloc::{AllocError, AllocFailed, Global};
 
 /// What a line says.

@@ -1,8 +1,8 @@
 //! Queries that are answered one after another over one cache.
-ghost use Rattle.std.specs.Prelude.{◌≡◌, ◌≤◌, ◌<◌, ◌+◌, max, length, vec_len, vec_capacity, OnOk, OnErr};
-ghost use Rattle.search_graph.specs.Below.{KeepsFinished, KeepsWhole, frames_within, KeepsResults};
+ghost use Rattle.std.specs.Prelude.{◌≡◌, ◌≤◌, ◌<◌, ◌+◌, ◌∷◌, [], ℕ, All, false, max, length, vec_len, vec_capacity, OnOk, OnErr};
+ghost use Rattle.search_graph.specs.Below.{KeepsBuilder, KeepsFinished, KeepsNodes, KeepsWhole, frames_within, KeepsResults, StoresWithin};
 ghost use Rattle.search_graph.specs.Words.{HasAnswer, frames_for};
-ghost use Rattle.search_graph.specs.Lists.{AppendsEach, IsAnsweredQuery};
+ghost use Rattle.search_graph.specs.Lists.{AppendsEach, HasLimits, IsAnsweredQuery};
 
 use super::SearchGraph;
 use search_parts::context::{Answer, Cx, Delegate, Fault, NoMemory};
@@ -44,10 +44,28 @@ impl<D: Delegate> SearchGraph<D> {
         ensures frames { D.starts inspect.new ≤ D.starts inspect.old + frames_for
             (max 1 D.FIXPOINT_STEP_LIMIT) (D.width cache.old.cx) queries.now }
 
+        ensures at_least { D.starts inspect.old ≤ D.starts inspect.new }
+        ensures same_noop { D.noop inspect.new ≡ D.noop inspect.old }
+
+        // Until a limit is met, a decisive delegate's answers and stored results are yes or no, and no result is stored
+        // that met overflow; and a limit has its price in frames.
+        ensures limits { OnOk result (HasLimits D.Delegate D.Cx.Cx D.Cx.Input.eq queries.now
+            cache.old cache.new (D.starts inspect.old) (D.starts inspect.new)
+            answers.old.items answers.new.items) }
+
+        // Each stored result requires no more than the greatest of the depths, or as much as the one that stood in its
+        // place before.
+        ensures within { (depth : ℕ) → All (λ query. query.0 ≤ depth) queries.now →
+            StoresWithin D.Cx.Input.eq depth cache.old.results cache.new.results }
+
+        // A builder that records leaves all stored results as they were.
+        ensures recorded { D.noop inspect.old ≡ false → cache.new.results ≡ cache.old.results }
+
         ensures same_context { cache.new.cx ≡ cache.old.cx }
         ensures kept_results { KeepsResults D.Cx.Input.eq cache.old.results cache.new.results }
         ensures kept { KeepsFinished cache.old.nodes cache.new.nodes }
         ensures kept_whole { KeepsWhole cache.old.nodes cache.new.nodes }
+        ensures kept_nodes { KeepsNodes cache.old.nodes cache.new.nodes }
     {
         answers.reserve(queries.len())?;
         let alloc = *answers.allocator();
@@ -68,11 +86,17 @@ fn evaluate_query<D: Delegate>(
     inspect: &mut D::ProofTreeBuilder,
 ) -> Result<Answer<<D::Cx as Cx>::Result>, Fault<<D::Cx as Cx>::Input, <D::Cx as Cx>::Result>>
     ensures answered { HasAnswer D.Delegate D.Cx.Cx D.Cx.Input.eq cache.new query result }
+    ensures limits { HasLimits D.Delegate D.Cx.Cx D.Cx.Input.eq (query ∷ []) cache.old cache.new
+        (D.starts inspect.old) (D.starts inspect.new) [] (result ∷ []) }
+    ensures builder { KeepsBuilder D.starts D.noop inspect.old inspect.new }
     ensures frames { D.starts inspect.new ≤ D.starts inspect.old + frames_within
         (max 1 D.FIXPOINT_STEP_LIMIT) (D.width cache.old.cx) query.0 }
+    ensures within { StoresWithin D.Cx.Input.eq query.0 cache.old.results cache.new.results }
+    ensures recorded { D.noop inspect.old ≡ false → cache.new.results ≡ cache.old.results }
     ensures same_context { cache.new.cx ≡ cache.old.cx }
     ensures kept_results { KeepsResults D.Cx.Input.eq cache.old.results cache.new.results }
     ensures kept { KeepsFinished cache.old.nodes cache.new.nodes }
+    ensures kept_nodes { KeepsNodes cache.old.nodes cache.new.nodes }
 {
     let (root_depth, input, step_kind) = query;
     let mut graph = SearchGraph::<D>::new(alloc, root_depth);

@@ -4,8 +4,8 @@ use Rattle.std.proofs.lemmas.List.{length-map}
 use Rattle.std.proofs.lemmas.List.Elements.{All-weaker}
 use Rattle.std.proofs.lemmas.Option.{slice_get_read, same_Some}
 use Rattle.graph_check.specs.Below.{Edge, Node, HasGoal, goal_node_of, goal_nodes_of}
-use Rattle.search_parts.proofs.Copies.{HasEdge-within, node_with_edge}
-use Rattle.search_parts.proofs.Graphs.{HasGoal-within}
+use Rattle.search_context.proofs.Copies.{HasEdge-within, node_with_edge}
+use Rattle.search_context.proofs.Graphs.{HasGoal-within}
 use Rattle.graph_check.proofs.Places.{closed_at, edge_there}
 use Rattle.graph_check.proofs.InnerEdges.{leading_of, leading_passes}
 use Rattle.graph_check.proofs.cycles.has_inner_edge.Goals as goal

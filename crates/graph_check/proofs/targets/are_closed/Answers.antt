@@ -2,7 +2,7 @@ use Rattle.std.proofs.Common.{List, All, length, refl, sym, ◌∙◌, subst, ar
 use Rattle.std.proofs.lemmas.Bool.{false≢true}
 use Rattle.std.proofs.lemmas.Option.{slice_get_read, slice_get_within}
 use Rattle.graph_check.specs.Below.{Edge, HasGoal, goal_nodes_of}
-use Rattle.search_parts.proofs.Copies.{node_with_edge}
+use Rattle.search_context.proofs.Copies.{node_with_edge}
 use Rattle.graph_check.proofs.Places.{closed_at, closed_more}
 use Rattle.graph_check.proofs.targets.are_closed.Goals as goal
 

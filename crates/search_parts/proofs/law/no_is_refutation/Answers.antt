@@ -1,7 +1,8 @@
-use Rattle.search_parts.specs.Below.{Inductive, No}
-use Rattle.search_parts.proofs.Bridge.{graph_by_rule, no_sort}
+use Rattle.cycle_heads.specs.declared.path.PathKind.TheVariants.{Inductive}
+use Rattle.open_graphs.specs.Graph.{No}
+use Rattle.search_parts.specs.Below.{verdicts}
+use Rattle.global_cache.proofs.Bridge.{graph_by_rule, no_sort}
 use Rattle.search_parts.proofs.law.no_is_refutation.Goals as goal
-use Rattle.search_parts.specs.Words.{verdicts}
 
 pub returns : goal.returns
 returns g c = λ cx nodes root goal runs is graph.

@@ -1,6 +1,6 @@
-use Rattle.search_parts.proofs.Definites.{yes_is_shown, no_is_shown}
+use Rattle.global_cache.proofs.Definites.{yes_is_shown, no_is_shown}
 use Rattle.search_parts.proofs.law.result_is_shown.Goals as goal
-use Rattle.search_parts.specs.Words.{verdicts}
+use Rattle.search_parts.specs.Below.{verdicts}
 
 pub returns-clause-yes : goal.returns-clause-yes
 returns-clause-yes g c = λ cx nodes goal r node runs has is.

@@ -1,7 +1,8 @@
-use Rattle.search_parts.specs.Below.{Coinductive, Yes}
-use Rattle.search_parts.proofs.Bridge.{graph_by_rule, yes_sort}
+use Rattle.cycle_heads.specs.declared.path.PathKind.TheVariants.{Coinductive}
+use Rattle.open_graphs.specs.Graph.{Yes}
+use Rattle.search_parts.specs.Below.{verdicts}
+use Rattle.global_cache.proofs.Bridge.{graph_by_rule, yes_sort}
 use Rattle.search_parts.proofs.law.yes_is_proof.Goals as goal
-use Rattle.search_parts.specs.Words.{verdicts}
 
 pub returns : goal.returns
 returns g c = λ cx nodes root goal runs is graph.

@@ -1,5 +1,5 @@
 use Rattle.std.proofs.Common.{◌∙◌, [], Some, ap}
-use Rattle.search_parts.proofs.LastState.{length-change_last}
+use Rattle.search_stack.proofs.LastState.{length-change_last}
 use Rattle.open_goals.proofs.Changes.{state_changed}
 use Rattle.open_goals.proofs.goals.OpenGoals.enter_candidate.Goals as goal
 

@@ -1,5 +1,5 @@
 use Rattle.std.proofs.Common.{◌∙◌, None, IsSome, sym, ap, subst}
-use Rattle.search_parts.proofs.LastState.{length-change_last}
+use Rattle.search_stack.proofs.LastState.{length-change_last}
 use Rattle.open_goals.proofs.Changes.{state_changed}
 use Rattle.open_goals.proofs.CandidateMoves.{open_candidate, candidate_used}
 use Rattle.open_goals.proofs.goals.OpenGoals.finish_candidate.Goals as goal

@@ -1,5 +1,5 @@
 use Rattle.std.proofs.Common.{◌-◌, ◌∙◌, ap}
-use Rattle.search_parts.proofs.LastState.{length-change_last}
+use Rattle.search_stack.proofs.LastState.{length-change_last}
 use Rattle.open_goals.proofs.CandidateMoves.{some_counted, newest_counts, newest_ignores}
 use Rattle.open_goals.proofs.goals.OpenGoals.ignore_usages.Goals as goal
 

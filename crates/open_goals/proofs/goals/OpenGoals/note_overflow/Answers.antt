@@ -1,6 +1,6 @@
 use Rattle.std.proofs.Common.{◌∙◌, OnOk, refl, subst}
 use Rattle.open_goals.specs.Below.{JoinsPaths, path_of_no_step}
-use Rattle.search_parts.proofs.LastState.{length-change_last}
+use Rattle.search_stack.proofs.LastState.{length-change_last}
 use Rattle.open_goals.proofs.NestedGoals.{overflow_noted}
 use Rattle.open_goals.proofs.goals.OpenGoals.note_overflow.Goals as goal
 

@@ -1,5 +1,5 @@
 use Rattle.std.proofs.Common.{◌∙◌, OnOk, subst}
-use Rattle.search_parts.proofs.LastState.{length-change_last}
+use Rattle.search_stack.proofs.LastState.{length-change_last}
 use Rattle.open_goals.specs.Below.{hit_of}
 use Rattle.open_goals.specs.Words.{TakesNestedGoals}
 use Rattle.open_goals.proofs.NestedGoals.{stored_taken}

@@ -1,6 +1,6 @@
 use Rattle.std.proofs.Common.{◌-◌, ◌∙◌, ◌+◌, ◌<◌, ◌^◌, ◌||◌, false, [], Some, None, ap, sym, arith, length-set}
 use Rattle.std.proofs.lemmas.Grind.{common_steps}
-use Rattle.search_parts.proofs.LastState.{length-change_last}
+use Rattle.search_stack.proofs.LastState.{length-change_last}
 use Rattle.open_goals.specs.Words.{rerun_under, rerun_with}
 use Rattle.open_goals.proofs.Changes.{if_newest, newest_run, both_changed}
 use Rattle.open_goals.proofs.goals.OpenGoals.run_again.Goals as goal

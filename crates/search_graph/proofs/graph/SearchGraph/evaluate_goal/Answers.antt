@@ -1,11 +1,14 @@
-use Rattle.std.proofs.Common.{◌∙◌, Ok, true, false, refl}
-use Rattle.search_parts.proofs.Definites.{definite_is_whole}
-use Rattle.search_parts.proofs.Whole.{whole_stays}
-use Rattle.search_graph.proofs.moves.Loops.{call_of, call_begins, some_call_begins}
-use Rattle.search_graph.proofs.Promises.{call_is_stored, ended_plain, ended_within, ended_paid, stopped_within, stopped_paid, yes_is_proved, no_is_refuted, neither_is_none}
-use Rattle.search_graph.proofs.moves.Questions.{if_err_and, same_err}
+use Rattle.std.proofs.Common.{◌∙◌, ap, Ok, true, false, refl, subst}
+use Rattle.global_cache.proofs.Definites.{definite_is_whole}
+use Rattle.global_cache.proofs.Whole.{whole_stays}
+use Rattle.search_graph.proofs.Loops.{call_of, call_over, call_begins, call_over_begins, some_call_begins}
+use Rattle.search_graph.proofs.StoredDepths.{stores_within}
+use Rattle.search_graph.proofs.Promises.{call_is_stored, definite_decides, ended_plain, ended_within, ended_paid, stopped_within, stopped_paid}
+use Rattle.search_rules.proofs.Shown.{yes_is_proved, no_is_refuted, neither_is_none}
+use Rattle.search_rules.proofs.moves.Questions.{if_err_and, same_err}
 use Rattle.search_graph.proofs.graph.SearchGraph.evaluate_goal.Goals as goal
-use Rattle.search_graph.specs.Below.{verdicts}
+use Rattle.search_graph.specs.Below.{Decides, verdicts}
+use Rattle.search_rules.proofs.records.EarlierNodes.{nodes_of_earlier}
 
 -- ---- an answer
 
@@ -67,7 +70,7 @@ returns-clause-decisive_results g c = λ decisive all unmet.
 pub returns-clause-stored : goal.returns-clause-stored
 returns-clause-stored g c =
     rw (← c.self.view_is)
-    (call_is_stored _ c.self.inside.root_depth.0 _ _ c.self.inside.limits_met c.evaluate-outcome.new.self.limits_met c.args.cache.now c.evaluate-outcome.new.cache c.evaluate-outcome.result (Ok c.in_ok-answer.answer) c.in_ok-answer.was (rw c.new-evaluation.ensures.begins at c.evaluate-outcome.ensures.stored))
+    (call_is_stored _ c.self.inside.root_depth.0 _ _ c.self.inside.limits_met c.evaluate-outcome.new.evaluation.limits_met c.args.cache.now c.evaluate-outcome.new.cache c.evaluate-outcome.result (Ok c.in_ok-answer.answer) c.in_ok-answer.was (rw c.new-evaluation.ensures.begins at c.evaluate-outcome.ensures.stored))
 
 -- ---- a fault
 
@@ -112,7 +115,7 @@ returns-in_err-answer-clause-decisive_results g c = λ decisive all unmet.
 pub returns-in_err-answer-clause-stored : goal.returns-in_err-answer-clause-stored
 returns-in_err-answer-clause-stored g c =
     rw (← c.self.view_is)
-    (call_is_stored _ c.self.inside.root_depth.0 _ _ c.self.inside.limits_met c.evaluate-outcome.new.self.limits_met c.args.cache.now c.evaluate-outcome.new.cache c.evaluate-outcome.result c.from_residual.result (c.in_err-answer.was ∙ same_err c.from_residual.result c.in_err-answer.field-0.0 c.from_residual.ensures.1) (rw c.new-evaluation.ensures.begins at c.evaluate-outcome.ensures.stored))
+    (call_is_stored _ c.self.inside.root_depth.0 _ _ c.self.inside.limits_met c.evaluate-outcome.new.evaluation.limits_met c.args.cache.now c.evaluate-outcome.new.cache c.evaluate-outcome.result c.from_residual.result (c.in_err-answer.was ∙ same_err c.from_residual.result c.in_err-answer.field-0.0 c.from_residual.ensures.1) (rw c.new-evaluation.ensures.begins at c.evaluate-outcome.ensures.stored))
 
 pub returns-clause-no_overflow : goal.returns-clause-no_overflow
 returns-clause-no_overflow g c =
@@ -125,3 +128,47 @@ returns-in_err-answer-clause-no_overflow g c =
     let fits = c.new-evaluation.ensures.fits in
     rw (← c.self.view_is)
     (λ counted none unmet still. ((c.in_err-answer.ensures.stopped (call_of c.args.input c.self.inside.root_depth.0 (g.D.Delegate.starts c.args.inspect.now) c.self.inside.limits_met true false fits) (rw c.new-evaluation.ensures.begins (call_begins g.D.Delegate g.D.Cx.Cx c.args.cache.now.cx g.D.Cx.Input.PartialEq.eq c.args.input c.self.inside.root_depth.0 (g.D.Delegate.starts c.args.inspect.now) c.self.inside.limits_met fits c.args.cache.now.results true false (λ e. none) (λ e. absurd cc)))).store).overflow (counted, unmet, refl) still)
+
+-- ---- what a decisive delegate decides, and what is stored of an answer
+
+pub returns-clause-decides : goal.returns-clause-decides
+returns-clause-decides g c = λ decisive all unmet.
+    let fits = c.new-evaluation.ensures.fits in
+    let context = c.evaluate-outcome.ensures.keeps.context in
+    subst (λ cx. Decides g.D.Cx.Cx cx c.args.input c.in_ok-answer.answer.result) context
+    (definite_decides g.D.Delegate g.D.Cx.Cx c.evaluate-outcome.new.cache c.args.input c.in_ok-answer.answer.result c.in_ok-answer.answer.node
+    (yes_is_proved g.D.Delegate g.D.Cx.Cx c.evaluate-outcome.new.cache c.has_runs.ensures (g.met.D.Cx.Cx.clash c.evaluate-outcome.new.cache.cx) c.args.input c.in_ok-answer.answer.result c.in_ok-answer.answer.node c.in_ok-answer.ensures.has_graph (g.met.D.Delegate.yes_is_proved c.evaluate-outcome.new.cache.cx))
+    (no_is_refuted g.D.Delegate g.D.Cx.Cx c.evaluate-outcome.new.cache c.has_runs.ensures (g.met.D.Cx.Cx.clash c.evaluate-outcome.new.cache.cx) c.args.input c.in_ok-answer.answer.result c.in_ok-answer.answer.node c.in_ok-answer.ensures.has_graph (g.met.D.Delegate.no_is_refuted c.evaluate-outcome.new.cache.cx) (g.met.D.Cx.Cx.one_sort c.in_ok-answer.answer.result))
+    (((c.in_ok-answer.ensures.ended (call_of c.args.input c.self.inside.root_depth.0 (g.D.Delegate.starts c.args.inspect.now) c.self.inside.limits_met false true fits) (rw c.new-evaluation.ensures.begins (call_begins g.D.Delegate g.D.Cx.Cx c.args.cache.now.cx g.D.Cx.Input.PartialEq.eq c.args.input c.self.inside.root_depth.0 (g.D.Delegate.starts c.args.inspect.now) c.self.inside.limits_met fits c.args.cache.now.results false true (λ e. absurd cc) (λ e. all)))).ended).decided (decisive, refl) unmet))
+
+pub returns-clause-remembered : goal.returns-clause-remembered
+returns-clause-remembered g c =
+    let fits = c.new-evaluation.ensures.fits in
+    rw (← c.self.view_is)
+    (λ is_noop unscoped counted none unmet still. ((c.in_ok-answer.ensures.ended (call_of c.args.input c.self.inside.root_depth.0 (g.D.Delegate.starts c.args.inspect.now) c.self.inside.limits_met true false fits) (rw c.new-evaluation.ensures.begins (call_begins g.D.Delegate g.D.Cx.Cx c.args.cache.now.cx g.D.Cx.Input.PartialEq.eq c.args.input c.self.inside.root_depth.0 (g.D.Delegate.starts c.args.inspect.now) c.self.inside.limits_met fits c.args.cache.now.results true false (λ e. none) (λ e. absurd cc)))).remembered) (is_noop, unscoped) (counted, unmet, refl) still)
+
+pub returns-clause-kept_nodes : goal.returns-clause-kept_nodes
+returns-clause-kept_nodes g c =
+    nodes_of_earlier _ c.args.cache.now.nodes c.evaluate-outcome.new.cache.nodes (ap (λ e. e.goals) c.new-evaluation.ensures.begins) c.evaluate-outcome.ensures.keeps.earlier
+
+pub returns-in_err-answer-clause-kept_nodes : goal.returns-in_err-answer-clause-kept_nodes
+returns-in_err-answer-clause-kept_nodes g c =
+    nodes_of_earlier _ c.args.cache.now.nodes c.evaluate-outcome.new.cache.nodes (ap (λ e. e.goals) c.new-evaluation.ensures.begins) c.evaluate-outcome.ensures.keeps.earlier
+
+-- ---- how deep the stored results go
+
+pub returns-clause-within : goal.returns-clause-within
+returns-clause-within g c =
+    let fits = c.new-evaluation.ensures.fits in
+    let same = g.D.Cx.Input.PartialEq.eq in
+    rw (← c.self.view_is)
+    (stores_within same c.self.inside.root_depth.0 c.args.cache.now.results c.evaluate-outcome.new.cache.results
+    (c.in_ok-answer.ensures.ended (call_over same c.args.cache.now.results c.args.input c.self.inside.root_depth.0 (g.D.Delegate.starts c.args.inspect.now) c.self.inside.limits_met fits) (rw c.new-evaluation.ensures.begins (call_over_begins g.D.Delegate g.D.Cx.Cx c.args.cache.now.cx same c.args.input c.self.inside.root_depth.0 (g.D.Delegate.starts c.args.inspect.now) c.self.inside.limits_met fits c.args.cache.now.results))).store.within)
+
+pub returns-in_err-answer-clause-within : goal.returns-in_err-answer-clause-within
+returns-in_err-answer-clause-within g c =
+    let fits = c.new-evaluation.ensures.fits in
+    let same = g.D.Cx.Input.PartialEq.eq in
+    rw (← c.self.view_is)
+    (stores_within same c.self.inside.root_depth.0 c.args.cache.now.results c.evaluate-outcome.new.cache.results
+    (c.in_err-answer.ensures.stopped (call_over same c.args.cache.now.results c.args.input c.self.inside.root_depth.0 (g.D.Delegate.starts c.args.inspect.now) c.self.inside.limits_met fits) (rw c.new-evaluation.ensures.begins (call_over_begins g.D.Delegate g.D.Cx.Cx c.args.cache.now.cx same c.args.input c.self.inside.root_depth.0 (g.D.Delegate.starts c.args.inspect.now) c.self.inside.limits_met fits c.args.cache.now.results))).store.within)

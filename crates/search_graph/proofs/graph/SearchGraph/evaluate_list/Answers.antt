@@ -1,14 +1,33 @@
-use Rattle.std.proofs.Common.{◌+◌, ◌≤◌, max, take, ◌∙◌, subst, arith}
+use Rattle.std.proofs.Common.{rules, refl, ℕ, ◌+◌, ◌≤◌, ◌++◌, ◌∷◌, [], max, take, ap, sym, ◌∙◌, subst, arith}
 use Rattle.std.proofs.lemmas.Grind.{common_steps}
-use Rattle.std.proofs.lemmas.List.{take_all}
-use Rattle.search_graph.specs.Below.{frames_within}
-use Rattle.search_parts.proofs.Finished.{KeepsFinished-then}
-use Rattle.search_parts.proofs.Stores.{KeepsResults-then}
-use Rattle.search_parts.proofs.Whole.{whole_stays}
+use Rattle.std.proofs.lemmas.List.Elements.{All-get_or}
+use Rattle.std.proofs.lemmas.List.{append-nil, take_all, take_more}
+use Rattle.search_context.proofs.Builders.{builder_goes_on, builder_stays}
+use Rattle.search_graph.specs.Below.{frames_within, PathKind}
+use Rattle.global_cache.proofs.Finished.{KeepsFinished-same, KeepsFinished-then}
+use Rattle.global_cache.proofs.Stores.{KeepsResults-same, KeepsResults-then}
+use Rattle.global_cache.proofs.Whole.{whole_stays}
 use Rattle.search_graph.specs.Words.{HasAnswer}
-use Rattle.search_graph.specs.Lists.{AppendsEach, IsAnsweredQuery}
+use Rattle.search_graph.specs.Lists.{AppendsEach, HasLimits, IsAnsweredQuery}
+use Rattle.search_graph.proofs.ListLimits.{limits_more, no_limits}
 use Rattle.search_graph.proofs.ListAnswers.{AppendsEach-more, AppendsEach-weaker, sum_by-more, HasAnswer-kept, answer_is_shown}
+use Rattle.search_graph.proofs.StoredDepths.{StoresWithin-same, StoresWithin-then}
 use Rattle.search_graph.proofs.graph.SearchGraph.evaluate_list.Goals as goal
+
+pub loop-query-init : goal.loop-query-init
+loop-query-init g c = record {
+  answered = record { more = []; is = sym (append-nil c.reserve.new.self.items); each = tt };
+  room = search rules;
+  frames = omega arith;
+  same_context = refl;
+  kept_results = KeepsResults-same g.D.Cx.Input.PartialEq.eq c.args.cache.now.results c.args.cache.now.results refl;
+  within = λ depth fit. StoresWithin-same g.D.Cx.Input.PartialEq.eq depth c.args.cache.now.results;
+  kept = KeepsFinished-same c.args.cache.now.nodes c.args.cache.now.nodes refl;
+  kept_nodes = λ at node there. there;
+  builder = builder_stays g.D.Delegate.starts g.D.Delegate.noop c.args.inspect.now;
+  recorded = λ records. refl;
+  limits = no_limits g.D.Delegate g.D.Cx.Cx g.D.Cx.Input.PartialEq.eq c.args.cache.now (g.D.Delegate.starts c.args.inspect.now) c.reserve.new.self.items;
+}
 
 pub loop-query-preserved : goal.loop-query-preserved
 loop-query-preserved g c =
@@ -36,8 +55,23 @@ loop-query-preserved g c =
       frames = omega (arith, one_more, within, then.frames);
       same_context = now.same_context ∙ then.same_context;
       kept_results = KeepsResults-then same c.args.cache.now.results old.results new.results then.kept_results now.kept_results;
+      within = λ depth fit. StoresWithin-then same depth query.0 c.args.cache.now.results old.results new.results
+          (subst (λ (q : ℕ × _ × PathKind). q.0 ≤ depth) (sym c.query-item.is) (All-get_or (λ q. q.0 ≤ depth) queries at query below fit)) (then.within depth fit) now.within;
       kept = KeepsFinished-then c.args.cache.now.nodes old.nodes new.nodes then.kept now.kept;
+      kept_nodes = λ at node there. now.kept_nodes at node (then.kept_nodes at node there);
+      builder = builder_goes_on g.D.Delegate.starts g.D.Delegate.noop c.args.inspect.now c.loop-query.inspect c.evaluate_query-answer.new.inspect then.builder now.builder;
+      recorded = λ records. now.recorded (then.builder.same_noop ∙ records) ∙ then.recorded records;
+      limits =
+          subst (λ qs. HasLimits g.D.Delegate g.D.Cx.Cx same qs c.args.cache.now new (g.D.Delegate.starts c.args.inspect.now) (g.D.Delegate.starts c.evaluate_query-answer.new.inspect) answers c.push_reserved.new.self.items) (ap (λ q. take at queries ++ q ∷ []) c.query-item.is ∙ sym (take_more queries at query below))
+          (subst (λ items. HasLimits g.D.Delegate g.D.Cx.Cx same (take at queries ++ query ∷ []) c.args.cache.now new (g.D.Delegate.starts c.args.inspect.now) (g.D.Delegate.starts c.evaluate_query-answer.new.inspect) answers items) (sym c.push_reserved.ensures.items)
+          (limits_more g.D.Delegate g.D.Cx.Cx same (take at queries) query c.args.cache.now old new _ _ _ answers c.loop-query.answers.items c.evaluate_query-answer.result then.same_context then.builder.at_least now.builder.at_least then.limits now.limits));
     }
+
+pub returns-clause-limits : goal.returns-clause-limits
+returns-clause-limits g c =
+    let all = take_all c.loop-query.query-index c.args.queries.now c.loop-query-test.false in
+    let limits = subst (λ old. HasLimits g.D.Delegate g.D.Cx.Cx g.D.Cx.Input.PartialEq.eq (take c.loop-query.query-index c.args.queries.now) c.args.cache.now c.loop-query.cache (g.D.Delegate.starts c.args.inspect.now) (g.D.Delegate.starts c.loop-query.inspect) old c.loop-query.answers.items) c.reserve.ensures.items c.loop-query.invariant.limits in
+    subst (λ queries. HasLimits g.D.Delegate g.D.Cx.Cx g.D.Cx.Input.PartialEq.eq queries c.args.cache.now c.loop-query.cache (g.D.Delegate.starts c.args.inspect.now) (g.D.Delegate.starts c.loop-query.inspect) c.args.answers.now.items c.loop-query.answers.items) all limits
 
 pub returns-clause-kept_whole : goal.returns-clause-kept_whole
 returns-clause-kept_whole g c = whole_stays c.args.cache.now.nodes c.loop-query.cache.nodes c.loop-query.invariant.kept

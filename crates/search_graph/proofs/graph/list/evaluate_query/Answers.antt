@@ -1,9 +1,10 @@
-use Rattle.std.proofs.Common.{◌≡◌, ℕ, ◌≤◌, IfOk, IfErr, refl, sym, ap, subst}
-use Rattle.search_graph.specs.Below.{Memory, IsPlainTo, IsPlainValue}
-use Rattle.search_parts.proofs.Finished.{KeepsFinished-same}
-use Rattle.search_parts.proofs.Stores.{KeepsResults-same}
-use Rattle.search_graph.specs.Words.{IsCaused, HadCause}
+use Rattle.std.proofs.Common.{◌≡◌, ℕ, ◌≤◌, max, false, IfOk, IfErr, refl, sym, ap, subst}
+use Rattle.search_graph.specs.Below.{IsDefinite, IsPaid, verdicts, Memory, IsPlainTo, IsPlainValue, IsCaused, StoresWithin}
+use Rattle.global_cache.proofs.Finished.{KeepsFinished-same}
+use Rattle.global_cache.proofs.Stores.{KeepsResults-same}
+use Rattle.search_graph.specs.Words.{HadCause}
 use Rattle.search_graph.proofs.ListAnswers.{IfErr-weaker}
+use Rattle.search_graph.proofs.ListLimits.{only_answer}
 use Rattle.search_graph.proofs.graph.list.evaluate_query.Goals as goal
 
 pub returns-clause-answered : goal.returns-clause-answered
@@ -29,3 +30,28 @@ returns-clause-answered g c =
           })
           c.evaluate_goal.ensures.faults;
     }
+
+pub returns-clause-limits : goal.returns-clause-limits
+returns-clause-limits g c =
+    let depth : c.new-graph.result.root_depth ≡ c.args.query.0 = ap (λ graph. graph.root_depth) c.new-graph.ensures in
+    let fresh : c.new-graph.result.limits_met ≡ false = ap (λ graph. graph.limits_met) c.new-graph.ensures in
+    record {
+      met = c.evaluate_goal.new.self.limits_met;
+      decisive = c.evaluate_goal.ensures.decisive_results;
+      decided = λ decisive all unmet at answer beyond is. only_answer c.evaluate_goal.result (λ a. IsDefinite (verdicts g.D.Cx.Cx) a.result) (c.evaluate_goal.ensures.decisive decisive all unmet) at answer is;
+      no_overflow = λ counted none unmet. c.evaluate_goal.ensures.no_overflow counted none fresh unmet;
+      price = λ counted none met. record {
+        at = 0;
+        query = c.args.query;
+        is_at = refl;
+        paid = subst (λ root. IsPaid (max 1 g.D.Delegate.FIXPOINT_STEP_LIMIT) root g.D.Delegate.last (g.D.Delegate.starts c.args.inspect.now) (g.D.Delegate.starts c.evaluate_goal.new.inspect)) depth
+            (c.evaluate_goal.ensures.price counted none fresh met);
+      };
+    }
+
+pub returns-clause-builder : goal.returns-clause-builder
+returns-clause-builder g c = record { at_least = c.evaluate_goal.ensures.at_least; same_noop = c.evaluate_goal.ensures.same_noop }
+
+pub returns-clause-within : goal.returns-clause-within
+returns-clause-within g c =
+    subst (λ depth. StoresWithin g.D.Cx.Input.PartialEq.eq depth c.args.cache.now.results c.evaluate_goal.new.cache.results) (ap (λ graph. graph.root_depth) c.new-graph.ensures) c.evaluate_goal.ensures.within

@@ -1,0 +1,13 @@
+pub mod NodeLists
+pub mod Slots
+pub mod Bridge
+pub mod Definites
+pub mod FoundNodes
+pub mod HandedOut
+pub mod Whole
+pub mod ValidCopies
+pub mod Finished
+pub mod Stores
+pub mod Hits
+pub mod Stored
+pub mod Sound

@@ -1,0 +1,15 @@
+use Rattle.std.proofs.Common.{None, sym, ap, ◌∙◌}
+use Rattle.std.specs.Option.{option_copied, option_map}
+use Rattle.global_cache.specs.Words.{hit_of}
+use Rattle.global_cache.proofs.Hits.{finds_success, looks_up}
+use Rattle.global_cache.proofs.get.usable_result.Goals as goal
+
+pub returns-in-Some : goal.returns-in-Some
+returns-in-Some g c =
+    finds_success (g.T.NestedTest.accepts c.args.test.now) g.X.Input.PartialEq.eq c.args.results.now.entries c.args.input c.args.available.0 (option_copied c.get-success.result) (hit_of c.in-Some.hit)
+    c.get-success.ensures.value c.in-Some.ensures
+
+pub returns : goal.returns
+returns g c =
+    looks_up (g.T.NestedTest.accepts c.args.test.now) g.X.Input.PartialEq.eq c.args.results.now.entries c.args.input c.args.available.0 (option_copied c.get-success.result) (option_copied c.get-overflow.result) None (option_map hit_of c.use_overflow.result)
+    c.get-success.ensures.value c.get-overflow.ensures.value (sym (ap (option_map hit_of) c.in_default.is) ∙ c.use_success.ensures) c.use_overflow.ensures

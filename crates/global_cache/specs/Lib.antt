@@ -1,0 +1,12 @@
+pub mod Store
+pub mod Hits
+pub mod Cache
+pub mod HandedOut
+pub mod Found
+pub mod View
+pub mod Shapes
+pub mod Definite
+pub mod Stored
+pub mod Sound
+pub mod Below
+pub mod Words

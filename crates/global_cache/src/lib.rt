@@ -1,0 +1,94 @@
+//! What a search has between its calls: the runs that have ended, as the list of nodes that the graphs
+//! of its answers are made of, and the results of goals.
+//!
+//! | File of `specs/` | Has |
+//! |---|---|
+//! | `Cache`, `View`, `Sound` | what a cache holds, how its slots are seen as nodes, and what holds of every cache |
+//! | `HandedOut`, `Found` | which nodes have a graph to hand out, what that is a copy of, and how its nodes are found |
+//! | `Store`, `Hits` | the results that a cache stores, and which of them a look-up gives |
+//! | `Stored` | what each stored result is worth |
+//! | `Shapes`, `Definite` | the nodes as the theory of open graphs sees them, and the graph of a definite result |
+#![tactic(auto)]
+
+ghost use Rattle.std.specs.Prelude.{◌≡◌, []};
+ghost use Rattle.global_cache.specs.Below.{verdicts};
+ghost use Rattle.global_cache.specs.Words.{AreRuns, AreSoundResults};
+
+use search_context::context::{Cx, Delegate};
+use std::alloc::Global;
+use std::collections::HashMap;
+use std::marker::Model;
+
+mod found;
+pub mod get;
+mod graph;
+mod nodes;
+pub mod results;
+
+pub use get::{CacheData, NestedTest};
+use nodes::Slot;
+pub use results::{Place, StoredResult};
+
+/// The context of all searches over this cache, the nodes of their answers' graphs, and the results of
+/// goals. The list of nodes only grows, and a node that is finished never changes. Each result is right
+/// wherever it is used: what `insert` asks of it still holds. Ports `GlobalCache`.
+#[derive(Drop)]
+pub struct GlobalCache<D: Delegate> {
+    cx: D::Cx,
+    nodes: Vec<Slot<<D::Cx as Cx>::Input, <D::Cx as Cx>::Result>>,
+    results: HashMap<(<D::Cx as Cx>::Input, Place), StoredResult<D::Cx>>,
+}
+
+impl<D: Delegate> Model for GlobalCache<D> {
+    ghost use Rattle.std.specs.Prelude.{map};
+    ghost use Rattle.global_cache.specs.Cache.{Cache};
+    ghost use Rattle.global_cache.specs.Sound.{IsSoundCache};
+    ghost use Rattle.search_context.specs.Verdicts.{verdicts};
+    ghost use Rattle.global_cache.specs.View.{node_of};
+
+    ghost Value = { Cache D.Cx D.Cx.Input D.Cx.Result D.Cx.AmbiguityInfo D.Cx.DepNodeIndex };
+
+    ghost view = { λ c. record { cx = c.cx; nodes = map node_of c.nodes.items; results = c.results.entries } };
+
+    ghost invariant = { λ c. IsSoundCache D.Cx.Input.eq (verdicts D.Cx.Cx) D.script (record { cx = c.cx; nodes = map node_of c.nodes.items; results = c.results.entries }) };
+}
+
+impl<D: Delegate> GlobalCache<D> {
+    /// A cache without nodes and results. It takes no memory yet.
+    pub fn new(alloc: Global, cx: D::Cx) -> Self
+        ensures { result ≡ record { cx = cx; nodes = []; results = [] } }
+    {
+        GlobalCache {
+            cx,
+            nodes: Vec::new(alloc),
+            results: HashMap::new(alloc),
+        }
+    }
+
+    /// The context.
+    pub fn cx(&self) -> D::Cx
+        ensures { result ≡ self.now.cx }
+    {
+        self.cx
+    }
+
+    /// What the cache takes its memory from.
+    pub fn allocator(&self) -> Global {
+        *self.nodes.allocator()
+    }
+
+    /// Each node that is finished is a run of its goal.
+    pub fn has_runs(&self)
+        ensures { AreRuns (verdicts D.Cx.Cx) (D.script self.now.cx) self.now.nodes }
+    {
+        let _ = &self.nodes;
+    }
+
+    /// Each stored result has its graph, if it is yes or no, and is what its goal's rank allows.
+    pub fn has_sound_results(&self)
+        ensures { AreSoundResults D.Cx.Input.eq (verdicts D.Cx.Cx)
+            (D.script self.now.cx) self.now.nodes self.now.results }
+    {
+        let _ = &self.results;
+    }
+}

@@ -1,0 +1,95 @@
+//! The list of nodes: the runs of goals that have ended, which the graphs of answers are made of.
+ghost use Rattle.std.specs.Prelude.{◌≡◌, ◌∷◌, ◌++◌, [], length, IfOk, OnErr, IfSome};
+ghost use Rattle.std.specs.Option.{is_some, option_map};
+ghost use Rattle.global_cache.specs.Below.{verdicts};
+ghost use Rattle.global_cache.specs.Words.{open_node as new_node, open_goal, finished_node, with_run, IsRun, KeepsNodes, KeepsFinished, KeepsGoals, HasGrown, CanFinish, ended_run, node_of, run_of, ended_node};
+
+use crate::GlobalCache;
+use search_context::context::{Cx, Delegate, Edge, NoMemory, Node, NodeId, Reply};
+
+/// A place of the list of nodes.
+#[derive(Drop)]
+pub(super) enum Slot<I, R> {
+    /// The goal of a run that has not ended.
+    Open(I),
+    /// A run that has ended.
+    Finished(Node<I, R>),
+}
+
+impl<I: Copy, R: Drop> Slot<I, R> {
+    /// The node's goal.
+    fn input(&self) -> I
+        ensures { result ≡ (node_of self.now).goal }
+    {
+        match self {
+            Slot::Open(input) => *input,
+            Slot::Finished(node) => node.input,
+        }
+    }
+}
+
+impl<D: Delegate> GlobalCache<D> {
+    /// Appends an open node of the goal and answers its number, which counts from 0. `NoMemory` leaves
+    /// the cache as it was.
+    pub fn open_node(&mut self, input: <D::Cx as Cx>::Input) -> Result<NodeId, NoMemory>
+        ensures node { IfOk result (λ node. node.0 ≡ length self.old.nodes) }
+        ensures opened { IfOk result (λ _.
+            self.new ≡ record self.old { nodes = self.old.nodes ++ new_node input ∷ [] }) }
+        ensures refused { OnErr result (self.new ≡ self.old) }
+        ensures kept { KeepsNodes self.old.nodes self.new.nodes }
+        ensures goals { KeepsGoals self.old.nodes self.new.nodes }
+        ensures grown { HasGrown (verdicts D.Cx.Cx) self.old.nodes self.new.nodes }
+    {
+        let node = NodeId(self.nodes.len());
+        self.nodes.push(Slot::Open(input))?;
+        Ok(node)
+    }
+
+    /// Whether the node is in the list and its run has not ended.
+    pub fn node_is_open(&self, node: NodeId) -> bool
+        ensures { result ≡ is_some (open_goal self.now.nodes node.0) }
+    {
+        matches!(self.nodes.get(node.0), Some(Slot::Open(_)))
+    }
+
+    /// Ends the run of an open node. The replies stand in their order, the oldest first. The edges are
+    /// the questions that a definite result rests on, in the order of asking. It takes no memory.
+    pub fn finish_node(
+        &mut self,
+        node: NodeId,
+        replies: Vec<Reply<<D::Cx as Cx>::Result>>,
+        edges: Vec<Edge<<D::Cx as Cx>::Input>>,
+        outcome: <D::Cx as Cx>::Result,
+    )
+        requires { CanFinish (verdicts D.Cx.Cx) (D.script self.old.cx) self.old.nodes node.0
+            (ended_run replies.items edges.items outcome) }
+        ensures ended { self.new ≡ record self.old {
+          nodes = with_run self.old.nodes node.0 (ended_run replies.items edges.items outcome);
+        } }
+        ensures kept { KeepsFinished self.old.nodes self.new.nodes }
+        ensures goals { KeepsGoals self.old.nodes self.new.nodes }
+        ensures grown { HasGrown (verdicts D.Cx.Cx) self.old.nodes self.new.nodes }
+    {
+        let input = self.nodes[node.0].input();
+        self.nodes[node.0] = Slot::Finished(Node {
+            input,
+            replies,
+            edges,
+            result: outcome,
+        });
+    }
+
+    /// The node, if it is in the list and its run has ended: a run of its goal.
+    pub fn node(&self, node: NodeId) -> Option<&Node<<D::Cx as Cx>::Input, <D::Cx as Cx>::Result>>
+        ensures lent { option_map (λ n. ended_node n.now) result
+            ≡ finished_node self.now.nodes node.0 }
+        ensures is_run { IfSome result (λ n.
+            IsRun (verdicts D.Cx.Cx) (D.script self.now.cx n.now.input) self.now.nodes
+            (run_of n.now)) }
+    {
+        match self.nodes.get(node.0)? {
+            Slot::Open(_) => None,
+            Slot::Finished(finished) => Some(finished),
+        }
+    }
+}

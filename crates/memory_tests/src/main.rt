@@ -1,0 +1,164 @@
+//! Tests of what happens where memory is out. The program reads inputs of the programs, asks their questions twice and
+//! between that at another depth, and says what they come to. Any one of its requests for memory may be refused: then a
+//! question may meet a fault, but it leaves all as it was, and is answered as ever when it is asked again. `tests/memory`
+//! refuses the requests one after the other.
+//!
+//! The tests beside it have frames that are refused memory, and what needs none.
+#![tactic(auto)]
+
+mod alike;
+mod asked;
+mod failed;
+#[cfg(test)]
+mod frames;
+#[cfg(test)]
+mod nothing;
+mod refusing;
+mod soak;
+mod stored;
+mod told;
+
+use alike::write_alike;
+use asked::answers_of;
+use delegate_parts::Outcome;
+use failed::Failed;
+use rule_tables::delegate::Table;
+use rule_tables::{Rules, TableDelegate};
+use soak::{Chance, Tally, soak_table};
+use std::alloc::{AllocError, Global};
+use std::io;
+use std::io::{BufWriter, Read, Write};
+use std::rt::Clock;
+use std::test::Fail;
+use std::time::Instant;
+use told::check_text;
+
+/// The byte between two inputs.
+const BETWEEN: u8 = 0x1e;
+
+/// Room for the input, so that reading takes no more memory.
+const ROOM: usize = 1 << 20;
+
+fn main(rt: HostRuntime) -> Result<(), Fail> {
+    let mut input = room(rt.alloc())?;
+    rt.stdin().read_to_end(&mut input)?;
+    for run in input.as_slice().split(|byte| *byte == BETWEEN) {
+        let (head, text) = head_of(run);
+        if let Some(words) = head.strip_prefix(b"soak ") {
+            soak_for(&rt, words)?;
+            continue;
+        }
+        if let Some(words) = head.strip_prefix(b"alike ") {
+            let mut out = BufWriter::new(rt.alloc(), io::writer(&rt))?;
+            write_alike(&mut out, number_in(words)?)?;
+            out.flush()?;
+            continue;
+        }
+        let found = match answers_in(rt.alloc(), head, text) {
+            // What the check itself takes was refused. It is the one request that is.
+            Err(Failed::Memory) => answers_in(rt.alloc(), head, text),
+            found => found,
+        };
+        match found {
+            Ok(answers) => {
+                for answer in &answers {
+                    print!(rt; "{answer} ")?;
+                }
+                println!(rt; ".")?;
+            }
+            Err(Failed::Malformed) => println!(rt; "malformed")?,
+            Err(Failed::Wrong(otherwise)) => println!(rt; "wrong: {otherwise}")?,
+            Err(Failed::Memory) => println!(rt; "wrong: refused twice")?,
+        }
+    }
+    Ok(())
+}
+
+/// Asks random tables for as many seconds as the first number says, with the second one as the seed, and tells every second
+/// what came of it. The first thing that is wrong ends it.
+fn soak_for(rt: &(impl AllocGlobal + Clock + Print), words: &[u8]) -> Result<(), Fail> {
+    let end = words
+        .iter()
+        .position(|byte| *byte == b' ')
+        .ok_or("no seed")?;
+    let (seconds, seed) = words.split_at_checked(end).ok_or("no seed")?;
+    let seconds = number_in(seconds)?;
+    let mut chance = Chance::new(number_in(seed)?);
+    let mut tally = Tally::default();
+    let start = Instant::now(rt)?;
+    let mut told = 0u64;
+    for table in 1..u64::MAX {
+        soak_table(rt.alloc(), &mut chance, &mut tally)?;
+        let now = start.elapsed(rt)?.as_secs();
+        if now > told {
+            told = now;
+            let Tally {
+                questions,
+                checked,
+                refused,
+                frames,
+            } = tally;
+            println!(rt;
+                "{now} s: {table} tables, {questions} questions, {frames} frames; {checked} answers checked, {refused} refused"
+            )?;
+        }
+        if now >= seconds {
+            break;
+        }
+    }
+    Ok(())
+}
+
+/// The number that the word is.
+fn number_in(word: &[u8]) -> Result<u64, Fail> {
+    let word = std::str::from_utf8(word).map_err(|_| "no text")?;
+    Ok(word.trim().parse::<u64>().map_err(|_| "no number")?)
+}
+
+/// Room for the input.
+fn room(alloc: Global) -> Result<Vec<u8>, AllocError> {
+    match Vec::with_capacity(alloc, ROOM) {
+        Ok(room) => Ok(room),
+        Err(_) => Vec::with_capacity(alloc, ROOM),
+    }
+}
+
+/// The first line and the others.
+fn head_of(run: &[u8]) -> (&[u8], &[u8]) {
+    match run.iter().position(|byte| *byte == b'\n') {
+        Some(end) => {
+            let (head, rest) = run.split_at_checked(end).unwrap_or((run, &[]));
+            (head, rest.get(1..).unwrap_or(&[]))
+        }
+        None => (run, &[]),
+    }
+}
+
+/// What the questions of a text come to, with the options that the head names, and whether the program says the same.
+fn answers_in(alloc: Global, head: &[u8], text: &[u8]) -> Result<Vec<Outcome>, Failed> {
+    match head {
+        b"limit 0" => answers_with::<0, 1>(alloc, text),
+        b"limit 1" => answers_with::<1, 1>(alloc, text),
+        b"limit 2" => answers_with::<2, 1>(alloc, text),
+        b"limit 3" => answers_with::<3, 1>(alloc, text),
+        b"limit 8" => {
+            check_text(alloc, text)?;
+            answers_with::<8, 1>(alloc, text)
+        }
+        b"limit 0 provisional off" => answers_with::<0, 0>(alloc, text),
+        b"limit 1 provisional off" => answers_with::<1, 0>(alloc, text),
+        b"limit 2 provisional off" => answers_with::<2, 0>(alloc, text),
+        b"limit 3 provisional off" => answers_with::<3, 0>(alloc, text),
+        b"limit 8 provisional off" => answers_with::<8, 0>(alloc, text),
+        _ => Err(Failed::Wrong("other options")),
+    }
+}
+
+fn answers_with<const LIMIT: usize, const PROVISIONAL: usize>(
+    alloc: Global,
+    text: &[u8],
+) -> Result<Vec<Outcome>, Failed> {
+    let rules = Rules::read(alloc, text)?;
+    let cx = Table { lender: &rules };
+    answers_of::<Table<&Rules>, TableDelegate<'_, LIMIT, PROVISIONAL>>(alloc, cx, &rules)
+}

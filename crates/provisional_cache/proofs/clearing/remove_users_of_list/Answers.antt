@@ -1,0 +1,7 @@
+use Rattle.std.proofs.Common.{not, rules, tests}
+use Rattle.std.proofs.lemmas.Fn.{filter_same}
+use Rattle.provisional_cache.specs.Words.{depends_on}
+use Rattle.provisional_cache.proofs.clearing.remove_users_of_list.Goals as goal
+
+pub returns-clause-others : goal.returns-clause-others
+returns-clause-others g c = filter_same _ (λ entry. not (depends_on c.args.depth entry)) _ (λ x b f' called. search (rules, tests)) _ _ c.retain.ensures.filtered

@@ -1,0 +1,6 @@
+pub mod Provisional
+pub mod Reuse
+pub mod Rebasing
+pub mod EntryChange
+pub mod Below
+pub mod Words

@@ -1,0 +1,10 @@
+pub mod Question
+pub mod Run
+pub mod Graph
+pub mod Rank
+pub mod Delegate
+pub mod Valid
+pub mod Verdicts
+pub mod Decisive
+pub mod Below
+pub mod Words

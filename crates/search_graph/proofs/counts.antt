@@ -1,4 +1,0 @@
--- What a goal counts of the goals on the stack.
-pub mod Tallies
-pub mod TakenTallies
-pub mod IgnoredTallies

@@ -1,5 +1,0 @@
--- The goals under evaluation stay justified.
-pub mod Justified
-pub mod Replies
-pub mod Finishing
-pub mod Noted

@@ -1,4 +1,0 @@
--- What the record of a run says.
-pub mod Verdicts
-pub mod ProgressLaws
-pub mod ProgressEdges

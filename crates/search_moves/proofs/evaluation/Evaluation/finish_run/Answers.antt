@@ -1,0 +1,193 @@
+use Rattle.search_moves.proofs.Remembering.{met_remembers, remembered}
+use Rattle.search_moves.proofs.Said.{done_keeps, end_leaves, met_keeps_answers, rerun_keeps}
+use Rattle.std.proofs.Common.{rules, Err, Ok, Some, ◌≡◌, true, refl, sym, ap, ap₂, subst, ◌∙◌}
+use Rattle.search_moves.specs.Below.{Again, AtLimit, IsEndOfRun, Memory, Overflow, Step, verdict_of, verdicts, CallGoesOn, KeepsAnswers, KeepsStore}
+use Rattle.search_moves.specs.Words.{HadMostRuns, IsDone, IsRunAgain, LeadsTo, Pops, StopsWith}
+use Rattle.search_rules.proofs.justified.Finishing.{neither_is}
+use Rattle.search_rules.proofs.moves.Moves.{asked_stopped_by, can_leave, ends_newest, failed_rerun_stopped, leave_leads, limited_leads, limited_stopped, rerun_goes_on}
+use Rattle.search_rules.proofs.moves.Questions.{if_err_and, if_ok_then, no_ok}
+use Rattle.search_rules.proofs.moves.DoneRuns.{limit_comes, limited_plain, memory_alone, met_keeps, newest_comes, newest_plain, newest_within, put_keeps, stopped_by, stopped_each}
+use Rattle.search_rules.proofs.Reasons.{newest_reason, newest_unranked}
+use Rattle.search_rules.proofs.moves.EndOfRunLaws.{limited, unstable, newest_limited, newest_unstable}
+use Rattle.search_context.proofs.Builders.{builder_stays}
+use Rattle.search_moves.proofs.LimitsAtEnd.{meets_at_end, or_met, or_not}
+use Rattle.search_rules.specs.Fates.{Untouched}
+use Rattle.search_moves.proofs.evaluation.Evaluation.finish_run.Goals as goal
+
+-- ---- its result stands
+
+pub pop_goal-requires : goal.pop_goal-requires
+pop_goal-requires g c = record {
+  leaves = can_leave g.D.Delegate g.D.Cx.Cx c.args.cache.now.cx c.requires.call c.requires.ahead c.args.outcome c.args.self.now.goals _ _ c.requires.asked;
+  ends = λ definite. ends_newest g.D.Delegate g.D.Cx.Cx c.args.cache.now.cx c.requires.call c.requires.ahead c.args.outcome c.args.self.now.goals _ _ c.requires.asked;
+  comes = newest_comes g.D.Delegate g.D.Cx.Cx c.args.cache.now.cx c.requires.call c.requires.ahead c.args.outcome _ _ (g.D.Delegate.fixpoint_overflow c.args.cache.now.cx) c.args.self.now.goals c.requires.asked;
+  plain = newest_plain g.D.Delegate g.D.Cx.Cx c.args.cache.now.cx c.requires.call c.requires.ahead c.args.outcome _ _ c.args.self.now.goals c.requires.asked;
+  is_reason = newest_reason (verdicts g.D.Cx.Cx) g.D.Cx.Result.PartialEq.eq g.met.D.Cx.Cx.same_result g.D.Delegate.initial_kind g.met.D.Delegate.recognised_sort g.D.Delegate.ambiguity g.D.Delegate.FIXPOINT_STEP_LIMIT c.last_run.result.now.finished_runs c.args.self.now.goals c.last_entry.result.now c.args.outcome c.end_of_run.result c.in-Ok.reason c.last_entry.ensures c.end_of_run.ensures.is_end c.in-Ok.is;
+  unranked = newest_unranked g.D.Delegate g.D.Cx.Cx c.args.cache.now.cx c.requires.call c.requires.ahead c.args.outcome _ _ c.args.self.now.goals c.requires.asked;
+  right = c.requires.right;
+  expected = c.requires.expected;
+}
+
+pub returns-in-Ok-clause-moves : goal.returns-in-Ok-clause-moves
+returns-in-Ok-clause-moves g c = record {
+  leads = λ call ahead h.
+      if_ok_then c.pop_goal.result _ _ c.pop_goal.ensures.popped
+      (λ next p.
+      subst (λ after. LeadsTo g.D.Delegate g.D.Cx.Cx g.D.Cx.Input.PartialEq.eq c.args.cache.now.cx call ahead c.args.self.now.goals next c.pop_goal.new.cache after (g.D.Delegate.starts c.args.inspect.now)) (sym c.pop_goal.ensures.rest)
+      (record {
+        leads = leave_leads g.D.Delegate g.D.Cx.Cx c.args.cache.now.cx call ahead c.args.outcome c.args.outcome next c.args.self.now.goals c.pop_goal.new.self.goals _ _ refl p.left h.asked;
+        answers =
+            done_keeps g.D.Delegate g.D.Cx.Cx c.args.cache.now.cx call g.D.Cx.Input.PartialEq.eq ahead c.args.outcome _ _ _ c.in-Ok.reason
+            (end_leaves (verdicts g.D.Cx.Cx) g.D.Cx.Result.PartialEq.eq g.D.Delegate.initial_kind g.D.Delegate.ambiguity g.met.D.Delegate.ambiguous_is_neither g.D.Delegate.FIXPOINT_STEP_LIMIT c.last_entry.result.now.state.provisional_result c.last_entry.result.now.state.usages c.last_run.result.now.finished_runs c.args.outcome c.end_of_run.result c.in-Ok.reason c.end_of_run.ensures.is_end c.in-Ok.is)
+            g.met.D.Cx.Cx.same_input c.args.cache.now.results c.pop_goal.new.cache.results c.args.self.now.goals c.args.self.now.provisional c.pop_goal.new.self.provisional c.pop_goal.ensures.stored p.rebased h.asked h.answers;
+        remembered = remembered g.D.Delegate g.D.Cx.Cx c.args.cache.now.cx call g.D.Cx.Input.PartialEq.eq (g.D.Cx.Cx.token c.args.cache.now.cx) ahead c.args.outcome _ _ c.pop_goal.new.cache.results c.args.self.now.goals c.pop_goal.new.self.goals next c.requires.right.justified.tallies h.asked p.left p.stored;
+      }));
+  stops = λ call ahead h.
+      stopped_by c.pop_goal.result _ _
+      (λ fault plain.
+      subst (λ after. StopsWith g.D.Delegate g.D.Cx.Cx g.D.Cx.Input.PartialEq.eq c.args.cache.now.cx call fault c.pop_goal.new.cache after (g.D.Delegate.starts c.args.inspect.now)) (sym c.pop_goal.ensures.rest)
+      (record {
+        stopped = asked_stopped_by g.D.Delegate g.D.Cx.Cx c.args.cache.now.cx call ahead _ c.args.self.now.goals fault _ _ plain h.asked;
+        store = put_keeps g.D.Delegate g.D.Cx.Cx c.args.cache.now.cx call g.D.Cx.Input.PartialEq.eq g.met.D.Cx.Cx.same_input c.args.cache.now.results c.pop_goal.new.cache.results ahead c.args.outcome c.args.self.now.goals _ _ c.pop_goal.ensures.stored h.asked h.answers.store;
+      }))
+      (memory_alone g.D.Delegate g.D.Cx.Cx c.args.cache.now.cx call ahead c.args.outcome _ _ c.pop_goal.result Memory c.args.self.now.goals c.pop_goal.ensures.plain h.asked);
+}
+
+-- what becomes of the goal, whose run came to its result
+pub returns-in-Ok-clause-leads : goal.returns-in-Ok-clause-leads
+returns-in-Ok-clause-leads g c =
+    let ends = subst (λ end. IsEndOfRun g.D.Cx.Result.PartialEq.eq g.D.Delegate.initial_kind g.D.Delegate.ambiguity g.D.Delegate.FIXPOINT_STEP_LIMIT c.last_entry.result.now.state.provisional_result c.last_entry.result.now.state.usages c.last_run.result.now.finished_runs c.args.outcome end) c.in-Ok.is c.end_of_run.ensures.is_end in
+    if_ok_then c.pop_goal.result _ _ c.pop_goal.ensures.popped
+    (λ next pops.
+    IsDone c.last_entry.result.now c.last_run.result.now c.in-Ok.reason
+    (record { is_entry = c.last_entry.ensures; is_run = c.last_run.ensures; ends = ends })
+    pops (ap (λ e. e.limits_met) c.pop_goal.ensures.rest))
+
+-- ---- the goal had its most runs
+
+pub pop_goal-requires-in-Err-AtLimit : goal.pop_goal-requires-in-Err-AtLimit
+pop_goal-requires-in-Err-AtLimit g c = record {
+  leaves = can_leave g.D.Delegate g.D.Cx.Cx c.args.cache.now.cx c.requires.call c.requires.ahead c.args.outcome c.args.self.now.goals _ _ c.requires.asked;
+  ends = λ definite.
+      absurd (definite (ap (verdict_of (verdicts g.D.Cx.Cx)) c.fixpoint_overflow_result-overflow.ensures ∙ neither_is (verdicts g.D.Cx.Cx) (g.D.Delegate.fixpoint_overflow c.cx.result c.input-input.result) (g.met.D.Delegate.fixpoint_overflow_is_neither c.cx.result c.input-input.result)));
+  comes = limit_comes (g.D.Delegate.script c.args.cache.now.cx) (g.D.Delegate.fixpoint_overflow c.args.cache.now.cx) c.args.self.now.goals c.last_entry-in-Err-AtLimit.result.now c.fixpoint_overflow_result-overflow.result c.last_entry-in-Err-AtLimit.ensures (c.fixpoint_overflow_result-overflow.ensures ∙ ap₂ g.D.Delegate.fixpoint_overflow c.cx.ensures c.input-input.ensures);
+  plain = limited_plain g.D.Delegate g.D.Cx.Cx c.args.cache.now.cx c.requires.call c.requires.ahead c.args.outcome _ _ c.args.self.now.goals c.fixpoint_overflow_result-overflow.result (λ s below is. ((newest_limited c.args.self.now.goals c.last_entry.result.now c.last_run.result.now c.last_entry.ensures c.last_run.ensures g.D.Delegate.FIXPOINT_STEP_LIMIT (limited g.D.Cx.Result.PartialEq.eq g.D.Delegate.initial_kind g.D.Delegate.ambiguity g.D.Delegate.FIXPOINT_STEP_LIMIT c.last_entry.result.now.state.provisional_result c.last_entry.result.now.state.usages c.last_run.result.now.finished_runs c.args.outcome c.end_of_run.result c.end_of_run.ensures.is_end (c.in-Err-AtLimit.is ∙ ap Err c.in-Err-AtLimit.field-0-is))) s below is).0) c.requires.asked;
+  is_reason = search rules;
+  unranked = newest_unranked g.D.Delegate g.D.Cx.Cx c.args.cache.now.cx c.requires.call c.requires.ahead c.args.outcome _ _ c.args.self.now.goals c.requires.asked;
+  right = record { justified = c.requires.right.justified; free = c.requires.right.free; ready = c.requires.right.ready };
+  expected = c.requires.expected;
+}
+
+pub returns-in-Err-AtLimit-clause-moves : goal.returns-in-Err-AtLimit-clause-moves
+returns-in-Err-AtLimit-clause-moves g c = record {
+  leads = λ call ahead h.
+      if_ok_then c.pop_goal-in-Err-AtLimit.result _ _ c.pop_goal-in-Err-AtLimit.ensures.popped
+      (λ next p.
+      subst (λ after. LeadsTo g.D.Delegate g.D.Cx.Cx g.D.Cx.Input.PartialEq.eq c.args.cache.now.cx call ahead c.args.self.now.goals next c.pop_goal-in-Err-AtLimit.new.cache after (g.D.Delegate.starts c.args.inspect.now)) (sym c.pop_goal-in-Err-AtLimit.ensures.rest)
+      (record {
+        leads = limited_leads g.D.Delegate g.D.Cx.Cx c.args.cache.now.cx call ahead c.args.outcome c.fixpoint_overflow_result-overflow.result next c.args.self.now.goals c.pop_goal-in-Err-AtLimit.new.self.goals _ _ (newest_limited c.args.self.now.goals c.last_entry.result.now c.last_run.result.now c.last_entry.ensures c.last_run.ensures g.D.Delegate.FIXPOINT_STEP_LIMIT (limited g.D.Cx.Result.PartialEq.eq g.D.Delegate.initial_kind g.D.Delegate.ambiguity g.D.Delegate.FIXPOINT_STEP_LIMIT c.last_entry.result.now.state.provisional_result c.last_entry.result.now.state.usages c.last_run.result.now.finished_runs c.args.outcome c.end_of_run.result c.end_of_run.ensures.is_end (c.in-Err-AtLimit.is ∙ ap Err c.in-Err-AtLimit.field-0-is))) p.left h.asked;
+        answers = met_keeps_answers g.D.Delegate g.D.Cx.Cx c.args.cache.now.cx call g.D.Cx.Input.PartialEq.eq c.pop_goal-in-Err-AtLimit.new.cache.results c.pop_goal-in-Err-AtLimit.new.self.provisional (newest_within g.D.Delegate g.D.Cx.Cx c.args.cache.now.cx call g.D.Cx.Input.PartialEq.eq g.met.D.Cx.Cx.same_input c.args.cache.now.results c.pop_goal-in-Err-AtLimit.new.cache.results ahead c.args.outcome c.fixpoint_overflow_result-overflow.result c.args.self.now.goals _ _ c.pop_goal-in-Err-AtLimit.ensures.stored h.asked h.answers.store.within);
+        remembered = met_remembers next _ _ _;
+      }));
+  stops = λ call ahead h.
+      stopped_each c.pop_goal-in-Err-AtLimit.result _
+      (λ fault.
+      subst (λ after. StopsWith g.D.Delegate g.D.Cx.Cx g.D.Cx.Input.PartialEq.eq c.args.cache.now.cx call fault c.pop_goal-in-Err-AtLimit.new.cache after (g.D.Delegate.starts c.args.inspect.now)) (sym c.pop_goal-in-Err-AtLimit.ensures.rest)
+      (record {
+        stopped = limited_stopped g.D.Delegate g.D.Cx.Cx c.args.cache.now.cx call ahead c.args.outcome c.args.self.now.goals fault _ _ (newest_limited c.args.self.now.goals c.last_entry.result.now c.last_run.result.now c.last_entry.ensures c.last_run.ensures g.D.Delegate.FIXPOINT_STEP_LIMIT (limited g.D.Cx.Result.PartialEq.eq g.D.Delegate.initial_kind g.D.Delegate.ambiguity g.D.Delegate.FIXPOINT_STEP_LIMIT c.last_entry.result.now.state.provisional_result c.last_entry.result.now.state.usages c.last_run.result.now.finished_runs c.args.outcome c.end_of_run.result c.end_of_run.ensures.is_end (c.in-Err-AtLimit.is ∙ ap Err c.in-Err-AtLimit.field-0-is))) h.asked;
+        store = met_keeps g.D.Delegate g.D.Cx.Cx c.args.cache.now.cx call g.D.Cx.Input.PartialEq.eq c.pop_goal-in-Err-AtLimit.new.cache.results (newest_within g.D.Delegate g.D.Cx.Cx c.args.cache.now.cx call g.D.Cx.Input.PartialEq.eq g.met.D.Cx.Cx.same_input c.args.cache.now.results c.pop_goal-in-Err-AtLimit.new.cache.results ahead c.args.outcome c.fixpoint_overflow_result-overflow.result c.args.self.now.goals _ _ c.pop_goal-in-Err-AtLimit.ensures.stored h.asked h.answers.store.within);
+      }));
+}
+
+pub returns-in-Err-AtLimit-clause-leads : goal.returns-in-Err-AtLimit-clause-leads
+returns-in-Err-AtLimit-clause-leads g c =
+    let ends = subst (λ end. IsEndOfRun g.D.Cx.Result.PartialEq.eq g.D.Delegate.initial_kind g.D.Delegate.ambiguity g.D.Delegate.FIXPOINT_STEP_LIMIT c.last_entry.result.now.state.provisional_result c.last_entry.result.now.state.usages c.last_run.result.now.finished_runs c.args.outcome end) (c.in-Err-AtLimit.is ∙ ap Err c.in-Err-AtLimit.field-0-is) c.end_of_run.ensures.is_end in
+    let both : Some c.last_entry-in-Err-AtLimit.result.now ≡ Some c.last_entry.result.now = sym c.last_entry-in-Err-AtLimit.ensures ∙ c.last_entry.ensures in
+    let one : c.last_entry-in-Err-AtLimit.result.now ≡ c.last_entry.result.now = cc in
+    let overflow : c.fixpoint_overflow_result-overflow.result ≡ g.D.Delegate.fixpoint_overflow c.args.cache.now.cx c.last_entry.result.now.input =
+    c.fixpoint_overflow_result-overflow.ensures ∙ ap₂ g.D.Delegate.fixpoint_overflow c.cx.ensures (c.input-input.ensures ∙ ap (λ e. e.input) one) in
+    if_ok_then c.pop_goal-in-Err-AtLimit.result _ _ c.pop_goal-in-Err-AtLimit.ensures.popped
+    (λ next pops.
+    HadMostRuns c.last_entry.result.now c.last_run.result.now
+    (record { is_entry = c.last_entry.ensures; is_run = c.last_run.ensures; ends = ends })
+    (subst (λ r. Pops g.D.Delegate g.D.Cx.Cx g.D.Cx.Input.PartialEq.eq r (Some Overflow) c.args.cache.now (record c.args.self.now { limits_met = true }) next c.pop_goal-in-Err-AtLimit.new.cache c.pop_goal-in-Err-AtLimit.new.self) overflow pops)
+    (ap (λ e. e.limits_met) c.pop_goal-in-Err-AtLimit.ensures.rest))
+
+-- ---- it is run again
+
+pub returns-in_err-run_again-in-Err-Again-clause-moves : goal.returns-in_err-run_again-in-Err-Again-clause-moves
+returns-in_err-run_again-in-Err-Again-clause-moves g c = record {
+  leads = λ call ahead h. no_ok c.from_residual.result _ _ c.from_residual.ensures.1;
+  stops = λ call ahead h.
+      if_err_and c.from_residual.result _ _ c.from_residual.ensures.1
+      (λ e is.
+      subst (λ fault. StopsWith g.D.Delegate g.D.Cx.Cx g.D.Cx.Input.PartialEq.eq c.args.cache.now.cx call fault c.run_again.new.cache c.run_again.new.self (g.D.Delegate.starts c.run_again.new.inspect)) (sym is)
+      (subst (λ after. StopsWith g.D.Delegate g.D.Cx.Cx g.D.Cx.Input.PartialEq.eq c.args.cache.now.cx call Memory c.run_again.new.cache after (g.D.Delegate.starts c.run_again.new.inspect)) (sym c.run_again.ensures.rest)
+      (record {
+        stopped = failed_rerun_stopped g.D.Delegate g.D.Cx.Cx c.args.cache.now.cx call ahead c.args.outcome c.args.self.now.goals _ _ _ (λ s below is. ((newest_unstable c.args.self.now.goals c.last_entry.result.now c.last_run.result.now c.last_entry.ensures c.last_run.ensures g.D.Delegate.FIXPOINT_STEP_LIMIT (unstable g.D.Cx.Result.PartialEq.eq g.D.Delegate.initial_kind g.D.Delegate.ambiguity g.D.Delegate.FIXPOINT_STEP_LIMIT c.last_entry.result.now.state.provisional_result c.last_entry.result.now.state.usages c.last_run.result.now.finished_runs c.args.outcome c.end_of_run.result c.end_of_run.ensures.is_end (c.in-Err-Again.is ∙ ap Err c.in-Err-Again.field-0-is))) s below is).1) c.run_again.ensures.builder.at_least c.run_again.ensures.at_most h.asked;
+        store = subst (KeepsStore g.D.Delegate g.D.Cx.Cx c.args.cache.now.cx g.D.Cx.Input.PartialEq.eq call c.args.self.now.limits_met) (sym (ap (λ cache. cache.results) c.run_again.ensures.cache)) h.answers.store;
+      })));
+}
+
+pub returns-in_ok-run_again-in-Err-Again-clause-moves : goal.returns-in_ok-run_again-in-Err-Again-clause-moves
+returns-in_ok-run_again-in-Err-Again-clause-moves g c = record {
+  leads = λ call ahead h.
+      subst (λ after. LeadsTo g.D.Delegate g.D.Cx.Cx g.D.Cx.Input.PartialEq.eq c.args.cache.now.cx call ahead c.args.self.now.goals (Step c.without_node.result) c.run_again.new.cache after (g.D.Delegate.starts c.run_again.new.inspect)) (sym c.run_again.ensures.rest)
+      (record {
+        leads =
+            subst (λ given. CallGoesOn g.D.Delegate g.D.Cx.Cx c.args.cache.now.cx call ahead given.reply c.run_again.new.self.goals (g.D.Delegate.starts c.run_again.new.inspect) c.args.self.now.limits_met) (sym c.without_node.ensures)
+            (rerun_goes_on g.D.Delegate g.D.Cx.Cx c.args.cache.now.cx call ahead c.args.outcome c.args.self.now.goals c.run_again.new.self.goals _ _ c.args.self.now.limits_met (newest_unstable c.args.self.now.goals c.last_entry.result.now c.last_run.result.now c.last_entry.ensures c.last_run.ensures g.D.Delegate.FIXPOINT_STEP_LIMIT (unstable g.D.Cx.Result.PartialEq.eq g.D.Delegate.initial_kind g.D.Delegate.ambiguity g.D.Delegate.FIXPOINT_STEP_LIMIT c.last_entry.result.now.state.provisional_result c.last_entry.result.now.state.usages c.last_run.result.now.finished_runs c.args.outcome c.end_of_run.result c.end_of_run.ensures.is_end (c.in-Err-Again.is ∙ ap Err c.in-Err-Again.field-0-is))) c.run_again.ensures.at_most c.in_ok-run_again-in-Err-Again.ensures.counted c.in_ok-run_again-in-Err-Again.ensures.reran.reran h.asked);
+        answers =
+            subst (λ results. KeepsAnswers g.D.Delegate g.D.Cx.Cx c.args.cache.now.cx g.D.Cx.Input.PartialEq.eq call c.args.self.now.limits_met results c.run_again.new.self.provisional) (sym (ap (λ cache. cache.results) c.run_again.ensures.cache))
+            (rerun_keeps g.D.Delegate g.D.Cx.Cx c.args.cache.now.cx call g.D.Cx.Input.PartialEq.eq c.args.cache.now.results c.args.self.now.limits_met _ c.args.self.now.provisional c.run_again.new.self.provisional c.in_ok-run_again-in-Err-Again.ensures.reran.cleared h.answers);
+        remembered = tt;
+      });
+  stops = λ call ahead h. tt;
+}
+
+pub returns-in_ok-run_again-in-Err-Again-clause-leads : goal.returns-in_ok-run_again-in-Err-Again-clause-leads
+returns-in_ok-run_again-in-Err-Again-clause-leads g c =
+    let ends = subst (λ end. IsEndOfRun g.D.Cx.Result.PartialEq.eq g.D.Delegate.initial_kind g.D.Delegate.ambiguity g.D.Delegate.FIXPOINT_STEP_LIMIT c.last_entry.result.now.state.provisional_result c.last_entry.result.now.state.usages c.last_run.result.now.finished_runs c.args.outcome end) (c.in-Err-Again.is ∙ ap Err c.in-Err-Again.field-0-is) c.end_of_run.ensures.is_end in
+    IsRunAgain c.last_entry.result.now c.last_run.result.now
+    (record { is_entry = c.last_entry.ensures; is_run = c.last_run.ensures; ends = ends })
+    c.in_ok-run_again-in-Err-Again.ensures.reran (ap Step c.without_node.ensures) (ap (λ e. e.limits_met) c.run_again.ensures.rest)
+
+-- ---- whether a limit was met, and the builder
+
+pub returns-in-Ok-clause-meets : goal.returns-in-Ok-clause-meets
+returns-in-Ok-clause-meets g c =
+    meets_at_end c.last_entry.result.now c.last_run.result.now c.end_of_run.result
+    (record { is_entry = c.last_entry.ensures; is_run = c.last_run.ensures; ends = c.end_of_run.ensures.is_end })
+    (Ok c.in-Ok.reason) c.in-Ok.is _ (ap (λ e. e.limits_met) c.pop_goal.ensures.rest ∙ or_not c.args.self.now.limits_met)
+
+pub returns-in-Err-AtLimit-clause-meets : goal.returns-in-Err-AtLimit-clause-meets
+returns-in-Err-AtLimit-clause-meets g c =
+    meets_at_end c.last_entry.result.now c.last_run.result.now c.end_of_run.result
+    (record { is_entry = c.last_entry.ensures; is_run = c.last_run.ensures; ends = c.end_of_run.ensures.is_end })
+    (Err AtLimit) (c.in-Err-AtLimit.is ∙ ap Err c.in-Err-AtLimit.field-0-is) _ (ap (λ e. e.limits_met) c.pop_goal-in-Err-AtLimit.ensures.rest ∙ or_met c.args.self.now.limits_met)
+
+pub returns-in_err-run_again-in-Err-Again-clause-meets : goal.returns-in_err-run_again-in-Err-Again-clause-meets
+returns-in_err-run_again-in-Err-Again-clause-meets g c =
+    meets_at_end c.last_entry.result.now c.last_run.result.now c.end_of_run.result
+    (record { is_entry = c.last_entry.ensures; is_run = c.last_run.ensures; ends = c.end_of_run.ensures.is_end })
+    (Err Again) (c.in-Err-Again.is ∙ ap Err c.in-Err-Again.field-0-is) _ (ap (λ e. e.limits_met) c.run_again.ensures.rest ∙ or_not c.args.self.now.limits_met)
+
+pub returns-in_ok-run_again-in-Err-Again-clause-meets : goal.returns-in_ok-run_again-in-Err-Again-clause-meets
+returns-in_ok-run_again-in-Err-Again-clause-meets g c =
+    meets_at_end c.last_entry.result.now c.last_run.result.now c.end_of_run.result
+    (record { is_entry = c.last_entry.ensures; is_run = c.last_run.ensures; ends = c.end_of_run.ensures.is_end })
+    (Err Again) (c.in-Err-Again.is ∙ ap Err c.in-Err-Again.field-0-is) _ (ap (λ e. e.limits_met) c.run_again.ensures.rest ∙ or_not c.args.self.now.limits_met)
+
+pub returns-in-Ok-clause-builder : goal.returns-in-Ok-clause-builder
+returns-in-Ok-clause-builder g c = builder_stays g.D.Delegate.starts g.D.Delegate.noop c.args.inspect.now
+
+pub returns-in-Err-AtLimit-clause-builder : goal.returns-in-Err-AtLimit-clause-builder
+returns-in-Err-AtLimit-clause-builder g c = builder_stays g.D.Delegate.starts g.D.Delegate.noop c.args.inspect.now
+
+-- ---- the stored results
+
+pub returns-in_err-run_again-in-Err-Again-clause-changes : goal.returns-in_err-run_again-in-Err-Again-clause-changes
+returns-in_err-run_again-in-Err-Again-clause-changes g c = Untouched (ap (λ cache. cache.results) c.run_again.ensures.cache)
+
+pub returns-in_ok-run_again-in-Err-Again-clause-changes : goal.returns-in_ok-run_again-in-Err-Again-clause-changes
+returns-in_ok-run_again-in-Err-Again-clause-changes g c = Untouched (ap (λ cache. cache.results) c.run_again.ensures.cache)

@@ -1,0 +1,40 @@
+use Rattle.search_rules.proofs.rebasing.Lists.{headless}
+use Rattle.std.proofs.Common.{◌∷◌, [], ◌∙◌, sym, subst}
+use Rattle.search_moves.specs.Below.{ChangesNewest, IfCompared, entry_of, IsPlainAt, IsPlainValue, Memory}
+use Rattle.search_context.proofs.Ranks.{one_plain_value}
+use Rattle.search_moves.proofs.Storing.{equal_results, stores_entry, stores_none}
+use Rattle.search_moves.specs.Words.{Stores}
+use Rattle.provisional_cache.specs.Provisional.{AppendsEntry}
+use Rattle.search_rules.proofs.Fates.{storing_changes}
+use Rattle.search_moves.proofs.evaluation.Evaluation.store_answer.Goals.{then-ENABLE_PROVISIONAL_CACHE+in_ok-insert_entry, else-ENABLE_PROVISIONAL_CACHE}
+use Rattle.search_moves.proofs.evaluation.Evaluation.store_answer.Goals as goal
+
+pub store_for_good-requires-clause-no_heads : goal.store_for_good-requires-clause-no_heads
+store_for_good-requires-clause-no_heads g c = headless c.args.answer c.opt_highest_cycle_head_index.result c.opt_highest_cycle_head_index.ensures c.in_default.is
+
+pub returns-in-Stored-clause-changes : goal.returns-in-Stored-clause-changes
+returns-in-Stored-clause-changes g c = λ depth.
+    subst (λ f. ChangesNewest g.D.Cx.Input.PartialEq.eq (record { goal = c.args.input; depth = depth; fate = f } ∷ []) c.args.cache.now.results c.store_for_good.new.cache.results) (sym c.in-Stored.is)
+    (storing_changes g.D.Cx.Input.PartialEq.eq c.args.cache.now.results c.store_for_good.new.cache.results c.args.input depth c.args.answer c.store_for_good.ensures.stored)
+
+pub compare-requires-clause-no_heads : goal.compare-requires-clause-no_heads
+compare-requires-clause-no_heads g c = headless c.args.answer c.opt_highest_cycle_head_index.result c.opt_highest_cycle_head_index.ensures c.in_default.is
+
+-- the result is the one that is stored, if that is the plain one as it is
+pub returns-in-Compared-clause-plain : goal.returns-in-Compared-clause-plain
+returns-in-Compared-clause-plain g c = λ n plain success stored.
+    equal_results c.compare.result Memory c.args.answer.result c.in-Compared.stored
+    (one_plain_value (g.D.Delegate.script c.args.cache.now.cx) n c.args.input c.args.answer.result c.in-Compared.stored
+    (subst (λ place. IsPlainAt (g.D.Delegate.script c.args.cache.now.cx) c.args.input place c.args.answer.result) success c.requires.storable.plain n plain)
+    (subst (λ fate. IfCompared fate (IsPlainValue (g.D.Delegate.script c.args.cache.now.cx) n c.args.input)) c.in-Compared.is stored))
+    c.compare.ensures.differs
+
+pub returns-clause-stores : goal.returns-clause-stores
+returns-clause-stores g c =
+    elim c.if-ENABLE_PROVISIONAL_CACHE.branch [
+      | then-ENABLE_PROVISIONAL_CACHE+in_ok-insert_entry w ↦
+          subst (λ after. Stores g.D.Delegate g.D.Cx.Cx g.D.Cx.Input.PartialEq.eq c.args.step c.args.input c.args.answer c.args.fate c.args.self.now after c.args.cache.now) (sym w.self-is)
+          (stores_entry g.D.Delegate g.D.Cx.Cx g.D.Cx.Input.PartialEq.eq g.met.D.Cx.Cx.same_input c.args.step c.args.input c.args.answer c.args.fate c.args.self.now _ c.args.cache.now c.in-Some.head (sym c.in-Some.is ∙ c.opt_highest_cycle_head_index.ensures) (sym c.ENABLE_PROVISIONAL_CACHE.ensures ∙ w.if-ENABLE_PROVISIONAL_CACHE.true)
+          (subst (λ stack. AppendsEntry g.D.Cx.Input.PartialEq.eq c.args.self.now.provisional w.insert_entry.new.provisional c.args.input (entry_of stack c.in-Some.head.0 c.args.step c.args.answer)) w.stack-stack.ensures w.in_ok-insert_entry.ensures.kept))
+      | else-ENABLE_PROVISIONAL_CACHE w ↦ stores_none g.D.Delegate g.D.Cx.Cx g.D.Cx.Input.PartialEq.eq g.met.D.Cx.Cx.same_input c.args.step c.args.input c.args.answer c.args.fate c.args.self.now _ c.args.cache.now c.in-Some.head (sym c.in-Some.is ∙ c.opt_highest_cycle_head_index.ensures) (sym c.ENABLE_PROVISIONAL_CACHE.ensures ∙ w.if-ENABLE_PROVISIONAL_CACHE.false) w.self-is
+    ]

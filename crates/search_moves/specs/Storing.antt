@@ -1,0 +1,28 @@
+-- What is stored of a goal that is done.
+use Rattle.std.specs.Prelude.{◌≡◌, ◌&&◌, ◌++◌, if◌then◌else◌, Bool, [], map, reverse}
+use Rattle.search_moves.specs.Below.{DelegateOf, CxOf, Cache, EvaluationResult, HasGraph, IsPlainAt, KeepsResults, PathKind, entries_at, place_of, verdicts}
+use Rattle.search_moves.specs.declared.evaluation.Evaluation.{Evaluation}
+use Rattle.open_goals.specs.declared.goals.Fate.{Fate}
+use Rattle.open_goals.specs.declared.goals.Fate.TheVariants as becomes
+use Rattle.search_rules.specs.Claims.{ComesTo}
+use Rattle.search_rules.specs.Provisional.{entries_for}
+use Rattle.search_rules.specs.Results.{IsStored}
+
+-- of a cache only the stored results changed, and each is there still, or an equal one
+pub record ChangesResults {C I R A T : Type 0} (same : I → I → Bool) (old new : Cache C I R A T) : Type 0 where
+  pub rest : new ≡ record old { results = new.results }
+  pub kept : KeepsResults same old.results new.results
+
+module _ {D C V P F I R A T : Type 0} (G : DelegateOf D C V P F I R A T) (X : CxOf C I R A T) where
+  -- The goal's answer may be stored: it has its graph, if it rests on no goal; it is plain, where the goal has a rank; the goal came to it.
+  pub record IsStorable (cache : Cache C I R A T) (goal : I) (answer : EvaluationResult C I R A T) : Type 0 where
+    pub graph : answer.heads ≡ [] → HasGraph (verdicts X) cache.nodes goal answer.result answer.node
+    pub plain : IsPlainAt (G.script cache.cx) goal (place_of answer) answer.result
+    pub comes : ComesTo (G.script cache.cx) (G.fixpoint_overflow cache.cx) goal answer.result
+
+  -- The answer, which was asked over the step, is stored as it is, with the goal's token, if it rests on no goal and that is its fate; one that rests on goals is a
+  -- provisional entry of its goal, if the delegate lets such entries be used.
+  pub record Stores (same : I → I → Bool) (step : PathKind) (goal : I) (answer : EvaluationResult C I R A T) (fate : Fate R) (old new : Evaluation D C V P F I R A T) (cache : Cache C I R A T) : Type 0 where
+    pub stored : fate ≡ becomes.Stored → answer.heads ≡ [] → IsStored same (X.token cache.cx) cache.results goal answer
+    pub entry : (other : I) → entries_at same new.provisional other
+        ≡ entries_at same old.provisional other ++ (if G.ENABLE_PROVISIONAL_CACHE && same goal other then entries_for (reverse (map (λ s. s.0) old.goals)) step answer else [])

@@ -1,0 +1,17 @@
+//! The moves of an evaluation: a goal asks, and its question is answered or a goal is pushed; its run ends, and it is
+//! run again or popped; its result is stored.
+//!
+//! | File of `specs/` | Has |
+//! |---|---|
+//! | `Evaluations` | what holds of an evaluation between two of its moves, and what the moves lead to |
+//! | `Asked` | what a question comes to |
+//! | `RunEnded` | what the end of a run leads to |
+//! | `RunAgain`, `Popped`, `Storing` | a goal is run again, popped, and stored |
+#![tactic(auto)]
+
+pub mod evaluation;
+mod pop;
+mod question;
+mod rerun;
+mod run_end;
+mod store;

@@ -1,0 +1,96 @@
+//! A goal is popped, with its result.
+ghost use Rattle.std.specs.Prelude.{◌≡◌, ◌<◌, ◌+◌, ◌^◌, ℕ, length, IfOk, IfErr, OnOk};
+ghost use Rattle.search_moves.specs.Below.{Memory, IsCaused, ChangesNewest, fates_of, IsNewestPlainTo, MayPutNewest, GivesAnswer, GivesNested};
+ghost use Rattle.search_moves.specs.Words.{MayPop, Pops, IsRightNext, KeepsCache};
+
+use crate::evaluation::Evaluation;
+use open_goals::goals::{Next, OpenGoals, Popped, Received, Run};
+use search_parts::context::{Answer, Cx, Delegate, Fault, NoMemory, Reply};
+use search_parts::global_cache::GlobalCache;
+use search_parts::parts::{EvaluationResult, RebaseReason};
+use search_parts::path::PathKind;
+use search_rules::nodes::result_node;
+use search_rules::rebase::rebase_entries;
+
+impl<D: Delegate> Evaluation<D> {
+    /// Pops the newest goal with this result, and gives that to the goal below it. Provisional entries that rest
+    /// on the goal are rebased for the reason, which there is where it was used as a head.
+    pub(crate) fn pop_goal(
+        &mut self,
+        cache: &mut GlobalCache<D>,
+        outcome: <D::Cx as Cx>::Result,
+        reason: Option<RebaseReason<D::Cx>>,
+    ) -> Result<Next<<D::Cx as Cx>::Result>, Fault<<D::Cx as Cx>::Input, <D::Cx as Cx>::Result>>
+        requires { MayPop D.Delegate D.Cx.Cx D.Cx.Input.eq outcome reason cache.old self.old }
+        ensures popped { IfOk result (λ next.
+            Pops D.Delegate D.Cx.Cx D.Cx.Input.eq outcome reason cache.old self.old next cache.new
+            self.new) }
+        ensures stored { MayPutNewest D.Cx.Input.eq self.old.goals outcome cache.old.results
+            cache.new.results }
+        ensures changes { ChangesNewest D.Cx.Input.eq (fates_of self.old.goals) cache.old.results
+            cache.new.results }
+        ensures rest { self.new
+            ≡ record self.old { goals = self.new.goals; provisional = self.new.provisional } }
+        ensures caused { IfErr result (IsCaused D.Delegate D.Cx.Cx D.Cx.Input.eq cache.new) }
+        ensures plain { (n : ℕ) → IsNewestPlainTo (D.script cache.old.cx) n self.old.goals →
+            IfErr result (λ fault. fault ≡ Memory) }
+        ensures keeps { KeepsCache D.Cx.Input.eq self.old.goals cache.old cache.new }
+    {
+        // The scope is bound first, so it is dropped last, when the goal's frame is gone and its result compared.
+        let Popped {
+            scope: _scope,
+            entry,
+            run,
+        } = self.goals.pop();
+        let Run {
+            frame: _,
+            node: own_node,
+            progress,
+            finished_runs: _,
+            met_overflow_before,
+            candidates: _,
+            fate,
+        } = run;
+        let step = entry.step_kind_from_parent();
+        let mut encountered_overflow = entry.state.encountered_overflow;
+        encountered_overflow |= met_overflow_before;
+        let input = entry.input();
+        let node = result_node::<D>(cache, &entry.state, own_node, progress, outcome)?;
+        entry.state.heads.are_rising();
+        // First the entries are rebased, since the goal's own entry must not be rebased over the goal itself;
+        // the answer is moved into the cache last.
+        let stack = self.goals.stack();
+        rebase_entries::<D>(&mut self.provisional, cache.cx(), &entry, stack, reason)?;
+        let answer = EvaluationResult::finalize(entry, encountered_overflow, outcome, node);
+        let next = give_answer(&mut self.goals, step, &answer)?;
+        self.store_answer(cache, step, input, answer, fate)?;
+        Ok(next)
+    }
+}
+
+/// Gives the answer of a goal that was popped to the goal below it, which asked for it by this step. Where
+/// none is left, it is the answer to the call.
+fn give_answer<X: Cx, F: Drop, S: Drop>(
+    goals: &mut OpenGoals<X, F, S>,
+    step: PathKind,
+    answer: &EvaluationResult<X>,
+) -> Result<Next<X::Result>, NoMemory>
+    requires { 0 < length goals.old → answer.now.required_depth + 1 < 2 ^ 64 }
+    ensures given { IfOk result (λ next. GivesAnswer step answer.now goals.old next goals.new) }
+    ensures nested { OnOk result (GivesNested X.Input.eq step answer.now.nested_goals goals.old
+        goals.new) }
+{
+    let outcome = answer.result;
+    let node = answer.node;
+    if goals.len() == 0 {
+        return Ok(Next::Finished(Answer {
+            result: outcome,
+            node,
+        }));
+    }
+    goals.note_answer(step, answer)?;
+    Ok(Next::Step(Received {
+        reply: Reply::Answer(outcome),
+        node,
+    }))
+}

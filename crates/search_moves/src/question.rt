@@ -1,0 +1,186 @@
+//! What a question comes to: it is refused, or answered by a provisional entry, a stored result or a goal that is
+//! under evaluation already, or its goal is pushed.
+ghost use Rattle.std.specs.Prelude.{◌≡◌, ◌≤◌, ◌<◌, ◌+◌, ◌||◌, ◌∷◌, ℕ, false, true, List, length, map, reverse, unwrap_or, IfOk, OnOk, OnErr, Some};
+ghost use Rattle.std.specs.List.{list_any, position};
+ghost use Rattle.std.specs.Option.{is_none, option_map, option_and_then};
+ghost use Rattle.search_moves.specs.Below.{depth_below, CountsOne, KeepsBuilder, CacheNode, KeepsNodes, Lists, Store, ProvisionalCacheEntry, Evaluate, StoredResult, Memory, newest, Call, AreFree, ClosesCycle, Pushes, NewestAsks, AreJustified, IsFit, AreReady, runs_of, fates_of};
+ghost use Rattle.search_moves.specs.Words.{HasRequest, Requests, IsRightFor, GoesOnWith, StopsWith, KeepsCache, Asked, question_depth};
+
+use crate::evaluation::Evaluation;
+use open_goals::candidates::FinishedCandidates;
+use open_goals::goals::{Fate, OpenGoals, Received, Run};
+use open_goals::progress::Progress;
+use search_parts::context::{Cx, Delegate, NoMemory, Reply};
+use search_parts::global_cache::GlobalCache;
+use search_parts::parts::{AvailableDepth, StackDepth, StackEntry};
+use search_parts::path::PathKind;
+use search_rules::look_up::{Consulted, consult, look_up_entry};
+
+impl<D: Delegate> Evaluation<D> {
+    /// Answers the newest goal's question, or pushes the asked goal, whose frame then begins. A question
+    /// of a goal without depth is refused, which meets a limit.
+    pub fn ask(
+        &mut self,
+        cache: &mut GlobalCache<D>,
+        kind: PathKind,
+        input: <D::Cx as Cx>::Input,
+        inspect: &mut D::ProofTreeBuilder,
+    ) -> Result<Received<<D::Cx as Cx>::Result>, NoMemory>
+        requires { HasRequest D.Delegate D.Cx.Cx D.Cx.Input.eq cache.old.cx (Evaluate kind input)
+            cache.old self.old (D.starts inspect.old) }
+        ensures asked { IfOk result (λ received.
+            Asked D.Delegate D.Cx.Cx D.Cx.Input.eq cache.old.cx kind input (D.noop inspect.old)
+            cache.old self.old (D.starts inspect.old) received
+            cache.new self.new (D.starts inspect.new)) }
+        ensures meets { self.new.limits_met
+            ≡ (self.old.limits_met || is_none (question_depth D.Delegate self.old)) }
+        ensures stops { (call : Call D.Cx.Input) (ahead : ℕ) →
+            Requests D.Delegate D.Cx.Cx D.Cx.Input.eq cache.old.cx (Evaluate kind input) call ahead
+            cache.old self.old (D.starts inspect.old) →
+            OnErr result (StopsWith D.Delegate D.Cx.Cx D.Cx.Input.eq cache.old.cx call Memory
+            cache.new self.new (D.starts inspect.new)) }
+        ensures keeps { KeepsCache D.Cx.Input.eq self.old.goals cache.old cache.new }
+        ensures same_results { cache.new.results ≡ cache.old.results }
+        ensures builder { KeepsBuilder D.starts D.noop inspect.old inspect.new }
+    {
+        let cx = cache.cx();
+        // A question is refused before anything is looked up: whether a search is too deep must not depend on
+        // what the cache happens to hold.
+        let Some(depth) = self.allowed_depth() else {
+            // The limit is noted first, so that it is noted too where memory is out.
+            self.limits_met = true;
+            self.goals.note_overflow()?;
+            let answer = D::stack_overflow_result(cx, input);
+            return Ok(Received::without_node(Reply::Answer(answer)));
+        };
+        let stack = self.goals.stack();
+        // Entries come before stored results, so that the test of a stored result's nested goals need not think
+        // of a goal that has both.
+        if let Some(entry) = look_up_entry::<D>(&self.provisional, stack, kind, input) {
+            self.goals.note_provisional(kind, entry)?;
+            return Ok(Received {
+                reply: Reply::Answer(entry.result),
+                node: entry.node,
+            });
+        }
+        let stack = self.goals.stack();
+        let Consulted {
+            stored,
+            fate,
+            scope,
+        } = consult::<D>(cache, &self.provisional, stack, kind, input, depth, inspect);
+        if let Some(stored) = stored {
+            self.goals.note_stored(kind, &stored)?;
+            return Ok(Received {
+                reply: Reply::Answer(stored.result),
+                node: stored.node,
+            });
+        }
+        if let Some(head) = self.goals.find(input) {
+            return self.answer_cycle(cx, kind, input, head);
+        }
+        self.push_goal(cache, kind, input, depth, fate, inspect)?;
+        self.goals.hold(scope)?;
+        Ok(Received::without_node(Reply::Begin))
+    }
+
+    /// Answers the newest goal's question of a goal that is under evaluation at `head`, by its provisional
+    /// result or, in its first run, by the initial one. Ports `SearchGraph::check_cycle_on_stack`.
+    fn answer_cycle(
+        &mut self,
+        cx: D::Cx,
+        step: PathKind,
+        input: <D::Cx as Cx>::Input,
+        head: StackDepth,
+    ) -> Result<Received<<D::Cx as Cx>::Result>, NoMemory>
+        requires some { 0 < length self.old.goals }
+        requires found { position (D.Cx.Input.eq input)
+            (map (λ e. e.input) (reverse (map (λ s. s.0) self.old.goals))) ≡ Some head.0 }
+        ensures answered { IfOk result (λ received.
+            ClosesCycle D.Delegate D.Cx.Cx cx D.Cx.Input.eq step input head received self.old.goals
+            self.new.goals) }
+        ensures rest { self.new ≡ record self.old { goals = self.new.goals } }
+    {
+        let kind = self.goals.stack().path_kind(step, head);
+        let state = &self.goals.stack()[head].state;
+        let node = state.node;
+        let outcome = cycle_result::<D>(cx, state.provisional_result, kind, input);
+        // The head is noted before the frame gets its answer: its next request may end the candidate or the
+        // run, and both have to count it.
+        self.goals.note_cycle(step, input, head, kind)?;
+        Ok(Received {
+            reply: Reply::Answer(outcome),
+            node,
+        })
+    }
+
+    /// The depth that the newest goal's question gets.
+    fn allowed_depth(&self) -> Option<AvailableDepth>
+        requires { 0 < length self.now.goals }
+        ensures { option_map (λ d. d.0) result
+            ≡ option_and_then (λ s. depth_below D.DIVIDE_AVAILABLE_DEPTH_ON_OVERFLOW s.0)
+            (newest self.now.goals) }
+    {
+        AvailableDepth::allowed_depth_for_nested::<D>(self.root_depth, self.goals.stack())
+    }
+
+    /// Pushes a goal, with a node of its own and a frame that begins. Its result meets this fate.
+    pub fn push_goal(
+        &mut self,
+        cache: &mut GlobalCache<D>,
+        step_kind: PathKind,
+        input: <D::Cx as Cx>::Input,
+        depth: AvailableDepth,
+        fate: Fate<<D::Cx as Cx>::Result>,
+        inspect: &mut D::ProofTreeBuilder,
+    ) -> Result<(), NoMemory>
+        requires { list_any (λ s. D.Cx.Input.eq input s.0.input) self.old.goals ≡ false }
+        ensures pushed { OnOk result (
+            Pushes D.Delegate D.Cx.Cx cache.old.cx input step_kind depth
+            cache.old.nodes cache.new.nodes self.old.goals self.new.goals) }
+        ensures fates { OnOk result (fates_of self.new.goals
+            ≡ record { goal = input; depth = depth.0; fate = fate } ∷ fates_of self.old.goals) }
+        ensures rest { self.new ≡ record self.old { goals = self.new.goals } }
+        ensures cache { cache.new ≡ record cache.old { nodes = cache.new.nodes } }
+        ensures kept { KeepsNodes cache.old.nodes cache.new.nodes }
+        ensures builder { KeepsBuilder D.starts D.noop inspect.old inspect.new }
+        ensures at_most { D.starts inspect.new ≤ D.starts inspect.old + 1 }
+        ensures counted { D.counts ≡ true →
+            OnOk result (CountsOne D.last (D.starts inspect.old) (D.starts inspect.new)) }
+    {
+        let node = cache.open_node(input)?;
+        let frame = D::start(cache.cx(), input, inspect)?;
+        let alloc = self.goals.allocator();
+        let mut entry = StackEntry::new(alloc, input, step_kind, depth);
+        entry.state.node = Some(node);
+        self.goals.push(
+            entry,
+            Run {
+                frame,
+                node,
+                progress: Progress::new(alloc),
+                finished_runs: 0,
+                met_overflow_before: false,
+                candidates: FinishedCandidates::new(alloc),
+                fate,
+            },
+        )?;
+        Ok(())
+    }
+}
+
+/// What a cycle of this kind on a goal is answered with: the result of the goal's last run, or in its first
+/// run the initial one.
+fn cycle_result<D: Delegate>(
+    cx: D::Cx,
+    provisional_result: Option<<D::Cx as Cx>::Result>,
+    kind: PathKind,
+    input: <D::Cx as Cx>::Input,
+) -> <D::Cx as Cx>::Result
+    ensures { result ≡ unwrap_or provisional_result (D.initial_result cx kind input) }
+{
+    match provisional_result {
+        Some(earlier) => earlier,
+        None => D::initial_provisional_result(cx, kind, input),
+    }
+}

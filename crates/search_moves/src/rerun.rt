@@ -1,0 +1,52 @@
+//! The newest goal is run again.
+ghost use Rattle.std.specs.Prelude.{◌≡◌, ◌≤◌, ◌+◌, true, OnOk};
+ghost use Rattle.search_moves.specs.Below.{CountsOne, KeepsBuilder, KeepsEarlier, KeepsFinished};
+ghost use Rattle.search_moves.specs.Words.{MayRunAgain, RunsAgain};
+
+use crate::evaluation::Evaluation;
+use search_parts::context::{Cx, Delegate, NoMemory};
+use search_parts::global_cache::GlobalCache;
+use search_parts::parts::StackDepth;
+use search_rules::nodes::result_node;
+
+impl<D: Delegate> Evaluation<D> {
+    /// Runs the newest goal again, whose run came to this result. Provisional entries that used the goal's
+    /// provisional result are cleared.
+    pub(crate) fn run_again(
+        &mut self,
+        cache: &mut GlobalCache<D>,
+        outcome: <D::Cx as Cx>::Result,
+        inspect: &mut D::ProofTreeBuilder,
+    ) -> Result<(), NoMemory>
+        requires { MayRunAgain D.Delegate D.Cx.Cx D.Cx.Input.eq outcome cache.old self.old }
+        ensures reran { OnOk result (
+            RunsAgain D.Delegate D.Cx.Cx D.Cx.Input.eq outcome cache.old self.old cache.new
+            self.new) }
+        ensures rest { self.new
+            ≡ record self.old { goals = self.new.goals; provisional = self.new.provisional } }
+        ensures cache { cache.new ≡ record cache.old { nodes = cache.new.nodes } }
+        ensures kept { KeepsFinished cache.old.nodes cache.new.nodes }
+        ensures earlier { KeepsEarlier self.old.goals cache.old.nodes cache.new.nodes }
+        ensures builder { KeepsBuilder D.starts D.noop inspect.old inspect.new }
+        ensures at_most { D.starts inspect.new ≤ D.starts inspect.old + 1 }
+        ensures counted { D.counts ≡ true →
+            OnOk result (CountsOne D.last (D.starts inspect.old) (D.starts inspect.new)) }
+    {
+        // Entries that used the goal's result are cleared, since that is another one now. Those that merely have the
+        // goal as a head stay: they are rebased when it is popped.
+        self.provisional
+            .clear_for_rerun(StackDepth::new(self.goals.len() - 1));
+        let progress = self.goals.take_progress();
+        let own_node = self.goals.last_run().node;
+        let entry = self.goals.last_entry();
+        let input = entry.input();
+        let node = result_node::<D>(cache, &entry.state, own_node, progress, outcome)?.or(
+            entry.state.node,
+        );
+        let frame = D::start(cache.cx(), input, inspect)?;
+        let own_node = cache.open_node(input)?;
+        // The goal stays on the stack: its entry has the step, depths, heads and nested goals of all its runs.
+        self.goals.run_again(outcome, node, frame, own_node);
+        Ok(())
+    }
+}

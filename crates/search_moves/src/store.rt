@@ -1,0 +1,139 @@
+//! What is stored of a goal that is done.
+ghost use Rattle.std.specs.Prelude.{◌≡◌, ◌≢◌, ◌<◌, ◌∷◌, ℕ, [], length, IfErr, IfSome, OnOk, OnErr};
+ghost use Rattle.search_moves.specs.Below.{ChangesNewest, highest, IfCompared, IsExpected, IsPlainTo, IsPlainValue, place_of, Memory, Success, IsCaused, IsStored, StoresAnswer, entry_of};
+ghost use Rattle.provisional_cache.specs.Provisional.{AppendsEntry};
+ghost use Rattle.search_moves.specs.Words.{ChangesResults, IsStorable, Stores};
+
+use crate::evaluation::Evaluation;
+use open_goals::goals::Fate;
+use search_parts::context::{Cx, Delegate, Fault, NoMemory};
+use search_parts::global_cache::GlobalCache;
+use search_parts::parts::{
+    EvaluationResult, ProvisionalCache, ProvisionalCacheEntry, Stack, StackDepth,
+};
+use search_parts::path::PathKind;
+
+impl<D: Delegate> Evaluation<D> {
+    /// Stores the result of a goal that is done, which was asked over the step, in the global cache, or compares it
+    /// with the one that is stored, as its fate is; or, where it rests on goals of the stack, makes it a provisional
+    /// entry, if the delegate lets such entries be used.
+    pub(crate) fn store_answer(
+        &mut self,
+        cache: &mut GlobalCache<D>,
+        step: PathKind,
+        input: <D::Cx as Cx>::Input,
+        answer: EvaluationResult<D::Cx>,
+        fate: Fate<<D::Cx as Cx>::Result>,
+    ) -> Result<(), Fault<<D::Cx as Cx>::Input, <D::Cx as Cx>::Result>>
+        requires storable { IsStorable D.Delegate D.Cx.Cx cache.old input answer }
+        requires expected { IfCompared fate (IsExpected (D.scoped cache.old.cx) D.Cx.Input.eq
+            cache.old.results input) }
+        requires on_stack { IfSome (highest answer.heads) (λ head.
+            head.0.0 < length self.old.goals) }
+        ensures stored { StoresAnswer D.Cx.Input.eq cache.old.results cache.new.results
+            input answer }
+        ensures changes { (depth : ℕ) → ChangesNewest D.Cx.Input.eq
+            (record { goal = input; depth = depth; fate = fate } ∷ []) cache.old.results
+            cache.new.results }
+        ensures stores { OnOk result (
+            Stores D.Delegate D.Cx.Cx D.Cx.Input.eq step input answer fate self.old self.new cache.new) }
+        ensures rest { self.new ≡ record self.old { provisional = self.new.provisional } }
+        ensures cache { ChangesResults D.Cx.Input.eq cache.old cache.new }
+        ensures caused { IfErr result (IsCaused D.Delegate D.Cx.Cx D.Cx.Input.eq cache.new) }
+        ensures plain { (n : ℕ) → IsPlainTo (D.script cache.old.cx) n input →
+            place_of answer ≡ Success → IfCompared fate (IsPlainValue (D.script cache.old.cx) n input) →
+            IfErr result (λ fault. fault ≡ Memory) }
+    {
+        // An answer with heads rests on provisional results of goals under evaluation, which may still change.
+        let Some(head) = answer.heads.opt_highest_cycle_head_index() else {
+            return match fate {
+                Fate::Stored => store_for_good::<D>(cache, input, answer),
+                Fate::NotStored => Ok(()),
+                Fate::Compared(stored) => compare::<D>(cache, input, stored, &answer),
+            };
+        };
+        if D::ENABLE_PROVISIONAL_CACHE {
+            let stack = self.goals.stack();
+            insert_entry::<D>(&mut self.provisional, stack, step, input, answer, head)?;
+        }
+        Ok(())
+    }
+}
+
+/// Makes a provisional entry of the answer of a goal that is done, which was asked over the step and rests on the
+/// goal at `head` and perhaps on others below that. Ports a part of
+/// `SearchGraph::evaluate_goal`.
+fn insert_entry<D: Delegate>(
+    provisional: &mut ProvisionalCache<D>,
+    stack: &Stack<D::Cx>,
+    step: PathKind,
+    input: <D::Cx as Cx>::Input,
+    answer: EvaluationResult<D::Cx>,
+    head: StackDepth,
+) -> Result<(), NoMemory>
+    requires some { answer.heads ≢ [] }
+    requires on_stack { head.0 < length stack.now }
+    ensures kept { OnOk result (AppendsEntry D.Cx.Input.eq provisional.old provisional.new input
+        (entry_of stack.now head.0 step answer)) }
+{
+    let path_from_head = stack.path_kind(step, head);
+    provisional.push(
+        input,
+        ProvisionalCacheEntry {
+            encountered_overflow: answer.encountered_overflow,
+            heads: answer.heads,
+            path_from_head,
+            result: answer.result,
+            node: answer.node,
+        },
+    )
+}
+
+/// Stores a result that rests on no goal of the stack. Ports `SearchGraph::insert_global_cache`.
+fn store_for_good<D: Delegate>(
+    cache: &mut GlobalCache<D>,
+    input: <D::Cx as Cx>::Input,
+    answer: EvaluationResult<D::Cx>,
+) -> Result<(), Fault<<D::Cx as Cx>::Input, <D::Cx as Cx>::Result>>
+    requires no_heads { answer.heads ≡ [] }
+    requires storable { IsStorable D.Delegate D.Cx.Cx cache.old input answer }
+    ensures stored { StoresAnswer D.Cx.Input.eq cache.old.results cache.new.results input answer }
+    ensures is_stored { OnOk result (
+        IsStored D.Cx.Input.eq (D.Cx.token cache.old.cx) cache.new.results input answer) }
+    ensures cache { ChangesResults D.Cx.Input.eq cache.old cache.new }
+    ensures caused { IfErr result (IsCaused D.Delegate D.Cx.Cx D.Cx.Input.eq cache.new) }
+    ensures plain { (n : ℕ) → IsPlainTo (D.script cache.old.cx) n input →
+        place_of answer ≡ Success →
+        IfErr result (λ fault. fault ≡ Memory) }
+{
+    let token = cache.cx().dep_node(input);
+    cache.has_runs();
+    cache.insert(input, answer, token)
+}
+
+/// Compares the result of a goal in a scope with the one that is stored. `Fault::Validation` where they differ.
+fn compare<D: Delegate>(
+    cache: &GlobalCache<D>,
+    input: <D::Cx as Cx>::Input,
+    stored: <D::Cx as Cx>::Result,
+    answer: &EvaluationResult<D::Cx>,
+) -> Result<(), Fault<<D::Cx as Cx>::Input, <D::Cx as Cx>::Result>>
+    requires no_heads { answer.now.heads ≡ [] }
+    requires storable { IsStorable D.Delegate D.Cx.Cx cache.now input answer.now }
+    requires expected { IsExpected (D.scoped cache.now.cx) D.Cx.Input.eq cache.now.results input
+        stored }
+    ensures same { OnOk result (answer.now.result ≡ stored) }
+    ensures caused { IfErr result (IsCaused D.Delegate D.Cx.Cx D.Cx.Input.eq cache.now) }
+    ensures differs { OnErr result (answer.now.result ≢ stored) }
+{
+    cache.has_runs();
+    let found = answer.result;
+    if found == stored {
+        return Ok(());
+    }
+    Err(Fault::Validation {
+        input,
+        stored,
+        found,
+    })
+}

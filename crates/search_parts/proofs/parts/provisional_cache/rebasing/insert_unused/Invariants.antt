@@ -1,7 +1,0 @@
-use Rattle.std.proofs.Common.{◌≡◌}
-use Rattle.search_parts.specs.Words.{with_unused}
-use Rattle.search_parts.proofs.parts.provisional_cache.rebasing.insert_unused.Given as goal
-
--- with the heads that are left these are as many as in the end
-abbrev pub invariant-loop-depth : goal.invariant-loop-depth
-invariant-loop-depth l = with_unused l.depth-iterator l.heads ≡ with_unused l.initial.depth-iterator l.initial.heads

@@ -1,0 +1,14 @@
+pub mod counts
+pub mod records
+pub mod justified
+pub mod moves
+pub mod Shown
+pub mod Storing
+pub mod Fates
+pub mod FinishedRuns
+pub mod DoneGoals
+pub mod answers
+pub mod entries
+pub mod rebasing
+pub mod HeadOrder
+pub mod Reasons

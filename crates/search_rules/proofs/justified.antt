@@ -1,0 +1,4 @@
+-- The goals under evaluation stay justified.
+pub mod Justified
+pub mod Replies
+pub mod Finishing

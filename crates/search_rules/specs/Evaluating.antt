@@ -1,0 +1,91 @@
+-- What holds of the goals under evaluation between two moves of a call.
+use Rattle.std.specs.Prelude.{◌≡◌, ℕ, ◌<◌, ◌≤◌, Bool, false, List, [], ◌∷◌, map}
+use Rattle.search_rules.specs.Below.{DelegateOf, CxOf, Request, Reply, Fault, StoredResult, ProvisionalCacheEntry, Lists, Store, Memory, Outcome, IsPlainTo, Ends, Stops, steps_ahead, Waits, HasRequested, IsDecidedReply, IsDefinite, is_in_cycle, Item, Stood, Next, Step, Finished, verdicts}
+use Rattle.search_rules.specs.Results.{AreDefinite, HaveNoOverflow, RequireWithin}
+use Rattle.evaluations.specs.Frames.{Frame}
+use Rattle.search_rules.specs.Calls.{Call, Outset, runs, limits, bound, IsCounted, KeepsLimits}
+use Rattle.search_rules.specs.Decided.{AllDecided, WhereDecisive}
+use Rattle.search_rules.specs.Provisional.{EntriesDefinite, EntriesMetNone}
+
+module _ {D C V P F I R A T : Type 0} (G : DelegateOf D C V P F I R A T) (X : CxOf C I R A T) (cx : C) where
+  -- an item as a frame of the theory, but for its replies
+  abbrev pub seen : Item G X cx → Frame I R
+  seen s = record {
+    goal = s.0.input;
+    replies = [];
+    left = G.left s.1.frame;
+    finished_runs = s.1.finished_runs;
+    available = s.0.available_depth.0;
+    required = s.0.state.required_depth;
+    met_overflow = s.0.state.encountered_overflow;
+    met_before = s.1.met_overflow_before;
+    in_cycle = is_in_cycle s.0.state;
+  }
+
+  -- what holds where the delegate is decisive, and neither stored results nor limits stand against it
+  abbrev pub Decidedly : Call I → Bool → Type 0 → Type 0
+  Decidedly call met P = WhereDecisive (verdicts X) (G.script cx) call.all_definite met P
+
+  -- the newest item waits for the reply
+  pub record IsWaiting (call : Call I) (reply : Reply R) (goals : List (Item G X cx)) (starts : ℕ) (met : Bool) : Type 0 where
+    pub waits : Waits seen (Stood G X cx) (G.script cx) (limits G X cx call) (IsCounted G X cx call) call.top (bound G X cx call) reply goals starts met
+    pub keeps : KeepsLimits G X cx call met
+    pub decided : Decidedly call met (AllDecided (verdicts X) goals × IsDecidedReply (verdicts X) reply)
+
+  -- What a call keeps of the stored results: where starts are counted, none met overflow until a limit is met; where the delegate is
+  -- decisive, each is yes or no until then. Each requires no more than the root depth, or as much as one did before.
+  pub record KeepsStore (same : I → I → Bool) (call : Call I) (met : Bool) (results : Store I (StoredResult C I R A T)) : Type 0 where
+    pub overflow : IsCounted G X cx call → met ≡ false → HaveNoOverflow same results
+    pub definite : Decidedly call met (AreDefinite (verdicts X) same results)
+    pub within : RequireWithin same call.root call.stood results
+
+  -- what a call keeps of those and of the answers in the provisional cache
+  pub record KeepsAnswers (same : I → I → Bool) (call : Call I) (met : Bool) (results : Store I (StoredResult C I R A T)) (entries : Lists I (ProvisionalCacheEntry C I R A T)) : Type 0 where
+    pub store : KeepsStore same call met results
+    pub met_none : IsCounted G X cx call → met ≡ false → EntriesMetNone same entries
+    pub definite : Decidedly call met (EntriesDefinite (verdicts X) same entries)
+
+  -- the call begins with these stored results
+  pub record Begins (same : I → I → Bool) (call : Call I) (input : I) (root starts : ℕ) (met : Bool) (results : Store I (StoredResult C I R A T)) : Type 0 where
+    pub outset : Outset call input root starts met
+    pub store : KeepsStore same call met results
+
+  -- the steps that are left at most
+  abbrev pub work_left : List (Item G X cx) → ℕ
+  work_left goals = steps_ahead (runs G X cx) (G.width cx) (map seen goals)
+
+  -- the newest item made a request; `ahead` is the work that was left before its step
+  pub record HasAsked (call : Call I) (ahead : ℕ) (request : Request I R) (goals : List (Item G X cx)) (starts : ℕ) (met : Bool) : Type 0 where
+    pub asked : HasRequested seen (Stood G X cx) (G.script cx) (limits G X cx call) (IsCounted G X cx call) call.top (bound G X cx call) ahead request goals starts met
+    pub keeps : KeepsLimits G X cx call met
+    pub decided : Decidedly call met (AllDecided (verdicts X) goals)
+
+  -- the newest item waits for the reply, and less work is left
+  pub record CallGoesOn (call : Call I) (ahead : ℕ) (reply : Reply R) (goals : List (Item G X cx)) (starts : ℕ) (met : Bool) : Type 0 where
+    pub waiting : IsWaiting call reply goals starts met
+    pub falls : work_left goals < ahead
+
+  -- the call ended with the result
+  pub record HasEnded (call : Call I) (r : R) (starts : ℕ) (met : Bool) : Type 0 where
+    pub outcome : Outcome R
+    pub result_is : outcome.result ≡ r
+    pub ends : Ends (G.script cx) (limits G X cx call) (IsCounted G X cx call) call.top (bound G X cx call) starts met outcome
+    pub keeps : KeepsLimits G X cx call met
+    pub decided : Decidedly call met (IsDefinite (verdicts X) r)
+
+  -- the call stopped with a fault, which is want of memory where the goal's rank fits its depth
+  pub record HasStopped (call : Call I) (fault : Fault I R) (starts : ℕ) (met : Bool) : Type 0 where
+    pub stops : Stops (G.script cx) (limits G X cx call) (IsCounted G X cx call) (bound G X cx call) starts met
+    pub keeps : KeepsLimits G X cx call met
+    pub plain : (n : ℕ) → IsPlainTo (G.script cx) n call.top → n ≤ call.root → fault ≡ Memory
+
+  -- the item is the only one, and of this goal
+  abbrev pub IsOnly : List (Item G X cx) → I → Type 0
+  IsOnly [] goal = ⊥
+  IsOnly (s ∷ []) goal = s.0.input ≡ goal
+  IsOnly (s ∷ p ∷ below) goal = ⊥
+
+  -- what may come after a request of the old goals
+  abbrev pub Leads : Call I → ℕ → List (Item G X cx) → Next R → List (Item G X cx) → ℕ → Bool → Type 0
+  Leads call ahead old (Step given) goals starts met = CallGoesOn call ahead given.reply goals starts met
+  Leads call ahead old (Finished answer) goals starts met = (goals ≡ []) × IsOnly old call.top × HasEnded call answer.result starts met

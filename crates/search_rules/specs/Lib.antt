@@ -1,0 +1,17 @@
+pub mod Results
+pub mod Fates
+pub mod Claims
+pub mod LookUp
+pub mod Decided
+pub mod Calls
+pub mod Moves
+pub mod Tallies
+pub mod Justified
+pub mod Free
+pub mod Runs
+pub mod EndOfRun
+pub mod EntryShapes
+pub mod Provisional
+pub mod Evaluating
+pub mod Below
+pub mod Words

@@ -1,0 +1,58 @@
+//! The node of a run that has ended.
+ghost use Rattle.std.specs.Prelude.{◌≡◌, ◌↔◌, IsTrue, IfOk, Some};
+ghost use Rattle.std.specs.Option.{option_map};
+ghost use Rattle.search_rules.specs.Below.{KeepsFinished, IsDefinite, verdict_of, verdicts};
+ghost use Rattle.search_rules.specs.Words.{verdict_shape, EndsRun, HasResultNode, KeepsBut};
+
+use open_goals::progress::Progress;
+use search_parts::context::{Cx, Delegate, NoMemory, NodeId, Verdict};
+use search_parts::global_cache::GlobalCache;
+use search_parts::parts::EntryState;
+
+/// The node of a run's definite result. Where the result has the verdict of the provisional one, it is that one's
+/// node, and the run's own stays open, as does that of a run that came to no definite result. So the node of
+/// a goal is that of the first of its last runs that had the same verdict.
+pub fn result_node<D: Delegate>(
+    cache: &mut GlobalCache<D>,
+    state: &EntryState<D::Cx>,
+    own_node: NodeId,
+    progress: Progress<<D::Cx as Cx>::Input, <D::Cx as Cx>::Result>,
+    outcome: <D::Cx as Cx>::Result,
+) -> Result<Option<NodeId>, NoMemory>
+    requires { IsDefinite (verdicts D.Cx.Cx) outcome →
+        EndsRun (verdicts D.Cx.Cx)
+        (D.script cache.old.cx) cache.old.nodes own_node progress outcome }
+    ensures has_node { IfOk result (λ answer.
+        HasResultNode (verdicts D.Cx.Cx) cache.old.nodes cache.new.nodes
+        state.now.provisional_result own_node state.now.node progress outcome answer) }
+    ensures same_context { cache.new.cx ≡ cache.old.cx }
+    ensures same_results { cache.new.results ≡ cache.old.results }
+    ensures kept { KeepsFinished cache.old.nodes cache.new.nodes }
+    ensures others { KeepsBut own_node.0 cache.old.nodes cache.new.nodes }
+{
+    let verdict = cache.cx().sort(outcome);
+    if let Verdict::Neither = verdict {
+        return Ok(None);
+    }
+    // The node of the last run will not do: its cycles were answered by the provisional result and lead to that
+    // result's node, and with an edge from the last run's node to itself a walk could close over a step of another
+    // kind than the cycle was answered for.
+    if says_again(cache.cx(), state.provisional_result, verdict) {
+        return Ok(state.node);
+    }
+    let edges = progress.edges(verdict)?;
+    let replies = progress.into_replies();
+    cache.finish_node(own_node, replies, edges, outcome);
+    Ok(Some(own_node))
+}
+
+/// Whether the provisional result, if there is one, has this verdict.
+fn says_again<X: Cx>(cx: X, provisional_result: Option<X::Result>, verdict: Verdict) -> bool
+    ensures { IsTrue result ↔ (option_map (verdict_of (verdicts X.Cx)) provisional_result
+        ≡ Some (verdict_shape verdict)) }
+{
+    match provisional_result {
+        Some(earlier) => cx.sort(earlier) == verdict,
+        None => false,
+    }
+}

@@ -1,0 +1,6 @@
+pub mod StackIndex
+pub mod LastState
+pub mod StackReads
+pub mod NestedLists
+pub mod Cycles
+pub mod LastSteps

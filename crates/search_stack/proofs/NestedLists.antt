@@ -1,0 +1,92 @@
+-- Lists of goals with the paths to them.
+use Rattle.std.proofs.Common.{◌≡◌, ℕ, ◌+◌, ◌≤◌, length, arith, Bool, true, false, [], ◌∷◌, cond, Option, Some, None, refl, sym, ap, ◌∙◌, subst, inl, inr}
+use Rattle.std.proofs.lemmas.Bool.{cases_Bool}
+use Rattle.std.proofs.lemmas.Map.Keys.{IsDistinct-head, IsDistinct-tail}
+use Rattle.std.specs.Cmp.{IsEquivalence}
+use Rattle.std.specs.List.{AllByRecursion, IsDistinct}
+use Rattle.std.specs.Map.{keys_of}
+use Rattle.std.specs.Option.{option_map}
+use Rattle.search_stack.specs.Below.{PathKind, PathsToNested, extended}
+use Rattle.search_stack.specs.Words.{NestedPaths, paths_at, joined_paths, JoinsPaths}
+
+joined-joined : (paths : Option PathsToNested) (more : PathsToNested)
+    → joined_paths (joined_paths paths (Some more)) None ≡ joined_paths paths (Some more)
+joined-joined None more = refl
+joined-joined (Some paths) more = refl
+
+pub joined-None : (paths : Option PathsToNested) → joined_paths paths None ≡ paths
+joined-None None = refl
+joined-None (Some paths) = refl
+
+module _ {I : Type 0} (same : I → I → Bool) where
+  absent_apart : (goals : NestedPaths I) (input : I) → AllByRecursion (λ other. same input other ≡ false) (keys_of goals)
+      → paths_at same goals input ≡ None
+  absent_apart [] input apart = refl
+  absent_apart (g ∷ goals) input apart = rw apart.0 (absent_apart goals input apart.1)
+
+  -- the first goal is no other one
+  pub absent_later : (input : I) (paths : PathsToNested) (rest : NestedPaths I)
+      → IsDistinct same (keys_of ((input, paths) ∷ rest)) → paths_at same rest input ≡ None
+  absent_later input paths rest distinct = absent_apart rest input (IsDistinct-head same input (keys_of rest) distinct)
+
+  pub distinct_later : (input : I) (paths : PathsToNested) (rest : NestedPaths I)
+      → IsDistinct same (keys_of ((input, paths) ∷ rest)) → IsDistinct same (keys_of rest)
+  distinct_later input paths rest distinct = IsDistinct-tail same input (keys_of rest) distinct
+
+  module _ (laws : IsEquivalence same) (by_value : (x y : I) → same x y ≡ true → x ≡ y) where
+    -- one goal less is left to be joined
+    pub joined-rest : (old new rest : NestedPaths I) (input : I) (paths : PathsToNested) (f : PathsToNested → PathsToNested)
+        → IsDistinct same (keys_of ((input, paths) ∷ rest)) → JoinsPaths same old new input (f paths) → (other : I)
+        → joined_paths (paths_at same new other) (option_map f (paths_at same rest other))
+        ≡ joined_paths (paths_at same old other) (option_map f (paths_at same ((input, paths) ∷ rest) other))
+    joined-rest old new rest input paths f distinct joins other = elim (cases_Bool (same other input)) [
+      | inl here ↦
+          subst (λ o. joined_paths (paths_at same new o) (option_map f (paths_at same rest o)) ≡ joined_paths (paths_at same old o) (option_map f (paths_at same ((input, paths) ∷ rest) o))) (sym (by_value other input here))
+          (ap (λ p. joined_paths p (option_map f (paths_at same rest input))) joins.here
+          ∙ ap (λ p. joined_paths (joined_paths (paths_at same old input) (Some (f paths))) (option_map f p)) (absent_later input paths rest distinct)
+          ∙ joined-joined (paths_at same old input) (f paths)
+          ∙ ap (λ b. joined_paths (paths_at same old input) (option_map f (cond b (Some paths) (paths_at same rest input)))) (sym (laws.refl input)))
+      | inr apart ↦
+          ap (λ p. joined_paths p (option_map f (paths_at same rest other))) (joins.others other (laws.symm input other ∙ apart))
+          ∙ ap (λ b. joined_paths (paths_at same old other) (option_map f (cond b (Some paths) (paths_at same rest other)))) (sym apart)
+    ]
+
+-- the rest of the goals of a child is still to be joined, and there is room for it
+pub record IsJoining {I : Type 0} (same : I → I → Bool) (step : PathKind) (start goals all rest : NestedPaths I) (room : ℕ) : Type 0 where
+  pub agrees : (input : I)
+      → joined_paths (paths_at same goals input) (option_map (λ paths. extended paths step) (paths_at same rest input))
+      ≡ joined_paths (paths_at same start input) (option_map (λ paths. extended paths step) (paths_at same all input))
+  pub fits : length rest ≤ room
+  pub distinct : IsDistinct same (keys_of rest)
+
+pub IsJoining-more : {I : Type 0} {same : I → I → Bool} (laws : IsEquivalence same) (by_value : (x y : I) → same x y ≡ true → x ≡ y)
+    (step : PathKind) (start goals new all left rest : NestedPaths I) (input : I) (paths after : PathsToNested) (room more : ℕ)
+    → left ≡ (input, paths) ∷ rest → after ≡ extended paths step → JoinsPaths same goals new input after → room ≤ more + 1
+    → IsJoining same step start goals all left room → IsJoining same step start new all rest more
+IsJoining-more {same = same} laws by_value step start goals new all left rest input paths after room more first stepped joins_after fewer so_far =
+    let joins = subst (JoinsPaths same goals new input) stepped joins_after in
+    let distinct = subst (λ l. IsDistinct same (keys_of l)) first so_far.distinct in
+    let size : length left ≡ length rest + 1 = ap length first ∙ omega arith in
+    record {
+      agrees = λ other.
+          joined-rest same laws by_value goals new rest input paths (λ p. extended p step) distinct joins other
+          ∙ ap (λ l. joined_paths (paths_at same goals other) (option_map (λ p. extended p step) (paths_at same l other))) (sym first)
+          ∙ so_far.agrees other;
+      fits = omega (arith, so_far.fits);
+      distinct = distinct_later same input paths rest distinct;
+    }
+
+pub IsJoining-start : {I : Type 0} {same : I → I → Bool} (step : PathKind) (start all : NestedPaths I) (room : ℕ)
+    → length all ≤ room → IsDistinct same (keys_of all) → IsJoining same step start start all all room
+IsJoining-start step start all room fits distinct = record { agrees = λ input. refl; fits = fits; distinct = distinct }
+
+pub IsJoining-end : {I : Type 0} {same : I → I → Bool} (step : PathKind) (old start goals child all rest : NestedPaths I) (room : ℕ)
+    → rest ≡ [] → IsJoining same step start goals all rest room → (input : I)
+    → paths_at same start input ≡ paths_at same old input → all ≡ child
+    → paths_at same goals input ≡ joined_paths (paths_at same old input) (option_map (λ paths. extended paths step) (paths_at same child input))
+IsJoining-end {same = same} step old start goals child all rest room none so_far input kept whole =
+    let after : Option PathsToNested → Option PathsToNested = option_map (λ paths. extended paths step) in
+    sym (joined-None (paths_at same goals input))
+    ∙ ap (λ l. joined_paths (paths_at same goals input) (after (paths_at same l input))) (sym none)
+    ∙ so_far.agrees input
+    ∙ (λ i. joined_paths (kept i) (after (paths_at same (whole i) input)))

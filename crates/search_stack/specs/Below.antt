@@ -1,0 +1,7 @@
+-- What the crates below have, from one place.
+pub use Rattle.cycle_heads.specs.Path.{greater_kind, greatest_kind}
+pub use Rattle.cycle_heads.specs.Paths.{union}
+unfoldable pub use Rattle.cycle_heads.specs.Paths.{extended}
+pub use Rattle.cycle_heads.specs.declared.path.PathKind.{PathKind}
+pub use Rattle.cycle_heads.specs.declared.path.PathKind.TheVariants.{Inductive, Unknown, Coinductive, ForcedAmbiguity}
+pub use Rattle.cycle_heads.specs.declared.path.PathsToNested.{PathsToNested}

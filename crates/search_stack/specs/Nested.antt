@@ -1,0 +1,23 @@
+-- The goals below a goal, with the paths to each.
+use Rattle.std.specs.Prelude.{◌≡◌, Bool, false, List, Option, Some, None}
+use Rattle.std.specs.Map.{lookup}
+use Rattle.search_stack.specs.Below.{PathsToNested, union}
+
+-- goals with the paths to them, in some order
+abbrev pub NestedPaths : Type 0 → Type 0
+NestedPaths I = List (I × PathsToNested)
+
+-- the paths to a goal
+abbrev pub paths_at : {I : Type 0} → (I → I → Bool) → NestedPaths I → I → Option PathsToNested
+paths_at same goals input = lookup (same input) goals
+
+-- the paths to a goal that may be recorded twice
+abbrev pub joined_paths : Option PathsToNested → Option PathsToNested → Option PathsToNested
+joined_paths None more = more
+joined_paths (Some paths) None = Some paths
+joined_paths (Some paths) (Some more) = Some (union paths more)
+
+-- the new goals have these paths to a goal besides, and to each other goal those that the old ones have
+pub record JoinsPaths {I : Type 0} (same : I → I → Bool) (old new : NestedPaths I) (input : I) (paths : PathsToNested) : Type 0 where
+  pub here : paths_at same new input ≡ joined_paths (paths_at same old input) (Some paths)
+  pub others : (other : I) → same input other ≡ false → paths_at same new other ≡ paths_at same old other

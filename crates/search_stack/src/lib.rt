@@ -1,0 +1,16 @@
+//! The stack of a search: the goals under evaluation, how deep they may go, what is recorded of each,
+//! and what is known of a goal once it is done.
+//!
+//! | File of `specs/` | Has |
+//! |---|---|
+//! | `Stack`, `StackIndex`, `Lent` | the goals under evaluation, how they are found and lent |
+//! | `Cycle` | kinds of the cycles through a goal under evaluation |
+//! | `Steps` | where the last step of each kind is, which tells these kinds |
+//! | `Nested` | the map of nested goals |
+#![tactic(auto)]
+
+pub mod depth;
+pub mod nested_goals;
+pub mod result;
+pub mod stack;
+mod steps;

@@ -1,0 +1,53 @@
+//! What is known of a goal once its evaluation has ended.
+ghost use Rattle.std.specs.Prelude.{◌≡◌};
+
+use crate::nested_goals::NestedGoals;
+use crate::stack::StackEntry;
+use cycle_heads::heads::CycleHeads;
+use search_context::context::{Cx, NodeId};
+
+/// The result of a goal, and what it rests on. Ports `EvaluationResult`.
+#[derive(Drop)]
+pub struct EvaluationResult<X: Cx> {
+    /// Whether a question was refused below the goal in one of its runs.
+    pub encountered_overflow: bool,
+    /// How many goals were nested below the goal, over all its runs.
+    pub required_depth: usize,
+    /// The goals on the stack that the result rests on. Without heads it holds on its own.
+    pub heads: CycleHeads,
+    /// The goals that were asked below the goal in its runs.
+    pub nested_goals: NestedGoals<X>,
+    /// The result of the last run, or what stands for it where the goal had its most runs.
+    pub result: X::Result,
+    /// The node of a definite result.
+    pub node: Option<NodeId>,
+}
+
+impl<X: Cx> EvaluationResult<X> {
+    /// The result of a goal that was popped from the stack. Required depth, heads and nested goals, which
+    /// all its runs share, are those of its entry. Takes no memory. Ports `EvaluationResult::finalize`.
+    pub fn finalize(
+        final_entry: StackEntry<X>,
+        encountered_overflow: bool,
+        final_result: X::Result,
+        node: Option<NodeId>,
+    ) -> EvaluationResult<X>
+        ensures { result ≡ record {
+          encountered_overflow = encountered_overflow;
+          required_depth = final_entry.state.required_depth;
+          heads = final_entry.state.heads;
+          nested_goals = final_entry.state.nested_goals;
+          result = final_result;
+          node = node;
+        } }
+    {
+        EvaluationResult {
+            encountered_overflow,
+            required_depth: final_entry.state.required_depth,
+            heads: final_entry.state.heads,
+            nested_goals: final_entry.state.nested_goals,
+            result: final_result,
+            node,
+        }
+    }
+}

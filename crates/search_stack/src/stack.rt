@@ -1,0 +1,340 @@
+//! The goals under evaluation, from the first one up.
+ghost use Rattle.std.specs.Prelude.{◌≡◌, ℕ, ◌+◌, ◌-◌, ◌^◌, ◌<◌, List, [], ◌∷◌, ◌++◌, length, IfOk, OnErr, IfSome, is_some, IsTrue, ◌↔◌, None, false, slice_index_or, map};
+ghost use Rattle.std.specs.Option.{option_map};
+ghost use Rattle.std.specs.Slice.Iter.{iter_rest};
+ghost use Rattle.search_stack.specs.Words.{position_of, TellsKinds};
+
+use crate::depth::{AvailableDepth, StackDepth};
+use crate::nested_goals::NestedGoals;
+use crate::steps::LastSteps;
+use cycle_heads::candidates::CandidateHeadUsages;
+use cycle_heads::heads::CycleHeads;
+use cycle_heads::path::PathKind;
+use cycle_heads::usages::HeadUsages;
+use search_context::context::{Cx, NoMemory, NodeId};
+use std::alloc::Global;
+use std::collections::HashMap;
+use std::marker::Model;
+use std::ops::Index;
+use std::slice;
+
+/// What changes of an entry while its goal is evaluated. Ports the fields of `StackEntry` that the search
+/// writes.
+#[derive(Drop)]
+pub struct EntryState<X: Cx> {
+    /// How many goals are nested below this one so far.
+    pub required_depth: usize,
+    /// What a cycle to this goal is answered with: the result of its last run. `None` in the first run.
+    pub provisional_result: Option<X::Result>,
+    /// The goals below on the stack that this one rests on so far.
+    pub heads: CycleHeads,
+    /// Whether a question was refused below this goal in this run.
+    pub encountered_overflow: bool,
+    /// How often this goal was used as a head in this run. `None` until it is for the first time; in a
+    /// later run it is there, from zero.
+    pub usages: Option<HeadUsages>,
+    /// What the candidate that is open used of the goals on the stack. `None` where none is open.
+    pub candidate_usages: Option<CandidateHeadUsages>,
+    /// The goals that were asked below this one.
+    pub nested_goals: NestedGoals<X>,
+    /// The node that answers of cycles to this goal lead to: in the first run that run's own, and then that
+    /// of the provisional result. `None` in a new entry, until its first frame starts.
+    pub node: Option<NodeId>,
+}
+
+/// A goal under evaluation. Ports `StackEntry`.
+#[derive(Drop)]
+pub struct StackEntry<X: Cx> {
+    input: X::Input,
+    step_kind_from_parent: PathKind,
+    available_depth: AvailableDepth,
+    pub state: EntryState<X>,
+}
+
+impl<X: Cx> StackEntry<X> {
+    ghost use Rattle.search_stack.specs.Stack.{fresh_entry};
+
+    /// A goal of which nothing is known yet. It takes no memory.
+    pub fn new(
+        alloc: Global,
+        input: X::Input,
+        step_kind_from_parent: PathKind,
+        available_depth: AvailableDepth,
+    ) -> StackEntry<X>
+        ensures { result ≡ fresh_entry input step_kind_from_parent available_depth }
+    {
+        StackEntry {
+            input,
+            step_kind_from_parent,
+            available_depth,
+            state: EntryState {
+                required_depth: 0,
+                provisional_result: None,
+                heads: CycleHeads::new(alloc),
+                encountered_overflow: false,
+                usages: None,
+                candidate_usages: None,
+                nested_goals: NestedGoals::new(alloc),
+                node: None,
+            },
+        }
+    }
+
+    /// The goal.
+    pub fn input(&self) -> X::Input
+        ensures { result ≡ self.now.input }
+    {
+        self.input
+    }
+
+    /// The kind of the step by which the goal was asked.
+    pub fn step_kind_from_parent(&self) -> PathKind
+        ensures { result ≡ self.now.step_kind_from_parent }
+    {
+        self.step_kind_from_parent
+    }
+
+    /// How many goals may be nested below this one.
+    pub fn available_depth(&self) -> AvailableDepth
+        ensures { result ≡ self.now.available_depth }
+    {
+        self.available_depth
+    }
+}
+
+/// The goals under evaluation: a list of entries with distinct inputs, each of which is found by its
+/// input. Ports `Stack`.
+#[derive(Drop)]
+pub struct Stack<X: Cx> {
+    entries: Vec<StackEntry<X>>,
+    depths: HashMap<X::Input, usize>,
+    /// For each entry, where the last steps up to it are.
+    steps: Vec<LastSteps>,
+}
+
+impl<X: Cx> Model for Stack<X> {
+    ghost use Rattle.std.specs.Prelude.{List, map};
+    ghost use Rattle.std.specs.HashMap as hash;
+    ghost use Rattle.search_stack.specs.declared.stack.StackEntry.{StackEntry};
+    ghost use Rattle.search_stack.specs.StackIndex.{IsIndex};
+    ghost use Rattle.search_stack.specs.Steps.{AreLastSteps};
+
+    ghost Value = { List (StackEntry X X.Input X.Result X.AmbiguityInfo X.DepNodeIndex) };
+
+    ghost view = { λ s. s.entries.items };
+
+    ghost invariant = { λ s. IsIndex X.Input.eq (hash.get X.Input.eq s.depths) (map (λ e. e.input) s.entries.items)
+        × AreLastSteps s.steps.items (map (λ e. e.step_kind_from_parent) s.entries.items) };
+}
+
+impl<X: Cx> Stack<X> {
+    /// No goals.
+    pub fn new(alloc: Global) -> Stack<X>
+        ensures { result ≡ [] }
+    {
+        Stack {
+            entries: Vec::new(alloc),
+            depths: HashMap::new(alloc),
+            steps: Vec::new(alloc),
+        }
+    }
+
+    /// How many goals are under evaluation.
+    pub fn len(&self) -> usize
+        ensures { result ≡ length self.now }
+    {
+        self.entries.len()
+    }
+
+    /// Whether no goal is under evaluation.
+    pub fn is_empty(&self) -> bool
+        ensures { IsTrue result ↔ (self.now ≡ []) }
+    {
+        self.entries.is_empty()
+    }
+
+    /// The place that the next goal gets.
+    pub fn next_index(&self) -> StackDepth
+        ensures { result.0 ≡ length self.now }
+    {
+        StackDepth::new(self.entries.len())
+    }
+
+    /// The place of the entry with that input.
+    pub fn find(&self, input: X::Input) -> Option<StackDepth>
+        ensures found { option_map (λ d. d.0) result ≡ position_of X.Input.eq input self.now }
+        ensures present { is_some result ≡ is_some (position_of X.Input.eq input self.now) }
+        ensures on_stack { IfSome result (λ d. d.0 < length self.now) }
+    {
+        match self.depths.get(&input) {
+            Some(depth) => Some(StackDepth::new(*depth)),
+            None => None,
+        }
+    }
+
+    /// The last entry.
+    pub fn last(&self) -> &StackEntry<X>
+        requires { 0 < length self.now }
+        ensures { result.now ≡ slice_index_or self.now (length self.now - 1) result.now }
+    {
+        &self.entries[self.entries.len() - 1]
+    }
+
+    /// Appends an entry whose input isn't on the stack. A refusal leaves the stack as it was.
+    pub fn push(&mut self, entry: StackEntry<X>) -> Result<StackDepth, NoMemory>
+        requires { position_of X.Input.eq entry.input self.old ≡ None }
+        ensures ok { IfOk result (λ d. (d.0 ≡ length self.old)
+            × (self.new ≡ self.old ++ entry ∷ [])) }
+        ensures err { OnErr result (self.new ≡ self.old) }
+    {
+        let below = self.steps.len();
+        let steps = self
+            .last_steps()
+            .with_step(entry.step_kind_from_parent, below);
+        self.entries.reserve(1)?;
+        self.steps.reserve(1)?;
+        let depth = self.entries.len();
+        self.depths.insert(entry.input, depth)?;
+        self.entries.push_reserved(entry);
+        self.steps.push_reserved(steps);
+        Ok(StackDepth::new(depth))
+    }
+
+    /// Pops the last entry. It takes no memory.
+    pub fn pop(&mut self) -> StackEntry<X>
+        requires { 0 < length self.old }
+        ensures { self.old ≡ self.new ++ result ∷ [] }
+    {
+        let entry = self.entries.pop().unwrap();
+        let _ = self.depths.remove(&entry.input);
+        let _ = self.steps.pop();
+        entry
+    }
+
+    /// Where the last steps of the stack are.
+    fn last_steps(&self) -> LastSteps
+        ensures tells { TellsKinds result (map (λ e. e.step_kind_from_parent) self.now) }
+        ensures fits { length self.now < 2 ^ 63 }
+    {
+        match self.steps.last() {
+            Some(steps) => *steps,
+            None => LastSteps::new(),
+        }
+    }
+}
+
+impl<X: Cx> Stack<X> {
+    ghost use Rattle.std.specs.Prelude.{◌≡◌, ◌<◌, ◌+◌, length};
+    ghost use Rattle.std.specs.Borrow.{sem};
+    ghost use Rattle.search_stack.specs.Stack.{IsLastState};
+    ghost use Rattle.search_stack.specs.Lent.{LendsLastState, traits};
+
+    /// What may change of the last entry. Its input is not lent, so that it is found as before.
+    pub fn last_mut(&mut self) -> &mut EntryState<X>
+        requires { 0 < length self.old }
+        ensures* writes_back { sem 𝓛 (LendsLastState
+            X.row X.Input.row X.Result.row X.AmbiguityInfo.row X.DepNodeIndex.row X.Cx
+            (traits X.Input.Debug X.Input.PartialEq X.Input.Hash.own)
+            (traits X.Result.Debug X.Result.PartialEq X.Result.Hash.own)
+            (traits X.AmbiguityInfo.Debug X.AmbiguityInfo.PartialEq X.AmbiguityInfo.Hash.own)
+            self.entry result) }
+        ensures value { IsLastState self.old result.now }
+    {
+        let last = self.entries.len() - 1;
+        let entry = &mut self.entries[last];
+        &mut entry.state
+    }
+
+    /// The place of the last entry, and what may change of it. Ports `Stack::last_mut_with_index`.
+    pub fn last_mut_with_index(&mut self) -> (StackDepth, &mut EntryState<X>)
+        requires { 0 < length self.old }
+        ensures* writes_back { sem 𝓛 (LendsLastState
+            X.row X.Input.row X.Result.row X.AmbiguityInfo.row X.DepNodeIndex.row X.Cx
+            (traits X.Input.Debug X.Input.PartialEq X.Input.Hash.own)
+            (traits X.Result.Debug X.Result.PartialEq X.Result.Hash.own)
+            (traits X.AmbiguityInfo.Debug X.AmbiguityInfo.PartialEq X.AmbiguityInfo.Hash.own)
+            self.entry result.1) }
+        ensures value { IsLastState self.old result.1.now }
+        ensures place { result.0.0 + 1 ≡ length self.old }
+    {
+        let depth = StackDepth::new(self.len() - 1);
+        (depth, self.last_mut())
+    }
+}
+
+impl<X: Cx> Index<StackDepth> for Stack<X> {
+    type Output = StackEntry<X>;
+
+    ghost can_index = { λ s d. d.0 < length s };
+
+    ghost index_gives = { λ s d e. e ≡ slice_index_or s d.0 e };
+
+    fn index(&self, depth: StackDepth) -> &StackEntry<X> {
+        &self.entries[depth.index()]
+    }
+}
+
+impl<X: Cx> Stack<X> {
+    ghost use Rattle.std.specs.Prelude.{◌≡◌, ◌<◌, length};
+    ghost use Rattle.std.specs.Slice.Iter.{iter_rest};
+    ghost use Rattle.search_stack.specs.Cycle.{step_kinds_above, path_kind_from};
+
+    /// The entries, from the first goal up.
+    pub fn iter(&self) -> slice::Iter<'_, StackEntry<X>>
+        ensures { iter_rest result ≡ self.now }
+    {
+        self.entries.iter()
+    }
+
+    /// The kinds of the steps above `head`, from below: of a cycle that ends at the head, each step but
+    /// the one that closes it. Ports `Stack::cycle_step_kinds`.
+    pub fn cycle_step_kinds(&self, head: StackDepth) -> CycleStepKinds<'_, X>
+        requires { head.0 < length self.now }
+        ensures { result ≡ step_kinds_above self.now head.0 }
+    {
+        CycleStepKinds {
+            above: &self.entries[head.index() + 1..],
+        }
+    }
+
+    /// The kind of the path from `head` to the last goal and on over `step`: the greatest of the steps
+    /// above the head and this one. The step by which the head itself was asked has no part in it. Takes no
+    /// walk over the stack. Ports `cycle_path_kind`.
+    pub fn path_kind(&self, step: PathKind, head: StackDepth) -> PathKind
+        requires { head.0 < length self.now }
+        ensures { result ≡ path_kind_from self.now head.0 step }
+    {
+        step.extend(self.last_steps().kind_past(head.index() + 1))
+    }
+}
+
+/// The kinds of the steps above a goal on the stack, from below.
+#[derive(Drop)]
+pub struct CycleStepKinds<'a, X: Cx> {
+    above: &'a [StackEntry<X>],
+}
+
+impl<'a, X: Cx> Model for CycleStepKinds<'a, X> {
+    ghost use Rattle.std.specs.Prelude.{List, map};
+    ghost use Rattle.search_stack.specs.Below.{PathKind};
+
+    ghost Value = { List PathKind };
+
+    ghost view = { λ s. map (λ e. e.step_kind_from_parent) s.above.now };
+}
+
+impl<'a, X: Cx> Iterator for CycleStepKinds<'a, X> {
+    ghost use Rattle.std.specs.Iterator.{YieldsFirst, item_count};
+
+    type Item = PathKind;
+
+    ghost next_gives = { YieldsFirst (λ kinds. kinds) };
+
+    ghost remaining = { item_count (λ kinds. kinds) };
+
+    fn next(&mut self) -> Option<PathKind> {
+        let (first, above) = self.above.split_first()?;
+        self.above = above;
+        Some(first.step_kind_from_parent)
+    }
+}

@@ -1,0 +1,5 @@
+pub mod Bytes
+pub mod Accepted
+pub mod Written
+pub mod Answered
+pub mod OfText

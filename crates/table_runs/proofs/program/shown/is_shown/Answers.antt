@@ -1,0 +1,10 @@
+use Rattle.table_runs.proofs.Accepted.{is_accepted}
+use Rattle.table_runs.proofs.program.shown.is_shown.Goals as goal
+use Rattle.table_runs.specs.Below.{verdicts}
+
+pub returns : goal.returns
+returns g c = λ has definite.
+    is_accepted (verdicts g.X.Cx) (g.D.Delegate.script c.cx-cx.result) c.in-Some.graph.nodes.items c.args.goal c.args.outcome c.sort.result c.check_graph.result c.sort.ensures.yes c.sort.ensures.no definite
+    (λ says_yes. rw c.cx-cx.ensures (rw c.in-Some.is at (c.in_ok-graph.ensures.valid_yes c.args.goal c.args.outcome has says_yes)))
+    (λ says_no. rw c.cx-cx.ensures (rw c.in-Some.is at (c.in_ok-graph.ensures.valid_no c.args.goal c.args.outcome has says_no)))
+    c.check_graph.ensures.exact

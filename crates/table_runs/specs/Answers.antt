@@ -1,0 +1,64 @@
+-- What the answers of questions are, one after another over one cache.
+use Rattle.std.specs.Prelude.{◌≡◌, ℕ, ◌≤◌, max, Bool, true, false, List, [], ◌∷◌, map, take, Option, IfSome, IfOk, IfErr}
+use Rattle.std.specs.Io.KnownBytes.{Appends}
+use Rattle.std.specs.List.{flat_map, list_all}
+use Rattle.table_runs.specs.Below.{CxOf, DelegateOf, Builder, is_noop_of, started_in, Cache, NodeId, Memory, Outcome, verdicts, HasGraph, IsDefinite, IsPlainTo, IsPlainValue, IsDecisive, AreDefinite, HaveNoOverflow, IsPaid, IsCaused, first_accepted, usable, KeepsFinished, KeepsResults, frames_within, Goal, Rules, questions_of}
+use Rattle.table_runs.specs.Told.{Answered, AppendsBeginning, IsChecked, is_fine, line_of}
+use Rattle.table_runs.specs.declared.program.questions.Checks.{Checks}
+
+-- the starts of frames are those that the builder counts, and it is a no-op if it was made as one
+abbrev pub AreCountedStarts : (Builder → ℕ) → (Builder → Bool) → Type 0
+AreCountedStarts starts noop = (builder : Builder) → (starts builder ≡ started_in builder) × (noop builder ≡ is_noop_of builder)
+
+module _ {D C V P F A T : Type 0} (G : DelegateOf D C V P F Goal Outcome A T) (X : CxOf C Goal Outcome A T) (same : Goal → Goal → Bool) (checks : Checks) where
+  -- The question was asked with its depth on a new graph over the cache `before`, with a new builder, and left the cache `after`.
+  -- What it came to is what the search promises of such a call.
+  pub record IsAnswered (before : Cache C Goal Outcome A T) (answered : Answered) (after : Cache C Goal Outcome A T) : Type 0 where
+    -- A goal whose questions go no deeper than the depth, and that is orderly with all goals below it, has its plain value.
+    pub plain : (n : ℕ) → IsPlainTo (G.script before.cx) n answered.question.1 → n ≤ answered.question.0 → IfOk answered.came (λ told. IsPlainValue (G.script before.cx) n answered.question.1 told.outcome)
+    pub plain_faults : (n : ℕ) → IsPlainTo (G.script before.cx) n answered.question.1 → n ≤ answered.question.0 → IfErr answered.came (λ fault. fault ≡ Memory)
+    -- The outcome has its graph, and is told as accepted if it is definite and graphs are checked.
+    pub graph : IfOk answered.came (λ told. (node : Option NodeId) × HasGraph (verdicts X) after.nodes answered.question.1 told.outcome node)
+    pub checked : IfOk answered.came (λ told. IsChecked (verdicts X) checks told.outcome told.check)
+    -- A stored result that may be used is told, with no frame, unless it is to be validated.
+    pub stored : G.scoped before.cx answered.question.1 ≡ false → IfSome (first_accepted (λ _. true) (usable same before.results answered.question.1 answered.question.0)) (λ hit. IfOk answered.came (λ told. (told.outcome ≡ hit.result) × (told.started ≡ 0)))
+    -- The frames are those that this question started.
+    pub frames : IfOk answered.came (λ told. told.started ≤ frames_within (max 1 G.FIXPOINT_STEP_LIMIT) (G.width before.cx) answered.question.0)
+    pub limits : Bool
+    pub decisive : IsDecisive (verdicts X) (G.script before.cx) → AreDefinite (verdicts X) same before.results → limits ≡ false → IfOk answered.came (λ told. IsDefinite (verdicts X) told.outcome)
+    pub price : G.counts ≡ true → HaveNoOverflow same before.results → limits ≡ true → IfOk answered.came (λ told. IsPaid (max 1 G.FIXPOINT_STEP_LIMIT) answered.question.0 G.last 0 told.started)
+    -- A fault has its cause, and the cache keeps what it had.
+    pub faults : IfErr answered.came (IsCaused G X same after)
+    pub same_context : after.cx ≡ before.cx
+    pub kept_results : KeepsResults same before.results after.results
+    pub kept : KeepsFinished before.nodes after.nodes
+
+  -- the questions were answered in this order, each over the cache that the one before it left
+  abbrev pub InTurn : Cache C Goal Outcome A T → List Answered → Cache C Goal Outcome A T → Type 0
+  InTurn before [] after = before ≡ after
+  InTurn before (first ∷ others) after = (between : Cache C Goal Outcome A T) × IsAnswered before first between × InTurn between others after
+
+  -- The questions, all of them and in this order, were answered in turn, the first over an empty cache, and the last one left the
+  -- cache `after`. The lines are those of their answers, and `all_fine` says that none met a fault and no graph was refused.
+  pub record AreTold (cx : C) (rules : Rules) (questions : List (ℕ × Goal)) (after : Cache C Goal Outcome A T) (lines : List ℕ) (all_fine : Bool) : Type 0 where
+    pub answered : List Answered
+    pub are_questions : map (λ a. a.question) answered ≡ questions
+    pub in_turn : InTurn (record { cx = cx; nodes = []; results = [] }) answered after
+    pub are_lines : lines ≡ flat_map (line_of rules) answered
+    pub fine : all_fine ≡ list_all (λ a. is_fine a.came) answered
+
+  -- all questions were answered, and their lines were written
+  pub record AreAllTold (cx : C) (rules : Rules) (old new : Option (List ℕ)) (all_fine : Bool) : Type 0 where
+    pub after : Cache C Goal Outcome A T
+    pub lines : List ℕ
+    pub are_told : AreTold cx rules (questions_of rules) after lines all_fine
+    pub written : Appends old new lines
+
+  -- the first questions were answered, and a beginning of their lines was written
+  pub record AreFirstTold (cx : C) (rules : Rules) (old new : Option (List ℕ)) : Type 0 where
+    pub count : ℕ
+    pub after : Cache C Goal Outcome A T
+    pub lines : List ℕ
+    pub all_fine : Bool
+    pub are_told : AreTold cx rules (take count (questions_of rules)) after lines all_fine
+    pub written : AppendsBeginning old new lines

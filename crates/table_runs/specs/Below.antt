@@ -1,0 +1,33 @@
+-- What the crates below have, from one place.
+pub use Rattle.cycle_heads.specs.declared.memory.NoMemory.{NoMemory}
+pub use Rattle.cycle_heads.specs.declared.path.PathKind.TheVariants.{Coinductive, Inductive}
+pub use Rattle.delegate_parts.specs.Builder.{is_noop_of, started_in}
+pub use Rattle.delegate_parts.specs.Outcome.{word_of}
+pub use Rattle.delegate_parts.specs.declared.builder.Builder.{Builder}
+pub use Rattle.delegate_parts.specs.declared.outcome.Outcome.{Outcome}
+pub use Rattle.search_context.specs.Verdicts.{IsDefinite, verdicts, Verdicts}
+pub use Rattle.search_context.specs.Valid.{IsValid, IsValidFor}
+pub use Rattle.global_cache.specs.Definite.{HasGraph}
+pub use Rattle.search_graph.specs.Below.{IsPaid}
+pub use Rattle.search_rules.specs.Claims.{IsCaused}
+pub use Rattle.search_rules.specs.Results.{AreDefinite, HaveNoOverflow}
+pub use Rattle.search_context.specs.Decisive.{IsDecisive}
+pub use Rattle.search_context.specs.Rank.{IsPlainTo, IsPlainValue}
+unfoldable pub use Rattle.search_context.specs.Rank.{frames_within}
+pub use Rattle.search_context.specs.declared.context.Cx.{Ghosts as CxOf}
+pub use Rattle.search_context.specs.declared.context.Delegate.{Ghosts as DelegateOf}
+pub use Rattle.search_context.specs.declared.context.Fault.{Fault}
+pub use Rattle.search_context.specs.declared.context.Fault.TheVariants.{Conflict, Memory, Protocol, Validation}
+pub use Rattle.search_context.specs.declared.context.Node.{Node}
+pub use Rattle.search_context.specs.declared.context.NodeId.{NodeId}
+pub use Rattle.search_context.specs.declared.context.Reply.{Reply}
+pub use Rattle.search_context.specs.declared.context.Request.{Request}
+pub use Rattle.search_context.specs.declared.context.Verdict.{Verdict}
+pub use Rattle.global_cache.specs.Cache.{Cache, KeepsFinished}
+pub use Rattle.global_cache.specs.Hits.{first_accepted, Hit, usable}
+pub use Rattle.global_cache.specs.Store.{KeepsResults}
+pub use Rattle.rule_tables.specs.Rules.{name_of, questions_of}
+pub use Rattle.rule_tables.specs.Text.{IsFirstBadLine, Reads}
+pub use Rattle.rule_tables.specs.declared.delegate.Table.{Table}
+pub use Rattle.rule_tables.specs.declared.rules.Goal.{Goal}
+pub use Rattle.rule_tables.specs.declared.rules.Rules.{Rules}

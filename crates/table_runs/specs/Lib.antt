@@ -1,0 +1,5 @@
+pub mod Stop
+pub mod Told
+pub mod Answers
+pub mod Program
+pub mod Below

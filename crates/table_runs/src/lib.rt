@@ -1,0 +1,15 @@
+//! The programs over tables of rules: a text is read as a table, and its questions are answered in order, each on a
+//! line of its own. The tables are those of `rule_tables`, which is handed on, so that a program names one crate.
+//!
+//! | File of `specs/` | Has |
+//! |---|---|
+//! | `Told`, `Answers` | the line of a question, and what a question came to |
+//! | `Stop`, `Program` | why a program ends early, and what a run of it came to |
+#![tactic(auto)]
+
+mod program;
+
+pub use program::{answer, run};
+pub use rule_tables::{
+    Builder, Candidate, Goal, Outcome, ReadFault, Rules, TableDelegate, delegate, rules,
+};

@@ -1,0 +1,225 @@
+//! What the programs do: they read a table, and answer its questions in order.
+ghost use Rattle.std.specs.Prelude.{◌≡◌, ◌≤◌, ◌<◌, ◌==◌, ◌⊎◌, ℕ, IfOk, IfErr, IfSome, OnErr, OnOk};
+ghost use Rattle.std.specs.Io.KnownBytes.{Keeps};
+ghost use Rattle.table_runs.specs.Below.{IsFirstBadLine};
+ghost use Rattle.table_runs.specs.Program.{IsAllTold, IsBrokenOff};
+
+mod questions;
+mod shown;
+mod writing;
+
+use questions::{Checks, answer_questions};
+use rule_tables::delegate::Table;
+use rule_tables::{Goal, ReadFault, Rules, TableDelegate};
+use search_parts::context::{Cx, Delegate};
+use std::alloc::{AllocError, Global};
+use std::io;
+use std::io::{Read, Write};
+use thiserror::Error;
+use writing::Flush;
+
+/// The most bytes that are read at a time.
+const PIECE: usize = 4096;
+
+/// The most reads in which the input must have come to its end.
+const READS: u32 = 1048576;
+
+/// Why the program ended early.
+#[derive(Clone, Copy, Debug, PartialEq, Eq, Error)]
+enum Stop {
+    #[error("line {0}: bad line")]
+    BadLine(usize),
+    #[error("input or output failed")]
+    InputOrOutput,
+    #[error("out of memory")]
+    Memory,
+}
+
+impl Stop {
+    ghost use Rattle.table_runs.specs.Stop.{status_of};
+
+    // The exit status.
+    fn status(self) -> u8
+        ensures { result ≡ status_of self }
+    {
+        match self {
+            Stop::BadLine(_) => 2,
+            Stop::InputOrOutput => 3,
+            Stop::Memory => 4,
+        }
+    }
+}
+
+impl From<AllocError> for Stop {
+    ghost use Rattle.table_runs.specs.declared.program.Stop.TheVariants.{Memory};
+
+    ghost from_gives = { λ _ stop. stop ≡ Memory };
+
+    fn from(_error: AllocError) -> Stop {
+        Stop::Memory
+    }
+}
+
+impl From<io::Error> for Stop {
+    ghost use Rattle.table_runs.specs.declared.program.Stop.TheVariants.{InputOrOutput};
+
+    ghost from_gives = { λ _ stop. stop ≡ InputOrOutput };
+
+    fn from(_error: io::Error) -> Stop {
+        Stop::InputOrOutput
+    }
+}
+
+impl From<ReadFault> for Stop {
+    ghost use Rattle.table_runs.specs.Stop.{stop_of};
+
+    ghost from_gives = { λ fault stop. stop ≡ stop_of fault };
+
+    fn from(fault: ReadFault) -> Stop {
+        match fault {
+            ReadFault::BadLine(number) => Stop::BadLine(number),
+            ReadFault::Memory => Stop::Memory,
+        }
+    }
+}
+
+/// Reads rules and questions and answers each question in order, on a line of its own:
+/// `NAME yes 3 checked`, with `no` in place of `yes`, or `NAME maybe 3`, with `overflow` in place of
+/// `maybe`. The number is that of the frames that the question started. `checked` says that the graph of
+/// the answer was handed out, and that the checker, which knows nothing of the search, accepted it;
+/// should it not, the word is `unchecked`. A fault is told as `NAME fault memory`, with `conflict`,
+/// `validation` or `protocol`; where memory is out for the check, that is a fault of memory, too.
+/// All rules count for every question, and all questions share one cache.
+///
+/// The answer is the exit status: 0 where all questions were answered, and 1 where one met a
+/// fault or was unchecked. 2 for a malformed line: then no question is asked. 3 where reading or
+/// writing failed, and 4 where there was no memory for the input, the table or the lines: then the program
+/// ends there. For 2, 3 and 4 the reason stands on the second writer, and a failure to write it changes
+/// nothing.
+pub fn run<R: Read + Drop, W: Write, E: Write + Drop>(
+    alloc: Global,
+    input: R,
+    out: &mut W,
+    err: E,
+) -> u8
+    ensures status { result ≤ 4 }
+
+    // All questions of the text were answered in turn, and their lines are what was written; 0 says that none
+    // met a fault and no graph was refused.
+    ensures told { result ≤ 1 → IsAllTold ⟦<TableDelegate<'static, 8, 1> as Delegate>⟧
+        ⟦<Table<&'static Rules> as Cx>⟧ ⟦<Goal as PartialEq>⟧.eq Checks.EachGraph
+        (R.remaining input) (W.contents out.old) (W.contents out.new) (result == 0) }
+
+    // Where the reader's bytes are known, a malformed line is told only of a text that the grammar does not
+    // allow.
+    ensures bad_line { result ≡ 2 →
+        IfSome (R.remaining input) (λ text. (n : ℕ) × IsFirstBadLine text n) }
+    ensures nothing_written { result ≡ 2 → Keeps (W.contents out.old) (W.contents out.new) }
+
+    // What was written before a failure is a beginning of such lines.
+    ensures beginning { 2 < result → IsBrokenOff ⟦<TableDelegate<'static, 8, 1> as Delegate>⟧
+        ⟦<Table<&'static Rules> as Cx>⟧ ⟦<Goal as PartialEq>⟧.eq Checks.EachGraph
+        (R.remaining input) (W.contents out.old) (W.contents out.new) }
+{
+    run_with(alloc, Checks::EachGraph, input, out, err)
+}
+
+/// The same without checks: nothing follows the number of frames.
+pub fn answer<R: Read + Drop, W: Write, E: Write + Drop>(
+    alloc: Global,
+    input: R,
+    out: &mut W,
+    err: E,
+) -> u8
+    ensures status { result ≤ 4 }
+    ensures told { result ≤ 1 → IsAllTold ⟦<TableDelegate<'static, 8, 1> as Delegate>⟧
+        ⟦<Table<&'static Rules> as Cx>⟧ ⟦<Goal as PartialEq>⟧.eq Checks.Nothing
+        (R.remaining input) (W.contents out.old) (W.contents out.new) (result == 0) }
+    ensures bad_line { result ≡ 2 →
+        IfSome (R.remaining input) (λ text. (n : ℕ) × IsFirstBadLine text n) }
+    ensures nothing_written { result ≡ 2 → Keeps (W.contents out.old) (W.contents out.new) }
+    ensures beginning { 2 < result → IsBrokenOff ⟦<TableDelegate<'static, 8, 1> as Delegate>⟧
+        ⟦<Table<&'static Rules> as Cx>⟧ ⟦<Goal as PartialEq>⟧.eq Checks.Nothing
+        (R.remaining input) (W.contents out.old) (W.contents out.new) }
+{
+    run_with(alloc, Checks::Nothing, input, out, err)
+}
+
+fn run_with<R: Read + Drop, W: Flush, E: Write + Drop>(
+    alloc: Global,
+    checks: Checks,
+    mut input: R,
+    out: &mut W,
+    mut err: E,
+) -> u8
+    ensures status { result ≤ 4 }
+    ensures told { result ≤ 1 → IsAllTold ⟦<TableDelegate<'static, 8, 1> as Delegate>⟧
+        ⟦<Table<&'static Rules> as Cx>⟧ ⟦<Goal as PartialEq>⟧.eq checks
+        (R.remaining input) (W.contents out.old) (W.contents out.new) (result == 0) }
+    ensures bad_line { result ≡ 2 →
+        IfSome (R.remaining input) (λ text. (n : ℕ) × IsFirstBadLine text n) }
+    ensures nothing_written { result ≡ 2 → Keeps (W.contents out.old) (W.contents out.new) }
+    ensures beginning { 2 < result → IsBrokenOff ⟦<TableDelegate<'static, 8, 1> as Delegate>⟧
+        ⟦<Table<&'static Rules> as Cx>⟧ ⟦<Goal as PartialEq>⟧.eq checks
+        (R.remaining input) (W.contents out.old) (W.contents out.new) }
+    ensures flushed { result ≤ 1 → W.is_flushed out.new }
+{
+    match answer_input(alloc, checks, &mut input, out) {
+        Ok(true) => 0,
+        Ok(false) => 1,
+        Err(stop) => {
+            let _ = writeln!(err, "{stop}");
+            stop.status()
+        }
+    }
+}
+
+// Whether each question was answered, and none met a fault.
+fn answer_input<R: Read, W: Flush>(
+    alloc: Global,
+    checks: Checks,
+    input: &mut R,
+    out: &mut W,
+) -> Result<bool, Stop>
+    ensures told { IfOk result (IsAllTold ⟦<TableDelegate<'static, 8, 1> as Delegate>⟧
+        ⟦<Table<&'static Rules> as Cx>⟧ ⟦<Goal as PartialEq>⟧.eq checks
+        (R.remaining input.old) (W.contents out.old) (W.contents out.new)) }
+    ensures flushed { OnOk result (W.is_flushed out.new) }
+    ensures bad_line { (n : ℕ) → result ≡ Err (Stop.BadLine n) →
+        IfSome (R.remaining input.old) (λ text. IsFirstBadLine text n) }
+    ensures nothing_written { (n : ℕ) → result ≡ Err (Stop.BadLine n) →
+        Keeps (W.contents out.old) (W.contents out.new) }
+    ensures beginning { OnErr result (IsBrokenOff ⟦<TableDelegate<'static, 8, 1> as Delegate>⟧
+        ⟦<Table<&'static Rules> as Cx>⟧ ⟦<Goal as PartialEq>⟧.eq checks
+        (R.remaining input.old) (W.contents out.old) (W.contents out.new)) }
+{
+    let text = read_input(alloc, input)?;
+    let rules = Rules::read(alloc, text.as_slice())?;
+    answer_questions::<Table<&Rules>, TableDelegate<'_, 8, 1>, W>(
+        alloc,
+        Table { lender: &rules },
+        &rules,
+        checks,
+        out,
+    )
+}
+
+// The whole input.
+fn read_input<R: Read>(alloc: Global, input: &mut R) -> Result<Vec<u8>, Stop>
+    ensures whole { IfOk result (λ text. IfSome (R.remaining input.old) (λ bytes. text.items ≡ bytes)) }
+    ensures fault { IfErr result (λ stop. (stop ≡ Stop.InputOrOutput) ⊎ (stop ≡ Stop.Memory)) }
+{
+    let mut text = Vec::new(alloc);
+    let mut piece = [0; PIECE];
+    for _ in 0..READS {
+        let count = input.read(&mut piece)?;
+        if count == 0 {
+            return Ok(text);
+        }
+        text.extend_from_slice(&piece[..count])?;
+    }
+    Err(Stop::InputOrOutput)
+}
+
+#[cfg(test)]
+mod tests;

@@ -1,0 +1,240 @@
+//! The questions of a table: each is asked, and told on a line.
+ghost use Rattle.std.specs.Prelude.{◌≡◌, ◌≢◌, ◌⊎◌, ◌++◌, IfErr, IfOk, OnErr, OnOk, Err};
+ghost use Rattle.std.specs.Io.KnownBytes.{Appends};
+ghost use Rattle.table_runs.specs.Answers.{AreAllTold, AreCountedStarts, AreFirstTold, IsAnswered};
+ghost use Rattle.table_runs.specs.Below.{HasGraph, verdicts};
+ghost use Rattle.table_runs.specs.Told.{AppendsBeginning, fault_word_of, IsChecked, is_fine, line_told, Passes, told_words, words_of_answer};
+
+use crate::program::Stop;
+use crate::program::shown::ShownNodes;
+use crate::program::writing::{Flush, write_bytes};
+use delegate_parts::{Builder, Outcome};
+use rule_tables::{Goal, Rules};
+use search_graph::graph::SearchGraph;
+use search_parts::context::{Answer, Cx, Delegate, Fault, NoMemory};
+use search_parts::global_cache::GlobalCache;
+use search_parts::path::PathKind;
+use std::alloc::Global;
+use std::io::Write;
+use std::{fmt, io};
+
+/// A write of its own for each line would take longer than a question that the cache answers, so this many bytes
+/// wait for each other.
+const ENOUGH: usize = 8000;
+
+/// Room for these and one line more.
+const ROOM: usize = 8192;
+
+/// What is checked of the answers.
+#[derive(Clone, Copy, Debug, PartialEq, Eq)]
+pub(super) enum Checks {
+    /// The graph of each definite one.
+    EachGraph,
+    Nothing,
+}
+
+/// What came of checking an answer's graph.
+#[derive(Clone, Copy, Debug, PartialEq, Eq)]
+pub(super) enum Check {
+    /// The answer has no graph, or graphs are not checked.
+    None,
+    Accepted,
+    /// The graph is missing, or it was refused.
+    Refused,
+}
+
+impl fmt::Display for Check {
+    ghost use Rattle.std.specs.Prelude.{Some};
+    ghost use Rattle.table_runs.specs.Below.{HasGraph, verdicts};
+    ghost use Rattle.table_runs.specs.Told.{check_words};
+
+    ghost output = { λ check. Some (check_words check) };
+
+    fn fmt<W: fmt::Write>(&self, f: &mut fmt::Formatter<W>) -> fmt::Result {
+        f.write_str(match self {
+            Check::None => "",
+            Check::Accepted => " checked",
+            Check::Refused => " unchecked",
+        })
+    }
+}
+
+/// What a question came to.
+#[derive(Clone, Copy, Debug, PartialEq, Eq)]
+pub(super) struct Told {
+    pub(super) outcome: Outcome,
+    /// How many frames the question started.
+    pub(super) started: u64,
+    pub(super) check: Check,
+}
+
+/// Answers each question on a graph of its own, over one cache, and writes its line. The result is whether none met
+/// a fault and no graph was refused.
+pub(super) fn answer_questions<X, D, W>(
+    alloc: Global,
+    cx: X,
+    rules: &Rules,
+    checks: Checks,
+    out: &mut W,
+) -> Result<bool, Stop>
+where
+    X: Cx<Input = Goal, Result = Outcome>,
+    D: Delegate<Cx = X, ProofTreeBuilder = Builder>,
+    W: Flush,
+    // Where starts are those that the builder counts, all questions were asked in order, and their lines written.
+    ensures told { AreCountedStarts D.starts D.noop → IfOk result (AreAllTold D.Delegate X.Cx
+        ⟦<Goal as PartialEq>⟧.eq checks cx rules.now (W.contents out.old) (W.contents out.new)) }
+    ensures flushed { OnOk result (W.is_flushed out.new) }
+
+    // Else a beginning of the lines of those that were asked.
+    ensures beginning { AreCountedStarts D.starts D.noop → OnErr result (AreFirstTold D.Delegate X.Cx
+        ⟦<Goal as PartialEq>⟧.eq checks cx rules.now (W.contents out.old) (W.contents out.new)) }
+    ensures fault { IfErr result (λ stop. (stop ≡ Stop.InputOrOutput) ⊎ (stop ≡ Stop.Memory)) }
+{
+    let mut waiting = Vec::with_capacity(alloc, ROOM)?;
+    let mut cache = GlobalCache::<D>::new(alloc, cx);
+    let mut shown = ShownNodes::new(alloc);
+    let mut all_fine = true;
+    let questions = rules.questions();
+    for question in questions {
+        let (depth, goal) = *question;
+        let came = ask(alloc, &mut cache, depth, goal, checks, &mut shown);
+        all_fine &= came_fine(came);
+        tell(out, &mut waiting, rules.name(goal).unwrap_or(b""), came)?;
+    }
+    write_bytes(out, waiting.as_slice())?;
+    out.flush_all()?;
+    Ok(all_fine)
+}
+
+// Whether no fault was met, and no graph refused.
+fn came_fine(came: Result<Told, Fault<Goal, Outcome>>) -> bool
+    ensures { result ≡ is_fine came }
+{
+    match came {
+        Ok(told) => told.check != Check::Refused,
+        Err(_) => false,
+    }
+}
+
+// The line waits, until there are enough to be written.
+fn tell<W: Write>(
+    out: &mut W,
+    waiting: &mut Vec<u8>,
+    name: &[u8],
+    came: Result<Told, Fault<Goal, Outcome>>,
+) -> Result<(), Stop>
+    ensures passed { OnOk result (Passes (W.contents out.old) (W.contents out.new)
+        (waiting.old.items ++ line_told name.now came) waiting.new.items) }
+    ensures beginning { OnErr result (AppendsBeginning (W.contents out.old) (W.contents out.new)
+        (waiting.old.items ++ line_told name.now came)) }
+    ensures fault { IfErr result (λ stop. (stop ≡ Stop.InputOrOutput) ⊎ (stop ≡ Stop.Memory)) }
+{
+    write_line(waiting, name, came).map_err(|_| Stop::Memory)?;
+    if waiting.len() < ENOUGH {
+        return Ok(());
+    }
+    write_bytes(out, waiting.as_slice())?;
+    waiting.clear();
+    Ok(())
+}
+
+fn write_line<W: Write>(
+    out: &mut W,
+    name: &[u8],
+    came: Result<Told, Fault<Goal, Outcome>>,
+) -> io::Result<()>
+    ensures { OnOk result (Appends (W.contents out.old) (W.contents out.new) (line_told name.now came)) }
+{
+    out.write_all(name)?;
+    match came {
+        Ok(told) => write_told(out, told),
+        Err(fault) => write_fault(out, fault),
+    }
+}
+
+fn write_told<W: Write>(out: &mut W, told: Told) -> io::Result<()>
+    ensures { OnOk result (Appends (W.contents out.old) (W.contents out.new) (told_words told)) }
+{
+    let Told {
+        outcome,
+        started,
+        check,
+    } = told;
+    writeln!(out, " {outcome} {started}{check}")
+}
+
+fn write_fault<W: Write>(out: &mut W, fault: Fault<Goal, Outcome>) -> io::Result<()>
+    ensures { OnOk result (Appends (W.contents out.old) (W.contents out.new) (words_of_answer (Err fault))) }
+{
+    let word = fault_word(fault);
+    writeln!(out, " fault {word}")
+}
+
+/// Asks the goal at this depth, and checks the graph of a definite answer if that is wanted.
+fn ask<X, D>(
+    alloc: Global,
+    cache: &mut GlobalCache<D>,
+    depth: usize,
+    goal: Goal,
+    checks: Checks,
+    shown: &mut ShownNodes,
+) -> Result<Told, Fault<Goal, Outcome>>
+where
+    X: Cx<Input = Goal, Result = Outcome>,
+    D: Delegate<Cx = X, ProofTreeBuilder = Builder>,
+    // A graph that is handed out is accepted.
+    ensures accepted { IfOk result (λ told. told.check ≢ Check.Refused) }
+
+    // Where starts are those that the builder counts, this is the search's answer at this depth, with its frames.
+    ensures answered { AreCountedStarts D.starts D.noop → IsAnswered D.Delegate X.Cx ⟦<Goal as PartialEq>⟧.eq
+        checks cache.old (record { question = (depth, goal); came = result }) cache.new }
+{
+    let mut graph = SearchGraph::<D>::new(alloc, depth);
+    let mut builder = Builder::new(true);
+    let answer = graph.evaluate_goal(cache, goal, PathKind::Inductive, &mut builder)?;
+    let outcome = answer.result;
+    let check = check_answer::<X, D>(alloc, cache, goal, answer, checks, shown)?;
+    Ok(Told {
+        outcome,
+        started: builder.started(),
+        check,
+    })
+}
+
+// What comes of checking the answer's graph, if that is wanted.
+fn check_answer<X, D>(
+    alloc: Global,
+    cache: &GlobalCache<D>,
+    goal: Goal,
+    answer: Answer<Outcome>,
+    checks: Checks,
+    shown: &mut ShownNodes,
+) -> Result<Check, NoMemory>
+where
+    X: Cx<Input = Goal, Result = Outcome>,
+    D: Delegate<Cx = X, ProofTreeBuilder = Builder>,
+    ensures { HasGraph (verdicts X.Cx) cache.now.nodes goal answer.result answer.node →
+        IfOk result (IsChecked (verdicts X.Cx) checks answer.result) }
+{
+    match (checks, answer.node) {
+        (Checks::EachGraph, Some(node)) => {
+            match shown.show::<X, D>(alloc, cache, goal, answer.result, node)? {
+                true => Ok(Check::Accepted),
+                false => Ok(Check::Refused),
+            }
+        }
+        _ => Ok(Check::None),
+    }
+}
+
+pub(super) fn fault_word(fault: Fault<Goal, Outcome>) -> &'static str
+    ensures { result.now ≡ fault_word_of fault }
+{
+    match fault {
+        Fault::Memory => "memory",
+        Fault::Conflict { .. } => "conflict",
+        Fault::Validation { .. } => "validation",
+        Fault::Protocol(_) => "protocol",
+    }
+}
