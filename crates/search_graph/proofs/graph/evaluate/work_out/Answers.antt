@@ -140,4 +140,3 @@ returns-in-Finished-clause-spares g c = record {
   recorded = then_recorded (g.D.Delegate.scoped c.args.cache.now.cx) (g.D.Delegate.script c.args.cache.now.cx) g.D.Cx.Input.PartialEq.eq (g.D.Delegate.noop c.args.inspect.now) c.args.input c.args.fate c.args.cache.now.results c.loop-next.evaluation.goals c.loop-next.cache.results c.advance.new.cache.results c.loop-next.invariant.fates c.advance.ensures.cache.changes;
   spared = λ unstored. then_spared (g.D.Delegate.scoped c.args.cache.now.cx) (g.D.Delegate.script c.args.cache.now.cx) g.D.Cx.Input.PartialEq.eq (g.D.Delegate.noop c.args.inspect.now) c.args.input c.args.fate c.args.cache.now.results c.loop-next.evaluation.goals c.loop-next.cache.results c.advance.new.cache.results c.loop-next.invariant.fates c.advance.ensures.cache.changes (not_stored c.args.fate unstored);
 }
-
