@@ -13,6 +13,7 @@ pub trait LendsRules: Copy {
 
     ghost rules_of: { Self → Rules };
 
+    /// The table.
     fn rules(&self) -> &Rules
         ensures { result.now ≡ rules_of self.now };
 }

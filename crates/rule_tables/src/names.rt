@@ -28,6 +28,7 @@ impl Model for Names {
 }
 
 impl Names {
+    /// No names. It takes no memory yet.
     pub fn new(alloc: Global) -> Names
         ensures { result ≡ [] }
     {

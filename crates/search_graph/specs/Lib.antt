@@ -1,5 +1,6 @@
 pub mod Graph
 pub mod Lists
 pub mod Fates
+pub mod Calls
 pub mod Below
 pub mod Words

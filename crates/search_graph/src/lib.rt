@@ -4,6 +4,7 @@
 //! |---|---|
 //! | `Graph` | what a search graph is between its calls |
 //! | `Fates` | which stored results stay while a goal is worked out |
+//! | `Calls` | what a move, and the whole of an evaluation, comes to in whatever call it is made |
 //! | `Lists` | what a list of queries is answered with |
 #![tactic(auto)]
 

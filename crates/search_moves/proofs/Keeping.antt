@@ -5,7 +5,8 @@ use Rattle.global_cache.proofs.Stores.{KeepsResults-same}
 use Rattle.search_rules.proofs.records.EarlierNodes.{earlier_but, earlier_of_nodes, earlier_over, earlier_same, stay_left, stay_noted, stay_pushed, stay_stored, stay_taken}
 use Rattle.search_moves.specs.Below.{Cache, CacheNode, CxOf, DelegateOf, KeepsBut, KeepsEarlier, KeepsFinished, KeepsNodes, KeepsResults, Next, PathKind, Received, Run, StackEntry, StayFrom}
 use Rattle.search_moves.specs.declared.evaluation.Evaluation.{Evaluation}
-use Rattle.search_moves.specs.Words.{Asked, ByEntry, ByStored, HadMostRuns, IsDone, IsRunAgain, KeepsCache, OverCycle, Pushed, Refused, RunLeads}
+use Rattle.search_rules.specs.Fates.{Untouched}
+use Rattle.search_moves.specs.Words.{Asked, ByEntry, ByStored, ChangesCache, HadMostRuns, IsDone, IsRunAgain, KeepsCache, OverCycle, Pushed, Refused, RunLeads}
 
 module _ {C F I R A T : Type 0} (same : I → I → Bool) (goals : List (StackEntry C I R A T × Run C F I R A T)) where
   -- one that changes nothing
@@ -33,6 +34,18 @@ module _ {C F I R A T : Type 0} (same : I → I → Bool) (goals : List (StackEn
     results = results;
     nodes = nodes;
     earlier = subst (λ gs. KeepsEarlier gs old.nodes new.nodes) (sym was) (earlier_but s below old.nodes new.nodes but);
+  }
+
+  -- and one that leaves the stored results
+  pub leaves_results : (old new : Cache C I R A T) → new ≡ record old { nodes = new.nodes } → KeepsFinished old.nodes new.nodes → KeepsEarlier goals old.nodes new.nodes → ChangesCache same goals old new
+  leaves_results old new is kept earlier = record {
+    keeps = record {
+      context = ap (λ cache. cache.cx) is;
+      results = KeepsResults-same same old.results new.results (ap (λ cache. cache.results) is);
+      nodes = kept;
+      earlier = earlier;
+    };
+    changes = Untouched (ap (λ cache. cache.results) is);
   }
 
 module _ {X F I R A T : Type 0} (nodes : List (CacheNode I R)) (one two three : List (StackEntry X I R A T × Run X F I R A T)) where

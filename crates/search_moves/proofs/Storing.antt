@@ -5,7 +5,10 @@ use Rattle.cycle_heads.specs.declared.depth.StackDepth.{StackDepth}
 use Rattle.cycle_heads.specs.declared.heads.CycleHead.{CycleHead}
 use Rattle.provisional_cache.specs.Provisional.{AppendsEntry}
 use Rattle.open_goals.specs.declared.goals.Fate.{Fate}
-use Rattle.search_moves.specs.Storing.{Stores}
+use Rattle.global_cache.proofs.Stores.{KeepsResults-same}
+use Rattle.search_rules.specs.Fates.{Untouched}
+use Rattle.search_rules.specs.Results.{NotStored}
+use Rattle.search_moves.specs.Storing.{PutsAnswer, Stores}
 use Rattle.search_moves.specs.declared.evaluation.Evaluation.{Evaluation}
 use Rattle.search_moves.specs.Below.{Cache, CxOf, DelegateOf, entries_at, entries_for, entry_of, EvaluationResult, highest, Lists, PathKind, ProvisionalCacheEntry, StackEntry}
 use Rattle.std.proofs.lemmas.List.{append-nil}
@@ -55,3 +58,11 @@ module _ {D C V P F I R A T : Type 0} (G : DelegateOf D C V P F I R A T) (X : Cx
 pub equal_results : {U E R : Type 0} (r : Result U E) (memory : E) (found stored : R) → found ≡ stored → OnErr r (found ≡ stored → ⊥) → IfErr r (λ fault. fault ≡ memory)
 equal_results (Ok u) memory found stored equal differs = tt
 equal_results (Err e) memory found stored equal differs = absurd (differs equal)
+
+-- nothing is stored
+pub puts_nothing : {C I R A T : Type 0} (same : I → I → Bool) (goal : I) (answer : EvaluationResult C I R A T) (fate : Fate R) (cache : Cache C I R A T) → PutsAnswer same goal answer fate cache cache
+puts_nothing same goal answer fate cache = record {
+  cache = record { rest = refl; kept = KeepsResults-same same cache.results cache.results refl };
+  stored = NotStored refl;
+  changes = λ depth. Untouched refl;
+}

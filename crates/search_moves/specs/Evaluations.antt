@@ -1,6 +1,6 @@
 -- What holds of an evaluation between two of its moves, and what the moves lead to.
-use Rattle.std.specs.Prelude.{◌≡◌, ◌<◌, ◌^◌, ℕ, Bool, false, List, [], length, Result, IfOk, IfErr}
-use Rattle.search_moves.specs.Below.{DelegateOf, CxOf, Request, Fault, Evaluate, Next, Received, Cache, KeepsFinished, KeepsResults, PathKind, StackEntry, Run, verdicts}
+use Rattle.std.specs.Prelude.{◌≡◌, ◌<◌, ◌≤◌, ◌+◌, ◌^◌, ℕ, Bool, true, false, List, [], length, Result, IfOk, IfErr}
+use Rattle.search_moves.specs.Below.{ChangesNewest, CountsOne, DelegateOf, CxOf, KeepsBuilder, Request, Fault, Evaluate, Next, Received, Cache, KeepsFinished, KeepsResults, PathKind, StackEntry, Run, verdicts}
 use Rattle.search_moves.specs.declared.evaluation.Evaluation.{Evaluation}
 use Rattle.search_context.specs.declared.context.Answer.{Answer}
 use Rattle.search_rules.specs.Calls.{Call, IsCounted}
@@ -25,6 +25,17 @@ pub record KeepsCache {C F I R A T : Type 0} (same : I → I → Bool) (goals : 
   pub results : KeepsResults same old.results new.results
   pub nodes : KeepsFinished old.nodes new.nodes
   pub earlier : KeepsEarlier goals old.nodes new.nodes
+
+-- Besides, a move changes no stored results but those of the newest goal, if its result is to be stored.
+pub record ChangesCache {C F I R A T : Type 0} (same : I → I → Bool) (goals : List (StackEntry C I R A T × Run C F I R A T)) (old new : Cache C I R A T) : Type 0 where
+  pub keeps : KeepsCache same goals old new
+  pub changes : ChangesNewest same (fates_of goals) old.results new.results
+
+-- At most one frame was started, and no more was counted; and one was, where starts are counted, if what `done` says of it holds.
+pub record StartsFrame {D C V P F I R A T : Type 0} (G : DelegateOf D C V P F I R A T) (done : Type 0 → Type 0) (old new : P) : Type 0 where
+  pub builder : KeepsBuilder G.starts G.noop old new
+  pub at_most : G.starts new ≤ G.starts old + 1
+  pub counted : G.counts ≡ true → done (CountsOne G.last (G.starts old) (G.starts new))
 
 -- Where starts are counted, and before the call no limit was met and no result stored that met overflow, the answer is stored, unless
 -- a limit was met now.

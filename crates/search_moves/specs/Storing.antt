@@ -1,17 +1,24 @@
 -- What is stored of a goal that is done.
-use Rattle.std.specs.Prelude.{◌≡◌, ◌&&◌, ◌++◌, if◌then◌else◌, Bool, [], map, reverse}
+use Rattle.std.specs.Prelude.{◌≡◌, ◌&&◌, ◌++◌, if◌then◌else◌, ℕ, Bool, [], ◌∷◌, map, reverse}
 use Rattle.search_moves.specs.Below.{DelegateOf, CxOf, Cache, EvaluationResult, HasGraph, IsPlainAt, KeepsResults, PathKind, entries_at, place_of, verdicts}
 use Rattle.search_moves.specs.declared.evaluation.Evaluation.{Evaluation}
 use Rattle.open_goals.specs.declared.goals.Fate.{Fate}
 use Rattle.open_goals.specs.declared.goals.Fate.TheVariants as becomes
 use Rattle.search_rules.specs.Claims.{ComesTo}
+use Rattle.search_rules.specs.Fates.{ChangesNewest}
 use Rattle.search_rules.specs.Provisional.{entries_for}
-use Rattle.search_rules.specs.Results.{IsStored}
+use Rattle.search_rules.specs.Results.{IsStored, StoresAnswer}
 
 -- of a cache only the stored results changed, and each is there still, or an equal one
 pub record ChangesResults {C I R A T : Type 0} (same : I → I → Bool) (old new : Cache C I R A T) : Type 0 where
   pub rest : new ≡ record old { results = new.results }
   pub kept : KeepsResults same old.results new.results
+
+-- and only those of the goal, if that is its fate, which are then this answer
+pub record PutsAnswer {C I R A T : Type 0} (same : I → I → Bool) (goal : I) (answer : EvaluationResult C I R A T) (fate : Fate R) (old new : Cache C I R A T) : Type 0 where
+  pub cache : ChangesResults same old new
+  pub stored : StoresAnswer same old.results new.results goal answer
+  pub changes : (depth : ℕ) → ChangesNewest same (record { goal = goal; depth = depth; fate = fate } ∷ []) old.results new.results
 
 module _ {D C V P F I R A T : Type 0} (G : DelegateOf D C V P F I R A T) (X : CxOf C I R A T) where
   -- The goal's answer may be stored: it has its graph, if it rests on no goal; it is plain, where the goal has a rank; the goal came to it.

@@ -1,10 +1,10 @@
 //! What a question comes to: it is refused, or answered by a provisional entry, a stored result or a goal that is
 //! under evaluation already, or its goal is pushed.
-ghost use Rattle.std.specs.Prelude.{◌≡◌, ◌≤◌, ◌<◌, ◌+◌, ◌||◌, ◌∷◌, ℕ, false, true, List, length, map, reverse, unwrap_or, IfOk, OnOk, OnErr, Some};
+ghost use Rattle.std.specs.Prelude.{◌≡◌, ◌<◌, ◌||◌, ◌∷◌, ℕ, false, List, length, map, reverse, unwrap_or, IfOk, OnOk, OnErr, Some};
 ghost use Rattle.std.specs.List.{list_any, position};
 ghost use Rattle.std.specs.Option.{is_none, option_map, option_and_then};
-ghost use Rattle.search_moves.specs.Below.{depth_below, CountsOne, KeepsBuilder, CacheNode, KeepsNodes, Lists, Store, ProvisionalCacheEntry, Evaluate, StoredResult, Memory, newest, Call, AreFree, ClosesCycle, Pushes, NewestAsks, AreJustified, IsFit, AreReady, runs_of, fates_of};
-ghost use Rattle.search_moves.specs.Words.{HasRequest, Requests, IsRightFor, GoesOnWith, StopsWith, KeepsCache, Asked, question_depth};
+ghost use Rattle.search_moves.specs.Below.{depth_below, KeepsBuilder, CacheNode, KeepsNodes, Lists, Store, ProvisionalCacheEntry, Evaluate, StoredResult, Memory, newest, Call, AreFree, ClosesCycle, Pushes, NewestAsks, AreJustified, IsFit, AreReady, runs_of, fates_of};
+ghost use Rattle.search_moves.specs.Words.{HasRequest, Requests, IsRightFor, GoesOnWith, StopsWith, KeepsCache, StartsFrame, Asked, question_depth};
 
 use crate::evaluation::Evaluation;
 use open_goals::candidates::FinishedCandidates;
@@ -143,10 +143,7 @@ impl<D: Delegate> Evaluation<D> {
         ensures rest { self.new ≡ record self.old { goals = self.new.goals } }
         ensures cache { cache.new ≡ record cache.old { nodes = cache.new.nodes } }
         ensures kept { KeepsNodes cache.old.nodes cache.new.nodes }
-        ensures builder { KeepsBuilder D.starts D.noop inspect.old inspect.new }
-        ensures at_most { D.starts inspect.new ≤ D.starts inspect.old + 1 }
-        ensures counted { D.counts ≡ true →
-            OnOk result (CountsOne D.last (D.starts inspect.old) (D.starts inspect.new)) }
+        ensures starts { StartsFrame D.Delegate (OnOk result) inspect.old inspect.new }
     {
         let node = cache.open_node(input)?;
         let frame = D::start(cache.cx(), input, inspect)?;

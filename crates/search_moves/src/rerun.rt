@@ -1,7 +1,7 @@
 //! The newest goal is run again.
-ghost use Rattle.std.specs.Prelude.{◌≡◌, ◌≤◌, ◌+◌, true, OnOk};
-ghost use Rattle.search_moves.specs.Below.{CountsOne, KeepsBuilder, KeepsEarlier, KeepsFinished};
-ghost use Rattle.search_moves.specs.Words.{MayRunAgain, RunsAgain};
+ghost use Rattle.std.specs.Prelude.{◌≡◌, OnOk};
+ghost use Rattle.search_moves.specs.Below.{KeepsEarlier, KeepsFinished};
+ghost use Rattle.search_moves.specs.Words.{MayRunAgain, RunsAgain, StartsFrame};
 
 use crate::evaluation::Evaluation;
 use search_parts::context::{Cx, Delegate, NoMemory};
@@ -27,10 +27,7 @@ impl<D: Delegate> Evaluation<D> {
         ensures cache { cache.new ≡ record cache.old { nodes = cache.new.nodes } }
         ensures kept { KeepsFinished cache.old.nodes cache.new.nodes }
         ensures earlier { KeepsEarlier self.old.goals cache.old.nodes cache.new.nodes }
-        ensures builder { KeepsBuilder D.starts D.noop inspect.old inspect.new }
-        ensures at_most { D.starts inspect.new ≤ D.starts inspect.old + 1 }
-        ensures counted { D.counts ≡ true →
-            OnOk result (CountsOne D.last (D.starts inspect.old) (D.starts inspect.new)) }
+        ensures starts { StartsFrame D.Delegate (OnOk result) inspect.old inspect.new }
     {
         // Entries that used the goal's result are cleared, since that is another one now. Those that merely have the
         // goal as a head stay: they are rebased when it is popped.

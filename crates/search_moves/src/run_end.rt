@@ -1,7 +1,7 @@
 //! The newest goal's run ends.
 ghost use Rattle.std.specs.Prelude.{IfOk, IfErr, Some};
-ghost use Rattle.search_moves.specs.Below.{ChangesNewest, Done, fates_of, IsCaused, KeepsBuilder};
-ghost use Rattle.search_moves.specs.Words.{HasRequest, Moves, IsRightNext, KeepsCache, RunLeads, MeetsLimitAtEnd};
+ghost use Rattle.search_moves.specs.Below.{Done, IsCaused, KeepsBuilder};
+ghost use Rattle.search_moves.specs.Words.{ChangesCache, HasRequest, Moves, IsRightNext, RunLeads, MeetsLimitAtEnd};
 
 use crate::evaluation::Evaluation;
 use open_goals::goals::{Next, Received};
@@ -33,9 +33,7 @@ impl<D: Delegate> Evaluation<D> {
             IsRightNext D.Delegate D.Cx.Cx D.Cx.Input.eq cache.old.cx self.old.goals next
             cache.new self.new) }
         ensures caused { IfErr result (IsCaused D.Delegate D.Cx.Cx D.Cx.Input.eq cache.new) }
-        ensures changes { ChangesNewest D.Cx.Input.eq (fates_of self.old.goals) cache.old.results
-            cache.new.results }
-        ensures keeps { KeepsCache D.Cx.Input.eq self.old.goals cache.old cache.new }
+        ensures cache { ChangesCache D.Cx.Input.eq self.old.goals cache.old cache.new }
         ensures builder { KeepsBuilder D.starts D.noop inspect.old inspect.new }
     {
         let finished_runs = self.goals.last_run().finished_runs;

@@ -1,8 +1,8 @@
 //! What is stored of a goal that is done.
-ghost use Rattle.std.specs.Prelude.{◌≡◌, ◌≢◌, ◌<◌, ◌∷◌, ℕ, [], length, IfErr, IfSome, OnOk, OnErr};
-ghost use Rattle.search_moves.specs.Below.{ChangesNewest, highest, IfCompared, IsExpected, IsPlainTo, IsPlainValue, place_of, Memory, Success, IsCaused, IsStored, StoresAnswer, entry_of};
+ghost use Rattle.std.specs.Prelude.{◌≡◌, ◌≢◌, ◌<◌, ℕ, [], length, IfErr, IfSome, OnOk, OnErr};
+ghost use Rattle.search_moves.specs.Below.{highest, IfCompared, IsExpected, IsPlainTo, IsPlainValue, place_of, Memory, Success, IsCaused, IsStored, StoresAnswer, entry_of};
 ghost use Rattle.provisional_cache.specs.Provisional.{AppendsEntry};
-ghost use Rattle.search_moves.specs.Words.{ChangesResults, IsStorable, Stores};
+ghost use Rattle.search_moves.specs.Words.{ChangesResults, IsStorable, PutsAnswer, Stores};
 
 use crate::evaluation::Evaluation;
 use open_goals::goals::Fate;
@@ -30,15 +30,10 @@ impl<D: Delegate> Evaluation<D> {
             cache.old.results input) }
         requires on_stack { IfSome (highest answer.heads) (λ head.
             head.0.0 < length self.old.goals) }
-        ensures stored { StoresAnswer D.Cx.Input.eq cache.old.results cache.new.results
-            input answer }
-        ensures changes { (depth : ℕ) → ChangesNewest D.Cx.Input.eq
-            (record { goal = input; depth = depth; fate = fate } ∷ []) cache.old.results
-            cache.new.results }
+        ensures puts { PutsAnswer D.Cx.Input.eq input answer fate cache.old cache.new }
         ensures stores { OnOk result (
             Stores D.Delegate D.Cx.Cx D.Cx.Input.eq step input answer fate self.old self.new cache.new) }
         ensures rest { self.new ≡ record self.old { provisional = self.new.provisional } }
-        ensures cache { ChangesResults D.Cx.Input.eq cache.old cache.new }
         ensures caused { IfErr result (IsCaused D.Delegate D.Cx.Cx D.Cx.Input.eq cache.new) }
         ensures plain { (n : ℕ) → IsPlainTo (D.script cache.old.cx) n input →
             place_of answer ≡ Success → IfCompared fate (IsPlainValue (D.script cache.old.cx) n input) →

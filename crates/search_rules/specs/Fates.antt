@@ -20,6 +20,11 @@ fate_for true false found = becomes.Stored
 fate_for true true None = becomes.Stored
 fate_for true true (Some hit) = becomes.Compared hit.result
 
+-- what is found is consulted: it answers the goal, or the goal's result meets this fate
+pub record Consults {I R T : Type 0} (noop in_scope : Bool) (found answer : Option (Hit I R T)) (meets : Fate R) : Type 0 where
+  pub stored : answer ≡ answered_by noop in_scope found
+  pub fate : meets ≡ fate_for noop in_scope found
+
 -- whether a result is compared with the goal's
 abbrev pub is_compared : {R : Type 0} → Fate R → Bool
 is_compared (becomes.Compared r) = true

@@ -17,7 +17,7 @@ pub use Rattle.search_rules.specs.Moves.{Pushes, Reruns}
 pub use Rattle.search_rules.specs.Provisional.{AreReady, entries_for, entry_of, HasReason, IsHead}
 pub use Rattle.search_rules.specs.Provisional.{IsLeftOver, IsNewestUnranked, IsReady, IsReusable, IsWorkedOut, LeavesReady}
 pub use Rattle.search_rules.specs.Provisional.{rebased_for, RebasesEntries, RebasesNewest, RestsOn}
-pub use Rattle.search_rules.specs.Fates.{answered_by, ChangesNewest, fate_for, Fated, fates_of, HasExpected, HasOldest, HaveExpected}
+pub use Rattle.search_rules.specs.Fates.{answered_by, ChangesNewest, Consults, fate_for, Fated, fates_of, HasExpected, HasOldest, HaveExpected}
 pub use Rattle.search_rules.specs.Fates.{IfCompared, is_compared, IsExpected, IsFated, IsNewestToStore, MovesFates, NoneStored}
 pub use Rattle.search_rules.specs.Results.{AreDefinite, final_answer, HaveNoOverflow, IsNewestPlainTo, IsNewestStored, IsStored}
 pub use Rattle.search_rules.specs.Results.{MayPut, MayPutNewest, NewestComesTo, NewestIsPlain, place_of_item, Put}

@@ -4,7 +4,7 @@ ghost use Rattle.std.specs.List.{list_any};
 ghost use Rattle.std.specs.Option.{option_copied, option_map};
 ghost use Rattle.search_rules.specs.Below.{highest, HasGraph, first_accepted, hit_of, usable, entries_at, verdicts};
 ghost use Rattle.search_context.specs.Delegate.{KeepsBuilder};
-ghost use Rattle.search_rules.specs.Words.{usable_entry, answered_by, could_be_used, fate_for, is_applicable, is_compared, meets_entry, AreOnStack, IsFated, IsUsable};
+ghost use Rattle.search_rules.specs.Words.{usable_entry, could_be_used, Consults, is_applicable, is_compared, meets_entry, AreOnStack, IsFated, IsUsable};
 
 use bitflags::Flags;
 use open_goals::goals::Fate;
@@ -160,16 +160,11 @@ pub fn consult<'a, D: Delegate>(
     inspect: &mut D::ProofTreeBuilder,
 ) -> Consulted<'a, D>
     requires { AreOnStack D.Cx.Input.eq stack.now provisional.now }
-    ensures stored { option_map hit_of result.stored
-        ≡ answered_by (D.noop inspect.old) (D.scoped cache.now.cx input) (first_accepted
+    ensures consults { Consults (D.noop inspect.old) (D.scoped cache.now.cx input) (first_accepted
         (is_applicable D.Cx.Input.eq
         (record { stack = stack.now; entries = provisional.now; step = step }))
-        (usable D.Cx.Input.eq cache.now.results input depth.0)) }
-    ensures fate { result.fate
-        ≡ fate_for (D.noop inspect.old) (D.scoped cache.now.cx input) (first_accepted
-        (is_applicable D.Cx.Input.eq
-        (record { stack = stack.now; entries = provisional.now; step = step }))
-        (usable D.Cx.Input.eq cache.now.results input depth.0)) }
+        (usable D.Cx.Input.eq cache.now.results input depth.0))
+        (option_map hit_of result.stored) result.fate }
     ensures fated { IsFated (D.scoped cache.now.cx) (D.script cache.now.cx) D.Cx.Input.eq
         cache.now.results (D.noop inspect.old)
         (record { goal = input; depth = depth.0; fate = result.fate }) }

@@ -14,6 +14,7 @@ impl<'a> Words<'a> {
     ghost use Rattle.rule_tables.specs.LineWords.{words_left};
     ghost use Rattle.rule_tables.specs.Grammar.{words_of};
 
+    /// The words of the line, all of which are left.
     pub fn new(line: &'a [u8]) -> Words<'a>
         ensures { words_left result ≡ words_of line.now }
     {

@@ -1,7 +1,8 @@
 //! The evaluation of a goal: one loop over the goals under evaluation.
 ghost use Rattle.std.specs.Prelude.{◌≡◌, ℕ, true, false, IfOk, IfErr, IfSome, OnOk, Ok};
-ghost use Rattle.open_goals.specs.declared.goals.Fate.TheVariants.{Stored, NotStored};
-ghost use Rattle.search_graph.specs.Below.{ChangesNewest, fates_of, IsFated, MovesFates, Place, stored_at, first_accepted, usable, HasGraph, verdicts, Call, Begins, IsCaused, IsNew, KeepsBuilder, KeepsCache, HasReply, Awaits, LeadsTo, StopsWith, EndsWith, IsRightNext, StayFrom, work_left};
+ghost use Rattle.open_goals.specs.declared.goals.Fate.TheVariants.{Stored};
+ghost use Rattle.search_graph.specs.Below.{ChangesCache, fates_of, IsFated, MovesFates, first_accepted, usable, HasGraph, verdicts, IsCaused, IsNew, KeepsBuilder, KeepsCache, HasReply, IsRightNext, StayFrom};
+ghost use Rattle.search_graph.specs.Calls.{Advances, Evaluates, Spares};
 
 use open_goals::goals::{Fate, Next, Received, step};
 use search_moves::evaluation::Evaluation;
@@ -20,19 +21,10 @@ pub(crate) fn evaluate<D: Delegate>(
     inspect: &mut D::ProofTreeBuilder,
 ) -> Result<Answer<<D::Cx as Cx>::Result>, Fault<<D::Cx as Cx>::Input, <D::Cx as Cx>::Result>>
     requires { IsNew evaluation.old }
-    ensures ended { (call : Call D.Cx.Input) →
-        Begins D.Delegate D.Cx.Cx cache.old.cx D.Cx.Input.eq call input evaluation.old.root_depth.0
-        (D.starts inspect.old) evaluation.old.limits_met cache.old.results →
-        IfOk result (λ answer.
-        EndsWith D.Delegate D.Cx.Cx D.Cx.Input.eq cache.old.cx
-        ((D.noop inspect.old ≡ true) × (D.scoped cache.old.cx input ≡ false)) call answer
-        cache.new evaluation.new (D.starts inspect.new)) }
-    ensures stopped { (call : Call D.Cx.Input) →
-        Begins D.Delegate D.Cx.Cx cache.old.cx D.Cx.Input.eq call input evaluation.old.root_depth.0
-        (D.starts inspect.old) evaluation.old.limits_met cache.old.results →
-        IfErr result (λ fault.
-        StopsWith D.Delegate D.Cx.Cx D.Cx.Input.eq cache.old.cx call fault
-        cache.new evaluation.new (D.starts inspect.new)) }
+    ensures evaluates { Evaluates D.Delegate D.Cx.Cx D.Cx.Input.eq cache.old.cx
+        ((D.noop inspect.old ≡ true) × (D.scoped cache.old.cx input ≡ false)) input
+        cache.old evaluation.old (D.starts inspect.old) result
+        cache.new evaluation.new (D.starts inspect.new) }
     ensures stored { D.noop inspect.old ≡ true → D.scoped cache.old.cx input ≡ false →
         IfSome (first_accepted (λ _. true)
         (usable D.Cx.Input.eq cache.old.results input evaluation.old.root_depth.0)) (λ hit.
@@ -83,22 +75,11 @@ pub(crate) fn work_out<D: Delegate>(
     requires fated { IsFated (D.scoped cache.old.cx) (D.script cache.old.cx) D.Cx.Input.eq
         cache.old.results (D.noop inspect.old)
         (record { goal = input; depth = evaluation.old.root_depth.0; fate = fate }) }
-    ensures ended { (call : Call D.Cx.Input) →
-        Begins D.Delegate D.Cx.Cx cache.old.cx D.Cx.Input.eq call input evaluation.old.root_depth.0
-        (D.starts inspect.old) evaluation.old.limits_met cache.old.results →
-        IfOk result (λ answer.
-        EndsWith D.Delegate D.Cx.Cx D.Cx.Input.eq cache.old.cx (fate ≡ Stored) call answer
-        cache.new evaluation.new (D.starts inspect.new)) }
-    ensures stopped { (call : Call D.Cx.Input) →
-        Begins D.Delegate D.Cx.Cx cache.old.cx D.Cx.Input.eq call input evaluation.old.root_depth.0
-        (D.starts inspect.old) evaluation.old.limits_met cache.old.results →
-        IfErr result (λ fault.
-        StopsWith D.Delegate D.Cx.Cx D.Cx.Input.eq cache.old.cx call fault
-        cache.new evaluation.new (D.starts inspect.new)) }
-    ensures recorded { D.noop inspect.old ≡ false → cache.new.results ≡ cache.old.results }
-    ensures spared { fate ≡ NotStored → (place : Place) →
-        stored_at D.Cx.Input.eq cache.new.results input place
-        ≡ stored_at D.Cx.Input.eq cache.old.results input place }
+    ensures evaluates { Evaluates D.Delegate D.Cx.Cx D.Cx.Input.eq cache.old.cx (fate ≡ Stored) input
+        cache.old evaluation.old (D.starts inspect.old) result
+        cache.new evaluation.new (D.starts inspect.new) }
+    ensures spares { Spares D.Cx.Input.eq (D.noop inspect.old) fate input cache.old.results
+        cache.new.results }
     ensures caused { IfErr result (IsCaused D.Delegate D.Cx.Cx D.Cx.Input.eq cache.new) }
     ensures has_graph { IfOk result (λ answer.
         HasGraph (verdicts D.Cx.Cx) cache.new.nodes input answer.result answer.node) }
@@ -126,18 +107,9 @@ fn advance<D: Delegate>(
 ) -> Result<Next<<D::Cx as Cx>::Result>, Fault<<D::Cx as Cx>::Input, <D::Cx as Cx>::Result>>
     requires { HasReply D.Delegate D.Cx.Cx D.Cx.Input.eq cache.old.cx received
         cache.old evaluation.old (D.starts inspect.old) }
-    ensures leads { (call : Call D.Cx.Input) →
-        Awaits D.Delegate D.Cx.Cx D.Cx.Input.eq cache.old.cx call received
-        cache.old evaluation.old (D.starts inspect.old) →
-        IfOk result (λ next. LeadsTo D.Delegate D.Cx.Cx D.Cx.Input.eq cache.old.cx call
-        (work_left D.Delegate D.Cx.Cx cache.old.cx evaluation.old.goals) evaluation.old.goals next
-        cache.new evaluation.new (D.starts inspect.new)) }
-    ensures stops { (call : Call D.Cx.Input) →
-        Awaits D.Delegate D.Cx.Cx D.Cx.Input.eq cache.old.cx call received
-        cache.old evaluation.old (D.starts inspect.old) →
-        IfErr result (λ fault.
-        StopsWith D.Delegate D.Cx.Cx D.Cx.Input.eq cache.old.cx call fault
-        cache.new evaluation.new (D.starts inspect.new)) }
+    ensures advances { Advances D.Delegate D.Cx.Cx D.Cx.Input.eq cache.old.cx received
+        cache.old evaluation.old (D.starts inspect.old) result
+        cache.new evaluation.new (D.starts inspect.new) }
     ensures right { IfOk result (λ next.
         IsRightNext D.Delegate D.Cx.Cx D.Cx.Input.eq cache.old.cx evaluation.old.goals next
         cache.new evaluation.new) }
@@ -147,10 +119,8 @@ fn advance<D: Delegate>(
         (IsFated (D.scoped cache.old.cx) (D.script cache.old.cx) D.Cx.Input.eq cache.old.results
         (D.noop inspect.old))
         (fates_of evaluation.old.goals) (fates_of evaluation.new.goals)) }
-    ensures changes { ChangesNewest D.Cx.Input.eq (fates_of evaluation.old.goals)
-        cache.old.results cache.new.results }
     ensures caused { IfErr result (IsCaused D.Delegate D.Cx.Cx D.Cx.Input.eq cache.new) }
-    ensures keeps { KeepsCache D.Cx.Input.eq evaluation.old.goals cache.old cache.new }
+    ensures cache { ChangesCache D.Cx.Input.eq evaluation.old.goals cache.old cache.new }
     ensures builder { KeepsBuilder D.starts D.noop inspect.old inspect.new }
 {
     let cx = cache.cx();

@@ -2,6 +2,7 @@
 ghost use Rattle.std.specs.Prelude.{◌≡◌, ◌≤◌, ◌<◌, ◌+◌, ◌∷◌, [], ℕ, All, false, max, length, vec_len, vec_capacity, OnOk, OnErr};
 ghost use Rattle.search_graph.specs.Below.{KeepsBuilder, KeepsFinished, KeepsNodes, KeepsWhole, frames_within, KeepsResults, StoresWithin};
 ghost use Rattle.search_graph.specs.Words.{HasAnswer, frames_for};
+ghost use Rattle.search_graph.specs.Calls.{KeepsAll};
 ghost use Rattle.search_graph.specs.Lists.{AppendsEach, HasLimits, IsAnsweredQuery};
 
 use super::SearchGraph;
@@ -93,10 +94,7 @@ fn evaluate_query<D: Delegate>(
         (max 1 D.FIXPOINT_STEP_LIMIT) (D.width cache.old.cx) query.0 }
     ensures within { StoresWithin D.Cx.Input.eq query.0 cache.old.results cache.new.results }
     ensures recorded { D.noop inspect.old ≡ false → cache.new.results ≡ cache.old.results }
-    ensures same_context { cache.new.cx ≡ cache.old.cx }
-    ensures kept_results { KeepsResults D.Cx.Input.eq cache.old.results cache.new.results }
-    ensures kept { KeepsFinished cache.old.nodes cache.new.nodes }
-    ensures kept_nodes { KeepsNodes cache.old.nodes cache.new.nodes }
+    ensures keeps { KeepsAll D.Cx.Input.eq cache.old cache.new }
 {
     let (root_depth, input, step_kind) = query;
     let mut graph = SearchGraph::<D>::new(alloc, root_depth);

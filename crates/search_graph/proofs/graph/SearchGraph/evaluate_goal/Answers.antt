@@ -31,41 +31,41 @@ pub returns-clause-plain : goal.returns-clause-plain
 returns-clause-plain g c =
     let fits = c.new-evaluation.ensures.fits in
     rw (← c.self.view_is)
-    (ended_plain g.D.Delegate g.D.Cx.Cx c.args.cache.now.cx (call_of c.args.input c.self.inside.root_depth.0 (g.D.Delegate.starts c.args.inspect.now) c.self.inside.limits_met false false fits) _ _ c.in_ok-answer.answer.result ((c.in_ok-answer.ensures.ended (call_of c.args.input c.self.inside.root_depth.0 (g.D.Delegate.starts c.args.inspect.now) c.self.inside.limits_met false false fits) (rw c.new-evaluation.ensures.begins (some_call_begins g.D.Delegate g.D.Cx.Cx c.args.cache.now.cx g.D.Cx.Input.PartialEq.eq c.args.input c.self.inside.root_depth.0 (g.D.Delegate.starts c.args.inspect.now) c.self.inside.limits_met fits c.args.cache.now.results))).ended))
+    (ended_plain g.D.Delegate g.D.Cx.Cx c.args.cache.now.cx (call_of c.args.input c.self.inside.root_depth.0 (g.D.Delegate.starts c.args.inspect.now) c.self.inside.limits_met false false fits) _ _ c.in_ok-answer.answer.result ((c.in_ok-answer.ensures.evaluates.ended (call_of c.args.input c.self.inside.root_depth.0 (g.D.Delegate.starts c.args.inspect.now) c.self.inside.limits_met false false fits) (rw c.new-evaluation.ensures.begins (some_call_begins g.D.Delegate g.D.Cx.Cx c.args.cache.now.cx g.D.Cx.Input.PartialEq.eq c.args.input c.self.inside.root_depth.0 (g.D.Delegate.starts c.args.inspect.now) c.self.inside.limits_met fits c.args.cache.now.results))).ended))
 
 pub returns-clause-plain_limits : goal.returns-clause-plain_limits
 returns-clause-plain_limits g c =
     let fits = c.new-evaluation.ensures.fits in
     rw (← c.self.view_is)
-    (((c.in_ok-answer.ensures.ended (call_of c.args.input c.self.inside.root_depth.0 (g.D.Delegate.starts c.args.inspect.now) c.self.inside.limits_met false false fits) (rw c.new-evaluation.ensures.begins (some_call_begins g.D.Delegate g.D.Cx.Cx c.args.cache.now.cx g.D.Cx.Input.PartialEq.eq c.args.input c.self.inside.root_depth.0 (g.D.Delegate.starts c.args.inspect.now) c.self.inside.limits_met fits c.args.cache.now.results))).ended).keeps.plain)
+    (((c.in_ok-answer.ensures.evaluates.ended (call_of c.args.input c.self.inside.root_depth.0 (g.D.Delegate.starts c.args.inspect.now) c.self.inside.limits_met false false fits) (rw c.new-evaluation.ensures.begins (some_call_begins g.D.Delegate g.D.Cx.Cx c.args.cache.now.cx g.D.Cx.Input.PartialEq.eq c.args.input c.self.inside.root_depth.0 (g.D.Delegate.starts c.args.inspect.now) c.self.inside.limits_met fits c.args.cache.now.results))).ended).keeps.plain)
 
 pub returns-clause-frames : goal.returns-clause-frames
 returns-clause-frames g c =
     let fits = c.new-evaluation.ensures.fits in
     rw (← c.self.view_is)
-    (ended_within g.D.Delegate g.D.Cx.Cx c.args.cache.now.cx (call_of c.args.input c.self.inside.root_depth.0 (g.D.Delegate.starts c.args.inspect.now) c.self.inside.limits_met false false fits) _ _ c.in_ok-answer.answer.result ((c.in_ok-answer.ensures.ended (call_of c.args.input c.self.inside.root_depth.0 (g.D.Delegate.starts c.args.inspect.now) c.self.inside.limits_met false false fits) (rw c.new-evaluation.ensures.begins (some_call_begins g.D.Delegate g.D.Cx.Cx c.args.cache.now.cx g.D.Cx.Input.PartialEq.eq c.args.input c.self.inside.root_depth.0 (g.D.Delegate.starts c.args.inspect.now) c.self.inside.limits_met fits c.args.cache.now.results))).ended))
+    (ended_within g.D.Delegate g.D.Cx.Cx c.args.cache.now.cx (call_of c.args.input c.self.inside.root_depth.0 (g.D.Delegate.starts c.args.inspect.now) c.self.inside.limits_met false false fits) _ _ c.in_ok-answer.answer.result ((c.in_ok-answer.ensures.evaluates.ended (call_of c.args.input c.self.inside.root_depth.0 (g.D.Delegate.starts c.args.inspect.now) c.self.inside.limits_met false false fits) (rw c.new-evaluation.ensures.begins (some_call_begins g.D.Delegate g.D.Cx.Cx c.args.cache.now.cx g.D.Cx.Input.PartialEq.eq c.args.input c.self.inside.root_depth.0 (g.D.Delegate.starts c.args.inspect.now) c.self.inside.limits_met fits c.args.cache.now.results))).ended))
 
 pub returns-clause-price : goal.returns-clause-price
 returns-clause-price g c =
     let fits = c.new-evaluation.ensures.fits in
     rw (← c.self.view_is)
-    (λ counted none. ended_paid g.D.Delegate g.D.Cx.Cx c.args.cache.now.cx (call_of c.args.input c.self.inside.root_depth.0 (g.D.Delegate.starts c.args.inspect.now) c.self.inside.limits_met true false fits) _ _ c.in_ok-answer.answer.result ((c.in_ok-answer.ensures.ended (call_of c.args.input c.self.inside.root_depth.0 (g.D.Delegate.starts c.args.inspect.now) c.self.inside.limits_met true false fits) (rw c.new-evaluation.ensures.begins (call_begins g.D.Delegate g.D.Cx.Cx c.args.cache.now.cx g.D.Cx.Input.PartialEq.eq c.args.input c.self.inside.root_depth.0 (g.D.Delegate.starts c.args.inspect.now) c.self.inside.limits_met fits c.args.cache.now.results true false (λ e. none) (λ e. absurd cc)))).ended) counted refl)
+    (λ counted none. ended_paid g.D.Delegate g.D.Cx.Cx c.args.cache.now.cx (call_of c.args.input c.self.inside.root_depth.0 (g.D.Delegate.starts c.args.inspect.now) c.self.inside.limits_met true false fits) _ _ c.in_ok-answer.answer.result ((c.in_ok-answer.ensures.evaluates.ended (call_of c.args.input c.self.inside.root_depth.0 (g.D.Delegate.starts c.args.inspect.now) c.self.inside.limits_met true false fits) (rw c.new-evaluation.ensures.begins (call_begins g.D.Delegate g.D.Cx.Cx c.args.cache.now.cx g.D.Cx.Input.PartialEq.eq c.args.input c.self.inside.root_depth.0 (g.D.Delegate.starts c.args.inspect.now) c.self.inside.limits_met fits c.args.cache.now.results true false (λ e. none) (λ e. absurd cc)))).ended) counted refl)
 
 pub returns-clause-limits_stay : goal.returns-clause-limits_stay
 returns-clause-limits_stay g c =
     let fits = c.new-evaluation.ensures.fits in
     rw (← c.self.view_is)
-    (((c.in_ok-answer.ensures.ended (call_of c.args.input c.self.inside.root_depth.0 (g.D.Delegate.starts c.args.inspect.now) c.self.inside.limits_met false false fits) (rw c.new-evaluation.ensures.begins (some_call_begins g.D.Delegate g.D.Cx.Cx c.args.cache.now.cx g.D.Cx.Input.PartialEq.eq c.args.input c.self.inside.root_depth.0 (g.D.Delegate.starts c.args.inspect.now) c.self.inside.limits_met fits c.args.cache.now.results))).ended).keeps.stays)
+    (((c.in_ok-answer.ensures.evaluates.ended (call_of c.args.input c.self.inside.root_depth.0 (g.D.Delegate.starts c.args.inspect.now) c.self.inside.limits_met false false fits) (rw c.new-evaluation.ensures.begins (some_call_begins g.D.Delegate g.D.Cx.Cx c.args.cache.now.cx g.D.Cx.Input.PartialEq.eq c.args.input c.self.inside.root_depth.0 (g.D.Delegate.starts c.args.inspect.now) c.self.inside.limits_met fits c.args.cache.now.results))).ended).keeps.stays)
 
 pub returns-clause-decisive : goal.returns-clause-decisive
 returns-clause-decisive g c = λ decisive all unmet.
     let fits = c.new-evaluation.ensures.fits in
-    ((c.in_ok-answer.ensures.ended (call_of c.args.input c.self.inside.root_depth.0 (g.D.Delegate.starts c.args.inspect.now) c.self.inside.limits_met false true fits) (rw c.new-evaluation.ensures.begins (call_begins g.D.Delegate g.D.Cx.Cx c.args.cache.now.cx g.D.Cx.Input.PartialEq.eq c.args.input c.self.inside.root_depth.0 (g.D.Delegate.starts c.args.inspect.now) c.self.inside.limits_met fits c.args.cache.now.results false true (λ e. absurd cc) (λ e. all)))).ended).decided (decisive, refl) unmet
+    ((c.in_ok-answer.ensures.evaluates.ended (call_of c.args.input c.self.inside.root_depth.0 (g.D.Delegate.starts c.args.inspect.now) c.self.inside.limits_met false true fits) (rw c.new-evaluation.ensures.begins (call_begins g.D.Delegate g.D.Cx.Cx c.args.cache.now.cx g.D.Cx.Input.PartialEq.eq c.args.input c.self.inside.root_depth.0 (g.D.Delegate.starts c.args.inspect.now) c.self.inside.limits_met fits c.args.cache.now.results false true (λ e. absurd cc) (λ e. all)))).ended).decided (decisive, refl) unmet
 
 pub returns-clause-decisive_results : goal.returns-clause-decisive_results
 returns-clause-decisive_results g c = λ decisive all unmet.
     let fits = c.new-evaluation.ensures.fits in
-    ((c.in_ok-answer.ensures.ended (call_of c.args.input c.self.inside.root_depth.0 (g.D.Delegate.starts c.args.inspect.now) c.self.inside.limits_met false true fits) (rw c.new-evaluation.ensures.begins (call_begins g.D.Delegate g.D.Cx.Cx c.args.cache.now.cx g.D.Cx.Input.PartialEq.eq c.args.input c.self.inside.root_depth.0 (g.D.Delegate.starts c.args.inspect.now) c.self.inside.limits_met fits c.args.cache.now.results false true (λ e. absurd cc) (λ e. all)))).store).definite (decisive, refl) unmet
+    ((c.in_ok-answer.ensures.evaluates.ended (call_of c.args.input c.self.inside.root_depth.0 (g.D.Delegate.starts c.args.inspect.now) c.self.inside.limits_met false true fits) (rw c.new-evaluation.ensures.begins (call_begins g.D.Delegate g.D.Cx.Cx c.args.cache.now.cx g.D.Cx.Input.PartialEq.eq c.args.input c.self.inside.root_depth.0 (g.D.Delegate.starts c.args.inspect.now) c.self.inside.limits_met fits c.args.cache.now.results false true (λ e. absurd cc) (λ e. all)))).store).definite (decisive, refl) unmet
 
 pub returns-clause-stored : goal.returns-clause-stored
 returns-clause-stored g c =
@@ -78,13 +78,13 @@ pub returns-in_err-answer-clause-plain_faults : goal.returns-in_err-answer-claus
 returns-in_err-answer-clause-plain_faults g c =
     let fits = c.new-evaluation.ensures.fits in
     rw (← c.self.view_is)
-    (λ n plain less. if_err_and c.from_residual.result _ _ c.from_residual.ensures.1 (λ e is. is ∙ (((c.in_err-answer.ensures.stopped (call_of c.args.input c.self.inside.root_depth.0 (g.D.Delegate.starts c.args.inspect.now) c.self.inside.limits_met false false fits) (rw c.new-evaluation.ensures.begins (some_call_begins g.D.Delegate g.D.Cx.Cx c.args.cache.now.cx g.D.Cx.Input.PartialEq.eq c.args.input c.self.inside.root_depth.0 (g.D.Delegate.starts c.args.inspect.now) c.self.inside.limits_met fits c.args.cache.now.results))).stopped).plain) n plain less))
+    (λ n plain less. if_err_and c.from_residual.result _ _ c.from_residual.ensures.1 (λ e is. is ∙ (((c.in_err-answer.ensures.evaluates.stopped (call_of c.args.input c.self.inside.root_depth.0 (g.D.Delegate.starts c.args.inspect.now) c.self.inside.limits_met false false fits) (rw c.new-evaluation.ensures.begins (some_call_begins g.D.Delegate g.D.Cx.Cx c.args.cache.now.cx g.D.Cx.Input.PartialEq.eq c.args.input c.self.inside.root_depth.0 (g.D.Delegate.starts c.args.inspect.now) c.self.inside.limits_met fits c.args.cache.now.results))).stopped).plain) n plain less))
 
 pub returns-in_err-answer-clause-plain_limits : goal.returns-in_err-answer-clause-plain_limits
 returns-in_err-answer-clause-plain_limits g c =
     let fits = c.new-evaluation.ensures.fits in
     rw (← c.self.view_is)
-    (((c.in_err-answer.ensures.stopped (call_of c.args.input c.self.inside.root_depth.0 (g.D.Delegate.starts c.args.inspect.now) c.self.inside.limits_met false false fits) (rw c.new-evaluation.ensures.begins (some_call_begins g.D.Delegate g.D.Cx.Cx c.args.cache.now.cx g.D.Cx.Input.PartialEq.eq c.args.input c.self.inside.root_depth.0 (g.D.Delegate.starts c.args.inspect.now) c.self.inside.limits_met fits c.args.cache.now.results))).stopped).keeps.plain)
+    (((c.in_err-answer.ensures.evaluates.stopped (call_of c.args.input c.self.inside.root_depth.0 (g.D.Delegate.starts c.args.inspect.now) c.self.inside.limits_met false false fits) (rw c.new-evaluation.ensures.begins (some_call_begins g.D.Delegate g.D.Cx.Cx c.args.cache.now.cx g.D.Cx.Input.PartialEq.eq c.args.input c.self.inside.root_depth.0 (g.D.Delegate.starts c.args.inspect.now) c.self.inside.limits_met fits c.args.cache.now.results))).stopped).keeps.plain)
 
 pub returns-in_err-answer-clause-kept_whole : goal.returns-in_err-answer-clause-kept_whole
 returns-in_err-answer-clause-kept_whole g c = whole_stays c.args.cache.now.nodes c.evaluate-outcome.new.cache.nodes c.evaluate-outcome.ensures.keeps.nodes
@@ -93,24 +93,24 @@ pub returns-in_err-answer-clause-frames : goal.returns-in_err-answer-clause-fram
 returns-in_err-answer-clause-frames g c =
     let fits = c.new-evaluation.ensures.fits in
     rw (← c.self.view_is)
-    (stopped_within g.D.Delegate g.D.Cx.Cx c.args.cache.now.cx (call_of c.args.input c.self.inside.root_depth.0 (g.D.Delegate.starts c.args.inspect.now) c.self.inside.limits_met false false fits) _ _ c.in_err-answer.field-0.0 ((c.in_err-answer.ensures.stopped (call_of c.args.input c.self.inside.root_depth.0 (g.D.Delegate.starts c.args.inspect.now) c.self.inside.limits_met false false fits) (rw c.new-evaluation.ensures.begins (some_call_begins g.D.Delegate g.D.Cx.Cx c.args.cache.now.cx g.D.Cx.Input.PartialEq.eq c.args.input c.self.inside.root_depth.0 (g.D.Delegate.starts c.args.inspect.now) c.self.inside.limits_met fits c.args.cache.now.results))).stopped))
+    (stopped_within g.D.Delegate g.D.Cx.Cx c.args.cache.now.cx (call_of c.args.input c.self.inside.root_depth.0 (g.D.Delegate.starts c.args.inspect.now) c.self.inside.limits_met false false fits) _ _ c.in_err-answer.field-0.0 ((c.in_err-answer.ensures.evaluates.stopped (call_of c.args.input c.self.inside.root_depth.0 (g.D.Delegate.starts c.args.inspect.now) c.self.inside.limits_met false false fits) (rw c.new-evaluation.ensures.begins (some_call_begins g.D.Delegate g.D.Cx.Cx c.args.cache.now.cx g.D.Cx.Input.PartialEq.eq c.args.input c.self.inside.root_depth.0 (g.D.Delegate.starts c.args.inspect.now) c.self.inside.limits_met fits c.args.cache.now.results))).stopped))
 
 pub returns-in_err-answer-clause-price : goal.returns-in_err-answer-clause-price
 returns-in_err-answer-clause-price g c =
     let fits = c.new-evaluation.ensures.fits in
     rw (← c.self.view_is)
-    (λ counted none. stopped_paid g.D.Delegate g.D.Cx.Cx c.args.cache.now.cx (call_of c.args.input c.self.inside.root_depth.0 (g.D.Delegate.starts c.args.inspect.now) c.self.inside.limits_met true false fits) _ _ c.in_err-answer.field-0.0 ((c.in_err-answer.ensures.stopped (call_of c.args.input c.self.inside.root_depth.0 (g.D.Delegate.starts c.args.inspect.now) c.self.inside.limits_met true false fits) (rw c.new-evaluation.ensures.begins (call_begins g.D.Delegate g.D.Cx.Cx c.args.cache.now.cx g.D.Cx.Input.PartialEq.eq c.args.input c.self.inside.root_depth.0 (g.D.Delegate.starts c.args.inspect.now) c.self.inside.limits_met fits c.args.cache.now.results true false (λ e. none) (λ e. absurd cc)))).stopped) counted refl)
+    (λ counted none. stopped_paid g.D.Delegate g.D.Cx.Cx c.args.cache.now.cx (call_of c.args.input c.self.inside.root_depth.0 (g.D.Delegate.starts c.args.inspect.now) c.self.inside.limits_met true false fits) _ _ c.in_err-answer.field-0.0 ((c.in_err-answer.ensures.evaluates.stopped (call_of c.args.input c.self.inside.root_depth.0 (g.D.Delegate.starts c.args.inspect.now) c.self.inside.limits_met true false fits) (rw c.new-evaluation.ensures.begins (call_begins g.D.Delegate g.D.Cx.Cx c.args.cache.now.cx g.D.Cx.Input.PartialEq.eq c.args.input c.self.inside.root_depth.0 (g.D.Delegate.starts c.args.inspect.now) c.self.inside.limits_met fits c.args.cache.now.results true false (λ e. none) (λ e. absurd cc)))).stopped) counted refl)
 
 pub returns-in_err-answer-clause-limits_stay : goal.returns-in_err-answer-clause-limits_stay
 returns-in_err-answer-clause-limits_stay g c =
     let fits = c.new-evaluation.ensures.fits in
     rw (← c.self.view_is)
-    (((c.in_err-answer.ensures.stopped (call_of c.args.input c.self.inside.root_depth.0 (g.D.Delegate.starts c.args.inspect.now) c.self.inside.limits_met false false fits) (rw c.new-evaluation.ensures.begins (some_call_begins g.D.Delegate g.D.Cx.Cx c.args.cache.now.cx g.D.Cx.Input.PartialEq.eq c.args.input c.self.inside.root_depth.0 (g.D.Delegate.starts c.args.inspect.now) c.self.inside.limits_met fits c.args.cache.now.results))).stopped).keeps.stays)
+    (((c.in_err-answer.ensures.evaluates.stopped (call_of c.args.input c.self.inside.root_depth.0 (g.D.Delegate.starts c.args.inspect.now) c.self.inside.limits_met false false fits) (rw c.new-evaluation.ensures.begins (some_call_begins g.D.Delegate g.D.Cx.Cx c.args.cache.now.cx g.D.Cx.Input.PartialEq.eq c.args.input c.self.inside.root_depth.0 (g.D.Delegate.starts c.args.inspect.now) c.self.inside.limits_met fits c.args.cache.now.results))).stopped).keeps.stays)
 
 pub returns-in_err-answer-clause-decisive_results : goal.returns-in_err-answer-clause-decisive_results
 returns-in_err-answer-clause-decisive_results g c = λ decisive all unmet.
     let fits = c.new-evaluation.ensures.fits in
-    ((c.in_err-answer.ensures.stopped (call_of c.args.input c.self.inside.root_depth.0 (g.D.Delegate.starts c.args.inspect.now) c.self.inside.limits_met false true fits) (rw c.new-evaluation.ensures.begins (call_begins g.D.Delegate g.D.Cx.Cx c.args.cache.now.cx g.D.Cx.Input.PartialEq.eq c.args.input c.self.inside.root_depth.0 (g.D.Delegate.starts c.args.inspect.now) c.self.inside.limits_met fits c.args.cache.now.results false true (λ e. absurd cc) (λ e. all)))).store).definite (decisive, refl) unmet
+    ((c.in_err-answer.ensures.evaluates.stopped (call_of c.args.input c.self.inside.root_depth.0 (g.D.Delegate.starts c.args.inspect.now) c.self.inside.limits_met false true fits) (rw c.new-evaluation.ensures.begins (call_begins g.D.Delegate g.D.Cx.Cx c.args.cache.now.cx g.D.Cx.Input.PartialEq.eq c.args.input c.self.inside.root_depth.0 (g.D.Delegate.starts c.args.inspect.now) c.self.inside.limits_met fits c.args.cache.now.results false true (λ e. absurd cc) (λ e. all)))).store).definite (decisive, refl) unmet
 
 pub returns-in_err-answer-clause-stored : goal.returns-in_err-answer-clause-stored
 returns-in_err-answer-clause-stored g c =
@@ -121,13 +121,13 @@ pub returns-clause-no_overflow : goal.returns-clause-no_overflow
 returns-clause-no_overflow g c =
     let fits = c.new-evaluation.ensures.fits in
     rw (← c.self.view_is)
-    (λ counted none unmet still. ((c.in_ok-answer.ensures.ended (call_of c.args.input c.self.inside.root_depth.0 (g.D.Delegate.starts c.args.inspect.now) c.self.inside.limits_met true false fits) (rw c.new-evaluation.ensures.begins (call_begins g.D.Delegate g.D.Cx.Cx c.args.cache.now.cx g.D.Cx.Input.PartialEq.eq c.args.input c.self.inside.root_depth.0 (g.D.Delegate.starts c.args.inspect.now) c.self.inside.limits_met fits c.args.cache.now.results true false (λ e. none) (λ e. absurd cc)))).store).overflow (counted, unmet, refl) still)
+    (λ counted none unmet still. ((c.in_ok-answer.ensures.evaluates.ended (call_of c.args.input c.self.inside.root_depth.0 (g.D.Delegate.starts c.args.inspect.now) c.self.inside.limits_met true false fits) (rw c.new-evaluation.ensures.begins (call_begins g.D.Delegate g.D.Cx.Cx c.args.cache.now.cx g.D.Cx.Input.PartialEq.eq c.args.input c.self.inside.root_depth.0 (g.D.Delegate.starts c.args.inspect.now) c.self.inside.limits_met fits c.args.cache.now.results true false (λ e. none) (λ e. absurd cc)))).store).overflow (counted, unmet, refl) still)
 
 pub returns-in_err-answer-clause-no_overflow : goal.returns-in_err-answer-clause-no_overflow
 returns-in_err-answer-clause-no_overflow g c =
     let fits = c.new-evaluation.ensures.fits in
     rw (← c.self.view_is)
-    (λ counted none unmet still. ((c.in_err-answer.ensures.stopped (call_of c.args.input c.self.inside.root_depth.0 (g.D.Delegate.starts c.args.inspect.now) c.self.inside.limits_met true false fits) (rw c.new-evaluation.ensures.begins (call_begins g.D.Delegate g.D.Cx.Cx c.args.cache.now.cx g.D.Cx.Input.PartialEq.eq c.args.input c.self.inside.root_depth.0 (g.D.Delegate.starts c.args.inspect.now) c.self.inside.limits_met fits c.args.cache.now.results true false (λ e. none) (λ e. absurd cc)))).store).overflow (counted, unmet, refl) still)
+    (λ counted none unmet still. ((c.in_err-answer.ensures.evaluates.stopped (call_of c.args.input c.self.inside.root_depth.0 (g.D.Delegate.starts c.args.inspect.now) c.self.inside.limits_met true false fits) (rw c.new-evaluation.ensures.begins (call_begins g.D.Delegate g.D.Cx.Cx c.args.cache.now.cx g.D.Cx.Input.PartialEq.eq c.args.input c.self.inside.root_depth.0 (g.D.Delegate.starts c.args.inspect.now) c.self.inside.limits_met fits c.args.cache.now.results true false (λ e. none) (λ e. absurd cc)))).store).overflow (counted, unmet, refl) still)
 
 -- ---- what a decisive delegate decides, and what is stored of an answer
 
@@ -139,13 +139,13 @@ returns-clause-decides g c = λ decisive all unmet.
     (definite_decides g.D.Delegate g.D.Cx.Cx c.evaluate-outcome.new.cache c.args.input c.in_ok-answer.answer.result c.in_ok-answer.answer.node
     (yes_is_proved g.D.Delegate g.D.Cx.Cx c.evaluate-outcome.new.cache c.has_runs.ensures (g.met.D.Cx.Cx.clash c.evaluate-outcome.new.cache.cx) c.args.input c.in_ok-answer.answer.result c.in_ok-answer.answer.node c.in_ok-answer.ensures.has_graph (g.met.D.Delegate.yes_is_proved c.evaluate-outcome.new.cache.cx))
     (no_is_refuted g.D.Delegate g.D.Cx.Cx c.evaluate-outcome.new.cache c.has_runs.ensures (g.met.D.Cx.Cx.clash c.evaluate-outcome.new.cache.cx) c.args.input c.in_ok-answer.answer.result c.in_ok-answer.answer.node c.in_ok-answer.ensures.has_graph (g.met.D.Delegate.no_is_refuted c.evaluate-outcome.new.cache.cx) (g.met.D.Cx.Cx.one_sort c.in_ok-answer.answer.result))
-    (((c.in_ok-answer.ensures.ended (call_of c.args.input c.self.inside.root_depth.0 (g.D.Delegate.starts c.args.inspect.now) c.self.inside.limits_met false true fits) (rw c.new-evaluation.ensures.begins (call_begins g.D.Delegate g.D.Cx.Cx c.args.cache.now.cx g.D.Cx.Input.PartialEq.eq c.args.input c.self.inside.root_depth.0 (g.D.Delegate.starts c.args.inspect.now) c.self.inside.limits_met fits c.args.cache.now.results false true (λ e. absurd cc) (λ e. all)))).ended).decided (decisive, refl) unmet))
+    (((c.in_ok-answer.ensures.evaluates.ended (call_of c.args.input c.self.inside.root_depth.0 (g.D.Delegate.starts c.args.inspect.now) c.self.inside.limits_met false true fits) (rw c.new-evaluation.ensures.begins (call_begins g.D.Delegate g.D.Cx.Cx c.args.cache.now.cx g.D.Cx.Input.PartialEq.eq c.args.input c.self.inside.root_depth.0 (g.D.Delegate.starts c.args.inspect.now) c.self.inside.limits_met fits c.args.cache.now.results false true (λ e. absurd cc) (λ e. all)))).ended).decided (decisive, refl) unmet))
 
 pub returns-clause-remembered : goal.returns-clause-remembered
 returns-clause-remembered g c =
     let fits = c.new-evaluation.ensures.fits in
     rw (← c.self.view_is)
-    (λ is_noop unscoped counted none unmet still. ((c.in_ok-answer.ensures.ended (call_of c.args.input c.self.inside.root_depth.0 (g.D.Delegate.starts c.args.inspect.now) c.self.inside.limits_met true false fits) (rw c.new-evaluation.ensures.begins (call_begins g.D.Delegate g.D.Cx.Cx c.args.cache.now.cx g.D.Cx.Input.PartialEq.eq c.args.input c.self.inside.root_depth.0 (g.D.Delegate.starts c.args.inspect.now) c.self.inside.limits_met fits c.args.cache.now.results true false (λ e. none) (λ e. absurd cc)))).remembered) (is_noop, unscoped) (counted, unmet, refl) still)
+    (λ is_noop unscoped counted none unmet still. ((c.in_ok-answer.ensures.evaluates.ended (call_of c.args.input c.self.inside.root_depth.0 (g.D.Delegate.starts c.args.inspect.now) c.self.inside.limits_met true false fits) (rw c.new-evaluation.ensures.begins (call_begins g.D.Delegate g.D.Cx.Cx c.args.cache.now.cx g.D.Cx.Input.PartialEq.eq c.args.input c.self.inside.root_depth.0 (g.D.Delegate.starts c.args.inspect.now) c.self.inside.limits_met fits c.args.cache.now.results true false (λ e. none) (λ e. absurd cc)))).remembered) (is_noop, unscoped) (counted, unmet, refl) still)
 
 pub returns-clause-kept_nodes : goal.returns-clause-kept_nodes
 returns-clause-kept_nodes g c =
@@ -163,7 +163,7 @@ returns-clause-within g c =
     let same = g.D.Cx.Input.PartialEq.eq in
     rw (← c.self.view_is)
     (stores_within same c.self.inside.root_depth.0 c.args.cache.now.results c.evaluate-outcome.new.cache.results
-    (c.in_ok-answer.ensures.ended (call_over same c.args.cache.now.results c.args.input c.self.inside.root_depth.0 (g.D.Delegate.starts c.args.inspect.now) c.self.inside.limits_met fits) (rw c.new-evaluation.ensures.begins (call_over_begins g.D.Delegate g.D.Cx.Cx c.args.cache.now.cx same c.args.input c.self.inside.root_depth.0 (g.D.Delegate.starts c.args.inspect.now) c.self.inside.limits_met fits c.args.cache.now.results))).store.within)
+    (c.in_ok-answer.ensures.evaluates.ended (call_over same c.args.cache.now.results c.args.input c.self.inside.root_depth.0 (g.D.Delegate.starts c.args.inspect.now) c.self.inside.limits_met fits) (rw c.new-evaluation.ensures.begins (call_over_begins g.D.Delegate g.D.Cx.Cx c.args.cache.now.cx same c.args.input c.self.inside.root_depth.0 (g.D.Delegate.starts c.args.inspect.now) c.self.inside.limits_met fits c.args.cache.now.results))).store.within)
 
 pub returns-in_err-answer-clause-within : goal.returns-in_err-answer-clause-within
 returns-in_err-answer-clause-within g c =
@@ -171,4 +171,4 @@ returns-in_err-answer-clause-within g c =
     let same = g.D.Cx.Input.PartialEq.eq in
     rw (← c.self.view_is)
     (stores_within same c.self.inside.root_depth.0 c.args.cache.now.results c.evaluate-outcome.new.cache.results
-    (c.in_err-answer.ensures.stopped (call_over same c.args.cache.now.results c.args.input c.self.inside.root_depth.0 (g.D.Delegate.starts c.args.inspect.now) c.self.inside.limits_met fits) (rw c.new-evaluation.ensures.begins (call_over_begins g.D.Delegate g.D.Cx.Cx c.args.cache.now.cx same c.args.input c.self.inside.root_depth.0 (g.D.Delegate.starts c.args.inspect.now) c.self.inside.limits_met fits c.args.cache.now.results))).store.within)
+    (c.in_err-answer.ensures.evaluates.stopped (call_over same c.args.cache.now.results c.args.input c.self.inside.root_depth.0 (g.D.Delegate.starts c.args.inspect.now) c.self.inside.limits_met fits) (rw c.new-evaluation.ensures.begins (call_over_begins g.D.Delegate g.D.Cx.Cx c.args.cache.now.cx same c.args.input c.self.inside.root_depth.0 (g.D.Delegate.starts c.args.inspect.now) c.self.inside.limits_met fits c.args.cache.now.results))).store.within)

@@ -49,16 +49,16 @@ loop-query-preserved g c =
     record {
       answered = AppendsEach-more (HasAnswer g.D.Delegate g.D.Cx.Cx same new) queries at query below c.query-item.is answers c.loop-query.answers.items c.push_reserved.new.self.items c.evaluate_query-answer.result
           (AppendsEach-weaker (HasAnswer g.D.Delegate g.D.Cx.Cx same old) (HasAnswer g.D.Delegate g.D.Cx.Cx same new)
-          (HasAnswer-kept g.D.Delegate g.D.Cx.Cx same old new now.same_context now.kept_results now.kept) (take at queries) answers c.loop-query.answers.items then.answered)
+          (HasAnswer-kept g.D.Delegate g.D.Cx.Cx same old new now.keeps.context now.keeps.results now.keeps.finished) (take at queries) answers c.loop-query.answers.items then.answered)
           now.answered c.push_reserved.ensures.items;
       room = grind (arith, common_steps);
       frames = omega (arith, one_more, within, then.frames);
-      same_context = now.same_context ∙ then.same_context;
-      kept_results = KeepsResults-then same c.args.cache.now.results old.results new.results then.kept_results now.kept_results;
+      same_context = now.keeps.context ∙ then.same_context;
+      kept_results = KeepsResults-then same c.args.cache.now.results old.results new.results then.kept_results now.keeps.results;
       within = λ depth fit. StoresWithin-then same depth query.0 c.args.cache.now.results old.results new.results
           (subst (λ (q : ℕ × _ × PathKind). q.0 ≤ depth) (sym c.query-item.is) (All-get_or (λ q. q.0 ≤ depth) queries at query below fit)) (then.within depth fit) now.within;
-      kept = KeepsFinished-then c.args.cache.now.nodes old.nodes new.nodes then.kept now.kept;
-      kept_nodes = λ at node there. now.kept_nodes at node (then.kept_nodes at node there);
+      kept = KeepsFinished-then c.args.cache.now.nodes old.nodes new.nodes then.kept now.keeps.finished;
+      kept_nodes = λ at node there. now.keeps.nodes at node (then.kept_nodes at node there);
       builder = builder_goes_on g.D.Delegate.starts g.D.Delegate.noop c.args.inspect.now c.loop-query.inspect c.evaluate_query-answer.new.inspect then.builder now.builder;
       recorded = λ records. now.recorded (then.builder.same_noop ∙ records) ∙ then.recorded records;
       limits =

@@ -2,14 +2,14 @@ use Rattle.std.proofs.Common.{◌∙◌, refl, sym, subst}
 use Rattle.search_graph.specs.Below.{ChangesNewest, fates_of, IfFinished, IsFated, IsNewestToStore, IsRememberedWhere, MovesFates, CanStep, Request, NotesCandidate, Evaluate, Done, verdicts, CallGoesOn, IsCaused, IsFit, OutOfMemory, StopsWith, runs_of, work_left}
 use Rattle.search_graph.proofs.Advancing.{has_request, requests, step_stops, stepped_right}
 use Rattle.search_moves.proofs.Asking.{asked_goes_on, asked_right}
-use Rattle.search_moves.proofs.Keeping.{asked_from, later_keeps, led_from, stay_then}
+use Rattle.search_moves.proofs.Keeping.{asked_from, cache_stays, later_keeps, led_from, stay_then}
 use Rattle.search_rules.proofs.records.EarlierNodes.{stay_candidates, stay_stepped}
 use Rattle.search_graph.proofs.Causes.{step_is_caused, step_keeps_free}
 use Rattle.search_rules.proofs.justified.Finishing.{noted_fits}
 use Rattle.search_graph.proofs.Loops.{done_leads, next_before, step_asks_for, stepped_some}
 use Rattle.search_rules.proofs.moves.Moves.{asked_stopped, can_step}
 use Rattle.search_graph.proofs.Noted.{about_candidates, can_note, noted_is_justified, noting_goes_on, noting_keeps_free}
-use Rattle.search_rules.proofs.moves.Questions.{if_err_and}
+use Rattle.search_rules.proofs.moves.Questions.{if_err_and, no_ok}
 use Rattle.search_rules.proofs.entries.Moves.{noted_ready, stepped_ready}
 use Rattle.search_moves.proofs.Fating.{asked_fates, led_fates}
 use Rattle.search_rules.proofs.Fates.{fates_of_candidates, fates_stepped}
@@ -21,11 +21,14 @@ step-requires g c =
     subst (λ x. CanStep g.D.Delegate g.D.Cx.Cx x c.args.received.reply c.args.evaluation.now.goals) (sym c.cx-cx.ensures)
     (can_step g.D.Delegate g.D.Cx.Cx c.args.cache.now.cx c.requires.call c.args.received.reply c.args.evaluation.now.goals _ _ c.requires.waiting)
 
-pub returns-in_err-request-clause-stops : goal.returns-in_err-request-clause-stops
-returns-in_err-request-clause-stops g c = λ call h.
-    if_err_and c.from_residual.result _ _ c.from_residual.ensures.1
-    (λ e is. subst (λ fault. StopsWith g.D.Delegate g.D.Cx.Cx g.D.Cx.Input.PartialEq.eq c.args.cache.now.cx call fault c.args.cache.now (record c.args.evaluation.now { goals = c.step.new.goals }) (g.D.Delegate.starts c.step.new.inspect)) (sym is)
-    (step_stops g.D.Delegate g.D.Cx.Cx g.D.Cx.Input.PartialEq.eq c.args.cache.now.cx c.args.cache.now c.args.evaluation.now c.args.received c.cx-cx.result c.cx-cx.ensures c.step.new.goals (g.D.Delegate.starts c.args.inspect.now) (g.D.Delegate.starts c.step.new.inspect) c.step.ensures.same_starts _ c.in_err-request.ensures.fault c.requires.right call h))
+pub returns-in_err-request-clause-advances : goal.returns-in_err-request-clause-advances
+returns-in_err-request-clause-advances g c = record {
+  leads = λ call h. no_ok c.from_residual.result _ _ c.from_residual.ensures.1;
+  stops = λ call h.
+      if_err_and c.from_residual.result _ _ c.from_residual.ensures.1
+      (λ e is. subst (λ fault. StopsWith g.D.Delegate g.D.Cx.Cx g.D.Cx.Input.PartialEq.eq c.args.cache.now.cx call fault c.args.cache.now (record c.args.evaluation.now { goals = c.step.new.goals }) (g.D.Delegate.starts c.step.new.inspect)) (sym is)
+      (step_stops g.D.Delegate g.D.Cx.Cx g.D.Cx.Input.PartialEq.eq c.args.cache.now.cx c.args.cache.now c.args.evaluation.now c.args.received c.cx-cx.result c.cx-cx.ensures c.step.new.goals (g.D.Delegate.starts c.args.inspect.now) (g.D.Delegate.starts c.step.new.inspect) c.step.ensures.same_starts _ c.in_err-request.ensures.fault c.requires.right call h));
+}
 
 pub returns-in_err-request-clause-caused : goal.returns-in_err-request-clause-caused
 returns-in_err-request-clause-caused g c =
@@ -38,18 +41,24 @@ returns-in_err-request-clause-caused g c =
 pub ask-requires : goal.ask-requires
 ask-requires g c = has_request g.D.Delegate g.D.Cx.Cx g.D.Cx.Input.PartialEq.eq c.args.cache.now.cx c.args.cache.now c.args.evaluation.now c.args.received c.cx-cx.result c.cx-cx.ensures c.in_ok-request.request c.step.new.goals c.in_ok-request.ensures.stepped (g.D.Delegate.starts c.args.inspect.now) (g.D.Delegate.starts c.step.new.inspect) c.step.ensures.same_starts (Evaluate c.in-Evaluate.kind c.in-Evaluate.input) c.in-Evaluate.is refl c.requires
 
-pub returns-in_err-next-in-Evaluate-clause-stops : goal.returns-in_err-next-in-Evaluate-clause-stops
-returns-in_err-next-in-Evaluate-clause-stops g c = λ call h.
-    if_err_and c.from_residual-in_err-next-in-Evaluate.result _ _ c.from_residual-in_err-next-in-Evaluate.ensures.1
-    (λ e is. subst (λ fault. StopsWith g.D.Delegate g.D.Cx.Cx g.D.Cx.Input.PartialEq.eq c.args.cache.now.cx call fault c.ask.new.cache c.ask.new.self (g.D.Delegate.starts c.ask.new.inspect)) (sym is)
-    (c.in_err-next-in-Evaluate.ensures.stops call _ (requests g.D.Delegate g.D.Cx.Cx g.D.Cx.Input.PartialEq.eq c.args.cache.now.cx c.args.cache.now c.args.evaluation.now c.args.received c.cx-cx.result c.cx-cx.ensures c.in_ok-request.request c.step.new.goals c.in_ok-request.ensures.stepped (g.D.Delegate.starts c.args.inspect.now) (g.D.Delegate.starts c.step.new.inspect) c.step.ensures.same_starts (Evaluate c.in-Evaluate.kind c.in-Evaluate.input) c.in-Evaluate.is c.requires.right call h)))
+pub returns-in_err-next-in-Evaluate-clause-advances : goal.returns-in_err-next-in-Evaluate-clause-advances
+returns-in_err-next-in-Evaluate-clause-advances g c = record {
+  leads = λ call h. no_ok c.from_residual-in_err-next-in-Evaluate.result _ _ c.from_residual-in_err-next-in-Evaluate.ensures.1;
+  stops = λ call h.
+      if_err_and c.from_residual-in_err-next-in-Evaluate.result _ _ c.from_residual-in_err-next-in-Evaluate.ensures.1
+      (λ e is. subst (λ fault. StopsWith g.D.Delegate g.D.Cx.Cx g.D.Cx.Input.PartialEq.eq c.args.cache.now.cx call fault c.ask.new.cache c.ask.new.self (g.D.Delegate.starts c.ask.new.inspect)) (sym is)
+      (c.in_err-next-in-Evaluate.ensures.stops call _ (requests g.D.Delegate g.D.Cx.Cx g.D.Cx.Input.PartialEq.eq c.args.cache.now.cx c.args.cache.now c.args.evaluation.now c.args.received c.cx-cx.result c.cx-cx.ensures c.in_ok-request.request c.step.new.goals c.in_ok-request.ensures.stepped (g.D.Delegate.starts c.args.inspect.now) (g.D.Delegate.starts c.step.new.inspect) c.step.ensures.same_starts (Evaluate c.in-Evaluate.kind c.in-Evaluate.input) c.in-Evaluate.is c.requires.right call h)));
+}
 
-pub returns-in_ok-next-in-Evaluate-clause-leads : goal.returns-in_ok-next-in-Evaluate-clause-leads
-returns-in_ok-next-in-Evaluate-clause-leads g c = λ call h.
-    let ready = stepped_ready g.D.Delegate g.D.Cx.Cx c.cx-cx.result g.D.Cx.Input.PartialEq.eq (g.D.Delegate.script c.args.cache.now.cx) c.args.cache.now.nodes c.args.evaluation.now.provisional c.args.received c.in_ok-request.request c.args.evaluation.now.goals c.step.new.goals c.in_ok-request.ensures.stepped c.requires.right.right.ready in
-    let on = asked_goes_on g.D.Delegate g.D.Cx.Cx g.D.Cx.Input.PartialEq.eq c.args.cache.now.cx c.in-Evaluate.kind c.in-Evaluate.input c.args.cache.now (record c.args.evaluation.now { goals = c.step.new.goals }) (g.D.Delegate.starts c.step.new.inspect) g.met.D.Delegate.divides g.met.D.Cx.Cx.same_input (g.met.D.Delegate.initial_sort c.args.cache.now.cx) (g.D.Delegate.noop c.step.new.inspect) c.in_ok-next-in-Evaluate.next c.ask.new.cache c.ask.new.self (g.D.Delegate.starts c.ask.new.inspect) c.in_ok-next-in-Evaluate.ensures.asked ready call _
-    (requests g.D.Delegate g.D.Cx.Cx g.D.Cx.Input.PartialEq.eq c.args.cache.now.cx c.args.cache.now c.args.evaluation.now c.args.received c.cx-cx.result c.cx-cx.ensures c.in_ok-request.request c.step.new.goals c.in_ok-request.ensures.stepped (g.D.Delegate.starts c.args.inspect.now) (g.D.Delegate.starts c.step.new.inspect) c.step.ensures.same_starts (Evaluate c.in-Evaluate.kind c.in-Evaluate.input) c.in-Evaluate.is c.requires.right call h) in
-    record { leads = on.goes_on; answers = on.answers; remembered = tt }
+pub returns-in_ok-next-in-Evaluate-clause-advances : goal.returns-in_ok-next-in-Evaluate-clause-advances
+returns-in_ok-next-in-Evaluate-clause-advances g c = record {
+  leads = λ call h.
+      let ready = stepped_ready g.D.Delegate g.D.Cx.Cx c.cx-cx.result g.D.Cx.Input.PartialEq.eq (g.D.Delegate.script c.args.cache.now.cx) c.args.cache.now.nodes c.args.evaluation.now.provisional c.args.received c.in_ok-request.request c.args.evaluation.now.goals c.step.new.goals c.in_ok-request.ensures.stepped c.requires.right.right.ready in
+      let on = asked_goes_on g.D.Delegate g.D.Cx.Cx g.D.Cx.Input.PartialEq.eq c.args.cache.now.cx c.in-Evaluate.kind c.in-Evaluate.input c.args.cache.now (record c.args.evaluation.now { goals = c.step.new.goals }) (g.D.Delegate.starts c.step.new.inspect) g.met.D.Delegate.divides g.met.D.Cx.Cx.same_input (g.met.D.Delegate.initial_sort c.args.cache.now.cx) (g.D.Delegate.noop c.step.new.inspect) c.in_ok-next-in-Evaluate.next c.ask.new.cache c.ask.new.self (g.D.Delegate.starts c.ask.new.inspect) c.in_ok-next-in-Evaluate.ensures.asked ready call _
+      (requests g.D.Delegate g.D.Cx.Cx g.D.Cx.Input.PartialEq.eq c.args.cache.now.cx c.args.cache.now c.args.evaluation.now c.args.received c.cx-cx.result c.cx-cx.ensures c.in_ok-request.request c.step.new.goals c.in_ok-request.ensures.stepped (g.D.Delegate.starts c.args.inspect.now) (g.D.Delegate.starts c.step.new.inspect) c.step.ensures.same_starts (Evaluate c.in-Evaluate.kind c.in-Evaluate.input) c.in-Evaluate.is c.requires.right call h) in
+      record { leads = on.goes_on; answers = on.answers; remembered = tt };
+  stops = λ call h. tt;
+}
 
 pub returns-in_ok-next-in-Evaluate-clause-right : goal.returns-in_ok-next-in-Evaluate-clause-right
 returns-in_ok-next-in-Evaluate-clause-right g c =
@@ -63,20 +72,26 @@ returns-in_ok-next-in-Evaluate-clause-right g c =
 pub finish_run-requires : goal.finish_run-requires
 finish_run-requires g c = has_request g.D.Delegate g.D.Cx.Cx g.D.Cx.Input.PartialEq.eq c.args.cache.now.cx c.args.cache.now c.args.evaluation.now c.args.received c.cx-cx.result c.cx-cx.ensures c.in_ok-request.request c.step.new.goals c.in_ok-request.ensures.stepped (g.D.Delegate.starts c.args.inspect.now) (g.D.Delegate.starts c.step.new.inspect) c.step.ensures.same_starts (Done c.in-Done.outcome) c.in-Done.is refl c.requires
 
-pub returns-in_err-next-in-Done-clause-stops : goal.returns-in_err-next-in-Done-clause-stops
-returns-in_err-next-in-Done-clause-stops g c = λ call h.
-    if_err_and c.from_residual-in_err-next-in-Done.result _ _ c.from_residual-in_err-next-in-Done.ensures.1
-    (λ e is. subst (λ fault. StopsWith g.D.Delegate g.D.Cx.Cx g.D.Cx.Input.PartialEq.eq c.args.cache.now.cx call fault c.finish_run.new.cache c.finish_run.new.self (g.D.Delegate.starts c.finish_run.new.inspect)) (sym is)
-    (c.in_err-next-in-Done.ensures.moves.stops call _ (requests g.D.Delegate g.D.Cx.Cx g.D.Cx.Input.PartialEq.eq c.args.cache.now.cx c.args.cache.now c.args.evaluation.now c.args.received c.cx-cx.result c.cx-cx.ensures c.in_ok-request.request c.step.new.goals c.in_ok-request.ensures.stepped (g.D.Delegate.starts c.args.inspect.now) (g.D.Delegate.starts c.step.new.inspect) c.step.ensures.same_starts (Done c.in-Done.outcome) c.in-Done.is c.requires.right call h)))
+pub returns-in_err-next-in-Done-clause-advances : goal.returns-in_err-next-in-Done-clause-advances
+returns-in_err-next-in-Done-clause-advances g c = record {
+  leads = λ call h. no_ok c.from_residual-in_err-next-in-Done.result _ _ c.from_residual-in_err-next-in-Done.ensures.1;
+  stops = λ call h.
+      if_err_and c.from_residual-in_err-next-in-Done.result _ _ c.from_residual-in_err-next-in-Done.ensures.1
+      (λ e is. subst (λ fault. StopsWith g.D.Delegate g.D.Cx.Cx g.D.Cx.Input.PartialEq.eq c.args.cache.now.cx call fault c.finish_run.new.cache c.finish_run.new.self (g.D.Delegate.starts c.finish_run.new.inspect)) (sym is)
+      (c.in_err-next-in-Done.ensures.moves.stops call _ (requests g.D.Delegate g.D.Cx.Cx g.D.Cx.Input.PartialEq.eq c.args.cache.now.cx c.args.cache.now c.args.evaluation.now c.args.received c.cx-cx.result c.cx-cx.ensures c.in_ok-request.request c.step.new.goals c.in_ok-request.ensures.stepped (g.D.Delegate.starts c.args.inspect.now) (g.D.Delegate.starts c.step.new.inspect) c.step.ensures.same_starts (Done c.in-Done.outcome) c.in-Done.is c.requires.right call h)));
+}
 
-pub returns-in_ok-next-in-Done-clause-leads : goal.returns-in_ok-next-in-Done-clause-leads
-returns-in_ok-next-in-Done-clause-leads g c = λ call h.
-    let on = c.in_ok-next-in-Done.ensures.moves.leads call _ (requests g.D.Delegate g.D.Cx.Cx g.D.Cx.Input.PartialEq.eq c.args.cache.now.cx c.args.cache.now c.args.evaluation.now c.args.received c.cx-cx.result c.cx-cx.ensures c.in_ok-request.request c.step.new.goals c.in_ok-request.ensures.stepped (g.D.Delegate.starts c.args.inspect.now) (g.D.Delegate.starts c.step.new.inspect) c.step.ensures.same_starts (Done c.in-Done.outcome) c.in-Done.is c.requires.right call h) in
-    record {
-      leads = done_leads g.D.Delegate g.D.Cx.Cx c.args.cache.now.cx c.args.received c.args.evaluation.now.goals c.step.new.goals c.cx-cx.result c.in_ok-request.request c.in_ok-request.ensures.stepped call c.in_ok-next-in-Done.next c.finish_run.new.self.goals _ _ on.leads;
-      answers = on.answers;
-      remembered = subst (λ fs. IfFinished c.in_ok-next-in-Done.next (λ answer. IsNewestToStore fs → IsRememberedWhere g.D.Delegate g.D.Cx.Cx c.args.cache.now.cx g.D.Cx.Input.PartialEq.eq call c.finish_run.new.cache c.finish_run.new.self.limits_met answer)) (fates_stepped g.D.Delegate g.D.Cx.Cx c.cx-cx.result c.args.evaluation.now.goals c.step.new.goals c.args.received c.in_ok-request.request c.in_ok-request.ensures.stepped) on.remembered;
-    }
+pub returns-in_ok-next-in-Done-clause-advances : goal.returns-in_ok-next-in-Done-clause-advances
+returns-in_ok-next-in-Done-clause-advances g c = record {
+  leads = λ call h.
+      let on = c.in_ok-next-in-Done.ensures.moves.leads call _ (requests g.D.Delegate g.D.Cx.Cx g.D.Cx.Input.PartialEq.eq c.args.cache.now.cx c.args.cache.now c.args.evaluation.now c.args.received c.cx-cx.result c.cx-cx.ensures c.in_ok-request.request c.step.new.goals c.in_ok-request.ensures.stepped (g.D.Delegate.starts c.args.inspect.now) (g.D.Delegate.starts c.step.new.inspect) c.step.ensures.same_starts (Done c.in-Done.outcome) c.in-Done.is c.requires.right call h) in
+      record {
+        leads = done_leads g.D.Delegate g.D.Cx.Cx c.args.cache.now.cx c.args.received c.args.evaluation.now.goals c.step.new.goals c.cx-cx.result c.in_ok-request.request c.in_ok-request.ensures.stepped call c.in_ok-next-in-Done.next c.finish_run.new.self.goals _ _ on.leads;
+        answers = on.answers;
+        remembered = subst (λ fs. IfFinished c.in_ok-next-in-Done.next (λ answer. IsNewestToStore fs → IsRememberedWhere g.D.Delegate g.D.Cx.Cx c.args.cache.now.cx g.D.Cx.Input.PartialEq.eq call c.finish_run.new.cache c.finish_run.new.self.limits_met answer)) (fates_stepped g.D.Delegate g.D.Cx.Cx c.cx-cx.result c.args.evaluation.now.goals c.step.new.goals c.args.received c.in_ok-request.request c.in_ok-request.ensures.stepped) on.remembered;
+      };
+  stops = λ call h. tt;
+}
 
 pub returns-in_ok-next-in-Done-clause-right : goal.returns-in_ok-next-in-Done-clause-right
 returns-in_ok-next-in-Done-clause-right g c = record {
@@ -90,27 +105,33 @@ returns-in_ok-next-in-Done-clause-right g c = record {
 pub note_candidate-requires : goal.note_candidate-requires
 note_candidate-requires g c = can_note g.D.Delegate g.D.Cx.Cx c.cx-cx.result c.args.cache.now.nodes c.args.received c.in_ok-request.request c.args.evaluation.now.goals c.step.new.goals c.in_ok-request.ensures.stepped c.requires.right.fits c.requires.right.right.justified
 
-pub returns-in_err-note_candidate-in_default-clause-stops : goal.returns-in_err-note_candidate-in_default-clause-stops
-returns-in_err-note_candidate-in_default-clause-stops g c = λ call h.
-    if_err_and c.from_residual-in_err-note_candidate-in_default.result _ _ c.from_residual-in_err-note_candidate-in_default.ensures.1
-    (λ e is. subst (λ fault. StopsWith g.D.Delegate g.D.Cx.Cx g.D.Cx.Input.PartialEq.eq c.args.cache.now.cx call fault c.args.cache.now (record c.args.evaluation.now { goals = c.note_candidate.new.self }) (g.D.Delegate.starts c.step.new.inspect)) (sym is)
-    (record {
-      stopped = asked_stopped g.D.Delegate g.D.Cx.Cx c.args.cache.now.cx call _ c.in_ok-request.request c.step.new.goals _ _ (requests g.D.Delegate g.D.Cx.Cx g.D.Cx.Input.PartialEq.eq c.args.cache.now.cx c.args.cache.now c.args.evaluation.now c.args.received c.cx-cx.result c.cx-cx.ensures c.in_ok-request.request c.step.new.goals c.in_ok-request.ensures.stepped (g.D.Delegate.starts c.args.inspect.now) (g.D.Delegate.starts c.step.new.inspect) c.step.ensures.same_starts c.in_ok-request.request refl c.requires.right call h).asked;
-      store = h.answers.store;
-    }))
+pub returns-in_err-note_candidate-in_default-clause-advances : goal.returns-in_err-note_candidate-in_default-clause-advances
+returns-in_err-note_candidate-in_default-clause-advances g c = record {
+  leads = λ call h. no_ok c.from_residual-in_err-note_candidate-in_default.result _ _ c.from_residual-in_err-note_candidate-in_default.ensures.1;
+  stops = λ call h.
+      if_err_and c.from_residual-in_err-note_candidate-in_default.result _ _ c.from_residual-in_err-note_candidate-in_default.ensures.1
+      (λ e is. subst (λ fault. StopsWith g.D.Delegate g.D.Cx.Cx g.D.Cx.Input.PartialEq.eq c.args.cache.now.cx call fault c.args.cache.now (record c.args.evaluation.now { goals = c.note_candidate.new.self }) (g.D.Delegate.starts c.step.new.inspect)) (sym is)
+      (record {
+        stopped = asked_stopped g.D.Delegate g.D.Cx.Cx c.args.cache.now.cx call _ c.in_ok-request.request c.step.new.goals _ _ (requests g.D.Delegate g.D.Cx.Cx g.D.Cx.Input.PartialEq.eq c.args.cache.now.cx c.args.cache.now c.args.evaluation.now c.args.received c.cx-cx.result c.cx-cx.ensures c.in_ok-request.request c.step.new.goals c.in_ok-request.ensures.stepped (g.D.Delegate.starts c.args.inspect.now) (g.D.Delegate.starts c.step.new.inspect) c.step.ensures.same_starts c.in_ok-request.request refl c.requires.right call h).asked;
+        store = h.answers.store;
+      }));
+}
 
 pub returns-in_err-note_candidate-in_default-clause-caused : goal.returns-in_err-note_candidate-in_default-clause-caused
 returns-in_err-note_candidate-in_default-clause-caused g c =
     if_err_and c.from_residual-in_err-note_candidate-in_default.result _ _ c.from_residual-in_err-note_candidate-in_default.ensures.1 (λ e is. OutOfMemory is)
 
-pub returns-in_ok-note_candidate-in_default-clause-leads : goal.returns-in_ok-note_candidate-in_default-clause-leads
-returns-in_ok-note_candidate-in_default-clause-leads g c = λ call h. record {
-  leads =
-      subst (λ given. CallGoesOn g.D.Delegate g.D.Cx.Cx c.args.cache.now.cx call (work_left g.D.Delegate g.D.Cx.Cx c.args.cache.now.cx c.args.evaluation.now.goals) given.reply c.note_candidate.new.self (g.D.Delegate.starts c.step.new.inspect) c.args.evaluation.now.limits_met) (sym c.without_node.ensures)
-      (noting_goes_on g.D.Delegate g.D.Cx.Cx c.args.cache.now.cx call _ c.in_ok-request.request c.step.new.goals c.note_candidate.new.self _ _ (about_candidates c.in_ok-request.request c.in_default.not-Evaluate c.in_default.not-Done) c.in_ok-note_candidate-in_default.ensures
-      (requests g.D.Delegate g.D.Cx.Cx g.D.Cx.Input.PartialEq.eq c.args.cache.now.cx c.args.cache.now c.args.evaluation.now c.args.received c.cx-cx.result c.cx-cx.ensures c.in_ok-request.request c.step.new.goals c.in_ok-request.ensures.stepped (g.D.Delegate.starts c.args.inspect.now) (g.D.Delegate.starts c.step.new.inspect) c.step.ensures.same_starts c.in_ok-request.request refl c.requires.right call h).asked);
-  answers = h.answers;
-  remembered = tt;
+pub returns-in_ok-note_candidate-in_default-clause-advances : goal.returns-in_ok-note_candidate-in_default-clause-advances
+returns-in_ok-note_candidate-in_default-clause-advances g c = record {
+  leads = λ call h. record {
+    leads =
+        subst (λ given. CallGoesOn g.D.Delegate g.D.Cx.Cx c.args.cache.now.cx call (work_left g.D.Delegate g.D.Cx.Cx c.args.cache.now.cx c.args.evaluation.now.goals) given.reply c.note_candidate.new.self (g.D.Delegate.starts c.step.new.inspect) c.args.evaluation.now.limits_met) (sym c.without_node.ensures)
+        (noting_goes_on g.D.Delegate g.D.Cx.Cx c.args.cache.now.cx call _ c.in_ok-request.request c.step.new.goals c.note_candidate.new.self _ _ (about_candidates c.in_ok-request.request c.in_default.not-Evaluate c.in_default.not-Done) c.in_ok-note_candidate-in_default.ensures
+        (requests g.D.Delegate g.D.Cx.Cx g.D.Cx.Input.PartialEq.eq c.args.cache.now.cx c.args.cache.now c.args.evaluation.now c.args.received c.cx-cx.result c.cx-cx.ensures c.in_ok-request.request c.step.new.goals c.in_ok-request.ensures.stepped (g.D.Delegate.starts c.args.inspect.now) (g.D.Delegate.starts c.step.new.inspect) c.step.ensures.same_starts c.in_ok-request.request refl c.requires.right call h).asked);
+    answers = h.answers;
+    remembered = tt;
+  };
+  stops = λ call h. tt;
 }
 
 pub returns-in_ok-note_candidate-in_default-clause-right : goal.returns-in_ok-note_candidate-in_default-clause-right
@@ -129,25 +150,33 @@ returns-in_ok-note_candidate-in_default-clause-right g c = record {
 
 -- ---- nodes that were there, and those of the goals' runs
 
-pub returns-in_err-next-in-Evaluate-clause-keeps : goal.returns-in_err-next-in-Evaluate-clause-keeps
-returns-in_err-next-in-Evaluate-clause-keeps g c =
-    later_keeps g.D.Cx.Input.PartialEq.eq c.args.evaluation.now.goals c.step.new.goals c.args.cache.now c.ask.new.cache
-    (stay_stepped g.D.Delegate g.D.Cx.Cx c.cx-cx.result c.args.cache.now.nodes c.args.evaluation.now.goals c.step.new.goals c.args.received c.in_ok-request.request c.in_ok-request.ensures.stepped) c.ask.ensures.keeps
+pub returns-in_err-next-in-Evaluate-clause-cache : goal.returns-in_err-next-in-Evaluate-clause-cache
+returns-in_err-next-in-Evaluate-clause-cache g c = record {
+  keeps = later_keeps g.D.Cx.Input.PartialEq.eq c.args.evaluation.now.goals c.step.new.goals c.args.cache.now c.ask.new.cache
+      (stay_stepped g.D.Delegate g.D.Cx.Cx c.cx-cx.result c.args.cache.now.nodes c.args.evaluation.now.goals c.step.new.goals c.args.received c.in_ok-request.request c.in_ok-request.ensures.stepped) c.ask.ensures.keeps;
+  changes = Untouched c.ask.ensures.same_results;
+}
 
-pub returns-in_ok-next-in-Evaluate-clause-keeps : goal.returns-in_ok-next-in-Evaluate-clause-keeps
-returns-in_ok-next-in-Evaluate-clause-keeps g c =
-    later_keeps g.D.Cx.Input.PartialEq.eq c.args.evaluation.now.goals c.step.new.goals c.args.cache.now c.ask.new.cache
-    (stay_stepped g.D.Delegate g.D.Cx.Cx c.cx-cx.result c.args.cache.now.nodes c.args.evaluation.now.goals c.step.new.goals c.args.received c.in_ok-request.request c.in_ok-request.ensures.stepped) c.ask.ensures.keeps
+pub returns-in_ok-next-in-Evaluate-clause-cache : goal.returns-in_ok-next-in-Evaluate-clause-cache
+returns-in_ok-next-in-Evaluate-clause-cache g c = record {
+  keeps = later_keeps g.D.Cx.Input.PartialEq.eq c.args.evaluation.now.goals c.step.new.goals c.args.cache.now c.ask.new.cache
+      (stay_stepped g.D.Delegate g.D.Cx.Cx c.cx-cx.result c.args.cache.now.nodes c.args.evaluation.now.goals c.step.new.goals c.args.received c.in_ok-request.request c.in_ok-request.ensures.stepped) c.ask.ensures.keeps;
+  changes = Untouched c.ask.ensures.same_results;
+}
 
-pub returns-in_err-next-in-Done-clause-keeps : goal.returns-in_err-next-in-Done-clause-keeps
-returns-in_err-next-in-Done-clause-keeps g c =
-    later_keeps g.D.Cx.Input.PartialEq.eq c.args.evaluation.now.goals c.step.new.goals c.args.cache.now c.finish_run.new.cache
-    (stay_stepped g.D.Delegate g.D.Cx.Cx c.cx-cx.result c.args.cache.now.nodes c.args.evaluation.now.goals c.step.new.goals c.args.received c.in_ok-request.request c.in_ok-request.ensures.stepped) c.finish_run.ensures.keeps
+pub returns-in_err-next-in-Done-clause-cache : goal.returns-in_err-next-in-Done-clause-cache
+returns-in_err-next-in-Done-clause-cache g c = record {
+  keeps = later_keeps g.D.Cx.Input.PartialEq.eq c.args.evaluation.now.goals c.step.new.goals c.args.cache.now c.finish_run.new.cache
+      (stay_stepped g.D.Delegate g.D.Cx.Cx c.cx-cx.result c.args.cache.now.nodes c.args.evaluation.now.goals c.step.new.goals c.args.received c.in_ok-request.request c.in_ok-request.ensures.stepped) c.finish_run.ensures.cache.keeps;
+  changes = subst (λ fs. ChangesNewest g.D.Cx.Input.PartialEq.eq fs c.args.cache.now.results c.finish_run.new.cache.results) (fates_stepped g.D.Delegate g.D.Cx.Cx c.cx-cx.result c.args.evaluation.now.goals c.step.new.goals c.args.received c.in_ok-request.request c.in_ok-request.ensures.stepped) c.finish_run.ensures.cache.changes;
+}
 
-pub returns-in_ok-next-in-Done-clause-keeps : goal.returns-in_ok-next-in-Done-clause-keeps
-returns-in_ok-next-in-Done-clause-keeps g c =
-    later_keeps g.D.Cx.Input.PartialEq.eq c.args.evaluation.now.goals c.step.new.goals c.args.cache.now c.finish_run.new.cache
-    (stay_stepped g.D.Delegate g.D.Cx.Cx c.cx-cx.result c.args.cache.now.nodes c.args.evaluation.now.goals c.step.new.goals c.args.received c.in_ok-request.request c.in_ok-request.ensures.stepped) c.finish_run.ensures.keeps
+pub returns-in_ok-next-in-Done-clause-cache : goal.returns-in_ok-next-in-Done-clause-cache
+returns-in_ok-next-in-Done-clause-cache g c = record {
+  keeps = later_keeps g.D.Cx.Input.PartialEq.eq c.args.evaluation.now.goals c.step.new.goals c.args.cache.now c.finish_run.new.cache
+      (stay_stepped g.D.Delegate g.D.Cx.Cx c.cx-cx.result c.args.cache.now.nodes c.args.evaluation.now.goals c.step.new.goals c.args.received c.in_ok-request.request c.in_ok-request.ensures.stepped) c.finish_run.ensures.cache.keeps;
+  changes = subst (λ fs. ChangesNewest g.D.Cx.Input.PartialEq.eq fs c.args.cache.now.results c.finish_run.new.cache.results) (fates_stepped g.D.Delegate g.D.Cx.Cx c.cx-cx.result c.args.evaluation.now.goals c.step.new.goals c.args.received c.in_ok-request.request c.in_ok-request.ensures.stepped) c.finish_run.ensures.cache.changes;
+}
 
 pub returns-in_ok-next-in-Evaluate-clause-stays : goal.returns-in_ok-next-in-Evaluate-clause-stays
 returns-in_ok-next-in-Evaluate-clause-stays g c =
@@ -185,23 +214,20 @@ pub returns-in_ok-note_candidate-in_default-clause-fates : goal.returns-in_ok-no
 returns-in_ok-note_candidate-in_default-clause-fates g c =
     Stay (fates_of_candidates c.in_ok-request.request c.step.new.goals c.note_candidate.new.self c.in_ok-note_candidate-in_default.ensures ∙ (fates_stepped g.D.Delegate g.D.Cx.Cx c.cx-cx.result c.args.evaluation.now.goals c.step.new.goals c.args.received c.in_ok-request.request c.in_ok-request.ensures.stepped))
 
-pub returns-in_err-request-clause-changes : goal.returns-in_err-request-clause-changes
-returns-in_err-request-clause-changes g c = Untouched refl
+pub returns-in_err-request-clause-cache : goal.returns-in_err-request-clause-cache
+returns-in_err-request-clause-cache g c = record {
+  keeps = cache_stays g.D.Cx.Input.PartialEq.eq c.args.evaluation.now.goals c.args.cache.now;
+  changes = Untouched refl;
+}
 
-pub returns-in_err-next-in-Evaluate-clause-changes : goal.returns-in_err-next-in-Evaluate-clause-changes
-returns-in_err-next-in-Evaluate-clause-changes g c = Untouched c.ask.ensures.same_results
+pub returns-in_err-note_candidate-in_default-clause-cache : goal.returns-in_err-note_candidate-in_default-clause-cache
+returns-in_err-note_candidate-in_default-clause-cache g c = record {
+  keeps = cache_stays g.D.Cx.Input.PartialEq.eq c.args.evaluation.now.goals c.args.cache.now;
+  changes = Untouched refl;
+}
 
-pub returns-in_ok-next-in-Evaluate-clause-changes : goal.returns-in_ok-next-in-Evaluate-clause-changes
-returns-in_ok-next-in-Evaluate-clause-changes g c = Untouched c.ask.ensures.same_results
-
-pub returns-in_err-next-in-Done-clause-changes : goal.returns-in_err-next-in-Done-clause-changes
-returns-in_err-next-in-Done-clause-changes g c = subst (λ fs. ChangesNewest g.D.Cx.Input.PartialEq.eq fs c.args.cache.now.results c.finish_run.new.cache.results) (fates_stepped g.D.Delegate g.D.Cx.Cx c.cx-cx.result c.args.evaluation.now.goals c.step.new.goals c.args.received c.in_ok-request.request c.in_ok-request.ensures.stepped) c.finish_run.ensures.changes
-
-pub returns-in_ok-next-in-Done-clause-changes : goal.returns-in_ok-next-in-Done-clause-changes
-returns-in_ok-next-in-Done-clause-changes g c = subst (λ fs. ChangesNewest g.D.Cx.Input.PartialEq.eq fs c.args.cache.now.results c.finish_run.new.cache.results) (fates_stepped g.D.Delegate g.D.Cx.Cx c.cx-cx.result c.args.evaluation.now.goals c.step.new.goals c.args.received c.in_ok-request.request c.in_ok-request.ensures.stepped) c.finish_run.ensures.changes
-
-pub returns-in_err-note_candidate-in_default-clause-changes : goal.returns-in_err-note_candidate-in_default-clause-changes
-returns-in_err-note_candidate-in_default-clause-changes g c = Untouched refl
-
-pub returns-in_ok-note_candidate-in_default-clause-changes : goal.returns-in_ok-note_candidate-in_default-clause-changes
-returns-in_ok-note_candidate-in_default-clause-changes g c = Untouched refl
+pub returns-in_ok-note_candidate-in_default-clause-cache : goal.returns-in_ok-note_candidate-in_default-clause-cache
+returns-in_ok-note_candidate-in_default-clause-cache g c = record {
+  keeps = cache_stays g.D.Cx.Input.PartialEq.eq c.args.evaluation.now.goals c.args.cache.now;
+  changes = Untouched refl;
+}

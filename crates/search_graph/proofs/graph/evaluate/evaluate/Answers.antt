@@ -21,44 +21,47 @@ is_some_with P o a is h = subst (λ x. IfSome x P) is h
 
 -- ---- a stored result answers the goal
 
-pub returns-in-Some-clause-ended : goal.returns-in-Some-clause-ended
-returns-in-Some-clause-ended g c = λ call at.
-    subst (λ n. EndsWith g.D.Delegate g.D.Cx.Cx g.D.Cx.Input.PartialEq.eq c.args.cache.now.cx ((g.D.Delegate.noop c.args.inspect.now ≡ true) × (g.D.Delegate.scoped c.args.cache.now.cx c.args.input ≡ false)) call (record { result = c.in-Some.stored.result; node = c.in-Some.stored.node }) c.args.cache.now c.args.evaluation.now n) (sym c.consult-stored.ensures.same_starts)
-    (record {
-      ended = stored_ends g.D.Delegate g.D.Cx.Cx c.args.cache.now.cx call g.D.Cx.Input.PartialEq.eq c.args.cache.now.results c.args.input c.args.evaluation.now.root_depth.0 (g.D.Delegate.starts c.args.inspect.now) c.args.evaluation.now.limits_met (hit_of c.in-Some.stored) (is_some_with _ c.consult-stored.result.stored c.in-Some.stored c.in-Some.is c.consult-stored.ensures.usable) at;
-      store = at.store;
-      remembered = λ plainly counted unmet.
-          let is_noop = plainly.0 in
-          let unscoped = plainly.1 in
-          subst (λ goal. IsRemembered g.D.Cx.Input.PartialEq.eq c.args.cache.now.results goal call.root (record { result = c.in-Some.stored.result; node = c.in-Some.stored.node })) (sym at.outset.same_top)
-          (subst (λ root. IsRemembered g.D.Cx.Input.PartialEq.eq c.args.cache.now.results c.args.input root (record { result = c.in-Some.stored.result; node = c.in-Some.stored.node })) (sym at.outset.same_root)
-          (subst (λ o. IsSomeAnd o (λ hit. (hit.result ≡ c.in-Some.stored.result) × (hit.node ≡ c.in-Some.stored.node))) (ap (option_map hit_of) (sym c.in-Some.is) ∙ (stored_over_none g.D.Cx.Input.PartialEq.eq c.args.evaluation.now.goals c.requires.no_goals c.consult-stored.result.stored c.stack-stack.result.now c.stack-stack.ensures c.args.evaluation.now.provisional c.requires.no_entries c.args.step_kind (usable g.D.Cx.Input.PartialEq.eq c.args.cache.now.results c.args.input c.args.evaluation.now.root_depth.0) (found_by _ _ hit_of c.consult-stored.result.stored _ is_noop unscoped c.consult-stored.ensures.stored))) (refl, refl)));
-    })
+pub returns-in-Some-clause-evaluates : goal.returns-in-Some-clause-evaluates
+returns-in-Some-clause-evaluates g c = record {
+  ended = λ call at.
+      subst (λ n. EndsWith g.D.Delegate g.D.Cx.Cx g.D.Cx.Input.PartialEq.eq c.args.cache.now.cx ((g.D.Delegate.noop c.args.inspect.now ≡ true) × (g.D.Delegate.scoped c.args.cache.now.cx c.args.input ≡ false)) call (record { result = c.in-Some.stored.result; node = c.in-Some.stored.node }) c.args.cache.now c.args.evaluation.now n) (sym c.consult-stored.ensures.same_starts)
+      (record {
+        ended = stored_ends g.D.Delegate g.D.Cx.Cx c.args.cache.now.cx call g.D.Cx.Input.PartialEq.eq c.args.cache.now.results c.args.input c.args.evaluation.now.root_depth.0 (g.D.Delegate.starts c.args.inspect.now) c.args.evaluation.now.limits_met (hit_of c.in-Some.stored) (is_some_with _ c.consult-stored.result.stored c.in-Some.stored c.in-Some.is c.consult-stored.ensures.usable) at;
+        store = at.store;
+        remembered = λ plainly counted unmet.
+            let is_noop = plainly.0 in
+            let unscoped = plainly.1 in
+            subst (λ goal. IsRemembered g.D.Cx.Input.PartialEq.eq c.args.cache.now.results goal call.root (record { result = c.in-Some.stored.result; node = c.in-Some.stored.node })) (sym at.outset.same_top)
+            (subst (λ root. IsRemembered g.D.Cx.Input.PartialEq.eq c.args.cache.now.results c.args.input root (record { result = c.in-Some.stored.result; node = c.in-Some.stored.node })) (sym at.outset.same_root)
+            (subst (λ o. IsSomeAnd o (λ hit. (hit.result ≡ c.in-Some.stored.result) × (hit.node ≡ c.in-Some.stored.node))) (ap (option_map hit_of) (sym c.in-Some.is) ∙ (stored_over_none g.D.Cx.Input.PartialEq.eq c.args.evaluation.now.goals c.requires.no_goals c.consult-stored.result.stored c.stack-stack.result.now c.stack-stack.ensures c.args.evaluation.now.provisional c.requires.no_entries c.args.step_kind (usable g.D.Cx.Input.PartialEq.eq c.args.cache.now.results c.args.input c.args.evaluation.now.root_depth.0) (found_by _ _ hit_of c.consult-stored.result.stored _ is_noop unscoped c.consult-stored.ensures.consults.stored))) (refl, refl)));
+      });
+  stopped = λ call at. tt;
+}
 
 pub returns-in-Some-clause-stored : goal.returns-in-Some-clause-stored
 returns-in-Some-clause-stored g c = λ is_noop unscoped.
-    something_stored c.consult-stored.result.stored _ _ c.in-Some.stored c.in-Some.is (stored_over_none g.D.Cx.Input.PartialEq.eq c.args.evaluation.now.goals c.requires.no_goals c.consult-stored.result.stored c.stack-stack.result.now c.stack-stack.ensures c.args.evaluation.now.provisional c.requires.no_entries c.args.step_kind (usable g.D.Cx.Input.PartialEq.eq c.args.cache.now.results c.args.input c.args.evaluation.now.root_depth.0) (found_by _ _ hit_of c.consult-stored.result.stored _ is_noop unscoped c.consult-stored.ensures.stored)) (refl, c.consult-stored.ensures.same_starts, refl, refl)
+    something_stored c.consult-stored.result.stored _ _ c.in-Some.stored c.in-Some.is (stored_over_none g.D.Cx.Input.PartialEq.eq c.args.evaluation.now.goals c.requires.no_goals c.consult-stored.result.stored c.stack-stack.result.now c.stack-stack.ensures c.args.evaluation.now.provisional c.requires.no_entries c.args.step_kind (usable g.D.Cx.Input.PartialEq.eq c.args.cache.now.results c.args.input c.args.evaluation.now.root_depth.0) (found_by _ _ hit_of c.consult-stored.result.stored _ is_noop unscoped c.consult-stored.ensures.consults.stored)) (refl, c.consult-stored.ensures.same_starts, refl, refl)
 
 -- ---- it is worked out
 
-pub returns-clause-ended : goal.returns-clause-ended
-returns-clause-ended g c = λ call at.
-    if_ok_then c.work_out.result _ _ (c.work_out.ensures.ended call (subst (λ n. Begins g.D.Delegate g.D.Cx.Cx c.args.cache.now.cx g.D.Cx.Input.PartialEq.eq call c.args.input c.args.evaluation.now.root_depth.0 n c.args.evaluation.now.limits_met c.args.cache.now.results) (sym c.consult-stored.ensures.same_starts) at))
-    (λ answer e. record {
-      ended = e.ended;
-      store = e.store;
-      remembered = λ plainly. e.remembered (c.consult-stored.ensures.fate ∙ stored_unless _ _ _ plainly.0 plainly.1);
-    })
-
-pub returns-clause-stopped : goal.returns-clause-stopped
-returns-clause-stopped g c = λ call at.
-    c.work_out.ensures.stopped call (subst (λ n. Begins g.D.Delegate g.D.Cx.Cx c.args.cache.now.cx g.D.Cx.Input.PartialEq.eq call c.args.input c.args.evaluation.now.root_depth.0 n c.args.evaluation.now.limits_met c.args.cache.now.results) (sym c.consult-stored.ensures.same_starts) at)
+pub returns-clause-evaluates : goal.returns-clause-evaluates
+returns-clause-evaluates g c = record {
+  ended = λ call at.
+      if_ok_then c.work_out.result _ _ (c.work_out.ensures.evaluates.ended call (subst (λ n. Begins g.D.Delegate g.D.Cx.Cx c.args.cache.now.cx g.D.Cx.Input.PartialEq.eq call c.args.input c.args.evaluation.now.root_depth.0 n c.args.evaluation.now.limits_met c.args.cache.now.results) (sym c.consult-stored.ensures.same_starts) at))
+      (λ answer e. record {
+        ended = e.ended;
+        store = e.store;
+        remembered = λ plainly. e.remembered (c.consult-stored.ensures.consults.fate ∙ stored_unless _ _ _ plainly.0 plainly.1);
+      });
+  stopped = λ call at.
+      c.work_out.ensures.evaluates.stopped call (subst (λ n. Begins g.D.Delegate g.D.Cx.Cx c.args.cache.now.cx g.D.Cx.Input.PartialEq.eq call c.args.input c.args.evaluation.now.root_depth.0 n c.args.evaluation.now.limits_met c.args.cache.now.results) (sym c.consult-stored.ensures.same_starts) at);
+}
 
 pub returns-clause-stored : goal.returns-clause-stored
-returns-clause-stored g c = λ is_noop unscoped. nothing_stored c.consult-stored.result.stored _ _ c.in_default.not-Some (stored_over_none g.D.Cx.Input.PartialEq.eq c.args.evaluation.now.goals c.requires.no_goals c.consult-stored.result.stored c.stack-stack.result.now c.stack-stack.ensures c.args.evaluation.now.provisional c.requires.no_entries c.args.step_kind (usable g.D.Cx.Input.PartialEq.eq c.args.cache.now.results c.args.input c.args.evaluation.now.root_depth.0) (found_by _ _ hit_of c.consult-stored.result.stored _ is_noop unscoped c.consult-stored.ensures.stored))
+returns-clause-stored g c = λ is_noop unscoped. nothing_stored c.consult-stored.result.stored _ _ c.in_default.not-Some (stored_over_none g.D.Cx.Input.PartialEq.eq c.args.evaluation.now.goals c.requires.no_goals c.consult-stored.result.stored c.stack-stack.result.now c.stack-stack.ensures c.args.evaluation.now.provisional c.requires.no_entries c.args.step_kind (usable g.D.Cx.Input.PartialEq.eq c.args.cache.now.results c.args.input c.args.evaluation.now.root_depth.0) (found_by _ _ hit_of c.consult-stored.result.stored _ is_noop unscoped c.consult-stored.ensures.consults.stored))
 
 pub returns-clause-recorded : goal.returns-clause-recorded
-returns-clause-recorded g c = λ records. c.work_out.ensures.recorded (c.consult-stored.ensures.builder.same_noop ∙ records)
+returns-clause-recorded g c = λ records. c.work_out.ensures.spares.recorded (c.consult-stored.ensures.builder.same_noop ∙ records)
 
 pub returns-clause-builder : goal.returns-clause-builder
 returns-clause-builder g c = builder_goes_on g.D.Delegate.starts g.D.Delegate.noop c.args.inspect.now c.consult-stored.new.inspect c.work_out.new.inspect c.consult-stored.ensures.builder c.work_out.ensures.builder

@@ -4,18 +4,21 @@ use Rattle.search_graph.specs.Below.{fates_of, IsFated, MovesFates, stored_at, A
 use Rattle.search_rules.proofs.records.EarlierNodes.{first_there, stay_pushed}
 use Rattle.search_moves.proofs.Keeping.{appending_keeps}
 use Rattle.search_graph.proofs.Beginning.{begins_right, begins_waiting, never_pushed, then_keeps}
-use Rattle.search_rules.proofs.moves.Questions.{if_err_and}
+use Rattle.search_rules.proofs.moves.Questions.{if_err_and, no_ok}
 use Rattle.search_graph.proofs.KeptFates.{not_stored, first_fates, only_stores, then_fates, then_recorded, then_spared}
 use Rattle.search_graph.proofs.Loops.{call_of, only_one, some_call_begins, only_has_graph}
 use Rattle.search_graph.proofs.graph.evaluate.work_out.Goals as goal
 
 -- ---- it is pushed
 
-pub returns-in_err-push_goal-clause-stopped : goal.returns-in_err-push_goal-clause-stopped
-returns-in_err-push_goal-clause-stopped g c = λ call at.
-    if_err_and c.from_residual.result _ _ c.from_residual.ensures.1
-    (λ e is. subst (λ fault. StopsWith g.D.Delegate g.D.Cx.Cx g.D.Cx.Input.PartialEq.eq c.args.cache.now.cx call fault c.push_goal.new.cache c.push_goal.new.self (g.D.Delegate.starts c.push_goal.new.inspect)) (sym is)
-    (never_pushed g.D.Delegate g.D.Cx.Cx g.D.Cx.Input.PartialEq.eq c.args.cache.now.cx c.args.step_kind c.args.input c.args.cache.now c.args.evaluation.now c.requires.new c.args.evaluation.now.root_depth c.push_goal.new.cache c.push_goal.new.self (g.D.Delegate.starts c.args.inspect.now) _ c.push_goal.ensures.cache c.push_goal.ensures.rest c.push_goal.ensures.builder.at_least c.push_goal.ensures.at_most call at))
+pub returns-in_err-push_goal-clause-evaluates : goal.returns-in_err-push_goal-clause-evaluates
+returns-in_err-push_goal-clause-evaluates g c = record {
+  ended = λ call at. no_ok c.from_residual.result _ _ c.from_residual.ensures.1;
+  stopped = λ call at.
+      if_err_and c.from_residual.result _ _ c.from_residual.ensures.1
+      (λ e is. subst (λ fault. StopsWith g.D.Delegate g.D.Cx.Cx g.D.Cx.Input.PartialEq.eq c.args.cache.now.cx call fault c.push_goal.new.cache c.push_goal.new.self (g.D.Delegate.starts c.push_goal.new.inspect)) (sym is)
+      (never_pushed g.D.Delegate g.D.Cx.Cx g.D.Cx.Input.PartialEq.eq c.args.cache.now.cx c.args.step_kind c.args.input c.args.cache.now c.args.evaluation.now c.requires.new c.args.evaluation.now.root_depth c.push_goal.new.cache c.push_goal.new.self (g.D.Delegate.starts c.args.inspect.now) _ c.push_goal.ensures.cache c.push_goal.ensures.rest c.push_goal.ensures.starts.builder.at_least c.push_goal.ensures.starts.at_most call at));
+}
 
 pub loop-next-init : goal.loop-next-init
 loop-next-init g c = record {
@@ -23,7 +26,7 @@ loop-next-init g c = record {
       subst (λ given. Awaits g.D.Delegate g.D.Cx.Cx g.D.Cx.Input.PartialEq.eq c.args.cache.now.cx call given c.push_goal.new.cache c.push_goal.new.self (g.D.Delegate.starts c.push_goal.new.inspect)) (sym c.without_node-received.ensures)
       (subst (λ cache. Awaits g.D.Delegate g.D.Cx.Cx g.D.Cx.Input.PartialEq.eq c.args.cache.now.cx call (record { reply = Begin; node = None }) cache c.push_goal.new.self (g.D.Delegate.starts c.push_goal.new.inspect)) (sym c.push_goal.ensures.cache)
       (subst (λ e. Awaits g.D.Delegate g.D.Cx.Cx g.D.Cx.Input.PartialEq.eq c.args.cache.now.cx call (record { reply = Begin; node = None }) (record c.args.cache.now { nodes = c.push_goal.new.cache.nodes }) e (g.D.Delegate.starts c.push_goal.new.inspect)) (sym c.push_goal.ensures.rest)
-      (begins_waiting g.D.Delegate g.D.Cx.Cx g.D.Cx.Input.PartialEq.eq c.args.cache.now.cx c.args.step_kind c.args.input c.args.cache.now c.args.evaluation.now c.requires.new c.args.evaluation.now.root_depth c.push_goal.new.self.goals c.push_goal.new.cache.nodes c.in_ok-push_goal.ensures.pushed (g.D.Delegate.starts c.args.inspect.now) _ c.push_goal.ensures.at_most c.in_ok-push_goal.ensures.counted call at)));
+      (begins_waiting g.D.Delegate g.D.Cx.Cx g.D.Cx.Input.PartialEq.eq c.args.cache.now.cx c.args.step_kind c.args.input c.args.cache.now c.args.evaluation.now c.requires.new c.args.evaluation.now.root_depth c.push_goal.new.self.goals c.push_goal.new.cache.nodes c.in_ok-push_goal.ensures.pushed (g.D.Delegate.starts c.args.inspect.now) _ c.push_goal.ensures.starts.at_most c.in_ok-push_goal.ensures.starts.counted call at)));
   right =
       subst (λ given. IsRightFor g.D.Delegate g.D.Cx.Cx g.D.Cx.Input.PartialEq.eq c.args.cache.now.cx given c.push_goal.new.cache c.push_goal.new.self) (sym c.without_node-received.ensures)
       (subst (λ cache. IsRightFor g.D.Delegate g.D.Cx.Cx g.D.Cx.Input.PartialEq.eq c.args.cache.now.cx (record { reply = Begin; node = None }) cache c.push_goal.new.self) (sym c.push_goal.ensures.cache)
@@ -31,7 +34,7 @@ loop-next-init g c = record {
       (begins_right g.D.Delegate g.D.Cx.Cx g.D.Cx.Input.PartialEq.eq c.args.cache.now.cx c.args.step_kind c.args.input c.args.cache.now c.args.evaluation.now c.requires.new c.args.evaluation.now.root_depth c.push_goal.new.self.goals c.push_goal.new.cache.nodes c.in_ok-push_goal.ensures.pushed c.has_sound_results.ensures)));
   keeps = appending_keeps g.D.Cx.Input.PartialEq.eq c.args.evaluation.now.goals c.args.cache.now c.push_goal.new.cache c.push_goal.ensures.cache c.push_goal.ensures.kept;
   from = stay_pushed g.D.Delegate g.D.Cx.Cx c.args.cache.now.cx c.args.cache.now.nodes c.args.evaluation.now.goals c.push_goal.new.self.goals c.args.input c.args.step_kind c.args.evaluation.now.root_depth c.push_goal.new.cache.nodes c.in_ok-push_goal.ensures.pushed (length c.args.cache.now.nodes) (omega arith) (subst (AreFrom (length c.args.cache.now.nodes)) (sym c.requires.new.no_goals) tt);
-  builder = c.push_goal.ensures.builder;
+  builder = c.push_goal.ensures.starts.builder;
   fates = first_fates (g.D.Delegate.scoped c.args.cache.now.cx) (g.D.Delegate.script c.args.cache.now.cx) g.D.Cx.Input.PartialEq.eq (g.D.Delegate.noop c.args.inspect.now) c.args.input c.args.fate c.args.cache.now.results c.args.evaluation.now.root_depth.0 c.args.evaluation.now.goals c.push_goal.new.self.goals c.push_goal.new.cache.results c.requires.new.no_goals c.in_ok-push_goal.ensures.fates c.requires.fated (ap (λ cache. cache.results) c.push_goal.ensures.cache);
 }
 
@@ -43,61 +46,67 @@ advance-requires g c =
     subst (λ cx. HasReply g.D.Delegate g.D.Cx.Cx g.D.Cx.Input.PartialEq.eq cx c.loop-next.received c.loop-next.cache c.loop-next.evaluation (g.D.Delegate.starts c.loop-next.inspect)) (sym c.loop-next.invariant.keeps.context)
     (record { call = (call_of c.args.input c.args.evaluation.now.root_depth.0 (g.D.Delegate.starts c.args.inspect.now) c.args.evaluation.now.limits_met false false fits); waiting = (c.loop-next.invariant.waiting _ (some_call_begins g.D.Delegate g.D.Cx.Cx c.args.cache.now.cx g.D.Cx.Input.PartialEq.eq c.args.input c.args.evaluation.now.root_depth.0 (g.D.Delegate.starts c.args.inspect.now) c.args.evaluation.now.limits_met fits c.args.cache.now.results)).waiting; right = c.loop-next.invariant.right; expected = c.loop-next.invariant.fates.expected })
 
-pub returns-in_err-next-clause-stopped : goal.returns-in_err-next-clause-stopped
-returns-in_err-next-clause-stopped g c = λ call at.
-    if_err_and c.from_residual-in_err-next.result _ _ c.from_residual-in_err-next.ensures.1
-    (λ e is. subst (λ fault. StopsWith g.D.Delegate g.D.Cx.Cx g.D.Cx.Input.PartialEq.eq c.args.cache.now.cx call fault c.advance.new.cache c.advance.new.evaluation (g.D.Delegate.starts c.advance.new.inspect)) (sym is)
-    (subst (λ cx. (call : Call _) → Awaits g.D.Delegate g.D.Cx.Cx g.D.Cx.Input.PartialEq.eq cx call c.loop-next.received c.loop-next.cache c.loop-next.evaluation (g.D.Delegate.starts c.loop-next.inspect) → StopsWith g.D.Delegate g.D.Cx.Cx g.D.Cx.Input.PartialEq.eq cx call c.in_err-next.field-0.0 c.advance.new.cache c.advance.new.evaluation (g.D.Delegate.starts c.advance.new.inspect)) c.loop-next.invariant.keeps.context c.in_err-next.ensures.stops call (c.loop-next.invariant.waiting call at)))
+pub returns-in_err-next-clause-evaluates : goal.returns-in_err-next-clause-evaluates
+returns-in_err-next-clause-evaluates g c = record {
+  ended = λ call at. no_ok c.from_residual-in_err-next.result _ _ c.from_residual-in_err-next.ensures.1;
+  stopped = λ call at.
+      if_err_and c.from_residual-in_err-next.result _ _ c.from_residual-in_err-next.ensures.1
+      (λ e is. subst (λ fault. StopsWith g.D.Delegate g.D.Cx.Cx g.D.Cx.Input.PartialEq.eq c.args.cache.now.cx call fault c.advance.new.cache c.advance.new.evaluation (g.D.Delegate.starts c.advance.new.inspect)) (sym is)
+      (subst (λ cx. (call : Call _) → Awaits g.D.Delegate g.D.Cx.Cx g.D.Cx.Input.PartialEq.eq cx call c.loop-next.received c.loop-next.cache c.loop-next.evaluation (g.D.Delegate.starts c.loop-next.inspect) → StopsWith g.D.Delegate g.D.Cx.Cx g.D.Cx.Input.PartialEq.eq cx call c.in_err-next.field-0.0 c.advance.new.cache c.advance.new.evaluation (g.D.Delegate.starts c.advance.new.inspect)) c.loop-next.invariant.keeps.context c.in_err-next.ensures.advances.stops call (c.loop-next.invariant.waiting call at)));
+}
 
 pub returns-in_err-next-clause-keeps : goal.returns-in_err-next-clause-keeps
-returns-in_err-next-clause-keeps g c = then_keeps g.D.Cx.Input.PartialEq.eq c.args.evaluation.now.goals c.loop-next.evaluation.goals c.args.cache.now c.loop-next.cache c.advance.new.cache c.loop-next.invariant.from c.loop-next.invariant.keeps c.advance.ensures.keeps
+returns-in_err-next-clause-keeps g c = then_keeps g.D.Cx.Input.PartialEq.eq c.args.evaluation.now.goals c.loop-next.evaluation.goals c.args.cache.now c.loop-next.cache c.advance.new.cache c.loop-next.invariant.from c.loop-next.invariant.keeps c.advance.ensures.cache.keeps
 
 pub loop-next-smaller : goal.loop-next-smaller
 loop-next-smaller g c =
     let fits = c.requires.new.fits in
-    ((subst (λ cx. (call : Call _) → Awaits g.D.Delegate g.D.Cx.Cx g.D.Cx.Input.PartialEq.eq cx call c.loop-next.received c.loop-next.cache c.loop-next.evaluation (g.D.Delegate.starts c.loop-next.inspect) → LeadsTo g.D.Delegate g.D.Cx.Cx g.D.Cx.Input.PartialEq.eq cx call (work_left g.D.Delegate g.D.Cx.Cx cx c.loop-next.evaluation.goals) c.loop-next.evaluation.goals (Step c.in-Step.next) c.advance.new.cache c.advance.new.evaluation (g.D.Delegate.starts c.advance.new.inspect)) c.loop-next.invariant.keeps.context (rw c.in-Step.is at c.in_ok-next.ensures.leads)) (call_of c.args.input c.args.evaluation.now.root_depth.0 (g.D.Delegate.starts c.args.inspect.now) c.args.evaluation.now.limits_met false false fits) (c.loop-next.invariant.waiting _ (some_call_begins g.D.Delegate g.D.Cx.Cx c.args.cache.now.cx g.D.Cx.Input.PartialEq.eq c.args.input c.args.evaluation.now.root_depth.0 (g.D.Delegate.starts c.args.inspect.now) c.args.evaluation.now.limits_met fits c.args.cache.now.results))).leads.falls
+    ((subst (λ cx. (call : Call _) → Awaits g.D.Delegate g.D.Cx.Cx g.D.Cx.Input.PartialEq.eq cx call c.loop-next.received c.loop-next.cache c.loop-next.evaluation (g.D.Delegate.starts c.loop-next.inspect) → LeadsTo g.D.Delegate g.D.Cx.Cx g.D.Cx.Input.PartialEq.eq cx call (work_left g.D.Delegate g.D.Cx.Cx cx c.loop-next.evaluation.goals) c.loop-next.evaluation.goals (Step c.in-Step.next) c.advance.new.cache c.advance.new.evaluation (g.D.Delegate.starts c.advance.new.inspect)) c.loop-next.invariant.keeps.context (rw c.in-Step.is at c.in_ok-next.ensures.advances.leads)) (call_of c.args.input c.args.evaluation.now.root_depth.0 (g.D.Delegate.starts c.args.inspect.now) c.args.evaluation.now.limits_met false false fits) (c.loop-next.invariant.waiting _ (some_call_begins g.D.Delegate g.D.Cx.Cx c.args.cache.now.cx g.D.Cx.Input.PartialEq.eq c.args.input c.args.evaluation.now.root_depth.0 (g.D.Delegate.starts c.args.inspect.now) c.args.evaluation.now.limits_met fits c.args.cache.now.results))).leads.falls
 
 pub loop-next-preserved : goal.loop-next-preserved
 loop-next-preserved g c =
     let right = subst (λ cx. IsRightNext g.D.Delegate g.D.Cx.Cx g.D.Cx.Input.PartialEq.eq cx c.loop-next.evaluation.goals (Step c.in-Step.next) c.advance.new.cache c.advance.new.evaluation) c.loop-next.invariant.keeps.context (rw c.in-Step.is at c.in_ok-next.ensures.right) in
     record {
       waiting = λ call at.
-          let on = (subst (λ cx. (call : Call _) → Awaits g.D.Delegate g.D.Cx.Cx g.D.Cx.Input.PartialEq.eq cx call c.loop-next.received c.loop-next.cache c.loop-next.evaluation (g.D.Delegate.starts c.loop-next.inspect) → LeadsTo g.D.Delegate g.D.Cx.Cx g.D.Cx.Input.PartialEq.eq cx call (work_left g.D.Delegate g.D.Cx.Cx cx c.loop-next.evaluation.goals) c.loop-next.evaluation.goals (Step c.in-Step.next) c.advance.new.cache c.advance.new.evaluation (g.D.Delegate.starts c.advance.new.inspect)) c.loop-next.invariant.keeps.context (rw c.in-Step.is at c.in_ok-next.ensures.leads)) call (c.loop-next.invariant.waiting call at) in
+          let on = (subst (λ cx. (call : Call _) → Awaits g.D.Delegate g.D.Cx.Cx g.D.Cx.Input.PartialEq.eq cx call c.loop-next.received c.loop-next.cache c.loop-next.evaluation (g.D.Delegate.starts c.loop-next.inspect) → LeadsTo g.D.Delegate g.D.Cx.Cx g.D.Cx.Input.PartialEq.eq cx call (work_left g.D.Delegate g.D.Cx.Cx cx c.loop-next.evaluation.goals) c.loop-next.evaluation.goals (Step c.in-Step.next) c.advance.new.cache c.advance.new.evaluation (g.D.Delegate.starts c.advance.new.inspect)) c.loop-next.invariant.keeps.context (rw c.in-Step.is at c.in_ok-next.ensures.advances.leads)) call (c.loop-next.invariant.waiting call at) in
           record { waiting = on.leads.waiting; answers = on.answers };
       right = record { right = record { justified = right.justified.0; free = right.free; ready = right.ready }; fits = right.justified.1 };
-      keeps = then_keeps g.D.Cx.Input.PartialEq.eq c.args.evaluation.now.goals c.loop-next.evaluation.goals c.args.cache.now c.loop-next.cache c.advance.new.cache c.loop-next.invariant.from c.loop-next.invariant.keeps c.advance.ensures.keeps;
+      keeps = then_keeps g.D.Cx.Input.PartialEq.eq c.args.evaluation.now.goals c.loop-next.evaluation.goals c.args.cache.now c.loop-next.cache c.advance.new.cache c.loop-next.invariant.from c.loop-next.invariant.keeps c.advance.ensures.cache.keeps;
       from =
           let first = length c.args.cache.now.nodes in
           let begun = subst (AreFrom first) (sym c.requires.new.no_goals) tt in
           c.in_ok-next.ensures.stays first (first_there first c.args.cache.now.nodes c.loop-next.cache.nodes (omega arith) (c.loop-next.invariant.keeps.earlier first (omega arith) begun)) c.loop-next.invariant.from;
       builder = builder_goes_on g.D.Delegate.starts g.D.Delegate.noop c.args.inspect.now c.loop-next.inspect c.advance.new.inspect c.loop-next.invariant.builder c.advance.ensures.builder;
-      fates = then_fates (g.D.Delegate.scoped c.args.cache.now.cx) (g.D.Delegate.script c.args.cache.now.cx) g.D.Cx.Input.PartialEq.eq (g.D.Delegate.noop c.args.inspect.now) c.args.input c.args.fate c.args.cache.now.results c.loop-next.evaluation.goals c.loop-next.cache.results c.advance.new.cache.results c.loop-next.invariant.fates c.advance.ensures.changes c.advance.ensures.keeps.results c.advance.new.evaluation.goals
+      fates = then_fates (g.D.Delegate.scoped c.args.cache.now.cx) (g.D.Delegate.script c.args.cache.now.cx) g.D.Cx.Input.PartialEq.eq (g.D.Delegate.noop c.args.inspect.now) c.args.input c.args.fate c.args.cache.now.results c.loop-next.evaluation.goals c.loop-next.cache.results c.advance.new.cache.results c.loop-next.invariant.fates c.advance.ensures.cache.changes c.advance.ensures.cache.keeps.results c.advance.new.evaluation.goals
           (subst (λ b. MovesFates g.D.Cx.Input.PartialEq.eq (IsFated (g.D.Delegate.scoped c.args.cache.now.cx) (g.D.Delegate.script c.args.cache.now.cx) g.D.Cx.Input.PartialEq.eq c.loop-next.cache.results b) (fates_of c.loop-next.evaluation.goals) (fates_of c.advance.new.evaluation.goals)) c.loop-next.invariant.builder.same_noop
           (subst (λ cx. MovesFates g.D.Cx.Input.PartialEq.eq (IsFated (g.D.Delegate.scoped cx) (g.D.Delegate.script cx) g.D.Cx.Input.PartialEq.eq c.loop-next.cache.results (g.D.Delegate.noop c.loop-next.inspect)) (fates_of c.loop-next.evaluation.goals) (fates_of c.advance.new.evaluation.goals)) c.loop-next.invariant.keeps.context c.in_ok-next.ensures.fates));
     }
 
 -- ---- the goal has its answer
 
-pub returns-in-Finished-clause-ended : goal.returns-in-Finished-clause-ended
-returns-in-Finished-clause-ended g c = λ call at.
-    let on = (subst (λ cx. (call : Call _) → Awaits g.D.Delegate g.D.Cx.Cx g.D.Cx.Input.PartialEq.eq cx call c.loop-next.received c.loop-next.cache c.loop-next.evaluation (g.D.Delegate.starts c.loop-next.inspect) → LeadsTo g.D.Delegate g.D.Cx.Cx g.D.Cx.Input.PartialEq.eq cx call (work_left g.D.Delegate g.D.Cx.Cx cx c.loop-next.evaluation.goals) c.loop-next.evaluation.goals (Finished c.in-Finished.answer) c.advance.new.cache c.advance.new.evaluation (g.D.Delegate.starts c.advance.new.inspect)) c.loop-next.invariant.keeps.context (rw c.in-Finished.is at c.in_ok-next.ensures.leads)) call (c.loop-next.invariant.waiting call at) in
-    record {
-      ended = on.leads.2;
-      store = on.answers.store;
-      remembered = λ is_stored.
-          let only = only_one g.D.Delegate g.D.Cx.Cx c.args.cache.now.cx c.loop-next.evaluation.goals call.top on.leads.1 in
-          on.remembered (only_stores (g.D.Delegate.scoped c.args.cache.now.cx) (g.D.Delegate.script c.args.cache.now.cx) g.D.Cx.Input.PartialEq.eq (g.D.Delegate.noop c.args.inspect.now) c.args.input c.args.fate c.args.cache.now.results c.loop-next.evaluation.goals only.0 only.1 is_stored c.loop-next.invariant.fates.oldest);
-    }
+pub returns-in-Finished-clause-evaluates : goal.returns-in-Finished-clause-evaluates
+returns-in-Finished-clause-evaluates g c = record {
+  ended = λ call at.
+      let on = (subst (λ cx. (call : Call _) → Awaits g.D.Delegate g.D.Cx.Cx g.D.Cx.Input.PartialEq.eq cx call c.loop-next.received c.loop-next.cache c.loop-next.evaluation (g.D.Delegate.starts c.loop-next.inspect) → LeadsTo g.D.Delegate g.D.Cx.Cx g.D.Cx.Input.PartialEq.eq cx call (work_left g.D.Delegate g.D.Cx.Cx cx c.loop-next.evaluation.goals) c.loop-next.evaluation.goals (Finished c.in-Finished.answer) c.advance.new.cache c.advance.new.evaluation (g.D.Delegate.starts c.advance.new.inspect)) c.loop-next.invariant.keeps.context (rw c.in-Finished.is at c.in_ok-next.ensures.advances.leads)) call (c.loop-next.invariant.waiting call at) in
+      record {
+        ended = on.leads.2;
+        store = on.answers.store;
+        remembered = λ is_stored.
+            let only = only_one g.D.Delegate g.D.Cx.Cx c.args.cache.now.cx c.loop-next.evaluation.goals call.top on.leads.1 in
+            on.remembered (only_stores (g.D.Delegate.scoped c.args.cache.now.cx) (g.D.Delegate.script c.args.cache.now.cx) g.D.Cx.Input.PartialEq.eq (g.D.Delegate.noop c.args.inspect.now) c.args.input c.args.fate c.args.cache.now.results c.loop-next.evaluation.goals only.0 only.1 is_stored c.loop-next.invariant.fates.oldest);
+      };
+  stopped = λ call at. tt;
+}
 
 pub returns-in-Finished-clause-has_graph : goal.returns-in-Finished-clause-has_graph
 returns-in-Finished-clause-has_graph g c =
     let fits = c.requires.new.fits in
-    let on = (subst (λ cx. (call : Call _) → Awaits g.D.Delegate g.D.Cx.Cx g.D.Cx.Input.PartialEq.eq cx call c.loop-next.received c.loop-next.cache c.loop-next.evaluation (g.D.Delegate.starts c.loop-next.inspect) → LeadsTo g.D.Delegate g.D.Cx.Cx g.D.Cx.Input.PartialEq.eq cx call (work_left g.D.Delegate g.D.Cx.Cx cx c.loop-next.evaluation.goals) c.loop-next.evaluation.goals (Finished c.in-Finished.answer) c.advance.new.cache c.advance.new.evaluation (g.D.Delegate.starts c.advance.new.inspect)) c.loop-next.invariant.keeps.context (rw c.in-Finished.is at c.in_ok-next.ensures.leads)) (call_of c.args.input c.args.evaluation.now.root_depth.0 (g.D.Delegate.starts c.args.inspect.now) c.args.evaluation.now.limits_met false false fits) (c.loop-next.invariant.waiting _ (some_call_begins g.D.Delegate g.D.Cx.Cx c.args.cache.now.cx g.D.Cx.Input.PartialEq.eq c.args.input c.args.evaluation.now.root_depth.0 (g.D.Delegate.starts c.args.inspect.now) c.args.evaluation.now.limits_met fits c.args.cache.now.results)) in
+    let on = (subst (λ cx. (call : Call _) → Awaits g.D.Delegate g.D.Cx.Cx g.D.Cx.Input.PartialEq.eq cx call c.loop-next.received c.loop-next.cache c.loop-next.evaluation (g.D.Delegate.starts c.loop-next.inspect) → LeadsTo g.D.Delegate g.D.Cx.Cx g.D.Cx.Input.PartialEq.eq cx call (work_left g.D.Delegate g.D.Cx.Cx cx c.loop-next.evaluation.goals) c.loop-next.evaluation.goals (Finished c.in-Finished.answer) c.advance.new.cache c.advance.new.evaluation (g.D.Delegate.starts c.advance.new.inspect)) c.loop-next.invariant.keeps.context (rw c.in-Finished.is at c.in_ok-next.ensures.advances.leads)) (call_of c.args.input c.args.evaluation.now.root_depth.0 (g.D.Delegate.starts c.args.inspect.now) c.args.evaluation.now.limits_met false false fits) (c.loop-next.invariant.waiting _ (some_call_begins g.D.Delegate g.D.Cx.Cx c.args.cache.now.cx g.D.Cx.Input.PartialEq.eq c.args.input c.args.evaluation.now.root_depth.0 (g.D.Delegate.starts c.args.inspect.now) c.args.evaluation.now.limits_met fits c.args.cache.now.results)) in
     only_has_graph g.D.Delegate g.D.Cx.Cx c.args.cache.now.cx c.advance.new.cache.nodes c.loop-next.evaluation.goals c.advance.new.evaluation.goals c.args.input c.in-Finished.answer on.leads.1
     (rw c.in-Finished.is at c.in_ok-next.ensures.right).justified
 
 pub returns-in-Finished-clause-keeps : goal.returns-in-Finished-clause-keeps
-returns-in-Finished-clause-keeps g c = then_keeps g.D.Cx.Input.PartialEq.eq c.args.evaluation.now.goals c.loop-next.evaluation.goals c.args.cache.now c.loop-next.cache c.advance.new.cache c.loop-next.invariant.from c.loop-next.invariant.keeps c.advance.ensures.keeps
+returns-in-Finished-clause-keeps g c = then_keeps g.D.Cx.Input.PartialEq.eq c.args.evaluation.now.goals c.loop-next.evaluation.goals c.args.cache.now c.loop-next.cache c.advance.new.cache c.loop-next.invariant.from c.loop-next.invariant.keeps c.advance.ensures.cache.keeps
 
 -- ---- the builder
 
@@ -114,20 +123,20 @@ returns-in_err-push_goal-clause-keeps g c = appending_keeps g.D.Cx.Input.Partial
 
 -- ---- stored results that stay
 
-pub returns-in_err-push_goal-clause-recorded : goal.returns-in_err-push_goal-clause-recorded
-returns-in_err-push_goal-clause-recorded g c = λ records. ap (λ cache. cache.results) c.push_goal.ensures.cache
+pub returns-in_err-push_goal-clause-spares : goal.returns-in_err-push_goal-clause-spares
+returns-in_err-push_goal-clause-spares g c = record {
+  recorded = λ records. ap (λ cache. cache.results) c.push_goal.ensures.cache;
+  spared = λ unstored place. ap (λ cache. stored_at g.D.Cx.Input.PartialEq.eq cache.results c.args.input place) c.push_goal.ensures.cache;
+}
 
-pub returns-in_err-push_goal-clause-spared : goal.returns-in_err-push_goal-clause-spared
-returns-in_err-push_goal-clause-spared g c = λ unstored place. ap (λ cache. stored_at g.D.Cx.Input.PartialEq.eq cache.results c.args.input place) c.push_goal.ensures.cache
+pub returns-in_err-next-clause-spares : goal.returns-in_err-next-clause-spares
+returns-in_err-next-clause-spares g c = record {
+  recorded = then_recorded (g.D.Delegate.scoped c.args.cache.now.cx) (g.D.Delegate.script c.args.cache.now.cx) g.D.Cx.Input.PartialEq.eq (g.D.Delegate.noop c.args.inspect.now) c.args.input c.args.fate c.args.cache.now.results c.loop-next.evaluation.goals c.loop-next.cache.results c.advance.new.cache.results c.loop-next.invariant.fates c.advance.ensures.cache.changes;
+  spared = λ unstored. then_spared (g.D.Delegate.scoped c.args.cache.now.cx) (g.D.Delegate.script c.args.cache.now.cx) g.D.Cx.Input.PartialEq.eq (g.D.Delegate.noop c.args.inspect.now) c.args.input c.args.fate c.args.cache.now.results c.loop-next.evaluation.goals c.loop-next.cache.results c.advance.new.cache.results c.loop-next.invariant.fates c.advance.ensures.cache.changes (not_stored c.args.fate unstored);
+}
 
-pub returns-in_err-next-clause-recorded : goal.returns-in_err-next-clause-recorded
-returns-in_err-next-clause-recorded g c = then_recorded (g.D.Delegate.scoped c.args.cache.now.cx) (g.D.Delegate.script c.args.cache.now.cx) g.D.Cx.Input.PartialEq.eq (g.D.Delegate.noop c.args.inspect.now) c.args.input c.args.fate c.args.cache.now.results c.loop-next.evaluation.goals c.loop-next.cache.results c.advance.new.cache.results c.loop-next.invariant.fates c.advance.ensures.changes
-
-pub returns-in_err-next-clause-spared : goal.returns-in_err-next-clause-spared
-returns-in_err-next-clause-spared g c = λ unstored. then_spared (g.D.Delegate.scoped c.args.cache.now.cx) (g.D.Delegate.script c.args.cache.now.cx) g.D.Cx.Input.PartialEq.eq (g.D.Delegate.noop c.args.inspect.now) c.args.input c.args.fate c.args.cache.now.results c.loop-next.evaluation.goals c.loop-next.cache.results c.advance.new.cache.results c.loop-next.invariant.fates c.advance.ensures.changes (not_stored c.args.fate unstored)
-
-pub returns-in-Finished-clause-recorded : goal.returns-in-Finished-clause-recorded
-returns-in-Finished-clause-recorded g c = then_recorded (g.D.Delegate.scoped c.args.cache.now.cx) (g.D.Delegate.script c.args.cache.now.cx) g.D.Cx.Input.PartialEq.eq (g.D.Delegate.noop c.args.inspect.now) c.args.input c.args.fate c.args.cache.now.results c.loop-next.evaluation.goals c.loop-next.cache.results c.advance.new.cache.results c.loop-next.invariant.fates c.advance.ensures.changes
-
-pub returns-in-Finished-clause-spared : goal.returns-in-Finished-clause-spared
-returns-in-Finished-clause-spared g c = λ unstored. then_spared (g.D.Delegate.scoped c.args.cache.now.cx) (g.D.Delegate.script c.args.cache.now.cx) g.D.Cx.Input.PartialEq.eq (g.D.Delegate.noop c.args.inspect.now) c.args.input c.args.fate c.args.cache.now.results c.loop-next.evaluation.goals c.loop-next.cache.results c.advance.new.cache.results c.loop-next.invariant.fates c.advance.ensures.changes (not_stored c.args.fate unstored)
+pub returns-in-Finished-clause-spares : goal.returns-in-Finished-clause-spares
+returns-in-Finished-clause-spares g c = record {
+  recorded = then_recorded (g.D.Delegate.scoped c.args.cache.now.cx) (g.D.Delegate.script c.args.cache.now.cx) g.D.Cx.Input.PartialEq.eq (g.D.Delegate.noop c.args.inspect.now) c.args.input c.args.fate c.args.cache.now.results c.loop-next.evaluation.goals c.loop-next.cache.results c.advance.new.cache.results c.loop-next.invariant.fates c.advance.ensures.cache.changes;
+  spared = λ unstored. then_spared (g.D.Delegate.scoped c.args.cache.now.cx) (g.D.Delegate.script c.args.cache.now.cx) g.D.Cx.Input.PartialEq.eq (g.D.Delegate.noop c.args.inspect.now) c.args.input c.args.fate c.args.cache.now.results c.loop-next.evaluation.goals c.loop-next.cache.results c.advance.new.cache.results c.loop-next.invariant.fates c.advance.ensures.cache.changes (not_stored c.args.fate unstored);
+}

@@ -55,3 +55,11 @@ returns-clause-builder g c = record { at_least = c.evaluate_goal.ensures.at_leas
 pub returns-clause-within : goal.returns-clause-within
 returns-clause-within g c =
     subst (λ depth. StoresWithin g.D.Cx.Input.PartialEq.eq depth c.args.cache.now.results c.evaluate_goal.new.cache.results) (ap (λ graph. graph.root_depth) c.new-graph.ensures) c.evaluate_goal.ensures.within
+
+pub returns-clause-keeps : goal.returns-clause-keeps
+returns-clause-keeps g c = record {
+  context = c.evaluate_goal.ensures.same_context;
+  results = c.evaluate_goal.ensures.kept_results;
+  finished = c.evaluate_goal.ensures.kept;
+  nodes = c.evaluate_goal.ensures.kept_nodes;
+}

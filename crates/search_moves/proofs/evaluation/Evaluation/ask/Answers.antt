@@ -54,7 +54,7 @@ returns-in-Some-stored-clause-asked g c =
     subst (λ n. Asked g.D.Delegate g.D.Cx.Cx g.D.Cx.Input.PartialEq.eq c.args.cache.now.cx c.args.kind c.args.input (g.D.Delegate.noop c.args.inspect.now) c.args.cache.now c.args.self.now (g.D.Delegate.starts c.args.inspect.now) (record { reply = Answer c.in-Some-stored.stored.result; node = c.in-Some-stored.stored.node }) c.args.cache.now (record c.args.self.now { goals = c.note_stored.new.self }) n) (sym c.consult-stored.ensures.same_starts)
     (ByStored c.in-Some.depth (hit_of c.in-Some-stored.stored) c.note_stored.new.self c.in-Some.ensures
     (subst (λ stack. usable_entry g.D.Cx.Input.PartialEq.eq g.D.Delegate.ENABLE_PROVISIONAL_CACHE (record { stack = stack; entries = c.args.self.now.provisional; step = c.args.kind }) c.args.input ≡ None) c.stack-stack.ensures (sym c.look_up_entry.ensures ∙ ap option_copied c.in_default-look_up_entry.is))
-    (subst (λ stack. answered_by (g.D.Delegate.noop c.args.inspect.now) (g.D.Delegate.scoped c.args.cache.now.cx c.args.input) (first_accepted (is_applicable g.D.Cx.Input.PartialEq.eq (record { stack = stack; entries = c.args.self.now.provisional; step = c.args.kind })) (usable g.D.Cx.Input.PartialEq.eq c.args.cache.now.results c.args.input c.in-Some.depth.0)) ≡ Some (hit_of c.in-Some-stored.stored)) c.stack-stack-2.ensures (sym c.consult-stored.ensures.stored ∙ ap (option_map hit_of) c.in-Some-stored.is))
+    (subst (λ stack. answered_by (g.D.Delegate.noop c.args.inspect.now) (g.D.Delegate.scoped c.args.cache.now.cx c.args.input) (first_accepted (is_applicable g.D.Cx.Input.PartialEq.eq (record { stack = stack; entries = c.args.self.now.provisional; step = c.args.kind })) (usable g.D.Cx.Input.PartialEq.eq c.args.cache.now.results c.args.input c.in-Some.depth.0)) ≡ Some (hit_of c.in-Some-stored.stored)) c.stack-stack-2.ensures (sym c.consult-stored.ensures.consults.stored ∙ ap (option_map hit_of) c.in-Some-stored.is))
     c.in_ok-note_stored.ensures (is_some_with _ c.consult-stored.result.stored c.in-Some-stored.stored c.in-Some-stored.is c.consult-stored.ensures.usable))
 
 -- its goal is under evaluation
@@ -66,7 +66,7 @@ returns-in-Some-find-clause-asked g c =
     (subst (λ after. Asked g.D.Delegate g.D.Cx.Cx g.D.Cx.Input.PartialEq.eq c.args.cache.now.cx c.args.kind c.args.input (g.D.Delegate.noop c.args.inspect.now) c.args.cache.now c.args.self.now (g.D.Delegate.starts c.args.inspect.now) given c.args.cache.now after (g.D.Delegate.starts c.args.inspect.now)) (sym c.answer_cycle.ensures.rest)
     (OverCycle c.in-Some.depth c.in-Some-find.head given c.answer_cycle.new.self.goals c.in-Some.ensures
     (subst (λ stack. usable_entry g.D.Cx.Input.PartialEq.eq g.D.Delegate.ENABLE_PROVISIONAL_CACHE (record { stack = stack; entries = c.args.self.now.provisional; step = c.args.kind }) c.args.input ≡ None) c.stack-stack.ensures (sym c.look_up_entry.ensures ∙ ap option_copied c.in_default-look_up_entry.is))
-    (subst (λ stack. answered_by (g.D.Delegate.noop c.args.inspect.now) (g.D.Delegate.scoped c.args.cache.now.cx c.args.input) (first_accepted (is_applicable g.D.Cx.Input.PartialEq.eq (record { stack = stack; entries = c.args.self.now.provisional; step = c.args.kind })) (usable g.D.Cx.Input.PartialEq.eq c.args.cache.now.results c.args.input c.in-Some.depth.0)) ≡ None) c.stack-stack-2.ensures (sym c.consult-stored.ensures.stored ∙ ap (option_map hit_of) c.in_default-stored.is))
+    (subst (λ stack. answered_by (g.D.Delegate.noop c.args.inspect.now) (g.D.Delegate.scoped c.args.cache.now.cx c.args.input) (first_accepted (is_applicable g.D.Cx.Input.PartialEq.eq (record { stack = stack; entries = c.args.self.now.provisional; step = c.args.kind })) (usable g.D.Cx.Input.PartialEq.eq c.args.cache.now.results c.args.input c.in-Some.depth.0)) ≡ None) c.stack-stack-2.ensures (sym c.consult-stored.ensures.consults.stored ∙ ap (option_map hit_of) c.in_default-stored.is))
     (sym c.find.ensures.present ∙ ap is_some c.in-Some-find.is)
     (subst (λ x. ClosesCycle g.D.Delegate g.D.Cx.Cx x g.D.Cx.Input.PartialEq.eq c.args.kind c.args.input c.in-Some-find.head given c.args.self.now.goals c.answer_cycle.new.self.goals) c.cx-cx.ensures closes))))
 
@@ -75,31 +75,31 @@ pub returns-in_err-push_goal-clause-stops : goal.returns-in_err-push_goal-clause
 returns-in_err-push_goal-clause-stops g c = λ call ahead h.
     if_err c.from_residual-in_err-push_goal.result
     (push_stops g.D.Delegate g.D.Cx.Cx g.D.Cx.Input.PartialEq.eq c.args.cache.now.cx c.args.kind c.args.input c.args.cache.now c.args.self.now (g.D.Delegate.starts c.args.inspect.now) g.met.D.Delegate.divides c.in-Some.depth c.in-Some.ensures
-    c.push_goal.new.cache c.push_goal.new.self _ c.push_goal.ensures.cache c.push_goal.ensures.rest (subst (λ n. n ≤ g.D.Delegate.starts c.push_goal.new.inspect) c.consult-stored.ensures.same_starts c.push_goal.ensures.builder.at_least) (subst (λ n. g.D.Delegate.starts c.push_goal.new.inspect ≤ n + 1) c.consult-stored.ensures.same_starts c.push_goal.ensures.at_most) call ahead h)
+    c.push_goal.new.cache c.push_goal.new.self _ c.push_goal.ensures.cache c.push_goal.ensures.rest (subst (λ n. n ≤ g.D.Delegate.starts c.push_goal.new.inspect) c.consult-stored.ensures.same_starts c.push_goal.ensures.starts.builder.at_least) (subst (λ n. g.D.Delegate.starts c.push_goal.new.inspect ≤ n + 1) c.consult-stored.ensures.same_starts c.push_goal.ensures.starts.at_most) call ahead h)
 
 pub returns-in_err-hold-clause-stops : goal.returns-in_err-hold-clause-stops
 returns-in_err-hold-clause-stops g c = λ call ahead h.
     if_err c.from_residual-in_err-hold.result
     (push_stops g.D.Delegate g.D.Cx.Cx g.D.Cx.Input.PartialEq.eq c.args.cache.now.cx c.args.kind c.args.input c.args.cache.now c.args.self.now (g.D.Delegate.starts c.args.inspect.now) g.met.D.Delegate.divides c.in-Some.depth c.in-Some.ensures
-    c.push_goal.new.cache (record c.push_goal.new.self { goals = c.hold.new.self }) _ c.push_goal.ensures.cache (subst (λ after. record after { goals = c.hold.new.self } ≡ record c.args.self.now { goals = c.hold.new.self }) (sym c.push_goal.ensures.rest) refl) (subst (λ n. n ≤ g.D.Delegate.starts c.push_goal.new.inspect) c.consult-stored.ensures.same_starts c.push_goal.ensures.builder.at_least) (subst (λ n. g.D.Delegate.starts c.push_goal.new.inspect ≤ n + 1) c.consult-stored.ensures.same_starts c.push_goal.ensures.at_most) call ahead h)
+    c.push_goal.new.cache (record c.push_goal.new.self { goals = c.hold.new.self }) _ c.push_goal.ensures.cache (subst (λ after. record after { goals = c.hold.new.self } ≡ record c.args.self.now { goals = c.hold.new.self }) (sym c.push_goal.ensures.rest) refl) (subst (λ n. n ≤ g.D.Delegate.starts c.push_goal.new.inspect) c.consult-stored.ensures.same_starts c.push_goal.ensures.starts.builder.at_least) (subst (λ n. g.D.Delegate.starts c.push_goal.new.inspect ≤ n + 1) c.consult-stored.ensures.same_starts c.push_goal.ensures.starts.at_most) call ahead h)
 
 pub returns-clause-asked : goal.returns-clause-asked
 returns-clause-asked g c =
     let stack_is = c.stack-stack-2.ensures in
-    let fate_is = subst (λ stack. c.consult-stored.result.fate ≡ fate_for (g.D.Delegate.noop c.args.inspect.now) (g.D.Delegate.scoped c.args.cache.now.cx c.args.input) (first_accepted (is_applicable g.D.Cx.Input.PartialEq.eq (record { stack = stack; entries = c.args.self.now.provisional; step = c.args.kind })) (usable g.D.Cx.Input.PartialEq.eq c.args.cache.now.results c.args.input c.in-Some.depth.0))) stack_is c.consult-stored.ensures.fate in
+    let fate_is = subst (λ stack. c.consult-stored.result.fate ≡ fate_for (g.D.Delegate.noop c.args.inspect.now) (g.D.Delegate.scoped c.args.cache.now.cx c.args.input) (first_accepted (is_applicable g.D.Cx.Input.PartialEq.eq (record { stack = stack; entries = c.args.self.now.provisional; step = c.args.kind })) (usable g.D.Cx.Input.PartialEq.eq c.args.cache.now.results c.args.input c.in-Some.depth.0))) stack_is c.consult-stored.ensures.consults.fate in
     subst (λ given. Asked g.D.Delegate g.D.Cx.Cx g.D.Cx.Input.PartialEq.eq c.args.cache.now.cx c.args.kind c.args.input (g.D.Delegate.noop c.args.inspect.now) c.args.cache.now c.args.self.now (g.D.Delegate.starts c.args.inspect.now) given c.push_goal.new.cache (record c.push_goal.new.self { goals = c.hold.new.self }) (g.D.Delegate.starts c.push_goal.new.inspect)) (sym c.without_node-2.ensures)
     (subst (λ goals. Asked g.D.Delegate g.D.Cx.Cx g.D.Cx.Input.PartialEq.eq c.args.cache.now.cx c.args.kind c.args.input (g.D.Delegate.noop c.args.inspect.now) c.args.cache.now c.args.self.now (g.D.Delegate.starts c.args.inspect.now) (record { reply = Begin; node = None }) c.push_goal.new.cache (record c.push_goal.new.self { goals = goals }) (g.D.Delegate.starts c.push_goal.new.inspect)) (sym c.hold.ensures)
     (subst (λ cache. Asked g.D.Delegate g.D.Cx.Cx g.D.Cx.Input.PartialEq.eq c.args.cache.now.cx c.args.kind c.args.input (g.D.Delegate.noop c.args.inspect.now) c.args.cache.now c.args.self.now (g.D.Delegate.starts c.args.inspect.now) (record { reply = Begin; node = None }) cache c.push_goal.new.self (g.D.Delegate.starts c.push_goal.new.inspect)) (sym c.push_goal.ensures.cache)
     (subst (λ after. Asked g.D.Delegate g.D.Cx.Cx g.D.Cx.Input.PartialEq.eq c.args.cache.now.cx c.args.kind c.args.input (g.D.Delegate.noop c.args.inspect.now) c.args.cache.now c.args.self.now (g.D.Delegate.starts c.args.inspect.now) (record { reply = Begin; node = None }) (record c.args.cache.now { nodes = c.push_goal.new.cache.nodes }) after (g.D.Delegate.starts c.push_goal.new.inspect)) (sym c.push_goal.ensures.rest)
     (Pushed c.in-Some.depth c.push_goal.new.self.goals c.push_goal.new.cache.nodes (g.D.Delegate.starts c.push_goal.new.inspect) c.in-Some.ensures
     (subst (λ stack. usable_entry g.D.Cx.Input.PartialEq.eq g.D.Delegate.ENABLE_PROVISIONAL_CACHE (record { stack = stack; entries = c.args.self.now.provisional; step = c.args.kind }) c.args.input ≡ None) c.stack-stack.ensures (sym c.look_up_entry.ensures ∙ ap option_copied c.in_default-look_up_entry.is))
-    (subst (λ stack. answered_by (g.D.Delegate.noop c.args.inspect.now) (g.D.Delegate.scoped c.args.cache.now.cx c.args.input) (first_accepted (is_applicable g.D.Cx.Input.PartialEq.eq (record { stack = stack; entries = c.args.self.now.provisional; step = c.args.kind })) (usable g.D.Cx.Input.PartialEq.eq c.args.cache.now.results c.args.input c.in-Some.depth.0)) ≡ None) stack_is (sym c.consult-stored.ensures.stored ∙ ap (option_map hit_of) c.in_default-stored.is))
+    (subst (λ stack. answered_by (g.D.Delegate.noop c.args.inspect.now) (g.D.Delegate.scoped c.args.cache.now.cx c.args.input) (first_accepted (is_applicable g.D.Cx.Input.PartialEq.eq (record { stack = stack; entries = c.args.self.now.provisional; step = c.args.kind })) (usable g.D.Cx.Input.PartialEq.eq c.args.cache.now.results c.args.input c.in-Some.depth.0)) ≡ None) stack_is (sym c.consult-stored.ensures.consults.stored ∙ ap (option_map hit_of) c.in_default-stored.is))
     (sym c.find.ensures.present ∙ ap is_some c.in_default-find.is)
     c.in_ok-push_goal.ensures.pushed
     (subst (λ fate. fates_of c.push_goal.new.self.goals ≡ record { goal = c.args.input; depth = c.in-Some.depth.0; fate = fate } ∷ fates_of c.args.self.now.goals) fate_is c.in_ok-push_goal.ensures.fates)
     (subst (λ fate. IsFated (g.D.Delegate.scoped c.args.cache.now.cx) (g.D.Delegate.script c.args.cache.now.cx) g.D.Cx.Input.PartialEq.eq c.args.cache.now.results (g.D.Delegate.noop c.args.inspect.now) (record { goal = c.args.input; depth = c.in-Some.depth.0; fate = fate })) fate_is c.consult-stored.ensures.fated)
-    (subst (λ n. g.D.Delegate.starts c.push_goal.new.inspect ≤ n + 1) c.consult-stored.ensures.same_starts c.push_goal.ensures.at_most)
-    (subst (λ n. g.D.Delegate.counts ≡ true → CountsOne g.D.Delegate.last n (g.D.Delegate.starts c.push_goal.new.inspect)) c.consult-stored.ensures.same_starts c.in_ok-push_goal.ensures.counted)))))
+    (subst (λ n. g.D.Delegate.starts c.push_goal.new.inspect ≤ n + 1) c.consult-stored.ensures.same_starts c.push_goal.ensures.starts.at_most)
+    (subst (λ n. g.D.Delegate.counts ≡ true → CountsOne g.D.Delegate.last n (g.D.Delegate.starts c.push_goal.new.inspect)) c.consult-stored.ensures.same_starts c.in_ok-push_goal.ensures.starts.counted)))))
 
 pub returns-in_err-hold-clause-keeps : goal.returns-in_err-hold-clause-keeps
 returns-in_err-hold-clause-keeps g c = appending_keeps g.D.Cx.Input.PartialEq.eq c.args.self.now.goals c.args.cache.now c.push_goal.new.cache c.push_goal.ensures.cache c.push_goal.ensures.kept

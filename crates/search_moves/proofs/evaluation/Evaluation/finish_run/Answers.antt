@@ -10,8 +10,8 @@ use Rattle.search_rules.proofs.moves.DoneRuns.{limit_comes, limited_plain, memor
 use Rattle.search_rules.proofs.Reasons.{newest_reason, newest_unranked}
 use Rattle.search_rules.proofs.moves.EndOfRunLaws.{limited, unstable, newest_limited, newest_unstable}
 use Rattle.search_context.proofs.Builders.{builder_stays}
+use Rattle.search_moves.proofs.Keeping.{leaves_results}
 use Rattle.search_moves.proofs.LimitsAtEnd.{meets_at_end, or_met, or_not}
-use Rattle.search_rules.specs.Fates.{Untouched}
 use Rattle.search_moves.proofs.evaluation.Evaluation.finish_run.Goals as goal
 
 -- ---- its result stands
@@ -124,7 +124,7 @@ returns-in_err-run_again-in-Err-Again-clause-moves g c = record {
       subst (λ fault. StopsWith g.D.Delegate g.D.Cx.Cx g.D.Cx.Input.PartialEq.eq c.args.cache.now.cx call fault c.run_again.new.cache c.run_again.new.self (g.D.Delegate.starts c.run_again.new.inspect)) (sym is)
       (subst (λ after. StopsWith g.D.Delegate g.D.Cx.Cx g.D.Cx.Input.PartialEq.eq c.args.cache.now.cx call Memory c.run_again.new.cache after (g.D.Delegate.starts c.run_again.new.inspect)) (sym c.run_again.ensures.rest)
       (record {
-        stopped = failed_rerun_stopped g.D.Delegate g.D.Cx.Cx c.args.cache.now.cx call ahead c.args.outcome c.args.self.now.goals _ _ _ (λ s below is. ((newest_unstable c.args.self.now.goals c.last_entry.result.now c.last_run.result.now c.last_entry.ensures c.last_run.ensures g.D.Delegate.FIXPOINT_STEP_LIMIT (unstable g.D.Cx.Result.PartialEq.eq g.D.Delegate.initial_kind g.D.Delegate.ambiguity g.D.Delegate.FIXPOINT_STEP_LIMIT c.last_entry.result.now.state.provisional_result c.last_entry.result.now.state.usages c.last_run.result.now.finished_runs c.args.outcome c.end_of_run.result c.end_of_run.ensures.is_end (c.in-Err-Again.is ∙ ap Err c.in-Err-Again.field-0-is))) s below is).1) c.run_again.ensures.builder.at_least c.run_again.ensures.at_most h.asked;
+        stopped = failed_rerun_stopped g.D.Delegate g.D.Cx.Cx c.args.cache.now.cx call ahead c.args.outcome c.args.self.now.goals _ _ _ (λ s below is. ((newest_unstable c.args.self.now.goals c.last_entry.result.now c.last_run.result.now c.last_entry.ensures c.last_run.ensures g.D.Delegate.FIXPOINT_STEP_LIMIT (unstable g.D.Cx.Result.PartialEq.eq g.D.Delegate.initial_kind g.D.Delegate.ambiguity g.D.Delegate.FIXPOINT_STEP_LIMIT c.last_entry.result.now.state.provisional_result c.last_entry.result.now.state.usages c.last_run.result.now.finished_runs c.args.outcome c.end_of_run.result c.end_of_run.ensures.is_end (c.in-Err-Again.is ∙ ap Err c.in-Err-Again.field-0-is))) s below is).1) c.run_again.ensures.starts.builder.at_least c.run_again.ensures.starts.at_most h.asked;
         store = subst (KeepsStore g.D.Delegate g.D.Cx.Cx c.args.cache.now.cx g.D.Cx.Input.PartialEq.eq call c.args.self.now.limits_met) (sym (ap (λ cache. cache.results) c.run_again.ensures.cache)) h.answers.store;
       })));
 }
@@ -136,7 +136,7 @@ returns-in_ok-run_again-in-Err-Again-clause-moves g c = record {
       (record {
         leads =
             subst (λ given. CallGoesOn g.D.Delegate g.D.Cx.Cx c.args.cache.now.cx call ahead given.reply c.run_again.new.self.goals (g.D.Delegate.starts c.run_again.new.inspect) c.args.self.now.limits_met) (sym c.without_node.ensures)
-            (rerun_goes_on g.D.Delegate g.D.Cx.Cx c.args.cache.now.cx call ahead c.args.outcome c.args.self.now.goals c.run_again.new.self.goals _ _ c.args.self.now.limits_met (newest_unstable c.args.self.now.goals c.last_entry.result.now c.last_run.result.now c.last_entry.ensures c.last_run.ensures g.D.Delegate.FIXPOINT_STEP_LIMIT (unstable g.D.Cx.Result.PartialEq.eq g.D.Delegate.initial_kind g.D.Delegate.ambiguity g.D.Delegate.FIXPOINT_STEP_LIMIT c.last_entry.result.now.state.provisional_result c.last_entry.result.now.state.usages c.last_run.result.now.finished_runs c.args.outcome c.end_of_run.result c.end_of_run.ensures.is_end (c.in-Err-Again.is ∙ ap Err c.in-Err-Again.field-0-is))) c.run_again.ensures.at_most c.in_ok-run_again-in-Err-Again.ensures.counted c.in_ok-run_again-in-Err-Again.ensures.reran.reran h.asked);
+            (rerun_goes_on g.D.Delegate g.D.Cx.Cx c.args.cache.now.cx call ahead c.args.outcome c.args.self.now.goals c.run_again.new.self.goals _ _ c.args.self.now.limits_met (newest_unstable c.args.self.now.goals c.last_entry.result.now c.last_run.result.now c.last_entry.ensures c.last_run.ensures g.D.Delegate.FIXPOINT_STEP_LIMIT (unstable g.D.Cx.Result.PartialEq.eq g.D.Delegate.initial_kind g.D.Delegate.ambiguity g.D.Delegate.FIXPOINT_STEP_LIMIT c.last_entry.result.now.state.provisional_result c.last_entry.result.now.state.usages c.last_run.result.now.finished_runs c.args.outcome c.end_of_run.result c.end_of_run.ensures.is_end (c.in-Err-Again.is ∙ ap Err c.in-Err-Again.field-0-is))) c.run_again.ensures.starts.at_most c.in_ok-run_again-in-Err-Again.ensures.starts.counted c.in_ok-run_again-in-Err-Again.ensures.reran.reran h.asked);
         answers =
             subst (λ results. KeepsAnswers g.D.Delegate g.D.Cx.Cx c.args.cache.now.cx g.D.Cx.Input.PartialEq.eq call c.args.self.now.limits_met results c.run_again.new.self.provisional) (sym (ap (λ cache. cache.results) c.run_again.ensures.cache))
             (rerun_keeps g.D.Delegate g.D.Cx.Cx c.args.cache.now.cx call g.D.Cx.Input.PartialEq.eq c.args.cache.now.results c.args.self.now.limits_met _ c.args.self.now.provisional c.run_again.new.self.provisional c.in_ok-run_again-in-Err-Again.ensures.reran.cleared h.answers);
@@ -186,8 +186,14 @@ returns-in-Err-AtLimit-clause-builder g c = builder_stays g.D.Delegate.starts g.
 
 -- ---- the stored results
 
-pub returns-in_err-run_again-in-Err-Again-clause-changes : goal.returns-in_err-run_again-in-Err-Again-clause-changes
-returns-in_err-run_again-in-Err-Again-clause-changes g c = Untouched (ap (λ cache. cache.results) c.run_again.ensures.cache)
+pub returns-in-Ok-clause-cache : goal.returns-in-Ok-clause-cache
+returns-in-Ok-clause-cache g c = record { keeps = c.pop_goal.ensures.keeps; changes = c.pop_goal.ensures.changes }
 
-pub returns-in_ok-run_again-in-Err-Again-clause-changes : goal.returns-in_ok-run_again-in-Err-Again-clause-changes
-returns-in_ok-run_again-in-Err-Again-clause-changes g c = Untouched (ap (λ cache. cache.results) c.run_again.ensures.cache)
+pub returns-in-Err-AtLimit-clause-cache : goal.returns-in-Err-AtLimit-clause-cache
+returns-in-Err-AtLimit-clause-cache g c = record { keeps = c.pop_goal-in-Err-AtLimit.ensures.keeps; changes = c.pop_goal-in-Err-AtLimit.ensures.changes }
+
+pub returns-in_err-run_again-in-Err-Again-clause-cache : goal.returns-in_err-run_again-in-Err-Again-clause-cache
+returns-in_err-run_again-in-Err-Again-clause-cache g c = leaves_results g.D.Cx.Input.PartialEq.eq c.args.self.now.goals c.args.cache.now c.run_again.new.cache c.run_again.ensures.cache c.run_again.ensures.kept c.run_again.ensures.earlier
+
+pub returns-in_ok-run_again-in-Err-Again-clause-cache : goal.returns-in_ok-run_again-in-Err-Again-clause-cache
+returns-in_ok-run_again-in-Err-Again-clause-cache g c = leaves_results g.D.Cx.Input.PartialEq.eq c.args.self.now.goals c.args.cache.now c.run_again.new.cache c.run_again.ensures.cache c.run_again.ensures.kept c.run_again.ensures.earlier

@@ -85,7 +85,7 @@ pub returns-in_err-store_answer-clause-stored : goal.returns-in_err-store_answer
 returns-in_err-store_answer-clause-stored g c = newest_stored (verdicts g.D.Cx.Cx) c.args.cache.now.nodes c.result_node.new.cache.nodes c.args.self.now.goals c.pop-entry.result.entry c.pop-entry.result.run c.pop-entry.new.self c.pop-entry.ensures c.args.outcome c.in_ok-node.node c.requires.right.justified c.in_ok-node.ensures.has_node g.D.Cx.Input.PartialEq.eq c.args.cache.now.results c.store_answer.new.cache.results
     (subst (λ before. StoresAnswer g.D.Cx.Input.PartialEq.eq before c.store_answer.new.cache.results c.pop-entry.result.entry.input (final_answer (c.pop-entry.result.entry, c.pop-entry.result.run) c.args.outcome c.in_ok-node.node)) c.in_ok-node.ensures.same_results
     (subst (λ i. StoresAnswer g.D.Cx.Input.PartialEq.eq c.result_node.new.cache.results c.store_answer.new.cache.results i (final_answer (c.pop-entry.result.entry, c.pop-entry.result.run) c.args.outcome c.in_ok-node.node)) c.input-input.ensures
-    (subst (λ (a : EvaluationResult _ _ _ _ _). StoresAnswer g.D.Cx.Input.PartialEq.eq c.result_node.new.cache.results c.store_answer.new.cache.results c.input-input.result a) c.finalize-answer.ensures c.store_answer.ensures.stored)))
+    (subst (λ (a : EvaluationResult _ _ _ _ _). StoresAnswer g.D.Cx.Input.PartialEq.eq c.result_node.new.cache.results c.store_answer.new.cache.results c.input-input.result a) c.finalize-answer.ensures c.store_answer.ensures.puts.stored)))
 
 pub returns-in_err-store_answer-clause-plain : goal.returns-in_err-store_answer-clause-plain
 returns-in_err-store_answer-clause-plain g c = λ n plain.
@@ -100,10 +100,10 @@ returns-in_err-store_answer-clause-plain g c = λ n plain.
 pub returns-in_err-store_answer-clause-keeps : goal.returns-in_err-store_answer-clause-keeps
 returns-in_err-store_answer-clause-keeps g c =
     ending_keeps g.D.Cx.Input.PartialEq.eq c.args.self.now.goals c.args.cache.now c.store_answer.new.cache (c.pop-entry.result.entry, c.pop-entry.result.run) c.pop-entry.new.self c.pop-entry.ensures
-    (ap (λ cache. cache.cx) c.store_answer.ensures.cache.rest ∙ c.in_ok-node.ensures.same_context)
-    (subst (λ before. KeepsResults g.D.Cx.Input.PartialEq.eq before c.store_answer.new.cache.results) c.in_ok-node.ensures.same_results c.store_answer.ensures.cache.kept)
-    (subst (KeepsFinished c.args.cache.now.nodes) (sym (ap (λ cache. cache.nodes) c.store_answer.ensures.cache.rest)) c.in_ok-node.ensures.kept)
-    (subst (KeepsBut c.pop-entry.result.run.node.0 c.args.cache.now.nodes) (sym (ap (λ cache. cache.nodes) c.store_answer.ensures.cache.rest)) c.in_ok-node.ensures.others)
+    (ap (λ cache. cache.cx) c.store_answer.ensures.puts.cache.rest ∙ c.in_ok-node.ensures.same_context)
+    (subst (λ before. KeepsResults g.D.Cx.Input.PartialEq.eq before c.store_answer.new.cache.results) c.in_ok-node.ensures.same_results c.store_answer.ensures.puts.cache.kept)
+    (subst (KeepsFinished c.args.cache.now.nodes) (sym (ap (λ cache. cache.nodes) c.store_answer.ensures.puts.cache.rest)) c.in_ok-node.ensures.kept)
+    (subst (KeepsBut c.pop-entry.result.run.node.0 c.args.cache.now.nodes) (sym (ap (λ cache. cache.nodes) c.store_answer.ensures.puts.cache.rest)) c.in_ok-node.ensures.others)
 
 pub returns-in_err-node-clause-keeps : goal.returns-in_err-node-clause-keeps
 returns-in_err-node-clause-keeps g c =
@@ -125,21 +125,21 @@ returns-in_err-next-clause-keeps g c =
 pub returns-clause-keeps : goal.returns-clause-keeps
 returns-clause-keeps g c =
     ending_keeps g.D.Cx.Input.PartialEq.eq c.args.self.now.goals c.args.cache.now c.store_answer.new.cache (c.pop-entry.result.entry, c.pop-entry.result.run) c.pop-entry.new.self c.pop-entry.ensures
-    (ap (λ cache. cache.cx) c.store_answer.ensures.cache.rest ∙ c.in_ok-node.ensures.same_context)
-    (subst (λ before. KeepsResults g.D.Cx.Input.PartialEq.eq before c.store_answer.new.cache.results) c.in_ok-node.ensures.same_results c.store_answer.ensures.cache.kept)
-    (subst (KeepsFinished c.args.cache.now.nodes) (sym (ap (λ cache. cache.nodes) c.store_answer.ensures.cache.rest)) c.in_ok-node.ensures.kept)
-    (subst (KeepsBut c.pop-entry.result.run.node.0 c.args.cache.now.nodes) (sym (ap (λ cache. cache.nodes) c.store_answer.ensures.cache.rest)) c.in_ok-node.ensures.others)
+    (ap (λ cache. cache.cx) c.store_answer.ensures.puts.cache.rest ∙ c.in_ok-node.ensures.same_context)
+    (subst (λ before. KeepsResults g.D.Cx.Input.PartialEq.eq before c.store_answer.new.cache.results) c.in_ok-node.ensures.same_results c.store_answer.ensures.puts.cache.kept)
+    (subst (KeepsFinished c.args.cache.now.nodes) (sym (ap (λ cache. cache.nodes) c.store_answer.ensures.puts.cache.rest)) c.in_ok-node.ensures.kept)
+    (subst (KeepsBut c.pop-entry.result.run.node.0 c.args.cache.now.nodes) (sym (ap (λ cache. cache.nodes) c.store_answer.ensures.puts.cache.rest)) c.in_ok-node.ensures.others)
 
 pub returns-clause-stored : goal.returns-clause-stored
 returns-clause-stored g c = newest_stored (verdicts g.D.Cx.Cx) c.args.cache.now.nodes c.result_node.new.cache.nodes c.args.self.now.goals c.pop-entry.result.entry c.pop-entry.result.run c.pop-entry.new.self c.pop-entry.ensures c.args.outcome c.in_ok-node.node c.requires.right.justified c.in_ok-node.ensures.has_node g.D.Cx.Input.PartialEq.eq c.args.cache.now.results c.store_answer.new.cache.results
     (subst (λ before. StoresAnswer g.D.Cx.Input.PartialEq.eq before c.store_answer.new.cache.results c.pop-entry.result.entry.input (final_answer (c.pop-entry.result.entry, c.pop-entry.result.run) c.args.outcome c.in_ok-node.node)) c.in_ok-node.ensures.same_results
     (subst (λ i. StoresAnswer g.D.Cx.Input.PartialEq.eq c.result_node.new.cache.results c.store_answer.new.cache.results i (final_answer (c.pop-entry.result.entry, c.pop-entry.result.run) c.args.outcome c.in_ok-node.node)) c.input-input.ensures
-    (subst (λ (a : EvaluationResult _ _ _ _ _). StoresAnswer g.D.Cx.Input.PartialEq.eq c.result_node.new.cache.results c.store_answer.new.cache.results c.input-input.result a) c.finalize-answer.ensures c.store_answer.ensures.stored)))
+    (subst (λ (a : EvaluationResult _ _ _ _ _). StoresAnswer g.D.Cx.Input.PartialEq.eq c.result_node.new.cache.results c.store_answer.new.cache.results c.input-input.result a) c.finalize-answer.ensures c.store_answer.ensures.puts.stored)))
 
 pub returns-clause-popped : goal.returns-clause-popped
 returns-clause-popped g c =
     let node_is : node_given c.in_ok-next.next ≡ c.in_ok-node.node = gives_node c.step_kind_from_parent-step.result c.finalize-answer.result c.pop-entry.new.self c.in_ok-next.next c.give_answer.new.goals c.in_ok-next.ensures.given ∙ ap (λ (a : EvaluationResult _ _ _ _ _). a.node) c.finalize-answer.ensures in
-    let same_cx : c.store_answer.new.cache.cx ≡ c.args.cache.now.cx = ap (λ cache. cache.cx) c.store_answer.ensures.cache.rest ∙ c.in_ok-node.ensures.same_context in
+    let same_cx : c.store_answer.new.cache.cx ≡ c.args.cache.now.cx = ap (λ cache. cache.cx) c.store_answer.ensures.puts.cache.rest ∙ c.in_ok-node.ensures.same_context in
     subst (λ after. Pops g.D.Delegate g.D.Cx.Cx g.D.Cx.Input.PartialEq.eq c.args.outcome c.args.reason c.args.cache.now c.args.self.now c.in_ok-next.next c.store_answer.new.cache after) (sym c.store_answer.ensures.rest)
     (record {
       left =
@@ -159,26 +159,26 @@ returns-clause-popped g c =
       node =
           subst (λ l. HasNewestNode (verdicts g.D.Cx.Cx) c.args.cache.now.nodes c.store_answer.new.cache.nodes l c.args.outcome (node_given c.in_ok-next.next)) (sym c.pop-entry.ensures)
           (subst (λ node. HasResultNode (verdicts g.D.Cx.Cx) c.args.cache.now.nodes c.store_answer.new.cache.nodes c.pop-entry.result.entry.state.provisional_result c.pop-entry.result.run.node c.pop-entry.result.entry.state.node c.pop-entry.result.run.progress c.args.outcome node) (sym node_is)
-          (subst (λ nodes. HasResultNode (verdicts g.D.Cx.Cx) c.args.cache.now.nodes nodes c.pop-entry.result.entry.state.provisional_result c.pop-entry.result.run.node c.pop-entry.result.entry.state.node c.pop-entry.result.run.progress c.args.outcome c.in_ok-node.node) (sym (ap (λ cache. cache.nodes) c.store_answer.ensures.cache.rest)) c.in_ok-node.ensures.has_node));
+          (subst (λ nodes. HasResultNode (verdicts g.D.Cx.Cx) c.args.cache.now.nodes nodes c.pop-entry.result.entry.state.provisional_result c.pop-entry.result.run.node c.pop-entry.result.entry.state.node c.pop-entry.result.run.progress c.args.outcome c.in_ok-node.node) (sym (ap (λ cache. cache.nodes) c.store_answer.ensures.puts.cache.rest)) c.in_ok-node.ensures.has_node));
       rebased =
           subst (λ l. RebasesNewest g.D.Cx.Input.PartialEq.eq g.D.Delegate.ENABLE_PROVISIONAL_CACHE (g.D.Delegate.propagated c.args.cache.now.cx) (g.D.Delegate.fixpoint_overflow c.args.cache.now.cx) c.args.reason c.args.outcome l c.args.self.now.provisional c.store_answer.new.self.provisional) (sym c.pop-entry.ensures)
           (record { node = c.in_ok-node.node; entries = entries_rebased g.D.Cx.Input.PartialEq.eq g.D.Delegate.ENABLE_PROVISIONAL_CACHE g.D.Delegate.propagated g.D.Delegate.fixpoint_overflow c.cx.result c.args.cache.now.cx (c.cx.ensures ∙ c.in_ok-node.ensures.same_context) c.args.reason c.args.outcome c.in_ok-node.node (c.pop-entry.result.entry, c.pop-entry.result.run) c.pop-entry.new.self c.give_answer.new.goals c.in_ok-next.next c.stack-stack.result.now (reverse (map (λ s. s.0) c.give_answer.new.goals)) c.stack-stack.ensures refl c.step_kind_from_parent-step.result c.step_kind_from_parent-step.ensures c.input-input.result c.input-input.ensures c.finalize-answer.result c.finalize-answer.ensures c.in_ok-next.ensures.given c.args.self.now.provisional c.rebase_entries.new.provisional c.store_answer.new.self.provisional c.in_ok-rebase_entries.ensures.exact c.in_ok-store_answer.ensures.stores.entry });
       right = record {
         justified =
-            subst (λ nodes. IsJustifiedNext (verdicts g.D.Cx.Cx) nodes c.args.self.now.goals c.give_answer.new.goals c.in_ok-next.next) (sym (ap (λ cache. cache.nodes) c.store_answer.ensures.cache.rest))
+            subst (λ nodes. IsJustifiedNext (verdicts g.D.Cx.Cx) nodes c.args.self.now.goals c.give_answer.new.goals c.in_ok-next.next) (sym (ap (λ cache. cache.nodes) c.store_answer.ensures.puts.cache.rest))
             (given_justified (verdicts g.D.Cx.Cx) c.args.cache.now.nodes c.result_node.new.cache.nodes c.args.self.now.goals c.pop-entry.result.entry c.pop-entry.result.run c.pop-entry.new.self c.pop-entry.ensures c.args.outcome c.in_ok-node.node c.requires.right.justified c.in_ok-node.ensures.has_node c.give_answer.new.goals c.in_ok-next.next
             (subst (λ step. GivesAnswer step (final_answer (c.pop-entry.result.entry, c.pop-entry.result.run) c.args.outcome c.in_ok-node.node) c.pop-entry.new.self c.in_ok-next.next c.give_answer.new.goals) c.step_kind_from_parent-step.ensures
             (subst (λ (a : EvaluationResult _ _ _ _ _). GivesAnswer c.step_kind_from_parent-step.result a c.pop-entry.new.self c.in_ok-next.next c.give_answer.new.goals) c.finalize-answer.ensures c.in_ok-next.ensures.given)));
         free =
-            subst (λ nodes. AreFree (verdicts g.D.Cx.Cx) g.D.Cx.Input.PartialEq.eq nodes (runs_of c.give_answer.new.goals) c.store_answer.new.cache.results) (sym (ap (λ cache. cache.nodes) c.store_answer.ensures.cache.rest))
+            subst (λ nodes. AreFree (verdicts g.D.Cx.Cx) g.D.Cx.Input.PartialEq.eq nodes (runs_of c.give_answer.new.goals) c.store_answer.new.cache.results) (sym (ap (λ cache. cache.nodes) c.store_answer.ensures.puts.cache.rest))
             (given_free (verdicts g.D.Cx.Cx) c.args.cache.now.nodes c.result_node.new.cache.nodes c.args.self.now.goals c.pop-entry.result.entry c.pop-entry.result.run c.pop-entry.new.self c.pop-entry.ensures c.args.outcome c.in_ok-node.node c.requires.right.justified c.in_ok-node.ensures.has_node g.D.Cx.Input.PartialEq.eq g.met.D.Cx.Cx.same_input c.args.cache.now.results c.store_answer.new.cache.results c.give_answer.new.goals c.in_ok-next.next
             (subst (λ step. GivesAnswer step (final_answer (c.pop-entry.result.entry, c.pop-entry.result.run) c.args.outcome c.in_ok-node.node) c.pop-entry.new.self c.in_ok-next.next c.give_answer.new.goals) c.step_kind_from_parent-step.ensures
             (subst (λ (a : EvaluationResult _ _ _ _ _). GivesAnswer c.step_kind_from_parent-step.result a c.pop-entry.new.self c.in_ok-next.next c.give_answer.new.goals) c.finalize-answer.ensures c.in_ok-next.ensures.given))
             (subst (λ before. StoresAnswer g.D.Cx.Input.PartialEq.eq before c.store_answer.new.cache.results c.pop-entry.result.entry.input (final_answer (c.pop-entry.result.entry, c.pop-entry.result.run) c.args.outcome c.in_ok-node.node)) c.in_ok-node.ensures.same_results
             (subst (λ i. StoresAnswer g.D.Cx.Input.PartialEq.eq c.result_node.new.cache.results c.store_answer.new.cache.results i (final_answer (c.pop-entry.result.entry, c.pop-entry.result.run) c.args.outcome c.in_ok-node.node)) c.input-input.ensures
-            (subst (λ (a : EvaluationResult _ _ _ _ _). StoresAnswer g.D.Cx.Input.PartialEq.eq c.result_node.new.cache.results c.store_answer.new.cache.results c.input-input.result a) c.finalize-answer.ensures c.store_answer.ensures.stored))) c.requires.right.free);
+            (subst (λ (a : EvaluationResult _ _ _ _ _). StoresAnswer g.D.Cx.Input.PartialEq.eq c.result_node.new.cache.results c.store_answer.new.cache.results c.input-input.result a) c.finalize-answer.ensures c.store_answer.ensures.puts.stored))) c.requires.right.free);
         ready =
-            subst (λ nodes. AreReady (verdicts g.D.Cx.Cx) g.D.Cx.Input.PartialEq.eq (g.D.Delegate.script c.args.cache.now.cx) nodes (runs_of c.give_answer.new.goals) c.store_answer.new.self.provisional) (sym (ap (λ cache. cache.nodes) c.store_answer.ensures.cache.rest))
+            subst (λ nodes. AreReady (verdicts g.D.Cx.Cx) g.D.Cx.Input.PartialEq.eq (g.D.Delegate.script c.args.cache.now.cx) nodes (runs_of c.give_answer.new.goals) c.store_answer.new.self.provisional) (sym (ap (λ cache. cache.nodes) c.store_answer.ensures.puts.cache.rest))
             (rebased_ready (verdicts g.D.Cx.Cx) g.D.Cx.Input.PartialEq.eq g.met.D.Cx.Cx.same_input (g.D.Delegate.script c.args.cache.now.cx) c.args.cache.now.nodes c.result_node.new.cache.nodes (c.pop-entry.result.entry, c.pop-entry.result.run) c.pop-entry.new.self c.args.outcome c.in_ok-node.node
             (subst (λ l. AreJustified (verdicts g.D.Cx.Cx) c.args.cache.now.nodes (runs_of l)) c.pop-entry.ensures c.requires.right.justified)
             (rebases (verdicts g.D.Cx.Cx) c.args.cache.now.nodes c.result_node.new.cache.nodes c.pop-entry.result.entry c.pop-entry.result.run c.pop-entry.new.self (subst (λ l. AreJustified (verdicts g.D.Cx.Cx) c.args.cache.now.nodes (runs_of l)) c.pop-entry.ensures c.requires.right.justified) c.args.outcome c.in_ok-node.node c.in_ok-node.ensures.has_node)
@@ -201,14 +201,14 @@ returns-in_err-store_answer-clause-changes g c =
     subst (λ l. ChangesNewest g.D.Cx.Input.PartialEq.eq (fates_of l) c.args.cache.now.results c.store_answer.new.cache.results) (sym c.pop-entry.ensures)
     (newest_changes g.D.Cx.Input.PartialEq.eq (record { goal = c.pop-entry.result.entry.input; depth = c.pop-entry.result.entry.available_depth.0; fate = c.pop-entry.result.run.fate }) (fates_of c.pop-entry.new.self) c.args.cache.now.results c.store_answer.new.cache.results
     (subst (λ before. ChangesNewest g.D.Cx.Input.PartialEq.eq (record { goal = c.pop-entry.result.entry.input; depth = c.pop-entry.result.entry.available_depth.0; fate = c.pop-entry.result.run.fate } ∷ []) before c.store_answer.new.cache.results) c.in_ok-node.ensures.same_results
-    (subst (λ i. ChangesNewest g.D.Cx.Input.PartialEq.eq (record { goal = i; depth = c.pop-entry.result.entry.available_depth.0; fate = c.pop-entry.result.run.fate } ∷ []) c.result_node.new.cache.results c.store_answer.new.cache.results) c.input-input.ensures (c.store_answer.ensures.changes c.pop-entry.result.entry.available_depth.0))))
+    (subst (λ i. ChangesNewest g.D.Cx.Input.PartialEq.eq (record { goal = i; depth = c.pop-entry.result.entry.available_depth.0; fate = c.pop-entry.result.run.fate } ∷ []) c.result_node.new.cache.results c.store_answer.new.cache.results) c.input-input.ensures (c.store_answer.ensures.puts.changes c.pop-entry.result.entry.available_depth.0))))
 
 pub returns-clause-changes : goal.returns-clause-changes
 returns-clause-changes g c =
     subst (λ l. ChangesNewest g.D.Cx.Input.PartialEq.eq (fates_of l) c.args.cache.now.results c.store_answer.new.cache.results) (sym c.pop-entry.ensures)
     (newest_changes g.D.Cx.Input.PartialEq.eq (record { goal = c.pop-entry.result.entry.input; depth = c.pop-entry.result.entry.available_depth.0; fate = c.pop-entry.result.run.fate }) (fates_of c.pop-entry.new.self) c.args.cache.now.results c.store_answer.new.cache.results
     (subst (λ before. ChangesNewest g.D.Cx.Input.PartialEq.eq (record { goal = c.pop-entry.result.entry.input; depth = c.pop-entry.result.entry.available_depth.0; fate = c.pop-entry.result.run.fate } ∷ []) before c.store_answer.new.cache.results) c.in_ok-node.ensures.same_results
-    (subst (λ i. ChangesNewest g.D.Cx.Input.PartialEq.eq (record { goal = i; depth = c.pop-entry.result.entry.available_depth.0; fate = c.pop-entry.result.run.fate } ∷ []) c.result_node.new.cache.results c.store_answer.new.cache.results) c.input-input.ensures (c.store_answer.ensures.changes c.pop-entry.result.entry.available_depth.0))))
+    (subst (λ i. ChangesNewest g.D.Cx.Input.PartialEq.eq (record { goal = i; depth = c.pop-entry.result.entry.available_depth.0; fate = c.pop-entry.result.run.fate } ∷ []) c.result_node.new.cache.results c.store_answer.new.cache.results) c.input-input.ensures (c.store_answer.ensures.puts.changes c.pop-entry.result.entry.available_depth.0))))
 
 pub returns-in_err-node-clause-changes : goal.returns-in_err-node-clause-changes
 returns-in_err-node-clause-changes g c = Untouched c.result_node.ensures.same_results

@@ -2,7 +2,7 @@ use Rattle.search_rules.proofs.rebasing.Lists.{headless}
 use Rattle.std.proofs.Common.{◌∷◌, [], ◌∙◌, sym, subst}
 use Rattle.search_moves.specs.Below.{ChangesNewest, IfCompared, entry_of, IsPlainAt, IsPlainValue, Memory}
 use Rattle.search_context.proofs.Ranks.{one_plain_value}
-use Rattle.search_moves.proofs.Storing.{equal_results, stores_entry, stores_none}
+use Rattle.search_moves.proofs.Storing.{equal_results, puts_nothing, stores_entry, stores_none}
 use Rattle.search_moves.specs.Words.{Stores}
 use Rattle.provisional_cache.specs.Provisional.{AppendsEntry}
 use Rattle.search_rules.proofs.Fates.{storing_changes}
@@ -12,10 +12,20 @@ use Rattle.search_moves.proofs.evaluation.Evaluation.store_answer.Goals as goal
 pub store_for_good-requires-clause-no_heads : goal.store_for_good-requires-clause-no_heads
 store_for_good-requires-clause-no_heads g c = headless c.args.answer c.opt_highest_cycle_head_index.result c.opt_highest_cycle_head_index.ensures c.in_default.is
 
-pub returns-in-Stored-clause-changes : goal.returns-in-Stored-clause-changes
-returns-in-Stored-clause-changes g c = λ depth.
-    subst (λ f. ChangesNewest g.D.Cx.Input.PartialEq.eq (record { goal = c.args.input; depth = depth; fate = f } ∷ []) c.args.cache.now.results c.store_for_good.new.cache.results) (sym c.in-Stored.is)
-    (storing_changes g.D.Cx.Input.PartialEq.eq c.args.cache.now.results c.store_for_good.new.cache.results c.args.input depth c.args.answer c.store_for_good.ensures.stored)
+pub returns-in-Stored-clause-puts : goal.returns-in-Stored-clause-puts
+returns-in-Stored-clause-puts g c = record {
+  cache = c.store_for_good.ensures.cache;
+  stored = c.store_for_good.ensures.stored;
+  changes = λ depth.
+      subst (λ f. ChangesNewest g.D.Cx.Input.PartialEq.eq (record { goal = c.args.input; depth = depth; fate = f } ∷ []) c.args.cache.now.results c.store_for_good.new.cache.results) (sym c.in-Stored.is)
+      (storing_changes g.D.Cx.Input.PartialEq.eq c.args.cache.now.results c.store_for_good.new.cache.results c.args.input depth c.args.answer c.store_for_good.ensures.stored);
+}
+
+pub returns-in-NotStored-clause-puts : goal.returns-in-NotStored-clause-puts
+returns-in-NotStored-clause-puts g c = puts_nothing g.D.Cx.Input.PartialEq.eq c.args.input c.args.answer c.args.fate c.args.cache.now
+
+pub returns-in-Compared-clause-puts : goal.returns-in-Compared-clause-puts
+returns-in-Compared-clause-puts g c = puts_nothing g.D.Cx.Input.PartialEq.eq c.args.input c.args.answer c.args.fate c.args.cache.now
 
 pub compare-requires-clause-no_heads : goal.compare-requires-clause-no_heads
 compare-requires-clause-no_heads g c = headless c.args.answer c.opt_highest_cycle_head_index.result c.opt_highest_cycle_head_index.ensures c.in_default.is

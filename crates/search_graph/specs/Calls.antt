@@ -1,0 +1,33 @@
+-- What a move, and the whole of an evaluation, comes to in whatever call it is made.
+use Rattle.std.specs.Prelude.{◌≡◌, ℕ, Bool, false, Result, IfOk, IfErr}
+use Rattle.search_graph.specs.Below.{Awaits, Begins, Cache, Call, CxOf, DelegateOf, EndsWith, Fault, KeepsFinished, KeepsNodes, KeepsResults, LeadsTo, Next, Place, Received, Store, stored_at, StopsWith, work_left}
+use Rattle.open_goals.specs.declared.goals.Fate.{Fate}
+use Rattle.open_goals.specs.declared.goals.Fate.TheVariants as becomes
+use Rattle.search_context.specs.declared.context.Answer.{Answer}
+use Rattle.search_moves.specs.declared.evaluation.Evaluation.{Evaluation}
+
+-- What a call keeps of the cache: the context, stored results or equal ones, finished nodes, and each node's goal.
+pub record KeepsAll {C I R A T : Type 0} (same : I → I → Bool) (old new : Cache C I R A T) : Type 0 where
+  pub context : new.cx ≡ old.cx
+  pub results : KeepsResults same old.results new.results
+  pub finished : KeepsFinished old.nodes new.nodes
+  pub nodes : KeepsNodes old.nodes new.nodes
+
+-- With a builder that records no result is stored; and none is of the goal itself, if that is its fate.
+pub record Spares {I S R : Type 0} (same : I → I → Bool) (noop : Bool) (fate : Fate R) (goal : I) (old new : Store I S) : Type 0 where
+  pub recorded : noop ≡ false → new ≡ old
+  pub spared : fate ≡ becomes.NotStored → (place : Place) → stored_at same new goal place ≡ stored_at same old goal place
+
+module _ {D C V P F I R A T : Type 0} (G : DelegateOf D C V P F I R A T) (X : CxOf C I R A T) (same : I → I → Bool) (cx : C) where
+  -- where the newest goal awaited the reply, what comes next leads on, or a fault stops the call
+  pub record Advances (received : Received R) (old : Cache C I R A T) (before : Evaluation D C V P F I R A T) (from : ℕ) (result : Result (Next R) (Fault I R)) (new : Cache C I R A T) (after : Evaluation D C V P F I R A T) (to : ℕ) : Type 0 where
+    pub leads : (call : Call I) → Awaits G X same cx call received old before from
+        → IfOk result (λ next. LeadsTo G X same cx call (work_left G X cx before.goals) before.goals next new after to)
+    pub stops : (call : Call I) → Awaits G X same cx call received old before from → IfErr result (λ fault. StopsWith G X same cx call fault new after to)
+
+  -- where the call began, an answer ended it, which is stored where this holds, or a fault stopped it
+  pub record Evaluates (is_stored : Type 0) (goal : I) (old : Cache C I R A T) (before : Evaluation D C V P F I R A T) (from : ℕ) (result : Result (Answer R) (Fault I R)) (new : Cache C I R A T) (after : Evaluation D C V P F I R A T) (to : ℕ) : Type 0 where
+    pub ended : (call : Call I) → Begins G X cx same call goal before.root_depth.0 from before.limits_met old.results
+        → IfOk result (λ answer. EndsWith G X same cx is_stored call answer new after to)
+    pub stopped : (call : Call I) → Begins G X cx same call goal before.root_depth.0 from before.limits_met old.results
+        → IfErr result (λ fault. StopsWith G X same cx call fault new after to)
