@@ -2,7 +2,7 @@
 pub use Rattle.cycle_heads.specs.declared.path.PathKind.{PathKind}
 pub use Rattle.search_context.specs.Delegate.{CanTake, Steps}
 pub use Rattle.search_context.specs.Rank.{HasNoRank, IsRanked}
-pub use Rattle.search_context.specs.Run.{IsFitting, request_after}
+pub use Rattle.search_context.specs.Run.{Fits, IsFitting, request_after}
 pub use Rattle.search_context.specs.Verdicts.{verdict_of, verdicts, Verdicts}
 pub use Rattle.search_context.specs.declared.context.Reply.{Reply}
 pub use Rattle.search_context.specs.declared.context.Reply.TheVariants.{Begin, Noted}

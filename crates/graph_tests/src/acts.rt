@@ -4,6 +4,7 @@ use crate::answers::{Table, TableDelegate};
 use crate::journal::{Event, Journal};
 use crate::put::put_neither;
 use crate::validating::{Validating, Watched};
+use crate::watch::Watch;
 use delegate_parts::{Builder, Outcome};
 use rule_tables::{Goal, Rules};
 use search_graph::graph::SearchGraph;
@@ -12,7 +13,6 @@ use search_parts::global_cache::GlobalCache;
 use search_parts::parts::{CycleHeads, EvaluationResult, NestedGoals};
 use search_parts::path::PathKind;
 use std::alloc::Global;
-use std::cell::Cell;
 use std::io::Write;
 use std::test::Fail;
 
@@ -56,40 +56,30 @@ pub fn tell(alloc: Global, rules: &str, validated: &[&str], acts: &[Act]) -> Res
     for name in validated {
         goals.push(goal_of(rules, name)?)?;
     }
-    let search = Search {
-        rules,
-        journal: &Journal::new(),
-        refused: &Cell::new(None),
-    };
+    let watch = &Watch::new(alloc, goals);
     let cx = Watched {
         cx: Table { lender: rules },
-        validated: goals.as_slice(),
-        journal: search.journal,
-        refused: search.refused,
+        watch,
     };
-    tell_with::<Watched<'_, Table<&Rules>>, Validating<'_, TableDelegate<'_, 8, 1>>>(
-        alloc, cx, search, acts,
-    )
+    let search = Search { rules, watch };
+    tell_with::<
+        Watched<&Watch<Goal, Outcome>, Table<&Rules>>,
+        Validating<&Watch<Goal, Outcome>, TableDelegate<'_, 8, 1>>,
+    >(alloc, cx, search, acts)
 }
 
 /// What a search goes over, and what is seen of it.
 #[derive(Clone, Copy)]
 struct Search<'a> {
     rules: &'a Rules,
-    journal: &'a Journal<Goal, Outcome>,
-    refused: &'a Cell<Option<Goal>>,
+    watch: &'a Watch<Goal, Outcome>,
 }
 
 fn goal_of(rules: &Rules, name: &str) -> Result<Goal, Fail> {
     Ok(rules.goal(name.as_bytes()).ok_or("no goal")?)
 }
 
-fn tell_with<X, D>(
-    alloc: Global,
-    cx: X,
-    search: Search<'_>,
-    acts: &[Act],
-) -> Result<Vec<u8>, Fail>
+fn tell_with<X, D>(alloc: Global, cx: X, search: Search<'_>, acts: &[Act]) -> Result<Vec<u8>, Fail>
 where
     X: Cx<Input = Goal, Result = Outcome>,
     D: Delegate<Cx = X, ProofTreeBuilder = Builder>,
@@ -97,7 +87,7 @@ where
     let mut cache = GlobalCache::<D>::new(alloc, cx);
     let mut told = Vec::new(alloc);
     for act in acts {
-        search.journal.clear();
+        search.watch.journal.clear();
         told.clear();
         carry_out::<X, D>(alloc, &mut cache, search, *act, &mut told)?;
     }
@@ -127,7 +117,7 @@ where
             put::<X, D>(alloc, cache, goal, outcome, Some(depth))
         }
         Act::Refuse(name) => {
-            search.refused.set(Some(goal_of(search.rules, name)?));
+            search.watch.refused.set(Some(goal_of(search.rules, name)?));
             Ok(())
         }
         Act::Ask(way, depth, name) => {
@@ -183,9 +173,7 @@ where
     D: Delegate<Cx = X, ProofTreeBuilder = Builder>,
 {
     if matches!(way, Way::Tree | Way::RecordedTree) {
-        return Ok(SearchGraph::<D>::evaluate_root_goal_for_proof_tree(
-            cache, depth, goal, builder,
-        ));
+        return Ok(SearchGraph::<D>::evaluate_root_goal_for_proof_tree(cache, depth, goal, builder));
     }
     let mut graph = SearchGraph::<D>::new(alloc, depth);
     let answer = graph.evaluate_goal(cache, goal, PathKind::Inductive, builder);
@@ -205,11 +193,13 @@ fn tell_answer(
             let outcome = answer.result;
             write!(told, "{outcome}")?;
         }
-        Err(Fault::Validation {
-            input,
-            stored,
-            found,
-        }) => {
+        Err(
+            Fault::Validation {
+                input,
+                stored,
+                found,
+            },
+        ) => {
             tell_name(search, input, told)?;
             write!(told, " is {found} and not {stored}")?;
         }
@@ -225,9 +215,9 @@ fn tell_name(search: Search<'_>, goal: Goal, told: &mut Vec<u8>) -> Result<(), F
 
 /// What happened to the goals.
 fn tell_journal(search: Search<'_>, told: &mut Vec<u8>) -> Result<(), Fail> {
-    let lines = search.journal.lines();
-    for place in 0..lines.count() {
-        let (goal, event) = lines.get(place).ok_or("lost lines")?;
+    let journal = &search.watch.journal;
+    for place in 0..journal.count() {
+        let (goal, event) = journal.get(place).ok_or("no line")?;
         write!(told, " ")?;
         match event {
             Event::ScopeIsEntered => {
@@ -257,18 +247,17 @@ fn tell_journal(search: Search<'_>, told: &mut Vec<u8>) -> Result<(), Fail> {
 
 /// How many scopes were entered, and how many were dropped.
 fn tell_scopes(search: Search<'_>, told: &mut Vec<u8>) -> Result<(), Fail> {
-    let entered = count(search.journal, Event::ScopeIsEntered)?;
-    let dropped = count(search.journal, Event::ScopeIsDropped)?;
+    let entered = count(&search.watch.journal, Event::ScopeIsEntered)?;
+    let dropped = count(&search.watch.journal, Event::ScopeIsDropped)?;
     write!(told, " with {entered} scopes, {dropped} dropped")?;
     Ok(())
 }
 
 /// How often this happened.
 pub fn count<I: Copy>(journal: &Journal<I, Outcome>, event: Event<Outcome>) -> Result<usize, Fail> {
-    let lines = journal.lines();
     let mut count = 0usize;
-    for place in 0..lines.count() {
-        let (_, happened) = lines.get(place).ok_or("lost lines")?;
+    for place in 0..journal.count() {
+        let (_, happened) = journal.get(place).ok_or("no line")?;
         if happened == event {
             count = count.saturating_add(1);
         }
@@ -277,11 +266,7 @@ pub fn count<I: Copy>(journal: &Journal<I, Outcome>, event: Event<Outcome>) -> R
 }
 
 /// What is stored of the goals: successes with the depths that they require, and the results that met overflow.
-fn tell_stored<X, D>(
-    cache: &GlobalCache<D>,
-    rules: &Rules,
-    told: &mut Vec<u8>,
-) -> Result<(), Fail>
+fn tell_stored<X, D>(cache: &GlobalCache<D>, rules: &Rules, told: &mut Vec<u8>) -> Result<(), Fail>
 where
     X: Cx<Input = Goal, Result = Outcome>,
     D: Delegate<Cx = X, ProofTreeBuilder = Builder>,

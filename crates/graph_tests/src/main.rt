@@ -33,6 +33,8 @@ mod runs;
 mod validating;
 #[cfg(test)]
 mod validation;
+#[cfg(test)]
+mod watch;
 
 use runs::is_answered;
 use std::io;

@@ -44,7 +44,8 @@ pub fn put_neither<D: Delegate>(
     let Some(back) = first_asked::<D>(cx, other, inspect)? else {
         return Err("a goal that may have a rank")?;
     };
-    if back != goal {
+    let is_same = back == goal;
+    if !is_same {
         return Err("a goal that may have a rank")?;
     }
     if cx.sort(evaluation_result.result) != Verdict::Neither {

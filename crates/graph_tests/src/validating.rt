@@ -1,31 +1,19 @@
 //! A delegate that has the stored results of some goals validated, and keeps a journal of that.
-ghost use Rattle.std.specs.Prelude.{◌≡◌};
 
-use crate::journal::{Event, Journal, NotesItsDrop};
+use crate::journal::Event;
+use crate::watch::{NotesItsDrop, Watches};
 use search_parts::context::{Cx, Delegate, NoMemory, Reply, Request, Verdict};
 use search_parts::path::PathKind;
-use std::cell::Cell;
 use std::marker::PhantomData;
 
-/// A context with the goals whose stored results are validated. Goals mean what they mean in the context within.
-pub struct Watched<'a, X: Cx> {
+/// A context beside what watches a search. Goals mean what they mean in the context.
+#[derive(Clone, Copy)]
+pub struct Watched<W, X> {
     pub cx: X,
-    /// The goals for which a scope is given.
-    pub validated: &'a [X::Input],
-    pub journal: &'a Journal<X::Input, X::Result>,
-    /// The goal whose frames are refused memory, if any are.
-    pub refused: &'a Cell<Option<X::Input>>,
+    pub watch: W,
 }
 
-impl<'a, X: Cx> Clone for Watched<'a, X> {
-    fn clone(&self) -> Result<Watched<'a, X>, std::alloc::AllocError> {
-        Ok(*self)
-    }
-}
-
-impl<'a, X: Cx> Copy for Watched<'a, X> {}
-
-impl<'a, X: Cx> Cx for Watched<'a, X> {
+impl<W: Copy, X: Cx> Cx for Watched<W, X> {
     type Input = X::Input;
 
     type Result = X::Result;
@@ -67,33 +55,30 @@ impl<'a, X: Cx> Cx for Watched<'a, X> {
 
 /// A frame of `D`.
 #[derive(Drop)]
-pub struct WatchedFrame<'a, D: Delegate> {
+pub struct WatchedFrame<W: Watches<<D::Cx as Cx>::Input, <D::Cx as Cx>::Result>, D: Delegate> {
     frame: D::Frame,
-    drop: NotesItsDrop<'a, <D::Cx as Cx>::Input, <D::Cx as Cx>::Result>,
+    end: NotesItsDrop<W, <D::Cx as Cx>::Input, <D::Cx as Cx>::Result>,
 }
 
-/// The delegate `D`, with a scope for each goal of which the context says so.
-pub struct Validating<'a, D> {
+/// The delegate `D`, with a scope for each goal for which what watches the search gives one.
+pub struct Validating<W, D> {
+    watch: PhantomData<W>,
     delegate: PhantomData<D>,
-    watched: PhantomData<&'a ()>,
 }
 
-impl<'a, D: Delegate> Delegate for Validating<'a, D>
-where
-    <D::Cx as Cx>::Input: 'a,
-    <D::Cx as Cx>::Result: 'a,
-{
-    ghost use Rattle.std.specs.Prelude.{◌<◌, IfOk, OnOk};
-    ghost use Rattle.std.specs.List.{list_any};
+impl<W: Watches<<D::Cx as Cx>::Input, <D::Cx as Cx>::Result>, D: Delegate> Delegate
+    for Validating<W, D> {
+    ghost use Rattle.std.specs.Prelude.{◌≡◌, ◌<◌, IfOk, OnOk};
     ghost use Rattle.graph_tests.specs.Below.{CanTake, Steps};
+    ghost use Rattle.graph_tests.specs.declared.validating.Watched.{Watched};
 
-    type Cx = Watched<'a, D::Cx>;
+    type Cx = Watched<W, D::Cx>;
 
-    type ValidationScope = NotesItsDrop<'a, <D::Cx as Cx>::Input, <D::Cx as Cx>::Result>;
+    type ValidationScope = NotesItsDrop<W, <D::Cx as Cx>::Input, <D::Cx as Cx>::Result>;
 
     type ProofTreeBuilder = D::ProofTreeBuilder;
 
-    type Frame = WatchedFrame<'a, D>;
+    type Frame = WatchedFrame<W, D>;
 
     const ENABLE_PROVISIONAL_CACHE: bool = D::ENABLE_PROVISIONAL_CACHE;
 
@@ -135,7 +120,7 @@ where
 
     ghost noop = { D.noop };
 
-    ghost scoped = { λ watched goal. list_any (λ one. D.Cx.Input.eq one goal) watched.validated.now };
+    ghost scoped = { λ watched. W.validates watched.watch };
 
     ghost yes_is_proved = { λ watched. D.yes_is_proved watched.cx };
 
@@ -156,15 +141,15 @@ where
     ghost divides = { D.divides };
 
     fn enter_validation_scope(
-        watched: Watched<'a, D::Cx>,
+        watched: Watched<W, D::Cx>,
         input: <D::Cx as Cx>::Input,
-    ) -> Option<NotesItsDrop<'a, <D::Cx as Cx>::Input, <D::Cx as Cx>::Result>> {
-        if !watched.validated.contains(&input) {
+    ) -> Option<NotesItsDrop<W, <D::Cx as Cx>::Input, <D::Cx as Cx>::Result>> {
+        if !watched.watch.is_validated(input) {
             return None;
         }
-        watched.journal.note(input, Event::ScopeIsEntered);
+        watched.watch.note(input, Event::ScopeIsEntered);
         Some(NotesItsDrop {
-            journal: watched.journal,
+            watch: watched.watch,
             goal: input,
             event: Event::ScopeIsDropped,
         })
@@ -175,7 +160,7 @@ where
     }
 
     fn initial_provisional_result(
-        watched: Watched<'a, D::Cx>,
+        watched: Watched<W, D::Cx>,
         kind: PathKind,
         input: <D::Cx as Cx>::Input,
     ) -> <D::Cx as Cx>::Result {
@@ -187,14 +172,14 @@ where
     }
 
     fn stack_overflow_result(
-        watched: Watched<'a, D::Cx>,
+        watched: Watched<W, D::Cx>,
         input: <D::Cx as Cx>::Input,
     ) -> <D::Cx as Cx>::Result {
         D::stack_overflow_result(watched.cx, input)
     }
 
     fn fixpoint_overflow_result(
-        watched: Watched<'a, D::Cx>,
+        watched: Watched<W, D::Cx>,
         input: <D::Cx as Cx>::Input,
     ) -> <D::Cx as Cx>::Result {
         D::fixpoint_overflow_result(watched.cx, input)
@@ -205,7 +190,7 @@ where
     }
 
     fn propagate_ambiguity(
-        watched: Watched<'a, D::Cx>,
+        watched: Watched<W, D::Cx>,
         for_input: <D::Cx as Cx>::Input,
         ambiguity_info: <D::Cx as Cx>::AmbiguityInfo,
     ) -> <D::Cx as Cx>::Result {
@@ -213,32 +198,46 @@ where
     }
 
     fn start(
-        watched: Watched<'a, D::Cx>,
+        watched: Watched<W, D::Cx>,
         input: <D::Cx as Cx>::Input,
         inspect: &mut D::ProofTreeBuilder,
-    ) -> Result<WatchedFrame<'a, D>, NoMemory> {
-        if watched.refused.get() == Some(input) {
+    ) -> Result<WatchedFrame<W, D>, NoMemory> {
+        if watched.watch.is_refused(input) {
             return Err(NoMemory);
         }
         let frame = D::start(watched.cx, input, inspect)?;
-        watched.journal.note(input, Event::FrameStarts);
-        let drop = NotesItsDrop {
-            journal: watched.journal,
+        watched.watch.note(input, Event::FrameStarts);
+        let end = NotesItsDrop {
+            watch: watched.watch,
             goal: input,
             event: Event::FrameIsDropped,
         };
-        Ok(WatchedFrame { frame, drop })
+        Ok(WatchedFrame { frame, end })
     }
 
     fn step(
-        watched: &mut WatchedFrame<'a, D>,
+        watched: &mut WatchedFrame<W, D>,
         reply: Reply<<D::Cx as Cx>::Result>,
         inspect: &mut D::ProofTreeBuilder,
-    ) -> Result<Request<<D::Cx as Cx>::Input, <D::Cx as Cx>::Result>, NoMemory> {
-        if let Reply::Answer(outcome) = reply {
-            let NotesItsDrop { journal, goal, .. } = &watched.drop;
-            journal.note(*goal, Event::IsAnswered(outcome));
-        }
+    ) -> Result<Request<<D::Cx as Cx>::Input, <D::Cx as Cx>::Result>, NoMemory>
+        requires { CanTake (λ frame (within : Watched W D.Cx). D.stands frame.frame within.cx)
+            (λ (within : Watched W D.Cx). D.script within.cx) watched.old reply }
+        ensures request { IfOk result (λ request.
+            Steps (λ frame (within : Watched W D.Cx). D.stands frame.frame within.cx)
+            (λ (within : Watched W D.Cx). D.script within.cx) watched.old reply request
+            watched.new) }
+        ensures falls { OnOk result (D.left watched.new.frame < D.left watched.old.frame) }
+        ensures same_starts { D.starts inspect.new ≡ D.starts inspect.old }
+        ensures same_noop { D.noop inspect.new ≡ D.noop inspect.old }
+    {
+        note_reply(watched.end.watch, watched.end.goal, reply);
         D::step(&mut watched.frame, reply, inspect)
+    }
+}
+
+/// Writes a line if the goal's frame is answered.
+fn note_reply<W: Watches<I, R>, I: Copy, R: Copy>(watch: W, goal: I, reply: Reply<R>) {
+    if let Reply::Answer(outcome) = reply {
+        watch.note(goal, Event::IsAnswered(outcome));
     }
 }
