@@ -8,6 +8,8 @@
 //! small tables of rules.
 #![tactic(auto)]
 
+#[cfg(test)]
+mod acts;
 mod answers;
 #[cfg(test)]
 mod dense;
@@ -17,12 +19,22 @@ mod drawn;
 #[cfg(test)]
 mod flaws;
 #[cfg(test)]
+mod journal;
+#[cfg(test)]
 mod plain_graph;
 #[cfg(test)]
 mod proof_trees;
 #[cfg(test)]
+mod put;
+#[cfg(test)]
 mod requests;
 mod runs;
+#[cfg(test)]
+mod validating;
+#[cfg(test)]
+mod validation;
+#[cfg(test)]
+mod watch;
 
 use runs::is_answered;
 use std::io;

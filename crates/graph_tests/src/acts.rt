@@ -1,0 +1,289 @@
+//! What is done with a cache over a table of rules, where stored results of some goals are validated, and what comes of it.
+
+use crate::answers::{Table, TableDelegate};
+use crate::journal::{Event, Journal};
+use crate::put::put_neither;
+use crate::validating::{Validating, Watched};
+use crate::watch::Watch;
+use delegate_parts::{Builder, Outcome};
+use rule_tables::{Goal, Rules};
+use search_graph::graph::SearchGraph;
+use search_parts::context::{Answer, Cx, Delegate, Fault};
+use search_parts::global_cache::GlobalCache;
+use search_parts::parts::{CycleHeads, EvaluationResult, NestedGoals};
+use search_parts::path::PathKind;
+use std::alloc::Global;
+use std::io::Write;
+use std::test::Fail;
+
+/// What is done with a cache.
+#[derive(Clone, Copy)]
+pub enum Act {
+    /// This result of the goal, which is neither yes nor no, is stored as its success.
+    Success(&'static str, Outcome),
+    /// The same as one that met overflow and required this depth.
+    Overflow(&'static str, Outcome, usize),
+    /// From now on the goal's frames are refused memory.
+    Refuse(&'static str),
+    /// The goal is asked at this depth.
+    Ask(Way, usize, &'static str),
+}
+
+/// How a goal is asked.
+#[derive(Clone, Copy)]
+pub enum Way {
+    /// With a builder that is a no-op.
+    Question,
+    /// With a builder that records.
+    Recorded,
+    /// For a proof tree, with a builder that is a no-op.
+    Tree,
+    /// For a proof tree, with a builder that records.
+    RecordedTree,
+}
+
+/// What the last of these acts comes to over the rules, where stored results of some goals are validated: the result, how
+/// many frames were started, what happened to the goals meanwhile, and what is stored of A, B and C then. Of A
+///
+/// - `[A` says that a scope is entered, and `A]` that it is dropped,
+/// - `(A` says that a frame starts, and `A)` that it is dropped,
+/// - `A=yes` says that the frame is answered yes, and goes on.
+///
+/// After a fault it is only told how many scopes were entered and dropped, whatever the order.
+pub fn tell(alloc: Global, rules: &str, validated: &[&str], acts: &[Act]) -> Result<Vec<u8>, Fail> {
+    let rules = &Rules::read(alloc, rules.as_bytes())?;
+    let mut goals = Vec::new(alloc);
+    for name in validated {
+        goals.push(goal_of(rules, name)?)?;
+    }
+    let watch = &Watch::new(alloc, goals);
+    let cx = Watched {
+        cx: Table { lender: rules },
+        watch,
+    };
+    let search = Search { rules, watch };
+    tell_with::<
+        Watched<&Watch<Goal, Outcome>, Table<&Rules>>,
+        Validating<&Watch<Goal, Outcome>, TableDelegate<'_, 8, 1>>,
+    >(alloc, cx, search, acts)
+}
+
+/// What a search goes over, and what is seen of it.
+#[derive(Clone, Copy)]
+struct Search<'a> {
+    rules: &'a Rules,
+    watch: &'a Watch<Goal, Outcome>,
+}
+
+fn goal_of(rules: &Rules, name: &str) -> Result<Goal, Fail> {
+    Ok(rules.goal(name.as_bytes()).ok_or("no goal")?)
+}
+
+fn tell_with<X, D>(alloc: Global, cx: X, search: Search<'_>, acts: &[Act]) -> Result<Vec<u8>, Fail>
+where
+    X: Cx<Input = Goal, Result = Outcome>,
+    D: Delegate<Cx = X, ProofTreeBuilder = Builder>,
+{
+    let mut cache = GlobalCache::<D>::new(alloc, cx);
+    let mut told = Vec::new(alloc);
+    for act in acts {
+        search.watch.journal.clear();
+        told.clear();
+        carry_out::<X, D>(alloc, &mut cache, search, *act, &mut told)?;
+    }
+    tell_stored::<X, D>(&cache, search.rules, &mut told)?;
+    Ok(told)
+}
+
+/// Does this with the cache. Where a goal is asked, what comes of it is told.
+fn carry_out<X, D>(
+    alloc: Global,
+    cache: &mut GlobalCache<D>,
+    search: Search<'_>,
+    act: Act,
+    told: &mut Vec<u8>,
+) -> Result<(), Fail>
+where
+    X: Cx<Input = Goal, Result = Outcome>,
+    D: Delegate<Cx = X, ProofTreeBuilder = Builder>,
+{
+    match act {
+        Act::Success(name, outcome) => {
+            let goal = goal_of(search.rules, name)?;
+            put::<X, D>(alloc, cache, goal, outcome, None)
+        }
+        Act::Overflow(name, outcome, depth) => {
+            let goal = goal_of(search.rules, name)?;
+            put::<X, D>(alloc, cache, goal, outcome, Some(depth))
+        }
+        Act::Refuse(name) => {
+            search.watch.refused.set(Some(goal_of(search.rules, name)?));
+            Ok(())
+        }
+        Act::Ask(way, depth, name) => {
+            let goal = goal_of(search.rules, name)?;
+            let mut builder = Builder::new(matches!(way, Way::Question | Way::Tree));
+            let answer = ask::<X, D>(alloc, cache, way, depth, goal, &mut builder)?;
+            tell_answer(search, answer, told)?;
+            let started = builder.started();
+            write!(told, " after {started}")?;
+            if answer.is_err() {
+                return tell_scopes(search, told);
+            }
+            tell_journal(search, told)
+        }
+    }
+}
+
+/// Stores this outcome of the goal, as one that met overflow if there is a depth.
+pub fn put<X, D>(
+    alloc: Global,
+    cache: &mut GlobalCache<D>,
+    goal: X::Input,
+    outcome: Outcome,
+    overflow: Option<usize>,
+) -> Result<(), Fail>
+where
+    X: Cx<Result = Outcome>,
+    D: Delegate<Cx = X, ProofTreeBuilder = Builder>,
+{
+    let evaluation_result = EvaluationResult {
+        encountered_overflow: overflow.is_some(),
+        required_depth: overflow.unwrap_or(0),
+        heads: CycleHeads::new(alloc),
+        nested_goals: NestedGoals::new(alloc),
+        result: outcome,
+        node: None,
+    };
+    let mut builder = Builder::new(true);
+    put_neither::<D>(cache, goal, evaluation_result, &mut builder)
+}
+
+/// What the goal comes to. On a graph of its own nothing may be left of it.
+pub fn ask<X, D>(
+    alloc: Global,
+    cache: &mut GlobalCache<D>,
+    way: Way,
+    depth: usize,
+    goal: X::Input,
+    builder: &mut Builder,
+) -> Result<Result<Answer<Outcome>, Fault<X::Input, Outcome>>, Fail>
+where
+    X: Cx<Result = Outcome>,
+    D: Delegate<Cx = X, ProofTreeBuilder = Builder>,
+{
+    if matches!(way, Way::Tree | Way::RecordedTree) {
+        return Ok(SearchGraph::<D>::evaluate_root_goal_for_proof_tree(cache, depth, goal, builder));
+    }
+    let mut graph = SearchGraph::<D>::new(alloc, depth);
+    let answer = graph.evaluate_goal(cache, goal, PathKind::Inductive, builder);
+    if !graph.is_empty() || graph.debug_current_depth() > 0 {
+        return Err("goals are left under evaluation")?;
+    }
+    Ok(answer)
+}
+
+fn tell_answer(
+    search: Search<'_>,
+    answer: Result<Answer<Outcome>, Fault<Goal, Outcome>>,
+    told: &mut Vec<u8>,
+) -> Result<(), Fail> {
+    match answer {
+        Ok(answer) => {
+            let outcome = answer.result;
+            write!(told, "{outcome}")?;
+        }
+        Err(
+            Fault::Validation {
+                input,
+                stored,
+                found,
+            },
+        ) => {
+            tell_name(search, input, told)?;
+            write!(told, " is {found} and not {stored}")?;
+        }
+        Err(fault) => write!(told, "{fault}")?,
+    }
+    Ok(())
+}
+
+fn tell_name(search: Search<'_>, goal: Goal, told: &mut Vec<u8>) -> Result<(), Fail> {
+    told.write_all(search.rules.name(goal).ok_or("no name")?)?;
+    Ok(())
+}
+
+/// What happened to the goals.
+fn tell_journal(search: Search<'_>, told: &mut Vec<u8>) -> Result<(), Fail> {
+    let journal = &search.watch.journal;
+    for place in 0..journal.count() {
+        let (goal, event) = journal.get(place).ok_or("no line")?;
+        write!(told, " ")?;
+        match event {
+            Event::ScopeIsEntered => {
+                write!(told, "[")?;
+                tell_name(search, goal, told)?;
+            }
+            Event::FrameStarts => {
+                write!(told, "(")?;
+                tell_name(search, goal, told)?;
+            }
+            Event::IsAnswered(outcome) => {
+                tell_name(search, goal, told)?;
+                write!(told, "={outcome}")?;
+            }
+            Event::FrameIsDropped => {
+                tell_name(search, goal, told)?;
+                write!(told, ")")?;
+            }
+            Event::ScopeIsDropped => {
+                tell_name(search, goal, told)?;
+                write!(told, "]")?;
+            }
+        }
+    }
+    Ok(())
+}
+
+/// How many scopes were entered, and how many were dropped.
+fn tell_scopes(search: Search<'_>, told: &mut Vec<u8>) -> Result<(), Fail> {
+    let entered = count(&search.watch.journal, Event::ScopeIsEntered)?;
+    let dropped = count(&search.watch.journal, Event::ScopeIsDropped)?;
+    write!(told, " with {entered} scopes, {dropped} dropped")?;
+    Ok(())
+}
+
+/// How often this happened.
+pub fn count<I: Copy>(journal: &Journal<I, Outcome>, event: Event<Outcome>) -> Result<usize, Fail> {
+    let mut count = 0usize;
+    for place in 0..journal.count() {
+        let (_, happened) = journal.get(place).ok_or("no line")?;
+        if happened == event {
+            count = count.saturating_add(1);
+        }
+    }
+    Ok(count)
+}
+
+/// What is stored of the goals: successes with the depths that they require, and the results that met overflow.
+fn tell_stored<X, D>(cache: &GlobalCache<D>, rules: &Rules, told: &mut Vec<u8>) -> Result<(), Fail>
+where
+    X: Cx<Input = Goal, Result = Outcome>,
+    D: Delegate<Cx = X, ProofTreeBuilder = Builder>,
+{
+    write!(told, ", stored:")?;
+    for name in ["A", "B", "C"] {
+        let Some(goal) = rules.goal(name.as_bytes()) else {
+            continue;
+        };
+        if let Some((outcome, required_depth)) = cache.success_of(goal) {
+            write!(told, " {name} {outcome} {required_depth}")?;
+        }
+        for depth in 0..=4usize {
+            if let Some(outcome) = cache.overflow_at(goal, depth) {
+                write!(told, " {name} {outcome} at {depth}")?;
+            }
+        }
+    }
+    Ok(())
+}
