@@ -21,6 +21,8 @@ mod plain_graph;
 #[cfg(test)]
 mod proof_trees;
 #[cfg(test)]
+mod recorded;
+#[cfg(test)]
 mod requests;
 mod runs;
 

@@ -133,23 +133,15 @@ impl<D: Delegate> Delegate for Recording<D> {
         D::is_initial_provisional_result(outcome)
     }
 
-    fn stack_overflow_result(
-        cx: D::Cx,
-        input: <D::Cx as Cx>::Input,
-    ) -> <D::Cx as Cx>::Result {
+    fn stack_overflow_result(cx: D::Cx, input: <D::Cx as Cx>::Input) -> <D::Cx as Cx>::Result {
         D::stack_overflow_result(cx, input)
     }
 
-    fn fixpoint_overflow_result(
-        cx: D::Cx,
-        input: <D::Cx as Cx>::Input,
-    ) -> <D::Cx as Cx>::Result {
+    fn fixpoint_overflow_result(cx: D::Cx, input: <D::Cx as Cx>::Input) -> <D::Cx as Cx>::Result {
         D::fixpoint_overflow_result(cx, input)
     }
 
-    fn is_ambiguous_result(
-        outcome: <D::Cx as Cx>::Result,
-    ) -> Option<<D::Cx as Cx>::AmbiguityInfo> {
+    fn is_ambiguous_result(outcome: <D::Cx as Cx>::Result) -> Option<<D::Cx as Cx>::AmbiguityInfo> {
         D::is_ambiguous_result(outcome)
     }
 
