@@ -27,6 +27,8 @@ mod proof_trees;
 #[cfg(test)]
 mod put;
 #[cfg(test)]
+mod recorded;
+#[cfg(test)]
 mod requests;
 mod runs;
 #[cfg(test)]

@@ -1,0 +1,9 @@
+-- What the crates below have, from one place.
+pub use Rattle.cycle_heads.specs.declared.memory.NoMemory.{NoMemory}
+pub use Rattle.cycle_heads.specs.declared.path.PathKind.{PathKind}
+pub use Rattle.search_context.specs.Delegate.{CanTake, CountsOne, Steps}
+pub use Rattle.search_context.specs.declared.context.Delegate.{Ghosts as DelegateOf}
+pub use Rattle.search_context.specs.declared.context.Reply.{Reply}
+pub use Rattle.search_context.specs.declared.context.Reply.TheVariants.{Answer}
+pub use Rattle.search_context.specs.declared.context.Request.{Request}
+pub use Rattle.search_context.specs.declared.context.Request.TheVariants.{Done, EnterCandidate, Evaluate, FinishCandidate, Ignore}

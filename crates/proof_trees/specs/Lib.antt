@@ -1,0 +1,4 @@
+pub mod Below
+pub mod Entries
+pub mod Recorder
+pub mod Text

@@ -1,0 +1,240 @@
+//! A delegate whose builder records.
+ghost use Rattle.std.specs.Prelude.{◌≡◌, ◌≤◌, ◌<◌, ◌+◌, ℕ, true, [], IfOk, OnOk, Some};
+ghost use Rattle.proof_trees.specs.Below.{CanTake, CountsOne, Steps};
+ghost use Rattle.proof_trees.specs.Entries.{entry_of_reply, entry_of_request, entry_of_run, new_record, record_after};
+ghost use Rattle.proof_trees.specs.Recorder.{and_entry, entries_of, inner_of, IsPrefix, next_of, records, with_entry};
+
+use crate::recorder::Recorder;
+use crate::run_record::RunRecord;
+use cycle_heads::memory::NoMemory;
+use cycle_heads::path::PathKind;
+use search_context::context::{Cx, Delegate, Reply, Request};
+use std::marker::PhantomData;
+
+/// The delegate `D`, with a builder that records what its frames do. The context, the scripts, the results and the limits
+/// are those of `D`, so goals come to what they come to with `D`.
+pub struct Recording<D> {
+    delegate: PhantomData<D>,
+}
+
+/// A frame, with what is remembered of its run.
+#[derive(Drop)]
+pub struct RecordedFrame<F, I, R> {
+    frame: F,
+    run: RunRecord<I, R>,
+}
+
+/// The builder of a delegate that records `D`.
+pub type RecorderOf<D> = Recorder<
+    <D as Delegate>::ProofTreeBuilder,
+    <<D as Delegate>::Cx as Cx>::Input,
+    <<D as Delegate>::Cx as Cx>::Result,
+>;
+
+/// Its frame.
+pub type RecordedFrameOf<D> = RecordedFrame<
+    <D as Delegate>::Frame,
+    <<D as Delegate>::Cx as Cx>::Input,
+    <<D as Delegate>::Cx as Cx>::Result,
+>;
+
+impl<D: Delegate> Delegate for Recording<D> {
+    ghost use Rattle.std.specs.Prelude.{◌&&◌, not};
+
+    type Cx = D::Cx;
+
+    type ValidationScope = D::ValidationScope;
+
+    type ProofTreeBuilder = RecorderOf<D>;
+
+    type Frame = RecordedFrameOf<D>;
+
+    const ENABLE_PROVISIONAL_CACHE: bool = D::ENABLE_PROVISIONAL_CACHE;
+
+    const FIXPOINT_STEP_LIMIT: usize = D::FIXPOINT_STEP_LIMIT;
+
+    const DIVIDE_AVAILABLE_DEPTH_ON_OVERFLOW: usize = D::DIVIDE_AVAILABLE_DEPTH_ON_OVERFLOW;
+
+    ghost ENABLE_PROVISIONAL_CACHE = { D.ENABLE_PROVISIONAL_CACHE };
+
+    ghost FIXPOINT_STEP_LIMIT = { D.FIXPOINT_STEP_LIMIT };
+
+    ghost DIVIDE_AVAILABLE_DEPTH_ON_OVERFLOW = { D.DIVIDE_AVAILABLE_DEPTH_ON_OVERFLOW };
+
+    ghost script = { D.script };
+
+    ghost stands = { λ recorded. D.stands recorded.frame };
+
+    ghost left = { λ recorded. D.left recorded.frame };
+
+    ghost width = { D.width };
+
+    ghost initial_result = { D.initial_result };
+
+    ghost initial_kind = { D.initial_kind };
+
+    ghost stack_overflow = { D.stack_overflow };
+
+    ghost fixpoint_overflow = { D.fixpoint_overflow };
+
+    ghost ambiguity = { D.ambiguity };
+
+    ghost propagated = { D.propagated };
+
+    ghost starts = { λ recorder. D.starts (inner_of recorder) };
+
+    ghost counts = { D.counts };
+
+    ghost last = { D.last };
+
+    ghost noop = { λ recorder. D.noop (inner_of recorder) && not (records recorder) };
+
+    ghost scoped = { D.scoped };
+
+    ghost yes_is_proved = { D.yes_is_proved };
+
+    ghost no_is_refuted = { D.no_is_refuted };
+
+    ghost initial_sort = { D.initial_sort };
+
+    ghost recognised_sort = { D.recognised_sort };
+
+    ghost stack_overflow_is_neither = { D.stack_overflow_is_neither };
+
+    ghost fixpoint_overflow_is_neither = { D.fixpoint_overflow_is_neither };
+
+    ghost ambiguous_is_neither = { D.ambiguous_is_neither };
+
+    ghost propagated_is_neither = { D.propagated_is_neither };
+
+    ghost divides = { D.divides };
+
+    fn enter_validation_scope(
+        cx: D::Cx,
+        input: <D::Cx as Cx>::Input,
+    ) -> Option<D::ValidationScope> {
+        D::enter_validation_scope(cx, input)
+    }
+
+    fn inspect_is_noop(inspect: &mut Self::ProofTreeBuilder) -> bool {
+        let is_noop = D::inspect_is_noop(&mut inspect.inner);
+        is_noop && !inspect.is_recording()
+    }
+
+    fn initial_provisional_result(
+        cx: D::Cx,
+        kind: PathKind,
+        input: <D::Cx as Cx>::Input,
+    ) -> <D::Cx as Cx>::Result {
+        D::initial_provisional_result(cx, kind, input)
+    }
+
+    fn is_initial_provisional_result(outcome: <D::Cx as Cx>::Result) -> Option<PathKind> {
+        D::is_initial_provisional_result(outcome)
+    }
+
+    fn stack_overflow_result(cx: D::Cx, input: <D::Cx as Cx>::Input) -> <D::Cx as Cx>::Result {
+        D::stack_overflow_result(cx, input)
+    }
+
+    fn fixpoint_overflow_result(cx: D::Cx, input: <D::Cx as Cx>::Input) -> <D::Cx as Cx>::Result {
+        D::fixpoint_overflow_result(cx, input)
+    }
+
+    fn is_ambiguous_result(outcome: <D::Cx as Cx>::Result) -> Option<<D::Cx as Cx>::AmbiguityInfo> {
+        D::is_ambiguous_result(outcome)
+    }
+
+    fn propagate_ambiguity(
+        cx: D::Cx,
+        for_input: <D::Cx as Cx>::Input,
+        ambiguity_info: <D::Cx as Cx>::AmbiguityInfo,
+    ) -> <D::Cx as Cx>::Result {
+        D::propagate_ambiguity(cx, for_input, ambiguity_info)
+    }
+
+    fn start(
+        cx: D::Cx,
+        input: <D::Cx as Cx>::Input,
+        inspect: &mut Self::ProofTreeBuilder,
+    ) -> Result<Self::Frame, NoMemory> {
+        start_recorded::<D>(cx, input, inspect)
+    }
+
+    fn step(
+        frame: &mut Self::Frame,
+        reply: Reply<<D::Cx as Cx>::Result>,
+        inspect: &mut Self::ProofTreeBuilder,
+    ) -> Result<Request<<D::Cx as Cx>::Input, <D::Cx as Cx>::Result>, NoMemory>
+        requires { CanTake (λ recorded. D.stands recorded.frame) D.script frame.old reply }
+        ensures request { IfOk result (λ request.
+            Steps (λ recorded. D.stands recorded.frame) D.script frame.old reply request frame.new) }
+        ensures falls { OnOk result (D.left frame.new.frame < D.left frame.old.frame) }
+        ensures same_starts { D.starts (inner_of inspect.new) ≡ D.starts (inner_of inspect.old) }
+        ensures same_noop { (D.noop (inner_of inspect.new) && not (records inspect.new))
+            ≡ (D.noop (inner_of inspect.old) && not (records inspect.old)) }
+    {
+        step_recorded::<D>(frame, reply, inspect)
+    }
+}
+
+/// A new frame of `D`, whose run is recorded. After a refusal the entries are those that there were.
+pub fn start_recorded<D: Delegate>(
+    cx: D::Cx,
+    input: <D::Cx as Cx>::Input,
+    inspect: &mut RecorderOf<D>,
+) -> Result<RecordedFrameOf<D>, NoMemory>
+    // The frame and the builder are those of `D`.
+    ensures frame { IfOk result (λ recorded. D.stands recorded.frame cx input []) }
+    ensures within { IfOk result (λ recorded. D.left recorded.frame ≤ D.width cx) }
+    ensures at_least { D.starts (inner_of inspect.old) ≤ D.starts (inner_of inspect.new) }
+    ensures at_most { D.starts (inner_of inspect.new) ≤ D.starts (inner_of inspect.old) + 1 }
+    ensures counted { D.counts ≡ true → OnOk result
+        (CountsOne D.last (D.starts (inner_of inspect.old)) (D.starts (inner_of inspect.new))) }
+    ensures same_noop { D.noop (inner_of inspect.new) ≡ D.noop (inner_of inspect.old) }
+
+    // The entries that there were stay and come first, and the run is recorded.
+    ensures recording { records inspect.new ≡ records inspect.old }
+    ensures first { IsPrefix (entries_of inspect.old) (entries_of inspect.new) }
+    ensures entries { OnOk result (entries_of inspect.new
+        ≡ with_entry inspect.old (Some (entry_of_run (new_record input (next_of inspect.old))))) }
+    ensures run { IfOk result (λ recorded. recorded.run ≡ new_record input (next_of inspect.old)) }
+{
+    let frame = D::start(cx, input, &mut inspect.inner)?;
+    let run = inspect.note_start(input)?;
+    Ok(RecordedFrame { frame, run })
+}
+
+/// The next request of a frame of `D`, which is recorded, as is the answer to the last one if that was a question. After a
+/// refusal the entries that there were stay and come first, and nothing is known of the frame.
+pub fn step_recorded<D: Delegate>(
+    frame: &mut RecordedFrameOf<D>,
+    reply: Reply<<D::Cx as Cx>::Result>,
+    inspect: &mut RecorderOf<D>,
+) -> Result<Request<<D::Cx as Cx>::Input, <D::Cx as Cx>::Result>, NoMemory>
+    requires { CanTake D.stands D.script frame.old.frame reply }
+
+    // The request and the builder are those of `D`.
+    ensures request { IfOk result (λ request.
+        Steps D.stands D.script frame.old.frame reply request frame.new.frame) }
+    ensures falls { OnOk result (D.left frame.new.frame < D.left frame.old.frame) }
+    ensures same_starts { D.starts (inner_of inspect.new) ≡ D.starts (inner_of inspect.old) }
+    ensures same_noop { D.noop (inner_of inspect.new) ≡ D.noop (inner_of inspect.old) }
+
+    // The entries that there were stay and come first.
+    ensures recording { records inspect.new ≡ records inspect.old }
+    ensures first { IsPrefix (entries_of inspect.old) (entries_of inspect.new) }
+
+    // What is recorded is the answer to the last request, if that was a question, and then the new one.
+    ensures entries { IfOk result (λ request. records inspect.old ≡ true → entries_of inspect.new
+        ≡ and_entry (and_entry (entries_of inspect.old)
+        (entry_of_reply frame.old.run frame.old.run.request reply))
+        (entry_of_request frame.old.run request)) }
+    ensures run { IfOk result (λ request. frame.new.run ≡ record_after frame.old.run request) }
+{
+    inspect.note_reply(frame.run, reply)?;
+    let request = D::step(&mut frame.frame, reply, &mut inspect.inner)?;
+    inspect.note_request(frame.run, request)?;
+    frame.run = frame.run.after(request);
+    Ok(request)
+}

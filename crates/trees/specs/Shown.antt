@@ -1,0 +1,38 @@
+-- What is shown of a question.
+use Rattle.std.specs.Prelude.{◌≡◌, ℕ, Bool, true, false, List, [], ◌++◌, codes, decimal, Result, Ok, Err, IfOk}
+use Rattle.std.specs.Option.{unwrap_or}
+use Rattle.trees.specs.Below.{PathKind, Coinductive, ForcedAmbiguity, Inductive, Unknown, Outcome, word_of, text_of, WordsOf, Entry, name_of, Goal, Rules, Answer, Fault, Conflict, Memory, Protocol, Validation}
+
+-- the letter of a kind
+abbrev pub kind_letter : PathKind → List ℕ
+kind_letter Inductive = codes "i"
+kind_letter Unknown = codes "u"
+kind_letter Coinductive = codes "c"
+kind_letter ForcedAmbiguity = codes "f"
+
+-- a goal's name; a goal of another table may have none
+abbrev pub name_or_none : Rules → Goal → List ℕ
+name_or_none rules goal = unwrap_or (name_of rules goal) []
+
+-- how goals, results and kinds are written
+abbrev pub words_of : Rules → WordsOf Goal Outcome
+words_of rules = record { kind = kind_letter; goal = name_or_none rules; outcome = word_of }
+
+-- the fault's word
+abbrev pub fault_word_of : Fault Goal Outcome → List ℕ
+fault_word_of Memory = codes "memory"
+fault_word_of (Conflict input stored found) = codes "conflict"
+fault_word_of (Validation input stored found) = codes "validation"
+fault_word_of (Protocol number) = codes "protocol"
+
+-- what follows the name, with an empty line
+abbrev pub answer_words : Result (Answer Outcome) (Fault Goal Outcome) → ℕ → List ℕ
+answer_words (Ok answer) started = codes " " ++ word_of answer.result ++ codes " " ++ decimal started ++ codes "\n\n"
+answer_words (Err fault) started = codes " fault " ++ fault_word_of fault ++ codes "\n\n"
+
+-- The text grew by the lines of a tree, and the line of the answer.
+pub record IsShown (rules : Rules) (goal : Goal) (old new : List ℕ) : Type 0 where
+  pub entries : List (Entry Goal Outcome)
+  pub came : Result (Answer Outcome) (Fault Goal Outcome)
+  pub started : ℕ
+  pub is_written : new ≡ old ++ text_of (words_of rules) entries ++ name_or_none rules goal ++ answer_words came started
