@@ -4,7 +4,7 @@ use crate::answers::{Table, TableDelegate};
 use crate::journal::{Event, Journal};
 use crate::put::put_neither;
 use crate::validating::{Validating, Watched};
-use crate::watch::Watch;
+use crate::watch::{Watch, Watches};
 use delegate_parts::{Builder, Outcome};
 use rule_tables::{Goal, Rules};
 use search_graph::graph::SearchGraph;
@@ -57,15 +57,15 @@ pub fn tell(alloc: Global, rules: &str, validated: &[&str], acts: &[Act]) -> Res
         goals.push(goal_of(rules, name)?)?;
     }
     let watch = &Watch::new(alloc, goals);
-    let cx = Watched {
-        cx: Table { lender: rules },
-        watch,
-    };
+    let cx = Table { lender: rules };
     let search = Search { rules, watch };
-    tell_with::<
-        Watched<&Watch<Goal, Outcome>, Table<&Rules>>,
-        Validating<&Watch<Goal, Outcome>, TableDelegate<'_, 8, 1>>,
-    >(alloc, cx, search, acts)
+    tell_with::<&Watch<Goal, Outcome>, Table<&Rules>, TableDelegate<'_, 8, 1>>(
+        alloc,
+        watch,
+        cx,
+        search,
+        acts,
+    )
 }
 
 /// What a search goes over, and what is seen of it.
@@ -79,19 +79,28 @@ fn goal_of(rules: &Rules, name: &str) -> Result<Goal, Fail> {
     Ok(rules.goal(name.as_bytes()).ok_or("no goal")?)
 }
 
-fn tell_with<X, D>(alloc: Global, cx: X, search: Search<'_>, acts: &[Act]) -> Result<Vec<u8>, Fail>
+fn tell_with<W, X, D>(
+    alloc: Global,
+    watch: W,
+    cx: X,
+    search: Search<'_>,
+    acts: &[Act],
+) -> Result<Vec<u8>, Fail>
 where
+    W: Watches<Goal, Outcome>,
     X: Cx<Input = Goal, Result = Outcome>,
     D: Delegate<Cx = X, ProofTreeBuilder = Builder>,
 {
-    let mut cache = GlobalCache::<D>::new(alloc, cx);
+    let mut cache = GlobalCache::<Validating<W, D>>::new(alloc, Watched { cx, watch });
     let mut told = Vec::new(alloc);
     for act in acts {
         search.watch.journal.clear();
         told.clear();
-        carry_out::<X, D>(alloc, &mut cache, search, *act, &mut told)?;
+        carry_out::<Watched<W, X>, Validating<W, D>>(
+            alloc, &mut cache, search, *act, &mut told,
+        )?;
     }
-    tell_stored::<X, D>(&cache, search.rules, &mut told)?;
+    tell_stored::<Watched<W, X>, Validating<W, D>>(&cache, search.rules, &mut told)?;
     Ok(told)
 }
 

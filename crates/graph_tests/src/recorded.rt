@@ -9,7 +9,7 @@ use parts_tests::countdown::{Count, Countdown, CountdownDelegate};
 use proof_trees::{Entry, Part, Recorder, Recording, Words, write_entries};
 use rule_tables::{Goal, Rules};
 use search_graph::graph::SearchGraph;
-use search_parts::context::Answer;
+use search_parts::context::{Cx, Delegate};
 use search_parts::global_cache::GlobalCache;
 use search_parts::path::PathKind;
 use std::alloc::Global;
@@ -88,18 +88,27 @@ fn write_letter<W: Write>(out: &mut W, kind: PathKind) -> io::Result<()>
     })
 }
 
-/// The delegate of a table, which records.
-type RecordingTable<'a> = Recording<TableDelegate<'a, 8, 1>>;
-
 /// The tree of the table's goal A at this depth.
 fn tree_of(alloc: Global, table: &str, depth: usize) -> Result<Vec<u8>, Fail> {
     let rules = &Rules::read(alloc, table.as_bytes())?;
+    let cx = Table { lender: rules };
+    tree_with::<Table<&Rules>, TableDelegate<'_, 8, 1>>(alloc, cx, rules, depth)
+}
+
+fn tree_with<X, D>(alloc: Global, cx: X, rules: &Rules, depth: usize) -> Result<Vec<u8>, Fail>
+where
+    X: Cx<Input = Goal, Result = Outcome>,
+    D: Delegate<Cx = X, ProofTreeBuilder = Builder>,
+{
     let goal = rules.goal(b"A").ok_or("no goal")?;
-    let mut cache = GlobalCache::<RecordingTable<'_>>::new(alloc, Table { lender: rules });
+    let mut cache = GlobalCache::<Recording<D>>::new(alloc, cx);
     let mut recorder = Recorder::new(alloc, Builder::new(true), true);
-    let _answer: Answer<Outcome> = SearchGraph::<
-        RecordingTable<'_>,
-    >::evaluate_root_goal_for_proof_tree(&mut cache, depth, goal, &mut recorder)?;
+    let _answer = SearchGraph::<Recording<D>>::evaluate_root_goal_for_proof_tree(
+        &mut cache,
+        depth,
+        goal,
+        &mut recorder,
+    )?;
     let mut text = Vec::new(alloc);
     write_entries(&mut text, &Named { rules }, recorder.entries())?;
     Ok(text)

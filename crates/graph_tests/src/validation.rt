@@ -2,14 +2,15 @@
 //! result or to a fault.
 
 use crate::acts::{Act, Way, ask, count, put, tell};
-use crate::journal::Event;
+use crate::journal::{Event, Journal};
 use crate::validating::{Validating, Watched};
-use crate::watch::Watch;
+use crate::watch::{Watch, Watches};
 use delegate_parts::{Builder, ContextOf, Outcome};
 use parts_tests::scripts::{Goal, Line, Scripts, ScriptsDelegate};
-use search_parts::context::Fault;
+use search_parts::context::{Answer, Fault};
 use search_parts::global_cache::GlobalCache;
 use search_parts::path::PathKind;
+use std::alloc::Global;
 use std::test::Fail;
 
 /// Two goals that ask each other: their cycle is coinductive, and both hold.
@@ -240,6 +241,36 @@ fn want_of_memory_drops_every_scope(rt: HostRuntime) -> Result<(), Fail> {
     Ok(())
 }
 
+/// What the first goal comes to, of which a maybe is stored. The journal is of that alone.
+fn ask_first<W: Watches<Goal, Outcome>>(
+    alloc: Global,
+    watch: W,
+    cx: ContextOf<Scripts>,
+    journal: &Journal<Goal, Outcome>,
+) -> Result<Result<Answer<Outcome>, Fault<Goal, Outcome>>, Fail> {
+    let mut cache = GlobalCache::<Validating<W, ScriptsDelegate<8>>>::new(
+        alloc,
+        Watched { cx, watch },
+    );
+    put::<Watched<W, ContextOf<Scripts>>, Validating<W, ScriptsDelegate<8>>>(
+        alloc,
+        &mut cache,
+        Goal(0),
+        Outcome::Maybe,
+        None,
+    )?;
+    journal.clear();
+    let mut builder = Builder::new(true);
+    ask::<Watched<W, ContextOf<Scripts>>, Validating<W, ScriptsDelegate<8>>>(
+        alloc,
+        &mut cache,
+        Way::Question,
+        4,
+        Goal(0),
+        &mut builder,
+    )
+}
+
 // The first goal asks itself, so that a result may be stored of it, and then one whose first request is out of order.
 #[test]
 fn a_request_out_of_order_drops_every_scope(rt: HostRuntime) -> Result<(), Fail> {
@@ -249,31 +280,8 @@ fn a_request_out_of_order_drops_every_scope(rt: HostRuntime) -> Result<(), Fail>
     lines[0] = [asks_itself, asks_another, Line::End, Line::End, Line::End];
     lines[1] = [Line::FinishCandidate; 5];
     let watch = &Watch::new(rt.alloc(), vec![in rt.alloc(); Goal(0)]?);
-    let cx = Watched {
-        cx: ContextOf(Scripts { lines }),
-        watch,
-    };
-    let mut cache = GlobalCache::<Validating<&Watch<Goal, Outcome>, ScriptsDelegate<8>>>::new(
-        rt.alloc(),
-        cx,
-    );
-    put::<
-        Watched<&Watch<Goal, Outcome>, ContextOf<Scripts>>,
-        Validating<&Watch<Goal, Outcome>, ScriptsDelegate<8>>,
-    >(rt.alloc(), &mut cache, Goal(0), Outcome::Maybe, None)?;
-    watch.journal.clear();
-    let mut builder = Builder::new(true);
-    let answer = ask::<
-        Watched<&Watch<Goal, Outcome>, ContextOf<Scripts>>,
-        Validating<&Watch<Goal, Outcome>, ScriptsDelegate<8>>,
-    >(
-        rt.alloc(),
-        &mut cache,
-        Way::Question,
-        4,
-        Goal(0),
-        &mut builder,
-    )?;
+    let cx = ContextOf(Scripts { lines });
+    let answer = ask_first(rt.alloc(), watch, cx, &watch.journal)?;
     assert_eq!(rt; answer, Err(Fault::Protocol(2)));
     // One scope is held for the goal, and another one is entered where it asks itself.
     assert_eq!(rt; count(&watch.journal, Event::ScopeIsEntered)?, 2);

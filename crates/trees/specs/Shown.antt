@@ -1,5 +1,5 @@
 -- What is shown of a question.
-use Rattle.std.specs.Prelude.{◌≡◌, ℕ, Bool, true, false, List, [], ◌++◌, codes, decimal, Result, Ok, Err, IfOk}
+use Rattle.std.specs.Prelude.{◌≡◌, ℕ, Bool, true, false, List, [], ◌++◌, codes, decimal, is_ok, Result, Ok, Err, IfOk}
 use Rattle.std.specs.Option.{unwrap_or}
 use Rattle.trees.specs.Below.{PathKind, Coinductive, ForcedAmbiguity, Inductive, Unknown, Outcome, word_of, text_of, WordsOf, Entry, name_of, Goal, Rules, Answer, Fault, Conflict, Memory, Protocol, Validation}
 
@@ -30,9 +30,10 @@ abbrev pub answer_words : Result (Answer Outcome) (Fault Goal Outcome) → ℕ �
 answer_words (Ok answer) started = codes " " ++ word_of answer.result ++ codes " " ++ decimal started ++ codes "\n\n"
 answer_words (Err fault) started = codes " fault " ++ fault_word_of fault ++ codes "\n\n"
 
--- The text grew by the lines of a tree, and the line of the answer.
-pub record IsShown (rules : Rules) (goal : Goal) (old new : List ℕ) : Type 0 where
+-- The text grew by the lines of a tree, and the line of what the goal came to: an answer, if all is fine, and else a fault.
+pub record IsShown (rules : Rules) (goal : Goal) (all_fine : Bool) (old new : List ℕ) : Type 0 where
   pub entries : List (Entry Goal Outcome)
   pub came : Result (Answer Outcome) (Fault Goal Outcome)
   pub started : ℕ
+  pub is_fine : all_fine ≡ is_ok came
   pub is_written : new ≡ old ++ text_of (words_of rules) entries ++ name_or_none rules goal ++ answer_words came started

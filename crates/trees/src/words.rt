@@ -13,7 +13,8 @@ pub(crate) struct TableWords<'a> {
 }
 
 impl Words<Goal, Outcome> for TableWords<'_> {
-    ghost use Rattle.trees.specs.Shown.{kind_letter, name_or_none, word_of};
+    ghost use Rattle.trees.specs.Below.{word_of};
+    ghost use Rattle.trees.specs.Shown.{kind_letter, name_or_none};
 
     ghost kind_words = { λ words kind. kind_letter kind };
 

@@ -9,7 +9,7 @@ use proof_trees::{Recorder, Recording, Words, write_entries};
 use rule_tables::delegate::Table;
 use rule_tables::{Goal, Rules, TableDelegate};
 use search_graph::graph::SearchGraph;
-use search_parts::context::{Answer, Fault};
+use search_parts::context::{Answer, Cx, Delegate, Fault};
 use search_parts::global_cache::GlobalCache;
 use std::alloc::Global;
 use std::io;
@@ -24,14 +24,31 @@ pub(super) fn show(
     goal: Goal,
     text: &mut Vec<u8>,
 ) -> io::Result<bool>
-    ensures { IfOk result (IsShown rules.now goal text.old.items text.new.items) }
+    ensures { IfOk result (λ all_fine.
+        IsShown rules.now goal all_fine text.old.items text.new.items) }
 {
-    let mut cache = GlobalCache::<Recording<TableDelegate<'_, 8, 1>>>::new(
-        alloc,
-        Table { lender: rules },
-    );
+    let cx = Table { lender: rules };
+    show_with::<Table<&Rules>, TableDelegate<'_, 8, 1>>(alloc, cx, rules, depth, goal, text)
+}
+
+// The same for a context and a delegate of these rules.
+fn show_with<X, D>(
+    alloc: Global,
+    cx: X,
+    rules: &Rules,
+    depth: usize,
+    goal: Goal,
+    text: &mut Vec<u8>,
+) -> io::Result<bool>
+where
+    X: Cx<Input = Goal, Result = Outcome>,
+    D: Delegate<Cx = X, ProofTreeBuilder = Builder>,
+    ensures { IfOk result (λ all_fine.
+        IsShown rules.now goal all_fine text.old.items text.new.items) }
+{
+    let mut cache = GlobalCache::<Recording<D>>::new(alloc, cx);
     let mut recorder = Recorder::new(alloc, Builder::new(true), true);
-    let came = SearchGraph::<Recording<TableDelegate<'_, 8, 1>>>::evaluate_root_goal_for_proof_tree(
+    let came = SearchGraph::<Recording<D>>::evaluate_root_goal_for_proof_tree(
         &mut cache,
         depth,
         goal,
