@@ -60,11 +60,7 @@ pub fn tell(alloc: Global, rules: &str, validated: &[&str], acts: &[Act]) -> Res
     let cx = Table { lender: rules };
     let search = Search { rules, watch };
     tell_with::<&Watch<Goal, Outcome>, Table<&Rules>, TableDelegate<'_, 8, 1>>(
-        alloc,
-        watch,
-        cx,
-        search,
-        acts,
+        alloc, watch, cx, search, acts,
     )
 }
 
@@ -96,9 +92,7 @@ where
     for act in acts {
         search.watch.journal.clear();
         told.clear();
-        carry_out::<Watched<W, X>, Validating<W, D>>(
-            alloc, &mut cache, search, *act, &mut told,
-        )?;
+        carry_out::<Watched<W, X>, Validating<W, D>>(alloc, &mut cache, search, *act, &mut told)?;
     }
     tell_stored::<Watched<W, X>, Validating<W, D>>(&cache, search.rules, &mut told)?;
     Ok(told)
