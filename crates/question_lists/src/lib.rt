@@ -5,20 +5,23 @@
 //! here:
 //!
 //!     impl<'a> QuestionLists for &'a Mine { .. }
-//!     let context = context_of(&mine);
+//!     let context = ContextOf(Listed(&mine));
 //!     let mut cache = GlobalCache::<ListsDelegate<&Mine, 8, 1>>::new(alloc, context);
 //!
 //! | File of `specs/` | Has |
 //! |---|---|
 //! | `Needs` | what proves and refutes a goal |
-//! | `Frame` | the frame of a goal, which asks its questions in order |
-//! | `Ranked` | goals whose questions go down, and what is true of all their plain values |
-//! | `Meanings`, `Runs` | the laws of contexts and delegates, with their proofs |
+//! | `Frame`, `Standing` | the frame of a goal, which asks its questions in order, and where it stands |
+//! | `Meanings`, `Told`, `Runs` | the laws of contexts and delegates, with their proofs |
+//!
+//! `proofs/Ranked` has lemmas for a caller's proof: that goals whose questions go down have a rank, what their plain
+//! values say, and which lists are decisive.
 #![tactic(auto)]
 
 pub mod frame;
 pub mod lists;
 pub mod needs;
 
-pub use lists::{Listed, ListsContext, ListsDelegate, QuestionLists, context_of};
+pub use delegate_parts::ContextOf;
+pub use lists::{Listed, ListsContext, ListsDelegate, QuestionLists};
 pub use needs::Needs;

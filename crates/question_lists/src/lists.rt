@@ -52,7 +52,7 @@ pub trait QuestionLists: Copy {
 #[derive(Clone, Copy, Debug)]
 pub struct Listed<T>(pub T);
 
-/// The context of such goals. Its results are outcomes, and have no tokens.
+/// The context of such goals, as `ContextOf(Listed(&mine))`. Its results are outcomes, and have no tokens.
 pub type ListsContext<T> = ContextOf<Listed<T>>;
 
 /// The delegate of such goals. A goal has the greater of 1 and `LIMIT` runs at most, and the provisional cache may be
@@ -62,13 +62,6 @@ pub type ListsDelegate<T, const LIMIT: usize, const PROVISIONAL: usize> = Delega
     LIMIT,
     PROVISIONAL,
 >;
-
-/// The context of these goals.
-pub fn context_of<T: QuestionLists>(lists: T) -> ListsContext<T>
-    ensures { result.0.0 ≡ lists }
-{
-    ContextOf(Listed(lists))
-}
 
 impl<T: QuestionLists> Goals for Listed<T> {
     ghost use Rattle.question_lists.specs.Needs.{Proves, Refutes};

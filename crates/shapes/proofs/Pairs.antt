@@ -1,12 +1,13 @@
 -- The questions of a pair, by the parts of both shapes.
 use Rattle.std.proofs.Common.{◌≡◌, ℕ, zero, suc, ◌+◌, ◌<◌, ◌≤◌, ◌==◌, ◌&&◌, Bool, true, false, cond, List, [], ◌∷◌, length, sum_by, slice_get, get_or, Contains, Option, None, Some, refl, sym, ap, ap₂, ◌∙◌, subst, arith}
+use Rattle.std.specs.Option.{unwrap_or}
 use Rattle.std.proofs.lemmas.Bool.{eqb-true, eq-eqb}
 use Rattle.std.proofs.lemmas.List.Sums.{get_or-le-sum_by}
 use Rattle.std.proofs.lemmas.Option.{slice_get_within, get_or_from_slice_get}
 use Rattle.question_lists.specs.Told.{Contains-at, at-Contains}
-use Rattle.shapes.specs.Below.{Question}
+use Rattle.shapes.specs.Below.{Coinductive, Question}
 use Rattle.shapes.specs.Bisimulation.{Equation}
-use Rattle.shapes.specs.Rule.{asks, asks_each, matched_parts, most_parts, parts_in, questions_in}
+use Rattle.shapes.specs.Rule.{asks, asks_each, matched_parts, most_parts, pair_of, parts_at, parts_in, questions_in}
 use Rattle.shapes.specs.declared.delegate.Pair.{Pair}
 
 pub asks_each-length : (ls rs : List ℕ) → length ls ≡ length rs → length (asks_each ls rs) ≡ length ls
@@ -31,14 +32,14 @@ pub record PartsOf (ls rs : List ℕ) (q : Question Pair) : Type 0 where
   pub has_right : slice_get rs at ≡ Some right
   pub same : q ≡ asks left right
 
-parts_at : (ls rs : List ℕ) (at : ℕ) (q : Question Pair) → slice_get (asks_each ls rs) at ≡ Some q → PartsOf ls rs q
-parts_at [] rs at q e = absurd cc
-parts_at (x ∷ ls) [] at q e = absurd cc
-parts_at (x ∷ ls) (y ∷ rs) zero q e = record { at = 0; left = x; right = y; has_left = refl; has_right = refl; same = cc }
-parts_at (x ∷ ls) (y ∷ rs) (suc at) q e = let w = parts_at ls rs at q e in record { at = suc w.at; left = w.left; right = w.right; has_left = w.has_left; has_right = w.has_right; same = w.same }
+asked_from : (ls rs : List ℕ) (at : ℕ) (q : Question Pair) → slice_get (asks_each ls rs) at ≡ Some q → PartsOf ls rs q
+asked_from [] rs at q e = absurd cc
+asked_from (x ∷ ls) [] at q e = absurd cc
+asked_from (x ∷ ls) (y ∷ rs) zero q e = record { at = 0; left = x; right = y; has_left = refl; has_right = refl; same = cc }
+asked_from (x ∷ ls) (y ∷ rs) (suc at) q e = let w = asked_from ls rs at q e in record { at = suc w.at; left = w.left; right = w.right; has_left = w.has_left; has_right = w.has_right; same = w.same }
 
 pub parts_of : (ls rs : List ℕ) (q : Question Pair) → Contains (asks_each ls rs) q → PartsOf ls rs q
-parts_of ls rs q h = parts_at ls rs h.0 q (at-Contains (asks_each ls rs) q h)
+parts_of ls rs q h = asked_from ls rs h.0 q (at-Contains (asks_each ls rs) q h)
 
 -- both shapes are declared, with one label and as many parts, and these are the parts
 pub record Agree (equations : List Equation) (l r : ℕ) (ls rs : List ℕ) : Type 0 where
@@ -104,3 +105,19 @@ questions_within equations l r (Some parts) e =
     let at : get_or equations l a.left ≡ a.left = get_or_from_slice_get equations l a.left a.left a.has_left in
     let m : length (get_or equations l a.left).parts.items ≡ length a.left.parts.items = ap (λ x. length x.parts.items) at in
     omega (arith, h, k, n, m)
+
+asked_in : (ls rs : List ℕ) (at : ℕ) (pair : Pair) → at < length (asks_each ls rs) →
+    slice_get (asks_each ls rs) at ≡ Some (record { kind = Coinductive; goal = unwrap_or (pair_of (slice_get ls at) (slice_get rs at)) pair })
+asked_in [] rs at pair l = absurd (omega arith)
+asked_in (x ∷ ls) [] at pair l = absurd (omega arith)
+asked_in (x ∷ ls) (y ∷ rs) zero pair l = refl
+asked_in (x ∷ ls) (y ∷ rs) (suc at) pair l = asked_in ls rs at pair (omega arith)
+
+-- the question at a place, as the code finds it
+pub asked_at : (o : Option (List ℕ × List ℕ)) (at : ℕ) (pair : Pair) → at < length (questions_in o) → slice_get (questions_in o) at ≡ Some (record { kind = Coinductive; goal = unwrap_or (parts_at o at) pair })
+asked_at None at pair l = absurd (omega arith)
+asked_at (Some parts) at pair l = asked_in parts.0 parts.1 at pair l
+
+-- the number of questions, as the code finds it
+pub counted : (equations : List Equation) (l r : ℕ) (ls rs : List ℕ) → matched_parts equations l r ≡ Some (ls, rs) → length ls ≡ length (questions_in (matched_parts equations l r))
+counted equations l r ls rs e = sym (ap (λ o. length (questions_in o)) e ∙ asks_each-length ls rs (agree equations l r ls rs e).number)

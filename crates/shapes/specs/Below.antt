@@ -13,3 +13,8 @@ pub use Rattle.search_context.specs.declared.context.Edge.{Edge}
 pub use Rattle.search_context.specs.declared.context.Fault.TheVariants.{Memory}
 pub use Rattle.search_context.specs.declared.context.Verdict.TheVariants.{Neither, No, Yes}
 pub use Rattle.search_rules.specs.Results.{AreDefinite}
+pub use Rattle.search_context.specs.Decisive.{IsDecidedKind, IsDecisive}
+pub use Rattle.search_context.specs.Verdicts.{IsDefinite}
+pub use Rattle.search_context.specs.declared.context.NodeId.{NodeId}
+pub use Rattle.search_context.specs.declared.context.Verdict.{Verdict}
+pub use Rattle.global_cache.specs.Cache.{graph_nodes_of}

@@ -1,6 +1,6 @@
 -- When two shapes are equal, whether they end or not. A shape is told by its number, the place of its equation.
 use Rattle.std.specs.Prelude.{◌≡◌, ℕ, List, length, slice_get, Contains, Some}
-use Rattle.shapes.specs.declared.equations.Equation.{Equation}
+pub use Rattle.shapes.specs.declared.equations.Equation.{Equation}
 use Rattle.shapes.specs.declared.equations.Shapes.{Shapes}
 
 -- the equations that declare the shapes

@@ -1,7 +1,7 @@
 -- What a comparison is to those that use it.
 use Rattle.std.specs.Prelude.{Bool, List}
 use Rattle.shapes.specs.declared.equations.Equation.{Equation}
-use Rattle.shapes.specs.declared.compare.Comparison.{Comparison}
+use Rattle.shapes.specs.declared.comparison.Comparison.{Comparison}
 use Rattle.shapes.specs.Bisimulation.{equations_of}
 
 -- the equations of the shapes that it compares

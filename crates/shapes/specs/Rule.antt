@@ -23,6 +23,16 @@ abbrev pub asks_each : List ℕ → List ℕ → List (Question Pair)
 asks_each (l ∷ ls) (r ∷ rs) = asks l r ∷ asks_each ls rs
 asks_each _ _ = []
 
+-- two parts as a pair, if both are there
+abbrev pub pair_of : Option ℕ → Option ℕ → Option Pair
+pair_of (Some l) (Some r) = Some (record { left = l; right = r })
+pair_of _ _ = None
+
+-- the parts at one place
+abbrev pub parts_at : Option (List ℕ × List ℕ) → ℕ → Option Pair
+parts_at (Some parts) at = pair_of (slice_get parts.0 at) (slice_get parts.1 at)
+parts_at None at = None
+
 -- a pair that does not match needs any of no questions, so it does not hold
 abbrev pub needs_in : Option (List ℕ × List ℕ) → Needs
 needs_in (Some parts) = All

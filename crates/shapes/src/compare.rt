@@ -1,38 +1,28 @@
 //! Whether shapes are equal, in words of shapes alone.
-ghost use Rattle.std.specs.Prelude.{◌≡◌, ◌→◌, true, false, IfErr, Ok};
-ghost use Rattle.shapes.specs.Below.{AreDefinite, Yes, No, Neither, outcome_verdicts, Memory};
-ghost use Rattle.shapes.specs.Bisimulation.{AreEqual, Equation, equations_of};
+ghost use Rattle.std.specs.Prelude.{◌≡◌, true, false, Ok};
+ghost use Rattle.shapes.specs.Below.{Neither, No, Yes};
+ghost use Rattle.shapes.specs.Bisimulation.{AreEqual, equations_of};
+ghost use Rattle.shapes.specs.Compared.{compared, had_limits};
 
+use crate::comparison::Comparison;
 use crate::delegate::{Pair, ShapesDelegate};
 use crate::equations::Shapes;
 use delegate_parts::{Builder, Outcome};
-use question_lists::context_of;
-use search_graph::context::{Fault, Verdict};
-use search_graph::global_cache::GlobalCache;
+use question_lists::{ContextOf, Listed};
+use search_parts::context::{Fault, Verdict};
+use search_parts::global_cache::GlobalCache;
 use search_graph::graph::SearchGraph;
-use search_graph::path::PathKind;
+use search_parts::path::PathKind;
 use std::alloc::Global;
 
-/// Compares shapes. What one question finds out is used in the next ones.
-#[derive(Drop)]
-pub struct Comparison<'a> {
-    cache: GlobalCache<ShapesDelegate<'a>>,
-    limits_met: bool,
-    alloc: Global,
-    // Until a limit is met, each stored answer is yes or no.
-    ghost decided: { limits_met ≡ false → AreDefinite outcome_verdicts ⟦<Pair as PartialEq>⟧.eq cache.results },
-}
-
 impl<'a> Comparison<'a> {
-    ghost use Rattle.shapes.specs.Compared.{compared, had_limits};
-
     /// Compares these shapes. It takes no memory yet.
     pub fn new(alloc: Global, shapes: &'a Shapes) -> Comparison<'a>
         ensures shapes { compared result ≡ equations_of shapes.now }
         ensures no_limits { had_limits result ≡ false }
     {
         Comparison {
-            cache: GlobalCache::new(alloc, context_of(shapes)),
+            cache: GlobalCache::new(alloc, ContextOf(Listed(shapes))),
             limits_met: false,
             alloc,
         }

@@ -2,7 +2,7 @@
 ghost use Rattle.std.specs.Prelude.{◌≡◌};
 ghost use Rattle.std.specs.Option.{option_map};
 ghost use Rattle.shapes.specs.Bisimulation.{equations_of};
-ghost use Rattle.shapes.specs.Rule.{matched_parts, most_parts, needs_of, questions_of};
+ghost use Rattle.shapes.specs.Rule.{matched_parts, most_parts, needs_of, parts_at, questions_of};
 
 use crate::equations::Shapes;
 use question_lists::{ListsDelegate, Needs, QuestionLists};
@@ -30,6 +30,18 @@ impl Shapes {
             return None;
         }
         Some((left.parts.as_slice(), right.parts.as_slice()))
+    }
+
+    // The parts at one place, if the shapes match and have as many.
+    fn parts_at(&self, pair: Pair, place: usize) -> Option<Pair>
+        ensures { result
+            ≡ parts_at (matched_parts (equations_of self.now) pair.left pair.right) place }
+    {
+        let (left, right) = self.matched_parts(pair)?;
+        Some(Pair {
+            left: *left.get(place)?,
+            right: *right.get(place)?,
+        })
     }
 }
 
@@ -63,15 +75,7 @@ impl<'a> QuestionLists for &'a Shapes {
     }
 
     fn question(self, pair: Pair, place: usize) -> (PathKind, Pair) {
-        match self.matched_parts(pair) {
-            Some((left, right)) => (
-                PathKind::Coinductive,
-                Pair {
-                    left: left[place],
-                    right: right[place],
-                },
-            ),
-            None => (PathKind::Coinductive, pair), // it has no question
-        }
+        let asked = self.parts_at(pair, place).unwrap_or(pair); // there is one
+        (PathKind::Coinductive, asked)
     }
 }

@@ -13,11 +13,12 @@
 #![tactic(auto)]
 
 mod compare;
+mod comparison;
 mod delegate;
 mod equations;
 #[cfg(test)]
 mod tests;
 
-pub use compare::Comparison;
+pub use comparison::Comparison;
 pub use delegate::{Pair, ShapesDelegate};
 pub use equations::{Equation, Shapes};

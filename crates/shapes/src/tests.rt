@@ -1,8 +1,8 @@
 //! Shapes that end, and shapes that do not.
 
-use crate::compare::Comparison;
+use crate::comparison::Comparison;
 use crate::equations::Shapes;
-use search_graph::context::Verdict;
+use search_parts::context::Verdict;
 use std::alloc::Global;
 use std::test::Fail;
 
