@@ -1,12 +1,10 @@
 -- Goals whose questions go down in a number: they are ranked and orderly, and each plain value says whether the goal
 -- holds. And goals that ask inductively and coinductively alone are decisive.
-use Rattle.std.proofs.Common.{◌≡◌, ◌≢◌, ℕ, zero, suc, ◌<◌, ◌≤◌, ◌⊎◌, inl, inr, Bool, true, false, List, [], ◌∷◌, Contains, Option, Some, None, refl, sym, ap, subst, ◌∙◌, arith}
+use Rattle.std.proofs.Common.{◌≡◌, ℕ, zero, suc, ◌<◌, ◌≤◌, ◌⊎◌, inl, inr, Bool, true, false, List, [], ◌∷◌, Contains, Option, Some, None, refl, sym, ap, subst, arith}
 use Rattle.std.specs.Prelude.{⊤}
-use Rattle.open_graphs.specs.Graph as theory
-use Rattle.question_lists.specs.Below.{Question, Request, Evaluate, Done, Reply, Begin, Answer, Noted, Outcome, Yes, No, Maybe, Overflow, is_yes, is_no, outcome_verdicts, IsDefinite, AreDecided, IsDecidedKind, IsDecisive, IsOrderly, IsOrderlyTo, IsRanked, IsPlainTo, IsPlainValue, IsResultOf, Progress, progress_after, order_fault, request_after}
+use Rattle.question_lists.specs.Below.{Question, Request, Evaluate, Reply, Outcome, Yes, No, Maybe, Overflow, is_yes, is_no, outcome_verdicts, IsDefinite, AreDecided, IsDecidedKind, IsDecisive, IsOrderly, IsOrderlyTo, IsRanked, IsPlainTo, IsPlainValue, IsResultOf, Progress, progress_after, order_fault, request_after}
 use Rattle.question_lists.specs.declared.needs.Needs.{Needs}
 use Rattle.question_lists.specs.declared.needs.Needs.TheVariants.{All, Any}
-use Rattle.question_lists.specs.Needs.{is_filling, is_settling, settled_outcome, full_outcome}
 use Rattle.question_lists.specs.Frame.{outcome_of, request_for, next_question, state_after, script_of}
 use Rattle.question_lists.specs.Told.{Contains-at, request-asks, next_question-is, IsEnd, Settled, Full, Unsettled, is_end}
 

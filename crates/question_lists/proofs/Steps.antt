@@ -1,7 +1,7 @@
 -- A step of a frame takes it where the script does, and leaves fewer.
-use Rattle.std.proofs.Common.{◌≡◌, ℕ, ◌+◌, ◌<◌, ◌≤◌, Bool, true, false, List, [], ◌∷◌, length, slice_get, Option, Some, None, refl, sym, ap, ap₂, subst, ◌∙◌, arith}
+use Rattle.std.proofs.Common.{◌≡◌, ℕ, ◌<◌, true, List, [], ◌∷◌, length, refl, sym, ap, ap₂, subst, ◌∙◌, arith}
 use Rattle.std.proofs.lemmas.Option.{slice_get_within}
-use Rattle.question_lists.specs.Below.{Question, Reply, Begin, Answer, Noted, Outcome, IsFitting, IsReplyTo, request_after}
+use Rattle.question_lists.specs.Below.{Question, Reply, Begin, Answer, Noted, Outcome, IsFitting}
 use Rattle.question_lists.specs.declared.needs.Needs.{Needs}
 use Rattle.question_lists.specs.declared.frame.State.{State}
 use Rattle.question_lists.specs.Frame.{with_reply, outcome_of, next_question, state_after, script_of, steps_left}

@@ -1,5 +1,5 @@
 -- A frame asks a goal's questions in order, until one answer settles the goal or no question is left.
-use Rattle.std.specs.Prelude.{ℕ, ◌+◌, ◌-◌, Bool, true, false, ◌&&◌, ◌||◌, if◌then◌else◌, List, [], ◌∷◌, length, slice_get, Option, Some, None}
+use Rattle.std.specs.Prelude.{ℕ, ◌+◌, ◌-◌, Bool, true, false, ◌&&◌, ◌||◌, if◌then◌else◌, List, [], ◌∷◌, slice_get, Option, Some, None}
 use Rattle.question_lists.specs.Below.{Question, Request, Evaluate, Done, Reply, Begin, Answer, Noted, Outcome, Maybe}
 use Rattle.question_lists.specs.declared.needs.Needs.{Needs}
 use Rattle.question_lists.specs.declared.frame.State.{State}

@@ -1,12 +1,12 @@
 -- What the result of a run rests on.
-use Rattle.std.specs.Prelude.{◌≡◌, ℕ, Bool, true, false, ◌&&◌, if◌then◌else◌, List, [], ◌∷◌, ◌++◌, filter, Contains, Option, Some, None, refl, ⊤}
-use Rattle.std.proofs.Common.{ap, sym, ◌∙◌, subst, arith}
+use Rattle.std.specs.Prelude.{◌≡◌, Bool, true, false, ◌&&◌, if◌then◌else◌, List, [], ◌∷◌, ◌++◌, filter, Contains, Option, Some, None, refl, ⊤}
+use Rattle.std.proofs.Common.{ap, sym, subst, arith}
 use Rattle.std.proofs.lemmas.List.Elements.{Contains-append_left, Contains-push}
 use Rattle.search_context.proofs.Graphs.{Contains-filtered, Contains-mapped}
-use Rattle.question_lists.specs.Below.{Question, IsWithin, Overlap, Request, Evaluate, Done, Reply, Begin, Answer, Noted, Outcome, Yes, No, Maybe, Overflow, is_yes, is_no, EndsIn, Asked, Progress, progress_with, progress_after, questions_answered, is_counted, request_after}
+use Rattle.question_lists.specs.Below.{Question, IsWithin, Overlap, Request, Evaluate, Reply, Begin, Answer, Noted, Outcome, Yes, No, Maybe, is_yes, is_no, EndsIn, Asked, Progress, progress_with, progress_after, questions_answered, is_counted, request_after}
 use Rattle.question_lists.specs.declared.needs.Needs.{Needs}
 use Rattle.question_lists.specs.declared.needs.Needs.TheVariants.{All, Any}
-use Rattle.question_lists.specs.Needs.{Proves, Refutes, is_filling, is_settling, settled_outcome, full_outcome}
+use Rattle.question_lists.specs.Needs.{Proves, Refutes}
 use Rattle.question_lists.specs.Frame.{outcome_of, request_for, next_question, state_after, script_of}
 use Rattle.question_lists.specs.Told.{IsEnd, Settled, Full, Unsettled, is_end}
 

@@ -1,9 +1,9 @@
 -- What is known of a frame once it was told some replies, whatever is known of each single answer.
-use Rattle.std.specs.Prelude.{◌≡◌, ℕ, ◌+◌, ◌<◌, Bool, true, false, ◌&&◌, ◌||◌, List, [], ◌∷◌, length, slice_get, Contains, Option, Some, None, refl}
+use Rattle.std.specs.Prelude.{◌≡◌, ℕ, ◌+◌, ◌<◌, Bool, true, false, ◌&&◌, ◌||◌, List, [], ◌∷◌, slice_get, Contains, Option, Some, None, refl}
 use Rattle.std.proofs.Common.{ap, sym, ◌∙◌, subst, arith, inl, inr, ◌⊎◌, ◌≢◌}
 use Rattle.std.proofs.lemmas.Bool.Decides.{eqb_tells}
 use Rattle.std.proofs.lemmas.Option.{slice_get-get_or, slice_get_within, get_or_from_slice_get}
-use Rattle.question_lists.specs.Below.{Question, Request, Evaluate, Done, Reply, Begin, Answer, Noted, Outcome, Maybe, AreRepliesTo, IsReplyTo, request_after}
+use Rattle.question_lists.specs.Below.{Question, Evaluate, Done, Reply, Begin, Answer, Noted, Outcome, Maybe, AreRepliesTo, IsReplyTo, request_after}
 use Rattle.question_lists.specs.declared.needs.Needs.{Needs}
 use Rattle.question_lists.specs.declared.frame.State.{State}
 use Rattle.question_lists.specs.Needs.{is_filling, is_settling, settled_outcome, full_outcome}

@@ -44,12 +44,7 @@ impl<'a> Analysis<'a> {
         let mut graph = SearchGraph::<ReachDelegate<'a>>::new(self.alloc, block);
         let mut builder = Builder::new(true);
         let point = Point { block, variable };
-        let asked = graph.evaluate_goal(
-            &mut self.cache,
-            point,
-            PathKind::Inductive,
-            &mut builder,
-        );
+        let asked = graph.evaluate_goal(&mut self.cache, point, PathKind::Inductive, &mut builder);
         match asked {
             Ok(answer) => Ok(matches!(answer.result, Outcome::Yes)),
             Err(_) => Err(NoMemory), // no other fault comes

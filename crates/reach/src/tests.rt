@@ -33,7 +33,10 @@ fn a_write_is_found_on_any_way_back(rt: HostRuntime) -> Result<(), Fail> {
     let right = add(&mut program, alloc, &[4], &[entry])?;
     let join = add(&mut program, alloc, &[5], &[left, right])?;
     let exit = add(&mut program, alloc, &[], &[join])?;
-    assert_eq!(rt; add(&mut program, alloc, &[], &[exit, 5]), Err(AddFault::Missing));
+    assert_eq!(rt;
+        add(&mut program, alloc, &[], &[exit, 5]),
+        Err(AddFault::Missing)
+    );
     assert!(rt; program.writes(left, 3));
     assert_eq!(rt; program.predecessors(join), &[1, 2][..]);
 

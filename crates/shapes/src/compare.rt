@@ -9,9 +9,9 @@ use crate::delegate::{Pair, ShapesDelegate};
 use crate::equations::Shapes;
 use delegate_parts::{Builder, Outcome};
 use question_lists::{ContextOf, Listed};
+use search_graph::graph::SearchGraph;
 use search_parts::context::{Fault, Verdict};
 use search_parts::global_cache::GlobalCache;
-use search_graph::graph::SearchGraph;
 use search_parts::path::PathKind;
 use std::alloc::Global;
 

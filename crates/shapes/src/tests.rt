@@ -7,12 +7,7 @@ use std::alloc::Global;
 use std::test::Fail;
 
 /// Declares a shape with these parts.
-fn declare(
-    shapes: &mut Shapes,
-    alloc: Global,
-    label: u32,
-    parts: &[usize],
-) -> Result<usize, Fail> {
+fn declare(shapes: &mut Shapes, alloc: Global, label: u32, parts: &[usize]) -> Result<usize, Fail> {
     let mut own = Vec::with_capacity(alloc, parts.len())?;
     for part in parts {
         own.push(*part)?;

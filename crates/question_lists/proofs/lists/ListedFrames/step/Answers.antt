@@ -1,4 +1,4 @@
-use Rattle.std.proofs.Common.{◌≡◌, ◌∙◌, sym, ap₂}
+use Rattle.std.proofs.Common.{◌∙◌, sym, ap₂}
 use Rattle.question_lists.proofs.Steps.{place_within, falls_at}
 use Rattle.question_lists.proofs.lists.ListedFrames.step.Goals as goal
 
