@@ -2,12 +2,13 @@
 use Rattle.std.specs.Prelude.{Bool, List}
 use Rattle.shapes.specs.declared.equations.Equation.{Equation}
 use Rattle.shapes.specs.declared.comparison.Comparison.{Comparison}
+use Rattle.shapes.specs.declared.delegate.LendsShapes.{Ghosts as LendingOf}
 use Rattle.shapes.specs.Bisimulation.{equations_of}
 
 -- the equations of the shapes that it compares
-abbrev pub compared : Comparison → List Equation
-compared comparison = equations_of comparison.cache.cx.0.0.now
+abbrev pub compared : {S : Type 0} {lending : LendingOf S} → Comparison S lending → List Equation
+compared {lending = lending} comparison = equations_of (lending.shapes_of comparison.cache.cx.0.0.lender)
 
 -- a question was cut off since it was made
-abbrev pub had_limits : Comparison → Bool
+abbrev pub had_limits : {S : Type 0} {lending : LendingOf S} → Comparison S lending → Bool
 had_limits comparison = comparison.limits_met

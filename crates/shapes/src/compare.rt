@@ -5,8 +5,7 @@ ghost use Rattle.shapes.specs.Bisimulation.{AreEqual, equations_of};
 ghost use Rattle.shapes.specs.Compared.{compared, had_limits};
 
 use crate::comparison::Comparison;
-use crate::delegate::{Pair, ShapesDelegate};
-use crate::equations::Shapes;
+use crate::delegate::{LendsShapes, Pair, PairsOf, ShapesDelegate};
 use delegate_parts::{Builder, Outcome};
 use question_lists::{ContextOf, Listed};
 use search_graph::graph::SearchGraph;
@@ -15,14 +14,14 @@ use search_parts::global_cache::GlobalCache;
 use search_parts::path::PathKind;
 use std::alloc::Global;
 
-impl<'a> Comparison<'a> {
+impl<S: LendsShapes> Comparison<S> {
     /// Compares these shapes. It takes no memory yet.
-    pub fn new(alloc: Global, shapes: &'a Shapes) -> Comparison<'a>
-        ensures shapes { compared result ≡ equations_of shapes.now }
+    pub fn new(alloc: Global, shapes: S) -> Comparison<S>
+        ensures shapes { compared result ≡ equations_of (S.shapes_of shapes) }
         ensures no_limits { had_limits result ≡ false }
     {
         Comparison {
-            cache: GlobalCache::new(alloc, ContextOf(Listed(shapes))),
+            cache: GlobalCache::new(alloc, ContextOf(Listed(PairsOf { lender: shapes }))),
             limits_met: false,
             alloc,
         }
@@ -52,7 +51,7 @@ impl<'a> Comparison<'a> {
         ensures limits_stay { had_limits self.old ≡ true → had_limits self.new ≡ true }
         ensures same_shapes { compared self.new ≡ compared self.old }
     {
-        let mut graph = SearchGraph::<ShapesDelegate<'a>>::new(self.alloc, depth);
+        let mut graph = SearchGraph::<ShapesDelegate<S>>::new(self.alloc, depth);
         let mut builder = Builder::new(true);
         let pair = Pair { left, right };
         let answer = graph.evaluate_goal(

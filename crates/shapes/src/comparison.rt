@@ -2,14 +2,14 @@
 ghost use Rattle.std.specs.Prelude.{◌≡◌, false};
 ghost use Rattle.shapes.specs.Below.{AreDefinite, outcome_verdicts};
 
-use crate::delegate::{Pair, ShapesDelegate};
+use crate::delegate::{LendsShapes, Pair, ShapesDelegate};
 use search_parts::global_cache::GlobalCache;
 use std::alloc::Global;
 
-/// Compares shapes. What one question finds out is used in the next ones.
+/// Compares the shapes that an `S` lends, as `&Shapes` does. What one question finds out is used in the next ones.
 #[derive(Drop)]
-pub struct Comparison<'a> {
-    pub(crate) cache: GlobalCache<ShapesDelegate<'a>>,
+pub struct Comparison<S: LendsShapes> {
+    pub(crate) cache: GlobalCache<ShapesDelegate<S>>,
     pub(crate) limits_met: bool,
     pub(crate) alloc: Global,
     // Until a limit is met, each stored answer is yes or no.

@@ -15,8 +15,34 @@ pub struct Pair {
     pub right: usize,
 }
 
+/// What lends shapes, as a reference does.
+pub trait LendsShapes: Copy {
+    ghost use Rattle.shapes.specs.declared.equations.Shapes.{Shapes};
+
+    /// The shapes that it lends.
+    ghost shapes_of: { Self → Shapes };
+
+    /// The shapes that it lends.
+    fn shapes(&self) -> &Shapes
+        ensures { result.now ≡ shapes_of self.now };
+}
+
+impl<'a> LendsShapes for &'a Shapes {
+    ghost shapes_of = { λ lent. lent.now };
+
+    fn shapes(&self) -> &Shapes {
+        *self
+    }
+}
+
+/// The pairs of the shapes that are lent, as goals.
+#[derive(Clone, Copy)]
+pub struct PairsOf<S> {
+    pub lender: S,
+}
+
 /// The delegate of equality, which has eight runs of a pair and the provisional cache.
-pub type ShapesDelegate<'a> = ListsDelegate<&'a Shapes, 8, 1>;
+pub type ShapesDelegate<S> = ListsDelegate<PairsOf<S>, 8, 1>;
 
 impl Shapes {
     // The parts of both shapes, if they have one label and as many parts.
@@ -47,35 +73,35 @@ impl Shapes {
 
 // Where labels and numbers of parts agree, each part is asked against its fellow, coinductively; else the pair is
 // refuted at once, as one that needs any of no questions.
-impl<'a> QuestionLists for &'a Shapes {
+impl<S: LendsShapes> QuestionLists for PairsOf<S> {
     ghost use Rattle.std.proofs.Common.{rules};
 
     type Input = Pair;
 
-    ghost needs_of = { λ shapes pair. needs_of (equations_of shapes.now) pair };
+    ghost needs_of = { λ pairs pair. needs_of (equations_of (S.shapes_of pairs.lender)) pair };
 
-    ghost questions_of = { λ shapes pair. questions_of (equations_of shapes.now) pair };
+    ghost questions_of = { λ pairs pair. questions_of (equations_of (S.shapes_of pairs.lender)) pair };
 
-    ghost most = { λ shapes. most_parts (equations_of shapes.now) };
+    ghost most = { λ pairs. most_parts (equations_of (S.shapes_of pairs.lender)) };
 
     ghost same_input = { Prim.search rules };
 
     fn needs(self, pair: Pair) -> Needs {
-        match self.matched_parts(pair) {
+        match self.lender.shapes().matched_parts(pair) {
             Some(_) => Needs::All,
             None => Needs::Any,
         }
     }
 
     fn count(self, pair: Pair) -> usize {
-        match self.matched_parts(pair) {
+        match self.lender.shapes().matched_parts(pair) {
             Some((left, _)) => left.len(),
             None => 0,
         }
     }
 
     fn question(self, pair: Pair, place: usize) -> (PathKind, Pair) {
-        let asked = self.parts_at(pair, place).unwrap_or(pair); // there is one
+        let asked = self.lender.shapes().parts_at(pair, place).unwrap_or(pair); // there is one
         (PathKind::Coinductive, asked)
     }
 }

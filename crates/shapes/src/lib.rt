@@ -20,5 +20,5 @@ mod equations;
 mod tests;
 
 pub use comparison::Comparison;
-pub use delegate::{Pair, ShapesDelegate};
+pub use delegate::{LendsShapes, Pair, PairsOf, ShapesDelegate};
 pub use equations::{Equation, Shapes};
