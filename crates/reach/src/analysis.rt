@@ -4,8 +4,7 @@ ghost use Rattle.reach.specs.Analysed.{analysed};
 ghost use Rattle.reach.specs.Paths.{IsWrittenBefore};
 ghost use Rattle.reach.specs.Program.{blocks_of};
 
-use crate::delegate::{Point, ReachDelegate};
-use crate::program::Program;
+use crate::delegate::{LendsProgram, Point, PointsOf, ReachDelegate};
 use delegate_parts::{Builder, Outcome};
 use question_lists::{ContextOf, Listed};
 use search_context::context::NoMemory;
@@ -14,20 +13,21 @@ use search_parts::global_cache::GlobalCache;
 use search_parts::path::PathKind;
 use std::alloc::Global;
 
-/// Answers questions about a program. What one question finds out is used in the next ones.
+/// Answers questions about the program that a `P` lends, as `&Program` does. What one question finds out is used in the
+/// next ones.
 #[derive(Drop)]
-pub struct Analysis<'a> {
-    cache: GlobalCache<ReachDelegate<'a>>,
+pub struct Analysis<P: LendsProgram> {
+    cache: GlobalCache<ReachDelegate<P>>,
     alloc: Global,
 }
 
-impl<'a> Analysis<'a> {
+impl<P: LendsProgram> Analysis<P> {
     /// Answers questions about this program. It takes no memory yet.
-    pub fn new(alloc: Global, program: &'a Program) -> Analysis<'a>
-        ensures { analysed result ≡ blocks_of program.now }
+    pub fn new(alloc: Global, program: P) -> Analysis<P>
+        ensures { analysed P.program_of result ≡ blocks_of (P.program_of program) }
     {
         Analysis {
-            cache: GlobalCache::new(alloc, ContextOf(Listed(program))),
+            cache: GlobalCache::new(alloc, ContextOf(Listed(PointsOf { lender: program }))),
             alloc,
         }
     }
@@ -38,10 +38,10 @@ impl<'a> Analysis<'a> {
     /// `NoMemory` where memory is out. The analysis can be used again then.
     pub fn may_be_written(&mut self, block: usize, variable: u32) -> Result<bool, NoMemory>
         ensures exact { IfOk result (λ answer.
-            IsTrue answer ↔ IsWrittenBefore (analysed self.old) block variable) }
-        ensures same_program { analysed self.new ≡ analysed self.old }
+            IsTrue answer ↔ IsWrittenBefore (analysed P.program_of self.old) block variable) }
+        ensures same_program { analysed P.program_of self.new ≡ analysed P.program_of self.old }
     {
-        let mut graph = SearchGraph::<ReachDelegate<'a>>::new(self.alloc, block);
+        let mut graph = SearchGraph::<ReachDelegate<P>>::new(self.alloc, block);
         let mut builder = Builder::new(true);
         let point = Point { block, variable };
         let asked = graph.evaluate_goal(&mut self.cache, point, PathKind::Inductive, &mut builder);

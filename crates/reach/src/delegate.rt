@@ -15,9 +15,35 @@ pub struct Point {
     pub variable: u32,
 }
 
+/// What lends a program, as a reference does.
+pub trait LendsProgram: Copy {
+    ghost use Rattle.reach.specs.declared.program.Program.{Program};
+
+    /// The program that it lends.
+    ghost program_of: { Self → Program };
+
+    /// The program that it lends.
+    fn program(&self) -> &Program
+        ensures { result.now ≡ program_of self.now };
+}
+
+impl<'a> LendsProgram for &'a Program {
+    ghost program_of = { λ lent. lent.now };
+
+    fn program(&self) -> &Program {
+        *self
+    }
+}
+
+/// The points of the program that is lent, as goals.
+#[derive(Clone, Copy)]
+pub struct PointsOf<P> {
+    pub lender: P,
+}
+
 /// The delegate of the analysis. As no question leads back to itself, a goal has one run, and there is no provisional
 /// cache.
-pub type ReachDelegate<'a> = ListsDelegate<&'a Program, 1, 0>;
+pub type ReachDelegate<P> = ListsDelegate<PointsOf<P>, 1, 0>;
 
 impl Program {
     // Whether some block from which the point's block is entered writes the variable.
@@ -34,21 +60,21 @@ impl Program {
 
 // Where a predecessor writes the variable, the point needs all of no questions, so it holds; else each predecessor is
 // asked, and any one suffices.
-impl<'a> QuestionLists for &'a Program {
+impl<P: LendsProgram> QuestionLists for PointsOf<P> {
     ghost use Rattle.std.proofs.Common.{rules};
 
     type Input = Point;
 
-    ghost needs_of = { λ program point. needs_of (blocks_of program.now) point };
+    ghost needs_of = { λ points point. needs_of (blocks_of (P.program_of points.lender)) point };
 
-    ghost questions_of = { λ program point. questions_of (blocks_of program.now) point };
+    ghost questions_of = { λ points point. questions_of (blocks_of (P.program_of points.lender)) point };
 
-    ghost most = { λ program. most_predecessors (blocks_of program.now) };
+    ghost most = { λ points. most_predecessors (blocks_of (P.program_of points.lender)) };
 
     ghost same_input = { Prim.search rules };
 
     fn needs(self, point: Point) -> Needs {
-        if self.is_written_before(point) {
+        if self.lender.program().is_written_before(point) {
             Needs::All
         } else {
             Needs::Any
@@ -56,15 +82,18 @@ impl<'a> QuestionLists for &'a Program {
     }
 
     fn count(self, point: Point) -> usize {
-        if self.is_written_before(point) {
+        let program = self.lender.program();
+        if program.is_written_before(point) {
             0
         } else {
-            self.predecessors(point.block).len()
+            program.predecessors(point.block).len()
         }
     }
 
     fn question(self, point: Point, place: usize) -> (PathKind, Point) {
         let block = *self
+            .lender
+            .program()
             .predecessors(point.block)
             .get(place)
             .unwrap_or(&point.block); // there is one

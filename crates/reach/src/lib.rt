@@ -19,5 +19,5 @@ mod tests;
 
 pub use analysis::Analysis;
 pub use building::AddFault;
-pub use delegate::{Point, ReachDelegate};
+pub use delegate::{LendsProgram, Point, PointsOf, ReachDelegate};
 pub use program::{Block, Program};

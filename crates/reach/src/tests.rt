@@ -2,8 +2,10 @@
 
 use crate::analysis::Analysis;
 use crate::building::AddFault;
+use crate::delegate::LendsProgram;
 use crate::program::Program;
 use std::alloc::Global;
+use std::process::Abort;
 use std::test::Fail;
 
 /// Adds a block with these writes and predecessors.
@@ -39,16 +41,23 @@ fn a_write_is_found_on_any_way_back(rt: HostRuntime) -> Result<(), Fail> {
     );
     assert!(rt; program.writes(left, 3));
     assert_eq!(rt; program.predecessors(join), &[1, 2][..]);
+    the_program_is_asked::<&Program>(&rt, &program)
+}
 
-    let mut analysis = Analysis::new(alloc, &program);
-    assert!(rt; analysis.may_be_written(exit, 3)?);
-    assert!(rt; analysis.may_be_written(exit, 1)?);
-    assert!(rt; analysis.may_be_written(exit, 5)?);
-    assert!(rt; !analysis.may_be_written(join, 5)?);
-    assert!(rt; !analysis.may_be_written(right, 2)?);
-    assert!(rt; analysis.may_be_written(join, 4)?);
-    assert!(rt; !analysis.may_be_written(entry, 1)?);
-    assert!(rt; !analysis.may_be_written(exit, 6)?);
+/// Asks about each variable, with the entry as 0, left and right as 1 and 2, the join as 3 and the exit as 4.
+fn the_program_is_asked<P: LendsProgram>(
+    rt: &(impl Abort + AllocGlobal),
+    program: P,
+) -> Result<(), Fail> {
+    let mut analysis = Analysis::<P>::new(rt.alloc(), program);
+    assert!(rt; analysis.may_be_written(4, 3)?);
+    assert!(rt; analysis.may_be_written(4, 1)?);
+    assert!(rt; analysis.may_be_written(4, 5)?);
+    assert!(rt; !analysis.may_be_written(3, 5)?);
+    assert!(rt; !analysis.may_be_written(2, 2)?);
+    assert!(rt; analysis.may_be_written(3, 4)?);
+    assert!(rt; !analysis.may_be_written(0, 1)?);
+    assert!(rt; !analysis.may_be_written(4, 6)?);
     assert!(rt; !analysis.may_be_written(9, 1)?);
     Ok(())
 }
