@@ -1,0 +1,27 @@
+//! Goals whose rule is a list of questions: a goal holds where all of them do, or where any one of them does.
+//!
+//! Many delegates need no more. Such a one says of each goal which questions it has and whether it needs all or any of
+//! them, by an `impl QuestionLists`; its context and its frames, with all laws that a search asks of them, are made
+//! here:
+//!
+//!     impl<'a> QuestionLists for &'a Mine { .. }
+//!     let context = ContextOf(Listed(&mine));
+//!     let mut cache = GlobalCache::<ListsDelegate<&Mine, 8, 1>>::new(alloc, context);
+//!
+//! | File of `specs/` | Has |
+//! |---|---|
+//! | `Needs` | what proves and refutes a goal |
+//! | `Frame`, `Standing` | the frame of a goal, which asks its questions in order, and where it stands |
+//! | `Meanings`, `Told`, `Runs` | the laws of contexts and delegates, with their proofs |
+//!
+//! `proofs/Ranked` has lemmas for a caller's proof: that goals whose questions go down have a rank, what their plain
+//! values say, and which lists are decisive.
+#![tactic(auto)]
+
+pub mod frame;
+pub mod lists;
+pub mod needs;
+
+pub use delegate_parts::ContextOf;
+pub use lists::{Listed, ListsContext, ListsDelegate, QuestionLists};
+pub use needs::Needs;

@@ -1,0 +1,5 @@
+pub mod Below
+pub mod Paths
+pub mod Program
+pub mod Rule
+pub mod Analysed

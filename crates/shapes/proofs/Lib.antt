@@ -1,0 +1,4 @@
+pub mod Pairs
+pub mod Reached
+pub mod Equal
+pub mod Compared
