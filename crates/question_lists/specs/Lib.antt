@@ -1,0 +1,7 @@
+pub mod Below
+pub mod Needs
+pub mod Frame
+pub mod Meanings
+pub mod Told
+pub mod Runs
+pub mod Standing

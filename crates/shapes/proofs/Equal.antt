@@ -1,0 +1,187 @@
+-- A proof graph of a pair gives a bisimulation, and a refutation graph leaves none.
+use Rattle.std.proofs.Common.{◌≡◌, ℕ, zero, suc, ◌+◌, ◌-◌, ◌<◌, ◌≤◌, ◌⊎◌, inl, inr, List, [], ◌∷◌, map, length, slice_get, Contains, Option, None, Some, refl, sym, ap, ap₂, ◌∙◌, subst, arith}
+use Rattle.std.proofs.lemmas.Bool.{eqb-true}
+use Rattle.search_context.proofs.Graphs.{Contains-map, Contains-mapped, goal_node, HasGoal-within, HasEdge-from, IsReached-step}
+use Rattle.search_context.proofs.Pigeonhole.{pigeonhole}
+use Rattle.question_lists.specs.Told.{Contains-at}
+use Rattle.shapes.specs.Below.{Coinductive, Inductive, PathKind, greater_kind, Edge, GraphNode, HasEdge, HasGoal, IsReached, IsWalk, IsProofGraph, IsRefutationGraph, question_of, walk_kind, Question, IsWithin, Overlap, Proves, Refutes}
+use Rattle.shapes.specs.Bisimulation.{AreEqual, AreMatched, Equation, IsBisimulation, IsMatchedPair}
+use Rattle.shapes.specs.Rule.{asks, asks_each, matched_parts, needs_in, needs_of, questions_in, questions_of}
+use Rattle.shapes.specs.declared.delegate.Pair.{Pair}
+use Rattle.shapes.proofs.Pairs.{agree, Agree, asks_each-at, matched_by, parts_of}
+use Rattle.shapes.proofs.Reached.{reached, Reached}
+
+module _ (equations : List Equation) where
+  abbrev pub proves : Pair → List (Question Pair) → Type 0
+  proves pair held = Proves (needs_of equations pair) (questions_of equations pair) held
+
+  abbrev pub refutes : Pair → List (Question Pair) → Type 0
+  refutes pair failed = Refutes (needs_of equations pair) (questions_of equations pair) failed
+
+  -- the pair of a node
+  abbrev pair_of : Option (GraphNode Pair) → ℕ × ℕ
+  pair_of None = (0, 0)
+  pair_of (Some n) = (n.goal.left, n.goal.right)
+
+  -- a pair that is proved is matched
+  record IsProvedPair (l r : ℕ) (held : List (Question Pair)) : Type 0 where
+    ls : List ℕ
+    rs : List ℕ
+    are_parts : Agree equations l r ls rs
+    within : IsWithin (asks_each ls rs) held
+
+  proved_pair : (l r : ℕ) (held : List (Question Pair)) (o : Option (List ℕ × List ℕ)) → matched_parts equations l r ≡ o → Proves (needs_in o) (questions_in o) held → IsProvedPair l r held
+  proved_pair l r held None e p = absurd (omega (arith, p.1.1))
+  proved_pair l r held (Some parts) e p = record { ls = parts.0; rs = parts.1; are_parts = agree equations l r parts.0 parts.1 e; within = p }
+
+  module _ (nodes : List (GraphNode Pair)) (root : ℕ) (pair : Pair) (proof : IsProofGraph proves nodes root pair) where
+    all : Reached proves Coinductive nodes root pair proof
+    all = reached proves Coinductive nodes root pair proof
+
+    abbrev at_place : ℕ → ℕ × ℕ
+    at_place at = pair_of (slice_get nodes at)
+
+    goal_at : (at : ℕ) (goal : Pair) → HasGoal nodes at goal → at_place at ≡ (goal.left, goal.right)
+    goal_at at goal h = let w = goal_node (slice_get nodes at) goal h in ap pair_of w.1 ∙ ap (λ g. (g.left, g.right)) w.2
+
+    -- the list of the pairs of all places that are reached
+    abbrev pairs : List (ℕ × ℕ)
+    pairs = map at_place all.places
+
+    edge_pair : (at : ℕ) (e : Edge Pair) (l r : ℕ) → Contains all.places at → HasEdge nodes at e → question_of e ≡ asks l r → Contains pairs (l, r)
+    edge_pair at e l r here h same =
+        let g = proof.closed at e (all.are_reached at here) h in
+        let i : e.input ≡ record { left = l; right = r } = ap (λ q. q.goal) same in
+        subst (Contains pairs) (goal_at e.target e.input g ∙ ap (λ p. (p.left, p.right)) i) (Contains-mapped at_place all.places e.target (all.stay at e here h))
+
+    matched_at : (at l r : ℕ) (n : GraphNode Pair) → Contains all.places at → slice_get nodes at ≡ Some n → (n.goal.left ≡ l) × (n.goal.right ≡ r) → IsMatchedPair equations pairs l r
+    matched_at at l r n here is goal =
+        let shown : proves n.goal (map question_of n.edges) = proof.is_shown at n (all.are_reached at here) is in
+        let at_goal : proves (record { left = l; right = r }) (map question_of n.edges) = subst (λ p. proves p (map question_of n.edges)) (ap₂ {C = Pair} (λ x y. record { left = x; right = y }) goal.0 goal.1) shown in
+        let w = proved_pair l r (map question_of n.edges) (matched_parts equations l r) refl at_goal in
+        let a = w.are_parts in
+        record {
+          left = a.left;
+          right = a.right;
+          has_left = a.has_left;
+          has_right = a.has_right;
+          are_matched = record {
+            label = a.label;
+            number = ap length a.left_parts ∙ (a.number ∙ sym (ap length a.right_parts));
+            parts = λ i x y e f.
+                let q : slice_get (asks_each w.ls w.rs) i ≡ Some (asks x y) = asks_each-at w.ls w.rs i x y (ap (λ xs. slice_get xs i) (sym a.left_parts) ∙ e) (ap (λ xs. slice_get xs i) (sym a.right_parts) ∙ f) in
+                let edge = Contains-map question_of n.edges (asks x y) (w.within (asks x y) (Contains-at (asks_each w.ls w.rs) i (asks x y) q)) in
+                edge_pair at edge.0 x y here (HasEdge-from nodes at n edge.0 is edge.1) edge.2;
+          };
+        }
+
+    node_at : (at : ℕ) → IsReached nodes root at → (n : GraphNode Pair) × (slice_get nodes at ≡ Some n)
+    node_at at w = reached_node root pair proof.rooted (([]), refl) at w.0 w.1
+      where
+        reached_node : (from : ℕ) (goal : Pair) → HasGoal nodes from goal → IsReached nodes root from → (to : ℕ) (walk : List (Edge Pair)) → IsWalk nodes from walk to → (n : GraphNode Pair) × (slice_get nodes to ≡ Some n)
+        reached_node from goal h r to [] e = let w = goal_node (slice_get nodes from) goal h in (w.0, ap (slice_get nodes) (sym e) ∙ w.1)
+        reached_node from goal h r to (e ∷ rest) w = reached_node e.target e.input (proof.closed from e r w.0) (IsReached-step nodes root from e r w.0) to rest w.1
+
+    is_bisimulation : IsBisimulation equations pairs
+    is_bisimulation l r h =
+        let w = Contains-map at_place all.places (l, r) h in
+        let n = node_at w.0 (all.are_reached w.0 w.1) in
+        let e : (n.0.goal.left, n.0.goal.right) ≡ (l, r) = sym (ap pair_of n.1) ∙ w.2 in
+        matched_at w.0 l r n.0 w.1 n.1 (ap (λ t. t.0) e, ap (λ t. t.1) e)
+
+    -- what is proved is equal
+    pub equal_from : AreEqual equations pair.left pair.right
+    equal_from = record {
+      pairs = pairs;
+      is_bisimulation = is_bisimulation;
+      has_pair = subst (Contains pairs) (goal_at root pair proof.rooted) (Contains-mapped at_place all.places root all.has_root);
+    }
+
+  -- a pair that is refuted and matched has a question that failed
+  failed_in : (l r : ℕ) (failed : List (Question Pair)) (parts : List ℕ × List ℕ) (o : Option (List ℕ × List ℕ)) → o ≡ Some parts → Refutes (needs_in o) (questions_in o) failed → Overlap (asks_each parts.0 parts.1) failed
+  failed_in l r failed parts None e h = absurd cc
+  failed_in l r failed parts (Some own) e h = let same : own ≡ parts = cc in subst (λ p. Overlap (asks_each p.0 p.1) failed) same h
+
+  module _ (nodes : List (GraphNode Pair)) (root : ℕ) (pair : Pair) (refutation : IsRefutationGraph refutes nodes root pair)
+      (pairs : List (ℕ × ℕ)) (bisimulation : IsBisimulation equations pairs) (has_pair : Contains pairs (pair.left, pair.right)) where
+    -- a place of the graph whose pair is in the list
+    record Place : Type 0 where
+      at : ℕ
+      goal : Pair
+      is_reached : IsReached nodes root at
+      has_goal : HasGoal nodes at goal
+      is_in : Contains pairs (goal.left, goal.right)
+
+    -- from it an edge leads to another one, coinductively
+    record Step (from : Place) : Type 0 where
+      edge : Edge Pair
+      has_edge : HasEdge nodes from.at edge
+      is_coinductive : edge.kind ≡ Coinductive
+      is_in : Contains pairs (edge.input.left, edge.input.right)
+
+    step_at : (from : Place) (n : GraphNode Pair) → slice_get nodes from.at ≡ Some n → n.goal ≡ from.goal → Step from
+    step_at from n is same =
+        let m = bisimulation from.goal.left from.goal.right from.is_in in
+        let shown : refutes from.goal (map question_of n.edges) = subst (λ g. refutes g (map question_of n.edges)) same (refutation.is_shown from.at n from.is_reached is) in
+        let by = matched_by equations from.goal.left from.goal.right m.left m.right m.has_left m.has_right m.are_matched.label m.are_matched.number in
+        let o = failed_in from.goal.left from.goal.right (map question_of n.edges) (m.left.parts.items, m.right.parts.items) (matched_parts equations from.goal.left from.goal.right) by shown in
+        let p = parts_of m.left.parts.items m.right.parts.items o.0 o.1 in
+        let e = Contains-map question_of n.edges o.0 o.2 in
+        let asked : question_of e.0 ≡ asks p.left p.right = e.2 ∙ p.same in
+        record {
+          edge = e.0;
+          has_edge = HasEdge-from nodes from.at n e.0 is e.1;
+          is_coinductive = ap (λ q. q.kind) asked;
+          is_in = subst (Contains pairs) (sym (ap (λ q. (q.goal.left, q.goal.right)) asked)) (m.are_matched.parts p.at p.left p.right p.has_left p.has_right);
+        }
+
+    step : (from : Place) → Step from
+    step from = let n = goal_node (slice_get nodes from.at) from.goal from.has_goal in step_at from n.0 n.1 n.2
+
+    abbrev next : (from : Place) → Step from → Place
+    next from s = record {
+      at = s.edge.target;
+      goal = s.edge.input;
+      is_reached = IsReached-step nodes root from.at s.edge from.is_reached s.has_edge;
+      has_goal = refutation.closed from.at s.edge from.is_reached s.has_edge;
+      is_in = s.is_in;
+    }
+
+    -- the graph walked along such edges
+    abbrev place_at : ℕ → Place
+    place_at zero = record { at = root; goal = pair; is_reached = ([], refl); has_goal = refutation.rooted; is_in = has_pair }
+    place_at (suc i) = next (place_at i) (step (place_at i))
+
+    abbrev walk : ℕ → ℕ → List (Edge Pair)
+    walk i zero = []
+    walk i (suc n) = (step (place_at i)).edge ∷ walk (suc i) n
+
+    walk-is : (i n j : ℕ) → i + n ≡ j → IsWalk nodes (place_at i).at (walk i n) (place_at j).at
+    walk-is i zero j e = let same : i ≡ j = omega arith in ap (λ k. (place_at k).at) same
+    walk-is i (suc n) j e = ((step (place_at i)).has_edge, walk-is (suc i) n j (omega arith))
+
+    greater_of : (k : PathKind) → k ≡ Coinductive ⊎ k ≡ Inductive → greater_kind Coinductive k ≡ Coinductive
+    greater_of k (inl e) = ap (greater_kind Coinductive) e
+    greater_of k (inr e) = ap (greater_kind Coinductive) e
+
+    rest_kind : (i n : ℕ) → walk_kind (walk i n) ≡ Coinductive ⊎ walk_kind (walk i n) ≡ Inductive
+    rest_kind i zero = inr refl
+    rest_kind i (suc n) = inl (ap (λ k. greater_kind k (walk_kind (walk (suc i) n))) (step (place_at i)).is_coinductive ∙ greater_of (walk_kind (walk (suc i) n)) (rest_kind (suc i) n))
+
+    whole_kind : (i n : ℕ) → walk_kind (walk i (suc n)) ≡ Coinductive
+    whole_kind i n = ap (λ k. greater_kind k (walk_kind (walk (suc i) n))) (step (place_at i)).is_coinductive ∙ greater_of (walk_kind (walk (suc i) n)) (rest_kind (suc i) n)
+
+    apart : (k : PathKind) → k ≡ Coinductive → k ≡ Inductive → ⊥
+    apart k e f = absurd cc
+
+    closes : (i n j : ℕ) → i + suc n ≡ j → (place_at i).at ≡ (place_at j).at → ⊥
+    closes i n j e same =
+        apart (walk_kind (walk i (suc n))) (whole_kind i n)
+        (refutation.cycles (place_at i).at (step (place_at i)).edge (walk (suc i) n) (place_at i).is_reached
+        (subst (λ x. IsWalk nodes (place_at i).at (walk i (suc n)) x) (sym same) (walk-is i (suc n) j e)))
+
+    -- what is refuted is not equal
+    pub never_equal : ⊥
+    never_equal =
+        let w = pigeonhole (length nodes) (λ i. (place_at i).at) (λ i h. HasGoal-within nodes (place_at i).at (place_at i).goal (place_at i).has_goal) in
+        closes w.0 (w.1 - suc w.0) w.1 (omega (arith, w.2)) w.4

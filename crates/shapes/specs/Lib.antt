@@ -1,0 +1,4 @@
+pub mod Below
+pub mod Bisimulation
+pub mod Rule
+pub mod Compared
