@@ -81,9 +81,10 @@ impl<D: Delegate> SearchGraph<D> {
     /// frame's request came out of order, `Fault::Conflict` where a goal came to another result than the one
     /// that is stored in the same place, `Fault::Validation` where it did and the delegate has its stored results
     /// validated. Such a goal is worked out once more, its scope is held meanwhile, and its result is compared with
-    /// the stored one instead of being stored; where it rests on a goal under evaluation nothing is compared. After a fault the graph can be used again, the cache keeps every
-    /// result that it had and those that were stored since, and nodes that no answer reaches may stay in it.
-    /// Ports `SearchGraph::evaluate_goal`.
+    /// the stored one instead of being stored; where it rests on a goal under evaluation nothing is compared.
+    ///
+    /// After a fault the graph can be used again, the cache keeps every result that it had and those that were stored
+    /// since, and nodes that no answer reaches may stay in it. Ports `SearchGraph::evaluate_goal`.
     pub fn evaluate_goal(
         &mut self,
         cache: &mut GlobalCache<D>,
