@@ -1,10 +1,10 @@
 -- How many questions a pair has.
-use Rattle.std.proofs.Common.{◌≡◌, ℕ, ◌+◌, ◌<◌, ◌≤◌, ◌==◌, Bool, true, false, cond, List, [], ◌∷◌, map, length, sum_by, slice_get, get_or, Option, None, Some, refl, sym, ap, subst, arith}
+use Rattle.std.proofs.Common.{◌≡◌, ℕ, ◌+◌, ◌≤◌, List, length, sum_by, slice_get, get_or, Option, None, Some, refl, ap, arith}
 use Rattle.std.proofs.lemmas.List.{length-map}
 use Rattle.std.proofs.lemmas.List.Sums.{get_or-le-sum_by}
 use Rattle.std.proofs.lemmas.Option.{slice_get_within, get_or_from_slice_get}
-use Rattle.structural_types.specs.Subtypes.{Base, Bottom, Form, Function, Record, Top, Union}
-use Rattle.structural_types.specs.Rule.{alternatives_in, asks, Case, case_of, fields_in, most_questions, pair, pairs_in, pairs_of, part_at, parts_in, function_pairs, left_pairs, record_pairs, right_pairs, size_of, BetweenFunctions, BetweenRecords, Fails, Holds, SplitsLeft, SplitsRight}
+use Rattle.structural_types.specs.Subtypes.{Form}
+use Rattle.structural_types.specs.Rule.{alternatives_in, Case, case_of, fields_in, most_questions, pair, pairs_in, pairs_of, part_at, parts_in, function_pairs, left_pairs, record_pairs, right_pairs, size_of, BetweenFunctions, BetweenRecords, Fails, Holds, SplitsLeft, SplitsRight}
 use Rattle.structural_types.specs.declared.delegate.Pair.{Pair}
 
 sized : (forms : List Form) (at : ℕ) (form : Form) → slice_get forms at ≡ Some form → size_of form ≤ sum_by size_of forms

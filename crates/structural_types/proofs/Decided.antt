@@ -1,9 +1,9 @@
 -- A proof graph of a pair gives a simulation, and a refutation graph leaves none.
-use Rattle.std.proofs.Common.{◌≡◌, true, ℕ, zero, suc, ◌+◌, ◌-◌, ◌<◌, ◌≤◌, ◌⊎◌, inl, inr, List, [], ◌∷◌, map, length, slice_get, Contains, Option, None, Some, refl, sym, ap, ap₂, ◌∙◌, subst, arith}
+use Rattle.std.proofs.Common.{◌≡◌, true, ℕ, zero, suc, ◌+◌, ◌-◌, ◌⊎◌, inl, inr, List, [], ◌∷◌, map, length, slice_get, Contains, Option, None, Some, refl, sym, ap, ap₂, ◌∙◌, subst, arith}
 use Rattle.std.specs.Option.{IsSomeAnd}
 use Rattle.search_context.proofs.Graphs.{Contains-map, Contains-mapped, goal_node, HasGoal-within, HasEdge-from, IsReached-step}
 use Rattle.search_context.proofs.Pigeonhole.{pigeonhole}
-use Rattle.structural_types.specs.Below.{Coinductive, Inductive, PathKind, greater_kind, Edge, GraphNode, HasEdge, HasGoal, IsReached, IsWalk, IsProofGraph, IsRefutationGraph, question_of, walk_kind, Question, IsWithin, Overlap, Needs, All, Any, Proves, Refutes}
+use Rattle.structural_types.specs.Below.{Coinductive, Inductive, PathKind, greater_kind, Edge, GraphNode, HasEdge, HasGoal, IsReached, IsWalk, IsProofGraph, IsRefutationGraph, question_of, walk_kind, Question, Needs, All, Any, Proves, Refutes}
 use Rattle.search_context.specs.declared.context.NodeId.{NodeId}
 use Rattle.search_context.specs.Decisive.{IsDecidedKind, IsDecisive}
 use Rattle.search_context.specs.Verdicts.{IsDefinite}
@@ -11,7 +11,7 @@ use Rattle.delegate_parts.specs.declared.outcome.Outcome.TheVariants.{Maybe, No,
 use Rattle.structural_types.specs.Below.{Outcome, is_no, is_yes, outcome_verdicts}
 use Rattle.question_lists.proofs.Ranked.{decisive, scripts}
 use Rattle.structural_types.specs.Subtypes.{Form, IsBelow, IsSimulation, IsSupported}
-use Rattle.structural_types.specs.Rule.{asks, case_of, needs_in, needs_of, pair, pairs_of, questions_of}
+use Rattle.structural_types.specs.Rule.{asks, needs_of, pair, pairs_of, questions_of}
 use Rattle.structural_types.specs.declared.delegate.Pair.{Pair}
 use Rattle.structural_types.proofs.Follows.{follows, Follows, supported}
 use Rattle.structural_types.proofs.Reached.{reached, Reached}

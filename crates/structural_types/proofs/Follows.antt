@@ -1,5 +1,5 @@
 -- The rule is the definition's: what proves a pair supports it, and where a pair is below, so are all or some of its questions.
-use Rattle.std.proofs.Common.{◌≡◌, ℕ, ◌<◌, ◌==◌, ◌&&◌, ◌⊎◌, inl, inr, Bool, true, false, cond, List, [], ◌∷◌, map, length, slice_get, Contains, Option, None, Some, is_some, refl, sym, ap, ◌∙◌, subst, arith}
+use Rattle.std.proofs.Common.{◌≡◌, ℕ, ◌==◌, ◌&&◌, inl, inr, Bool, true, false, cond, List, [], ◌∷◌, map, slice_get, Contains, Option, None, Some, is_some, refl, sym, ap, ◌∙◌, subst, arith}
 use Rattle.std.specs.List.{find}
 use Rattle.std.specs.Option.{option_map, unwrap_or}
 use Rattle.std.proofs.lemmas.Bool.{cases_Bool, eqb-true, eq-eqb}
@@ -10,7 +10,7 @@ use Rattle.structural_types.specs.Subtypes.{Base, Bottom, Form, Function, IsBelo
 use Rattle.structural_types.specs.Subtypes.IsSupported.{BottomLeft, TopRight, SameWord, Functions, Records, EachLeft, SomeRight}
 use Rattle.structural_types.specs.Rule.{alternatives_in, asks, Case, case_between, needs_in, pair, pairs_in, part_at, record_pairs, BetweenRecords, Fails, Holds}
 use Rattle.structural_types.specs.declared.delegate.Pair.{Pair}
-use Rattle.structural_types.proofs.Apart.{part_below, union_has}
+use Rattle.structural_types.proofs.Apart.{part_below}
 
 -- a field that is found is a member
 pub part_member : (fields : List Field) (name y : ℕ) → part_of fields name ≡ Some y → (field : Field) × Contains fields field × (field.name ≡ name)

@@ -3,3 +3,5 @@ pub mod Follows
 pub mod Reached
 pub mod Decided
 pub mod Bound
+pub mod Reflexive
+pub mod Transitive

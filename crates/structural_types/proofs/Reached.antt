@@ -1,12 +1,12 @@
 -- The places that are reached in a finite graph, as a list that is closed.
-use Rattle.std.proofs.Common.{◌≡◌, ◌≢◌, ℕ, zero, suc, ◌+◌, ◌<◌, ◌≤◌, ◌⊎◌, inl, inr, List, [], ◌∷◌, ◌++◌, length, get_or, slice_get, Contains, Option, None, Some, refl, sym, subst, arith}
+use Rattle.std.proofs.Common.{◌≡◌, ℕ, zero, suc, ◌+◌, ◌<◌, ◌⊎◌, inl, inr, List, [], ◌∷◌, length, get_or, slice_get, Contains, Option, None, Some, refl, sym, subst, arith}
 use Rattle.std.specs.Option.{IsSomeAnd}
 use Rattle.std.proofs.lemmas.Bool.Decides.{eqb_tells}
 use Rattle.std.proofs.lemmas.Option.{slice_get-get_or, get_or_from_slice_get}
 use Rattle.open_graphs.proofs.Members.{contains_later, first_or_later}
 use Rattle.search_context.proofs.Pigeonhole.{pigeonhole}
 use Rattle.search_context.proofs.Graphs.{HasGoal-within, IsReached-step}
-use Rattle.structural_types.specs.Below.{PathKind, Edge, GraphNode, HasEdge, HasGoal, IsReached, IsGraph, Question}
+use Rattle.structural_types.specs.Below.{PathKind, Edge, GraphNode, HasEdge, IsReached, IsGraph, Question}
 
 -- whether a number is in the list
 has : (xs : List ℕ) (n : ℕ) → Contains xs n ⊎ (Contains xs n → ⊥)

@@ -9,13 +9,19 @@
 //! | File of `specs/` | Has |
 //! |---|---|
 //! | `Subtypes` | when a type is below another; it names no search |
+//! | `Order` | when types are in an order |
 //! | `Rule` | the rule of a pair as a list of questions |
 #![tactic(auto)]
 
 mod ask;
 mod delegate;
 mod fields;
+mod order;
+#[cfg(test)]
+mod plain;
 mod subtyping;
+#[cfg(test)]
+mod tables;
 #[cfg(test)]
 mod tests;
 mod types;

@@ -36,8 +36,11 @@ fn below(subtyping: &mut Subtyping<'_>, left: usize, right: usize) -> Result<boo
 }
 
 const INT: usize = 0;
+
 const TEXT: usize = 1;
+
 const TOP: usize = 2;
+
 const BOTTOM: usize = 3;
 
 /// Two base types, the top and the bottom.

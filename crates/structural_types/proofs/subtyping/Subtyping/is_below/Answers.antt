@@ -1,6 +1,6 @@
-use Rattle.std.proofs.Common.{◌≡◌, Bool, true, false, Ok, inl, inr, sym, subst, ◌∙◌}
+use Rattle.std.proofs.Common.{◌≡◌, inl, inr, sym, subst, ◌∙◌}
 use Rattle.std.proofs.lemmas.Bool.{cases_Bool}
-use Rattle.structural_types.specs.Below.{Neither, No, Yes}
+use Rattle.structural_types.specs.Below.{No, Yes}
 use Rattle.structural_types.specs.Rule.{pair}
 use Rattle.structural_types.specs.Subtypes.{IsBelow, forms_of}
 use Rattle.structural_types.proofs.Decided.{pairs_are_decisive, proved_below, refuted_not_below, yes_or_no}
