@@ -4,9 +4,8 @@ ghost use Rattle.structural_types.specs.Below.{Neither, No, Yes};
 ghost use Rattle.structural_types.specs.Subtypes.{IsBelow, forms_of};
 ghost use Rattle.structural_types.specs.Asked.{declared_in, had_limits};
 
-use crate::delegate::{Pair, TypesDelegate};
+use crate::delegate::{LendsTypes, Pair, PairsOf, TypesDelegate};
 use crate::subtyping::Subtyping;
-use crate::types::Types;
 use delegate_parts::{Builder, ContextOf, Outcome};
 use question_lists::Listed;
 use search_graph::graph::SearchGraph;
@@ -15,14 +14,14 @@ use search_parts::global_cache::GlobalCache;
 use search_parts::path::PathKind;
 use std::alloc::Global;
 
-impl<'a> Subtyping<'a> {
+impl<T: LendsTypes> Subtyping<T> {
     /// Questions about these types. It takes no memory yet.
-    pub fn new(alloc: Global, types: &'a Types) -> Subtyping<'a>
-        ensures types { declared_in result ≡ forms_of types.now }
+    pub fn new(alloc: Global, types: T) -> Subtyping<T>
+        ensures types { declared_in T.types_of result ≡ forms_of (T.types_of types) }
         ensures no_limits { had_limits result ≡ false }
     {
         Subtyping {
-            cache: GlobalCache::new(alloc, ContextOf(Listed(types))),
+            cache: GlobalCache::new(alloc, ContextOf(Listed(PairsOf { lender: types }))),
             limits_met: false,
             alloc,
         }
@@ -35,9 +34,9 @@ impl<'a> Subtyping<'a> {
         self.limits_met
     }
 
-    /// Whether the left type is below the right one: `Yes` or `No`, and `Neither` where the depth did not suffice now, or
-    /// for an answer that is still stored. Types are told by their numbers. The depth is how many pairs may be nested
-    /// below this one; that many as there are pairs of types suffices.
+    /// Whether the left type is below the right one: `Yes` or `No`, and `Neither` where a question was cut off now, by its
+    /// depth or by the most runs, or was for an answer that is still stored. Types are told by their numbers. The depth is
+    /// how many pairs may be nested below this one.
     ///
     /// `Fault::Memory` where memory is out. It can be used again after a fault.
     pub fn is_below(
@@ -46,13 +45,13 @@ impl<'a> Subtyping<'a> {
         right: usize,
         depth: usize,
     ) -> Result<Verdict, Fault<Pair, Outcome>>
-        ensures yes { result ≡ Ok Yes → IsBelow (declared_in self.old) left right }
-        ensures no { result ≡ Ok No → IsBelow (declared_in self.old) left right → ⊥ }
+        ensures yes { result ≡ Ok Yes → IsBelow (declared_in T.types_of self.old) left right }
+        ensures no { result ≡ Ok No → IsBelow (declared_in T.types_of self.old) left right → ⊥ }
         ensures neither { result ≡ Ok Neither → had_limits self.new ≡ true }
         ensures limits_stay { had_limits self.old ≡ true → had_limits self.new ≡ true }
-        ensures same_types { declared_in self.new ≡ declared_in self.old }
+        ensures same_types { declared_in T.types_of self.new ≡ declared_in T.types_of self.old }
     {
-        let mut graph = SearchGraph::<TypesDelegate<'a>>::new(self.alloc, depth);
+        let mut graph = SearchGraph::<TypesDelegate<T>>::new(self.alloc, depth);
         let mut builder = Builder::new(true);
         let pair = Pair { left, right };
         let answer = graph.evaluate_goal(

@@ -15,8 +15,34 @@ pub struct Pair {
     pub right: usize,
 }
 
+/// What lends types, as a reference does.
+pub trait LendsTypes: Copy {
+    ghost use Rattle.structural_types.specs.declared.types.Types.{Types};
+
+    /// The types that it lends.
+    ghost types_of: { Self → Types };
+
+    /// The types that it lends.
+    fn types(&self) -> &Types
+        ensures { result.now ≡ types_of self.now };
+}
+
+impl<'a> LendsTypes for &'a Types {
+    ghost types_of = { λ lent. lent.now };
+
+    fn types(&self) -> &Types {
+        *self
+    }
+}
+
+/// The pairs of the types that are lent, as goals.
+#[derive(Clone, Copy)]
+pub struct PairsOf<T> {
+    pub lender: T,
+}
+
 /// The delegate of subtypes, which has eight runs of a pair and the provisional cache.
-pub type TypesDelegate<'a> = ListsDelegate<&'a Types, 8, 1>;
+pub type TypesDelegate<T> = ListsDelegate<PairsOf<T>, 8, 1>;
 
 /// How a pair is decided, by the forms of its types.
 #[derive(Clone, Copy, Debug, PartialEq, Eq)]
@@ -161,32 +187,32 @@ impl Types {
 }
 
 // Everything is asked coinductively. A pair that fails needs any of no questions.
-impl<'a> QuestionLists for &'a Types {
+impl<T: LendsTypes> QuestionLists for PairsOf<T> {
     ghost use Rattle.std.proofs.Common.{rules};
 
     type Input = Pair;
 
-    ghost needs_of = { λ types pair. needs_of (forms_of types.now) pair };
+    ghost needs_of = { λ pairs pair. needs_of (forms_of (T.types_of pairs.lender)) pair };
 
-    ghost questions_of = { λ types pair. questions_of (forms_of types.now) pair };
+    ghost questions_of = { λ pairs pair. questions_of (forms_of (T.types_of pairs.lender)) pair };
 
-    ghost most = { λ types. most_questions (forms_of types.now) };
+    ghost most = { λ pairs. most_questions (forms_of (T.types_of pairs.lender)) };
 
     ghost same_input = { Prim.search rules };
 
     fn needs(self, pair: Pair) -> Needs {
-        match self.case(pair) {
+        match self.lender.types().case(pair) {
             Case::Fails | Case::SplitsRight => Needs::Any,
             _ => Needs::All,
         }
     }
 
     fn count(self, pair: Pair) -> usize {
-        self.asked_count(pair)
+        self.lender.types().asked_count(pair)
     }
 
     fn question(self, pair: Pair, place: usize) -> (PathKind, Pair) {
-        let asked = self.asked(pair, place).unwrap_or(pair); // there is one
+        let asked = self.lender.types().asked(pair, place).unwrap_or(pair); // there is one
         (PathKind::Coinductive, asked)
     }
 }

@@ -26,7 +26,7 @@ mod tables;
 mod tests;
 mod types;
 
-pub use delegate::{Pair, TypesDelegate};
+pub use delegate::{LendsTypes, Pair, PairsOf, TypesDelegate};
 pub use fields::Field;
 pub use subtyping::Subtyping;
 pub use types::{Form, Types};

@@ -1,12 +1,12 @@
 //! The search beside the plain definition, on all tables of two small types and on random tables.
 
+use crate::delegate::LendsTypes;
 use crate::fields::Field;
 use crate::plain::pairs_below;
 use crate::subtyping::Subtyping;
 use crate::types::{Form, Types};
 use search_parts::context::Verdict;
 use std::alloc::Global;
-use std::process::Abort;
 use std::test::Fail;
 
 /// A union of these types.
@@ -32,15 +32,25 @@ fn record(alloc: Global, fields: &[(u32, usize)]) -> Result<Form, Fail> {
 /// many were below?
 fn agreed(alloc: Global, types: &Types, size: usize) -> Result<usize, Fail> {
     let plain = pairs_below(alloc, types, size)?;
-    let mut subtyping = Subtyping::new(alloc, types);
-    for left in (0..size).rev() {
-        compare_row(&mut subtyping, plain.as_slice(), left, size)?;
-    }
+    compare_all::<&Types>(alloc, types, plain.as_slice(), size)?;
     Ok(plain.len())
 }
 
-fn compare_row(
-    subtyping: &mut Subtyping<'_>,
+fn compare_all<T: LendsTypes>(
+    alloc: Global,
+    types: T,
+    plain: &[(usize, usize)],
+    size: usize,
+) -> Result<(), Fail> {
+    let mut subtyping = Subtyping::<T>::new(alloc, types);
+    for left in (0..size).rev() {
+        compare_row(&mut subtyping, plain, left, size)?;
+    }
+    Ok(())
+}
+
+fn compare_row<T: LendsTypes>(
+    subtyping: &mut Subtyping<T>,
     plain: &[(usize, usize)],
     left: usize,
     size: usize,
@@ -177,15 +187,35 @@ fn random_types(alloc: Global, chance: &mut Chance, size: usize) -> Result<Types
     Ok(types)
 }
 
-#[test]
-fn random_tables_are_answered_plainly(rt: HostRuntime) -> Result<(), Fail> {
-    let alloc = rt.alloc();
-    let mut chance = Chance { state: 20261124 };
-    for number in 0..300usize {
-        let size = 3 + number % 6;
+/// Compares the search with the plain definition on so many random tables of so many types. Each type is below itself.
+fn random_tables(alloc: Global, state: u64, tables: usize, size: usize) -> Result<(), Fail> {
+    let mut chance = Chance { state };
+    for _ in 0..tables {
         let types = random_types(alloc, &mut chance, size)?;
         let below = agreed(alloc, &types, size)?;
-        assert!(rt; below > 0 && below <= size * size);
+        if below < size {
+            return Err("a type is not below itself".into());
+        }
     }
     Ok(())
+}
+
+#[test]
+fn random_tables_of_three_types_are_answered_plainly(rt: HostRuntime) -> Result<(), Fail> {
+    random_tables(rt.alloc(), 20261124, 2000, 3)
+}
+
+#[test]
+fn random_tables_of_four_types_are_answered_plainly(rt: HostRuntime) -> Result<(), Fail> {
+    random_tables(rt.alloc(), 4, 1000, 4)
+}
+
+#[test]
+fn random_tables_of_six_types_are_answered_plainly(rt: HostRuntime) -> Result<(), Fail> {
+    random_tables(rt.alloc(), 6, 400, 6)
+}
+
+#[test]
+fn random_tables_of_eight_types_are_answered_plainly(rt: HostRuntime) -> Result<(), Fail> {
+    random_tables(rt.alloc(), 8, 200, 8)
 }
