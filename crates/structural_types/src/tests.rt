@@ -6,7 +6,7 @@ use crate::subtyping::Subtyping;
 use crate::types::{Form, Types};
 use search_parts::context::Verdict;
 use std::alloc::Global;
-use std::panic::Abort;
+use std::process::Abort;
 use std::test::Fail;
 
 /// A union of these types.
