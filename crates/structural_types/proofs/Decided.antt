@@ -1,0 +1,192 @@
+-- A proof graph of a pair gives a simulation, and a refutation graph leaves none.
+use Rattle.std.proofs.Common.{◌≡◌, true, ℕ, zero, suc, ◌+◌, ◌-◌, ◌⊎◌, inl, inr, List, [], ◌∷◌, map, length, slice_get, Contains, Option, None, Some, refl, sym, ap, ap₂, ◌∙◌, subst, arith}
+use Rattle.std.specs.Option.{IsSomeAnd}
+use Rattle.search_context.proofs.Graphs.{Contains-map, Contains-mapped, goal_node, HasGoal-within, HasEdge-from, IsReached-step}
+use Rattle.search_context.proofs.Pigeonhole.{pigeonhole}
+use Rattle.structural_types.specs.Below.{Coinductive, Inductive, PathKind, greater_kind, Edge, GraphNode, HasEdge, HasGoal, IsReached, IsWalk, IsProofGraph, IsRefutationGraph, question_of, walk_kind, Question, Needs, All, Any, Proves, Refutes}
+use Rattle.search_context.specs.declared.context.NodeId.{NodeId}
+use Rattle.search_context.specs.Decisive.{IsDecidedKind, IsDecisive}
+use Rattle.search_context.specs.Verdicts.{IsDefinite}
+use Rattle.delegate_parts.specs.declared.outcome.Outcome.TheVariants.{Maybe, No, Overflow, Yes}
+use Rattle.structural_types.specs.Below.{Outcome, is_no, is_yes, outcome_verdicts}
+use Rattle.question_lists.proofs.Ranked.{decisive, scripts}
+use Rattle.structural_types.specs.Subtypes.{Form, IsBelow, IsSimulation, IsSupported}
+use Rattle.structural_types.specs.Rule.{asks, needs_of, pair, pairs_of, questions_of}
+use Rattle.structural_types.specs.declared.delegate.Pair.{Pair}
+use Rattle.structural_types.proofs.Follows.{follows, Follows, supported}
+use Rattle.structural_types.proofs.Reached.{reached, Reached}
+
+module _ (forms : List Form) where
+  abbrev pub proves : Pair → List (Question Pair) → Type 0
+  proves goal held = Proves (needs_of forms goal) (questions_of forms goal) held
+
+  abbrev pub refutes : Pair → List (Question Pair) → Type 0
+  refutes goal failed = Refutes (needs_of forms goal) (questions_of forms goal) failed
+
+  -- the pair of a node
+  abbrev pair_at : Option (GraphNode Pair) → ℕ × ℕ
+  pair_at None = (0, 0)
+  pair_at (Some n) = (n.goal.left, n.goal.right)
+
+  module _ (nodes : List (GraphNode Pair)) (root : ℕ) (goal : Pair) (proof : IsProofGraph proves nodes root goal) where
+    all : Reached proves Coinductive nodes root goal proof
+    all = reached proves Coinductive nodes root goal proof
+
+    abbrev at_place : ℕ → ℕ × ℕ
+    at_place at = pair_at (slice_get nodes at)
+
+    goal_at : (at : ℕ) (asked : Pair) → HasGoal nodes at asked → at_place at ≡ (asked.left, asked.right)
+    goal_at at asked h = let w = goal_node (slice_get nodes at) asked h in ap pair_at w.1 ∙ ap (λ g. (g.left, g.right)) w.2
+
+    -- the list of the pairs of all places that are reached
+    abbrev pairs : List (ℕ × ℕ)
+    pairs = map at_place all.places
+
+    edge_pair : (at : ℕ) (e : Edge Pair) (l r : ℕ) → Contains all.places at → HasEdge nodes at e → question_of e ≡ asks (pair l r) → Contains pairs (l, r)
+    edge_pair at e l r here h same =
+        let g = proof.closed at e (all.are_reached at here) h in
+        let i : e.input ≡ pair l r = ap (λ q. q.goal) same in
+        subst (Contains pairs) (goal_at e.target e.input g ∙ ap (λ p. (p.left, p.right)) i) (Contains-mapped at_place all.places e.target (all.stay at e here h))
+
+    supported_at : (at l r : ℕ) (n : GraphNode Pair) → Contains all.places at → slice_get nodes at ≡ Some n → (n.goal.left ≡ l) × (n.goal.right ≡ r) → IsSupported forms pairs l r
+    supported_at at l r n here is same =
+        let shown : proves n.goal (map question_of n.edges) = proof.is_shown at n (all.are_reached at here) is in
+        let at_goal : proves (pair l r) (map question_of n.edges) = subst (λ p. proves p (map question_of n.edges)) (ap₂ {C = Pair} pair same.0 same.1) shown in
+        supported forms pairs l r (map question_of n.edges)
+        (λ x y h. let edge = Contains-map question_of n.edges (asks (pair x y)) h in edge_pair at edge.0 x y here (HasEdge-from nodes at n edge.0 is edge.1) edge.2)
+        at_goal
+
+    node_at : (at : ℕ) → IsReached nodes root at → (n : GraphNode Pair) × (slice_get nodes at ≡ Some n)
+    node_at at w = reached_node root goal proof.rooted (([]), refl) at w.0 w.1
+      where
+        reached_node : (from : ℕ) (asked : Pair) → HasGoal nodes from asked → IsReached nodes root from → (to : ℕ) (walk : List (Edge Pair)) → IsWalk nodes from walk to → (n : GraphNode Pair) × (slice_get nodes to ≡ Some n)
+        reached_node from asked h r to [] e = let w = goal_node (slice_get nodes from) asked h in (w.0, ap (slice_get nodes) (sym e) ∙ w.1)
+        reached_node from asked h r to (e ∷ rest) w = reached_node e.target e.input (proof.closed from e r w.0) (IsReached-step nodes root from e r w.0) to rest w.1
+
+    is_simulation : IsSimulation forms pairs
+    is_simulation l r h =
+        let w = Contains-map at_place all.places (l, r) h in
+        let n = node_at w.0 (all.are_reached w.0 w.1) in
+        let e : (n.0.goal.left, n.0.goal.right) ≡ (l, r) = sym (ap pair_at n.1) ∙ w.2 in
+        supported_at w.0 l r n.0 w.1 n.1 (ap (λ t. t.0) e, ap (λ t. t.1) e)
+
+    -- what is proved is below
+    pub below_from : IsBelow forms goal.left goal.right
+    below_from = record {
+      pairs = pairs;
+      is_simulation = is_simulation;
+      has_pair = subst (Contains pairs) (goal_at root goal proof.rooted) (Contains-mapped at_place all.places root all.has_root);
+    }
+
+  -- a question that failed, of a pair that is below
+  record FailedBelow (failed : List (Question Pair)) : Type 0 where
+    asked : Pair
+    has_failed : Contains failed (asks asked)
+    is_below : IsBelow forms asked.left asked.right
+
+  failed_by : (needs : Needs) (asked : List Pair) (failed : List (Question Pair)) → Follows forms needs asked → Refutes needs (map asks asked) failed → FailedBelow failed
+  failed_by All asked failed below fails =
+      let w = Contains-map asks asked fails.0 fails.1 in
+      record { asked = w.0; has_failed = subst (Contains failed) (sym w.2) fails.2; is_below = below w.0 w.1 }
+  failed_by Any asked failed below fails =
+      record { asked = below.0; has_failed = fails (asks below.0) (Contains-mapped asks asked below.0 below.1); is_below = below.2 }
+
+  module _ (nodes : List (GraphNode Pair)) (root : ℕ) (goal : Pair) (refutation : IsRefutationGraph refutes nodes root goal) (below : IsBelow forms goal.left goal.right) where
+    -- a place of the graph whose pair is below all the same
+    record Place : Type 0 where
+      at : ℕ
+      asked : Pair
+      is_reached : IsReached nodes root at
+      has_goal : HasGoal nodes at asked
+      is_below : IsBelow forms asked.left asked.right
+
+    -- from it an edge leads to another one, coinductively
+    record Step (from : Place) : Type 0 where
+      edge : Edge Pair
+      has_edge : HasEdge nodes from.at edge
+      is_coinductive : edge.kind ≡ Coinductive
+      is_below : IsBelow forms edge.input.left edge.input.right
+
+    step_at : (from : Place) (n : GraphNode Pair) → slice_get nodes from.at ≡ Some n → n.goal ≡ from.asked → Step from
+    step_at from n is same =
+        let shown : refutes from.asked (map question_of n.edges) = subst (λ g. refutes g (map question_of n.edges)) same (refutation.is_shown from.at n from.is_reached is) in
+        let failed = failed_by (needs_of forms from.asked) (pairs_of forms from.asked) (map question_of n.edges) (follows forms from.asked.left from.asked.right from.is_below) shown in
+        let e = Contains-map question_of n.edges (asks failed.asked) failed.has_failed in
+        record {
+          edge = e.0;
+          has_edge = HasEdge-from nodes from.at n e.0 is e.1;
+          is_coinductive = ap (λ q. q.kind) e.2;
+          is_below = subst (λ g. IsBelow forms g.left g.right) (sym (ap (λ q. q.goal) e.2)) failed.is_below;
+        }
+
+    step : (from : Place) → Step from
+    step from = let n = goal_node (slice_get nodes from.at) from.asked from.has_goal in step_at from n.0 n.1 n.2
+
+    abbrev next : (from : Place) → Step from → Place
+    next from s = record {
+      at = s.edge.target;
+      asked = s.edge.input;
+      is_reached = IsReached-step nodes root from.at s.edge from.is_reached s.has_edge;
+      has_goal = refutation.closed from.at s.edge from.is_reached s.has_edge;
+      is_below = s.is_below;
+    }
+
+    -- the graph walked along such edges
+    abbrev place_at : ℕ → Place
+    place_at zero = record { at = root; asked = goal; is_reached = ([], refl); has_goal = refutation.rooted; is_below = below }
+    place_at (suc i) = next (place_at i) (step (place_at i))
+
+    abbrev walk : ℕ → ℕ → List (Edge Pair)
+    walk i zero = []
+    walk i (suc n) = (step (place_at i)).edge ∷ walk (suc i) n
+
+    walk-is : (i n j : ℕ) → i + n ≡ j → IsWalk nodes (place_at i).at (walk i n) (place_at j).at
+    walk-is i zero j e = let same : i ≡ j = omega arith in ap (λ k. (place_at k).at) same
+    walk-is i (suc n) j e = ((step (place_at i)).has_edge, walk-is (suc i) n j (omega arith))
+
+    greater_of : (k : PathKind) → k ≡ Coinductive ⊎ k ≡ Inductive → greater_kind Coinductive k ≡ Coinductive
+    greater_of k (inl e) = ap (greater_kind Coinductive) e
+    greater_of k (inr e) = ap (greater_kind Coinductive) e
+
+    rest_kind : (i n : ℕ) → walk_kind (walk i n) ≡ Coinductive ⊎ walk_kind (walk i n) ≡ Inductive
+    rest_kind i zero = inr refl
+    rest_kind i (suc n) = inl (ap (λ k. greater_kind k (walk_kind (walk (suc i) n))) (step (place_at i)).is_coinductive ∙ greater_of (walk_kind (walk (suc i) n)) (rest_kind (suc i) n))
+
+    whole_kind : (i n : ℕ) → walk_kind (walk i (suc n)) ≡ Coinductive
+    whole_kind i n = ap (λ k. greater_kind k (walk_kind (walk (suc i) n))) (step (place_at i)).is_coinductive ∙ greater_of (walk_kind (walk (suc i) n)) (rest_kind (suc i) n)
+
+    differ : (k : PathKind) → k ≡ Coinductive → k ≡ Inductive → ⊥
+    differ k e f = absurd cc
+
+    closes : (i n j : ℕ) → i + suc n ≡ j → (place_at i).at ≡ (place_at j).at → ⊥
+    closes i n j e same =
+        differ (walk_kind (walk i (suc n))) (whole_kind i n)
+        (refutation.cycles (place_at i).at (step (place_at i)).edge (walk (suc i) n) (place_at i).is_reached
+        (subst (λ x. IsWalk nodes (place_at i).at (walk i (suc n)) x) (sym same) (walk-is i (suc n) j e)))
+
+    -- what is refuted is not below
+    pub never_below : ⊥
+    never_below =
+        let w = pigeonhole (length nodes) (λ i. (place_at i).at) (λ i h. HasGoal-within nodes (place_at i).at (place_at i).asked (place_at i).has_goal) in
+        closes w.0 (w.1 - suc w.0) w.1 (omega (arith, w.2)) w.4
+
+  -- the node, if there is one, is the root of a proof graph
+  pub proved_below : (node : Option NodeId) (nodes : List (GraphNode Pair)) (goal : Pair) → IsSomeAnd node (λ root. IsProofGraph proves nodes root.0 goal) → IsBelow forms goal.left goal.right
+  proved_below (Some root) nodes goal h = below_from nodes root.0 goal h
+  proved_below None nodes goal h = absurd h
+
+  pub refuted_not_below : (node : Option NodeId) (nodes : List (GraphNode Pair)) (goal : Pair) → IsSomeAnd node (λ root. IsRefutationGraph refutes nodes root.0 goal) → IsBelow forms goal.left goal.right → ⊥
+  refuted_not_below (Some root) nodes goal h below = never_below nodes root.0 goal h below
+  refuted_not_below None nodes goal h below = absurd h
+
+  -- each question is asked coinductively, so pairs are decided where no limit is met
+  pub pairs_are_decisive : IsDecisive outcome_verdicts (scripts (needs_of forms) (questions_of forms))
+  pairs_are_decisive = decisive (needs_of forms) (questions_of forms) (λ goal q h.
+      let w = Contains-map asks (pairs_of forms goal) q h in subst (λ x. IsDecidedKind x.kind) w.2 tt)
+
+-- a definite outcome is yes or no
+pub yes_or_no : (r : Outcome) → IsDefinite outcome_verdicts r → (is_yes r ≡ true) ⊎ (is_no r ≡ true)
+yes_or_no Yes h = inl refl
+yes_or_no No h = inr refl
+yes_or_no Maybe h = absurd (h refl)
+yes_or_no Overflow h = absurd (h refl)

@@ -1,0 +1,7 @@
+pub mod Apart
+pub mod Follows
+pub mod Reached
+pub mod Decided
+pub mod Bound
+pub mod Reflexive
+pub mod Transitive

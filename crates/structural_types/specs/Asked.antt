@@ -1,0 +1,14 @@
+-- What a subtyping is to those that use it.
+use Rattle.std.specs.Prelude.{Bool, List}
+use Rattle.structural_types.specs.declared.types.Types.{Types}
+use Rattle.structural_types.specs.declared.delegate.LendsTypes.{Ghosts as LendsTypesOf}
+use Rattle.structural_types.specs.declared.subtyping.Subtyping.{Subtyping}
+use Rattle.structural_types.specs.Subtypes.{Form, forms_of}
+
+-- the types that it is asked about; `types_of` gives those that a lender lends
+abbrev pub declared_in : {T : Type 0} {G : LendsTypesOf T} → (T → Types) → Subtyping T G → List Form
+declared_in types_of subtyping = forms_of (types_of subtyping.cache.cx.0.0.lender)
+
+-- a question was cut off since it was made
+abbrev pub had_limits : {T : Type 0} {G : LendsTypesOf T} → Subtyping T G → Bool
+had_limits subtyping = subtyping.limits_met

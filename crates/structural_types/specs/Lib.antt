@@ -1,0 +1,6 @@
+pub mod Below
+pub mod Fields
+pub mod Subtypes
+pub mod Order
+pub mod Rule
+pub mod Asked

@@ -1,0 +1,32 @@
+//! Types that are declared by equations, and whether one is below another.
+//!
+//! Types are base words, a top, a bottom, functions, records and unions, and they are structural: a type is what its
+//! equation says, its name does not matter. They may be recursive, as `stream = { head: Int tail: stream }`. A question
+//! that leads back to itself counts as answered yes, as is right for types without end.
+//!
+//! The rule is two dozen lines, in `delegate`; the search does the rest.
+//!
+//! | File of `specs/` | Has |
+//! |---|---|
+//! | `Subtypes` | when a type is below another; it names no search |
+//! | `Order` | when types are in an order |
+//! | `Rule` | the rule of a pair as a list of questions |
+#![tactic(auto)]
+
+mod ask;
+mod delegate;
+mod fields;
+mod order;
+#[cfg(test)]
+mod plain;
+mod subtyping;
+#[cfg(test)]
+mod tables;
+#[cfg(test)]
+mod tests;
+mod types;
+
+pub use delegate::{LendsTypes, Pair, PairsOf, TypesDelegate};
+pub use fields::Field;
+pub use subtyping::Subtyping;
+pub use types::{Form, Types};
