@@ -23,13 +23,13 @@ mod journal;
 #[cfg(test)]
 mod plain_graph;
 #[cfg(test)]
-mod proof_trees;
-#[cfg(test)]
 mod put;
 #[cfg(test)]
 mod recorded;
 #[cfg(test)]
 mod requests;
+#[cfg(test)]
+mod root_goals;
 mod runs;
 #[cfg(test)]
 mod validating;
