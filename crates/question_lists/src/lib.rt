@@ -2,11 +2,16 @@
 //!
 //! Many delegates need no more. Such a one says of each goal which questions it has and whether it needs all or any of
 //! them, by an `impl QuestionLists`; its context and its frames, with all laws that a search asks of them, are made
-//! here:
+//! here. What it reads stands behind a lender, so that the function which owns the cache is generic (`shapes` and
+//! `docs/CALLING.md` show one whole):
 //!
-//!     impl<'a> QuestionLists for &'a Mine { .. }
-//!     let context = ContextOf(Listed(&mine));
-//!     let mut cache = GlobalCache::<ListsDelegate<&Mine, 8, 1>>::new(alloc, context);
+//!     impl<L: Lends> QuestionLists for Mine<L> { .. }
+//!
+//!     fn ask<L: Lends>(alloc: Global, lender: L, goal: Goal, depth: usize) -> .. {
+//!         let context = ContextOf(Listed(Mine { lender }));
+//!         let mut cache = GlobalCache::<ListsDelegate<Mine<L>, 8, 1>>::new(alloc, context);
+//!         ..
+//!     }
 //!
 //! | File of `specs/` | Has |
 //! |---|---|

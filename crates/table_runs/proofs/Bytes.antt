@@ -1,9 +1,9 @@
 -- What a reader's known bytes say of what was read.
-use Rattle.std.proofs.Common.{◌≡◌, ℕ, List, [], ◌++◌, Option, Some, None, Result, Ok, Err, ap, sym, subst, arith, ◌∙◌, refl, append_assoc}
+use Rattle.std.proofs.Common.{◌≡◌, ℕ, List, [], ◌++◌, Option, Some, None, Result, Ok, Err, ap, sym, arith, ◌∙◌, refl, append_assoc}
 use Rattle.std.proofs.lemmas.List.{append-nil}
-use Rattle.std.specs.Prelude.{IfSome, OnErr, OnOk}
+use Rattle.std.specs.Prelude.{IfSome, OnErr}
 use Rattle.std.specs.Io.KnownBytes.{Consumes, IsAtEnd}
-use Rattle.table_runs.specs.Below.{Rules, Reads, IsFirstBadLine}
+use Rattle.table_runs.specs.Below.{IsFirstBadLine}
 use Rattle.table_runs.specs.Stop.{status_of}
 use Rattle.table_runs.specs.declared.program.Stop.{Stop}
 use Rattle.table_runs.specs.declared.program.Stop.TheVariants.{BadLine, InputOrOutput, Memory}
@@ -21,15 +21,6 @@ all_consumed None b c xs h g end = tt
 all_consumed (Some s) None c xs h g end = absurd h
 all_consumed (Some s) (Some t) None xs h g end = absurd g
 all_consumed (Some s) (Some t) (Some u) xs h g end = sym (h ∙ ap (λ w. xs ++ w) (g ∙ end) ∙ append-nil xs)
-
--- what was read of all known bytes
-pub known_reads : (a : Option (List ℕ)) (text : List ℕ) (rules : Rules) → IfSome a (λ bytes. text ≡ bytes) → Reads text rules → IfSome a (λ bytes. (r : Rules) × Reads bytes r)
-known_reads None text rules same reads = tt
-known_reads (Some bytes) text rules same reads = (rules, subst (λ t. Reads t rules) same reads)
-
-pub on_ok : {T E P : Type 0} (r : Result T E) → P → OnOk r P
-on_ok (Ok x) p = p
-on_ok (Err e) p = tt
 
 pub on_err : {T E P : Type 0} (r : Result T E) → P → OnErr r P
 on_err (Ok x) p = tt
