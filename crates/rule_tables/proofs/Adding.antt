@@ -8,7 +8,7 @@ use Rattle.std.proofs.lemmas.List.{append-nil}
 use Rattle.std.proofs.lemmas.List.Elements.{filter_map-append}
 use Rattle.std.proofs.lemmas.Slice.Eq.{bytes_eq-Decides}
 use Rattle.rule_tables.specs.Words.{Goal, Candidate, Rules, NamedQuestion, Statement, Nothing, Rule, Ask, number_of, names_of, name_of, candidates_of, questions_of, names_in, first_mentions, candidate_in, question_in, IsCandidate, IsToBeAnswered, IsTableOf, Adds, Mentions}
-use Rattle.rule_tables.proofs.NameLemmas.{some_same}
+use Rattle.line_texts.proofs.NameLemmas.{some_same}
 use Rattle.rule_tables.proofs.Questions.{AllZip-append_one}
 use Rattle.rule_tables.proofs.TableLemmas.{IsGrown, grown, mentions_none}
 

@@ -1,9 +1,8 @@
 pub mod Steps
 pub mod Marked
 pub mod Digits
-pub mod Words
 pub mod Questions
-pub mod NameLemmas
 pub mod TableLemmas
 pub mod Adding
 pub mod Lines
+pub mod Stops

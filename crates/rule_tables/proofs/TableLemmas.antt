@@ -14,7 +14,7 @@ use Rattle.std.proofs.lemmas.Slice.Eq.{bytes_eq-Decides}
 use Rattle.rule_tables.specs.declared.reading.question.Question.{Question}
 use Rattle.rule_tables.specs.Words.{Goal, Asking, Candidate, Rules, NamedQuestion, Statement, Nothing, Rule, Ask, with_name, named, number_of, names_of, name_of, candidates_of, questions_of, names_in, first_mentions, NamedCandidate, candidate_in, question_in, IsAsked, AreAsked, IsCandidate, IsToBeAnswered, IsTableOf, Mentions}
 use Rattle.rule_tables.proofs.Questions.{AllZip-append_one}
-use Rattle.rule_tables.proofs.NameLemmas.{is_among, has_place, at_end, some_same, place_in_longer, slice_get-append_left}
+use Rattle.line_texts.proofs.NameLemmas.{is_among, has_place, at_end, some_same, place_in_longer, slice_get-append_left}
 
 -- a name whose number is not the next one was there
 same_by : (names : List (List ℕ)) (name : List ℕ) (n : ℕ) (b : Bool) → list_any (bytes_eq name) names ≡ b → slice_get (cond b names (names ++ name ∷ [])) n ≡ Some name → n ≢ length names →

@@ -1,27 +1,10 @@
 -- The input: rules and questions, one a line.
-use Rattle.std.specs.Prelude.{◌≡◌, ℕ, ◌<◌, ◌≤◌, ◌==◌, nat_lt, Bool, true, false, ◌||◌, List, [], ◌∷◌, filter, length, codes}
-use Rattle.std.specs.Char.{is_ascii_alphanumeric, is_ascii_digit}
-use Rattle.std.specs.List.{slice_split, AllPass, AllZip}
+use Rattle.std.specs.Prelude.{◌≡◌, ℕ, ◌<◌, ◌≤◌, Bool, true, false, List, [], ◌∷◌, length, codes}
+use Rattle.std.specs.Char.{is_ascii_digit}
+use Rattle.std.specs.List.{AllPass, AllZip}
 use Rattle.std.specs.Str.Parse.{digits_value}
+use Rattle.line_texts.specs.Lines.{IsName, words_of}
 use Rattle.rule_tables.specs.Below.{PathKind, Inductive, Unknown, Coinductive, ForcedAmbiguity}
-
--- the lines of a text, which newlines part
-abbrev pub lines_of : List ℕ → List (List ℕ)
-lines_of text = slice_split (λ byte. byte == 10) text
-
--- the words of a line, which spaces part
-abbrev pub words_of : List ℕ → List (List ℕ)
-words_of line = filter (λ word. nat_lt 0 (length word)) (slice_split (λ byte. byte == 32) line)
-
--- an ASCII letter, a digit or `_`
-abbrev pub is_name_byte : ℕ → Bool
-is_name_byte byte = is_ascii_alphanumeric byte || byte == 95
-
--- NAME
-pub record IsName (word : List ℕ) : Type 0 where
-  pub is_some : 0 < length word
-  pub is_short : length word ≤ 16
-  pub bytes : AllPass is_name_byte word
 
 -- DEPTH
 pub record IsDepth (word : List ℕ) : Type 0 where

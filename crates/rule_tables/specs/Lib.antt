@@ -1,13 +1,12 @@
-pub mod Names
 pub mod Rules
 pub mod Table
 pub mod Frame
 pub mod Standing
 pub mod Grammar
-pub mod LineWords
 pub mod Words
 pub mod Question
 pub mod Line
 pub mod Text
 pub mod Laws
 pub mod Below
+pub mod Stop

@@ -7,7 +7,7 @@ use Rattle.rule_tables.specs.declared.rules.Asking.{Asking}
 use Rattle.rule_tables.specs.declared.rules.Candidate.{Candidate}
 use Rattle.rule_tables.specs.declared.rules.Rules.{Rules}
 use Rattle.rule_tables.specs.Grammar.{NamedQuestion, Statement, Nothing, Rule, Ask}
-use Rattle.rule_tables.specs.Names.{with_name}
+use Rattle.line_texts.specs.Names.{with_name}
 use Rattle.rule_tables.specs.Rules.{number_of, names_of, name_of, candidates_of, questions_of}
 
 -- the names in a statement, in order

@@ -2,7 +2,8 @@
 use Rattle.std.specs.Prelude.{◌≡◌, ℕ, ◌+◌, List, take, All, Some, slice_get}
 use Rattle.std.specs.List.{AllZip}
 use Rattle.rule_tables.specs.declared.rules.Rules.{Rules}
-use Rattle.rule_tables.specs.Grammar.{Statement, Says, IsMalformed, lines_of}
+use Rattle.line_texts.specs.Lines.{lines_of}
+use Rattle.rule_tables.specs.Grammar.{Statement, Says, IsMalformed}
 use Rattle.rule_tables.specs.Table.{IsTableOf}
 
 -- each line says a statement, and the statements make the table

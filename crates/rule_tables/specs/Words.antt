@@ -2,17 +2,18 @@
 pub use Rattle.rule_tables.specs.Frame.{asking_in, asking_next, entering_next, ignoring, marked_from, questions_left}
 pub use Rattle.rule_tables.specs.Frame.{script_of, state_after, state_with, steps_left, steps_of, steps_within, with_answer}
 pub use Rattle.rule_tables.specs.Frame.{with_ignored}
-pub use Rattle.rule_tables.specs.Grammar.{Ask, IsDepth, IsMalformed, IsName, IsQuestion, letter_of, lines_of, NamedQuestion}
-pub use Rattle.rule_tables.specs.Grammar.{Nothing, Rule, Say, Says, Statement, words_of}
+pub use Rattle.rule_tables.specs.Grammar.{Ask, IsDepth, IsMalformed, IsQuestion, letter_of, NamedQuestion}
+pub use Rattle.rule_tables.specs.Grammar.{Nothing, Rule, Say, Says, Statement}
+pub use Rattle.line_texts.specs.Lines.{IsName, lines_of, words_of}
+pub use Rattle.line_texts.specs.LineWords.{words_left}
 pub use Rattle.rule_tables.specs.Laws.Runs.{request_after-is}
 pub use Rattle.rule_tables.specs.Line.{statement_of}
-pub use Rattle.rule_tables.specs.Names.{IsNumbered, number_in, Numbers, texts_of, with_name}
+pub use Rattle.line_texts.specs.Names.{with_name}
 pub use Rattle.rule_tables.specs.Question.{named}
 pub use Rattle.rule_tables.specs.Rules.{candidates_of, name_of, names_of, number_of, questions_of}
 pub use Rattle.rule_tables.specs.Table.{Adds, AreAsked, candidate_in, first_mentions, IsAsked, IsCandidate, IsTableOf}
 pub use Rattle.rule_tables.specs.Table.{IsToBeAnswered, Mentions, NamedCandidate, names_in, question_in}
 pub use Rattle.rule_tables.specs.Text.{IsFirstBadLine, Reads}
-pub use Rattle.rule_tables.specs.LineWords.{words_left}
 pub use Rattle.rule_tables.specs.declared.frame.State.{State}
 pub use Rattle.rule_tables.specs.declared.rules.Asking.{Asking}
 pub use Rattle.rule_tables.specs.declared.rules.Candidate.{Candidate}

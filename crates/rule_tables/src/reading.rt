@@ -2,9 +2,9 @@
 ghost use Rattle.std.specs.Prelude.{◌≡◌, ℕ, IfOk, OnOk};
 ghost use Rattle.rule_tables.specs.Words.{Statement, Says, IsMalformed, Adds, Reads, IsFirstBadLine};
 
+mod depth;
 mod line;
 pub(super) mod question;
-mod word;
 
 use crate::rules::Rules;
 use line::{Line, LineFault, line_of};

@@ -1,8 +1,8 @@
 //! Goals and their rules.
 ghost use Rattle.std.specs.Prelude.{◌≡◌, length};
 
-use crate::names::Names;
 use crate::reading::question::Question;
+use line_texts::Names;
 use search_context::context::NoMemory;
 use search_context::path::PathKind;
 use std::alloc::Global;
@@ -52,7 +52,7 @@ impl Rules {
     ghost use Rattle.std.specs.Prelude.{◌≡◌, ◌↔◌, [], ◌∷◌, map, Some, IfOk, OnOk};
     ghost use Rattle.std.specs.Option.{option_copied};
     ghost use Rattle.rule_tables.specs.Grammar as grammar;
-    ghost use Rattle.rule_tables.specs.Names.{with_name};
+    ghost use Rattle.line_texts.specs.Names.{with_name};
     ghost use Rattle.rule_tables.specs.Question.{named};
     ghost use Rattle.rule_tables.specs.Rules.{number_of, names_of, name_of, candidates_of, questions_of};
     ghost use Rattle.rule_tables.specs.Table.{IsTableOf, Adds, Mentions, AreAsked};

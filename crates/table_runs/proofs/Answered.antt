@@ -10,7 +10,8 @@ use Rattle.table_runs.specs.Below.{CxOf, DelegateOf, Cache, Goal, Outcome, IsPai
 use Rattle.table_runs.specs.declared.program.questions.Checks.{Checks}
 use Rattle.std.specs.Io.KnownBytes.{Appends}
 use Rattle.std.specs.List.{list_all}
-use Rattle.table_runs.specs.Told.{Answered, AppendsBeginning, is_fine, line_of, Passes}
+use Rattle.line_texts.specs.Writing.{AppendsBeginning}
+use Rattle.table_runs.specs.Told.{Answered, is_fine, line_of, Passes}
 use Rattle.table_runs.specs.Answers.{AreAllTold, AreFirstTold, AreTold, IsAnswered, InTurn}
 use Rattle.table_runs.proofs.Written.{all_written, begins_more, passes_more, waits_more}
 

@@ -5,7 +5,7 @@ use Rattle.std.specs.Prelude.{IfOk, IfSome, OnErr}
 use Rattle.table_runs.specs.Answers.{AreAllTold, AreFirstTold}
 use Rattle.table_runs.specs.Below.{CxOf, DelegateOf, Goal, Outcome, Reads, Rules, Table}
 use Rattle.table_runs.specs.Program.{IsAllTold, IsBrokenOff}
-use Rattle.table_runs.specs.declared.program.Stop.{Stop}
+use Rattle.rule_tables.specs.declared.stop.Stop.{Stop}
 use Rattle.table_runs.specs.declared.program.questions.Checks.{Checks}
 
 module _ {D V P F A T : Type 0} (G : DelegateOf D (Table (Bor Rules)) V P F Goal Outcome A T) (X : CxOf (Table (Bor Rules)) Goal Outcome A T) (same : Goal → Goal → Bool) (checks : Checks) (known old new : Option (List ℕ)) (text : List ℕ) (table : Table (Bor Rules)) (is_known : IfSome known (λ bytes. text ≡ bytes)) (reads : Reads text table.lender.now) where

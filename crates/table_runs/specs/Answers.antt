@@ -3,7 +3,8 @@ use Rattle.std.specs.Prelude.{◌≡◌, ℕ, ◌≤◌, max, Bool, true, false,
 use Rattle.std.specs.Io.KnownBytes.{Appends}
 use Rattle.std.specs.List.{flat_map, list_all}
 use Rattle.table_runs.specs.Below.{CxOf, DelegateOf, Builder, is_noop_of, started_in, Cache, NodeId, Memory, Outcome, verdicts, HasGraph, IsDefinite, IsPlainTo, IsPlainValue, IsDecisive, AreDefinite, HaveNoOverflow, IsPaid, IsCaused, first_accepted, usable, KeepsFinished, KeepsResults, frames_within, Goal, Rules, questions_of}
-use Rattle.table_runs.specs.Told.{Answered, AppendsBeginning, IsChecked, is_fine, line_of}
+use Rattle.line_texts.specs.Writing.{AppendsBeginning}
+use Rattle.table_runs.specs.Told.{Answered, IsChecked, is_fine, line_of}
 use Rattle.table_runs.specs.declared.program.questions.Checks.{Checks}
 
 -- the starts of frames are those that the builder counts, and it is a no-op if it was made as one

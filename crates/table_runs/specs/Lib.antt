@@ -1,4 +1,3 @@
-pub mod Stop
 pub mod Told
 pub mod Answers
 pub mod Program

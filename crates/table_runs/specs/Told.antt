@@ -59,10 +59,6 @@ line_told name came = name ++ words_of_answer came
 abbrev pub line_of : Rules → Answered → List ℕ
 line_of rules answered = line_told (unwrap_or (name_of rules answered.question.1) []) answered.came
 
--- known bytes grow by a beginning of these
-abbrev pub AppendsBeginning : Option (List ℕ) → Option (List ℕ) → List ℕ → Type 0
-AppendsBeginning old new bytes = (n : ℕ) × Appends old new (take n bytes)
-
 -- Known bytes grow by those that waited, but for those that wait still.
 pub record Passes (old new : Option (List ℕ)) (waited waits : List ℕ) : Type 0 where
   pub bytes : List ℕ

@@ -6,82 +6,14 @@ ghost use Rattle.table_runs.specs.Program.{IsAllTold, IsBrokenOff};
 
 mod questions;
 mod shown;
-mod writing;
 
+use line_texts::{Flush, read_input};
 use questions::{Checks, answer_questions};
 use rule_tables::delegate::Table;
-use rule_tables::{Goal, ReadFault, Rules, TableDelegate};
+use rule_tables::{Goal, Rules, Stop, TableDelegate};
 use search_parts::context::{Cx, Delegate};
-use std::alloc::{AllocError, Global};
-use std::io;
+use std::alloc::Global;
 use std::io::{Read, Write};
-use thiserror::Error;
-use writing::Flush;
-
-/// The most bytes that are read at a time.
-const PIECE: usize = 4096;
-
-/// The most reads in which the input must have come to its end.
-const READS: u32 = 1048576;
-
-/// Why the program ended early.
-#[derive(Clone, Copy, Debug, PartialEq, Eq, Error)]
-enum Stop {
-    #[error("line {0}: bad line")]
-    BadLine(usize),
-    #[error("input or output failed")]
-    InputOrOutput,
-    #[error("out of memory")]
-    Memory,
-}
-
-impl Stop {
-    ghost use Rattle.table_runs.specs.Stop.{status_of};
-
-    // The exit status.
-    fn status(self) -> u8
-        ensures { result ≡ status_of self }
-    {
-        match self {
-            Stop::BadLine(_) => 2,
-            Stop::InputOrOutput => 3,
-            Stop::Memory => 4,
-        }
-    }
-}
-
-impl From<AllocError> for Stop {
-    ghost use Rattle.table_runs.specs.declared.program.Stop.TheVariants.{Memory};
-
-    ghost from_gives = { λ _ stop. stop ≡ Memory };
-
-    fn from(_error: AllocError) -> Stop {
-        Stop::Memory
-    }
-}
-
-impl From<io::Error> for Stop {
-    ghost use Rattle.table_runs.specs.declared.program.Stop.TheVariants.{InputOrOutput};
-
-    ghost from_gives = { λ _ stop. stop ≡ InputOrOutput };
-
-    fn from(_error: io::Error) -> Stop {
-        Stop::InputOrOutput
-    }
-}
-
-impl From<ReadFault> for Stop {
-    ghost use Rattle.table_runs.specs.Stop.{stop_of};
-
-    ghost from_gives = { λ fault stop. stop ≡ stop_of fault };
-
-    fn from(fault: ReadFault) -> Stop {
-        match fault {
-            ReadFault::BadLine(number) => Stop::BadLine(number),
-            ReadFault::Memory => Stop::Memory,
-        }
-    }
-}
 
 /// Reads rules and questions and answers each question in order, on a line of its own:
 /// `NAME yes 3 checked`, with `no` in place of `yes`, or `NAME maybe 3`, with `overflow` in place of
@@ -202,23 +134,6 @@ fn answer_input<R: Read, W: Flush>(
         checks,
         out,
     )
-}
-
-// The whole input.
-fn read_input<R: Read>(alloc: Global, input: &mut R) -> Result<Vec<u8>, Stop>
-    ensures whole { IfOk result (λ text. IfSome (R.remaining input.old) (λ bytes. text.items ≡ bytes)) }
-    ensures fault { IfErr result (λ stop. (stop ≡ Stop.InputOrOutput) ⊎ (stop ≡ Stop.Memory)) }
-{
-    let mut text = Vec::new(alloc);
-    let mut piece = [0; PIECE];
-    for _ in 0..READS {
-        let count = input.read(&mut piece)?;
-        if count == 0 {
-            return Ok(text);
-        }
-        text.extend_from_slice(&piece[..count])?;
-    }
-    Err(Stop::InputOrOutput)
 }
 
 #[cfg(test)]

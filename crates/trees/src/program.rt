@@ -1,81 +1,15 @@
 //! What the program does: it reads a table, and shows how its questions are answered, in order.
-ghost use Rattle.std.specs.Prelude.{◌≡◌, ◌≤◌, ◌⊎◌, ℕ, IfErr, IfOk, IfSome};
+ghost use Rattle.std.specs.Prelude.{◌≡◌, ◌≤◌, ◌⊎◌, ℕ, IfErr, IfSome};
 ghost use Rattle.std.specs.Io.KnownBytes.{Keeps};
 ghost use Rattle.trees.specs.Below.{IsFirstBadLine};
 
 mod shown;
 
-use rule_tables::{ReadFault, Rules};
+use line_texts::read_input;
+use rule_tables::{Rules, Stop};
 use shown::show;
-use std::alloc::{AllocError, Global};
-use std::io;
+use std::alloc::Global;
 use std::io::{Read, Write};
-use thiserror::Error;
-
-/// The most bytes that are read at a time.
-const PIECE: usize = 4096;
-
-/// The most reads in which the input must have come to its end.
-const READS: u32 = 1048576;
-
-/// Why the program ended early.
-#[derive(Clone, Copy, Debug, PartialEq, Eq, Error)]
-pub(crate) enum Stop {
-    #[error("line {0}: bad line")]
-    BadLine(usize),
-    #[error("input or output failed")]
-    InputOrOutput,
-    #[error("out of memory")]
-    Memory,
-}
-
-impl Stop {
-    ghost use Rattle.trees.specs.Stop.{status_of};
-
-    // The exit status.
-    fn status(self) -> u8
-        ensures { result ≡ status_of self }
-    {
-        match self {
-            Stop::BadLine(_) => 2,
-            Stop::InputOrOutput => 3,
-            Stop::Memory => 4,
-        }
-    }
-}
-
-impl From<AllocError> for Stop {
-    ghost use Rattle.trees.specs.declared.program.Stop.TheVariants.{Memory};
-
-    ghost from_gives = { λ _ stop. stop ≡ Memory };
-
-    fn from(_error: AllocError) -> Stop {
-        Stop::Memory
-    }
-}
-
-impl From<io::Error> for Stop {
-    ghost use Rattle.trees.specs.declared.program.Stop.TheVariants.{InputOrOutput};
-
-    ghost from_gives = { λ _ stop. stop ≡ InputOrOutput };
-
-    fn from(_error: io::Error) -> Stop {
-        Stop::InputOrOutput
-    }
-}
-
-impl From<ReadFault> for Stop {
-    ghost use Rattle.trees.specs.Stop.{stop_of};
-
-    ghost from_gives = { λ fault stop. stop ≡ stop_of fault };
-
-    fn from(fault: ReadFault) -> Stop {
-        match fault {
-            ReadFault::BadLine(number) => Stop::BadLine(number),
-            ReadFault::Memory => Stop::Memory,
-        }
-    }
-}
 
 /// Reads rules and questions, and writes of each question the tree of how it is answered, then its answer, as
 /// `NAME yes 2` with the number of runs of goals that were started, and an empty line. A fault is told as
@@ -132,21 +66,4 @@ fn show_questions<W: Write>(alloc: Global, rules: &Rules, out: &mut W) -> Result
     }
     out.flush()?;
     Ok(all_fine)
-}
-
-// The whole input.
-fn read_input<R: Read>(alloc: Global, input: &mut R) -> Result<Vec<u8>, Stop>
-    ensures whole { IfOk result (λ text. IfSome (R.remaining input.old) (λ bytes. text.items ≡ bytes)) }
-    ensures fault { IfErr result (λ stop. (stop ≡ Stop.InputOrOutput) ⊎ (stop ≡ Stop.Memory)) }
-{
-    let mut text = Vec::new(alloc);
-    let mut piece = [0; PIECE];
-    for _ in 0..READS {
-        let count = input.read(&mut piece)?;
-        if count == 0 {
-            return Ok(text);
-        }
-        text.extend_from_slice(&piece[..count])?;
-    }
-    Err(Stop::InputOrOutput)
 }

@@ -3,8 +3,9 @@ ghost use Rattle.std.specs.Prelude.{◌≡◌, ◌∷◌, List, IfOk, codes, map
 ghost use Rattle.std.specs.List.{AllZip};
 ghost use Rattle.rule_tables.specs.Words.{NamedQuestion, Statement, IsQuestion, Say, Says, IsMalformed, statement_of, named, words_left};
 
+use crate::reading::depth::depth_of;
 use crate::reading::question::{Question, question_of};
-use crate::reading::word::{Words, depth_of, is_name};
+use line_texts::{Words, is_name};
 use search_context::context::NoMemory;
 use std::alloc::{AllocError, AllocFailed, Global};
 

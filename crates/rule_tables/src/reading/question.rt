@@ -2,7 +2,7 @@
 ghost use Rattle.std.specs.Prelude.{◌≡◌, MatchOption};
 ghost use Rattle.rule_tables.specs.Words.{NamedQuestion, IsQuestion, letter_of, named};
 
-use crate::reading::word::is_name;
+use line_texts::is_name;
 use search_context::path::PathKind;
 
 /// A question as a rule writes it: `K:NAME`.

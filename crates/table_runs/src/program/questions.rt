@@ -3,13 +3,13 @@ ghost use Rattle.std.specs.Prelude.{◌≡◌, ◌≢◌, ◌⊎◌, ◌++◌, I
 ghost use Rattle.std.specs.Io.KnownBytes.{Appends};
 ghost use Rattle.table_runs.specs.Answers.{AreAllTold, AreCountedStarts, AreFirstTold, IsAnswered};
 ghost use Rattle.table_runs.specs.Below.{HasGraph, verdicts};
-ghost use Rattle.table_runs.specs.Told.{AppendsBeginning, fault_word_of, IsChecked, is_fine, line_told, Passes, told_words, words_of_answer};
+ghost use Rattle.line_texts.specs.Writing.{AppendsBeginning};
+ghost use Rattle.table_runs.specs.Told.{fault_word_of, IsChecked, is_fine, line_told, Passes, told_words, words_of_answer};
 
-use crate::program::Stop;
 use crate::program::shown::ShownNodes;
-use crate::program::writing::{Flush, write_bytes};
 use delegate_parts::{Builder, Outcome};
-use rule_tables::{Goal, Rules};
+use line_texts::{Flush, write_bytes};
+use rule_tables::{Goal, Rules, Stop};
 use search_graph::graph::SearchGraph;
 use search_parts::context::{Answer, Cx, Delegate, Fault, NoMemory};
 use search_parts::global_cache::GlobalCache;

@@ -1,5 +1,5 @@
 use Rattle.std.proofs.Common.{ap, Err, sym, ◌∙◌}
-use Rattle.table_runs.proofs.Bytes.{bad_line_by_status}
+use Rattle.rule_tables.proofs.Stops.{bad_line_by_status}
 use Rattle.table_runs.proofs.program.run_with.Goals as goal
 
 pub returns-clause-bad_line : goal.returns-clause-bad_line

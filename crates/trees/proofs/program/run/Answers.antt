@@ -1,5 +1,5 @@
 use Rattle.std.proofs.Common.{ap, Err, sym, ◌∙◌}
-use Rattle.trees.proofs.Bytes.{bad_line_by_status}
+use Rattle.rule_tables.proofs.Stops.{bad_line_by_status}
 use Rattle.trees.proofs.program.run.Goals as goal
 
 pub returns-clause-bad_line : goal.returns-clause-bad_line

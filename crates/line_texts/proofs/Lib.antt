@@ -1,0 +1,3 @@
+pub mod FirstWords
+pub mod NameLemmas
+pub mod Bytes

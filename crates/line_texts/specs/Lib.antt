@@ -1,0 +1,4 @@
+pub mod Lines
+pub mod LineWords
+pub mod Names
+pub mod Writing

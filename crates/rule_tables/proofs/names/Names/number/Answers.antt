@@ -1,7 +1,0 @@
-use Rattle.std.proofs.Common.{◌∙◌, subst}
-use Rattle.rule_tables.specs.Words.{IsNumbered}
-use Rattle.rule_tables.proofs.NameLemmas.{number_is}
-use Rattle.rule_tables.proofs.names.Names.number.Goals as goal
-
-pub returns : goal.returns
-returns c = number_is c.self.inside.numbers _ _ _ (subst (IsNumbered c.self.inside.numbers) c.self.view_is c.self.invariant) (c.copied.ensures ∙ c.get.ensures.value)
