@@ -2,7 +2,7 @@
 use Rattle.std.proofs.Common.{◌≡◌, ℕ, List, [], map, slice_get, Contains, Option, None, Some, refl, sym, ap, subst, arith}
 use Rattle.std.specs.Option.{IsSomeAnd, option_map_or}
 use Rattle.search_context.proofs.Graphs.{Contains-map, Contains-mapped}
-use Rattle.games.specs.Below.{Any, Coinductive, GraphNode, HasGoal, Inductive, IsProofGraph, IsReached, IsRefutationGraph, Needs, NodeId, Proves, Question, Refutes}
+use Rattle.games.specs.Below.{Any, GraphNode, HasGoal, Inductive, IsProofGraph, IsReached, IsRefutationGraph, Needs, NodeId, Proves, Question, Refutes}
 use Rattle.games.specs.Rule.{asks, needs_at, needs_of, questions_of}
 use Rattle.games.specs.Strategy.{IsTurn, One, Player, Position, Strategy, Two, move, reply}
 use Rattle.games.proofs.Inductive.{holds_from, is_shown}

@@ -36,8 +36,8 @@ pub struct PositionsOf<G> {
 /// The delegate of games, which has eight runs of a position and the provisional cache.
 pub type GamesDelegate<G> = ListsDelegate<PositionsOf<G>, 8, 1>;
 
-// Each move is asked, inductively, since play without end is not won. One needs any of them and Two is to have none that
-// escapes; what is no position needs any of no questions, so it is not won.
+// Each move is asked, inductively, since play without end is not won. On One's turn any of them suffices, and on Two's all
+// are needed. What is no position needs any of no questions, so it is not won.
 impl<G: LendsGame> QuestionLists for PositionsOf<G> {
     ghost use Rattle.std.proofs.Common.{rules};
 

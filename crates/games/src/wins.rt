@@ -34,9 +34,9 @@ impl<G: LendsGame> Solver<G> {
         self.limits_met
     }
 
-    /// Whether One wins from the position with this number: `Yes` or `No`, and `Neither` where the depth did not suffice
-    /// now, or for an answer that is still stored. The depth is how many positions may follow this one at most; as many
-    /// as the game has suffice.
+    /// Whether One wins from the position with this number: `Yes` or `No`, and `Neither` where a limit was met now, or for
+    /// an answer that is still stored. The depth is how many positions may stand below this one on the way to an answer;
+    /// as many as the game has suffice.
     ///
     /// `Fault::Memory` where memory is out. The solver can be used again after a fault.
     pub fn wins(&mut self, position: usize, depth: usize) -> Result<Verdict, Fault<usize, Outcome>>

@@ -1,4 +1,4 @@
-use Rattle.std.proofs.Common.{◌≡◌, ◌≤◌, length, sym, subst}
+use Rattle.std.proofs.Common.{◌≤◌, length, sym, subst}
 use Rattle.games.specs.Rule.{most_moves}
 use Rattle.games.specs.Strategy.{positions_of}
 use Rattle.games.proofs.Moves.{moves_within}

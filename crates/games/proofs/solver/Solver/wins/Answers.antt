@@ -1,4 +1,4 @@
-use Rattle.std.proofs.Common.{◌≡◌, false, true, refl, rules, sym, subst}
+use Rattle.std.proofs.Common.{◌≡◌, false, rules, sym, subst}
 use Rattle.games.specs.Below.{graph_nodes_of, Neither, No, Yes}
 use Rattle.games.specs.Strategy.{positions_of, Strategy}
 use Rattle.games.proofs.Moves.{are_decisive}
