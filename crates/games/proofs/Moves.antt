@@ -1,5 +1,5 @@
 -- The questions of a position are its moves.
-use Rattle.std.proofs.Common.{◌≡◌, ℕ, ◌≤◌, List, [], length, slice_get, get_or, Contains, Option, None, Some, refl, ap, subst, arith}
+use Rattle.std.proofs.Common.{◌≡◌, ℕ, ◌≤◌, List, [], length, slice_get, get_or, Contains, Option, None, Some, refl, sym, ap, subst, arith}
 use Rattle.std.specs.Option.{option_map_or}
 use Rattle.std.proofs.lemmas.List.Sums.{get_or-le-sum_by}
 use Rattle.std.proofs.lemmas.Option.{slice_get_within, get_or_from_slice_get}
@@ -20,6 +20,10 @@ module _ (positions : List Position) where
   -- no position has more moves than all have together
   pub moves_within : (at : ℕ) → length (moves_of positions at) ≤ most_moves positions
   moves_within at = within_in at (slice_get positions at) refl
+
+  -- so a list that has the moves of a position has no more, either
+  pub count_within : (others : List Position) (at : ℕ) (moves : List ℕ) → positions ≡ others → moves ≡ moves_of positions at → length moves ≤ most_moves others
+  count_within others at moves same are = subst (λ ps. length moves ≤ most_moves ps) same (subst (λ xs. length xs ≤ most_moves positions) (sym are) (moves_within at))
 
   decided_at : (at : ℕ) (q : Question ℕ) → Contains (questions_of positions at) q → IsDecidedKind q.kind
   decided_at at q has = let m = Contains-map asks (moves_of positions at) q has in subst IsDecidedKind (ap (λ x. x.kind) m.2) tt
