@@ -1,0 +1,4 @@
+pub mod Inductive
+pub mod Won
+pub mod Moves
+pub mod Verdicts

@@ -1,0 +1,4 @@
+pub mod Below
+pub mod Strategy
+pub mod Rule
+pub mod Solved
