@@ -12,6 +12,7 @@ pub trait Flush: Write {
     // All that was written is flushed.
     ghost is_flushed: { Self → Type 0 };
 
+    /// Flushes all that was written.
     fn flush_all(&mut self) -> io::Result<()>
         ensures bytes { Keeps (Self.contents self.old) (Self.contents self.new) }
         ensures flushed { OnOk result (is_flushed self.new) };
