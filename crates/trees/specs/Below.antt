@@ -13,3 +13,9 @@ pub use Rattle.rule_tables.specs.declared.rules.Rules.{Rules}
 pub use Rattle.search_context.specs.declared.context.Answer.{Answer}
 pub use Rattle.search_context.specs.declared.context.Fault.{Fault}
 pub use Rattle.search_context.specs.declared.context.Fault.TheVariants.{Conflict, Memory, Protocol, Validation}
+pub use Rattle.search_context.specs.Rank.{IsPlainTo, IsPlainValue}
+pub use Rattle.search_context.specs.declared.context.Cx.{Ghosts as CxOf}
+pub use Rattle.search_context.specs.declared.context.Reply.{Reply}
+pub use Rattle.search_context.specs.declared.context.Request.{Request}
+pub use Rattle.search_rules.specs.Claims.{IsProved, IsRefuted}
+pub use Rattle.global_cache.specs.Cache.{Cache}

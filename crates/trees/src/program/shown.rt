@@ -24,8 +24,9 @@ pub(super) fn show(
     goal: Goal,
     text: &mut Vec<u8>,
 ) -> io::Result<bool>
-    ensures { IfOk result (λ all_fine.
-        IsShown rules.now goal all_fine text.old.items text.new.items) }
+    ensures { IfOk result (λ all_fine. IsShown ⟦<Table<&'static Rules> as Cx>⟧
+        (⟦<TableDelegate<'static, 8, 1> as Delegate>⟧.script (record { lender = rules.entry }))
+        (record { lender = rules.entry }) rules.now depth goal all_fine text.old.items text.new.items) }
 {
     let cx = Table { lender: rules };
     show_with::<Table<&Rules>, TableDelegate<'_, 8, 1>>(alloc, cx, rules, depth, goal, text)
@@ -43,8 +44,8 @@ fn show_with<X, D>(
 where
     X: Cx<Input = Goal, Result = Outcome>,
     D: Delegate<Cx = X, ProofTreeBuilder = Builder>,
-    ensures { IfOk result (λ all_fine.
-        IsShown rules.now goal all_fine text.old.items text.new.items) }
+    ensures { IfOk result (λ all_fine. IsShown X.Cx (D.script cx) cx rules.now depth goal all_fine
+        text.old.items text.new.items) }
 {
     let mut cache = GlobalCache::<Recording<D>>::new(alloc, cx);
     let mut recorder = Recorder::new(alloc, Builder::new(true), true);
