@@ -1,4 +1,2 @@
-pub mod Inductive
 pub mod Won
 pub mod Moves
-pub mod Verdicts

@@ -5,7 +5,7 @@ use Rattle.search_context.proofs.Graphs.{Contains-map, Contains-mapped}
 use Rattle.games.specs.Below.{Any, GraphNode, HasGoal, Inductive, IsProofGraph, IsReached, IsRefutationGraph, Needs, NodeId, Proves, Question, Refutes}
 use Rattle.games.specs.Rule.{asks, needs_at, needs_of, questions_of}
 use Rattle.games.specs.Strategy.{IsTurn, One, Player, Position, Strategy, Two, move, reply}
-use Rattle.games.proofs.Inductive.{holds_from, is_shown}
+use Rattle.question_lists.proofs.Inductive.{holds_from, is_shown}
 
 module _ (positions : List Position) where
   abbrev pub proves : ℕ → List (Question ℕ) → Type 0

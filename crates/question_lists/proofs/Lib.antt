@@ -1,2 +1,5 @@
 pub mod Steps
 pub mod Ranked
+pub mod Reached
+pub mod Inductive
+pub mod Verdicts

@@ -1,9 +1,8 @@
 -- What the answer to a pair says of its shapes.
-use Rattle.std.proofs.Common.{◌≡◌, ◌↔◌, Bool, true, false, List, Contains, Option, None, Some, IsTrue, refl, sym, ap, subst, arith, ℕ}
+use Rattle.std.proofs.Common.{◌≡◌, ℕ, List, Contains, Option, None, Some, sym, ap, subst, arith}
 use Rattle.std.specs.Option.{IsSomeAnd}
 use Rattle.question_lists.proofs.Ranked.{decisive, scripts}
-use Rattle.shapes.specs.Below.{GraphNode, IsDecidedKind, IsDecisive, IsDefinite, IsProofGraph, IsRefutationGraph, Neither, No, NodeId, Outcome, outcome_verdicts, Question, Verdict, Yes, is_no, is_yes}
-use Rattle.delegate_parts.specs.declared.outcome.Outcome.TheVariants as outcomes
+use Rattle.shapes.specs.Below.{GraphNode, IsDecidedKind, IsDecisive, IsProofGraph, IsRefutationGraph, NodeId, outcome_verdicts, Question}
 use Rattle.shapes.specs.Bisimulation.{AreEqual, Equation}
 use Rattle.shapes.specs.Rule.{matched_parts, needs_of, questions_in, questions_of}
 use Rattle.shapes.specs.declared.delegate.Pair.{Pair}
@@ -27,14 +26,3 @@ module _ (equations : List Equation) where
   -- pairs are decided where no limit is met
   pub are_decisive : IsDecisive outcome_verdicts (scripts (needs_of equations) (questions_of equations))
   are_decisive = decisive (needs_of equations) (questions_of equations) (λ pair q h. decided_in (matched_parts equations pair.left pair.right) q h)
-
--- a result that is yes or no has such a verdict
-pub never_neither : (r : Outcome) (v : Verdict) → ((v ≡ Yes) ↔ IsTrue (is_yes r)) → ((v ≡ No) ↔ IsTrue (is_no r)) → v ≡ Neither → IsDefinite outcome_verdicts r → ⊥
-never_neither outcomes.Yes v if_yes if_no e h = let y = if_yes.1 refl in absurd cc
-never_neither outcomes.No v if_yes if_no e h = let n = if_no.1 refl in absurd cc
-never_neither outcomes.Maybe v if_yes if_no e h = h refl
-never_neither outcomes.Overflow v if_yes if_no e h = h refl
-
-pub known_true : (b : Bool) → (b ≡ false → ⊥) → b ≡ true
-known_true true h = refl
-known_true false h = absurd (h refl)

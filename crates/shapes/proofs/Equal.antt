@@ -9,7 +9,7 @@ use Rattle.shapes.specs.Bisimulation.{AreEqual, AreMatched, Equation, IsBisimula
 use Rattle.shapes.specs.Rule.{asks, asks_each, matched_parts, needs_in, needs_of, questions_in, questions_of}
 use Rattle.shapes.specs.declared.delegate.Pair.{Pair}
 use Rattle.shapes.proofs.Pairs.{agree, Agree, asks_each-at, matched_by, parts_of}
-use Rattle.shapes.proofs.Reached.{reached, Reached}
+use Rattle.question_lists.proofs.Reached.{reached, Reached}
 
 module _ (equations : List Equation) where
   abbrev pub proves : Pair → List (Question Pair) → Type 0

@@ -1,4 +1,3 @@
 pub mod Pairs
-pub mod Reached
 pub mod Equal
 pub mod Compared

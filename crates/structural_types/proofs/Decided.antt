@@ -14,7 +14,7 @@ use Rattle.structural_types.specs.Subtypes.{Form, IsBelow, IsSimulation, IsSuppo
 use Rattle.structural_types.specs.Rule.{asks, needs_of, pair, pairs_of, questions_of}
 use Rattle.structural_types.specs.declared.delegate.Pair.{Pair}
 use Rattle.structural_types.proofs.Follows.{follows, Follows, supported}
-use Rattle.structural_types.proofs.Reached.{reached, Reached}
+use Rattle.question_lists.proofs.Reached.{reached, Reached}
 
 module _ (forms : List Form) where
   abbrev pub proves : Pair → List (Question Pair) → Type 0

@@ -1,6 +1,5 @@
 pub mod Apart
 pub mod Follows
-pub mod Reached
 pub mod Decided
 pub mod Bound
 pub mod Reflexive

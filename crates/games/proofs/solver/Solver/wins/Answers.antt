@@ -2,7 +2,7 @@ use Rattle.std.proofs.Common.{◌≡◌, false, rules, sym, subst}
 use Rattle.games.specs.Below.{graph_nodes_of, Neither, No, Yes}
 use Rattle.games.specs.Strategy.{positions_of, Strategy}
 use Rattle.games.proofs.Moves.{are_decisive}
-use Rattle.games.proofs.Verdicts.{known_true, never_neither}
+use Rattle.question_lists.proofs.Verdicts.{known_true, never_neither}
 use Rattle.games.proofs.Won.{lost_at_node, won_at_node}
 use Rattle.games.proofs.solver.Solver.wins.Goals as goal
 use Rattle.games.proofs.solver.Solver.wins.Goals.{then-self, else-self}

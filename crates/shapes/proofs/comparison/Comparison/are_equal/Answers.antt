@@ -1,7 +1,8 @@
 use Rattle.std.proofs.Common.{◌≡◌, false, true, refl, rules, sym, subst}
 use Rattle.shapes.specs.Below.{graph_nodes_of, Neither, No, Yes}
 use Rattle.shapes.specs.Bisimulation.{AreEqual, equations_of}
-use Rattle.shapes.proofs.Compared.{are_decisive, differ_by, equal_by, known_true, never_neither}
+use Rattle.question_lists.proofs.Verdicts.{known_true, never_neither}
+use Rattle.shapes.proofs.Compared.{are_decisive, differ_by, equal_by}
 use Rattle.shapes.proofs.comparison.Comparison.are_equal.Goals as goal
 use Rattle.shapes.proofs.comparison.Comparison.are_equal.Goals.{then-self, else-self}
 

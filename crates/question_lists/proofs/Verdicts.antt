@@ -1,7 +1,9 @@
 -- A verdict is yes, no, or neither of a result that is neither.
 use Rattle.std.proofs.Common.{◌≡◌, ◌↔◌, Bool, true, false, IsTrue, refl}
 use Rattle.delegate_parts.specs.declared.outcome.Outcome.TheVariants as outcomes
-use Rattle.games.specs.Below.{IsDefinite, Neither, No, Outcome, Verdict, Yes, is_no, is_yes, outcome_verdicts}
+use Rattle.question_lists.specs.Below.{IsDefinite, Outcome, is_no, is_yes, outcome_verdicts}
+use Rattle.search_context.specs.declared.context.Verdict.{Verdict}
+use Rattle.search_context.specs.declared.context.Verdict.TheVariants.{Neither, No, Yes}
 
 -- a result that is yes or no has such a verdict
 pub never_neither : (r : Outcome) (v : Verdict) → ((v ≡ Yes) ↔ IsTrue (is_yes r)) → ((v ≡ No) ↔ IsTrue (is_no r)) → v ≡ Neither → IsDefinite outcome_verdicts r → ⊥

@@ -6,7 +6,7 @@ use Rattle.std.proofs.lemmas.Option.{slice_get-get_or, get_or_from_slice_get}
 use Rattle.open_graphs.proofs.Members.{contains_later, first_or_later}
 use Rattle.search_context.proofs.Pigeonhole.{pigeonhole}
 use Rattle.search_context.proofs.Graphs.{HasGoal-within, IsReached-step}
-use Rattle.structural_types.specs.Below.{PathKind, Edge, GraphNode, HasEdge, IsReached, IsGraph, Question}
+use Rattle.question_lists.specs.Below.{PathKind, Edge, GraphNode, HasEdge, IsReached, IsGraph, Question}
 
 -- whether a number is in the list
 has : (xs : List ℕ) (n : ℕ) → Contains xs n ⊎ (Contains xs n → ⊥)

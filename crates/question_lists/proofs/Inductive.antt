@@ -3,7 +3,7 @@
 use Rattle.std.proofs.Common.{◌≡◌, ℕ, zero, suc, ◌+◌, ◌<◌, List, [], ◌∷◌, ◌++◌, map, length, get_or, slice_get, Contains, Some, refl, sym, ap, ap₂, ◌∙◌, subst, arith}
 use Rattle.search_context.proofs.Graphs.{Contains-map, goal_node, HasEdge-from, HasGoal-within, IsReached-step}
 use Rattle.search_context.proofs.Pigeonhole.{pigeonhole}
-use Rattle.games.specs.Below.{Coinductive, Edge, GraphNode, HasEdge, HasGoal, Inductive, IsGraph, IsProofGraph, IsReached, IsWalk, PathKind, Question, greater_kind, question_of, walk_kind}
+use Rattle.question_lists.specs.Below.{Coinductive, Edge, GraphNode, HasEdge, HasGoal, Inductive, IsGraph, IsProofGraph, IsReached, IsWalk, PathKind, Question, greater_kind, question_of, walk_kind}
 
 module _ {I : Type 0} (rule : I → List (Question I) → Type 0) (kind : PathKind) (nodes : List (GraphNode I)) (root : ℕ) (goal : I) (graph : IsGraph rule kind nodes root goal) where
   -- an edge of a place that asks a question, and leads to its goal
