@@ -1,5 +1,8 @@
 //! The plan of a graph's text: which lines it has, in order. Each goal is shown once, where the walk down from the root
 //! first meets it, and each edge of a goal that is shown has one line.
+ghost use Rattle.std.specs.Prelude.{◌≡◌, ◌<◌, Some, IfOk, length, slice_get};
+ghost use Rattle.shown_graphs.specs.Plan.{AreShownOnce, IsWalk};
+ghost use Rattle.shown_graphs.specs.declared.plan.Mark.TheVariants.{Unseen};
 
 use rule_tables::{Goal, Outcome};
 use search_context::context::{NoMemory, Node};
@@ -52,6 +55,7 @@ struct Walk {
     marks: Vec<Mark>,
     open: Vec<Open>,
     shown: usize,
+    ghost sound: { IsWalk lines.items marks.items },
 }
 
 /// The lines of the graph, with no node that lies deeper than `most` steps below the root. The time is linear in the nodes
@@ -62,7 +66,9 @@ pub(crate) fn plan(
     alloc: Global,
     nodes: &[Node<Goal, Outcome>],
     most: usize,
-) -> Result<Vec<Line>, NoMemory> {
+) -> Result<Vec<Line>, NoMemory>
+    ensures once { IfOk result (λ lines. AreShownOnce lines.items) }
+{
     let mut walk = Walk {
         most,
         lines: Vec::new(alloc),
@@ -91,7 +97,7 @@ impl Walk {
             Some(target) => {
                 self.open.push(Open {
                     place: open.place,
-                    edge: open.edge + 1,
+                    edge: open.edge.saturating_add(1),
                 })?;
                 self.meet(target)?;
             }
@@ -100,20 +106,18 @@ impl Walk {
     }
 
     fn leave(&mut self, place: usize) {
-        if let Some(mark) = self.marks.get_mut(place) {
-            if let Mark::Open(number) = *mark {
-                *mark = Mark::Done(number);
-            }
+        if let Some(Mark::Open(number)) = self.marks.get(place).copied() {
+            self.marks[place] = Mark::Done(number);
         }
     }
 
     // One more line, of the node at this place.
     fn meet(&mut self, place: usize) -> Result<(), NoMemory> {
         let level = self.open.len();
-        let Some(mark) = self.marks.get(place) else {
+        let Some(mark) = self.marks.get(place).copied() else {
             return Ok(());
         };
-        match *mark {
+        match mark {
             Mark::Unseen if level > self.most => self.lines.push(Line::Cut { place, level })?,
             Mark::Unseen => self.show(place, level)?,
             Mark::Open(number) => self.again(place, level, number, true)?,
@@ -138,18 +142,19 @@ impl Walk {
         Ok(())
     }
 
-    fn show(&mut self, place: usize, level: usize) -> Result<(), NoMemory> {
+    fn show(&mut self, place: usize, level: usize) -> Result<(), NoMemory>
+        requires { slice_get self.old.marks.items place ≡ Some Unseen }
+    {
         let number = self.shown;
+        self.shown = number.saturating_add(1);
+        self.lines.reserve(1)?;
         self.open.push(Open { place, edge: 0 })?;
+        self.marks[place] = Mark::Open(number);
         self.lines.push(Line::Shown {
             place,
             level,
             number,
         })?;
-        if let Some(mark) = self.marks.get_mut(place) {
-            *mark = Mark::Open(number);
-        }
-        self.shown = number.saturating_add(1);
         Ok(())
     }
 }
