@@ -55,7 +55,6 @@ struct Walk {
     marks: Vec<Mark>,
     open: Vec<Open>,
     shown: usize,
-    ghost sound: { IsWalk lines.items marks.items },
 }
 
 /// The lines of the graph, with no node that lies deeper than `most` steps below the root. The time is linear in the nodes
@@ -88,7 +87,10 @@ pub(crate) fn plan(
 impl Walk {
     // Goes over the next edge of the newest open node, or leaves the node where it has none left. The answer is no where no
     // node is open.
-    fn advance(&mut self, nodes: &[Node<Goal, Outcome>]) -> Result<bool, NoMemory> {
+    fn advance(&mut self, nodes: &[Node<Goal, Outcome>]) -> Result<bool, NoMemory>
+        requires { IsWalk self.old.lines.items self.old.marks.items }
+        ensures { IsWalk self.new.lines.items self.new.marks.items }
+    {
         let Some(open) = self.open.pop() else {
             return Ok(false);
         };
@@ -105,14 +107,20 @@ impl Walk {
         Ok(true)
     }
 
-    fn leave(&mut self, place: usize) {
+    fn leave(&mut self, place: usize)
+        requires { IsWalk self.old.lines.items self.old.marks.items }
+        ensures { IsWalk self.new.lines.items self.new.marks.items }
+    {
         if let Some(Mark::Open(number)) = self.marks.get(place).copied() {
             self.marks[place] = Mark::Done(number);
         }
     }
 
     // One more line, of the node at this place.
-    fn meet(&mut self, place: usize) -> Result<(), NoMemory> {
+    fn meet(&mut self, place: usize) -> Result<(), NoMemory>
+        requires { IsWalk self.old.lines.items self.old.marks.items }
+        ensures { IsWalk self.new.lines.items self.new.marks.items }
+    {
         let level = self.open.len();
         let Some(mark) = self.marks.get(place).copied() else {
             return Ok(());
@@ -132,7 +140,10 @@ impl Walk {
         level: usize,
         number: usize,
         closes: bool,
-    ) -> Result<(), NoMemory> {
+    ) -> Result<(), NoMemory>
+        requires { IsWalk self.old.lines.items self.old.marks.items }
+        ensures { IsWalk self.new.lines.items self.new.marks.items }
+    {
         self.lines.push(Line::Again {
             place,
             level,
@@ -143,11 +154,12 @@ impl Walk {
     }
 
     fn show(&mut self, place: usize, level: usize) -> Result<(), NoMemory>
-        requires { slice_get self.old.marks.items place ≡ Some Unseen }
+        requires unseen { slice_get self.old.marks.items place ≡ Some Unseen }
+        requires walk { IsWalk self.old.lines.items self.old.marks.items }
+        ensures { IsWalk self.new.lines.items self.new.marks.items }
     {
         let number = self.shown;
         self.shown = number.saturating_add(1);
-        self.lines.reserve(1)?;
         self.open.push(Open { place, edge: 0 })?;
         self.marks[place] = Mark::Open(number);
         self.lines.push(Line::Shown {

@@ -1,5 +1,5 @@
 //! How graphs that are read are checked.
-ghost use Rattle.std.specs.Prelude.{IfOk, OnOk};
+ghost use Rattle.std.specs.Prelude.{◌≡◌, IfOk, OnOk};
 ghost use Rattle.std.specs.Io.KnownBytes.{Appends};
 ghost use Rattle.shown_graphs.specs.Below.{verdicts};
 ghost use Rattle.shown_graphs.specs.Told.{AreJudged, IsJudged, line_said};
@@ -61,7 +61,7 @@ where
             nodes,
         } = claim;
         let said = judged::<X, D>(alloc, cx, goal, outcome, nodes)?;
-        none_refused &= !matches!(said, Said::Refused);
+        none_refused &= said.is_no_refusal();
         tell(out, rules, goal, outcome, said)?;
     }
     out.flush()?;
@@ -75,6 +75,19 @@ pub(crate) enum Said {
     Refused,
     /// It is a maybe or an overflow, and has no nodes.
     NoGraph,
+}
+
+impl Said {
+    ghost use Rattle.shown_graphs.specs.Told.{is_not_refused};
+
+    fn is_no_refusal(self) -> bool
+        ensures { result ≡ is_not_refused self }
+    {
+        match self {
+            Said::Accepted | Said::NoGraph => true,
+            Said::Refused => false,
+        }
+    }
 }
 
 impl fmt::Display for Said {
