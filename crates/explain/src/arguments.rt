@@ -16,7 +16,7 @@ pub(crate) enum Task {
 const DEPTH: &str = "100";
 
 /// The task that the words ask for, the first of which is the program's name. An error has the usage.
-pub(crate) fn task_of(alloc: Global, words: &[String]) -> Result<Task, Error> {
+pub(crate) fn task_of<'a>(alloc: Global, words: &'a [String]) -> Result<Task, Error> {
     let matches = command(alloc)?.try_get_matches_from(words)?;
     if matches.get_flag("check") {
         Ok(Task::Check)
@@ -30,7 +30,7 @@ pub(crate) fn task_of(alloc: Global, words: &[String]) -> Result<Task, Error> {
     }
 }
 
-fn command(alloc: Global) -> Result<Command<'static>, Error> {
+fn command<'a>(alloc: Global) -> Result<Command<'a>, Error> {
     let depth = Arg::new(alloc, "depth")
         .long("depth")
         .value_name("N")

@@ -1,5 +1,5 @@
 -- A walk over a graph, one line further.
-use Rattle.std.proofs.Common.{⊎_elim, ◌≡◌, ◌∙◌, ℕ, List, [], ◌∷◌, ◌++◌, ◌||◌, ap, sym, refl, rules, subst, eq-eqb, eqb-true, nat_eq, slice_set, ◌≢◌, true, false, Some, None, slice_get}
+use Rattle.std.proofs.Common.{⊎_elim, ◌≡◌, ◌∙◌, ℕ, List, [], ◌∷◌, ◌++◌, ◌||◌, ap, sym, refl, rules, subst, eq-eqb, eqb-true, nat_eq, slice_set, ◌≢◌, true, false, Some, slice_get}
 use Rattle.open_graphs.proofs.Lists.{get_set_other, get_set_same}
 use Rattle.std.proofs.lemmas.Bool.{cases_Bool}
 use Rattle.std.proofs.lemmas.List.{append-nil}

@@ -1,8 +1,6 @@
-use Rattle.std.proofs.Common.{◌&&◌, [], ap, refl, rules}
-use Rattle.std.proofs.lemmas.Iterator.Consumers.{YieldsList-at, YieldsList-end}
-use Rattle.std.proofs.lemmas.Iterator.Adapters.{YieldsList-from_vec}
+use Rattle.std.proofs.Common.{◌&&◌, [], ap, refl}
 use Rattle.shown_graphs.specs.Below.{verdicts}
-use Rattle.shown_graphs.proofs.Judging.{all_judged, judged_more, none_judged}
+use Rattle.shown_graphs.proofs.Judging.{judged_more, none_judged}
 use Rattle.shown_graphs.proofs.program.checking.check_claims.Goals as goal
 
 pub loop-claim-init : goal.loop-claim-init
