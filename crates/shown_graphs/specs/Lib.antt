@@ -1,0 +1,5 @@
+pub mod Below
+pub mod Checked
+pub mod Plan
+pub mod Stop
+pub mod Told

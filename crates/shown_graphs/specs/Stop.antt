@@ -1,0 +1,25 @@
+-- Why the program ended early.
+use Rattle.std.specs.Prelude.{ℕ}
+use Rattle.line_texts.specs.declared.input.InputFault.{InputFault}
+use Rattle.line_texts.specs.declared.input.InputFault.TheVariants as input
+use Rattle.rule_tables.specs.declared.reading.ReadFault.{ReadFault}
+use Rattle.rule_tables.specs.declared.reading.ReadFault.TheVariants as read
+use Rattle.shown_graphs.specs.declared.program.Stop.{Stop}
+use Rattle.shown_graphs.specs.declared.program.Stop.TheVariants.{BadData, BadLine, InputOrOutput, Memory}
+
+-- the exit status
+abbrev pub status_of : Stop → ℕ
+status_of (BadLine n) = 2
+status_of (BadData n) = 2
+status_of InputOrOutput = 3
+status_of Memory = 4
+
+-- what a fault of reading the table stops
+abbrev pub stop_of : ReadFault → Stop
+stop_of (read.BadLine n) = BadLine n
+stop_of read.Memory = Memory
+
+-- what a fault of reading the input stops
+abbrev pub stopped_input : InputFault → Stop
+stopped_input input.Failed = InputOrOutput
+stopped_input input.Memory = Memory

@@ -1,0 +1,119 @@
+//! One question: it is asked, and the graph of a definite answer is checked before anything is shown of it.
+ghost use Rattle.std.specs.Prelude.{◌↔◌, IsTrue, IfOk};
+ghost use Rattle.shown_graphs.specs.Below.{IsValidFor, verdicts};
+ghost use Rattle.shown_graphs.specs.Checked.{IsChecked, verdict_of};
+
+use delegate_parts::Builder;
+use graph_check::check_graph;
+use rule_tables::{Goal, Outcome};
+use search_context::context::{Answer, Cx, Delegate, Fault, NoMemory, Node, ProofGraph};
+use search_context::path::PathKind;
+use search_graph::graph::SearchGraph;
+use search_parts::global_cache::GlobalCache;
+use std::alloc::Global;
+
+/// What a question came to.
+#[derive(Drop)]
+pub(crate) enum Came {
+    /// A yes or a no, with its graph, which the checker accepted.
+    Graph {
+        outcome: Outcome,
+        nodes: Vec<Node<Goal, Outcome>>,
+    },
+    /// A maybe or an overflow.
+    NoGraph {
+        outcome: Outcome,
+        limits_met: bool,
+    },
+    /// A yes or a no whose graph is missing or was refused.
+    Unchecked(Outcome),
+    Fault(Fault<Goal, Outcome>),
+}
+
+impl Came {
+    /// Whether the question was answered, and its graph accepted if it has one.
+    pub(crate) fn is_fine(&self) -> bool {
+        match self {
+            Came::Graph { .. } | Came::NoGraph { .. } => true,
+            Came::Unchecked(_) | Came::Fault(_) => false,
+        }
+    }
+}
+
+/// Asks the goal at this depth, and checks the graph of a definite answer.
+pub(crate) fn ask<X, D>(
+    alloc: Global,
+    cx: X,
+    cache: &mut GlobalCache<D>,
+    depth: usize,
+    goal: Goal,
+) -> Came
+where
+    X: Cx<Input = Goal, Result = Outcome>,
+    D: Delegate<Cx = X, ProofTreeBuilder = Builder>,
+    ensures { IsChecked (verdicts X.Cx) (D.script cx) goal result }
+{
+    let mut graph = SearchGraph::<D>::new(alloc, depth);
+    let mut builder = Builder::new(true);
+    let came = match graph.evaluate_goal(cache, goal, PathKind::Inductive, &mut builder) {
+        Ok(answer) => checked::<X, D>(alloc, cx, cache, goal, answer, graph.limits_met()),
+        Err(fault) => return Came::Fault(fault),
+    };
+    match came {
+        Ok(came) => came,
+        Err(NoMemory) => Came::Fault(Fault::Memory),
+    }
+}
+
+// The answer with its graph, if it has one and the checker accepts it.
+fn checked<X, D>(
+    alloc: Global,
+    cx: X,
+    cache: &GlobalCache<D>,
+    goal: Goal,
+    answer: Answer<Outcome>,
+    limits_met: bool,
+) -> Result<Came, NoMemory>
+where
+    X: Cx<Input = Goal, Result = Outcome>,
+    D: Delegate<Cx = X, ProofTreeBuilder = Builder>,
+    ensures { IfOk result (λ came. IsChecked (verdicts X.Cx) (D.script cx) goal came) }
+{
+    let outcome = answer.result;
+    let Some(node) = answer.node else {
+        return Ok(Came::NoGraph {
+            outcome,
+            limits_met,
+        });
+    };
+    let Some(graph) = cache.graph_of(node)? else {
+        return Ok(Came::Unchecked(outcome));
+    };
+    if accepts::<X, D>(alloc, cx, &graph, goal, outcome)? {
+        Ok(Came::Graph {
+            outcome,
+            nodes: graph.nodes,
+        })
+    } else {
+        Ok(Came::Unchecked(outcome))
+    }
+}
+
+/// Whether the checker accepts the graph for the goal and the outcome.
+pub(crate) fn accepts<X, D>(
+    alloc: Global,
+    cx: X,
+    graph: &ProofGraph<X>,
+    goal: Goal,
+    outcome: Outcome,
+) -> Result<bool, NoMemory>
+where
+    X: Cx<Input = Goal, Result = Outcome>,
+    D: Delegate<Cx = X, ProofTreeBuilder = Builder>,
+    ensures { IfOk result (λ accepted. IsTrue accepted ↔
+        IsValidFor (verdicts X.Cx) (verdict_of outcome) (D.script cx) graph.now.nodes.items goal) }
+{
+    // The frames that the check starts are none of the search's.
+    let mut builder = Builder::new(true);
+    check_graph::<D>(alloc, cx, graph, goal, outcome.verdict(), &mut builder)
+}

@@ -1,0 +1,25 @@
+//! Answers with their graphs, to be looked at: as indented text, in the language of Graphviz, and as data that can be read
+//! back and checked elsewhere.
+//!
+//! | File of `specs/` | Has |
+//! |---|---|
+//! | `Stop` | why a program ends early |
+//! | `Plan` | the lines of a graph's text, before they are words |
+//! | `Checked` | what is known of an answer that is shown |
+#![tactic(auto)]
+
+mod answer;
+mod data;
+mod dot;
+mod page;
+mod plan;
+mod program;
+mod reading;
+mod rule;
+#[cfg(test)]
+mod tests;
+mod text;
+mod words;
+
+pub use page::Form;
+pub use program::{check, explain};

@@ -1,0 +1,144 @@
+//! How graphs that are read are checked.
+ghost use Rattle.std.specs.Prelude.{◌≡◌, IfOk, OnOk};
+ghost use Rattle.std.specs.Io.KnownBytes.{Appends};
+ghost use Rattle.shown_graphs.specs.Below.{verdicts};
+ghost use Rattle.shown_graphs.specs.Told.{AreJudged, IsJudged, line_said};
+
+use crate::answer::accepts;
+use crate::program::Stop;
+use crate::reading::{Claim, Claims, Source, read_claims};
+use delegate_parts::Builder;
+use json::{Reader, Scratch};
+use line_texts::read_input;
+use rule_tables::delegate::Table;
+use rule_tables::{Goal, Outcome, Rules, TableDelegate};
+use search_context::context::{Cx, Delegate, NoMemory, Node, ProofGraph};
+use std::alloc::Global;
+use std::{fmt, io};
+use std::io::{Read, Write};
+
+/// Whether no graph was refused.
+pub(super) fn check_input<R: Read, W: Write>(
+    alloc: Global,
+    input: &mut R,
+    out: &mut W,
+) -> Result<bool, Stop> {
+    let bytes = read_input(alloc, input)?;
+    let Ok(text) = std::str::from_utf8(bytes.as_slice()) else {
+        return Err(Stop::BadData(0));
+    };
+    let mut scratch = Scratch::new(alloc);
+    let mut source = Source::new(Reader::new(text, &mut scratch)?);
+    let Claims { rules, all } = read_claims(alloc, &mut source)?;
+    check_claims::<Table<&Rules>, TableDelegate<'_, 8, 1>, W>(
+        alloc,
+        Table { lender: &rules },
+        &rules,
+        all,
+        out,
+    )
+}
+
+// Judges each claim, and tells it on a line.
+fn check_claims<X, D, W>(
+    alloc: Global,
+    cx: X,
+    rules: &Rules,
+    claims: Vec<Claim>,
+    out: &mut W,
+) -> Result<bool, Stop>
+where
+    X: Cx<Input = Goal, Result = Outcome>,
+    D: Delegate<Cx = X, ProofTreeBuilder = Builder>,
+    W: Write,
+    ensures { IfOk result (λ none_refused. AreJudged (verdicts X.Cx) (D.script cx) rules.now
+        claims.items none_refused (W.contents out.old) (W.contents out.new)) }
+{
+    let mut none_refused = true;
+    for claim in claims {
+        let Claim {
+            goal,
+            outcome,
+            nodes,
+        } = claim;
+        let said = judged::<X, D>(alloc, cx, goal, outcome, nodes)?;
+        none_refused &= said.is_no_refusal();
+        tell(out, rules, goal, outcome, said)?;
+    }
+    out.flush()?;
+    Ok(none_refused)
+}
+
+/// What is said of a claim.
+#[derive(Clone, Copy, Debug, PartialEq, Eq)]
+pub(crate) enum Said {
+    Accepted,
+    Refused,
+    /// It is a maybe or an overflow, and has no nodes.
+    NoGraph,
+}
+
+impl Said {
+    ghost use Rattle.shown_graphs.specs.Told.{is_not_refused};
+
+    fn is_no_refusal(self) -> bool
+        ensures { result ≡ is_not_refused self }
+    {
+        match self {
+            Said::Accepted | Said::NoGraph => true,
+            Said::Refused => false,
+        }
+    }
+}
+
+impl fmt::Display for Said {
+    ghost use Rattle.std.specs.Prelude.{Some};
+    ghost use Rattle.shown_graphs.specs.Told.{said_words};
+
+    ghost output = { λ said. Some (said_words said) };
+
+    fn fmt<W: fmt::Write>(&self, f: &mut fmt::Formatter<W>) -> fmt::Result {
+        f.write_str(match self {
+            Said::Accepted => "accepted",
+            Said::Refused => "refused",
+            Said::NoGraph => "without a graph",
+        })
+    }
+}
+
+fn judged<X, D>(
+    alloc: Global,
+    cx: X,
+    goal: Goal,
+    outcome: Outcome,
+    nodes: Vec<Node<Goal, Outcome>>,
+) -> Result<Said, NoMemory>
+where
+    X: Cx<Input = Goal, Result = Outcome>,
+    D: Delegate<Cx = X, ProofTreeBuilder = Builder>,
+    ensures { IfOk result (λ said. IsJudged (verdicts X.Cx) (D.script cx)
+        (record { goal = goal; outcome = outcome; nodes = nodes }) said) }
+{
+    if nodes.is_empty() && matches!(outcome, Outcome::Maybe | Outcome::Overflow) {
+        return Ok(Said::NoGraph);
+    }
+    let graph = ProofGraph { nodes };
+    match accepts::<X, D>(alloc, cx, &graph, goal, outcome)? {
+        true => Ok(Said::Accepted),
+        false => Ok(Said::Refused),
+    }
+}
+
+fn tell<W: Write>(
+    out: &mut W,
+    rules: &Rules,
+    goal: Goal,
+    outcome: Outcome,
+    said: Said,
+) -> io::Result<()>
+    ensures { OnOk result (Appends (W.contents out.old) (W.contents out.new)
+        (line_said rules.now goal outcome said)) }
+{
+    out.write_all(rules.name(goal).unwrap_or(b""))?;
+    writeln!(out, " {outcome} {said}")
+}

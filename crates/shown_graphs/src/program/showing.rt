@@ -1,0 +1,59 @@
+//! How the questions of a text are shown.
+
+use crate::answer::ask;
+use crate::page::{Form, Page};
+use crate::program::Stop;
+use delegate_parts::Builder;
+use line_texts::read_input;
+use rule_tables::delegate::Table;
+use rule_tables::{Goal, Outcome, Rules, TableDelegate};
+use search_context::context::{Cx, Delegate};
+use search_parts::global_cache::GlobalCache;
+use std::alloc::Global;
+use std::io::{Read, Write};
+
+/// Whether each question was answered, and no graph refused.
+pub(super) fn show_input<R: Read, W: Write>(
+    alloc: Global,
+    form: Form,
+    input: &mut R,
+    out: &mut W,
+) -> Result<bool, Stop> {
+    let text = read_input(alloc, input)?;
+    let rules = Rules::read(alloc, text.as_slice())?;
+    let page = Page::new(alloc, form, text.as_slice())?;
+    show_questions::<Table<&Rules>, TableDelegate<'_, 8, 1>, W>(
+        alloc,
+        Table { lender: &rules },
+        &rules,
+        page,
+        out,
+    )
+}
+
+// Each question is asked on a graph of its own, over one cache, and shown.
+fn show_questions<X, D, W>(
+    alloc: Global,
+    cx: X,
+    rules: &Rules,
+    mut page: Page,
+    out: &mut W,
+) -> Result<bool, Stop>
+where
+    X: Cx<Input = Goal, Result = Outcome>,
+    D: Delegate<Cx = X, ProofTreeBuilder = Builder>,
+    W: Write,
+{
+    let mut cache = GlobalCache::<D>::new(alloc, cx);
+    let mut all_fine = true;
+    let questions = rules.questions();
+    for question in questions {
+        let (depth, goal) = *question;
+        let came = ask::<X, D>(alloc, cx, &mut cache, depth, goal);
+        all_fine &= came.is_fine();
+        page.add(alloc, rules, goal, &came)?;
+        page.pass_on(out)?;
+    }
+    page.finish(out)?;
+    Ok(all_fine)
+}

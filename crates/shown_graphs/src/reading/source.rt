@@ -1,0 +1,78 @@
+//! The tokens of a text, each of which has to be the wanted one.
+
+use crate::program::Stop;
+use json::{Reader, Token};
+
+/// The text that is read.
+#[derive(Drop)]
+pub(crate) struct Source<'a> {
+    reader: Reader<'a>,
+}
+
+impl<'a> Source<'a> {
+    pub(crate) fn new(reader: Reader<'a>) -> Source<'a> {
+        Source { reader }
+    }
+
+    /// What was read last, or what stands next, is not what is wanted.
+    pub(crate) fn fault(&self) -> Stop {
+        Stop::BadData(self.reader.offset())
+    }
+
+    pub(crate) fn begin_object(&mut self) -> Result<(), Stop> {
+        match self.reader.next() {
+            Some(Token::BeginObject) => Ok(()),
+            _ => Err(self.fault()),
+        }
+    }
+
+    pub(crate) fn end_object(&mut self) -> Result<(), Stop> {
+        match self.reader.next() {
+            Some(Token::EndObject) => Ok(()),
+            _ => Err(self.fault()),
+        }
+    }
+
+    pub(crate) fn begin_array(&mut self) -> Result<(), Stop> {
+        match self.reader.next() {
+            Some(Token::BeginArray) => Ok(()),
+            _ => Err(self.fault()),
+        }
+    }
+
+    /// Takes the end of an array, if it is next.
+    pub(crate) fn is_end_of_array(&mut self) -> bool {
+        self.reader.take_end_array()
+    }
+
+    /// The key has to be this one.
+    pub(crate) fn key(&mut self, wanted: &str) -> Result<(), Stop> {
+        match self.reader.next() {
+            Some(Token::Key(key)) if key == wanted => Ok(()),
+            _ => Err(self.fault()),
+        }
+    }
+
+    pub(crate) fn string(&mut self) -> Result<&'a str, Stop> {
+        match self.reader.next() {
+            Some(Token::String(text)) => Ok(text),
+            _ => Err(self.fault()),
+        }
+    }
+
+    /// A number without sign, point or exponent.
+    pub(crate) fn number(&mut self) -> Result<usize, Stop> {
+        match self.reader.next() {
+            Some(Token::Number(text)) => text.parse::<usize>().map_err(|_| self.fault()),
+            _ => Err(self.fault()),
+        }
+    }
+
+    /// Nothing may follow.
+    pub(crate) fn end(&mut self) -> Result<(), Stop> {
+        match self.reader.next() {
+            None => Ok(()),
+            Some(_) => Err(self.fault()),
+        }
+    }
+}

@@ -1,0 +1,209 @@
+//! A graph as indented text.
+
+use crate::plan::{Line, plan};
+use crate::rule::{FIRST_ANSWER, end_of, failing, holding, next_start};
+use crate::words::{letter, name_of, write_rule};
+use rule_tables::{Candidate, Goal, Outcome, Rules};
+use search_context::context::{Node, Reply};
+use std::alloc::Global;
+use std::io;
+use std::io::Write;
+
+/// How many levels are indented. A line of a deeper level has its number as well, so that the text grows no faster than
+/// the graph.
+const MOST_LEVELS: usize = 20;
+
+/// The indentation of these.
+const SPACES: &[u8] = b"                                        ";
+
+/// Writes the graph's lines: each goal once, with the rule that proves it or the questions at which its rules fail, and what
+/// it rests on below it. Goals that lie deeper than `most` steps below the root are left out, and the last line says how many.
+pub(crate) fn write_text<W: Write>(
+    alloc: Global,
+    out: &mut W,
+    rules: &Rules,
+    nodes: &[Node<Goal, Outcome>],
+    most: usize,
+) -> io::Result<()> {
+    let Ok(lines) = plan(alloc, nodes, most) else {
+        return Err(io::Error::from(io::ErrorKind::OutOfMemory));
+    };
+    let mut shown: usize = 0;
+    for line in &lines {
+        if let Line::Shown { .. } = *line {
+            shown = shown.saturating_add(1);
+        }
+        write_line(out, rules, nodes, *line)?;
+    }
+    let left = nodes.len().saturating_sub(shown);
+    if left > 0 {
+        writeln!(out, "goals left out: {left}, which lie deeper than {most}")?;
+    }
+    Ok(())
+}
+
+fn write_line<W: Write>(
+    out: &mut W,
+    rules: &Rules,
+    nodes: &[Node<Goal, Outcome>],
+    line: Line,
+) -> io::Result<()> {
+    match line {
+        Line::Shown {
+            place,
+            level,
+            number,
+        } => match nodes.get(place) {
+            Some(node) => write_node(out, rules, node, level, number),
+            None => Ok(()),
+        },
+        Line::Again {
+            place,
+            level,
+            number,
+            closes,
+        } => match nodes.get(place) {
+            Some(node) => write_again(out, rules, node, level, number, closes),
+            None => Ok(()),
+        },
+        Line::Cut { place, level } => match nodes.get(place) {
+            Some(node) => write_cut(out, rules, node, level),
+            None => Ok(()),
+        },
+    }
+}
+
+fn write_indentation<W: Write>(out: &mut W, level: usize) -> io::Result<()> {
+    if MOST_LEVELS < level {
+        out.write_all(SPACES)?;
+        write!(out, "[{level}] ")
+    } else {
+        out.write_all(&SPACES[..2 * level])
+    }
+}
+
+// What a node's result says.
+fn says(outcome: Outcome) -> &'static str {
+    match outcome {
+        Outcome::Yes => "holds",
+        Outcome::No => "does not hold",
+        Outcome::Maybe => "is maybe",
+        Outcome::Overflow => "is overflow",
+    }
+}
+
+fn write_node<W: Write>(
+    out: &mut W,
+    rules: &Rules,
+    node: &Node<Goal, Outcome>,
+    level: usize,
+    number: usize,
+) -> io::Result<()> {
+    write_indentation(out, level)?;
+    if number > 0 {
+        write!(out, "{number} ")?;
+    }
+    let name = name_of(rules, node.input);
+    let said = says(node.result);
+    write!(out, "{name} {said}")?;
+    let candidates = rules.candidates(node.input);
+    if node.result == Outcome::Yes {
+        write_proof(out, rules, node, candidates)
+    } else {
+        write_refutation(out, rules, node, candidates, level)
+    }
+}
+
+// The rule by which the goal holds.
+fn write_proof<W: Write>(
+    out: &mut W,
+    rules: &Rules,
+    node: &Node<Goal, Outcome>,
+    candidates: &[Candidate],
+) -> io::Result<()> {
+    if let Some(candidate) = holding(candidates, &node.replies) {
+        out.write_all(b", by rule ")?;
+        write_rule(out, rules, node.input, candidate)?;
+    }
+    out.write_all(b"\n")
+}
+
+// The question at which each rule fails, on a line for each.
+fn write_refutation<W: Write>(
+    out: &mut W,
+    rules: &Rules,
+    node: &Node<Goal, Outcome>,
+    candidates: &[Candidate],
+    level: usize,
+) -> io::Result<()> {
+    if candidates.is_empty() {
+        return out.write_all(b", for it has no rule\n");
+    }
+    out.write_all(b"\n")?;
+    let mut start = FIRST_ANSWER;
+    for candidate in candidates {
+        let end = end_of(start, candidate);
+        write_indentation(out, level.saturating_add(1))?;
+        out.write_all(b"rule ")?;
+        write_rule(out, rules, node.input, candidate)?;
+        write_failure(
+            out,
+            rules,
+            candidate,
+            node.replies.get(start..end).unwrap_or(&[]),
+        )?;
+        start = next_start(end);
+    }
+    Ok(())
+}
+
+fn write_failure<W: Write>(
+    out: &mut W,
+    rules: &Rules,
+    candidate: &Candidate,
+    replies: &[Reply<Outcome>],
+) -> io::Result<()> {
+    let asking = failing(replies).and_then(|place| candidate.questions.get(place));
+    match asking {
+        Some(asking) => {
+            let letter = letter(asking.kind);
+            let name = name_of(rules, asking.goal);
+            writeln!(out, " fails at {letter}:{name}")
+        }
+        None => out.write_all(b"\n"),
+    }
+}
+
+// A goal that has its lines elsewhere.
+fn write_again<W: Write>(
+    out: &mut W,
+    rules: &Rules,
+    node: &Node<Goal, Outcome>,
+    level: usize,
+    number: usize,
+    closes: bool,
+) -> io::Result<()> {
+    write_indentation(out, level)?;
+    let name = name_of(rules, node.input);
+    write!(out, "{name} again")?;
+    if number > 0 {
+        write!(out, ", as {number}")?;
+    }
+    match (closes, node.result) {
+        (true, Outcome::Yes) => out.write_all(b": the cycle is coinductive\n"),
+        (true, _) => out.write_all(b": the cycle is inductive\n"),
+        (false, _) => out.write_all(b"\n"),
+    }
+}
+
+fn write_cut<W: Write>(
+    out: &mut W,
+    rules: &Rules,
+    node: &Node<Goal, Outcome>,
+    level: usize,
+) -> io::Result<()> {
+    write_indentation(out, level)?;
+    let name = name_of(rules, node.input);
+    let said = says(node.result);
+    writeln!(out, "{name} {said}: left out here")
+}
