@@ -1,0 +1,4 @@
+pub mod Grammar
+pub mod LineWords
+pub mod Names
+pub mod Words
