@@ -1,2 +1,9 @@
 pub mod NameLemmas
 pub mod Words
+pub mod Lists
+pub mod Unions
+pub mod Texts
+pub mod Declared
+pub mod Adding
+pub mod Lines
+pub mod Spelling

@@ -1,4 +1,9 @@
 pub mod Grammar
+pub mod Guard
+pub mod Line
 pub mod LineWords
 pub mod Names
+pub mod Table
+pub mod Text
+pub mod Faults
 pub mod Words

@@ -1,4 +1,7 @@
 //! What a line says is entered into a table of which the names are known.
+ghost use Rattle.std.specs.Prelude.{◌≡◌, ◌∷◌, [], Some, IfOk, IfErr, OnOk, map, slice_get};
+ghost use Rattle.std.specs.List.{AllZip};
+ghost use Rattle.type_texts.specs.Words.{Adds, GrowsLabels, HasUndeclared, IsForm, IsNumberOf, IsSameField, labels_of, meaning_of, named, named_in, names_of, parts_in, statement_of};
 
 use crate::line::Line;
 use crate::table::TypeTable;
@@ -47,7 +50,11 @@ impl<T: Drop> From<AllocFailed<T>> for EntryFault {
 
 impl TypeTable {
     /// Enters what the line says.
-    pub(crate) fn enter(&mut self, alloc: Global, line: &Line<'_>) -> Result<(), EntryFault> {
+    pub(crate) fn enter(&mut self, alloc: Global, line: &Line<'_>) -> Result<(), EntryFault>
+        ensures added { OnOk result (Adds (statement_of line.now) self.old self.new) }
+        ensures undeclared { result ≡ Err EntryFault.Undeclared →
+            HasUndeclared (names_of self.old) (named_in (statement_of line.now)) }
+    {
         match line {
             Line::PassedOver => {}
             Line::Type { name: _, written } => {
@@ -64,18 +71,34 @@ impl TypeTable {
     }
 
     // The number of the type of this name.
-    fn number_of(&self, name: &[u8]) -> Result<usize, EntryFault> {
-        self.names.number(name).ok_or(EntryFault::Undeclared)
+    fn number_of(&self, name: &[u8]) -> Result<usize, EntryFault>
+        ensures number { IfOk result (λ number. IsNumberOf (names_of self.now) number name.now) }
+        ensures undeclared { IfErr result (λ fault. HasUndeclared (names_of self.now) (name.now ∷ [])) }
+    {
+        match self.names.number(name) {
+            Some(number) => Ok(number),
+            None => Err(EntryFault::Undeclared),
+        }
     }
 
     // The number of a word, which may be new.
-    fn word_of(&mut self, alloc: Global, word: &[u8]) -> Result<u32, EntryFault> {
+    fn word_of(&mut self, alloc: Global, word: &[u8]) -> Result<u32, EntryFault>
+        ensures number { IfOk result (λ number. slice_get (labels_of self.new) number ≡ Some word.now) }
+        ensures grows { OnOk result (GrowsLabels self.old self.new) }
+        ensures refused { IfErr result (λ fault. fault ≡ EntryFault.Memory) }
+    {
         let number = self.words.intern(alloc, word)?;
         u32::try_from(number).map_err(|_| EntryFault::Memory)
     }
 
     // What is written, by the numbers of its parts.
-    fn form_of(&mut self, alloc: Global, written: &Written<'_>) -> Result<Form, EntryFault> {
+    fn form_of(&mut self, alloc: Global, written: &Written<'_>) -> Result<Form, EntryFault>
+        ensures form { IfOk result (λ form.
+            IsForm (names_of self.new) (labels_of self.new) form (meaning_of written.now)) }
+        ensures grows { OnOk result (GrowsLabels self.old self.new) }
+        ensures undeclared { result ≡ Err EntryFault.Undeclared →
+            HasUndeclared (names_of self.old) (parts_in (meaning_of written.now)) }
+    {
         Ok(match written {
             Written::Base(word) => Form::Base(self.word_of(alloc, word)?),
             Written::Top => Form::Top,
@@ -92,7 +115,13 @@ impl TypeTable {
         &mut self,
         alloc: Global,
         written: &[WrittenField<'_>],
-    ) -> Result<Vec<Field>, EntryFault> {
+    ) -> Result<Vec<Field>, EntryFault>
+        ensures fields { IfOk result (λ fields. AllZip
+            (IsSameField (names_of self.new) (labels_of self.new)) fields.items (map named written.now)) }
+        ensures grows { OnOk result (GrowsLabels self.old self.new) }
+        ensures undeclared { result ≡ Err EntryFault.Undeclared →
+            HasUndeclared (names_of self.old) (map (λ field. field.part) (map named written.now)) }
+    {
         let mut fields = Vec::with_capacity(alloc, written.len())?;
         for field in written {
             let part = self.number_of(field.part)?;
@@ -102,7 +131,12 @@ impl TypeTable {
         Ok(fields)
     }
 
-    fn numbers_of(&self, alloc: Global, names: &[&[u8]]) -> Result<Vec<usize>, EntryFault> {
+    fn numbers_of(&self, alloc: Global, names: &[&[u8]]) -> Result<Vec<usize>, EntryFault>
+        ensures numbers { IfOk result (λ numbers. AllZip (IsNumberOf (names_of self.now))
+            numbers.items (map (λ name. name.now) names.now)) }
+        ensures undeclared { result ≡ Err EntryFault.Undeclared →
+            HasUndeclared (names_of self.now) (map (λ name. name.now) names.now) }
+    {
         let mut numbers = Vec::with_capacity(alloc, names.len())?;
         for name in names {
             numbers.push(self.number_of(name)?)?;

@@ -1,4 +1,6 @@
 //! What a line says.
+ghost use Rattle.std.specs.Prelude.{◌≡◌, ◌∷◌, IfOk, codes};
+ghost use Rattle.type_texts.specs.Words.{Say, Says, statement_of, words_left};
 
 use crate::word::{Words, is_name};
 use crate::written::{Written, written_of};
@@ -60,7 +62,9 @@ impl<T: Drop> From<AllocFailed<T>> for LineFault {
 }
 
 /// Reads a line.
-pub(crate) fn line_of<'a>(alloc: Global, line: &'a [u8]) -> Result<Line<'a>, LineFault> {
+pub(crate) fn line_of<'a>(alloc: Global, line: &'a [u8]) -> Result<Line<'a>, LineFault>
+    ensures { IfOk result (λ said. Says line.now (statement_of said)) }
+{
     let mut words = Words::new(line);
     match words.next() {
         None => Ok(Line::PassedOver),
@@ -72,7 +76,9 @@ pub(crate) fn line_of<'a>(alloc: Global, line: &'a [u8]) -> Result<Line<'a>, Lin
 }
 
 // The words after `type`.
-fn type_of<'a>(alloc: Global, mut words: Words<'a>) -> Result<Line<'a>, LineFault> {
+fn type_of<'a>(alloc: Global, mut words: Words<'a>) -> Result<Line<'a>, LineFault>
+    ensures { IfOk result (λ said. Say (codes "type" ∷ words_left words.entry) (statement_of said)) }
+{
     let name = words.next().ok_or(LineFault::Malformed)?;
     let Some(b"=") = words.next() else {
         return Err(LineFault::Malformed);
@@ -85,7 +91,9 @@ fn type_of<'a>(alloc: Global, mut words: Words<'a>) -> Result<Line<'a>, LineFaul
 }
 
 // The words after `ask`.
-fn ask_of<'a>(mut words: Words<'a>) -> Result<Line<'a>, LineFault> {
+fn ask_of<'a>(mut words: Words<'a>) -> Result<Line<'a>, LineFault>
+    ensures { IfOk result (λ said. Say (codes "ask" ∷ words_left words.entry) (statement_of said)) }
+{
     let left = words.next().ok_or(LineFault::Malformed)?;
     let Some(b"<") = words.next() else {
         return Err(LineFault::Malformed);

@@ -1,4 +1,9 @@
 //! Reading a text.
+ghost use Rattle.std.specs.Prelude.{◌≡◌, ℕ, IfOk, IfErr, map};
+ghost use Rattle.std.specs.List.{AllZip};
+ghost use Rattle.std.specs.Option.{option_copied};
+ghost use Rattle.type_texts.specs.Words.{AreDistinct, declared_by, IsDeclaredTwice, IsTableOf, IsUndeclared, IsUnguarded, lines_of, name_in, names_of, Reads, Says, statement_of};
+ghost use Rattle.type_texts.specs.Faults.{IsOfLines, IsOfNames, IsOfTable};
 
 use crate::entering::EntryFault;
 use crate::guard::unguarded_union;
@@ -76,7 +81,12 @@ impl TypeTable {
     /// Faults are sought in this order, each in the whole text: `BadLine` for a line of another form, `Twice` for a name
     /// that is declared twice, `Undeclared` for one that is not declared, and `Unguarded` for a union of itself.
     /// `Memory` where memory runs out before.
-    pub fn read(alloc: Global, text: &[u8]) -> Result<TypeTable, ReadFault> {
+    pub fn read(alloc: Global, text: &[u8]) -> Result<TypeTable, ReadFault>
+        ensures read { IfOk result (Reads text.now) }
+        ensures twice { (n : ℕ) → result ≡ Err (ReadFault.Twice n) → IsDeclaredTwice text.now n }
+        ensures undeclared { (n : ℕ) → result ≡ Err (ReadFault.Undeclared n) → IsUndeclared text.now n }
+        ensures unguarded { (n : ℕ) → result ≡ Err (ReadFault.Unguarded n) → IsUnguarded text.now }
+    {
         let lines = lines_in(alloc, text)?;
         let names = names_in(alloc, lines.as_slice())?;
         let table = table_of(alloc, names, lines.as_slice())?;
@@ -88,7 +98,10 @@ impl TypeTable {
 }
 
 // What the lines say.
-fn lines_in<'a>(alloc: Global, text: &'a [u8]) -> Result<Vec<Line<'a>>, ReadFault> {
+fn lines_in<'a>(alloc: Global, text: &'a [u8]) -> Result<Vec<Line<'a>>, ReadFault>
+    ensures lines { IfOk result (λ lines. AllZip Says (lines_of text.now) (map statement_of lines.items)) }
+    ensures fault { IfErr result (λ fault. IsOfLines fault) }
+{
     let mut lines = Vec::new(alloc);
     for (before, line) in text.split(|byte| *byte == b'\n').enumerate() {
         match line_of(alloc, line) {
@@ -101,10 +114,14 @@ fn lines_in<'a>(alloc: Global, text: &'a [u8]) -> Result<Vec<Line<'a>>, ReadFaul
 }
 
 // The names that are declared, in order.
-fn names_in(alloc: Global, lines: &[Line<'_>]) -> Result<Names, ReadFault> {
+fn names_in(alloc: Global, lines: &[Line<'_>]) -> Result<Names, ReadFault>
+    ensures names { IfOk result (λ names. names ≡ declared_by (map statement_of lines.now)) }
+    ensures distinct { IfOk result (λ names. AreDistinct names) }
+    ensures fault { IfErr result (λ fault. IsOfNames (map statement_of lines.now) fault) }
+{
     let mut names = Names::new(alloc);
     for (before, line) in lines.iter().enumerate() {
-        if let Line::Type { name, written: _ } = line {
+        if let Some(name) = declared_name(line) {
             if names.number(name).is_some() {
                 return Err(ReadFault::Twice(before + 1));
             }
@@ -114,8 +131,22 @@ fn names_in(alloc: Global, lines: &[Line<'_>]) -> Result<Names, ReadFault> {
     Ok(names)
 }
 
+// The name that the line declares.
+fn declared_name<'a>(line: &Line<'a>) -> Option<&'a [u8]>
+    ensures { option_copied result ≡ name_in (statement_of line.now) }
+{
+    match line {
+        Line::Type { name, written: _ } => Some(*name),
+        Line::PassedOver | Line::Ask { .. } => None,
+    }
+}
+
 // The table of what the lines say.
-fn table_of(alloc: Global, names: Names, lines: &[Line<'_>]) -> Result<TypeTable, ReadFault> {
+fn table_of(alloc: Global, names: Names, lines: &[Line<'_>]) -> Result<TypeTable, ReadFault>
+    ensures names { IfOk result (λ table. names_of table ≡ names) }
+    ensures table { IfOk result (λ table. IsTableOf (map statement_of lines.now) table) }
+    ensures fault { IfErr result (λ fault. IsOfTable names (map statement_of lines.now) fault) }
+{
     let mut table = TypeTable::new(alloc, names);
     for (before, line) in lines.iter().enumerate() {
         match table.enter(alloc, line) {

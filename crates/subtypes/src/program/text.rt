@@ -30,7 +30,7 @@ fn name_of(table: &TypeTable, step: Step) -> &[u8] {
         Step::Alternative => b"",
         Step::Argument => b"argument",
         Step::Result => b"result",
-        Step::Field(name) => table.field_name(name).unwrap_or(b""),
+        Step::Field(name) => table.label(name).unwrap_or(b""),
     }
 }
 
@@ -46,7 +46,7 @@ pub(super) fn write_end(
     let (words, last): (&[u8], &[u8]) = match end {
         End::Apart => (b" is not below ", right),
         End::NoAlternative => (b" fits no alternative of ", right),
-        End::Lacks(name) => (b" has no ", table.field_name(name).unwrap_or(b"")),
+        End::Lacks(name) => (b" has no ", table.label(name).unwrap_or(b"")),
     };
     text.extend_from_slice(words)?;
     text.extend_from_slice(last)?;
