@@ -1,4 +1,7 @@
 //! What the program does: it reads a table of types, and answers its questions in order.
+ghost use Rattle.std.specs.Prelude.{◌≡◌, ◌≤◌, ◌⊎◌, ℕ, IfErr, IfOk, IfSome, OnOk};
+ghost use Rattle.std.specs.Io.KnownBytes.{Keeps};
+ghost use Rattle.type_texts.specs.declared.reading.ReadFault.{ReadFault};
 
 mod questions;
 mod reason;
@@ -32,8 +35,12 @@ enum Stop {
 }
 
 impl Stop {
+    ghost use Rattle.subtypes.specs.Stop.{status_of};
+
     // The exit status.
-    fn status(self) -> u8 {
+    fn status(self) -> u8
+        ensures { result ≡ status_of self }
+    {
         match self {
             Stop::Text(ReadFault::Memory) => 4,
             Stop::Text(_) => 2,
@@ -86,7 +93,11 @@ pub(crate) fn run<R: Read + Drop, W: Flush, E: Write + Drop>(
     mut input: R,
     out: &mut W,
     mut err: E,
-) -> u8 {
+) -> u8
+    ensures status { result ≤ 4 }
+    ensures nothing_written { result ≡ 2 → Keeps (W.contents out.old) (W.contents out.new) }
+    ensures flushed { result ≤ 1 → W.is_flushed out.new }
+{
     match answer_input(alloc, &mut input, out) {
         Ok(true) => 0,
         Ok(false) => 1,
@@ -102,14 +113,21 @@ fn answer_input<R: Read, W: Flush>(
     alloc: Global,
     input: &mut R,
     out: &mut W,
-) -> Result<bool, Stop> {
+) -> Result<bool, Stop>
+    ensures flushed { OnOk result (W.is_flushed out.new) }
+    ensures nothing_written { (fault : ReadFault) → result ≡ Err (Stop.Text fault) →
+        Keeps (W.contents out.old) (W.contents out.new) }
+{
     let text = read_input(alloc, input)?;
     let table = TypeTable::read(alloc, text.as_slice())?;
     answer_questions::<&Types, W>(alloc, table.types(), &table, out)
 }
 
 // The whole input.
-fn read_input<R: Read>(alloc: Global, input: &mut R) -> Result<Vec<u8>, Stop> {
+fn read_input<R: Read>(alloc: Global, input: &mut R) -> Result<Vec<u8>, Stop>
+    ensures whole { IfOk result (λ text. IfSome (R.remaining input.old) (λ bytes. text.items ≡ bytes)) }
+    ensures fault { IfErr result (λ stop. (stop ≡ Stop.InputOrOutput) ⊎ (stop ≡ Stop.Memory)) }
+{
     let mut text = Vec::new(alloc);
     let mut piece = [0; PIECE];
     for _ in 0..READS {

@@ -1,4 +1,8 @@
 //! The questions of a text: each is asked, and told on a line.
+ghost use Rattle.std.specs.Prelude.{◌≡◌, ◌⊎◌, IfErr, IfOk, OnOk, Err};
+ghost use Rattle.std.specs.Io.KnownBytes.{Appends};
+ghost use Rattle.structural_types.specs.Asked.{declared_in};
+ghost use Rattle.subtypes.specs.Told.{fault_word_of, IsRight, line_told, verdict_word_of, words_of_answer};
 
 use crate::program::Stop;
 use crate::program::reason::reason_of;
@@ -32,7 +36,10 @@ pub(super) fn answer_questions<T: LendsTypes, W: Flush>(
     types: T,
     table: &TypeTable,
     out: &mut W,
-) -> Result<bool, Stop> {
+) -> Result<bool, Stop>
+    ensures flushed { OnOk result (W.is_flushed out.new) }
+    ensures fault { IfErr result (λ stop. (stop ≡ Stop.InputOrOutput) ⊎ (stop ≡ Stop.Memory)) }
+{
     let mut waiting = Vec::with_capacity(alloc, ROOM)?;
     let mut subtyping = Subtyping::<T>::new(alloc, types);
     let mut all_fine = true;
@@ -54,7 +61,11 @@ fn ask<T: LendsTypes>(
     subtyping: &mut Subtyping<T>,
     table: &TypeTable,
     pair: Pair,
-) -> Result<Told, Fault<Pair, Outcome>> {
+) -> Result<Told, Fault<Pair, Outcome>>
+    ensures right { IfOk result (λ told.
+        IsRight (declared_in T.types_of subtyping.old) pair told.verdict) }
+    ensures same_types { declared_in T.types_of subtyping.new ≡ declared_in T.types_of subtyping.old }
+{
     let depth = table.count().saturating_mul(table.count());
     let verdict = subtyping.is_below(pair.left, pair.right, depth)?;
     let reason = match verdict {
@@ -71,7 +82,9 @@ fn tell<W: Write>(
     table: &TypeTable,
     pair: Pair,
     came: Result<Told, Fault<Pair, Outcome>>,
-) -> Result<(), Stop> {
+) -> Result<(), Stop>
+    ensures fault { IfErr result (λ stop. (stop ≡ Stop.InputOrOutput) ⊎ (stop ≡ Stop.Memory)) }
+{
     let left = table.name(pair.left).unwrap_or(b"");
     let right = table.name(pair.right).unwrap_or(b"");
     write_line(waiting, left, right, came).map_err(|_| Stop::Memory)?;
@@ -88,7 +101,10 @@ fn write_line<W: Write>(
     left: &[u8],
     right: &[u8],
     came: Result<Told, Fault<Pair, Outcome>>,
-) -> io::Result<()> {
+) -> io::Result<()>
+    ensures { OnOk result (Appends (W.contents out.old) (W.contents out.new)
+        (line_told left.now right.now came)) }
+{
     out.write_all(left)?;
     out.write_all(b" < ")?;
     out.write_all(right)?;
@@ -98,7 +114,9 @@ fn write_line<W: Write>(
     }
 }
 
-fn write_told<W: Write>(out: &mut W, told: Told) -> io::Result<()> {
+fn write_told<W: Write>(out: &mut W, told: Told) -> io::Result<()>
+    ensures { OnOk result (Appends (W.contents out.old) (W.contents out.new) (words_of_answer (Ok told))) }
+{
     let Told { verdict, reason } = told;
     let word = verdict_word(verdict);
     write!(out, " {word}")?;
@@ -106,12 +124,16 @@ fn write_told<W: Write>(out: &mut W, told: Told) -> io::Result<()> {
     out.write_all(b"\n")
 }
 
-fn write_fault<W: Write>(out: &mut W, fault: Fault<Pair, Outcome>) -> io::Result<()> {
+fn write_fault<W: Write>(out: &mut W, fault: Fault<Pair, Outcome>) -> io::Result<()>
+    ensures { OnOk result (Appends (W.contents out.old) (W.contents out.new) (words_of_answer (Err fault))) }
+{
     let word = fault_word(fault);
     writeln!(out, " fault {word}")
 }
 
-fn verdict_word(verdict: Verdict) -> &'static str {
+fn verdict_word(verdict: Verdict) -> &'static str
+    ensures { result.now ≡ verdict_word_of verdict }
+{
     match verdict {
         Verdict::Yes => "yes",
         Verdict::No => "no",
@@ -119,7 +141,9 @@ fn verdict_word(verdict: Verdict) -> &'static str {
     }
 }
 
-fn fault_word(fault: Fault<Pair, Outcome>) -> &'static str {
+fn fault_word(fault: Fault<Pair, Outcome>) -> &'static str
+    ensures { result.now ≡ fault_word_of fault }
+{
     match fault {
         Fault::Memory => "memory",
         Fault::Conflict { .. } => "conflict",

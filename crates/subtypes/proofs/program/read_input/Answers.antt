@@ -1,0 +1,12 @@
+use Rattle.std.proofs.Common.{rules, ◌<◌, length}
+use Rattle.subtypes.proofs.Bytes.{consumes_more, all_consumed}
+use Rattle.subtypes.proofs.program.read_input.Goals as goal
+
+pub returns-then-count-eq0-clause-whole : goal.returns-then-count-eq0-clause-whole
+returns-then-count-eq0-clause-whole g c =
+    let read = c.in_ok-count.ensures.bytes in
+    let room : 0 < length c.read.new.buf = search rules in
+    all_consumed _ _ _ _ c.loop.invariant (rw c.if-count-eq0.true at read.0) (read.1 c.if-count-eq0.true room)
+
+pub loop-preserved : goal.loop-preserved
+loop-preserved g c = let appended = c.in_ok-extend_from_slice.ensures.items in rw appended (consumes_more _ _ _ _ _ c.loop.invariant c.in_ok-count.ensures.bytes.0)

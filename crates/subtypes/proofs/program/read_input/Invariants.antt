@@ -1,0 +1,5 @@
+use Rattle.std.specs.Io.KnownBytes.{Consumes}
+use Rattle.subtypes.proofs.program.read_input.Given as goal
+
+abbrev pub invariant-loop : goal.invariant-loop
+invariant-loop g l = let remaining = g.R.Read.remaining in Consumes (remaining l.fn.input) (remaining l.input) l.text.items
