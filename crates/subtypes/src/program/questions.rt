@@ -1,0 +1,153 @@
+//! The questions of a text: each is asked, and told on a line.
+ghost use Rattle.std.specs.Prelude.{◌≡◌, ◌⊎◌, IfErr, IfOk, OnOk, Err};
+ghost use Rattle.std.specs.Io.KnownBytes.{Appends};
+ghost use Rattle.structural_types.specs.Asked.{declared_in};
+ghost use Rattle.subtypes.specs.Told.{fault_word_of, IsRight, line_told, verdict_word_of, words_of_answer};
+
+use crate::program::Stop;
+use crate::program::reason::reason_of;
+use delegate_parts::Outcome;
+use line_texts::{Flush, write_bytes};
+use search_parts::context::{Fault, Verdict};
+use std::alloc::Global;
+use std::io;
+use std::io::Write;
+use structural_types::{LendsTypes, Pair, Subtyping};
+use type_texts::TypeTable;
+
+/// A write of its own for each line would take longer than a question that the cache answers, so this many bytes
+/// wait for each other.
+const ENOUGH: usize = 8000;
+
+/// Room for these and one short line more.
+const ROOM: usize = 8192;
+
+/// What a question came to.
+#[derive(Debug, Drop)]
+pub(super) struct Told {
+    pub(super) verdict: Verdict,
+    /// What is written after a `no`, and nothing after another verdict.
+    pub(super) reason: Vec<u8>,
+}
+
+/// Answers each question, and writes its line. The result is whether none met a fault.
+pub(super) fn answer_questions<T: LendsTypes, W: Flush>(
+    alloc: Global,
+    types: T,
+    table: &TypeTable,
+    out: &mut W,
+) -> Result<bool, Stop>
+    ensures flushed { OnOk result (W.is_flushed out.new) }
+    ensures fault { IfErr result (λ stop. (stop ≡ Stop.InputOrOutput) ⊎ (stop ≡ Stop.Memory)) }
+{
+    let mut waiting = Vec::with_capacity(alloc, ROOM)?;
+    let mut subtyping = Subtyping::<T>::new(alloc, types);
+    let mut all_fine = true;
+    for question in table.questions() {
+        let pair = *question;
+        let came = ask(alloc, &mut subtyping, table, pair);
+        all_fine &= came.is_ok();
+        tell(out, &mut waiting, table, pair, came)?;
+    }
+    write_bytes(out, waiting.as_slice())?;
+    out.flush_all()?;
+    Ok(all_fine)
+}
+
+// Asks whether the left type is below the right one, and seeks the reason if it isn't. The depth is the number of all
+// pairs of types, so no question is cut off by it.
+fn ask<T: LendsTypes>(
+    alloc: Global,
+    subtyping: &mut Subtyping<T>,
+    table: &TypeTable,
+    pair: Pair,
+) -> Result<Told, Fault<Pair, Outcome>>
+    ensures right { IfOk result (λ told.
+        IsRight (declared_in T.types_of subtyping.old) pair told.verdict) }
+    ensures same_types { declared_in T.types_of subtyping.new ≡ declared_in T.types_of subtyping.old }
+{
+    let depth = table.count().saturating_mul(table.count());
+    let verdict = subtyping.is_below(pair.left, pair.right, depth)?;
+    let reason = match verdict {
+        Verdict::No => reason_of(alloc, subtyping, table, pair, depth)?,
+        _ => Vec::new(alloc),
+    };
+    Ok(Told { verdict, reason })
+}
+
+// The line waits, until there are enough to be written.
+fn tell<W: Write>(
+    out: &mut W,
+    waiting: &mut Vec<u8>,
+    table: &TypeTable,
+    pair: Pair,
+    came: Result<Told, Fault<Pair, Outcome>>,
+) -> Result<(), Stop>
+    ensures fault { IfErr result (λ stop. (stop ≡ Stop.InputOrOutput) ⊎ (stop ≡ Stop.Memory)) }
+{
+    let left = table.name(pair.left).unwrap_or(b"");
+    let right = table.name(pair.right).unwrap_or(b"");
+    write_line(waiting, left, right, came).map_err(|_| Stop::Memory)?;
+    if waiting.len() < ENOUGH {
+        return Ok(());
+    }
+    write_bytes(out, waiting.as_slice())?;
+    waiting.clear();
+    Ok(())
+}
+
+fn write_line<W: Write>(
+    out: &mut W,
+    left: &[u8],
+    right: &[u8],
+    came: Result<Told, Fault<Pair, Outcome>>,
+) -> io::Result<()>
+    ensures { OnOk result (Appends (W.contents out.old) (W.contents out.new)
+        (line_told left.now right.now came)) }
+{
+    out.write_all(left)?;
+    out.write_all(b" < ")?;
+    out.write_all(right)?;
+    match came {
+        Ok(told) => write_told(out, told),
+        Err(fault) => write_fault(out, fault),
+    }
+}
+
+fn write_told<W: Write>(out: &mut W, told: Told) -> io::Result<()>
+    ensures { OnOk result (Appends (W.contents out.old) (W.contents out.new) (words_of_answer (Ok told))) }
+{
+    let Told { verdict, reason } = told;
+    let word = verdict_word(verdict);
+    write!(out, " {word}")?;
+    out.write_all(reason.as_slice())?;
+    out.write_all(b"\n")
+}
+
+fn write_fault<W: Write>(out: &mut W, fault: Fault<Pair, Outcome>) -> io::Result<()>
+    ensures { OnOk result (Appends (W.contents out.old) (W.contents out.new) (words_of_answer (Err fault))) }
+{
+    let word = fault_word(fault);
+    writeln!(out, " fault {word}")
+}
+
+fn verdict_word(verdict: Verdict) -> &'static str
+    ensures { result.now ≡ verdict_word_of verdict }
+{
+    match verdict {
+        Verdict::Yes => "yes",
+        Verdict::No => "no",
+        Verdict::Neither => "undecided",
+    }
+}
+
+fn fault_word(fault: Fault<Pair, Outcome>) -> &'static str
+    ensures { result.now ≡ fault_word_of fault }
+{
+    match fault {
+        Fault::Memory => "memory",
+        Fault::Conflict { .. } => "conflict",
+        Fault::Validation { .. } => "validation",
+        Fault::Protocol(_) => "protocol",
+    }
+}

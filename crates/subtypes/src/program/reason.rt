@@ -1,0 +1,215 @@
+//! Why a type is not below another: a shortest way from the pair to one that fails by itself.
+ghost use Rattle.std.specs.Prelude.{◌≡◌};
+ghost use Rattle.structural_types.specs.Asked.{declared_in};
+
+use crate::program::text::{write_end, write_way};
+use delegate_parts::Outcome;
+use search_parts::context::{Fault, NoMemory, Verdict};
+use std::alloc::Global;
+use std::collections::HashSet;
+use structural_types::{Field, Form, LendsTypes, Pair, Subtyping, Types};
+use type_texts::TypeTable;
+
+/// A step from a pair to one of its parts.
+#[derive(Clone, Copy, Debug, PartialEq, Eq)]
+pub(super) enum Step {
+    /// To an alternative of the left type, which leaves no trace in the text.
+    Alternative,
+    Argument,
+    Result,
+    Field(u32),
+}
+
+/// How a pair fails by itself.
+#[derive(Clone, Copy, Debug, PartialEq, Eq)]
+pub(super) enum End {
+    /// Its types have other forms.
+    Apart,
+    /// The right one is a union, and no alternative fits.
+    NoAlternative,
+    /// The left record lacks a field of the right one.
+    Lacks(u32),
+}
+
+/// A pair of which the left type is not below the right one, and the step by which it was found.
+#[derive(Clone, Copy, Debug, PartialEq, Eq)]
+struct Found {
+    pair: Pair,
+    from: usize,
+    step: Step,
+}
+
+/// The pairs that were found, the nearest first.
+#[derive(Drop)]
+struct Search {
+    found: Vec<Found>,
+    seen: HashSet<Pair>,
+}
+
+/// The reason why the left type of the pair is not below the right one, as ` at tail.head: Text is not below Int`.
+pub(super) fn reason_of<T: LendsTypes>(
+    alloc: Global,
+    subtyping: &mut Subtyping<T>,
+    table: &TypeTable,
+    pair: Pair,
+    depth: usize,
+) -> Result<Vec<u8>, Fault<Pair, Outcome>>
+    ensures { declared_in T.types_of subtyping.new ≡ declared_in T.types_of subtyping.old }
+{
+    let mut search = Search::new(alloc, pair)?;
+    for place in 0..depth {
+        let Some(found) = search.found.get(place).copied() else {
+            break;
+        };
+        if let Some(end) = end_of(table.types(), found.pair) {
+            let mut text = Vec::new(alloc);
+            let way = search.way_to(alloc, place)?;
+            write_way(&mut text, table, way.as_slice())?;
+            write_end(&mut text, table, found.pair, end)?;
+            return Ok(text);
+        }
+        search.follow(subtyping, table.types(), place, found.pair, depth)?;
+    }
+    Ok(Vec::new(alloc))
+}
+
+impl Search {
+    // The search from this pair.
+    fn new(alloc: Global, pair: Pair) -> Result<Search, NoMemory> {
+        let mut search = Search {
+            found: Vec::new(alloc),
+            seen: HashSet::new(alloc),
+        };
+        search.note(pair, 0, Step::Alternative)?;
+        Ok(search)
+    }
+
+    // Notes a pair that is not below.
+    fn note(&mut self, pair: Pair, from: usize, step: Step) -> Result<(), NoMemory> {
+        self.seen.insert(pair)?;
+        self.found.push(Found { pair, from, step })?;
+        Ok(())
+    }
+
+    // Looks at the parts of a pair that was found.
+    fn follow<T: LendsTypes>(
+        &mut self,
+        subtyping: &mut Subtyping<T>,
+        types: &Types,
+        place: usize,
+        pair: Pair,
+        depth: usize,
+    ) -> Result<(), Fault<Pair, Outcome>>
+        ensures { declared_in T.types_of subtyping.new ≡ declared_in T.types_of subtyping.old }
+    {
+        match (types.form(pair.left), types.form(pair.right)) {
+            (Some(Form::Union(alternatives)), _) => {
+                for left in alternatives {
+                    let part = Pair { left: *left, ..pair };
+                    self.look_at(subtyping, part, place, Step::Alternative, depth)?;
+                }
+            }
+            (Some(Form::Function(a, b)), Some(Form::Function(c, d))) => {
+                let arguments = Pair { left: *c, right: *a };
+                self.look_at(subtyping, arguments, place, Step::Argument, depth)?;
+                let results = Pair { left: *b, right: *d };
+                self.look_at(subtyping, results, place, Step::Result, depth)?;
+            }
+            (Some(Form::Record(fields)), Some(Form::Record(others))) => {
+                self.follow_fields(subtyping, fields.as_slice(), others.as_slice(), place, depth)?;
+            }
+            _ => {}
+        }
+        Ok(())
+    }
+
+    // Looks at the fields of the right record, each of which the left one has.
+    fn follow_fields<T: LendsTypes>(
+        &mut self,
+        subtyping: &mut Subtyping<T>,
+        fields: &[Field],
+        others: &[Field],
+        place: usize,
+        depth: usize,
+    ) -> Result<(), Fault<Pair, Outcome>>
+        ensures { declared_in T.types_of subtyping.new ≡ declared_in T.types_of subtyping.old }
+    {
+        for other in others {
+            if let Some(left) = part_of(fields, other.name) {
+                let part = Pair { left, right: other.part };
+                self.look_at(subtyping, part, place, Step::Field(other.name), depth)?;
+            }
+        }
+        Ok(())
+    }
+
+    // Notes the pair if its left type is not below the right one and it is new.
+    fn look_at<T: LendsTypes>(
+        &mut self,
+        subtyping: &mut Subtyping<T>,
+        pair: Pair,
+        from: usize,
+        step: Step,
+        depth: usize,
+    ) -> Result<(), Fault<Pair, Outcome>>
+        ensures { declared_in T.types_of subtyping.new ≡ declared_in T.types_of subtyping.old }
+    {
+        if self.seen.contains(&pair) {
+            return Ok(());
+        }
+        if subtyping.is_below(pair.left, pair.right, depth)? == Verdict::No {
+            self.note(pair, from, step)?;
+        }
+        Ok(())
+    }
+
+    // The steps to the pair at this place, the first one last.
+    fn way_to(&self, alloc: Global, place: usize) -> Result<Vec<Step>, NoMemory> {
+        let mut way = Vec::new(alloc);
+        let mut at = place;
+        for _ in 0..place {
+            let Some(found) = self.found.get(at).copied() else {
+                break;
+            };
+            if at == 0 {
+                break;
+            }
+            way.push(found.step)?;
+            at = found.from;
+        }
+        Ok(way)
+    }
+}
+
+// How the pair fails by itself, if it does so whatever its parts are, or if its right type is a union.
+fn end_of(types: &Types, pair: Pair) -> Option<End> {
+    match (types.form(pair.left), types.form(pair.right)) {
+        (Some(Form::Union(_)), _) => None,
+        (_, Some(Form::Union(_))) => Some(End::NoAlternative),
+        (Some(Form::Function(_, _)), Some(Form::Function(_, _))) => None,
+        (Some(Form::Record(fields)), Some(Form::Record(others))) => {
+            first_lack(fields.as_slice(), others.as_slice()).map(End::Lacks)
+        }
+        _ => Some(End::Apart),
+    }
+}
+
+// The first of the other fields that is none of these.
+fn first_lack(fields: &[Field], others: &[Field]) -> Option<u32> {
+    for other in others {
+        if part_of(fields, other.name).is_none() {
+            return Some(other.name);
+        }
+    }
+    None
+}
+
+// The type of the field of this name.
+fn part_of(fields: &[Field], name: u32) -> Option<usize> {
+    for field in fields {
+        if field.name == name {
+            return Some(field.part);
+        }
+    }
+    None
+}

@@ -1,0 +1,38 @@
+use Rattle.std.proofs.Common.{Ok, ap, map, subst, sym, ◌∙◌}
+use Rattle.type_texts.specs.Words.{AreDistinct, statement_of}
+use Rattle.type_texts.proofs.Texts.{all_declared, as_many_forms}
+use Rattle.type_texts.proofs.table.TypeTable.read.Goals as goal
+
+pub unguarded_union-requires-clause-declared : goal.unguarded_union-requires-clause-declared
+unguarded_union-requires-clause-declared c =
+    all_declared (map statement_of c.in_ok-lines.lines.items) c.in_ok-table.table (rw c.as_slice-2.ensures.value at c.in_ok-table.ensures.table)
+    (c.in_ok-table.ensures.names ∙ (rw c.as_slice.ensures.value at c.in_ok-names.ensures.names))
+
+pub unguarded_union-requires-clause-all : goal.unguarded_union-requires-clause-all
+unguarded_union-requires-clause-all c =
+    c.count.ensures ∙ as_many_forms (map statement_of c.in_ok-lines.lines.items) c.in_ok-table.table (rw c.as_slice-2.ensures.value at c.in_ok-table.ensures.table)
+    (c.in_ok-table.ensures.names ∙ (rw c.as_slice.ensures.value at c.in_ok-names.ensures.names))
+
+pub returns-in-Some-clause-unguarded : goal.returns-in-Some-clause-unguarded
+returns-in-Some-clause-unguarded c = λ n e. record {
+  statements = map statement_of c.in_ok-lines.lines.items;
+  lines = c.in_ok-lines.ensures.lines;
+  table = c.in_ok-table.table;
+  is_table = rw c.as_slice-2.ensures.value at c.in_ok-table.ensures.table;
+  number = c.in-Some.number;
+  is_union = c.in_ok-number.ensures.some c.in-Some.number (ap Ok c.in-Some.is);
+}
+
+pub returns-clause-read : goal.returns-clause-read
+returns-clause-read c =
+    let is_table = rw c.as_slice-2.ensures.value at c.in_ok-table.ensures.table in
+    let names = c.in_ok-table.ensures.names ∙ (rw c.as_slice.ensures.value at c.in_ok-names.ensures.names) in
+    record {
+      statements = map statement_of c.in_ok-lines.lines.items;
+      lines = c.in_ok-lines.ensures.lines;
+      names = names;
+      distinct = subst AreDistinct (sym c.in_ok-table.ensures.names) c.in_ok-names.ensures.distinct;
+      is_table = is_table;
+      declared = all_declared (map statement_of c.in_ok-lines.lines.items) c.in_ok-table.table is_table names;
+      contractive = c.in_ok-number.ensures.none (ap Ok c.in-None.is);
+    }

@@ -1,0 +1,19 @@
+//! Texts that declare types and ask of two of them whether the one is below the other, and what such a text says: a table
+//! of the types of `structural_types`, with their names.
+//!
+//! | File of `specs/` | Has |
+//! |---|---|
+//! | `Grammar`, `Text` | the grammar of lines and of whole texts |
+//! | `Line` | lines as the reading has them |
+//! | `Table` | the table that a text makes |
+#![tactic(auto)]
+
+mod entering;
+mod guard;
+mod line;
+mod reading;
+mod table;
+mod written;
+
+pub use reading::ReadFault;
+pub use table::TypeTable;
