@@ -6,9 +6,9 @@ mod alternatives;
 mod fields;
 
 use crate::line::LineFault;
-use line_texts::{Words, is_name};
 use alternatives::alternatives_of;
 use fields::fields_of;
+use line_texts::{Words, is_name};
 use std::alloc::Global;
 
 /// What a type is, by the names of its parts.

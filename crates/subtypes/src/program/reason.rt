@@ -105,18 +105,33 @@ impl Search {
         match (types.form(pair.left), types.form(pair.right)) {
             (Some(Form::Union(alternatives)), _) => {
                 for left in alternatives {
-                    let part = Pair { left: *left, ..pair };
+                    let part = Pair {
+                        left: *left,
+                        ..pair
+                    };
                     self.look_at(subtyping, part, place, Step::Alternative, depth)?;
                 }
             }
             (Some(Form::Function(a, b)), Some(Form::Function(c, d))) => {
-                let arguments = Pair { left: *c, right: *a };
+                let arguments = Pair {
+                    left: *c,
+                    right: *a,
+                };
                 self.look_at(subtyping, arguments, place, Step::Argument, depth)?;
-                let results = Pair { left: *b, right: *d };
+                let results = Pair {
+                    left: *b,
+                    right: *d,
+                };
                 self.look_at(subtyping, results, place, Step::Result, depth)?;
             }
             (Some(Form::Record(fields)), Some(Form::Record(others))) => {
-                self.follow_fields(subtyping, fields.as_slice(), others.as_slice(), place, depth)?;
+                self.follow_fields(
+                    subtyping,
+                    fields.as_slice(),
+                    others.as_slice(),
+                    place,
+                    depth,
+                )?;
             }
             _ => {}
         }
@@ -136,7 +151,10 @@ impl Search {
     {
         for other in others {
             if let Some(left) = part_of(fields, other.name) {
-                let part = Pair { left, right: other.part };
+                let part = Pair {
+                    left,
+                    right: other.part,
+                };
                 self.look_at(subtyping, part, place, Step::Field(other.name), depth)?;
             }
         }
