@@ -32,7 +32,7 @@ walk_cut lines marks place level walk = walk_same lines _ marks (filter_map-appe
 pub still_unseen : (marks : List Mark) (place q number : ℕ) → slice_get marks place ≡ Some Unseen → slice_get (slice_set marks place (Open number)) q ≡ Some Unseen → (slice_get marks q ≡ Some Unseen) × (nat_eq q place ≡ false)
 still_unseen marks place q number unseen h = ⊎_elim
     (λ t. let marked : slice_get (slice_set marks place (Open number)) q ≡ Some (Open number) = subst (λ p. slice_get (slice_set marks place (Open number)) p ≡ Some (Open number)) (sym (eqb-true q place t)) (get_set_same marks place Unseen (Open number) unseen) in
-        let bad : Some (Open number) ≡ Some Unseen = sym marked ∙ h in absurd (cc))
+    let bad : Some (Open number) ≡ Some Unseen = sym marked ∙ h in absurd (cc))
     (λ f. let other : q ≢ place = λ e. let bad : true ≡ false = sym (eq-eqb q place e) ∙ f in absurd (cc) in (sym (get_set_other marks place (Open number) q other) ∙ h, f))
     (cases_Bool (nat_eq q place))
 

@@ -13,8 +13,8 @@ use rule_tables::delegate::Table;
 use rule_tables::{Goal, Outcome, Rules, TableDelegate};
 use search_context::context::{Cx, Delegate, NoMemory, Node, ProofGraph};
 use std::alloc::Global;
-use std::{fmt, io};
 use std::io::{Read, Write};
+use std::{fmt, io};
 
 /// Whether no graph was refused.
 pub(super) fn check_input<R: Read, W: Write>(
