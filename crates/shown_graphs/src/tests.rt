@@ -119,6 +119,7 @@ fn data_that_shows_nothing_is_refused(rt: HostRuntime) -> Result<(), Fail> {
     )
 }
 
+// Bytes are counted from 0. A malformed rule is told where the rules end and the next token begins.
 #[test]
 fn data_of_another_form_is_bad(rt: HostRuntime) -> Result<(), Fail> {
     expect_checked(&rt, "", 2, "", "byte 0: bad data\n")?;
@@ -134,7 +135,7 @@ fn data_of_another_form_is_bad(rt: HostRuntime) -> Result<(), Fail> {
         "{\"rules\":[\"rule\"],\"answers\":[]}",
         2,
         "",
-        "byte 17: bad data\n",
+        "byte 18: bad data\n",
     )?;
     expect_checked(
         &rt,
