@@ -119,7 +119,8 @@ fn data_that_shows_nothing_is_refused(rt: HostRuntime) -> Result<(), Fail> {
     )
 }
 
-// Bytes are counted from 0. A malformed rule is told where the rules end and the next token begins.
+// Bytes are counted from 0. A malformed rule is told where the next token begins after the rules, and a goal that they do not
+// mention right after its name.
 #[test]
 fn data_of_another_form_is_bad(rt: HostRuntime) -> Result<(), Fail> {
     expect_checked(&rt, "", 2, "", "byte 0: bad data\n")?;
@@ -142,6 +143,6 @@ fn data_of_another_form_is_bad(rt: HostRuntime) -> Result<(), Fail> {
         "{\"rules\":[],\"answers\":[{\"goal\":\"A\"}]}",
         2,
         "",
-        "byte 36: bad data\n",
+        "byte 34: bad data\n",
     )
 }
