@@ -119,6 +119,8 @@ fn data_that_shows_nothing_is_refused(rt: HostRuntime) -> Result<(), Fail> {
     )
 }
 
+// Bytes are counted from 0. A malformed rule is told where the next token begins after the rules, and a goal that they do not
+// mention right after its name.
 #[test]
 fn data_of_another_form_is_bad(rt: HostRuntime) -> Result<(), Fail> {
     expect_checked(&rt, "", 2, "", "byte 0: bad data\n")?;
@@ -134,13 +136,13 @@ fn data_of_another_form_is_bad(rt: HostRuntime) -> Result<(), Fail> {
         "{\"rules\":[\"rule\"],\"answers\":[]}",
         2,
         "",
-        "byte 17: bad data\n",
+        "byte 18: bad data\n",
     )?;
     expect_checked(
         &rt,
         "{\"rules\":[],\"answers\":[{\"goal\":\"A\"}]}",
         2,
         "",
-        "byte 36: bad data\n",
+        "byte 34: bad data\n",
     )
 }
