@@ -1,2 +1,3 @@
 pub mod Bytes
 pub mod Written
+pub mod Right

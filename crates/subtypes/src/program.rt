@@ -109,11 +109,7 @@ pub(crate) fn run<R: Read + Drop, W: Flush, E: Write + Drop>(
 }
 
 // Whether each question was answered without a fault.
-fn answer_input<R: Read, W: Flush>(
-    alloc: Global,
-    input: &mut R,
-    out: &mut W,
-) -> Result<bool, Stop>
+fn answer_input<R: Read, W: Flush>(alloc: Global, input: &mut R, out: &mut W) -> Result<bool, Stop>
     ensures flushed { OnOk result (W.is_flushed out.new) }
     ensures nothing_written { (fault : ReadFault) → result ≡ Err (Stop.Text fault) →
         Keeps (W.contents out.old) (W.contents out.new) }

@@ -1,6 +1,4 @@
 //! Why a type is not below another: a shortest way from the pair to one that fails by itself.
-ghost use Rattle.std.specs.Prelude.{◌≡◌};
-ghost use Rattle.structural_types.specs.Asked.{declared_in};
 
 use crate::program::text::{write_end, write_way};
 use delegate_parts::Outcome;
@@ -53,9 +51,7 @@ pub(super) fn reason_of<T: LendsTypes>(
     table: &TypeTable,
     pair: Pair,
     depth: usize,
-) -> Result<Vec<u8>, Fault<Pair, Outcome>>
-    ensures { declared_in T.types_of subtyping.new ≡ declared_in T.types_of subtyping.old }
-{
+) -> Result<Vec<u8>, Fault<Pair, Outcome>> {
     let mut search = Search::new(alloc, pair)?;
     for place in 0..depth {
         let Some(found) = search.found.get(place).copied() else {
@@ -99,24 +95,37 @@ impl Search {
         place: usize,
         pair: Pair,
         depth: usize,
-    ) -> Result<(), Fault<Pair, Outcome>>
-        ensures { declared_in T.types_of subtyping.new ≡ declared_in T.types_of subtyping.old }
-    {
+    ) -> Result<(), Fault<Pair, Outcome>> {
         match (types.form(pair.left), types.form(pair.right)) {
             (Some(Form::Union(alternatives)), _) => {
                 for left in alternatives {
-                    let part = Pair { left: *left, ..pair };
+                    let part = Pair {
+                        left: *left,
+                        ..pair
+                    };
                     self.look_at(subtyping, part, place, Step::Alternative, depth)?;
                 }
             }
             (Some(Form::Function(a, b)), Some(Form::Function(c, d))) => {
-                let arguments = Pair { left: *c, right: *a };
+                let arguments = Pair {
+                    left: *c,
+                    right: *a,
+                };
                 self.look_at(subtyping, arguments, place, Step::Argument, depth)?;
-                let results = Pair { left: *b, right: *d };
+                let results = Pair {
+                    left: *b,
+                    right: *d,
+                };
                 self.look_at(subtyping, results, place, Step::Result, depth)?;
             }
             (Some(Form::Record(fields)), Some(Form::Record(others))) => {
-                self.follow_fields(subtyping, fields.as_slice(), others.as_slice(), place, depth)?;
+                self.follow_fields(
+                    subtyping,
+                    fields.as_slice(),
+                    others.as_slice(),
+                    place,
+                    depth,
+                )?;
             }
             _ => {}
         }
@@ -131,12 +140,13 @@ impl Search {
         others: &[Field],
         place: usize,
         depth: usize,
-    ) -> Result<(), Fault<Pair, Outcome>>
-        ensures { declared_in T.types_of subtyping.new ≡ declared_in T.types_of subtyping.old }
-    {
+    ) -> Result<(), Fault<Pair, Outcome>> {
         for other in others {
             if let Some(left) = part_of(fields, other.name) {
-                let part = Pair { left, right: other.part };
+                let part = Pair {
+                    left,
+                    right: other.part,
+                };
                 self.look_at(subtyping, part, place, Step::Field(other.name), depth)?;
             }
         }
@@ -151,9 +161,7 @@ impl Search {
         from: usize,
         step: Step,
         depth: usize,
-    ) -> Result<(), Fault<Pair, Outcome>>
-        ensures { declared_in T.types_of subtyping.new ≡ declared_in T.types_of subtyping.old }
-    {
+    ) -> Result<(), Fault<Pair, Outcome>> {
         if self.seen.contains(&pair) {
             return Ok(());
         }
