@@ -8,7 +8,7 @@ use Rattle.structural_types.specs.Subtypes.{IsBelow}
 use Rattle.subtypes.specs.Told.{IsRight}
 
 pub is_right : {E : Type 0} (forms : List Form) (pair : Pair) (r : Result Verdict E) → (r ≡ Ok Yes → IsBelow forms pair.left pair.right) → (r ≡ Ok No → IsBelow forms pair.left pair.right → ⊥) → IfOk r (IsRight forms pair)
-is_right forms pair (Ok Yes) yes no = yes refl
-is_right forms pair (Ok No) yes no = no refl
-is_right forms pair (Ok Neither) yes no = tt
-is_right forms pair (Err fault) yes no = tt
+is_right forms pair (Ok Yes) holds fails = holds refl
+is_right forms pair (Ok No) holds fails = fails refl
+is_right forms pair (Ok Neither) holds fails = tt
+is_right forms pair (Err fault) holds fails = tt
