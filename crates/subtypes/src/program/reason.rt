@@ -1,6 +1,4 @@
 //! Why a type is not below another: a shortest way from the pair to one that fails by itself.
-ghost use Rattle.std.specs.Prelude.{◌≡◌};
-ghost use Rattle.structural_types.specs.Asked.{declared_in};
 
 use crate::program::text::{write_end, write_way};
 use delegate_parts::Outcome;
@@ -53,9 +51,7 @@ pub(super) fn reason_of<T: LendsTypes>(
     table: &TypeTable,
     pair: Pair,
     depth: usize,
-) -> Result<Vec<u8>, Fault<Pair, Outcome>>
-    ensures { declared_in T.types_of subtyping.new ≡ declared_in T.types_of subtyping.old }
-{
+) -> Result<Vec<u8>, Fault<Pair, Outcome>> {
     let mut search = Search::new(alloc, pair)?;
     for place in 0..depth {
         let Some(found) = search.found.get(place).copied() else {
@@ -99,9 +95,7 @@ impl Search {
         place: usize,
         pair: Pair,
         depth: usize,
-    ) -> Result<(), Fault<Pair, Outcome>>
-        ensures { declared_in T.types_of subtyping.new ≡ declared_in T.types_of subtyping.old }
-    {
+    ) -> Result<(), Fault<Pair, Outcome>> {
         match (types.form(pair.left), types.form(pair.right)) {
             (Some(Form::Union(alternatives)), _) => {
                 for left in alternatives {
@@ -146,9 +140,7 @@ impl Search {
         others: &[Field],
         place: usize,
         depth: usize,
-    ) -> Result<(), Fault<Pair, Outcome>>
-        ensures { declared_in T.types_of subtyping.new ≡ declared_in T.types_of subtyping.old }
-    {
+    ) -> Result<(), Fault<Pair, Outcome>> {
         for other in others {
             if let Some(left) = part_of(fields, other.name) {
                 let part = Pair {
@@ -169,9 +161,7 @@ impl Search {
         from: usize,
         step: Step,
         depth: usize,
-    ) -> Result<(), Fault<Pair, Outcome>>
-        ensures { declared_in T.types_of subtyping.new ≡ declared_in T.types_of subtyping.old }
-    {
+    ) -> Result<(), Fault<Pair, Outcome>> {
         if self.seen.contains(&pair) {
             return Ok(());
         }
