@@ -14,12 +14,12 @@ pub(crate) fn write_start<W: Write>(out: &mut W) -> io::Result<()> {
     )
 }
 
-/// Writes what follows the last question: the legend.
+/// Writes what follows the last question: the legend, and the end of the graph.
 pub(crate) fn write_end<W: Write>(out: &mut W) -> io::Result<()> {
     out.write_all(LEGEND)
 }
 
-/// What shapes and lines mean.
+/// What shapes and lines mean, and the last brace.
 const LEGEND: &[u8] = b"  subgraph cluster_legend {
     label=\"shapes are verdicts, lines are kinds of steps\";
     legend_yes [label=\"yes\", shape=box];

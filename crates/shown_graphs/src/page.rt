@@ -95,7 +95,6 @@ impl Page {
             Page::Dot { mut waiting, .. } => {
                 end_dot(&mut waiting).map_err(|_| Stop::Memory)?;
                 out.write_all(waiting.as_slice())?;
-                out.write_all(b"}\n")?;
             }
             Page::Data(mut writer) => {
                 end_data(&mut writer)?;

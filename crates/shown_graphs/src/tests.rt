@@ -63,6 +63,41 @@ fn a_no_names_the_questions_that_fail(rt: HostRuntime) -> Result<(), Fail> {
 }
 
 #[test]
+fn graphviz_gets_a_cluster_a_question_and_a_legend(rt: HostRuntime) -> Result<(), Fail> {
+    expect_shown(
+        &rt,
+        Form::Dot,
+        "rule A = c:A\nask 4 A\n",
+        "digraph explain {
+  node [fontname=\"sans-serif\"];
+  edge [fontname=\"sans-serif\"];
+  subgraph cluster_0 {
+    label=\"A yes\";
+    n0_0 [label=\"A\", shape=box];
+    n0_0 -> n0_0 [label=\"c\", style=dashed, constraint=false];
+  }
+  subgraph cluster_legend {
+    label=\"shapes are verdicts, lines are kinds of steps\";
+    legend_yes [label=\"yes\", shape=box];
+    legend_no [label=\"no\", shape=octagon];
+    legend_maybe [label=\"maybe\", shape=diamond];
+    legend_overflow [label=\"overflow\", shape=hexagon];
+    legend_i [label=\"\", shape=point];
+    legend_u [label=\"\", shape=point];
+    legend_c [label=\"\", shape=point];
+    legend_f [label=\"\", shape=point];
+    legend_end [label=\"\", shape=point];
+    legend_i -> legend_u [label=\"i: inductive\", style=solid];
+    legend_u -> legend_c [label=\"u: unknown\", style=dotted];
+    legend_c -> legend_f [label=\"c: coinductive\", style=dashed];
+    legend_f -> legend_end [label=\"f: forced ambiguity\", style=bold];
+  }
+}
+",
+    )
+}
+
+#[test]
 fn long_proofs_are_cut(rt: HostRuntime) -> Result<(), Fail> {
     expect_shown(
         &rt,
