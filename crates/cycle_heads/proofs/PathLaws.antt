@@ -70,6 +70,29 @@ extended-union some more step =
     ∙ sym (or_block 5 (a / 32) (b / 32) (named step (a % 32)) (named step (b % 32)) fits_a fits_b)
     ∙ (λ i. bit_or (sym (extended_parts some step) i) (sym (extended_parts more step) i)))
 
+twice : PathKind → PathKind → ℕ → Bool
+twice some more n = named more (named some n) == named (greater_kind some more) n
+
+named_twice : (some more : PathKind) (n : ℕ) → n < 32 → twice some more n ≡ true
+unfolding twice
+named_twice some more = each_kind (λ k. (n : ℕ) → n < 32 → twice k more n ≡ true)
+    (passes_each (twice Inductive) 32 refl refl refl refl more) (passes_each (twice Unknown) 32 refl refl refl refl more)
+    (passes_each (twice Coinductive) 32 refl refl refl refl more) (passes_each (twice ForcedAmbiguity) 32 refl refl refl refl more) some
+
+-- two steps in turn are the greater one
+pub extended-twice : (paths : PathsToNested) (some more : PathKind) → extended (extended paths some) more ≡ extended paths (greater_kind some more)
+unfolding twice
+extended-twice paths some more =
+    let low = paths.0 % 32 in
+    let once = extended_parts paths some in
+    let fits : named some low < 32 = ltb-true _ _ (named_fits some low (omega arith)) in
+    let high : (extended paths some).0 / 32 ≡ paths.0 / 32 = omega (arith, once, fits) in
+    let left : (extended paths some).0 % 32 ≡ named some low = omega (arith, once, fits) in
+    same_bits _ _ (extended_parts (extended paths some) more
+    ∙ (λ i. high i * 2 ^ 5 + named more (left i))
+    ∙ ap (λ m. paths.0 / 32 * 2 ^ 5 + m) (eqb-true _ _ (named_twice some more low (omega arith)))
+    ∙ sym (extended_parts paths (greater_kind some more)))
+
 pub extended-none : (step : PathKind) → extended no_paths step ≡ no_paths
 unfolding extended
 extended-none = each_kind (λ step. extended no_paths step ≡ no_paths) refl refl refl refl

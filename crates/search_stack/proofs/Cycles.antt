@@ -11,7 +11,7 @@ greater-assoc j k l = same_kind _ _ (omega (arith, greater_rank (greater_kind j 
 greater-least : (k : PathKind) → greater_kind k (greatest_kind []) ≡ k
 greater-least k = same_kind _ _ (omega (arith, greater_rank k (greatest_kind [])))
 
-least-greater : (k : PathKind) → greater_kind (greatest_kind []) k ≡ k
+pub least-greater : (k : PathKind) → greater_kind (greatest_kind []) k ≡ k
 least-greater k = same_kind _ _ (omega (arith, greater_rank (greatest_kind []) k))
 
 -- one more kind at the end

@@ -36,7 +36,7 @@ joined-forced false false true = refl
 joined-forced false false false = refl
 
 -- below the new step its kind is joined
-past-joined : (steps : LastSteps) (kind : PathKind) (below count : ℕ) → count ≤ below
+pub past-joined : (steps : LastSteps) (kind : PathKind) (below count : ℕ) → count ≤ below
     → kind_past (with_step steps kind below) count ≡ greater_kind (kind_past steps count) kind
 past-joined steps Inductive below count within = joined-inductive (nat_lt count steps.forced_ambiguity) (nat_lt count steps.coinductive) (nat_lt count steps.unknown)
 past-joined steps Unknown below count within =
@@ -50,7 +50,7 @@ past-joined steps ForcedAmbiguity below count within =
     rw there (joined-forced (nat_lt count steps.forced_ambiguity) (nat_lt count steps.coinductive) (nat_lt count steps.unknown))
 
 -- no step is past the end
-record NonePast (steps : LastSteps) (count : ℕ) : Type 0 where
+pub record NonePast (steps : LastSteps) (count : ℕ) : Type 0 where
   pub forced : steps.forced_ambiguity ≤ count
   pub coinductive : steps.coinductive ≤ count
   pub unknown : steps.unknown ≤ count
@@ -61,20 +61,20 @@ none_by false true u is = absurd cc
 none_by false false true is = absurd cc
 none_by false false false is = (refl, refl, refl)
 
-none_past : (steps : LastSteps) (count : ℕ) → kind_past steps count ≡ Inductive → NonePast steps count
+pub none_past : (steps : LastSteps) (count : ℕ) → kind_past steps count ≡ Inductive → NonePast steps count
 none_past steps count is =
     let none = none_by (nat_lt count steps.forced_ambiguity) (nat_lt count steps.coinductive) (nat_lt count steps.unknown) is in
     let f = none.0 in let c = none.1 in let u = none.2 in
     record { forced = grind (arith, nat_tests); coinductive = grind (arith, nat_tests); unknown = grind (arith, nat_tests) }
 
-past_none : (steps : LastSteps) (count : ℕ) → NonePast steps count → kind_past steps count ≡ Inductive
+pub past_none : (steps : LastSteps) (count : ℕ) → NonePast steps count → kind_past steps count ≡ Inductive
 past_none steps count none =
     let f : nat_lt count steps.forced_ambiguity ≡ false = grind (arith, nat_tests, none.forced) in
     let c : nat_lt count steps.coinductive ≡ false = grind (arith, nat_tests, none.coinductive) in
     let u : nat_lt count steps.unknown ≡ false = grind (arith, nat_tests, none.unknown) in
     rw (f, c, u) refl
 
-none_past-step : (steps : LastSteps) (kind : PathKind) (below : ℕ) → NonePast steps below → NonePast (with_step steps kind below) (below + 1)
+pub none_past-step : (steps : LastSteps) (kind : PathKind) (below : ℕ) → NonePast steps below → NonePast (with_step steps kind below) (below + 1)
 none_past-step steps Inductive below none = record { forced = omega (arith, none.forced); coinductive = omega (arith, none.coinductive); unknown = omega (arith, none.unknown) }
 none_past-step steps Unknown below none = record { forced = omega (arith, none.forced); coinductive = omega (arith, none.coinductive); unknown = omega arith }
 none_past-step steps Coinductive below none = record { forced = omega (arith, none.forced); coinductive = omega arith; unknown = omega (arith, none.unknown) }
@@ -141,18 +141,6 @@ AreLastSteps-pop all kinds rest kind left size is is_size is_left are =
           rw (is_left, get_or-take (size - 1) all place d (omega (arith, inside, longer, are.each, is_size)), ← (take-append-le (place + 1) rest (kind ∷ []) (omega (arith, inside))), ← is)
           (are.tells place d (omega (arith, inside, longer, are.each)));
     }
-
--- the last of them tells the kinds of all steps
-pub TellsKinds-last : (all : List LastSteps) (kinds : List PathKind) (steps : LastSteps) → 0 < length all
-    → steps ≡ get_or all (length all - 1) steps → AreLastSteps all kinds → TellsKinds steps kinds
-TellsKinds-last all kinds steps some last are =
-    let told : TellsKinds (get_or all (length all - 1) steps) (take (length all - 1 + 1) kinds) = are.tells (length all - 1) steps (omega (arith, some)) in
-    subst (λ s. TellsKinds s kinds) (sym last) (subst (TellsKinds (get_or all (length all - 1) steps)) (take_all (length all - 1 + 1) kinds (omega (arith, are.each, some))) told)
-
--- and there are none where there is no step
-pub TellsKinds-empty : (all : List LastSteps) (kinds : List PathKind) → all ≡ [] → AreLastSteps all kinds → TellsKinds no_steps kinds
-TellsKinds-empty all [] none are = TellsKinds-none
-TellsKinds-empty all (k ∷ kinds) none are = absurd (omega (arith, are.each, ap length none))
 
 -- the kind of a path over one more step, by those of the steps past the head
 pub kind_past-step : {X I R A T : Type 0} (stack : List (StackEntry X I R A T)) (head : ℕ) (step past path : PathKind) {told : PathKind}

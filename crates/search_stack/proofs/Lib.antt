@@ -4,3 +4,4 @@ pub mod StackReads
 pub mod NestedLists
 pub mod Cycles
 pub mod LastSteps
+pub mod RaisedPaths

@@ -1,13 +1,31 @@
 -- Lists of goals with the paths to them.
 use Rattle.std.proofs.Common.{◌≡◌, ℕ, ◌+◌, ◌≤◌, length, arith, Bool, true, false, [], ◌∷◌, cond, Option, Some, None, refl, sym, ap, ◌∙◌, subst, inl, inr}
 use Rattle.std.proofs.lemmas.Bool.{cases_Bool}
+use Rattle.std.proofs.lemmas.Nat.{or_comm}
 use Rattle.std.proofs.lemmas.Map.Keys.{IsDistinct-head, IsDistinct-tail}
 use Rattle.std.specs.Cmp.{IsEquivalence}
 use Rattle.std.specs.List.{AllByRecursion, IsDistinct}
 use Rattle.std.specs.Map.{keys_of}
 use Rattle.std.specs.Option.{option_map}
 use Rattle.search_stack.specs.Below.{PathKind, PathsToNested, extended}
-use Rattle.search_stack.specs.Words.{NestedPaths, paths_at, joined_paths, JoinsPaths}
+use Rattle.search_stack.specs.Words.{after_step, NestedPaths, paths_at, joined_paths, JoinsPaths}
+
+-- paths may be joined in either order
+joined-swapped : (some more : Option PathsToNested) → joined_paths some more ≡ joined_paths more some
+joined-swapped None None = refl
+joined-swapped None (Some more) = refl
+joined-swapped (Some some) None = refl
+joined-swapped (Some some) (Some more) = λ i. Some (record { 0 = or_comm some.0 more.0 i })
+
+without_step : (paths : Option PathsToNested) → option_map (after_step None) paths ≡ paths
+without_step None = refl
+without_step (Some paths) = refl
+
+-- own paths joined to those of a child, which were extended
+pub joined-taken : (step : PathKind) (own child extended_child : Option PathsToNested) → extended_child ≡ option_map (λ paths. extended paths step) child
+    → joined_paths extended_child (option_map (after_step None) own) ≡ joined_paths own (option_map (λ paths. extended paths step) child)
+joined-taken step own child extended_child is =
+    ap (joined_paths extended_child) (without_step own) ∙ ap (λ paths. joined_paths paths own) is ∙ joined-swapped (option_map (λ paths. extended paths step) child) own
 
 joined-joined : (paths : Option PathsToNested) (more : PathsToNested)
     → joined_paths (joined_paths paths (Some more)) None ≡ joined_paths paths (Some more)
@@ -52,41 +70,40 @@ module _ {I : Type 0} (same : I → I → Bool) where
     ]
 
 -- the rest of the goals of a child is still to be joined, and there is room for it
-pub record IsJoining {I : Type 0} (same : I → I → Bool) (step : PathKind) (start goals all rest : NestedPaths I) (room : ℕ) : Type 0 where
+pub record IsJoining {I : Type 0} (same : I → I → Bool) (f : PathsToNested → PathsToNested) (start goals all rest : NestedPaths I) (room : ℕ) : Type 0 where
   pub agrees : (input : I)
-      → joined_paths (paths_at same goals input) (option_map (λ paths. extended paths step) (paths_at same rest input))
-      ≡ joined_paths (paths_at same start input) (option_map (λ paths. extended paths step) (paths_at same all input))
+      → joined_paths (paths_at same goals input) (option_map f (paths_at same rest input))
+      ≡ joined_paths (paths_at same start input) (option_map f (paths_at same all input))
   pub fits : length rest ≤ room
   pub distinct : IsDistinct same (keys_of rest)
 
 pub IsJoining-more : {I : Type 0} {same : I → I → Bool} (laws : IsEquivalence same) (by_value : (x y : I) → same x y ≡ true → x ≡ y)
-    (step : PathKind) (start goals new all left rest : NestedPaths I) (input : I) (paths after : PathsToNested) (room more : ℕ)
-    → left ≡ (input, paths) ∷ rest → after ≡ extended paths step → JoinsPaths same goals new input after → room ≤ more + 1
-    → IsJoining same step start goals all left room → IsJoining same step start new all rest more
-IsJoining-more {same = same} laws by_value step start goals new all left rest input paths after room more first stepped joins_after fewer so_far =
+    (f : PathsToNested → PathsToNested) (start goals new all left rest : NestedPaths I) (input : I) (paths after : PathsToNested) (room more : ℕ)
+    → left ≡ (input, paths) ∷ rest → after ≡ f paths → JoinsPaths same goals new input after → room ≤ more + 1
+    → IsJoining same f start goals all left room → IsJoining same f start new all rest more
+IsJoining-more {same = same} laws by_value f start goals new all left rest input paths after room more first stepped joins_after fewer so_far =
     let joins = subst (JoinsPaths same goals new input) stepped joins_after in
     let distinct = subst (λ l. IsDistinct same (keys_of l)) first so_far.distinct in
     let size : length left ≡ length rest + 1 = ap length first ∙ omega arith in
     record {
       agrees = λ other.
-          joined-rest same laws by_value goals new rest input paths (λ p. extended p step) distinct joins other
-          ∙ ap (λ l. joined_paths (paths_at same goals other) (option_map (λ p. extended p step) (paths_at same l other))) (sym first)
+          joined-rest same laws by_value goals new rest input paths f distinct joins other
+          ∙ ap (λ l. joined_paths (paths_at same goals other) (option_map f (paths_at same l other))) (sym first)
           ∙ so_far.agrees other;
       fits = omega (arith, so_far.fits);
       distinct = distinct_later same input paths rest distinct;
     }
 
-pub IsJoining-start : {I : Type 0} {same : I → I → Bool} (step : PathKind) (start all : NestedPaths I) (room : ℕ)
-    → length all ≤ room → IsDistinct same (keys_of all) → IsJoining same step start start all all room
-IsJoining-start step start all room fits distinct = record { agrees = λ input. refl; fits = fits; distinct = distinct }
+pub IsJoining-start : {I : Type 0} {same : I → I → Bool} (f : PathsToNested → PathsToNested) (start all : NestedPaths I) (room : ℕ)
+    → length all ≤ room → IsDistinct same (keys_of all) → IsJoining same f start start all all room
+IsJoining-start f start all room fits distinct = record { agrees = λ input. refl; fits = fits; distinct = distinct }
 
-pub IsJoining-end : {I : Type 0} {same : I → I → Bool} (step : PathKind) (old start goals child all rest : NestedPaths I) (room : ℕ)
-    → rest ≡ [] → IsJoining same step start goals all rest room → (input : I)
+pub IsJoining-end : {I : Type 0} {same : I → I → Bool} (f : PathsToNested → PathsToNested) (old start goals child all rest : NestedPaths I) (room : ℕ)
+    → rest ≡ [] → IsJoining same f start goals all rest room → (input : I)
     → paths_at same start input ≡ paths_at same old input → all ≡ child
-    → paths_at same goals input ≡ joined_paths (paths_at same old input) (option_map (λ paths. extended paths step) (paths_at same child input))
-IsJoining-end {same = same} step old start goals child all rest room none so_far input kept whole =
-    let after : Option PathsToNested → Option PathsToNested = option_map (λ paths. extended paths step) in
+    → paths_at same goals input ≡ joined_paths (paths_at same old input) (option_map f (paths_at same child input))
+IsJoining-end {same = same} f old start goals child all rest room none so_far input kept whole =
     sym (joined-None (paths_at same goals input))
-    ∙ ap (λ l. joined_paths (paths_at same goals input) (after (paths_at same l input))) (sym none)
+    ∙ ap (λ l. joined_paths (paths_at same goals input) (option_map f (paths_at same l input))) (sym none)
     ∙ so_far.agrees input
-    ∙ (λ i. joined_paths (kept i) (after (paths_at same (whole i) input)))
+    ∙ (λ i. joined_paths (kept i) (option_map f (paths_at same (whole i) input)))

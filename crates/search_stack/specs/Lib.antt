@@ -4,5 +4,6 @@ pub mod Stack
 pub mod Lent
 pub mod Cycle
 pub mod Steps
+pub mod Raises
 pub mod Below
 pub mod Words

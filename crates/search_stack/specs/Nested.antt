@@ -1,7 +1,8 @@
 -- The goals below a goal, with the paths to each.
 use Rattle.std.specs.Prelude.{◌≡◌, Bool, false, List, Option, Some, None}
 use Rattle.std.specs.Map.{lookup}
-use Rattle.search_stack.specs.Below.{PathsToNested, union}
+use Rattle.std.specs.Option.{option_map}
+use Rattle.search_stack.specs.Below.{PathKind, PathsToNested, extended, union}
 
 -- goals with the paths to them, in some order
 abbrev pub NestedPaths : Type 0 → Type 0
@@ -21,3 +22,12 @@ joined_paths (Some paths) (Some more) = Some (union paths more)
 pub record JoinsPaths {I : Type 0} (same : I → I → Bool) (old new : NestedPaths I) (input : I) (paths : PathsToNested) : Type 0 where
   pub here : paths_at same new input ≡ joined_paths (paths_at same old input) (Some paths)
   pub others : (other : I) → same input other ≡ false → paths_at same new other ≡ paths_at same old other
+
+-- the new goals have the paths to each goal that the old ones have, and besides those that `more` has, each as f changes them
+abbrev pub JoinsEach : {I : Type 0} → (I → I → Bool) → (PathsToNested → PathsToNested) → (old more new : NestedPaths I) → Type 0
+JoinsEach {I} same f old more new = (input : I) → paths_at same new input ≡ joined_paths (paths_at same old input) (option_map f (paths_at same more input))
+
+-- paths after a step, if there is one
+abbrev pub after_step : Option PathKind → PathsToNested → PathsToNested
+after_step None paths = paths
+after_step (Some step) paths = extended paths step

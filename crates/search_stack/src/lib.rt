@@ -7,10 +7,12 @@
 //! | `Cycle` | kinds of the cycles through a goal under evaluation |
 //! | `Steps` | where the last step of each kind is, which tells these kinds |
 //! | `Nested` | the map of nested goals |
+//! | `Raises` | paths to nested goals that are extended all together |
 #![tactic(auto)]
 
 pub mod depth;
 pub mod nested_goals;
+mod raises;
 pub mod result;
 pub mod stack;
 mod steps;

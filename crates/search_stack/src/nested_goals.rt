@@ -1,12 +1,13 @@
 //! The goals that were asked below a goal.
-ghost use Rattle.std.specs.Prelude.{◌≡◌, ◌↔◌, ◌+◌, ◌^◌, ◌<◌, ◌≤◌, [], length, IsTrue, IsSome, is_some, IsOk, OnOk, OnErr};
+ghost use Rattle.std.specs.Prelude.{◌≡◌, ◌↔◌, ◌+◌, ◌^◌, ◌<◌, ◌≤◌, [], length, false, IsTrue, IsSome, is_some, IsOk, OnOk, OnErr};
 ghost use Rattle.std.specs.Option.{option_map};
 ghost use Rattle.std.specs.HashMap.{spare};
 ghost use Rattle.std.specs.List.{IsDistinct};
 ghost use Rattle.std.specs.Map.{keys_of};
 ghost use Rattle.search_stack.specs.Below.{extended};
-ghost use Rattle.search_stack.specs.Words.{joined_paths, paths_at, JoinsPaths};
+ghost use Rattle.search_stack.specs.Words.{after_step, paths_at, paths_noted, AreNoted, JoinsEach, JoinsPaths};
 
+use crate::raises::{NotedPaths, Raises};
 use bitflags::Flags;
 use cycle_heads::path::{PathKind, PathsToNested};
 use search_context::context::{Cx, NoMemory};
@@ -14,6 +15,7 @@ use std::alloc::Global;
 use std::collections::{HashMap, hash_map};
 use std::hash::Hash;
 use std::marker::Model;
+use std::mem;
 
 /// The nested goals of a goal, with the paths to each. Ports `NestedGoals`.
 ///
@@ -21,17 +23,25 @@ use std::marker::Model;
 /// used: the goal, worked out there, would close a cycle that it did not close before, and so may come to
 /// another result. Goals are added only once there was a cycle or a refused question. That spares the others
 /// the map.
+///
+/// All paths are extended by a step in one go, which is noted beside the map. So where a goal gives its nested goals
+/// to the one that asked it, only the smaller map of the two is walked, and a cycle of n goals moves n times the
+/// logarithm of n of them, and not the square of n.
 #[derive(Drop)]
 pub struct NestedGoals<X: Cx> {
-    nested_goals: HashMap<X::Input, PathsToNested>,
+    noted: HashMap<X::Input, NotedPaths>,
+    raises: Raises,
 }
 
 impl<X: Cx> Model for NestedGoals<X> {
     ghost use Rattle.search_stack.specs.Nested.{NestedPaths};
+    ghost use Rattle.search_stack.specs.Raises.{paths_noted, AreNoted};
 
     ghost Value = { NestedPaths X.Input };
 
-    ghost view = { λ g. g.nested_goals.entries };
+    ghost view = { λ g. paths_noted g.raises g.noted.entries };
+
+    ghost invariant = { λ g. AreNoted X.Input.eq g.raises g.noted.entries };
 }
 
 impl<X: Cx> NestedGoals<X> {
@@ -40,7 +50,8 @@ impl<X: Cx> NestedGoals<X> {
         ensures { result ≡ [] }
     {
         NestedGoals {
-            nested_goals: HashMap::new(alloc),
+            noted: HashMap::new(alloc),
+            raises: Raises::new(),
         }
     }
 
@@ -48,21 +59,22 @@ impl<X: Cx> NestedGoals<X> {
     pub fn is_empty(&self) -> bool
         ensures { IsTrue result ↔ (self.now ≡ []) }
     {
-        self.nested_goals.is_empty()
+        self.noted.is_empty()
     }
 
     /// Whether the goal is there. Ports `NestedGoals::contains`.
     pub fn contains(&self, input: X::Input) -> bool
         ensures { result ≡ is_some (paths_at X.Input.eq self.now input) }
     {
-        self.nested_goals.contains_key(&input)
+        self.noted.contains_key(&input)
     }
 
     /// The paths to the goal, where it is there.
     pub fn get(&self, input: X::Input) -> Option<PathsToNested>
         ensures { result ≡ paths_at X.Input.eq self.now input }
     {
-        self.nested_goals.get(&input).copied()
+        let noted = self.noted.get(&input)?;
+        Some(self.raises.paths_now(*noted))
     }
 
     /// Joins paths to the goal, which becomes one of the goals. Only a new goal takes memory, and a
@@ -72,7 +84,7 @@ impl<X: Cx> NestedGoals<X> {
         ensures err { OnErr result (self.new ≡ self.old) }
         ensures known { IsSome (paths_at X.Input.eq self.old input) → IsOk result }
     {
-        join_paths(&mut self.nested_goals, input, paths)
+        join_paths(&mut self.noted, self.raises, input, paths)
     }
 
     /// Joins the goals of a child that was asked over the step: each path to one of them is that of
@@ -83,45 +95,139 @@ impl<X: Cx> NestedGoals<X> {
         step: PathKind,
         nested: &NestedGoals<X>,
     ) -> Result<(), NoMemory>
-        ensures ok { OnOk result ((input : X.Input) → paths_at X.Input.eq self.new input
-            ≡ joined_paths (paths_at X.Input.eq self.old input) (option_map (λ paths. extended paths step) (paths_at X.Input.eq nested.now input))) }
+        ensures ok { OnOk result (JoinsEach X.Input.eq (λ paths. extended paths step) self.old
+            nested.now self.new) }
         ensures err { OnErr result (self.new ≡ self.old) }
         ensures none { nested.now ≡ [] → IsOk result }
     {
-        self.nested_goals.reserve(nested.nested_goals.len())?;
-        for (input, paths) in nested.nested_goals.iter() {
+        self.join_each(Some(step), nested)
+    }
+
+    /// The same where the child's goals are needed no more. It walks the smaller of the two maps; what it leaves to
+    /// the child is left open.
+    pub fn take_from_child(
+        &mut self,
+        step: PathKind,
+        nested: &mut NestedGoals<X>,
+    ) -> Result<(), NoMemory>
+        ensures ok { OnOk result (JoinsEach X.Input.eq (λ paths. extended paths step) self.old
+            nested.old self.new) }
+        ensures err { OnErr result (self.new ≡ self.old) }
+        ensures none { nested.old ≡ [] → IsOk result }
+    {
+        if self.noted.len() < nested.noted.len() && nested.raise(step) {
+            nested.join_each(None, self)?;
+            mem::swap(self, nested);
+            return Ok(());
+        }
+        self.join_each(Some(step), nested)
+    }
+
+    /// Extends the paths to each goal by the step, in one go. It may say that it can't, and changes nothing then.
+    fn raise(&mut self, step: PathKind) -> bool
+        ensures raised { IsTrue result → (input : X.Input) → paths_at X.Input.eq self.new input
+            ≡ option_map (λ paths. extended paths step) (paths_at X.Input.eq self.old input) }
+        ensures not { result ≡ false → self.new ≡ self.old }
+    {
+        let Some(raises) = self.raises.with_step(step) else {
+            return false;
+        };
+        self.raises = raises;
+        true
+    }
+
+    /// Joins each goal of another map by its paths after the step, if there is one.
+    fn join_each(
+        &mut self,
+        step: Option<PathKind>,
+        more: &NestedGoals<X>,
+    ) -> Result<(), NoMemory>
+        ensures ok { OnOk result (JoinsEach X.Input.eq (after_step step) self.old more.now self.new) }
+        ensures err { OnErr result (self.new ≡ self.old) }
+        ensures none { more.now ≡ [] → IsOk result }
+    {
+        self.noted.reserve(more.noted.len())?;
+        for (input, paths) in more.iter() {
             // There is room for each of them.
-            join_paths(&mut self.nested_goals, *input, paths.extend_with(step))?;
+            join_paths(&mut self.noted, self.raises, input, after_step(step, paths))?;
         }
         Ok(())
     }
 
     /// The goals with the paths to them, in an order that is left open. Ports `NestedGoals::iter`.
-    pub fn iter(&self) -> hash_map::Iter<'_, X::Input, PathsToNested>
+    pub fn iter(&self) -> Iter<'_, X>
         ensures goals { result ≡ self.now }
         ensures distinct { IsDistinct X.Input.eq (keys_of self.now) }
         ensures fits { length self.now < 2 ^ 63 }
     {
-        self.nested_goals.iter()
+        Iter {
+            noted: self.noted.iter(),
+            raises: self.raises,
+        }
     }
 }
 
-// Joins paths to a goal. Where there is room for one more, it isn't refused.
+/// The paths after a step, if there is one.
+fn after_step(step: Option<PathKind>, paths: PathsToNested) -> PathsToNested
+    ensures { result ≡ after_step step paths }
+{
+    match step {
+        Some(step) => paths.extend_with(step),
+        None => paths,
+    }
+}
+
+/// Joins paths to a goal. Where there is room for one more, it isn't refused.
 fn join_paths<I: Eq + Hash + Copy>(
-    goals: &mut HashMap<I, PathsToNested>,
+    goals: &mut HashMap<I, NotedPaths>,
+    raises: Raises,
     input: I,
     paths: PathsToNested,
 ) -> Result<(), NoMemory>
-    ensures ok { OnOk result (JoinsPaths I.eq goals.old.entries goals.new.entries input paths) }
+    requires { AreNoted I.eq raises goals.old.entries }
+    ensures ok { OnOk result (JoinsPaths I.eq (paths_noted raises goals.old.entries)
+        (paths_noted raises goals.new.entries) input paths) }
+    ensures noted { AreNoted I.eq raises goals.new.entries }
     ensures err { OnErr result (goals.new.entries ≡ goals.old.entries) }
-    ensures known { IsSome (paths_at I.eq goals.old.entries input) → IsOk result }
+    ensures known { IsSome (paths_at I.eq (paths_noted raises goals.old.entries) input) → IsOk result }
     ensures room { 0 < spare goals.old → IsOk result }
     ensures left { spare goals.old ≤ spare goals.new + 1 }
 {
     if let Some(known) = goals.get_mut(&input) {
-        *known = known.union(paths);
+        *known = raises.note(raises.paths_now(*known).union(paths));
         return Ok(());
     }
-    goals.insert(input, paths)?;
+    goals.insert(input, raises.note(paths))?;
     Ok(())
+}
+
+/// The goals of a map, with the paths to each.
+#[derive(Drop)]
+pub struct Iter<'a, X: Cx> {
+    noted: hash_map::Iter<'a, X::Input, NotedPaths>,
+    raises: Raises,
+}
+
+impl<'a, X: Cx> Model for Iter<'a, X> {
+    ghost use Rattle.search_stack.specs.Nested.{NestedPaths};
+    ghost use Rattle.search_stack.specs.Raises.{paths_noted};
+
+    ghost Value = { NestedPaths X.Input };
+
+    ghost view = { λ s. paths_noted s.raises s.noted };
+}
+
+impl<'a, X: Cx> Iterator for Iter<'a, X> {
+    ghost use Rattle.std.specs.Iterator.{YieldsFirst, item_count};
+
+    type Item = (X::Input, PathsToNested);
+
+    ghost next_gives = { YieldsFirst (λ goals. goals) };
+
+    ghost remaining = { item_count (λ goals. goals) };
+
+    fn next(&mut self) -> Option<(X::Input, PathsToNested)> {
+        let (input, noted) = self.noted.next()?;
+        Some((*input, self.raises.paths_now(*noted)))
+    }
 }
