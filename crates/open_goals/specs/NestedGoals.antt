@@ -1,7 +1,7 @@
 -- The goals below a goal that is under evaluation, and what of an answer changes them besides its heads.
 use Rattle.std.specs.Prelude.{◌≡◌, ◌≢◌, Bool, List, [], ◌∷◌}
 use Rattle.std.specs.Option.{option_map}
-use Rattle.open_goals.specs.Below.{PathKind, StackEntry, Hit, NestedPaths, joined_paths, paths_at, JoinsPaths, extended, path_of_no_step, paths_of}
+use Rattle.open_goals.specs.Below.{EvaluationResult, PathKind, StackEntry, Hit, NestedPaths, joined_paths, paths_at, JoinsPaths, extended, path_of_no_step, paths_of}
 use Rattle.open_goals.specs.declared.goals.Run.{Run}
 use Rattle.open_goals.specs.Entries.{overflowed, with_depth, with_nested_goals}
 
@@ -21,6 +21,12 @@ pub record TakesHeadGoal {I : Type 0} (same : I → I → Bool) (own : I) (step 
   pub between : NestedPaths I
   pub head : JoinsPaths same old between goal (paths_of step)
   pub itself : JoinsPaths same between new own path_of_no_step
+
+-- What is left of an answer once it was given: all but its nested goals, and these too where it rests on no goal, so that it can be
+-- stored.
+pub record LeavesAnswer {X I R A T : Type 0} (old new : EvaluationResult X I R A T) : Type 0 where
+  pub others : new ≡ record old { nested_goals = new.nested_goals }
+  pub whole : old.heads ≡ [] → new ≡ old
 
 module _ {X F I R A T : Type 0} where
   -- what becomes of the goals below the newest goal, by a relation of its own goal with those before and those after

@@ -9,7 +9,9 @@ mod candidates;
 
 use crate::candidates::FinishedCandidates;
 use crate::progress::Progress;
-use crate::update::{cycle_head, note_depth, note_head, note_heads, note_nested_goals};
+use crate::update::{
+    cycle_head, note_depth, note_head, note_heads, note_nested_goals, take_nested_goals,
+};
 use search_parts::context::{
     Answer, Cx, Delegate, Fault, NoMemory, NodeId, Reply, Request, Verdict,
 };
@@ -118,7 +120,7 @@ impl<X: Cx, F: Drop, S: Drop> OpenGoals<X, F, S> {
     ghost use Rattle.open_goals.specs.Below.{hit_of};
     ghost use Rattle.open_goals.specs.Entries.{cycle_head};
     ghost use Rattle.open_goals.specs.Items.{rerun_with, with_no_record, AnswersNewest};
-    ghost use Rattle.open_goals.specs.NestedGoals.{NestsAnswer, NestsHead, NestsItself, NotesOverflow, TakesStored};
+    ghost use Rattle.open_goals.specs.NestedGoals.{LeavesAnswer, NestsAnswer, NestsHead, NestsItself, NotesOverflow, TakesStored};
 
     /// No goal.
     pub fn new(alloc: Global) -> OpenGoals<X, F, S>
@@ -257,28 +259,30 @@ impl<X: Cx, F: Drop, S: Drop> OpenGoals<X, F, S> {
         state.nested_goals.insert(own, PathsToNested::EMPTY)
     }
 
-    /// The newest goal was answered over a step of this kind. A refusal may leave a part of that noted.
+    /// The newest goal was answered over a step of this kind. A refusal may leave a part of that noted. The nested
+    /// goals are taken out of an answer that rests on goals, which is not stored.
     ///
     /// This comes before the frame gets the answer, since its very next request may end the candidate or the
     /// run, and both have to count the answer's heads.
     pub fn note_answer(
         &mut self,
         step: PathKind,
-        answer: &EvaluationResult<X>,
+        answer: &mut EvaluationResult<X>,
     ) -> Result<(), NoMemory>
         requires some { 0 < length self.old }
-        requires fits { answer.now.required_depth + 1 < 2 ^ 64 }
-        ensures answered { OnOk result (AnswersNewest step answer.now.required_depth
-            answer.now.encountered_overflow answer.now.heads self.old self.new) }
-        ensures nested { OnOk result (NestsAnswer X.Input.eq step answer.now.nested_goals self.old
+        requires fits { answer.old.required_depth + 1 < 2 ^ 64 }
+        ensures answered { OnOk result (AnswersNewest step answer.old.required_depth
+            answer.old.encountered_overflow answer.old.heads self.old self.new) }
+        ensures nested { OnOk result (NestsAnswer X.Input.eq step answer.old.nested_goals self.old
             self.new) }
+        ensures left { LeavesAnswer answer.old answer.new }
     {
         let parent = StackDepth::new(self.stack.len() - 1);
         let input = self.stack.last().input();
         let state = self.stack.last_mut();
         note_depth(state, answer.required_depth, answer.encountered_overflow);
         note_heads(state, parent, step, &answer.heads)?;
-        note_nested_goals(state, input, step, &answer.nested_goals)
+        take_nested_goals(state, input, step, answer)
     }
 
     /// The newest goal asked by this step for a goal under evaluation, which closed a cycle of this kind.

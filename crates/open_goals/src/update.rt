@@ -1,11 +1,12 @@
 //! What a goal's entry takes over from the answer to one of its questions.
 ghost use Rattle.std.specs.Prelude.{◌≡◌, ◌<◌, ◌+◌, ◌^◌, OnOk, Some};
-ghost use Rattle.open_goals.specs.Words.{cycle_head, with_depth, with_nested_goals, with_used_head, TakesHeads, usages_at, without_head, CanIgnore, Covers, Ignores, TakesNestedGoals};
+ghost use Rattle.open_goals.specs.Words.{cycle_head, with_depth, with_nested_goals, with_used_head, TakesHeads, usages_at, without_head, CanIgnore, Covers, Ignores, LeavesAnswer, TakesNestedGoals};
 ghost use Rattle.std.specs.Option.{IsSomeAnd};
 
 use search_parts::context::{Cx, NoMemory};
 use search_parts::parts::{
-    CandidateHeadUsages, CycleHead, CycleHeads, EntryState, HeadUsages, NestedGoals, StackDepth,
+    CandidateHeadUsages, CycleHead, CycleHeads, EntryState, EvaluationResult, HeadUsages,
+    NestedGoals, StackDepth,
 };
 use search_parts::path::{PathKind, PathsToNested};
 
@@ -112,6 +113,31 @@ pub fn note_nested_goals<X: Cx>(
         return Ok(());
     }
     state.nested_goals.extend_from_child(step, nested_goals)?;
+    state.nested_goals.insert(own, PathsToNested::EMPTY)
+}
+
+/// The same of an answer that was given to the goal. Where it rests on goals it won't be stored, so its goals are
+/// taken out of it.
+pub fn take_nested_goals<X: Cx>(
+    state: &mut EntryState<X>,
+    own: X::Input,
+    step: PathKind,
+    answer: &mut EvaluationResult<X>,
+) -> Result<(), NoMemory>
+    ensures others { state.new ≡ with_nested_goals state.old state.new.nested_goals }
+    ensures taken { OnOk result (TakesNestedGoals X.Input.eq own step answer.old.nested_goals
+        state.old.nested_goals state.new.nested_goals) }
+    ensures left { LeavesAnswer answer.old answer.new }
+{
+    if answer.heads.is_empty() {
+        return note_nested_goals(state, own, step, &answer.nested_goals);
+    }
+    if answer.nested_goals.is_empty() {
+        return Ok(());
+    }
+    state
+        .nested_goals
+        .take_from_child(step, &mut answer.nested_goals)?;
     state.nested_goals.insert(own, PathsToNested::EMPTY)
 }
 

@@ -43,3 +43,49 @@ fn a_child_adds_its_goals_after_the_step(rt: HostRuntime) -> Result<(), Fail> {
     assert_eq!(rt; goals.get(own), Some(PathsToNested::INDUCTIVE));
     Ok(())
 }
+
+#[test]
+fn a_child_gives_its_goals_after_the_step(rt: HostRuntime) -> Result<(), Fail> {
+    let [both, childs, later, own] = [
+        PathKind::Inductive,
+        PathKind::Unknown,
+        PathKind::ForcedAmbiguity,
+        PathKind::Coinductive,
+    ];
+    // The child has more goals, so the own one is put among them.
+    let mut child = NestedGoals::<LoopsContext>::new(rt.alloc());
+    child.insert(both, PathsToNested::EMPTY)?;
+    child.insert(childs, PathsToNested::COINDUCTIVE)?;
+    let mut goals = NestedGoals::<LoopsContext>::new(rt.alloc());
+    goals.insert(both, PathsToNested::INDUCTIVE)?;
+    goals.take_from_child(PathKind::Unknown, &mut child)?;
+    let joined = PathsToNested::INDUCTIVE.union(PathsToNested::UNKNOWN);
+    assert_eq!(rt; goals.get(both), Some(joined));
+    assert_eq!(rt; goals.get(childs), Some(PathsToNested::COINDUCTIVE));
+
+    // What is joined later is not extended by that step.
+    goals.insert(own, PathsToNested::EMPTY)?;
+    assert_eq!(rt; goals.get(own), Some(PathsToNested::EMPTY));
+
+    // A smaller child is walked.
+    let mut child = NestedGoals::<LoopsContext>::new(rt.alloc());
+    child.insert(later, PathsToNested::INDUCTIVE)?;
+    child.insert(own, PathsToNested::EMPTY)?;
+    goals.take_from_child(PathKind::Coinductive, &mut child)?;
+    let joined = PathsToNested::EMPTY.union(PathsToNested::COINDUCTIVE);
+    assert_eq!(rt; goals.get(own), Some(joined));
+    assert_eq!(rt; goals.get(later), Some(PathsToNested::COINDUCTIVE));
+
+    // And these goals are in turn those of a child, whose steps come one after the other.
+    let mut parent = NestedGoals::<LoopsContext>::new(rt.alloc());
+    parent.take_from_child(PathKind::Inductive, &mut goals)?;
+    assert_eq!(rt; parent.iter().count(), 4);
+    let joined = PathsToNested::INDUCTIVE.union(PathsToNested::COINDUCTIVE);
+    assert_eq!(rt; parent.get(own), Some(joined));
+    let mut root = NestedGoals::<LoopsContext>::new(rt.alloc());
+    root.take_from_child(PathKind::Unknown, &mut parent)?;
+    let joined = PathsToNested::UNKNOWN.union(PathsToNested::COINDUCTIVE);
+    assert_eq!(rt; root.get(own), Some(joined));
+    assert_eq!(rt; root.get(both), Some(PathsToNested::UNKNOWN));
+    Ok(())
+}

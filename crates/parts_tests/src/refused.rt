@@ -64,6 +64,35 @@ fn refused_goals_of_a_child_change_nothing(rt: HostRuntime) -> Result<(), Fail> 
 }
 
 #[test]
+fn refused_goals_that_a_child_gives_change_nothing(rt: HostRuntime) -> Result<(), Fail> {
+    let mut goals = NestedGoals::<LoopsContext>::new(rt.alloc());
+    goals.insert(PathKind::Unknown, PathsToNested::EMPTY)?;
+    for _ in 0..2 {
+        let mut child = NestedGoals::<LoopsContext>::new(rt.alloc());
+        for goal in [PathKind::Inductive, PathKind::Coinductive] {
+            if child.insert(goal, PathsToNested::EMPTY).is_err() {
+                child.insert(goal, PathsToNested::EMPTY)?;
+            }
+        }
+        if goals
+            .take_from_child(PathKind::Coinductive, &mut child)
+            .is_ok()
+        {
+            break;
+        }
+        assert_eq!(rt; goals.iter().count(), 1);
+        assert_eq!(rt; goals.get(PathKind::Unknown), Some(PathsToNested::EMPTY));
+    }
+    assert_eq!(rt; goals.iter().count(), 3);
+    assert_eq!(rt;
+        goals.get(PathKind::Inductive),
+        Some(PathsToNested::COINDUCTIVE)
+    );
+    assert_eq!(rt; goals.get(PathKind::Unknown), Some(PathsToNested::EMPTY));
+    Ok(())
+}
+
+#[test]
 fn a_refused_push_changes_nothing(rt: HostRuntime) -> Result<(), Fail> {
     let mut stack = Stack::<LoopsContext>::new(rt.alloc());
     for goal in GOALS {

@@ -5,3 +5,4 @@ pub mod LimitsAtEnd
 pub mod Keeping
 pub mod Fating
 pub mod Storing
+pub mod Given

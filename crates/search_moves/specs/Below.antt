@@ -35,7 +35,7 @@ pub use Rattle.global_cache.specs.declared.results.Place.TheVariants.{Success}
 pub use Rattle.global_cache.specs.declared.results.StoredResult.{StoredResult}
 pub use Rattle.open_goals.specs.Entries.{cycle_head, first_entry}
 pub use Rattle.open_goals.specs.Items.{AnswersNewest, rerun_with}
-pub use Rattle.open_goals.specs.NestedGoals.{NestsItself, NotesOverflow, TakesStored}
+pub use Rattle.open_goals.specs.NestedGoals.{LeavesAnswer, NestsItself, NotesOverflow, TakesStored}
 pub use Rattle.open_goals.specs.Newest.{change_newest, newest}
 pub use Rattle.open_goals.specs.Steps.{Stood}
 pub use Rattle.open_goals.specs.declared.goals.Next.{Next}

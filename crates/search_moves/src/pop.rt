@@ -1,6 +1,6 @@
 //! A goal is popped, with its result.
 ghost use Rattle.std.specs.Prelude.{◌≡◌, ◌<◌, ◌+◌, ◌^◌, ℕ, length, IfOk, IfErr, OnOk};
-ghost use Rattle.search_moves.specs.Below.{Memory, IsCaused, ChangesNewest, fates_of, IsNewestPlainTo, MayPutNewest, GivesAnswer, GivesNested};
+ghost use Rattle.search_moves.specs.Below.{Memory, IsCaused, ChangesNewest, fates_of, IsNewestPlainTo, MayPutNewest, GivesAnswer, GivesNested, LeavesAnswer};
 ghost use Rattle.search_moves.specs.Words.{MayPop, Pops, IsRightNext, KeepsCache};
 
 use crate::evaluation::Evaluation;
@@ -61,8 +61,8 @@ impl<D: Delegate> Evaluation<D> {
         // the answer is moved into the cache last.
         let stack = self.goals.stack();
         rebase_entries::<D>(&mut self.provisional, cache.cx(), &entry, stack, reason)?;
-        let answer = EvaluationResult::finalize(entry, encountered_overflow, outcome, node);
-        let next = give_answer(&mut self.goals, step, &answer)?;
+        let mut answer = EvaluationResult::finalize(entry, encountered_overflow, outcome, node);
+        let next = give_answer(&mut self.goals, step, &mut answer)?;
         self.store_answer(cache, step, input, answer, fate)?;
         Ok(next)
     }
@@ -73,12 +73,13 @@ impl<D: Delegate> Evaluation<D> {
 fn give_answer<X: Cx, F: Drop, S: Drop>(
     goals: &mut OpenGoals<X, F, S>,
     step: PathKind,
-    answer: &EvaluationResult<X>,
+    answer: &mut EvaluationResult<X>,
 ) -> Result<Next<X::Result>, NoMemory>
-    requires { 0 < length goals.old → answer.now.required_depth + 1 < 2 ^ 64 }
-    ensures given { IfOk result (λ next. GivesAnswer step answer.now goals.old next goals.new) }
-    ensures nested { OnOk result (GivesNested X.Input.eq step answer.now.nested_goals goals.old
+    requires { 0 < length goals.old → answer.old.required_depth + 1 < 2 ^ 64 }
+    ensures given { IfOk result (λ next. GivesAnswer step answer.old goals.old next goals.new) }
+    ensures nested { OnOk result (GivesNested X.Input.eq step answer.old.nested_goals goals.old
         goals.new) }
+    ensures left { LeavesAnswer answer.old answer.new }
 {
     let outcome = answer.result;
     let node = answer.node;

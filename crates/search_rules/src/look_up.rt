@@ -53,7 +53,7 @@ impl<'a, D: Delegate> NestedTest<D::Cx> for OverStack<'a, D> {
         !on_stack
             && nested_goals
                 .iter()
-                .all(|(goal, paths)| !self.meets_entry(*goal, *paths))
+                .all(|(goal, paths)| !self.meets_entry(goal, paths))
     }
 }
 

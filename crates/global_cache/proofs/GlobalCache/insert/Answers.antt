@@ -1,6 +1,7 @@
 use Rattle.std.proofs.Common.{◌≡◌, ◌∙◌, if◌then◌else◌, ap, sym, subst}
 use Rattle.global_cache.specs.Below.{verdicts}
-use Rattle.global_cache.specs.Words.{Success, WithOverflow, StoredResult, stored_at, AnswersStoring, AreSoundResults, IsPlainAt}
+use Rattle.global_cache.specs.Cache.{Cache}
+use Rattle.global_cache.specs.Words.{Success, WithOverflow, StoredResult, stored_at, AnswersStoring, AreSoundResults, IsPlainAt, KeepsResults}
 use Rattle.global_cache.proofs.Stored.{ranked_never_conflicts}
 use Rattle.global_cache.proofs.Sound.{IsSoundCache-stored}
 use Rattle.global_cache.proofs.GlobalCache.insert.Goals as goal
@@ -10,6 +11,9 @@ invariant_of-self g c =
     IsSoundCache-stored g.D.Cx.Input.PartialEq.eq (verdicts g.D.Cx.Cx) g.D.Delegate.script c.self.inside.cx _ c.self.inside.results.entries c.args.self.now c.self.view_is c.self.invariant
     g.met.D.Cx.Cx.same_input c.put.result c.put.new.results.entries c.args.input c.args.evaluation_result c.args.token c.of-place.result c.new-found.result
     c.requires.graph c.requires.plain c.of-place.ensures c.new-found.ensures c.put.ensures.ok c.put.ensures.err
+
+pub returns-clause-kept : goal.returns-clause-kept
+returns-clause-kept g c = subst (λ (v : Cache _ _ _ _ _). KeepsResults g.D.Cx.Input.PartialEq.eq v.results c.put.new.results.entries) c.self.view_is c.put.ensures.kept
 
 pub returns-clause-ranked : goal.returns-clause-ranked
 returns-clause-ranked g c = λ n ranked calm.

@@ -12,8 +12,8 @@ invariant_of-self-2 g c = length-change_last _ _ ∙ c.self.invariant
 
 pub returns-clause-answered : goal.returns-clause-answered
 returns-clause-answered g c =
-    newest_answered c.self.inside.stack c.self.inside.runs.items _ c.self.invariant c.self.view_is c.requires.some c.last_mut-state.result.now c.note_nested_goals.new.state c.last_mut-state.ensures.value c.args.step _ _ _ c.new-parent.result (c.new-parent.ensures ∙ ap (λ n. n - 1) c.len.ensures) _ c.note_depth.ensures c.note_nested_goals.result _ c.in_ok-note_heads.ensures c.note_nested_goals.ensures.others
+    newest_answered c.self.inside.stack c.self.inside.runs.items _ c.self.invariant c.self.view_is c.requires.some c.last_mut-state.result.now c.take_nested_goals.new.state c.last_mut-state.ensures.value c.args.step _ _ _ c.new-parent.result (c.new-parent.ensures ∙ ap (λ n. n - 1) c.len.ensures) _ c.note_depth.ensures c.take_nested_goals.result _ c.in_ok-note_heads.ensures c.take_nested_goals.ensures.others
 
 pub returns-clause-nested : goal.returns-clause-nested
 returns-clause-nested g c =
-    nested_answered g.X.Input.PartialEq.eq c.self.inside.stack c.self.inside.runs.items _ c.self.invariant c.self.view_is c.requires.some c.last_mut-state.result.now c.note_nested_goals.new.state c.last_mut-state.ensures.value c.last.result.now c.last.ensures c.note_nested_goals.result _ _ c.args.step _ _ _ _ _ c.note_depth.ensures c.in_ok-note_heads.ensures _ c.input-input.ensures c.note_nested_goals.ensures.taken
+    nested_answered g.X.Input.PartialEq.eq c.self.inside.stack c.self.inside.runs.items _ c.self.invariant c.self.view_is c.requires.some c.last_mut-state.result.now c.take_nested_goals.new.state c.last_mut-state.ensures.value c.last.result.now c.last.ensures c.take_nested_goals.result _ _ c.args.step _ _ _ _ _ c.note_depth.ensures c.in_ok-note_heads.ensures _ c.input-input.ensures c.take_nested_goals.ensures.taken

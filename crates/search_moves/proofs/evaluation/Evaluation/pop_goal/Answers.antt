@@ -3,6 +3,7 @@ use Rattle.std.specs.Option.{IfSome}
 use Rattle.search_moves.specs.Below.{ChangesNewest, fates_of, HaveExpected, IfCompared, IsExpected, IsPlainValue, highest, StackEntry, ProvisionalCacheEntry, entries_at, EvaluationResult, HasGraph, place_of, KeepsResults, IsPlainAt, KeepsFinished, IsPlainTo, verdicts, AreJustified, HaveTallies, AreReady, HasReason, IsNewestUnranked, RebasesNewest, final_answer, AreFree, ComesTo, IsNewestPlainTo, IsNewestStored, IsStored, NewestComesTo, NewestIsPlain, StoresAnswer, GivesAnswer, GivesNested, LeavesNested, runs_of, IsJustifiedNext, HasNewestNode, HasResultNode, KeepsBut, node_given}
 use Rattle.search_moves.specs.Words.{Pops}
 use Rattle.global_cache.proofs.Stores.{KeepsResults-same}
+use Rattle.search_moves.proofs.Given.{heads_given, puts_given, storable_given, stores_given}
 use Rattle.search_moves.proofs.Keeping.{ending_keeps}
 use Rattle.search_rules.proofs.entries.Ready.{are_within, heads_on_stack, on_stack_many}
 use Rattle.search_rules.proofs.entries.Pops.{rebased_ready}
@@ -40,8 +41,8 @@ rebase_entries-requires-clause-within g c = λ input.
 
 pub store_answer-requires-clause-on_stack : goal.store_answer-requires-clause-on_stack
 store_answer-requires-clause-on_stack g c =
-    subst (λ n. IfSome (highest c.finalize-answer.result.heads) (λ head. head.0.0 < n)) (on_stack_many c.give_answer.new.goals)
-    (subst (λ (a : EvaluationResult _ _ _ _ _). IfSome (highest a.heads) (λ head. head.0.0 < length (reverse (map (λ s. s.0) c.give_answer.new.goals)))) (sym c.finalize-answer.ensures)
+    subst (λ n. IfSome (highest c.give_answer.new.answer.heads) (λ head. head.0.0 < n)) (on_stack_many c.give_answer.new.goals)
+    (subst (λ heads. IfSome (highest heads) (λ head. head.0.0 < length (reverse (map (λ s. s.0) c.give_answer.new.goals)))) (sym (heads_given c.finalize-answer.result c.give_answer.new.answer c.give_answer.ensures.left ∙ ap (λ (a : EvaluationResult _ _ _ _ _). a.heads) c.finalize-answer.ensures))
     (highest_stays c.pop-entry.result.entry.step_kind_from_parent (final_answer (c.pop-entry.result.entry, c.pop-entry.result.run) c.args.outcome c.in_ok-node.node) c.pop-entry.new.self c.give_answer.new.goals c.in_ok-next.next
     (subst (λ step. GivesAnswer step (final_answer (c.pop-entry.result.entry, c.pop-entry.result.run) c.args.outcome c.in_ok-node.node) c.pop-entry.new.self c.in_ok-next.next c.give_answer.new.goals) c.step_kind_from_parent-step.ensures
     (subst (λ (a : EvaluationResult _ _ _ _ _). GivesAnswer c.step_kind_from_parent-step.result a c.pop-entry.new.self c.in_ok-next.next c.give_answer.new.goals) c.finalize-answer.ensures c.in_ok-next.ensures.given))
@@ -51,7 +52,7 @@ store_answer-requires-clause-on_stack g c =
 -- ---- the answer may be stored
 
 pub store_answer-requires-clause-storable : goal.store_answer-requires-clause-storable
-store_answer-requires-clause-storable g c = record {
+store_answer-requires-clause-storable g c = storable_given g.D.Delegate g.D.Cx.Cx c.finalize-answer.result c.give_answer.new.answer c.give_answer.ensures.left c.result_node.new.cache c.input-input.result (record {
   graph =
       subst (λ (a : EvaluationResult _ _ _ _ _). a.heads ≡ [] → HasGraph (verdicts g.D.Cx.Cx) c.result_node.new.cache.nodes c.input-input.result a.result a.node) (sym c.finalize-answer.ensures)
       (λ none. subst (λ i. HasGraph (verdicts g.D.Cx.Cx) c.result_node.new.cache.nodes i c.args.outcome c.in_ok-node.node) (sym c.input-input.ensures)
@@ -66,7 +67,7 @@ store_answer-requires-clause-storable g c = record {
       (subst (λ i. ComesTo (g.D.Delegate.script c.result_node.new.cache.cx) (g.D.Delegate.fixpoint_overflow c.result_node.new.cache.cx) i c.args.outcome) (sym c.input-input.ensures)
       (subst (λ x. ComesTo (g.D.Delegate.script x) (g.D.Delegate.fixpoint_overflow x) c.pop-entry.result.entry.input c.args.outcome) (sym c.in_ok-node.ensures.same_context)
       (subst (λ l. NewestComesTo (g.D.Delegate.script c.args.cache.now.cx) (g.D.Delegate.fixpoint_overflow c.args.cache.now.cx) l c.args.outcome) c.pop-entry.ensures c.requires.comes)));
-}
+})
 
 -- what the result is compared with is stored
 pub store_answer-requires-clause-expected : goal.store_answer-requires-clause-expected
@@ -85,14 +86,14 @@ pub returns-in_err-store_answer-clause-stored : goal.returns-in_err-store_answer
 returns-in_err-store_answer-clause-stored g c = newest_stored (verdicts g.D.Cx.Cx) c.args.cache.now.nodes c.result_node.new.cache.nodes c.args.self.now.goals c.pop-entry.result.entry c.pop-entry.result.run c.pop-entry.new.self c.pop-entry.ensures c.args.outcome c.in_ok-node.node c.requires.right.justified c.in_ok-node.ensures.has_node g.D.Cx.Input.PartialEq.eq c.args.cache.now.results c.store_answer.new.cache.results
     (subst (λ before. StoresAnswer g.D.Cx.Input.PartialEq.eq before c.store_answer.new.cache.results c.pop-entry.result.entry.input (final_answer (c.pop-entry.result.entry, c.pop-entry.result.run) c.args.outcome c.in_ok-node.node)) c.in_ok-node.ensures.same_results
     (subst (λ i. StoresAnswer g.D.Cx.Input.PartialEq.eq c.result_node.new.cache.results c.store_answer.new.cache.results i (final_answer (c.pop-entry.result.entry, c.pop-entry.result.run) c.args.outcome c.in_ok-node.node)) c.input-input.ensures
-    (subst (λ (a : EvaluationResult _ _ _ _ _). StoresAnswer g.D.Cx.Input.PartialEq.eq c.result_node.new.cache.results c.store_answer.new.cache.results c.input-input.result a) c.finalize-answer.ensures c.store_answer.ensures.puts.stored)))
+    (subst (λ (a : EvaluationResult _ _ _ _ _). StoresAnswer g.D.Cx.Input.PartialEq.eq c.result_node.new.cache.results c.store_answer.new.cache.results c.input-input.result a) c.finalize-answer.ensures (puts_given c.finalize-answer.result c.give_answer.new.answer c.give_answer.ensures.left g.D.Cx.Input.PartialEq.eq c.input-input.result c.pop-entry.result.run.fate c.result_node.new.cache c.store_answer.new.cache c.store_answer.ensures.puts).stored)))
 
 pub returns-in_err-store_answer-clause-plain : goal.returns-in_err-store_answer-clause-plain
 returns-in_err-store_answer-clause-plain g c = λ n plain.
     let here : IsNewestPlainTo (g.D.Delegate.script c.args.cache.now.cx) n ((c.pop-entry.result.entry, c.pop-entry.result.run) ∷ c.pop-entry.new.self) = subst (IsNewestPlainTo (g.D.Delegate.script c.args.cache.now.cx) n) c.pop-entry.ensures plain in
     if_err_and c.from_residual-in_err-store_answer.result _ _ c.from_residual-in_err-store_answer.ensures.1 (λ e is. is ∙ c.in_err-store_answer.ensures.plain n
     (subst (λ x. IsPlainTo (g.D.Delegate.script x) n c.input-input.result) (sym c.in_ok-node.ensures.same_context) (subst (IsPlainTo (g.D.Delegate.script c.args.cache.now.cx) n) (sym c.input-input.ensures) here.0))
-    (ap (λ (a : EvaluationResult _ _ _ _ _). place_of a) c.finalize-answer.ensures ∙ here.1)
+    (ap (λ (a : EvaluationResult _ _ _ _ _). place_of a) c.give_answer.ensures.left.others ∙ ap (λ (a : EvaluationResult _ _ _ _ _). place_of a) c.finalize-answer.ensures ∙ here.1)
     (subst (λ x. IfCompared c.pop-entry.result.run.fate (IsPlainValue (g.D.Delegate.script x) n c.input-input.result)) (sym c.in_ok-node.ensures.same_context)
     (subst (λ i. IfCompared c.pop-entry.result.run.fate (IsPlainValue (g.D.Delegate.script c.args.cache.now.cx) n i)) (sym c.input-input.ensures)
     ((subst (λ l. HaveExpected (g.D.Delegate.scoped c.args.cache.now.cx) (g.D.Delegate.script c.args.cache.now.cx) g.D.Cx.Input.PartialEq.eq c.args.cache.now.results (fates_of l)) c.pop-entry.ensures c.requires.expected).0.plain n here.0 here.2))))
@@ -134,7 +135,7 @@ pub returns-clause-stored : goal.returns-clause-stored
 returns-clause-stored g c = newest_stored (verdicts g.D.Cx.Cx) c.args.cache.now.nodes c.result_node.new.cache.nodes c.args.self.now.goals c.pop-entry.result.entry c.pop-entry.result.run c.pop-entry.new.self c.pop-entry.ensures c.args.outcome c.in_ok-node.node c.requires.right.justified c.in_ok-node.ensures.has_node g.D.Cx.Input.PartialEq.eq c.args.cache.now.results c.store_answer.new.cache.results
     (subst (λ before. StoresAnswer g.D.Cx.Input.PartialEq.eq before c.store_answer.new.cache.results c.pop-entry.result.entry.input (final_answer (c.pop-entry.result.entry, c.pop-entry.result.run) c.args.outcome c.in_ok-node.node)) c.in_ok-node.ensures.same_results
     (subst (λ i. StoresAnswer g.D.Cx.Input.PartialEq.eq c.result_node.new.cache.results c.store_answer.new.cache.results i (final_answer (c.pop-entry.result.entry, c.pop-entry.result.run) c.args.outcome c.in_ok-node.node)) c.input-input.ensures
-    (subst (λ (a : EvaluationResult _ _ _ _ _). StoresAnswer g.D.Cx.Input.PartialEq.eq c.result_node.new.cache.results c.store_answer.new.cache.results c.input-input.result a) c.finalize-answer.ensures c.store_answer.ensures.puts.stored)))
+    (subst (λ (a : EvaluationResult _ _ _ _ _). StoresAnswer g.D.Cx.Input.PartialEq.eq c.result_node.new.cache.results c.store_answer.new.cache.results c.input-input.result a) c.finalize-answer.ensures (puts_given c.finalize-answer.result c.give_answer.new.answer c.give_answer.ensures.left g.D.Cx.Input.PartialEq.eq c.input-input.result c.pop-entry.result.run.fate c.result_node.new.cache c.store_answer.new.cache c.store_answer.ensures.puts).stored)))
 
 pub returns-clause-popped : goal.returns-clause-popped
 returns-clause-popped g c =
@@ -155,14 +156,14 @@ returns-clause-popped g c =
           (subst (λ node. c.pop-entry.result.run.fate ≡ becomes.Stored → c.pop-entry.result.entry.state.heads ≡ [] → IsStored g.D.Cx.Input.PartialEq.eq (g.D.Cx.Cx.token c.args.cache.now.cx) c.store_answer.new.cache.results c.pop-entry.result.entry.input (final_answer (c.pop-entry.result.entry, c.pop-entry.result.run) c.args.outcome node)) (sym node_is)
           (subst (λ cx. c.pop-entry.result.run.fate ≡ becomes.Stored → c.pop-entry.result.entry.state.heads ≡ [] → IsStored g.D.Cx.Input.PartialEq.eq (g.D.Cx.Cx.token cx) c.store_answer.new.cache.results c.pop-entry.result.entry.input (final_answer (c.pop-entry.result.entry, c.pop-entry.result.run) c.args.outcome c.in_ok-node.node)) same_cx
           (subst (λ i. c.pop-entry.result.run.fate ≡ becomes.Stored → c.pop-entry.result.entry.state.heads ≡ [] → IsStored g.D.Cx.Input.PartialEq.eq (g.D.Cx.Cx.token c.store_answer.new.cache.cx) c.store_answer.new.cache.results i (final_answer (c.pop-entry.result.entry, c.pop-entry.result.run) c.args.outcome c.in_ok-node.node)) c.input-input.ensures
-          (subst (λ (a : EvaluationResult _ _ _ _ _). c.pop-entry.result.run.fate ≡ becomes.Stored → a.heads ≡ [] → IsStored g.D.Cx.Input.PartialEq.eq (g.D.Cx.Cx.token c.store_answer.new.cache.cx) c.store_answer.new.cache.results c.input-input.result a) c.finalize-answer.ensures c.in_ok-store_answer.ensures.stores.stored))));
+          (subst (λ (a : EvaluationResult _ _ _ _ _). c.pop-entry.result.run.fate ≡ becomes.Stored → a.heads ≡ [] → IsStored g.D.Cx.Input.PartialEq.eq (g.D.Cx.Cx.token c.store_answer.new.cache.cx) c.store_answer.new.cache.results c.input-input.result a) c.finalize-answer.ensures (stores_given g.D.Delegate g.D.Cx.Cx c.finalize-answer.result c.give_answer.new.answer c.give_answer.ensures.left g.D.Cx.Input.PartialEq.eq c.step_kind_from_parent-step.result c.input-input.result c.pop-entry.result.run.fate (record c.args.self.now { goals = c.give_answer.new.goals; provisional = c.rebase_entries.new.provisional }) c.store_answer.new.self c.store_answer.new.cache c.in_ok-store_answer.ensures.stores).stored))));
       node =
           subst (λ l. HasNewestNode (verdicts g.D.Cx.Cx) c.args.cache.now.nodes c.store_answer.new.cache.nodes l c.args.outcome (node_given c.in_ok-next.next)) (sym c.pop-entry.ensures)
           (subst (λ node. HasResultNode (verdicts g.D.Cx.Cx) c.args.cache.now.nodes c.store_answer.new.cache.nodes c.pop-entry.result.entry.state.provisional_result c.pop-entry.result.run.node c.pop-entry.result.entry.state.node c.pop-entry.result.run.progress c.args.outcome node) (sym node_is)
           (subst (λ nodes. HasResultNode (verdicts g.D.Cx.Cx) c.args.cache.now.nodes nodes c.pop-entry.result.entry.state.provisional_result c.pop-entry.result.run.node c.pop-entry.result.entry.state.node c.pop-entry.result.run.progress c.args.outcome c.in_ok-node.node) (sym (ap (λ cache. cache.nodes) c.store_answer.ensures.puts.cache.rest)) c.in_ok-node.ensures.has_node));
       rebased =
           subst (λ l. RebasesNewest g.D.Cx.Input.PartialEq.eq g.D.Delegate.ENABLE_PROVISIONAL_CACHE (g.D.Delegate.propagated c.args.cache.now.cx) (g.D.Delegate.fixpoint_overflow c.args.cache.now.cx) c.args.reason c.args.outcome l c.args.self.now.provisional c.store_answer.new.self.provisional) (sym c.pop-entry.ensures)
-          (record { node = c.in_ok-node.node; entries = entries_rebased g.D.Cx.Input.PartialEq.eq g.D.Delegate.ENABLE_PROVISIONAL_CACHE g.D.Delegate.propagated g.D.Delegate.fixpoint_overflow c.cx.result c.args.cache.now.cx (c.cx.ensures ∙ c.in_ok-node.ensures.same_context) c.args.reason c.args.outcome c.in_ok-node.node (c.pop-entry.result.entry, c.pop-entry.result.run) c.pop-entry.new.self c.give_answer.new.goals c.in_ok-next.next c.stack-stack.result.now (reverse (map (λ s. s.0) c.give_answer.new.goals)) c.stack-stack.ensures refl c.step_kind_from_parent-step.result c.step_kind_from_parent-step.ensures c.input-input.result c.input-input.ensures c.finalize-answer.result c.finalize-answer.ensures c.in_ok-next.ensures.given c.args.self.now.provisional c.rebase_entries.new.provisional c.store_answer.new.self.provisional c.in_ok-rebase_entries.ensures.exact c.in_ok-store_answer.ensures.stores.entry });
+          (record { node = c.in_ok-node.node; entries = entries_rebased g.D.Cx.Input.PartialEq.eq g.D.Delegate.ENABLE_PROVISIONAL_CACHE g.D.Delegate.propagated g.D.Delegate.fixpoint_overflow c.cx.result c.args.cache.now.cx (c.cx.ensures ∙ c.in_ok-node.ensures.same_context) c.args.reason c.args.outcome c.in_ok-node.node (c.pop-entry.result.entry, c.pop-entry.result.run) c.pop-entry.new.self c.give_answer.new.goals c.in_ok-next.next c.stack-stack.result.now (reverse (map (λ s. s.0) c.give_answer.new.goals)) c.stack-stack.ensures refl c.step_kind_from_parent-step.result c.step_kind_from_parent-step.ensures c.input-input.result c.input-input.ensures c.finalize-answer.result c.finalize-answer.ensures c.in_ok-next.ensures.given c.args.self.now.provisional c.rebase_entries.new.provisional c.store_answer.new.self.provisional c.in_ok-rebase_entries.ensures.exact (stores_given g.D.Delegate g.D.Cx.Cx c.finalize-answer.result c.give_answer.new.answer c.give_answer.ensures.left g.D.Cx.Input.PartialEq.eq c.step_kind_from_parent-step.result c.input-input.result c.pop-entry.result.run.fate (record c.args.self.now { goals = c.give_answer.new.goals; provisional = c.rebase_entries.new.provisional }) c.store_answer.new.self c.store_answer.new.cache c.in_ok-store_answer.ensures.stores).entry });
       right = record {
         justified =
             subst (λ nodes. IsJustifiedNext (verdicts g.D.Cx.Cx) nodes c.args.self.now.goals c.give_answer.new.goals c.in_ok-next.next) (sym (ap (λ cache. cache.nodes) c.store_answer.ensures.puts.cache.rest))
@@ -176,7 +177,7 @@ returns-clause-popped g c =
             (subst (λ (a : EvaluationResult _ _ _ _ _). GivesAnswer c.step_kind_from_parent-step.result a c.pop-entry.new.self c.in_ok-next.next c.give_answer.new.goals) c.finalize-answer.ensures c.in_ok-next.ensures.given))
             (subst (λ before. StoresAnswer g.D.Cx.Input.PartialEq.eq before c.store_answer.new.cache.results c.pop-entry.result.entry.input (final_answer (c.pop-entry.result.entry, c.pop-entry.result.run) c.args.outcome c.in_ok-node.node)) c.in_ok-node.ensures.same_results
             (subst (λ i. StoresAnswer g.D.Cx.Input.PartialEq.eq c.result_node.new.cache.results c.store_answer.new.cache.results i (final_answer (c.pop-entry.result.entry, c.pop-entry.result.run) c.args.outcome c.in_ok-node.node)) c.input-input.ensures
-            (subst (λ (a : EvaluationResult _ _ _ _ _). StoresAnswer g.D.Cx.Input.PartialEq.eq c.result_node.new.cache.results c.store_answer.new.cache.results c.input-input.result a) c.finalize-answer.ensures c.store_answer.ensures.puts.stored))) c.requires.right.free);
+            (subst (λ (a : EvaluationResult _ _ _ _ _). StoresAnswer g.D.Cx.Input.PartialEq.eq c.result_node.new.cache.results c.store_answer.new.cache.results c.input-input.result a) c.finalize-answer.ensures (puts_given c.finalize-answer.result c.give_answer.new.answer c.give_answer.ensures.left g.D.Cx.Input.PartialEq.eq c.input-input.result c.pop-entry.result.run.fate c.result_node.new.cache c.store_answer.new.cache c.store_answer.ensures.puts).stored))) c.requires.right.free);
         ready =
             subst (λ nodes. AreReady (verdicts g.D.Cx.Cx) g.D.Cx.Input.PartialEq.eq (g.D.Delegate.script c.args.cache.now.cx) nodes (runs_of c.give_answer.new.goals) c.store_answer.new.self.provisional) (sym (ap (λ cache. cache.nodes) c.store_answer.ensures.puts.cache.rest))
             (rebased_ready (verdicts g.D.Cx.Cx) g.D.Cx.Input.PartialEq.eq g.met.D.Cx.Cx.same_input (g.D.Delegate.script c.args.cache.now.cx) c.args.cache.now.nodes c.result_node.new.cache.nodes (c.pop-entry.result.entry, c.pop-entry.result.run) c.pop-entry.new.self c.args.outcome c.in_ok-node.node
@@ -188,7 +189,7 @@ returns-clause-popped g c =
             c.args.reason (subst (λ l. HasReason (verdicts g.D.Cx.Cx) c.args.reason l c.args.outcome) c.pop-entry.ensures c.requires.is_reason)
             c.are_rising.ensures (subst (IsNewestUnranked (g.D.Delegate.script c.args.cache.now.cx)) c.pop-entry.ensures c.requires.unranked)
             g.D.Delegate.ENABLE_PROVISIONAL_CACHE c.args.self.now.provisional c.store_answer.new.self.provisional
-            (entries_rebased g.D.Cx.Input.PartialEq.eq g.D.Delegate.ENABLE_PROVISIONAL_CACHE g.D.Delegate.propagated g.D.Delegate.fixpoint_overflow c.cx.result c.args.cache.now.cx (c.cx.ensures ∙ c.in_ok-node.ensures.same_context) c.args.reason c.args.outcome c.in_ok-node.node (c.pop-entry.result.entry, c.pop-entry.result.run) c.pop-entry.new.self c.give_answer.new.goals c.in_ok-next.next c.stack-stack.result.now (reverse (map (λ s. s.0) c.give_answer.new.goals)) c.stack-stack.ensures refl c.step_kind_from_parent-step.result c.step_kind_from_parent-step.ensures c.input-input.result c.input-input.ensures c.finalize-answer.result c.finalize-answer.ensures c.in_ok-next.ensures.given c.args.self.now.provisional c.rebase_entries.new.provisional c.store_answer.new.self.provisional c.in_ok-rebase_entries.ensures.exact c.in_ok-store_answer.ensures.stores.entry)
+            (entries_rebased g.D.Cx.Input.PartialEq.eq g.D.Delegate.ENABLE_PROVISIONAL_CACHE g.D.Delegate.propagated g.D.Delegate.fixpoint_overflow c.cx.result c.args.cache.now.cx (c.cx.ensures ∙ c.in_ok-node.ensures.same_context) c.args.reason c.args.outcome c.in_ok-node.node (c.pop-entry.result.entry, c.pop-entry.result.run) c.pop-entry.new.self c.give_answer.new.goals c.in_ok-next.next c.stack-stack.result.now (reverse (map (λ s. s.0) c.give_answer.new.goals)) c.stack-stack.ensures refl c.step_kind_from_parent-step.result c.step_kind_from_parent-step.ensures c.input-input.result c.input-input.ensures c.finalize-answer.result c.finalize-answer.ensures c.in_ok-next.ensures.given c.args.self.now.provisional c.rebase_entries.new.provisional c.store_answer.new.self.provisional c.in_ok-rebase_entries.ensures.exact (stores_given g.D.Delegate g.D.Cx.Cx c.finalize-answer.result c.give_answer.new.answer c.give_answer.ensures.left g.D.Cx.Input.PartialEq.eq c.step_kind_from_parent-step.result c.input-input.result c.pop-entry.result.run.fate (record c.args.self.now { goals = c.give_answer.new.goals; provisional = c.rebase_entries.new.provisional }) c.store_answer.new.self c.store_answer.new.cache c.in_ok-store_answer.ensures.stores).entry)
             (subst (λ l. AreReady (verdicts g.D.Cx.Cx) g.D.Cx.Input.PartialEq.eq (g.D.Delegate.script c.args.cache.now.cx) c.args.cache.now.nodes (runs_of l) c.args.self.now.provisional) c.pop-entry.ensures c.requires.right.ready)
             c.in_ok-next.next c.give_answer.new.goals
             (subst (λ step. GivesAnswer step (final_answer (c.pop-entry.result.entry, c.pop-entry.result.run) c.args.outcome c.in_ok-node.node) c.pop-entry.new.self c.in_ok-next.next c.give_answer.new.goals) c.step_kind_from_parent-step.ensures

@@ -8,13 +8,12 @@ use Rattle.search_stack.proofs.nested_goals.NestedGoals.join_each.Goals as goal
 pub loop-input-preserved : goal.loop-input-preserved
 loop-input-preserved g c =
     let raises = c.loop-input.self-inside.raises in
-    let first : c.loop-input.input-iterator ≡ (c.in-Some.input, c.in-Some.paths) ∷ c.next.new.self = c.in-Some.ensures.steps in
-    (
+    let first : c.loop-input.input-iterator ≡ (c.in-Some.input, c.in-Some.paths) ∷ c.next.new.self = c.in-Some.ensures.steps in (
       IsJoining-more g.met.X.Input.Eq.laws g.met.X.Cx.same_input (after_step c.args.step) (paths_noted raises c.reserve.new.self.entries) (paths_noted raises c.loop-input.self-inside.noted.entries) (paths_noted raises c.join_paths.new.goals.entries)
-      c.into_iter-input-iterator.result c.loop-input.input-iterator c.next.new.self c.in-Some.input c.in-Some.paths
-      c.after_step.result (spare c.loop-input.self-inside.noted) (spare c.join_paths.new.goals) first c.after_step.ensures
-      c.in_ok-join_paths.ensures.ok c.join_paths.ensures.left
-      c.loop-input.invariant.0,
+          c.into_iter-input-iterator.result c.loop-input.input-iterator c.next.new.self c.in-Some.input c.in-Some.paths
+          c.after_step.result (spare c.loop-input.self-inside.noted) (spare c.join_paths.new.goals) first c.after_step.ensures
+          c.in_ok-join_paths.ensures.ok c.join_paths.ensures.left
+          c.loop-input.invariant.0,
       c.join_paths.ensures.noted,
       c.loop-input.invariant.2,
     )
