@@ -1,10 +1,11 @@
 -- What the provisional cache has after a goal is done.
-use Rattle.std.proofs.Common.{◌≡◌, ◌&&◌, ◌++◌, if◌then◌else◌, Bool, true, false, List, [], ◌∷◌, Option, None, Some, OnErr, IfErr, Result, Ok, Err, map, reverse, option_map, refl, sym, ap, ◌∙◌, subst}
+use Rattle.std.proofs.Common.{◌≡◌, ◌&&◌, ◌++◌, if◌then◌else◌, Bool, true, false, List, [], ◌∷◌, Option, None, Some, OnErr, OnOk, IfErr, Result, Ok, Err, map, reverse, option_map, refl, sym, ap, ◌∙◌, subst}
 use Rattle.cycle_heads.specs.Heads.{Heads}
 use Rattle.cycle_heads.specs.declared.depth.StackDepth.{StackDepth}
 use Rattle.cycle_heads.specs.declared.heads.CycleHead.{CycleHead}
 use Rattle.provisional_cache.specs.Provisional.{AppendsEntry}
 use Rattle.open_goals.specs.declared.goals.Fate.{Fate}
+use Rattle.open_goals.specs.declared.goals.Fate.TheVariants as becomes
 use Rattle.global_cache.proofs.Stores.{KeepsResults-same}
 use Rattle.search_rules.specs.Fates.{Untouched}
 use Rattle.search_rules.specs.Results.{NotStored}
@@ -52,6 +53,21 @@ module _ {D C V P F I R A T : Type 0} (G : DelegateOf D C V P F I R A T) (X : Cx
     entry = λ other.
         subst (λ on. entries_at same new.provisional other ≡ entries_at same old.provisional other ++ (if on && same goal other then entries_for (reverse (map (λ s. s.0) old.goals)) step answer else [])) (sym disabled)
         (ap (λ e. entries_at same e.provisional other) unchanged ∙ sym (append-nil (entries_at same old.provisional other)));
+  }
+
+-- nothing is stored of an answer without heads that is compared, and it has no entry
+module _ {D C V P F I R A T : Type 0} (G : DelegateOf D C V P F I R A T) (X : CxOf C I R A T) (same : I → I → Bool) (step : PathKind) (goal : I) (answer : EvaluationResult C I R A T) (fate : Fate R) (evaluation : Evaluation D C V P F I R A T) (cache : Cache C I R A T) where
+  no_entry : (stack : List (StackEntry C I R A T)) → highest answer.heads ≡ None → (b : Bool) → entries_for stack step answer ≡ [] → (if b then entries_for stack step answer else []) ≡ []
+  no_entry stack none true is = is
+  no_entry stack none false is = refl
+
+  pub stores_compared : {U E : Type 0} (result : Result U E) (stored : R) → fate ≡ becomes.Compared stored → highest answer.heads ≡ None → OnOk result (Stores G X same step goal answer fate evaluation evaluation cache)
+  stores_compared (Err e) stored is none = tt
+  stores_compared (Ok u) stored is none = record {
+    stored = λ stores rests. let clash : becomes.Compared stored ≡ becomes.Stored = sym is ∙ stores in absurd cc;
+    entry = λ other.
+        let stack = reverse (map (λ s. s.0) evaluation.goals) in
+        sym (ap (λ l. entries_at same evaluation.provisional other ++ l) (no_entry stack none (G.ENABLE_PROVISIONAL_CACHE && same goal other) (rw (none, entries_for) refl)) ∙ append-nil (entries_at same evaluation.provisional other));
   }
 
 -- a comparison of equal results does not fail

@@ -2,7 +2,7 @@
 ghost use Rattle.std.specs.Prelude.{◌≡◌, ◌≢◌, ◌<◌, [], length, All, IfSome, is_some};
 ghost use Rattle.std.specs.List.{list_any};
 ghost use Rattle.std.specs.Option.{option_copied, option_map};
-ghost use Rattle.search_rules.specs.Below.{highest, HasGraph, first_accepted, hit_of, usable, entries_at, verdicts};
+ghost use Rattle.search_rules.specs.Below.{highest, paths_at, HasGraph, first_accepted, hit_of, usable, entries_at, verdicts};
 ghost use Rattle.search_context.specs.Delegate.{KeepsBuilder};
 ghost use Rattle.search_rules.specs.Words.{usable_entry, could_be_used, Consults, is_applicable, is_compared, meets_entry, AreOnStack, IsFated, IsUsable};
 
@@ -44,13 +44,7 @@ impl<'a, D: Delegate> NestedTest<D::Cx> for OverStack<'a, D> {
         if nested_goals.is_empty() {
             return true;
         }
-        // The stack is walked, and not the map: no more goals are on it than the root depth and one, while the
-        // map may hold any number.
-        let on_stack = self
-            .stack
-            .iter()
-            .any(|entry| nested_goals.contains(entry.input()));
-        !on_stack
+        !self.is_above(nested_goals)
             && nested_goals
                 .iter()
                 .all(|(goal, paths)| !self.meets_entry(goal, paths))
@@ -58,6 +52,22 @@ impl<'a, D: Delegate> NestedTest<D::Cx> for OverStack<'a, D> {
 }
 
 impl<'a, D: Delegate> OverStack<'a, D> {
+    /// Whether one of the goals is on the stack. The shorter of the two is walked: a few goals are soon looked up on a
+    /// long stack, and a map may hold more goals than a stack ever has.
+    fn is_above(&self, nested_goals: &NestedGoals<D::Cx>) -> bool
+        ensures { result ≡ list_any (λ e. is_some (paths_at D.Cx.Input.eq nested_goals.now e.input))
+            self.now.stack }
+    {
+        if nested_goals.len() < self.stack.len() {
+            return nested_goals
+                .iter()
+                .any(|(goal, _)| self.stack.find(goal).is_some());
+        }
+        self.stack
+            .iter()
+            .any(|entry| nested_goals.contains(entry.input()))
+    }
+
     /// Whether the goal, asked at the end of one of these paths, could be answered by an entry.
     fn meets_entry(&self, goal: <D::Cx as Cx>::Input, paths: PathsToNested) -> bool
         ensures { result ≡ meets_entry D.Cx.Input.eq self.now goal paths }

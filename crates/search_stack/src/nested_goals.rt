@@ -62,6 +62,13 @@ impl<X: Cx> NestedGoals<X> {
         self.noted.is_empty()
     }
 
+    /// How many goals there are.
+    pub fn len(&self) -> usize
+        ensures { result ≡ length self.now }
+    {
+        self.noted.len()
+    }
+
     /// Whether the goal is there. Ports `NestedGoals::contains`.
     pub fn contains(&self, input: X::Input) -> bool
         ensures { result ≡ is_some (paths_at X.Input.eq self.now input) }
@@ -115,7 +122,7 @@ impl<X: Cx> NestedGoals<X> {
         ensures err { OnErr result (self.new ≡ self.old) }
         ensures none { nested.old ≡ [] → IsOk result }
     {
-        if self.noted.len() < nested.noted.len() && nested.raise(step) {
+        if self.len() < nested.len() && nested.raise(step) {
             nested.join_each(None, self)?;
             mem::swap(self, nested);
             return Ok(());

@@ -1,11 +1,69 @@
 -- Which stored results are used.
-use Rattle.std.proofs.Common.{◌≡◌, ◌≢◌, ℕ, ◌<◌, ◌≤◌, Bool, true, false, not, ◌&&◌, cond, List, [], ◌∷◌, map, reverse, is_some, Option, None, Some, All, length, get_or, refl, sym, ap, ap₂, ◌∙◌, subst}
-use Rattle.std.specs.List.{list_all, list_any}
+use Rattle.std.proofs.Common.{◌≡◌, ◌≢◌, ℕ, ◌<◌, ◌≤◌, Bool, true, false, not, ◌&&◌, ◌||◌, cond, List, [], ◌∷◌, map, reverse, is_some, Option, None, Some, All, length, get_or, refl, sym, ap, ap₂, ◌∙◌, subst, inl, inr, nat_lt, ◌+◌, lt-ltb, le-ltb, suc, arith}
+use Rattle.std.specs.List.{list_all, list_any, position, position_or_len}
 use Rattle.std.specs.Option.{IfSome, option_map}
 use Rattle.std.proofs.lemmas.List.Elements.{All-get_or}
 use Rattle.search_rules.specs.Below.{highest, Request, Reply, CacheData, Success, WithOverflow, StoredResult, PathKind, ProvisionalCacheEntry, StackEntry, Lists, entries_at, Hit, hit_of, first_accepted, usable, NestedPaths, paths_at, IsPlain, IsBelowRank, Store}
+use Rattle.std.proofs.lemmas.Bool.{cases_Bool, cases_lt}
+use Rattle.std.proofs.lemmas.Map.Made.{is_some-lookup}
+use Rattle.search_stack.specs.Words.{position_of}
 use Rattle.global_cache.proofs.Stored.{used_holds}
 use Rattle.search_rules.specs.Words.{is_applicable, meets_entry, AreOnStack, Asking, IsUsable}
+
+-- ---- a goal that two lists have in common is found by walking either of them
+
+or-middle : (a b c d : Bool) → ((a || b) || (c || d)) ≡ ((a || c) || (b || d))
+or-middle true b c d = refl
+or-middle false true true d = refl
+or-middle false true false d = refl
+or-middle false false c d = refl
+
+any-none : {A : Type 0} (xs : List A) → false ≡ list_any (λ x. false) xs
+any-none [] = refl
+any-none (x ∷ xs) = any-none xs
+
+any-or : {A : Type 0} (f g : A → Bool) (xs : List A) → (list_any f xs || list_any g xs) ≡ list_any (λ x. f x || g x) xs
+any-or f g [] = refl
+any-or f g (x ∷ xs) = or-middle (f x) (list_any f xs) (g x) (list_any g xs) ∙ ap (λ b. (f x || g x) || b) (any-or f g xs)
+
+any-swapped : {A B : Type 0} (p : A → B → Bool) (xs : List A) (ys : List B) → list_any (λ x. list_any (p x) ys) xs ≡ list_any (λ y. list_any (λ x. p x y) xs) ys
+any-swapped p [] ys = any-none ys
+any-swapped p (x ∷ xs) ys = ap (λ b. list_any (p x) ys || b) (any-swapped p xs ys) ∙ any-or (p x) (λ y. list_any (λ x. p x y) xs) ys
+
+any-mapped : {A B : Type 0} (f : A → B) (p : B → Bool) (xs : List A) → list_any p (map f xs) ≡ list_any (λ x. p (f x)) xs
+any-mapped f p [] = refl
+any-mapped f p (x ∷ xs) = ap (λ b. p (f x) || b) (any-mapped f p xs)
+
+some-if : (b : Bool) (n : ℕ) → is_some (cond b (Some n) None) ≡ b
+some-if true n = refl
+some-if false n = refl
+
+less-both : (m n : ℕ) → nat_lt (1 + m) (suc n) ≡ nat_lt m n
+less-both m n = elim (cases_lt m n) [
+  | inl less ↦ lt-ltb (1 + m) (suc n) (omega (arith, less)) ∙ sym (lt-ltb m n less)
+  | inr at_least ↦ le-ltb (1 + m) (suc n) (omega (arith, at_least)) ∙ sym (le-ltb m n at_least)
+]
+
+any-within : {A : Type 0} (p : A → Bool) (xs : List A) → nat_lt (position_or_len p xs) (length xs) ≡ list_any p xs
+any-within p [] = refl
+any-within p (x ∷ xs) = elim (cases_Bool (p x)) [
+  | inl here ↦ rw here (lt-ltb 0 (length (x ∷ xs)) (omega arith))
+  | inr not_here ↦ rw not_here (less-both (position_or_len p xs) (length xs) ∙ any-within p xs)
+]
+
+any-position : {A : Type 0} (p : A → Bool) (xs : List A) → is_some (position p xs) ≡ list_any p xs
+any-position p xs = some-if (nat_lt (position_or_len p xs) (length xs)) (position_or_len p xs) ∙ any-within p xs
+
+-- the goals below a result, of which one is on the stack
+pub any-shared : {X I R A T : Type 0} (same : I → I → Bool) → ((x y : I) → same x y ≡ same y x) → (stack : List (StackEntry X I R A T)) (nested : NestedPaths I)
+    → list_any (λ g. is_some (position_of same g.0 stack)) nested ≡ list_any (λ e. is_some (paths_at same nested e.input)) stack
+any-shared same symm stack nested =
+    (λ i. list_any (λ g. (any-position (same g.0) (map (λ e. e.input) stack) ∙ any-mapped (λ e. e.input) (same g.0) stack) i) nested)
+    ∙ any-swapped (λ g e. same g.0 e.input) nested stack
+    ∙ (λ i. list_any (λ e. list_any (λ g. symm g.0 e.input i) nested) stack)
+    ∙ (λ i. list_any (λ e. sym (is_some-lookup (same e.input) nested ∙ any-mapped (λ g. g.0) (same e.input) nested) i) stack)
+
+-- ---- what is stored
 
 -- nothing is below a result without goals
 nothing_below : {X I R A T : Type 0} (same : I → I → Bool) (stack : List (StackEntry X I R A T)) → list_any (λ e. is_some (paths_at same [] e.input)) stack ≡ false

@@ -1,8 +1,8 @@
 use Rattle.search_rules.proofs.rebasing.Lists.{headless}
-use Rattle.std.proofs.Common.{◌∷◌, [], ◌∙◌, sym, subst}
-use Rattle.search_moves.specs.Below.{ChangesNewest, IfCompared, entry_of, IsPlainAt, IsPlainValue, Memory}
+use Rattle.std.proofs.Common.{◌∷◌, [], ◌∙◌, sym, ap, subst}
+use Rattle.search_moves.specs.Below.{ChangesNewest, highest, IfCompared, entry_of, IsPlainAt, IsPlainValue, Memory}
 use Rattle.search_context.proofs.Ranks.{one_plain_value}
-use Rattle.search_moves.proofs.Storing.{equal_results, puts_nothing, stores_entry, stores_none}
+use Rattle.search_moves.proofs.Storing.{equal_results, puts_nothing, stores_compared, stores_entry, stores_none}
 use Rattle.search_moves.specs.Words.{Stores}
 use Rattle.provisional_cache.specs.Provisional.{AppendsEntry}
 use Rattle.search_rules.proofs.Fates.{storing_changes}
@@ -26,6 +26,11 @@ returns-in-NotStored-clause-puts g c = puts_nothing g.D.Cx.Input.PartialEq.eq c.
 
 pub returns-in-Compared-clause-puts : goal.returns-in-Compared-clause-puts
 returns-in-Compared-clause-puts g c = puts_nothing g.D.Cx.Input.PartialEq.eq c.args.input c.args.answer c.args.fate c.args.cache.now
+
+pub returns-in-Compared-clause-stores : goal.returns-in-Compared-clause-stores
+returns-in-Compared-clause-stores g c =
+    stores_compared g.D.Delegate g.D.Cx.Cx g.D.Cx.Input.PartialEq.eq c.args.step c.args.input c.args.answer c.args.fate c.args.self.now c.args.cache.now c.compare.result c.in-Compared.stored c.in-Compared.is
+    (ap highest (headless c.args.answer c.opt_highest_cycle_head_index.result c.opt_highest_cycle_head_index.ensures c.in_default.is))
 
 pub compare-requires-clause-no_heads : goal.compare-requires-clause-no_heads
 compare-requires-clause-no_heads g c = headless c.args.answer c.opt_highest_cycle_head_index.result c.opt_highest_cycle_head_index.ensures c.in_default.is

@@ -1,0 +1,24 @@
+use Rattle.std.proofs.Common.{rules, List, is_some, ap, ◌∙◌}
+use Rattle.std.proofs.lemmas.Iterator.{YieldsList-from_slice}
+use Rattle.std.proofs.lemmas.Iterator.Consumers.{YieldsList-from_rest}
+use Rattle.std.proofs.lemmas.Iterator.Search.{any_from_yields_List}
+use Rattle.std.specs.List.{list_any}
+use Rattle.search_rules.specs.Below.{paths_at, StackEntry}
+use Rattle.search_stack.specs.Words.{position_of}
+use Rattle.search_rules.proofs.moves.LookUps.{any-shared}
+use Rattle.search_rules.proofs.look_up.OverStack.is_above.Goals as goal
+
+-- the goals are walked
+pub returns-then-len : goal.returns-then-len
+returns-then-len g c =
+    let same = g.D.Cx.Input.PartialEq.eq in
+    any_from_yields_List (λ goal. is_some (position_of same goal.0 c.self.inside.stack.now)) _ _ c.any.result c.any.ensures.ran
+    (YieldsList-from_rest c.args.nested_goals.now c.iter.ensures.goals) (λ goal b next called. search rules)
+    ∙ ap (λ (stack : List (StackEntry _ _ _ _ _)). list_any (λ goal. is_some (position_of same goal.0 stack)) c.args.nested_goals.now) (ap (λ t. t.stack) c.self.view_is)
+    ∙ any-shared same g.met.D.Cx.Input.Eq.laws.symm c.args.self.now.stack c.args.nested_goals.now
+
+-- the stack is walked
+pub returns : goal.returns
+returns g c =
+    any_from_yields_List (λ e. is_some (paths_at g.D.Cx.Input.PartialEq.eq c.args.nested_goals.now e.input)) _ _ c.any-2.result c.any-2.ensures.ran
+    (YieldsList-from_slice c.args.self.now.stack (c.iter-2.ensures ∙ ap (λ t. t.stack) c.self.view_is)) (λ entry b next called. search rules)
