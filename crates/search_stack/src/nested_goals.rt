@@ -25,8 +25,8 @@ use std::mem;
 /// the map.
 ///
 /// All paths are extended by a step in one go, which is noted beside the map. So where a goal gives its nested goals
-/// to the one that asked it, only the smaller map of the two is walked, and a cycle of n goals moves n times the
-/// logarithm of n of them, and not the square of n.
+/// to the one that asked it, only the smaller map of the two is walked, and a cycle of n goals moves at most n
+/// times the logarithm of n of them, and not the square of n.
 #[derive(Drop)]
 pub struct NestedGoals<X: Cx> {
     noted: HashMap<X::Input, NotedPaths>,
