@@ -1,21 +1,14 @@
 -- Lists of what is recorded by depth.
-use Rattle.std.proofs.Common.{◌≡◌, ◌≢◌, ℕ, ◌<◌, ◌≤◌, true, false, List, [], ◌∷◌, get_or, All, Some, None, IsSome, cond, refl, ap, inl, inr, arith, lt-ltb, le-ltb, eq-eqb, ne_eqb}
+use Rattle.std.proofs.Common.{◌≡◌, ◌≢◌, ℕ, zero, suc, ◌<◌, drop, true, false, List, [], ◌∷◌, Some, None, IsSome, cond, refl, ap, inl, inr, arith, lt-ltb, le-ltb, eq-eqb, ne_eqb}
 use Rattle.std.proofs.lemmas.Bool.{cases_lt, cases_eq, false≢true}
-use Rattle.std.proofs.lemmas.List.{get_or-map, length-map}
-use Rattle.std.proofs.lemmas.Map.Keys.{ge_from_not_lt, sorted_head, sorted_tail}
+use Rattle.std.proofs.lemmas.Map.Keys.{sorted_head, sorted_tail}
 use Rattle.std.specs.List.{AllByRecursion}
+use Rattle.std.specs.List.Sorted.{IsStrictlySortedBy}
 use Rattle.std.specs.declared.cmp.Ordering.TheVariants.{Less}
-use Rattle.std.specs.Ordering.{is_lt, is_eq, nat_cmp}
+use Rattle.std.specs.Ordering.{is_eq, nat_cmp}
 use Rattle.std.specs.BTreeMap.{insert_entry, is_at}
 use Rattle.std.specs.Map.{keys_of, set_value}
 use Rattle.cycle_heads.specs.Words.{StackDepth, at_depth, depth_cmp, IsRising}
-
--- where no depth is above a depth, each is at most that
-pub all_up_to : {A : Type 0} (entries : List (StackDepth × A)) (depth : StackDepth)
-    → All (λ other. is_lt (depth_cmp depth other) ≡ false) (keys_of entries) → All (λ e. e.0.0 ≤ depth.0) entries
-all_up_to entries depth none_above = λ k d lt.
-    let here = none_above k d.0 (rw (length-map entries (λ e. e.0)) lt) in
-    ge_from_not_lt depth.0 (get_or entries k d).0.0 (rw (get_or-map (λ e. e.0) entries k d d.0 lt) at here)
 
 tied : (a b : ℕ) → a ≡ b → is_eq (nat_cmp a b) ≡ true
 tied a b e = rw (le-ltb a b (omega arith), eq-eqb a b e) refl
@@ -27,11 +20,15 @@ apart a b ne = elim (cases_lt a b) [
 ]
 
 -- a depth below all others is not among them
-absent_below : {A : Type 0} (entries : List (StackDepth × A)) (depth : StackDepth)
+pub absent_below : {A : Type 0} (entries : List (StackDepth × A)) (depth : StackDepth)
     → AllByRecursion (λ other. depth_cmp depth other ≡ Less) (keys_of entries) → at_depth entries depth ≡ None
 absent_below [] depth below = refl
 absent_below (e ∷ es) depth below =
     rw (ap is_eq below.0) (absent_below es depth below.1)
+
+pub rising_none : (A : Type 0) → IsRising {A = A} []
+unfolding IsStrictlySortedBy
+rising_none A = tt
 
 -- the first depth of a rising list comes once
 pub absent_later : {A : Type 0} (depth : StackDepth) (value : A) (rest : List (StackDepth × A))
@@ -41,6 +38,11 @@ absent_later depth value rest rising = absent_below rest depth (sorted_head dept
 pub rising_later : {A : Type 0} (depth : StackDepth) (value : A) (rest : List (StackDepth × A))
     → IsRising ((depth, value) ∷ rest) → IsRising rest
 rising_later depth value rest rising = sorted_tail depth_cmp depth (keys_of rest) rising
+
+pub rising_from : {A : Type 0} (entries : List (StackDepth × A)) (i : ℕ) → IsRising entries → IsRising (drop i entries)
+rising_from entries zero rising = rising
+rising_from [] (suc i) rising = rising
+rising_from (e ∷ es) (suc i) rising = rising_from es i (rising_later e.0 e.1 es rising)
 
 -- the first of a list is found at its depth, and other depths are sought in the rest
 pub at_depth-first : {A : Type 0} (depth : StackDepth) (value : A) (rest : List (StackDepth × A))

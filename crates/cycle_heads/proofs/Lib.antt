@@ -4,6 +4,7 @@ pub mod PathLaws
 pub mod PathMembers
 pub mod Counts
 pub mod HeadLists
+pub mod Places
 pub mod HighestHeads
 pub mod HeadShapes
 pub mod MergedUsages

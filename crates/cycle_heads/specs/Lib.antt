@@ -2,6 +2,7 @@ pub mod Path
 pub mod Paths
 pub mod Usages
 pub mod Heads
+pub mod Places
 pub mod Candidates
 pub mod HeadShapes
 pub mod Below

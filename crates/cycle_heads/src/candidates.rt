@@ -1,26 +1,31 @@
 //! What a candidate used of the goals on the stack.
-ghost use Rattle.std.specs.Prelude.{◌≡◌, ◌^◌, ◌<◌, ◌↔◌, [], length, IsTrue, IsSome, IsOk, OnOk, OnErr};
-ghost use Rattle.cycle_heads.specs.Words.{StackDepth, merged, with_added, with_noted, at_depth, IsRising};
+ghost use Rattle.std.specs.Prelude.{◌≡◌, ◌↔◌, [], IsTrue, IsSome, IsOk, OnOk, OnErr};
+ghost use Rattle.cycle_heads.specs.Words.{StackDepth, merged, with_added, with_noted, at_depth, depth_cmp, IsRising, place_of};
+ghost use Rattle.std.specs.BTreeMap.{insert_entry};
 
+use crate::by_depth::{at_place, place_of};
 use crate::depth::StackDepth;
 use crate::memory::NoMemory;
 use crate::usages::HeadUsages;
+use smallvec::SmallVec;
 use std::alloc::Global;
-use std::collections::{BTreeMap, btree_map};
 use std::marker::Model;
 
 /// How often a candidate used each goal on the stack, by depth. Ports `CandidateHeadUsages`.
 #[derive(Drop)]
 pub struct CandidateHeadUsages {
-    usages: BTreeMap<StackDepth, HeadUsages>,
+    usages: SmallVec<(StackDepth, HeadUsages), 1>,
 }
 
 impl Model for CandidateHeadUsages {
     ghost use Rattle.cycle_heads.specs.Candidates.{UsagesByHead};
+    ghost use Rattle.cycle_heads.specs.Heads.{IsRising};
 
     ghost Value = { UsagesByHead };
 
-    ghost view = { λ c. c.usages.entries };
+    ghost view = { λ c. c.usages.items };
+
+    ghost invariant = { λ c. IsRising c.usages.items };
 }
 
 impl CandidateHeadUsages {
@@ -29,7 +34,7 @@ impl CandidateHeadUsages {
         ensures { result ≡ [] }
     {
         CandidateHeadUsages {
-            usages: BTreeMap::new(alloc),
+            usages: SmallVec::new(alloc),
         }
     }
 
@@ -44,16 +49,16 @@ impl CandidateHeadUsages {
     pub fn get(&self, head: StackDepth) -> Option<HeadUsages>
         ensures { result ≡ at_depth self.now head }
     {
-        self.usages.get(&head).copied()
+        let usages = self.as_slice();
+        at_place(usages, head, place_of(usages, head))
     }
 
     /// The recorded heads with their usages, by rising depth.
-    pub fn iter(&self) -> btree_map::Iter<'_, StackDepth, HeadUsages>
-        ensures usages { result ≡ self.now }
+    pub fn as_slice(&self) -> &[(StackDepth, HeadUsages)]
+        ensures usages { result.now ≡ self.now }
         ensures rising { IsRising self.now }
-        ensures fits { length self.now < 2 ^ 63 }
     {
-        self.usages.iter()
+        self.usages.as_slice()
     }
 
     /// Counts one more usage of the head for each kind that isn't zero in `usages`. Only a new head
@@ -63,10 +68,10 @@ impl CandidateHeadUsages {
         ensures err { OnErr result (self.new ≡ self.old) }
         ensures known { IsSome (at_depth self.old head) → IsOk result }
     {
-        let mut noted = self.get(head).unwrap_or_default();
+        let place = place_of(self.as_slice(), head);
+        let mut noted = at_place(self.as_slice(), head, place).unwrap_or_default();
         noted.add_usages_from_nested(usages);
-        self.usages.insert(head, noted)?;
-        Ok(())
+        self.put(head, place, noted)
     }
 
     /// Adds the counts of `other`, head by head. Where one of the two is empty, that takes no memory.
@@ -86,7 +91,7 @@ impl CandidateHeadUsages {
             return Ok(());
         }
         let mut sums = other;
-        for (head, usages) in self.usages.iter() {
+        for (head, usages) in self.as_slice() {
             sums.add(*head, *usages)?;
         }
         *self = sums;
@@ -98,11 +103,30 @@ impl CandidateHeadUsages {
         ensures ok { OnOk result (self.new ≡ with_added self.old head usages) }
         ensures known { IsSome (at_depth self.old head) → IsOk result }
     {
+        let place = place_of(self.as_slice(), head);
         let mut sum = usages;
-        if let Some(known) = self.get(head) {
+        if let Some(known) = at_place(self.as_slice(), head, place) {
             sum.add_usages(known);
         }
-        self.usages.insert(head, sum)?;
+        self.put(head, place, sum)
+    }
+
+    // Makes these the usages of the head, whose place is given.
+    fn put(
+        &mut self,
+        head: StackDepth,
+        place: Result<usize, usize>,
+        usages: HeadUsages,
+    ) -> Result<(), NoMemory>
+        requires { place ≡ place_of self.old head }
+        ensures ok { OnOk result (self.new ≡ insert_entry depth_cmp self.old head usages) }
+        ensures err { OnErr result (self.new ≡ self.old) }
+        ensures known { IsSome (at_depth self.old head) → IsOk result }
+    {
+        match place {
+            Ok(index) => *self.usages.get_mut(index).unwrap() = (head, usages),
+            Err(index) => self.usages.insert(index, (head, usages))?,
+        }
         Ok(())
     }
 }
@@ -161,7 +185,7 @@ mod tests {
         assert_eq!(rt; candidate.get(StackDepth::new(2)), Some(inductive(3)));
         assert_eq!(rt; candidate.get(StackDepth::new(3)), None);
         let mut walked = Vec::new(rt.alloc());
-        for (head, usages) in candidate.iter() {
+        for (head, usages) in candidate.as_slice() {
             walked.push((*head, *usages))?;
         }
         assert_eq!(rt;

@@ -1,19 +1,20 @@
 //! The goals on the stack that an answer rests on.
-ghost use Rattle.std.specs.Prelude.{◌≡◌, ◌≢◌, ◌^◌, ◌<◌, ◌≤◌, ◌↔◌, [], ◌∷◌, ◌++◌, length, All, IsTrue, IsSome, IsSomeAnd, IsOk, IfSome, OnOk, OnErr, Some};
+ghost use Rattle.std.specs.Prelude.{◌≡◌, ◌≢◌, ◌<◌, ◌≤◌, ◌↔◌, [], ◌∷◌, ◌++◌, length, All, IsTrue, IsSome, IsSomeAnd, IsOk, IfSome, Ok, OnOk, OnErr, Some};
 ghost use Rattle.std.specs.Option.{option_map};
-ghost use Rattle.cycle_heads.specs.Words.{StackDepth, CycleHead, HeadUsages, PathKind, PathsToNested, at_depth, highest, joined_head, lowest, replace_head, with_head, Heads, IsRising, count_of, without_usages};
+ghost use Rattle.cycle_heads.specs.Words.{StackDepth, CycleHead, HeadUsages, PathKind, PathsToNested, at_depth, highest, joined_head, lowest, place_of, replace_head, with_head, Heads, IsRising, count_of, without_usages};
 
+use crate::by_depth::{at_place, place_of};
 use crate::depth::StackDepth;
 use crate::memory::NoMemory;
 use crate::path::PathsToNested;
 use crate::usages::HeadUsages;
 use bitflags::Flags;
+use smallvec::SmallVec;
 use std::alloc::Global;
-use std::collections::{BTreeMap, btree_map};
 use std::marker::Model;
 
 /// How an answer rests on a goal on the stack. Ports `CycleHead`.
-#[derive(Clone, Copy, Debug)]
+#[derive(Clone, Copy, Debug, Default)]
 pub struct CycleHead {
     /// The paths from the answer's goal to the head.
     pub paths_to_head: PathsToNested,
@@ -22,29 +23,41 @@ pub struct CycleHead {
 }
 
 impl CycleHead {
-    // The head with more paths and usages, as `joined_head` says.
-    fn join(self, paths: PathsToNested, usages: HeadUsages) -> CycleHead
-        ensures { result ≡ joined_head (Some self) paths usages }
+    // The head with these paths and usages more, which may be a new one.
+    fn joined(known: Option<CycleHead>, paths: PathsToNested, usages: HeadUsages) -> CycleHead
+        ensures { result ≡ joined_head known paths usages }
     {
-        let mut joined = self;
-        joined.paths_to_head.insert(paths);
-        joined.usages.add_usages_from_nested(usages);
-        joined
+        match known {
+            Some(mut head) => {
+                head.paths_to_head.insert(paths);
+                head.usages.add_usages_from_nested(usages);
+                head
+            }
+            None => CycleHead {
+                paths_to_head: paths,
+                usages,
+            },
+        }
     }
 }
 
 /// The goals on the stack that an answer rests on, by rising depth. Ports `CycleHeads`.
+///
+/// Most answers rest on one goal at most, which takes no memory of its own. More stand in one list, which is
+/// searched by halves: a head in the middle moves those above it, which costs less than to find it in a tree.
 #[derive(Drop)]
 pub struct CycleHeads {
-    heads: BTreeMap<StackDepth, CycleHead>,
+    heads: SmallVec<(StackDepth, CycleHead), 1>,
 }
 
 impl Model for CycleHeads {
-    ghost use Rattle.cycle_heads.specs.Heads.{Heads};
+    ghost use Rattle.cycle_heads.specs.Heads.{Heads, IsRising};
 
     ghost Value = { Heads };
 
-    ghost view = { λ h. h.heads.entries };
+    ghost view = { λ h. h.heads.items };
+
+    ghost invariant = { λ h. IsRising h.heads.items };
 }
 
 impl CycleHeads {
@@ -53,7 +66,7 @@ impl CycleHeads {
         ensures { result ≡ [] }
     {
         CycleHeads {
-            heads: BTreeMap::new(alloc),
+            heads: SmallVec::new(alloc),
         }
     }
 
@@ -70,8 +83,7 @@ impl CycleHeads {
         ensures last { highest self.now ≡ Some result }
         ensures greatest { All (λ e. e.0.0 ≤ result.0.0) self.now }
     {
-        let (depth, head) = self.heads.last_key_value().unwrap();
-        (*depth, *head)
+        *self.as_slice().last().unwrap()
     }
 
     /// The greatest depth of a head. Ports `CycleHeads::highest_cycle_head_index`.
@@ -89,8 +101,7 @@ impl CycleHeads {
         ensures last { (depth : StackDepth) × (self.old ≡ self.new ++ (depth, result) ∷ []) }
         ensures below { IfSome (highest self.old) (λ e. All (λ d. d.0.0 < e.0.0) self.new) }
     {
-        let (_, head) = self.heads.pop_last().unwrap();
-        head
+        self.heads.pop().unwrap().1
     }
 
     /// The depth of the head of the greatest depth, or `None` where there is none. Ports
@@ -98,7 +109,7 @@ impl CycleHeads {
     pub fn opt_highest_cycle_head_index(&self) -> Option<StackDepth>
         ensures { result ≡ option_map (λ e. e.0) (highest self.now) }
     {
-        self.heads.last_key_value().map(|(depth, _)| *depth)
+        self.as_slice().last().map(|head| head.0)
     }
 
     /// The depth of the head of the least depth, or `None` where there is none. Ports
@@ -106,7 +117,7 @@ impl CycleHeads {
     pub fn opt_lowest_cycle_head_index(&self) -> Option<StackDepth>
         ensures { result ≡ option_map (λ e. e.0) (lowest self.now) }
     {
-        self.heads.first_key_value().map(|(depth, _)| *depth)
+        self.as_slice().first().map(|head| head.0)
     }
 
     /// Records a head. One that is there already keeps its paths and counts at most one more usage
@@ -122,22 +133,22 @@ impl CycleHeads {
         ensures err { OnErr result (self.new ≡ self.old) }
         ensures known { IsSome (at_depth self.old head) → IsOk result }
     {
-        let joined = self.joined(head, paths, usages);
-        self.heads.insert(head, joined)?;
+        let place = place_of(self.as_slice(), head);
+        let known = at_place(self.as_slice(), head, place);
+        let joined = CycleHead::joined(known, paths, usages);
+        match place {
+            Ok(index) => self.set(index, head, joined),
+            Err(index) => self.heads.insert(index, (head, joined))?,
+        }
         Ok(())
     }
 
-    // The head with these paths and usages more.
-    fn joined(&self, head: StackDepth, paths: PathsToNested, usages: HeadUsages) -> CycleHead
-        ensures { result ≡ joined_head (at_depth self.now head) paths usages }
+    // Makes the head at the place, which has this depth, another one.
+    fn set(&mut self, index: usize, depth: StackDepth, head: CycleHead)
+        requires { place_of self.old depth ≡ Ok index }
+        ensures { self.new ≡ replace_head self.old depth head }
     {
-        match self.heads.get(&head) {
-            Some(known) => known.join(paths, usages),
-            None => CycleHead {
-                paths_to_head: paths,
-                usages,
-            },
-        }
+        *self.heads.get_mut(index).unwrap() = (depth, head);
     }
 
     /// Takes away usages that were counted for the head. Ports `CycleHeads::ignore_usages`.
@@ -147,24 +158,25 @@ impl CycleHeads {
         ensures { IfSome (at_depth self.old head)
             (λ known. self.new ≡ replace_head self.old head (record known { usages = without_usages known.usages usages })) }
     {
-        let known = self.heads.get_mut(&head).unwrap();
+        let place = place_of(self.as_slice(), head);
+        let mut known = at_place(self.as_slice(), head, place).unwrap();
         known.usages.ignore_usages(usages);
+        self.set(place.unwrap(), head, known);
     }
 
     /// A law: the depths rise from each head to the next. Does nothing when it is run.
     pub fn are_rising(&self)
         ensures { IsRising self.now }
     {
-        let _ = self.iter();
+        let _ = self.as_slice();
     }
 
-    /// The heads by rising depth. Ports `CycleHeads::iter`.
-    pub fn iter(&self) -> btree_map::Iter<'_, StackDepth, CycleHead>
-        ensures heads { result ≡ self.now }
+    /// The heads by rising depth. Stands for `CycleHeads::iter`.
+    pub fn as_slice(&self) -> &[(StackDepth, CycleHead)]
+        ensures heads { result.now ≡ self.now }
         ensures rising { IsRising self.now }
-        ensures fits { length self.now < 2 ^ 63 }
     {
-        self.heads.iter()
+        self.heads.as_slice()
     }
 }
 
@@ -241,7 +253,7 @@ mod tests {
         for depth in [4, 1, 9] {
             heads.insert(StackDepth::new(depth), PathsToNested::UNKNOWN, usages(1, 0))?;
         }
-        let mut depths = heads.iter().map(|(depth, _)| depth.index());
+        let mut depths = heads.as_slice().iter().map(|head| head.0.index());
         assert_eq!(rt; depths.next(), Some(1));
         assert_eq!(rt; depths.next(), Some(4));
         assert_eq!(rt; depths.next(), Some(9));

@@ -8,6 +8,7 @@
 //! | `HeadShapes` | the heads of an answer as the theory of open graphs sees them |
 #![tactic(auto)]
 
+mod by_depth;
 pub mod candidates;
 pub mod depth;
 pub mod heads;

@@ -48,7 +48,7 @@ pub fn extend_keeps_its_laws()
 
 /// The paths from a goal to one of its nested goals, told apart by their kinds. The bits are those
 /// of the flags; bits that no flag has come in by `from_bits_retain` alone. Ports `PathsToNested`.
-#[derive(Clone, Copy, Debug, PartialEq, Eq)]
+#[derive(Clone, Copy, Debug, Default, PartialEq, Eq)]
 pub struct PathsToNested(u8);
 
 impl PathsToNested {

@@ -1,12 +1,18 @@
-use Rattle.std.proofs.Common.{◌≡◌, ◌∙◌, ◌++◌, ◌∷◌, [], Some, sym, ap}
-use Rattle.cycle_heads.specs.Words.{highest}
-use Rattle.cycle_heads.proofs.HighestHeads.{highest-push, all_below}
+use Rattle.std.proofs.Common.{◌<◌, ◌++◌, subst, sym, ap, ◌∙◌, IfSome, All}
+use Rattle.std.specs.Option.{option_to_list}
+use Rattle.cycle_heads.specs.Words.{IsRising, highest}
+use Rattle.cycle_heads.proofs.HighestHeads.{before_last}
 use Rattle.cycle_heads.proofs.heads.CycleHeads.remove_highest_cycle_head.Goals as goal
+
+pub invariant_of-self : goal.invariant_of-self
+invariant_of-self c =
+    let left = c.pop.new.self.items in
+    let old = c.pop.ensures.items ∙ ap (λ top. left ++ option_to_list top) c.unwrap.ensures in
+    (before_last left c.unwrap.result (subst IsRising old c.self.invariant)).0
 
 pub returns-clause-below : goal.returns-clause-below
 returns-clause-below c =
-    let left = c.pop_last.new.self.entries in
-    let head = c.unwrap.result in
-    let old : c.args.self.now ≡ left ++ head ∷ [] = sym c.self.view_is ∙ (rw c.unwrap.ensures at c.pop_last.ensures.removal) in
-    let top : highest c.args.self.now ≡ Some head = ap highest old ∙ highest-push left head in
-    rw top (all_below left head.0 (rw c.unwrap.ensures at c.pop_last.ensures.all_below))
+    let left = c.pop.new.self.items in
+    let old = c.pop.ensures.items ∙ ap (λ top. left ++ option_to_list top) c.unwrap.ensures in
+    subst (λ heads. IfSome (highest heads) (λ e. All (λ d. d.0.0 < e.0.0) left)) (sym old ∙ c.self.view_is)
+    (before_last left c.unwrap.result (subst IsRising old c.self.invariant)).1
