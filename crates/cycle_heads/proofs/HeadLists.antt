@@ -1,5 +1,6 @@
 -- Lists of what is recorded by depth.
-use Rattle.std.proofs.Common.{◌≡◌, ◌≢◌, ℕ, zero, suc, ◌<◌, drop, true, false, List, [], ◌∷◌, Some, None, IsSome, cond, refl, ap, inl, inr, arith, lt-ltb, le-ltb, eq-eqb, ne_eqb}
+use Rattle.std.proofs.Common.{◌≡◌, ◌≢◌, ℕ, zero, suc, ◌+◌, ◌<◌, drop, get_or, length, subst, ◌∙◌, true, false, List, [], ◌∷◌, Some, None, IsSome, cond, refl, ap, inl, inr, arith, lt-ltb, le-ltb, eq-eqb, ne_eqb}
+use Rattle.std.proofs.Math.Seq.{drop-cons}
 use Rattle.std.proofs.lemmas.Bool.{cases_lt, cases_eq, false≢true}
 use Rattle.std.proofs.lemmas.Map.Keys.{sorted_head, sorted_tail}
 use Rattle.std.specs.List.{AllByRecursion}
@@ -8,7 +9,7 @@ use Rattle.std.specs.declared.cmp.Ordering.TheVariants.{Less}
 use Rattle.std.specs.Ordering.{is_eq, nat_cmp}
 use Rattle.std.specs.BTreeMap.{insert_entry, is_at}
 use Rattle.std.specs.Map.{keys_of, set_value}
-use Rattle.cycle_heads.specs.Words.{StackDepth, at_depth, depth_cmp, IsRising}
+use Rattle.cycle_heads.specs.Words.{StackDepth, CycleHead, HeadUsages, at_depth, depth_cmp, IsRising}
 
 tied : (a b : ℕ) → a ≡ b → is_eq (nat_cmp a b) ≡ true
 tied a b e = rw (le-ltb a b (omega arith), eq-eqb a b e) refl
@@ -43,6 +44,23 @@ pub rising_from : {A : Type 0} (entries : List (StackDepth × A)) (i : ℕ) → 
 rising_from entries zero rising = rising
 rising_from [] (suc i) rising = rising
 rising_from (e ∷ es) (suc i) rising = rising_from es i (rising_later e.0 e.1 es rising)
+
+-- at a place in a list, that entry is the first of those that are left
+pub next_entry : {A : Type 0} (entries : List (StackDepth × A)) (i : ℕ) (e : StackDepth × A) → i < length entries
+    → drop i entries ≡ ((get_or entries i e).0, (get_or entries i e).1) ∷ drop (i + 1) entries
+next_entry entries i e within =
+    subst (λ n. drop i entries ≡ ((get_or entries i e).0, (get_or entries i e).1) ∷ drop n entries) {x = suc i} (omega arith)
+    (drop-cons entries i e within ∙ ap (λ first. first ∷ drop (suc i) entries) (same_pair (get_or entries i e)))
+  where
+    same_pair : {A : Type 0} (e : StackDepth × A) → e ≡ (e.0, e.1)
+    same_pair (depth, value) = refl
+
+-- what a loop reads where there is no entry
+abbrev pub no_head : StackDepth × CycleHead
+no_head = (record { 0 = 0 }, record { paths_to_head = record { 0 = 0 }; usages = record { inductive = 0; unknown = 0; coinductive = 0; forced_ambiguity = 0 } })
+
+abbrev pub no_counts : StackDepth × HeadUsages
+no_counts = (record { 0 = 0 }, record { inductive = 0; unknown = 0; coinductive = 0; forced_ambiguity = 0 })
 
 -- the first of a list is found at its depth, and other depths are sought in the rest
 pub at_depth-first : {A : Type 0} (depth : StackDepth) (value : A) (rest : List (StackDepth × A))

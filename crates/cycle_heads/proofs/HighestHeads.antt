@@ -14,7 +14,7 @@ use Rattle.cycle_heads.specs.Words.{StackDepth, CycleHead, depth_cmp, highest, H
 use Rattle.cycle_heads.proofs.Places.{rising_at}
 
 -- a head at the end is the highest one
-highest-push : (heads : Heads) (head : StackDepth × CycleHead) → highest (heads ++ head ∷ []) ≡ Some head
+pub highest-push : (heads : Heads) (head : StackDepth × CycleHead) → highest (heads ++ head ∷ []) ≡ Some head
 highest-push heads head =
     let last : length (heads ++ head ∷ []) - 1 ≡ length heads = omega (arith, length_push heads head) in
     ap (slice_get (heads ++ head ∷ [])) last ∙ get_end heads head

@@ -1,10 +1,9 @@
 -- Usages are merged head by head, in whatever order.
-use Rattle.std.proofs.Common.{◌≡◌, ◌^◌, ◌+◌, ◌-◌, ◌<◌, ℕ, suc, arith, drop, get_or, length, min, ◌∷◌, Option, Some, None, refl, sym, ap, ◌∙◌, subst, inl, inr}
+use Rattle.std.proofs.Common.{◌≡◌, ◌^◌, ◌+◌, ◌-◌, ◌<◌, ℕ, drop, get_or, length, min, ◌∷◌, Option, Some, None, refl, sym, ap, ◌∙◌, subst, inl, inr}
 use Rattle.std.proofs.lemmas.Bool.{cases_eq}
 use Rattle.std.proofs.Math.Nat.{add_comm}
-use Rattle.std.proofs.Math.Seq.{drop-cons}
 use Rattle.cycle_heads.specs.Words.{StackDepth, HeadUsages, merged, sum_with, with_added, UsagesByHead, at_depth, IsRising, count_of, usages_by, with_usages}
-use Rattle.cycle_heads.proofs.HeadLists.{absent_later, rising_from, at_depth-first, at_depth-rest, at_depth-insert_same, at_depth-insert_other}
+use Rattle.cycle_heads.proofs.HeadLists.{absent_later, next_entry, rising_from, at_depth-first, at_depth-rest, at_depth-insert_same, at_depth-insert_other}
 
 with_usages-comm : (usages more : HeadUsages) → with_usages usages more ≡ with_usages more usages
 with_usages-comm usages more = λ i. usages_by (λ kind. min (add_comm (count_of usages kind) (count_of more kind) i) (2 ^ 32 - 1))
@@ -40,15 +39,12 @@ merged-added sums rest head usages rising depth = elim (cases_eq depth.0 head.0)
       ∙ ap (merged (at_depth sums depth)) (sym (at_depth-rest head depth usages rest other))
 ]
 
-merged-first : (sums rest : UsagesByHead) (e : StackDepth × HeadUsages) → IsRising (e ∷ rest) → (depth : StackDepth)
-    → merged (at_depth (with_added sums e.0 e.1) depth) (at_depth rest depth) ≡ merged (at_depth sums depth) (at_depth (e ∷ rest) depth)
-merged-first sums rest (head, usages) = merged-added sums rest head usages
-
 -- the same at a place in the list of what is added
 pub merged-next : (sums more : UsagesByHead) (i : ℕ) (e : StackDepth × HeadUsages) → IsRising more → i < length more → (depth : StackDepth)
     → let here = get_or more i e in merged (at_depth (with_added sums here.0 here.1) depth) (at_depth (drop (i + 1) more) depth)
     ≡ merged (at_depth sums depth) (at_depth (drop i more) depth)
 merged-next sums more i e rising within depth =
-    let rest : drop i more ≡ get_or more i e ∷ drop (i + 1) more = subst (λ n. drop i more ≡ get_or more i e ∷ drop n more) {x = suc i} (omega arith) (drop-cons more i e within) in
-    merged-first sums (drop (i + 1) more) (get_or more i e) (subst IsRising rest (rising_from more i rising)) depth
+    let rest = next_entry more i e within in
+    let here = get_or more i e in
+    merged-added sums (drop (i + 1) more) here.0 here.1 (subst IsRising rest (rising_from more i rising)) depth
     ∙ ap (λ left. merged (at_depth sums depth) (at_depth left depth)) (sym rest)

@@ -33,7 +33,7 @@ pub fn note_heads<X: Cx>(
 ) -> Result<(), NoMemory>
     ensures { OnOk result (TakesHeads parent step heads.now state.old state.new) }
 {
-    for (head, used) in heads.iter() {
+    for (head, used) in heads.as_slice() {
         note_head(state, parent, step, *head, *used)?;
     }
     Ok(())
@@ -73,7 +73,7 @@ pub fn ignore_usages<X: Cx>(
     requires { CanIgnore parent candidate.now state.old }
     ensures { Ignores parent candidate.now state.old state.new }
 {
-    for (head, usages) in candidate.iter() {
+    for (head, usages) in candidate.as_slice() {
         ignore_head(state, parent, *head, *usages);
     }
 }

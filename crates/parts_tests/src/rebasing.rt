@@ -102,7 +102,7 @@ fn left(cache: &ProvisionalCache<LoopsDelegate>) -> Result<Option<LeftAnswer>, F
     let Some(entry) = entries.next() else {
         return Ok(None);
     };
-    let mut heads = entry.heads.iter();
+    let mut heads = entry.heads.as_slice().iter();
     let (depth, head) = heads.next().ok_or("an answer without heads")?;
     if heads.next().is_some() || entries.next().is_some() {
         return Err("another head, or another answer")?;

@@ -120,7 +120,7 @@ fn a_refused_head_changes_nothing(rt: HostRuntime) -> Result<(), Fail> {
         let head = StackDepth::new(number);
         let paths = PathsToNested::COINDUCTIVE;
         if heads.insert(head, paths, usages).is_err() {
-            assert_eq!(rt; heads.iter().count(), number);
+            assert_eq!(rt; heads.as_slice().len(), number);
             heads.insert(head, paths, usages)?;
         }
         assert!(rt; heads.insert(head, PathsToNested::INDUCTIVE, usages).is_ok());

@@ -19,7 +19,7 @@ pub(super) fn keeps_kinds<X: Cx>(
     requires { All (λ head. head.0.0 < length stack.now) done.now.state.heads }
     ensures { result ≡ keeps_kinds stack.now done.now to_entry to_done }
 {
-    for (depth, head) in done.state.heads.iter() {
+    for (depth, head) in done.state.heads.as_slice() {
         let from_head = stack.path_kind(done.step_kind_from_parent(), *depth);
         if !keeps_kinds_from(from_head, to_entry, to_done, head.paths_to_head) {
             return false;

@@ -224,7 +224,7 @@ fn rebase_used<X: Cx>(
 fn insert_unused(heads: &mut CycleHeads, done: &CycleHeads) -> Result<(), NoMemory>
     ensures { OnOk result (heads.new ≡ with_unused done.now heads.old) }
 {
-    for (depth, _) in done.iter() {
+    for (depth, _) in done.as_slice() {
         heads.insert(*depth, PathsToNested::EMPTY, HeadUsages::default())?;
     }
     Ok(())
@@ -238,7 +238,7 @@ fn insert_used(
 ) -> Result<(), NoMemory>
     ensures { OnOk result (heads.new ≡ with_used done.now to_done heads.old) }
 {
-    for (depth, head) in done.iter() {
+    for (depth, head) in done.as_slice() {
         let paths = to_done.extend_with_paths(head.paths_to_head);
         heads.insert(*depth, paths, head.usages)?;
     }

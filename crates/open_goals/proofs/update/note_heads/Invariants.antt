@@ -1,5 +1,5 @@
-use Rattle.std.proofs.Common.{◌≡◌, ◌||◌}
-use Rattle.open_goals.specs.Below.{StackDepth, at_depth, IsRising}
+use Rattle.std.proofs.Common.{◌≡◌, ◌||◌, drop}
+use Rattle.open_goals.specs.Below.{StackDepth, at_depth}
 use Rattle.open_goals.specs.Words.{some_heads, usages_over, is_in_cycle}
 use Rattle.open_goals.proofs.TakenHeads.{counted_over, head_over}
 use Rattle.open_goals.proofs.update.note_heads.Given as goal
@@ -8,8 +8,7 @@ use Rattle.open_goals.proofs.update.note_heads.Given as goal
 abbrev pub invariant-loop-head : goal.invariant-loop-head
 invariant-loop-head g l =
     (l.state ≡ record l.initial.state { heads = l.state.heads; usages = l.state.usages; candidate_usages = l.state.candidate_usages })
-    × (usages_over l.state.usages (at_depth l.head-iterator l.parent) ≡ usages_over l.initial.state.usages (at_depth l.initial.head-iterator l.parent))
-    × ((depth : StackDepth) → head_over l.parent l.step depth (at_depth l.state.heads depth) (at_depth l.head-iterator depth) ≡ head_over l.parent l.step depth (at_depth l.initial.state.heads depth) (at_depth l.initial.head-iterator depth))
-    × ((depth : StackDepth) → counted_over depth l.state.candidate_usages (at_depth l.head-iterator depth) ≡ counted_over depth l.initial.state.candidate_usages (at_depth l.initial.head-iterator depth))
-    × ((is_in_cycle l.state || some_heads l.head-iterator) ≡ (is_in_cycle l.initial.state || some_heads l.initial.head-iterator))
-    × IsRising l.head-iterator
+    × (usages_over l.state.usages (at_depth (drop l.head-index l.head-items) l.parent) ≡ usages_over l.initial.state.usages (at_depth l.head-items l.parent))
+    × ((depth : StackDepth) → head_over l.parent l.step depth (at_depth l.state.heads depth) (at_depth (drop l.head-index l.head-items) depth) ≡ head_over l.parent l.step depth (at_depth l.initial.state.heads depth) (at_depth l.head-items depth))
+    × ((depth : StackDepth) → counted_over depth l.state.candidate_usages (at_depth (drop l.head-index l.head-items) depth) ≡ counted_over depth l.initial.state.candidate_usages (at_depth l.head-items depth))
+    × ((is_in_cycle l.state || some_heads (drop l.head-index l.head-items)) ≡ (is_in_cycle l.initial.state || some_heads l.head-items))

@@ -1,20 +1,24 @@
-use Rattle.std.proofs.Common.{rules, ◌≡◌, ap, sym, ◌∙◌}
-use Rattle.std.proofs.lemmas.Map.Iter.{rest_more, rest_all}
-use Rattle.std.specs.Map.Iter.{deref_pair}
+use Rattle.std.proofs.Common.{rules, ◌≡◌, ◌+◌, drop, get_or, ap, sym, ◌∙◌, arith}
+use Rattle.std.proofs.Math.ListN.{drop_of_length-le}
 use Rattle.provisional_cache.specs.Below.{with_head, path_of_no_step, no_usages}
 use Rattle.provisional_cache.specs.Words.{with_unused}
 use Rattle.cycle_heads.proofs.Counts.{none_by_counts}
+use Rattle.cycle_heads.proofs.HeadLists.{next_entry, no_head}
 use Rattle.provisional_cache.proofs.rebasing.insert_unused.Goals as goal
 
 pub loop-depth-preserved : goal.loop-depth-preserved
 loop-depth-preserved c =
-    let more = rest_more deref_pair c.loop-depth.depth-iterator c.next.new.self c.next.result _ c.in-Some.is c.next.ensures.steps in
+    let items = c.as_slice-depth-items.result.now in
+    let index = c.loop-depth.depth-index in
     let none : c.default.result ≡ no_usages = none_by_counts c.default.result (search rules) (search rules) (search rules) (search rules) in
-    let inserted : c.insert.new.self ≡ with_head c.loop-depth.heads c.in-Some.depth.now path_of_no_step no_usages = rw (← none) c.in_ok-insert.ensures.ok in
-    ap (with_unused c.next.new.self) inserted ∙ ap (λ rest. with_unused rest c.loop-depth.heads) (sym more) ∙ c.loop-depth.invariant
+    let inserted = c.in_ok-insert.ensures.ok ∙ ap (with_head c.loop-depth.heads (get_or items index no_head).0 path_of_no_step) none in
+    ap (with_unused (drop (index + 1) items)) inserted
+    ∙ ap (λ rest. with_unused rest c.loop-depth.heads) (sym (next_entry items index no_head c.loop-depth-test.true))
+    ∙ c.loop-depth.invariant
 
 pub returns : goal.returns
 returns c =
-    let none = rest_all deref_pair c.loop-depth.depth-iterator c.next.new.self c.next.result c.in-None.is c.next.ensures.steps in
-    let all : c.into_iter-depth-iterator.result ≡ c.args.done.now = c.into_iter-depth-iterator.ensures.into_iter_gives ∙ c.iter-depth-items.ensures.heads in
-    ap (λ rest. with_unused rest c.loop-depth.heads) (sym none) ∙ c.loop-depth.invariant ∙ ap (λ rest. with_unused rest c.args.heads.now) all
+    let none = drop_of_length-le c.as_slice-depth-items.result.now {i = c.loop-depth.depth-index} (omega (arith, c.loop-depth-test.false)) in
+    ap (λ rest. with_unused rest c.loop-depth.heads) (sym none)
+    ∙ c.loop-depth.invariant
+    ∙ ap (λ rest. with_unused rest c.args.heads.now) c.as_slice-depth-items.ensures.heads

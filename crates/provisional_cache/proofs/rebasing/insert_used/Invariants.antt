@@ -1,7 +1,7 @@
-use Rattle.std.proofs.Common.{◌≡◌}
+use Rattle.std.proofs.Common.{◌≡◌, drop}
 use Rattle.provisional_cache.specs.Words.{with_used}
 use Rattle.provisional_cache.proofs.rebasing.insert_used.Given as goal
 
 -- with the heads that are left these are as many as in the end
 abbrev pub invariant-loop-depth : goal.invariant-loop-depth
-invariant-loop-depth l = with_used l.depth-iterator l.to_done l.heads ≡ with_used l.initial.depth-iterator l.to_done l.initial.heads
+invariant-loop-depth l = with_used (drop l.depth-index l.depth-items) l.to_done l.heads ≡ with_used l.depth-items l.to_done l.initial.heads
