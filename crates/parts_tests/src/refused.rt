@@ -152,7 +152,7 @@ fn refused_usages_change_nothing(rt: HostRuntime) -> Result<(), Fail> {
     for number in 0..HEADS {
         let head = StackDepth::new(number);
         if noted.note_usages(head, once()).is_err() {
-            assert_eq!(rt; noted.iter().count(), number);
+            assert_eq!(rt; noted.as_slice().len(), number);
             assert_eq!(rt; noted.get(head), None);
             noted.note_usages(head, once())?;
         }
@@ -169,14 +169,14 @@ fn refused_candidates_change_nothing(rt: HostRuntime) -> Result<(), Fail> {
     let first = candidate(rt.alloc(), 1, HEADS)?;
     let again = candidate(rt.alloc(), 1, HEADS)?;
     if merged.merge_usages(first).is_err() {
-        assert_eq!(rt; merged.iter().count(), half);
-        for (_, usages) in merged.iter() {
+        assert_eq!(rt; merged.as_slice().len(), half);
+        for (_, usages) in merged.as_slice() {
             assert_eq!(rt; usages.coinductive, 1);
         }
         merged.merge_usages(again)?;
     }
-    assert_eq!(rt; merged.iter().count(), HEADS);
-    for (head, usages) in merged.iter() {
+    assert_eq!(rt; merged.as_slice().len(), HEADS);
+    for (head, usages) in merged.as_slice() {
         let count = if head.index() > 0 && head.index() < half {
             2
         } else {
