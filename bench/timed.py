@@ -1,4 +1,5 @@
 """Runs a program on a file, and says what processor time and memory it took."""
+import contextlib
 import ctypes
 import os
 import signal
@@ -28,6 +29,11 @@ def adopt_orphans():
         sys.exit(f"what a shell starts cannot be adopted: {os.strerror(ctypes.get_errno())}")
 
 
+def end_by_exit():
+    """A request to end raises an exception from here on, so that what is running is ended, too."""
+    signal.signal(signal.SIGTERM, lambda *_: sys.exit(128 + signal.SIGTERM))
+
+
 def start(program, given, out, stack):
     """Starts the program within a native stack of that many KiB, and returns its process number."""
     words = ["sh", "-c", LAUNCH, program, given, out, str(stack)]
@@ -43,14 +49,21 @@ def run_once(program, given, out, stack, most):
     process = start(program, given, out, stack)
     is_late = threading.Event()
 
+    def kill():
+        with contextlib.suppress(ProcessLookupError):
+            os.kill(process, signal.SIGKILL)
+
     def end():
         is_late.set()
-        os.kill(process, signal.SIGKILL)
+        kill()
 
     timer = threading.Timer(most, end)
     timer.start()
     try:
         _, status, usage = os.wait4(process, 0)
+    except BaseException:
+        kill()
+        raise
     finally:
         timer.cancel()
     ended = None if is_late.is_set() else os.waitstatus_to_exitcode(status)
