@@ -1,0 +1,125 @@
+//! Texts drawn at random.
+
+use crate::searched::agreed;
+use rand_core::utils::NextWord;
+use rand_pcg::Pcg32;
+use std::alloc::Global;
+use std::io::Write;
+use std::process::Abort;
+use std::test::Fail;
+use type_texts::{ReadFault, TypeTable};
+
+/// Numbers that look random, the same ones for each seed.
+#[derive(Drop)]
+struct Chance {
+    words: Pcg32,
+}
+
+impl Chance {
+    /// A number below this one; 0 below 0.
+    fn below(&mut self, end: usize) -> usize {
+        let word = self.words.next_word() as usize;
+        word.checked_rem(end).unwrap_or(0)
+    }
+}
+
+/// A text of so many types, `t0` and so on.
+fn random_text(alloc: Global, chance: &mut Chance, size: usize) -> Result<Vec<u8>, Fail> {
+    let mut text = Vec::new(alloc);
+    for number in 0..size {
+        write!(text, "type t{number} =")?;
+        write_side(&mut text, chance, size)?;
+        text.push(b'\n')?;
+    }
+    Ok(text)
+}
+
+/// A right side with parts of these types.
+fn write_side(text: &mut Vec<u8>, chance: &mut Chance, size: usize) -> Result<(), Fail> {
+    let first = chance.below(size);
+    let second = chance.below(size);
+    match chance.below(10) {
+        0 => write!(text, " base x")?,
+        1 => write!(text, " base y")?,
+        2 => write!(text, " top")?,
+        3 => write!(text, " bottom")?,
+        4 | 5 => write!(text, " t{first} -> t{second}")?,
+        6 | 7 => write_record(text, chance, size)?,
+        8 => write!(text, " t{first} | t{second}")?,
+        _ => {
+            let third = chance.below(size);
+            write!(text, " t{first} | t{second} | t{third}")?;
+        }
+    }
+    Ok(())
+}
+
+/// A record with some of three fields.
+fn write_record(text: &mut Vec<u8>, chance: &mut Chance, size: usize) -> Result<(), Fail> {
+    write!(text, " {{")?;
+    for field in ["x", "y", "z"] {
+        if chance.below(3) > 0 {
+            let part = chance.below(size);
+            write!(text, " {field}: t{part}")?;
+        }
+    }
+    write!(text, " }}")?;
+    Ok(())
+}
+
+/// What texts came to.
+#[derive(Clone, Copy, Debug, Default)]
+struct Tally {
+    answered: usize,
+    /// How many pairs were below.
+    below: usize,
+}
+
+/// Compares the search with the plain fixpoint on so many texts of so many types. A text with a union of itself is read as
+/// such, and not answered. Each type is below itself, and not all are below each other.
+fn expect_texts(
+    rt: &(impl Abort + AllocGlobal),
+    seed: u64,
+    texts: usize,
+    size: usize,
+) -> Result<(), Fail> {
+    let mut chance = Chance {
+        words: Pcg32::new(seed, 1),
+    };
+    let mut tally = Tally::default();
+    for _ in 0..texts {
+        let text = random_text(rt.alloc(), &mut chance, size)?;
+        match TypeTable::read(rt.alloc(), text.as_slice()) {
+            Ok(table) => {
+                let pairs = agreed(rt.alloc(), table.types(), size)?;
+                assert!(rt; (0..size).all(|number| pairs.has(number, number)));
+                tally.answered = tally.answered.saturating_add(1);
+                tally.below = tally.below.saturating_add(pairs.count());
+            }
+            Err(ReadFault::Unguarded(_)) => {}
+            Err(fault) => return Err(fault)?,
+        }
+    }
+    let own = tally.answered.saturating_mul(size);
+    assert!(rt; tally.answered > texts / 2, "{tally:?}");
+    assert!(rt;
+        tally.below > own && tally.below < own.saturating_mul(size),
+        "{tally:?}"
+    );
+    Ok(())
+}
+
+#[test]
+fn texts_of_three_types_are_answered_plainly(rt: HostRuntime) -> Result<(), Fail> {
+    expect_texts(&rt, 3, 1000, 3)
+}
+
+#[test]
+fn texts_of_five_types_are_answered_plainly(rt: HostRuntime) -> Result<(), Fail> {
+    expect_texts(&rt, 5, 600, 5)
+}
+
+#[test]
+fn texts_of_eight_types_are_answered_plainly(rt: HostRuntime) -> Result<(), Fail> {
+    expect_texts(&rt, 8, 400, 8)
+}

@@ -1,0 +1,96 @@
+//! All texts of two types with small right sides.
+
+use crate::searched::pairs_of_text;
+use std::alloc::Global;
+use std::io::Write;
+use std::test::Fail;
+use type_texts::{ReadFault, TypeTable};
+
+/// The small right sides over two types.
+const SIDES: [&str; 35] = [
+    "base x",
+    "base y",
+    "top",
+    "bottom",
+    "A -> A",
+    "A -> B",
+    "B -> A",
+    "B -> B",
+    "{ }",
+    "{ x: A }",
+    "{ x: B }",
+    "{ y: A }",
+    "{ y: B }",
+    "{ z: B }",
+    "{ x: A y: A }",
+    "{ x: A y: B }",
+    "{ x: B y: A }",
+    "{ x: B y: B }",
+    "{ y: A x: A }",
+    "{ y: A x: B }",
+    "{ y: B x: A }",
+    "{ y: B x: B }",
+    "{ x: A z: B }",
+    "A | A",
+    "A | B",
+    "B | A",
+    "B | B",
+    "A | A | A",
+    "A | A | B",
+    "A | B | A",
+    "A | B | B",
+    "B | A | A",
+    "B | A | B",
+    "B | B | A",
+    "B | B | B",
+];
+
+/// What the texts with one first type came to.
+#[derive(Clone, Copy, Debug, Default)]
+struct Tally {
+    answered: u32,
+    // How many pairs were below.
+    below: usize,
+    // How many texts have a union of itself.
+    unguarded: u32,
+}
+
+#[test]
+fn all_small_texts_are_answered_plainly(rt: HostRuntime) -> Result<(), Fail> {
+    let mut tally = Tally::default();
+    for first in SIDES {
+        for second in SIDES {
+            try_text(rt.alloc(), first, second, &mut tally)?;
+        }
+    }
+    // ten right sides of A are unions with A, ten of B such with B, and twice two are unions of the other one alone
+    assert_eq!(rt; tally.unguarded, 35 * 10 + 25 * 10 + 2 * 2);
+    assert_eq!(rt; tally.answered, 35 * 35 - 604);
+    assert!(rt; tally.below > 2 * 621 && tally.below < 4 * 621, "{tally:?}");
+    Ok(())
+}
+
+fn try_text(alloc: Global, first: &str, second: &str, tally: &mut Tally) -> Result<(), Fail> {
+    let mut text = Vec::new(alloc);
+    write!(text, "type A = {first}\ntype B = {second}\n")?;
+    let leads_back = names_within(first, "A")
+        || names_within(second, "B")
+        || names_within(first, "B") && names_within(second, "A");
+    match TypeTable::read(alloc, text.as_slice()) {
+        Err(ReadFault::Unguarded(_)) if leads_back => {
+            tally.unguarded = tally.unguarded.saturating_add(1);
+        }
+        Ok(_) if !leads_back => {
+            let below = pairs_of_text(alloc, text.as_slice())?.count();
+            tally.below = tally.below.saturating_add(below);
+            tally.answered = tally.answered.saturating_add(1);
+        }
+        _ => return Err("read otherwise")?,
+    }
+    Ok(())
+}
+
+/// Whether the right side is a union with an alternative of this name.
+fn names_within(side: &str, name: &str) -> bool {
+    side.contains('|') && side.contains(name)
+}
