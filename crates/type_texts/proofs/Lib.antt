@@ -5,3 +5,4 @@ pub mod Declared
 pub mod Adding
 pub mod Lines
 pub mod Spelling
+pub mod Refusing

@@ -3,15 +3,15 @@ use Rattle.std.specs.Prelude.{ℕ, List}
 use Rattle.type_texts.specs.declared.reading.ReadFault.{ReadFault}
 use Rattle.type_texts.specs.declared.reading.ReadFault.TheVariants.{BadLine, Memory, Twice, Undeclared, Unguarded}
 use Rattle.type_texts.specs.Grammar.{Statement}
-use Rattle.type_texts.specs.Text.{DeclaresAgain, NamesUndeclared}
+use Rattle.type_texts.specs.Text.{DeclaresAgain, IsFirstBadLine, NamesUndeclared}
 
 -- a line is malformed, or memory is out
-abbrev pub IsOfLines : ReadFault → Type 0
-IsOfLines (BadLine n) = Unit {0}
-IsOfLines (Twice n) = ⊥
-IsOfLines (Undeclared n) = ⊥
-IsOfLines (Unguarded n) = ⊥
-IsOfLines Memory = Unit {0}
+abbrev pub IsOfLines : List ℕ → ReadFault → Type 0
+IsOfLines text (BadLine n) = IsFirstBadLine text n
+IsOfLines text (Twice n) = ⊥
+IsOfLines text (Undeclared n) = ⊥
+IsOfLines text (Unguarded n) = ⊥
+IsOfLines text Memory = Unit {0}
 
 -- a name is declared twice, or memory is out
 abbrev pub IsOfNames : List Statement → ReadFault → Type 0

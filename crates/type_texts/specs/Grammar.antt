@@ -87,3 +87,15 @@ Say words (Ask left right) = IsAsk words left right
 -- the line says the statement
 abbrev pub Says : List ℕ → Statement → Type 0
 Says line = Say (words_of line)
+
+-- the words are none of a right side
+abbrev pub SpellNothing : List (List ℕ) → Type 0
+SpellNothing words = (meaning : Meaning) → Spell words meaning → ⊥
+
+-- the words are none of a line
+abbrev pub SayNothing : List (List ℕ) → Type 0
+SayNothing words = (statement : Statement) → Say words statement → ⊥
+
+-- the line says nothing that the grammar allows
+abbrev pub IsMalformed : List ℕ → Type 0
+IsMalformed line = SayNothing (words_of line)

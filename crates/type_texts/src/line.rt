@@ -1,6 +1,6 @@
 //! What a line says.
 ghost use Rattle.std.specs.Prelude.{◌≡◌, ◌∷◌, IfOk, codes};
-ghost use Rattle.type_texts.specs.Words.{Say, Says, statement_of, words_left};
+ghost use Rattle.type_texts.specs.Words.{IsMalformed, Say, SayNothing, Says, statement_of, words_left};
 
 use crate::written::{Written, written_of};
 use line_texts::{Words, is_name};
@@ -63,7 +63,8 @@ impl<T: Drop> From<AllocFailed<T>> for LineFault {
 
 /// Reads a line.
 pub(crate) fn line_of<'a>(alloc: Global, line: &'a [u8]) -> Result<Line<'a>, LineFault>
-    ensures { IfOk result (λ said. Says line.now (statement_of said)) }
+    ensures said { IfOk result (λ said. Says line.now (statement_of said)) }
+    ensures malformed { result ≡ Err LineFault.Malformed → IsMalformed line.now }
 {
     let mut words = Words::new(line);
     match words.next() {
@@ -77,7 +78,8 @@ pub(crate) fn line_of<'a>(alloc: Global, line: &'a [u8]) -> Result<Line<'a>, Lin
 
 // The words after `type`.
 fn type_of<'a>(alloc: Global, mut words: Words<'a>) -> Result<Line<'a>, LineFault>
-    ensures { IfOk result (λ said. Say (codes "type" ∷ words_left words.entry) (statement_of said)) }
+    ensures said { IfOk result (λ said. Say (codes "type" ∷ words_left words.entry) (statement_of said)) }
+    ensures malformed { result ≡ Err LineFault.Malformed → SayNothing (codes "type" ∷ words_left words.entry) }
 {
     let name = words.next().ok_or(LineFault::Malformed)?;
     let Some(b"=") = words.next() else {
@@ -92,7 +94,8 @@ fn type_of<'a>(alloc: Global, mut words: Words<'a>) -> Result<Line<'a>, LineFaul
 
 // The words after `ask`.
 fn ask_of<'a>(mut words: Words<'a>) -> Result<Line<'a>, LineFault>
-    ensures { IfOk result (λ said. Say (codes "ask" ∷ words_left words.entry) (statement_of said)) }
+    ensures said { IfOk result (λ said. Say (codes "ask" ∷ words_left words.entry) (statement_of said)) }
+    ensures malformed { result ≡ Err LineFault.Malformed → SayNothing (codes "ask" ∷ words_left words.entry) }
 {
     let left = words.next().ok_or(LineFault::Malformed)?;
     let Some(b"<") = words.next() else {

@@ -2,7 +2,7 @@
 ghost use Rattle.std.specs.Prelude.{◌≡◌, ℕ, IfOk, IfErr, map};
 ghost use Rattle.std.specs.List.{AllZip};
 ghost use Rattle.std.specs.Option.{option_copied};
-ghost use Rattle.type_texts.specs.Words.{AreDistinct, declared_by, IsDeclaredTwice, IsTableOf, IsUndeclared, IsUnguarded, lines_of, name_in, names_of, Reads, Says, statement_of};
+ghost use Rattle.type_texts.specs.Words.{AreDistinct, declared_by, IsDeclaredTwice, IsFirstBadLine, IsTableOf, IsUndeclared, IsUnguarded, lines_of, name_in, names_of, Reads, Says, statement_of};
 ghost use Rattle.type_texts.specs.Faults.{IsOfLines, IsOfNames, IsOfTable};
 
 use crate::entering::EntryFault;
@@ -83,6 +83,7 @@ impl TypeTable {
     /// `Memory` where memory runs out before.
     pub fn read(alloc: Global, text: &[u8]) -> Result<TypeTable, ReadFault>
         ensures read { IfOk result (Reads text.now) }
+        ensures bad_line { (n : ℕ) → result ≡ Err (ReadFault.BadLine n) → IsFirstBadLine text.now n }
         ensures twice { (n : ℕ) → result ≡ Err (ReadFault.Twice n) → IsDeclaredTwice text.now n }
         ensures undeclared { (n : ℕ) → result ≡ Err (ReadFault.Undeclared n) → IsUndeclared text.now n }
         ensures unguarded { (n : ℕ) → result ≡ Err (ReadFault.Unguarded n) → IsUnguarded text.now }
@@ -100,7 +101,7 @@ impl TypeTable {
 // What the lines say.
 fn lines_in<'a>(alloc: Global, text: &'a [u8]) -> Result<Vec<Line<'a>>, ReadFault>
     ensures lines { IfOk result (λ lines. AllZip Says (lines_of text.now) (map statement_of lines.items)) }
-    ensures fault { IfErr result (λ fault. IsOfLines fault) }
+    ensures fault { IfErr result (λ fault. IsOfLines text.now fault) }
 {
     let mut lines = Vec::new(alloc);
     for (before, line) in text.split(|byte| *byte == b'\n').enumerate() {

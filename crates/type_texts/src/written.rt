@@ -1,6 +1,6 @@
 //! The right side of a declaration.
-ghost use Rattle.std.specs.Prelude.{◌≡◌, ◌∷◌, [], IfOk, codes, map};
-ghost use Rattle.type_texts.specs.Words.{AreAlternatives, AreFields, meaning_of, named, Spell, words_left};
+ghost use Rattle.std.specs.Prelude.{◌≡◌, ◌≢◌, ◌∷◌, [], IfOk, codes, map};
+ghost use Rattle.type_texts.specs.Words.{AreAlternatives, AreFields, meaning_of, named, Spell, SpellNothing, words_left};
 
 mod alternatives;
 mod fields;
@@ -31,13 +31,25 @@ pub(crate) struct WrittenField<'a> {
 
 /// The words after `=`.
 pub(crate) fn written_of<'a>(alloc: Global, mut words: Words<'a>) -> Result<Written<'a>, LineFault>
-    ensures { IfOk result (λ written. Spell (words_left words.entry) (meaning_of written)) }
+    ensures spelled { IfOk result (λ written. Spell (words_left words.entry) (meaning_of written)) }
+    ensures malformed { result ≡ Err LineFault.Malformed → SpellNothing (words_left words.entry) }
 {
     match words.next() {
         None => Err(LineFault::Malformed),
-        Some(b"{") => Ok(Written::Record(fields_of(alloc, words)?)),
+        Some(b"{") => record_of(alloc, words),
         Some(first) => written_from(alloc, first, words),
     }
+}
+
+// The words after the opening brace.
+fn record_of<'a>(alloc: Global, words: Words<'a>) -> Result<Written<'a>, LineFault>
+    ensures spelled { IfOk result (λ written.
+        Spell (codes "{" ∷ words_left words.entry) (meaning_of written)) }
+    ensures malformed { result ≡ Err LineFault.Malformed →
+        SpellNothing (codes "{" ∷ words_left words.entry) }
+{
+    let fields = fields_of(alloc, words)?;
+    Ok(Written::Record(fields))
 }
 
 // The first word, which opens no record, and those after it.
@@ -46,8 +58,11 @@ fn written_from<'a>(
     first: &'a [u8],
     mut words: Words<'a>,
 ) -> Result<Written<'a>, LineFault>
-    ensures { IfOk result (λ written.
+    requires opens_none { first.now ≢ codes "{" }
+    ensures spelled { IfOk result (λ written.
         Spell (first.now ∷ words_left words.entry) (meaning_of written)) }
+    ensures malformed { result ≡ Err LineFault.Malformed →
+        SpellNothing (first.now ∷ words_left words.entry) }
 {
     match words.next() {
         None => bound_of(first),
@@ -59,7 +74,8 @@ fn written_from<'a>(
 
 // `top` or `bottom`, which stand alone.
 fn bound_of<'a>(word: &'a [u8]) -> Result<Written<'a>, LineFault>
-    ensures { IfOk result (λ written. Spell (word.now ∷ []) (meaning_of written)) }
+    ensures spelled { IfOk result (λ written. Spell (word.now ∷ []) (meaning_of written)) }
+    ensures malformed { result ≡ Err LineFault.Malformed → SpellNothing (word.now ∷ []) }
 {
     if word == b"top".as_slice() {
         Ok(Written::Top)
@@ -72,8 +88,11 @@ fn bound_of<'a>(word: &'a [u8]) -> Result<Written<'a>, LineFault>
 
 // The argument, and the words after the arrow.
 fn function_of<'a>(argument: &'a [u8], mut words: Words<'a>) -> Result<Written<'a>, LineFault>
-    ensures { IfOk result (λ written.
+    requires opens_none { argument.now ≢ codes "{" }
+    ensures spelled { IfOk result (λ written.
         Spell (argument.now ∷ codes "->" ∷ words_left words.entry) (meaning_of written)) }
+    ensures malformed { result ≡ Err LineFault.Malformed →
+        SpellNothing (argument.now ∷ codes "->" ∷ words_left words.entry) }
 {
     let result = words.next().ok_or(LineFault::Malformed)?;
     if is_name(argument) && is_name(result) && words.next().is_none() {
@@ -89,11 +108,17 @@ fn base_of<'a>(
     word: &'a [u8],
     mut words: Words<'a>,
 ) -> Result<Written<'a>, LineFault>
-    ensures { IfOk result (λ written.
+    requires opens_none { first.now ≢ codes "{" }
+    requires no_arrow { word.now ≢ codes "->" }
+    requires no_bar { word.now ≢ codes "|" }
+    ensures spelled { IfOk result (λ written.
         Spell (first.now ∷ word.now ∷ words_left words.entry) (meaning_of written)) }
+    ensures malformed { result ≡ Err LineFault.Malformed →
+        SpellNothing (first.now ∷ word.now ∷ words_left words.entry) }
 {
-    match first {
-        b"base" if is_name(word) && words.next().is_none() => Ok(Written::Base(word)),
-        _ => Err(LineFault::Malformed),
+    if first == b"base".as_slice() && is_name(word) && words.next().is_none() {
+        Ok(Written::Base(word))
+    } else {
+        Err(LineFault::Malformed)
     }
 }

@@ -1,5 +1,5 @@
 //! The alternatives of a union.
-ghost use Rattle.std.specs.Prelude.{◌≡◌, ◌∷◌, IfOk, IsTrue, codes, map};
+ghost use Rattle.std.specs.Prelude.{◌≡◌, ◌∷◌, ◌↔◌, ℕ, IfOk, IsTrue, List, codes, map};
 ghost use Rattle.type_texts.specs.Words.{AreAlternatives, words_left};
 
 use crate::line::LineFault;
@@ -12,8 +12,10 @@ pub(super) fn alternatives_of<'a>(
     first: &'a [u8],
     words: Words<'a>,
 ) -> Result<Vec<&'a [u8]>, LineFault>
-    ensures { IfOk result (λ names. AreAlternatives (first.now ∷ codes "|" ∷ words_left words.entry)
+    ensures spelled { IfOk result (λ names. AreAlternatives (first.now ∷ codes "|" ∷ words_left words.entry)
         (map (λ name. name.now) names.items)) }
+    ensures malformed { result ≡ Err LineFault.Malformed → (names : List (List ℕ)) →
+        AreAlternatives (first.now ∷ codes "|" ∷ words_left words.entry) names → ⊥ }
 {
     if !is_name(first) {
         return Err(LineFault::Malformed);
@@ -40,7 +42,7 @@ pub(super) fn alternatives_of<'a>(
 }
 
 fn is_bar(word: &[u8]) -> bool
-    ensures { IsTrue result → word.now ≡ codes "|" }
+    ensures { IsTrue result ↔ word.now ≡ codes "|" }
 {
     word == b"|".as_slice()
 }

@@ -1,8 +1,8 @@
 //! The fields of a record.
-ghost use Rattle.std.specs.Prelude.{◌≡◌, ◌++◌, false, IfOk, IsTrue, codes, map};
+ghost use Rattle.std.specs.Prelude.{◌≡◌, ◌++◌, ◌↔◌, ℕ, false, true, IfErr, IfOk, IsTrue, List, codes, map};
 ghost use Rattle.std.specs.List.{list_any};
 ghost use Rattle.std.specs.Str.{bytes_eq};
-ghost use Rattle.type_texts.specs.Words.{AreFields, IsName, named, words_left};
+ghost use Rattle.type_texts.specs.Words.{AreFields, IsName, named, NamedField, words_left};
 
 use crate::line::LineFault;
 use crate::written::WrittenField;
@@ -14,7 +14,9 @@ pub(super) fn fields_of<'a>(
     alloc: Global,
     words: Words<'a>,
 ) -> Result<Vec<WrittenField<'a>>, LineFault>
-    ensures { IfOk result (λ fields. AreFields (words_left words.entry) (map named fields.items)) }
+    ensures spelled { IfOk result (λ fields. AreFields (words_left words.entry) (map named fields.items)) }
+    ensures malformed { result ≡ Err LineFault.Malformed → (fields : List NamedField) →
+        AreFields (words_left words.entry) fields → ⊥ }
 {
     let mut fields = Vec::new(alloc);
     // The field whose type is next.
@@ -41,7 +43,7 @@ pub(super) fn fields_of<'a>(
 }
 
 fn is_brace(word: &[u8]) -> bool
-    ensures { IsTrue result → word.now ≡ codes "}" }
+    ensures { IsTrue result ↔ word.now ≡ codes "}" }
 {
     word == b"}".as_slice()
 }
@@ -50,6 +52,7 @@ fn is_brace(word: &[u8]) -> bool
 fn field_of<'a>(name: &'a [u8], word: &'a [u8]) -> Result<WrittenField<'a>, LineFault>
     ensures same { IfOk result (λ field. named field ≡ record { name = name.now; part = word.now }) }
     ensures is_name { IfOk result (λ field. IsName word.now) }
+    ensures malformed { IfErr result (λ fault. IsName word.now → ⊥) }
 {
     if is_name(word) {
         Ok(WrittenField { name, part: word })
@@ -64,6 +67,8 @@ fn field_name<'a>(fields: &[WrittenField<'a>], word: &'a [u8]) -> Result<&'a [u8
     ensures is_name { IfOk result (λ name. IsName name.now) }
     ensures is_new { IfOk result (λ name.
         list_any (λ field. bytes_eq field.name.now name.now) fields.now ≡ false) }
+    ensures malformed { IfErr result (λ fault. (name : List ℕ) → word.now ≡ name ++ codes ":" → IsName name →
+        list_any (λ field. bytes_eq field.name.now name) fields.now ≡ true) }
 {
     match word {
         [name @ .., b':'] if is_name(name) && !has_field(fields, name) => Ok(name),

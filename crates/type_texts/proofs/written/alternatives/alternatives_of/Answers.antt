@@ -1,7 +1,8 @@
-use Rattle.std.proofs.Common.{◌≡◌, ◌∷◌, true, map, not, sym, subst, refl}
+use Rattle.std.proofs.Common.{◌≡◌, ◌∷◌, false, true, map, not, sym, subst, refl}
 use Rattle.std.specs.Prelude.{codes}
 use Rattle.std.proofs.lemmas.List.{map-append}
 use Rattle.type_texts.specs.Words.{words_left}
+use Rattle.type_texts.proofs.Refusing.{is_first_name, name_lacks, no_bar_due, no_name_due}
 use Rattle.type_texts.proofs.Spelling.{AreNamesTo, bar_more, first_name, name_more}
 use Rattle.type_texts.proofs.written.alternatives.alternatives_of.Goals as goal
 use Rattle.type_texts.proofs.written.alternatives.alternatives_of.Goals.{then-is_due+else-not-is_name-2+in_ok-push-2, else-is_due+else-not-is_bar}
@@ -20,5 +21,19 @@ loop-word-preserved c = elim c.if-is_due.branch [
   | else-is_due+else-not-is_bar w ↦
       let is : w.is_bar.result ≡ true = cc in
       rw (w.alternatives-is, w.if-is_due.false)
-      (bar_more _ _ _ _ c.in-Some.word.now (rw w.if-is_due.false at c.loop-word.invariant) c.in-Some.ensures.steps (w.is_bar.ensures is))
+      (bar_more _ _ _ _ c.in-Some.word.now (rw w.if-is_due.false at c.loop-word.invariant) c.in-Some.ensures.steps (w.is_bar.ensures.0 is))
 ]
+
+pub returns-then-not-is_name-clause-malformed : goal.returns-then-not-is_name-clause-malformed
+returns-then-not-is_name-clause-malformed c = λ _ names are. let t : c.is_name.result ≡ true = c.is_name.ensures.1 (is_first_name _ _ names are) in let n = c.if-not-is_name.true in absurd cc
+
+pub returns-then-not-is_name-2-clause-malformed : goal.returns-then-not-is_name-2-clause-malformed
+returns-then-not-is_name-2-clause-malformed c = λ _. no_name_due _ _ _ _ c.in-Some.word.now (rw c.if-is_due.true at c.loop-word.invariant) c.in-Some.ensures.steps
+    (λ is. let t : c.is_name-then-is_due.result ≡ true = c.is_name-then-is_due.ensures.1 is in let n = c.if-not-is_name-2.true in absurd cc)
+
+pub returns-then-not-is_bar-clause-malformed : goal.returns-then-not-is_bar-clause-malformed
+returns-then-not-is_bar-clause-malformed c = λ _. no_bar_due _ _ _ _ c.in-Some.word.now (rw c.if-is_due.false at c.loop-word.invariant) c.in-Some.ensures.steps
+    (λ is. let t : c.is_bar.result ≡ true = c.is_bar.ensures.1 is in let n = c.if-not-is_bar.true in absurd cc)
+
+pub returns-then-is_due-2-clause-malformed : goal.returns-then-is_due-2-clause-malformed
+returns-then-is_due-2-clause-malformed c = λ _. name_lacks _ _ _ (rw c.if-is_due-2.true at c.loop-word.invariant) c.in-None.ensures.steps.0
