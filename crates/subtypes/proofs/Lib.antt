@@ -1,1 +1,4 @@
 pub mod Right
+pub mod Written
+pub mod Telling
+pub mod OfText

@@ -1,2 +1,4 @@
+pub mod Answers
+pub mod Program
 pub mod Stop
 pub mod Told

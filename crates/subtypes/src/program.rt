@@ -1,7 +1,8 @@
 //! What the program does: it reads a table of types, and answers its questions in order.
-ghost use Rattle.std.specs.Prelude.{◌≡◌, ◌≤◌, OnOk};
+ghost use Rattle.std.specs.Prelude.{◌≡◌, ◌≤◌, ◌<◌, ◌==◌, IfErr, IfOk, IfSome, OnErr, OnOk};
 ghost use Rattle.std.specs.Io.KnownBytes.{Keeps};
-ghost use Rattle.type_texts.specs.declared.reading.ReadFault.{ReadFault};
+ghost use Rattle.subtypes.specs.Program.{IsAllTold, IsBrokenOff, IsRefused};
+ghost use Rattle.subtypes.specs.Stop.{status_of};
 
 mod questions;
 mod reason;
@@ -76,16 +77,6 @@ impl From<InputFault> for Stop {
     }
 }
 
-impl From<ReadFault> for Stop {
-    ghost use Rattle.subtypes.specs.declared.program.Stop.TheVariants.{Text};
-
-    ghost from_gives = { λ fault stop. stop ≡ Text fault };
-
-    fn from(fault: ReadFault) -> Stop {
-        Stop::Text(fault)
-    }
-}
-
 /// Reads types and questions and answers each question in order, on a line of its own: `NAME < NAME yes`, or `no` with
 /// the way to the reason, as `List < Stream no at tail.head: Text is not below Int`, or `undecided` where a limit was met.
 /// A fault is told as `NAME < NAME fault memory`, with `conflict`, `validation` or `protocol`.
@@ -101,8 +92,20 @@ pub(crate) fn run<R: Read + Drop, W: Flush, E: Write + Drop>(
     mut err: E,
 ) -> u8
     ensures status { result ≤ 4 }
-    ensures nothing_written { result ≡ 2 → Keeps (W.contents out.old) (W.contents out.new) }
+
+    // All questions of the text were answered as is right, and their lines are what was written; 0 says that none met a
+    // fault.
+    ensures told { result ≤ 1 → IsAllTold (R.remaining input)
+        (W.contents out.old) (W.contents out.new) (result == 0) }
     ensures flushed { result ≤ 1 → W.is_flushed out.new }
+
+    // Where the reader's bytes are known, a text is refused only for a fault that it has.
+    ensures refused { result ≡ 2 → IfSome (R.remaining input) IsRefused }
+    ensures nothing_written { result ≡ 2 → Keeps (W.contents out.old) (W.contents out.new) }
+
+    // What was written before a failure is a beginning of such lines.
+    ensures beginning { 2 < result → IsBrokenOff (R.remaining input)
+        (W.contents out.old) (W.contents out.new) }
 {
     match answer_input(alloc, &mut input, out) {
         Ok(true) => 0,
@@ -116,13 +119,19 @@ pub(crate) fn run<R: Read + Drop, W: Flush, E: Write + Drop>(
 
 // Whether each question was answered without a fault.
 fn answer_input<R: Read, W: Flush>(alloc: Global, input: &mut R, out: &mut W) -> Result<bool, Stop>
+    ensures told { IfOk result (IsAllTold (R.remaining input.old) (W.contents out.old) (W.contents out.new)) }
     ensures flushed { OnOk result (W.is_flushed out.new) }
-    ensures nothing_written { (fault : ReadFault) → result ≡ Err (Stop.Text fault) →
-        Keeps (W.contents out.old) (W.contents out.new) }
+    ensures refused { IfErr result (λ stop. status_of stop ≡ 2 → IfSome (R.remaining input.old) IsRefused) }
+    ensures nothing_written { IfErr result (λ stop. status_of stop ≡ 2 →
+        Keeps (W.contents out.old) (W.contents out.new)) }
+    ensures beginning { OnErr result (IsBrokenOff (R.remaining input.old)
+        (W.contents out.old) (W.contents out.new)) }
 {
     let text = read_input(alloc, input)?;
-    let table = TypeTable::read(alloc, text.as_slice())?;
-    answer_questions::<&Types, W>(alloc, table.types(), &table, out)
+    match TypeTable::read(alloc, text.as_slice()) {
+        Ok(table) => answer_questions::<&Types, W>(alloc, table.types(), &table, out),
+        Err(fault) => Err(Stop::Text(fault)),
+    }
 }
 
 #[cfg(test)]

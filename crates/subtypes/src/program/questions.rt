@@ -1,8 +1,12 @@
 //! The questions of a text: each is asked, and told on a line.
-ghost use Rattle.std.specs.Prelude.{◌≡◌, ◌⊎◌, IfErr, IfOk, OnOk, Err};
+ghost use Rattle.std.specs.Prelude.{◌≡◌, ◌⊎◌, ◌++◌, IfErr, IfOk, OnErr, OnOk, Err};
 ghost use Rattle.std.specs.Io.KnownBytes.{Appends};
+ghost use Rattle.line_texts.specs.Writing.{AppendsBeginning};
 ghost use Rattle.structural_types.specs.Asked.{declared_in};
-ghost use Rattle.subtypes.specs.Told.{fault_word_of, IsRight, line_told, verdict_word_of, words_of_answer};
+ghost use Rattle.structural_types.specs.Subtypes.{forms_of};
+ghost use Rattle.subtypes.specs.Answers.{AreAllTold, AreFirstTold, IsTold, name_of};
+ghost use Rattle.subtypes.specs.Told.{fault_word_of, IsRight, line_told, Passes, verdict_word_of, words_of_answer};
+ghost use Rattle.type_texts.specs.Table.{forms_in};
 
 use crate::program::Stop;
 use crate::program::reason::reason_of;
@@ -37,13 +41,21 @@ pub(super) fn answer_questions<T: LendsTypes, W: Flush>(
     table: &TypeTable,
     out: &mut W,
 ) -> Result<bool, Stop>
+    requires same_types { forms_of (T.types_of types) ≡ forms_in table.now }
+
+    // All questions were asked in order, and their lines written.
+    ensures told { IfOk result (AreAllTold table.now (W.contents out.old) (W.contents out.new)) }
     ensures flushed { OnOk result (W.is_flushed out.new) }
+
+    // Else a beginning of the lines of those that were asked.
+    ensures beginning { OnErr result (AreFirstTold table.now (W.contents out.old) (W.contents out.new)) }
     ensures fault { IfErr result (λ stop. (stop ≡ Stop.InputOrOutput) ⊎ (stop ≡ Stop.Memory)) }
 {
     let mut waiting = Vec::with_capacity(alloc, ROOM)?;
     let mut subtyping = Subtyping::<T>::new(alloc, types);
     let mut all_fine = true;
-    for question in table.questions() {
+    let questions = table.questions();
+    for question in questions {
         let pair = *question;
         let came = ask(alloc, &mut subtyping, table, pair);
         all_fine &= came.is_ok();
@@ -62,8 +74,8 @@ fn ask<T: LendsTypes>(
     table: &TypeTable,
     pair: Pair,
 ) -> Result<Told, Fault<Pair, Outcome>>
-    ensures { IfOk result (λ told.
-        IsRight (declared_in T.types_of subtyping.old) pair told.verdict) }
+    ensures told { IfOk result (IsTold (declared_in T.types_of subtyping.old) pair) }
+    ensures same_types { declared_in T.types_of subtyping.new ≡ declared_in T.types_of subtyping.old }
 {
     let depth = table.count().saturating_mul(table.count());
     let verdict = decide(subtyping, pair, depth)?;
@@ -80,7 +92,8 @@ fn decide<T: LendsTypes>(
     pair: Pair,
     depth: usize,
 ) -> Result<Verdict, Fault<Pair, Outcome>>
-    ensures { IfOk result (λ verdict. IsRight (declared_in T.types_of subtyping.old) pair verdict) }
+    ensures is_right { IfOk result (λ verdict. IsRight (declared_in T.types_of subtyping.old) pair verdict) }
+    ensures same_types { declared_in T.types_of subtyping.new ≡ declared_in T.types_of subtyping.old }
 {
     subtyping.is_below(pair.left, pair.right, depth)
 }
@@ -93,6 +106,11 @@ fn tell<W: Write>(
     pair: Pair,
     came: Result<Told, Fault<Pair, Outcome>>,
 ) -> Result<(), Stop>
+    ensures passed { OnOk result (Passes (W.contents out.old) (W.contents out.new)
+        (waiting.old.items ++ line_told (name_of table.now pair.left) (name_of table.now pair.right) came)
+        waiting.new.items) }
+    ensures beginning { OnErr result (AppendsBeginning (W.contents out.old) (W.contents out.new)
+        (waiting.old.items ++ line_told (name_of table.now pair.left) (name_of table.now pair.right) came)) }
     ensures fault { IfErr result (λ stop. (stop ≡ Stop.InputOrOutput) ⊎ (stop ≡ Stop.Memory)) }
 {
     let left = table.name(pair.left).unwrap_or(b"");

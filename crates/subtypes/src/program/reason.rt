@@ -1,4 +1,6 @@
 //! Why a type is not below another: a shortest way from the pair to one that fails by itself.
+ghost use Rattle.std.specs.Prelude.{◌≡◌};
+ghost use Rattle.structural_types.specs.Asked.{declared_in};
 
 use crate::program::text::{write_end, write_way};
 use delegate_parts::Outcome;
@@ -51,7 +53,9 @@ pub(super) fn reason_of<T: LendsTypes>(
     table: &TypeTable,
     pair: Pair,
     depth: usize,
-) -> Result<Vec<u8>, Fault<Pair, Outcome>> {
+) -> Result<Vec<u8>, Fault<Pair, Outcome>>
+    ensures { declared_in T.types_of subtyping.new ≡ declared_in T.types_of subtyping.old }
+{
     let mut search = Search::new(alloc, pair)?;
     for place in 0..depth {
         let Some(found) = search.found.get(place).copied() else {
@@ -95,7 +99,9 @@ impl Search {
         place: usize,
         pair: Pair,
         depth: usize,
-    ) -> Result<(), Fault<Pair, Outcome>> {
+    ) -> Result<(), Fault<Pair, Outcome>>
+        ensures { declared_in T.types_of subtyping.new ≡ declared_in T.types_of subtyping.old }
+    {
         match (types.form(pair.left), types.form(pair.right)) {
             (Some(Form::Union(alternatives)), _) => {
                 for left in alternatives {
@@ -140,7 +146,9 @@ impl Search {
         others: &[Field],
         place: usize,
         depth: usize,
-    ) -> Result<(), Fault<Pair, Outcome>> {
+    ) -> Result<(), Fault<Pair, Outcome>>
+        ensures { declared_in T.types_of subtyping.new ≡ declared_in T.types_of subtyping.old }
+    {
         for other in others {
             if let Some(left) = part_of(fields, other.name) {
                 let part = Pair {
@@ -161,7 +169,9 @@ impl Search {
         from: usize,
         step: Step,
         depth: usize,
-    ) -> Result<(), Fault<Pair, Outcome>> {
+    ) -> Result<(), Fault<Pair, Outcome>>
+        ensures { declared_in T.types_of subtyping.new ≡ declared_in T.types_of subtyping.old }
+    {
         if self.seen.contains(&pair) {
             return Ok(());
         }

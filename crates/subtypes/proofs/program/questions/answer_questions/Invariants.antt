@@ -1,0 +1,11 @@
+use Rattle.std.proofs.Common.{◌≡◌, take}
+use Rattle.structural_types.specs.Asked.{declared_in}
+use Rattle.subtypes.proofs.Telling.{AreToldTo}
+use Rattle.subtypes.proofs.program.questions.answer_questions.Given as goal
+use Rattle.type_texts.specs.Table.{forms_in}
+
+-- the first questions are told
+abbrev pub invariant-loop-question : goal.invariant-loop-question
+invariant-loop-question g l =
+    let contents = g.W.Write.contents in
+    (declared_in g.T.LendsTypes.types_of l.subtyping ≡ forms_in l.table) × AreToldTo l.table (take l.question-index l.questions) (contents l.fn.out) (contents l.out) l.waiting.items l.all_fine
