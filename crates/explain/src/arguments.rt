@@ -1,10 +1,11 @@
 //! The words of the command line.
 
-use clap::{Arg, ArgAction, Command, Error, value_parser};
+use clap::{Arg, ArgAction, ArgMatches, Command, Error, value_parser};
 use shown_graphs::Form;
 use std::alloc::Global;
 
 /// What the program is to do.
+#[derive(Clone, Copy, Debug, PartialEq, Eq)]
 pub(crate) enum Task {
     /// Show answers in this form.
     Explain(Form),
@@ -12,21 +13,35 @@ pub(crate) enum Task {
     Check,
 }
 
+/// A task, and the path of the file that is read for it. Where there is none, standard input is read.
+#[derive(Clone, Copy, Debug)]
+pub(crate) struct Order<'a> {
+    pub(crate) task: Task,
+    pub(crate) file: Option<&'a str>,
+}
+
 /// How many levels are shown where no number is given.
 const DEPTH: &str = "100";
 
-/// The task that the words ask for, the first of which is the program's name. An error has the usage.
-pub(crate) fn task_of<'a>(alloc: Global, words: &'a [String]) -> Result<Task, Error> {
+/// What the words ask for, the first of which is the program's name. An error has the usage.
+pub(crate) fn order_of<'a>(alloc: Global, words: &'a [String]) -> Result<Order<'a>, Error> {
     let matches = command(alloc)?.try_get_matches_from(words)?;
+    Ok(Order {
+        task: task_of(&matches),
+        file: matches.get_str("file"),
+    })
+}
+
+fn task_of(matches: &ArgMatches<'_>) -> Task {
     if matches.get_flag("check") {
-        Ok(Task::Check)
+        Task::Check
     } else if matches.get_flag("json") {
-        Ok(Task::Explain(Form::Data))
+        Task::Explain(Form::Data)
     } else if matches.get_flag("dot") {
-        Ok(Task::Explain(Form::Dot))
+        Task::Explain(Form::Dot)
     } else {
         let depth = matches.get_one::<usize>("depth").unwrap_or(0);
-        Ok(Task::Explain(Form::Text { depth }))
+        Task::Explain(Form::Text { depth })
     }
 }
 
@@ -52,11 +67,15 @@ fn command<'a>(alloc: Global) -> Result<Command<'a>, Error> {
         .action(ArgAction::SetTrue)
         .conflicts_with("dot")?
         .conflicts_with("json")?;
+    let file = Arg::new(alloc, "file").value_name("FILE").help(
+        "The rules and questions, or with --check the data; without it standard input is read",
+    );
     let command = Command::new(alloc, "explain")
-        .about("Reads rules and questions from standard input, and shows why each answer holds")
+        .about("Reads rules and questions, and shows why each answer holds")
         .arg(depth)?
         .arg(dot)?
         .arg(json)?
-        .arg(check)?;
+        .arg(check)?
+        .arg(file)?;
     Ok(command)
 }

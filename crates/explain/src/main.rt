@@ -4,10 +4,11 @@
 
 mod arguments;
 
-use arguments::{Task, task_of};
+use arguments::{Order, Task, order_of};
 use shown_graphs::{check, explain};
+use std::fs::File;
 use std::io;
-use std::io::Write;
+use std::io::{Read, Write};
 use std::process::ExitCode;
 
 fn main(rt: HostRuntime) -> ExitCode {
@@ -15,18 +16,41 @@ fn main(rt: HostRuntime) -> ExitCode {
 }
 
 fn run(rt: HostRuntime) -> u8 {
-    let alloc = rt.alloc();
     let Ok(words) = all_words(&rt) else {
         let _ = writeln!(rt.stderr(), "the arguments could not be read");
         return 2;
     };
-    match task_of(alloc, words.as_slice()) {
-        Ok(Task::Explain(form)) => explain(alloc, form, rt.stdin(), &mut rt.stdout(), rt.stderr()),
-        Ok(Task::Check) => check(alloc, rt.stdin(), &mut rt.stdout(), rt.stderr()),
+    match order_of(rt.alloc(), words.as_slice()) {
+        Ok(Order { task, file: None }) => perform(&rt, task, rt.stdin()),
+        Ok(
+            Order {
+                task,
+                file: Some(path),
+            },
+        ) => perform_on_file(&rt, task, path),
         Err(error) => {
             let _ = error.print(&rt);
             if error.use_stderr() { 2 } else { 0 }
         }
+    }
+}
+
+// The task on the file of this path. One that cannot be opened is told, and the status is that of input that cannot be read.
+fn perform_on_file(rt: &HostRuntime, task: Task, path: &str) -> u8 {
+    match File::open(rt, path) {
+        Ok(file) => perform(rt, task, file),
+        Err(error) => {
+            let _ = writeln!(rt.stderr(), "{path} cannot be opened: {error}");
+            3
+        }
+    }
+}
+
+fn perform<R: Read + Drop>(rt: &HostRuntime, task: Task, input: R) -> u8 {
+    let alloc = rt.alloc();
+    match task {
+        Task::Explain(form) => explain(alloc, form, input, &mut rt.stdout(), rt.stderr()),
+        Task::Check => check(alloc, input, &mut rt.stdout(), rt.stderr()),
     }
 }
 
