@@ -15,6 +15,6 @@ verdict_of Overflow = verdict.Neither
 -- a graph that is shown is valid for the goal and the outcome
 abbrev pub IsChecked : Verdicts Outcome → (Goal → List (Reply Outcome) → Request Goal Outcome) → Goal → Came → Type 0
 IsChecked says scripts goal (Graph outcome nodes) = IsValidFor says (verdict_of outcome) scripts nodes.items goal
-IsChecked says scripts goal (NoGraph outcome limits_met) = Unit {0}
+IsChecked says scripts goal (NoGraph outcome reason) = Unit {0}
 IsChecked says scripts goal (Unchecked outcome) = Unit {0}
 IsChecked says scripts goal (Fault fault) = Unit {0}

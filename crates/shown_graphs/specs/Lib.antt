@@ -3,3 +3,4 @@ pub mod Checked
 pub mod Plan
 pub mod Stop
 pub mod Told
+pub mod Watch

@@ -3,6 +3,8 @@ ghost use Rattle.std.specs.Prelude.{◌↔◌, IsTrue, IfOk};
 ghost use Rattle.shown_graphs.specs.Below.{IsValidFor, verdicts};
 ghost use Rattle.shown_graphs.specs.Checked.{IsChecked, verdict_of};
 
+use crate::watch::{Reason, Watcher};
+use crate::watching::Watching;
 use delegate_parts::Builder;
 use graph_check::check_graph;
 use rule_tables::{Goal, Outcome};
@@ -23,7 +25,7 @@ pub(crate) enum Came {
     /// A maybe or an overflow.
     NoGraph {
         outcome: Outcome,
-        limits_met: bool,
+        reason: Reason,
     },
     /// A yes or a no whose graph is missing or was refused.
     Unchecked(Outcome),
@@ -40,11 +42,13 @@ impl Came {
     }
 }
 
-/// Asks the goal at this depth, and checks the graph of a definite answer.
+/// Asks the goal at this depth, and checks the graph of a definite answer. The watcher is that of all questions over the
+/// cache.
 pub(crate) fn ask<X, D>(
     alloc: Global,
     cx: X,
-    cache: &mut GlobalCache<D>,
+    cache: &mut GlobalCache<Watching<X, D>>,
+    watcher: &mut Watcher,
     depth: usize,
     goal: Goal,
 ) -> Came
@@ -53,10 +57,10 @@ where
     D: Delegate<Cx = X, ProofTreeBuilder = Builder>,
     ensures { IsChecked (verdicts X.Cx) (D.script cx) goal result }
 {
-    let mut graph = SearchGraph::<D>::new(alloc, depth);
-    let mut builder = Builder::new(true);
-    let came = match graph.evaluate_goal(cache, goal, PathKind::Inductive, &mut builder) {
-        Ok(answer) => checked::<X, D>(alloc, cx, cache, goal, answer, graph.limits_met()),
+    let mut graph = SearchGraph::<Watching<X, D>>::new(alloc, depth);
+    watcher.begin();
+    let came = match graph.evaluate_goal(cache, goal, PathKind::Inductive, watcher) {
+        Ok(answer) => checked::<X, D>(alloc, cx, cache, watcher, goal, answer),
         Err(fault) => return Came::Fault(fault),
     };
     match came {
@@ -69,10 +73,10 @@ where
 fn checked<X, D>(
     alloc: Global,
     cx: X,
-    cache: &GlobalCache<D>,
+    cache: &GlobalCache<Watching<X, D>>,
+    watcher: &mut Watcher,
     goal: Goal,
     answer: Answer<Outcome>,
-    limits_met: bool,
 ) -> Result<Came, NoMemory>
 where
     X: Cx<Input = Goal, Result = Outcome>,
@@ -81,10 +85,8 @@ where
 {
     let outcome = answer.result;
     let Some(node) = answer.node else {
-        return Ok(Came::NoGraph {
-            outcome,
-            limits_met,
-        });
+        let reason = watcher.reason(outcome);
+        return Ok(Came::NoGraph { outcome, reason });
     };
     let Some(graph) = cache.graph_of(node)? else {
         return Ok(Came::Unchecked(outcome));

@@ -6,6 +6,7 @@
 //! | `Stop` | why a program ends early |
 //! | `Plan` | the lines of a graph's text, before they are words |
 //! | `Checked` | what is known of an answer that is shown |
+//! | `Watch` | what a watcher stands beside |
 #![tactic(auto)]
 
 mod answer;
@@ -15,10 +16,13 @@ mod page;
 mod plan;
 mod program;
 mod reading;
+mod reason;
 mod rule;
 #[cfg(test)]
 mod tests;
 mod text;
+mod watch;
+mod watching;
 mod words;
 
 pub use page::Form;

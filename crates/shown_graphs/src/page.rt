@@ -4,6 +4,7 @@ use crate::answer::Came;
 use crate::data::{word, write_answer, write_end as end_data, write_start as start_data};
 use crate::dot::{write_cluster, write_end as end_dot, write_start as start_dot};
 use crate::program::Stop;
+use crate::reason::write_reason;
 use crate::text::write_text;
 use crate::words::name_of;
 use json::Writer;
@@ -142,14 +143,10 @@ fn add_text<W: Write>(
     let name = name_of(rules, goal);
     match came {
         Came::Graph { nodes, .. } => write_text(alloc, out, rules, nodes, depth)?,
-        Came::NoGraph {
-            outcome,
-            limits_met,
-        } => {
+        Came::NoGraph { outcome, reason } => {
             let word = word(*outcome);
             writeln!(out, "{name} is {word}")?;
-            out.write_all(reason(*limits_met))?;
-            out.write_all(NO_RECORD)?;
+            write_reason(out, rules, goal, *reason)?;
         }
         Came::Unchecked(outcome) => writeln!(out, "{name} {outcome} unchecked")?,
         Came::Fault(fault) => {
@@ -158,18 +155,6 @@ fn add_text<W: Write>(
         }
     }
     out.write_all(b"\n")
-}
-
-/// What the search doesn't know of an answer without a graph.
-const NO_RECORD: &[u8] = b"the search keeps no record of which question was cut off first\n";
-
-// What the search knows of an answer that has no graph.
-fn reason(limits_met: bool) -> &'static [u8] {
-    if limits_met {
-        b"  a limit was met, of the depth or of the runs of a goal; "
-    } else {
-        b"  no limit was met; "
-    }
 }
 
 fn fault_word(fault: Fault<Goal, Outcome>) -> &'static str {

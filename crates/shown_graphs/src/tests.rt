@@ -109,13 +109,13 @@ goals left out: 1, which lie deeper than 1\n\n",
 }
 
 #[test]
-fn a_maybe_has_no_graph(rt: HostRuntime) -> Result<(), Fail> {
+fn a_maybe_names_the_question_that_was_cut_off(rt: HostRuntime) -> Result<(), Fail> {
     expect_shown(
         &rt,
         ALL,
         "rule A = u:A\nask 4 A\nrule B = i:C\nask 0 B\n",
-        "A is maybe\n  no limit was met; the search keeps no record of which question was cut off first\n\n\
-B is maybe\n  a limit was met, of the depth or of the runs of a goal; the search keeps no record of which question was cut off first\n\n",
+        "A is maybe\n  cut off at u:A of A: a cycle of unknown kind\n\n\
+B is maybe\n  cut off at i:C of B, which had no depth left\n\n",
     )
 }
 

@@ -1,8 +1,13 @@
 //! How the questions of a text are shown.
 
+#[cfg(test)]
+mod tests;
+
 use crate::answer::ask;
 use crate::page::{Form, Page};
 use crate::program::Stop;
+use crate::watch::Watcher;
+use crate::watching::Watching;
 use delegate_parts::Builder;
 use line_texts::read_input;
 use rule_tables::delegate::Table;
@@ -44,12 +49,13 @@ where
     D: Delegate<Cx = X, ProofTreeBuilder = Builder>,
     W: Write,
 {
-    let mut cache = GlobalCache::<D>::new(alloc, cx);
+    let mut cache = GlobalCache::<Watching<X, D>>::new(alloc, cx);
+    let mut watcher = Watcher::new(alloc);
     let mut all_fine = true;
     let questions = rules.questions();
     for question in questions {
         let (depth, goal) = *question;
-        let came = ask::<X, D>(alloc, cx, &mut cache, depth, goal);
+        let came = ask::<X, D>(alloc, cx, &mut cache, &mut watcher, depth, goal);
         all_fine &= came.is_fine();
         page.add(alloc, rules, goal, &came)?;
         page.pass_on(out)?;
