@@ -3,8 +3,10 @@
 #![tactic(auto)]
 
 mod arguments;
+mod progress;
 
 use arguments::{Order, Task, order_of};
+use progress::OnTerminal;
 use shown_graphs::{check, explain};
 use std::fs::File;
 use std::io;
@@ -48,9 +50,11 @@ fn perform_on_file(rt: &HostRuntime, task: Task, path: &str) -> u8 {
 
 fn perform<R: Read + Drop>(rt: &HostRuntime, task: Task, input: R) -> u8 {
     let alloc = rt.alloc();
+    let mut out = rt.stdout();
+    let progress = OnTerminal::new(rt);
     match task {
-        Task::Explain(form) => explain(alloc, form, input, &mut rt.stdout(), rt.stderr()),
-        Task::Check => check(alloc, input, &mut rt.stdout(), rt.stderr()),
+        Task::Explain(form) => explain(alloc, form, input, &mut out, rt.stderr(), progress),
+        Task::Check => check(alloc, input, &mut out, rt.stderr(), progress),
     }
 }
 

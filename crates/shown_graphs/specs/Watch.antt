@@ -3,5 +3,5 @@ use Rattle.delegate_parts.specs.declared.builder.Builder.{Builder}
 use Rattle.shown_graphs.specs.declared.watch.Watcher.{Watcher}
 
 -- the builder that counts frames
-abbrev pub inner_of : Watcher → Builder
+abbrev pub inner_of : {P : Type 0} → Watcher P → Builder
 inner_of watcher = watcher.inner

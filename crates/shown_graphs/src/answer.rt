@@ -3,6 +3,7 @@ ghost use Rattle.std.specs.Prelude.{◌↔◌, IsTrue, IfOk};
 ghost use Rattle.shown_graphs.specs.Below.{IsValidFor, verdicts};
 ghost use Rattle.shown_graphs.specs.Checked.{IsChecked, verdict_of};
 
+use crate::progress::Progress;
 use crate::watch::{Reason, Watcher};
 use crate::watching::Watching;
 use delegate_parts::Builder;
@@ -44,23 +45,23 @@ impl Came {
 
 /// Asks the goal at this depth, and checks the graph of a definite answer. The watcher is that of all questions over the
 /// cache.
-pub(crate) fn ask<X, D>(
+pub(crate) fn ask<X, D, P>(
     alloc: Global,
     cx: X,
-    cache: &mut GlobalCache<Watching<X, D>>,
-    watcher: &mut Watcher,
+    cache: &mut GlobalCache<Watching<X, D, P>>,
+    watcher: &mut Watcher<P>,
     depth: usize,
     goal: Goal,
 ) -> Came
 where
     X: Cx<Input = Goal, Result = Outcome>,
     D: Delegate<Cx = X, ProofTreeBuilder = Builder>,
+    P: Progress,
     ensures { IsChecked (verdicts X.Cx) (D.script cx) goal result }
 {
-    let mut graph = SearchGraph::<Watching<X, D>>::new(alloc, depth);
-    watcher.begin();
+    let mut graph = SearchGraph::<Watching<X, D, P>>::new(alloc, depth);
     let came = match graph.evaluate_goal(cache, goal, PathKind::Inductive, watcher) {
-        Ok(answer) => checked::<X, D>(alloc, cx, cache, watcher, goal, answer),
+        Ok(answer) => checked::<X, D, P>(alloc, cx, cache, watcher, goal, answer),
         Err(fault) => return Came::Fault(fault),
     };
     match came {
@@ -70,17 +71,18 @@ where
 }
 
 // The answer with its graph, if it has one and the checker accepts it.
-fn checked<X, D>(
+fn checked<X, D, P>(
     alloc: Global,
     cx: X,
-    cache: &GlobalCache<Watching<X, D>>,
-    watcher: &mut Watcher,
+    cache: &GlobalCache<Watching<X, D, P>>,
+    watcher: &mut Watcher<P>,
     goal: Goal,
     answer: Answer<Outcome>,
 ) -> Result<Came, NoMemory>
 where
     X: Cx<Input = Goal, Result = Outcome>,
     D: Delegate<Cx = X, ProofTreeBuilder = Builder>,
+    P: Progress,
     ensures { IfOk result (λ came. IsChecked (verdicts X.Cx) (D.script cx) goal came) }
 {
     let outcome = answer.result;

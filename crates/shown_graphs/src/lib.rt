@@ -15,6 +15,7 @@ mod dot;
 mod page;
 mod plan;
 mod program;
+mod progress;
 mod reading;
 mod reason;
 mod rule;
@@ -27,3 +28,4 @@ mod words;
 
 pub use page::Form;
 pub use program::{check, explain};
+pub use progress::{NoProgress, Progress};

@@ -5,6 +5,7 @@ mod checking;
 mod showing;
 
 use crate::page::Form;
+use crate::progress::Progress;
 use checking::check_input;
 use line_texts::InputFault;
 use rule_tables::ReadFault;
@@ -116,16 +117,17 @@ impl From<ReadFault> for Stop {
 /// a malformed line: then nothing is shown. 3 where reading or writing failed, and 4 where there was no memory for the input,
 /// the table or what is shown: then the program ends there. For 2, 3 and 4 the reason stands on the second writer, and a
 /// failure to write it changes nothing.
-pub fn explain<R: Read + Drop, W: Write, E: Write + Drop>(
+pub fn explain<R: Read + Drop, W: Write, E: Write + Drop, P: Progress>(
     alloc: Global,
     form: Form,
     mut input: R,
     out: &mut W,
     err: E,
+    progress: P,
 ) -> u8
     ensures { result ≤ 4 }
 {
-    let came = show_input(alloc, form, &mut input, out);
+    let came = show_input(alloc, form, &mut input, out, progress);
     status_told(came, err)
 }
 
@@ -134,15 +136,16 @@ pub fn explain<R: Read + Drop, W: Write, E: Write + Drop>(
 ///
 /// The answer is the exit status: 0 where none was refused, and 1 where one was. 2 for data of another form: the place stands
 /// on the second writer, and nothing is told. 3 and 4 as for `explain`.
-pub fn check<R: Read + Drop, W: Write, E: Write + Drop>(
+pub fn check<R: Read + Drop, W: Write, E: Write + Drop, P: Progress>(
     alloc: Global,
     mut input: R,
     out: &mut W,
     err: E,
+    progress: P,
 ) -> u8
     ensures { result ≤ 4 }
 {
-    let came = check_input(alloc, &mut input, out);
+    let came = check_input(alloc, &mut input, out, progress);
     status_told(came, err)
 }
 

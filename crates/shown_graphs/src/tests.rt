@@ -2,6 +2,7 @@
 
 use crate::page::Form;
 use crate::program::{check, explain};
+use crate::progress::NoProgress;
 use std::process::Abort;
 use std::test::Fail;
 
@@ -14,7 +15,14 @@ fn expect_shown(
 ) -> Result<(), Fail> {
     let mut out = Vec::new(rt.alloc());
     let mut err = Vec::new(rt.alloc());
-    let status = explain(rt.alloc(), form, input.as_bytes(), &mut out, &mut err);
+    let status = explain(
+        rt.alloc(),
+        form,
+        input.as_bytes(),
+        &mut out,
+        &mut err,
+        NoProgress,
+    );
     assert_eq!(rt; std::str::from_utf8(out.as_slice()), Ok(wanted));
     assert_eq!(rt; err.len(), 0);
     assert_eq!(rt; status, 0);
@@ -31,7 +39,13 @@ fn expect_checked(
 ) -> Result<(), Fail> {
     let mut written = Vec::new(rt.alloc());
     let mut told = Vec::new(rt.alloc());
-    let came = check(rt.alloc(), data.as_bytes(), &mut written, &mut told);
+    let came = check(
+        rt.alloc(),
+        data.as_bytes(),
+        &mut written,
+        &mut told,
+        NoProgress,
+    );
     assert_eq!(rt; std::str::from_utf8(written.as_slice()), Ok(out));
     assert_eq!(rt; std::str::from_utf8(told.as_slice()), Ok(err));
     assert_eq!(rt; came, status);

@@ -6,6 +6,7 @@ ghost use Rattle.std.specs.Prelude.{◌≡◌};
 
 mod run;
 
+use crate::progress::Progress;
 use delegate_parts::{Builder, Outcome};
 use rule_tables::Goal;
 use run::Question;
@@ -56,10 +57,16 @@ struct Level {
     kind: PathKind,
 }
 
+/// How many runs are started between two notes of progress.
+const RUNS_A_NOTE: u64 = 1024;
+
 /// Counts frames, and notes why goals come to neither yes nor no. One watcher is for all questions over one cache.
 #[derive(Drop)]
-pub(crate) struct Watcher {
+pub(crate) struct Watcher<P> {
     pub(crate) inner: Builder,
+    progress: P,
+    /// How many questions began before this one.
+    done: usize,
     /// The goals under evaluation.
     open: Vec<Level>,
     /// The kind of the step of the frame that starts next.
@@ -72,13 +79,15 @@ pub(crate) struct Watcher {
     before: u64,
 }
 
-impl Watcher {
+impl<P: Progress> Watcher<P> {
     ghost use Rattle.shown_graphs.specs.Watch.{inner_of};
 
     /// A watcher that has seen nothing.
-    pub(crate) fn new(alloc: Global) -> Watcher {
+    pub(crate) fn new(alloc: Global, progress: P) -> Watcher<P> {
         Watcher {
             inner: Builder::new(true),
+            progress,
+            done: 0,
             open: Vec::new(alloc),
             next: PathKind::Inductive,
             last: None,
@@ -87,8 +96,10 @@ impl Watcher {
         }
     }
 
-    /// Forgets what belongs to the last question alone.
-    pub(crate) fn begin(&mut self) {
+    /// The next question begins: what belongs to the last one alone is forgotten. The number is that of the questions before.
+    pub(crate) fn begin(&mut self, done: usize) {
+        self.done = done;
+        self.tell();
         self.open.clear();
         self.next = PathKind::Inductive;
         self.last = None;
@@ -118,7 +129,16 @@ impl Watcher {
             goal,
             kind: self.next,
         })?;
+        if self.inner.started() % RUNS_A_NOTE == 0 {
+            self.tell();
+        }
         Ok(RunWatch::new(goal))
+    }
+
+    fn tell(&mut self)
+        ensures { inner_of self.new ≡ inner_of self.old }
+    {
+        self.progress.note(self.done, self.inner.started());
     }
 
     /// Notes what the run is told.

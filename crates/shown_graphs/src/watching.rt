@@ -3,6 +3,7 @@ ghost use Rattle.std.specs.Prelude.{◌≡◌, ◌≤◌, ◌<◌, ◌+◌, ℕ,
 ghost use Rattle.search_context.specs.Delegate.{CanTake, CountsOne, Steps};
 ghost use Rattle.shown_graphs.specs.Watch.{inner_of};
 
+use crate::progress::Progress;
 use crate::watch::{RunWatch, Watcher};
 use delegate_parts::Builder;
 use rule_tables::{Goal, Outcome};
@@ -12,9 +13,10 @@ use std::marker::PhantomData;
 
 /// The delegate `D`, with a builder that watches where answers are cut off. The context, the scripts, the results and the
 /// limits are those of `D`, and so is what the cache is used for: goals come to what they come to with `D`, in as many runs.
-pub(crate) struct Watching<X, D> {
+pub(crate) struct Watching<X, D, P> {
     cx: PhantomData<X>,
     delegate: PhantomData<D>,
+    progress: PhantomData<P>,
 }
 
 /// A frame, with what is watched of its run.
@@ -24,16 +26,17 @@ pub(crate) struct WatchedFrame<F> {
     run: RunWatch,
 }
 
-impl<X, D> Delegate for Watching<X, D>
+impl<X, D, P> Delegate for Watching<X, D, P>
 where
     X: Cx<Input = Goal, Result = Outcome>,
     D: Delegate<Cx = X, ProofTreeBuilder = Builder>,
+    P: Progress,
 {
     type Cx = X;
 
     type ValidationScope = D::ValidationScope;
 
-    type ProofTreeBuilder = Watcher;
+    type ProofTreeBuilder = Watcher<P>;
 
     type Frame = WatchedFrame<D::Frame>;
 
@@ -101,7 +104,7 @@ where
         D::enter_validation_scope(cx, input)
     }
 
-    fn inspect_is_noop(inspect: &mut Watcher) -> bool {
+    fn inspect_is_noop(inspect: &mut Watcher<P>) -> bool {
         D::inspect_is_noop(&mut inspect.inner)
     }
 
@@ -136,7 +139,7 @@ where
     fn start(
         cx: X,
         input: Goal,
-        inspect: &mut Watcher,
+        inspect: &mut Watcher<P>,
     ) -> Result<WatchedFrame<D::Frame>, NoMemory> {
         let frame = D::start(cx, input, &mut inspect.inner)?;
         let run = inspect.note_start(input)?;
@@ -146,7 +149,7 @@ where
     fn step(
         frame: &mut WatchedFrame<D::Frame>,
         reply: Reply<Outcome>,
-        inspect: &mut Watcher,
+        inspect: &mut Watcher<P>,
     ) -> Result<Request<Goal, Outcome>, NoMemory>
         requires { CanTake (λ watched. D.stands watched.frame) D.script frame.old reply }
         ensures request { IfOk result (λ request.

@@ -6,6 +6,7 @@ ghost use Rattle.shown_graphs.specs.Told.{AreJudged, IsJudged, line_said};
 
 use crate::answer::accepts;
 use crate::program::Stop;
+use crate::progress::Progress;
 use crate::reading::{Claim, Claims, Source, read_claims};
 use delegate_parts::Builder;
 use json::{Reader, Scratch};
@@ -18,10 +19,11 @@ use std::io::{Read, Write};
 use std::{fmt, io};
 
 /// Whether no graph was refused.
-pub(super) fn check_input<R: Read, W: Write>(
+pub(super) fn check_input<R: Read, W: Write, P: Progress>(
     alloc: Global,
     input: &mut R,
     out: &mut W,
+    progress: P,
 ) -> Result<bool, Stop> {
     let bytes = read_input(alloc, input)?;
     let Ok(text) = std::str::from_utf8(bytes.as_slice()) else {
@@ -30,31 +32,35 @@ pub(super) fn check_input<R: Read, W: Write>(
     let mut scratch = Scratch::new(alloc);
     let mut source = Source::new(Reader::new(text, &mut scratch)?);
     let Claims { rules, all } = read_claims(alloc, &mut source)?;
-    check_claims::<Table<&Rules>, TableDelegate<'_, 8, 1>, W>(
+    check_claims::<Table<&Rules>, TableDelegate<'_, 8, 1>, W, P>(
         alloc,
         Table { lender: &rules },
         &rules,
         all,
         out,
+        progress,
     )
 }
 
 // Judges each claim, and tells it on a line.
-fn check_claims<X, D, W>(
+fn check_claims<X, D, W, P>(
     alloc: Global,
     cx: X,
     rules: &Rules,
     claims: Vec<Claim>,
     out: &mut W,
+    mut progress: P,
 ) -> Result<bool, Stop>
 where
     X: Cx<Input = Goal, Result = Outcome>,
     D: Delegate<Cx = X, ProofTreeBuilder = Builder>,
     W: Write,
+    P: Progress,
     ensures { IfOk result (λ none_refused. AreJudged (verdicts X.Cx) (D.script cx) rules.now
         claims.items none_refused (W.contents out.old) (W.contents out.new)) }
 {
     let mut none_refused = true;
+    let mut done: usize = 0;
     for claim in claims {
         let Claim {
             goal,
@@ -63,6 +69,8 @@ where
         } = claim;
         let said = judged::<X, D>(alloc, cx, goal, outcome, nodes)?;
         none_refused &= said.is_no_refusal();
+        done = done.saturating_add(1);
+        progress.note(done, 0);
         tell(out, rules, goal, outcome, said)?;
     }
     out.flush()?;

@@ -6,6 +6,7 @@ mod tests;
 use crate::answer::ask;
 use crate::page::{Form, Page};
 use crate::program::Stop;
+use crate::progress::Progress;
 use crate::watch::Watcher;
 use crate::watching::Watching;
 use delegate_parts::Builder;
@@ -18,44 +19,49 @@ use std::alloc::Global;
 use std::io::{Read, Write};
 
 /// Whether each question was answered, and no graph refused.
-pub(super) fn show_input<R: Read, W: Write>(
+pub(super) fn show_input<R: Read, W: Write, P: Progress>(
     alloc: Global,
     form: Form,
     input: &mut R,
     out: &mut W,
+    progress: P,
 ) -> Result<bool, Stop> {
     let text = read_input(alloc, input)?;
     let rules = Rules::read(alloc, text.as_slice())?;
     let page = Page::new(alloc, form, text.as_slice())?;
-    show_questions::<Table<&Rules>, TableDelegate<'_, 8, 1>, W>(
+    show_questions::<Table<&Rules>, TableDelegate<'_, 8, 1>, W, P>(
         alloc,
         Table { lender: &rules },
         &rules,
         page,
         out,
+        progress,
     )
 }
 
 // Each question is asked on a graph of its own, over one cache, and shown.
-fn show_questions<X, D, W>(
+fn show_questions<X, D, W, P>(
     alloc: Global,
     cx: X,
     rules: &Rules,
     mut page: Page,
     out: &mut W,
+    progress: P,
 ) -> Result<bool, Stop>
 where
     X: Cx<Input = Goal, Result = Outcome>,
     D: Delegate<Cx = X, ProofTreeBuilder = Builder>,
     W: Write,
+    P: Progress,
 {
-    let mut cache = GlobalCache::<Watching<X, D>>::new(alloc, cx);
-    let mut watcher = Watcher::new(alloc);
+    let mut cache = GlobalCache::<Watching<X, D, P>>::new(alloc, cx);
+    let mut watcher = Watcher::new(alloc, progress);
     let mut all_fine = true;
     let questions = rules.questions();
-    for question in questions {
+    for (done, question) in questions.iter().enumerate() {
         let (depth, goal) = *question;
-        let came = ask::<X, D>(alloc, cx, &mut cache, &mut watcher, depth, goal);
+        watcher.begin(done);
+        let came = ask::<X, D, P>(alloc, cx, &mut cache, &mut watcher, depth, goal);
         all_fine &= came.is_fine();
         page.add(alloc, rules, goal, &came)?;
         page.pass_on(out)?;

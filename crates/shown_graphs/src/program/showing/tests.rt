@@ -1,6 +1,7 @@
 //! Where answers that are neither yes nor no are said to come from.
 
 use super::*;
+use crate::progress::NoProgress;
 use std::process::Abort;
 use std::test::Fail;
 
@@ -14,12 +15,18 @@ fn expect_at_limit<const LIMIT: usize>(
     let rules = Rules::read(alloc, input.as_bytes())?;
     let page = Page::new(alloc, Form::Text { depth: 100 }, input.as_bytes())?;
     let mut out = Vec::new(alloc);
-    let all_fine = show_questions::<Table<&Rules>, TableDelegate<'_, LIMIT, 1>, Vec<u8>>(
+    let all_fine = show_questions::<
+        Table<&Rules>,
+        TableDelegate<'_, LIMIT, 1>,
+        Vec<u8>,
+        NoProgress,
+    >(
         alloc,
         Table { lender: &rules },
         &rules,
         page,
         &mut out,
+        NoProgress,
     )?;
     assert_eq!(rt; std::str::from_utf8(out.as_slice()), Ok(wanted));
     assert!(rt; all_fine);

@@ -1,0 +1,50 @@
+//! Progress on standard error.
+
+use shown_graphs::Progress;
+use std::io::{IsTerminal, Write};
+use std::time::Instant;
+
+/// Tells progress on standard error, on a line for each second that has passed. Where standard error is no terminal, nothing
+/// is told.
+#[derive(Drop)]
+pub(crate) struct OnTerminal<'a> {
+    rt: &'a HostRuntime,
+    /// Where the time begins; none where nothing is to be told.
+    start: Option<Instant>,
+    /// How many seconds had passed when something was told last.
+    seconds: u64,
+}
+
+impl<'a> OnTerminal<'a> {
+    pub(crate) fn new(rt: &'a HostRuntime) -> OnTerminal<'a> {
+        let start = if rt.stderr().is_terminal() {
+            Instant::now(rt).ok()
+        } else {
+            None
+        };
+        OnTerminal {
+            rt,
+            start,
+            seconds: 0,
+        }
+    }
+}
+
+impl Progress for OnTerminal<'_> {
+    fn note(&mut self, done: usize, runs: u64) {
+        let Some(start) = self.start else {
+            return;
+        };
+        let Ok(passed) = start.elapsed(self.rt) else {
+            return;
+        };
+        let seconds = passed.as_secs();
+        if self.seconds < seconds {
+            self.seconds = seconds;
+            let _ = writeln!(
+                self.rt.stderr(),
+                "after {seconds} s: {done} done, {runs} runs"
+            );
+        }
+    }
+}
