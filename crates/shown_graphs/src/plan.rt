@@ -1,11 +1,12 @@
 //! The plan of a graph's text: which lines it has, in order. Each goal is shown once, where the walk down from the root
-//! first meets it, and each edge of a goal that is shown has one line.
-ghost use Rattle.std.specs.Prelude.{◌≡◌, ◌<◌, Some, IfOk, length, slice_get};
-ghost use Rattle.shown_graphs.specs.Plan.{AreShownOnce, IsWalk};
+//! first meets it, and below it each of its edges has one line.
+ghost use Rattle.std.specs.Prelude.{◌≡◌, ◌∷◌, ◌++◌, ℕ, [], false, IfOk, OnOk, Some, map, slice_get};
+ghost use Rattle.shown_graphs.specs.Plan.{AreFound, AreShownOnce, AreWhole, Expects, IsMarked, IsReplayed, IsWalk, pending_of, targets_of};
+ghost use Rattle.shown_graphs.specs.declared.plan.Line.TheVariants.{Again, Shown};
 ghost use Rattle.shown_graphs.specs.declared.plan.Mark.TheVariants.{Unseen};
 
 use rule_tables::{Goal, Outcome};
-use search_context::context::{NoMemory, Node};
+use search_context::context::{Edge, NoMemory, Node};
 use std::alloc::Global;
 
 /// One line of the text of a graph.
@@ -24,7 +25,7 @@ pub(crate) enum Line {
         number: usize,
         closes: bool,
     },
-    /// A node that lies deeper than is wanted.
+    /// A node that lies deeper than is wanted, or one that is not there: a valid graph has none of these.
     Cut {
         place: usize,
         level: usize,
@@ -40,20 +41,20 @@ enum Mark {
     Done(usize),
 }
 
-// A node that is being shown, and its edge that comes next.
+// A node that is being shown, and its edges that have no line yet.
 #[derive(Clone, Copy, Debug)]
-struct Open {
+struct Open<'a> {
     place: usize,
-    edge: usize,
+    rest: &'a [Edge<Goal>],
 }
 
 /// The walk over a graph.
 #[derive(Drop)]
-struct Walk {
+struct Walk<'a> {
     most: usize,
     lines: Vec<Line>,
     marks: Vec<Mark>,
-    open: Vec<Open>,
+    open: Vec<Open<'a>>,
     shown: usize,
 }
 
@@ -67,6 +68,8 @@ pub(crate) fn plan(
     most: usize,
 ) -> Result<Vec<Line>, NoMemory>
     ensures once { IfOk result (λ lines. AreShownOnce lines.items) }
+    ensures found { IfOk result (λ lines. AreFound lines.items) }
+    ensures whole { IfOk result (λ lines. AreWhole nodes.now lines.items) }
 {
     let mut walk = Walk {
         most,
@@ -75,65 +78,78 @@ pub(crate) fn plan(
         open: Vec::new(alloc),
         shown: 0,
     };
-    walk.meet(0)?;
+    walk.meet(nodes, 0)?;
     for _ in 0..u64::MAX {
         if !walk.advance(nodes)? {
-            break;
+            return Ok(walk.lines);
         }
     }
-    Ok(walk.lines)
+    Err(NoMemory)
 }
 
-impl Walk {
+impl<'a> Walk<'a> {
     // Goes over the next edge of the newest open node, or leaves the node where it has none left. The answer is no where no
     // node is open.
-    fn advance(&mut self, nodes: &[Node<Goal, Outcome>]) -> Result<bool, NoMemory>
-        requires { IsWalk self.old.lines.items self.old.marks.items }
-        ensures { IsWalk self.new.lines.items self.new.marks.items }
+    fn advance(&mut self, nodes: &'a [Node<Goal, Outcome>]) -> Result<bool, NoMemory>
+        requires walk { IsWalk self.old.lines.items self.old.marks.items }
+        requires replayed { IsReplayed nodes.now self.old.lines.items (pending_of self.old.open.items) }
+        ensures walk { IsWalk self.new.lines.items self.new.marks.items }
+        ensures replayed { OnOk result
+            (IsReplayed nodes.now self.new.lines.items (pending_of self.new.open.items)) }
+        ensures end { result ≡ Ok false → self.new.open.items ≡ [] }
     {
         let Some(open) = self.open.pop() else {
             return Ok(false);
         };
-        match edge_at(nodes, open) {
+        match open.rest.split_first() {
             None => self.leave(open.place),
-            Some(target) => {
+            Some((edge, rest)) => {
                 self.open.push(Open {
                     place: open.place,
-                    edge: open.edge.saturating_add(1),
+                    rest,
                 })?;
-                self.meet(target)?;
+                self.meet(nodes, edge.target)?;
             }
         }
         Ok(true)
     }
 
+    fn mark_of(&self, place: usize) -> Option<Mark>
+        ensures { result ≡ slice_get self.now.marks.items place }
+    {
+        self.marks.get(place).copied()
+    }
+
     fn leave(&mut self, place: usize)
         requires { IsWalk self.old.lines.items self.old.marks.items }
-        ensures { IsWalk self.new.lines.items self.new.marks.items }
+        ensures walk { IsWalk self.new.lines.items self.new.marks.items }
+        ensures rest { (self.new.lines ≡ self.old.lines) × (self.new.open ≡ self.old.open) }
     {
-        if let Some(Mark::Open(number)) = self.marks.get(place).copied() {
+        if let Some(Mark::Open(number)) = self.mark_of(place) {
             self.marks[place] = Mark::Done(number);
         }
     }
 
     // One more line, of the node at this place.
-    fn meet(&mut self, place: usize) -> Result<(), NoMemory>
-        requires { IsWalk self.old.lines.items self.old.marks.items }
-        ensures { IsWalk self.new.lines.items self.new.marks.items }
+    fn meet(&mut self, nodes: &'a [Node<Goal, Outcome>], place: usize) -> Result<(), NoMemory>
+        requires walk { IsWalk self.old.lines.items self.old.marks.items }
+        requires expected { Expects nodes.now self.old.lines.items place (pending_of self.old.open.items) }
+        ensures walk { IsWalk self.new.lines.items self.new.marks.items }
+        ensures replayed { OnOk result
+            (IsReplayed nodes.now self.new.lines.items (pending_of self.new.open.items)) }
     {
         let level = self.open.len();
-        let Some(mark) = self.marks.get(place).copied() else {
-            return Ok(());
-        };
-        match mark {
-            Mark::Unseen if level > self.most => self.lines.push(Line::Cut { place, level })?,
-            Mark::Unseen => self.show(place, level)?,
-            Mark::Open(number) => self.again(place, level, number, true)?,
-            Mark::Done(number) => self.again(place, level, number, false)?,
+        match self.mark_of(place) {
+            Some(Mark::Unseen) if level <= self.most => self.show(nodes, place, level)?,
+            Some(Mark::Open(number)) => self.again(place, level, number, true)?,
+            Some(Mark::Done(number)) => self.again(place, level, number, false)?,
+            Some(Mark::Unseen) | None => self.lines.push(Line::Cut { place, level })?,
         }
         Ok(())
     }
+}
 
+impl<'a> Walk<'a> {
     fn again(
         &mut self,
         place: usize,
@@ -141,8 +157,12 @@ impl Walk {
         number: usize,
         closes: bool,
     ) -> Result<(), NoMemory>
-        requires { IsWalk self.old.lines.items self.old.marks.items }
-        ensures { IsWalk self.new.lines.items self.new.marks.items }
+        requires walk { IsWalk self.old.lines.items self.old.marks.items }
+        requires marked { IsMarked self.old.marks.items place number }
+        ensures walk { IsWalk self.new.lines.items self.new.marks.items }
+        ensures line { OnOk result (self.new.lines.items
+            ≡ self.old.lines.items ++ Again place level number closes ∷ []) }
+        ensures open { self.new.open ≡ self.old.open }
     {
         self.lines.push(Line::Again {
             place,
@@ -153,26 +173,40 @@ impl Walk {
         Ok(())
     }
 
-    fn show(&mut self, place: usize, level: usize) -> Result<(), NoMemory>
+    fn show(
+        &mut self,
+        nodes: &'a [Node<Goal, Outcome>],
+        place: usize,
+        level: usize,
+    ) -> Result<(), NoMemory>
         requires unseen { slice_get self.old.marks.items place ≡ Some Unseen }
         requires walk { IsWalk self.old.lines.items self.old.marks.items }
-        ensures { IsWalk self.new.lines.items self.new.marks.items }
+        ensures walk { IsWalk self.new.lines.items self.new.marks.items }
+        ensures line { OnOk result ((number : ℕ) ×
+            (self.new.lines.items ≡ self.old.lines.items ++ Shown place level number ∷ [])) }
+        ensures open { OnOk result (pending_of self.new.open.items
+            ≡ targets_of nodes.now place ∷ pending_of self.old.open.items) }
     {
         let number = self.shown;
         self.shown = number.saturating_add(1);
-        self.open.push(Open { place, edge: 0 })?;
-        self.marks[place] = Mark::Open(number);
+        let rest = edges_of(nodes, place);
+        self.open.push(Open { place, rest })?;
         self.lines.push(Line::Shown {
             place,
             level,
             number,
         })?;
+        self.marks[place] = Mark::Open(number);
         Ok(())
     }
 }
 
-// The target of the edge that comes next.
-fn edge_at(nodes: &[Node<Goal, Outcome>], open: Open) -> Option<usize> {
-    let edge = nodes.get(open.place)?.edges.get(open.edge)?;
-    Some(edge.target)
+// The edges of the node at this place.
+fn edges_of(nodes: &[Node<Goal, Outcome>], place: usize) -> &[Edge<Goal>]
+    ensures { map (λ edge. edge.target) result.now ≡ targets_of nodes.now place }
+{
+    match nodes.get(place) {
+        Some(node) => node.edges.as_slice(),
+        None => &[],
+    }
 }

@@ -1,6 +1,12 @@
+use Rattle.std.proofs.Common.{ap, ◌∙◌, ◌∷◌}
 use Rattle.std.specs.Cmp.{nat_eq_equiv}
-use Rattle.shown_graphs.proofs.Plans.{still_unseen, walk_shown}
+use Rattle.shown_graphs.specs.Plan.{pending_of}
+use Rattle.shown_graphs.proofs.Plans.{walk_shown}
+use Rattle.shown_graphs.proofs.Replay.{pending_of-push}
 use Rattle.shown_graphs.proofs.plan.Walk.show.Goals as goal
 
-pub returns : goal.returns
-returns c = rw c.in_ok-push-2.ensures.items (walk_shown nat_eq_equiv _ _ _ _ _ _ c.requires.unseen (λ q h. still_unseen _ _ q _ c.requires.unseen h) c.requires.walk)
+pub returns-clause-walk : goal.returns-clause-walk
+returns-clause-walk c = rw c.in_ok-push-2.ensures.items (walk_shown nat_eq_equiv _ _ _ _ _ _ c.requires.unseen c.requires.walk)
+
+pub returns-clause-open : goal.returns-clause-open
+returns-clause-open c = ap pending_of c.in_ok-push.ensures.items ∙ pending_of-push c.args.self.now.open.items (record { place = c.args.place; rest = c.edges_of-rest.result }) ∙ ap (λ targets. targets ∷ pending_of c.args.self.now.open.items) c.edges_of-rest.ensures
