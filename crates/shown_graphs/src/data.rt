@@ -1,4 +1,8 @@
 //! Graphs as data: what is written.
+ghost use Rattle.std.specs.Prelude.{◌≡◌, ◌∷◌, OnOk, map};
+ghost use Rattle.json.specs.Token.{begin_array, end_array};
+ghost use Rattle.shown_graphs.specs.Below.{word_of};
+ghost use Rattle.shown_graphs.specs.Data.{claim_tokens, edge_tokens, edges_tokens, HaveTexts, node_tokens, nodes_tokens, plain_node, Puts, reply_tokens, reply_word};
 
 use crate::words::{letter, name_of};
 use json::Writer;
@@ -43,26 +47,45 @@ pub(crate) fn write_answer(
     goal: Goal,
     outcome: Outcome,
     nodes: &[Node<Goal, Outcome>],
-) -> Result<(), AllocError> {
+) -> Result<(), AllocError>
+    ensures { HaveTexts rules.now → OnOk result (Puts writer.old writer.new (claim_tokens rules.now
+        (record { goal = goal; outcome = outcome; nodes = map plain_node nodes.now }))) }
+{
     writer.begin_object()?;
     writer.key("goal")?;
     writer.string(name_of(rules, goal))?;
     writer.key("verdict")?;
     writer.string(word(outcome))?;
     writer.key("nodes")?;
+    write_nodes(writer, rules, nodes)?;
+    writer.end_object()?;
+    Ok(())
+}
+
+fn write_nodes(
+    writer: &mut Writer<Global>,
+    rules: &Rules,
+    nodes: &[Node<Goal, Outcome>],
+) -> Result<(), AllocError>
+    ensures { HaveTexts rules.now → OnOk result (Puts writer.old writer.new
+        (λ rest. begin_array ∷ nodes_tokens rules.now (map plain_node nodes.now) (end_array ∷ rest))) }
+{
     writer.begin_array()?;
     for node in nodes {
         write_node(writer, rules, node)?;
     }
     writer.end_array()?;
-    writer.end_object()
+    Ok(())
 }
 
 fn write_node(
     writer: &mut Writer<Global>,
     rules: &Rules,
     node: &Node<Goal, Outcome>,
-) -> Result<(), AllocError> {
+) -> Result<(), AllocError>
+    ensures { HaveTexts rules.now → OnOk result
+        (Puts writer.old writer.new (node_tokens rules.now (plain_node node.now))) }
+{
     writer.begin_object()?;
     writer.key("goal")?;
     writer.string(name_of(rules, node.input))?;
@@ -71,34 +94,57 @@ fn write_node(
     writer.key("result")?;
     writer.string(word(node.result))?;
     writer.key("edges")?;
+    write_edges(writer, rules, &node.edges)?;
+    writer.end_object()?;
+    Ok(())
+}
+
+fn write_edges(
+    writer: &mut Writer<Global>,
+    rules: &Rules,
+    edges: &[Edge<Goal>],
+) -> Result<(), AllocError>
+    ensures { HaveTexts rules.now → OnOk result (Puts writer.old writer.new
+        (λ rest. begin_array ∷ edges_tokens rules.now edges.now (end_array ∷ rest))) }
+{
     writer.begin_array()?;
-    for edge in &node.edges {
+    for edge in edges {
         write_edge(writer, rules, *edge)?;
     }
     writer.end_array()?;
-    writer.end_object()
+    Ok(())
 }
 
-fn write_replies(
-    writer: &mut Writer<Global>,
-    replies: &[Reply<Outcome>],
-) -> Result<(), AllocError> {
+fn write_replies(writer: &mut Writer<Global>, replies: &[Reply<Outcome>]) -> Result<(), AllocError>
+    ensures { OnOk result (Puts writer.old writer.new
+        (λ rest. begin_array ∷ reply_tokens replies.now (end_array ∷ rest))) }
+{
     writer.begin_array()?;
     for reply in replies {
-        writer.string(match *reply {
-            Reply::Begin => "begin",
-            Reply::Noted => "noted",
-            Reply::Answer(outcome) => word(outcome),
-        })?;
+        writer.string(word_of_reply(*reply))?;
     }
-    writer.end_array()
+    writer.end_array()?;
+    Ok(())
+}
+
+fn word_of_reply(reply: Reply<Outcome>) -> &'static str
+    ensures { result.now ≡ reply_word reply }
+{
+    match reply {
+        Reply::Begin => "begin",
+        Reply::Noted => "noted",
+        Reply::Answer(outcome) => word(outcome),
+    }
 }
 
 fn write_edge(
     writer: &mut Writer<Global>,
     rules: &Rules,
     edge: Edge<Goal>,
-) -> Result<(), AllocError> {
+) -> Result<(), AllocError>
+    ensures { HaveTexts rules.now → OnOk result
+        (Puts writer.old writer.new (edge_tokens rules.now edge)) }
+{
     writer.begin_object()?;
     writer.key("kind")?;
     writer.string(letter(edge.kind))?;
@@ -106,11 +152,14 @@ fn write_edge(
     writer.string(name_of(rules, edge.input))?;
     writer.key("target")?;
     writer.u64(edge.target as u64)?;
-    writer.end_object()
+    writer.end_object()?;
+    Ok(())
 }
 
 /// The word of an outcome.
-pub(crate) fn word(outcome: Outcome) -> &'static str {
+pub(crate) fn word(outcome: Outcome) -> &'static str
+    ensures { result.now ≡ word_of outcome }
+{
     match outcome {
         Outcome::Yes => "yes",
         Outcome::No => "no",

@@ -6,12 +6,14 @@
 //! | `Stop` | why a program ends early |
 //! | `Plan` | the lines of a graph's text, before they are words |
 //! | `Checked` | what is known of an answer that is shown |
+//! | `Data` | the tokens that spell graphs as data |
 //! | `Watch` | what a watcher stands beside |
 #![tactic(auto)]
 
 mod answer;
 mod data;
 mod dot;
+pub mod law;
 mod page;
 mod plan;
 mod program;

@@ -1,4 +1,7 @@
 //! How goals and kinds of steps are written.
+ghost use Rattle.std.specs.Prelude.{◌≡◌, IfSome};
+ghost use Rattle.std.specs.Str.{IsUtf8};
+ghost use Rattle.shown_graphs.specs.Data.{goal_text, letter_of};
 
 use rule_tables::{Candidate, Goal, Rules};
 use search_context::path::PathKind;
@@ -6,7 +9,9 @@ use std::io;
 use std::io::Write;
 
 /// The letter of a kind, as in the rules.
-pub(crate) fn letter(kind: PathKind) -> &'static str {
+pub(crate) fn letter(kind: PathKind) -> &'static str
+    ensures { result.now ≡ letter_of kind }
+{
     match kind {
         PathKind::Inductive => "i",
         PathKind::Unknown => "u",
@@ -16,7 +21,9 @@ pub(crate) fn letter(kind: PathKind) -> &'static str {
 }
 
 /// The kind of a letter, and nothing for any other text.
-pub(crate) fn kind_of(letter: &str) -> Option<PathKind> {
+pub(crate) fn kind_of(letter: &str) -> Option<PathKind>
+    ensures { IfSome result (λ kind. letter.now ≡ letter_of kind) }
+{
     match letter {
         "i" => Some(PathKind::Inductive),
         "u" => Some(PathKind::Unknown),
@@ -27,7 +34,9 @@ pub(crate) fn kind_of(letter: &str) -> Option<PathKind> {
 }
 
 /// The goal's name. A goal of another table has none.
-pub(crate) fn name_of(rules: &Rules, goal: Goal) -> &str {
+pub(crate) fn name_of(rules: &Rules, goal: Goal) -> &str
+    ensures { IsUtf8 (goal_text rules.now goal) → result.now ≡ goal_text rules.now goal }
+{
     match rules.name(goal) {
         Some(name) => std::str::from_utf8(name).unwrap_or(""),
         None => "",
