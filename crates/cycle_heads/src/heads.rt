@@ -44,7 +44,7 @@ impl CycleHead {
 /// The goals on the stack that an answer rests on, by rising depth. Ports `CycleHeads`.
 ///
 /// Most answers rest on one goal at most, which takes no memory of its own. More stand in one list, which is
-/// searched by halves: a head in the middle moves those above it, which costs less than to find it in a tree.
+/// searched by halves; a new head in the middle moves those above it.
 #[derive(Drop)]
 pub struct CycleHeads {
     heads: SmallVec<(StackDepth, CycleHead), 1>,

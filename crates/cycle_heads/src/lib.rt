@@ -1,10 +1,11 @@
 //! What cycles are recorded by, none of which needs a context: kinds of paths and sets of them, places on the
-//! stack, counts of usages, and the maps of heads and of candidates.
+//! stack, counts of usages, and the heads of answers and of candidates, in lists by depth.
 //!
 //! | File of `specs/` | Has |
 //! |---|---|
 //! | `Path`, `Paths` | kinds of paths, and sets of them |
-//! | `Usages`, `Heads`, `Candidates` | counts of usages, and the maps of heads and candidates |
+//! | `Usages`, `Heads`, `Candidates` | counts of usages, and the lists of heads and candidates |
+//! | `Places` | where a depth stands in such a list, or would stand |
 //! | `HeadShapes` | the heads of an answer as the theory of open graphs sees them |
 #![tactic(auto)]
 
