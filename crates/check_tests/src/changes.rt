@@ -1,57 +1,39 @@
 //! Random changes of a graph's nodes.
 
 use crate::handed_out::copy_of;
-use rand_core::utils::NextWord;
-use rand_pcg::Pcg32;
+use chance::Chance;
 use rule_tables::{Goal, Outcome};
 use search_parts::context::{Edge, Node, Reply};
 use search_parts::path::PathKind;
 use std::alloc::Global;
 use std::test::Fail;
 
-/// Numbers that look random, the same ones for each seed.
-#[derive(Drop)]
-pub struct Chance {
-    words: Pcg32,
+/// A kind of step.
+fn random_kind(chance: &mut Chance) -> PathKind {
+    match chance.below(4) {
+        0 => PathKind::Inductive,
+        1 => PathKind::Unknown,
+        2 => PathKind::Coinductive,
+        _ => PathKind::ForcedAmbiguity,
+    }
 }
 
-impl Chance {
-    pub fn new(seed: u64) -> Chance {
-        Chance {
-            words: Pcg32::new(seed, 1),
-        }
+/// What a goal came to.
+fn random_outcome(chance: &mut Chance) -> Outcome {
+    match chance.below(4) {
+        0 => Outcome::Yes,
+        1 => Outcome::No,
+        2 => Outcome::Maybe,
+        _ => Outcome::Overflow,
     }
+}
 
-    /// A number below this one; 0 below 0.
-    pub fn below(&mut self, end: usize) -> usize {
-        let word = self.words.next_word() as usize;
-        word.checked_rem(end).unwrap_or(0)
-    }
-
-    fn kind(&mut self) -> PathKind {
-        match self.below(4) {
-            0 => PathKind::Inductive,
-            1 => PathKind::Unknown,
-            2 => PathKind::Coinductive,
-            _ => PathKind::ForcedAmbiguity,
-        }
-    }
-
-    fn outcome(&mut self) -> Outcome {
-        match self.below(4) {
-            0 => Outcome::Yes,
-            1 => Outcome::No,
-            2 => Outcome::Maybe,
-            _ => Outcome::Overflow,
-        }
-    }
-
-    fn reply(&mut self) -> Reply<Outcome> {
-        match self.below(6) {
-            0 => Reply::Begin,
-            1 | 2 => Reply::Noted,
-            _ => Reply::Answer(self.outcome()),
-        }
+/// What a frame was replied.
+fn random_reply(chance: &mut Chance) -> Reply<Outcome> {
+    match chance.below(6) {
+        0 => Reply::Begin,
+        1 | 2 => Reply::Noted,
+        _ => Reply::Answer(random_outcome(chance)),
     }
 }
 
@@ -97,7 +79,7 @@ fn change_node(
 ) -> Result<(), Fail> {
     match chance.below(9) {
         0 => node.input = goal,
-        1 => node.result = chance.outcome(),
+        1 => node.result = random_outcome(chance),
         2 | 3 | 4 => change_replies(&mut node.replies, chance)?,
         _ => change_edges(&mut node.edges, goal, places, chance)?,
     }
@@ -107,7 +89,7 @@ fn change_node(
 /// A reply is dropped, added or another one.
 fn change_replies(replies: &mut Vec<Reply<Outcome>>, chance: &mut Chance) -> Result<(), Fail> {
     let at = chance.below(replies.len());
-    let reply = chance.reply();
+    let reply = random_reply(chance);
     match chance.below(4) {
         0 => {
             if at < replies.len() {
@@ -138,7 +120,7 @@ fn change_edges(
         0 => usize::MAX,
         _ => chance.below(places),
     };
-    let kind = chance.kind();
+    let kind = random_kind(chance);
     match chance.below(7) {
         0 => {
             if at < edges.len() {

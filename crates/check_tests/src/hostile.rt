@@ -1,8 +1,9 @@
 //! Graphs that were handed out, changed at random: the checker says of each what the plain check says.
 
-use crate::changes::{Chance, change};
+use crate::changes::change;
 use crate::handed_out::{copy_of, graph_for, is_accepted};
 use crate::plain::is_graph;
+use chance::Chance;
 use rule_tables::delegate::Table;
 use rule_tables::{Builder, Goal, Outcome, Rules, TableDelegate};
 use search_parts::context::{Cx, Delegate, ProofGraph};

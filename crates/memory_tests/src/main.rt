@@ -20,11 +20,12 @@ mod told;
 
 use alike::write_alike;
 use asked::answers_of;
+use chance::Chance;
 use delegate_parts::Outcome;
 use failed::Failed;
 use rule_tables::delegate::Table;
 use rule_tables::{Rules, TableDelegate};
-use soak::{Chance, Tally, soak_table};
+use soak::{Tally, soak_table};
 use std::alloc::{AllocError, Global};
 use std::io;
 use std::io::{BufWriter, Read, Write};

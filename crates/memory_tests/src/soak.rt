@@ -3,9 +3,8 @@
 use crate::asked::shows;
 use crate::failed::{Failed, ensure};
 use crate::refusing::{Refusals, Refusing};
+use chance::Chance;
 use delegate_parts::{Builder, Outcome};
-use rand_core::utils::NextWord;
-use rand_pcg::Pcg32;
 use rule_tables::delegate::Table;
 use rule_tables::{Goal, Rules, TableDelegate};
 use search_graph::graph::SearchGraph;
@@ -20,31 +19,6 @@ const QUESTIONS: usize = 2000;
 
 /// The most depth of a question.
 const DEPTHS: usize = 12;
-
-/// Numbers that look random, the same ones for each seed.
-#[derive(Drop)]
-pub struct Chance {
-    words: Pcg32,
-}
-
-impl Chance {
-    pub fn new(seed: u64) -> Chance {
-        Chance {
-            words: Pcg32::new(seed, 1),
-        }
-    }
-
-    /// A number below this one; 0 below 0.
-    fn below(&mut self, end: usize) -> usize {
-        let word = self.words.next_word() as usize;
-        word.checked_rem(end).unwrap_or(0)
-    }
-
-    /// Whether something comes that happens once in so many times.
-    fn once_in(&mut self, times: usize) -> bool {
-        self.below(times) == 0
-    }
-}
 
 /// What the questions came to.
 #[derive(Clone, Copy, Debug, Default)]

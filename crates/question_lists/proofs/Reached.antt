@@ -1,12 +1,12 @@
 -- The places that are reached in a finite graph, as a list that is closed.
-use Rattle.std.proofs.Common.{◌≡◌, ℕ, zero, suc, ◌+◌, ◌<◌, ◌⊎◌, inl, inr, List, [], ◌∷◌, length, get_or, slice_get, Contains, Option, None, Some, refl, sym, subst, arith}
+use Rattle.std.proofs.Common.{◌≡◌, ℕ, zero, suc, ◌+◌, ◌<◌, ◌⊎◌, inl, inr, List, [], ◌∷◌, length, get_or, slice_get, Contains, Option, None, Some, refl, sym, ap, ◌∙◌, subst, arith}
 use Rattle.std.specs.Option.{IsSomeAnd}
 use Rattle.std.proofs.lemmas.Bool.Decides.{eqb_tells}
 use Rattle.std.proofs.lemmas.Option.{slice_get-get_or, get_or_from_slice_get}
 use Rattle.open_graphs.proofs.Members.{contains_later, first_or_later}
 use Rattle.search_context.proofs.Pigeonhole.{pigeonhole}
-use Rattle.search_context.proofs.Graphs.{HasGoal-within, IsReached-step}
-use Rattle.question_lists.specs.Below.{PathKind, Edge, GraphNode, HasEdge, IsReached, IsGraph, Question}
+use Rattle.search_context.proofs.Graphs.{goal_node, HasGoal-within, IsReached-step}
+use Rattle.question_lists.specs.Below.{PathKind, Edge, GraphNode, HasEdge, HasGoal, IsReached, IsGraph, IsWalk, Question}
 
 -- whether a number is in the list
 has : (xs : List ℕ) (n : ℕ) → Contains xs n ⊎ (Contains xs n → ⊥)
@@ -129,3 +129,11 @@ module _ {I : Type 0} (rule : I → List (Question I) → Type 0) (kind : PathKi
       grow (length nodes) (root ∷ []) (omega arith) (λ i j h k e. omega arith) (0, omega arith, refl)
       (λ at h. subst (IsReached nodes root) (one_reached at h) ([], refl))
       (λ at h. subst (λ x. x < length nodes) (one_reached at h) l)
+
+  -- and each has a node
+  pub node_at : (at : ℕ) → IsReached nodes root at → (n : GraphNode I) × (slice_get nodes at ≡ Some n)
+  node_at at w = node_after root goal graph.rooted ([], refl) at w.0 w.1
+    where
+      node_after : (from : ℕ) (asked : I) → HasGoal nodes from asked → IsReached nodes root from → (to : ℕ) (walk : List (Edge I)) → IsWalk nodes from walk to → (n : GraphNode I) × (slice_get nodes to ≡ Some n)
+      node_after from asked h r to [] e = let w = goal_node (slice_get nodes from) asked h in (w.0, ap (slice_get nodes) (sym e) ∙ w.1)
+      node_after from asked h r to (e ∷ rest) w = node_after e.target e.input (graph.closed from e r w.0) (IsReached-step nodes root from e r w.0) to rest w.1

@@ -9,7 +9,8 @@ use Rattle.shapes.specs.Bisimulation.{AreEqual, AreMatched, Equation, IsBisimula
 use Rattle.shapes.specs.Rule.{asks, asks_each, matched_parts, needs_in, needs_of, questions_in, questions_of}
 use Rattle.shapes.specs.declared.delegate.Pair.{Pair}
 use Rattle.shapes.proofs.Pairs.{agree, Agree, asks_each-at, matched_by, parts_of}
-use Rattle.question_lists.proofs.Reached.{reached, Reached}
+use Rattle.question_lists.proofs.Coinductive.{HoldsAllTheSame, never_refuted}
+use Rattle.question_lists.proofs.Reached.{node_at, reached, Reached}
 
 module _ (equations : List Equation) where
   abbrev pub proves : Pair → List (Question Pair) → Type 0
@@ -75,17 +76,10 @@ module _ (equations : List Equation) where
           };
         }
 
-    node_at : (at : ℕ) → IsReached nodes root at → (n : GraphNode Pair) × (slice_get nodes at ≡ Some n)
-    node_at at w = reached_node root pair proof.rooted (([]), refl) at w.0 w.1
-      where
-        reached_node : (from : ℕ) (goal : Pair) → HasGoal nodes from goal → IsReached nodes root from → (to : ℕ) (walk : List (Edge Pair)) → IsWalk nodes from walk to → (n : GraphNode Pair) × (slice_get nodes to ≡ Some n)
-        reached_node from goal h r to [] e = let w = goal_node (slice_get nodes from) goal h in (w.0, ap (slice_get nodes) (sym e) ∙ w.1)
-        reached_node from goal h r to (e ∷ rest) w = reached_node e.target e.input (proof.closed from e r w.0) (IsReached-step nodes root from e r w.0) to rest w.1
-
     is_bisimulation : IsBisimulation equations pairs
     is_bisimulation l r h =
         let w = Contains-map at_place all.places (l, r) h in
-        let n = node_at w.0 (all.are_reached w.0 w.1) in
+        let n = node_at proves Coinductive nodes root pair proof w.0 (all.are_reached w.0 w.1) in
         let e : (n.0.goal.left, n.0.goal.right) ≡ (l, r) = sym (ap pair_of n.1) ∙ w.2 in
         matched_at w.0 l r n.0 w.1 n.1 (ap (λ t. t.0) e, ap (λ t. t.1) e)
 
@@ -104,84 +98,20 @@ module _ (equations : List Equation) where
 
   module _ (nodes : List (GraphNode Pair)) (root : ℕ) (pair : Pair) (refutation : IsRefutationGraph refutes nodes root pair)
       (pairs : List (ℕ × ℕ)) (bisimulation : IsBisimulation equations pairs) (has_pair : Contains pairs (pair.left, pair.right)) where
-    -- a place of the graph whose pair is in the list
-    record Place : Type 0 where
-      at : ℕ
-      goal : Pair
-      is_reached : IsReached nodes root at
-      has_goal : HasGoal nodes at goal
-      is_in : Contains pairs (goal.left, goal.right)
-
-    -- from it an edge leads to another one, coinductively
-    record Step (from : Place) : Type 0 where
-      edge : Edge Pair
-      has_edge : HasEdge nodes from.at edge
-      is_coinductive : edge.kind ≡ Coinductive
-      is_in : Contains pairs (edge.input.left, edge.input.right)
-
-    step_at : (from : Place) (n : GraphNode Pair) → slice_get nodes from.at ≡ Some n → n.goal ≡ from.goal → Step from
-    step_at from n is same =
-        let m = bisimulation from.goal.left from.goal.right from.is_in in
-        let shown : refutes from.goal (map question_of n.edges) = subst (λ g. refutes g (map question_of n.edges)) same (refutation.is_shown from.at n from.is_reached is) in
-        let by = matched_by equations from.goal.left from.goal.right m.left m.right m.has_left m.has_right m.are_matched.label m.are_matched.number in
-        let o = failed_in from.goal.left from.goal.right (map question_of n.edges) (m.left.parts.items, m.right.parts.items) (matched_parts equations from.goal.left from.goal.right) by shown in
+    -- a pair of the list that is refuted has a question that failed, whose pair is in the list, too
+    goes_on : (asked : Pair) (failed : List (Question Pair)) → Contains pairs (asked.left, asked.right) → refutes asked failed → HoldsAllTheSame (λ p. Contains pairs (p.left, p.right)) failed
+    goes_on asked failed is_in shown =
+        let m = bisimulation asked.left asked.right is_in in
+        let by = matched_by equations asked.left asked.right m.left m.right m.has_left m.has_right m.are_matched.label m.are_matched.number in
+        let o = failed_in asked.left asked.right failed (m.left.parts.items, m.right.parts.items) (matched_parts equations asked.left asked.right) by shown in
         let p = parts_of m.left.parts.items m.right.parts.items o.0 o.1 in
-        let e = Contains-map question_of n.edges o.0 o.2 in
-        let asked : question_of e.0 ≡ asks p.left p.right = e.2 ∙ p.same in
         record {
-          edge = e.0;
-          has_edge = HasEdge-from nodes from.at n e.0 is e.1;
-          is_coinductive = ap (λ q. q.kind) asked;
-          is_in = subst (Contains pairs) (sym (ap (λ q. (q.goal.left, q.goal.right)) asked)) (m.are_matched.parts p.at p.left p.right p.has_left p.has_right);
+          question = o.0;
+          has_failed = o.2;
+          is_coinductive = ap (λ q. q.kind) p.same;
+          still = subst (Contains pairs) (sym (ap (λ q. (q.goal.left, q.goal.right)) p.same)) (m.are_matched.parts p.at p.left p.right p.has_left p.has_right);
         }
-
-    step : (from : Place) → Step from
-    step from = let n = goal_node (slice_get nodes from.at) from.goal from.has_goal in step_at from n.0 n.1 n.2
-
-    abbrev next : (from : Place) → Step from → Place
-    next from s = record {
-      at = s.edge.target;
-      goal = s.edge.input;
-      is_reached = IsReached-step nodes root from.at s.edge from.is_reached s.has_edge;
-      has_goal = refutation.closed from.at s.edge from.is_reached s.has_edge;
-      is_in = s.is_in;
-    }
-
-    -- the graph walked along such edges
-    abbrev place_at : ℕ → Place
-    place_at zero = record { at = root; goal = pair; is_reached = ([], refl); has_goal = refutation.rooted; is_in = has_pair }
-    place_at (suc i) = next (place_at i) (step (place_at i))
-
-    abbrev walk : ℕ → ℕ → List (Edge Pair)
-    walk i zero = []
-    walk i (suc n) = (step (place_at i)).edge ∷ walk (suc i) n
-
-    walk-is : (i n j : ℕ) → i + n ≡ j → IsWalk nodes (place_at i).at (walk i n) (place_at j).at
-    walk-is i zero j e = let same : i ≡ j = omega arith in ap (λ k. (place_at k).at) same
-    walk-is i (suc n) j e = ((step (place_at i)).has_edge, walk-is (suc i) n j (omega arith))
-
-    greater_of : (k : PathKind) → k ≡ Coinductive ⊎ k ≡ Inductive → greater_kind Coinductive k ≡ Coinductive
-    greater_of k (inl e) = ap (greater_kind Coinductive) e
-    greater_of k (inr e) = ap (greater_kind Coinductive) e
-
-    rest_kind : (i n : ℕ) → walk_kind (walk i n) ≡ Coinductive ⊎ walk_kind (walk i n) ≡ Inductive
-    rest_kind i zero = inr refl
-    rest_kind i (suc n) = inl (ap (λ k. greater_kind k (walk_kind (walk (suc i) n))) (step (place_at i)).is_coinductive ∙ greater_of (walk_kind (walk (suc i) n)) (rest_kind (suc i) n))
-
-    whole_kind : (i n : ℕ) → walk_kind (walk i (suc n)) ≡ Coinductive
-    whole_kind i n = ap (λ k. greater_kind k (walk_kind (walk (suc i) n))) (step (place_at i)).is_coinductive ∙ greater_of (walk_kind (walk (suc i) n)) (rest_kind (suc i) n)
-
-    apart : (k : PathKind) → k ≡ Coinductive → k ≡ Inductive → ⊥
-    apart k e f = absurd cc
-
-    closes : (i n j : ℕ) → i + suc n ≡ j → (place_at i).at ≡ (place_at j).at → ⊥
-    closes i n j e same =
-        apart (walk_kind (walk i (suc n))) (whole_kind i n)
-        (refutation.cycles (place_at i).at (step (place_at i)).edge (walk (suc i) n) (place_at i).is_reached
-        (subst (λ x. IsWalk nodes (place_at i).at (walk i (suc n)) x) (sym same) (walk-is i (suc n) j e)))
 
     -- what is refuted is not equal
     pub never_equal : ⊥
-    never_equal =
-        let w = pigeonhole (length nodes) (λ i. (place_at i).at) (λ i h. HasGoal-within nodes (place_at i).at (place_at i).goal (place_at i).has_goal) in
-        closes w.0 (w.1 - suc w.0) w.1 (omega (arith, w.2)) w.4
+    never_equal = never_refuted refutes nodes root pair refutation (λ p. Contains pairs (p.left, p.right)) goes_on has_pair

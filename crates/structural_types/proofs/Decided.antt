@@ -14,7 +14,8 @@ use Rattle.structural_types.specs.Subtypes.{Form, IsBelow, IsSimulation, IsSuppo
 use Rattle.structural_types.specs.Rule.{asks, needs_of, pair, pairs_of, questions_of}
 use Rattle.structural_types.specs.declared.delegate.Pair.{Pair}
 use Rattle.structural_types.proofs.Follows.{follows, Follows, supported}
-use Rattle.question_lists.proofs.Reached.{reached, Reached}
+use Rattle.question_lists.proofs.Coinductive.{HoldsAllTheSame, never_refuted}
+use Rattle.question_lists.proofs.Reached.{node_at, reached, Reached}
 
 module _ (forms : List Form) where
   abbrev pub proves : Pair → List (Question Pair) → Type 0
@@ -56,17 +57,10 @@ module _ (forms : List Form) where
         (λ x y h. let edge = Contains-map question_of n.edges (asks (pair x y)) h in edge_pair at edge.0 x y here (HasEdge-from nodes at n edge.0 is edge.1) edge.2)
         at_goal
 
-    node_at : (at : ℕ) → IsReached nodes root at → (n : GraphNode Pair) × (slice_get nodes at ≡ Some n)
-    node_at at w = reached_node root goal proof.rooted (([]), refl) at w.0 w.1
-      where
-        reached_node : (from : ℕ) (asked : Pair) → HasGoal nodes from asked → IsReached nodes root from → (to : ℕ) (walk : List (Edge Pair)) → IsWalk nodes from walk to → (n : GraphNode Pair) × (slice_get nodes to ≡ Some n)
-        reached_node from asked h r to [] e = let w = goal_node (slice_get nodes from) asked h in (w.0, ap (slice_get nodes) (sym e) ∙ w.1)
-        reached_node from asked h r to (e ∷ rest) w = reached_node e.target e.input (proof.closed from e r w.0) (IsReached-step nodes root from e r w.0) to rest w.1
-
     is_simulation : IsSimulation forms pairs
     is_simulation l r h =
         let w = Contains-map at_place all.places (l, r) h in
-        let n = node_at w.0 (all.are_reached w.0 w.1) in
+        let n = node_at proves Coinductive nodes root goal proof w.0 (all.are_reached w.0 w.1) in
         let e : (n.0.goal.left, n.0.goal.right) ≡ (l, r) = sym (ap pair_at n.1) ∙ w.2 in
         supported_at w.0 l r n.0 w.1 n.1 (ap (λ t. t.0) e, ap (λ t. t.1) e)
 
@@ -78,97 +72,24 @@ module _ (forms : List Form) where
       has_pair = subst (Contains pairs) (goal_at root goal proof.rooted) (Contains-mapped at_place all.places root all.has_root);
     }
 
-  -- a question that failed, of a pair that is below
-  record FailedBelow (failed : List (Question Pair)) : Type 0 where
-    asked : Pair
-    has_failed : Contains failed (asks asked)
-    is_below : IsBelow forms asked.left asked.right
+  -- the pair is below
+  abbrev AreBelow : Pair → Type 0
+  AreBelow goal = IsBelow forms goal.left goal.right
 
-  failed_by : (needs : Needs) (asked : List Pair) (failed : List (Question Pair)) → Follows forms needs asked → Refutes needs (map asks asked) failed → FailedBelow failed
+  -- what is below, and refuted, has a question that failed of a pair that is below, too
+  failed_by : (needs : Needs) (asked : List Pair) (failed : List (Question Pair)) → Follows forms needs asked → Refutes needs (map asks asked) failed → HoldsAllTheSame AreBelow failed
   failed_by All asked failed below fails =
       let w = Contains-map asks asked fails.0 fails.1 in
-      record { asked = w.0; has_failed = subst (Contains failed) (sym w.2) fails.2; is_below = below w.0 w.1 }
+      record { question = asks w.0; has_failed = subst (Contains failed) (sym w.2) fails.2; is_coinductive = refl; still = below w.0 w.1 }
   failed_by Any asked failed below fails =
-      record { asked = below.0; has_failed = fails (asks below.0) (Contains-mapped asks asked below.0 below.1); is_below = below.2 }
+      record { question = asks below.0; has_failed = fails (asks below.0) (Contains-mapped asks asked below.0 below.1); is_coinductive = refl; still = below.2 }
 
-  module _ (nodes : List (GraphNode Pair)) (root : ℕ) (goal : Pair) (refutation : IsRefutationGraph refutes nodes root goal) (below : IsBelow forms goal.left goal.right) where
-    -- a place of the graph whose pair is below all the same
-    record Place : Type 0 where
-      at : ℕ
-      asked : Pair
-      is_reached : IsReached nodes root at
-      has_goal : HasGoal nodes at asked
-      is_below : IsBelow forms asked.left asked.right
+  goes_on : (goal : Pair) (failed : List (Question Pair)) → AreBelow goal → refutes goal failed → HoldsAllTheSame AreBelow failed
+  goes_on goal failed below shown = failed_by (needs_of forms goal) (pairs_of forms goal) failed (follows forms goal.left goal.right below) shown
 
-    -- from it an edge leads to another one, coinductively
-    record Step (from : Place) : Type 0 where
-      edge : Edge Pair
-      has_edge : HasEdge nodes from.at edge
-      is_coinductive : edge.kind ≡ Coinductive
-      is_below : IsBelow forms edge.input.left edge.input.right
-
-    step_at : (from : Place) (n : GraphNode Pair) → slice_get nodes from.at ≡ Some n → n.goal ≡ from.asked → Step from
-    step_at from n is same =
-        let shown : refutes from.asked (map question_of n.edges) = subst (λ g. refutes g (map question_of n.edges)) same (refutation.is_shown from.at n from.is_reached is) in
-        let failed = failed_by (needs_of forms from.asked) (pairs_of forms from.asked) (map question_of n.edges) (follows forms from.asked.left from.asked.right from.is_below) shown in
-        let e = Contains-map question_of n.edges (asks failed.asked) failed.has_failed in
-        record {
-          edge = e.0;
-          has_edge = HasEdge-from nodes from.at n e.0 is e.1;
-          is_coinductive = ap (λ q. q.kind) e.2;
-          is_below = subst (λ g. IsBelow forms g.left g.right) (sym (ap (λ q. q.goal) e.2)) failed.is_below;
-        }
-
-    step : (from : Place) → Step from
-    step from = let n = goal_node (slice_get nodes from.at) from.asked from.has_goal in step_at from n.0 n.1 n.2
-
-    abbrev next : (from : Place) → Step from → Place
-    next from s = record {
-      at = s.edge.target;
-      asked = s.edge.input;
-      is_reached = IsReached-step nodes root from.at s.edge from.is_reached s.has_edge;
-      has_goal = refutation.closed from.at s.edge from.is_reached s.has_edge;
-      is_below = s.is_below;
-    }
-
-    -- the graph walked along such edges
-    abbrev place_at : ℕ → Place
-    place_at zero = record { at = root; asked = goal; is_reached = ([], refl); has_goal = refutation.rooted; is_below = below }
-    place_at (suc i) = next (place_at i) (step (place_at i))
-
-    abbrev walk : ℕ → ℕ → List (Edge Pair)
-    walk i zero = []
-    walk i (suc n) = (step (place_at i)).edge ∷ walk (suc i) n
-
-    walk-is : (i n j : ℕ) → i + n ≡ j → IsWalk nodes (place_at i).at (walk i n) (place_at j).at
-    walk-is i zero j e = let same : i ≡ j = omega arith in ap (λ k. (place_at k).at) same
-    walk-is i (suc n) j e = ((step (place_at i)).has_edge, walk-is (suc i) n j (omega arith))
-
-    greater_of : (k : PathKind) → k ≡ Coinductive ⊎ k ≡ Inductive → greater_kind Coinductive k ≡ Coinductive
-    greater_of k (inl e) = ap (greater_kind Coinductive) e
-    greater_of k (inr e) = ap (greater_kind Coinductive) e
-
-    rest_kind : (i n : ℕ) → walk_kind (walk i n) ≡ Coinductive ⊎ walk_kind (walk i n) ≡ Inductive
-    rest_kind i zero = inr refl
-    rest_kind i (suc n) = inl (ap (λ k. greater_kind k (walk_kind (walk (suc i) n))) (step (place_at i)).is_coinductive ∙ greater_of (walk_kind (walk (suc i) n)) (rest_kind (suc i) n))
-
-    whole_kind : (i n : ℕ) → walk_kind (walk i (suc n)) ≡ Coinductive
-    whole_kind i n = ap (λ k. greater_kind k (walk_kind (walk (suc i) n))) (step (place_at i)).is_coinductive ∙ greater_of (walk_kind (walk (suc i) n)) (rest_kind (suc i) n)
-
-    differ : (k : PathKind) → k ≡ Coinductive → k ≡ Inductive → ⊥
-    differ k e f = absurd cc
-
-    closes : (i n j : ℕ) → i + suc n ≡ j → (place_at i).at ≡ (place_at j).at → ⊥
-    closes i n j e same =
-        differ (walk_kind (walk i (suc n))) (whole_kind i n)
-        (refutation.cycles (place_at i).at (step (place_at i)).edge (walk (suc i) n) (place_at i).is_reached
-        (subst (λ x. IsWalk nodes (place_at i).at (walk i (suc n)) x) (sym same) (walk-is i (suc n) j e)))
-
-    -- what is refuted is not below
-    pub never_below : ⊥
-    never_below =
-        let w = pigeonhole (length nodes) (λ i. (place_at i).at) (λ i h. HasGoal-within nodes (place_at i).at (place_at i).asked (place_at i).has_goal) in
-        closes w.0 (w.1 - suc w.0) w.1 (omega (arith, w.2)) w.4
+  -- what is refuted is not below
+  never_below : (nodes : List (GraphNode Pair)) (root : ℕ) (goal : Pair) → IsRefutationGraph refutes nodes root goal → AreBelow goal → ⊥
+  never_below nodes root goal refutation below = never_refuted refutes nodes root goal refutation AreBelow goes_on below
 
   -- the node, if there is one, is the root of a proof graph
   pub proved_below : (node : Option NodeId) (nodes : List (GraphNode Pair)) (goal : Pair) → IsSomeAnd node (λ root. IsProofGraph proves nodes root.0 goal) → IsBelow forms goal.left goal.right

@@ -1,27 +1,12 @@
 //! Texts drawn at random.
 
 use crate::searched::agreed;
-use rand_core::utils::NextWord;
-use rand_pcg::Pcg32;
+use chance::Chance;
 use std::alloc::Global;
 use std::io::Write;
 use std::process::Abort;
 use std::test::Fail;
 use type_texts::{ReadFault, TypeTable};
-
-/// Numbers that look random, the same ones for each seed.
-#[derive(Drop)]
-struct Chance {
-    words: Pcg32,
-}
-
-impl Chance {
-    /// A number below this one; 0 below 0.
-    fn below(&mut self, end: usize) -> usize {
-        let word = self.words.next_word() as usize;
-        word.checked_rem(end).unwrap_or(0)
-    }
-}
 
 /// A text of so many types, `t0` and so on.
 fn random_text(alloc: Global, chance: &mut Chance, size: usize) -> Result<Vec<u8>, Fail> {
@@ -83,9 +68,7 @@ fn expect_texts(
     texts: usize,
     size: usize,
 ) -> Result<(), Fail> {
-    let mut chance = Chance {
-        words: Pcg32::new(seed, 1),
-    };
+    let mut chance = Chance::new(seed);
     let mut tally = Tally::default();
     for _ in 0..texts {
         let text = random_text(rt.alloc(), &mut chance, size)?;
@@ -111,15 +94,15 @@ fn expect_texts(
 
 #[test]
 fn texts_of_three_types_are_answered_plainly(rt: HostRuntime) -> Result<(), Fail> {
-    expect_texts(&rt, 3, 1000, 3)
+    expect_texts(&rt, 3, 50_000, 3)
 }
 
 #[test]
 fn texts_of_five_types_are_answered_plainly(rt: HostRuntime) -> Result<(), Fail> {
-    expect_texts(&rt, 5, 600, 5)
+    expect_texts(&rt, 5, 30_000, 5)
 }
 
 #[test]
 fn texts_of_eight_types_are_answered_plainly(rt: HostRuntime) -> Result<(), Fail> {
-    expect_texts(&rt, 8, 400, 8)
+    expect_texts(&rt, 8, 20_000, 8)
 }

@@ -1,0 +1,10 @@
+//! Tests of where the search decides: random tables, with at most two runs of each goal, beside a solver that works out from
+//! the definition alone which goals have a proof graph.
+#![tactic(auto)]
+
+#[cfg(test)]
+mod decided;
+#[cfg(test)]
+mod drawn;
+#[cfg(test)]
+mod solved;
