@@ -3,7 +3,7 @@
 use Rattle.std.proofs.Common.{◌≡◌, ℕ, zero, suc, ◌+◌, ◌-◌, ◌⊎◌, inl, inr, List, [], ◌∷◌, length, Contains, refl, sym, ap, ◌∙◌, subst, arith}
 use Rattle.search_context.proofs.Graphs.{HasGoal-within}
 use Rattle.search_context.proofs.Pigeonhole.{pigeonhole}
-use Rattle.question_lists.specs.Below.{Coinductive, Edge, GraphNode, HasEdge, HasGoal, Inductive, IsRefutationGraph, IsReached, IsWalk, PathKind, Question, greater_kind, walk_kind}
+use Rattle.question_lists.specs.Below.{Coinductive, Edge, GraphNode, HasEdge, HasGoal, Inductive, IsReached, IsRefutationGraph, IsWalk, PathKind, Question, greater_kind, walk_kind}
 use Rattle.question_lists.proofs.Inductive.{is_shown}
 
 -- a coinductive question among those that failed, whose goal holds all the same

@@ -7,7 +7,7 @@ pub use Rattle.delegate_parts.specs.declared.goals.ContextOf.{ContextOf}
 pub use Rattle.delegate_parts.specs.declared.outcome.Outcome.{Outcome}
 pub use Rattle.delegate_parts.specs.declared.outcome.Outcome.TheVariants.{Maybe, No, Overflow, Yes}
 pub use Rattle.search_context.specs.Decisive.{AreDecided, IsDecidedKind, IsDecisive}
-pub use Rattle.search_context.specs.Graph.{GraphNode, HasEdge, HasGoal, IsGraph, IsProofGraph, IsReached, IsWalk, question_of, walk_kind}
+pub use Rattle.search_context.specs.Graph.{GraphNode, HasEdge, HasGoal, IsGraph, IsProofGraph, IsReached, IsRefutationGraph, IsWalk, question_of, walk_kind}
 pub use Rattle.search_context.specs.Question.{IsWithin, Overlap, Question}
 pub use Rattle.search_context.specs.Rank.{AsksOnly, IsOrderlyTo, IsPlainTo, IsPlainValue, IsRanked, IsResultOf}
 pub use Rattle.search_context.specs.Run.{AreRepliesTo, Asked, EndsIn, Fits, IsFitting, IsReplyTo, is_counted, Progress}
