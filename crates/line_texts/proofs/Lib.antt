@@ -1,3 +1,4 @@
 pub mod FirstWords
 pub mod NameLemmas
 pub mod Bytes
+pub mod Written

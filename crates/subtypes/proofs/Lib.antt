@@ -1,4 +1,3 @@
 pub mod Right
-pub mod Written
 pub mod Telling
 pub mod OfText

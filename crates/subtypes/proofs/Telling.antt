@@ -8,15 +8,15 @@ use Rattle.std.proofs.lemmas.List.Folds.{list_all-append}
 use Rattle.std.specs.Prelude.{IfOk, is_ok}
 use Rattle.std.specs.Io.KnownBytes.{Appends}
 use Rattle.std.specs.List.{list_all}
-use Rattle.line_texts.specs.Writing.{AppendsBeginning}
+use Rattle.line_texts.specs.Writing.{AppendsBeginning, Passes}
 use Rattle.delegate_parts.specs.declared.outcome.Outcome.{Outcome}
 use Rattle.search_context.specs.declared.context.Fault.{Fault}
 use Rattle.structural_types.specs.declared.delegate.Pair.{Pair}
 use Rattle.structural_types.specs.declared.types.Form.{Form}
 use Rattle.subtypes.specs.Answers.{Answered, AreAllTold, AreFirstTold, AreTold, IsTold, line_of, name_of}
-use Rattle.subtypes.specs.Told.{line_told, Passes}
+use Rattle.subtypes.specs.Told.{line_told}
 use Rattle.subtypes.specs.declared.program.questions.Told.{Told}
-use Rattle.subtypes.proofs.Written.{all_written, begins_more, passes_more, waits_more}
+use Rattle.line_texts.proofs.Written.{all_written, begins_more, passes_more, waits_more}
 use Rattle.type_texts.specs.declared.table.TypeTable.{TypeTable}
 use Rattle.type_texts.specs.Table.{forms_in, questions_of}
 

@@ -1,6 +1,5 @@
 -- What a question came to, and the line that tells it.
-use Rattle.std.specs.Prelude.{◌≡◌, ℕ, List, [], ◌++◌, Option, Result, Ok, Err, codes}
-use Rattle.std.specs.Io.KnownBytes.{Appends}
+use Rattle.std.specs.Prelude.{◌≡◌, ℕ, List, [], ◌++◌, Result, Ok, Err, codes}
 use Rattle.search_context.specs.declared.context.Fault.{Fault}
 use Rattle.search_context.specs.declared.context.Fault.TheVariants.{Conflict, Memory, Protocol, Validation}
 use Rattle.search_context.specs.declared.context.Verdict.{Verdict}
@@ -38,9 +37,3 @@ words_of_answer (Err fault) = codes " fault " ++ fault_word_of fault ++ codes "\
 -- the line of a question: its names, and what it came to
 abbrev pub line_told : (left right : List ℕ) → Result Told (Fault Pair Outcome) → List ℕ
 line_told left right came = left ++ codes " < " ++ right ++ words_of_answer came
-
--- Known bytes grow by those that waited, but for those that wait still.
-pub record Passes (old new : Option (List ℕ)) (waited waits : List ℕ) : Type 0 where
-  pub bytes : List ℕ
-  pub written : Appends old new bytes
-  pub others : waited ≡ bytes ++ waits

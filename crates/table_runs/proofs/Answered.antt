@@ -10,10 +10,10 @@ use Rattle.table_runs.specs.Below.{CxOf, DelegateOf, Cache, Goal, Outcome, IsPai
 use Rattle.table_runs.specs.declared.program.questions.Checks.{Checks}
 use Rattle.std.specs.Io.KnownBytes.{Appends}
 use Rattle.std.specs.List.{list_all}
-use Rattle.line_texts.specs.Writing.{AppendsBeginning}
-use Rattle.table_runs.specs.Told.{Answered, is_fine, line_of, Passes}
+use Rattle.line_texts.specs.Writing.{AppendsBeginning, Passes}
+use Rattle.table_runs.specs.Told.{Answered, is_fine, line_of}
 use Rattle.table_runs.specs.Answers.{AreAllTold, AreFirstTold, AreTold, IsAnswered, InTurn}
-use Rattle.table_runs.proofs.Written.{all_written, begins_more, passes_more, waits_more}
+use Rattle.line_texts.proofs.Written.{all_written, begins_more, passes_more, waits_more}
 
 pub IfSome-weaker : {T : Type 0} (o : Option T) (P Q : T → Type 0) → ((x : T) → P x → Q x) → IfSome o P → IfSome o Q
 IfSome-weaker None P Q f h = tt

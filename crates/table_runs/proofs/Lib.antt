@@ -1,4 +1,3 @@
 pub mod Accepted
-pub mod Written
 pub mod Answered
 pub mod OfText

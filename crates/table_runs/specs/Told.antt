@@ -1,6 +1,5 @@
 -- What a question came to, and the line that tells it.
-use Rattle.std.specs.Prelude.{◌≡◌, ◌≢◌, ◌↔◌, ℕ, Bool, true, false, List, [], ◌++◌, Result, Ok, Err, codes, decimal, take, Option}
-use Rattle.std.specs.Io.KnownBytes.{Appends}
+use Rattle.std.specs.Prelude.{◌≡◌, ◌≢◌, ◌↔◌, ℕ, Bool, true, false, List, [], ◌++◌, Result, Ok, Err, codes, decimal}
 use Rattle.std.specs.Option.{unwrap_or}
 use Rattle.table_runs.specs.Below.{Fault, Memory, Conflict, Validation, Protocol, Outcome, word_of, IsDefinite, Verdicts, Goal, Rules, name_of}
 use Rattle.table_runs.specs.declared.program.questions.Told.{Told}
@@ -58,9 +57,3 @@ line_told name came = name ++ words_of_answer came
 -- the line of a question that was asked of these rules
 abbrev pub line_of : Rules → Answered → List ℕ
 line_of rules answered = line_told (unwrap_or (name_of rules answered.question.1) []) answered.came
-
--- Known bytes grow by those that waited, but for those that wait still.
-pub record Passes (old new : Option (List ℕ)) (waited waits : List ℕ) : Type 0 where
-  pub bytes : List ℕ
-  pub written : Appends old new bytes
-  pub others : waited ≡ bytes ++ waits

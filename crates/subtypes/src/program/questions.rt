@@ -1,11 +1,11 @@
 //! The questions of a text: each is asked, and told on a line.
 ghost use Rattle.std.specs.Prelude.{◌≡◌, ◌⊎◌, ◌++◌, IfErr, IfOk, OnErr, OnOk, Err};
 ghost use Rattle.std.specs.Io.KnownBytes.{Appends};
-ghost use Rattle.line_texts.specs.Writing.{AppendsBeginning};
+ghost use Rattle.line_texts.specs.Writing.{AppendsBeginning, Passes};
 ghost use Rattle.structural_types.specs.Asked.{declared_in};
 ghost use Rattle.structural_types.specs.Subtypes.{forms_of};
 ghost use Rattle.subtypes.specs.Answers.{AreAllTold, AreFirstTold, IsTold, name_of};
-ghost use Rattle.subtypes.specs.Told.{fault_word_of, IsRight, line_told, Passes, verdict_word_of, words_of_answer};
+ghost use Rattle.subtypes.specs.Told.{fault_word_of, IsRight, line_told, verdict_word_of, words_of_answer};
 ghost use Rattle.type_texts.specs.Table.{forms_in};
 
 use crate::program::Stop;

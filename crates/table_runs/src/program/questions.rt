@@ -3,8 +3,8 @@ ghost use Rattle.std.specs.Prelude.{◌≡◌, ◌≢◌, ◌⊎◌, ◌++◌, I
 ghost use Rattle.std.specs.Io.KnownBytes.{Appends};
 ghost use Rattle.table_runs.specs.Answers.{AreAllTold, AreCountedStarts, AreFirstTold, IsAnswered};
 ghost use Rattle.table_runs.specs.Below.{HasGraph, verdicts};
-ghost use Rattle.line_texts.specs.Writing.{AppendsBeginning};
-ghost use Rattle.table_runs.specs.Told.{fault_word_of, IsChecked, is_fine, line_told, Passes, told_words, words_of_answer};
+ghost use Rattle.line_texts.specs.Writing.{AppendsBeginning, Passes};
+ghost use Rattle.table_runs.specs.Told.{fault_word_of, IsChecked, is_fine, line_told, told_words, words_of_answer};
 
 use crate::program::shown::ShownNodes;
 use delegate_parts::{Builder, Outcome};

@@ -1,7 +1,7 @@
 use Rattle.std.proofs.Common.{◌∙◌, ◌&&◌, ap, arith, refl}
 use Rattle.std.proofs.KnownBytes.{Appends-kept}
 use Rattle.subtypes.proofs.Telling.{all_told, first_told, none_begun, none_waits, question_waits, told_on}
-use Rattle.subtypes.proofs.Written.{on_err, whole_begins}
+use Rattle.line_texts.proofs.Written.{on_err, whole_begins}
 use Rattle.subtypes.proofs.program.questions.answer_questions.Goals as goal
 
 pub returns-in_err-waiting-clause-beginning : goal.returns-in_err-waiting-clause-beginning

@@ -4,7 +4,7 @@ use Rattle.std.specs.Option.{unwrap_or}
 use Rattle.rule_tables.specs.contracts.rules.GoalPartialEq.TheImpl.{eq-value}
 use Rattle.table_runs.specs.Told.{line_told}
 use Rattle.table_runs.proofs.Answered.{all_told, first_told, line_waits, none_begun, none_waits, told_on}
-use Rattle.table_runs.proofs.Written.{copied_or, on_err, whole_begins}
+use Rattle.line_texts.proofs.Written.{copied_or, on_err, whole_begins}
 use Rattle.table_runs.proofs.program.questions.answer_questions.Goals as goal
 
 pub returns-in_err-waiting-clause-beginning : goal.returns-in_err-waiting-clause-beginning

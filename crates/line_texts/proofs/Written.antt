@@ -6,8 +6,7 @@ use Rattle.std.proofs.Math.Seq.{take-append-add, take-length}
 use Rattle.std.specs.Borrow.{Bor}
 use Rattle.std.specs.Io.KnownBytes.{Appends}
 use Rattle.std.specs.Option.{option_copied, unwrap_or}
-use Rattle.line_texts.specs.Writing.{AppendsBeginning}
-use Rattle.subtypes.specs.Told.{Passes}
+use Rattle.line_texts.specs.Writing.{AppendsBeginning, Passes}
 
 -- the bytes behind a reference, if there is one
 pub copied_or : (o : Option (Bor (List ℕ))) (d : Bor (List ℕ)) → (unwrap_or o d).now ≡ unwrap_or (option_copied o) d.now
