@@ -1,5 +1,5 @@
 -- What the answer to a pair says of its shapes.
-use Rattle.std.proofs.Common.{◌≡◌, ℕ, List, Contains, Option, None, Some, sym, ap, subst, arith}
+use Rattle.std.proofs.Common.{ℕ, List, Contains, Option, None, Some, sym, ap, subst, arith}
 use Rattle.std.specs.Option.{IsSomeAnd}
 use Rattle.question_lists.proofs.Ranked.{decisive, scripts}
 use Rattle.shapes.specs.Below.{GraphNode, IsDecidedKind, IsDecisive, IsProofGraph, IsRefutationGraph, NodeId, outcome_verdicts, Question}

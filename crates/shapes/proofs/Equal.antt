@@ -1,11 +1,9 @@
 -- A proof graph of a pair gives a bisimulation, and a refutation graph leaves none.
-use Rattle.std.proofs.Common.{◌≡◌, ℕ, zero, suc, ◌+◌, ◌-◌, ◌<◌, ◌≤◌, ◌⊎◌, inl, inr, List, [], ◌∷◌, map, length, slice_get, Contains, Option, None, Some, refl, sym, ap, ap₂, ◌∙◌, subst, arith}
-use Rattle.std.proofs.lemmas.Bool.{eqb-true}
-use Rattle.search_context.proofs.Graphs.{Contains-map, Contains-mapped, goal_node, HasGoal-within, HasEdge-from, IsReached-step}
-use Rattle.search_context.proofs.Pigeonhole.{pigeonhole}
+use Rattle.std.proofs.Common.{◌≡◌, ℕ, List, map, length, slice_get, Contains, Option, None, Some, refl, sym, ap, ap₂, ◌∙◌, subst, arith}
+use Rattle.search_context.proofs.Graphs.{Contains-map, Contains-mapped, goal_node, HasEdge-from}
 use Rattle.question_lists.specs.Told.{Contains-at}
-use Rattle.shapes.specs.Below.{Coinductive, Inductive, PathKind, greater_kind, Edge, GraphNode, HasEdge, HasGoal, IsReached, IsWalk, IsProofGraph, IsRefutationGraph, question_of, walk_kind, Question, IsWithin, Overlap, Proves, Refutes}
-use Rattle.shapes.specs.Bisimulation.{AreEqual, AreMatched, Equation, IsBisimulation, IsMatchedPair}
+use Rattle.shapes.specs.Below.{Coinductive, Edge, GraphNode, HasEdge, HasGoal, IsProofGraph, IsRefutationGraph, question_of, Question, IsWithin, Overlap, Proves, Refutes}
+use Rattle.shapes.specs.Bisimulation.{AreEqual, Equation, IsBisimulation, IsMatchedPair}
 use Rattle.shapes.specs.Rule.{asks, asks_each, matched_parts, needs_in, needs_of, questions_in, questions_of}
 use Rattle.shapes.specs.declared.delegate.Pair.{Pair}
 use Rattle.shapes.proofs.Pairs.{agree, Agree, asks_each-at, matched_by, parts_of}

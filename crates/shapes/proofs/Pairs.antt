@@ -1,10 +1,10 @@
 -- The questions of a pair, by the parts of both shapes.
-use Rattle.std.proofs.Common.{◌≡◌, ℕ, zero, suc, ◌+◌, ◌<◌, ◌≤◌, ◌==◌, ◌&&◌, Bool, true, false, cond, List, [], ◌∷◌, length, sum_by, slice_get, get_or, Contains, Option, None, Some, refl, sym, ap, ap₂, ◌∙◌, subst, arith}
+use Rattle.std.proofs.Common.{◌≡◌, ℕ, zero, suc, ◌<◌, ◌≤◌, ◌==◌, ◌&&◌, Bool, true, false, cond, List, [], ◌∷◌, length, slice_get, get_or, Contains, Option, None, Some, refl, sym, ap, ap₂, ◌∙◌, subst, arith}
 use Rattle.std.specs.Option.{unwrap_or}
 use Rattle.std.proofs.lemmas.Bool.{eqb-true, eq-eqb}
 use Rattle.std.proofs.lemmas.List.Sums.{get_or-le-sum_by}
 use Rattle.std.proofs.lemmas.Option.{slice_get_within, get_or_from_slice_get}
-use Rattle.question_lists.specs.Told.{Contains-at, at-Contains}
+use Rattle.question_lists.specs.Told.{at-Contains}
 use Rattle.shapes.specs.Below.{Coinductive, Question}
 use Rattle.shapes.specs.Bisimulation.{Equation}
 use Rattle.shapes.specs.Rule.{asks, asks_each, matched_parts, most_parts, pair_of, parts_at, parts_in, questions_in}

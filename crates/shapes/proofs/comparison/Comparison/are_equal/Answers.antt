@@ -1,4 +1,4 @@
-use Rattle.std.proofs.Common.{◌≡◌, false, true, refl, rules, sym, subst}
+use Rattle.std.proofs.Common.{◌≡◌, false, rules, sym, subst}
 use Rattle.shapes.specs.Below.{graph_nodes_of, Neither, No, Yes}
 use Rattle.shapes.specs.Bisimulation.{AreEqual, equations_of}
 use Rattle.question_lists.proofs.Verdicts.{known_true, never_neither}

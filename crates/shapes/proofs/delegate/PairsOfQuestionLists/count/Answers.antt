@@ -1,4 +1,4 @@
-use Rattle.std.proofs.Common.{◌≡◌, ◌≤◌, ◌∙◌, Some, length, sym, ap, refl, arith, subst}
+use Rattle.std.proofs.Common.{◌≡◌, ◌≤◌, ◌∙◌, length, sym, ap, refl, arith, subst}
 use Rattle.std.specs.Option.{option_map}
 use Rattle.shapes.specs.Bisimulation.{equations_of}
 use Rattle.shapes.specs.Rule.{matched_parts, most_parts, questions_in}
