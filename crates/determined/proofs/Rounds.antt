@@ -1,0 +1,170 @@
+-- Places that are each won or lost once it is known which places count: `inner` for inductive questions, `outer` for
+-- coinductive ones. A round takes in what is won with the set so far as `inner`, and with `outer` as it is. A stage
+-- leaves of `outer` what some round took in. Rounds only grow and stages only shrink, so both come to an end. What
+-- the last stage leaves is won, by places that came in before and by places that are left; what a stage took out is
+-- lost, by places that were taken out no later.
+use Rattle.std.proofs.Common.{◌≡◌, ℕ, zero, suc, ◌+◌, ◌<◌, ◌≤◌, Bool, true, false, not, ◌&&◌, ◌||◌, ◌⊎◌, inl, inr, refl, sym, ◌∙◌, subst, arith}
+use Rattle.std.proofs.lemmas.Bool.{cases_Bool}
+use Rattle.determined.proofs.Growth.{came, came_at, came_by, later, stops}
+
+abbrev is_left : {A B : Type 0} → A ⊎ B → Bool
+is_left (inl a) = true
+is_left (inr b) = false
+
+left_of : {A B : Type 0} (s : A ⊎ B) → is_left s ≡ true → A
+left_of (inl a) is = a
+left_of (inr b) is = absurd cc
+
+right_of : {A B : Type 0} (s : A ⊎ B) → is_left s ≡ false → B
+right_of (inl a) is = absurd cc
+right_of (inr b) is = b
+
+or_left : (a b : Bool) → a ≡ true → (a || b) ≡ true
+or_left true b is = refl
+or_left false b is = absurd cc
+
+or_right : (a b : Bool) → b ≡ true → (a || b) ≡ true
+or_right true b is = refl
+or_right false b is = is
+
+or_other : (a b : Bool) → a ≡ false → (a || b) ≡ true → b ≡ true
+or_other true b out is = absurd cc
+or_other false b out is = is
+
+and_right : (a b : Bool) → (a && b) ≡ true → b ≡ true
+and_right true b is = is
+and_right false b is = absurd cc
+
+and_false : (a b : Bool) → a ≡ false → (a && b) ≡ false
+and_false true b is = absurd cc
+and_false false b is = refl
+
+and_other : (a b : Bool) → a ≡ true → (a && b) ≡ false → b ≡ false
+and_other true b is out = out
+and_other false b is out = absurd cc
+
+and_drops : (a b : Bool) → b ≡ false → (a && b) ≡ false
+and_drops true b is = is
+and_drops false b is = refl
+
+not_true : (a : Bool) → not a ≡ true → a ≡ false
+not_true true is = absurd cc
+not_true false is = refl
+
+not_false : (a : Bool) → not a ≡ false → a ≡ true
+not_false true is = refl
+not_false false is = absurd cc
+
+true_not : (a : Bool) → a ≡ false → not a ≡ true
+true_not true is = absurd cc
+true_not false is = refl
+
+module _ (n : ℕ) (Won Lost : (inner outer : ℕ → Bool) → ℕ → Type 0) (settled : (inner outer : ℕ → Bool) (x : ℕ) → Won inner outer x ⊎ Lost inner outer x) where
+  abbrev holds : (inner outer : ℕ → Bool) → ℕ → Bool
+  holds inner outer x = is_left (settled inner outer x)
+
+  module _ (outer : ℕ → Bool) where
+    abbrev round : ℕ → ℕ → Bool
+    round zero x = false
+    round (suc k) x = round k x || holds (round k) outer x
+
+    round_grows : (k x : ℕ) → round k x ≡ true → round (suc k) x ≡ true
+    round_grows k x is = or_left (round k x) (holds (round k) outer x) is
+
+    abbrev last_round : ℕ
+    last_round = (stops round round_grows n).0
+
+    -- what some round took in
+    abbrev taken : ℕ → Bool
+    taken = round last_round
+
+    abbrev rank : ℕ → ℕ
+    rank x = came round round_grows x last_round
+
+    -- what no round takes in is lost
+    loses : (x : ℕ) → x < n → taken x ≡ false → holds taken outer x ≡ false
+    loses x l out =
+        elim (cases_Bool (holds taken outer x)) [
+          | inl e ↦ let is = (stops round round_grows n).1 x l (or_right (taken x) (holds taken outer x) e) in absurd cc
+          | inr e ↦ e
+        ]
+
+  abbrev stage : ℕ → ℕ → Bool
+  stage zero x = true
+  stage (suc i) x = stage i x && taken (stage i) x
+
+  abbrev gone : ℕ → ℕ → Bool
+  gone i x = not (stage i x)
+
+  gone_grows : (i x : ℕ) → gone i x ≡ true → gone (suc i) x ≡ true
+  gone_grows i x is = true_not (stage (suc i) x) (and_false (stage i x) (taken (stage i) x) (not_true (stage i x) is))
+
+  abbrev last_stage : ℕ
+  last_stage = (stops gone gone_grows n).0
+
+  -- the places that the last stage leaves, and what they take in
+  abbrev left : ℕ → Bool
+  left = stage last_stage
+
+  abbrev won : ℕ → Bool
+  won = taken left
+
+  abbrev fall : ℕ → ℕ
+  fall x = came gone gone_grows x last_stage
+
+  -- the last stage leaves what is won
+  left_is_won : (x : ℕ) → x < n → left x ≡ true → won x ≡ true
+  left_is_won x l is =
+      elim (cases_Bool (stage (suc last_stage) x)) [
+        | inl e ↦ and_right (left x) (won x) e
+        | inr e ↦
+            let out = not_true (left x) ((stops gone gone_grows n).1 x l (true_not (stage (suc last_stage) x) e)) in
+            absurd cc
+      ]
+
+  -- a place is won by places that came in before, and by places that are won
+  record IsWon (x : ℕ) : Type 0 where
+    inner : ℕ → Bool
+    outer : ℕ → Bool
+    is_won : Won inner outer x
+    by_inner : (y : ℕ) → inner y ≡ true → (won y ≡ true) × (rank left y < rank left x)
+    by_outer : (y : ℕ) → y < n → outer y ≡ true → won y ≡ true
+
+  -- a place is lost by places that fell no later, and by places that fell before
+  record IsLost (x : ℕ) : Type 0 where
+    inner : ℕ → Bool
+    outer : ℕ → Bool
+    is_lost : Lost inner outer x
+    by_inner : (y : ℕ) → inner y ≡ false → (left y ≡ false) × (fall y ≤ fall x)
+    by_outer : (y : ℕ) → outer y ≡ false → (left y ≡ false) × (fall y < fall x)
+
+  won_at : (x : ℕ) → won x ≡ true → IsWon x
+  won_at x is =
+      let w = came_at (round left) (round_grows left) x (last_round left) refl is in
+      record {
+        inner = round left w.0;
+        outer = left;
+        is_won = left_of (settled (round left w.0) left x) (or_other (round left w.0 x) (holds (round left w.0) left x) w.2 w.3);
+        by_inner = λ y here. let by = came_by (round left) (round_grows left) y w.0 (last_round left) here in (
+          later (round left) (round_grows left) y w.0 (last_round left) (omega (arith, w.4)) here,
+          omega (arith, by, w.1),
+        );
+        by_outer = left_is_won;
+      }
+
+  lost_at : (x : ℕ) → x < n → left x ≡ false → IsLost x
+  lost_at x l out =
+      let w = came_at gone gone_grows x last_stage refl (true_not (left x) out) in
+      let was : stage w.0 x ≡ true = not_false (stage w.0 x) w.2 in
+      let none : taken (stage w.0) x ≡ false = and_other (stage w.0 x) (taken (stage w.0) x) was (not_true (stage (suc w.0) x) w.3) in
+      let falls : (j : ℕ) → j ≤ suc w.0 → (y : ℕ) → stage j y ≡ false → (left y ≡ false) × (fall y ≤ j) = λ j m y e. (
+        not_true (left y) (later gone gone_grows y j last_stage (omega (arith, w.4)) (true_not (stage j y) e)),
+        came_by gone gone_grows y j last_stage (true_not (stage j y) e),
+      ) in
+      record {
+        inner = taken (stage w.0);
+        outer = stage w.0;
+        is_lost = right_of (settled (taken (stage w.0)) (stage w.0) x) (loses (stage w.0) x l none);
+        by_inner = λ y e. let f = falls (suc w.0) (omega arith) y (and_drops (stage w.0 y) (taken (stage w.0) y) e) in (f.0, omega (arith, f.1, w.1));
+        by_outer = λ y e. let f = falls w.0 (omega arith) y e in (f.0, omega (arith, f.1, w.1));
+      }
