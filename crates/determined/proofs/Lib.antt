@@ -1,2 +1,4 @@
+pub mod Bools
 pub mod Growth
 pub mod Rounds
+pub mod Runs

@@ -5,59 +5,8 @@
 -- lost, by places that were taken out no later.
 use Rattle.std.proofs.Common.{◌≡◌, ℕ, zero, suc, ◌+◌, ◌<◌, ◌≤◌, Bool, true, false, not, ◌&&◌, ◌||◌, ◌⊎◌, inl, inr, refl, sym, ◌∙◌, subst, arith}
 use Rattle.std.proofs.lemmas.Bool.{cases_Bool}
+use Rattle.determined.proofs.Bools.{and_drops, and_false, and_other, and_right, is_left, left_of, not_false, not_true, or_left, or_other, or_right, right_of, true_not}
 use Rattle.determined.proofs.Growth.{came, came_at, came_by, later, stops}
-
-abbrev is_left : {A B : Type 0} → A ⊎ B → Bool
-is_left (inl a) = true
-is_left (inr b) = false
-
-left_of : {A B : Type 0} (s : A ⊎ B) → is_left s ≡ true → A
-left_of (inl a) is = a
-left_of (inr b) is = absurd cc
-
-right_of : {A B : Type 0} (s : A ⊎ B) → is_left s ≡ false → B
-right_of (inl a) is = absurd cc
-right_of (inr b) is = b
-
-or_left : (a b : Bool) → a ≡ true → (a || b) ≡ true
-or_left true b is = refl
-or_left false b is = absurd cc
-
-or_right : (a b : Bool) → b ≡ true → (a || b) ≡ true
-or_right true b is = refl
-or_right false b is = is
-
-or_other : (a b : Bool) → a ≡ false → (a || b) ≡ true → b ≡ true
-or_other true b out is = absurd cc
-or_other false b out is = is
-
-and_right : (a b : Bool) → (a && b) ≡ true → b ≡ true
-and_right true b is = is
-and_right false b is = absurd cc
-
-and_false : (a b : Bool) → a ≡ false → (a && b) ≡ false
-and_false true b is = absurd cc
-and_false false b is = refl
-
-and_other : (a b : Bool) → a ≡ true → (a && b) ≡ false → b ≡ false
-and_other true b is out = out
-and_other false b is out = absurd cc
-
-and_drops : (a b : Bool) → b ≡ false → (a && b) ≡ false
-and_drops true b is = is
-and_drops false b is = refl
-
-not_true : (a : Bool) → not a ≡ true → a ≡ false
-not_true true is = absurd cc
-not_true false is = refl
-
-not_false : (a : Bool) → not a ≡ false → a ≡ true
-not_false true is = refl
-not_false false is = absurd cc
-
-true_not : (a : Bool) → a ≡ false → not a ≡ true
-true_not true is = absurd cc
-true_not false is = refl
 
 module _ (n : ℕ) (Won Lost : (inner outer : ℕ → Bool) → ℕ → Type 0) (settled : (inner outer : ℕ → Bool) (x : ℕ) → Won inner outer x ⊎ Lost inner outer x) where
   abbrev holds : (inner outer : ℕ → Bool) → ℕ → Bool
