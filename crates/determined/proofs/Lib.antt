@@ -2,3 +2,4 @@ pub mod Bools
 pub mod Growth
 pub mod Rounds
 pub mod Runs
+pub mod Built
