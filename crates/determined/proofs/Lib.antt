@@ -3,3 +3,4 @@ pub mod Growth
 pub mod Rounds
 pub mod Runs
 pub mod Built
+pub mod Steps

@@ -8,6 +8,33 @@ use Rattle.std.proofs.lemmas.Bool.{cases_Bool}
 use Rattle.determined.proofs.Bools.{and_drops, and_false, and_other, and_right, is_left, left_of, not_false, not_true, or_left, or_other, or_right, right_of, true_not}
 use Rattle.determined.proofs.Growth.{came, came_at, came_by, later, stops}
 
+module _ (n : ℕ) (Won Lost : (inner outer : ℕ → Bool) → ℕ → Type 0) where
+  -- a place is won by places that came in before, and by places that are won
+  pub record IsWon (won : ℕ → Bool) (rank : ℕ → ℕ) (x : ℕ) : Type 0 where
+    pub inner : ℕ → Bool
+    pub outer : ℕ → Bool
+    pub is_won : Won inner outer x
+    pub by_inner : (y : ℕ) → inner y ≡ true → (won y ≡ true) × (rank y < rank x)
+    pub by_outer : (y : ℕ) → y < n → outer y ≡ true → won y ≡ true
+
+  -- a place is lost by places that fell no later, and by places that fell before
+  pub record IsLost (lost : ℕ → Bool) (fall : ℕ → ℕ) (x : ℕ) : Type 0 where
+    pub inner : ℕ → Bool
+    pub outer : ℕ → Bool
+    pub is_lost : Lost inner outer x
+    pub by_inner : (y : ℕ) → inner y ≡ false → (lost y ≡ true) × (fall y ≤ fall x)
+    pub by_outer : (y : ℕ) → outer y ≡ false → (lost y ≡ true) × (fall y < fall x)
+
+  -- each place is won or lost
+  pub record AreSorted : Type 0 where
+    pub won : ℕ → Bool
+    pub lost : ℕ → Bool
+    pub rank : ℕ → ℕ
+    pub fall : ℕ → ℕ
+    pub either : (x : ℕ) → x < n → (won x ≡ true) ⊎ (lost x ≡ true)
+    pub won_at : (x : ℕ) → won x ≡ true → IsWon won rank x
+    pub lost_at : (x : ℕ) → x < n → lost x ≡ true → IsLost lost fall x
+
 module _ (n : ℕ) (Won Lost : (inner outer : ℕ → Bool) → ℕ → Type 0) (settled : (inner outer : ℕ → Bool) (x : ℕ) → Won inner outer x ⊎ Lost inner outer x) where
   abbrev holds : (inner outer : ℕ → Bool) → ℕ → Bool
   holds inner outer x = is_left (settled inner outer x)
@@ -71,23 +98,7 @@ module _ (n : ℕ) (Won Lost : (inner outer : ℕ → Bool) → ℕ → Type 0) 
             absurd cc
       ]
 
-  -- a place is won by places that came in before, and by places that are won
-  record IsWon (x : ℕ) : Type 0 where
-    inner : ℕ → Bool
-    outer : ℕ → Bool
-    is_won : Won inner outer x
-    by_inner : (y : ℕ) → inner y ≡ true → (won y ≡ true) × (rank left y < rank left x)
-    by_outer : (y : ℕ) → y < n → outer y ≡ true → won y ≡ true
-
-  -- a place is lost by places that fell no later, and by places that fell before
-  record IsLost (x : ℕ) : Type 0 where
-    inner : ℕ → Bool
-    outer : ℕ → Bool
-    is_lost : Lost inner outer x
-    by_inner : (y : ℕ) → inner y ≡ false → (left y ≡ false) × (fall y ≤ fall x)
-    by_outer : (y : ℕ) → outer y ≡ false → (left y ≡ false) × (fall y < fall x)
-
-  won_at : (x : ℕ) → won x ≡ true → IsWon x
+  won_at : (x : ℕ) → won x ≡ true → IsWon n Won Lost won (rank left) x
   won_at x is =
       let w = came_at (round left) (round_grows left) x (last_round left) refl is in
       record {
@@ -101,13 +112,13 @@ module _ (n : ℕ) (Won Lost : (inner outer : ℕ → Bool) → ℕ → Type 0) 
         by_outer = left_is_won;
       }
 
-  lost_at : (x : ℕ) → x < n → left x ≡ false → IsLost x
+  lost_at : (x : ℕ) → x < n → gone last_stage x ≡ true → IsLost n Won Lost (gone last_stage) fall x
   lost_at x l out =
-      let w = came_at gone gone_grows x last_stage refl (true_not (left x) out) in
+      let w = came_at gone gone_grows x last_stage refl out in
       let was : stage w.0 x ≡ true = not_false (stage w.0 x) w.2 in
       let none : taken (stage w.0) x ≡ false = and_other (stage w.0 x) (taken (stage w.0) x) was (not_true (stage (suc w.0) x) w.3) in
-      let falls : (j : ℕ) → j ≤ suc w.0 → (y : ℕ) → stage j y ≡ false → (left y ≡ false) × (fall y ≤ j) = λ j m y e. (
-        not_true (left y) (later gone gone_grows y j last_stage (omega (arith, w.4)) (true_not (stage j y) e)),
+      let falls : (j : ℕ) → j ≤ suc w.0 → (y : ℕ) → stage j y ≡ false → (gone last_stage y ≡ true) × (fall y ≤ j) = λ j m y e. (
+        later gone gone_grows y j last_stage (omega (arith, w.4)) (true_not (stage j y) e),
         came_by gone gone_grows y j last_stage (true_not (stage j y) e),
       ) in
       record {
@@ -117,3 +128,14 @@ module _ (n : ℕ) (Won Lost : (inner outer : ℕ → Bool) → ℕ → Type 0) 
         by_inner = λ y e. let f = falls (suc w.0) (omega arith) y (and_drops (stage w.0 y) (taken (stage w.0) y) e) in (f.0, omega (arith, f.1, w.1));
         by_outer = λ y e. let f = falls w.0 (omega arith) y e in (f.0, omega (arith, f.1, w.1));
       }
+
+  pub sorted : AreSorted n Won Lost
+  sorted = record {
+    won = won;
+    lost = gone last_stage;
+    rank = rank left;
+    fall = fall;
+    either = λ x l. elim (cases_Bool (left x)) [ inl e ↦ inl (left_is_won x l e) | inr e ↦ inr (true_not (left x) e) ];
+    won_at = won_at;
+    lost_at = lost_at;
+  }

@@ -26,6 +26,10 @@ definite_yes says r e = rw e (λ h. cc)
 definite_no : {R : Type 0} (says : Verdicts R) (r : R) → says.is_yes r ≡ false → says.is_no r ≡ true → IsDefinite says r
 definite_no says r e f = rw (e, f) (λ h. cc)
 
+-- some questions show it, and all of them have this worth
+abbrev pub IsShownBy : {I : Type 0} → (Question I → Bool → Type 0) → Bool → (List (Question I) → Type 0) → Type 0
+IsShownBy {I} HasWorth b shows = (shown : List (Question I)) × shows shown × ((q : Question I) → Contains shown q → HasWorth q b)
+
 module _ {I R : Type 0} (says : Verdicts R) (HasWorth : Question I → Bool → Type 0) where
   -- the question was answered as it is worth
   record IsTold (a : Asked I R) : Type 0 where
@@ -129,11 +133,7 @@ module _ {I R : Type 0} (says : Verdicts R) (HasWorth : Question I → Bool → 
           (proved refuted : List (Question I) → Type 0)
           (yes_is_proved : (replies : List (Reply R)) (r : R) → EndsIn script replies r → says.is_yes r ≡ true → proved (questions_answered says.is_yes (progress_after script replies)))
           (no_is_refuted : (replies : List (Reply R)) (r : R) → EndsIn script replies r → says.is_no r ≡ true → refuted (questions_answered says.is_no (progress_after script replies))) where
-        -- by questions of this worth
-        abbrev IsShownBy : Bool → (List (Question I) → Type 0) → Type 0
-        IsShownBy b shows = (shown : List (Question I)) × shows shown × ((q : Question I) → Contains shown q → HasWorth q b)
-
-        shown_at : (d : IsDone) → IsShownBy true proved ⊎ IsShownBy false refuted
+        shown_at : (d : IsDone) → IsShownBy HasWorth true proved ⊎ IsShownBy HasWorth false refuted
         shown_at d =
             let run = d.is_run in
             let end : EndsIn script d.replies d.result = record { is_fitting = run.is_fitting; is_in_order = in_order script orderly d.replies run.is_fitting; is_done = d.is_done } in
@@ -143,5 +143,5 @@ module _ {I R : Type 0} (says : Verdicts R) (HasWorth : Question I → Bool → 
             ]
 
         -- the script comes to a proof by questions that are true, or to a refutation by questions that are false
-        pub comes_to : IsShownBy true proved ⊎ IsShownBy false refuted
+        pub comes_to : IsShownBy HasWorth true proved ⊎ IsShownBy HasWorth false refuted
         comes_to = shown_at goes
