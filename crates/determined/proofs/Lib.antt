@@ -4,3 +4,5 @@ pub mod Rounds
 pub mod Runs
 pub mod Built
 pub mod Steps
+pub mod Reasons
+pub mod Determined
