@@ -6,3 +6,4 @@ pub mod Built
 pub mod Steps
 pub mod Reasons
 pub mod Determined
+pub mod Closed

@@ -1,10 +1,15 @@
-//! Draft.
+//! Goals that their rules alone decide. This crate is a theory: its functions have empty bodies, and the contract of
+//! each is a theorem. It says nothing of a search. Where finitely many goals ask only each other, and decide after
+//! decided answers, each of them has a proof graph or a refutation graph; that none has both is `law::never_both` of
+//! `search_context`.
+//!
+//! | File of `specs/` | Has |
+//! |---|---|
+//! | `Closed` | lists of goals that no question leads out of; goals that have a graph |
+//! | `Leaves` | the same where some questions are leaves, whose worth is given |
+//!
+//! How the graphs come about is said by the lemmas of `proofs/`: `Runs` for the runs of a script, `Growth` and `Rounds`
+//! for the places of the list that are won or lost, `Built`, `Steps` and `Reasons` for the graphs made of these.
 #![tactic(auto)]
 
-ghost use Rattle.std.specs.Prelude.{◌≡◌, ℕ, List};
-
-pub fn nothing() -> usize
-    ensures { result ≡ 0 }
-{
-    0
-}
+pub mod law;
