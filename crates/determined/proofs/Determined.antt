@@ -26,6 +26,7 @@ counts inner outer ForcedAmbiguity y decided = absurd decided
 module _ {I : Type 0} (worth : Question I → Option Bool) (n : ℕ) (goal_at : ℕ → I) where
   -- a place of the question's goal counts this
   record IsAnswered (inner outer : ℕ → Bool) (q : Question I) (b : Bool) : Type 0 where
+    is_followed : worth q ≡ None
     place : ℕ
     within : place < n
     has_goal : goal_at place ≡ q.goal
@@ -56,7 +57,7 @@ module _ {I : Type 0} (worth : Question I → Option Bool) (n : ℕ) (goal_at : 
             by_rule = w.is_won.1;
             lead_on = λ q has. elim (w.is_won.2 q has) [
               | inl leaf ↦ inl leaf
-              | inr a ↦ let to = won_to x w q.kind a.place a.within a.counts_for in inr (record { place = a.place; within = a.within; has_goal = a.has_goal; is_in = to.0; is_step = to.1 })
+              | inr a ↦ let to = won_to x w q.kind a.place a.within a.counts_for in inr (record { is_followed = a.is_followed; place = a.place; within = a.within; has_goal = a.has_goal; is_in = to.0; is_step = to.1 })
             ];
           }
 
@@ -74,7 +75,7 @@ module _ {I : Type 0} (worth : Question I → Option Bool) (n : ℕ) (goal_at : 
             by_rule = w.is_lost.1;
             lead_on = λ q has. elim (w.is_lost.2 q has) [
               | inl leaf ↦ inl leaf
-              | inr a ↦ let to = lost_to x w q.kind a.place a.counts_for in inr (record { place = a.place; within = a.within; has_goal = a.has_goal; is_in = to.0; is_step = to.1 })
+              | inr a ↦ let to = lost_to x w q.kind a.place a.counts_for in inr (record { is_followed = a.is_followed; place = a.place; within = a.within; has_goal = a.has_goal; is_in = to.0; is_step = to.1 })
             ];
           }
 
@@ -124,7 +125,7 @@ module _ {I R : Type 0} (says : Verdicts R) (cycle_result : PathKind → I → R
       tell_by replies kind goal fits is None follows =
           let p = place_of goal (closed.stays (goal_at x) (goal_in x) replies kind goal fits is follows) in
           let c = counts inner outer kind p.0 (decisive.asks (goal_at x) goal replies kind fits is) in
-          (c.0, inr (record { place = p.0; within = p.1; has_goal = p.2; counts_for = c.1 }))
+          (c.0, inr (record { is_followed = follows; place = p.0; within = p.1; has_goal = p.2; counts_for = c.1 }))
 
       settled : IsProvedBy worth (length goals) goal_at proves refutes inner outer x ⊎ IsRefutedBy worth (length goals) goal_at proves refutes inner outer x
       settled =

@@ -7,3 +7,4 @@ pub mod Steps
 pub mod Reasons
 pub mod Determined
 pub mod Closed
+pub mod Apart

@@ -1,7 +1,8 @@
 -- Where each place of a set has its reasons, that is, questions that show its goal and are leaves or lead to places
 -- of the set by steps that are allowed, each goal of such a place has a graph.
-use Rattle.std.proofs.Common.{◌≡◌, ℕ, ◌<◌, Bool, true, ◌⊎◌, inl, inr, List, [], Contains, Option, Some, refl}
+use Rattle.std.proofs.Common.{◌≡◌, ℕ, ◌<◌, Bool, true, ◌⊎◌, inl, inr, List, [], Contains, Option, None, Some, refl, subst}
 use Rattle.std.proofs.lemmas.Bool.{cases_Bool}
+use Rattle.search_context.proofs.Graphs.{Contains-map}
 use Rattle.determined.specs.Below.{Edge, GraphNode, IsGraph, PathKind, Question, question_of}
 use Rattle.determined.specs.Leaves.{IsShownOver}
 use Rattle.determined.proofs.Built.{AreSteps, HasEdges, IsGoodEdge, IsGoodNode, has_edges, is_graph, listed}
@@ -11,6 +12,7 @@ module _ {I : Type 0} (worth : Question I → Option Bool) (yes : Bool) (rule : 
     (n : ℕ) (goal_at : ℕ → I) (set : ℕ → Bool) where
   -- the question leads to a place of its goal
   pub record LeadsOn (x : ℕ) (q : Question I) : Type 0 where
+    pub is_followed : worth q ≡ None
     pub place : ℕ
     pub within : place < n
     pub has_goal : goal_at place ≡ q.goal
@@ -22,8 +24,9 @@ module _ {I : Type 0} (worth : Question I → Option Bool) (yes : Bool) (rule : 
     pub by_rule : rule (goal_at x) shown
     pub lead_on : (q : Question I) → Contains shown q → (worth q ≡ Some yes) ⊎ LeadsOn x q
 
+  -- an edge that is good, and asks no leaf
   abbrev IsEdge : ℕ → Edge I → Type 0
-  IsEdge = IsGoodEdge (IsShownOver worth yes rule) kind Steps Goes lawful n goal_at (λ y. set y ≡ true)
+  IsEdge x e = (worth (question_of e) ≡ None) × IsGoodEdge (IsShownOver worth yes rule) kind Steps Goes lawful n goal_at (λ y. set y ≡ true) x e
 
   abbrev IsNode : ℕ → GraphNode I → Type 0
   IsNode = IsGoodNode (IsShownOver worth yes rule) kind Steps Goes lawful n goal_at (λ y. set y ≡ true)
@@ -33,7 +36,7 @@ module _ {I : Type 0} (worth : Question I → Option Bool) (yes : Bool) (rule : 
   edge_of x q (inr l) = inr (
     record { kind = q.kind; input = q.goal; target = l.place },
     refl,
-    record { within = l.within; asks = l.has_goal; is_in = l.is_in; steps = l.is_step },
+    (l.is_followed, record { within = l.within; asks = l.has_goal; is_in = l.is_in; steps = l.is_step }),
   )
 
   node_by : (x : ℕ) → HasReasons x → (node : GraphNode I) × IsNode x node
@@ -42,8 +45,13 @@ module _ {I : Type 0} (worth : Question I → Option Bool) (yes : Bool) (rule : 
         record { goal = goal_at x; edges = h.edges },
         record {
           has_goal = refl;
-          is_shown = λ inside. record { shown = reasons.shown; by_rule = reasons.by_rule; are_given = h.are_all };
-          are_good = λ inside. h.are_good;
+          is_shown = λ inside. record {
+            shown = reasons.shown;
+            by_rule = reasons.by_rule;
+            are_given = h.are_all;
+            are_followed = λ q has. let m = Contains-map question_of h.edges q has in subst (λ p. worth p ≡ None) m.2 (h.are_good m.0 m.1).0;
+          };
+          are_good = λ inside e has. (h.are_good e has).1;
         },
       )
 

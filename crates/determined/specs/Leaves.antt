@@ -10,11 +10,12 @@ module _ {I : Type 0} (worth : Question I → Option Bool) where
     pub is_orderly : (goal : I) → Contains goals goal → IsOrderly (scripts goal)
     pub is_done : (goal : I) → Contains goals goal → IsDoneAfter most (scripts goal)
 
-  -- the rule shows the goal by these questions, and by leaves of this worth
+  -- none of these questions is a leaf, and with leaves of this worth they show the goal by the rule
   pub record IsShownOver (yes : Bool) (rule : I → List (Question I) → Type 0) (goal : I) (questions : List (Question I)) : Type 0 where
     pub shown : List (Question I)
     pub by_rule : rule goal shown
     pub are_given : (q : Question I) → Contains shown q → Contains questions q ⊎ (worth q ≡ Some yes)
+    pub are_followed : (q : Question I) → Contains questions q → worth q ≡ None
 
   -- the goal has a proof graph over leaves that are true
   abbrev pub HasProofOver : (I → List (Question I) → Type 0) → I → Type 0

@@ -4,7 +4,7 @@ ghost use Rattle.determined.specs.Below.{IsDecisive, Question, verdicts};
 ghost use Rattle.determined.specs.Closed.{HasProof, HasRefutation, IsClosed};
 ghost use Rattle.determined.specs.Leaves.{HasProofOver, HasRefutationOver, IsClosedButLeaves};
 
-use search_context::context::Delegate;
+use search_context::context::{Cx, Delegate};
 
 /// Each goal of a closed list has a proof graph or a refutation graph.
 pub fn has_either<D: Delegate>()
@@ -33,4 +33,10 @@ pub fn has_either_over_leaves<D: Delegate>()
         IsDecisive (verdicts D.Cx.Cx) (D.script cx) → IsClosedButLeaves worth (D.script cx) goals most →
         (goal : D.Cx.Input) → Contains goals goal →
         HasProofOver worth (D.Cx.proves cx) goal ⊎ HasRefutationOver worth (D.Cx.refutes cx) goal }
+{}
+
+/// No goal has both graphs over leaves.
+pub fn never_both_over_leaves<X: Cx>()
+    ensures { (cx : X) (worth : Question X.Input → Option Bool) (goal : X.Input) →
+        HasProofOver worth (X.proves cx) goal → HasRefutationOver worth (X.refutes cx) goal → ⊥ }
 {}
