@@ -1,6 +1,6 @@
 -- No goal has both graphs over leaves. What the two share, by the clash law, is no leaf: leaves of a proof are true,
 -- those of a refutation are false, and no edge asks a leaf. So the graphs share an edge's question.
-use Rattle.std.proofs.Common.{◌≡◌, Bool, true, false, ◌⊎◌, inl, inr, List, Contains, Option, None, Some, sym, ◌∙◌}
+use Rattle.std.proofs.Common.{Bool, true, false, inl, inr, List, Option}
 use Rattle.search_context.proofs.Graphs.{never_both}
 use Rattle.determined.specs.Below.{Overlap, Question}
 use Rattle.determined.specs.Leaves.{HasProofOver, HasRefutationOver, IsShownOver}

@@ -1,11 +1,11 @@
 -- A graph that is built from a list of goals: a node for each, at its place, with edges to places. Where each edge
 -- takes a step of some sort, and a closed walk of such steps has the kind, it is a graph of each goal from which only
 -- such nodes are reached.
-use Rattle.std.proofs.Common.{◌≡◌, ℕ, zero, suc, ◌+◌, ◌<◌, ◌≤◌, ◌⊎◌, inl, inr, List, [], ◌∷◌, ◌++◌, length, map, slice_get, Contains, Option, None, Some, IsSomeAnd, option_map, refl, sym, ◌∙◌, ap, subst, arith, length-append}
+use Rattle.std.proofs.Common.{◌≡◌, ℕ, zero, suc, ◌<◌, ◌⊎◌, inl, inr, List, [], ◌∷◌, ◌++◌, length, map, slice_get, Contains, Some, IsSomeAnd, option_map, refl, sym, ◌∙◌, ap, subst, arith, length-append}
 use Rattle.std.proofs.lemmas.Bool.{cases_eq}
 use Rattle.open_graphs.proofs.Lists.{get_end, get_left}
 use Rattle.open_graphs.proofs.Members.{contains_later, first_or_later}
-use Rattle.determined.specs.Below.{Edge, GraphNode, HasEdge, HasGoal, Inductive, IsGraph, IsReached, IsWalk, PathKind, Question, greater_kind, question_of, walk_kind}
+use Rattle.determined.specs.Below.{Edge, GraphNode, HasEdge, HasGoal, Inductive, IsGraph, IsWalk, PathKind, Question, greater_kind, question_of, walk_kind}
 
 -- an element for each place, as a list
 module _ {A : Type 0} (P : ℕ → A → Type 0) where

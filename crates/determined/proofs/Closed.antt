@@ -1,5 +1,5 @@
 -- A list that is closed is closed but for leaves where there are none, and a graph over no leaves is a graph.
-use Rattle.std.proofs.Common.{◌≡◌, ◌↔◌, ℕ, Bool, true, false, ◌⊎◌, inl, inr, List, map, Contains, Option, None, Some}
+use Rattle.std.proofs.Common.{◌≡◌, ◌↔◌, ℕ, Bool, true, false, ◌⊎◌, inl, inr, List, map, Contains, Option, None}
 use Rattle.search_context.proofs.Graphs.{never_both}
 use Rattle.determined.proofs.Determined.{determined}
 use Rattle.determined.specs.Below.{Coinductive, EndsIn, GraphNode, Inductive, IsCycleResult, IsDecisive, IsGraph, IsWithin, Overlap, PathKind, Question, Reply, Request, Verdicts, progress_after, question_of, questions_answered}

@@ -1,11 +1,11 @@
 -- Each goal of a list that is closed but for leaves has a proof graph or a refutation graph over them. By rounds and
 -- stages each place of the list is won or lost, and what wins or loses it are the reasons that its graph is made of.
-use Rattle.std.proofs.Common.{◌≡◌, ℕ, ◌<◌, ◌≤◌, Bool, true, false, not, cond, ◌⊎◌, inl, inr, List, [], length, map, get_or, Contains, Option, None, Some, refl, sym, ◌∙◌, subst, arith}
+use Rattle.std.proofs.Common.{◌≡◌, ℕ, ◌<◌, Bool, true, false, not, cond, ◌⊎◌, inl, inr, List, length, get_or, Contains, Option, None, Some, refl, sym, ◌∙◌, subst}
 use Rattle.std.proofs.lemmas.Bool.{cases_lt}
 use Rattle.std.proofs.lemmas.List.{get_or_default, get_or_past}
-use Rattle.determined.specs.Below.{Coinductive, EndsIn, Evaluate, ForcedAmbiguity, GraphNode, Inductive, IsCycleResult, IsDecidedKind, IsDecisive, IsFitting, IsGraph, PathKind, Question, Reply, Request, Unknown, Verdicts, progress_after, questions_answered, request_after}
+use Rattle.determined.specs.Below.{Coinductive, EndsIn, Evaluate, ForcedAmbiguity, Inductive, IsCycleResult, IsDecidedKind, IsDecisive, IsFitting, PathKind, Question, Reply, Request, Unknown, Verdicts, progress_after, questions_answered, request_after}
 use Rattle.determined.specs.Leaves.{HasProofOver, HasRefutationOver, IsClosedButLeaves}
-use Rattle.determined.proofs.Reasons.{HasReasons, LeadsOn, graph_of}
+use Rattle.determined.proofs.Reasons.{HasReasons, graph_of}
 use Rattle.determined.proofs.Rounds.{AreSorted, IsLost, IsWon, sorted}
 use Rattle.determined.proofs.Runs.{IsShownBy, comes_to}
 use Rattle.determined.proofs.Steps.{LostSteps, WonGoes, WonSteps, lost_steps, won_steps}

@@ -8,3 +8,4 @@ pub mod Reasons
 pub mod Determined
 pub mod Closed
 pub mod Apart
+pub mod LoopExample

@@ -3,7 +3,7 @@
 -- leaves of `outer` what some round took in. Rounds only grow and stages only shrink, so both come to an end. What
 -- the last stage leaves is won, by places that came in before and by places that are left; what a stage took out is
 -- lost, by places that were taken out no later.
-use Rattle.std.proofs.Common.{◌≡◌, ℕ, zero, suc, ◌+◌, ◌<◌, ◌≤◌, Bool, true, false, not, ◌&&◌, ◌||◌, ◌⊎◌, inl, inr, refl, sym, ◌∙◌, subst, arith}
+use Rattle.std.proofs.Common.{◌≡◌, ℕ, zero, suc, ◌<◌, ◌≤◌, Bool, true, false, not, ◌&&◌, ◌||◌, ◌⊎◌, inl, inr, refl, arith}
 use Rattle.std.proofs.lemmas.Bool.{cases_Bool}
 use Rattle.determined.proofs.Bools.{and_drops, and_false, and_other, and_right, is_left, left_of, not_false, not_true, or_left, or_other, or_right, right_of, true_not}
 use Rattle.determined.proofs.Growth.{came, came_at, came_by, later, stops}

@@ -1,11 +1,11 @@
 -- A goal's script, answered as a truth of questions says: it comes to yes or no, and to what it rests on.
-use Rattle.std.proofs.Common.{◌≡◌, ℕ, zero, suc, ◌+◌, ◌<◌, ◌≤◌, Bool, true, false, not, ◌&&◌, ◌⊎◌, inl, inr, List, [], ◌∷◌, ◌++◌, length, map, filter, Contains, Option, None, Some, refl, sym, ◌∙◌, ap, subst, arith}
+use Rattle.std.proofs.Common.{◌≡◌, ℕ, zero, suc, ◌+◌, ◌<◌, Bool, true, false, not, ◌&&◌, ◌⊎◌, inl, inr, List, [], ◌∷◌, ◌++◌, length, filter, Contains, Option, None, Some, refl, sym, ◌∙◌, subst, arith}
 use Rattle.std.specs.Bool.{⊤}
 use Rattle.std.proofs.lemmas.Bool.{cases_Bool}
 use Rattle.std.proofs.lemmas.List.Elements.{Contains-append_cases}
 use Rattle.search_context.proofs.Graphs.{Contains-map, filtered_member}
 use Rattle.open_graphs.proofs.Members.{first_or_later}
-use Rattle.determined.specs.Below.{AreDecided, Answer, Asked, Begin, Done, EndsIn, EnterCandidate, Evaluate, FinishCandidate, Ignore, IsDefinite, IsFitting, IsInOrder, IsOrderly, IsReplyTo, Noted, PathKind, Progress, Question, Reply, Request, Verdicts, fault_after, is_counted, IsDecidedReply, open_candidate, progress_after, progress_with, questions_answered, request_after}
+use Rattle.determined.specs.Below.{AreDecided, Answer, Asked, Begin, Done, EndsIn, EnterCandidate, Evaluate, FinishCandidate, Ignore, IsDefinite, IsFitting, IsInOrder, IsOrderly, IsReplyTo, Noted, PathKind, Progress, Question, Reply, Request, Verdicts, is_counted, IsDecidedReply, open_candidate, progress_after, progress_with, questions_answered, request_after}
 use Rattle.determined.proofs.Bools.{and_left, not_true}
 use Rattle.determined.specs.Closed.{IsDoneAfter}
 

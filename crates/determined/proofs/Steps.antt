@@ -1,6 +1,6 @@
 -- Steps between places with numbers. Where inductive steps lower the number and coinductive ones are free, each closed
 -- walk is coinductive; where no step raises it and coinductive ones lower it, each closed walk is inductive.
-use Rattle.std.proofs.Common.{◌≡◌, ℕ, ◌<◌, ◌≤◌, ◌⊎◌, inl, inr, refl, sym, ◌∙◌, ap, ap₂, subst, arith}
+use Rattle.std.proofs.Common.{◌≡◌, ℕ, ◌<◌, ◌≤◌, ◌⊎◌, inl, inr, refl, ap₂, arith}
 use Rattle.determined.specs.Below.{Coinductive, Inductive, PathKind, greater_kind}
 use Rattle.determined.proofs.Built.{AreSteps}
 
