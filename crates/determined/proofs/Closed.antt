@@ -1,9 +1,10 @@
 -- A list that is closed is closed but for leaves where there are none, and a graph over no leaves is a graph.
 use Rattle.std.proofs.Common.{◌≡◌, ◌↔◌, ℕ, Bool, true, false, ◌⊎◌, inl, inr, List, map, Contains, Option, None}
 use Rattle.search_context.proofs.Graphs.{never_both}
-use Rattle.determined.proofs.Determined.{determined}
+use Rattle.determined.proofs.Determined.{has_one_over_leaves}
+use Rattle.determined.proofs.Laws.{AreLawful}
 use Rattle.determined.specs.Below.{Coinductive, EndsIn, GraphNode, Inductive, IsCycleResult, IsDecisive, IsGraph, IsWithin, Overlap, PathKind, Question, Reply, Request, Verdicts, progress_after, question_of, questions_answered}
-use Rattle.determined.specs.Closed.{HasProof, HasRefutation, IsClosed}
+use Rattle.determined.specs.Closed.{ExactlyOne, HasProof, HasRefutation, IsClosed, IsExact}
 use Rattle.determined.specs.Leaves.{HasProofOver, HasRefutationOver, IsClosedButLeaves, IsShownOver}
 
 -- no question is a leaf
@@ -37,30 +38,27 @@ module _ {I : Type 0} (rule : I → List (Question I) → Type 0) (more : (goal 
   pub refutation_without_leaves : (goal : I) → HasRefutationOver no_leaves rule goal → HasRefutation rule goal
   refutation_without_leaves goal (nodes, root, graph) = (nodes, root, graph_by (IsShownOver no_leaves false rule) rule Inductive nodes root goal (shown_alone false) graph)
 
--- of two that never come both, each is what is left without the other
-module _ {I : Type 0} (proves refutes : I → List (Question I) → Type 0)
-    (clash : (goal : I) (yes no : List (Question I)) → proves goal yes → refutes goal no → Overlap yes no) (goal : I)
-    (either : HasProof proves goal ⊎ HasRefutation refutes goal) where
-  not_both : HasProof proves goal → HasRefutation refutes goal → ⊥
-  not_both (nodes, root, proof) (others, top, refutation) = never_both proves refutes clash nodes others root top goal proof refutation
-
-  pub proof_or_other : HasProof proves goal ↔ (HasRefutation refutes goal → ⊥)
-  proof_or_other = (not_both, λ none. elim either [ inl proof ↦ proof | inr refutation ↦ absurd (none refutation) ])
-
-  pub refutation_or_other : HasRefutation refutes goal ↔ (HasProof proves goal → ⊥)
-  refutation_or_other = (λ refutation proof. not_both proof refutation, λ none. elim either [ inl proof ↦ absurd (none proof) | inr refutation ↦ refutation ])
-
-module _ {I R : Type 0} (says : Verdicts R) (cycle_result : PathKind → I → R)
-    (cycles : (kind : PathKind) (goal : I) → IsCycleResult says.is_yes says.is_no kind (cycle_result kind goal))
-    (scripts : I → List (Reply R) → Request I R) (decisive : IsDecisive says scripts) (proves refutes : I → List (Question I) → Type 0)
-    (yes_is_proved : (goal : I) (replies : List (Reply R)) (r : R) → EndsIn (scripts goal) replies r → says.is_yes r ≡ true → proves goal (questions_answered says.is_yes (progress_after (scripts goal) replies)))
-    (no_is_refuted : (goal : I) (replies : List (Reply R)) (r : R) → EndsIn (scripts goal) replies r → says.is_no r ≡ true → refutes goal (questions_answered says.is_no (progress_after (scripts goal) replies)))
-    (proves_more : (goal : I) (some all : List (Question I)) → IsWithin some all → proves goal some → proves goal all)
-    (refutes_more : (goal : I) (some all : List (Question I)) → IsWithin some all → refutes goal some → refutes goal all)
+module _ {I R : Type 0} (says : Verdicts R) (scripts : I → List (Reply R) → Request I R) (cycle_result : PathKind → I → R) (proves refutes : I → List (Question I) → Type 0)
+    (lawful : AreLawful says scripts cycle_result proves refutes) (decisive : IsDecisive says scripts)
     (goals : List I) (most : ℕ) (closed : IsClosed scripts goals most) (goal : I) (has : Contains goals goal) where
-  pub has_either : HasProof proves goal ⊎ HasRefutation refutes goal
-  has_either =
-      elim (determined says cycle_result cycles scripts decisive proves refutes yes_is_proved no_is_refuted no_leaves goals most (closed_without_leaves scripts goals most closed) goal has) [
-        | inl proof ↦ inl (proof_without_leaves proves proves_more goal proof)
-        | inr refutation ↦ inr (refutation_without_leaves refutes refutes_more goal refutation)
-      ]
+  not_both : HasProof proves goal → HasRefutation refutes goal → ⊥
+  not_both (nodes, root, proof) (others, top, refutation) = never_both proves refutes lawful.clash nodes others root top goal proof refutation
+
+  pub has_one : ExactlyOne (HasProof proves goal) (HasRefutation refutes goal)
+  has_one = (
+    elim (has_one_over_leaves says scripts cycle_result proves refutes lawful decisive no_leaves goals most (closed_without_leaves scripts goals most closed) goal has).0 [
+      | inl proof ↦ inl (proof_without_leaves proves lawful.proves_more goal proof)
+      | inr refutation ↦ inr (refutation_without_leaves refutes lawful.refutes_more goal refutation)
+    ],
+    not_both,
+  )
+
+  module _ (r : R) (proved : HasProof proves goal → says.is_yes r ≡ true) (refuted : HasRefutation refutes goal → says.is_no r ≡ true) where
+    yes_has_proof : says.is_yes r ≡ true → HasProof proves goal
+    yes_has_proof is = elim has_one.0 [ inl proof ↦ proof | inr refutation ↦ let a = lawful.one_sort r is in let b = refuted refutation in absurd cc ]
+
+    no_has_refutation : says.is_no r ≡ true → HasRefutation refutes goal
+    no_has_refutation is = elim has_one.0 [ inl proof ↦ let a = lawful.one_sort r (proved proof) in absurd cc | inr refutation ↦ refutation ]
+
+    pub answer_is_exact : IsExact says proves refutes goal r
+    answer_is_exact = record { yes_exactly = (yes_has_proof, proved); no_exactly = (no_has_refutation, refuted) }

@@ -4,7 +4,10 @@ use Rattle.std.proofs.Common.{◌≡◌, ℕ, ◌<◌, Bool, true, false, not, c
 use Rattle.std.proofs.lemmas.Bool.{cases_lt}
 use Rattle.std.proofs.lemmas.List.{get_or_default, get_or_past}
 use Rattle.determined.specs.Below.{Coinductive, EndsIn, Evaluate, ForcedAmbiguity, Inductive, IsCycleResult, IsDecidedKind, IsDecisive, IsFitting, PathKind, Question, Reply, Request, Unknown, Verdicts, progress_after, questions_answered, request_after}
+use Rattle.determined.specs.Closed.{ExactlyOne}
 use Rattle.determined.specs.Leaves.{HasProofOver, HasRefutationOver, IsClosedButLeaves}
+use Rattle.determined.proofs.Apart.{never_both_over}
+use Rattle.determined.proofs.Laws.{AreLawful}
 use Rattle.determined.proofs.Reasons.{HasReasons, graph_of}
 use Rattle.determined.proofs.Rounds.{AreSorted, IsLost, IsWon, sorted}
 use Rattle.determined.proofs.Runs.{IsShownBy, comes_to}
@@ -86,24 +89,21 @@ module _ {I : Type 0} (worth : Question I → Option Bool) (n : ℕ) (goal_at : 
             | inr is ↦ inr (graph_of worth false refutes Inductive (LostSteps s.fall) (LostSteps s.fall) (lost_steps s.fall) n goal_at s.lost lost_reasons x l is)
           ]
 
-module _ {I R : Type 0} (says : Verdicts R) (cycle_result : PathKind → I → R)
-    (cycles : (kind : PathKind) (goal : I) → IsCycleResult says.is_yes says.is_no kind (cycle_result kind goal)) where
+module _ {I R : Type 0} (says : Verdicts R) (scripts : I → List (Reply R) → Request I R) (cycle_result : PathKind → I → R) (proves refutes : I → List (Question I) → Type 0)
+    (lawful : AreLawful says scripts cycle_result proves refutes) (decisive : IsDecisive says scripts) where
   -- a goal's answer where it is true, and where it is false
   abbrev answer : I → Bool → R
   answer goal b = cycle_result (cond b Coinductive Inductive) goal
 
   answers_yes : (goal : I) (b : Bool) → says.is_yes (answer goal b) ≡ b
-  answers_yes goal true = (cycles Coinductive goal).yes
-  answers_yes goal false = (cycles Inductive goal).yes
+  answers_yes goal true = (lawful.cycles Coinductive goal).yes
+  answers_yes goal false = (lawful.cycles Inductive goal).yes
 
   answers_no : (goal : I) (b : Bool) → says.is_no (answer goal b) ≡ not b
-  answers_no goal true = (cycles Coinductive goal).no
-  answers_no goal false = (cycles Inductive goal).no
+  answers_no goal true = (lawful.cycles Coinductive goal).no
+  answers_no goal false = (lawful.cycles Inductive goal).no
 
-  module _ (scripts : I → List (Reply R) → Request I R) (decisive : IsDecisive says scripts) (proves refutes : I → List (Question I) → Type 0)
-      (yes_is_proved : (goal : I) (replies : List (Reply R)) (r : R) → EndsIn (scripts goal) replies r → says.is_yes r ≡ true → proves goal (questions_answered says.is_yes (progress_after (scripts goal) replies)))
-      (no_is_refuted : (goal : I) (replies : List (Reply R)) (r : R) → EndsIn (scripts goal) replies r → says.is_no r ≡ true → refutes goal (questions_answered says.is_no (progress_after (scripts goal) replies)))
-      (worth : Question I → Option Bool) (goals : List I) (most : ℕ) (closed : IsClosedButLeaves worth scripts goals most) (first : I) (has_first : Contains goals first) where
+  module _ (worth : Question I → Option Bool) (goals : List I) (most : ℕ) (closed : IsClosedButLeaves worth scripts goals most) (first : I) (has_first : Contains goals first) where
     -- the goal at a place, and past the list a goal of it too
     abbrev goal_at : ℕ → I
     goal_at x = get_or goals x first
@@ -132,12 +132,15 @@ module _ {I R : Type 0} (says : Verdicts R) (cycle_result : PathKind → I → R
           comes_to says (HasWorth worth (length goals) goal_at inner outer) (scripts (goal_at x)) answer answers_yes answers_no
           (λ replies kind goal fits is. tell_by replies kind goal fits is (worth (record { kind = kind; goal = goal })) refl)
           most (closed.is_done (goal_at x) (goal_in x)) (closed.is_orderly (goal_at x) (goal_in x)) (decisive.ends (goal_at x))
-          (proves (goal_at x)) (refutes (goal_at x)) (yes_is_proved (goal_at x)) (no_is_refuted (goal_at x))
+          (proves (goal_at x)) (refutes (goal_at x)) (lawful.yes_is_proved (goal_at x)) (lawful.no_is_refuted (goal_at x))
 
-    -- the goal has a proof graph over leaves that are true, or a refutation graph over leaves that are false
-    pub determined : HasProofOver worth proves first ⊎ HasRefutationOver worth refutes first
-    determined =
+    either : HasProofOver worth proves first ⊎ HasRefutationOver worth refutes first
+    either =
         let p = place_of first has_first in
         let s = sorted (length goals) (IsProvedBy worth (length goals) goal_at proves refutes) (IsRefutedBy worth (length goals) goal_at proves refutes) settled in
         subst (λ goal. HasProofOver worth proves goal ⊎ HasRefutationOver worth refutes goal) p.2
         (has_either worth (length goals) goal_at proves refutes s p.0 p.1)
+
+    -- the goal has a proof graph over leaves that are true, or a refutation graph over leaves that are false
+    pub has_one_over_leaves : ExactlyOne (HasProofOver worth proves first) (HasRefutationOver worth refutes first)
+    has_one_over_leaves = (either, never_both_over worth proves refutes lawful.clash first)

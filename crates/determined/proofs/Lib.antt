@@ -1,11 +1,11 @@
-pub mod Bools
+pub mod Laws
 pub mod Growth
 pub mod Rounds
 pub mod Runs
 pub mod Built
 pub mod Steps
 pub mod Reasons
+pub mod Apart
 pub mod Determined
 pub mod Closed
-pub mod Apart
 pub mod LoopExample

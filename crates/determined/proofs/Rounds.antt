@@ -4,9 +4,26 @@
 -- the last stage leaves is won, by places that came in before and by places that are left; what a stage took out is
 -- lost, by places that were taken out no later.
 use Rattle.std.proofs.Common.{◌≡◌, ℕ, zero, suc, ◌<◌, ◌≤◌, Bool, true, false, not, ◌&&◌, ◌||◌, ◌⊎◌, inl, inr, refl, arith}
-use Rattle.std.proofs.lemmas.Bool.{cases_Bool}
-use Rattle.determined.proofs.Bools.{and_drops, and_false, and_other, and_right, is_left, left_of, not_false, not_true, or_left, or_other, or_right, right_of, true_not}
+use Rattle.std.proofs.lemmas.Bool.{and_cases, and_left, and_parts, and_right, cases_Bool, not-false, not-true, not_from_false, or_cases, or_left, or_right}
 use Rattle.determined.proofs.Growth.{came, came_at, came_by, later, stops}
+
+abbrev is_left : {A B : Type 0} → A ⊎ B → Bool
+is_left (inl a) = true
+is_left (inr b) = false
+
+left_of : {A B : Type 0} (s : A ⊎ B) → is_left s ≡ true → A
+left_of (inl a) is = a
+left_of (inr b) is = absurd cc
+
+right_of : {A B : Type 0} (s : A ⊎ B) → is_left s ≡ false → B
+right_of (inl a) is = absurd cc
+right_of (inr b) is = b
+
+or_true : (a b : Bool) → a ≡ false → (a || b) ≡ true → b ≡ true
+or_true a b out is = elim (or_cases a b is) [ inl e ↦ absurd cc | inr e ↦ e ]
+
+and_false : (a b : Bool) → a ≡ true → (a && b) ≡ false → b ≡ false
+and_false a b is out = elim (and_cases a b out) [ inl e ↦ absurd cc | inr e ↦ e ]
 
 module _ (n : ℕ) (Won Lost : (inner outer : ℕ → Bool) → ℕ → Type 0) where
   -- a place is won by places that came in before, and by places that are won
@@ -73,7 +90,7 @@ module _ (n : ℕ) (Won Lost : (inner outer : ℕ → Bool) → ℕ → Type 0) 
   gone i x = not (stage i x)
 
   gone_grows : (i x : ℕ) → gone i x ≡ true → gone (suc i) x ≡ true
-  gone_grows i x is = true_not (stage (suc i) x) (and_false (stage i x) (taken (stage i) x) (not_true (stage i x) is))
+  gone_grows i x is = not_from_false (stage (suc i) x) (and_left (stage i x) (taken (stage i) x) (not-true (stage i x) is))
 
   abbrev last_stage : ℕ
   last_stage = (stops gone gone_grows n).0
@@ -92,9 +109,9 @@ module _ (n : ℕ) (Won Lost : (inner outer : ℕ → Bool) → ℕ → Type 0) 
   left_is_won : (x : ℕ) → x < n → left x ≡ true → won x ≡ true
   left_is_won x l is =
       elim (cases_Bool (stage (suc last_stage) x)) [
-        | inl e ↦ and_right (left x) (won x) e
+        | inl e ↦ (and_parts (left x) (won x) e).1
         | inr e ↦
-            let out = not_true (left x) ((stops gone gone_grows n).1 x l (true_not (stage (suc last_stage) x) e)) in
+            let out = not-true (left x) ((stops gone gone_grows n).1 x l (not_from_false (stage (suc last_stage) x) e)) in
             absurd cc
       ]
 
@@ -104,7 +121,7 @@ module _ (n : ℕ) (Won Lost : (inner outer : ℕ → Bool) → ℕ → Type 0) 
       record {
         inner = round left w.0;
         outer = left;
-        is_won = left_of (settled (round left w.0) left x) (or_other (round left w.0 x) (holds (round left w.0) left x) w.2 w.3);
+        is_won = left_of (settled (round left w.0) left x) (or_true (round left w.0 x) (holds (round left w.0) left x) w.2 w.3);
         by_inner = λ y here. let by = came_by (round left) (round_grows left) y w.0 (last_round left) here in (
           later (round left) (round_grows left) y w.0 (last_round left) (omega (arith, w.4)) here,
           omega (arith, by, w.1),
@@ -115,17 +132,17 @@ module _ (n : ℕ) (Won Lost : (inner outer : ℕ → Bool) → ℕ → Type 0) 
   lost_at : (x : ℕ) → x < n → gone last_stage x ≡ true → IsLost n Won Lost (gone last_stage) fall x
   lost_at x l out =
       let w = came_at gone gone_grows x last_stage refl out in
-      let was : stage w.0 x ≡ true = not_false (stage w.0 x) w.2 in
-      let none : taken (stage w.0) x ≡ false = and_other (stage w.0 x) (taken (stage w.0) x) was (not_true (stage (suc w.0) x) w.3) in
+      let was : stage w.0 x ≡ true = not-false (stage w.0 x) w.2 in
+      let none : taken (stage w.0) x ≡ false = and_false (stage w.0 x) (taken (stage w.0) x) was (not-true (stage (suc w.0) x) w.3) in
       let falls : (j : ℕ) → j ≤ suc w.0 → (y : ℕ) → stage j y ≡ false → (gone last_stage y ≡ true) × (fall y ≤ j) = λ j m y e. (
-        later gone gone_grows y j last_stage (omega (arith, w.4)) (true_not (stage j y) e),
-        came_by gone gone_grows y j last_stage (true_not (stage j y) e),
+        later gone gone_grows y j last_stage (omega (arith, w.4)) (not_from_false (stage j y) e),
+        came_by gone gone_grows y j last_stage (not_from_false (stage j y) e),
       ) in
       record {
         inner = taken (stage w.0);
         outer = stage w.0;
         is_lost = right_of (settled (taken (stage w.0)) (stage w.0) x) (loses (stage w.0) x l none);
-        by_inner = λ y e. let f = falls (suc w.0) (omega arith) y (and_drops (stage w.0 y) (taken (stage w.0) y) e) in (f.0, omega (arith, f.1, w.1));
+        by_inner = λ y e. let f = falls (suc w.0) (omega arith) y (and_right (stage w.0 y) (taken (stage w.0) y) e) in (f.0, omega (arith, f.1, w.1));
         by_outer = λ y e. let f = falls w.0 (omega arith) y e in (f.0, omega (arith, f.1, w.1));
       }
 
@@ -135,7 +152,7 @@ module _ (n : ℕ) (Won Lost : (inner outer : ℕ → Bool) → ℕ → Type 0) 
     lost = gone last_stage;
     rank = rank left;
     fall = fall;
-    either = λ x l. elim (cases_Bool (left x)) [ inl e ↦ inl (left_is_won x l e) | inr e ↦ inr (true_not (left x) e) ];
+    either = λ x l. elim (cases_Bool (left x)) [ inl e ↦ inl (left_is_won x l e) | inr e ↦ inr (not_from_false (left x) e) ];
     won_at = won_at;
     lost_at = lost_at;
   }

@@ -1,12 +1,11 @@
 -- A goal's script, answered as a truth of questions says: it comes to yes or no, and to what it rests on.
 use Rattle.std.proofs.Common.{◌≡◌, ℕ, zero, suc, ◌+◌, ◌<◌, Bool, true, false, not, ◌&&◌, ◌⊎◌, inl, inr, List, [], ◌∷◌, ◌++◌, length, filter, Contains, Option, None, Some, refl, sym, ◌∙◌, subst, arith}
 use Rattle.std.specs.Bool.{⊤}
-use Rattle.std.proofs.lemmas.Bool.{cases_Bool}
+use Rattle.std.proofs.lemmas.Bool.{and_parts, cases_Bool, not-true}
 use Rattle.std.proofs.lemmas.List.Elements.{Contains-append_cases}
 use Rattle.search_context.proofs.Graphs.{Contains-map, filtered_member}
 use Rattle.open_graphs.proofs.Members.{first_or_later}
 use Rattle.determined.specs.Below.{AreDecided, Answer, Asked, Begin, Done, EndsIn, EnterCandidate, Evaluate, FinishCandidate, Ignore, IsDefinite, IsFitting, IsInOrder, IsOrderly, IsReplyTo, Noted, PathKind, Progress, Question, Reply, Request, Verdicts, is_counted, IsDecidedReply, open_candidate, progress_after, progress_with, questions_answered, request_after}
-use Rattle.determined.proofs.Bools.{and_left, not_true}
 use Rattle.determined.specs.Closed.{IsDoneAfter}
 
 in_order : {I R : Type 0} (script : List (Reply R) → Request I R) → IsOrderly script → (replies : List (Reply R)) → IsFitting script replies → IsInOrder script replies
@@ -71,13 +70,13 @@ module _ {I R : Type 0} (says : Verdicts R) (HasWorth : Question I → Bool → 
   worth_of test b passes p told q has =
       let m = Contains-map (λ a. a.question) (filter (λ a. test a.answer && is_counted p.ignored a.candidate) p.asked) q has in
       let f = filtered_member (λ a. test a.answer && is_counted p.ignored a.candidate) p.asked m.0 m.1 in
-      subst (λ x. HasWorth x b) m.2 (passes m.0 (told m.0 f.0) (and_left (test m.0.answer) (is_counted p.ignored m.0.candidate) f.1))
+      subst (λ x. HasWorth x b) m.2 (passes m.0 (told m.0 f.0) (and_parts (test m.0.answer) (is_counted p.ignored m.0.candidate) f.1).0)
 
   worth_of_yes : (p : Progress I R) → AreTold p → (q : Question I) → Contains (questions_answered says.is_yes p) q → HasWorth q true
   worth_of_yes p told q has = worth_of says.is_yes true (λ a t is. let e : t.worth ≡ true = cc in subst (HasWorth a.question) e t.has_worth) p told q has
 
   worth_of_no : (p : Progress I R) → AreTold p → (q : Question I) → Contains (questions_answered says.is_no p) q → HasWorth q false
-  worth_of_no p told q has = worth_of says.is_no false (λ a t is. let e : t.worth ≡ false = not_true t.worth (sym t.is_no ∙ is) in subst (HasWorth a.question) e t.has_worth) p told q has
+  worth_of_no p told q has = worth_of says.is_no false (λ a t is. let e : t.worth ≡ false = not-true t.worth (sym t.is_no ∙ is) in subst (HasWorth a.question) e t.has_worth) p told q has
 
   module _ (script : List (Reply R) → Request I R)
       (answer : I → Bool → R) (answers_yes : (goal : I) (b : Bool) → says.is_yes (answer goal b) ≡ b) (answers_no : (goal : I) (b : Bool) → says.is_no (answer goal b) ≡ not b)

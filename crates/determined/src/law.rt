@@ -1,42 +1,36 @@
 //! Where a delegate is decisive, each goal of a closed list has one of the two graphs.
-ghost use Rattle.std.specs.Prelude.{◌⊎◌, ◌↔◌, ℕ, Bool, List, Option, Contains};
+ghost use Rattle.std.specs.Prelude.{◌≡◌, ℕ, true, Bool, List, Option, Contains};
 ghost use Rattle.determined.specs.Below.{IsDecisive, Question, verdicts};
-ghost use Rattle.determined.specs.Closed.{HasProof, HasRefutation, IsClosed};
+ghost use Rattle.determined.specs.Closed.{ExactlyOne, HasProof, HasRefutation, IsClosed, IsExact};
 ghost use Rattle.determined.specs.Leaves.{HasProofOver, HasRefutationOver, IsClosedButLeaves};
 
-use search_context::context::{Cx, Delegate};
+use search_context::context::Delegate;
 
-/// Each goal of a closed list has a proof graph or a refutation graph.
-pub fn has_either<D: Delegate>()
+/// Each goal of a closed list has a proof graph or a refutation graph, and not both.
+pub fn has_one<D: Delegate>()
     ensures { (cx : D.Cx) (goals : List D.Cx.Input) (most : ℕ) →
         IsDecisive (verdicts D.Cx.Cx) (D.script cx) → IsClosed (D.script cx) goals most →
         (goal : D.Cx.Input) → Contains goals goal →
-        HasProof (D.Cx.proves cx) goal ⊎ HasRefutation (D.Cx.refutes cx) goal }
+        ExactlyOne (HasProof (D.Cx.proves cx) goal) (HasRefutation (D.Cx.refutes cx) goal) }
 {}
 
-/// So it has the one exactly where it does not have the other.
-pub fn has_one<D: Delegate>()
-    ensures proof { (cx : D.Cx) (goals : List D.Cx.Input) (most : ℕ) →
+/// So a result that is yes if such a goal has a proof graph, and no if it has a refutation graph, as an answer of a
+/// search is where no limit was met, says which of the two it has.
+pub fn answer_is_exact<D: Delegate>()
+    ensures { (cx : D.Cx) (goals : List D.Cx.Input) (most : ℕ) →
         IsDecisive (verdicts D.Cx.Cx) (D.script cx) → IsClosed (D.script cx) goals most →
-        (goal : D.Cx.Input) → Contains goals goal →
-        (HasProof (D.Cx.proves cx) goal ↔ (HasRefutation (D.Cx.refutes cx) goal → ⊥)) }
-    ensures refutation { (cx : D.Cx) (goals : List D.Cx.Input) (most : ℕ) →
-        IsDecisive (verdicts D.Cx.Cx) (D.script cx) → IsClosed (D.script cx) goals most →
-        (goal : D.Cx.Input) → Contains goals goal →
-        (HasRefutation (D.Cx.refutes cx) goal ↔ (HasProof (D.Cx.proves cx) goal → ⊥)) }
+        (goal : D.Cx.Input) → Contains goals goal → (r : D.Cx.Result) →
+        (HasProof (D.Cx.proves cx) goal → D.Cx.is_yes r ≡ true) →
+        (HasRefutation (D.Cx.refutes cx) goal → D.Cx.is_no r ≡ true) →
+        IsExact (verdicts D.Cx.Cx) (D.Cx.proves cx) (D.Cx.refutes cx) goal r }
 {}
 
-/// Where the list is closed but for leaves, the graphs are over leaves: a proof graph may rest on leaves that
-/// are true, and a refutation graph on leaves that are false.
-pub fn has_either_over_leaves<D: Delegate>()
+/// Where the list is closed but for leaves, the same holds of graphs over leaves: a proof graph may rest on leaves
+/// that are true, and a refutation graph on leaves that are false.
+pub fn has_one_over_leaves<D: Delegate>()
     ensures { (cx : D.Cx) (worth : Question D.Cx.Input → Option Bool) (goals : List D.Cx.Input) (most : ℕ) →
         IsDecisive (verdicts D.Cx.Cx) (D.script cx) → IsClosedButLeaves worth (D.script cx) goals most →
         (goal : D.Cx.Input) → Contains goals goal →
-        HasProofOver worth (D.Cx.proves cx) goal ⊎ HasRefutationOver worth (D.Cx.refutes cx) goal }
-{}
-
-/// No goal has both graphs over leaves.
-pub fn never_both_over_leaves<X: Cx>()
-    ensures { (cx : X) (worth : Question X.Input → Option Bool) (goal : X.Input) →
-        HasProofOver worth (X.proves cx) goal → HasRefutationOver worth (X.refutes cx) goal → ⊥ }
+        ExactlyOne (HasProofOver worth (D.Cx.proves cx) goal)
+            (HasRefutationOver worth (D.Cx.refutes cx) goal) }
 {}
