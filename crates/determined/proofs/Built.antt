@@ -28,29 +28,29 @@ module _ {A : Type 0} (P : ℕ → A → Type 0) where
   listed zero each = record { items = []; count = refl; at = λ x h. absurd (omega arith) }
   listed (suc n) each = let w = each n (omega arith) in one_more n (listed n (λ x h. each x (omega arith))) w.0 w.1
 
--- the edges for some questions, each of which has an edge or is a leaf
-module _ {I : Type 0} (Good : Edge I → Type 0) (IsLeaf : Question I → Type 0) where
+-- the edges for some questions, each of which has an edge or needs none
+module _ {I : Type 0} (Good : Edge I → Type 0) (NeedsNone : Question I → Type 0) where
   pub record HasEdges (questions : List (Question I)) : Type 0 where
     pub edges : List (Edge I)
     pub are_good : (e : Edge I) → Contains edges e → Good e
-    pub are_all : (q : Question I) → Contains questions q → Contains (map question_of edges) q ⊎ IsLeaf q
+    pub are_all : (q : Question I) → Contains questions q → Contains (map question_of edges) q ⊎ NeedsNone q
 
-  with_edge : (q : Question I) (rest : List (Question I)) → IsLeaf q ⊎ ((e : Edge I) × (question_of e ≡ q) × Good e) → HasEdges rest → HasEdges (q ∷ rest)
-  with_edge q rest (inl leaf) h = record {
+  with_edge : (q : Question I) (rest : List (Question I)) → NeedsNone q ⊎ ((e : Edge I) × (question_of e ≡ q) × Good e) → HasEdges rest → HasEdges (q ∷ rest)
+  with_edge q rest (inl none) h = record {
     edges = h.edges;
     are_good = h.are_good;
-    are_all = λ p has. elim (first_or_later q p rest has) [ inl same ↦ inr (subst IsLeaf same leaf) | inr later ↦ h.are_all p later ];
+    are_all = λ p has. elim (first_or_later q p rest has) [ inl same ↦ inr (subst NeedsNone same none) | inr later ↦ h.are_all p later ];
   }
   with_edge q rest (inr (e, asks, good)) h = record {
     edges = e ∷ h.edges;
     are_good = λ f has. elim (first_or_later e f h.edges has) [ inl same ↦ subst Good same good | inr later ↦ h.are_good f later ];
     are_all = λ p has. elim (first_or_later q p rest has) [
       | inl same ↦ inl (0, omega arith, asks ∙ same)
-      | inr later ↦ elim (h.are_all p later) [ inl there ↦ inl (contains_later p (question_of e) (map question_of h.edges) there) | inr leaf ↦ inr leaf ]
+      | inr later ↦ elim (h.are_all p later) [ inl there ↦ inl (contains_later p (question_of e) (map question_of h.edges) there) | inr none ↦ inr none ]
     ];
   }
 
-  pub has_edges : (questions : List (Question I)) → ((q : Question I) → Contains questions q → IsLeaf q ⊎ ((e : Edge I) × (question_of e ≡ q) × Good e)) → HasEdges questions
+  pub has_edges : (questions : List (Question I)) → ((q : Question I) → Contains questions q → NeedsNone q ⊎ ((e : Edge I) × (question_of e ≡ q) × Good e)) → HasEdges questions
   has_edges [] each = record { edges = []; are_good = λ e has. absurd (omega (arith, has.1)); are_all = λ q has. absurd (omega (arith, has.1)) }
   has_edges (q ∷ rest) each = with_edge q rest (each q (0, omega arith, refl)) (has_edges rest (λ p has. each p (contains_later p q rest has)))
 

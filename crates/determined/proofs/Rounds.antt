@@ -52,9 +52,9 @@ module _ (n : ℕ) (Won Lost : (inner outer : ℕ → Bool) → ℕ → Type 0) 
     pub won_at : (x : ℕ) → won x ≡ true → IsWon won rank x
     pub lost_at : (x : ℕ) → x < n → lost x ≡ true → IsLost lost fall x
 
-module _ (n : ℕ) (Won Lost : (inner outer : ℕ → Bool) → ℕ → Type 0) (settled : (inner outer : ℕ → Bool) (x : ℕ) → Won inner outer x ⊎ Lost inner outer x) where
+module _ (n : ℕ) (Won Lost : (inner outer : ℕ → Bool) → ℕ → Type 0) (sides : (inner outer : ℕ → Bool) (x : ℕ) → Won inner outer x ⊎ Lost inner outer x) where
   abbrev holds : (inner outer : ℕ → Bool) → ℕ → Bool
-  holds inner outer x = is_left (settled inner outer x)
+  holds inner outer x = is_left (sides inner outer x)
 
   module _ (outer : ℕ → Bool) where
     abbrev round : ℕ → ℕ → Bool
@@ -121,7 +121,7 @@ module _ (n : ℕ) (Won Lost : (inner outer : ℕ → Bool) → ℕ → Type 0) 
       record {
         inner = round left w.0;
         outer = left;
-        is_won = left_of (settled (round left w.0) left x) (or_true (round left w.0 x) (holds (round left w.0) left x) w.2 w.3);
+        is_won = left_of (sides (round left w.0) left x) (or_true (round left w.0 x) (holds (round left w.0) left x) w.2 w.3);
         by_inner = λ y here. let by = came_by (round left) (round_grows left) y w.0 (last_round left) here in (
           later (round left) (round_grows left) y w.0 (last_round left) (omega (arith, w.4)) here,
           omega (arith, by, w.1),
@@ -141,7 +141,7 @@ module _ (n : ℕ) (Won Lost : (inner outer : ℕ → Bool) → ℕ → Type 0) 
       record {
         inner = taken (stage w.0);
         outer = stage w.0;
-        is_lost = right_of (settled (taken (stage w.0)) (stage w.0) x) (loses (stage w.0) x l none);
+        is_lost = right_of (sides (taken (stage w.0)) (stage w.0) x) (loses (stage w.0) x l none);
         by_inner = λ y e. let f = falls (suc w.0) (omega arith) y (and_right (stage w.0 y) (taken (stage w.0) y) e) in (f.0, omega (arith, f.1, w.1));
         by_outer = λ y e. let f = falls w.0 (omega arith) y e in (f.0, omega (arith, f.1, w.1));
       }

@@ -25,24 +25,24 @@ definite_yes says r e = rw e (λ h. cc)
 definite_no : {R : Type 0} (says : Verdicts R) (r : R) → says.is_yes r ≡ false → says.is_no r ≡ true → IsDefinite says r
 definite_no says r e f = rw (e, f) (λ h. cc)
 
--- some questions show it, and all of them have this worth
+-- some questions show it, and all of them have this truth
 abbrev pub IsShownBy : {I : Type 0} → (Question I → Bool → Type 0) → Bool → (List (Question I) → Type 0) → Type 0
-IsShownBy {I} HasWorth b shows = (shown : List (Question I)) × shows shown × ((q : Question I) → Contains shown q → HasWorth q b)
+IsShownBy {I} HasTruth b shows = (shown : List (Question I)) × shows shown × ((q : Question I) → Contains shown q → HasTruth q b)
 
-module _ {I R : Type 0} (says : Verdicts R) (HasWorth : Question I → Bool → Type 0) where
-  -- the question was answered as it is worth
+module _ {I R : Type 0} (says : Verdicts R) (HasTruth : Question I → Bool → Type 0) where
+  -- the question was answered as it is truth
   record IsTold (a : Asked I R) : Type 0 where
-    worth : Bool
-    has_worth : HasWorth a.question worth
-    is_yes : says.is_yes a.answer ≡ worth
-    is_no : says.is_no a.answer ≡ not worth
+    truth : Bool
+    has_truth : HasTruth a.question truth
+    is_yes : says.is_yes a.answer ≡ truth
+    is_no : says.is_no a.answer ≡ not truth
 
   abbrev AreTold : Progress I R → Type 0
   AreTold p = (a : Asked I R) → Contains p.asked a → IsTold a
 
-  -- the answer to a request is as its question is worth
+  -- the answer to a request is as its question is truth
   abbrev IsToldIn : Option (Request I R) → Reply R → Type 0
-  IsToldIn (Some (Evaluate kind goal)) (Answer r) = (worth : Bool) × HasWorth (record { kind = kind; goal = goal }) worth × (says.is_yes r ≡ worth) × (says.is_no r ≡ not worth)
+  IsToldIn (Some (Evaluate kind goal)) (Answer r) = (truth : Bool) × HasTruth (record { kind = kind; goal = goal }) truth × (says.is_yes r ≡ truth) × (says.is_no r ≡ not truth)
   IsToldIn _ _ = Unit {0}
 
   told_one : (p : Progress I R) (new : Asked I R) → AreTold p → IsTold new → (a : Asked I R) → Contains (p.asked ++ new ∷ []) a → IsTold a
@@ -58,29 +58,29 @@ module _ {I R : Type 0} (says : Verdicts R) (HasWorth : Question I → Bool → 
   told_with : (p : Progress I R) (q : Option (Request I R)) (reply : Reply R) → AreTold p → IsToldIn q reply → AreTold (progress_with p q reply)
   told_with p (Some (Evaluate kind goal)) (Answer r) told more =
       λ a has. told_one p (record { question = record { kind = kind; goal = goal }; answer = r; candidate = open_candidate p }) told
-      (record { worth = more.0; has_worth = more.1; is_yes = more.2; is_no = more.3 }) a has
+      (record { truth = more.0; has_truth = more.1; is_yes = more.2; is_no = more.3 }) a has
   told_with p (Some EnterCandidate) Noted told more = told
   told_with p (Some FinishCandidate) Noted told more = told
   told_with p (Some (Ignore n)) Noted told more = told
   told_with p _ _ told more = told
 
   -- the questions that count for a test
-  worth_of : (test : R → Bool) (b : Bool) → ((a : Asked I R) → IsTold a → test a.answer ≡ true → HasWorth a.question b) →
-      (p : Progress I R) → AreTold p → (q : Question I) → Contains (questions_answered test p) q → HasWorth q b
-  worth_of test b passes p told q has =
+  truth_of : (test : R → Bool) (b : Bool) → ((a : Asked I R) → IsTold a → test a.answer ≡ true → HasTruth a.question b) →
+      (p : Progress I R) → AreTold p → (q : Question I) → Contains (questions_answered test p) q → HasTruth q b
+  truth_of test b passes p told q has =
       let m = Contains-map (λ a. a.question) (filter (λ a. test a.answer && is_counted p.ignored a.candidate) p.asked) q has in
       let f = filtered_member (λ a. test a.answer && is_counted p.ignored a.candidate) p.asked m.0 m.1 in
-      subst (λ x. HasWorth x b) m.2 (passes m.0 (told m.0 f.0) (and_parts (test m.0.answer) (is_counted p.ignored m.0.candidate) f.1).0)
+      subst (λ x. HasTruth x b) m.2 (passes m.0 (told m.0 f.0) (and_parts (test m.0.answer) (is_counted p.ignored m.0.candidate) f.1).0)
 
-  worth_of_yes : (p : Progress I R) → AreTold p → (q : Question I) → Contains (questions_answered says.is_yes p) q → HasWorth q true
-  worth_of_yes p told q has = worth_of says.is_yes true (λ a t is. let e : t.worth ≡ true = cc in subst (HasWorth a.question) e t.has_worth) p told q has
+  truth_of_yes : (p : Progress I R) → AreTold p → (q : Question I) → Contains (questions_answered says.is_yes p) q → HasTruth q true
+  truth_of_yes p told q has = truth_of says.is_yes true (λ a t is. let e : t.truth ≡ true = cc in subst (HasTruth a.question) e t.has_truth) p told q has
 
-  worth_of_no : (p : Progress I R) → AreTold p → (q : Question I) → Contains (questions_answered says.is_no p) q → HasWorth q false
-  worth_of_no p told q has = worth_of says.is_no false (λ a t is. let e : t.worth ≡ false = not-true t.worth (sym t.is_no ∙ is) in subst (HasWorth a.question) e t.has_worth) p told q has
+  truth_of_no : (p : Progress I R) → AreTold p → (q : Question I) → Contains (questions_answered says.is_no p) q → HasTruth q false
+  truth_of_no p told q has = truth_of says.is_no false (λ a t is. let e : t.truth ≡ false = not-true t.truth (sym t.is_no ∙ is) in subst (HasTruth a.question) e t.has_truth) p told q has
 
   module _ (script : List (Reply R) → Request I R)
       (answer : I → Bool → R) (answers_yes : (goal : I) (b : Bool) → says.is_yes (answer goal b) ≡ b) (answers_no : (goal : I) (b : Bool) → says.is_no (answer goal b) ≡ not b)
-      (tell : (replies : List (Reply R)) (kind : PathKind) (goal : I) → IsFitting script replies → request_after script replies ≡ Some (Evaluate kind goal) → (worth : Bool) × HasWorth (record { kind = kind; goal = goal }) worth) where
+      (tell : (replies : List (Reply R)) (kind : PathKind) (goal : I) → IsFitting script replies → request_after script replies ≡ Some (Evaluate kind goal) → (truth : Bool) × HasTruth (record { kind = kind; goal = goal }) truth) where
     -- replies that are right so far
     record IsRun (replies : List (Reply R)) : Type 0 where
       is_fitting : IsFitting script replies
@@ -132,15 +132,15 @@ module _ {I R : Type 0} (says : Verdicts R) (HasWorth : Question I → Bool → 
           (proved refuted : List (Question I) → Type 0)
           (yes_is_proved : (replies : List (Reply R)) (r : R) → EndsIn script replies r → says.is_yes r ≡ true → proved (questions_answered says.is_yes (progress_after script replies)))
           (no_is_refuted : (replies : List (Reply R)) (r : R) → EndsIn script replies r → says.is_no r ≡ true → refuted (questions_answered says.is_no (progress_after script replies))) where
-        shown_at : (d : IsDone) → IsShownBy HasWorth true proved ⊎ IsShownBy HasWorth false refuted
+        shown_at : (d : IsDone) → IsShownBy HasTruth true proved ⊎ IsShownBy HasTruth false refuted
         shown_at d =
             let run = d.is_run in
             let end : EndsIn script d.replies d.result = record { is_fitting = run.is_fitting; is_in_order = in_order script orderly d.replies run.is_fitting; is_done = d.is_done } in
             elim (yes_or_no says d.result (ends d.replies d.result run.is_fitting run.are_decided d.is_done)) [
-              | inl is ↦ inl (questions_answered says.is_yes (progress_after script d.replies), yes_is_proved d.replies d.result end is, worth_of_yes (progress_after script d.replies) run.are_told)
-              | inr is ↦ inr (questions_answered says.is_no (progress_after script d.replies), no_is_refuted d.replies d.result end is, worth_of_no (progress_after script d.replies) run.are_told)
+              | inl is ↦ inl (questions_answered says.is_yes (progress_after script d.replies), yes_is_proved d.replies d.result end is, truth_of_yes (progress_after script d.replies) run.are_told)
+              | inr is ↦ inr (questions_answered says.is_no (progress_after script d.replies), no_is_refuted d.replies d.result end is, truth_of_no (progress_after script d.replies) run.are_told)
             ]
 
         -- the script comes to a proof by questions that are true, or to a refutation by questions that are false
-        pub comes_to : IsShownBy HasWorth true proved ⊎ IsShownBy HasWorth false refuted
+        pub comes_to : IsShownBy HasTruth true proved ⊎ IsShownBy HasTruth false refuted
         comes_to = shown_at goes

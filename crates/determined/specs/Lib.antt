@@ -1,3 +1,3 @@
 pub mod Below
 pub mod Closed
-pub mod Leaves
+pub mod Settled

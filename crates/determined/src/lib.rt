@@ -6,7 +6,7 @@
 //! | File of `specs/` | Has |
 //! |---|---|
 //! | `Closed` | lists of goals that no question leads out of; goals that have a graph |
-//! | `Leaves` | the same where some questions are leaves, whose worth is given |
+//! | `Settled` | the same where it is told beforehand of some questions whether they are true |
 //!
 //! How the graphs come about is said by the lemmas of `proofs/`: `Runs` for the runs of a script, `Growth` and `Rounds`
 //! for the places of the list that are won or lost, `Built`, `Steps` and `Reasons` for the graphs made of these.
