@@ -1,0 +1,11 @@
+pub mod Laws
+pub mod Growth
+pub mod Rounds
+pub mod Runs
+pub mod Built
+pub mod Steps
+pub mod Reasons
+pub mod Apart
+pub mod Determined
+pub mod Closed
+pub mod LoopExample
