@@ -1,9 +1,8 @@
 -- A proof graph of a pair gives a simulation, and a refutation graph leaves none.
-use Rattle.std.proofs.Common.{◌≡◌, true, ℕ, zero, suc, ◌+◌, ◌-◌, ◌⊎◌, inl, inr, List, [], ◌∷◌, map, length, slice_get, Contains, Option, None, Some, refl, sym, ap, ap₂, ◌∙◌, subst, arith}
+use Rattle.std.proofs.Common.{◌≡◌, true, ℕ, ◌-◌, ◌⊎◌, inl, inr, List, map, slice_get, Contains, Option, None, Some, refl, sym, ap, ap₂, ◌∙◌, subst}
 use Rattle.std.specs.Option.{IsSomeAnd}
-use Rattle.search_context.proofs.Graphs.{Contains-map, Contains-mapped, goal_node, HasGoal-within, HasEdge-from, IsReached-step}
-use Rattle.search_context.proofs.Pigeonhole.{pigeonhole}
-use Rattle.structural_types.specs.Below.{Coinductive, Inductive, PathKind, greater_kind, Edge, GraphNode, HasEdge, HasGoal, IsReached, IsWalk, IsProofGraph, IsRefutationGraph, question_of, walk_kind, Question, Needs, All, Any, Proves, Refutes}
+use Rattle.search_context.proofs.Graphs.{Contains-map, Contains-mapped, goal_node, HasEdge-from}
+use Rattle.structural_types.specs.Below.{Coinductive, Edge, GraphNode, HasEdge, HasGoal, IsProofGraph, IsRefutationGraph, question_of, Question, Needs, All, Any, Proves, Refutes}
 use Rattle.search_context.specs.declared.context.NodeId.{NodeId}
 use Rattle.search_context.specs.Decisive.{IsDecidedKind, IsDecisive}
 use Rattle.search_context.specs.Verdicts.{IsDefinite}
