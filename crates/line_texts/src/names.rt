@@ -1,17 +1,25 @@
 //! Names and their numbers.
 ghost use Rattle.std.specs.Prelude.{◌≡◌, ◌↔◌, ℕ, List, [], length, Some, IfOk, OnOk, OnErr, slice_get};
 ghost use Rattle.std.specs.Option.{option_copied};
-ghost use Rattle.line_texts.specs.Names.{with_name};
+ghost use Rattle.line_texts.specs.Names.{hash_of, is_at, with_name};
 
+use smallvec::SmallVec;
 use std::alloc::{AllocError, Global};
 use std::collections::HashMap;
+use std::hash::{FoldHasher, Hasher};
 use std::marker::Model;
+
+/// A name of so many bytes takes no memory of its own.
+const SHORT: usize = 16;
 
 /// Distinct names, each with a number: its place in the order in which they came.
 #[derive(Drop)]
 pub struct Names {
-    numbers: HashMap<Vec<u8>, usize>,
-    texts: Vec<Vec<u8>>,
+    texts: Vec<SmallVec<u8, SHORT>>,
+    /// For each hash, the number of the first name that has it.
+    firsts: HashMap<u64, usize>,
+    /// The numbers of the names that came later than another one with the same hash: hardly ever are there any.
+    others: HashMap<Vec<u8>, usize>,
 }
 
 impl Model for Names {
@@ -23,7 +31,7 @@ impl Model for Names {
 
     ghost view = { λ names. texts_of names.texts };
 
-    ghost invariant = { λ names. IsNumbered names.numbers (texts_of names.texts) };
+    ghost invariant = { λ names. IsNumbered names.firsts names.others (texts_of names.texts) };
 }
 
 impl Names {
@@ -32,8 +40,9 @@ impl Names {
         ensures { result ≡ [] }
     {
         Names {
-            numbers: HashMap::new(alloc),
             texts: Vec::new(alloc),
+            firsts: HashMap::new(alloc),
+            others: HashMap::new(alloc),
         }
     }
 
@@ -41,7 +50,12 @@ impl Names {
     pub fn number(&self, name: &[u8]) -> Option<usize>
         ensures { (n : ℕ) → (result ≡ Some n) ↔ (slice_get self.now n ≡ Some name.now) }
     {
-        self.numbers.get(name).copied()
+        let first = *self.firsts.get(&hash_of(name))?;
+        if self.is_at(first, name) {
+            Some(first)
+        } else {
+            self.others.get(name).copied()
+        }
     }
 
     /// How many names there are.
@@ -64,15 +78,38 @@ impl Names {
         ensures names { OnOk result (self.new ≡ with_name self.old name.now) }
         ensures err { OnErr result (self.new ≡ self.old) }
     {
-        if let Some(number) = self.numbers.get(name) {
-            return Ok(*number);
+        if let Some(number) = self.number(name) {
+            return Ok(number);
         }
         let number = self.texts.len();
-        let key = Vec::from_slice(alloc, name)?;
-        let text = Vec::from_slice(alloc, name)?;
+        let text = SmallVec::from_slice(alloc, name)?;
         self.texts.reserve(1)?;
-        self.numbers.insert(key, number)?;
+        let hash = hash_of(name);
+        if self.firsts.contains_key(&hash) {
+            let key = Vec::from_slice(alloc, name)?;
+            self.others.insert(key, number)?;
+        } else {
+            self.firsts.insert(hash, number)?;
+        }
         self.texts.push(text).unwrap();
         Ok(number)
     }
+
+    // Whether the name has this number.
+    fn is_at(&self, number: usize, name: &[u8]) -> bool
+        ensures { result ≡ is_at self.now number name.now }
+    {
+        match self.text(number) {
+            Some(text) => text == name,
+            None => false,
+        }
+    }
+}
+
+fn hash_of(name: &[u8]) -> u64
+    ensures { result ≡ hash_of name.now }
+{
+    let mut hasher = FoldHasher::default();
+    hasher.write(name);
+    hasher.finish()
 }

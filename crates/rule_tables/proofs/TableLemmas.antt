@@ -6,7 +6,7 @@ use Rattle.std.specs.List.{list_any, AllZip, filter_map, flat_map}
 use Rattle.std.specs.Option.{option_map_or}
 use Rattle.std.specs.Str.{bytes_eq}
 use Rattle.std.proofs.lemmas.Option.{slice_get_past, slice_get_within}
-use Rattle.std.proofs.lemmas.List.{take_more, map-append}
+use Rattle.std.proofs.lemmas.List.{length-append, take_more, map-append}
 use Rattle.std.proofs.lemmas.List.Sums.{fold-append}
 use Rattle.std.proofs.lemmas.List.Folds.{list_any-append}
 use Rattle.std.proofs.lemmas.Bool.{cases_Bool}
@@ -27,6 +27,14 @@ same_by names name n false e at other = elim (place_in_longer names name n name 
 
 pub same_names : (names : List (List ℕ)) (name : List ℕ) (n : ℕ) → slice_get (with_name names name) n ≡ Some name → n ≢ length names → with_name names name ≡ names
 same_names names name n at other = same_by names name n (list_any (bytes_eq name) names) refl at other
+
+-- one name more at most
+length_by : (names : List (List ℕ)) (name : List ℕ) (b : Bool) → length (cond b names (names ++ name ∷ [])) ≤ length names + 1
+length_by names name true = omega arith
+length_by names name false = omega (arith, length-append names (name ∷ []))
+
+pub with_name-length : (names : List (List ℕ)) (name : List ℕ) → length (with_name names name) ≤ length names + 1
+with_name-length names name = length_by names name (list_any (bytes_eq name) names)
 
 AllZip-weaken : {A B : Type 0} {R S : A → B → Type 0} → ((x : A) (y : B) → R x y → S x y) → (xs : List A) (ys : List B) → AllZip R xs ys → AllZip S xs ys
 AllZip-weaken f [] [] h = tt

@@ -44,7 +44,7 @@ impl<T: LendsRules> Cx for Table<T> {
 
     type AmbiguityInfo = ();
 
-    type DepNodeIndex = usize;
+    type DepNodeIndex = u32;
 
     ghost proves = { λ cx goal held. Proves (T.rules_of cx.lender) goal held };
 
@@ -68,7 +68,7 @@ impl<T: LendsRules> Cx for Table<T> {
 
     ghost same_result = { Prim.search rules };
 
-    fn dep_node(self, input: Goal) -> usize {
+    fn dep_node(self, input: Goal) -> u32 {
         input.number()
     }
 

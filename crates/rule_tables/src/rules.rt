@@ -1,24 +1,35 @@
 //! Goals and their rules.
-ghost use Rattle.std.specs.Prelude.{◌≡◌, length};
+ghost use Rattle.std.specs.Prelude.{◌≡◌, ◌≤◌, ◌^◌, ◌++◌, ◌∷◌, [], length, OnOk};
 
 use crate::reading::question::Question;
 use line_texts::Names;
 use search_context::context::NoMemory;
 use search_context::path::PathKind;
+use smallvec::SmallVec;
 use std::alloc::Global;
+
+/// So many questions of a candidate take no memory of their own.
+const FEW: usize = 4;
 
 /// A goal, which is a name, by that name's number in the order of first mention.
 #[derive(Clone, Copy, Debug, PartialEq, Eq, Hash)]
-pub struct Goal(usize);
+pub struct Goal(u32);
 
 impl Goal {
     ghost use Rattle.std.specs.Prelude.{◌≡◌};
     ghost use Rattle.rule_tables.specs.Rules.{number_of};
 
-    pub(crate) fn number(self) -> usize
+    pub(crate) fn number(self) -> u32
         ensures { result ≡ number_of self }
     {
         self.0
+    }
+
+    // The place of what a table has of the goal.
+    fn place(self) -> usize
+        ensures { result ≡ number_of self }
+    {
+        self.0 as usize
     }
 }
 
@@ -30,12 +41,22 @@ pub struct Asking {
     pub goal: Goal,
 }
 
+// What stands in the places of a candidate that have no question.
+impl Default for Asking {
+    fn default() -> Asking {
+        Asking {
+            kind: PathKind::Inductive,
+            goal: Goal(0),
+        }
+    }
+}
+
 /// One way in which a goal may hold: where all its questions do.
 #[derive(Debug, Drop)]
 pub struct Candidate {
     /// Whether it no longer counts once a candidate without a mark holds.
     pub is_marked: bool,
-    pub questions: Vec<Asking>,
+    pub questions: SmallVec<Asking, FEW>,
 }
 
 /// A table of rules: names as goals, the candidates of each, and the questions to be answered.
@@ -46,6 +67,8 @@ pub struct Rules {
     questions: Vec<(usize, Goal)>,
     // Each name has a list of candidates, which may be empty.
     ghost complete: { length candidates.items ≡ length names },
+    // A goal has room for the number of each name.
+    ghost countable: { length names ≤ 2 ^ 32 },
 }
 
 impl Rules {
@@ -72,14 +95,15 @@ impl Rules {
     pub fn goal(&self, name: &[u8]) -> Option<Goal>
         ensures { (goal : Goal) → (result ≡ Some goal) ↔ (name_of self.now goal ≡ Some name.now) }
     {
-        self.names.number(name).map(Goal)
+        let number = self.names.number(name)?;
+        Some(Goal(number as u32))
     }
 
     /// The goal's name. A goal of another table may have none.
     pub fn name(&self, goal: Goal) -> Option<&[u8]>
         ensures { option_copied result ≡ name_of self.now goal }
     {
-        self.names.text(goal.0)
+        self.names.text(goal.place())
     }
 
     /// The depth and the goal of each question, in the order of the text.
@@ -93,7 +117,7 @@ impl Rules {
     pub fn candidates(&self, goal: Goal) -> &[Candidate]
         ensures { result.now ≡ candidates_of self.now goal }
     {
-        match self.candidates.get(goal.0) {
+        match self.candidates.get(goal.place()) {
             Some(all) => all.as_slice(),
             None => &[],
         }
@@ -111,8 +135,8 @@ impl Rules {
     {
         let goal = self.goal_named(alloc, name)?;
         let questions = self.askings(alloc, questions)?;
-        let candidates = &mut self.candidates[goal.0];
-        candidates.push(Candidate {
+        let candidates = &mut self.candidates[goal.place()];
+        push_last(candidates, Candidate {
             is_marked,
             questions,
         })?;
@@ -137,11 +161,11 @@ impl Rules {
         &mut self,
         alloc: Global,
         questions: &[Question<'_>],
-    ) -> Result<Vec<Asking>, NoMemory>
+    ) -> Result<SmallVec<Asking, FEW>, NoMemory>
         ensures mentions { OnOk result (Mentions self.old self.new (map (λ q. q.name.now) questions.now)) }
         ensures asked { IfOk result (λ askings. AreAsked (names_of self.new) askings.items (map named questions.now)) }
     {
-        let mut askings = Vec::with_capacity(alloc, questions.len())?;
+        let mut askings = SmallVec::with_capacity(alloc, questions.len())?;
         for question in questions {
             let goal = self.goal_named(alloc, question.name)?;
             askings.push(Asking {
@@ -157,11 +181,26 @@ impl Rules {
         ensures mentions { OnOk result (Mentions self.old self.new (name.now ∷ [])) }
         ensures goal { IfOk result (λ goal. name_of self.new goal ≡ Some name.now) }
     {
+        if self.names.count() > u32::MAX as usize {
+            return Err(NoMemory);
+        }
         self.candidates.reserve(1)?;
         let number = self.names.intern(alloc, name)?;
+        let goal = Goal(number as u32);
         if number == self.candidates.len() {
             self.candidates.push(Vec::new(alloc)).unwrap();
         }
-        Ok(Goal(number))
+        Ok(goal)
     }
+}
+
+// Most lists of candidates are short, and there are many: where each had room for a few more, it would be most of a table.
+fn push_last(candidates: &mut Vec<Candidate>, candidate: Candidate) -> Result<(), NoMemory>
+    ensures { OnOk result (candidates.new.items ≡ candidates.old.items ++ candidate ∷ []) }
+{
+    if candidates.len() == candidates.capacity() {
+        candidates.reserve_exact(candidates.len() / 4 + 1)?;
+    }
+    candidates.push(candidate)?;
+    Ok(())
 }

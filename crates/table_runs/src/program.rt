@@ -127,6 +127,8 @@ fn answer_input<R: Read, W: Flush>(
 {
     let text = read_input(alloc, input)?;
     let rules = Rules::read(alloc, text.as_slice())?;
+    // The table has all that is wanted of it, and the answers may want the memory.
+    drop(text);
     answer_questions::<Table<&Rules>, TableDelegate<'_, 8, 1>, W>(
         alloc,
         Table { lender: &rules },

@@ -1,4 +1,4 @@
-use Rattle.std.proofs.Common.{refl, rules, ◌∷◌, [], ap, sym, subst, map}
+use Rattle.std.proofs.Common.{refl, rules, ◌∷◌, [], ◌∙◌, ap, sym, subst, map, arith}
 use Rattle.std.proofs.lemmas.Simd.{map-map}
 use Rattle.std.specs.Option.{option_map_or}
 use Rattle.rule_tables.specs.Words.{named, number_of, Mentions}
@@ -22,5 +22,6 @@ returns c =
     adds_rule old mid _ c.args.is_marked c.args.name.now (map named c.args.questions.now) goal (record { is_marked = c.args.is_marked; questions = c.in_ok-questions.questions })
     (subst (λ names. Mentions old mid (c.args.name.now ∷ names)) (sym (map-map (λ q. q.name) named c.args.questions.now)) mentions)
     is (record { is_marked = refl; questions = c.in_ok-questions.ensures.asked }) refl refl
-    (λ g same. candidates_at mid.candidates.items (number_of goal) (number_of g) c.index_mut-candidates.result.now c.push.new.self (record { is_marked = c.args.is_marked; questions = c.in_ok-questions.questions }) same l c.index_mut-candidates.ensures.value c.in_ok-push.ensures.items)
-    (λ g apart. ap (λ o. option_map_or (λ v. v.items) o []) (candidates_off mid.candidates.items (number_of goal) (number_of g) c.push.new.self apart))
+    (λ g same. candidates_at mid.candidates.items c.place.result (number_of g) c.index_mut-candidates.result.now c.push_last.new.candidates (record { is_marked = c.args.is_marked; questions = c.in_ok-questions.questions })
+    (same ∙ sym c.place.ensures) (omega (arith, l, c.place.ensures)) c.index_mut-candidates.ensures.value c.in_ok-push_last.ensures)
+    (λ g apart. ap (λ o. option_map_or (λ v. v.items) o []) (candidates_off mid.candidates.items c.place.result (number_of g) c.push_last.new.candidates (λ e. apart (e ∙ c.place.ensures))))

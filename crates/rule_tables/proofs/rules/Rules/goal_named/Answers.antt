@@ -1,9 +1,9 @@
-use Rattle.std.proofs.Common.{◌∙◌, subst, sym, ap, refl, is_ok, length, rules, ◌++◌, ◌∷◌, [], ◌≡◌, Some}
+use Rattle.std.proofs.Common.{◌∙◌, subst, sym, ap, refl, is_ok, length, rules, ◌++◌, ◌∷◌, [], ◌≡◌, ◌≤◌, Some, arith}
 use Rattle.std.proofs.ResultArms.{chosen}
-use Rattle.std.specs.Prelude.{slice_get}
+use Rattle.std.specs.Prelude.{slice_get, ◌^◌}
 use Rattle.std.specs.Option.{option_map_or}
 use Rattle.rule_tables.specs.Words.{number_of}
-use Rattle.rule_tables.proofs.TableLemmas.{same_names, candidates_pushed}
+use Rattle.rule_tables.proofs.TableLemmas.{same_names, with_name-length, candidates_pushed}
 use Rattle.rule_tables.proofs.rules.Rules.goal_named.Goals as goal
 
 pub invariant_of-self-else-number-len : goal.invariant_of-self-else-number-len
@@ -12,7 +12,8 @@ invariant_of-self-else-number-len c =
     let len : c.len.result ≡ length c.reserve.new.self.items = search rules in
     let same = same_names c.args.self.now.names c.args.name.now c.in_ok-number.number (subst (λ names. slice_get names c.in_ok-number.number ≡ Some c.args.name.now) c.in_ok-number.ensures.names c.in_ok-number.ensures.number)
     (λ e. c.if-number-len.false (e ∙ sym c.args.self.now.complete ∙ sym items ∙ sym len)) in
-    record { complete = items ∙ c.args.self.now.complete ∙ ap length (sym (c.in_ok-number.ensures.names ∙ same)) }
+    let countable : length c.intern.new.self ≤ 2 ^ 32 = omega (arith, with_name-length c.args.self.now.names c.args.name.now, ap length c.in_ok-number.ensures.names, c.count.ensures, c.if-count.false) in
+    record { complete = items ∙ c.args.self.now.complete ∙ ap length (sym (c.in_ok-number.ensures.names ∙ same)); countable = countable }
 
 pub returns-then-number-len-clause-mentions : goal.returns-then-number-len-clause-mentions
 returns-then-number-len-clause-mentions c =
