@@ -1,5 +1,5 @@
 -- Why the program ended early.
-use Rattle.std.specs.Prelude.{ℕ}
+use Rattle.std.specs.Prelude.{ℕ, ⊤}
 use Rattle.line_texts.specs.declared.input.InputFault.{InputFault}
 use Rattle.line_texts.specs.declared.input.InputFault.TheVariants as input
 use Rattle.rule_tables.specs.declared.reading.ReadFault.{ReadFault}
@@ -23,3 +23,16 @@ stop_of read.Memory = Memory
 abbrev pub stopped_input : InputFault → Stop
 stopped_input input.Failed = InputOrOutput
 stopped_input input.Memory = Memory
+
+abbrev pub IsBadData : Stop → Type 0
+IsBadData (BadLine n) = ⊥
+IsBadData (BadData n) = ⊤
+IsBadData InputOrOutput = ⊥
+IsBadData Memory = ⊥
+
+-- Reading data stops where memory is out. Else the data is bad, and this does not hold of it.
+abbrev pub StopsUnless : Type 0 → Stop → Type 0
+StopsUnless P (BadLine n) = ⊥
+StopsUnless P (BadData n) = ¬ P
+StopsUnless P InputOrOutput = ⊥
+StopsUnless P Memory = ⊤
