@@ -1,8 +1,9 @@
 //! Graphs as data: what is read. Nothing in it is trusted.
-ghost use Rattle.std.specs.Prelude.{◌≡◌, ◌≢◌, All, List, map, IfErr, IfNone, IfOk, IfSome, ⊤};
+ghost use Rattle.std.specs.Prelude.{◌≡◌, ◌≢◌, ℕ, All, List, map, IfErr, IfNone, IfOk, IfSome, ⊤};
 ghost use Rattle.json.specs.Token.{Token as SpecToken};
-ghost use Rattle.shown_graphs.specs.Below.{names_of, Outcome as SpecOutcome, Reply as SpecReply, word_of};
+ghost use Rattle.shown_graphs.specs.Below.{names_of, Outcome as SpecOutcome, Reads, Reply as SpecReply, Rules as SpecRules, word_of};
 ghost use Rattle.shown_graphs.specs.Data.{array_tokens, claim_tokens, edge_tokens, goal_tokens, HaveOwnNames, IsClaim, IsEdge, IsNamed, IsNode, kind_tokens, left_in, node_tokens, outcome_tokens, plain_claim, plain_node, PlainClaim, reply_tokens, reply_word, Spells};
+ghost use Rattle.shown_graphs.specs.Page.{AreOfPage, IsPage, line_tokens, text_of};
 ghost use Rattle.shown_graphs.specs.Stop.{StopsUnless};
 
 mod source;
@@ -32,15 +33,14 @@ pub(crate) struct Claims {
 
 /// Reads data as `--json` writes it: the members of each object in the same order, and none beside them. `BadData` tells
 /// before which byte of the text something else was found, and `Memory` that memory is out.
-pub(crate) fn read_claims(alloc: Global, source: &mut Source<'_>) -> Result<Claims, Stop> {
+pub(crate) fn read_claims(alloc: Global, source: &mut Source<'_>) -> Result<Claims, Stop>
+    ensures read { IfOk result (λ claims. IsPage (left_in source.old) claims.rules (map plain_claim claims.all.items)) }
+    ensures refused { IfErr result (StopsUnless (AreOfPage (left_in source.old))) }
+{
     source.begin_object()?;
     source.key("rules")?;
     let text = read_lines(alloc, source)?;
-    let rules = match Rules::read(alloc, text.as_slice()) {
-        Ok(rules) => rules,
-        Err(ReadFault::BadLine(_)) => return Err(source.fault()),
-        Err(ReadFault::Memory) => return Err(Stop::Memory),
-    };
+    let rules = rules_of(alloc, source, text.as_slice())?;
     source.key("answers")?;
     let all = read_answers(alloc, source, &rules)?;
     source.end_object()?;
@@ -49,7 +49,11 @@ pub(crate) fn read_claims(alloc: Global, source: &mut Source<'_>) -> Result<Clai
 }
 
 // The lines of rules, which stand in an array.
-fn read_lines(alloc: Global, source: &mut Source<'_>) -> Result<Vec<u8>, Stop> {
+fn read_lines(alloc: Global, source: &mut Source<'_>) -> Result<Vec<u8>, Stop>
+    ensures spelled { IfOk result (λ text. (lines : List (List ℕ)) × (text.items ≡ text_of lines)
+        × (left_in source.old ≡ array_tokens line_tokens lines (left_in source.new))) }
+    ensures refused { IfErr result (StopsUnless (Spells (λ _. ⊤) (array_tokens line_tokens) (left_in source.old))) }
+{
     let mut text = Vec::new(alloc);
     source.begin_array()?;
     for _ in 0..u64::MAX {
@@ -61,6 +65,18 @@ fn read_lines(alloc: Global, source: &mut Source<'_>) -> Result<Vec<u8>, Stop> {
         text.push(b'\n')?;
     }
     Err(Stop::Memory)
+}
+
+// The rules of this text, which is bad data if a line is malformed.
+fn rules_of(alloc: Global, source: &Source<'_>, text: &[u8]) -> Result<Rules, Stop>
+    ensures read { IfOk result (Reads text.now) }
+    ensures refused { IfErr result (StopsUnless ((rules : SpecRules) × Reads text.now rules)) }
+{
+    match Rules::read(alloc, text) {
+        Ok(rules) => Ok(rules),
+        Err(ReadFault::BadLine(_)) => Err(source.fault()),
+        Err(ReadFault::Memory) => Err(Stop::Memory),
+    }
 }
 
 fn read_answers(alloc: Global, source: &mut Source<'_>, rules: &Rules) -> Result<Vec<Claim>, Stop>
