@@ -1,5 +1,8 @@
 //! The words of the command line.
+ghost use Rattle.std.specs.Prelude.{◌≡◌, ◌≢◌, ◌⊎◌};
+ghost use Rattle.clap.specs.Words.{kind_of};
 
+use clap::error::ErrorKind;
 use clap::{Arg, ArgAction, ArgMatches, Command, Error, value_parser};
 use shown_graphs::Form;
 use std::alloc::Global;
@@ -30,6 +33,23 @@ pub(crate) fn order_of<'a>(alloc: Global, words: &'a [String]) -> Result<Order<'
         task: task_of(&matches),
         file: matches.get_str("file"),
     })
+}
+
+/// The exit status where the words name no task: 0 where help was asked for, 4 where memory was out, and 2 where the words are
+/// wrong.
+pub(crate) fn status_of_error(error: &Error) -> u8
+    ensures shown { (kind_of error.now ≡ ErrorKind.DisplayHelp)
+        ⊎ (kind_of error.now ≡ ErrorKind.DisplayVersion) → result ≡ 0 }
+    ensures memory { kind_of error.now ≡ ErrorKind.OutOfMemory → result ≡ 4 }
+    ensures wrong { kind_of error.now ≢ ErrorKind.DisplayHelp
+        → kind_of error.now ≢ ErrorKind.DisplayVersion
+        → kind_of error.now ≢ ErrorKind.OutOfMemory → result ≡ 2 }
+{
+    match error.kind() {
+        ErrorKind::DisplayHelp | ErrorKind::DisplayVersion => 0,
+        ErrorKind::OutOfMemory => 4,
+        _ => 2,
+    }
 }
 
 fn task_of(matches: &ArgMatches<'_>) -> Task {

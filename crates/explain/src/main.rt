@@ -2,10 +2,12 @@
 //! checks such data.
 #![tactic(auto)]
 
+ghost use Rattle.std.specs.Prelude.{◌≤◌};
+
 mod arguments;
 mod progress;
 
-use arguments::{Order, Task, order_of};
+use arguments::{Order, Task, order_of, status_of_error};
 use progress::OnTerminal;
 use shown_graphs::{check, explain};
 use std::fs::File;
@@ -17,7 +19,9 @@ fn main(rt: HostRuntime) -> ExitCode {
     ExitCode::from(run(rt))
 }
 
-fn run(rt: HostRuntime) -> u8 {
+fn run(rt: HostRuntime) -> u8
+    ensures { result ≤ 4 }
+{
     let Ok(words) = all_words(&rt) else {
         let _ = writeln!(rt.stderr(), "the arguments could not be read");
         return 2;
@@ -32,13 +36,15 @@ fn run(rt: HostRuntime) -> u8 {
         ) => perform_on_file(&rt, task, path),
         Err(error) => {
             let _ = error.print(&rt);
-            if error.use_stderr() { 2 } else { 0 }
+            status_of_error(&error)
         }
     }
 }
 
 // The task on the file of this path. One that cannot be opened is told, and the status is that of input that cannot be read.
-fn perform_on_file(rt: &HostRuntime, task: Task, path: &str) -> u8 {
+fn perform_on_file(rt: &HostRuntime, task: Task, path: &str) -> u8
+    ensures { result ≤ 4 }
+{
     match File::open(rt, path) {
         Ok(file) => perform(rt, task, file),
         Err(error) => {
@@ -48,7 +54,9 @@ fn perform_on_file(rt: &HostRuntime, task: Task, path: &str) -> u8 {
     }
 }
 
-fn perform<R: Read + Drop>(rt: &HostRuntime, task: Task, input: R) -> u8 {
+fn perform<R: Read + Drop>(rt: &HostRuntime, task: Task, input: R) -> u8
+    ensures { result ≤ 4 }
+{
     let alloc = rt.alloc();
     let mut out = rt.stdout();
     let progress = OnTerminal::new(rt);

@@ -1,14 +1,15 @@
 -- What tokens spell is told by them.
-use Rattle.std.proofs.Common.{◌≡◌, ◌∙◌, ◌<◌, ◌^◌, ◌&&◌, ℕ, List, [], ◌∷◌, Some, ap, sym, refl, cond, nat_eq, get_or, length, decimal, codes}
-use Rattle.std.proofs.lemmas.Fmt.{decimal_is_IsNumeral}
-use Rattle.std.specs.Str.Parse.{digits_value}
-use Rattle.json.specs.Token.{Token, begin_array, end_array, end_object, key, string}
+use Rattle.std.proofs.Common.{◌≡◌, ◌∙◌, ◌&&◌, ℕ, All, List, ◌∷◌, Some, ap, sym, refl, cond, nat_eq, get_or, length, decimal, codes}
+use Rattle.std.proofs.lemmas.Fmt.{decimal_injective}
+use Rattle.std.specs.Prelude.{⊤}
+use Rattle.json.specs.Token.{Token, end_array, end_object, key}
 use Rattle.cycle_heads.specs.declared.path.PathKind.{PathKind}
 use Rattle.cycle_heads.specs.declared.path.PathKind.TheVariants.{Coinductive, ForcedAmbiguity, Inductive, Unknown}
 use Rattle.search_context.specs.declared.context.Edge.{Edge}
 use Rattle.search_context.specs.declared.context.Reply.TheVariants.{Answer, Begin, Noted}
-use Rattle.shown_graphs.specs.Below.{Goal, name_of, Maybe, No, Outcome, Overflow, Reply, Rules, word_of, Yes}
-use Rattle.shown_graphs.specs.Data.{AreEdges, AreNodes, claim_tokens, edge_tokens, edges_tokens, goal_text, HaveOwnNames, IsNamed, IsOfRules, letter_of, node_tokens, nodes_tokens, PlainClaim, PlainNode, reply_tokens, reply_word}
+use Rattle.shown_graphs.proofs.Arrays.{array_tail, array_told, Parts, Tells}
+use Rattle.shown_graphs.specs.Below.{Goal, Maybe, No, Outcome, Overflow, Reply, word_of, Yes}
+use Rattle.shown_graphs.specs.Data.{array_tokens, claim_tokens, edge_tokens, goal_text, HaveOwnNames, IsClaim, IsEdge, IsNamed, IsNode, letter_of, list_tokens, node_tokens, outcome_tokens, PlainClaim, PlainNode, reply_tokens, reply_word}
 
 -- words are told apart by their letters
 abbrev kind_in : List ℕ → PathKind
@@ -49,19 +50,6 @@ outcome_told a b h = sym (outcome_in-word_of a) ∙ ap outcome_in h ∙ outcome_
 reply_told : (a b : Reply Outcome) → reply_word a ≡ reply_word b → a ≡ b
 reply_told a b h = sym (reply_in-reply_word a) ∙ ap reply_in h ∙ reply_in-reply_word b
 
-number_told : (a b : ℕ) → a < 2 ^ 64 → b < 2 ^ 64 → decimal a ≡ decimal b → a ≡ b
-number_told a b fits_a fits_b h = sym (decimal_is_IsNumeral a fits_a).1 ∙ ap (digits_value 10) h ∙ (decimal_is_IsNumeral b fits_b).1
-
-replies_told : (xs ys : List (Reply Outcome)) (r s : List Token) → reply_tokens xs (end_array ∷ r) ≡ reply_tokens ys (end_array ∷ s) → (xs ≡ ys) × (r ≡ s)
-replies_told [] [] r s h = (refl, cc)
-replies_told [] (y ∷ ys) r s h = absurd (cc)
-replies_told (x ∷ xs) [] r s h = absurd (cc)
-replies_told (x ∷ xs) (y ∷ ys) r s h =
-    let word : reply_word x ≡ reply_word y = cc in
-    let more : reply_tokens xs (end_array ∷ r) ≡ reply_tokens ys (end_array ∷ s) = cc in
-    let rest = replies_told xs ys r s more in
-    (ap (λ v. v ∷ xs) (reply_told x y word) ∙ ap (λ vs. y ∷ vs) rest.0, rest.1)
-
 edge_same : (e f : Edge Goal) → e.kind ≡ f.kind → e.input ≡ f.input → e.target ≡ f.target → e ≡ f
 edge_same e f kind input target =
     ap (λ k. record { kind = k; input = e.input; target = e.target }) kind ∙ ap (λ g. record { kind = f.kind; input = g; target = e.target }) input ∙ ap (λ t. record { kind = f.kind; input = f.input; target = t }) target
@@ -75,48 +63,78 @@ claim_same : (x y : PlainClaim) → x.goal ≡ y.goal → x.outcome ≡ y.outcom
 claim_same x y goal outcome nodes =
     ap (λ g. record { goal = g; outcome = x.outcome; nodes = x.nodes }) goal ∙ ap (λ o. record { goal = y.goal; outcome = o; nodes = x.nodes }) outcome ∙ ap (λ ns. record { goal = y.goal; outcome = y.outcome; nodes = ns }) nodes
 
-module _ (rules : Rules) (own : HaveOwnNames rules) where
-  goal_told : (a b : Goal) → IsNamed rules a → IsNamed rules b → goal_text rules a ≡ goal_text rules b → a ≡ b
-  goal_told a b named_a named_b h = own a b (goal_text rules b) (named_a ∙ ap Some h) named_b
+pub reply_parts : Parts reply_tokens
+reply_parts = record { tail = λ x y r s h. cc; is_no_end = λ x r s h. absurd (cc) }
 
-  edges_told : (xs ys : List (Edge Goal)) (r s : List Token) → AreEdges rules xs → AreEdges rules ys → edges_tokens rules xs (end_array ∷ r) ≡ edges_tokens rules ys (end_array ∷ s) → (xs ≡ ys) × (r ≡ s)
-  edges_told [] [] r s p q h = (refl, cc)
-  edges_told [] (y ∷ ys) r s p q h = absurd (cc)
-  edges_told (x ∷ xs) [] r s p q h = absurd (cc)
-  edges_told (x ∷ xs) (y ∷ ys) r s p q h =
-      let kind : letter_of x.kind ≡ letter_of y.kind = cc in
-      let input : goal_text rules x.input ≡ goal_text rules y.input = cc in
-      let target : decimal x.target ≡ decimal y.target = cc in
-      let more : edges_tokens rules xs (end_array ∷ r) ≡ edges_tokens rules ys (end_array ∷ s) = cc in
-      let rest = edges_told xs ys r s p.2 q.2 more in
-      (ap (λ v. v ∷ xs) (edge_same x y (kind_told x.kind y.kind kind) (goal_told x.input y.input p.0 q.0 input) (number_told x.target y.target p.1 q.1 target)) ∙ ap (λ vs. y ∷ vs) rest.0, rest.1)
+reply_tells : Tells reply_tokens (λ _. ⊤)
+reply_tells x y r s p q h = let word : reply_word x ≡ reply_word y = cc in reply_told x y word
 
-  -- what follows the replies of a node, and its edges
-  abbrev after_replies : PlainNode → List Token → List Token
-  after_replies node rest = key (codes "result") ∷ string (word_of node.result) ∷ key (codes "edges") ∷ begin_array ∷ edges_tokens rules node.edges (end_array ∷ end_object ∷ rest)
+module _ (names : List (List ℕ)) where
+  pub edge_parts : Parts (edge_tokens names)
+  edge_parts = record { tail = λ x y r s h. cc; is_no_end = λ x r s h. absurd (cc) }
 
-  nodes_told : (xs ys : List PlainNode) (r s : List Token) → AreNodes rules xs → AreNodes rules ys → nodes_tokens rules xs (end_array ∷ r) ≡ nodes_tokens rules ys (end_array ∷ s) → (xs ≡ ys) × (r ≡ s)
-  nodes_told [] [] r s p q h = (refl, cc)
-  nodes_told [] (y ∷ ys) r s p q h = absurd (cc)
-  nodes_told (x ∷ xs) [] r s p q h = absurd (cc)
-  nodes_told (x ∷ xs) (y ∷ ys) r s p q h =
-      let name : goal_text rules x.goal ≡ goal_text rules y.goal = cc in
-      let tail_x : List Token = nodes_tokens rules xs (end_array ∷ r) in
-      let tail_y : List Token = nodes_tokens rules ys (end_array ∷ s) in
-      let told : reply_tokens x.replies (end_array ∷ after_replies x tail_x) ≡ reply_tokens y.replies (end_array ∷ after_replies y tail_y) = cc in
-      let replies = replies_told x.replies y.replies (after_replies x tail_x) (after_replies y tail_y) told in
-      let word : word_of x.result ≡ word_of y.result = cc (replies.1) in
-      let lasting : edges_tokens rules x.edges (end_array ∷ end_object ∷ tail_x) ≡ edges_tokens rules y.edges (end_array ∷ end_object ∷ tail_y) = cc (replies.1) in
-      let edges = edges_told x.edges y.edges (end_object ∷ tail_x) (end_object ∷ tail_y) p.1 q.1 lasting in
-      let more : nodes_tokens rules xs (end_array ∷ r) ≡ nodes_tokens rules ys (end_array ∷ s) = cc (edges.1) in
-      let rest = nodes_told xs ys r s p.2 q.2 more in
-      (ap (λ v. v ∷ xs) (node_same x y (goal_told x.goal y.goal p.0 q.0 name) replies.0 (outcome_told x.result y.result word) edges.0) ∙ ap (λ vs. y ∷ vs) rest.0, rest.1)
+  -- what follows the replies of a node
+  abbrev pub after_replies : PlainNode → List Token → List Token
+  after_replies node rest = key (codes "result") ∷ outcome_tokens node.result (key (codes "edges") ∷ array_tokens (edge_tokens names) node.edges (end_object ∷ rest))
 
-  -- the same tokens spell the same claim
-  pub claim_told : (x y : PlainClaim) (r s : List Token) → IsOfRules rules x → IsOfRules rules y → claim_tokens rules x r ≡ claim_tokens rules y s → (x ≡ y) × (r ≡ s)
-  claim_told x y r s p q h =
-      let name : goal_text rules x.goal ≡ goal_text rules y.goal = cc in
-      let word : word_of x.outcome ≡ word_of y.outcome = cc in
-      let more : nodes_tokens rules x.nodes (end_array ∷ end_object ∷ r) ≡ nodes_tokens rules y.nodes (end_array ∷ end_object ∷ s) = cc in
-      let rest = nodes_told x.nodes y.nodes (end_object ∷ r) (end_object ∷ s) p.1 q.1 more in
-      (claim_same x y (goal_told x.goal y.goal p.0 q.0 name) (outcome_told x.outcome y.outcome word) rest.0, cc (rest.1))
+  node_replies : (x y : PlainNode) (r s : List Token) → node_tokens names x r ≡ node_tokens names y s →
+      list_tokens reply_tokens x.replies (end_array ∷ after_replies x r) ≡ list_tokens reply_tokens y.replies (end_array ∷ after_replies y s)
+  node_replies x y r s h = cc
+
+  node_rest : (x y : PlainNode) (r s : List Token) → node_tokens names x r ≡ node_tokens names y s → after_replies x r ≡ after_replies y s
+  node_rest x y r s h = array_tail reply_tokens reply_parts x.replies y.replies _ _ (node_replies x y r s h)
+
+  node_edges : (x y : PlainNode) (r s : List Token) → after_replies x r ≡ after_replies y s →
+      list_tokens (edge_tokens names) x.edges (end_array ∷ end_object ∷ r) ≡ list_tokens (edge_tokens names) y.edges (end_array ∷ end_object ∷ s)
+  node_edges x y r s h = cc
+
+  node_tail : (x y : PlainNode) (r s : List Token) → node_tokens names x r ≡ node_tokens names y s → r ≡ s
+  node_tail x y r s h =
+      let ends = array_tail (edge_tokens names) edge_parts x.edges y.edges _ _ (node_edges x y r s (node_rest x y r s h)) in
+      cc (ends)
+
+  pub node_parts : Parts (node_tokens names)
+  node_parts = record { tail = node_tail; is_no_end = λ x r s h. absurd (cc) }
+
+  claim_nodes : (x y : PlainClaim) (r s : List Token) → claim_tokens names x r ≡ claim_tokens names y s →
+      list_tokens (node_tokens names) x.nodes (end_array ∷ end_object ∷ r) ≡ list_tokens (node_tokens names) y.nodes (end_array ∷ end_object ∷ s)
+  claim_nodes x y r s h = cc
+
+  pub claim_tail : (x y : PlainClaim) (r s : List Token) → claim_tokens names x r ≡ claim_tokens names y s → r ≡ s
+  claim_tail x y r s h =
+      let ends = array_tail (node_tokens names) node_parts x.nodes y.nodes _ _ (claim_nodes x y r s h) in
+      cc (ends)
+
+  pub claim_parts : Parts (claim_tokens names)
+  claim_parts = record { tail = claim_tail; is_no_end = λ x r s h. absurd (cc) }
+
+  module _ (own : HaveOwnNames names) where
+    goal_told : (a b : Goal) → IsNamed names a → IsNamed names b → goal_text names a ≡ goal_text names b → a ≡ b
+    goal_told a b named_a named_b h = own a b (goal_text names b) (named_a ∙ ap Some h) named_b
+
+    edge_tells : Tells (edge_tokens names) (IsEdge names)
+    edge_tells x y r s p q h =
+        let kind : letter_of x.kind ≡ letter_of y.kind = cc in
+        let input : goal_text names x.input ≡ goal_text names y.input = cc in
+        let target : decimal x.target ≡ decimal y.target = cc in
+        edge_same x y (kind_told x.kind y.kind kind) (goal_told x.input y.input p.0 q.0 input) (decimal_injective x.target y.target p.1 q.1 target)
+
+    node_tells : Tells (node_tokens names) (IsNode names)
+    node_tells x y r s p q h =
+        let name : goal_text names x.goal ≡ goal_text names y.goal = cc in
+        let replies = array_told reply_tokens reply_parts (λ _. ⊤) reply_tells x.replies y.replies _ _ (λ k d b. tt) (λ k d b. tt) (node_replies x y r s h) in
+        let after = node_rest x y r s h in
+        let word : word_of x.result ≡ word_of y.result = cc (after) in
+        let edges = array_told (edge_tokens names) edge_parts (IsEdge names) edge_tells x.edges y.edges _ _ p.1 q.1 (node_edges x y r s after) in
+        node_same x y (goal_told x.goal y.goal p.0 q.0 name) replies (outcome_told x.result y.result word) edges
+
+    -- the same tokens spell the same claim
+    pub claim_tells : Tells (claim_tokens names) (IsClaim names)
+    claim_tells x y r s p q h =
+        let name : goal_text names x.goal ≡ goal_text names y.goal = cc in
+        let word : word_of x.outcome ≡ word_of y.outcome = cc in
+        let nodes = array_told (node_tokens names) node_parts (IsNode names) node_tells x.nodes y.nodes _ _ p.1 q.1 (claim_nodes x y r s h) in
+        claim_same x y (goal_told x.goal y.goal p.0 q.0 name) (outcome_told x.outcome y.outcome word) nodes
+
+    pub claim_told : (x y : PlainClaim) (r s : List Token) → IsClaim names x → IsClaim names y → claim_tokens names x r ≡ claim_tokens names y s → (x ≡ y) × (r ≡ s)
+    claim_told x y r s p q h = (claim_tells x y r s p q h, claim_tail x y r s h)

@@ -1,15 +1,14 @@
 -- Graphs as data: the tokens that spell them. Each function puts its tokens before those that follow.
-use Rattle.std.specs.Prelude.{◌≡◌, ℕ, ◌++◌, ◌<◌, ◌^◌, List, [], ◌∷◌, map, codes, decimal, Some, ⊤}
+use Rattle.std.specs.Prelude.{◌≡◌, ℕ, ◌++◌, ◌<◌, ◌^◌, All, List, [], ◌∷◌, map, codes, decimal, slice_get, Some}
 use Rattle.std.specs.Option.{unwrap_or}
 use Rattle.std.specs.Str.{IsUtf8}
-use Rattle.std.specs.Str.Parse.{digits_value, without_leading_plus}
 use Rattle.json.specs.Token.{Token, begin_object, end_object, begin_array, end_array, key, string, number}
 use Rattle.json.specs.Written.{Written}
 use Rattle.search_context.specs.declared.context.Edge.{Edge}
 use Rattle.search_context.specs.declared.context.Reply.TheVariants.{Answer, Begin, Noted}
 use Rattle.cycle_heads.specs.declared.path.PathKind.{PathKind}
 use Rattle.cycle_heads.specs.declared.path.PathKind.TheVariants.{Coinductive, ForcedAmbiguity, Inductive, Unknown}
-use Rattle.shown_graphs.specs.Below.{Goal, name_of, Node, Outcome, Reply, Rules, word_of}
+use Rattle.shown_graphs.specs.Below.{Goal, Node, number_of, Outcome, Reply, word_of}
 use Rattle.shown_graphs.specs.declared.reading.Claim.{Claim}
 use Rattle.shown_graphs.specs.declared.reading.source.Source.{Source}
 
@@ -43,37 +42,48 @@ reply_word Begin = codes "begin"
 reply_word (Answer outcome) = word_of outcome
 reply_word Noted = codes "noted"
 
-abbrev pub reply_tokens : List (Reply Outcome) → List Token → List Token
-reply_tokens [] rest = rest
-reply_tokens (reply ∷ replies) rest = string (reply_word reply) ∷ reply_tokens replies rest
+-- the tokens of each in turn
+abbrev pub list_tokens : {A : Type 0} → (A → List Token → List Token) → List A → List Token → List Token
+list_tokens spelled [] rest = rest
+list_tokens spelled (x ∷ xs) rest = spelled x (list_tokens spelled xs rest)
 
-module _ (rules : Rules) where
-  -- the goal's name
+abbrev pub array_tokens : {A : Type 0} → (A → List Token → List Token) → List A → List Token → List Token
+array_tokens spelled xs rest = begin_array ∷ list_tokens spelled xs (end_array ∷ rest)
+
+abbrev pub number_tokens : ℕ → List Token → List Token
+number_tokens n rest = number (decimal n) ∷ rest
+
+abbrev pub kind_tokens : PathKind → List Token → List Token
+kind_tokens kind rest = string (letter_of kind) ∷ rest
+
+abbrev pub outcome_tokens : Outcome → List Token → List Token
+outcome_tokens outcome rest = string (word_of outcome) ∷ rest
+
+abbrev pub reply_tokens : Reply Outcome → List Token → List Token
+reply_tokens reply rest = string (reply_word reply) ∷ rest
+
+-- the names of goals, in the order of their numbers
+module _ (names : List (List ℕ)) where
   abbrev pub goal_text : Goal → List ℕ
-  goal_text goal = unwrap_or (name_of rules goal) []
+  goal_text goal = unwrap_or (slice_get names (number_of goal)) []
+
+  abbrev pub goal_tokens : Goal → List Token → List Token
+  goal_tokens goal rest = string (goal_text goal) ∷ rest
 
   abbrev pub edge_tokens : Edge Goal → List Token → List Token
   edge_tokens edge rest =
-      begin_object ∷ key (codes "kind") ∷ string (letter_of edge.kind) ∷ key (codes "goal") ∷ string (goal_text edge.input) ∷
-      key (codes "target") ∷ number (decimal edge.target) ∷ end_object ∷ rest
-
-  abbrev pub edges_tokens : List (Edge Goal) → List Token → List Token
-  edges_tokens [] rest = rest
-  edges_tokens (edge ∷ edges) rest = edge_tokens edge (edges_tokens edges rest)
+      begin_object ∷ key (codes "kind") ∷ kind_tokens edge.kind (key (codes "goal") ∷ goal_tokens edge.input
+      (key (codes "target") ∷ number_tokens edge.target (end_object ∷ rest)))
 
   abbrev pub node_tokens : PlainNode → List Token → List Token
   node_tokens node rest =
-      begin_object ∷ key (codes "goal") ∷ string (goal_text node.goal) ∷ key (codes "replies") ∷ begin_array ∷ reply_tokens node.replies
-      (end_array ∷ key (codes "result") ∷ string (word_of node.result) ∷ key (codes "edges") ∷ begin_array ∷ edges_tokens node.edges (end_array ∷ end_object ∷ rest))
-
-  abbrev pub nodes_tokens : List PlainNode → List Token → List Token
-  nodes_tokens [] rest = rest
-  nodes_tokens (node ∷ nodes) rest = node_tokens node (nodes_tokens nodes rest)
+      begin_object ∷ key (codes "goal") ∷ goal_tokens node.goal (key (codes "replies") ∷ array_tokens reply_tokens node.replies
+      (key (codes "result") ∷ outcome_tokens node.result (key (codes "edges") ∷ array_tokens edge_tokens node.edges (end_object ∷ rest))))
 
   abbrev pub claim_tokens : PlainClaim → List Token → List Token
   claim_tokens claim rest =
-      begin_object ∷ key (codes "goal") ∷ string (goal_text claim.goal) ∷ key (codes "verdict") ∷ string (word_of claim.outcome) ∷
-      key (codes "nodes") ∷ begin_array ∷ nodes_tokens claim.nodes (end_array ∷ end_object ∷ rest)
+      begin_object ∷ key (codes "goal") ∷ goal_tokens claim.goal (key (codes "verdict") ∷ outcome_tokens claim.outcome
+      (key (codes "nodes") ∷ array_tokens node_tokens claim.nodes (end_object ∷ rest)))
 
   -- each goal's name is UTF-8
   abbrev pub HaveTexts : Type 0
@@ -83,34 +93,43 @@ module _ (rules : Rules) where
 pub record Puts (old new : Written) (spelled : List Token → List Token) : Type 0 where
   pub appended : (rest : List Token) → new.tokens ++ rest ≡ old.tokens ++ spelled rest
 
--- a number by its value
-abbrev pub plain_token : Token → Token
-plain_token (number text) = number (decimal (digits_value 10 (without_leading_plus text)))
-plain_token token = token
+-- ---- what is read back
 
 -- the tokens that are not read yet
 abbrev pub left_in : Source → List Token
-left_in source = map plain_token source.reader
+left_in source = source.reader
 
--- ---- what is read back
+-- this token stands first
+abbrev pub Begins : Token → List Token → Type 0
+Begins token tokens = (rest : List Token) × (tokens ≡ token ∷ rest)
 
-module _ (rules : Rules) where
+-- The tokens of some value stand first, of which P holds.
+pub record Spells {A : Type 0} (P : A → Type 0) (spelled : A → List Token → List Token) (tokens : List Token) : Type 0 where
+  pub value : A
+  pub is_right : P value
+  pub rest : List Token
+  pub are_its : tokens ≡ spelled value rest
+
+-- its target is a number of 64 bits
+abbrev pub IsTarget : ℕ → Type 0
+IsTarget target = target < 2 ^ 64
+
+module _ (names : List (List ℕ)) where
   -- the goal has a name
   abbrev pub IsNamed : Goal → Type 0
-  IsNamed goal = name_of rules goal ≡ Some (goal_text rules goal)
+  IsNamed goal = slice_get names (number_of goal) ≡ Some (goal_text names goal)
 
-  -- and so has each goal of these edges, and their targets are numbers of 64 bits
-  abbrev pub AreEdges : List (Edge Goal) → Type 0
-  AreEdges [] = ⊤
-  AreEdges (edge ∷ edges) = IsNamed edge.input × (edge.target < 2 ^ 64) × AreEdges edges
+  -- the goal of this edge has a name, and its target is a number of 64 bits
+  abbrev pub IsEdge : Edge Goal → Type 0
+  IsEdge edge = IsNamed edge.input × IsTarget edge.target
 
-  abbrev pub AreNodes : List PlainNode → Type 0
-  AreNodes [] = ⊤
-  AreNodes (node ∷ nodes) = IsNamed node.goal × AreEdges node.edges × AreNodes nodes
+  abbrev pub IsNode : PlainNode → Type 0
+  IsNode node = IsNamed node.goal × All IsEdge node.edges
 
-  abbrev pub IsOfRules : PlainClaim → Type 0
-  IsOfRules claim = IsNamed claim.goal × AreNodes claim.nodes
+  -- each goal in it has a name
+  abbrev pub IsClaim : PlainClaim → Type 0
+  IsClaim claim = IsNamed claim.goal × All IsNode claim.nodes
 
   -- no two goals have one name
   abbrev pub HaveOwnNames : Type 0
-  HaveOwnNames = (a b : Goal) (name : List ℕ) → name_of rules a ≡ Some name → name_of rules b ≡ Some name → a ≡ b
+  HaveOwnNames = (a b : Goal) (name : List ℕ) → slice_get names (number_of a) ≡ Some name → slice_get names (number_of b) ≡ Some name → a ≡ b

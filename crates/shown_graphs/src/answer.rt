@@ -34,8 +34,13 @@ pub(crate) enum Came {
 }
 
 impl Came {
+    ghost use Rattle.std.specs.Prelude.{◌≡◌};
+    ghost use Rattle.shown_graphs.specs.Shown.{is_fine};
+
     /// Whether the question was answered, and its graph accepted if it has one.
-    pub(crate) fn is_fine(&self) -> bool {
+    pub(crate) fn is_fine(&self) -> bool
+        ensures { result ≡ is_fine self.now }
+    {
         match self {
             Came::Graph { .. } | Came::NoGraph { .. } => true,
             Came::Unchecked(_) | Came::Fault(_) => false,

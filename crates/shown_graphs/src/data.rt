@@ -1,8 +1,7 @@
 //! Graphs as data: what is written.
-ghost use Rattle.std.specs.Prelude.{◌≡◌, ◌∷◌, OnOk, map};
-ghost use Rattle.json.specs.Token.{begin_array, end_array};
-ghost use Rattle.shown_graphs.specs.Below.{word_of};
-ghost use Rattle.shown_graphs.specs.Data.{claim_tokens, edge_tokens, edges_tokens, HaveTexts, node_tokens, nodes_tokens, plain_node, Puts, reply_tokens, reply_word};
+ghost use Rattle.std.specs.Prelude.{◌≡◌, OnOk, map};
+ghost use Rattle.shown_graphs.specs.Below.{names_of, word_of};
+ghost use Rattle.shown_graphs.specs.Data.{array_tokens, claim_tokens, edge_tokens, HaveTexts, node_tokens, plain_node, Puts, reply_tokens, reply_word};
 
 use crate::words::{letter, name_of};
 use json::Writer;
@@ -48,7 +47,7 @@ pub(crate) fn write_answer(
     outcome: Outcome,
     nodes: &[Node<Goal, Outcome>],
 ) -> Result<(), AllocError>
-    ensures { HaveTexts rules.now → OnOk result (Puts writer.old writer.new (claim_tokens rules.now
+    ensures { HaveTexts (names_of rules.now) → OnOk result (Puts writer.old writer.new (claim_tokens (names_of rules.now)
         (record { goal = goal; outcome = outcome; nodes = map plain_node nodes.now }))) }
 {
     writer.begin_object()?;
@@ -67,8 +66,8 @@ fn write_nodes(
     rules: &Rules,
     nodes: &[Node<Goal, Outcome>],
 ) -> Result<(), AllocError>
-    ensures { HaveTexts rules.now → OnOk result (Puts writer.old writer.new
-        (λ rest. begin_array ∷ nodes_tokens rules.now (map plain_node nodes.now) (end_array ∷ rest))) }
+    ensures { HaveTexts (names_of rules.now) → OnOk result (Puts writer.old writer.new
+        (array_tokens (node_tokens (names_of rules.now)) (map plain_node nodes.now))) }
 {
     writer.begin_array()?;
     for node in nodes {
@@ -83,8 +82,8 @@ fn write_node(
     rules: &Rules,
     node: &Node<Goal, Outcome>,
 ) -> Result<(), AllocError>
-    ensures { HaveTexts rules.now → OnOk result
-        (Puts writer.old writer.new (node_tokens rules.now (plain_node node.now))) }
+    ensures { HaveTexts (names_of rules.now) → OnOk result
+        (Puts writer.old writer.new (node_tokens (names_of rules.now) (plain_node node.now))) }
 {
     writer.begin_object()?;
     writer.key("goal")?;
@@ -104,8 +103,8 @@ fn write_edges(
     rules: &Rules,
     edges: &[Edge<Goal>],
 ) -> Result<(), AllocError>
-    ensures { HaveTexts rules.now → OnOk result (Puts writer.old writer.new
-        (λ rest. begin_array ∷ edges_tokens rules.now edges.now (end_array ∷ rest))) }
+    ensures { HaveTexts (names_of rules.now) → OnOk result (Puts writer.old writer.new
+        (array_tokens (edge_tokens (names_of rules.now)) edges.now)) }
 {
     writer.begin_array()?;
     for edge in edges {
@@ -117,7 +116,7 @@ fn write_edges(
 
 fn write_replies(writer: &mut Writer<Global>, replies: &[Reply<Outcome>]) -> Result<(), AllocError>
     ensures { OnOk result (Puts writer.old writer.new
-        (λ rest. begin_array ∷ reply_tokens replies.now (end_array ∷ rest))) }
+        (array_tokens reply_tokens replies.now)) }
 {
     writer.begin_array()?;
     for reply in replies {
@@ -142,8 +141,8 @@ fn write_edge(
     rules: &Rules,
     edge: Edge<Goal>,
 ) -> Result<(), AllocError>
-    ensures { HaveTexts rules.now → OnOk result
-        (Puts writer.old writer.new (edge_tokens rules.now edge)) }
+    ensures { HaveTexts (names_of rules.now) → OnOk result
+        (Puts writer.old writer.new (edge_tokens (names_of rules.now) edge)) }
 {
     writer.begin_object()?;
     writer.key("kind")?;

@@ -1,4 +1,5 @@
 //! What is written of the questions, in each form.
+ghost use Rattle.std.specs.Prelude.{◌≡◌, ◌⊎◌, IfErr};
 
 use crate::answer::Came;
 use crate::data::{word, write_answer, write_end as end_data, write_start as start_data};
@@ -35,7 +36,9 @@ pub(crate) enum Page {
 
 impl Page {
     /// The beginning of a page about this text of rules.
-    pub(crate) fn new(alloc: Global, form: Form, text: &[u8]) -> Result<Page, Stop> {
+    pub(crate) fn new(alloc: Global, form: Form, text: &[u8]) -> Result<Page, Stop>
+        ensures { IfErr result (λ stop. stop ≡ Stop.Memory) }
+    {
         let mut waiting = Vec::new(alloc);
         match form {
             Form::Text { depth } => Ok(Page::Text { depth, waiting }),
@@ -58,7 +61,9 @@ impl Page {
         rules: &Rules,
         goal: Goal,
         came: &Came,
-    ) -> Result<(), Stop> {
+    ) -> Result<(), Stop>
+        ensures { IfErr result (λ stop. stop ≡ Stop.Memory) }
+    {
         match self {
             Page::Text { depth, waiting } => {
                 add_text(alloc, waiting, rules, goal, came, *depth).map_err(|_| Stop::Memory)
@@ -90,7 +95,9 @@ impl Page {
     }
 
     /// Writes the rest.
-    pub(crate) fn finish<W: Write>(self, out: &mut W) -> Result<(), Stop> {
+    pub(crate) fn finish<W: Write>(self, out: &mut W) -> Result<(), Stop>
+        ensures { IfErr result (λ stop. (stop ≡ Stop.InputOrOutput) ⊎ (stop ≡ Stop.Memory)) }
+    {
         match self {
             Page::Text { waiting, .. } => out.write_all(waiting.as_slice())?,
             Page::Dot { mut waiting, .. } => {

@@ -1,5 +1,9 @@
 //! What the program does: it shows how the questions of a text are answered, or checks graphs that are read as data.
-ghost use Rattle.std.specs.Prelude.{◌≡◌, ◌≤◌};
+ghost use Rattle.std.specs.Prelude.{◌≡◌, ◌≤◌, ◌==◌, ℕ, IfSome, IsSomeAnd};
+ghost use Rattle.std.specs.Io.KnownBytes.{Keeps};
+ghost use Rattle.shown_graphs.specs.Below.{IsFirstBadLine};
+ghost use Rattle.shown_graphs.specs.Program.{IsChecked, IsPageText, IsShown};
+ghost use Rattle.shown_graphs.specs.Stop.{status_after};
 
 mod checking;
 mod showing;
@@ -8,8 +12,9 @@ use crate::page::Form;
 use crate::progress::Progress;
 use checking::check_input;
 use line_texts::InputFault;
-use rule_tables::ReadFault;
-use search_context::context::NoMemory;
+use rule_tables::delegate::Table;
+use rule_tables::{ReadFault, Rules, TableDelegate};
+use search_context::context::{Cx, Delegate, NoMemory};
 use showing::show_input;
 use std::alloc::{AllocError, AllocFailed, Global};
 use std::io;
@@ -125,7 +130,17 @@ pub fn explain<R: Read + Drop, W: Write, E: Write + Drop, P: Progress>(
     err: E,
     progress: P,
 ) -> u8
-    ensures { result ≤ 4 }
+    ensures status { result ≤ 4 }
+
+    // All questions of the text were asked in turn; 0 says that none met a fault and no graph was refused.
+    ensures told { result ≤ 1 → IsShown ⟦<TableDelegate<'static, 8, 1> as Delegate>⟧
+        ⟦<Table<&'static Rules> as Cx>⟧ (R.remaining input) (result == 0) }
+
+    // Where the reader's bytes are known, a malformed line is told only of a text that the grammar does not
+    // allow.
+    ensures bad_line { result ≡ 2 →
+        IfSome (R.remaining input) (λ text. (n : ℕ) × IsFirstBadLine text n) }
+    ensures nothing_written { result ≡ 2 → Keeps (W.contents out.old) (W.contents out.new) }
 {
     let came = show_input(alloc, form, &mut input, out, progress);
     status_told(came, err)
@@ -143,7 +158,17 @@ pub fn check<R: Read + Drop, W: Write, E: Write + Drop, P: Progress>(
     err: E,
     progress: P,
 ) -> u8
-    ensures { result ≤ 4 }
+    ensures status { result ≤ 4 }
+
+    // All claims of the data were judged as is right, and their lines are what was written; 0 says that none was
+    // refused.
+    ensures told { result ≤ 1 → IsChecked ⟦<TableDelegate<'static, 8, 1> as Delegate>⟧
+        ⟦<Table<&'static Rules> as Cx>⟧ (R.remaining input)
+        (W.contents out.old) (W.contents out.new) (result == 0) }
+
+    // Where the reader's bytes are known, bad data is told only of a text that is no page of data.
+    ensures bad_data { result ≡ 2 → ¬ (IsSomeAnd (R.remaining input) IsPageText) }
+    ensures nothing_written { result ≡ 2 → Keeps (W.contents out.old) (W.contents out.new) }
 {
     let came = check_input(alloc, &mut input, out, progress);
     status_told(came, err)
@@ -151,7 +176,7 @@ pub fn check<R: Read + Drop, W: Write, E: Write + Drop, P: Progress>(
 
 // The exit status. The reason of an early end is told.
 fn status_told<E: Write + Drop>(came: Result<bool, Stop>, mut err: E) -> u8
-    ensures { result ≤ 4 }
+    ensures { result ≡ status_after came }
 {
     match came {
         Ok(true) => 0,

@@ -1,8 +1,10 @@
 //! Graphs as data: what is read. Nothing in it is trusted.
-ghost use Rattle.std.specs.Prelude.{◌≡◌, ◌∷◌, ◌<◌, ◌^◌, List, map, IfOk, IfSome};
-ghost use Rattle.json.specs.Token.{Token as SpecToken, begin_array, end_array, string};
-ghost use Rattle.shown_graphs.specs.Below.{word_of};
-ghost use Rattle.shown_graphs.specs.Data.{AreEdges, AreNodes, claim_tokens, edge_tokens, edges_tokens, goal_text, HaveOwnNames, IsNamed, IsOfRules, left_in, node_tokens, nodes_tokens, plain_claim, plain_node, PlainClaim, reply_tokens, reply_word};
+ghost use Rattle.std.specs.Prelude.{◌≡◌, ◌≢◌, ℕ, All, List, map, IfErr, IfNone, IfOk, IfSome, ⊤};
+ghost use Rattle.json.specs.Token.{Token as SpecToken};
+ghost use Rattle.shown_graphs.specs.Below.{names_of, Outcome as SpecOutcome, Reads, Reply as SpecReply, Rules as SpecRules, word_of};
+ghost use Rattle.shown_graphs.specs.Data.{array_tokens, claim_tokens, edge_tokens, goal_tokens, HaveOwnNames, IsClaim, IsEdge, IsNamed, IsNode, kind_tokens, left_in, node_tokens, outcome_tokens, plain_claim, plain_node, PlainClaim, reply_tokens, reply_word, Spells};
+ghost use Rattle.shown_graphs.specs.Page.{AreOfPage, IsPage, line_tokens, text_of};
+ghost use Rattle.shown_graphs.specs.Stop.{StopsUnless};
 
 mod source;
 
@@ -10,6 +12,7 @@ use crate::program::Stop;
 use crate::words::kind_of;
 use rule_tables::{Goal, Outcome, ReadFault, Rules};
 use search_context::context::{Edge, Node, Reply};
+use search_context::path::PathKind;
 pub(crate) use source::Source;
 use std::alloc::Global;
 
@@ -30,52 +33,83 @@ pub(crate) struct Claims {
 
 /// Reads data as `--json` writes it: the members of each object in the same order, and none beside them. `BadData` tells
 /// before which byte of the text something else was found, and `Memory` that memory is out.
-pub(crate) fn read_claims(alloc: Global, source: &mut Source<'_>) -> Result<Claims, Stop> {
+pub(crate) fn read_claims(alloc: Global, source: &mut Source<'_>) -> Result<Claims, Stop>
+    ensures read { IfOk result (λ claims. IsPage (left_in source.old) claims.rules (map plain_claim claims.all.items)) }
+    ensures refused { IfErr result (StopsUnless (AreOfPage (left_in source.old))) }
+{
     source.begin_object()?;
     source.key("rules")?;
-    let rules = read_rules(alloc, source)?;
+    let text = read_lines(alloc, source)?;
+    let rules = rules_of(alloc, source, text.as_slice())?;
     source.key("answers")?;
-    source.begin_array()?;
-    let mut all = Vec::new(alloc);
-    for _ in 0..u64::MAX {
-        if source.is_end_of_array() {
-            break;
-        }
-        all.push(read_claim(alloc, source, &rules)?)?;
-    }
+    let all = read_answers(alloc, source, &rules)?;
     source.end_object()?;
     source.end()?;
     Ok(Claims { rules, all })
 }
 
-// The rules, whose lines stand in an array.
-fn read_rules(alloc: Global, source: &mut Source<'_>) -> Result<Rules, Stop> {
+// The lines of rules, which stand in an array.
+fn read_lines(alloc: Global, source: &mut Source<'_>) -> Result<Vec<u8>, Stop>
+    ensures spelled { IfOk result (λ text. (lines : List (List ℕ)) × (text.items ≡ text_of lines)
+        × (left_in source.old ≡ array_tokens line_tokens lines (left_in source.new))) }
+    ensures refused { IfErr result (StopsUnless (Spells (λ _. ⊤) (array_tokens line_tokens) (left_in source.old))) }
+{
     let mut text = Vec::new(alloc);
     source.begin_array()?;
     for _ in 0..u64::MAX {
         if source.is_end_of_array() {
-            break;
+            return Ok(text);
         }
         let line = source.string()?;
         text.extend_from_slice(line.as_bytes())?;
         text.push(b'\n')?;
     }
-    match Rules::read(alloc, text.as_slice()) {
+    Err(Stop::Memory)
+}
+
+// The rules of this text, which is bad data if a line is malformed.
+fn rules_of(alloc: Global, source: &Source<'_>, text: &[u8]) -> Result<Rules, Stop>
+    ensures read { IfOk result (Reads text.now) }
+    ensures refused { IfErr result (StopsUnless ((rules : SpecRules) × Reads text.now rules)) }
+{
+    match Rules::read(alloc, text) {
         Ok(rules) => Ok(rules),
         Err(ReadFault::BadLine(_)) => Err(source.fault()),
         Err(ReadFault::Memory) => Err(Stop::Memory),
     }
 }
 
+fn read_answers(alloc: Global, source: &mut Source<'_>, rules: &Rules) -> Result<Vec<Claim>, Stop>
+    ensures spelled { IfOk result (λ claims. left_in source.old
+        ≡ array_tokens (claim_tokens (names_of rules.now)) (map plain_claim claims.items) (left_in source.new)) }
+    ensures named { IfOk result (λ claims. All (IsClaim (names_of rules.now)) (map plain_claim claims.items)) }
+    ensures refused { IfErr result (StopsUnless (Spells (All (IsClaim (names_of rules.now)))
+        (array_tokens (claim_tokens (names_of rules.now))) (left_in source.old))) }
+{
+    let mut claims = Vec::new(alloc);
+    source.begin_array()?;
+    for _ in 0..u64::MAX {
+        if source.is_end_of_array() {
+            return Ok(claims);
+        }
+        claims.push(read_claim(alloc, source, rules)?)?;
+    }
+    Err(Stop::Memory)
+}
+
 fn read_claim(alloc: Global, source: &mut Source<'_>, rules: &Rules) -> Result<Claim, Stop>
     ensures spelled { IfOk result (λ claim. left_in source.old
-        ≡ claim_tokens rules.now (plain_claim claim) (left_in source.new)) }
-    ensures named { IfOk result (λ claim. IsOfRules rules.now (plain_claim claim)) }
+        ≡ claim_tokens (names_of rules.now) (plain_claim claim) (left_in source.new)) }
+    ensures named { IfOk result (λ claim. IsClaim (names_of rules.now) (plain_claim claim)) }
 
     // What was written for a graph is read as the same graph, goal and outcome.
     ensures same { IfOk result (λ claim. (written : PlainClaim) (rest : List SpecToken) →
-        HaveOwnNames rules.now → IsOfRules rules.now written →
-        source.old.reader ≡ claim_tokens rules.now written rest → plain_claim claim ≡ written) }
+        HaveOwnNames (names_of rules.now) → IsClaim (names_of rules.now) written →
+        left_in source.old ≡ claim_tokens (names_of rules.now) written rest → plain_claim claim ≡ written) }
+
+    // It is read, unless memory is out.
+    ensures refused { IfErr result (StopsUnless
+        (Spells (IsClaim (names_of rules.now)) (claim_tokens (names_of rules.now)) (left_in source.old))) }
 {
     read_members(alloc, source, rules)
 }
@@ -83,8 +117,10 @@ fn read_claim(alloc: Global, source: &mut Source<'_>, rules: &Rules) -> Result<C
 // The members of a claim.
 fn read_members(alloc: Global, source: &mut Source<'_>, rules: &Rules) -> Result<Claim, Stop>
     ensures spelled { IfOk result (λ claim. left_in source.old
-        ≡ claim_tokens rules.now (plain_claim claim) (left_in source.new)) }
-    ensures named { IfOk result (λ claim. IsOfRules rules.now (plain_claim claim)) }
+        ≡ claim_tokens (names_of rules.now) (plain_claim claim) (left_in source.new)) }
+    ensures named { IfOk result (λ claim. IsClaim (names_of rules.now) (plain_claim claim)) }
+    ensures refused { IfErr result (StopsUnless
+        (Spells (IsClaim (names_of rules.now)) (claim_tokens (names_of rules.now)) (left_in source.old))) }
 {
     source.begin_object()?;
     source.key("goal")?;
@@ -107,8 +143,10 @@ fn read_nodes(
     rules: &Rules,
 ) -> Result<Vec<Node<Goal, Outcome>>, Stop>
     ensures spelled { IfOk result (λ nodes. left_in source.old
-        ≡ begin_array ∷ nodes_tokens rules.now (map plain_node nodes.items) (end_array ∷ left_in source.new)) }
-    ensures named { IfOk result (λ nodes. AreNodes rules.now (map plain_node nodes.items)) }
+        ≡ array_tokens (node_tokens (names_of rules.now)) (map plain_node nodes.items) (left_in source.new)) }
+    ensures named { IfOk result (λ nodes. All (IsNode (names_of rules.now)) (map plain_node nodes.items)) }
+    ensures refused { IfErr result (StopsUnless (Spells (All (IsNode (names_of rules.now)))
+        (array_tokens (node_tokens (names_of rules.now))) (left_in source.old))) }
 {
     let mut nodes = Vec::new(alloc);
     source.begin_array()?;
@@ -118,7 +156,7 @@ fn read_nodes(
         }
         nodes.push(read_node(alloc, source, rules)?)?;
     }
-    Err(source.fault())
+    Err(Stop::Memory)
 }
 
 fn read_node(
@@ -127,8 +165,10 @@ fn read_node(
     rules: &Rules,
 ) -> Result<Node<Goal, Outcome>, Stop>
     ensures spelled { IfOk result (λ node. left_in source.old
-        ≡ node_tokens rules.now (plain_node node) (left_in source.new)) }
-    ensures named { IfOk result (λ node. IsNamed rules.now node.input × AreEdges rules.now node.edges.items) }
+        ≡ node_tokens (names_of rules.now) (plain_node node) (left_in source.new)) }
+    ensures named { IfOk result (λ node. IsNode (names_of rules.now) (plain_node node)) }
+    ensures refused { IfErr result (StopsUnless
+        (Spells (IsNode (names_of rules.now)) (node_tokens (names_of rules.now)) (left_in source.old))) }
 {
     source.begin_object()?;
     source.key("goal")?;
@@ -149,8 +189,10 @@ fn read_node(
 }
 
 fn read_replies(alloc: Global, source: &mut Source<'_>) -> Result<Vec<Reply<Outcome>>, Stop>
-    ensures { IfOk result (λ replies. left_in source.old
-        ≡ begin_array ∷ reply_tokens replies.items (end_array ∷ left_in source.new)) }
+    ensures spelled { IfOk result (λ replies. left_in source.old
+        ≡ array_tokens reply_tokens replies.items (left_in source.new)) }
+    ensures refused { IfErr result (StopsUnless
+        (Spells (λ _. ⊤) (array_tokens reply_tokens) (left_in source.old))) }
 {
     let mut replies = Vec::new(alloc);
     source.begin_array()?;
@@ -160,17 +202,15 @@ fn read_replies(alloc: Global, source: &mut Source<'_>) -> Result<Vec<Reply<Outc
         }
         replies.push(read_reply(source)?)?;
     }
-    Err(source.fault())
+    Err(Stop::Memory)
 }
 
 fn read_reply(source: &mut Source<'_>) -> Result<Reply<Outcome>, Stop>
-    ensures { IfOk result (λ reply. left_in source.old ≡ string (reply_word reply) ∷ left_in source.new) }
+    ensures spelled { IfOk result (λ reply. left_in source.old ≡ reply_tokens reply (left_in source.new)) }
+    ensures refused { IfErr result (StopsUnless (Spells (λ _. ⊤) reply_tokens (left_in source.old))) }
 {
-    match source.string()? {
-        "begin" => Ok(Reply::Begin),
-        "noted" => Ok(Reply::Noted),
-        word => Ok(Reply::Answer(outcome_of(word).ok_or(source.fault())?)),
-    }
+    let word = source.string()?;
+    reply_of(word).ok_or(source.fault())
 }
 
 fn read_edges(
@@ -179,8 +219,10 @@ fn read_edges(
     rules: &Rules,
 ) -> Result<Vec<Edge<Goal>>, Stop>
     ensures spelled { IfOk result (λ edges. left_in source.old
-        ≡ begin_array ∷ edges_tokens rules.now edges.items (end_array ∷ left_in source.new)) }
-    ensures named { IfOk result (λ edges. AreEdges rules.now edges.items) }
+        ≡ array_tokens (edge_tokens (names_of rules.now)) edges.items (left_in source.new)) }
+    ensures named { IfOk result (λ edges. All (IsEdge (names_of rules.now)) edges.items) }
+    ensures refused { IfErr result (StopsUnless (Spells (All (IsEdge (names_of rules.now)))
+        (array_tokens (edge_tokens (names_of rules.now))) (left_in source.old))) }
 {
     let mut edges = Vec::new(alloc);
     source.begin_array()?;
@@ -190,17 +232,19 @@ fn read_edges(
         }
         edges.push(read_edge(source, rules)?)?;
     }
-    Err(source.fault())
+    Err(Stop::Memory)
 }
 
 fn read_edge(source: &mut Source<'_>, rules: &Rules) -> Result<Edge<Goal>, Stop>
-    ensures spelled { IfOk result (λ edge. left_in source.old ≡ edge_tokens rules.now edge (left_in source.new)) }
-    ensures named { IfOk result (λ edge. IsNamed rules.now edge.input × (edge.target < 2 ^ 64)) }
+    ensures spelled { IfOk result (λ edge. left_in source.old
+        ≡ edge_tokens (names_of rules.now) edge (left_in source.new)) }
+    ensures named { IfOk result (IsEdge (names_of rules.now)) }
+    ensures refused { IfErr result (StopsUnless
+        (Spells (IsEdge (names_of rules.now)) (edge_tokens (names_of rules.now)) (left_in source.old))) }
 {
     source.begin_object()?;
     source.key("kind")?;
-    let letter = source.string()?;
-    let kind = kind_of(letter).ok_or(source.fault())?;
+    let kind = read_kind(source)?;
     source.key("goal")?;
     let input = read_goal(source, rules)?;
     source.key("target")?;
@@ -213,25 +257,37 @@ fn read_edge(source: &mut Source<'_>, rules: &Rules) -> Result<Edge<Goal>, Stop>
     })
 }
 
+fn read_kind(source: &mut Source<'_>) -> Result<PathKind, Stop>
+    ensures spelled { IfOk result (λ kind. left_in source.old ≡ kind_tokens kind (left_in source.new)) }
+    ensures refused { IfErr result (StopsUnless (Spells (λ _. ⊤) kind_tokens (left_in source.old))) }
+{
+    let letter = source.string()?;
+    kind_of(letter).ok_or(source.fault())
+}
+
 // A goal by its name, which the rules have to mention.
 fn read_goal(source: &mut Source<'_>, rules: &Rules) -> Result<Goal, Stop>
     ensures spelled { IfOk result (λ goal. left_in source.old
-        ≡ string (goal_text rules.now goal) ∷ left_in source.new) }
-    ensures named { IfOk result (IsNamed rules.now) }
+        ≡ goal_tokens (names_of rules.now) goal (left_in source.new)) }
+    ensures named { IfOk result (IsNamed (names_of rules.now)) }
+    ensures refused { IfErr result (StopsUnless
+        (Spells (IsNamed (names_of rules.now)) (goal_tokens (names_of rules.now)) (left_in source.old))) }
 {
     let name = source.string()?;
     rules.goal(name.as_bytes()).ok_or(source.fault())
 }
 
 fn read_outcome(source: &mut Source<'_>) -> Result<Outcome, Stop>
-    ensures { IfOk result (λ outcome. left_in source.old ≡ string (word_of outcome) ∷ left_in source.new) }
+    ensures spelled { IfOk result (λ outcome. left_in source.old ≡ outcome_tokens outcome (left_in source.new)) }
+    ensures refused { IfErr result (StopsUnless (Spells (λ _. ⊤) outcome_tokens (left_in source.old))) }
 {
     let word = source.string()?;
     outcome_of(word).ok_or(source.fault())
 }
 
 fn outcome_of(word: &str) -> Option<Outcome>
-    ensures { IfSome result (λ outcome. word.now ≡ word_of outcome) }
+    ensures some { IfSome result (λ outcome. word.now ≡ word_of outcome) }
+    ensures none { IfNone result ((outcome : SpecOutcome) → word.now ≢ word_of outcome) }
 {
     match word {
         "yes" => Some(Outcome::Yes),
@@ -239,5 +295,16 @@ fn outcome_of(word: &str) -> Option<Outcome>
         "maybe" => Some(Outcome::Maybe),
         "overflow" => Some(Outcome::Overflow),
         _ => None,
+    }
+}
+
+fn reply_of(word: &str) -> Option<Reply<Outcome>>
+    ensures some { IfSome result (λ reply. word.now ≡ reply_word reply) }
+    ensures none { IfNone result ((reply : SpecReply SpecOutcome) → word.now ≢ reply_word reply) }
+{
+    match word {
+        "begin" => Some(Reply::Begin),
+        "noted" => Some(Reply::Noted),
+        _ => outcome_of(word).map(Reply::Answer),
     }
 }

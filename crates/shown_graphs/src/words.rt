@@ -1,6 +1,8 @@
 //! How goals and kinds of steps are written.
-ghost use Rattle.std.specs.Prelude.{◌≡◌, IfSome};
+ghost use Rattle.std.specs.Prelude.{◌≡◌, ◌≢◌, IfNone, IfSome};
 ghost use Rattle.std.specs.Str.{IsUtf8};
+ghost use Rattle.cycle_heads.specs.declared.path.PathKind.{PathKind as SpecKind};
+ghost use Rattle.shown_graphs.specs.Below.{names_of};
 ghost use Rattle.shown_graphs.specs.Data.{goal_text, letter_of};
 
 use rule_tables::{Candidate, Goal, Rules};
@@ -22,7 +24,8 @@ pub(crate) fn letter(kind: PathKind) -> &'static str
 
 /// The kind of a letter, and nothing for any other text.
 pub(crate) fn kind_of(letter: &str) -> Option<PathKind>
-    ensures { IfSome result (λ kind. letter.now ≡ letter_of kind) }
+    ensures some { IfSome result (λ kind. letter.now ≡ letter_of kind) }
+    ensures none { IfNone result ((kind : SpecKind) → letter.now ≢ letter_of kind) }
 {
     match letter {
         "i" => Some(PathKind::Inductive),
@@ -35,7 +38,7 @@ pub(crate) fn kind_of(letter: &str) -> Option<PathKind>
 
 /// The goal's name. A goal of another table has none.
 pub(crate) fn name_of(rules: &Rules, goal: Goal) -> &str
-    ensures { IsUtf8 (goal_text rules.now goal) → result.now ≡ goal_text rules.now goal }
+    ensures { IsUtf8 (goal_text (names_of rules.now) goal) → result.now ≡ goal_text (names_of rules.now) goal }
 {
     match rules.name(goal) {
         Some(name) => std::str::from_utf8(name).unwrap_or(""),

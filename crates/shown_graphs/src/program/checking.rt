@@ -1,7 +1,8 @@
 //! How graphs that are read are checked.
-ghost use Rattle.std.specs.Prelude.{◌≡◌, IfOk, OnOk};
+ghost use Rattle.std.specs.Prelude.{◌≡◌, ◌⊎◌, IfErr, IfOk, OnOk};
 ghost use Rattle.std.specs.Io.KnownBytes.{Appends};
 ghost use Rattle.shown_graphs.specs.Below.{verdicts};
+ghost use Rattle.shown_graphs.specs.Program.{EndsChecking, IsChecked};
 ghost use Rattle.shown_graphs.specs.Told.{AreJudged, IsJudged, line_said};
 
 use crate::answer::accepts;
@@ -24,7 +25,12 @@ pub(super) fn check_input<R: Read, W: Write, P: Progress>(
     input: &mut R,
     out: &mut W,
     progress: P,
-) -> Result<bool, Stop> {
+) -> Result<bool, Stop>
+    ensures told { IfOk result (IsChecked ⟦<TableDelegate<'static, 8, 1> as Delegate>⟧
+        ⟦<Table<&'static Rules> as Cx>⟧ (R.remaining input.old) (W.contents out.old) (W.contents out.new)) }
+    ensures ended { IfErr result (EndsChecking (R.remaining input.old)
+        (W.contents out.old) (W.contents out.new)) }
+{
     let bytes = read_input(alloc, input)?;
     let Ok(text) = std::str::from_utf8(bytes.as_slice()) else {
         return Err(Stop::BadData(0));
@@ -56,8 +62,9 @@ where
     D: Delegate<Cx = X, ProofTreeBuilder = Builder>,
     W: Write,
     P: Progress,
-    ensures { IfOk result (λ none_refused. AreJudged (verdicts X.Cx) (D.script cx) rules.now
+    ensures judged { IfOk result (λ none_refused. AreJudged (verdicts X.Cx) (D.script cx) rules.now
         claims.items none_refused (W.contents out.old) (W.contents out.new)) }
+    ensures fault { IfErr result (λ stop. (stop ≡ Stop.InputOrOutput) ⊎ (stop ≡ Stop.Memory)) }
 {
     let mut none_refused = true;
     let mut done: usize = 0;

@@ -1,4 +1,8 @@
 //! How the questions of a text are shown.
+ghost use Rattle.std.specs.Prelude.{◌≡◌, ◌⊎◌, IfErr, IfOk};
+ghost use Rattle.shown_graphs.specs.Below.{questions_of, verdicts};
+ghost use Rattle.shown_graphs.specs.Program.{EndsShowing, IsShown};
+ghost use Rattle.shown_graphs.specs.Shown.{AreAsked};
 
 #[cfg(test)]
 mod tests;
@@ -25,7 +29,12 @@ pub(super) fn show_input<R: Read, W: Write, P: Progress>(
     input: &mut R,
     out: &mut W,
     progress: P,
-) -> Result<bool, Stop> {
+) -> Result<bool, Stop>
+    ensures told { IfOk result (IsShown ⟦<TableDelegate<'static, 8, 1> as Delegate>⟧
+        ⟦<Table<&'static Rules> as Cx>⟧ (R.remaining input.old)) }
+    ensures ended { IfErr result (EndsShowing (R.remaining input.old)
+        (W.contents out.old) (W.contents out.new)) }
+{
     let text = read_input(alloc, input)?;
     let rules = Rules::read(alloc, text.as_slice())?;
     let page = Page::new(alloc, form, text.as_slice())?;
@@ -53,6 +62,8 @@ where
     D: Delegate<Cx = X, ProofTreeBuilder = Builder>,
     W: Write,
     P: Progress,
+    ensures asked { IfOk result (AreAsked (verdicts X.Cx) (D.script cx) (questions_of rules.now)) }
+    ensures fault { IfErr result (λ stop. (stop ≡ Stop.InputOrOutput) ⊎ (stop ≡ Stop.Memory)) }
 {
     let mut cache = GlobalCache::<Watching<X, D, P>>::new(alloc, cx);
     let mut watcher = Watcher::new(alloc, progress);

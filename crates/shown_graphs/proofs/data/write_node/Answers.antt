@@ -1,15 +1,14 @@
-use Rattle.std.proofs.Common.{◌∷◌, ap}
-use Rattle.json.specs.Token.{begin_array, end_array}
-use Rattle.shown_graphs.specs.Data.{edges_tokens, reply_tokens}
+use Rattle.std.proofs.Common.{ap}
+use Rattle.shown_graphs.specs.Below.{names_of}
+use Rattle.shown_graphs.specs.Data.{array_tokens, edge_tokens, reply_tokens}
 use Rattle.shown_graphs.proofs.Spelling.{puts_all, puts_none, puts_same, puts_string, puts_token}
 use Rattle.shown_graphs.proofs.data.write_node.Goals as goal
 
 pub returns : goal.returns
 returns c = λ texts.
-    let replies = puts_same _ _ _ (λ rest. begin_array ∷ reply_tokens c.args.node.now.replies.items (end_array ∷ rest)) c.in_ok-write_replies.ensures
-    (λ rest. ap (λ rs. begin_array ∷ reply_tokens rs (end_array ∷ rest)) c.deref.ensures.value) in
-    let edges = puts_same _ _ _ (λ rest. begin_array ∷ edges_tokens c.args.rules.now c.args.node.now.edges.items (end_array ∷ rest)) (c.in_ok-write_edges.ensures texts)
-    (λ rest. ap (λ es. begin_array ∷ edges_tokens c.args.rules.now es (end_array ∷ rest)) c.deref-2.ensures.value) in
+    let replies = puts_same _ _ _ (array_tokens reply_tokens c.args.node.now.replies.items) c.in_ok-write_replies.ensures (λ rest. ap (λ rs. array_tokens reply_tokens rs rest) c.deref.ensures.value) in
+    let edges = puts_same _ _ _ (array_tokens (edge_tokens (names_of c.args.rules.now)) c.args.node.now.edges.items) (c.in_ok-write_edges.ensures texts)
+    (λ rest. ap (λ es. array_tokens (edge_tokens (names_of c.args.rules.now)) es rest) c.deref-2.ensures.value) in
     let p0 = puts_token c.args.writer.now c.args.writer.now c.begin_object.new.self _ _ (puts_none c.args.writer.now) c.in_ok-begin_object.ensures.ok in
     let p1 = puts_token c.args.writer.now c.begin_object.new.self c.key.new.self _ _ p0 c.in_ok-key.ensures.ok in
     let p2 = puts_string c.args.writer.now c.key.new.self c.string.new.self _ _ _ p1 c.in_ok-string.ensures.ok (c.name_of.ensures (texts _)) in

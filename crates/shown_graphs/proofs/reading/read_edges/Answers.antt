@@ -1,12 +1,18 @@
-use Rattle.std.proofs.Common.{◌∷◌, ◌∙◌, ap, sym}
-use Rattle.json.specs.Token.{begin_array}
-use Rattle.shown_graphs.specs.Data.{left_in, edges_tokens}
-use Rattle.shown_graphs.proofs.Spelling.{AreEdges-push, edges_tokens-push}
+use Rattle.std.proofs.Common.{◌∙◌, sym}
+use Rattle.shown_graphs.proofs.Arrays.{array_left, array_more}
+use Rattle.shown_graphs.proofs.Readback.{edge_parts}
+use Rattle.shown_graphs.proofs.Spelling.{All-more}
+use Rattle.shown_graphs.proofs.Stops.{stops_before}
 use Rattle.shown_graphs.proofs.reading.read_edges.Goals as goal
+use Rattle.shown_graphs.specs.Below.{names_of}
+use Rattle.shown_graphs.specs.Data.{edge_tokens, IsEdge, left_in}
 
 pub loop-preserved : goal.loop-preserved
 loop-preserved c = record {
-  spelled = c.loop.invariant.spelled ∙ ap (λ ts. begin_array ∷ edges_tokens c.args.rules.now c.loop.edges.items ts) (sym c.if-is_end_of_array.ensures ∙ c.in_ok-read_edge.ensures.spelled)
-      ∙ ap (λ ts. begin_array ∷ ts) (sym (edges_tokens-push c.args.rules.now c.loop.edges.items _ _)) ∙ ap (λ xs. begin_array ∷ edges_tokens c.args.rules.now xs (left_in c.read_edge.new.source)) (sym c.in_ok-push.ensures.items);
-  named = rw c.in_ok-push.ensures.items (AreEdges-push c.args.rules.now c.loop.edges.items _ c.loop.invariant.named c.in_ok-read_edge.ensures.named);
+  spelled = array_more (edge_tokens (names_of c.args.rules.now)) _ _ _ _ _ _ c.loop.invariant.spelled (sym c.if-is_end_of_array.ensures.0 ∙ c.in_ok-read_edge.ensures.spelled) c.in_ok-push.ensures.items;
+  named = All-more (IsEdge (names_of c.args.rules.now)) _ _ _ c.in_ok-push.ensures.items c.loop.invariant.named c.in_ok-read_edge.ensures.named;
 }
+
+pub returns-in_err-read_edge-clause-refused : goal.returns-in_err-read_edge-clause-refused
+returns-in_err-read_edge-clause-refused c =
+    stops_before _ _ _ _ (λ all. rw c.if-is_end_of_array.ensures.0 (array_left (edge_tokens (names_of c.args.rules.now)) (edge_parts (names_of c.args.rules.now)) (IsEdge (names_of c.args.rules.now)) c.loop.edges.items (left_in c.args.source.now) _ c.loop.invariant.spelled c.if-is_end_of_array.ensures.1 all)) c.from_residual-in_err-read_edge.ensures.1 c.in_err-read_edge.ensures.refused

@@ -1,11 +1,12 @@
-use Rattle.std.proofs.Common.{◌≡◌, ◌∷◌}
+use Rattle.std.proofs.Common.{◌≡◌, ◌∷◌, All}
 use Rattle.json.specs.Token.{begin_array}
-use Rattle.shown_graphs.specs.Data.{AreEdges, left_in, edges_tokens}
+use Rattle.shown_graphs.specs.Below.{names_of}
+use Rattle.shown_graphs.specs.Data.{edge_tokens, IsEdge, left_in, list_tokens}
 use Rattle.shown_graphs.proofs.reading.read_edges.Given as goal
 
 -- the edges so far are read
 abbrev pub invariant-loop : goal.invariant-loop
 invariant-loop l = record {
-  spelled : left_in l.fn.source ≡ begin_array ∷ edges_tokens l.rules l.edges.items (left_in l.source);
-  named : AreEdges l.rules l.edges.items;
+  spelled : left_in l.fn.source ≡ begin_array ∷ list_tokens (edge_tokens (names_of l.rules)) l.edges.items (left_in l.source);
+  named : All (IsEdge (names_of l.rules)) l.edges.items;
 }

@@ -1,0 +1,51 @@
+-- What a run of a program came to.
+use Rattle.std.specs.Prelude.{◌≡◌, ℕ, Bool, List, map, Option, IfSome, IsSomeAnd, ⊤}
+use Rattle.std.specs.Borrow.{Bor}
+use Rattle.std.specs.Io.KnownBytes.{Keeps}
+use Rattle.std.specs.Str.{IsUtf8}
+use Rattle.json.specs.Lex.{tokens}
+use Rattle.shown_graphs.specs.Below.{CxOf, DelegateOf, Goal, IsFirstBadLine, Outcome, questions_of, Reads, Rules, Table, verdicts}
+use Rattle.shown_graphs.specs.Data.{plain_claim}
+use Rattle.shown_graphs.specs.Page.{AreOfPage, IsPage}
+use Rattle.shown_graphs.specs.Shown.{AreAsked}
+use Rattle.shown_graphs.specs.Told.{AreJudged}
+use Rattle.shown_graphs.specs.declared.program.Stop.{Stop}
+use Rattle.shown_graphs.specs.declared.program.Stop.TheVariants.{BadData, BadLine, InputOrOutput, Memory}
+use Rattle.shown_graphs.specs.declared.reading.Claim.{Claim}
+
+-- the text is a page of data
+abbrev pub IsPageText : List ℕ → Type 0
+IsPageText text = IsUtf8 text × AreOfPage (tokens text)
+
+module _ (known old new : Option (List ℕ)) where
+  -- Showing ends early: where the text has a bad line, nothing is written.
+  abbrev pub EndsShowing : Stop → Type 0
+  EndsShowing (BadLine n) = IfSome known (λ text. IsFirstBadLine text n) × Keeps old new
+  EndsShowing (BadData n) = ⊥
+  EndsShowing InputOrOutput = ⊤
+  EndsShowing Memory = ⊤
+
+  -- And so does checking, where the text is no page.
+  abbrev pub EndsChecking : Stop → Type 0
+  EndsChecking (BadLine n) = ⊥
+  EndsChecking (BadData n) = ¬ (IsSomeAnd known IsPageText) × Keeps old new
+  EndsChecking InputOrOutput = ⊤
+  EndsChecking Memory = ⊤
+
+module _ {D V P F A T : Type 0} (G : DelegateOf D (Table (Bor Rules)) V P F Goal Outcome A T) (X : CxOf (Table (Bor Rules)) Goal Outcome A T) (known : Option (List ℕ)) where
+  -- The text, which is the known one where one is known, makes a table, and all its questions were asked.
+  pub record IsShown (all_fine : Bool) : Type 0 where
+    pub text : List ℕ
+    pub is_known : IfSome known (λ bytes. text ≡ bytes)
+    pub table : Table (Bor Rules)
+    pub reads : Reads text table.lender.now
+    pub are_asked : AreAsked (verdicts X) (G.script table) (questions_of table.lender.now) all_fine
+
+  -- The text is a page of data, and all its claims were judged.
+  pub record IsChecked (old new : Option (List ℕ)) (none_refused : Bool) : Type 0 where
+    pub text : List ℕ
+    pub is_known : IfSome known (λ bytes. text ≡ bytes)
+    pub table : Table (Bor Rules)
+    pub claims : List Claim
+    pub is_page : IsPage (tokens text) table.lender.now (map plain_claim claims)
+    pub are_judged : AreJudged (verdicts X) (G.script table) table.lender.now claims none_refused old new
