@@ -1,5 +1,5 @@
 -- Why the answer to a call is stored where no limit was met: the only goal rests on no other, and met no overflow.
-use Rattle.std.proofs.Common.{◌≡◌, ◌||◌, ℕ, nat_le, ◌<◌, ◌≤◌, if◌then◌else◌, Bool, true, false, List, [], ◌∷◌, ◌++◌, All, Option, Some, refl, sym, ap, ◌∙◌, subst, arith}
+use Rattle.std.proofs.Common.{◌≡◌, ◌||◌, ℕ, nat_le, ◌<◌, ◌≤◌, if◌then◌else◌, Bool, true, false, List, [], ◌∷◌, ◌++◌, All, Option, Some, inl, refl, sym, ap, ◌∙◌, subst, arith}
 use Rattle.std.specs.Option.{IsSomeAnd}
 use Rattle.std.proofs.lemmas.Bool.{le-leb}
 use Rattle.std.proofs.lemmas.List.Elements.{All-head}
@@ -36,7 +36,7 @@ module _ {D C V P F I R A T : Type 0} (G : DelegateOf D C V P F I R A T) (X : Cx
   only_remembered s tallies h next stored kept counted unmet =
       let no_heads = none_below s.0.state.heads (subst (λ n. All (λ head. head.0.0 < n) s.0.state.heads) (on_stack_many {X = C} {F = F} {I = I} {R = R} {A = A} {T = T} []) (heads_on_stack s [] tallies)) in
       let only = only_fits G X cx call ahead (Done done) s starts met h in
-      let calm = calm_of G X cx call ahead done starts met s [] counted unmet h in
+      let calm = calm_of G X cx call ahead done starts met s [] (inl (counted, unmet)) h in
       let success : place_of (final_answer s done (node_given next)) ≡ Success = ap (λ b. if b then WithOverflow s.0.state.required_depth else Success) calm in
       let at : stored_at same results call.top Success ≡ Some (stored_from (final_answer s done (node_given next)) (token s.0.input)) = sym (ap (λ place. stored_at same results call.top place) success) ∙ sym (ap (λ goal. stored_at same results goal (place_of (final_answer s done (node_given next)))) only.0) ∙ stored kept no_heads in
       success_is_used call.root (stored_from (final_answer s done (node_given next)) (token s.0.input)) same results call.top at only.1
