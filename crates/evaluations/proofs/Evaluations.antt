@@ -1,7 +1,7 @@
 -- An evaluation as a whole goes on by every move.
 use Rattle.std.proofs.Common.{◌≡◌, ◌≢◌, ℕ, ◌+◌, ◌<◌, ◌≤◌, min, Bool, true, false, inl, inr, List, [], ◌∷◌, Contains, None, refl, sym, ◌∙◌, subst, arith, max, ◌||◌}
 use Rattle.evaluations.specs.Below.{Request, Reply, Begin, frames_within, IsPlainTo, fault_after, Answer}
-use Rattle.evaluations.specs.Words.{Frame, Outcome, fresh, stepped, replied, answered, run_again, Asks, IsAllowed, IsSafeOutcome, LeavesOutcome, Spends, IsPrice, IsPriced, HaveFullDepths, StayEnclosed, State, at, Limits, IsClear, IsStarted, Move, Pushed, Answered, Refused, RunAgain, Popped, PoppedAtLimit, IsRooted, IsEvaluating, GoesOn, Ends, Stops, AreSafe}
+use Rattle.evaluations.specs.Words.{Frame, Outcome, fresh, stepped, replied, answered, run_again, Asks, IsAllowed, IsSafeOutcome, LeavesOutcome, Spends, IsPrice, IsPriced, HaveFullDepths, StayEnclosed, State, at, Limits, MeetsNone, IsStarted, Move, Pushed, Answered, Refused, RunAgain, Popped, PoppedAtLimit, IsRooted, IsEvaluating, GoesOn, Ends, Stops, AreSafe}
 use Rattle.evaluations.specs.Evaluation.{EvaluationIsEnclosed, Noted}
 use Rattle.evaluations.proofs.Plains.{push_keeps_safe, step_keeps_safe, reply_keeps_safe, answer_keeps_safe, refusal_keeps_safe, rerun_keeps_safe, pop_keeps_safe, left_is_safe, fitting_is_plain, push_keeps_room, room_is_enough}
 use Rattle.evaluations.proofs.Counts.{step_spends, question_spends, rerun_spends, pop_spends, first_stays_within, move_stays_within, starts_are_within}
@@ -31,9 +31,9 @@ module _ {I R : Type 0} (scripts : I → List (Reply R) → Request I R) (limits
   pub price_of_runs : EvaluationIsEnclosed scripts limits is_counted top → IsPrice limits.runs limits.root (EvaluationIsEnclosed scripts limits is_counted top) limits.runs
   price_of_runs e = record { of_runs = omega arith; of_depth = inr e }
 
-  -- as long as it is clear, no frame met overflow
-  pub clear_depths : (bound starts : ℕ) (met : Bool) (frames : List (Frame I R)) → IsClear scripts limits is_counted top met → IsEvaluating scripts limits is_counted top bound (at frames starts met) → HaveFullDepths limits.root frames
-  clear_depths bound starts met frames clear h = elim clear [
+  -- so long no frame met overflow
+  pub depths_met_none : (bound starts : ℕ) (met : Bool) (frames : List (Frame I R)) → MeetsNone scripts limits is_counted top met → IsEvaluating scripts limits is_counted top bound (at frames starts met) → HaveFullDepths limits.root frames
+  depths_met_none bound starts met frames meets h = elim meets [
     | inl c ↦ ((h.priced 0 (record { of_runs = omega arith; of_depth = inl (omega arith) }) c.0).not_yet c.1).depths
     | inr e ↦ (h.enclosed e).depths
   ]

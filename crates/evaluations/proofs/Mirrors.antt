@@ -1,9 +1,9 @@
 -- The items of a search mirror the frames from move to move.
 use Rattle.std.proofs.Common.{◌≡◌, ℕ, ◌+◌, ◌*◌, ◌<◌, ◌≤◌, min, Bool, true, false, inl, inr, List, [], ◌∷◌, map, Contains, Some, refl, sym, ◌∙◌, ap, ap₂, subst, arith}
 use Rattle.evaluations.specs.Below.{Request, Reply, Evaluate, Done, Begin, Answer, PathKind, frames_within, IsPlainTo, HasNoRank, request_after, IsReplyTo, IsFitting}
-use Rattle.evaluations.specs.Words.{Frame, Outcome, fresh, stepped, replied, answered, refused, run_again, IsAllowed, IsSafeOutcome, IsOnStack, LeavesOutcome, HasRoom, frames_ahead, frames_ahead_of, steps_in_runs, steps_ahead, at, Limits, IsClear, IsStarted, Move, Pushed, Answered, Refused, RunAgain, Popped, PoppedAtLimit, IsEvaluating, Ends, Stops, with_replies, IsSeen, IsPending, AreSeen, Mirror, work, Waits, HasRequested, TakesStep, TakesReply, ItemLeaves, IsAmong}
+use Rattle.evaluations.specs.Words.{Frame, Outcome, fresh, stepped, replied, answered, refused, run_again, IsAllowed, IsSafeOutcome, IsOnStack, LeavesOutcome, HasRoom, frames_ahead, frames_ahead_of, steps_in_runs, steps_ahead, at, Limits, MeetsNone, IsStarted, Move, Pushed, Answered, Refused, RunAgain, Popped, PoppedAtLimit, IsEvaluating, Ends, Stops, with_replies, IsSeen, IsPending, AreSeen, Mirror, work, Waits, HasRequested, TakesStep, TakesReply, ItemLeaves, IsAmong}
 use Rattle.evaluations.specs.Evaluation.{EvaluationIsEnclosed, Noted}
-use Rattle.evaluations.proofs.Evaluations.{root_is_evaluating, move_goes_on, last_frame_ends, last_run_ends, evaluation_stops, failed_start_stops, fitting_meets_no_limit, clear_depths, lower_price, price_of_runs}
+use Rattle.evaluations.proofs.Evaluations.{root_is_evaluating, move_goes_on, last_frame_ends, last_run_ends, evaluation_stops, failed_start_stops, fitting_meets_no_limit, depths_met_none, lower_price, price_of_runs}
 use Rattle.evaluations.proofs.Plains.{step_keeps_safe, left_is_safe, cycle_has_no_rank}
 use Rattle.evaluations.proofs.Counts.{question_spends, rerun_spends}
 use Rattle.evaluations.proofs.Enclosed.{asked_within, left_calm, some_depth}
@@ -113,7 +113,7 @@ module _ {E I R : Type 0} (seen : E → Frame I R) (stands : E → List (Reply R
         (reply_pending seen stands scripts (λ g. replied g reply) reply e later (stepped h.f h.left) h.mirror.0 takes, h.mirror.1)
 
     -- a question that is answered at once,
-    pub answered_waits : (kind : PathKind) (goal : I) (depth : ℕ) (o : Outcome R) (later : E) → IsAllowed (seen e) depth → IsSafeOutcome scripts goal depth o → (IsClear scripts limits is_counted top met → o.met_overflow ≡ false) → TakesReply seen stands scripts (λ g. answered g o) (Answer o.result) e later → Requested ahead (Evaluate kind goal) (e ∷ es) starts met → WaitsWithLess ahead (Answer o.result) (later ∷ es) starts met
+    pub answered_waits : (kind : PathKind) (goal : I) (depth : ℕ) (o : Outcome R) (later : E) → IsAllowed (seen e) depth → IsSafeOutcome scripts goal depth o → (MeetsNone scripts limits is_counted top met → o.met_overflow ≡ false) → TakesReply seen stands scripts (λ g. answered g o) (Answer o.result) e later → Requested ahead (Evaluate kind goal) (e ∷ es) starts met → WaitsWithLess ahead (Answer o.result) (later ∷ es) starts met
     answered_waits kind goal depth o later allowed safe calm takes h =
         move_waits some ahead (Evaluate kind goal) (Answer o.result) (e ∷ es) (later ∷ es) starts starts met met (answered (stepped h.f h.left) o ∷ h.below) h
         (Answered h.falls (kind, h.requested) (allowed_at e h.f h.left depth h.mirror.0 allowed) safe calm)
@@ -239,17 +239,17 @@ module _ {E I R : Type 0} (seen : E → Frame I R) (stands : E → List (Reply R
       let same = (seen_back e h.f h.left h.mirror.0).0 in
       (h.f.replies, h.mirror.0.stood, subst (λ g. IsFitting (scripts g) h.f.replies) same h.evaluating.safe.0.fitting, subst (λ g. request_after (scripts g) h.f.replies ≡ Some request) same h.requested)
 
-  -- what is left is safe, and without overflow as long as it is clear: so it may be stored
+  -- what is left is safe, and without overflow as long as none is met: so it may be stored
   pub leaves_safe : (ahead : ℕ) (r : R) (o : Outcome R) (e : E) (es : List E) (starts : ℕ) (met : Bool) → Requested ahead (Done r) (e ∷ es) starts met → ItemLeaves r (seen e) o → IsSafeOutcome scripts (seen e).goal (seen e).available o
   leaves_safe ahead r o e es starts met h leaves =
       let same = seen_back e h.f h.left h.mirror.0 in
       subst (λ d. IsSafeOutcome scripts (seen e).goal d o) same.1 (subst (λ g. IsSafeOutcome scripts g h.f.available o) same.0
       (left_is_safe scripts h.f o (leaves_at e h.f h.left r o h.mirror.0 h.requested leaves) h.evaluating.safe.0))
 
-  pub leaves_calm : (ahead : ℕ) (r : R) (o : Outcome R) (e : E) (es : List E) (starts : ℕ) (met : Bool) → Requested ahead (Done r) (e ∷ es) starts met → ItemLeaves r (seen e) o → IsClear scripts limits is_counted top met → o.met_overflow ≡ false
-  leaves_calm ahead r o e es starts met h leaves clear =
+  pub leaves_calm : (ahead : ℕ) (r : R) (o : Outcome R) (e : E) (es : List E) (starts : ℕ) (met : Bool) → Requested ahead (Done r) (e ∷ es) starts met → ItemLeaves r (seen e) o → MeetsNone scripts limits is_counted top met → o.met_overflow ≡ false
+  leaves_calm ahead r o e es starts met h leaves meets =
       (leaves_at e h.f h.left r o h.mirror.0 h.requested leaves).met_overflow
-      ∙ left_calm I R limits.root h.f h.below (clear_depths scripts limits is_counted top bound starts met (h.f ∷ h.below) clear h.evaluating)
+      ∙ left_calm I R limits.root h.f h.below (depths_met_none scripts limits is_counted top bound starts met (h.f ∷ h.below) meets h.evaluating)
 
   -- what an enclosed evaluation asks is one of the goals, and it is not refused
   pub asked_among : (ahead : ℕ) (kind : PathKind) (goal : I) (items : List E) (starts : ℕ) (met : Bool) → Requested ahead (Evaluate kind goal) items starts met → EvaluationIsEnclosed scripts limits is_counted top → Contains limits.goals goal

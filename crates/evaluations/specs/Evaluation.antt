@@ -47,8 +47,8 @@ module _ {I R : Type 0} (scripts : I → List (Reply R) → Request I R) (limits
   EvaluationIsEnclosed = IsEnclosed scripts limits.goals limits.root top
 
   -- no overflow is met as long as this holds: starts are counted and no limit is met, or the evaluation is enclosed
-  abbrev pub IsClear : (limits_met : Bool) → Type 0
-  IsClear limits_met = (is_counted × (limits_met ≡ false)) ⊎ EvaluationIsEnclosed
+  abbrev pub MeetsNone : (limits_met : Bool) → Type 0
+  MeetsNone limits_met = (is_counted × (limits_met ≡ false)) ⊎ EvaluationIsEnclosed
 
   -- One move of an evaluation: a question is pushed, or answered, or refused at depth 0; a candidate begins, ends or is
   -- ignored; a run ends, and its goal is run again or popped.
@@ -64,7 +64,7 @@ module _ {I R : Type 0} (scripts : I → List (Reply R) → Request I R) (limits
     Answered :
         {f : Frame I R} {below : List (Frame I R)} {goal : I} {depth left starts : ℕ} {met : Bool} {o : Outcome R}
         → left < f.left → Asks scripts f goal → IsAllowed f depth → IsSafeOutcome scripts goal depth o
-        → (IsClear met → o.met_overflow ≡ false)
+        → (MeetsNone met → o.met_overflow ≡ false)
         → Move (at (f ∷ below) starts met) (at (answered (stepped f left) o ∷ below) starts met)
     Refused :
         {f : Frame I R} {below : List (Frame I R)} {goal : I} {left starts : ℕ} {met : Bool} {r : R}

@@ -1,6 +1,6 @@
 -- The words of this crate, from one place.
 pub use Rattle.evaluations.specs.Enclosed.{AreDistinct, IsEnclosed, NoQuestionLeadsOut, StayEnclosed}
-pub use Rattle.evaluations.specs.Evaluation.{Answered, at, Ends, EvaluationIsEnclosed, GoesOn, IsClear, IsEvaluating, IsRooted, IsStarted, Limits}
+pub use Rattle.evaluations.specs.Evaluation.{Answered, at, Ends, EvaluationIsEnclosed, GoesOn, MeetsNone, IsEvaluating, IsRooted, IsStarted, Limits}
 pub use Rattle.evaluations.specs.Evaluation.{Move, Popped, PoppedAtLimit, Pushed, Refused, RunAgain, State, Stops}
 pub use Rattle.evaluations.specs.EvaluationLaws.{EnclosedRefusesNone, EvaluationStops, FailedStartStops, FittingMeetsNoLimit, LastFrameEnds}
 pub use Rattle.evaluations.specs.EvaluationLaws.{LastRunEnds, MoveGoesOn, RootIsEvaluating}

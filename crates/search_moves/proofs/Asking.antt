@@ -3,7 +3,7 @@ use Rattle.std.proofs.Common.{◌≡◌, ◌<◌, ◌≤◌, ◌+◌, ℕ, Bool,
 use Rattle.std.specs.Option.{option_and_then}
 use Rattle.std.proofs.lemmas.List.{length-map, length-reverse}
 use Rattle.std.proofs.lemmas.Option.{get_or_from_slice_get, slice_get_within}
-use Rattle.search_moves.specs.Below.{DelegateOf, CxOf, Evaluate, Received, Answer, Begin, Cache, IsNeither, IsCycleResult, CacheNode, AvailableDepth, first_entry, open_node, PathKind, StackEntry, Run, Memory, path_kind_from, IsDefinite, verdicts, AreFree, AreJustified, AreReady, bound, Call, CallIsClear, depth_below, first_run, HasAsked, HasStopped, IsCounted, KeepsStore, IsFit, IsReady, limits, newest, NewestAsks, Pushes, runs_of, seen, Stood}
+use Rattle.search_moves.specs.Below.{DelegateOf, CxOf, Evaluate, Received, Answer, Begin, Cache, IsNeither, IsCycleResult, CacheNode, AvailableDepth, first_entry, open_node, PathKind, StackEntry, Run, Memory, path_kind_from, IsDefinite, verdicts, AreFree, AreJustified, AreReady, bound, Call, CallMeetsNone, depth_below, first_run, HasAsked, HasStopped, IsCounted, KeepsStore, IsFit, IsReady, limits, newest, NewestAsks, Pushes, runs_of, seen, Stood}
 use Rattle.search_moves.specs.declared.evaluation.Evaluation.{Evaluation}
 use Rattle.search_moves.specs.Words.{Asked, asking, ByEntry, ByStored, GoesOnWith, IsRight, IsRightFor, OverCycle, Pushed, question_depth, Refused, Requests, StopsWith}
 use Rattle.search_rules.proofs.justified.Finishing.{answered_newest_is_justified, begin_fits, neither_fits, neither_is, overflow_noted_is_justified, pushed_goal_is_justified, stored_taken_same}
@@ -19,8 +19,8 @@ use Rattle.search_rules.proofs.entries.Moves.{overflow_noted_ready, ready_beside
 module _ {D C V P F I R A T : Type 0} (G : DelegateOf D C V P F I R A T) (X : CxOf C I R A T) (same : I → I → Bool) (cx : C) (kind : PathKind) (goal : I) (old : Cache C I R A T) (e : Evaluation D C V P F I R A T) (starts : ℕ) where
   -- ---- the call goes on
 
-  never_clear : None ≡ question_depth G e → (call : Call I) (ahead : ℕ) → Requests G X same cx (Evaluate kind goal) call ahead old e starts → CallIsClear G X cx call true → ⊥
-  never_clear none call ahead h clear = elim clear [
+  never_none : None ≡ question_depth G e → (call : Call I) (ahead : ℕ) → Requests G X same cx (Evaluate kind goal) call ahead old e starts → CallMeetsNone G X cx call true → ⊥
+  never_none none call ahead h meets = elim meets [
     | inl c ↦ let met : true ≡ false = c.1 in absurd cc
     | inr enclosed ↦ enclosed_refuses_none G X cx call ahead kind goal starts e.limits_met e.goals none enclosed h.asked
   ]
@@ -28,7 +28,7 @@ module _ {D C V P F I R A T : Type 0} (G : DelegateOf D C V P F I R A T) (X : Cx
   -- what a call keeps where a question is refused, which is so in no enclosed call
   refused_keeps : None ≡ question_depth G e → (call : Call I) (ahead : ℕ) → Requests G X same cx (Evaluate kind goal) call ahead old e starts → KeepsStore G X cx same call true old.results
   refused_keeps none call ahead h = record {
-    overflow = λ clear. absurd (never_clear none call ahead h clear);
+    overflow = λ meets. absurd (never_none none call ahead h meets);
     definite = λ d unmet. absurd cc;
     within = h.answers.store.within;
   }
@@ -40,7 +40,7 @@ module _ {D C V P F I R A T : Type 0} (G : DelegateOf D C V P F I R A T) (X : Cx
       → (call : Call I) (ahead : ℕ) → Requests G X same cx (Evaluate kind goal) call ahead old e starts → GoesOnWith G X same cx call ahead received new after later
   asked_goes_on more exact own sorts noop received new after later (Refused goals none noted) ready call ahead h = record {
     goes_on = ask_refused G X cx call ahead kind goal starts e.limits_met same (G.stack_overflow cx goal) e.goals goals none noted h.asked;
-    answers = record { store = refused_keeps none call ahead h; met_none = λ clear. absurd (never_clear none call ahead h clear); definite = λ d unmet. absurd cc };
+    answers = record { store = refused_keeps none call ahead h; met_none = λ meets. absurd (never_none none call ahead h meets); definite = λ d unmet. absurd cc };
   }
   asked_goes_on more exact own sorts noop received new after later (ByEntry depth entry goals at is takes nested) ready call ahead h =
       let one = entry_is_one same (asking G X same cx kind goal e) goal entry G.ENABLE_PROVISIONAL_CACHE is in
@@ -48,7 +48,7 @@ module _ {D C V P F I R A T : Type 0} (G : DelegateOf D C V P F I R A T) (X : Cx
         goes_on =
             ask_provisional G X cx call ahead kind goal starts e.limits_met more depth entry.result entry.encountered_overflow entry.heads e.goals goals at
             (one (IsReady (verdicts X) (G.script cx) old.nodes (runs_of e.goals) goal) (ready goal)).no_rank
-            (λ clear. one (λ entry. entry.encountered_overflow ≡ false) (h.answers.met_none clear goal))
+            (λ meets. one (λ entry. entry.encountered_overflow ≡ false) (h.answers.met_none meets goal))
             (λ decisive unmet. one (λ entry. IsDefinite (verdicts X) entry.result) (h.answers.definite decisive unmet goal))
             takes h.asked;
         answers = h.answers;

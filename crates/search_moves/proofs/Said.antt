@@ -2,13 +2,13 @@
 use Rattle.std.proofs.Common.{◌≡◌, ℕ, ◌&&◌, ◌||◌, if◌then◌else◌, Bool, true, false, List, [], ◌∷◌, map, reverse, All, Option, Some, None, Result, Ok, refl, sym, subst}
 use Rattle.std.specs.List.{filter}
 use Rattle.std.proofs.lemmas.List.Elements.{All-append, All-cons, All-filter, All-nil}
-use Rattle.search_moves.specs.Below.{StackDepth, CycleHead, PathKind, HeadUsages, highest, has_usages, other_usages, DelegateOf, CxOf, Done, StoredResult, ProvisionalCacheEntry, RebaseReason, EvaluationResult, StackEntry, IsDefinite, IsNeither, Lists, entries_at, but_highest, rebased, changed_for, with_unused, with_used, Store, Run, Verdicts, verdicts, Unstable, Call, CallIsClear, HasAsked, KeepsAnswers, KeepsStore, final_answer, entries_for, entry_of, rebased_for, RebasesEntries, RebasesNewest, MayPutNewest, IsReason, IsEndOfRun, Ambiguous, Initial, Limited, Repeated, Repeats, Stable, WithoutUsages}
+use Rattle.search_moves.specs.Below.{StackDepth, CycleHead, PathKind, HeadUsages, highest, has_usages, other_usages, DelegateOf, CxOf, Done, StoredResult, ProvisionalCacheEntry, RebaseReason, EvaluationResult, StackEntry, IsDefinite, IsNeither, Lists, entries_at, but_highest, rebased, changed_for, with_unused, with_used, Store, Run, Verdicts, verdicts, Unstable, Call, CallMeetsNone, HasAsked, KeepsAnswers, KeepsStore, final_answer, entries_for, entry_of, rebased_for, RebasesEntries, RebasesNewest, MayPutNewest, IsReason, IsEndOfRun, Ambiguous, Initial, Limited, Repeated, Repeats, Stable, WithoutUsages}
 use Rattle.provisional_cache.specs.declared.RebaseReason.TheVariants as why
 use Rattle.provisional_cache.proofs.RebasedEntryLists.{All-filter_map}
 use Rattle.search_rules.specs.EndOfRun.{Unused}
 use Rattle.search_rules.proofs.moves.DoneRuns.{calm_of, limited_keeps, put_keeps}
 use Rattle.search_rules.proofs.justified.Finishing.{neither_is}
-use Rattle.search_rules.proofs.moves.Moves.{done_definite, was_clear}
+use Rattle.search_rules.proofs.moves.Moves.{done_definite, met_none_before}
 use Rattle.search_rules.proofs.rebasing.Cases.{HasNewHead, is_rebased, IsRebased, NotUsed, Still, Used}
 
 -- ---- what is said of whether entries met overflow, and of their results
@@ -128,30 +128,30 @@ module _ {X I R A T : Type 0} (says : Verdicts R) (same : R → R → Bool) (ini
 module _ {D C V P F I R A T : Type 0} (G : DelegateOf D C V P F I R A T) (X : CxOf C I R A T) (cx : C) (call : Call I) (same : I → I → Bool) where
   -- before the first goal is done there are no entries
   pub no_entries : (results : Store I (StoredResult C I R A T)) (met : Bool) → KeepsStore G X cx same call met results → KeepsAnswers G X cx same call met results []
-  no_entries results met store = record { store = store; met_none = λ clear goal. All-nil _; definite = λ decisive unmet goal. All-nil _ }
+  no_entries results met store = record { store = store; met_none = λ meets goal. All-nil _; definite = λ decisive unmet goal. All-nil _ }
 
   -- a further run gives up some entries
   pub rerun_keeps : (results : Store I (StoredResult C I R A T)) (met : Bool) (left : ProvisionalCacheEntry C I R A T → Bool) (old new : Lists I (ProvisionalCacheEntry C I R A T)) → ((goal : I) → entries_at same new goal ≡ filter left (entries_at same old goal)) → KeepsAnswers G X cx same call met results old → KeepsAnswers G X cx same call met results new
   rerun_keeps results met left old new cleared keeps = record {
     store = keeps.store;
-    met_none = λ clear. cleared_said (λ met r. met ≡ false) same left old new cleared (keeps.met_none clear);
+    met_none = λ meets. cleared_said (λ met r. met ≡ false) same left old new cleared (keeps.met_none meets);
     definite = λ decisive unmet. cleared_said (λ met r. IsDefinite (verdicts X) r) same left old new cleared (keeps.definite decisive unmet);
   }
 
-  -- entries that a goal leaves met no overflow as long as the call is clear, whatever its result
-  entries_met_none : (ahead : ℕ) (done r : R) (starts : ℕ) (met enabled : Bool) (reason : Option (RebaseReason C I R A T)) (s : StackEntry C I R A T × Run C F I R A T) (below : List (StackEntry C I R A T × Run C F I R A T)) (old new : Lists I (ProvisionalCacheEntry C I R A T)) → CallIsClear G X cx call met → HasAsked G X cx call ahead (Done done) (s ∷ below) starts met
+  -- entries that a goal leaves met no overflow as long as the call meets none, whatever its result
+  entries_met_none : (ahead : ℕ) (done r : R) (starts : ℕ) (met enabled : Bool) (reason : Option (RebaseReason C I R A T)) (s : StackEntry C I R A T × Run C F I R A T) (below : List (StackEntry C I R A T × Run C F I R A T)) (old new : Lists I (ProvisionalCacheEntry C I R A T)) → CallMeetsNone G X cx call met → HasAsked G X cx call ahead (Done done) (s ∷ below) starts met
       → RebasesEntries same enabled (G.propagated cx) (G.fixpoint_overflow cx) reason r s below old new → SaidOfAll (λ met r. met ≡ false) same old → SaidOfAll (λ met r. met ≡ false) same new
-  entries_met_none ahead done r starts met enabled reason s below old new clear h rebases =
+  entries_met_none ahead done r starts met enabled reason s below old new meets h rebases =
       taken_said (λ met r. met ≡ false) same enabled (G.propagated cx) (G.fixpoint_overflow cx) reason r s below old new
       (λ goal reasoned is. changed_said (λ met r. met ≡ false) (G.propagated cx goal) (G.fixpoint_overflow cx goal) reasoned (λ info ambiguous met r none. none) (λ limited met r none. none))
-      (calm_of G X cx call ahead done starts met s below clear h) rebases
+      (calm_of G X cx call ahead done starts met s below meets h) rebases
 
   -- a goal that had its most runs was popped, which meets a limit
   pub limited_keeps_answers : (ahead : ℕ) (done r : R) (starts : ℕ) (met enabled : Bool) (reason : Option (RebaseReason C I R A T)) → ((x y : I) → same x y ≡ true → x ≡ y) → (before after : Store I (StoredResult C I R A T)) (goals : List (StackEntry C I R A T × Run C F I R A T)) (old new : Lists I (ProvisionalCacheEntry C I R A T)) → MayPutNewest same goals r before after → RebasesNewest same enabled (G.propagated cx) (G.fixpoint_overflow cx) reason r goals old new → HasAsked G X cx call ahead (Done done) goals starts met → KeepsAnswers G X cx same call met before old → KeepsAnswers G X cx same call true after new
   limited_keeps_answers ahead done r starts met enabled reason by_value before after [] old new put rebases h keeps = absurd put
   limited_keeps_answers ahead done r starts met enabled reason by_value before after (s ∷ below) old new put rebases h keeps = record {
     store = limited_keeps G X cx call same by_value before after ahead done r (s ∷ below) starts met put h keeps.store;
-    met_none = λ clear. let was = was_clear G X cx call met clear in entries_met_none ahead done r starts met enabled reason s below old new was h rebases (keeps.met_none was);
+    met_none = λ meets. let was = met_none_before G X cx call met meets in entries_met_none ahead done r starts met enabled reason s below old new was h rebases (keeps.met_none was);
     definite = λ decisive unmet. absurd cc;
   }
 
@@ -174,6 +174,6 @@ module _ {D C V P F I R A T : Type 0} (G : DelegateOf D C V P F I R A T) (X : Cx
     done_keeps by_value before after [] old new put rebases h keeps = absurd put
     done_keeps by_value before after (s ∷ below) old new put rebases h keeps = record {
       store = put_keeps G X cx call same by_value before after ahead done (s ∷ below) starts met put h keeps.store;
-      met_none = λ clear. entries_met_none ahead done done starts met enabled reason s below old new clear h rebases (keeps.met_none clear);
+      met_none = λ meets. entries_met_none ahead done done starts met enabled reason s below old new meets h rebases (keeps.met_none meets);
       definite = λ decisive unmet. entries_definite s below old new (done_definite G X cx call ahead done (s ∷ below) starts met h decisive unmet) rebases (keeps.definite decisive unmet);
     }

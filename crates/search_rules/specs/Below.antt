@@ -77,7 +77,7 @@ pub use Rattle.global_cache.specs.declared.results.Place.{Place}
 pub use Rattle.global_cache.specs.declared.results.Place.TheVariants.{Success, WithOverflow}
 pub use Rattle.global_cache.specs.declared.results.StoredResult.{StoredResult}
 pub use Rattle.evaluations.specs.Enclosed.{IsEnclosed}
-pub use Rattle.evaluations.specs.Evaluation.{at, Ends, IsClear, IsEvaluating, IsRooted, Limits, Stops}
+pub use Rattle.evaluations.specs.Evaluation.{at, Ends, MeetsNone, IsEvaluating, IsRooted, Limits, Stops}
 pub use Rattle.evaluations.specs.Frames.{IsAllowed, Outcome, run_again}
 pub use Rattle.evaluations.specs.Mirror.{AreSeen, HasRequested, IsAmong, ItemLeaves, Mirror, TakesReply, TakesStep}
 pub use Rattle.evaluations.specs.Mirror.{Waits, with_replies}

@@ -1,6 +1,6 @@
 -- An outer call, and the limits of what it may do.
 use Rattle.std.specs.Prelude.{◌≡◌, ◌⊎◌, ℕ, ◌+◌, ◌<◌, ◌≤◌, ◌^◌, max, Bool, true, false, Contains, List}
-use Rattle.search_rules.specs.Below.{DelegateOf, CxOf, IsClear, IsEnclosed, IsPlainTo, Place, frames_within, Limits}
+use Rattle.search_rules.specs.Below.{DelegateOf, CxOf, MeetsNone, IsEnclosed, IsPlainTo, Place, frames_within, Limits}
 
 -- An outer call: its goal and depth, the frames started before it, and whether a limit was met before it; whether it is known that
 -- no result that met overflow was stored before it, and goals of which that is known; whether each stored result was yes or no; and
@@ -48,8 +48,8 @@ module _ {D C V P F I R A T : Type 0} (G : DelegateOf D C V P F I R A T) (X : Cx
   IsCounted call = (G.counts ≡ true) × (call.limits_met ≡ false) × ((call.without_overflow ≡ true) ⊎ CallIsEnclosed call)
 
   -- no overflow is met as long as this holds: starts are counted and no limit is met, or the call is enclosed
-  abbrev pub CallIsClear : Call I → (met : Bool) → Type 0
-  CallIsClear call = IsClear (G.script cx) (limits call) (IsCounted call) call.top
+  abbrev pub CallMeetsNone : Call I → (met : Bool) → Type 0
+  CallMeetsNone call = MeetsNone (G.script cx) (limits call) (IsCounted call) call.top
 
   -- a limit that was met stays met, and none is met in a call whose goal's rank fits its depth
   pub record KeepsLimits (call : Call I) (met : Bool) : Type 0 where

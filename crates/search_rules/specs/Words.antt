@@ -1,5 +1,5 @@
 -- The words of this crate, from one place.
-pub use Rattle.search_rules.specs.Calls.{bound, Call, CallIsClear, CallIsEnclosed, HadNoOverflow, IsCounted, KeepsLimits, limits, Outset, runs}
+pub use Rattle.search_rules.specs.Calls.{bound, Call, CallMeetsNone, CallIsEnclosed, HadNoOverflow, IsCounted, KeepsLimits, limits, Outset, runs}
 pub use Rattle.search_rules.specs.Decided.{AllDecided, IsDecided}
 pub use Rattle.search_rules.specs.Evaluating.{Begins, CallGoesOn, Decidedly, HasAsked, HasEnded, HasStopped, IsOnly}
 pub use Rattle.search_rules.specs.Evaluating.{IsWaiting, KeepsAnswers, KeepsStore, Leads, seen, work_left}

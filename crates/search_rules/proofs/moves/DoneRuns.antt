@@ -3,8 +3,8 @@ use Rattle.std.proofs.Common.{◌≡◌, ℕ, ◌<◌, ◌≤◌, ◌&&◌, ◌|
 use Rattle.search_rules.specs.Below.{DelegateOf, CxOf, Request, Done, Reply, Place, Success, WithOverflow, StoredResult, StackEntry, IsDefinite, IsPlainTo, HasNoRank, IsPlain, IsBelowRank, Store, stored_at, same_key, IsPlainAt, IsSafeOutcome, Run, is_in_cycle, newest, Stood, Verdicts, verdicts}
 use Rattle.global_cache.proofs.Stores.{put_cases}
 use Rattle.evaluations.proofs.Mirrors.{leaves_calm, leaves_safe, requested_fits}
-use Rattle.search_rules.specs.Words.{Call, CallIsClear, limits, bound, IsCounted, KeepsStore, seen, HasAsked, AreDefinite, HaveNoOverflowOf, HadNoOverflow, MayPut, RequireWithin, Same, WithResult, MayPutNewest, NewestComesTo, NewestIsPlain, IsNewestPlainTo, place_of_item}
-use Rattle.search_rules.proofs.moves.Moves.{asker_requires, done_definite, ends_newest, leaving, outcome_of, was_clear}
+use Rattle.search_rules.specs.Words.{Call, CallMeetsNone, limits, bound, IsCounted, KeepsStore, seen, HasAsked, AreDefinite, HaveNoOverflowOf, HadNoOverflow, MayPut, RequireWithin, Same, WithResult, MayPutNewest, NewestComesTo, NewestIsPlain, IsNewestPlainTo, place_of_item}
+use Rattle.search_rules.proofs.moves.Moves.{asker_requires, done_definite, ends_newest, leaving, outcome_of, met_none_before}
 
 -- where a result belongs, by whether it met overflow
 plain_at : {I R : Type 0} (scripts : I → List (Reply R) → Request I R) (goal : I) (r : R) (required : ℕ) (b : Bool) → (b ≡ false → IsPlain scripts goal r) → (b ≡ true → IsBelowRank scripts goal required) → IsPlainAt scripts goal (if b then WithOverflow required else Success) r
@@ -80,9 +80,9 @@ module _ {D C V P F I R A T : Type 0} (G : DelegateOf D C V P F I R A T) (X : Cx
   memory_alone (Ok v) memory goals plain h = tt
   memory_alone (Err fault) memory goals plain h = λ n p fits. let m = newest_ranked goals n p fits h in plain m.0 m.1
 
-  -- as long as the call is clear, the newest goal met no overflow
-  pub calm_of : (s : StackEntry C I R A T × Run C F I R A T) (below : List (StackEntry C I R A T × Run C F I R A T)) → CallIsClear G X cx call met → HasAsked G X cx call ahead (Done done) (s ∷ below) starts met → (s.0.state.encountered_overflow || s.1.met_overflow_before) ≡ false
-  calm_of s below clear h = leaves_calm (seen G X cx) (Stood G X cx) (G.script cx) (limits G X cx call) (IsCounted G X cx call) call.top (bound G X cx call) ahead done (outcome_of G X cx done s) s below starts met h.asked (leaving G X cx done done s (inl refl)) clear
+  -- as long as the call meets none, the newest goal met no overflow
+  pub calm_of : (s : StackEntry C I R A T × Run C F I R A T) (below : List (StackEntry C I R A T × Run C F I R A T)) → CallMeetsNone G X cx call met → HasAsked G X cx call ahead (Done done) (s ∷ below) starts met → (s.0.state.encountered_overflow || s.1.met_overflow_before) ≡ false
+  calm_of s below meets h = leaves_calm (seen G X cx) (Stood G X cx) (G.script cx) (limits G X cx call) (IsCounted G X cx call) call.top (bound G X cx call) ahead done (outcome_of G X cx done s) s below starts met h.asked (leaving G X cx done done s (inl refl)) meets
 
 -- a success is at no place of an overflow result
 apart : {I : Type 0} (same : I → I → Bool) (goal other : I) (depth : ℕ) → same_key same (goal, Success) (other, WithOverflow depth) ≡ false
@@ -125,18 +125,18 @@ module _ {D C V P F I R A T : Type 0} (G : DelegateOf D C V P F I R A T) (X : Cx
   newest_within by_value before after ahead done r (s ∷ below) starts met put h all =
       put_within same by_value before after s.0.input (place_of_item s) s.0.state.required_depth r call.root call.stood (asker_requires G X cx call ahead (Done done) s below starts met h) put all
 
-  -- and as long as the call is clear, that is no overflow result
-  clear_put : ((x y : I) → same x y ≡ true → x ≡ y) → (before after : Store I (StoredResult C I R A T)) (ahead : ℕ) (done r : R) (goals : List (StackEntry C I R A T × Run C F I R A T)) (starts : ℕ) (met : Bool) → CallIsClear G X cx call met → MayPutNewest same goals r before after → HasAsked G X cx call ahead (Done done) goals starts met → HaveNoOverflowOf (HadNoOverflow call) same before → HaveNoOverflowOf (HadNoOverflow call) same after
-  clear_put by_value before after ahead done r [] starts met clear put h none = absurd put
-  clear_put by_value before after ahead done r (s ∷ below) starts met clear put h none =
+  -- and as long as the call meets none, that is no overflow result
+  put_met_none : ((x y : I) → same x y ≡ true → x ≡ y) → (before after : Store I (StoredResult C I R A T)) (ahead : ℕ) (done r : R) (goals : List (StackEntry C I R A T × Run C F I R A T)) (starts : ℕ) (met : Bool) → CallMeetsNone G X cx call met → MayPutNewest same goals r before after → HasAsked G X cx call ahead (Done done) goals starts met → HaveNoOverflowOf (HadNoOverflow call) same before → HaveNoOverflowOf (HadNoOverflow call) same after
+  put_met_none by_value before after ahead done r [] starts met meets put h none = absurd put
+  put_met_none by_value before after ahead done r (s ∷ below) starts met meets put h none =
       put_without_overflow same by_value before after s.0.input (place_of_item s) s.0.state.required_depth r (HadNoOverflow call)
-      (ap (λ b. if b then WithOverflow s.0.state.required_depth else Success) (calm_of G X cx call ahead done starts met s below clear h)) put none
+      (ap (λ b. if b then WithOverflow s.0.state.required_depth else Success) (calm_of G X cx call ahead done starts met s below meets h)) put none
 
   -- the result of a run keeps what the call keeps of them,
   pub put_keeps : ((x y : I) → same x y ≡ true → x ≡ y) → (before after : Store I (StoredResult C I R A T)) (ahead : ℕ) (done : R) (goals : List (StackEntry C I R A T × Run C F I R A T)) (starts : ℕ) (met : Bool) → MayPutNewest same goals done before after → HasAsked G X cx call ahead (Done done) goals starts met → KeepsStore G X cx same call met before → KeepsStore G X cx same call met after
   put_keeps by_value before after ahead done [] starts met put h keeps = absurd put
   put_keeps by_value before after ahead done (s ∷ below) starts met put h keeps = record {
-    overflow = λ clear. clear_put by_value before after ahead done done (s ∷ below) starts met clear put h (keeps.overflow clear);
+    overflow = λ meets. put_met_none by_value before after ahead done done (s ∷ below) starts met meets put h (keeps.overflow meets);
     definite = λ decisive unmet. put_definite same by_value before after s.0.input (place_of_item s) s.0.state.required_depth done (verdicts X) (done_definite G X cx call ahead done (s ∷ below) starts met h decisive unmet) put (keeps.definite decisive unmet);
     within = newest_within by_value before after ahead done done (s ∷ below) starts met put h keeps.within;
   }
@@ -144,7 +144,7 @@ module _ {D C V P F I R A T : Type 0} (G : DelegateOf D C V P F I R A T) (X : Cx
   -- and so does any result of a goal that had its most runs, which meets a limit
   pub limited_keeps : ((x y : I) → same x y ≡ true → x ≡ y) → (before after : Store I (StoredResult C I R A T)) (ahead : ℕ) (done r : R) (goals : List (StackEntry C I R A T × Run C F I R A T)) (starts : ℕ) (met : Bool) → MayPutNewest same goals r before after → HasAsked G X cx call ahead (Done done) goals starts met → KeepsStore G X cx same call met before → KeepsStore G X cx same call true after
   limited_keeps by_value before after ahead done r goals starts met put h keeps = record {
-    overflow = λ clear. let was = was_clear G X cx call met clear in clear_put by_value before after ahead done r goals starts met was put h (keeps.overflow was);
+    overflow = λ meets. let was = met_none_before G X cx call met meets in put_met_none by_value before after ahead done r goals starts met was put h (keeps.overflow was);
     definite = λ decisive unmet. absurd cc;
     within = newest_within by_value before after ahead done r goals starts met put h keeps.within;
   }

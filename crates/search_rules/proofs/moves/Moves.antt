@@ -8,7 +8,7 @@ use Rattle.evaluations.specs.Frames.{Frame, answered}
 use Rattle.evaluations.proofs.Mirrors.{step_requests, can_take, refused_waits, answered_waits, pushed_waits, rerun_waits, popped_waits, popped_at_limit_waits, last_item_ends, last_item_ends_at_limit, last_run_stops, failed_rerun_stops, WaitsWithLess, first_waits, waits_stops, requested_stops, failed_push_stops, cycle_found, requested_fits, requested_by, asked_among, none_refused}
 use Rattle.evaluations.proofs.Evaluations.{evaluation_stops, fitting_meets_no_limit}
 use Rattle.evaluations.proofs.Plains.{unranked_is_safe}
-use Rattle.search_rules.specs.Words.{EndsNewest, Call, runs, limits, bound, IsCounted, CallIsClear, CallIsEnclosed, HadNoOverflow, KeepsLimits, AllDecided, Decidedly, seen, IsWaiting, work_left, HasAsked, CallGoesOn, HasStopped, Leads, first_run, Pushes, Reruns, CanLeave, NewestLeaves, ClosesCycle}
+use Rattle.search_rules.specs.Words.{EndsNewest, Call, runs, limits, bound, IsCounted, CallMeetsNone, CallIsEnclosed, HadNoOverflow, KeepsLimits, AllDecided, Decidedly, seen, IsWaiting, work_left, HasAsked, CallGoesOn, HasStopped, Leads, first_run, Pushes, Reruns, CanLeave, NewestLeaves, ClosesCycle}
 use Rattle.search_rules.proofs.records.ProgressLaws.{records_new, records_received, fault_is}
 use Rattle.search_rules.proofs.moves.DecidedGoals.{below_decided, changed_decided, cycle_decided, newest_decided, pushed_decided, replied_decided}
 
@@ -201,7 +201,7 @@ module _ {D C V P F I R A T : Type 0} (G : DelegateOf D C V P F I R A T) (X : Cx
       let no_rank = cycle_found (seen G X cx) (Stood G X cx) (G.script cx) (limits G X cx call) (IsCounted G X cx call) call.top (bound G X cx call) ahead kind goal ((t.entry, t.run) ∷ t.below) starts met was.asked
       (among eq exact goal ((t.entry, t.run) ∷ t.below) (subst (λ v. list_any (λ (u : Goal). eq goal u.0.input) v ≡ true) t.was found)) in
       let w = answered_waits (seen G X cx) (Stood G X cx) (G.script cx) (limits G X cx call) (IsCounted G X cx call) call.top (bound G X cx call) (some_runs G.FIXPOINT_STEP_LIMIT) ahead starts met (t.entry, t.run) t.below kind goal depth (record { result = r; required = 0; met_overflow = false; in_cycle = true }) (record t.entry { state = t.state }, t.run)
-      (may (t.entry, t.run) t.below t.was) (unranked_is_safe (G.script cx) goal depth (record { result = r; required = 0; met_overflow = false; in_cycle = true }) no_rank (omega arith)) (λ clear. refl)
+      (may (t.entry, t.run) t.below t.was) (unranked_is_safe (G.script cx) goal depth (record { result = r; required = 0; met_overflow = false; in_cycle = true }) no_rank (omega arith)) (λ meets. refl)
       (takes_answer r kind 0 false ((head, cycle_head kind cycle) ∷ []) t.entry t.run (record { 0 = length t.below }) t.state t.takes) was.asked in
       subst (λ given. CallGoesOn G X cx call ahead given new starts met) (sym (ap (λ given. given.reply) c.is))
       (record {
@@ -218,7 +218,7 @@ module _ {D C V P F I R A T : Type 0} (G : DelegateOf D C V P F I R A T) (X : Cx
       })
 
   -- a provisional entry of a goal without a rank is taken over
-  pub provisional_goes_on : (ahead : ℕ) (kind : PathKind) (goal : I) (r : R) (overflow : Bool) (answer : Heads) (depth : ℕ) (old new : List Goal) (starts : ℕ) (met : Bool) → ((s : Goal) (below : List Goal) → old ≡ s ∷ below → IsAllowed (seen G X cx s) depth) → HasNoRank (G.script cx) goal → (CallIsClear G X cx call met → overflow ≡ false) → Decidedly G X cx call met (IsDefinite (verdicts X) r) → AnswersNewest kind 0 overflow answer old new → HasAsked G X cx call ahead (Evaluate kind goal) old starts met → CallGoesOn G X cx call ahead (Answer r) new starts met
+  pub provisional_goes_on : (ahead : ℕ) (kind : PathKind) (goal : I) (r : R) (overflow : Bool) (answer : Heads) (depth : ℕ) (old new : List Goal) (starts : ℕ) (met : Bool) → ((s : Goal) (below : List Goal) → old ≡ s ∷ below → IsAllowed (seen G X cx s) depth) → HasNoRank (G.script cx) goal → (CallMeetsNone G X cx call met → overflow ≡ false) → Decidedly G X cx call met (IsDefinite (verdicts X) r) → AnswersNewest kind 0 overflow answer old new → HasAsked G X cx call ahead (Evaluate kind goal) old starts met → CallGoesOn G X cx call ahead (Answer r) new starts met
   provisional_goes_on ahead kind goal r overflow answer depth old new starts met may no_rank calm definite t h =
       let was : HasAsked G X cx call ahead (Evaluate kind goal) ((t.entry, t.run) ∷ t.below) starts met = subst (λ v. HasAsked G X cx call ahead (Evaluate kind goal) v starts met) t.was h in
       let w = answered_waits (seen G X cx) (Stood G X cx) (G.script cx) (limits G X cx call) (IsCounted G X cx call) call.top (bound G X cx call) (some_runs G.FIXPOINT_STEP_LIMIT) ahead starts met (t.entry, t.run) t.below kind goal depth (record { result = r; required = 0; met_overflow = overflow; in_cycle = some_heads answer }) (record t.entry { state = t.state }, t.run)
@@ -242,16 +242,16 @@ module _ {D C V P F I R A T : Type 0} (G : DelegateOf D C V P F I R A T) (X : Cx
   enclosed_asks ahead kind goal goals starts met enclosed h =
       asked_among (seen G X cx) (Stood G X cx) (G.script cx) (limits G X cx call) (IsCounted G X cx call) call.top (bound G X cx call) ahead kind goal goals starts met h.asked enclosed
 
-  -- so as long as the call is clear, no overflow result was stored of it before
-  pub clear_asks : (ahead : ℕ) (kind : PathKind) (goal : I) (goals : List Goal) (starts : ℕ) (met : Bool) → CallIsClear G X cx call met → HasAsked G X cx call ahead (Evaluate kind goal) goals starts met → HadNoOverflow call goal
-  clear_asks ahead kind goal goals starts met clear h = elim clear [
+  -- so as long as the call meets none, no overflow result was stored of it before
+  pub asks_known : (ahead : ℕ) (kind : PathKind) (goal : I) (goals : List Goal) (starts : ℕ) (met : Bool) → CallMeetsNone G X cx call met → HasAsked G X cx call ahead (Evaluate kind goal) goals starts met → HadNoOverflow call goal
+  asks_known ahead kind goal goals starts met meets h = elim meets [
     | inl c ↦ elim c.0.2 [ inl none ↦ inl none | inr enclosed ↦ inr (enclosed_asks ahead kind goal goals starts met enclosed h) ]
     | inr enclosed ↦ inr (enclosed_asks ahead kind goal goals starts met enclosed h)
   ]
 
-  -- a call that is clear though a limit was met is enclosed, so it was clear before
-  pub was_clear : (met : Bool) → CallIsClear G X cx call true → CallIsClear G X cx call met
-  was_clear met clear = elim clear [ inl c ↦ absurd (true≢false c.1) | inr enclosed ↦ inr enclosed ]
+  -- a call that meets none though a limit was met is enclosed, so it met none before
+  pub met_none_before : (met : Bool) → CallMeetsNone G X cx call true → CallMeetsNone G X cx call met
+  met_none_before met meets = elim meets [ inl c ↦ absurd (true≢false c.1) | inr enclosed ↦ inr enclosed ]
 
   -- a goal that is asked and isn't under evaluation is not among the goals
   pub not_among : (eq : I → I → Bool) → ((x : I) → eq x x ≡ true) → (goal : I) (goals : List Goal) → list_any (λ s. eq goal s.0.input) goals ≡ false → IsAmong (seen G X cx) goal goals → ⊥

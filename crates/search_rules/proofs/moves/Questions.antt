@@ -5,7 +5,7 @@ use Rattle.std.specs.List.{list_any}
 use Rattle.std.specs.Option.{option_and_then, option_map}
 use Rattle.std.proofs.lemmas.Bool.Decides.{nat_tests}
 use Rattle.search_rules.specs.Below.{CacheNode, DelegateOf, CxOf, Evaluate, Begin, Answer, Memory, PathKind, AvailableDepth, StackEntry, depth_below, CountsOne, IsCycleResult, IsAllowed, Run, newest, StackDepth, StoredResult, NestedPaths, Store, Received, Heads, IsDefinite, HasNoRank, AnswersNewest, overflowed, with_nested_goals, NotesOverflow, verdicts, IsAmong}
-use Rattle.search_rules.specs.Words.{UsesStored, Call, CallIsClear, CallIsEnclosed, seen, Decidedly, HasAsked, CallGoesOn, HasStopped, KeepsStore, ClosesCycle, Pushes}
+use Rattle.search_rules.specs.Words.{UsesStored, Call, CallMeetsNone, CallIsEnclosed, seen, Decidedly, HasAsked, CallGoesOn, HasStopped, KeepsStore, ClosesCycle, Pushes}
 use Rattle.search_rules.proofs.moves.StoredAnswers.{stored_goes_on}
 use Rattle.search_rules.proofs.moves.Moves.{allowed, asker_fits, enclosed_asker, refused_goes_on, cycle_goes_on, provisional_goes_on, pushed_goes_on, failed_push_stopped}
 
@@ -77,7 +77,7 @@ module _ {D C V P F I R A T : Type 0} (G : DelegateOf D C V P F I R A T) (X : Cx
     ask_stored same results received goals new may uses keeps h = stored_goes_on G X cx call same results ahead kind goal depth.0 received goals new starts met (may_ask_of goals may) uses keeps h
 
     -- an entry of the provisional cache answers it
-    pub ask_provisional : (r : R) (overflow : Bool) (answer : Heads) (goals new : Goals) → Some depth.0 ≡ option_and_then (λ s. depth_below G.DIVIDE_AVAILABLE_DEPTH_ON_OVERFLOW s.0) (newest goals) → HasNoRank (G.script cx) goal → (CallIsClear G X cx call met → overflow ≡ false) → Decidedly G X cx call met (IsDefinite (verdicts X) r) → AnswersNewest kind 0 overflow answer goals new → HasAsked G X cx call ahead (Evaluate kind goal) goals starts met → CallGoesOn G X cx call ahead (Answer r) new starts met
+    pub ask_provisional : (r : R) (overflow : Bool) (answer : Heads) (goals new : Goals) → Some depth.0 ≡ option_and_then (λ s. depth_below G.DIVIDE_AVAILABLE_DEPTH_ON_OVERFLOW s.0) (newest goals) → HasNoRank (G.script cx) goal → (CallMeetsNone G X cx call met → overflow ≡ false) → Decidedly G X cx call met (IsDefinite (verdicts X) r) → AnswersNewest kind 0 overflow answer goals new → HasAsked G X cx call ahead (Evaluate kind goal) goals starts met → CallGoesOn G X cx call ahead (Answer r) new starts met
     ask_provisional r overflow answer goals new may no_rank calm definite a h = provisional_goes_on G X cx call ahead kind goal r overflow answer depth.0 goals new starts met (may_ask_of goals may) no_rank calm definite a h
 
     pub ask_in_cycle : (eq : I → I → Bool) → ((x y : I) → eq x y ≡ true → x ≡ y) → ((cycle : PathKind) (asked : I) → IsCycleResult X.is_yes X.is_no cycle (G.initial_result cx cycle asked)) → (received : Received R) (head : StackDepth) (goals new : Goals) → Some depth.0 ≡ option_and_then (λ s. depth_below G.DIVIDE_AVAILABLE_DEPTH_ON_OVERFLOW s.0) (newest goals) → list_any (λ t. eq goal t.0.input) goals ≡ true → ClosesCycle G X cx eq kind goal head received goals new → HasAsked G X cx call ahead (Evaluate kind goal) goals starts met → CallGoesOn G X cx call ahead received.reply new starts met

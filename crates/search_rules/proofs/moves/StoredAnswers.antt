@@ -6,7 +6,7 @@ use Rattle.evaluations.specs.Frames.{answered}
 use Rattle.evaluations.proofs.Mirrors.{answered_waits}
 use Rattle.search_rules.specs.Words.{Call, runs, limits, bound, IsCounted, Begins, KeepsStore, seen, HasAsked, CallGoesOn, HasEnded, IsUsable, UsesStored, AreDefinite, HadNoOverflow, HaveNoOverflowOf}
 use Rattle.search_rules.proofs.moves.DecidedGoals.{changed_decided}
-use Rattle.search_rules.proofs.moves.Moves.{clear_asks, some_frames, some_runs}
+use Rattle.search_rules.proofs.moves.Moves.{asks_known, some_frames, some_runs}
 
 module _ {D C V P F I R A T : Type 0} (G : DelegateOf D C V P F I R A T) (X : CxOf C I R A T) (cx : C) (call : Call I) (same : I → I → Bool) (results : Store I (StoredResult C I R A T)) where
   abbrev Goal : Type 0
@@ -48,7 +48,7 @@ module _ {D C V P F I R A T : Type 0} (G : DelegateOf D C V P F I R A T) (X : Cx
       let was : HasAsked G X cx call ahead (Evaluate kind goal) ((t.entry, t.run) ∷ t.below) starts met = subst (λ v. HasAsked G X cx call ahead (Evaluate kind goal) v starts met) t.was h in
       let w = answered_waits (seen G X cx) (Stood G X cx) (G.script cx) (limits G X cx call) (IsCounted G X cx call) call.top (bound G X cx call) (some_runs G.FIXPOINT_STEP_LIMIT) ahead starts met (t.entry, t.run) t.below kind goal depth (outcome_of_hit uses.hit)
       (record t.entry { state = with_nested_goals (with_depth t.entry.state uses.hit.required_depth uses.hit.encountered_overflow) t.nested }, t.run)
-      (may (t.entry, t.run) t.below t.was) (usable_is_safe goal depth uses.hit uses.usable) (λ clear. met_none goal depth uses.hit uses.usable (HadNoOverflow call) (clear_asks G X cx call ahead kind goal old starts met clear h) (keeps.overflow clear))
+      (may (t.entry, t.run) t.below t.was) (usable_is_safe goal depth uses.hit uses.usable) (λ meets. met_none goal depth uses.hit uses.usable (HadNoOverflow call) (asks_known G X cx call ahead kind goal old starts met meets h) (keeps.overflow meets))
       (stored_taken t.entry t.run uses.hit t.nested) was.asked in
       subst (λ (given : Received R). CallGoesOn G X cx call ahead given.reply new starts met) (sym uses.is)
       (subst (λ v. CallGoesOn G X cx call ahead (Answer uses.hit.result) v starts met) (sym t.is)

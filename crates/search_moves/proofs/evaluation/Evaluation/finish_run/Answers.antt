@@ -1,9 +1,9 @@
 use Rattle.search_moves.proofs.Remembering.{met_remembers, remembered}
 use Rattle.search_moves.proofs.Said.{done_keeps, end_leaves, limited_keeps_answers, rerun_keeps}
 use Rattle.std.proofs.Common.{rules, Err, Ok, Some, ◌≡◌, true, refl, sym, ap, ap₂, subst, ◌∙◌}
-use Rattle.search_moves.specs.Below.{Again, AtLimit, IsEndOfRun, Memory, Overflow, Step, verdict_of, verdicts, CallGoesOn, KeepsAnswers, KeepsStore}
+use Rattle.search_moves.specs.Below.{Again, AtLimit, IsEndOfRun, IsFit, Memory, Overflow, runs_of, Step, verdict_of, verdicts, CallGoesOn, KeepsAnswers, KeepsStore}
 use Rattle.search_moves.specs.Words.{HadMostRuns, IsDone, IsRunAgain, LeadsTo, Pops, StopsWith}
-use Rattle.search_rules.proofs.justified.Finishing.{neither_is}
+use Rattle.search_rules.proofs.justified.Finishing.{begin_fits, neither_is}
 use Rattle.search_rules.proofs.moves.Moves.{asked_stopped_by, can_leave, ends_newest, failed_rerun_stopped, leave_leads, limited_leads, limited_stopped, rerun_goes_on}
 use Rattle.search_rules.proofs.moves.Questions.{if_err_and, if_ok_then, no_ok}
 use Rattle.search_rules.proofs.moves.DoneRuns.{limit_comes, limited_keeps, limited_plain, memory_alone, newest_comes, newest_plain, put_keeps, stopped_by, stopped_each}
@@ -144,6 +144,19 @@ returns-in_ok-run_again-in-Err-Again-clause-moves g c = record {
       });
   stops = λ call ahead h. tt;
 }
+
+pub returns-in_ok-run_again-in-Err-Again-clause-right : goal.returns-in_ok-run_again-in-Err-Again-clause-right
+returns-in_ok-run_again-in-Err-Again-clause-right g c =
+    let right = c.in_ok-run_again-in-Err-Again.ensures.reran.right in
+    record {
+      justified = (
+        right.justified,
+        subst (λ given. IsFit (verdicts g.D.Cx.Cx) c.run_again.new.cache.nodes (runs_of c.run_again.new.self.goals) given.reply given.node) (sym c.without_node.ensures)
+            (begin_fits (verdicts g.D.Cx.Cx) c.run_again.new.cache.nodes (runs_of c.run_again.new.self.goals)),
+      );
+      free = right.free;
+      ready = right.ready;
+    }
 
 pub returns-in_ok-run_again-in-Err-Again-clause-leads : goal.returns-in_ok-run_again-in-Err-Again-clause-leads
 returns-in_ok-run_again-in-Err-Again-clause-leads g c =
