@@ -1,8 +1,8 @@
 -- What limits mean for a list of queries: for none, and for one more.
-use Rattle.std.proofs.Common.{◌≡◌, ◌||◌, ◌⊎◌, ℕ, zero, suc, ◌+◌, ◌<◌, ◌≤◌, max, min, All, Contains, Bool, true, false, List, [], ◌∷◌, ◌++◌, length, slice_get, Option, None, Some, Result, Ok, IfOk, refl, sym, ap, ◌∙◌, subst, inl, inr, arith, le_refl}
+use Rattle.std.proofs.Common.{◌≡◌, ◌||◌, ◌⊎◌, ℕ, zero, suc, ◌+◌, ◌≤◌, max, min, All, Contains, Bool, true, false, List, [], ◌∷◌, ◌++◌, length, slice_get, Some, Result, Ok, IfOk, refl, sym, ap, ◌∙◌, subst, inl, inr, arith, le_refl}
 use Rattle.std.proofs.lemmas.List.Elements.{All-cons, All-head, All-nil, All-tail}
 use Rattle.search_context.specs.declared.context.Answer.{Answer}
-use Rattle.search_graph.specs.Below.{AreDefinite, Cache, CxOf, DelegateOf, Fault, HasCounted, HaveNoOverflow, HaveNoOverflowOf, IsDecisive, IsDefinite, IsEnclosed, IsPaid, PathKind, verdicts}
+use Rattle.search_graph.specs.Below.{Cache, CxOf, DelegateOf, Fault, HasCounted, HaveNoOverflow, HaveNoOverflowOf, IsDecisive, IsEnclosed, IsPaid, PathKind, verdicts}
 use Rattle.search_graph.specs.Lists.{AreEnclosed, HasLimits, HasPaid}
 
 -- a place of a list with one more is in the list, or is the last

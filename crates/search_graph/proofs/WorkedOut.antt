@@ -1,5 +1,5 @@
 -- What a call promises of a goal that was worked out, whether it has an answer or a fault.
-use Rattle.std.proofs.Common.{◌≡◌, ℕ, ◌+◌, ◌<◌, ◌≤◌, ◌^◌, max, Bool, true, false, List, [], ◌∷◌, Contains, Result, Ok, Err, IfOk, IfErr, inl, inr, refl, subst}
+use Rattle.std.proofs.Common.{◌≡◌, ℕ, ◌+◌, ◌<◌, ◌≤◌, ◌^◌, max, Bool, true, false, List, [], ◌∷◌, Contains, Result, Ok, Err, IfOk, IfErr, inl, inr, refl}
 use Rattle.std.proofs.lemmas.List.Elements.{All-head}
 use Rattle.search_context.specs.declared.context.Answer.{Answer}
 use Rattle.search_graph.specs.Below.{AreDefinite, Begins, Cache, Call, CxOf, DelegateOf, EndsWith, Fault, frames_within, HasCounted, HaveNoOverflow, HaveNoOverflowOf, IsDecisive, IsDefinite, IsEnclosed, IsPaid, IsPlainTo, IsPlainValue, Memory, PathKind, StopsWith, StoresWithin, verdicts}

@@ -1,5 +1,5 @@
 -- Why the answer to a call is stored where no limit was met: the only goal rests on no other, and met no overflow.
-use Rattle.std.proofs.Common.{◌≡◌, ◌||◌, ℕ, nat_le, ◌<◌, ◌≤◌, if◌then◌else◌, Bool, true, false, List, [], ◌∷◌, ◌++◌, All, Option, Some, inl, refl, sym, ap, ◌∙◌, subst, arith}
+use Rattle.std.proofs.Common.{◌≡◌, ℕ, nat_le, ◌<◌, ◌≤◌, if◌then◌else◌, Bool, true, false, List, [], ◌∷◌, ◌++◌, All, Some, inl, refl, sym, ap, ◌∙◌, subst, arith}
 use Rattle.std.specs.Option.{IsSomeAnd}
 use Rattle.std.proofs.lemmas.Bool.{le-leb}
 use Rattle.std.proofs.lemmas.List.Elements.{All-head}
@@ -10,7 +10,7 @@ use Rattle.open_goals.specs.declared.goals.Next.TheVariants.{Finished}
 use Rattle.open_goals.specs.declared.goals.Fate.TheVariants as becomes
 use Rattle.search_context.specs.declared.context.Answer.{Answer}
 use Rattle.search_rules.specs.Moves.{NewestLeaves}
-use Rattle.search_moves.specs.Below.{Call, IsNewestToStore, CxOf, DelegateOf, Done, fates_of, first_accepted, final_answer, HasAsked, HaveTallies, IfFinished, IsCounted, IsNewestStored, IsRemembered, Next, node_given, place_of, Run, runs_of, StackEntry, Step, Store, stored_at, stored_from, StoredResult, Success, usable}
+use Rattle.search_moves.specs.Below.{Call, IsNewestToStore, CxOf, DelegateOf, Done, fates_of, first_accepted, final_answer, HasAsked, HaveTallies, IfFinished, IsCounted, IsNewestStored, IsRemembered, Next, node_given, place_of, Run, runs_of, StackEntry, Step, Store, stored_at, stored_from, StoredResult, Success}
 use Rattle.search_rules.proofs.entries.Ready.{heads_on_stack, on_stack_many}
 use Rattle.search_rules.proofs.moves.DoneRuns.{calm_of}
 use Rattle.search_rules.proofs.moves.Moves.{only_fits}

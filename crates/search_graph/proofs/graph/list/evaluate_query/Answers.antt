@@ -52,11 +52,11 @@ returns-clause-limits g c =
       enclosed = λ goals all none. c.evaluate_goal.ensures.enclosed goals (at_depth goals all) none;
       by_runs = λ goals all none counted met. c.evaluate_goal.ensures.only_by_runs goals (at_depth goals all) none counted fresh met;
     }
-    where
-      at_depth : (goals : List _) → AreEnclosed g.D.Delegate g.D.Cx.Cx g.D.Cx.Input.PartialEq.eq c.args.cache.now.cx goals (c.args.query ∷ []) → IsEnclosed (g.D.Delegate.script c.args.cache.now.cx) goals c.new-graph.result.root_depth c.args.query.1
-      at_depth goals all =
-          subst (λ root. IsEnclosed (g.D.Delegate.script c.args.cache.now.cx) goals root c.args.query.1) (sym (ap (λ graph. graph.root_depth) c.new-graph.ensures))
-          (All-head (λ query. IsEnclosed (g.D.Delegate.script c.args.cache.now.cx) goals query.0 query.1) c.args.query [] all)
+  where
+    at_depth : (goals : List _) → AreEnclosed g.D.Delegate g.D.Cx.Cx g.D.Cx.Input.PartialEq.eq c.args.cache.now.cx goals (c.args.query ∷ []) → IsEnclosed (g.D.Delegate.script c.args.cache.now.cx) goals c.new-graph.result.root_depth c.args.query.1
+    at_depth goals all =
+        subst (λ root. IsEnclosed (g.D.Delegate.script c.args.cache.now.cx) goals root c.args.query.1) (sym (ap (λ graph. graph.root_depth) c.new-graph.ensures))
+        (All-head (λ query. IsEnclosed (g.D.Delegate.script c.args.cache.now.cx) goals query.0 query.1) c.args.query [] all)
 
 pub returns-clause-builder : goal.returns-clause-builder
 returns-clause-builder g c = record { at_least = c.evaluate_goal.ensures.at_least; same_noop = c.evaluate_goal.ensures.same_noop }

@@ -1,4 +1,4 @@
-use Rattle.std.proofs.Common.{arith, ◌≡◌, ◌≤◌, ◌+◌, ◌∷◌, map, reverse, Option, None, Some, option_map, refl, is_some, true, sym, ap, ◌∙◌, subst}
+use Rattle.std.proofs.Common.{arith, ◌≡◌, ◌≤◌, ◌+◌, ◌∷◌, Option, None, Some, option_map, refl, is_some, true, sym, ap, ◌∙◌, subst}
 use Rattle.std.specs.Option.{IfSome, option_copied}
 use Rattle.search_moves.specs.Below.{Answer, Begin, CountsOne, fates_of, answered_by, fate_for, IsFated, first_accepted, usable, hit_of, verdicts, AreOnStack, is_applicable, usable_entry, ClosesCycle}
 use Rattle.search_moves.specs.Words.{Asked, Refused, ByEntry, ByStored, OverCycle, Pushed}
