@@ -174,9 +174,10 @@ impl<D: Delegate> SearchGraph<D> {
             HaveNoOverflow D.Cx.Input.eq cache.new.results }
 
         // Where the goal is one of some goals that no question leads out of, the root depth is enough for all of
-        // these, and no result of them is stored that met overflow, no question is refused. So none is stored from
-        // then on, also after a fault or a limit; a limit that is met is that of runs, and costs all runs that one
-        // goal may have; and the answer is stored, also where it is met, as `remembered` says.
+        // these, and no result of them is stored that met overflow, no question is refused. So no such result is stored
+        // from then on, also after a fault or a limit. A limit that is met is that of runs, and costs all runs that one
+        // goal may have. And the answer is stored, limit or not, unless the builder records or the delegate has the
+        // result validated.
         ensures enclosed { (goals : List D.Cx.Input) →
             IsEnclosed (D.script cache.old.cx) goals self.old.root_depth input →
             HaveNoOverflowOf (Contains goals) D.Cx.Input.eq cache.old.results →
