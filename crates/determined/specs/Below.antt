@@ -14,3 +14,4 @@ pub use Rattle.search_context.specs.declared.context.Reply.{Reply}
 pub use Rattle.search_context.specs.declared.context.Reply.TheVariants.{Answer, Begin, Noted}
 pub use Rattle.search_context.specs.declared.context.Request.{Request}
 pub use Rattle.search_context.specs.declared.context.Request.TheVariants.{Done, EnterCandidate, Evaluate, FinishCandidate, Ignore}
+pub use Rattle.evaluations.specs.Enclosed.{NoQuestionLeadsOut}

@@ -1,6 +1,6 @@
 -- Finite lists of goals that no question leads out of.
 use Rattle.std.specs.Prelude.{◌≡◌, ◌↔◌, ◌⊎◌, ℕ, ◌≤◌, true, List, Contains, length}
-use Rattle.determined.specs.Below.{AsksOnly, GraphNode, IsFitting, IsOrderly, IsProofGraph, IsRefutationGraph, Question, Reply, Request, Verdicts}
+use Rattle.determined.specs.Below.{GraphNode, IsFitting, IsOrderly, IsProofGraph, IsRefutationGraph, NoQuestionLeadsOut, Question, Reply, Request, Verdicts}
 
 -- whatever is answered, the script is done after so many replies at most
 abbrev pub IsDoneAfter : {I R : Type 0} → ℕ → (List (Reply R) → Request I R) → Type 0
@@ -9,7 +9,7 @@ IsDoneAfter {I} {R} most script = (replies : List (Reply R)) → IsFitting scrip
 -- Whatever is answered, each goal of the list asks goals of the list alone, makes no request out of order, and is
 -- done after so many replies at most.
 pub record IsClosed {I R : Type 0} (scripts : I → List (Reply R) → Request I R) (goals : List I) (most : ℕ) : Type 0 where
-  pub stays : (goal : I) → Contains goals goal → AsksOnly (λ _ asked. Contains goals asked) (scripts goal)
+  pub stays : NoQuestionLeadsOut scripts goals
   pub is_orderly : (goal : I) → Contains goals goal → IsOrderly (scripts goal)
   pub is_done : (goal : I) → Contains goals goal → IsDoneAfter most (scripts goal)
 

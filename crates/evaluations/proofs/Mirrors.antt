@@ -1,12 +1,13 @@
 -- The items of a search mirror the frames from move to move.
-use Rattle.std.proofs.Common.{◌≡◌, ℕ, ◌+◌, ◌*◌, ◌<◌, ◌≤◌, Bool, true, false, inl, inr, List, [], ◌∷◌, map, Some, refl, sym, ◌∙◌, ap, ap₂, subst, arith}
+use Rattle.std.proofs.Common.{◌≡◌, ℕ, ◌+◌, ◌*◌, ◌<◌, ◌≤◌, min, Bool, true, false, inl, inr, List, [], ◌∷◌, map, Contains, Some, refl, sym, ◌∙◌, ap, ap₂, subst, arith}
 use Rattle.evaluations.specs.Below.{Request, Reply, Evaluate, Done, Begin, Answer, PathKind, frames_within, IsPlainTo, HasNoRank, request_after, IsReplyTo, IsFitting}
-use Rattle.evaluations.specs.Words.{Frame, Outcome, fresh, stepped, replied, answered, refused, run_again, IsAllowed, IsSafeOutcome, IsOnStack, LeavesOutcome, HasRoom, frames_ahead, frames_ahead_of, steps_in_runs, steps_ahead, at, Limits, IsStarted, Move, Pushed, Answered, Refused, RunAgain, Popped, PoppedAtLimit, IsEvaluating, Ends, Stops, with_replies, IsSeen, IsPending, AreSeen, Mirror, work, Waits, HasRequested, TakesStep, TakesReply, ItemLeaves, IsAmong}
-use Rattle.evaluations.specs.Evaluation.{Noted}
-use Rattle.evaluations.proofs.Evaluations.{root_is_evaluating, move_goes_on, last_frame_ends, last_run_ends, evaluation_stops, failed_start_stops, fitting_meets_no_limit}
+use Rattle.evaluations.specs.Words.{Frame, Outcome, fresh, stepped, replied, answered, refused, run_again, IsAllowed, IsSafeOutcome, IsOnStack, LeavesOutcome, HasRoom, frames_ahead, frames_ahead_of, steps_in_runs, steps_ahead, at, Limits, MeetsNone, IsStarted, Move, Pushed, Answered, Refused, RunAgain, Popped, PoppedAtLimit, IsEvaluating, Ends, Stops, with_replies, IsSeen, IsPending, AreSeen, Mirror, work, Waits, HasRequested, TakesStep, TakesReply, ItemLeaves, IsAmong}
+use Rattle.evaluations.specs.Evaluation.{EvaluationIsEnclosed, Noted}
+use Rattle.evaluations.proofs.Evaluations.{root_is_evaluating, move_goes_on, last_frame_ends, last_run_ends, evaluation_stops, failed_start_stops, fitting_meets_no_limit, depths_met_none, lower_price, price_of_runs}
 use Rattle.evaluations.proofs.Plains.{step_keeps_safe, left_is_safe, cycle_has_no_rank}
 use Rattle.evaluations.proofs.Counts.{question_spends, rerun_spends}
-use Rattle.evaluations.proofs.Prices.{pop_keeps_priced, last_run_is_paid}
+use Rattle.evaluations.proofs.Enclosed.{asked_within, left_calm, some_depth}
+use Rattle.evaluations.proofs.Prices.{last_run_is_paid}
 
 module _ {E I R : Type 0} (seen : E → Frame I R) (stands : E → List (Reply R) → Type 0) (runs width : ℕ) where
   seen_ahead : (items : List E) (frames : List (Frame I R)) → AreSeen seen stands items frames → frames_ahead runs width frames ≡ frames_ahead runs width (map seen items)
@@ -39,7 +40,7 @@ module _ {E I R : Type 0} (seen : E → Frame I R) (stands : E → List (Reply R
   pub reply_pending : (change : Frame I R → Frame I R) (reply : Reply R) (old new : E) (f : Frame I R) → IsSeen seen stands old f → TakesReply seen stands scripts change reply old new → IsPending seen stands reply new (change f)
   reply_pending change reply old new f h t = record { earlier = f.replies; is = ap change h.is ∙ t.same f.replies; stood = t.stood f.replies h.stood }
 
-module _ {E I R : Type 0} (seen : E → Frame I R) (stands : E → List (Reply R) → Type 0) (scripts : I → List (Reply R) → Request I R) (limits : Limits) (is_counted : Type 0) (top : I) (bound : ℕ) where
+module _ {E I R : Type 0} (seen : E → Frame I R) (stands : E → List (Reply R) → Type 0) (scripts : I → List (Reply R) → Request I R) (limits : Limits I) (is_counted : Type 0) (top : I) (bound : ℕ) where
   requests_at : (reply : Reply R) (request : Request I R) (old new : E) (es : List E) (starts : ℕ) (met : Bool) (frames : List (Frame I R)) → TakesStep seen stands scripts reply request old new → Mirror seen stands reply (old ∷ es) frames → IsEvaluating scripts limits is_counted top bound (at frames starts met) → HasRequested seen stands scripts limits is_counted top bound (work seen stands scripts limits is_counted top bound (old ∷ es)) request (new ∷ es) starts met
   requests_at reply request old new es starts met [] t m h = absurd m
   requests_at reply request old new es starts met (f ∷ below) t m h =
@@ -62,12 +63,22 @@ module _ {E I R : Type 0} (seen : E → Frame I R) (stands : E → List (Reply R
   step_requests reply request old new es starts met t h = requests_at reply request old new es starts met h.frames t h.mirror h.evaluating
 
   -- and what the search does then, where it is a move
-  pub move_waits : 1 ≤ limits.runs → (ahead : ℕ) (request : Request I R) (reply : Reply R) (items later : List E) (starts now : ℕ) (met after : Bool) (frames : List (Frame I R)) (h : HasRequested seen stands scripts limits is_counted top bound ahead request items starts met) → Move scripts limits is_counted (at (h.f ∷ h.below) starts met) (at frames now after) → Mirror seen stands reply later frames → Waits seen stands scripts limits is_counted top bound reply later now after × (work seen stands scripts limits is_counted top bound later < ahead)
+  pub move_waits : 1 ≤ limits.runs → (ahead : ℕ) (request : Request I R) (reply : Reply R) (items later : List E) (starts now : ℕ) (met after : Bool) (frames : List (Frame I R)) (h : HasRequested seen stands scripts limits is_counted top bound ahead request items starts met) → Move scripts limits is_counted top (at (h.f ∷ h.below) starts met) (at frames now after) → Mirror seen stands reply later frames → Waits seen stands scripts limits is_counted top bound reply later now after × (work seen stands scripts limits is_counted top bound later < ahead)
   move_waits some ahead request reply items later starts now met after frames h move mirror =
       let on = move_goes_on scripts limits is_counted top bound some (at (h.f ∷ h.below) starts met) (at frames now after) move h.evaluating in
       let same = mirror_work seen stands limits.runs limits.width reply later frames mirror in
       let l : steps_ahead limits.runs limits.width frames < steps_ahead limits.runs limits.width (h.f ∷ h.below) = on.falls in
       (record { frames = frames; mirror = mirror; evaluating = on.evaluating }, rw (← same, ← h.ahead_is) l)
+
+  -- a goal that is on the stack is among the items
+  among_of : (goal : I) (items : List E) (frames : List (Frame I R)) → AreSeen seen stands items frames → IsOnStack scripts goal frames → IsAmong seen goal items
+  among_of goal [] [] m on = on
+  among_of goal [] (f ∷ fs) m on = absurd m
+  among_of goal (e ∷ es) [] m on = absurd m
+  among_of goal (e ∷ es) (f ∷ fs) m on = elim on [
+    | inl same ↦ inl (sym (ap (λ g. g.goal) m.0.is) ∙ same)
+    | inr lower ↦ inr (among_of goal es fs m.1 lower)
+  ]
 
   -- ---- what the search does after a step, in its own terms
 
@@ -102,7 +113,7 @@ module _ {E I R : Type 0} (seen : E → Frame I R) (stands : E → List (Reply R
         (reply_pending seen stands scripts (λ g. replied g reply) reply e later (stepped h.f h.left) h.mirror.0 takes, h.mirror.1)
 
     -- a question that is answered at once,
-    pub answered_waits : (kind : PathKind) (goal : I) (depth : ℕ) (o : Outcome R) (later : E) → IsAllowed (seen e) depth → IsSafeOutcome scripts goal depth o → (is_counted → met ≡ false → o.met_overflow ≡ false) → TakesReply seen stands scripts (λ g. answered g o) (Answer o.result) e later → Requested ahead (Evaluate kind goal) (e ∷ es) starts met → WaitsWithLess ahead (Answer o.result) (later ∷ es) starts met
+    pub answered_waits : (kind : PathKind) (goal : I) (depth : ℕ) (o : Outcome R) (later : E) → IsAllowed (seen e) depth → IsSafeOutcome scripts goal depth o → (MeetsNone scripts limits is_counted top met → o.met_overflow ≡ false) → TakesReply seen stands scripts (λ g. answered g o) (Answer o.result) e later → Requested ahead (Evaluate kind goal) (e ∷ es) starts met → WaitsWithLess ahead (Answer o.result) (later ∷ es) starts met
     answered_waits kind goal depth o later allowed safe calm takes h =
         move_waits some ahead (Evaluate kind goal) (Answer o.result) (e ∷ es) (later ∷ es) starts starts met met (answered (stepped h.f h.left) o ∷ h.below) h
         (Answered h.falls (kind, h.requested) (allowed_at e h.f h.left depth h.mirror.0 allowed) safe calm)
@@ -116,10 +127,10 @@ module _ {E I R : Type 0} (seen : E → Frame I R) (stands : E → List (Reply R
         (reply_pending seen stands scripts (λ g. refused g r) (Answer r) e later (stepped h.f h.left) h.mirror.0 takes, h.mirror.1)
 
     -- one whose goal is pushed,
-    pub pushed_waits : (kind : PathKind) (goal : I) (depth now : ℕ) (new : E) → IsAllowed (seen e) depth → (seen new).left ≤ limits.width → seen new ≡ fresh goal depth (seen new).left → stands new [] → IsStarted limits.last is_counted starts now → Requested ahead (Evaluate kind goal) (e ∷ es) starts met → WaitsWithLess ahead Begin (new ∷ e ∷ es) now met
-    pushed_waits kind goal depth now new allowed fits same stood started h =
+    pub pushed_waits : (kind : PathKind) (goal : I) (depth now : ℕ) (new : E) → IsAllowed (seen e) depth → (IsAmong seen goal (e ∷ es) → ⊥) → (seen new).left ≤ limits.width → seen new ≡ fresh goal depth (seen new).left → stands new [] → IsStarted limits.last is_counted starts now → Requested ahead (Evaluate kind goal) (e ∷ es) starts met → WaitsWithLess ahead Begin (new ∷ e ∷ es) now met
+    pushed_waits kind goal depth now new allowed absent fits same stood started h =
         move_waits some ahead (Evaluate kind goal) Begin (e ∷ es) (new ∷ e ∷ es) starts now met met (replied (fresh goal depth (seen new).left) Begin ∷ stepped h.f h.left ∷ h.below) h
-        (Pushed h.falls (kind, h.requested) (allowed_at e h.f h.left depth h.mirror.0 allowed) fits started)
+        (Pushed h.falls (kind, h.requested) (allowed_at e h.f h.left depth h.mirror.0 allowed) (λ on. absent (among_of goal (e ∷ es) (stepped h.f h.left ∷ h.below) h.mirror on)) fits started)
         (record { earlier = []; is = sym (ap (λ g. with_replies g (Begin ∷ [])) same); stood = stood }, h.mirror)
 
     -- a run that ended, and is followed by another,
@@ -136,11 +147,11 @@ module _ {E I R : Type 0} (seen : E → Frame I R) (stands : E → List (Reply R
           h.mirror.1,
         )
 
-    popped_at : (r : R) (o : Outcome R) (p later : E) (after : Bool) (below : List (Frame I R)) (h : Requested ahead (Done r) (e ∷ p ∷ es) starts met) → h.below ≡ below → AreSeen seen stands (p ∷ es) below → ((q : Frame I R) (rest : List (Frame I R)) → Move scripts limits is_counted (at (h.f ∷ q ∷ rest) starts met) (at (answered q o ∷ rest) starts after)) → TakesReply seen stands scripts (λ g. answered g o) (Answer o.result) p later → WaitsWithLess ahead (Answer o.result) (later ∷ es) starts after
+    popped_at : (r : R) (o : Outcome R) (p later : E) (after : Bool) (below : List (Frame I R)) (h : Requested ahead (Done r) (e ∷ p ∷ es) starts met) → h.below ≡ below → AreSeen seen stands (p ∷ es) below → ((q : Frame I R) (rest : List (Frame I R)) → Move scripts limits is_counted top (at (h.f ∷ q ∷ rest) starts met) (at (answered q o ∷ rest) starts after)) → TakesReply seen stands scripts (λ g. answered g o) (Answer o.result) p later → WaitsWithLess ahead (Answer o.result) (later ∷ es) starts after
     popped_at r o p later after [] h is m moves takes = absurd m
     popped_at r o p later after (q ∷ rest) h is m moves takes =
         move_waits some ahead (Done r) (Answer o.result) (e ∷ p ∷ es) (later ∷ es) starts starts met after (answered q o ∷ rest) h
-        (subst (λ b. Move scripts limits is_counted (at (h.f ∷ b) starts met) (at (answered q o ∷ rest) starts after)) (sym is) (moves q rest))
+        (subst (λ b. Move scripts limits is_counted top (at (h.f ∷ b) starts met) (at (answered q o ∷ rest) starts after)) (sym is) (moves q rest))
         (reply_pending seen stands scripts (λ g. answered g o) (Answer o.result) p later q m.0 takes, m.1)
 
     -- or by the pop of its goal, whose outcome answers the goal below it,
@@ -190,27 +201,28 @@ module _ {E I R : Type 0} (seen : E → Frame I R) (stands : E → List (Reply R
   }
 
   -- faults before a reply, and after a request
-  pub waits_stops : (reply : Reply R) (items : List E) (starts : ℕ) (met : Bool) → Waits seen stands scripts limits is_counted top bound reply items starts met → Stops scripts limits is_counted bound starts met
+  pub waits_stops : (reply : Reply R) (items : List E) (starts : ℕ) (met : Bool) → Waits seen stands scripts limits is_counted top bound reply items starts met → Stops scripts limits is_counted top bound starts met
   waits_stops reply items starts met h = evaluation_stops scripts limits is_counted top bound (at h.frames starts met) h.evaluating
 
-  pub requested_stops : (ahead : ℕ) (request : Request I R) (items : List E) (starts : ℕ) (met : Bool) → Requested ahead request items starts met → Stops scripts limits is_counted bound starts met
+  pub requested_stops : (ahead : ℕ) (request : Request I R) (items : List E) (starts : ℕ) (met : Bool) → Requested ahead request items starts met → Stops scripts limits is_counted top bound starts met
   requested_stops ahead request items starts met h = evaluation_stops scripts limits is_counted top bound (at (h.f ∷ h.below) starts met) h.evaluating
 
-  pub last_run_stops : (ahead : ℕ) (request : Request I R) (e : E) (es : List E) (starts : ℕ) (met : Bool) → limits.runs ≤ (seen e).finished_runs + 1 → Requested ahead request (e ∷ es) starts met → Stops scripts limits is_counted bound starts true
+  pub last_run_stops : (ahead : ℕ) (request : Request I R) (e : E) (es : List E) (starts : ℕ) (met : Bool) → limits.runs ≤ (seen e).finished_runs + 1 → Requested ahead request (e ∷ es) starts met → Stops scripts limits is_counted top bound starts true
   last_run_stops ahead request e es starts met last_run h =
       let runs : h.f.finished_runs ≡ (seen e).finished_runs = ap (λ g. g.finished_runs) h.mirror.0.is in
       record {
         within = (requested_stops ahead request (e ∷ es) starts met h).within;
-        paid = λ c _. (last_run_is_paid I R limits.runs limits.root limits.last limits.before starts met h.f h.below (omega arith) (h.evaluating.priced c)).paid refl;
+        paid = λ c _. (last_run_is_paid I R (min limits.runs (limits.root + 1)) limits.root limits.last limits.before starts met h.f h.below (omega arith) (h.evaluating.priced (min limits.runs (limits.root + 1)) (lower_price scripts limits is_counted top) c)).paid refl;
+        by_runs = λ c e _. (last_run_is_paid I R limits.runs limits.root limits.last limits.before starts met h.f h.below (omega arith) (h.evaluating.priced limits.runs (price_of_runs scripts limits is_counted top e) c)).paid refl;
       }
 
   -- a start that failed, of a goal and of a further run
-  pub failed_push_stops : 1 ≤ limits.runs → (ahead : ℕ) (kind : PathKind) (goal : I) (depth now : ℕ) (e : E) (es : List E) (starts : ℕ) (met : Bool) → IsAllowed (seen e) depth → starts ≤ now → now ≤ starts + 1 → Requested ahead (Evaluate kind goal) (e ∷ es) starts met → Stops scripts limits is_counted bound now met
+  pub failed_push_stops : 1 ≤ limits.runs → (ahead : ℕ) (kind : PathKind) (goal : I) (depth now : ℕ) (e : E) (es : List E) (starts : ℕ) (met : Bool) → IsAllowed (seen e) depth → starts ≤ now → now ≤ starts + 1 → Requested ahead (Evaluate kind goal) (e ∷ es) starts met → Stops scripts limits is_counted top bound now met
   failed_push_stops some ahead kind goal depth now e es starts met allowed more one h =
       failed_start_stops scripts limits is_counted top bound now (at (h.f ∷ h.below) starts met) (fresh goal depth 0 ∷ stepped h.f h.left ∷ h.below)
       (question_spends I R limits.runs limits.width h.f h.below goal depth h.left 0 some (allowed_at e h.f h.left depth h.mirror.0 allowed).is_less h.falls (omega arith)) more one h.evaluating
 
-  pub failed_rerun_stops : (ahead : ℕ) (request : Request I R) (now : ℕ) (e : E) (es : List E) (starts : ℕ) (met : Bool) → (seen e).finished_runs + 1 < limits.runs → starts ≤ now → now ≤ starts + 1 → Requested ahead request (e ∷ es) starts met → Stops scripts limits is_counted bound now met
+  pub failed_rerun_stops : (ahead : ℕ) (request : Request I R) (now : ℕ) (e : E) (es : List E) (starts : ℕ) (met : Bool) → (seen e).finished_runs + 1 < limits.runs → starts ≤ now → now ≤ starts + 1 → Requested ahead request (e ∷ es) starts met → Stops scripts limits is_counted top bound now met
   failed_rerun_stops ahead request now e es starts met again more one h =
       let runs : h.f.finished_runs ≡ (seen e).finished_runs = ap (λ g. g.finished_runs) h.mirror.0.is in
       failed_start_stops scripts limits is_counted top bound now (at (h.f ∷ h.below) starts met) (run_again (stepped h.f h.left) 0 ∷ h.below)
@@ -227,17 +239,26 @@ module _ {E I R : Type 0} (seen : E → Frame I R) (stands : E → List (Reply R
       let same = (seen_back e h.f h.left h.mirror.0).0 in
       (h.f.replies, h.mirror.0.stood, subst (λ g. IsFitting (scripts g) h.f.replies) same h.evaluating.safe.0.fitting, subst (λ g. request_after (scripts g) h.f.replies ≡ Some request) same h.requested)
 
-  -- what is left is safe, and without overflow where no limit was met: so it may be stored
+  -- what is left is safe, and without overflow as long as none is met: so it may be stored
   pub leaves_safe : (ahead : ℕ) (r : R) (o : Outcome R) (e : E) (es : List E) (starts : ℕ) (met : Bool) → Requested ahead (Done r) (e ∷ es) starts met → ItemLeaves r (seen e) o → IsSafeOutcome scripts (seen e).goal (seen e).available o
   leaves_safe ahead r o e es starts met h leaves =
       let same = seen_back e h.f h.left h.mirror.0 in
       subst (λ d. IsSafeOutcome scripts (seen e).goal d o) same.1 (subst (λ g. IsSafeOutcome scripts g h.f.available o) same.0
       (left_is_safe scripts h.f o (leaves_at e h.f h.left r o h.mirror.0 h.requested leaves) h.evaluating.safe.0))
 
-  pub leaves_calm : (ahead : ℕ) (r : R) (o : Outcome R) (e : E) (es : List E) (starts : ℕ) (met : Bool) → Requested ahead (Done r) (e ∷ es) starts met → ItemLeaves r (seen e) o → is_counted → met ≡ false → o.met_overflow ≡ false
-  leaves_calm ahead r o e es starts met h leaves c unmet =
+  pub leaves_calm : (ahead : ℕ) (r : R) (o : Outcome R) (e : E) (es : List E) (starts : ℕ) (met : Bool) → Requested ahead (Done r) (e ∷ es) starts met → ItemLeaves r (seen e) o → MeetsNone scripts limits is_counted top met → o.met_overflow ≡ false
+  leaves_calm ahead r o e es starts met h leaves meets =
       (leaves_at e h.f h.left r o h.mirror.0 h.requested leaves).met_overflow
-      ∙ (pop_keeps_priced I R limits.runs limits.root limits.last limits.before starts met h.f h.below (h.evaluating.priced c)).1 unmet
+      ∙ left_calm I R limits.root h.f h.below (depths_met_none scripts limits is_counted top bound starts met (h.f ∷ h.below) meets h.evaluating)
+
+  -- what an enclosed evaluation asks is one of the goals, and it is not refused
+  pub asked_among : (ahead : ℕ) (kind : PathKind) (goal : I) (items : List E) (starts : ℕ) (met : Bool) → Requested ahead (Evaluate kind goal) items starts met → EvaluationIsEnclosed scripts limits is_counted top → Contains limits.goals goal
+  asked_among ahead kind goal items starts met h e =
+      asked_within scripts limits.goals limits.root top h.f h.below goal e (h.evaluating.enclosed e) h.evaluating.safe.0.fitting (kind, h.requested)
+
+  pub none_refused : (ahead : ℕ) (request : Request I R) (e : E) (es : List E) (starts : ℕ) (met : Bool) → Requested ahead request (e ∷ es) starts met → EvaluationIsEnclosed scripts limits is_counted top → (seen e).available ≡ 0 → ⊥
+  none_refused ahead request e es starts met h enclosed none =
+      some_depth scripts limits.goals limits.root h.f h.below enclosed.fits (h.evaluating.enclosed enclosed) (ap (λ g. g.available) h.mirror.0.is ∙ none)
 
   -- a goal that is asked and is among the items has no rank
   on_stack : (goal : I) (items : List E) (frames : List (Frame I R)) → AreSeen seen stands items frames → IsAmong seen goal items → IsOnStack scripts goal frames

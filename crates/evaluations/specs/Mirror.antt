@@ -33,7 +33,7 @@ module _ {E I R : Type 0} (seen : E → Frame I R) (stands : E → List (Reply R
   Mirror reply (e ∷ es) (f ∷ fs) = IsPending reply e f × AreSeen es fs
   Mirror reply _ _ = ⊥
 
-  module _ (scripts : I → List (Reply R) → Request I R) (limits : Limits) (is_counted : Type 0) (top : I) (bound : ℕ) where
+  module _ (scripts : I → List (Reply R) → Request I R) (limits : Limits I) (is_counted : Type 0) (top : I) (bound : ℕ) where
     -- the loop's measure
     abbrev pub work : List E → ℕ
     work items = steps_ahead limits.runs limits.width (map seen items)

@@ -11,6 +11,12 @@ HasCounted last before now many = (before + many ≤ now) ⊎ (last ≤ now)
 abbrev pub IsPaid : (runs root last before now : ℕ) → Type 0
 IsPaid runs root last before now = HasCounted last before now (min runs (root + 1))
 
+-- each limit costs so much at least: no more than the runs of one goal, nor, unless no question is refused, than the frames from the
+-- root to depth 0
+pub record IsPrice (runs root : ℕ) (none_refused : Type 0) (price : ℕ) : Type 0 where
+  pub of_runs : price ≤ runs
+  pub of_depth : (price ≤ root + 1) ⊎ none_refused
+
 module _ {I R : Type 0} where
   -- each frame met no overflow, and has the depth that its place on the stack leaves it
   abbrev pub HaveFullDepths : (root : ℕ) → List (Frame I R) → Type 0
@@ -29,6 +35,6 @@ module _ {I R : Type 0} where
     pub counted : HasCounted last before now (frames_started frames)
 
   -- What holds between two moves: before a limit is met no frame met overflow, and afterwards the price is paid.
-  pub record IsPriced (runs root last before now : ℕ) (limits_met : Bool) (frames : List (Frame I R)) : Type 0 where
+  pub record IsPriced (price root last before now : ℕ) (limits_met : Bool) (frames : List (Frame I R)) : Type 0 where
     pub not_yet : limits_met ≡ false → IsUnlimited root last before now frames
-    pub paid : limits_met ≡ true → IsPaid runs root last before now
+    pub paid : limits_met ≡ true → HasCounted last before now price

@@ -1,5 +1,5 @@
 //! An evaluation as a whole: plain values, the bound and the price in one invariant, which each move keeps.
-ghost use Rattle.evaluations.specs.Words.{RootIsEvaluating, MoveGoesOn, LastFrameEnds, LastRunEnds, EvaluationStops, FailedStartStops, FittingMeetsNoLimit};
+ghost use Rattle.evaluations.specs.Words.{RootIsEvaluating, MoveGoesOn, LastFrameEnds, LastRunEnds, EvaluationStops, FailedStartStops, FittingMeetsNoLimit, EnclosedRefusesNone};
 
 use search_context::context::Delegate;
 
@@ -24,4 +24,10 @@ pub fn evaluation_stops<D: Delegate>()
 /// Where the root's rank fits its depth, no move meets a limit, a cycle or a fault.
 pub fn fitting_meets_no_limit<D: Delegate>()
     ensures { (cx : D.Cx) → FittingMeetsNoLimit (D.script cx) }
+{}
+
+/// Where the root is one of some goals that no question leads out of, and the depth is enough for them, no move
+/// refuses a question or meets overflow.
+pub fn enclosed_refuses_none<D: Delegate>()
+    ensures { (cx : D.Cx) → EnclosedRefusesNone (D.script cx) }
 {}

@@ -17,6 +17,9 @@
 //! - A limit is met where a question is asked at depth 0 or a goal has had all its runs. It is *paid* if as
 //!   many frames were counted as the cheaper of these takes: one for each depth from the root's to 0, or one
 //!   for each run.
+//! - An evaluation is *enclosed* if its goal is one of some goals that no question leads out of, which are no
+//!   more than its depth, and of which no overflow result was stored. It refuses no question, since its frames
+//!   are of different goals; so a limit that it meets costs all runs of one goal.
 //!
 //! | File of `specs/` | Has |
 //! |---|---|
@@ -24,10 +27,11 @@
 //! | `Plain` | safe frames and outcomes; room for goals with a rank |
 //! | `Starts` | how many frames and steps are still ahead, which is also a loop's measure |
 //! | `Price` | the price of a limit |
+//! | `Enclosed` | goals that no question leads out of, and frames that stay among them |
 //! | `Evaluation`, `EvaluationLaws` | the moves, and all of this as one invariant, `IsEvaluating` |
 //! | `Mirror` | the goals of a search, seen as frames |
 //!
-//! That each move keeps one of the three is said by the lemmas of `proofs/Plains`, `Counts` and `Prices`.
+//! That each move keeps one of the four is said by the lemmas of `proofs/Plains`, `Counts`, `Prices` and `Enclosed`.
 //!
 //! A search has no frames of this kind but items of its own, one for each goal under evaluation. `Mirror` says
 //! how its items are seen as frames, `Mirror.Waits` is its loop's invariant and `Mirror.work` its measure, and

@@ -1,8 +1,9 @@
 -- What limits mean for a list of queries: for none, and for one more.
-use Rattle.std.proofs.Common.{◌≡◌, ◌||◌, ◌⊎◌, ℕ, zero, suc, ◌+◌, ◌<◌, ◌≤◌, max, Bool, true, false, List, [], ◌∷◌, ◌++◌, length, slice_get, Option, None, Some, Result, Ok, IfOk, refl, sym, ap, ◌∙◌, subst, inl, inr, arith}
+use Rattle.std.proofs.Common.{◌≡◌, ◌||◌, ◌⊎◌, ℕ, zero, suc, ◌+◌, ◌≤◌, max, min, All, Contains, Bool, true, false, List, [], ◌∷◌, ◌++◌, length, slice_get, Some, Result, Ok, IfOk, refl, sym, ap, ◌∙◌, subst, inl, inr, arith, le_refl}
+use Rattle.std.proofs.lemmas.List.Elements.{All-cons, All-head, All-nil, All-tail}
 use Rattle.search_context.specs.declared.context.Answer.{Answer}
-use Rattle.search_graph.specs.Below.{AreDefinite, Cache, CxOf, DelegateOf, Fault, HaveNoOverflow, IsDecisive, IsDefinite, IsPaid, PathKind, verdicts}
-use Rattle.search_graph.specs.Lists.{HasLimits, HasPaid}
+use Rattle.search_graph.specs.Below.{Cache, CxOf, DelegateOf, Fault, HasCounted, HaveNoOverflow, HaveNoOverflowOf, IsDecisive, IsEnclosed, IsPaid, PathKind, verdicts}
+use Rattle.search_graph.specs.Lists.{AreEnclosed, HasLimits, HasPaid}
 
 -- a place of a list with one more is in the list, or is the last
 at_or_last : {A : Type 0} (xs : List A) (x : A) (at : ℕ) (y : A) → slice_get (xs ++ x ∷ []) at ≡ Some y → (slice_get xs at ≡ Some y) ⊎ (x ≡ y)
@@ -26,6 +27,17 @@ neither_of : (first second : Bool) → (first || second) ≡ false → (first �
 neither_of true second none = absurd cc
 neither_of false second none = (refl, none)
 
+-- what holds of all of a list with one more holds of the others, and of that one
+each_of : {A : Type 0} (P : A → Type 0) (xs : List A) (x : A) → All P (xs ++ x ∷ []) → All P xs × P x
+each_of P [] x h = (All-nil P, All-head P x [] h)
+each_of P (z ∷ xs) x h =
+    let rest = each_of P xs x (All-tail P z (xs ++ x ∷ []) h) in
+    (All-cons P z xs (All-head P z (xs ++ x ∷ []) h) rest.0, rest.1)
+
+-- what was counted is counted, if the count began earlier or ends later
+counted_over : (last before mid now later many : ℕ) → before ≤ mid → now ≤ later → HasCounted last mid now many → HasCounted last before later many
+counted_over last before mid now later many from to h = elim h [ inl counted ↦ inl (omega (arith, counted, from, to)) | inr ended ↦ inr (omega (arith, ended, to)) ]
+
 module _ {D C V P F I R A T : Type 0} (G : DelegateOf D C V P F I R A T) (X : CxOf C I R A T) (same : I → I → Bool) where
   -- no query meets a limit
   pub no_limits : (cache : Cache C I R A T) (starts : ℕ) (answers : List (Result (Answer R) (Fault I R))) → HasLimits G X same [] cache cache starts starts answers answers
@@ -35,6 +47,8 @@ module _ {D C V P F I R A T : Type 0} (G : DelegateOf D C V P F I R A T) (X : Cx
     decided = λ decisive all unmet at answer beyond is. absurd (beyond_none answers at answer beyond is);
     no_overflow = λ counted none unmet. none;
     price = λ counted none met. absurd cc;
+    enclosed = λ goals all none. none;
+    by_runs = λ goals all none counted met. absurd cc;
   }
     where
       beyond_none : (xs : List (Result (Answer R) (Fault I R))) (at : ℕ) (answer : Answer R) → length xs ≤ at → slice_get xs at ≡ Some (Ok answer) → ⊥
@@ -48,7 +62,7 @@ module _ {D C V P F I R A T : Type 0} (G : DelegateOf D C V P F I R A T) (X : Cx
     at = h.at;
     query = h.query;
     is_at = still_at queries query h.at h.query h.is_at;
-    paid = elim h.paid [ inl counted ↦ inl (omega (arith, counted, later)) | inr ended ↦ inr (omega (arith, ended, later)) ];
+    paid = counted_over G.last before before mid now (min (max 1 G.FIXPOINT_STEP_LIMIT) (h.query.0 + 1)) (le_refl before) later h.paid;
   }
 
   -- a later query pays
@@ -58,7 +72,7 @@ module _ {D C V P F I R A T : Type 0} (G : DelegateOf D C V P F I R A T) (X : Cx
     query = query;
     is_at = last_at queries query;
     paid = subst (λ (q : ℕ × I × PathKind). IsPaid (max 1 G.FIXPOINT_STEP_LIMIT) q.0 G.last before now) (sym (only h.at h.query h.is_at))
-        (elim h.paid [ inl counted ↦ inl (omega (arith, counted, later)) | inr ended ↦ inr ended ]);
+        (counted_over G.last before mid now now (min (max 1 G.FIXPOINT_STEP_LIMIT) (h.query.0 + 1)) later (le_refl now) h.paid);
   }
     where
       only : (at : ℕ) (found : ℕ × I × PathKind) → slice_get (query ∷ []) at ≡ Some found → query ≡ found
@@ -84,8 +98,24 @@ module _ {D C V P F I R A T : Type 0} (G : DelegateOf D C V P F I R A T) (X : Cx
         let each = neither_of first.met second.met unmet in
         second.no_overflow counted (first.no_overflow counted none each.0) each.1;
     price = λ counted none met. pays counted none first.met refl met;
+    enclosed = λ goals all none.
+        let each = each_of (λ q. IsEnclosed (G.script old.cx) goals q.0 q.1) queries query all in
+        second.enclosed goals (alone goals each.1) (first.enclosed goals each.0 none);
+    by_runs = λ goals all none counted met. pays_runs goals all none counted first.met refl met;
   }
     where
+      alone : (goals : List I) → IsEnclosed (G.script old.cx) goals query.0 query.1 → AreEnclosed G X same mid.cx goals (query ∷ [])
+      alone goals e = subst (λ cx. AreEnclosed G X same cx goals (query ∷ [])) (sym context) (All-cons (λ q. IsEnclosed (G.script old.cx) goals q.0 q.1) query [] e (All-nil (λ q. IsEnclosed (G.script old.cx) goals q.0 q.1)))
+
+      pays_runs : (goals : List I) → AreEnclosed G X same old.cx goals (queries ++ query ∷ []) → HaveNoOverflowOf (Contains goals) same old.results → G.counts ≡ true → (b : Bool) → first.met ≡ b → (first.met || second.met) ≡ true → HasCounted G.last before now (max 1 G.FIXPOINT_STEP_LIMIT)
+      pays_runs goals all none counted true is met =
+          let each = each_of (λ q. IsEnclosed (G.script old.cx) goals q.0 q.1) queries query all in
+          counted_over G.last before before between now (max 1 G.FIXPOINT_STEP_LIMIT) (le_refl before) to (first.by_runs goals each.0 none counted is)
+      pays_runs goals all none counted false is met =
+          let each = each_of (λ q. IsEnclosed (G.script old.cx) goals q.0 q.1) queries query all in
+          counted_over G.last before between now now (max 1 G.FIXPOINT_STEP_LIMIT) from (le_refl now)
+          (second.by_runs goals (alone goals each.1) (first.enclosed goals each.0 none) counted (ap (λ b. b || second.met) (sym is) ∙ met))
+
       moved : IsDecisive (verdicts X) (G.script old.cx) → IsDecisive (verdicts X) (G.script mid.cx)
       moved decisive = subst (λ cx. IsDecisive (verdicts X) (G.script cx)) (sym context) decisive
 

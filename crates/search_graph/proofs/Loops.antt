@@ -1,6 +1,6 @@
 -- The loop over the moves, whatever call it serves.
-use Rattle.std.proofs.Common.{◌≡◌, ℕ, ◌+◌, ◌<◌, ◌≤◌, ◌^◌, Bool, true, false, List, [], ◌∷◌, length, Some, refl, sym, ap, subst, inr, arith}
-use Rattle.search_graph.specs.Below.{CacheNode, DelegateOf, CxOf, Request, Begin, PathKind, AvailableDepth, StackEntry, Fault, Evaluate, CountsOne, CacheNode, Memory, Run, Received, Next, Step, Finished, requested, IsReplySorted, HasGraph, HasStepped, IsStepFault, received_by, StoredResult, Store, NotesCandidate, verdicts, NewestAsks, AreJustified, IsFit, runs_of, IsJustifiedNext, Call, Outset, Pushes, AreDefinite, HaveNoOverflow, Begins, IsWaiting, HasAsked, HasStopped, IsOnly, Leads, work_left}
+use Rattle.std.proofs.Common.{◌≡◌, ℕ, ◌+◌, ◌<◌, ◌≤◌, ◌^◌, Bool, true, false, List, [], ◌∷◌, length, Contains, Some, refl, sym, ap, subst, inl, inr, arith}
+use Rattle.search_graph.specs.Below.{CacheNode, DelegateOf, CxOf, Request, Begin, PathKind, AvailableDepth, StackEntry, Fault, Evaluate, CountsOne, CacheNode, Memory, Run, Received, Next, Step, Finished, requested, IsReplySorted, HasGraph, HasStepped, IsStepFault, received_by, StoredResult, Store, NotesCandidate, verdicts, NewestAsks, AreJustified, IsFit, runs_of, IsJustifiedNext, Call, Outset, Pushes, AreDefinite, HadNoOverflow, HaveNoOverflow, HaveNoOverflowOf, Begins, IsWaiting, HasAsked, HasStopped, IsOnly, Leads, work_left}
 use Rattle.search_context.specs.declared.context.Answer.{Answer}
 use Rattle.search_rules.proofs.moves.Moves.{root_waits, failed_root_stopped, step_asks, step_stops}
 use Rattle.search_graph.proofs.Noted.{noted_is_justified}
@@ -9,7 +9,15 @@ use Rattle.search_rules.proofs.justified.Replies.{replies_sorted}
 
 -- the call of a goal at a depth, and what is known of the stored results: of the depths that they require, nothing
 abbrev pub call_of : {I : Type 0} (input : I) (root starts : ℕ) (met calm definite : Bool) → root < 2 ^ 64 → Call I
-call_of input root starts met calm definite fits = record { top = input; root = root; fits = fits; starts = starts; limits_met = met; without_overflow = calm; all_definite = definite; stood = λ goal place depth. true }
+call_of input root starts met calm definite fits = record { top = input; root = root; fits = fits; starts = starts; limits_met = met; without_overflow = calm; goals = []; all_definite = definite; stood = λ goal place depth. true }
+
+-- the call of which it is known that no result of these goals was stored that met overflow
+abbrev pub call_among : {I : Type 0} (goals : List I) (input : I) (root starts : ℕ) (met : Bool) → root < 2 ^ 64 → Call I
+call_among goals input root starts met fits = record (call_of input root starts met false false fits) { goals = goals }
+
+-- what had none is one of no goals
+had_none : {I : Type 0} (input : I) (root starts : ℕ) (met calm definite : Bool) (fits : root < 2 ^ 64) (goal : I) → HadNoOverflow (call_of input root starts met calm definite fits) goal → calm ≡ true
+had_none input root starts met calm definite fits goal had = elim had [ inl none ↦ none | inr among ↦ absurd (omega (arith, among.1)) ]
 
 -- the call of which the depths are known that stored results required before it
 abbrev pub call_over : {X I R A T : Type 0} (same : I → I → Bool) (results : Store I (StoredResult X I R A T)) (input : I) (root starts : ℕ) (met : Bool) → root < 2 ^ 64 → Call I
@@ -19,7 +27,14 @@ module _ {D C V P F I R A T : Type 0} (G : DelegateOf D C V P F I R A T) (X : Cx
   pub call_begins : (calm definite : Bool) → (calm ≡ true → HaveNoOverflow same results) → (definite ≡ true → AreDefinite (verdicts X) same results) → Begins G X cx same (call_of input root starts met calm definite fits) input root starts met results
   call_begins calm definite none all = record {
     outset = record { same_top = refl; same_root = refl; same_starts = refl; same_limits = refl };
-    store = record { overflow = λ counted unmet. none counted.2; definite = λ decisive unmet. all decisive.1; within = λ goal place s there. inr refl };
+    store = record { overflow = λ meets goal had depth. none (had_none input root starts met calm definite fits goal had) goal depth; definite = λ decisive unmet. all decisive.1; within = λ goal place s there. inr refl };
+  }
+
+  -- the call of some goals
+  pub call_among_begins : (goals : List I) → HaveNoOverflowOf (Contains goals) same results → Begins G X cx same (call_among goals input root starts met fits) input root starts met results
+  call_among_begins goals none = record {
+    outset = record { same_top = refl; same_root = refl; same_starts = refl; same_limits = refl };
+    store = record { overflow = λ meets goal had depth. elim had [ inl calm ↦ absurd cc | inr among ↦ none goal among depth ]; definite = λ decisive unmet. absurd cc; within = λ goal place s there. inr refl };
   }
 
   -- the call of which nothing is known
@@ -29,7 +44,7 @@ module _ {D C V P F I R A T : Type 0} (G : DelegateOf D C V P F I R A T) (X : Cx
   pub call_over_begins : Begins G X cx same (call_over same results input root starts met fits) input root starts met results
   call_over_begins = record {
     outset = record { same_top = refl; same_root = refl; same_starts = refl; same_limits = refl };
-    store = record { overflow = λ counted unmet. absurd cc; definite = λ decisive unmet. absurd cc; within = λ goal place s there. inr (stood_before same results goal place s there) };
+    store = record { overflow = λ meets goal had depth. let calm = had_none input root starts met false false fits goal had in absurd cc; definite = λ decisive unmet. absurd cc; within = λ goal place s there. inr (stood_before same results goal place s there) };
   }
 
 -- a step was taken by some goal

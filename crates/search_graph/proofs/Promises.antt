@@ -1,7 +1,7 @@
 -- What a call promises as it ends or stops.
-use Rattle.std.proofs.Common.{◌≡◌, ℕ, ◌+◌, ◌≤◌, if◌then◌else◌, Bool, true, false, Option, None, Some, Result, Ok, IfSome, refl, sym, ap, ◌∙◌, subst}
+use Rattle.std.proofs.Common.{◌≡◌, ℕ, ◌+◌, ◌≤◌, if◌then◌else◌, Bool, true, false, Option, None, Some, Result, Ok, IfSome, inl, inr, refl, sym, ap, ◌∙◌, subst}
 use Rattle.open_graphs.specs.Graph as theory
-use Rattle.search_graph.specs.Below.{Cache, Decides, IsDefinite, IsProved, IsRefuted, NodeId, verdicts, Hit, DelegateOf, CxOf, Fault, IsPlainTo, IsPlainValue, frames_within, IsPaid, Call, runs, HasEnded, HasStopped}
+use Rattle.search_graph.specs.Below.{Cache, Decides, IsDefinite, IsProved, IsRefuted, NodeId, verdicts, Hit, DelegateOf, CxOf, Fault, IsPlainTo, IsPlainValue, frames_within, IsPaid, HasCounted, Call, CallIsEnclosed, runs, HasEnded, HasStopped}
 use Rattle.search_context.specs.declared.context.Answer.{Answer}
 use Rattle.search_graph.specs.Words.{Graph}
 
@@ -13,13 +13,20 @@ module _ {D C V P F I R A T : Type 0} (G : DelegateOf D C V P F I R A T) (X : Cx
   ended_within r h = h.ends.within
 
   pub ended_paid : (r : R) → HasEnded G X cx call r now met → G.counts ≡ true → call.without_overflow ≡ true → call.limits_met ≡ false → met ≡ true → IsPaid (runs G X cx) call.root G.last call.starts now
-  ended_paid r h counted calm unmet is_met = h.ends.paid (counted, unmet, calm) is_met
+  ended_paid r h counted calm unmet is_met = h.ends.paid (counted, unmet, inl calm) is_met
+
+  -- in an enclosed call a limit costs all runs of one goal
+  pub ended_by_runs : (r : R) → HasEnded G X cx call r now met → CallIsEnclosed G X cx call → G.counts ≡ true → call.limits_met ≡ false → met ≡ true → HasCounted G.last call.starts now (runs G X cx)
+  ended_by_runs r h enclosed counted unmet is_met = h.ends.by_runs (counted, unmet, inr enclosed) enclosed is_met
+
+  pub stopped_by_runs : (fault : Fault I R) → HasStopped G X cx call fault now met → CallIsEnclosed G X cx call → G.counts ≡ true → call.limits_met ≡ false → met ≡ true → HasCounted G.last call.starts now (runs G X cx)
+  stopped_by_runs fault h enclosed counted unmet is_met = h.stops.by_runs (counted, unmet, inr enclosed) enclosed is_met
 
   pub stopped_within : (fault : Fault I R) → HasStopped G X cx call fault now met → now ≤ call.starts + frames_within (runs G X cx) (G.width cx) call.root
   stopped_within fault h = h.stops.within
 
   pub stopped_paid : (fault : Fault I R) → HasStopped G X cx call fault now met → G.counts ≡ true → call.without_overflow ≡ true → call.limits_met ≡ false → met ≡ true → IsPaid (runs G X cx) call.root G.last call.starts now
-  stopped_paid fault h counted calm unmet is_met = h.stops.paid (counted, unmet, calm) is_met
+  stopped_paid fault h counted calm unmet is_met = h.stops.paid (counted, unmet, inl calm) is_met
 
 -- a definite result whose graph leaves no other decides its goal
 pub definite_decides : {D C V P F I R A T : Type 0} (G : DelegateOf D C V P F I R A T) (X : CxOf C I R A T) (cache : Cache C I R A T) (goal : I) (r : R) (node : Option NodeId) → (X.is_yes r ≡ true → IsProved X cache goal node) → (X.is_no r ≡ true → IsRefuted X cache goal node) → IsDefinite (verdicts X) r → Decides X cache.cx goal r

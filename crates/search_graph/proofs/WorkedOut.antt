@@ -1,11 +1,12 @@
 -- What a call promises of a goal that was worked out, whether it has an answer or a fault.
-use Rattle.std.proofs.Common.{◌≡◌, ℕ, ◌+◌, ◌<◌, ◌≤◌, ◌^◌, max, Bool, true, false, [], ◌∷◌, Result, Ok, Err, IfOk, IfErr, refl, subst}
+use Rattle.std.proofs.Common.{◌≡◌, ℕ, ◌+◌, ◌<◌, ◌≤◌, ◌^◌, max, Bool, true, false, List, [], ◌∷◌, Contains, Result, Ok, Err, IfOk, IfErr, inl, inr, refl}
+use Rattle.std.proofs.lemmas.List.Elements.{All-head}
 use Rattle.search_context.specs.declared.context.Answer.{Answer}
-use Rattle.search_graph.specs.Below.{AreDefinite, Begins, Cache, Call, CxOf, DelegateOf, EndsWith, Fault, frames_within, HaveNoOverflow, IsDecisive, IsDefinite, IsPaid, IsPlainTo, IsPlainValue, Memory, PathKind, StopsWith, StoresWithin, verdicts}
-use Rattle.search_graph.specs.Lists.{HasLimits}
+use Rattle.search_graph.specs.Below.{AreDefinite, Begins, Cache, Call, CxOf, DelegateOf, EndsWith, Fault, frames_within, HasCounted, HaveNoOverflow, HaveNoOverflowOf, IsDecisive, IsDefinite, IsEnclosed, IsPaid, IsPlainTo, IsPlainValue, Memory, PathKind, StopsWith, StoresWithin, verdicts}
+use Rattle.search_graph.specs.Lists.{AreEnclosed, HasLimits}
 use Rattle.search_graph.proofs.ListLimits.{only_answer}
-use Rattle.search_graph.proofs.Loops.{call_of, call_over, call_begins, call_over_begins}
-use Rattle.search_graph.proofs.Promises.{ended_paid, ended_plain, ended_within, stopped_paid, stopped_within}
+use Rattle.search_graph.proofs.Loops.{call_among, call_of, call_over, call_among_begins, call_begins, call_over_begins}
+use Rattle.search_graph.proofs.Promises.{ended_by_runs, ended_paid, ended_plain, ended_within, stopped_by_runs, stopped_paid, stopped_within}
 use Rattle.search_graph.proofs.StoredDepths.{stores_within}
 use Rattle.search_moves.specs.declared.evaluation.Evaluation.{Evaluation}
 use Rattle.search_rules.specs.Evaluating.{KeepsStore}
@@ -58,11 +59,31 @@ module _ {D C V P F I R A T : Type 0} (G : DelegateOf D C V P F I R A T) (X : Cx
   paid_at (Ok answer) h counted none met = ended_paid G X old.cx (known true false) now e.limits_met answer.result (h (known true false) (begins true false (λ is. none) (λ never. absurd cc))).ended counted refl refl met
   paid_at (Err fault) h counted none met = stopped_paid G X old.cx (known true false) now e.limits_met fault (h (known true false) (begins true false (λ is. none) (λ never. absurd cc))).stopped counted refl refl met
 
+  -- the call of some goals
+  abbrev known_among : List I → Call I
+  known_among goals = call_among goals input root starts false fits
+
+  among_begins : (goals : List I) → HaveNoOverflowOf (Contains goals) same old.results → Begins G X old.cx same (known_among goals) input root starts false old.results
+  among_begins goals none = call_among_begins G X old.cx same input root starts false fits old.results goals none
+
+  among_store : (r : Result (Answer R) (Fault I R)) → IsWorkedOut r → (goals : List I) → HaveNoOverflowOf (Contains goals) same old.results → KeepsStore G X old.cx same (known_among goals) e.limits_met new.results
+  among_store (Ok answer) h goals none = (h (known_among goals) (among_begins goals none)).store
+  among_store (Err fault) h goals none = (h (known_among goals) (among_begins goals none)).store
+
+  runs_at : (r : Result (Answer R) (Fault I R)) → IsWorkedOut r → (goals : List I) → IsEnclosed (G.script old.cx) goals root input → HaveNoOverflowOf (Contains goals) same old.results → G.counts ≡ true → e.limits_met ≡ true → HasCounted G.last starts now (max 1 G.FIXPOINT_STEP_LIMIT)
+  runs_at (Ok answer) h goals enclosed none counted met = ended_by_runs G X old.cx (known_among goals) now e.limits_met answer.result (h (known_among goals) (among_begins goals none)).ended enclosed counted refl met
+  runs_at (Err fault) h goals enclosed none counted met = stopped_by_runs G X old.cx (known_among goals) now e.limits_met fault (h (known_among goals) (among_begins goals none)).stopped enclosed counted refl met
+
   pub worked_limits : (kind : PathKind) (r : Result (Answer R) (Fault I R)) → IsWorkedOut r → HasLimits G X same ((root, input, kind) ∷ []) old new starts now [] (r ∷ [])
   worked_limits kind r h = record {
     met = e.limits_met;
     decisive = λ decisive all unmet. (keeps_store r h false true (begins false true (λ never. absurd cc) (λ is. all))).definite (decisive, refl) unmet;
     decided = λ decisive all unmet at answer beyond is. only_answer r (λ a. IsDefinite (verdicts X) a.result) (decided_at r h decisive all unmet) at answer is;
-    no_overflow = λ counted none unmet. (keeps_store r h true false (begins true false (λ is. none) (λ never. absurd cc))).overflow (counted, refl, refl) unmet;
+    no_overflow = λ counted none unmet goal depth. (keeps_store r h true false (begins true false (λ is. none) (λ never. absurd cc))).overflow (inl ((counted, refl, inl refl), unmet)) goal (inl refl) depth;
     price = λ counted none met. record { at = 0; query = (root, input, kind); is_at = refl; paid = paid_at r h counted none met };
+    enclosed = λ goals all none goal among depth. (among_store r h goals none).overflow (inr (only all)) goal (inr among) depth;
+    by_runs = λ goals all none counted met. runs_at r h goals (only all) none counted met;
   }
+    where
+      only : {goals : List I} → AreEnclosed G X same old.cx goals ((root, input, kind) ∷ []) → IsEnclosed (G.script old.cx) goals root input
+      only {goals} all = All-head (λ (query : ℕ × I × PathKind). IsEnclosed (G.script old.cx) goals query.0 query.1) (root, input, kind) [] all

@@ -37,7 +37,8 @@ pub use Rattle.global_cache.specs.declared.results.Place.{Place}
 pub use Rattle.global_cache.specs.Store.{KeepsResults, Store, stored_at}
 pub use Rattle.global_cache.specs.Stored.{AreSoundResults}
 pub use Rattle.global_cache.specs.declared.results.StoredResult.{StoredResult}
-pub use Rattle.evaluations.specs.Price.{IsPaid}
+pub use Rattle.evaluations.specs.Enclosed.{IsEnclosed}
+pub use Rattle.evaluations.specs.Price.{HasCounted, IsPaid}
 pub use Rattle.open_goals.specs.Candidates.{CanIgnore, CanNote, Covers, enters, finishes, Ignores, IgnoresNewest}
 pub use Rattle.open_goals.specs.Candidates.{less_head, less_usages, NotesCandidate}
 pub use Rattle.open_goals.specs.Entries.{is_in_cycle}
@@ -51,7 +52,7 @@ pub use Rattle.open_goals.specs.declared.goals.Received.{Received}
 pub use Rattle.open_goals.specs.declared.goals.Run.{Run}
 pub use Rattle.search_moves.specs.Evaluations.{Awaits, ChangesCache, EndsWith, HasReply, HasRequest, IsNew, IsRight, IsRightFor}
 pub use Rattle.search_moves.specs.Evaluations.{IsRememberedWhere, IsRightNext, KeepsCache, LeadsTo, Requests, StopsWith}
-pub use Rattle.search_rules.specs.Calls.{bound, Call, IsCounted, limits, Outset, runs}
+pub use Rattle.search_rules.specs.Calls.{bound, Call, CallIsEnclosed, HadNoOverflow, IsCounted, limits, Outset, runs}
 pub use Rattle.search_rules.specs.Claims.{Decides, IsCaused, IsProved, IsRefuted, IsRemembered, OutOfMemory}
 pub use Rattle.search_rules.specs.Decided.{IsDecided}
 pub use Rattle.search_rules.specs.Evaluating.{Begins, CallGoesOn, HasAsked, HasEnded, HasStopped, IsOnly, IsWaiting}
@@ -61,7 +62,7 @@ pub use Rattle.search_rules.specs.Free.{AreFree}
 pub use Rattle.search_rules.specs.Justified.{AreJustified, IsFit, NewestAsks, OpenRun}
 pub use Rattle.search_rules.specs.Moves.{Pushes}
 pub use Rattle.search_rules.specs.Provisional.{AreReady}
-pub use Rattle.search_rules.specs.Results.{AreDefinite, HaveNoOverflow, RequireWithin, StoresWithin}
+pub use Rattle.search_rules.specs.Results.{AreDefinite, HaveNoOverflow, HaveNoOverflowOf, RequireWithin, StoresWithin}
 pub use Rattle.search_rules.specs.Runs.{AreFrom, IfFinished, IsJustifiedNext, KeepsEarlier, run_of, runs_of, StayFrom}
 pub use Rattle.search_rules.specs.Tallies.{candidate_at, candidates_count, counted, heads_of, IsCovered, IsTallied}
 pub use Rattle.search_rules.specs.Tallies.{Tally, tally_of, usages_of}

@@ -1,7 +1,7 @@
 -- What a list of queries is answered with. A query is a root depth, a goal, and the kind of the step that asks it.
-use Rattle.std.specs.Prelude.{◌≡◌, ℕ, ◌≤◌, max, Bool, true, false, List, ◌++◌, length, slice_get, None, Some, IfSome, Result, Ok, IfOk, IfErr}
+use Rattle.std.specs.Prelude.{◌≡◌, ℕ, ◌≤◌, max, All, Bool, true, false, Contains, List, ◌++◌, length, slice_get, None, Some, IfSome, Result, Ok, IfOk, IfErr}
 use Rattle.std.specs.List.{AllZip, sum_by}
-use Rattle.search_graph.specs.Below.{AreDefinite, CxOf, DelegateOf, Fault, HaveNoOverflow, IsDecisive, IsDefinite, IsPaid, Memory, PathKind, Cache, KeepsFinished, HasGraph, IsWhole, IsPlainTo, IsPlainValue, frames_within, KeepsResults, verdicts}
+use Rattle.search_graph.specs.Below.{AreDefinite, CxOf, DelegateOf, Fault, HasCounted, HaveNoOverflow, HaveNoOverflowOf, IsDecisive, IsEnclosed, IsDefinite, IsPaid, Memory, PathKind, Cache, KeepsFinished, HasGraph, IsWhole, IsPlainTo, IsPlainValue, frames_within, KeepsResults, verdicts}
 use Rattle.search_context.specs.declared.context.Answer.{Answer}
 use Rattle.search_rules.specs.Claims.{IsProved, IsRefuted, IsCaused}
 
@@ -48,8 +48,13 @@ module _ {D C V P F I R A T : Type 0} (G : DelegateOf D C V P F I R A T) (X : Cx
     pub is_at : slice_get queries at ≡ Some query
     pub paid : IsPaid (max 1 G.FIXPOINT_STEP_LIMIT) query.0 G.last before now
 
+  -- each query asks for one of these goals, no question leads out of them, and each depth is enough for them all
+  abbrev pub AreEnclosed : C → List I → List (ℕ × I × PathKind) → Type 0
+  AreEnclosed cx goals queries = All (λ query. IsEnclosed (G.script cx) goals query.0 query.1) queries
+
   -- Whether a limit was met while the queries were answered. Until one is, a decisive delegate's answers and stored results are yes
-  -- or no, and no result is stored that met overflow. One that is met is paid for.
+  -- or no, and no result is stored that met overflow. One that is met is paid for. Where the queries are enclosed, no question is
+  -- refused: no result of the goals is stored that met overflow, and a limit costs all runs of one goal.
   pub record HasLimits (queries : List (ℕ × I × PathKind)) (old new : Cache C I R A T) (before now : ℕ) (answers_old answers_new : List (Result (Answer R) (Fault I R))) : Type 0 where
     pub met : Bool
     pub decisive : IsDecisive (verdicts X) (G.script old.cx) → AreDefinite (verdicts X) same old.results → met ≡ false → AreDefinite (verdicts X) same new.results
@@ -57,3 +62,6 @@ module _ {D C V P F I R A T : Type 0} (G : DelegateOf D C V P F I R A T) (X : Cx
         → (at : ℕ) (answer : Answer R) → length answers_old ≤ at → slice_get answers_new at ≡ Some (Ok answer) → IsDefinite (verdicts X) answer.result
     pub no_overflow : G.counts ≡ true → HaveNoOverflow same old.results → met ≡ false → HaveNoOverflow same new.results
     pub price : G.counts ≡ true → HaveNoOverflow same old.results → met ≡ true → HasPaid queries before now
+    pub enclosed : (goals : List I) → AreEnclosed old.cx goals queries → HaveNoOverflowOf (Contains goals) same old.results → HaveNoOverflowOf (Contains goals) same new.results
+    pub by_runs : (goals : List I) → AreEnclosed old.cx goals queries → HaveNoOverflowOf (Contains goals) same old.results → G.counts ≡ true → met ≡ true
+        → HasCounted G.last before now (max 1 G.FIXPOINT_STEP_LIMIT)

@@ -1,7 +1,7 @@
 //! The search graph. A call has the goals under evaluation in one list and works through them in one loop,
 //! so that no depth of goals takes native stack.
-ghost use Rattle.std.specs.Prelude.{◌≡◌, ◌≤◌, ◌+◌, ℕ, Bool, true, false, None, IsTrue, IfOk, IfErr, IfSome, Ok, Err, [], ◌≢◌, max};
-ghost use Rattle.search_graph.specs.Below.{first_accepted, usable, IsPlainTo, IsPlainValue, frames_within, KeepsResults, Memory, Protocol, KeepsFinished, KeepsNodes, IsWhole, KeepsWhole, IsDecisive, IsDefinite, HasGraph, IsPaid, verdicts, Decides, IsRemembered, IsCaused, IsProved, IsRefuted, AreDefinite, HaveNoOverflow, StoresWithin};
+ghost use Rattle.std.specs.Prelude.{◌≡◌, ◌≤◌, ◌+◌, ℕ, Bool, true, false, None, IsTrue, IfOk, IfErr, IfSome, Ok, Err, [], ◌≢◌, max, List, Contains};
+ghost use Rattle.search_graph.specs.Below.{first_accepted, usable, IsPlainTo, IsPlainValue, frames_within, KeepsResults, Memory, Protocol, KeepsFinished, KeepsNodes, IsWhole, KeepsWhole, IsDecisive, IsDefinite, HasGraph, IsPaid, verdicts, Decides, IsRemembered, IsCaused, IsProved, IsRefuted, AreDefinite, HaveNoOverflow, HaveNoOverflowOf, HasCounted, IsEnclosed, StoresWithin};
 
 mod evaluate;
 mod list;
@@ -172,6 +172,27 @@ impl<D: Delegate> SearchGraph<D> {
         ensures no_overflow { D.counts ≡ true → HaveNoOverflow D.Cx.Input.eq cache.old.results →
             self.old.limits_met ≡ false → self.new.limits_met ≡ false →
             HaveNoOverflow D.Cx.Input.eq cache.new.results }
+
+        // Where the goal is one of some goals that no question leads out of, the root depth is enough for all of
+        // these, and no result of them is stored that met overflow, no question is refused. So no such result is stored
+        // from then on, also after a fault or a limit. A limit that is met is that of runs, and costs all runs that one
+        // goal may have. And the answer is stored, limit or not, unless the builder records or the delegate has the
+        // result validated.
+        ensures enclosed { (goals : List D.Cx.Input) →
+            IsEnclosed (D.script cache.old.cx) goals self.old.root_depth input →
+            HaveNoOverflowOf (Contains goals) D.Cx.Input.eq cache.old.results →
+            HaveNoOverflowOf (Contains goals) D.Cx.Input.eq cache.new.results }
+        ensures only_by_runs { (goals : List D.Cx.Input) →
+            IsEnclosed (D.script cache.old.cx) goals self.old.root_depth input →
+            HaveNoOverflowOf (Contains goals) D.Cx.Input.eq cache.old.results →
+            D.counts ≡ true → self.old.limits_met ≡ false → self.new.limits_met ≡ true →
+            HasCounted D.last (D.starts inspect.old) (D.starts inspect.new)
+            (max 1 D.FIXPOINT_STEP_LIMIT) }
+        ensures enclosed_remembered { (goals : List D.Cx.Input) →
+            IsEnclosed (D.script cache.old.cx) goals self.old.root_depth input →
+            HaveNoOverflowOf (Contains goals) D.Cx.Input.eq cache.old.results →
+            D.noop inspect.old ≡ true → D.scoped cache.old.cx input ≡ false →
+            IfOk result (IsRemembered D.Cx.Input.eq cache.new.results input self.old.root_depth) }
 
         // No goal requires more than its depth: each stored result requires no more than the root depth, or as much as
         // the one that stood in its place before.

@@ -1,13 +1,14 @@
 -- A question leads on, whatever it comes to, and all stays right.
-use Rattle.std.proofs.Common.{◌≡◌, ◌<◌, ◌≤◌, ◌+◌, ℕ, Bool, true, false, List, ◌∷◌, ◌++◌, [], length, map, reverse, None, Some, get_or, refl, sym, subst, arith}
+use Rattle.std.proofs.Common.{◌≡◌, ◌<◌, ◌≤◌, ◌+◌, ℕ, Bool, true, false, List, ◌∷◌, ◌++◌, [], length, map, reverse, None, Some, get_or, inl, inr, refl, sym, subst, arith}
 use Rattle.std.specs.Option.{option_and_then}
 use Rattle.std.proofs.lemmas.List.{length-map, length-reverse}
 use Rattle.std.proofs.lemmas.Option.{get_or_from_slice_get, slice_get_within}
-use Rattle.search_moves.specs.Below.{DelegateOf, CxOf, Evaluate, Received, Answer, Begin, Cache, IsNeither, IsCycleResult, CacheNode, AvailableDepth, first_entry, open_node, PathKind, StackEntry, Run, Memory, path_kind_from, IsDefinite, verdicts, AreFree, AreJustified, AreReady, bound, Call, depth_below, first_run, HasAsked, HasStopped, IsCounted, IsFit, IsReady, limits, newest, NewestAsks, Pushes, runs_of, seen, Stood}
+use Rattle.search_moves.specs.Below.{DelegateOf, CxOf, Evaluate, Received, Answer, Begin, Cache, IsNeither, IsCycleResult, CacheNode, AvailableDepth, first_entry, open_node, PathKind, StackEntry, Run, Memory, path_kind_from, IsDefinite, verdicts, AreFree, AreJustified, AreReady, bound, Call, CallMeetsNone, depth_below, first_run, HasAsked, HasStopped, IsCounted, KeepsStore, IsFit, IsReady, limits, newest, NewestAsks, Pushes, runs_of, seen, Stood}
 use Rattle.search_moves.specs.declared.evaluation.Evaluation.{Evaluation}
 use Rattle.search_moves.specs.Words.{Asked, asking, ByEntry, ByStored, GoesOnWith, IsRight, IsRightFor, OverCycle, Pushed, question_depth, Refused, Requests, StopsWith}
 use Rattle.search_rules.proofs.justified.Finishing.{answered_newest_is_justified, begin_fits, neither_fits, neither_is, overflow_noted_is_justified, pushed_goal_is_justified, stored_taken_same}
-use Rattle.search_rules.proofs.moves.Questions.{ask_in_cycle, ask_provisional, ask_pushes, ask_refused, ask_stops, ask_stored, refused_at}
+use Rattle.search_rules.proofs.moves.Questions.{ask_in_cycle, ask_provisional, ask_pushes, ask_refused, ask_stops, ask_stored, enclosed_refuses_none, refused_at}
+use Rattle.search_rules.proofs.moves.Moves.{not_among}
 use Rattle.evaluations.proofs.Mirrors.{waits_stops}
 use Rattle.search_rules.proofs.answers.Cycles.{cycle_fits, cycle_head_lower, head_is}
 use Rattle.search_rules.proofs.answers.FreeMoves.{answered_newest_free, overflow_noted_free, stored_fits, stored_taken_free}
@@ -18,37 +19,51 @@ use Rattle.search_rules.proofs.entries.Moves.{overflow_noted_ready, ready_beside
 module _ {D C V P F I R A T : Type 0} (G : DelegateOf D C V P F I R A T) (X : CxOf C I R A T) (same : I → I → Bool) (cx : C) (kind : PathKind) (goal : I) (old : Cache C I R A T) (e : Evaluation D C V P F I R A T) (starts : ℕ) where
   -- ---- the call goes on
 
+  never_none : None ≡ question_depth G e → (call : Call I) (ahead : ℕ) → Requests G X same cx (Evaluate kind goal) call ahead old e starts → CallMeetsNone G X cx call true → ⊥
+  never_none none call ahead h meets = elim meets [
+    | inl c ↦ let met : true ≡ false = c.1 in absurd cc
+    | inr enclosed ↦ enclosed_refuses_none G X cx call ahead kind goal starts e.limits_met e.goals none enclosed h.asked
+  ]
+
+  -- what a call keeps where a question is refused, which is so in no enclosed call
+  refused_keeps : None ≡ question_depth G e → (call : Call I) (ahead : ℕ) → Requests G X same cx (Evaluate kind goal) call ahead old e starts → KeepsStore G X cx same call true old.results
+  refused_keeps none call ahead h = record {
+    overflow = λ meets. absurd (never_none none call ahead h meets);
+    definite = λ d unmet. absurd cc;
+    within = h.answers.store.within;
+  }
+
   pub asked_goes_on :
-      2 ≤ G.DIVIDE_AVAILABLE_DEPTH_ON_OVERFLOW → ((x y : I) → same x y ≡ true → x ≡ y) → ((cycle : PathKind) (asked : I) → IsCycleResult X.is_yes X.is_no cycle (G.initial_result cx cycle asked))
+      2 ≤ G.DIVIDE_AVAILABLE_DEPTH_ON_OVERFLOW → ((x y : I) → same x y ≡ true → x ≡ y) → ((x : I) → same x x ≡ true) → ((cycle : PathKind) (asked : I) → IsCycleResult X.is_yes X.is_no cycle (G.initial_result cx cycle asked))
       → (noop : Bool) (received : Received R) (new : Cache C I R A T) (after : Evaluation D C V P F I R A T) (later : ℕ)
       → Asked G X same cx kind goal noop old e starts received new after later → AreReady (verdicts X) same (G.script cx) old.nodes (runs_of e.goals) e.provisional
       → (call : Call I) (ahead : ℕ) → Requests G X same cx (Evaluate kind goal) call ahead old e starts → GoesOnWith G X same cx call ahead received new after later
-  asked_goes_on more exact sorts noop received new after later (Refused goals none noted) ready call ahead h = record {
+  asked_goes_on more exact own sorts noop received new after later (Refused goals none noted) ready call ahead h = record {
     goes_on = ask_refused G X cx call ahead kind goal starts e.limits_met same (G.stack_overflow cx goal) e.goals goals none noted h.asked;
-    answers = record { store = record { overflow = λ counted unmet. absurd cc; definite = λ d unmet. absurd cc; within = h.answers.store.within }; met_none = λ counted unmet. absurd cc; definite = λ d unmet. absurd cc };
+    answers = record { store = refused_keeps none call ahead h; met_none = λ meets. absurd (never_none none call ahead h meets); definite = λ d unmet. absurd cc };
   }
-  asked_goes_on more exact sorts noop received new after later (ByEntry depth entry goals at is takes nested) ready call ahead h =
+  asked_goes_on more exact own sorts noop received new after later (ByEntry depth entry goals at is takes nested) ready call ahead h =
       let one = entry_is_one same (asking G X same cx kind goal e) goal entry G.ENABLE_PROVISIONAL_CACHE is in
       record {
         goes_on =
             ask_provisional G X cx call ahead kind goal starts e.limits_met more depth entry.result entry.encountered_overflow entry.heads e.goals goals at
             (one (IsReady (verdicts X) (G.script cx) old.nodes (runs_of e.goals) goal) (ready goal)).no_rank
-            (λ counted unmet. one (λ entry. entry.encountered_overflow ≡ false) (h.answers.met_none counted unmet goal))
+            (λ meets. one (λ entry. entry.encountered_overflow ≡ false) (h.answers.met_none meets goal))
             (λ decisive unmet. one (λ entry. IsDefinite (verdicts X) entry.result) (h.answers.definite decisive unmet goal))
             takes h.asked;
         answers = h.answers;
       }
-  asked_goes_on more exact sorts noop received new after later (ByStored depth hit goals at none is takes usable) ready call ahead h = record {
+  asked_goes_on more exact own sorts noop received new after later (ByStored depth hit goals at none is takes usable) ready call ahead h = record {
     goes_on = ask_stored G X cx call ahead kind goal starts e.limits_met more depth same old.results (record { reply = Answer hit.result; node = hit.node }) e.goals goals at
         (record { hit = hit; usable = usable; is = refl; takes = takes }) h.answers.store h.asked;
     answers = h.answers;
   }
-  asked_goes_on more exact sorts noop received new after later (OverCycle depth head given goals at none not_stored found closes) ready call ahead h = record {
+  asked_goes_on more exact own sorts noop received new after later (OverCycle depth head given goals at none not_stored found closes) ready call ahead h = record {
     goes_on = ask_in_cycle G X cx call ahead kind goal starts e.limits_met more depth same exact sorts received head e.goals goals at found closes h.asked;
     answers = h.answers;
   }
-  asked_goes_on more exact sorts noop received new after later (Pushed depth goals nodes now at none not_stored absent pushes fates fated one counted) ready call ahead h = record {
-    goes_on = ask_pushes G X cx call ahead kind goal starts e.limits_met more depth e.goals goals later at one counted pushes h.asked;
+  asked_goes_on more exact own sorts noop received new after later (Pushed depth goals nodes now at none not_stored absent pushes fates fated one counted) ready call ahead h = record {
+    goes_on = ask_pushes G X cx call ahead kind goal starts e.limits_met more depth e.goals goals later at (not_among G X cx call same own goal e.goals absent) one counted pushes h.asked;
     answers = h.answers;
   }
 
@@ -70,7 +85,7 @@ module _ {D C V P F I R A T : Type 0} (G : DelegateOf D C V P F I R A T) (X : Cx
       → (call : Call I) (ahead : ℕ) → Requests G X same cx (Evaluate kind goal) call ahead old e starts → StopsWith G X same cx call Memory old (record e { goals = goals; limits_met = true }) starts
   refused_stops goals none call ahead h = record {
     stopped = refused_stops_at e.goals none call ahead h.asked;
-    store = record { overflow = λ counted unmet. absurd cc; definite = λ d unmet. absurd cc; within = h.answers.store.within };
+    store = refused_keeps none call ahead h;
   }
 
   -- a goal that could not be pushed ends the call

@@ -2,13 +2,13 @@
 use Rattle.std.proofs.Common.{◌≡◌, ℕ, ◌&&◌, ◌||◌, if◌then◌else◌, Bool, true, false, List, [], ◌∷◌, map, reverse, All, Option, Some, None, Result, Ok, refl, sym, subst}
 use Rattle.std.specs.List.{filter}
 use Rattle.std.proofs.lemmas.List.Elements.{All-append, All-cons, All-filter, All-nil}
-use Rattle.search_moves.specs.Below.{StackDepth, CycleHead, PathKind, HeadUsages, highest, has_usages, other_usages, DelegateOf, CxOf, Done, StoredResult, ProvisionalCacheEntry, RebaseReason, EvaluationResult, StackEntry, IsDefinite, IsNeither, Lists, entries_at, but_highest, rebased, changed_for, with_unused, with_used, Store, Run, Verdicts, verdicts, Unstable, Call, IsCounted, HasAsked, KeepsAnswers, KeepsStore, final_answer, entries_for, entry_of, rebased_for, RebasesEntries, RebasesNewest, RequireWithin, MayPutNewest, IsReason, IsEndOfRun, Ambiguous, Initial, Limited, Repeated, Repeats, Stable, WithoutUsages}
+use Rattle.search_moves.specs.Below.{StackDepth, CycleHead, PathKind, HeadUsages, highest, has_usages, other_usages, DelegateOf, CxOf, Done, StoredResult, ProvisionalCacheEntry, RebaseReason, EvaluationResult, StackEntry, IsDefinite, IsNeither, Lists, entries_at, but_highest, rebased, changed_for, with_unused, with_used, Store, Run, Verdicts, verdicts, Unstable, Call, CallMeetsNone, HasAsked, KeepsAnswers, KeepsStore, final_answer, entries_for, entry_of, rebased_for, RebasesEntries, RebasesNewest, MayPutNewest, IsReason, IsEndOfRun, Ambiguous, Initial, Limited, Repeated, Repeats, Stable, WithoutUsages}
 use Rattle.provisional_cache.specs.declared.RebaseReason.TheVariants as why
 use Rattle.provisional_cache.proofs.RebasedEntryLists.{All-filter_map}
 use Rattle.search_rules.specs.EndOfRun.{Unused}
-use Rattle.search_rules.proofs.moves.DoneRuns.{calm_of, met_keeps, put_keeps}
+use Rattle.search_rules.proofs.moves.DoneRuns.{calm_of, limited_keeps, put_keeps}
 use Rattle.search_rules.proofs.justified.Finishing.{neither_is}
-use Rattle.search_rules.proofs.moves.Moves.{done_definite}
+use Rattle.search_rules.proofs.moves.Moves.{done_definite, met_none_before}
 use Rattle.search_rules.proofs.rebasing.Cases.{HasNewHead, is_rebased, IsRebased, NotUsed, Still, Used}
 
 -- ---- what is said of whether entries met overflow, and of their results
@@ -126,24 +126,33 @@ module _ {X I R A T : Type 0} (says : Verdicts R) (same : R → R → Bool) (ini
 -- ---- what a call keeps
 
 module _ {D C V P F I R A T : Type 0} (G : DelegateOf D C V P F I R A T) (X : CxOf C I R A T) (cx : C) (call : Call I) (same : I → I → Bool) where
-  -- once a limit is met, of answers only the depths of stored ones are asked
-  pub met_keeps_answers : (results : Store I (StoredResult C I R A T)) (entries : Lists I (ProvisionalCacheEntry C I R A T)) → RequireWithin same call.root call.stood results → KeepsAnswers G X cx same call true results entries
-  met_keeps_answers results entries within = record {
-    store = met_keeps G X cx call same results within;
-    met_none = λ counted unmet. absurd cc;
-    definite = λ decisive unmet. absurd cc;
-  }
-
   -- before the first goal is done there are no entries
   pub no_entries : (results : Store I (StoredResult C I R A T)) (met : Bool) → KeepsStore G X cx same call met results → KeepsAnswers G X cx same call met results []
-  no_entries results met store = record { store = store; met_none = λ counted unmet goal. All-nil _; definite = λ decisive unmet goal. All-nil _ }
+  no_entries results met store = record { store = store; met_none = λ meets goal. All-nil _; definite = λ decisive unmet goal. All-nil _ }
 
   -- a further run gives up some entries
   pub rerun_keeps : (results : Store I (StoredResult C I R A T)) (met : Bool) (left : ProvisionalCacheEntry C I R A T → Bool) (old new : Lists I (ProvisionalCacheEntry C I R A T)) → ((goal : I) → entries_at same new goal ≡ filter left (entries_at same old goal)) → KeepsAnswers G X cx same call met results old → KeepsAnswers G X cx same call met results new
   rerun_keeps results met left old new cleared keeps = record {
     store = keeps.store;
-    met_none = λ counted unmet. cleared_said (λ met r. met ≡ false) same left old new cleared (keeps.met_none counted unmet);
+    met_none = λ meets. cleared_said (λ met r. met ≡ false) same left old new cleared (keeps.met_none meets);
     definite = λ decisive unmet. cleared_said (λ met r. IsDefinite (verdicts X) r) same left old new cleared (keeps.definite decisive unmet);
+  }
+
+  -- entries that a goal leaves met no overflow as long as the call meets none, whatever its result
+  entries_met_none : (ahead : ℕ) (done r : R) (starts : ℕ) (met enabled : Bool) (reason : Option (RebaseReason C I R A T)) (s : StackEntry C I R A T × Run C F I R A T) (below : List (StackEntry C I R A T × Run C F I R A T)) (old new : Lists I (ProvisionalCacheEntry C I R A T)) → CallMeetsNone G X cx call met → HasAsked G X cx call ahead (Done done) (s ∷ below) starts met
+      → RebasesEntries same enabled (G.propagated cx) (G.fixpoint_overflow cx) reason r s below old new → SaidOfAll (λ met r. met ≡ false) same old → SaidOfAll (λ met r. met ≡ false) same new
+  entries_met_none ahead done r starts met enabled reason s below old new meets h rebases =
+      taken_said (λ met r. met ≡ false) same enabled (G.propagated cx) (G.fixpoint_overflow cx) reason r s below old new
+      (λ goal reasoned is. changed_said (λ met r. met ≡ false) (G.propagated cx goal) (G.fixpoint_overflow cx goal) reasoned (λ info ambiguous met r none. none) (λ limited met r none. none))
+      (calm_of G X cx call ahead done starts met s below meets h) rebases
+
+  -- a goal that had its most runs was popped, which meets a limit
+  pub limited_keeps_answers : (ahead : ℕ) (done r : R) (starts : ℕ) (met enabled : Bool) (reason : Option (RebaseReason C I R A T)) → ((x y : I) → same x y ≡ true → x ≡ y) → (before after : Store I (StoredResult C I R A T)) (goals : List (StackEntry C I R A T × Run C F I R A T)) (old new : Lists I (ProvisionalCacheEntry C I R A T)) → MayPutNewest same goals r before after → RebasesNewest same enabled (G.propagated cx) (G.fixpoint_overflow cx) reason r goals old new → HasAsked G X cx call ahead (Done done) goals starts met → KeepsAnswers G X cx same call met before old → KeepsAnswers G X cx same call true after new
+  limited_keeps_answers ahead done r starts met enabled reason by_value before after [] old new put rebases h keeps = absurd put
+  limited_keeps_answers ahead done r starts met enabled reason by_value before after (s ∷ below) old new put rebases h keeps = record {
+    store = limited_keeps G X cx call same by_value before after ahead done r (s ∷ below) starts met put h keeps.store;
+    met_none = λ meets. let was = met_none_before G X cx call met meets in entries_met_none ahead done r starts met enabled reason s below old new was h rebases (keeps.met_none was);
+    definite = λ decisive unmet. absurd cc;
   }
 
   module _ (ahead : ℕ) (done : R) (starts : ℕ) (met : Bool) (enabled : Bool) (reason : Option (RebaseReason C I R A T)) (leaves_results : IsDefinite (verdicts X) done → (reasoned : RebaseReason C I R A T) → reason ≡ Some reasoned → LeavesResults reasoned) where
@@ -152,13 +161,6 @@ module _ {D C V P F I R A T : Type 0} (G : DelegateOf D C V P F I R A T) (X : Cx
     results_stay definite propagated overflow reasoned is = changed_said (λ met r. IsDefinite (verdicts X) r) propagated overflow reasoned
         (λ info ambiguous. absurd (subst LeavesResults ambiguous (leaves_results definite reasoned is)))
         (λ limited. absurd (subst LeavesResults limited (leaves_results definite reasoned is)))
-
-    entries_met_none : (s : StackEntry C I R A T × Run C F I R A T) (below : List (StackEntry C I R A T × Run C F I R A T)) (old new : Lists I (ProvisionalCacheEntry C I R A T)) → IsCounted G X cx call → met ≡ false → HasAsked G X cx call ahead (Done done) (s ∷ below) starts met
-        → RebasesEntries same enabled (G.propagated cx) (G.fixpoint_overflow cx) reason done s below old new → SaidOfAll (λ met r. met ≡ false) same old → SaidOfAll (λ met r. met ≡ false) same new
-    entries_met_none s below old new counted unmet h rebases =
-        taken_said (λ met r. met ≡ false) same enabled (G.propagated cx) (G.fixpoint_overflow cx) reason done s below old new
-        (λ goal reasoned is. changed_said (λ met r. met ≡ false) (G.propagated cx goal) (G.fixpoint_overflow cx goal) reasoned (λ info ambiguous met r none. none) (λ limited met r none. none))
-        (calm_of G X cx call ahead done starts met s below counted unmet h) rebases
 
     entries_definite : (s : StackEntry C I R A T × Run C F I R A T) (below : List (StackEntry C I R A T × Run C F I R A T)) (old new : Lists I (ProvisionalCacheEntry C I R A T)) → IsDefinite (verdicts X) done
         → RebasesEntries same enabled (G.propagated cx) (G.fixpoint_overflow cx) reason done s below old new → SaidOfAll (λ met r. IsDefinite (verdicts X) r) same old → SaidOfAll (λ met r. IsDefinite (verdicts X) r) same new
@@ -172,6 +174,6 @@ module _ {D C V P F I R A T : Type 0} (G : DelegateOf D C V P F I R A T) (X : Cx
     done_keeps by_value before after [] old new put rebases h keeps = absurd put
     done_keeps by_value before after (s ∷ below) old new put rebases h keeps = record {
       store = put_keeps G X cx call same by_value before after ahead done (s ∷ below) starts met put h keeps.store;
-      met_none = λ counted unmet. entries_met_none s below old new counted unmet h rebases (keeps.met_none counted unmet);
+      met_none = λ meets. entries_met_none ahead done done starts met enabled reason s below old new meets h rebases (keeps.met_none meets);
       definite = λ decisive unmet. entries_definite s below old new (done_definite G X cx call ahead done (s ∷ below) starts met h decisive unmet) rebases (keeps.definite decisive unmet);
     }

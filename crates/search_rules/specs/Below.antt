@@ -76,7 +76,8 @@ pub use Rattle.global_cache.specs.declared.get.CacheData.{CacheData}
 pub use Rattle.global_cache.specs.declared.results.Place.{Place}
 pub use Rattle.global_cache.specs.declared.results.Place.TheVariants.{Success, WithOverflow}
 pub use Rattle.global_cache.specs.declared.results.StoredResult.{StoredResult}
-pub use Rattle.evaluations.specs.Evaluation.{at, Ends, IsEvaluating, IsRooted, Limits, Stops}
+pub use Rattle.evaluations.specs.Enclosed.{IsEnclosed}
+pub use Rattle.evaluations.specs.Evaluation.{at, Ends, MeetsNone, IsEvaluating, IsRooted, Limits, Stops}
 pub use Rattle.evaluations.specs.Frames.{IsAllowed, Outcome, run_again}
 pub use Rattle.evaluations.specs.Mirror.{AreSeen, HasRequested, IsAmong, ItemLeaves, Mirror, TakesReply, TakesStep}
 pub use Rattle.evaluations.specs.Mirror.{Waits, with_replies}

@@ -1,9 +1,9 @@
 -- What holds of the goals under evaluation between two moves of a call.
-use Rattle.std.specs.Prelude.{◌≡◌, ℕ, ◌<◌, ◌≤◌, Bool, false, List, [], ◌∷◌, map}
+use Rattle.std.specs.Prelude.{◌≡◌, ℕ, ◌<◌, ◌≤◌, Bool, List, [], ◌∷◌, map}
 use Rattle.search_rules.specs.Below.{DelegateOf, CxOf, Request, Reply, Fault, StoredResult, ProvisionalCacheEntry, Lists, Store, Memory, Outcome, IsPlainTo, Ends, Stops, steps_ahead, Waits, HasRequested, IsDecidedReply, IsDefinite, is_in_cycle, Item, Stood, Next, Step, Finished, verdicts}
-use Rattle.search_rules.specs.Results.{AreDefinite, HaveNoOverflow, RequireWithin}
+use Rattle.search_rules.specs.Results.{AreDefinite, HaveNoOverflowOf, RequireWithin}
 use Rattle.evaluations.specs.Frames.{Frame}
-use Rattle.search_rules.specs.Calls.{Call, Outset, runs, limits, bound, IsCounted, KeepsLimits}
+use Rattle.search_rules.specs.Calls.{Call, CallMeetsNone, HadNoOverflow, Outset, runs, limits, bound, IsCounted, KeepsLimits}
 use Rattle.search_rules.specs.Decided.{AllDecided, WhereDecisive}
 use Rattle.search_rules.specs.Provisional.{EntriesDefinite, EntriesMetNone}
 
@@ -32,17 +32,17 @@ module _ {D C V P F I R A T : Type 0} (G : DelegateOf D C V P F I R A T) (X : Cx
     pub keeps : KeepsLimits G X cx call met
     pub decided : Decidedly call met (AllDecided (verdicts X) goals × IsDecidedReply (verdicts X) reply)
 
-  -- What a call keeps of the stored results: where starts are counted, none met overflow until a limit is met; where the delegate is
-  -- decisive, each is yes or no until then. Each requires no more than the root depth, or as much as one did before.
+  -- What a call keeps of the stored results: as long as it meets none, none met overflow of a goal of which none did before; where the
+  -- delegate is decisive, each is yes or no until a limit is met. Each requires no more than the root depth, or as much as one did before.
   pub record KeepsStore (same : I → I → Bool) (call : Call I) (met : Bool) (results : Store I (StoredResult C I R A T)) : Type 0 where
-    pub overflow : IsCounted G X cx call → met ≡ false → HaveNoOverflow same results
+    pub overflow : CallMeetsNone G X cx call met → HaveNoOverflowOf (HadNoOverflow call) same results
     pub definite : Decidedly call met (AreDefinite (verdicts X) same results)
     pub within : RequireWithin same call.root call.stood results
 
   -- what a call keeps of those and of the answers in the provisional cache
   pub record KeepsAnswers (same : I → I → Bool) (call : Call I) (met : Bool) (results : Store I (StoredResult C I R A T)) (entries : Lists I (ProvisionalCacheEntry C I R A T)) : Type 0 where
     pub store : KeepsStore same call met results
-    pub met_none : IsCounted G X cx call → met ≡ false → EntriesMetNone same entries
+    pub met_none : CallMeetsNone G X cx call met → EntriesMetNone same entries
     pub definite : Decidedly call met (EntriesDefinite (verdicts X) same entries)
 
   -- the call begins with these stored results
@@ -75,7 +75,7 @@ module _ {D C V P F I R A T : Type 0} (G : DelegateOf D C V P F I R A T) (X : Cx
 
   -- the call stopped with a fault, which is want of memory where the goal's rank fits its depth
   pub record HasStopped (call : Call I) (fault : Fault I R) (starts : ℕ) (met : Bool) : Type 0 where
-    pub stops : Stops (G.script cx) (limits G X cx call) (IsCounted G X cx call) (bound G X cx call) starts met
+    pub stops : Stops (G.script cx) (limits G X cx call) (IsCounted G X cx call) call.top (bound G X cx call) starts met
     pub keeps : KeepsLimits G X cx call met
     pub plain : (n : ℕ) → IsPlainTo (G.script cx) n call.top → n ≤ call.root → fault ≡ Memory
 

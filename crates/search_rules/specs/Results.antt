@@ -8,6 +8,10 @@ use Rattle.search_rules.specs.Claims.{ComesTo}
 abbrev pub HaveNoOverflow : {I S : Type 0} → (I → I → Bool) → Store I S → Type 0
 HaveNoOverflow {I} same results = (goal : I) (depth : ℕ) → stored_at same results goal (WithOverflow depth) ≡ None
 
+-- none of a goal of which this holds
+abbrev pub HaveNoOverflowOf : {I S : Type 0} → (I → Type 0) → (I → I → Bool) → Store I S → Type 0
+HaveNoOverflowOf {I} of same results = (goal : I) → of goal → (depth : ℕ) → stored_at same results goal (WithOverflow depth) ≡ None
+
 -- each stored result is yes or no
 abbrev pub AreDefinite : {X I R A T : Type 0} → Verdicts R → (I → I → Bool) → Store I (StoredResult X I R A T) → Type 0
 AreDefinite {X} {I} {R} {A} {T} says same results =

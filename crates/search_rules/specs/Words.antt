@@ -1,5 +1,5 @@
 -- The words of this crate, from one place.
-pub use Rattle.search_rules.specs.Calls.{bound, Call, IsCounted, KeepsLimits, limits, Outset, runs}
+pub use Rattle.search_rules.specs.Calls.{bound, Call, CallMeetsNone, CallIsEnclosed, HadNoOverflow, IsCounted, KeepsLimits, limits, Outset, runs}
 pub use Rattle.search_rules.specs.Decided.{AllDecided, IsDecided}
 pub use Rattle.search_rules.specs.Evaluating.{Begins, CallGoesOn, Decidedly, HasAsked, HasEnded, HasStopped, IsOnly}
 pub use Rattle.search_rules.specs.Evaluating.{IsWaiting, KeepsAnswers, KeepsStore, Leads, seen, work_left}
@@ -19,7 +19,7 @@ pub use Rattle.search_rules.specs.Provisional.{IsLeftOver, IsNewestUnranked, IsR
 pub use Rattle.search_rules.specs.Provisional.{rebased_for, RebasesEntries, RebasesNewest, RestsOn}
 pub use Rattle.search_rules.specs.Fates.{answered_by, ChangesNewest, Consults, fate_for, Fated, fates_of, HasExpected, HasOldest, HaveExpected}
 pub use Rattle.search_rules.specs.Fates.{IfCompared, is_compared, IsExpected, IsFated, IsNewestToStore, MovesFates, NoneStored}
-pub use Rattle.search_rules.specs.Results.{AreDefinite, final_answer, HaveNoOverflow, IsNewestPlainTo, IsNewestStored, IsStored}
+pub use Rattle.search_rules.specs.Results.{AreDefinite, final_answer, HaveNoOverflow, HaveNoOverflowOf, IsNewestPlainTo, IsNewestStored, IsStored}
 pub use Rattle.search_rules.specs.Results.{MayPut, MayPutNewest, NewestComesTo, NewestIsPlain, place_of_item, Put}
 pub use Rattle.search_rules.specs.Results.{RequireWithin, Same, StoresAnswer, StoresWithin, WithResult}
 pub use Rattle.search_rules.specs.EndOfRun.{Ambiguous, Initial, IsEndOfRun, IsReason, IsStable, IsUsed, Limited}

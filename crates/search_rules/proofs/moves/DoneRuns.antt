@@ -1,10 +1,10 @@
 -- What a run that ended came to, and what storing that keeps of the cache.
-use Rattle.std.proofs.Common.{◌≡◌, ℕ, ◌<◌, ◌≤◌, ◌&&◌, ◌||◌, ◌⊎◌, if◌then◌else◌, Bool, true, false, List, [], ◌∷◌, Some, Result, Ok, Err, IfErr, option_map, refl, sym, ap, ap₂, ◌∙◌, subst, inl, inr, arith}
+use Rattle.std.proofs.Common.{◌≡◌, ℕ, ◌<◌, ◌≤◌, ◌&&◌, ◌||◌, if◌then◌else◌, Bool, true, false, List, [], ◌∷◌, Some, Result, Ok, Err, IfErr, option_map, refl, sym, ap, ap₂, ◌∙◌, subst, inl, inr, arith}
 use Rattle.search_rules.specs.Below.{DelegateOf, CxOf, Request, Done, Reply, Place, Success, WithOverflow, StoredResult, StackEntry, IsDefinite, IsPlainTo, HasNoRank, IsPlain, IsBelowRank, Store, stored_at, same_key, IsPlainAt, IsSafeOutcome, Run, is_in_cycle, newest, Stood, Verdicts, verdicts}
 use Rattle.global_cache.proofs.Stores.{put_cases}
 use Rattle.evaluations.proofs.Mirrors.{leaves_calm, leaves_safe, requested_fits}
-use Rattle.search_rules.specs.Words.{Call, limits, bound, IsCounted, KeepsStore, seen, HasAsked, AreDefinite, HaveNoOverflow, MayPut, RequireWithin, Same, WithResult, MayPutNewest, NewestComesTo, NewestIsPlain, IsNewestPlainTo, place_of_item}
-use Rattle.search_rules.proofs.moves.Moves.{asker_requires, done_definite, ends_newest, leaving, outcome_of}
+use Rattle.search_rules.specs.Words.{Call, CallMeetsNone, limits, bound, IsCounted, KeepsStore, seen, HasAsked, AreDefinite, HaveNoOverflowOf, HadNoOverflow, MayPut, RequireWithin, Same, WithResult, MayPutNewest, NewestComesTo, NewestIsPlain, IsNewestPlainTo, place_of_item}
+use Rattle.search_rules.proofs.moves.Moves.{asker_requires, done_definite, ends_newest, leaving, outcome_of, met_none_before}
 
 -- where a result belongs, by whether it met overflow
 plain_at : {I R : Type 0} (scripts : I → List (Reply R) → Request I R) (goal : I) (r : R) (required : ℕ) (b : Bool) → (b ≡ false → IsPlain scripts goal r) → (b ≡ true → IsBelowRank scripts goal required) → IsPlainAt scripts goal (if b then WithOverflow required else Success) r
@@ -80,9 +80,9 @@ module _ {D C V P F I R A T : Type 0} (G : DelegateOf D C V P F I R A T) (X : Cx
   memory_alone (Ok v) memory goals plain h = tt
   memory_alone (Err fault) memory goals plain h = λ n p fits. let m = newest_ranked goals n p fits h in plain m.0 m.1
 
-  -- where starts are counted and no limit was met, the newest goal met no overflow
-  pub calm_of : (s : StackEntry C I R A T × Run C F I R A T) (below : List (StackEntry C I R A T × Run C F I R A T)) → IsCounted G X cx call → met ≡ false → HasAsked G X cx call ahead (Done done) (s ∷ below) starts met → (s.0.state.encountered_overflow || s.1.met_overflow_before) ≡ false
-  calm_of s below counted unmet h = leaves_calm (seen G X cx) (Stood G X cx) (G.script cx) (limits G X cx call) (IsCounted G X cx call) call.top (bound G X cx call) ahead done (outcome_of G X cx done s) s below starts met h.asked (leaving G X cx done done s (inl refl)) counted unmet
+  -- as long as the call meets none, the newest goal met no overflow
+  pub calm_of : (s : StackEntry C I R A T × Run C F I R A T) (below : List (StackEntry C I R A T × Run C F I R A T)) → CallMeetsNone G X cx call met → HasAsked G X cx call ahead (Done done) (s ∷ below) starts met → (s.0.state.encountered_overflow || s.1.met_overflow_before) ≡ false
+  calm_of s below meets h = leaves_calm (seen G X cx) (Stood G X cx) (G.script cx) (limits G X cx call) (IsCounted G X cx call) call.top (bound G X cx call) ahead done (outcome_of G X cx done s) s below starts met h.asked (leaving G X cx done done s (inl refl)) meets
 
 -- a success is at no place of an overflow result
 apart : {I : Type 0} (same : I → I → Bool) (goal other : I) (depth : ℕ) → same_key same (goal, Success) (other, WithOverflow depth) ≡ false
@@ -93,10 +93,10 @@ apart same goal other depth = at (same goal other)
     at false = refl
 
 module _ {X I R A T : Type 0} (same : I → I → Bool) (by_value : (x y : I) → same x y ≡ true → x ≡ y) (before after : Store I (StoredResult X I R A T)) (goal : I) (place : Place) (required : ℕ) (r : R) where
-  put_without_overflow : place ≡ Success → MayPut same before after goal place required r → HaveNoOverflow same before → HaveNoOverflow same after
-  put_without_overflow success (Same is) none = subst (HaveNoOverflow same) (sym is) none
-  put_without_overflow success (WithResult s result depth puts) none = λ other depth.
-      puts.others other (WithOverflow depth) (ap (λ p. same_key same (goal, p) (other, WithOverflow depth)) success ∙ apart same goal other depth) ∙ none other depth
+  put_without_overflow : (of : I → Type 0) → place ≡ Success → MayPut same before after goal place required r → HaveNoOverflowOf of same before → HaveNoOverflowOf of same after
+  put_without_overflow of success (Same is) none = subst (HaveNoOverflowOf of same) (sym is) none
+  put_without_overflow of success (WithResult s result depth puts) none = λ other is_of depth.
+      puts.others other (WithOverflow depth) (ap (λ p. same_key same (goal, p) (other, WithOverflow depth)) success ∙ apart same goal other depth) ∙ none other is_of depth
 
   put_definite : (says : Verdicts R) → IsDefinite says r → MayPut same before after goal place required r → AreDefinite says same before → AreDefinite says same after
   put_definite says definite (Same is) all = subst (AreDefinite says same) (sym is) all
@@ -119,22 +119,32 @@ module _ {X I R A T : Type 0} (same : I → I → Bool) (by_value : (x y : I) �
   ]
 
 module _ {D C V P F I R A T : Type 0} (G : DelegateOf D C V P F I R A T) (X : CxOf C I R A T) (cx : C) (call : Call I) (same : I → I → Bool) where
-  -- once a limit is met, of the stored results only their depths are asked
-  pub met_keeps : (results : Store I (StoredResult C I R A T)) → RequireWithin same call.root call.stood results → KeepsStore G X cx same call true results
-  met_keeps results within = record { overflow = λ counted unmet. absurd cc; definite = λ decisive unmet. absurd cc; within = within }
-
   -- what is stored of the newest goal requires no more than the root depth
   pub newest_within : ((x y : I) → same x y ≡ true → x ≡ y) → (before after : Store I (StoredResult C I R A T)) (ahead : ℕ) (done r : R) (goals : List (StackEntry C I R A T × Run C F I R A T)) (starts : ℕ) (met : Bool) → MayPutNewest same goals r before after → HasAsked G X cx call ahead (Done done) goals starts met → RequireWithin same call.root call.stood before → RequireWithin same call.root call.stood after
   newest_within by_value before after ahead done r [] starts met put h all = absurd put
   newest_within by_value before after ahead done r (s ∷ below) starts met put h all =
       put_within same by_value before after s.0.input (place_of_item s) s.0.state.required_depth r call.root call.stood (asker_requires G X cx call ahead (Done done) s below starts met h) put all
 
-  -- the result of a run keeps what the call keeps of them
+  -- and as long as the call meets none, that is no overflow result
+  put_met_none : ((x y : I) → same x y ≡ true → x ≡ y) → (before after : Store I (StoredResult C I R A T)) (ahead : ℕ) (done r : R) (goals : List (StackEntry C I R A T × Run C F I R A T)) (starts : ℕ) (met : Bool) → CallMeetsNone G X cx call met → MayPutNewest same goals r before after → HasAsked G X cx call ahead (Done done) goals starts met → HaveNoOverflowOf (HadNoOverflow call) same before → HaveNoOverflowOf (HadNoOverflow call) same after
+  put_met_none by_value before after ahead done r [] starts met meets put h none = absurd put
+  put_met_none by_value before after ahead done r (s ∷ below) starts met meets put h none =
+      put_without_overflow same by_value before after s.0.input (place_of_item s) s.0.state.required_depth r (HadNoOverflow call)
+      (ap (λ b. if b then WithOverflow s.0.state.required_depth else Success) (calm_of G X cx call ahead done starts met s below meets h)) put none
+
+  -- the result of a run keeps what the call keeps of them,
   pub put_keeps : ((x y : I) → same x y ≡ true → x ≡ y) → (before after : Store I (StoredResult C I R A T)) (ahead : ℕ) (done : R) (goals : List (StackEntry C I R A T × Run C F I R A T)) (starts : ℕ) (met : Bool) → MayPutNewest same goals done before after → HasAsked G X cx call ahead (Done done) goals starts met → KeepsStore G X cx same call met before → KeepsStore G X cx same call met after
   put_keeps by_value before after ahead done [] starts met put h keeps = absurd put
   put_keeps by_value before after ahead done (s ∷ below) starts met put h keeps = record {
-    overflow = λ counted unmet. put_without_overflow same by_value before after s.0.input (place_of_item s) s.0.state.required_depth done
-        (ap (λ b. if b then WithOverflow s.0.state.required_depth else Success) (calm_of G X cx call ahead done starts met s below counted unmet h)) put (keeps.overflow counted unmet);
+    overflow = λ meets. put_met_none by_value before after ahead done done (s ∷ below) starts met meets put h (keeps.overflow meets);
     definite = λ decisive unmet. put_definite same by_value before after s.0.input (place_of_item s) s.0.state.required_depth done (verdicts X) (done_definite G X cx call ahead done (s ∷ below) starts met h decisive unmet) put (keeps.definite decisive unmet);
     within = newest_within by_value before after ahead done done (s ∷ below) starts met put h keeps.within;
+  }
+
+  -- and so does any result of a goal that had its most runs, which meets a limit
+  pub limited_keeps : ((x y : I) → same x y ≡ true → x ≡ y) → (before after : Store I (StoredResult C I R A T)) (ahead : ℕ) (done r : R) (goals : List (StackEntry C I R A T × Run C F I R A T)) (starts : ℕ) (met : Bool) → MayPutNewest same goals r before after → HasAsked G X cx call ahead (Done done) goals starts met → KeepsStore G X cx same call met before → KeepsStore G X cx same call true after
+  limited_keeps by_value before after ahead done r goals starts met put h keeps = record {
+    overflow = λ meets. let was = met_none_before G X cx call met meets in put_met_none by_value before after ahead done r goals starts met was put h (keeps.overflow was);
+    definite = λ decisive unmet. absurd cc;
+    within = newest_within by_value before after ahead done r goals starts met put h keeps.within;
   }

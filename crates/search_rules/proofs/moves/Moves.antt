@@ -1,16 +1,20 @@
 -- Each move of the search is a move of the theory of evaluations.
-use Rattle.std.proofs.Common.{◌≡◌, ℕ, zero, suc, ◌+◌, ◌-◌, ◌*◌, ◌/◌, ◌^◌, ◌<◌, ◌≤◌, max, nat_eq, if◌then◌else◌, Bool, true, false, List, [], ◌∷◌, length, map, reverse, Option, Some, None, IfSome, unwrap_or, refl, sym, ap, ◌∙◌, subst, arith, ap₂, inl, inr, ◌||◌, ◌⊎◌, is_some, mul-le-mul_left, mul-le-mul_right}
+use Rattle.std.proofs.Common.{◌≡◌, ℕ, zero, suc, ◌+◌, ◌-◌, ◌*◌, ◌/◌, ◌^◌, ◌<◌, ◌≤◌, max, nat_eq, if◌then◌else◌, Bool, true, false, List, [], ◌∷◌, length, map, reverse, Contains, Option, Some, None, IfSome, unwrap_or, refl, sym, ap, ◌∙◌, subst, arith, ap₂, inl, inr, ◌||◌, ◌⊎◌, is_some, mul-le-mul_left, mul-le-mul_right}
 use Rattle.std.specs.List.{list_any}
 use Rattle.std.proofs.lemmas.Bool.{or_right, true≢false}
 use Rattle.std.proofs.lemmas.Bool.Decides.{nat_tests}
 use Rattle.search_rules.specs.Below.{CacheNode, DelegateOf, CxOf, Request, Evaluate, Done, Reply, Begin, Answer, PathKind, NodeId, AvailableDepth, StackDepth, EntryState, Heads, NestedPaths, StackEntry, depth_below, frames_within, Verdict, Fault, Memory, Protocol, IsFitting, progress_after, order_fault, fault_after, CountsOne, Steps, IsCycleResult, Outcome, run_again, IsAllowed, HasNoRank, IsPlainTo, AreSafe, IsRooted, IsEvaluating, at, Ends, with_replies, TakesStep, TakesReply, ItemLeaves, IsAmong, AreSeen, Mirror, Waits, Run, Next, Step, Finished, Received, overflowed, first_entry, with_nested_goals, is_in_cycle, cycle_head, some_heads, TakesAnswer, requested, fault_of, IsReplySorted, Stood, CanStep, IsVerdict, received_by, HasStepped, IsStepFault, NoMemoryLeft, OutOfOrder, path_kind_from, IsDecidedKind, AreDecided, IsDecisive, IsDefinite, AnswersNewest, rerun_with, with_no_record, verdicts}
 use Rattle.evaluations.specs.Frames.{Frame, answered}
-use Rattle.evaluations.proofs.Mirrors.{step_requests, can_take, refused_waits, answered_waits, pushed_waits, rerun_waits, popped_waits, popped_at_limit_waits, last_item_ends, last_item_ends_at_limit, last_run_stops, failed_rerun_stops, WaitsWithLess, first_waits, waits_stops, requested_stops, failed_push_stops, cycle_found, requested_fits, requested_by}
+use Rattle.evaluations.proofs.Mirrors.{step_requests, can_take, refused_waits, answered_waits, pushed_waits, rerun_waits, popped_waits, popped_at_limit_waits, last_item_ends, last_item_ends_at_limit, last_run_stops, failed_rerun_stops, WaitsWithLess, first_waits, waits_stops, requested_stops, failed_push_stops, cycle_found, requested_fits, requested_by, asked_among, none_refused}
 use Rattle.evaluations.proofs.Evaluations.{evaluation_stops, fitting_meets_no_limit}
 use Rattle.evaluations.proofs.Plains.{unranked_is_safe}
-use Rattle.search_rules.specs.Words.{EndsNewest, Call, runs, limits, bound, IsCounted, KeepsLimits, AllDecided, Decidedly, seen, IsWaiting, work_left, HasAsked, CallGoesOn, HasStopped, Leads, first_run, Pushes, Reruns, CanLeave, NewestLeaves, ClosesCycle}
+use Rattle.search_rules.specs.Words.{EndsNewest, Call, runs, limits, bound, IsCounted, CallMeetsNone, CallIsEnclosed, HadNoOverflow, KeepsLimits, AllDecided, Decidedly, seen, IsWaiting, work_left, HasAsked, CallGoesOn, HasStopped, Leads, first_run, Pushes, Reruns, CanLeave, NewestLeaves, ClosesCycle}
 use Rattle.search_rules.proofs.records.ProgressLaws.{records_new, records_received, fault_is}
 use Rattle.search_rules.proofs.moves.DecidedGoals.{below_decided, changed_decided, cycle_decided, newest_decided, pushed_decided, replied_decided}
+
+or_none : (a b : Bool) → (a || b) ≡ false → b ≡ false
+or_none true b none = absurd cc
+or_none false b none = none
 
 pub some_runs : (n : ℕ) → 1 ≤ max 1 n
 some_runs n = omega arith
@@ -197,7 +201,7 @@ module _ {D C V P F I R A T : Type 0} (G : DelegateOf D C V P F I R A T) (X : Cx
       let no_rank = cycle_found (seen G X cx) (Stood G X cx) (G.script cx) (limits G X cx call) (IsCounted G X cx call) call.top (bound G X cx call) ahead kind goal ((t.entry, t.run) ∷ t.below) starts met was.asked
       (among eq exact goal ((t.entry, t.run) ∷ t.below) (subst (λ v. list_any (λ (u : Goal). eq goal u.0.input) v ≡ true) t.was found)) in
       let w = answered_waits (seen G X cx) (Stood G X cx) (G.script cx) (limits G X cx call) (IsCounted G X cx call) call.top (bound G X cx call) (some_runs G.FIXPOINT_STEP_LIMIT) ahead starts met (t.entry, t.run) t.below kind goal depth (record { result = r; required = 0; met_overflow = false; in_cycle = true }) (record t.entry { state = t.state }, t.run)
-      (may (t.entry, t.run) t.below t.was) (unranked_is_safe (G.script cx) goal depth (record { result = r; required = 0; met_overflow = false; in_cycle = true }) no_rank (omega arith)) (λ c unmet. refl)
+      (may (t.entry, t.run) t.below t.was) (unranked_is_safe (G.script cx) goal depth (record { result = r; required = 0; met_overflow = false; in_cycle = true }) no_rank (omega arith)) (λ meets. refl)
       (takes_answer r kind 0 false ((head, cycle_head kind cycle) ∷ []) t.entry t.run (record { 0 = length t.below }) t.state t.takes) was.asked in
       subst (λ given. CallGoesOn G X cx call ahead given new starts met) (sym (ap (λ given. given.reply) c.is))
       (record {
@@ -214,7 +218,7 @@ module _ {D C V P F I R A T : Type 0} (G : DelegateOf D C V P F I R A T) (X : Cx
       })
 
   -- a provisional entry of a goal without a rank is taken over
-  pub provisional_goes_on : (ahead : ℕ) (kind : PathKind) (goal : I) (r : R) (overflow : Bool) (answer : Heads) (depth : ℕ) (old new : List Goal) (starts : ℕ) (met : Bool) → ((s : Goal) (below : List Goal) → old ≡ s ∷ below → IsAllowed (seen G X cx s) depth) → HasNoRank (G.script cx) goal → (IsCounted G X cx call → met ≡ false → overflow ≡ false) → Decidedly G X cx call met (IsDefinite (verdicts X) r) → AnswersNewest kind 0 overflow answer old new → HasAsked G X cx call ahead (Evaluate kind goal) old starts met → CallGoesOn G X cx call ahead (Answer r) new starts met
+  pub provisional_goes_on : (ahead : ℕ) (kind : PathKind) (goal : I) (r : R) (overflow : Bool) (answer : Heads) (depth : ℕ) (old new : List Goal) (starts : ℕ) (met : Bool) → ((s : Goal) (below : List Goal) → old ≡ s ∷ below → IsAllowed (seen G X cx s) depth) → HasNoRank (G.script cx) goal → (CallMeetsNone G X cx call met → overflow ≡ false) → Decidedly G X cx call met (IsDefinite (verdicts X) r) → AnswersNewest kind 0 overflow answer old new → HasAsked G X cx call ahead (Evaluate kind goal) old starts met → CallGoesOn G X cx call ahead (Answer r) new starts met
   provisional_goes_on ahead kind goal r overflow answer depth old new starts met may no_rank calm definite t h =
       let was : HasAsked G X cx call ahead (Evaluate kind goal) ((t.entry, t.run) ∷ t.below) starts met = subst (λ v. HasAsked G X cx call ahead (Evaluate kind goal) v starts met) t.was h in
       let w = answered_waits (seen G X cx) (Stood G X cx) (G.script cx) (limits G X cx call) (IsCounted G X cx call) call.top (bound G X cx call) (some_runs G.FIXPOINT_STEP_LIMIT) ahead starts met (t.entry, t.run) t.below kind goal depth (record { result = r; required = 0; met_overflow = overflow; in_cycle = some_heads answer }) (record t.entry { state = t.state }, t.run)
@@ -229,10 +233,41 @@ module _ {D C V P F I R A T : Type 0} (G : DelegateOf D C V P F I R A T) (X : Cx
         falls = subst (λ v. work_left G X cx v < ahead) (sym t.is) w.1;
       }
 
+  -- in an enclosed call no goal that asks is without depth, and what it asks is one of the goals
+  pub enclosed_asker : (ahead : ℕ) (request : Request I R) (s : Goal) (below : List Goal) (starts : ℕ) (met : Bool) → CallIsEnclosed G X cx call → s.0.available_depth.0 ≡ 0 → HasAsked G X cx call ahead request (s ∷ below) starts met → ⊥
+  enclosed_asker ahead request s below starts met enclosed none h =
+      none_refused (seen G X cx) (Stood G X cx) (G.script cx) (limits G X cx call) (IsCounted G X cx call) call.top (bound G X cx call) ahead request s below starts met h.asked enclosed none
+
+  pub enclosed_asks : (ahead : ℕ) (kind : PathKind) (goal : I) (goals : List Goal) (starts : ℕ) (met : Bool) → CallIsEnclosed G X cx call → HasAsked G X cx call ahead (Evaluate kind goal) goals starts met → Contains call.goals goal
+  enclosed_asks ahead kind goal goals starts met enclosed h =
+      asked_among (seen G X cx) (Stood G X cx) (G.script cx) (limits G X cx call) (IsCounted G X cx call) call.top (bound G X cx call) ahead kind goal goals starts met h.asked enclosed
+
+  -- so as long as the call meets none, no overflow result was stored of it before
+  pub asks_known : (ahead : ℕ) (kind : PathKind) (goal : I) (goals : List Goal) (starts : ℕ) (met : Bool) → CallMeetsNone G X cx call met → HasAsked G X cx call ahead (Evaluate kind goal) goals starts met → HadNoOverflow call goal
+  asks_known ahead kind goal goals starts met meets h = elim meets [
+    | inl c ↦ elim c.0.2 [ inl none ↦ inl none | inr enclosed ↦ inr (enclosed_asks ahead kind goal goals starts met enclosed h) ]
+    | inr enclosed ↦ inr (enclosed_asks ahead kind goal goals starts met enclosed h)
+  ]
+
+  -- a call that meets none though a limit was met is enclosed, so it met none before
+  pub met_none_before : (met : Bool) → CallMeetsNone G X cx call true → CallMeetsNone G X cx call met
+  met_none_before met meets = elim meets [ inl c ↦ absurd (true≢false c.1) | inr enclosed ↦ inr enclosed ]
+
+  -- a goal that is asked and isn't under evaluation is not among the goals
+  pub not_among : (eq : I → I → Bool) → ((x : I) → eq x x ≡ true) → (goal : I) (goals : List Goal) → list_any (λ s. eq goal s.0.input) goals ≡ false → IsAmong (seen G X cx) goal goals → ⊥
+  not_among eq own goal [] absent among = among
+  not_among eq own goal (s ∷ below) absent among = elim among [
+    | inl same ↦
+        let here : eq goal s.0.input ≡ true = ap (eq goal) same ∙ own goal in
+        let clash : true ≡ false = sym (ap (λ b. b || list_any (λ t. eq goal t.0.input) below) here) ∙ absent in
+        absurd cc
+    | inr lower ↦ not_among eq own goal below (or_none (eq goal s.0.input) (list_any (λ t. eq goal t.0.input) below) absent) lower
+  ]
+
   -- the asked goal was pushed
-  pub pushed_goes_on : {before after : List (CacheNode I R)} → (ahead : ℕ) (kind : PathKind) (goal : I) (depth : AvailableDepth) (s : Goal) (below new : List Goal) (starts now : ℕ) (met : Bool) → IsAllowed (seen G X cx s) depth.0 → now ≤ starts + 1 → (G.counts ≡ true → CountsOne G.last starts now) → Pushes G X cx goal kind depth before after (s ∷ below) new → HasAsked G X cx call ahead (Evaluate kind goal) (s ∷ below) starts met → CallGoesOn G X cx call ahead Begin new now met
-  pushed_goes_on ahead kind goal depth s below new starts now met may one counted push h =
-      let w = pushed_waits (seen G X cx) (Stood G X cx) (G.script cx) (limits G X cx call) (IsCounted G X cx call) call.top (bound G X cx call) (some_runs G.FIXPOINT_STEP_LIMIT) ahead starts met s below kind goal depth.0 now (first_entry goal kind depth push.own, first_run G X cx push.frame push.own push.becomes) may push.fresh.within refl (push.fresh.stood, records_new (verdicts X) (G.script cx goal)) (record { at_most = one; exactly = λ c. counted c.0 }) h.asked in
+  pub pushed_goes_on : {before after : List (CacheNode I R)} → (ahead : ℕ) (kind : PathKind) (goal : I) (depth : AvailableDepth) (s : Goal) (below new : List Goal) (starts now : ℕ) (met : Bool) → IsAllowed (seen G X cx s) depth.0 → (IsAmong (seen G X cx) goal (s ∷ below) → ⊥) → now ≤ starts + 1 → (G.counts ≡ true → CountsOne G.last starts now) → Pushes G X cx goal kind depth before after (s ∷ below) new → HasAsked G X cx call ahead (Evaluate kind goal) (s ∷ below) starts met → CallGoesOn G X cx call ahead Begin new now met
+  pushed_goes_on ahead kind goal depth s below new starts now met may absent one counted push h =
+      let w = pushed_waits (seen G X cx) (Stood G X cx) (G.script cx) (limits G X cx call) (IsCounted G X cx call) call.top (bound G X cx call) (some_runs G.FIXPOINT_STEP_LIMIT) ahead starts met s below kind goal depth.0 now (first_entry goal kind depth push.own, first_run G X cx push.frame push.own push.becomes) may absent push.fresh.within refl (push.fresh.stood, records_new (verdicts X) (G.script cx goal)) (record { at_most = one; exactly = λ c. counted c.0 }) h.asked in
       subst (λ v. CallGoesOn G X cx call ahead Begin v now met) (sym push.is)
       (record {
         waiting = record {
@@ -438,6 +473,7 @@ module _ {D C V P F I R A T : Type 0} (G : DelegateOf D C V P F I R A T) (X : Cx
     stops = record {
       within = let some = some_frames (runs G X cx) (G.width cx) call.root (some_runs G.FIXPOINT_STEP_LIMIT) in omega (arith, some, one);
       paid = λ c met. let unmet : call.limits_met ≡ false = c.1 in absurd cc;
+      by_runs = λ c e met. let unmet : call.limits_met ≡ false = c.1 in absurd cc;
     };
     keeps = kept now;
     plain = λ n p room. refl;

@@ -4,9 +4,9 @@ use Rattle.std.proofs.Math.Bool.{or-false}
 use Rattle.search_rules.specs.Below.{DelegateOf, CxOf, Evaluate, Answer, PathKind, WithOverflow, StoredResult, StackEntry, IsDefinite, Hit, NestedPaths, IsPlainTo, Store, stored_at, Outcome, IsAllowed, IsSafeOutcome, with_replies, TakesReply, Received, Run, with_depth, with_nested_goals, is_in_cycle, Stood, verdicts}
 use Rattle.evaluations.specs.Frames.{answered}
 use Rattle.evaluations.proofs.Mirrors.{answered_waits}
-use Rattle.search_rules.specs.Words.{Call, runs, limits, bound, IsCounted, Begins, KeepsStore, seen, HasAsked, CallGoesOn, HasEnded, IsUsable, UsesStored, AreDefinite, HaveNoOverflow}
+use Rattle.search_rules.specs.Words.{Call, runs, limits, bound, IsCounted, Begins, KeepsStore, seen, HasAsked, CallGoesOn, HasEnded, IsUsable, UsesStored, AreDefinite, HadNoOverflow, HaveNoOverflowOf}
 use Rattle.search_rules.proofs.moves.DecidedGoals.{changed_decided}
-use Rattle.search_rules.proofs.moves.Moves.{some_frames, some_runs}
+use Rattle.search_rules.proofs.moves.Moves.{asks_known, some_frames, some_runs}
 
 module _ {D C V P F I R A T : Type 0} (G : DelegateOf D C V P F I R A T) (X : CxOf C I R A T) (cx : C) (call : Call I) (same : I → I → Bool) (results : Store I (StoredResult C I R A T)) where
   abbrev Goal : Type 0
@@ -21,15 +21,15 @@ module _ {D C V P F I R A T : Type 0} (G : DelegateOf D C V P F I R A T) (X : Cx
     usable_is_safe = record { value = u.value; overflow = u.overflow; cycle = λ c. absurd cc; within = u.within }
 
     -- where no overflow is stored, none was met
-    met_none_at : (b : Bool) → hit.encountered_overflow ≡ b → HaveNoOverflow same results → hit.encountered_overflow ≡ false
-    met_none_at false is none = is
-    met_none_at true is none =
+    met_none_at : (of : I → Type 0) → of goal → (b : Bool) → hit.encountered_overflow ≡ b → HaveNoOverflowOf of same results → hit.encountered_overflow ≡ false
+    met_none_at of is_of false is none = is
+    met_none_at of is_of true is none =
         let there : stored_at same results goal (WithOverflow depth) ≡ Some u.stored = subst (λ p. stored_at same results goal p ≡ Some u.stored) (u.place_is is) u.is_stored in
-        let clash : None ≡ Some u.stored = sym (none goal depth) ∙ there in
+        let clash : None ≡ Some u.stored = sym (none goal is_of depth) ∙ there in
         absurd cc
 
-    met_none : HaveNoOverflow same results → hit.encountered_overflow ≡ false
-    met_none none = met_none_at hit.encountered_overflow refl none
+    met_none : (of : I → Type 0) → of goal → HaveNoOverflowOf of same results → hit.encountered_overflow ≡ false
+    met_none of is_of none = met_none_at of is_of hit.encountered_overflow refl none
 
     hit_is_definite : AreDefinite (verdicts X) same results → IsDefinite (verdicts X) hit.result
     hit_is_definite all = subst (IsDefinite (verdicts X)) u.result_is (all goal u.place u.stored u.is_stored)
@@ -48,7 +48,7 @@ module _ {D C V P F I R A T : Type 0} (G : DelegateOf D C V P F I R A T) (X : Cx
       let was : HasAsked G X cx call ahead (Evaluate kind goal) ((t.entry, t.run) ∷ t.below) starts met = subst (λ v. HasAsked G X cx call ahead (Evaluate kind goal) v starts met) t.was h in
       let w = answered_waits (seen G X cx) (Stood G X cx) (G.script cx) (limits G X cx call) (IsCounted G X cx call) call.top (bound G X cx call) (some_runs G.FIXPOINT_STEP_LIMIT) ahead starts met (t.entry, t.run) t.below kind goal depth (outcome_of_hit uses.hit)
       (record t.entry { state = with_nested_goals (with_depth t.entry.state uses.hit.required_depth uses.hit.encountered_overflow) t.nested }, t.run)
-      (may (t.entry, t.run) t.below t.was) (usable_is_safe goal depth uses.hit uses.usable) (λ counted unmet. met_none goal depth uses.hit uses.usable (keeps.overflow counted unmet))
+      (may (t.entry, t.run) t.below t.was) (usable_is_safe goal depth uses.hit uses.usable) (λ meets. met_none goal depth uses.hit uses.usable (HadNoOverflow call) (asks_known G X cx call ahead kind goal old starts met meets h) (keeps.overflow meets))
       (stored_taken t.entry t.run uses.hit t.nested) was.asked in
       subst (λ (given : Received R). CallGoesOn G X cx call ahead given.reply new starts met) (sym uses.is)
       (subst (λ v. CallGoesOn G X cx call ahead (Answer uses.hit.result) v starts met) (sym t.is)
@@ -83,6 +83,7 @@ module _ {D C V P F I R A T : Type 0} (G : DelegateOf D C V P F I R A T) (X : Cx
         plain = λ n p fits. (u.value (calm n p fits) n p, calm n p fits, refl);
         within = let some = some_frames (runs G X cx) (G.width cx) call.root (some_runs G.FIXPOINT_STEP_LIMIT) in omega arith;
         paid = λ counted met. let unmet : call.limits_met ≡ false = counted.1 in absurd cc;
+        by_runs = λ counted enclosed met. let unmet : call.limits_met ≡ false = counted.1 in absurd cc;
       };
       keeps = record { stays = λ was. was; plain = λ n p fits. refl };
       decided = λ decisive unmet. hit_is_definite call.top call.root hit u (keeps.definite decisive unmet);

@@ -1,9 +1,9 @@
-use Rattle.std.proofs.Common.{◌∙◌, ap, Ok, true, false, refl, subst}
+use Rattle.std.proofs.Common.{◌∙◌, ap, Ok, true, false, inl, inr, refl, subst}
 use Rattle.global_cache.proofs.Definites.{definite_is_whole}
 use Rattle.global_cache.proofs.Whole.{whole_stays}
-use Rattle.search_graph.proofs.Loops.{call_of, call_over, call_begins, call_over_begins, some_call_begins}
+use Rattle.search_graph.proofs.Loops.{call_among, call_of, call_over, call_among_begins, call_begins, call_over_begins, some_call_begins}
 use Rattle.search_graph.proofs.StoredDepths.{stores_within}
-use Rattle.search_graph.proofs.Promises.{call_is_stored, definite_decides, ended_plain, ended_within, ended_paid, stopped_within, stopped_paid}
+use Rattle.search_graph.proofs.Promises.{call_is_stored, definite_decides, ended_by_runs, ended_plain, ended_within, ended_paid, stopped_by_runs, stopped_within, stopped_paid}
 use Rattle.search_rules.proofs.Shown.{yes_is_proved, no_is_refuted, neither_is_none}
 use Rattle.search_rules.proofs.moves.Questions.{if_err_and, same_err}
 use Rattle.search_graph.proofs.graph.SearchGraph.evaluate_goal.Goals as goal
@@ -121,13 +121,13 @@ pub returns-clause-no_overflow : goal.returns-clause-no_overflow
 returns-clause-no_overflow g c =
     let fits = c.new-evaluation.ensures.fits in
     rw (← c.self.view_is)
-    (λ counted none unmet still. ((c.in_ok-answer.ensures.evaluates.ended (call_of c.args.input c.self.inside.root_depth.0 (g.D.Delegate.starts c.args.inspect.now) c.self.inside.limits_met true false fits) (rw c.new-evaluation.ensures.begins (call_begins g.D.Delegate g.D.Cx.Cx c.args.cache.now.cx g.D.Cx.Input.PartialEq.eq c.args.input c.self.inside.root_depth.0 (g.D.Delegate.starts c.args.inspect.now) c.self.inside.limits_met fits c.args.cache.now.results true false (λ e. none) (λ e. absurd cc)))).store).overflow (counted, unmet, refl) still)
+    (λ counted none unmet still goal depth. ((c.in_ok-answer.ensures.evaluates.ended (call_of c.args.input c.self.inside.root_depth.0 (g.D.Delegate.starts c.args.inspect.now) c.self.inside.limits_met true false fits) (rw c.new-evaluation.ensures.begins (call_begins g.D.Delegate g.D.Cx.Cx c.args.cache.now.cx g.D.Cx.Input.PartialEq.eq c.args.input c.self.inside.root_depth.0 (g.D.Delegate.starts c.args.inspect.now) c.self.inside.limits_met fits c.args.cache.now.results true false (λ e. none) (λ e. absurd cc)))).store).overflow (inl ((counted, unmet, inl refl), still)) goal (inl refl) depth)
 
 pub returns-in_err-answer-clause-no_overflow : goal.returns-in_err-answer-clause-no_overflow
 returns-in_err-answer-clause-no_overflow g c =
     let fits = c.new-evaluation.ensures.fits in
     rw (← c.self.view_is)
-    (λ counted none unmet still. ((c.in_err-answer.ensures.evaluates.stopped (call_of c.args.input c.self.inside.root_depth.0 (g.D.Delegate.starts c.args.inspect.now) c.self.inside.limits_met true false fits) (rw c.new-evaluation.ensures.begins (call_begins g.D.Delegate g.D.Cx.Cx c.args.cache.now.cx g.D.Cx.Input.PartialEq.eq c.args.input c.self.inside.root_depth.0 (g.D.Delegate.starts c.args.inspect.now) c.self.inside.limits_met fits c.args.cache.now.results true false (λ e. none) (λ e. absurd cc)))).store).overflow (counted, unmet, refl) still)
+    (λ counted none unmet still goal depth. ((c.in_err-answer.ensures.evaluates.stopped (call_of c.args.input c.self.inside.root_depth.0 (g.D.Delegate.starts c.args.inspect.now) c.self.inside.limits_met true false fits) (rw c.new-evaluation.ensures.begins (call_begins g.D.Delegate g.D.Cx.Cx c.args.cache.now.cx g.D.Cx.Input.PartialEq.eq c.args.input c.self.inside.root_depth.0 (g.D.Delegate.starts c.args.inspect.now) c.self.inside.limits_met fits c.args.cache.now.results true false (λ e. none) (λ e. absurd cc)))).store).overflow (inl ((counted, unmet, inl refl), still)) goal (inl refl) depth)
 
 -- ---- what a decisive delegate decides, and what is stored of an answer
 
@@ -145,7 +145,7 @@ pub returns-clause-remembered : goal.returns-clause-remembered
 returns-clause-remembered g c =
     let fits = c.new-evaluation.ensures.fits in
     rw (← c.self.view_is)
-    (λ is_noop unscoped counted none unmet still. ((c.in_ok-answer.ensures.evaluates.ended (call_of c.args.input c.self.inside.root_depth.0 (g.D.Delegate.starts c.args.inspect.now) c.self.inside.limits_met true false fits) (rw c.new-evaluation.ensures.begins (call_begins g.D.Delegate g.D.Cx.Cx c.args.cache.now.cx g.D.Cx.Input.PartialEq.eq c.args.input c.self.inside.root_depth.0 (g.D.Delegate.starts c.args.inspect.now) c.self.inside.limits_met fits c.args.cache.now.results true false (λ e. none) (λ e. absurd cc)))).remembered) (is_noop, unscoped) (counted, unmet, refl) still)
+    (λ is_noop unscoped counted none unmet still. ((c.in_ok-answer.ensures.evaluates.ended (call_of c.args.input c.self.inside.root_depth.0 (g.D.Delegate.starts c.args.inspect.now) c.self.inside.limits_met true false fits) (rw c.new-evaluation.ensures.begins (call_begins g.D.Delegate g.D.Cx.Cx c.args.cache.now.cx g.D.Cx.Input.PartialEq.eq c.args.input c.self.inside.root_depth.0 (g.D.Delegate.starts c.args.inspect.now) c.self.inside.limits_met fits c.args.cache.now.results true false (λ e. none) (λ e. absurd cc)))).remembered) (is_noop, unscoped) (inl ((counted, unmet, inl refl), still)))
 
 pub returns-clause-kept_nodes : goal.returns-clause-kept_nodes
 returns-clause-kept_nodes g c =
@@ -172,3 +172,35 @@ returns-in_err-answer-clause-within g c =
     rw (← c.self.view_is)
     (stores_within same c.self.inside.root_depth.0 c.args.cache.now.results c.evaluate-outcome.new.cache.results
     (c.in_err-answer.ensures.evaluates.stopped (call_over same c.args.cache.now.results c.args.input c.self.inside.root_depth.0 (g.D.Delegate.starts c.args.inspect.now) c.self.inside.limits_met fits) (rw c.new-evaluation.ensures.begins (call_over_begins g.D.Delegate g.D.Cx.Cx c.args.cache.now.cx same c.args.input c.self.inside.root_depth.0 (g.D.Delegate.starts c.args.inspect.now) c.self.inside.limits_met fits c.args.cache.now.results))).store.within)
+
+-- ---- goals that no question leads out of
+
+pub returns-clause-enclosed : goal.returns-clause-enclosed
+returns-clause-enclosed g c =
+    let fits = c.new-evaluation.ensures.fits in
+    rw (← c.self.view_is)
+    (λ goals enclosed none goal among depth. (c.in_ok-answer.ensures.evaluates.ended (call_among goals c.args.input c.self.inside.root_depth.0 (g.D.Delegate.starts c.args.inspect.now) c.self.inside.limits_met fits) (rw c.new-evaluation.ensures.begins (call_among_begins g.D.Delegate g.D.Cx.Cx c.args.cache.now.cx g.D.Cx.Input.PartialEq.eq c.args.input c.self.inside.root_depth.0 (g.D.Delegate.starts c.args.inspect.now) c.self.inside.limits_met fits c.args.cache.now.results goals none))).store.overflow (inr enclosed) goal (inr among) depth)
+
+pub returns-clause-only_by_runs : goal.returns-clause-only_by_runs
+returns-clause-only_by_runs g c =
+    let fits = c.new-evaluation.ensures.fits in
+    rw (← c.self.view_is)
+    (λ goals enclosed none. ended_by_runs g.D.Delegate g.D.Cx.Cx c.args.cache.now.cx (call_among goals c.args.input c.self.inside.root_depth.0 (g.D.Delegate.starts c.args.inspect.now) c.self.inside.limits_met fits) _ _ c.in_ok-answer.answer.result ((c.in_ok-answer.ensures.evaluates.ended (call_among goals c.args.input c.self.inside.root_depth.0 (g.D.Delegate.starts c.args.inspect.now) c.self.inside.limits_met fits) (rw c.new-evaluation.ensures.begins (call_among_begins g.D.Delegate g.D.Cx.Cx c.args.cache.now.cx g.D.Cx.Input.PartialEq.eq c.args.input c.self.inside.root_depth.0 (g.D.Delegate.starts c.args.inspect.now) c.self.inside.limits_met fits c.args.cache.now.results goals none))).ended) enclosed)
+
+pub returns-in_err-answer-clause-enclosed : goal.returns-in_err-answer-clause-enclosed
+returns-in_err-answer-clause-enclosed g c =
+    let fits = c.new-evaluation.ensures.fits in
+    rw (← c.self.view_is)
+    (λ goals enclosed none goal among depth. (c.in_err-answer.ensures.evaluates.stopped (call_among goals c.args.input c.self.inside.root_depth.0 (g.D.Delegate.starts c.args.inspect.now) c.self.inside.limits_met fits) (rw c.new-evaluation.ensures.begins (call_among_begins g.D.Delegate g.D.Cx.Cx c.args.cache.now.cx g.D.Cx.Input.PartialEq.eq c.args.input c.self.inside.root_depth.0 (g.D.Delegate.starts c.args.inspect.now) c.self.inside.limits_met fits c.args.cache.now.results goals none))).store.overflow (inr enclosed) goal (inr among) depth)
+
+pub returns-in_err-answer-clause-only_by_runs : goal.returns-in_err-answer-clause-only_by_runs
+returns-in_err-answer-clause-only_by_runs g c =
+    let fits = c.new-evaluation.ensures.fits in
+    rw (← c.self.view_is)
+    (λ goals enclosed none. stopped_by_runs g.D.Delegate g.D.Cx.Cx c.args.cache.now.cx (call_among goals c.args.input c.self.inside.root_depth.0 (g.D.Delegate.starts c.args.inspect.now) c.self.inside.limits_met fits) _ _ c.in_err-answer.field-0.0 ((c.in_err-answer.ensures.evaluates.stopped (call_among goals c.args.input c.self.inside.root_depth.0 (g.D.Delegate.starts c.args.inspect.now) c.self.inside.limits_met fits) (rw c.new-evaluation.ensures.begins (call_among_begins g.D.Delegate g.D.Cx.Cx c.args.cache.now.cx g.D.Cx.Input.PartialEq.eq c.args.input c.self.inside.root_depth.0 (g.D.Delegate.starts c.args.inspect.now) c.self.inside.limits_met fits c.args.cache.now.results goals none))).stopped) enclosed)
+
+pub returns-clause-enclosed_remembered : goal.returns-clause-enclosed_remembered
+returns-clause-enclosed_remembered g c =
+    let fits = c.new-evaluation.ensures.fits in
+    rw (← c.self.view_is)
+    (λ goals enclosed none is_noop unscoped. (c.in_ok-answer.ensures.evaluates.ended (call_among goals c.args.input c.self.inside.root_depth.0 (g.D.Delegate.starts c.args.inspect.now) c.self.inside.limits_met fits) (rw c.new-evaluation.ensures.begins (call_among_begins g.D.Delegate g.D.Cx.Cx c.args.cache.now.cx g.D.Cx.Input.PartialEq.eq c.args.input c.self.inside.root_depth.0 (g.D.Delegate.starts c.args.inspect.now) c.self.inside.limits_met fits c.args.cache.now.results goals none))).remembered (is_noop, unscoped) (inr enclosed))

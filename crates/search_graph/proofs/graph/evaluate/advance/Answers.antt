@@ -54,7 +54,7 @@ pub returns-in_ok-next-in-Evaluate-clause-advances : goal.returns-in_ok-next-in-
 returns-in_ok-next-in-Evaluate-clause-advances g c = record {
   leads = λ call h.
       let ready = stepped_ready g.D.Delegate g.D.Cx.Cx c.cx-cx.result g.D.Cx.Input.PartialEq.eq (g.D.Delegate.script c.args.cache.now.cx) c.args.cache.now.nodes c.args.evaluation.now.provisional c.args.received c.in_ok-request.request c.args.evaluation.now.goals c.step.new.goals c.in_ok-request.ensures.stepped c.requires.right.right.ready in
-      let on = asked_goes_on g.D.Delegate g.D.Cx.Cx g.D.Cx.Input.PartialEq.eq c.args.cache.now.cx c.in-Evaluate.kind c.in-Evaluate.input c.args.cache.now (record c.args.evaluation.now { goals = c.step.new.goals }) (g.D.Delegate.starts c.step.new.inspect) g.met.D.Delegate.divides g.met.D.Cx.Cx.same_input (g.met.D.Delegate.initial_sort c.args.cache.now.cx) (g.D.Delegate.noop c.step.new.inspect) c.in_ok-next-in-Evaluate.next c.ask.new.cache c.ask.new.self (g.D.Delegate.starts c.ask.new.inspect) c.in_ok-next-in-Evaluate.ensures.asked ready call _
+      let on = asked_goes_on g.D.Delegate g.D.Cx.Cx g.D.Cx.Input.PartialEq.eq c.args.cache.now.cx c.in-Evaluate.kind c.in-Evaluate.input c.args.cache.now (record c.args.evaluation.now { goals = c.step.new.goals }) (g.D.Delegate.starts c.step.new.inspect) g.met.D.Delegate.divides g.met.D.Cx.Cx.same_input g.met.D.Cx.Input.Eq.laws.refl (g.met.D.Delegate.initial_sort c.args.cache.now.cx) (g.D.Delegate.noop c.step.new.inspect) c.in_ok-next-in-Evaluate.next c.ask.new.cache c.ask.new.self (g.D.Delegate.starts c.ask.new.inspect) c.in_ok-next-in-Evaluate.ensures.asked ready call _
       (requests g.D.Delegate g.D.Cx.Cx g.D.Cx.Input.PartialEq.eq c.args.cache.now.cx c.args.cache.now c.args.evaluation.now c.args.received c.cx-cx.result c.cx-cx.ensures c.in_ok-request.request c.step.new.goals c.in_ok-request.ensures.stepped (g.D.Delegate.starts c.args.inspect.now) (g.D.Delegate.starts c.step.new.inspect) c.step.ensures.same_starts (Evaluate c.in-Evaluate.kind c.in-Evaluate.input) c.in-Evaluate.is c.requires.right call h) in
       record { leads = on.goes_on; answers = on.answers; remembered = tt };
   stops = λ call h. tt;

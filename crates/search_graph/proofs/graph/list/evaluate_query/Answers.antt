@@ -1,5 +1,7 @@
-use Rattle.std.proofs.Common.{◌≡◌, ℕ, ◌≤◌, max, false, IfOk, IfErr, refl, sym, ap, subst}
-use Rattle.search_graph.specs.Below.{IsDefinite, IsPaid, verdicts, Memory, IsPlainTo, IsPlainValue, IsCaused, StoresWithin}
+use Rattle.std.proofs.Common.{◌≡◌, ℕ, ◌≤◌, max, false, List, [], ◌∷◌, IfOk, IfErr, refl, sym, ap, subst}
+use Rattle.std.proofs.lemmas.List.Elements.{All-head}
+use Rattle.search_graph.specs.Lists.{AreEnclosed}
+use Rattle.search_graph.specs.Below.{IsDefinite, IsEnclosed, IsPaid, verdicts, Memory, IsPlainTo, IsPlainValue, IsCaused, StoresWithin}
 use Rattle.global_cache.proofs.Finished.{KeepsFinished-same}
 use Rattle.global_cache.proofs.Stores.{KeepsResults-same}
 use Rattle.search_graph.specs.Words.{HadCause}
@@ -47,7 +49,14 @@ returns-clause-limits g c =
         paid = subst (λ root. IsPaid (max 1 g.D.Delegate.FIXPOINT_STEP_LIMIT) root g.D.Delegate.last (g.D.Delegate.starts c.args.inspect.now) (g.D.Delegate.starts c.evaluate_goal.new.inspect)) depth
             (c.evaluate_goal.ensures.price counted none fresh met);
       };
+      enclosed = λ goals all none. c.evaluate_goal.ensures.enclosed goals (at_depth goals all) none;
+      by_runs = λ goals all none counted met. c.evaluate_goal.ensures.only_by_runs goals (at_depth goals all) none counted fresh met;
     }
+  where
+    at_depth : (goals : List _) → AreEnclosed g.D.Delegate g.D.Cx.Cx g.D.Cx.Input.PartialEq.eq c.args.cache.now.cx goals (c.args.query ∷ []) → IsEnclosed (g.D.Delegate.script c.args.cache.now.cx) goals c.new-graph.result.root_depth c.args.query.1
+    at_depth goals all =
+        subst (λ root. IsEnclosed (g.D.Delegate.script c.args.cache.now.cx) goals root c.args.query.1) (sym (ap (λ graph. graph.root_depth) c.new-graph.ensures))
+        (All-head (λ query. IsEnclosed (g.D.Delegate.script c.args.cache.now.cx) goals query.0 query.1) c.args.query [] all)
 
 pub returns-clause-builder : goal.returns-clause-builder
 returns-clause-builder g c = record { at_least = c.evaluate_goal.ensures.at_least; same_noop = c.evaluate_goal.ensures.same_noop }

@@ -1,4 +1,4 @@
-use Rattle.std.proofs.Common.{arith, ◌≡◌, ◌≤◌, ◌+◌, ◌∷◌, map, reverse, Option, None, Some, option_map, refl, is_some, true, sym, ap, ◌∙◌, subst}
+use Rattle.std.proofs.Common.{arith, ◌≡◌, ◌≤◌, ◌+◌, ◌∷◌, Option, None, Some, option_map, refl, is_some, true, sym, ap, ◌∙◌, subst}
 use Rattle.std.specs.Option.{IfSome, option_copied}
 use Rattle.search_moves.specs.Below.{Answer, Begin, CountsOne, fates_of, answered_by, fate_for, IsFated, first_accepted, usable, hit_of, verdicts, AreOnStack, is_applicable, usable_entry, ClosesCycle}
 use Rattle.search_moves.specs.Words.{Asked, Refused, ByEntry, ByStored, OverCycle, Pushed}
@@ -37,7 +37,20 @@ returns-in-Some-look_up_entry-clause-asked g c =
     (subst (λ stack. usable_entry g.D.Cx.Input.PartialEq.eq g.D.Delegate.ENABLE_PROVISIONAL_CACHE (record { stack = stack; entries = c.args.self.now.provisional; step = c.args.kind }) c.args.input ≡ Some c.in-Some-look_up_entry.entry.now) c.stack-stack.ensures (sym c.in-Some-look_up_entry.ensures))
     c.in_ok-note_provisional.ensures.answered c.in_ok-note_provisional.ensures.nested
 
+pub returns-in_err-note_provisional-clause-stops : goal.returns-in_err-note_provisional-clause-stops
+returns-in_err-note_provisional-clause-stops g c = λ call ahead h.
+    if_err c.from_residual-in_err-note_provisional.result
+    (push_stops g.D.Delegate g.D.Cx.Cx g.D.Cx.Input.PartialEq.eq c.args.cache.now.cx c.args.kind c.args.input c.args.cache.now c.args.self.now (g.D.Delegate.starts c.args.inspect.now) g.met.D.Delegate.divides c.in-Some.depth c.in-Some.ensures
+    c.args.cache.now (record c.args.self.now { goals = c.note_provisional.new.self }) (g.D.Delegate.starts c.args.inspect.now) refl refl (omega arith) (omega arith) call ahead h)
+
 -- a stored result answers it
+pub returns-in_err-note_stored-clause-stops : goal.returns-in_err-note_stored-clause-stops
+returns-in_err-note_stored-clause-stops g c = λ call ahead h.
+    let same = c.consult-stored.ensures.same_starts in
+    if_err c.from_residual-in_err-note_stored.result
+    (push_stops g.D.Delegate g.D.Cx.Cx g.D.Cx.Input.PartialEq.eq c.args.cache.now.cx c.args.kind c.args.input c.args.cache.now c.args.self.now (g.D.Delegate.starts c.args.inspect.now) g.met.D.Delegate.divides c.in-Some.depth c.in-Some.ensures
+    c.args.cache.now (record c.args.self.now { goals = c.note_stored.new.self }) (g.D.Delegate.starts c.consult-stored.new.inspect) refl refl (omega (arith, same)) (omega (arith, same)) call ahead h)
+
 pub consult-stored-requires : goal.consult-stored-requires
 consult-stored-requires g c =
     subst (λ stack. AreOnStack g.D.Cx.Input.PartialEq.eq stack c.args.self.now.provisional) (sym c.stack-stack-2.ensures)
@@ -58,6 +71,13 @@ returns-in-Some-stored-clause-asked g c =
     c.in_ok-note_stored.ensures (is_some_with _ c.consult-stored.result.stored c.in-Some-stored.stored c.in-Some-stored.is c.consult-stored.ensures.usable))
 
 -- its goal is under evaluation
+pub returns-in-Some-find-clause-stops : goal.returns-in-Some-find-clause-stops
+returns-in-Some-find-clause-stops g c = λ call ahead h.
+    let same = c.consult-stored.ensures.same_starts in
+    if_err c.answer_cycle.result
+    (push_stops g.D.Delegate g.D.Cx.Cx g.D.Cx.Input.PartialEq.eq c.args.cache.now.cx c.args.kind c.args.input c.args.cache.now c.args.self.now (g.D.Delegate.starts c.args.inspect.now) g.met.D.Delegate.divides c.in-Some.depth c.in-Some.ensures
+    c.args.cache.now c.answer_cycle.new.self (g.D.Delegate.starts c.consult-stored.new.inspect) refl c.answer_cycle.ensures.rest (omega (arith, same)) (omega (arith, same)) call ahead h)
+
 pub returns-in-Some-find-clause-asked : goal.returns-in-Some-find-clause-asked
 returns-in-Some-find-clause-asked g c =
     if_ok_then c.answer_cycle.result _ _ c.answer_cycle.ensures.answered

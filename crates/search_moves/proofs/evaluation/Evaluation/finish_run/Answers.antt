@@ -1,12 +1,12 @@
-use Rattle.search_moves.proofs.Remembering.{met_remembers, remembered}
-use Rattle.search_moves.proofs.Said.{done_keeps, end_leaves, met_keeps_answers, rerun_keeps}
+use Rattle.search_moves.proofs.Remembering.{remembered}
+use Rattle.search_moves.proofs.Said.{done_keeps, end_leaves, limited_keeps_answers, rerun_keeps}
 use Rattle.std.proofs.Common.{rules, Err, Ok, Some, ◌≡◌, true, refl, sym, ap, ap₂, subst, ◌∙◌}
-use Rattle.search_moves.specs.Below.{Again, AtLimit, IsEndOfRun, Memory, Overflow, Step, verdict_of, verdicts, CallGoesOn, KeepsAnswers, KeepsStore}
+use Rattle.search_moves.specs.Below.{Again, AtLimit, IsEndOfRun, IsFit, Memory, Overflow, runs_of, Step, verdict_of, verdicts, CallGoesOn, KeepsAnswers, KeepsStore}
 use Rattle.search_moves.specs.Words.{HadMostRuns, IsDone, IsRunAgain, LeadsTo, Pops, StopsWith}
-use Rattle.search_rules.proofs.justified.Finishing.{neither_is}
-use Rattle.search_rules.proofs.moves.Moves.{asked_stopped_by, can_leave, ends_newest, failed_rerun_stopped, leave_leads, limited_leads, limited_stopped, rerun_goes_on}
+use Rattle.search_rules.proofs.justified.Finishing.{begin_fits, neither_is}
+use Rattle.search_rules.proofs.moves.Moves.{asked_stopped_by, can_leave, ends_newest, failed_rerun_stopped, leave_leads, limited_leads, limited_stopped, met_none_before, rerun_goes_on}
 use Rattle.search_rules.proofs.moves.Questions.{if_err_and, if_ok_then, no_ok}
-use Rattle.search_rules.proofs.moves.DoneRuns.{limit_comes, limited_plain, memory_alone, met_keeps, newest_comes, newest_plain, newest_within, put_keeps, stopped_by, stopped_each}
+use Rattle.search_rules.proofs.moves.DoneRuns.{limit_comes, limited_keeps, limited_plain, memory_alone, newest_comes, newest_plain, put_keeps, stopped_by, stopped_each}
 use Rattle.search_rules.proofs.Reasons.{newest_reason, newest_unranked}
 use Rattle.search_rules.proofs.moves.EndOfRunLaws.{limited, unstable, newest_limited, newest_unstable}
 use Rattle.search_context.proofs.Builders.{builder_stays}
@@ -40,7 +40,7 @@ returns-in-Ok-clause-moves g c = record {
             done_keeps g.D.Delegate g.D.Cx.Cx c.args.cache.now.cx call g.D.Cx.Input.PartialEq.eq ahead c.args.outcome _ _ _ c.in-Ok.reason
             (end_leaves (verdicts g.D.Cx.Cx) g.D.Cx.Result.PartialEq.eq g.D.Delegate.initial_kind g.D.Delegate.ambiguity g.met.D.Delegate.ambiguous_is_neither g.D.Delegate.FIXPOINT_STEP_LIMIT c.last_entry.result.now.state.provisional_result c.last_entry.result.now.state.usages c.last_run.result.now.finished_runs c.args.outcome c.end_of_run.result c.in-Ok.reason c.end_of_run.ensures.is_end c.in-Ok.is)
             g.met.D.Cx.Cx.same_input c.args.cache.now.results c.pop_goal.new.cache.results c.args.self.now.goals c.args.self.now.provisional c.pop_goal.new.self.provisional c.pop_goal.ensures.stored p.rebased h.asked h.answers;
-        remembered = remembered g.D.Delegate g.D.Cx.Cx c.args.cache.now.cx call g.D.Cx.Input.PartialEq.eq (g.D.Cx.Cx.token c.args.cache.now.cx) ahead c.args.outcome _ _ c.pop_goal.new.cache.results c.args.self.now.goals c.pop_goal.new.self.goals next c.requires.right.justified.tallies h.asked p.left p.stored;
+        remembered = remembered g.D.Delegate g.D.Cx.Cx c.args.cache.now.cx call g.D.Cx.Input.PartialEq.eq (g.D.Cx.Cx.token c.args.cache.now.cx) ahead c.args.outcome c.args.outcome _ _ c.pop_goal.new.cache.results _ (λ meets. meets) c.args.self.now.goals c.pop_goal.new.self.goals next c.requires.right.justified.tallies h.asked p.left p.stored;
       }));
   stops = λ call ahead h.
       stopped_by c.pop_goal.result _ _
@@ -86,8 +86,8 @@ returns-in-Err-AtLimit-clause-moves g c = record {
       subst (λ after. LeadsTo g.D.Delegate g.D.Cx.Cx g.D.Cx.Input.PartialEq.eq c.args.cache.now.cx call ahead c.args.self.now.goals next c.pop_goal-in-Err-AtLimit.new.cache after (g.D.Delegate.starts c.args.inspect.now)) (sym c.pop_goal-in-Err-AtLimit.ensures.rest)
       (record {
         leads = limited_leads g.D.Delegate g.D.Cx.Cx c.args.cache.now.cx call ahead c.args.outcome c.fixpoint_overflow_result-overflow.result next c.args.self.now.goals c.pop_goal-in-Err-AtLimit.new.self.goals _ _ (newest_limited c.args.self.now.goals c.last_entry.result.now c.last_run.result.now c.last_entry.ensures c.last_run.ensures g.D.Delegate.FIXPOINT_STEP_LIMIT (limited g.D.Cx.Result.PartialEq.eq g.D.Delegate.initial_kind g.D.Delegate.ambiguity g.D.Delegate.FIXPOINT_STEP_LIMIT c.last_entry.result.now.state.provisional_result c.last_entry.result.now.state.usages c.last_run.result.now.finished_runs c.args.outcome c.end_of_run.result c.end_of_run.ensures.is_end (c.in-Err-AtLimit.is ∙ ap Err c.in-Err-AtLimit.field-0-is))) p.left h.asked;
-        answers = met_keeps_answers g.D.Delegate g.D.Cx.Cx c.args.cache.now.cx call g.D.Cx.Input.PartialEq.eq c.pop_goal-in-Err-AtLimit.new.cache.results c.pop_goal-in-Err-AtLimit.new.self.provisional (newest_within g.D.Delegate g.D.Cx.Cx c.args.cache.now.cx call g.D.Cx.Input.PartialEq.eq g.met.D.Cx.Cx.same_input c.args.cache.now.results c.pop_goal-in-Err-AtLimit.new.cache.results ahead c.args.outcome c.fixpoint_overflow_result-overflow.result c.args.self.now.goals _ _ c.pop_goal-in-Err-AtLimit.ensures.stored h.asked h.answers.store.within);
-        remembered = met_remembers next _ _ _;
+        answers = limited_keeps_answers g.D.Delegate g.D.Cx.Cx c.args.cache.now.cx call g.D.Cx.Input.PartialEq.eq ahead c.args.outcome c.fixpoint_overflow_result-overflow.result _ _ _ _ g.met.D.Cx.Cx.same_input c.args.cache.now.results c.pop_goal-in-Err-AtLimit.new.cache.results c.args.self.now.goals c.args.self.now.provisional c.pop_goal-in-Err-AtLimit.new.self.provisional c.pop_goal-in-Err-AtLimit.ensures.stored p.rebased h.asked h.answers;
+        remembered = remembered g.D.Delegate g.D.Cx.Cx c.args.cache.now.cx call g.D.Cx.Input.PartialEq.eq (g.D.Cx.Cx.token c.args.cache.now.cx) ahead c.args.outcome c.fixpoint_overflow_result-overflow.result _ c.args.self.now.limits_met c.pop_goal-in-Err-AtLimit.new.cache.results true (met_none_before g.D.Delegate g.D.Cx.Cx c.args.cache.now.cx call c.args.self.now.limits_met) c.args.self.now.goals c.pop_goal-in-Err-AtLimit.new.self.goals next c.requires.right.justified.tallies h.asked p.left p.stored;
       }));
   stops = λ call ahead h.
       stopped_each c.pop_goal-in-Err-AtLimit.result _
@@ -95,7 +95,7 @@ returns-in-Err-AtLimit-clause-moves g c = record {
       subst (λ after. StopsWith g.D.Delegate g.D.Cx.Cx g.D.Cx.Input.PartialEq.eq c.args.cache.now.cx call fault c.pop_goal-in-Err-AtLimit.new.cache after (g.D.Delegate.starts c.args.inspect.now)) (sym c.pop_goal-in-Err-AtLimit.ensures.rest)
       (record {
         stopped = limited_stopped g.D.Delegate g.D.Cx.Cx c.args.cache.now.cx call ahead c.args.outcome c.args.self.now.goals fault _ _ (newest_limited c.args.self.now.goals c.last_entry.result.now c.last_run.result.now c.last_entry.ensures c.last_run.ensures g.D.Delegate.FIXPOINT_STEP_LIMIT (limited g.D.Cx.Result.PartialEq.eq g.D.Delegate.initial_kind g.D.Delegate.ambiguity g.D.Delegate.FIXPOINT_STEP_LIMIT c.last_entry.result.now.state.provisional_result c.last_entry.result.now.state.usages c.last_run.result.now.finished_runs c.args.outcome c.end_of_run.result c.end_of_run.ensures.is_end (c.in-Err-AtLimit.is ∙ ap Err c.in-Err-AtLimit.field-0-is))) h.asked;
-        store = met_keeps g.D.Delegate g.D.Cx.Cx c.args.cache.now.cx call g.D.Cx.Input.PartialEq.eq c.pop_goal-in-Err-AtLimit.new.cache.results (newest_within g.D.Delegate g.D.Cx.Cx c.args.cache.now.cx call g.D.Cx.Input.PartialEq.eq g.met.D.Cx.Cx.same_input c.args.cache.now.results c.pop_goal-in-Err-AtLimit.new.cache.results ahead c.args.outcome c.fixpoint_overflow_result-overflow.result c.args.self.now.goals _ _ c.pop_goal-in-Err-AtLimit.ensures.stored h.asked h.answers.store.within);
+        store = limited_keeps g.D.Delegate g.D.Cx.Cx c.args.cache.now.cx call g.D.Cx.Input.PartialEq.eq g.met.D.Cx.Cx.same_input c.args.cache.now.results c.pop_goal-in-Err-AtLimit.new.cache.results ahead c.args.outcome c.fixpoint_overflow_result-overflow.result c.args.self.now.goals _ _ c.pop_goal-in-Err-AtLimit.ensures.stored h.asked h.answers.store;
       }));
 }
 
@@ -144,6 +144,19 @@ returns-in_ok-run_again-in-Err-Again-clause-moves g c = record {
       });
   stops = λ call ahead h. tt;
 }
+
+pub returns-in_ok-run_again-in-Err-Again-clause-right : goal.returns-in_ok-run_again-in-Err-Again-clause-right
+returns-in_ok-run_again-in-Err-Again-clause-right g c =
+    let right = c.in_ok-run_again-in-Err-Again.ensures.reran.right in
+    record {
+      justified = (
+        right.justified,
+        subst (λ given. IsFit (verdicts g.D.Cx.Cx) c.run_again.new.cache.nodes (runs_of c.run_again.new.self.goals) given.reply given.node) (sym c.without_node.ensures)
+            (begin_fits (verdicts g.D.Cx.Cx) c.run_again.new.cache.nodes (runs_of c.run_again.new.self.goals)),
+      );
+      free = right.free;
+      ready = right.ready;
+    }
 
 pub returns-in_ok-run_again-in-Err-Again-clause-leads : goal.returns-in_ok-run_again-in-Err-Again-clause-leads
 returns-in_ok-run_again-in-Err-Again-clause-leads g c =
