@@ -1,5 +1,5 @@
 -- What a program came to, and its status.
-use Rattle.std.proofs.Common.{◌≡◌, ◌∙◌, ◌==◌, ◌≤◌, ℕ, arith, Bool, Err, false, List, None, Ok, Option, refl, Result, Some, subst, sym, true, ⊎_elim}
+use Rattle.std.proofs.Common.{◌≡◌, ◌==◌, ◌≤◌, ℕ, arith, Bool, Err, false, List, [], None, Ok, Option, refl, Result, Some, subst, sym, true, ⊎_elim}
 use Rattle.std.proofs.KnownBytes.{Keeps-refl}
 use Rattle.std.specs.Borrow.{Bor}
 use Rattle.std.specs.Io.KnownBytes.{Keeps}
@@ -11,13 +11,16 @@ use Rattle.json.specs.Token.{Token}
 use Rattle.line_texts.specs.declared.input.InputFault.{InputFault}
 use Rattle.line_texts.specs.declared.input.InputFault.TheVariants as input
 use Rattle.rule_tables.specs.declared.reading.ReadFault.TheVariants as read
-use Rattle.shown_graphs.specs.Below.{CxOf, DelegateOf, Goal, IsFirstBadLine, Outcome, questions_of, ReadFault, Reads, Rules, Table, verdicts}
+use Rattle.shown_graphs.specs.Below.{CxOf, DelegateOf, Goal, IsFirstBadLine, names_of, Outcome, ReadFault, Reads, Rules, Table, verdicts}
 use Rattle.shown_graphs.specs.Data.{plain_claim}
 use Rattle.shown_graphs.specs.Page.{AreOfPage, IsPage}
 use Rattle.shown_graphs.specs.Program.{EndsChecking, EndsShowing, IsChecked, IsPageText, IsShown}
-use Rattle.shown_graphs.specs.Shown.{AreAsked}
+use Rattle.shown_graphs.specs.Shown.{AreShown, HasClaims}
 use Rattle.shown_graphs.specs.Stop.{status_after, status_of, stop_of, stopped_input, StopsUnless}
 use Rattle.shown_graphs.specs.Told.{AreJudged}
+use Rattle.shown_graphs.specs.declared.page.Form.{Form}
+use Rattle.shown_graphs.specs.declared.page.Form.TheVariants as form
+use Rattle.shown_graphs.specs.declared.page.Page.{Page}
 use Rattle.shown_graphs.specs.declared.program.Stop.{Stop}
 use Rattle.shown_graphs.specs.declared.program.Stop.TheVariants.{BadData, BadLine, InputOrOutput, Memory}
 use Rattle.shown_graphs.specs.declared.reading.Claim.{Claim}
@@ -111,13 +114,22 @@ module _ (known old : Option (List ℕ)) (text : List ℕ) (is_known : IfSome kn
 
 -- ---- ends that are none
 
-module _ {D V P F A T : Type 0} (G : DelegateOf D (Table (Bor Rules)) V P F Goal Outcome A T) (X : CxOf (Table (Bor Rules)) Goal Outcome A T) (known : Option (List ℕ)) (text : List ℕ) (table : Table (Bor Rules)) (is_known : IfSome known (λ bytes. text ≡ bytes)) where
-  pub shown_of_text : Reads text table.lender.now → (r : Result Bool Stop) → IfOk r (AreAsked (verdicts X) (G.script table) (questions_of table.lender.now)) → IfOk r (IsShown G X known)
-  shown_of_text reads (Ok all_fine) asked = record { text = text; is_known = is_known; table = table; reads = reads; are_asked = asked }
-  shown_of_text reads (Err stop) asked = tt
+module _ {D V P F A T : Type 0} (G : DelegateOf D (Table (Bor Rules)) V P F Goal Outcome A T) (X : CxOf (Table (Bor Rules)) Goal Outcome A T) (known old new : Option (List ℕ)) (text : List ℕ) (table : Table (Bor Rules)) (is_known : IfSome known (λ bytes. text ≡ bytes)) where
+  pub shown_of_text : (wanted : Form) (page : Page) → Reads text table.lender.now → (wanted ≡ form.Data → (names : List (List ℕ)) → HasClaims names page []) → (r : Result Bool Stop) →
+      IfOk r (AreShown (verdicts X) (G.script table) table.lender.now page old new) → IfOk r (IsShown G X known old new wanted)
+  shown_of_text wanted page reads begun (Ok all_fine) shown = record {
+    text = text;
+    is_known = is_known;
+    table = table;
+    reads = reads;
+    claims = shown.claims;
+    are_asked = shown.are_asked;
+    is_written = λ is_data texts. shown.is_written texts (begun is_data (names_of table.lender.now));
+  }
+  shown_of_text wanted page reads begun (Err stop) shown = tt
 
-  pub checked_of_text : (old new : Option (List ℕ)) (claims : List Claim) (left : List Token) → left ≡ tokens text → IsPage left table.lender.now (map plain_claim claims) → (r : Result Bool Stop) →
+  pub checked_of_text : (claims : List Claim) (left : List Token) → left ≡ tokens text → IsPage left table.lender.now (map plain_claim claims) → (r : Result Bool Stop) →
       IfOk r (λ fine. AreJudged (verdicts X) (G.script table) table.lender.now claims fine old new) → IfOk r (IsChecked G X known old new)
-  checked_of_text old new claims left same page (Ok fine) judged =
+  checked_of_text claims left same page (Ok fine) judged =
       record { text = text; is_known = is_known; table = table; claims = claims; is_page = subst (λ ts. IsPage ts table.lender.now (map plain_claim claims)) same page; are_judged = judged }
-  checked_of_text old new claims left same page (Err stop) judged = tt
+  checked_of_text claims left same page (Err stop) judged = tt

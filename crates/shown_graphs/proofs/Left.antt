@@ -1,5 +1,5 @@
 -- What is left to be read of a value, when its first members are read.
-use Rattle.std.proofs.Common.{◌≡◌, ◌∙◌, All, ap, codes, List, ◌∷◌, sym, ℕ}
+use Rattle.std.proofs.Common.{◌≡◌, All, codes, List, ◌∷◌, ℕ}
 use Rattle.std.specs.Prelude.{⊤}
 use Rattle.json.specs.Token.{Token, begin_object, end_array, end_object, key}
 use Rattle.search_context.specs.declared.context.Edge.{Edge}

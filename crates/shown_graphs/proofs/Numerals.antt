@@ -1,5 +1,5 @@
 -- A number of JSON that has digits alone is written as `decimal` writes it.
-use Rattle.std.proofs.Common.{◌≡◌, ◌≢◌, ◌∙◌, ◌<◌, ◌≤◌, ◌^◌, ◌==◌, ℕ, arith, ap, cond, decimal, drop, false, get_or, length, List, [], ◌∷◌, None, Option, option_and_then, refl, rules, Some, subst, sym, true, ⊎_elim}
+use Rattle.std.proofs.Common.{◌≡◌, ◌≢◌, ◌∙◌, ◌<◌, ◌≤◌, ◌^◌, ◌==◌, ℕ, arith, ap, cond, decimal, drop, false, get_or, length, List, [], ◌∷◌, None, Option, refl, rules, Some, subst, sym, ⊎_elim}
 use Rattle.std.proofs.lemmas.Bool.{cases_Bool, eqb-true, ne_eqb}
 use Rattle.std.proofs.lemmas.Fmt.{decimal-digits_value, parse-decimal}
 use Rattle.std.proofs.lemmas.Str.Parse.{IsNumeralModel, numerals_by_value}
@@ -8,7 +8,7 @@ use Rattle.std.specs.Prelude.{Err, IfNone, IfSome, Ok, Result}
 use Rattle.std.specs.Result.{result_ok}
 use Rattle.std.specs.Str.Parse.{AllDigits, digits_value, IsNumeral, ParsesUnsigned, without_leading_plus}
 use Rattle.json.specs.Print.{IsNumber}
-use Rattle.json.specs.Word.{after_exponent, after_fraction, after_number}
+use Rattle.json.specs.Word.{after_number}
 
 own : IsNumeralModel (AllDigits 10) (digits_value 10)
 own = numerals_by_value (AllDigits 10) (search rules)

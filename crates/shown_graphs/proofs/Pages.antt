@@ -1,5 +1,5 @@
 -- A page of data, and the rules on it.
-use Rattle.std.proofs.Common.{◌≡◌, ◌≢◌, ◌∙◌, ℕ, All, ap, append_assoc, arith, Bool, codes, cond, false, get_or, List, [], ◌∷◌, ◌++◌, nat_eq, None, Option, refl, Some, subst, sym, true}
+use Rattle.std.proofs.Common.{◌≡◌, ◌∙◌, ℕ, All, ap, append_assoc, arith, Bool, codes, cond, false, get_or, List, [], ◌∷◌, ◌++◌, nat_eq, None, Option, refl, Some, subst, sym, true}
 use Rattle.std.specs.Prelude.{⊤, IsSomeAnd, MatchOption, slice_get}
 use Rattle.std.specs.List.{AllZip, flat_map}
 use Rattle.std.proofs.lemmas.List.{flat_map_more}
@@ -7,14 +7,14 @@ use Rattle.std.proofs.lemmas.List.Elements.{All-head}
 use Rattle.std.proofs.lemmas.Slice.Zip.{AllZip-left}
 use Rattle.json.specs.Token.{Token, begin_object, end_array, end_object, key}
 use Rattle.line_texts.specs.Lines.{IsName, is_name_byte, lines_of}
-use Rattle.rule_tables.specs.Grammar.{Ask, head_word, IsAsk, IsMalformed, IsQuestion, IsRule, letter_of, NamedQuestion, Nothing, Rule, Say, Says, Statement}
+use Rattle.rule_tables.specs.Grammar.{Ask, head_word, IsAsk, IsQuestion, IsRule, letter_of, NamedQuestion, Nothing, Rule, Say, Says, Statement}
 use Rattle.rule_tables.specs.Table.{first_mentions, names_in}
 use Rattle.cycle_heads.specs.declared.path.PathKind.{PathKind}
 use Rattle.cycle_heads.specs.declared.path.PathKind.TheVariants.{Coinductive, ForcedAmbiguity, Inductive, Unknown}
 use Rattle.shown_graphs.proofs.Arrays.{array_tail, array_told, Parts, Tells}
-use Rattle.shown_graphs.proofs.Readback.{claim_parts}
+use Rattle.shown_graphs.proofs.Readback.{claim_parts, claim_tells}
 use Rattle.shown_graphs.specs.Below.{IsFirstBadLine, names_of, Reads, Rules}
-use Rattle.shown_graphs.specs.Data.{array_tokens, claim_tokens, IsClaim, list_tokens, PlainClaim, Spells}
+use Rattle.shown_graphs.specs.Data.{array_tokens, claim_tokens, HaveOwnNames, IsClaim, list_tokens, PlainClaim, Spells}
 use Rattle.shown_graphs.specs.Page.{AreOfPage, line_tokens, text_of}
 
 -- ---- a line says one thing
@@ -187,3 +187,22 @@ module _ (whole t₁ t₂ : List Token) (page : AreOfPage whole) (begun : whole 
 
           pub nothing_left : (t₆ : List Token) → t₅ ≡ end_object ∷ t₆ → t₆ ≡ []
           nothing_left t₆ ended = let left = page_end in cc
+
+-- ---- so a page tells its claims
+
+claims_in_array : (names : List (List ℕ)) (some others : List PlainClaim) → array_tokens (claim_tokens names) some (end_object ∷ []) ≡ array_tokens (claim_tokens names) others (end_object ∷ []) →
+    list_tokens (claim_tokens names) some (end_array ∷ end_object ∷ []) ≡ list_tokens (claim_tokens names) others (end_array ∷ end_object ∷ [])
+claims_in_array names some others same = cc
+
+pub page_told : (whole : List Token) (written read : AreOfPage whole) → HaveOwnNames (names_of written.rules) → read.claims ≡ written.claims
+page_told whole written read own =
+    let lines : List (List ℕ) = read.is_page.lines in
+    let names : List (List ℕ) = names_of read.rules in
+    let answers : List Token = array_tokens (claim_tokens names) read.claims (end_object ∷ []) in
+    let rest : List Token = key (codes "answers") ∷ answers in
+    let array : List Token = array_tokens line_tokens lines rest in
+    let same_names : names_of written.rules ≡ names = names_read whole (key (codes "rules") ∷ array) array written read.is_page.are_its refl rest lines refl read.rules read.is_page.reads in
+    let same : answers ≡ array_tokens (claim_tokens names) written.claims (end_object ∷ []) = array_of_claims whole (key (codes "rules") ∷ array) array written read.is_page.are_its refl rest lines refl read.rules read.is_page.reads answers refl in
+    let same_list : list_tokens (claim_tokens names) read.claims (end_array ∷ end_object ∷ []) ≡ list_tokens (claim_tokens names) written.claims (end_array ∷ end_object ∷ []) = claims_in_array names _ _ same in
+    array_told (claim_tokens names) (claim_parts names) (IsClaim names) (claim_tells names (subst HaveOwnNames same_names own)) read.claims written.claims _ _ read.is_page.named
+    (subst (λ ns. All (IsClaim ns) written.claims) same_names written.is_page.named) same_list

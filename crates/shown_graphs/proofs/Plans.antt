@@ -1,5 +1,5 @@
 -- A walk over a graph, one line further.
-use Rattle.std.proofs.Common.{⊎_elim, inl, inr, ◌≡◌, ◌≢◌, ◌∙◌, ◌⊎◌, ℕ, Bool, true, false, ◌&&◌, ◌||◌, List, [], ◌∷◌, ◌++◌, ap, sym, refl, rules, subst, eq-eqb, eqb-true, nat_eq, slice_set, None, Some, slice_get, zero, suc, replicate}
+use Rattle.std.proofs.Common.{⊎_elim, inl, inr, ◌≡◌, ◌≢◌, ◌∙◌, ◌⊎◌, ℕ, Bool, true, false, ◌&&◌, ◌||◌, List, [], ◌∷◌, ◌++◌, ap, sym, refl, rules, subst, eq-eqb, eqb-true, nat_eq, slice_set, Some, slice_get, zero, suc, replicate}
 use Rattle.open_graphs.proofs.Lists.{get_set_other, get_set_same}
 use Rattle.std.proofs.lemmas.Bool.{cases_Bool}
 use Rattle.std.proofs.lemmas.List.{append-nil}
@@ -8,7 +8,7 @@ use Rattle.std.proofs.lemmas.List.Folds.{list_all-append, list_any-append}
 use Rattle.std.proofs.lemmas.Map.Keys.{IsDistinct-push}
 use Rattle.std.specs.List.{IsDistinct, list_all, list_any}
 use Rattle.std.specs.Cmp.{IsEquivalence}
-use Rattle.shown_graphs.specs.Plan.{AreFound, is_cut, is_found, IsMarked, IsWalk, place_of, place_shown, places_shown}
+use Rattle.shown_graphs.specs.Plan.{is_cut, is_found, IsMarked, IsWalk, place_of, place_shown, places_shown}
 use Rattle.shown_graphs.specs.declared.plan.Line.{Line}
 use Rattle.shown_graphs.specs.declared.plan.Line.TheVariants.{Again, Cut, Shown}
 use Rattle.shown_graphs.specs.declared.plan.Mark.{Mark}

@@ -1,5 +1,5 @@
 -- What tokens spell is told by them.
-use Rattle.std.proofs.Common.{◌≡◌, ◌∙◌, ◌&&◌, ℕ, All, List, ◌∷◌, Some, ap, sym, refl, cond, nat_eq, get_or, length, decimal, codes}
+use Rattle.std.proofs.Common.{◌≡◌, ◌∙◌, ◌&&◌, ℕ, List, ◌∷◌, Some, ap, sym, refl, cond, nat_eq, get_or, length, decimal, codes}
 use Rattle.std.proofs.lemmas.Fmt.{decimal_injective}
 use Rattle.std.specs.Prelude.{⊤}
 use Rattle.json.specs.Token.{Token, end_array, end_object, key}

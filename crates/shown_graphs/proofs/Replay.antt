@@ -1,8 +1,8 @@
 -- Lines of a text that are read back, one line further.
-use Rattle.std.proofs.Common.{◌≡◌, ◌∙◌, ℕ, zero, suc, ◌+◌, List, [], ◌∷◌, ◌++◌, length, map, fold, Option, Some, None, option_map, option_and_then, ap, sym, refl, arith, nat_eq, eq-eqb, true, ◌&&◌, if◌then◌else◌, subst, Bool}
+use Rattle.std.proofs.Common.{◌≡◌, ◌∙◌, ℕ, zero, suc, ◌+◌, List, [], ◌∷◌, ◌++◌, length, map, fold, Option, Some, None, option_map, option_and_then, ap, sym, refl, arith, nat_eq, eq-eqb, ◌&&◌, if◌then◌else◌, subst}
 use Rattle.std.proofs.lemmas.List.{append-nil}
 use Rattle.std.proofs.lemmas.List.Sums.{fold-append}
-use Rattle.shown_graphs.specs.Plan.{all_read, AreWhole, Expects, IsReplayed, level_of, line_read, lines_read, next_line, opened, pending_of, place_of, unread, with_target}
+use Rattle.shown_graphs.specs.Plan.{all_read, AreWhole, Expects, IsReplayed, level_of, line_read, lines_read, next_line, opened, pending_of, place_of, unread}
 use Rattle.search_context.specs.declared.context.Edge.{Edge}
 use Rattle.shown_graphs.specs.Below.{Goal, Node, Outcome}
 use Rattle.shown_graphs.specs.declared.plan.Line.{Line}

@@ -89,8 +89,9 @@ module _ (names : List (List ℕ)) where
   abbrev pub HaveTexts : Type 0
   HaveTexts = (goal : Goal) → IsUtf8 (goal_text goal)
 
--- these tokens are appended
+-- these tokens are appended, and nothing before them is changed
 pub record Puts (old new : Written) (spelled : List Token → List Token) : Type 0 where
+  pub alone : new.before ≡ old.before
   pub appended : (rest : List Token) → new.tokens ++ rest ≡ old.tokens ++ spelled rest
 
 -- ---- what is read back

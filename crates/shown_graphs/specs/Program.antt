@@ -4,11 +4,13 @@ use Rattle.std.specs.Borrow.{Bor}
 use Rattle.std.specs.Io.KnownBytes.{Keeps}
 use Rattle.std.specs.Str.{IsUtf8}
 use Rattle.json.specs.Lex.{tokens}
-use Rattle.shown_graphs.specs.Below.{CxOf, DelegateOf, Goal, IsFirstBadLine, Outcome, questions_of, Reads, Rules, Table, verdicts}
-use Rattle.shown_graphs.specs.Data.{plain_claim}
+use Rattle.shown_graphs.specs.Below.{CxOf, DelegateOf, Goal, IsFirstBadLine, names_of, Outcome, questions_of, Reads, Rules, Table, verdicts}
+use Rattle.shown_graphs.specs.Data.{HaveTexts, plain_claim, PlainClaim}
 use Rattle.shown_graphs.specs.Page.{AreOfPage, IsPage}
-use Rattle.shown_graphs.specs.Shown.{AreAsked}
+use Rattle.shown_graphs.specs.Shown.{AreAsked, IsWrittenPage}
 use Rattle.shown_graphs.specs.Told.{AreJudged}
+use Rattle.shown_graphs.specs.declared.page.Form.{Form}
+use Rattle.shown_graphs.specs.declared.page.Form.TheVariants.{Data}
 use Rattle.shown_graphs.specs.declared.program.Stop.{Stop}
 use Rattle.shown_graphs.specs.declared.program.Stop.TheVariants.{BadData, BadLine, InputOrOutput, Memory}
 use Rattle.shown_graphs.specs.declared.reading.Claim.{Claim}
@@ -32,17 +34,20 @@ module _ (known old new : Option (List ℕ)) where
   EndsChecking InputOrOutput = ⊤
   EndsChecking Memory = ⊤
 
-module _ {D V P F A T : Type 0} (G : DelegateOf D (Table (Bor Rules)) V P F Goal Outcome A T) (X : CxOf (Table (Bor Rules)) Goal Outcome A T) (known : Option (List ℕ)) where
-  -- The text, which is the known one where one is known, makes a table, and all its questions were asked.
-  pub record IsShown (all_fine : Bool) : Type 0 where
+module _ {D V P F A T : Type 0} (G : DelegateOf D (Table (Bor Rules)) V P F Goal Outcome A T) (X : CxOf (Table (Bor Rules)) Goal Outcome A T) (known old new : Option (List ℕ)) where
+  -- The text, which is the known one where one is known, makes a table, and all its questions were asked. As data a page is
+  -- written that has the claims of their answers, in order.
+  pub record IsShown (form : Form) (all_fine : Bool) : Type 0 where
     pub text : List ℕ
     pub is_known : IfSome known (λ bytes. text ≡ bytes)
     pub table : Table (Bor Rules)
     pub reads : Reads text table.lender.now
-    pub are_asked : AreAsked (verdicts X) (G.script table) (questions_of table.lender.now) all_fine
+    pub claims : List PlainClaim
+    pub are_asked : AreAsked (verdicts X) (G.script table) (questions_of table.lender.now) claims all_fine
+    pub is_written : form ≡ Data → HaveTexts (names_of table.lender.now) → IsWrittenPage (names_of table.lender.now) claims old new
 
   -- The text is a page of data, and all its claims were judged.
-  pub record IsChecked (old new : Option (List ℕ)) (none_refused : Bool) : Type 0 where
+  pub record IsChecked (none_refused : Bool) : Type 0 where
     pub text : List ℕ
     pub is_known : IfSome known (λ bytes. text ≡ bytes)
     pub table : Table (Bor Rules)

@@ -1,10 +1,19 @@
 -- What was shown of questions.
-use Rattle.std.specs.Prelude.{◌≡◌, ℕ, Bool, true, false, List, map, All}
-use Rattle.std.specs.List.{list_all}
-use Rattle.shown_graphs.specs.Below.{Goal, Outcome, Reply, Request, Verdicts}
+use Rattle.std.specs.Prelude.{◌≡◌, ℕ, ◌++◌, All, Bool, true, false, codes, List, [], ◌∷◌, map, Option}
+use Rattle.std.specs.Io.KnownBytes.{Appends}
+use Rattle.std.specs.List.{flat_map, list_all}
+use Rattle.std.specs.Str.{IsUtf8}
+use Rattle.json.specs.Lex.{tokens}
+use Rattle.json.specs.Token.{Token}
+use Rattle.json.specs.Written.{Written}
+use Rattle.shown_graphs.specs.Below.{Goal, names_of, Outcome, questions_of, Reply, Request, Rules, Verdicts}
 use Rattle.shown_graphs.specs.Checked.{IsChecked}
+use Rattle.shown_graphs.specs.Data.{claim_tokens, HaveTexts, list_tokens, plain_node, PlainClaim}
+use Rattle.shown_graphs.specs.Page.{begun_page, page_tokens}
 use Rattle.shown_graphs.specs.declared.answer.Came.{Came}
 use Rattle.shown_graphs.specs.declared.answer.Came.TheVariants.{Graph, NoGraph, Unchecked, Fault}
+use Rattle.shown_graphs.specs.declared.page.Page.{Page}
+use Rattle.shown_graphs.specs.declared.page.Page.TheVariants as page
 
 -- the question was answered, and no graph refused
 abbrev pub is_fine : Came → Bool
@@ -13,9 +22,43 @@ is_fine (NoGraph outcome reason) = true
 is_fine (Unchecked outcome) = false
 is_fine (Fault fault) = false
 
+-- the claim as which it is written, which has no nodes without a graph; none for a fault, and for a graph that was not accepted
+abbrev pub claims_of : Goal → Came → List PlainClaim
+claims_of goal (Graph outcome nodes) = record { goal = goal; outcome = outcome; nodes = map plain_node nodes.items } ∷ []
+claims_of goal (NoGraph outcome reason) = record { goal = goal; outcome = outcome; nodes = [] } ∷ []
+claims_of goal (Unchecked outcome) = []
+claims_of goal (Fault fault) = []
+
 -- Each of these questions was asked, in order. A graph that is shown of it is valid for its goal and its outcome.
-pub record AreAsked (says : Verdicts Outcome) (scripts : Goal → List (Reply Outcome) → Request Goal Outcome) (questions : List (ℕ × Goal)) (all_fine : Bool) : Type 0 where
+pub record AreAsked (says : Verdicts Outcome) (scripts : Goal → List (Reply Outcome) → Request Goal Outcome) (questions : List (ℕ × Goal)) (claims : List PlainClaim) (all_fine : Bool) : Type 0 where
   pub asked : List (Goal × Came)
   pub are_questions : map (λ a. a.0) asked ≡ map (λ q. q.1) questions
   pub are_checked : All (λ a. IsChecked says scripts a.0 a.1) asked
+  pub are_claims : claims ≡ flat_map (λ a. claims_of a.0 a.1) asked
   pub fine : all_fine ≡ list_all (λ a. is_fine a.1) asked
+
+-- The writer has the beginning of a page, and these claims.
+pub record IsBegun (names : List (List ℕ)) (writer : Written) (claims : List PlainClaim) : Type 0 where
+  pub lines : List (List ℕ)
+  pub alone : writer.before ≡ []
+  pub spelled : (rest : List Token) → writer.tokens ++ rest ≡ begun_page lines (list_tokens (claim_tokens names) claims rest)
+
+-- It is a page of data that has these claims.
+abbrev pub HasClaims : List (List ℕ) → Page → List PlainClaim → Type 0
+HasClaims names (page.Text depth waiting) claims = ⊥
+HasClaims names (page.Dot count waiting) claims = ⊥
+HasClaims names (page.Data writer) claims = IsBegun names writer claims
+
+-- The text of a page with these claims was written, and a newline.
+pub record IsWrittenPage (names : List (List ℕ)) (claims : List PlainClaim) (old new : Option (List ℕ)) : Type 0 where
+  pub lines : List (List ℕ)
+  pub text : List ℕ
+  pub is_utf8 : IsUtf8 text
+  pub spells : tokens text ≡ page_tokens lines names claims []
+  pub written : Appends old new (text ++ codes "\n")
+
+-- All questions were asked. Of a page of data that had no claims yet, the whole is written, with the claims of their answers in order.
+pub record AreShown (says : Verdicts Outcome) (scripts : Goal → List (Reply Outcome) → Request Goal Outcome) (rules : Rules) (page : Page) (old new : Option (List ℕ)) (all_fine : Bool) : Type 0 where
+  pub claims : List PlainClaim
+  pub are_asked : AreAsked says scripts (questions_of rules) claims all_fine
+  pub is_written : HaveTexts (names_of rules) → HasClaims (names_of rules) page [] → IsWrittenPage (names_of rules) claims old new

@@ -1,7 +1,9 @@
 //! Graphs as data: what is written.
-ghost use Rattle.std.specs.Prelude.{◌≡◌, OnOk, map};
+ghost use Rattle.std.specs.Prelude.{◌≡◌, ◌∷◌, ℕ, List, OnOk, map};
+ghost use Rattle.json.specs.Token.{end_array, end_object};
 ghost use Rattle.shown_graphs.specs.Below.{names_of, word_of};
-ghost use Rattle.shown_graphs.specs.Data.{array_tokens, claim_tokens, edge_tokens, HaveTexts, node_tokens, plain_node, Puts, reply_tokens, reply_word};
+ghost use Rattle.shown_graphs.specs.Data.{array_tokens, claim_tokens, edge_tokens, HaveTexts, list_tokens, node_tokens, plain_node, Puts, reply_tokens, reply_word};
+ghost use Rattle.shown_graphs.specs.Page.{begun_page, line_tokens};
 
 use crate::words::{letter, name_of};
 use json::Writer;
@@ -11,18 +13,29 @@ use std::alloc::{AllocError, Global};
 
 /// Writes what comes before the first answer: the lines of the text that say something, as the rules that the graphs are
 /// about.
-pub(crate) fn write_start(writer: &mut Writer<Global>, text: &[u8]) -> Result<(), AllocError> {
+pub(crate) fn write_start(writer: &mut Writer<Global>, text: &[u8]) -> Result<(), AllocError>
+    ensures { OnOk result ((lines : List (List ℕ)) × Puts writer.old writer.new (begun_page lines)) }
+{
     writer.begin_object()?;
     writer.key("rules")?;
     writer.begin_array()?;
     for line in text.split(|byte| *byte == b'\n') {
-        if says_something(line) {
-            writer.string(std::str::from_utf8(line).unwrap_or(""))?;
-        }
+        write_line(writer, line)?;
     }
     writer.end_array()?;
     writer.key("answers")?;
-    writer.begin_array()
+    writer.begin_array()?;
+    Ok(())
+}
+
+// Writes the line, if it says something.
+fn write_line(writer: &mut Writer<Global>, line: &[u8]) -> Result<(), AllocError>
+    ensures { OnOk result ((lines : List (List ℕ)) × Puts writer.old writer.new (list_tokens line_tokens lines)) }
+{
+    if says_something(line) {
+        writer.string(std::str::from_utf8(line).unwrap_or(""))?;
+    }
+    Ok(())
 }
 
 // Whether the line is neither empty nor a comment.
@@ -34,9 +47,12 @@ fn says_something(line: &[u8]) -> bool {
 }
 
 /// Writes what follows the last answer.
-pub(crate) fn write_end(writer: &mut Writer<Global>) -> Result<(), AllocError> {
+pub(crate) fn write_end(writer: &mut Writer<Global>) -> Result<(), AllocError>
+    ensures { OnOk result (Puts writer.old writer.new (λ rest. end_array ∷ end_object ∷ rest)) }
+{
     writer.end_array()?;
-    writer.end_object()
+    writer.end_object()?;
+    Ok(())
 }
 
 /// Writes one answer with its graph. One without a graph has no nodes.

@@ -1,5 +1,10 @@
 //! What is written of the questions, in each form.
-ghost use Rattle.std.specs.Prelude.{◌≡◌, ◌⊎◌, IfErr};
+ghost use Rattle.std.specs.Prelude.{◌≡◌, ◌∷◌, ◌++◌, ◌⊎◌, [], IfErr, IfOk, List, map, OnOk, ℕ};
+ghost use Rattle.std.specs.Io.KnownBytes.{Keeps};
+ghost use Rattle.std.specs.Option.{option_map_or};
+ghost use Rattle.shown_graphs.specs.Below.{Goal as SpecGoal, names_of};
+ghost use Rattle.shown_graphs.specs.Data.{HaveTexts, plain_node, PlainClaim};
+ghost use Rattle.shown_graphs.specs.Shown.{claims_of, HasClaims, IsBegun, IsWrittenPage};
 
 use crate::answer::Came;
 use crate::data::{word, write_answer, write_end as end_data, write_start as start_data};
@@ -11,7 +16,7 @@ use crate::words::name_of;
 use json::Writer;
 use rule_tables::{Goal, Outcome, Rules};
 use search_context::context::{Fault, Node};
-use std::alloc::Global;
+use std::alloc::{AllocError, Global};
 use std::io;
 use std::io::Write;
 
@@ -37,7 +42,8 @@ pub(crate) enum Page {
 impl Page {
     /// The beginning of a page about this text of rules.
     pub(crate) fn new(alloc: Global, form: Form, text: &[u8]) -> Result<Page, Stop>
-        ensures { IfErr result (λ stop. stop ≡ Stop.Memory) }
+        ensures begun { IfOk result (λ page. form ≡ Form.Data → (names : List (List ℕ)) → HasClaims names page []) }
+        ensures fault { IfErr result (λ stop. stop ≡ Stop.Memory) }
     {
         let mut waiting = Vec::new(alloc);
         match form {
@@ -62,7 +68,10 @@ impl Page {
         goal: Goal,
         came: &Came,
     ) -> Result<(), Stop>
-        ensures { IfErr result (λ stop. stop ≡ Stop.Memory) }
+        ensures added { OnOk result ((claims : List PlainClaim) → HaveTexts (names_of rules.now) →
+            HasClaims (names_of rules.now) self.old claims →
+            HasClaims (names_of rules.now) self.new (claims ++ claims_of goal came.now)) }
+        ensures fault { IfErr result (λ stop. stop ≡ Stop.Memory) }
     {
         match self {
             Page::Text { depth, waiting } => {
@@ -74,16 +83,18 @@ impl Page {
                 add_dot(waiting, rules, number, goal, came).map_err(|_| Stop::Memory)
             }
             Page::Data(writer) => {
-                if let Some((outcome, nodes)) = shown_of(came) {
-                    write_answer(writer, rules, goal, outcome, nodes)?;
-                }
+                add_data(writer, rules, goal, came)?;
                 Ok(())
             }
         }
     }
 
     /// Writes what waits, unless all has to be written at once.
-    pub(crate) fn pass_on<W: Write>(&mut self, out: &mut W) -> io::Result<()> {
+    pub(crate) fn pass_on<W: Write>(&mut self, out: &mut W) -> io::Result<()>
+        ensures { OnOk result ((names : List (List ℕ)) (claims : List PlainClaim) →
+            HasClaims names self.old claims →
+            HasClaims names self.new claims × Keeps (W.contents out.old) (W.contents out.new)) }
+    {
         match self {
             Page::Text { waiting, .. } | Page::Dot { waiting, .. } => {
                 out.write_all(waiting.as_slice())?;
@@ -96,7 +107,9 @@ impl Page {
 
     /// Writes the rest.
     pub(crate) fn finish<W: Write>(self, out: &mut W) -> Result<(), Stop>
-        ensures { IfErr result (λ stop. (stop ≡ Stop.InputOrOutput) ⊎ (stop ≡ Stop.Memory)) }
+        ensures written { OnOk result ((names : List (List ℕ)) (claims : List PlainClaim) →
+            HasClaims names self claims → IsWrittenPage names claims (W.contents out.old) (W.contents out.new)) }
+        ensures fault { IfErr result (λ stop. (stop ≡ Stop.InputOrOutput) ⊎ (stop ≡ Stop.Memory)) }
     {
         match self {
             Page::Text { waiting, .. } => out.write_all(waiting.as_slice())?,
@@ -104,12 +117,7 @@ impl Page {
                 end_dot(&mut waiting).map_err(|_| Stop::Memory)?;
                 out.write_all(waiting.as_slice())?;
             }
-            Page::Data(mut writer) => {
-                end_data(&mut writer)?;
-                let text = writer.into_inner();
-                out.write_all(text.as_slice())?;
-                out.write_all(b"\n")?;
-            }
+            Page::Data(writer) => finish_data(writer, out)?,
         }
         out.flush()?;
         Ok(())
@@ -118,12 +126,44 @@ impl Page {
 
 // The outcome with the nodes of its graph, which are none where it has no graph; nothing for a fault, and for a graph that was
 // not accepted.
-fn shown_of(came: &Came) -> Option<(Outcome, &[Node<Goal, Outcome>])> {
+fn shown_of(came: &Came) -> Option<(Outcome, &[Node<Goal, Outcome>])>
+    ensures { (goal : SpecGoal) → claims_of goal came.now ≡ option_map_or (λ shown.
+        record { goal = goal; outcome = shown.0; nodes = map plain_node shown.1.now } ∷ []) result [] }
+{
     match came {
         Came::Graph { outcome, nodes } => Some((*outcome, nodes.as_slice())),
         Came::NoGraph { outcome, .. } => Some((*outcome, &[])),
         Came::Unchecked(_) | Came::Fault(_) => None,
     }
+}
+
+fn add_data(
+    writer: &mut Writer<Global>,
+    rules: &Rules,
+    goal: Goal,
+    came: &Came,
+) -> Result<(), AllocError>
+    ensures { OnOk result ((claims : List PlainClaim) → HaveTexts (names_of rules.now) →
+        IsBegun (names_of rules.now) writer.old claims →
+        IsBegun (names_of rules.now) writer.new (claims ++ claims_of goal came.now)) }
+{
+    match shown_of(came) {
+        Some((outcome, nodes)) => write_answer(writer, rules, goal, outcome, nodes),
+        None => Ok(()),
+    }
+}
+
+// Writes the page as far as it waits, and its end.
+fn finish_data<W: Write>(mut writer: Writer<Global>, out: &mut W) -> Result<(), Stop>
+    ensures written { OnOk result ((names : List (List ℕ)) (claims : List PlainClaim) →
+        IsBegun names writer claims → IsWrittenPage names claims (W.contents out.old) (W.contents out.new)) }
+    ensures fault { IfErr result (λ stop. (stop ≡ Stop.InputOrOutput) ⊎ (stop ≡ Stop.Memory)) }
+{
+    end_data(&mut writer)?;
+    let text = writer.into_inner();
+    out.write_all(text.as_slice())?;
+    out.write_all(b"\n")?;
+    Ok(())
 }
 
 fn add_dot<W: Write>(

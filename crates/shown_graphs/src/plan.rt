@@ -98,14 +98,14 @@ impl<'a> Walk<'a> {
             (IsReplayed nodes.now self.new.lines.items (pending_of self.new.open.items)) }
         ensures end { result ≡ Ok false → self.new.open.items ≡ [] }
     {
-        let Some(open) = self.open.pop() else {
+        let Some(newest) = self.open.pop() else {
             return Ok(false);
         };
-        match open.rest.split_first() {
-            None => self.leave(open.place),
+        match newest.rest.split_first() {
+            None => self.leave(newest.place),
             Some((edge, rest)) => {
                 self.open.push(Open {
-                    place: open.place,
+                    place: newest.place,
                     rest,
                 })?;
                 self.meet(nodes, edge.target)?;

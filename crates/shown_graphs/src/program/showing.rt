@@ -1,8 +1,8 @@
 //! How the questions of a text are shown.
 ghost use Rattle.std.specs.Prelude.{◌≡◌, ◌⊎◌, IfErr, IfOk};
-ghost use Rattle.shown_graphs.specs.Below.{questions_of, verdicts};
+ghost use Rattle.shown_graphs.specs.Below.{verdicts};
 ghost use Rattle.shown_graphs.specs.Program.{EndsShowing, IsShown};
-ghost use Rattle.shown_graphs.specs.Shown.{AreAsked};
+ghost use Rattle.shown_graphs.specs.Shown.{AreShown};
 
 #[cfg(test)]
 mod tests;
@@ -31,7 +31,8 @@ pub(super) fn show_input<R: Read, W: Write, P: Progress>(
     progress: P,
 ) -> Result<bool, Stop>
     ensures told { IfOk result (IsShown ⟦<TableDelegate<'static, 8, 1> as Delegate>⟧
-        ⟦<Table<&'static Rules> as Cx>⟧ (R.remaining input.old)) }
+        ⟦<Table<&'static Rules> as Cx>⟧ (R.remaining input.old)
+        (W.contents out.old) (W.contents out.new) form) }
     ensures ended { IfErr result (EndsShowing (R.remaining input.old)
         (W.contents out.old) (W.contents out.new)) }
 {
@@ -62,7 +63,8 @@ where
     D: Delegate<Cx = X, ProofTreeBuilder = Builder>,
     W: Write,
     P: Progress,
-    ensures asked { IfOk result (AreAsked (verdicts X.Cx) (D.script cx) (questions_of rules.now)) }
+    ensures shown { IfOk result (AreShown (verdicts X.Cx) (D.script cx) rules.now page
+        (W.contents out.old) (W.contents out.new)) }
     ensures fault { IfErr result (λ stop. (stop ≡ Stop.InputOrOutput) ⊎ (stop ≡ Stop.Memory)) }
 {
     let mut cache = GlobalCache::<Watching<X, D, P>>::new(alloc, cx);

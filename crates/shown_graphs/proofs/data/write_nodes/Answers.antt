@@ -1,4 +1,3 @@
-use Rattle.std.proofs.Common.{ap}
 use Rattle.shown_graphs.proofs.Spelling.{list_more_seen}
 use Rattle.shown_graphs.proofs.data.write_nodes.Goals as goal
 use Rattle.shown_graphs.specs.Below.{names_of}

@@ -1,4 +1,4 @@
-use Rattle.std.proofs.Common.{◌∷◌, map, take}
+use Rattle.std.proofs.Common.{◌∷◌, take}
 use Rattle.json.specs.Token.{begin_array}
 use Rattle.shown_graphs.proofs.data.write_replies.Given as goal
 use Rattle.shown_graphs.specs.Data.{list_tokens, Puts, reply_tokens}

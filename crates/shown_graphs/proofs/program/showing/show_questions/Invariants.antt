@@ -1,8 +1,10 @@
 use Rattle.std.proofs.Common.{take}
+use Rattle.shown_graphs.proofs.Asking.{AreAskedTo}
 use Rattle.shown_graphs.proofs.program.showing.show_questions.Given as goal
 use Rattle.shown_graphs.specs.Below.{verdicts}
-use Rattle.shown_graphs.specs.Shown.{AreAsked}
 
 -- the questions so far are asked
 abbrev pub invariant-loop-done : goal.invariant-loop-done
-invariant-loop-done g l = AreAsked (verdicts g.X.Cx) (g.D.Delegate.script l.fn.cx) (take l.done l.questions) l.all_fine
+invariant-loop-done g l =
+    let contents = g.W.Write.contents in
+    AreAskedTo (verdicts g.X.Cx) (g.D.Delegate.script l.fn.cx) l.rules l.fn.page l.page (contents l.fn.out) (contents l.out) (take l.done l.questions) l.all_fine
