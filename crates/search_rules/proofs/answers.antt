@@ -5,3 +5,5 @@ pub mod Taken
 pub mod Cycles
 pub mod Free
 pub mod FreeMoves
+pub mod Leading
+pub mod OffStack

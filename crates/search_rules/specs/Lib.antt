@@ -14,5 +14,6 @@ pub mod EndOfRun
 pub mod EntryShapes
 pub mod Provisional
 pub mod Evaluating
+pub mod Settled
 pub mod Below
 pub mod Words
