@@ -2,6 +2,7 @@ pub mod Results
 pub mod Fates
 pub mod Claims
 pub mod LookUp
+pub mod Lone
 pub mod Decided
 pub mod Calls
 pub mod Moves
