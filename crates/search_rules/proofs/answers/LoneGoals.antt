@@ -1,22 +1,22 @@
 -- A goal of which a success without nested goals is stored is answered by that wherever it is asked, if no question leads out of a list
 -- of goals and there is depth enough for all of them. So it is never pushed, and no goal under evaluation is such a goal.
-use Rattle.std.proofs.Common.{◌≡◌, ◌≢◌, ℕ, zero, suc, ◌+◌, ◌<◌, ◌≤◌, max, nat_le, if◌then◌else◌, Bool, true, false, ◌||◌, ◌⊎◌, List, [], ◌∷◌, ◌++◌, length, All, Contains, Option, None, Some, inl, inr, refl, sym, ap, ap₂, ◌∙◌, subst, arith, slice_set}
+use Rattle.std.proofs.Common.{◌≡◌, ◌≢◌, ℕ, suc, ◌+◌, ◌≤◌, max, nat_le, if◌then◌else◌, Bool, true, false, ◌||◌, ◌⊎◌, List, [], ◌∷◌, ◌++◌, length, All, Contains, Option, None, Some, inl, inr, refl, sym, ap, ap₂, ◌∙◌, subst, arith, slice_set}
 use Rattle.std.proofs.Math.Nat.{max-eq_left, max-eq_right}
 use Rattle.std.proofs.lemmas.Bool.{cases_lt}
 use Rattle.std.proofs.lemmas.List.Elements.{All-cons, All-head, All-nil, All-tail}
 use Rattle.std.proofs.lemmas.Bool.Decides.{nat_tests}
 use Rattle.std.specs.Option.{IsSomeAnd}
-use Rattle.search_rules.specs.Below.{Success, WithOverflow, StoredResult, StackEntry, EvaluationResult, Run, Store, stored_at, place_of, stored_from, PathsToNested, NestedPaths, paths_at, PathKind, AvailableDepth, CacheNode, Heads, Hit, first_accepted, usable, Request, Evaluate, EnterCandidate, FinishCandidate, Ignore, Done, Reply, Next, NodeId, DelegateOf, CxOf, Stood, IsAllowed, AreSeen, AnswersNewest, NestsAnswer, NestsHead, NotesOverflow, TakesStored, NotesCandidate, HasStepped, Ignores, Received, StackDepth, EntryState, overflowed, with_depth, with_nested_goals, first_entry, rerun_with, with_no_record, enters, finishes, received_by, requested}
+use Rattle.search_rules.specs.Below.{Success, WithOverflow, StoredResult, StackEntry, EvaluationResult, Run, Store, stored_at, place_of, stored_from, PathsToNested, NestedPaths, paths_at, PathKind, AvailableDepth, CacheNode, Heads, Hit, first_accepted, usable, Request, Evaluate, EnterCandidate, FinishCandidate, Ignore, Done, Next, NodeId, DelegateOf, CxOf, Stood, IsAllowed, AreSeen, AnswersNewest, NestsAnswer, NestsHead, NotesOverflow, TakesStored, NotesCandidate, HasStepped, Received, EntryState, overflowed, with_depth, with_nested_goals, rerun_with, with_no_record, received_by, requested}
 use Rattle.search_stack.specs.Nested.{joined_paths, JoinsPaths}
 use Rattle.global_cache.specs.Hits.{hit_at, successes, overflows}
 use Rattle.global_cache.proofs.Stores.{put_cases}
-use Rattle.open_goals.specs.NestedGoals.{ChangesNested, NestsItself, Nothing, Joined, TakesNestedGoals}
+use Rattle.open_goals.specs.NestedGoals.{NestsItself, Nothing, Joined, TakesNestedGoals}
 use Rattle.open_goals.specs.declared.goals.Fate.TheVariants as becomes
 use Rattle.evaluations.specs.Frames.{Frame, fresh, stepped}
 use Rattle.evaluations.specs.Plain.{IsOnStack}
 use Rattle.evaluations.specs.Enclosed.{AreDistinct, StayEnclosed}
 use Rattle.evaluations.proofs.Enclosed.{few_frames, left_calm}
-use Rattle.search_rules.specs.Words.{answered_by, Asking, is_applicable, Call, CallIsEnclosed, HasAsked, seen, StoresAnswer, Put, IsStored, IsNewestStored, final_answer, ClosesCycle, Pushes, Reruns, NewestLeaves, LeavesNested}
+use Rattle.search_rules.specs.Words.{answered_by, Asking, is_applicable, Call, CallIsEnclosed, HasAsked, seen, StoresAnswer, Put, IsNewestStored, final_answer, Pushes, Reruns, NewestLeaves, LeavesNested}
 use Rattle.search_rules.specs.Results.{NotStored}
 use Rattle.search_rules.specs.Lone.{IsLone, AreLone, HasLone, LoneRequire, NoneIsLone}
 use Rattle.search_rules.proofs.moves.LookUps.{empty_is_applicable}
@@ -312,6 +312,18 @@ found_of_answered true false found records scoped none = none
 found_of_answered true true found records scoped none = absurd cc
 found_of_answered false in_scope found records scoped none = absurd cc
 
+hit_of_answered : {H : Type 0} (noop in_scope : Bool) (found : Option H) (hit : H) → answered_by noop in_scope found ≡ Some hit → found ≡ Some hit
+hit_of_answered true false found hit is = is
+hit_of_answered true true found hit is = absurd cc
+hit_of_answered false in_scope found hit is = absurd cc
+
+-- goals under evaluation are others than one that is not on the stack
+items_differ : {D C V P F I R A T : Type 0} (G : DelegateOf D C V P F I R A T) (X : CxOf C I R A T) (cx : C) (goal : I) (items : List (StackEntry C I R A T × Run C F I R A T)) (frames : List (Frame I R)) → AreSeen (seen G X cx) (Stood G X cx) items frames → (IsOnStack (G.script cx) goal frames → ⊥) → All (λ t. t.0.input ≢ goal) items
+items_differ G X cx goal [] frames m absent = All-nil (λ t. t.0.input ≢ goal)
+items_differ G X cx goal (s ∷ below) [] m absent = absurd m
+items_differ G X cx goal (s ∷ below) (f ∷ fs) m absent =
+    All-cons (λ t. t.0.input ≢ goal) s below (λ is. absent (inl (ap (λ (g : Frame _ _). g.goal) m.0.is ∙ is))) (items_differ G X cx goal below fs m.1 (λ on. absent (inr on)))
+
 module _ {D C V P F I R A T : Type 0} (G : DelegateOf D C V P F I R A T) (X : CxOf C I R A T) (cx : C) (call : Call I) (same : I → I → Bool) (results : Store I (StoredResult C I R A T)) (enclosed : CallIsEnclosed G X cx call) (require : LoneRequire same results call.goals) where
   -- a lone goal that the newest goal asks is answered by what is stored of it
   pub lone_is_answered : (ahead : ℕ) (kind : PathKind) (goal : I) (items : List (StackEntry C I R A T × Run C F I R A T)) (starts : ℕ) (met : Bool) (depth : ℕ) → ((s : StackEntry C I R A T × Run C F I R A T) (below : List (StackEntry C I R A T × Run C F I R A T)) → items ≡ s ∷ below → IsAllowed (seen G X cx s) depth) → HasAsked G X cx call ahead (Evaluate kind goal) items starts met → NoneIsLone same results call.goals items → IsLone same results goal → (accepts : NestedPaths I → Bool) → ((nested : NestedPaths I) → nested ≡ [] → true ≡ accepts nested) → first_accepted accepts (usable same results goal depth) ≡ None → ⊥
@@ -347,3 +359,32 @@ module _ {D C V P F I R A T : Type 0} (G : DelegateOf D C V P F I R A T) (X : Cx
       let found : first_accepted accepts (usable same results call.top call.root) ≡ Some (hit_at w.0.required_depth false w.0) =
       lone_found accepts call.root same results call.top w.0 w.1 (sym (accepted w.0.nested_goals w.2)) (omega (arith, few, fits)) in
       absurd cc
+
+  -- a goal that is answered by what is stored requires as many lone goals as that, so none under evaluation is lone still
+  pub stored_none_lone : (ahead : ℕ) (kind : PathKind) (goal : I) (items new : List (StackEntry C I R A T × Run C F I R A T)) (starts : ℕ) (met : Bool) (depth : ℕ) → HasAsked G X cx call ahead (Evaluate kind goal) items starts met → stored_at same results goal (WithOverflow depth) ≡ None → (accepts : NestedPaths I → Bool) (noop in_scope : Bool) (hit : Hit I R T) → answered_by noop in_scope (first_accepted accepts (usable same results goal depth)) ≡ Some hit → TakesStored same kind hit items new → NoneIsLone same results call.goals items → NoneIsLone same results call.goals new
+  stored_none_lone ahead kind goal items new starts met depth h no_overflow accepts noop in_scope hit answered takes =
+      taken_none_lone same results call.goals items new kind hit
+      (found_needs same results call.goals accepts goal depth hit (enclosed_asks G X cx call ahead kind goal items starts met enclosed h) no_overflow
+      (hit_of_answered noop in_scope (first_accepted accepts (usable same results goal depth)) hit answered) require)
+      takes
+
+  -- the newest goal's answer was stored, and the goal popped
+  pub popped_lone : (by_value : (x y : I) → same x y ≡ true → x ≡ y) (token : I → T) (ahead : ℕ) (request : Request I R) (s : StackEntry C I R A T × Run C F I R A T) (below after : List (StackEntry C I R A T × Run C F I R A T)) (starts : ℕ) (met : Bool) (r : R) (target : Option NodeId) (next : Next R) (later : Store I (StoredResult C I R A T))
+      → HasAsked G X cx call ahead request (s ∷ below) starts met → s.1.fate ≡ becomes.Stored → (s.0.state.heads ≢ [] → s.0.state.nested_goals ≢ [])
+      → StoresAnswer same results later s.0.input (final_answer s r target) → IsNewestStored same token (s ∷ below) r target later
+      → NewestLeaves r (s ∷ below) next after → LeavesNested same (s ∷ below) after
+      → NoneIsLone same results call.goals (s ∷ below) → LoneRequire same later call.goals × NoneIsLone same later call.goals after
+  popped_lone by_value token ahead request s below after starts met r target next later h fate heads stores stored leaves nested none =
+      let stays : StayEnclosed (G.script cx) call.goals call.root (h.asked.f ∷ h.asked.below) = h.asked.evaluating.enclosed enclosed in
+      let is : h.asked.f.goal ≡ s.0.input = ap (λ (g : Frame I R). g.goal) h.asked.mirror.0.is in
+      let within : Contains call.goals s.0.input = subst (Contains call.goals) is stays.distinct.0 in
+      let calm : (s.0.state.encountered_overflow || s.1.met_overflow_before) ≡ false =
+      sym (ap (λ (g : Frame I R). g.met_overflow || g.met_before) h.asked.mirror.0.is) ∙ left_calm I R call.root h.asked.f h.asked.below stays.depths in
+      let differ : All (λ (t : StackEntry C I R A T × Run C F I R A T). t.0.input ≢ s.0.input) below =
+      items_differ G X cx s.0.input below h.asked.below h.asked.mirror.1 (subst (λ goal. IsOnStack (G.script cx) goal h.asked.below → ⊥) is stays.distinct.1) in
+      let required : LoneRequire same later call.goals =
+      lone_require_stored same by_value results later s.0.input (final_answer s r target) none.0 call.goals stores within none.1 require in (
+        required,
+        popped_none_lone same later call.goals r s below after next (popped_needs same later call.goals token s below r target calm fate heads stored within required) leaves nested
+        (none_lone_stored same by_value results later s.0.input (final_answer s r target) none.0 call.goals stores below differ none.2),
+      )
