@@ -6,3 +6,4 @@ pub mod Cycles
 pub mod Free
 pub mod FreeMoves
 pub mod LoneGoals
+pub mod NestedHeads

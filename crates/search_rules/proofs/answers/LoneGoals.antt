@@ -16,7 +16,7 @@ use Rattle.evaluations.specs.Frames.{Frame, fresh, stepped}
 use Rattle.evaluations.specs.Plain.{IsOnStack}
 use Rattle.evaluations.specs.Enclosed.{AreDistinct, StayEnclosed}
 use Rattle.evaluations.proofs.Enclosed.{few_frames, left_calm}
-use Rattle.search_rules.specs.Words.{answered_by, Asking, is_applicable, Call, CallIsEnclosed, HasAsked, seen, StoresAnswer, Put, IsNewestStored, final_answer, Pushes, Reruns, NewestLeaves, LeavesNested}
+use Rattle.search_rules.specs.Words.{answered_by, Asking, is_applicable, Call, CallIsEnclosed, KeepsStore, HasAsked, seen, StoresAnswer, Put, IsNewestStored, final_answer, Pushes, Reruns, NewestLeaves, LeavesNested}
 use Rattle.search_rules.specs.Results.{NotStored}
 use Rattle.search_rules.specs.Lone.{IsLone, AreLone, HasLone, LoneRequire, NoneIsLone}
 use Rattle.search_rules.proofs.moves.LookUps.{empty_is_applicable}
@@ -28,12 +28,17 @@ some_and None P h = absurd h
 some_and (Some s) P h = (s, refl, h)
 
 -- goals that were joined by one are some
-joined_are_some : {I : Type 0} (same : I → I → Bool) (old new : NestedPaths I) (own : I) (paths : PathsToNested) → JoinsPaths same old new own paths → new ≡ [] → ⊥
+pub joined_are_some : {I : Type 0} (same : I → I → Bool) (old new : NestedPaths I) (own : I) (paths : PathsToNested) → JoinsPaths same old new own paths → new ≡ [] → ⊥
 joined_are_some same old new own paths joins none = by (paths_at same old own) (sym (ap (λ l. paths_at same l own) none) ∙ joins.here)
   where
     by : (o : Option PathsToNested) → None ≡ joined_paths o (Some paths) → ⊥
     by None is = cc
     by (Some other) is = cc
+
+-- heads that are not some are none
+pub no_heads_if : (heads : Heads) → (heads ≢ [] → ⊥) → heads ≡ []
+no_heads_if [] none = refl
+no_heads_if (head ∷ heads) none = absurd (none (λ is. cc))
 
 -- ---- what is stored
 
@@ -259,11 +264,7 @@ module _ {X F I R A T : Type 0} (same : I → I → Bool) (results : Store I (St
   -- and the popped goal is lone if it has no nested goals, met no overflow, and was stored
   pub popped_needs : (token : I → T) (s : StackEntry X I R A T × Run X F I R A T) (below : List (StackEntry X I R A T × Run X F I R A T)) (r : R) (target : Option NodeId) → (s.0.state.encountered_overflow || s.1.met_overflow_before) ≡ false → s.1.fate ≡ becomes.Stored → (s.0.state.heads ≢ [] → s.0.state.nested_goals ≢ []) → IsNewestStored same token (s ∷ below) r target results → Contains goals s.0.input → LoneRequire same results goals → s.0.state.nested_goals ≡ [] → HasLone same results goals (s.0.state.required_depth + 1)
   popped_needs token s below r target calm stores heads stored within h empty =
-      h s.0.input (stored_from (final_answer s r target) (token s.0.input)) within (subst (λ b. stored_at same results s.0.input (if b then WithOverflow s.0.state.required_depth else Success) ≡ Some (stored_from (final_answer s r target) (token s.0.input))) calm (stored stores (no_heads s.0.state.heads heads))) empty
-    where
-      no_heads : (l : Heads) → (l ≢ [] → s.0.state.nested_goals ≢ []) → l ≡ []
-      no_heads [] some = refl
-      no_heads (head ∷ more) some = absurd (some (λ is. cc) empty)
+      h s.0.input (stored_from (final_answer s r target) (token s.0.input)) within (subst (λ b. stored_at same results s.0.input (if b then WithOverflow s.0.state.required_depth else Success) ≡ Some (stored_from (final_answer s r target) (token s.0.input))) calm (stored stores (no_heads_if s.0.state.heads (λ some. heads some empty)))) empty
 
 -- ---- where a lone goal is asked
 
@@ -361,10 +362,11 @@ module _ {D C V P F I R A T : Type 0} (G : DelegateOf D C V P F I R A T) (X : Cx
       absurd cc
 
   -- a goal that is answered by what is stored requires as many lone goals as that, so none under evaluation is lone still
-  pub stored_none_lone : (ahead : ℕ) (kind : PathKind) (goal : I) (items new : List (StackEntry C I R A T × Run C F I R A T)) (starts : ℕ) (met : Bool) (depth : ℕ) → HasAsked G X cx call ahead (Evaluate kind goal) items starts met → stored_at same results goal (WithOverflow depth) ≡ None → (accepts : NestedPaths I → Bool) (noop in_scope : Bool) (hit : Hit I R T) → answered_by noop in_scope (first_accepted accepts (usable same results goal depth)) ≡ Some hit → TakesStored same kind hit items new → NoneIsLone same results call.goals items → NoneIsLone same results call.goals new
-  stored_none_lone ahead kind goal items new starts met depth h no_overflow accepts noop in_scope hit answered takes =
+  pub stored_none_lone : (ahead : ℕ) (kind : PathKind) (goal : I) (items new : List (StackEntry C I R A T × Run C F I R A T)) (starts : ℕ) (met : Bool) (depth : ℕ) → HasAsked G X cx call ahead (Evaluate kind goal) items starts met → KeepsStore G X cx same call met results → (accepts : NestedPaths I → Bool) (noop in_scope : Bool) (hit : Hit I R T) → answered_by noop in_scope (first_accepted accepts (usable same results goal depth)) ≡ Some hit → TakesStored same kind hit items new → NoneIsLone same results call.goals items → NoneIsLone same results call.goals new
+  stored_none_lone ahead kind goal items new starts met depth h store accepts noop in_scope hit answered takes =
+      let within : Contains call.goals goal = enclosed_asks G X cx call ahead kind goal items starts met enclosed h in
       taken_none_lone same results call.goals items new kind hit
-      (found_needs same results call.goals accepts goal depth hit (enclosed_asks G X cx call ahead kind goal items starts met enclosed h) no_overflow
+      (found_needs same results call.goals accepts goal depth hit within (store.overflow (inr enclosed) goal (inr within) depth)
       (hit_of_answered noop in_scope (first_accepted accepts (usable same results goal depth)) hit answered) require)
       takes
 
