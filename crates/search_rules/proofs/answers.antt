@@ -7,3 +7,5 @@ pub mod Free
 pub mod FreeMoves
 pub mod Leading
 pub mod OffStack
+pub mod LoneGoals
+pub mod NestedHeads
