@@ -5,3 +5,4 @@ pub mod Taken
 pub mod Cycles
 pub mod Free
 pub mod FreeMoves
+pub mod OneOfBoth
