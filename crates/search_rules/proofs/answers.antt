@@ -9,3 +9,4 @@ pub mod Leading
 pub mod OffStack
 pub mod LoneGoals
 pub mod NestedHeads
+pub mod OneOfBoth
