@@ -10,3 +10,8 @@ pub mod OffStack
 pub mod LoneGoals
 pub mod NestedHeads
 pub mod OneOfBoth
+pub mod NestedGoals
+pub mod SettledGoals
+pub mod SettledRuns
+pub mod SettledResults
+pub mod TwoRuns
