@@ -174,9 +174,10 @@ impl<D: Delegate> SearchGraph<D> {
             HaveNoOverflow D.Cx.Input.eq cache.new.results }
 
         // Where the goal is one of some goals that no question leads out of, the root depth is enough for all of
-        // these, and no result of them is stored that met overflow, no question is refused. So none is stored from
-        // then on, also after a fault or a limit; and a limit that is met is that of runs, and costs all runs that one
-        // goal may have.
+        // these, and no result of them is stored that met overflow, no question is refused. So no such result is stored
+        // from then on, also after a fault or a limit. A limit that is met is that of runs, and costs all runs that one
+        // goal may have. And the answer is stored, limit or not, unless the builder records or the delegate has the
+        // result validated.
         ensures enclosed { (goals : List D.Cx.Input) →
             IsEnclosed (D.script cache.old.cx) goals self.old.root_depth input →
             HaveNoOverflowOf (Contains goals) D.Cx.Input.eq cache.old.results →
@@ -187,6 +188,11 @@ impl<D: Delegate> SearchGraph<D> {
             D.counts ≡ true → self.old.limits_met ≡ false → self.new.limits_met ≡ true →
             HasCounted D.last (D.starts inspect.old) (D.starts inspect.new)
             (max 1 D.FIXPOINT_STEP_LIMIT) }
+        ensures enclosed_remembered { (goals : List D.Cx.Input) →
+            IsEnclosed (D.script cache.old.cx) goals self.old.root_depth input →
+            HaveNoOverflowOf (Contains goals) D.Cx.Input.eq cache.old.results →
+            D.noop inspect.old ≡ true → D.scoped cache.old.cx input ≡ false →
+            IfOk result (IsRemembered D.Cx.Input.eq cache.new.results input self.old.root_depth) }
 
         // No goal requires more than its depth: each stored result requires no more than the root depth, or as much as
         // the one that stood in its place before.

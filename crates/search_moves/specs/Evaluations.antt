@@ -3,7 +3,7 @@ use Rattle.std.specs.Prelude.{◌≡◌, ◌<◌, ◌≤◌, ◌+◌, ◌^◌, �
 use Rattle.search_moves.specs.Below.{ChangesNewest, CountsOne, DelegateOf, CxOf, KeepsBuilder, Request, Fault, Evaluate, Next, Received, Cache, KeepsFinished, KeepsResults, PathKind, StackEntry, Run, verdicts}
 use Rattle.search_moves.specs.declared.evaluation.Evaluation.{Evaluation}
 use Rattle.search_context.specs.declared.context.Answer.{Answer}
-use Rattle.search_rules.specs.Calls.{Call, IsCounted}
+use Rattle.search_rules.specs.Calls.{Call, CallMeetsNone}
 use Rattle.search_rules.specs.Claims.{IsRemembered}
 use Rattle.search_rules.specs.Evaluating.{IsWaiting, HasAsked, CallGoesOn, HasEnded, HasStopped, Leads, KeepsStore, KeepsAnswers}
 use Rattle.search_rules.specs.Fates.{HaveExpected, IsNewestToStore, fates_of}
@@ -37,10 +37,9 @@ pub record StartsFrame {D C V P F I R A T : Type 0} (G : DelegateOf D C V P F I 
   pub at_most : G.starts new ≤ G.starts old + 1
   pub counted : G.counts ≡ true → done (CountsOne G.last (G.starts old) (G.starts new))
 
--- Where starts are counted, and before the call no limit was met and no result stored that met overflow, the answer is stored, unless
--- a limit was met now.
+-- As long as the call meets no overflow, the answer is stored.
 abbrev pub IsRememberedWhere : {D C V P F I R A T : Type 0} → DelegateOf D C V P F I R A T → CxOf C I R A T → C → (I → I → Bool) → Call I → Cache C I R A T → (met : Bool) → Answer R → Type 0
-IsRememberedWhere G X cx same call cache met answer = IsCounted G X cx call → met ≡ false → IsRemembered same cache.results call.top call.root answer
+IsRememberedWhere G X cx same call cache met answer = CallMeetsNone G X cx call met → IsRemembered same cache.results call.top call.root answer
 
 module _ {D C V P F I R A T : Type 0} (G : DelegateOf D C V P F I R A T) (X : CxOf C I R A T) (same : I → I → Bool) (cx : C) where
   -- Each definite answer that is there is right: those that the goals under evaluation had, the stored results, and the provisional

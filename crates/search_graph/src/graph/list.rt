@@ -49,7 +49,8 @@ impl<D: Delegate> SearchGraph<D> {
         ensures same_noop { D.noop inspect.new ≡ D.noop inspect.old }
 
         // Until a limit is met, a decisive delegate's answers and stored results are yes or no, and no result is stored
-        // that met overflow; and a limit has its price in frames.
+        // that met overflow; and a limit has its price in frames. Among goals that no question leads out of, with depth
+        // enough for all of them, none is refused.
         ensures limits { OnOk result (HasLimits D.Delegate D.Cx.Cx D.Cx.Input.eq queries.now
             cache.old cache.new (D.starts inspect.old) (D.starts inspect.new)
             answers.old.items answers.new.items) }

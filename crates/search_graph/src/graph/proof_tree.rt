@@ -49,7 +49,8 @@ impl<D: Delegate> SearchGraph<D> {
             n ≤ root_depth → IfErr result (λ fault. fault ≡ Memory) }
 
         // Until a limit is met, a decisive delegate's answers and stored results are yes or no, and no result is stored
-        // that met overflow; and a limit has its price in frames.
+        // that met overflow; and a limit has its price in frames. Among goals that no question leads out of, with depth
+        // enough for all of them, none is refused.
         ensures limits { HasLimits D.Delegate D.Cx.Cx D.Cx.Input.eq
             ((root_depth, input, Inductive) ∷ []) cache.old cache.new
             (D.starts inspect.old) (D.starts inspect.new) [] (result ∷ []) }

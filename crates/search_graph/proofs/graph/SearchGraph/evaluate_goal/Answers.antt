@@ -145,7 +145,7 @@ pub returns-clause-remembered : goal.returns-clause-remembered
 returns-clause-remembered g c =
     let fits = c.new-evaluation.ensures.fits in
     rw (← c.self.view_is)
-    (λ is_noop unscoped counted none unmet still. ((c.in_ok-answer.ensures.evaluates.ended (call_of c.args.input c.self.inside.root_depth.0 (g.D.Delegate.starts c.args.inspect.now) c.self.inside.limits_met true false fits) (rw c.new-evaluation.ensures.begins (call_begins g.D.Delegate g.D.Cx.Cx c.args.cache.now.cx g.D.Cx.Input.PartialEq.eq c.args.input c.self.inside.root_depth.0 (g.D.Delegate.starts c.args.inspect.now) c.self.inside.limits_met fits c.args.cache.now.results true false (λ e. none) (λ e. absurd cc)))).remembered) (is_noop, unscoped) (counted, unmet, inl refl) still)
+    (λ is_noop unscoped counted none unmet still. ((c.in_ok-answer.ensures.evaluates.ended (call_of c.args.input c.self.inside.root_depth.0 (g.D.Delegate.starts c.args.inspect.now) c.self.inside.limits_met true false fits) (rw c.new-evaluation.ensures.begins (call_begins g.D.Delegate g.D.Cx.Cx c.args.cache.now.cx g.D.Cx.Input.PartialEq.eq c.args.input c.self.inside.root_depth.0 (g.D.Delegate.starts c.args.inspect.now) c.self.inside.limits_met fits c.args.cache.now.results true false (λ e. none) (λ e. absurd cc)))).remembered) (is_noop, unscoped) (inl ((counted, unmet, inl refl), still)))
 
 pub returns-clause-kept_nodes : goal.returns-clause-kept_nodes
 returns-clause-kept_nodes g c =
@@ -198,3 +198,9 @@ returns-in_err-answer-clause-only_by_runs g c =
     let fits = c.new-evaluation.ensures.fits in
     rw (← c.self.view_is)
     (λ goals enclosed none. stopped_by_runs g.D.Delegate g.D.Cx.Cx c.args.cache.now.cx (call_among goals c.args.input c.self.inside.root_depth.0 (g.D.Delegate.starts c.args.inspect.now) c.self.inside.limits_met fits) _ _ c.in_err-answer.field-0.0 ((c.in_err-answer.ensures.evaluates.stopped (call_among goals c.args.input c.self.inside.root_depth.0 (g.D.Delegate.starts c.args.inspect.now) c.self.inside.limits_met fits) (rw c.new-evaluation.ensures.begins (call_among_begins g.D.Delegate g.D.Cx.Cx c.args.cache.now.cx g.D.Cx.Input.PartialEq.eq c.args.input c.self.inside.root_depth.0 (g.D.Delegate.starts c.args.inspect.now) c.self.inside.limits_met fits c.args.cache.now.results goals none))).stopped) enclosed)
+
+pub returns-clause-enclosed_remembered : goal.returns-clause-enclosed_remembered
+returns-clause-enclosed_remembered g c =
+    let fits = c.new-evaluation.ensures.fits in
+    rw (← c.self.view_is)
+    (λ goals enclosed none is_noop unscoped. (c.in_ok-answer.ensures.evaluates.ended (call_among goals c.args.input c.self.inside.root_depth.0 (g.D.Delegate.starts c.args.inspect.now) c.self.inside.limits_met fits) (rw c.new-evaluation.ensures.begins (call_among_begins g.D.Delegate g.D.Cx.Cx c.args.cache.now.cx g.D.Cx.Input.PartialEq.eq c.args.input c.self.inside.root_depth.0 (g.D.Delegate.starts c.args.inspect.now) c.self.inside.limits_met fits c.args.cache.now.results goals none))).remembered (is_noop, unscoped) (inr enclosed))

@@ -28,7 +28,7 @@ returns-in-Some-clause-evaluates g c = record {
       (record {
         ended = stored_ends g.D.Delegate g.D.Cx.Cx c.args.cache.now.cx call g.D.Cx.Input.PartialEq.eq c.args.cache.now.results c.args.input c.args.evaluation.now.root_depth.0 (g.D.Delegate.starts c.args.inspect.now) c.args.evaluation.now.limits_met (hit_of c.in-Some.stored) (is_some_with _ c.consult-stored.result.stored c.in-Some.stored c.in-Some.is c.consult-stored.ensures.usable) at;
         store = at.store;
-        remembered = λ plainly counted unmet.
+        remembered = λ plainly meets.
             let is_noop = plainly.0 in
             let unscoped = plainly.1 in
             subst (λ goal. IsRemembered g.D.Cx.Input.PartialEq.eq c.args.cache.now.results goal call.root (record { result = c.in-Some.stored.result; node = c.in-Some.stored.node })) (sym at.outset.same_top)
