@@ -23,7 +23,7 @@ use Rattle.search_rules.proofs.moves.LookUps.{empty_is_applicable}
 use Rattle.search_rules.proofs.moves.Moves.{enclosed_asks}
 
 -- a value of which something holds is there
-some_and : {S : Type 0} (o : Option S) (P : S → Type 0) → IsSomeAnd o P → (s : S) × (o ≡ Some s) × P s
+pub some_and : {S : Type 0} (o : Option S) (P : S → Type 0) → IsSomeAnd o P → (s : S) × (o ≡ Some s) × P s
 some_and None P h = absurd h
 some_and (Some s) P h = (s, refl, h)
 
@@ -313,7 +313,7 @@ found_of_answered true false found records scoped none = none
 found_of_answered true true found records scoped none = absurd cc
 found_of_answered false in_scope found records scoped none = absurd cc
 
-hit_of_answered : {H : Type 0} (noop in_scope : Bool) (found : Option H) (hit : H) → answered_by noop in_scope found ≡ Some hit → found ≡ Some hit
+pub hit_of_answered : {H : Type 0} (noop in_scope : Bool) (found : Option H) (hit : H) → answered_by noop in_scope found ≡ Some hit → found ≡ Some hit
 hit_of_answered true false found hit is = is
 hit_of_answered true true found hit is = absurd cc
 hit_of_answered false in_scope found hit is = absurd cc

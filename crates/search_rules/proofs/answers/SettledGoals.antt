@@ -1,15 +1,17 @@
 -- Goals under evaluation whose answers stay off them, through each change of the newest goal.
-use Rattle.std.proofs.Common.{◌≡◌, ◌≢◌, ◌||◌, ℕ, Bool, true, false, List, [], ◌∷◌, ◌++◌, length, map, reverse, IsSome, Option, None, Some, is_some, refl, sym, ap, ◌∙◌, subst, ◌⊎◌, inl, inr}
+use Rattle.std.proofs.Common.{◌≡◌, ◌≢◌, ◌||◌, if◌then◌else◌, nat_le, not, ℕ, Bool, true, false, List, [], ◌∷◌, ◌++◌, length, map, reverse, IsSome, Option, None, Some, is_some, refl, sym, ap, ◌∙◌, subst, ◌⊎◌, inl, inr}
 use Rattle.std.specs.List.{list_any}
 use Rattle.std.specs.Option.{IfSome, IsSomeAnd}
-use Rattle.std.proofs.lemmas.Bool.{false≢true, or_parts}
+use Rattle.std.proofs.lemmas.Bool.{and_parts, false≢true, or_parts}
 use Rattle.std.proofs.lemmas.List.Sorted.{IsPermutation-reverse, list_any-IsPermutation}
 use Rattle.open_goals.specs.declared.goals.Fate.{Fate}
 use Rattle.open_goals.specs.declared.goals.Fate.TheVariants as becomes
 use Rattle.open_graphs.specs.Stack.{IsLeaf}
 use Rattle.open_goals.specs.NestedGoals.{TakesHeadGoal, TakesNestedGoals}
-use Rattle.search_rules.specs.Below.{Answer, AnswersNewest, AvailableDepth, Begin, CacheNode, CxOf, DelegateOf, EntryState, first_entry, Heads, Hit, is_in_cycle, IsDefinite, NestedPaths, NestsAnswer, NestsHead, no_record, NodeId, open_node, PathKind, paths_at, Reply, Run, shapes_of, some_heads, stack_of, StackEntry, Store, StoredResult, TakesStored, verdict_of, Verdicts, with_depth, with_nested_goals}
+use Rattle.search_rules.specs.Below.{Answer, AnswersNewest, AvailableDepth, Begin, CacheNode, CxOf, DelegateOf, EntryState, first_accepted, first_entry, Heads, Hit, is_in_cycle, IsDefinite, NestedPaths, NestsAnswer, NestsHead, no_record, NodeId, open_node, PathKind, paths_at, Reply, Run, shapes_of, some_heads, stack_of, StackEntry, Store, stored_at, StoredResult, Success, TakesStored, usable, verdict_of, Verdicts, with_depth, with_nested_goals, WithOverflow}
+use Rattle.global_cache.specs.Hits.{hit_at, overflows, successes}
 use Rattle.search_rules.specs.Justified.{frames_of, OpenRun}
+use Rattle.search_rules.specs.LookUp.{Asking, is_applicable}
 use Rattle.search_rules.specs.Lone.{IsLone, NoneIsLone}
 use Rattle.search_rules.specs.Moves.{first_run, Pushes}
 use Rattle.search_rules.specs.Runs.{run_of, runs_of}
@@ -20,6 +22,38 @@ use Rattle.search_rules.proofs.answers.Leading.{leads_leaf, leads_over, leads_we
 use Rattle.search_rules.proofs.answers.NestedGoals.{head_itself, head_stay, taken_come, taken_itself, taken_stay}
 use Rattle.search_rules.proofs.answers.OffStack.{known_more, off_changed, off_new}
 use Rattle.search_rules.proofs.justified.Justified.{no_tally}
+
+-- ---- a stored result that is used
+
+module _ {X I R A T : Type 0} (accepts : NestedPaths I → Bool) (depth : ℕ) where
+  used_is : (success overflow : Option (StoredResult X I R A T)) (hit : Hit I R T) → overflow ≡ None → first_accepted accepts (successes depth success ++ overflows depth overflow) ≡ Some hit → IsSomeAnd success (λ s. (hit_at s.required_depth false s ≡ hit) × (accepts hit.nested_goals ≡ true))
+  used_is None None hit none found = absurd cc
+  used_is None (Some s) hit none found = absurd cc
+  used_is (Some s) (Some t) hit none found = absurd cc
+  used_is (Some s) None hit none found = by (nat_le s.required_depth depth) (accepts s.nested_goals) refl found
+    where
+      by : (fits accepted : Bool) → accepts s.nested_goals ≡ accepted → first_accepted accepts ((if fits then hit_at s.required_depth false s ∷ [] else []) ++ []) ≡ Some hit → (hit_at s.required_depth false s ≡ hit) × (accepts hit.nested_goals ≡ true)
+      by false accepted is at = absurd cc
+      by true true is at =
+          let same_hit : Some (hit_at s.required_depth false s) ≡ Some hit = sym (ap (λ b. if b then Some (hit_at s.required_depth false s) else None) is) ∙ at in
+          let one : hit_at s.required_depth false s ≡ hit = cc in
+          (one, ap (λ (h : Hit I R T). accepts h.nested_goals) (sym one) ∙ is)
+      by true false is at =
+          let no_hit : None ≡ Some hit = sym (ap (λ b. if b then Some (hit_at s.required_depth false s) else None) is) ∙ at in
+          absurd cc
+
+  -- where no overflow result is stored of a goal, the success is, and its nested goals are accepted
+  pub used_success : (same : I → I → Bool) (results : Store I (StoredResult X I R A T)) (goal : I) (hit : Hit I R T) → stored_at same results goal (WithOverflow depth) ≡ None → first_accepted accepts (usable same results goal depth) ≡ Some hit
+      → IsSomeAnd (stored_at same results goal Success) (λ s. (hit_at s.required_depth false s ≡ hit) × (accepts hit.nested_goals ≡ true))
+  used_success same results goal hit none found = used_is (stored_at same results goal Success) (stored_at same results goal (WithOverflow depth)) hit none found
+
+not_is : (b : Bool) → not b ≡ true → b ≡ false
+not_is true is = absurd cc
+not_is false is = refl
+
+-- it may be used only if no goal nested in it is on the stack
+pub none_on_stack : {X I R A T : Type 0} (same : I → I → Bool) (asking : Asking X I R A T) (nested : NestedPaths I) → is_applicable same asking nested ≡ true → list_any (λ (e : StackEntry X I R A T). is_some (paths_at same nested e.input)) asking.stack ≡ false
+none_on_stack same asking nested may = not_is (list_any (λ e. is_some (paths_at same nested e.input)) asking.stack) (and_parts _ _ may).0
 
 -- ---- goals that are not under evaluation
 
@@ -76,6 +110,12 @@ module _ {X F I R A T : Type 0} (says : Verdicts R) (same : I → I → Bool) (b
 
       carried : (P : List (StackEntry X I R A T × Run X F I R A T) → List (StackEntry X I R A T × Run X F I R A T) → Type 0) → P old new → P ((a.entry, a.run) ∷ a.below) ((record a.entry { state = a.state }, a.run) ∷ a.below)
       carried P h = subst (P ((a.entry, a.run) ∷ a.below)) a.is (subst (λ l. P l new) a.was h)
+
+      -- the stack is the same
+      pub taken_stack : stack_of (frames_of says (runs_of old)) ≡ stack_of (frames_of says (runs_of new))
+      taken_stack =
+          ap (λ l. stack_of (frames_of says (runs_of l))) a.was
+          ∙ sym (ap (λ l. stack_of (frames_of says (runs_of l))) a.is ∙ ap (λ o. stack_of (frames_of says (o ∷ runs_of a.below))) (taken_run says nodes old new step required overflow heads a))
 
       -- it takes over an answer with its nested goals, of which there are some if the answer has heads
       pub answered_goals : (nested : NestedPaths I) → (nested ≡ [] → heads ≡ []) → NestsAnswer same step nested old new → AreSettledGoals says same nodes results old → AreSettledGoals says same nodes results new

@@ -30,10 +30,10 @@ headless e apart = no_heads_at e.state.heads (or_parts _ (some_heads e.state.hea
 
 module _ {X F I R A T : Type 0} (says : Verdicts R) (same : I → I → Bool) (by_value : (x y : I) → same x y ≡ true → x ≡ y) (nodes after : List (CacheNode I R)) (results later : Store I (StoredResult X I R A T)) (stay : (goal : I) → IsLone same results goal → IsLone same later goal)
     (s : StackEntry X I R A T × Run X F I R A T) (below : List (StackEntry X I R A T × Run X F I R A T)) (h : AreJustified says nodes (runs_of (s ∷ below))) (r : R) (target : Option NodeId) (ended : HasResultNode says nodes after s.0.state.provisional_result s.1.node s.0.state.node s.1.progress r target) (definite : IsDefinite says r) (goals : AreSettledGoals says same nodes results (s ∷ below)) where
-  ends : EndsWithNode says nodes after (run_of s) (runs_of below) r target
+  pub ends : EndsWithNode says nodes after (run_of s) (runs_of below) r target
   ends = rebases says nodes after s.0 s.1 below h r target ended
 
-  grows : theory.Grown (shapes_of says nodes) (shapes_of says after)
+  pub grows : theory.Grown (shapes_of says nodes) (shapes_of says after)
   grows = answered_grows (shapes_of says nodes) (frame_of says (run_of s)).entry (run_of s).own ends.edges (verdict_of says r) h.sound.running.0.unfinished ends.answered
 
   abbrev Left : I → Type 0
@@ -130,10 +130,10 @@ module _ {X F I R A T : Type 0} (says : Verdicts R) (same : I → I → Bool) (n
   abbrev opened : List (CacheNode I R)
   opened = after ++ open_node s.0.input ∷ []
 
-  run_ends : EndsWithNode says nodes after (run_of s) (runs_of below) r target
+  pub run_ends : EndsWithNode says nodes after (run_of s) (runs_of below) r target
   run_ends = rebases says nodes after s.0 s.1 below h r target ended
 
-  run_grows : theory.Grown (shapes_of says nodes) (shapes_of says after)
+  pub run_grows : theory.Grown (shapes_of says nodes) (shapes_of says after)
   run_grows = answered_grows (shapes_of says nodes) (frame_of says (run_of s)).entry (run_of s).own run_ends.edges (verdict_of says r) h.sound.running.0.unfinished run_ends.answered
 
   abbrev LeftThen : I → Type 0
