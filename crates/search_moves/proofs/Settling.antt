@@ -41,6 +41,31 @@ no_entry false found entry off is = cc
 to_store : {I R T : Type 0} (noop in_scope : Bool) (found : Option (Hit I R T)) → noop ≡ true → in_scope ≡ false → fate_for noop in_scope found ≡ becomes.Stored
 to_store noop in_scope found unrecorded unscoped = ap₂ (λ noop scoped. fate_for noop scoped found) unrecorded unscoped
 
+module _ {D C V P F I R A T : Type 0} (G : DelegateOf D C V P F I R A T) (X : CxOf C I R A T) (same : I → I → Bool) (by_value : (x y : I) → same x y ≡ true → x ≡ y) (own : (x : I) → same x x ≡ true) (cx : C) (kind : PathKind) (goal : I) (old : Cache C I R A T) (e : Evaluation D C V P F I R A T) (starts : ℕ) (call : Call I) (right : IsRight G X same cx old e) (h : IsSettling (verdicts X) same old.nodes old.results call e.goals e.limits_met) where
+  -- the goal is pushed
+  module _ (depth : AvailableDepth) (goals : List (StackEntry C I R A T × Run C F I R A T)) (nodes : List (CacheNode I R)) (pushes : Pushes G X cx goal kind depth old.nodes nodes e.goals goals) (fate : Fate R) (fates : fates_of goals ≡ record { goal = goal; depth = depth.0; fate = fate } ∷ fates_of e.goals) where
+    fate_is : pushes.becomes ≡ fate
+    fate_is =
+        let pushed : fates_of goals ≡ record { goal = goal; depth = depth.0; fate = pushes.becomes } ∷ fates_of e.goals = ap fates_of pushes.is in
+        let both : record { goal = goal; depth = depth.0; fate = pushes.becomes } ∷ fates_of e.goals ≡ record { goal = goal; depth = depth.0; fate = fate } ∷ fates_of e.goals = sym pushed ∙ fates in
+        let one : record { goal = goal; depth = depth.0; fate = pushes.becomes } ≡ record { goal = goal; depth = depth.0; fate = fate } = cc in
+        ap (λ (f : Fated I R). f.fate) one
+
+    pub pushed_settles : fate ≡ becomes.Stored → (IsLone same old.results goal → ⊥) → list_any (λ s. same goal s.0.input) e.goals ≡ false → IsSettling (verdicts X) same nodes old.results call goals e.limits_met
+    pushed_settles stored not_lone absent =
+        let opened = old.nodes ++ open_node goal ∷ [] in
+        let below =
+        goals_grown same old.results old.results (λ g lone. lone) (verdicts X) old.nodes opened (KeepsGoals-appended true old.nodes goal) (Grown-appended (verdicts X) true old.nodes goal)
+        e.goals right.justified.supported right.justified.sound.running h.goals_are in
+        record {
+          unmet = h.unmet;
+          settled = subst (λ ns. AreSettled (verdicts X) same ns old.results call.goals) (sym pushes.opened)
+              (settled_grown (verdicts X) same old.nodes opened (KeepsGoals-appended true old.nodes goal) (Grown-appended (verdicts X) true old.nodes goal) (runs_of e.goals) old.results right.free call.goals h.settled);
+          goals_are = carried G X same cx kind goal old e starts depth goals nodes pushes (λ ns gs. AreSettledGoals (verdicts X) same ns old.results gs)
+              (pushed_goals (verdicts X) same by_value opened old.results goal kind depth pushes.own pushes.frame pushes.becomes e.goals (fate_is ∙ stored) (off_absent same own goal e.goals absent) below);
+          none_lone = pushed_none_lone G X cx same old.results call.goals goal kind depth old.nodes nodes e.goals goals pushes not_lone h.none_lone;
+        }
+
 module _ {D C V P F I R A T : Type 0} (G : DelegateOf D C V P F I R A T) (X : CxOf C I R A T) (same : I → I → Bool) (by_value : (x y : I) → same x y ≡ true → x ≡ y) (own : (x : I) → same x x ≡ true) (more : 2 ≤ G.DIVIDE_AVAILABLE_DEPTH_ON_OVERFLOW) (cx : C) (kind : PathKind) (goal : I) (old : Cache C I R A T) (e : Evaluation D C V P F I R A T) (starts : ℕ)
     (call : Call I) (ahead : ℕ) (noop : Bool) (needs : CallNeedsTwoRuns G X cx call noop) (asked : Requests G X same cx (Evaluate kind goal) call ahead old e starts) (right : IsRight G X same cx old e) (h : IsSettling (verdicts X) same old.nodes old.results call e.goals e.limits_met) where
   within : Contains call.goals goal
@@ -76,31 +101,6 @@ module _ {D C V P F I R A T : Type 0} (G : DelegateOf D C V P F I R A T) (X : Cx
         head_leaf (verdicts X) old.nodes e.goals right.justified.supported head.0 entry
         (head_is (verdicts X) e.goals head.0 entry (slice_get_within stack head.0 entry is_at) (sym (get_or_from_slice_get stack head.0 entry entry is_at)))
 
-  -- ---- the goal is pushed
-
-  module _ (depth : AvailableDepth) (goals : List (StackEntry C I R A T × Run C F I R A T)) (nodes : List (CacheNode I R)) (pushes : Pushes G X cx goal kind depth old.nodes nodes e.goals goals) (fate : Fate R) (fates : fates_of goals ≡ record { goal = goal; depth = depth.0; fate = fate } ∷ fates_of e.goals) where
-    fate_is : pushes.becomes ≡ fate
-    fate_is =
-        let pushed : fates_of goals ≡ record { goal = goal; depth = depth.0; fate = pushes.becomes } ∷ fates_of e.goals = ap fates_of pushes.is in
-        let both : record { goal = goal; depth = depth.0; fate = pushes.becomes } ∷ fates_of e.goals ≡ record { goal = goal; depth = depth.0; fate = fate } ∷ fates_of e.goals = sym pushed ∙ fates in
-        let one : record { goal = goal; depth = depth.0; fate = pushes.becomes } ≡ record { goal = goal; depth = depth.0; fate = fate } = cc in
-        ap (λ (f : Fated I R). f.fate) one
-
-    pushed_settles : fate ≡ becomes.Stored → (IsLone same old.results goal → ⊥) → list_any (λ s. same goal s.0.input) e.goals ≡ false → IsSettling (verdicts X) same nodes old.results call goals e.limits_met
-    pushed_settles stored not_lone absent =
-        let opened = old.nodes ++ open_node goal ∷ [] in
-        let below =
-        goals_grown same old.results old.results (λ g lone. lone) (verdicts X) old.nodes opened (KeepsGoals-appended true old.nodes goal) (Grown-appended (verdicts X) true old.nodes goal)
-        e.goals right.justified.supported right.justified.sound.running h.goals_are in
-        record {
-          unmet = h.unmet;
-          settled = subst (λ ns. AreSettled (verdicts X) same ns old.results call.goals) (sym pushes.opened)
-              (settled_grown (verdicts X) same old.nodes opened (KeepsGoals-appended true old.nodes goal) (Grown-appended (verdicts X) true old.nodes goal) (runs_of e.goals) old.results right.free call.goals h.settled);
-          goals_are = carried G X same cx kind goal old e starts depth goals nodes pushes (λ ns gs. AreSettledGoals (verdicts X) same ns old.results gs)
-              (pushed_goals (verdicts X) same by_value opened old.results goal kind depth pushes.own pushes.frame pushes.becomes e.goals (fate_is ∙ stored) (off_absent same own goal e.goals absent) below);
-          none_lone = pushed_none_lone G X cx same old.results call.goals goal kind depth old.nodes nodes e.goals goals pushes not_lone h.none_lone;
-        }
-
   -- whatever the question comes to
   pub asked_settles : (received : Received R) (new : Cache C I R A T) (after : Evaluation D C V P F I R A T) (later : ℕ) → Asked G X same cx kind goal noop old e starts received new after later → Settles G X same call received new after
   asked_settles received new after later (Refused goals none noted) = absurd (enclosed_refuses_none G X cx call ahead kind goal starts e.limits_met e.goals none needs.needs.enclosed asked.asked)
@@ -129,7 +129,7 @@ module _ {D C V P F I R A T : Type 0} (G : DelegateOf D C V P F I R A T) (X : Cx
         (λ definite. subst (λ stack. IsSomeAnd closes.entry.state.node (λ n. IsLeaf stack n.0)) (taken_stack (verdicts X) same by_value old.nodes old.results e.goals goals kind 0 false _ closes.takes) (head_stops head closes.entry closes.is_at)));
   }
   asked_settles received new after later (Pushed depth goals nodes now at none not_stored absent pushes fates fated one counted) = record {
-    settling = pushed_settles depth goals nodes pushes _ fates (to_store noop (G.scoped cx goal) _ needs.needs.unrecorded (needs.needs.unscoped goal within))
+    settling = pushed_settles G X same by_value own cx kind goal old e starts call right h depth goals nodes pushes _ fates (to_store noop (G.scoped cx goal) _ needs.needs.unrecorded (needs.needs.unscoped goal within))
         (asked_not_lone G X cx call same old.results needs.needs.enclosed h.settled.require ahead kind goal e.goals starts e.limits_met depth.0 (may_ask_of G X cx call ahead kind goal starts e.limits_met more depth e.goals at) asked.asked h.none_lone (asking G X same cx kind goal e) noop (G.scoped cx goal) needs.needs.unrecorded (needs.needs.unscoped goal within) not_stored)
         absent;
     answer = begin_stays_off (verdicts X) same by_value nodes old.results goals Begin None (λ r is. let clash : Begin ≡ Answer r = is in cc);
