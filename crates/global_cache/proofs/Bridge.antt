@@ -45,11 +45,26 @@ module _ {I R : Type 0} (says : Verdicts R) where
     abbrev Step : ℕ → ℕ → ℕ → Type 0
     Step = theory.HasShapeEdge (shapes_of says nodes) verdict
 
+    -- a node whose shape is finished with the verdict
+    pub ended_finished : (at : ℕ) → theory.IsFinished (shapes_of says nodes) verdict at → Ended verdict (slice_get nodes at)
+    ended_finished at f = ended_node verdict (slice_get nodes at) f.0 (sym (slice_get-map (shape_of says) nodes at) ∙ f.1)
+
     -- the root of a graph is finished with its verdict
     pub ended_at : (at : ℕ) → Known at → Ended verdict (slice_get nodes at)
-    ended_at at g =
-        let f = edges_of (shapes_of says nodes) verdict at (g.finished at 0 stay) in
-        ended_node verdict (slice_get nodes at) f.0 (sym (slice_get-map (shape_of says) nodes at) ∙ f.1)
+    ended_at at g = ended_finished at (edges_of (shapes_of says nodes) verdict at (g.finished at 0 stay))
+
+    -- the shape of an edge of its run
+    pub edge_step : (at : ℕ) (n : Ended verdict (slice_get nodes at)) (i : ℕ) (e : Edge I) → slice_get n.run.edges i ≡ Some e → Step at (rank_of e.kind) e.target
+    edge_step at n i e is = record {
+      edges = map edge_shape n.run.edges;
+      index = i;
+      finished =
+          slice_get-map (shape_of says) nodes at
+          ∙ (ap (option_map (shape_of says)) n.is
+          ∙ (ap (λ r. Some (shape_of says (record { goal = n.node.goal; run = r }))) n.ended
+          ∙ ap (λ v. Some (theory.Finished v (map edge_shape n.run.edges))) n.sort));
+      edge = slice_get-map edge_shape n.run.edges i ∙ ap (option_map edge_shape) is;
+    }
 
     graph_node_at : (at : ℕ) (n : Ended verdict (slice_get nodes at)) → slice_get (graph_nodes_of nodes) at ≡ Some (record { goal = n.node.goal; edges = n.run.edges })
     graph_node_at at n =
@@ -67,16 +82,7 @@ module _ {I R : Type 0} (says : Verdicts R) where
     step_of at g e h =
         let n = ended_at at g in
         let i = edge_at at n e h in
-        record {
-          edges = map edge_shape n.run.edges;
-          index = i.0;
-          finished =
-              slice_get-map (shape_of says) nodes at
-              ∙ (ap (option_map (shape_of says)) n.is
-              ∙ (ap (λ r. Some (shape_of says (record { goal = n.node.goal; run = r }))) n.ended
-              ∙ ap (λ v. Some (theory.Finished v (map edge_shape n.run.edges))) n.sort));
-          edge = slice_get-map edge_shape n.run.edges i.0 ∙ ap (option_map edge_shape) i.1;
-        }
+        edge_step at n i.0 e i.1
 
     -- a walk over the edges, where it ends, and that what it comes to is the root of a graph
     walk_of : (from to : ℕ) (walk : List (Edge I)) → Known from → IsWalk (graph_nodes_of nodes) from walk to → Walk Step from (rank_of (walk_kind walk)) to × Known to
@@ -157,13 +163,19 @@ module _ {I R : Type 0} (says : Verdicts R) where
   pub no_sort : IsSort I says theory.No says.is_no Inductive
   no_sort = record { passes = λ r. no_case (says.is_yes r) (says.is_no r); cycles = refl; edges = λ nodes script run h. h.no }
 
+-- a run that ended with a verdict shows its goal by each rule that the verdict's runs keep
+pub shown_by_run : {I R : Type 0} (says : Verdicts R) (scripts : I → List (Reply R) → Request I R) (nodes : List (CacheNode I R))
+    (verdict : theory.Verdict) (test : R → Bool) (kind : PathKind) → IsSort I says verdict test kind → (rule : I → List (Question I) → Type 0) → KeepsRule test scripts rule
+    → (goal : I) (run : EndedRun I R) → IsRun says (scripts goal) nodes run → verdict_of says run.outcome ≡ verdict → rule goal (map question_of run.edges)
+shown_by_run says scripts nodes verdict test kind sort rule law goal run h said =
+    let passes = sort.passes run.outcome said in
+    subst (rule goal) (sym (sort.edges nodes (scripts goal) run h passes)) (law goal (reverse run.replies) run.outcome h.ends passes)
+
 -- the root of a graph for a verdict has a graph by each rule that the verdict's runs keep
 pub graph_by_rule : {I R : Type 0} (says : Verdicts R) (scripts : I → List (Reply R) → Request I R) (nodes : List (CacheNode I R)) (runs : AreRuns says scripts nodes) (root : ℕ) (goal : I) → IsNodeOf nodes root goal
     → (verdict : theory.Verdict) (test : R → Bool) (kind : PathKind) → IsSort I says verdict test kind → (rule : I → List (Question I) → Type 0) → KeepsRule test scripts rule
     → theory.IsClosedGraph (shapes_of says nodes) verdict root → IsGraph rule kind (graph_nodes_of nodes) root goal
 graph_by_rule says scripts nodes runs root goal is verdict test kind sort rule law g =
     has_graph says scripts nodes runs verdict rule kind sort.cycles
-    (λ n run h said.
-    let passes = sort.passes run.outcome said in
-    subst (rule n.goal) (sym (sort.edges nodes (scripts n.goal) run h passes)) (law n.goal (reverse run.replies) run.outcome h.ends passes))
+    (λ n. shown_by_run says scripts nodes verdict test kind sort rule law n.goal)
     root goal is g

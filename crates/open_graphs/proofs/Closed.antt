@@ -6,6 +6,9 @@ use Rattle.open_graphs.proofs.Walks.{carried_on, carried, then_step}
 use Rattle.open_graphs.proofs.Paths.{covered_walk}
 use Rattle.open_graphs.proofs.Keep.{edge_before}
 
+edges_only : (nodes : List Node) (verdict : Verdict) (stack : List Entry) {a q b : ℕ} → Walk (Step nodes verdict stack) a q b → Walk (HasShapeEdge nodes verdict) a q b
+edges_only nodes verdict stack w = carried (HasShapeEdge nodes verdict) (Step nodes verdict stack) (λ b. Unit {0}) (λ b k c h e. e.edge) (λ b k c h e. tt) tt w
+
 module _ (nodes : List Node) (verdict : Verdict) (stack : List Entry) (from_head : ℕ → ℕ) (front a : ℕ) (heads : Heads) (none : (depth : ℕ) → UsesNo heads depth) (u : Use nodes verdict stack from_head front a heads) where
   no_leaf : (b q : ℕ) → Walk (Step nodes verdict stack) a q b → ¬ IsLeaf stack b
   no_leaf b q w l =
@@ -17,6 +20,10 @@ module _ (nodes : List Node) (verdict : Verdict) (stack : List Entry) (from_head
 
   edge_walk : {p b q c : ℕ} → Walk (Step nodes verdict stack) a p b → Walk (HasShapeEdge nodes verdict) b q c → Walk (Step nodes verdict stack) b q c
   edge_walk v w = carried_on (Step nodes verdict stack) (HasShapeEdge nodes verdict) a edge_steps v w
+
+  -- what it reaches over an empty stack it reaches over this one, and none of that is a leaf
+  pub headless_reaches : (b q : ℕ) → Walk (Step nodes verdict []) a q b → Walk (Step nodes verdict stack) a q b × ¬ IsLeaf stack b
+  headless_reaches b q w = let v = edge_walk stay (edges_only nodes verdict [] w) in (v, no_leaf b q v)
 
   -- A use without heads is a graph, whatever the stack is.
   pub closed_is_graph : IsClosedGraph nodes verdict a
@@ -39,9 +46,6 @@ growth_keeps_graph before after verdict a grown g =
           let e' = back b q k c v e in
           g.closed b q k c r v e' (carried_on (HasShapeEdge before verdict) (HasShapeEdge after verdict) a back (then_step (HasShapeEdge before verdict) v e') x);
     }
-
-edges_only : (nodes : List Node) (verdict : Verdict) (stack : List Entry) {a q b : ℕ} → Walk (Step nodes verdict stack) a q b → Walk (HasShapeEdge nodes verdict) a q b
-edges_only nodes verdict stack w = carried (HasShapeEdge nodes verdict) (Step nodes verdict stack) (λ b. Unit {0}) (λ b k c h e. e.edge) (λ b k c h e. tt) tt w
 
 -- A graph may be used under an empty stack.
 pub graph_is_use :

@@ -1,14 +1,13 @@
 -- No goal has both a proof graph and a refutation graph. By the clash law the two have an edge of one question at
 -- each pair of nodes that share a goal, so both can be walked in step. Some pair comes twice, which closes a walk in
 -- each, and both walks have one kind.
-use Rattle.std.proofs.Common.{◌≡◌, ℕ, zero, suc, ◌+◌, ◌-◌, ◌*◌, ◌/◌, ◌<◌, ◌≤◌, List, [], ◌∷◌, ◌++◌, map, length, slice_get, Option, Some, option_map, Contains, refl, sym, ◌∙◌, ap, ap₂, subst, arith, mul-le-mul_right, suc-mul}
-use Rattle.std.proofs.lemmas.Nat.{div-mul-add}
+use Rattle.std.proofs.Common.{◌≡◌, ℕ, zero, suc, ◌+◌, ◌-◌, ◌<◌, List, [], ◌∷◌, ◌++◌, map, length, slice_get, Option, Some, option_map, Contains, refl, sym, ◌∙◌, ap, ap₂, subst, arith}
 use Rattle.std.proofs.lemmas.Option.{slice_get_within}
 pub use Rattle.open_graphs.proofs.Lists.{mapped_some}
 pub use Rattle.open_graphs.proofs.Members.{Contains-filtered, Contains-map, Contains-mapped, filtered_member}
 use Rattle.search_context.specs.Below.{PathKind, Inductive, Coinductive, greater_kind}
 use Rattle.search_context.specs.Words.{Edge, Question, Overlap, GraphNode, question_of, HasGoal, HasEdge, IsWalk, IsReached, walk_kind, IsProofGraph, IsRefutationGraph}
-use Rattle.search_context.proofs.Pigeonhole.{pigeonhole}
+use Rattle.search_context.proofs.Pigeonhole.{pair_twice}
 
 -- the node behind a goal
 pub goal_node : {I : Type 0} (o : Option (GraphNode I)) (goal : I) → option_map (λ n. n.goal) o ≡ Some goal → (n : GraphNode I) × (o ≡ Some n) × (n.goal ≡ goal)
@@ -34,17 +33,6 @@ same_question e f q l r = l ∙ sym r
 -- a kind is not both
 Coinductive-apart : (k : PathKind) → k ≡ Coinductive → k ≡ Inductive → ⊥
 Coinductive-apart k p q = cc
-
-place_rest : (p q r s n : ℕ) → p ≡ r → p * n + q ≡ r * n + s → q ≡ s
-place_rest p q r s n same e = let m : p * n ≡ r * n = ap (λ x. x * n) same in omega arith
-
-place_below : (p q m n : ℕ) → p < m → q < n → p * n + q < m * n
-place_below p q m n hp hq = let h : suc p * n ≤ m * n = mul-le-mul_right n hp in omega (arith, suc-mul p n)
-
-place_codes : (p q r s n : ℕ) → q < n → s < n → p * n + q ≡ r * n + s → (p ≡ r) × (q ≡ s)
-place_codes p q r s n hq hs e =
-    let same : p ≡ r = sym (div-mul-add p n q hq) ∙ (ap (λ x. x / n) e ∙ div-mul-add r n s hs) in
-    (same, place_rest p q r s n same e)
 
 module _ {I : Type 0} (proves refutes : I → List (Question I) → Type 0)
     (clash : (goal : I) (yes no : List (Question I)) → proves goal yes → refutes goal no → Overlap yes no)
@@ -135,16 +123,6 @@ module _ {I : Type 0} (proves refutes : I → List (Question I) → Type 0)
   same_kinds i zero = refl
   same_kinds i (suc n) = ap₂ greater_kind (ap (λ q. q.kind) (step (pair_at i)).same) (same_kinds (suc i) n)
 
-  -- the places of a pair as one number
-  abbrev code : ℕ → ℕ
-  code i = (pair_at i).left * length others + (pair_at i).right
-
-  code-below : (i : ℕ) → code i < length nodes * length others
-  code-below i =
-      place_below (pair_at i).left (pair_at i).right (length nodes) (length others)
-      (HasGoal-within nodes (pair_at i).left (pair_at i).goal (pair_at i).left_goal)
-      (HasGoal-within others (pair_at i).right (pair_at i).goal (pair_at i).right_goal)
-
   closes : (i n j : ℕ) → i + suc n ≡ j → (pair_at i).left ≡ (pair_at j).left → (pair_at i).right ≡ (pair_at j).right → ⊥
   closes i n j e l r =
       Coinductive-apart (walk_kind (left_walk i (suc n)))
@@ -155,8 +133,7 @@ module _ {I : Type 0} (proves refutes : I → List (Question I) → Type 0)
 
   pub never_both : ⊥
   never_both =
-      let w = pigeonhole (length nodes * length others) code (λ i h. code-below i) in
-      let same = place_codes (pair_at w.0).left (pair_at w.0).right (pair_at w.1).left (pair_at w.1).right (length others)
-      (HasGoal-within others (pair_at w.0).right (pair_at w.0).goal (pair_at w.0).right_goal)
-      (HasGoal-within others (pair_at w.1).right (pair_at w.1).goal (pair_at w.1).right_goal) w.4 in
-      closes w.0 (w.1 - suc w.0) w.1 (omega (arith, w.2)) same.0 same.1
+      let w = pair_twice (length nodes) (length others) (λ i. (pair_at i).left) (λ i. (pair_at i).right)
+      (λ i. HasGoal-within nodes (pair_at i).left (pair_at i).goal (pair_at i).left_goal)
+      (λ i. HasGoal-within others (pair_at i).right (pair_at i).goal (pair_at i).right_goal) in
+      closes w.0 (w.1 - suc w.0) w.1 (omega (arith, w.2)) w.3 w.4

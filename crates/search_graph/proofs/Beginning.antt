@@ -25,7 +25,7 @@ then_keeps same first_goals goals old mid new from first second = record {
 
 module _ {D C V P F I R A T : Type 0} (G : DelegateOf D C V P F I R A T) (X : CxOf C I R A T) (same : I → I → Bool) (cx : C) (kind : PathKind) (goal : I) (old : Cache C I R A T) (e : Evaluation D C V P F I R A T) (is_new : IsNew e) where
   -- where no goal is under evaluation, all is right
-  new_right : AreSoundResults same (verdicts X) (G.script cx) old.nodes old.results → IsRight G X same cx old e
+  pub new_right : AreSoundResults same (verdicts X) (G.script cx) old.nodes old.results → IsRight G X same cx old e
   new_right sound = record {
     justified = subst (λ gs. AreJustified (verdicts X) old.nodes (runs_of gs)) (sym is_new.no_goals) (nothing_is_justified (verdicts X) old.nodes);
     free = subst (λ gs. AreFree (verdicts X) same old.nodes (runs_of gs) old.results) (sym is_new.no_goals) (all_free_nothing (verdicts X) same (G.script cx) old.nodes old.results sound);

@@ -9,4 +9,5 @@ mod Advancing
 mod KeptFates
 mod Beginning
 pub mod ListLimits
+mod SettledSteps
 pub mod WorkedOut

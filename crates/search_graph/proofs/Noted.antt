@@ -27,12 +27,12 @@ one_open true is = refl
 one_open false is = absurd cc
 
 -- a candidate that may be ignored is finished, and isn't ignored yet
-may_ignore : (finished ignored : Bool) → if◌then◌else◌ {A = Option ℕ} finished (if◌then◌else◌ {A = Option ℕ} ignored (Some 4) None) (Some 3) ≡ None → (finished ≡ true) × (ignored ≡ false)
+pub may_ignore : (finished ignored : Bool) → if◌then◌else◌ {A = Option ℕ} finished (if◌then◌else◌ {A = Option ℕ} ignored (Some 4) None) (Some 3) ≡ None → (finished ≡ true) × (ignored ≡ false)
 may_ignore true true is = absurd cc
 may_ignore true false is = (refl, refl)
 may_ignore false ignored is = absurd cc
 
-something_in : {A : Type 0} (o : Option A) (otherwise : A) → is_some o ≡ true → o ≡ Some (unwrap_or o otherwise)
+pub something_in : {A : Type 0} (o : Option A) (otherwise : A) → is_some o ≡ true → o ≡ Some (unwrap_or o otherwise)
 something_in None otherwise is = absurd cc
 something_in (Some x) otherwise is = refl
 
@@ -43,12 +43,12 @@ ignored_longer [] (suc n) = refl
 ignored_longer (b ∷ ignored) zero = refl
 ignored_longer (b ∷ ignored) (suc n) = ignored_longer ignored n
 
-counted_longer : (ignored : List Bool) (c : Option ℕ) → counted_by (ignored ++ false ∷ []) c ≡ counted_by ignored c
+pub counted_longer : (ignored : List Bool) (c : Option ℕ) → counted_by (ignored ++ false ∷ []) c ≡ counted_by ignored c
 counted_longer ignored None = refl
 counted_longer ignored (Some n) = ap not (ignored_longer ignored n)
 
 -- what still counts once a candidate is ignored is another one's, and counted before
-counted_before : (ignored : List Bool) (n : ℕ) (c : Option ℕ) → n < length ignored → counted_by (slice_set ignored n true) c ≡ true → (counted_by ignored c ≡ true) × (c ≢ Some n)
+pub counted_before : (ignored : List Bool) (n : ℕ) (c : Option ℕ) → n < length ignored → counted_by (slice_set ignored n true) c ≡ true → (counted_by ignored c ≡ true) × (c ≢ Some n)
 counted_before ignored n None within kept = (refl, λ e. absurd cc)
 counted_before ignored n (Some m) within kept =
     let other : m ≢ n = λ same. ignored_is_not_counted (get_or (slice_set ignored n true) m false) (ap (λ k. get_or (slice_set ignored n true) k false) same ∙ get_or-set_same ignored n true false within) kept in
@@ -60,7 +60,7 @@ counted_before ignored n (Some m) within kept =
 
 -- which candidate is open, and which are ignored, doesn't rest on the verdict of an answer
 module _ {I R : Type 0} (p : RunRecord I R) (verdict : Verdict) (target : Option NodeId) where
-  acted_same : (request : Option (Request I R)) → record (answered p request verdict target) { answers = p.answers } ≡ record (answered p request Neither None) { answers = p.answers }
+  pub acted_same : (request : Option (Request I R)) → record (answered p request verdict target) { answers = p.answers } ≡ record (answered p request Neither None) { answers = p.answers }
   acted_same (Some (Evaluate kind goal)) = refl
   acted_same request = refl
 
@@ -68,14 +68,14 @@ module _ {I R : Type 0} (p : RunRecord I R) (verdict : Verdict) (target : Option
 
 module _ {X F I R A T : Type 0} (entry : StackEntry X I R A T) (run : Run X F I R A T) (below : List (StackEntry X I R A T × Run X F I R A T)) where
   -- a goal that ignores a candidate, as it was before
-  record IgnoresHere (number : ℕ) (after : List (StackEntry X I R A T × Run X F I R A T)) : Type 0 where
-    candidate : UsagesByHead
-    state : EntryState X I R A T
-    is_at : slice_get run.candidates number ≡ Some candidate
-    is : after ≡ (record entry { state = state }, record run { candidates = slice_set run.candidates number [] }) ∷ below
-    ignores : Ignores (record { 0 = length below }) candidate entry.state state
+  pub record IgnoresHere (number : ℕ) (after : List (StackEntry X I R A T × Run X F I R A T)) : Type 0 where
+    pub candidate : UsagesByHead
+    pub state : EntryState X I R A T
+    pub is_at : slice_get run.candidates number ≡ Some candidate
+    pub is : after ≡ (record entry { state = state }, record run { candidates = slice_set run.candidates number [] }) ∷ below
+    pub ignores : Ignores (record { 0 = length below }) candidate entry.state state
 
-  ignores_here : (number : ℕ) (mid after : List (StackEntry X I R A T × Run X F I R A T)) → mid ≡ (entry, run) ∷ below → IgnoresNewest number mid after → IgnoresHere number after
+  pub ignores_here : (number : ℕ) (mid after : List (StackEntry X I R A T × Run X F I R A T)) → mid ≡ (entry, run) ∷ below → IgnoresNewest number mid after → IgnoresHere number after
   ignores_here number mid after mid_is n =
       let both : (n.entry, n.run) ∷ n.below ≡ (entry, run) ∷ below = sym n.was ∙ mid_is in
       let pair : (n.entry, n.run) ≡ (entry, run) = cc in
@@ -93,7 +93,7 @@ module _ {X F I R A T : Type 0} (entry : StackEntry X I R A T) (run : Run X F I 
       }
 
   -- but for what it counts, the goal's run is the same
-  ignoring_run : (state : EntryState X I R A T) (later : Run X F I R A T) → state ≡ record entry.state { heads = state.heads; usages = state.usages } → run_of (record entry { state = state }, later) ≡ record (run_of (entry, later)) { tally = tally_of state later.candidates }
+  pub ignoring_run : (state : EntryState X I R A T) (later : Run X F I R A T) → state ≡ record entry.state { heads = state.heads; usages = state.usages } → run_of (record entry { state = state }, later) ≡ record (run_of (entry, later)) { tally = tally_of state later.candidates }
   ignoring_run state later others = ap (λ (s : EntryState X I R A T). record (run_of (record entry { state = s }, later)) { tally = tally_of state later.candidates }) others
 
 module _ {D C V P F I R A T : Type 0} (G : DelegateOf D C V P F I R A T) (X : CxOf C I R A T) (cx : C) (nodes : List (CacheNode I R)) where

@@ -2,5 +2,6 @@ pub mod Graph
 pub mod Lists
 pub mod Fates
 pub mod Calls
+pub mod Settled
 pub mod Below
 pub mod Words

@@ -1,4 +1,6 @@
 pub mod Asking
+pub mod Settling
+pub mod SettledEnds
 pub mod Said
 pub mod Remembering
 pub mod LimitsAtEnd

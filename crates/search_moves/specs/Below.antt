@@ -56,7 +56,7 @@ pub use Rattle.search_rules.specs.Moves.{ClosesCycle, first_run, GivesAnswer, Gi
 pub use Rattle.search_rules.specs.Provisional.{AreReady, entries_for, entry_of, HasReason}
 pub use Rattle.search_rules.specs.Provisional.{IsNewestUnranked, IsReady, rebased_for, RebasesEntries, RebasesNewest}
 pub use Rattle.search_rules.specs.Results.{final_answer, IsNewestPlainTo, IsNewestStored, IsStored, MayPutNewest}
-pub use Rattle.search_rules.specs.Results.{NewestComesTo, NewestIsPlain, RequireWithin, StoresAnswer}
+pub use Rattle.search_rules.specs.Results.{NewestComesTo, NewestIsPlain, RequireWithin, StoresAnswer, StoresNewest}
 pub use Rattle.search_rules.specs.Runs.{AreFrom, HasNewestNode, HasResultNode, IfFinished, IsJustifiedNext, KeepsBut}
 pub use Rattle.search_rules.specs.Runs.{KeepsEarlier, node_given, StayFrom}
 pub use Rattle.search_rules.specs.Runs.{run_of, runs_of}

@@ -4,5 +4,6 @@ pub mod Popped
 pub mod RunAgain
 pub mod Storing
 pub mod RunEnded
+pub mod Settled
 pub mod Below
 pub mod Words

@@ -6,7 +6,7 @@ use Rattle.search_moves.specs.Evaluations.{IsRight, IsRightNext}
 use Rattle.search_rules.specs.Fates.{fates_of, HaveExpected}
 use Rattle.search_rules.specs.Moves.{CanLeave, LeavesNested, NewestLeaves}
 use Rattle.search_rules.specs.Provisional.{HasReason, IsNewestUnranked, RebasesNewest}
-use Rattle.search_rules.specs.Results.{IsNewestStored, NewestComesTo, NewestIsPlain}
+use Rattle.search_rules.specs.Results.{IsNewestStored, NewestComesTo, NewestIsPlain, StoresNewest}
 use Rattle.search_rules.specs.Runs.{EndsNewest, HasNewestNode, node_given}
 
 module _ {D C V P F I R A T : Type 0} (G : DelegateOf D C V P F I R A T) (X : CxOf C I R A T) (same : I → I → Bool) (outcome : R) (reason : Option (RebaseReason C I R A T)) (old : Cache C I R A T) (before : Evaluation D C V P F I R A T) where
@@ -29,5 +29,6 @@ module _ {D C V P F I R A T : Type 0} (G : DelegateOf D C V P F I R A T) (X : Cx
     pub node : HasNewestNode (verdicts X) old.nodes new.nodes before.goals outcome (node_given next)
     pub nested : LeavesNested same before.goals after.goals
     pub stored : IsNewestStored same (X.token old.cx) before.goals outcome (node_given next) new.results
+    pub puts : StoresNewest same before.goals outcome (node_given next) old.results new.results
     pub rebased : RebasesNewest same G.ENABLE_PROVISIONAL_CACHE (G.propagated old.cx) (G.fixpoint_overflow old.cx) reason outcome before.goals before.provisional after.provisional
     pub right : IsRightNext G X same old.cx before.goals next new after

@@ -3,6 +3,7 @@ use Rattle.std.proofs.Common.{◌≡◌, ◌≢◌, suc, ◌+◌, ◌<◌, ◌^�
 use Rattle.std.specs.Option.{IsSomeAnd, option_or}
 use Rattle.std.proofs.lemmas.List.{length-map}
 use Rattle.search_rules.specs.Below.{Answer, AnswersNewest, CacheNode, change_newest, CxOf, DelegateOf, Finished, HasGraph, IsDefinite, newest, NodeId, open_node, Reply, Request, rerun_with, Run, RunRecord, StackEntry, Step, Store, StoredResult, verdict_of, Verdicts, with_no_record}
+use Rattle.search_rules.specs.Runs.{RerunsWithNode}
 use Rattle.search_rules.specs.Words.{AreFree, AreJustified, CanLeave, EndsNewest, EndsRun, HasResultNode, IsFit, IsFree, IsFresh, IsJustifiedNext, KeepsBut, KeepsEarlier, LieBelow, MayAnswer, NewestAsks, NewestLeaves, OpenRun, Reruns, run_of, runs_of, tally_of}
 use Rattle.search_rules.proofs.justified.Justified.{below_is_justified, EndsWithNode, headless_has_graph, last_has_graph, may_answer_parent, rerun_is_justified, stack_length}
 use Rattle.search_rules.proofs.justified.Finishing.{answer_fits, answered_newest_is_justified, ends_run, heads_come, rebases, same_run}
@@ -71,6 +72,23 @@ module _ {X F I R A T : Type 0} where
     rerun_holds P Q keeps was =
         subst (λ l. Q (runs_of l)) (sym (again_is old taken new e t.run t.below r (option_or target e.state.node) frame own t.was is then))
         (keeps justified_here ends_here (subst (λ l. P (runs_of l)) t.was was))
+
+  -- it is run again with the node of its result
+  pub reran_with_node : (says : Verdicts R) (before after opened : List (CacheNode I R)) (old taken new : List (StackEntry X I R A T × Run X F I R A T)) (e : StackEntry X I R A T) (y : Run X F I R A T) (p : RunRecord I R) (r : R) (target : Option NodeId) (frame : F) (own : NodeId) → TakenFrom old e y p → taken ≡ change_newest with_no_record old → new ≡ change_newest (rerun_with r (option_or target e.state.node) frame own) taken → HasResultNode says before after e.state.provisional_result y.node e.state.node p r target → own.0 ≡ length after → opened ≡ after ++ open_node e.input ∷ [] → RerunsWithNode says before opened r old new
+  reran_with_node says before after opened old taken new e y p r target frame own t is then ended at opens = record {
+    item = (e, t.run);
+    below = t.below;
+    ended = after;
+    target = target;
+    frame = frame;
+    own = own;
+    was = t.was;
+    node = subst (λ n. HasResultNode says before after e.state.provisional_result n e.state.node t.run.progress r target) t.same_node
+        (subst (λ q. HasResultNode says before after e.state.provisional_result y.node e.state.node q r target) t.progress_is ended);
+    opened = opens;
+    place = at;
+    is = again_is old taken new e t.run t.below r (option_or target e.state.node) frame own t.was is then;
+  }
 
   -- the goals stay justified
   pub rerun_justified : (says : Verdicts R) (before after : List (CacheNode I R)) (old taken new : List (StackEntry X I R A T × Run X F I R A T)) (e : StackEntry X I R A T) (y : Run X F I R A T) (p : RunRecord I R) (r : R) (target : Option NodeId) (frame : F) (own : NodeId) → TakenFrom old e y p → taken ≡ change_newest with_no_record old → new ≡ change_newest (rerun_with r (option_or target e.state.node) frame own) taken → HasResultNode says before after e.state.provisional_result y.node e.state.node p r target → own.0 ≡ length after → AreJustified says before (runs_of old) → AreJustified says (after ++ open_node e.input ∷ []) (runs_of new)

@@ -5,3 +5,13 @@ pub mod Taken
 pub mod Cycles
 pub mod Free
 pub mod FreeMoves
+pub mod Leading
+pub mod OffStack
+pub mod LoneGoals
+pub mod NestedHeads
+pub mod OneOfBoth
+pub mod NestedGoals
+pub mod SettledGoals
+pub mod SettledRuns
+pub mod SettledResults
+pub mod TwoRuns

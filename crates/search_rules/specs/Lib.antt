@@ -2,6 +2,7 @@ pub mod Results
 pub mod Fates
 pub mod Claims
 pub mod LookUp
+pub mod Lone
 pub mod Decided
 pub mod Calls
 pub mod Moves
@@ -13,5 +14,6 @@ pub mod EndOfRun
 pub mod EntryShapes
 pub mod Provisional
 pub mod Evaluating
+pub mod Settled
 pub mod Below
 pub mod Words

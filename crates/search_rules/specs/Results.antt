@@ -82,6 +82,11 @@ module _ {X F I R A T : Type 0} where
   IsNewestStored same token [] r target results = ⊥
   IsNewestStored same token (s ∷ below) r target results = s.1.fate ≡ becomes.Stored → s.0.state.heads ≡ [] → IsStored same token results s.0.input (final_answer s r target)
 
+  -- the newest goal's answer, with this result and node, was stored, or nothing was
+  abbrev pub StoresNewest : (I → I → Bool) → List (StackEntry X I R A T × Run X F I R A T) → R → Option NodeId → (old new : Store I (StoredResult X I R A T)) → Type 0
+  StoresNewest same [] r target old new = ⊥
+  StoresNewest same (s ∷ below) r target old new = StoresAnswer same old new s.0.input (final_answer s r target)
+
   -- the newest goal's result was stored, or nothing was
   abbrev pub MayPutNewest : (I → I → Bool) → List (StackEntry X I R A T × Run X F I R A T) → R → (old new : Store I (StoredResult X I R A T)) → Type 0
   MayPutNewest same [] r old new = ⊥

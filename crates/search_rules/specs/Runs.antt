@@ -1,9 +1,9 @@
 -- The goals under evaluation as runs with nodes, and what becomes of a run that is done.
-use Rattle.std.specs.Prelude.{◌≡◌, ◌≢◌, ◌<◌, ◌≤◌, ℕ, List, [], ◌∷◌, length, map, slice_get, Option, None, Some}
-use Rattle.std.specs.Option.{option_map}
+use Rattle.std.specs.Prelude.{◌≡◌, ◌≢◌, ◌<◌, ◌≤◌, ℕ, List, [], ◌∷◌, ◌++◌, length, map, slice_get, Option, None, Some}
+use Rattle.std.specs.Option.{option_map, option_or}
 use Rattle.open_graphs.specs.Graph as theory
 use Rattle.search_context.specs.declared.context.Answer.{Answer}
-use Rattle.search_rules.specs.Below.{NodeId, Request, Done, Reply, StackEntry, IsFitting, request_after, EndedRun, CacheNode, open_goal, with_run, verdict_of, Run, Next, Step, Finished, RunRecord, Records, acted, HasGraph, Verdicts}
+use Rattle.search_rules.specs.Below.{NodeId, Request, Done, Reply, StackEntry, IsFitting, request_after, EndedRun, CacheNode, open_goal, open_node, rerun_with, with_no_record, with_run, verdict_of, Run, Next, Step, Finished, RunRecord, Records, acted, HasGraph, Verdicts}
 use Rattle.search_rules.specs.Tallies.{tally_of}
 use Rattle.search_rules.specs.Justified.{OpenRun, AreJustified, IsFit, LeadToGoals, AreEdges}
 
@@ -105,3 +105,18 @@ module _ {X F I R A T : Type 0} where
   abbrev pub HasNewestNode : Verdicts R → (before after : List (CacheNode I R)) → List (StackEntry X I R A T × Run X F I R A T) → R → Option NodeId → Type 0
   HasNewestNode says before after [] r target = ⊥
   HasNewestNode says before after (s ∷ below) r target = HasResultNode says before after s.0.state.provisional_result s.1.node s.0.state.node s.1.progress r target
+
+-- The newest goal is run again: its result has its node in the list as the run ended, the answers of its cycles lead there from then
+-- on, and the new run's own node comes next.
+pub record RerunsWithNode {X F I R A T : Type 0} (says : Verdicts R) (before after : List (CacheNode I R)) (r : R) (old new : List (StackEntry X I R A T × Run X F I R A T)) : Type 0 where
+  pub item : StackEntry X I R A T × Run X F I R A T
+  pub below : List (StackEntry X I R A T × Run X F I R A T)
+  pub ended : List (CacheNode I R)
+  pub target : Option NodeId
+  pub frame : F
+  pub own : NodeId
+  pub was : old ≡ item ∷ below
+  pub node : HasResultNode says before ended item.0.state.provisional_result item.1.node item.0.state.node item.1.progress r target
+  pub opened : after ≡ ended ++ open_node item.0.input ∷ []
+  pub place : own.0 ≡ length ended
+  pub is : new ≡ rerun_with r (option_or target item.0.state.node) frame own (with_no_record item) ∷ below

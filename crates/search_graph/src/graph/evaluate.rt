@@ -3,6 +3,8 @@ ghost use Rattle.std.specs.Prelude.{◌≡◌, ℕ, true, false, IfOk, IfErr, If
 ghost use Rattle.open_goals.specs.declared.goals.Fate.TheVariants.{Stored};
 ghost use Rattle.search_graph.specs.Below.{ChangesCache, fates_of, IsFated, MovesFates, first_accepted, usable, HasGraph, verdicts, IsCaused, IsNew, KeepsBuilder, KeepsCache, HasReply, IsRightNext, StayFrom};
 ghost use Rattle.search_graph.specs.Calls.{Advances, Evaluates, Spares};
+ghost use Rattle.search_graph.specs.Settled.{EndsSettled, StaysSettled};
+ghost use Rattle.search_rules.specs.Lone.{IsLone};
 
 use open_goals::goals::{Fate, Next, Received, step};
 use search_moves::evaluation::Evaluation;
@@ -25,6 +27,9 @@ pub(crate) fn evaluate<D: Delegate>(
         ((D.noop inspect.old ≡ true) × (D.scoped cache.old.cx input ≡ false)) input
         cache.old evaluation.old (D.starts inspect.old) result
         cache.new evaluation.new (D.starts inspect.new) }
+    ensures settled { EndsSettled D.Delegate D.Cx.Cx D.Cx.Input.eq cache.old.cx
+        (D.noop inspect.old) input cache.old evaluation.old (D.starts inspect.old) result
+        cache.new evaluation.new }
     ensures stored { D.noop inspect.old ≡ true → D.scoped cache.old.cx input ≡ false →
         IfSome (first_accepted (λ _. true)
         (usable D.Cx.Input.eq cache.old.results input evaluation.old.root_depth.0)) (λ hit.
@@ -78,6 +83,10 @@ pub(crate) fn work_out<D: Delegate>(
     ensures evaluates { Evaluates D.Delegate D.Cx.Cx D.Cx.Input.eq cache.old.cx (fate ≡ Stored) input
         cache.old evaluation.old (D.starts inspect.old) result
         cache.new evaluation.new (D.starts inspect.new) }
+    ensures settled { fate ≡ Stored → (IsLone D.Cx.Input.eq cache.old.results input → ⊥) →
+        EndsSettled D.Delegate D.Cx.Cx D.Cx.Input.eq cache.old.cx
+        (D.noop inspect.old) input cache.old evaluation.old (D.starts inspect.old) result
+        cache.new evaluation.new }
     ensures spares { Spares D.Cx.Input.eq (D.noop inspect.old) fate input cache.old.results
         cache.new.results }
     ensures caused { IfErr result (IsCaused D.Delegate D.Cx.Cx D.Cx.Input.eq cache.new) }
@@ -110,6 +119,9 @@ fn advance<D: Delegate>(
     ensures advances { Advances D.Delegate D.Cx.Cx D.Cx.Input.eq cache.old.cx received
         cache.old evaluation.old (D.starts inspect.old) result
         cache.new evaluation.new (D.starts inspect.new) }
+    ensures settled { StaysSettled D.Delegate D.Cx.Cx D.Cx.Input.eq cache.old.cx
+        (D.noop inspect.old) received cache.old evaluation.old (D.starts inspect.old) result
+        cache.new evaluation.new }
     ensures right { IfOk result (λ next.
         IsRightNext D.Delegate D.Cx.Cx D.Cx.Input.eq cache.old.cx evaluation.old.goals next
         cache.new evaluation.new) }
@@ -124,6 +136,7 @@ fn advance<D: Delegate>(
     ensures builder { KeepsBuilder D.starts D.noop inspect.old inspect.new }
 {
     let cx = cache.cx();
+    cache.has_runs();
     match step::<D>(&mut evaluation.goals, cx, received, inspect)? {
         Request::Evaluate(kind, input) => {
             let next = evaluation.ask(cache, kind, input, inspect)?;

@@ -9,6 +9,7 @@ use Rattle.std.proofs.lemmas.Option.{slice_get-map, slice_get-get_or, slice_get_
 use Rattle.std.proofs.lemmas.Bool.{cases_eq}
 use Rattle.open_graphs.specs.Graph as theory
 use Rattle.search_rules.specs.Below.{Entry, Accepts, greatest, path_kind, Recorded, IsAnsweredEdge, stack_of, PathKind, Inductive, Unknown, Coinductive, ForcedAmbiguity, NodeId, Answer, StackDepth, StackEntry, CacheNode, IsNodeOf, path_kind_from, IsCycleResult, heads_shape, CycleHead, at_depth, rank_of, greater_kind, greatest_kind, is_coinductive, is_inductive, has_kind, paths_of, verdict_of, shapes_of, count_of, no_usages, with_usage, Run, cycle_head, AnswersNewest, Verdicts}
+use Rattle.open_graphs.specs.Stack.{IsLeaf}
 use Rattle.open_graphs.specs.Use.{Heads}
 use Rattle.open_graphs.proofs.Asked.{cycle_is_answered}
 use Rattle.open_graphs.proofs.Lists.{get_cases}
@@ -134,6 +135,17 @@ module _ {X F I R A T : Type 0} (says : Verdicts R) where
       let there : slice_get (reverse (map (λ s. s.0) goals)) head ≡ Some e = slice_get-get_or (reverse (map (λ s. s.0) goals)) head e within ∙ ap Some (sym e_is) in
       let item = item_at (reverse goals) head e (sym (slice_get-map (λ (s : StackEntry X I R A T × Run X F I R A T). s.0) (reverse goals) head) ∙ ap (λ l. slice_get l head) (sym (entries_are goals)) ∙ there) in
       record { run = item.0; at = item.1 }
+
+  -- the node to which its cycles lead is one at which walks stop
+  pub head_leaf : (nodes : List (CacheNode I R)) (goals : List (StackEntry X I R A T × Run X F I R A T)) → AreSupported says nodes (runs_of goals) → (head : ℕ) (e : StackEntry X I R A T) → HeadIs goals head e → IsSomeAnd e.state.node (λ n. IsLeaf (stack_of (frames_of says (runs_of goals))) n.0)
+  head_leaf nodes goals supported head e there = by e.state.node refl (home_of nodes goals supported head (e, there.run) there.at)
+    where
+      place : slice_get (stack_of (frames_of says (runs_of goals))) head ≡ Some (entry_of (e, there.run))
+      place = ap (λ l. slice_get l head) (stack_is goals) ∙ slice_get-map entry_of (reverse goals) head ∙ ap (option_map entry_of) there.at
+
+      by : (lead : Option NodeId) → e.state.node ≡ lead → IsSomeAnd lead (λ n. IsNodeOf nodes n.0 e.input) → IsSomeAnd lead (λ n. IsLeaf (stack_of (frames_of says (runs_of goals))) n.0)
+      by None is home = absurd home
+      by (Some n) is home = (head, entry_of (e, there.run), place, ap (λ l. elim l [ None ↦ there.run.node.0 | Some m ↦ m.0 ]) is)
 
 -- ---- the answer
 

@@ -33,6 +33,10 @@ goal_open nodes at n goal is none same =
     ∙ ap (λ r. elim r [ None ↦ Some n.goal | Some run ↦ None ]) none
     ∙ ap Some same
 
+-- an open node has its goal
+pub goal_of_open : {I R : Type 0} (nodes : List (CacheNode I R)) (at : ℕ) (goal : I) → open_goal nodes at ≡ Some goal → IsNodeOf nodes at goal
+goal_of_open nodes at goal h = let w = open_is (slice_get nodes at) goal h in ap (option_map (λ n. n.goal)) w.1 ∙ ap Some w.3
+
 module _ {I R : Type 0} (nodes more : List (CacheNode I R)) where
   -- what is at a place stays there, so the place is open with the same goal
   open_kept : (at : ℕ) (goal : I) → ((n : CacheNode I R) → slice_get nodes at ≡ Some n → slice_get more at ≡ Some n) → open_goal nodes at ≡ Some goal → open_goal more at ≡ Some goal
@@ -113,6 +117,15 @@ tally_again t = record t { own = Some no_usages; current = None; finished = [] }
 -- a run that begins
 abbrev pub new_run : {I R : Type 0} → I → PathKind → NodeId → Option NodeId → Option R → Tally → OpenRun I R
 new_run goal step own lead earlier tally = record { goal = goal; step = step; own = own.0; cycles_lead = lead; provisional = earlier; tally = tally; is_open = false; ignored = []; request = None; answers = [] }
+
+-- the edge is that of an answer of this verdict outside ignored candidates
+pub record IsEdgeFrom {I R : Type 0} (o : OpenRun I R) (verdict : theory.Verdict) (edge : theory.Edge) : Type 0 where
+  pub place : ℕ
+  pub answer : DefiniteAnswer I
+  pub is_at : slice_get o.answers place ≡ Some answer
+  pub edge_is : edge_shape answer.edge ≡ edge
+  pub verdict_is : verdict_shape answer.verdict ≡ verdict
+  pub counts : counted_by o.ignored answer.candidate ≡ true
 
 module _ {I R : Type 0} (says : Verdicts R) (nodes : List (CacheNode I R)) where
   -- nothing is under evaluation
@@ -223,6 +236,15 @@ module _ {I R : Type 0} (says : Verdicts R) (nodes : List (CacheNode I R)) where
       (subst (λ v. IsAnsweredEdge (shapes_of says nodes) v (stack_of (frames_of says below)) (frame_of says o).entry (edge_shape from.1.edge) (heads_of o.tally from.1.candidate)) (from.4 ∙ sym (same_verdicts verdict other same))
       (charged from.0 from.1 from.2 from.5)))
 
+  -- each of them is that of an answer
+  chosen_from : (b : Bool) (verdict other : theory.Verdict) (edges : List (Edge I)) (o : OpenRun I R) → theory.same_verdict verdict other ≡ b → AreEdges o.answers o.ignored verdict edges
+      → (i : ℕ) (edge : theory.Edge) → slice_get (cond b (map edge_shape edges) []) i ≡ Some edge → IsEdgeFrom o other edge
+  chosen_from false verdict other edges o same are i edge at = absurd (no_answers i edge at)
+  chosen_from true verdict other edges o same are i edge at =
+      let e = edge_in edges i edge at in
+      let from = are i e.0 e.1 in
+      record { place = from.0; answer = from.1; is_at = from.2; edge_is = ap edge_shape from.3 ∙ e.2; verdict_is = from.4 ∙ sym (same_verdicts verdict other same); counts = from.5 }
+
   -- other goals' nodes are still open
   AreOpen-ended : (run : EndedRun I R) (k : ℕ) (goal : I) → open_goal nodes k ≡ Some goal → (goals : List (OpenRun I R)) → OwnsOther k (frames_of says goals) → AreOpen nodes goals → AreOpen (with_run nodes k run) goals
   AreOpen-ended run k goal is [] apart h = tt
@@ -237,6 +259,7 @@ module _ {I R : Type 0} (says : Verdicts R) (nodes : List (CacheNode I R)) where
 -- answer's node.
 pub record EndsWithNode {I R : Type 0} (says : Verdicts R) (nodes after : List (CacheNode I R)) (o : OpenRun I R) (below : List (OpenRun I R)) (r : R) (target : Option NodeId) : Type 0 where
   pub edges : theory.Verdict → List theory.Edge
+  pub from : (verdict : theory.Verdict) (i : ℕ) (edge : theory.Edge) → slice_get (edges verdict) i ≡ Some edge → IsEdgeFrom o verdict edge
   pub place : ℕ
   pub sound : IsSoundState (shapes_of says nodes) (answering (frame_of says o) edges (heads_shape o.tally.heads) ∷ frames_of says below) [] []
   pub answered : Answered (shapes_of says nodes) (frame_of says o).entry o.own edges (verdict_of says r) (shapes_of says after) place
@@ -254,6 +277,7 @@ module _ {I R : Type 0} (says : Verdicts R) (nodes : List (CacheNode I R)) (o : 
   pub again_ends : (r : R) → verdict_of says r ≢ theory.Neither → SaysAgain says o.provisional r → EndsWithNode says nodes nodes o below r o.cycles_lead
   again_ends r definite says = record {
     edges = λ verdict. [];
+    from = λ verdict i edge at. absurd (no_answers i edge at);
     place = cycles_node o;
     sound = h.sound;
     answered = Again says;
@@ -267,6 +291,7 @@ module _ {I R : Type 0} (says : Verdicts R) (nodes : List (CacheNode I R)) (o : 
   pub neither_ends : (r : R) → verdict_of says r ≡ theory.Neither → EndsWithNode says nodes nodes o below r None
   neither_ends r neither = record {
     edges = λ verdict. [];
+    from = λ verdict i edge at. absurd (no_answers i edge at);
     place = cycles_node o;
     sound = h.sound;
     answered = Without neither;
@@ -301,6 +326,7 @@ module _ {I R : Type 0} (says : Verdicts R) (nodes : List (CacheNode I R)) (o : 
         let v = verdict_of says run.outcome in
         record {
           edges = chosen_edges says nodes v run.edges;
+          from = λ u i edge at. chosen_from says nodes (theory.same_verdict v u) v u run.edges o refl edges i edge at;
           place = o.own;
           sound = answers_keep_sound (shapes_of says nodes) (frame_of says o) (frames_of says below) [] [] (chosen_edges says nodes v run.edges) (heads_shape o.tally.heads) (spare_within (length below) o.tally)
               (λ u. chosen_at says nodes (theory.same_verdict v u) v u run.edges o below refl edges h.tallies.0.tallied h.supported.0.charged) h.sound;

@@ -35,7 +35,7 @@ question_of_answer (Some (Evaluate kind goal)) r fits = (kind, goal, refl)
 question_of_answer request r fits = absurd fits
 
 -- a reply that is no definite answer adds no answer
-unanswered : {I R : Type 0} (p : RunRecord I R) (request : Option (Request I R)) (target : Option NodeId) → (answered p request Neither target).answers ≡ p.answers
+pub unanswered : {I R : Type 0} (p : RunRecord I R) (request : Option (Request I R)) (target : Option NodeId) → (answered p request Neither target).answers ≡ p.answers
 unanswered p (Some (Evaluate kind goal)) target = refl
 unanswered p request target = refl
 

@@ -65,7 +65,7 @@ module _ {D C V P F I R A T : Type 0} (G : DelegateOf D C V P F I R A T) (X : Cx
     may_ask : (s : StackEntry C I R A T × Run C F I R A T) → Some depth.0 ≡ depth_below G.DIVIDE_AVAILABLE_DEPTH_ON_OVERFLOW s.0 → IsAllowed (seen G X cx s) depth.0
     may_ask s is = let a = allowed G.DIVIDE_AVAILABLE_DEPTH_ON_OVERFLOW depth.0 s.0 more is in record { is_less = a.0; is_next = a.1 }
 
-    may_ask_of : (goals : Goals) → Some depth.0 ≡ option_and_then (λ s. depth_below G.DIVIDE_AVAILABLE_DEPTH_ON_OVERFLOW s.0) (newest goals) → (s : StackEntry C I R A T × Run C F I R A T) (below : Goals) → goals ≡ s ∷ below → IsAllowed (seen G X cx s) depth.0
+    pub may_ask_of : (goals : Goals) → Some depth.0 ≡ option_and_then (λ s. depth_below G.DIVIDE_AVAILABLE_DEPTH_ON_OVERFLOW s.0) (newest goals) → (s : StackEntry C I R A T × Run C F I R A T) (below : Goals) → goals ≡ s ∷ below → IsAllowed (seen G X cx s) depth.0
     may_ask_of goals may s below is = may_ask s (may ∙ ap (λ l. option_and_then (λ (t : StackEntry C I R A T × Run C F I R A T). depth_below G.DIVIDE_AVAILABLE_DEPTH_ON_OVERFLOW t.0) (newest l)) is)
 
     -- the depth of a question is less than any number of a word

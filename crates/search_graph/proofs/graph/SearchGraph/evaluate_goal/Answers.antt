@@ -1,7 +1,7 @@
 use Rattle.std.proofs.Common.{◌∙◌, ap, Ok, true, false, inl, inr, refl, subst}
 use Rattle.global_cache.proofs.Definites.{definite_is_whole}
 use Rattle.global_cache.proofs.Whole.{whole_stays}
-use Rattle.search_graph.proofs.Loops.{call_among, call_of, call_over, call_among_begins, call_begins, call_over_begins, some_call_begins}
+use Rattle.search_graph.proofs.Loops.{call_among, call_deciding, call_of, call_over, call_among_begins, call_begins, call_deciding_begins, call_over_begins, some_call_begins}
 use Rattle.search_graph.proofs.StoredDepths.{stores_within}
 use Rattle.search_graph.proofs.Promises.{call_is_stored, definite_decides, ended_by_runs, ended_plain, ended_within, ended_paid, stopped_by_runs, stopped_within, stopped_paid}
 use Rattle.search_rules.proofs.Shown.{yes_is_proved, no_is_refuted, neither_is_none}
@@ -204,3 +204,23 @@ returns-clause-enclosed_remembered g c =
     let fits = c.new-evaluation.ensures.fits in
     rw (← c.self.view_is)
     (λ goals enclosed none is_noop unscoped. (c.in_ok-answer.ensures.evaluates.ended (call_among goals c.args.input c.self.inside.root_depth.0 (g.D.Delegate.starts c.args.inspect.now) c.self.inside.limits_met fits) (rw c.new-evaluation.ensures.begins (call_among_begins g.D.Delegate g.D.Cx.Cx c.args.cache.now.cx g.D.Cx.Input.PartialEq.eq c.args.input c.self.inside.root_depth.0 (g.D.Delegate.starts c.args.inspect.now) c.self.inside.limits_met fits c.args.cache.now.results goals none))).remembered (is_noop, unscoped) (inr enclosed))
+
+-- ---- where two runs of a goal are enough
+
+pub returns-clause-two_runs : goal.returns-clause-two_runs
+returns-clause-two_runs g c =
+    rw (← c.self.view_is)
+    (λ goals enough unmet. c.in_ok-answer.ensures.settled.unmet (call_deciding goals c.args.input c.self.inside.root_depth.0 (g.D.Delegate.starts c.args.inspect.now) c.self.inside.limits_met c.new-evaluation.ensures.fits) (rw c.new-evaluation.ensures.begins (call_deciding_begins g.D.Delegate g.D.Cx.Cx c.args.cache.now.cx g.D.Cx.Input.PartialEq.eq c.args.input c.self.inside.root_depth.0 (g.D.Delegate.starts c.args.inspect.now) c.self.inside.limits_met c.new-evaluation.ensures.fits c.args.cache.now.results goals enough.no_overflow enough.definite)) (record { needs = enough.needs; all_definite = refl; unmet = unmet }) enough.settled)
+
+pub returns-clause-two_runs_decide : goal.returns-clause-two_runs_decide
+returns-clause-two_runs_decide g c = λ goals enough unmet. returns-clause-decides g c enough.needs.decisive enough.definite (returns-clause-two_runs g c goals enough unmet)
+
+pub returns-clause-two_runs_settle : goal.returns-clause-two_runs_settle
+returns-clause-two_runs_settle g c =
+    rw (← c.self.view_is)
+    (λ goals enough unmet. c.in_ok-answer.ensures.settled.settles (call_deciding goals c.args.input c.self.inside.root_depth.0 (g.D.Delegate.starts c.args.inspect.now) c.self.inside.limits_met c.new-evaluation.ensures.fits) (rw c.new-evaluation.ensures.begins (call_deciding_begins g.D.Delegate g.D.Cx.Cx c.args.cache.now.cx g.D.Cx.Input.PartialEq.eq c.args.input c.self.inside.root_depth.0 (g.D.Delegate.starts c.args.inspect.now) c.self.inside.limits_met c.new-evaluation.ensures.fits c.args.cache.now.results goals enough.no_overflow enough.definite)) (record { needs = enough.needs; all_definite = refl; unmet = unmet }) enough.settled)
+
+pub returns-in_err-answer-clause-two_runs : goal.returns-in_err-answer-clause-two_runs
+returns-in_err-answer-clause-two_runs g c =
+    rw (← c.self.view_is)
+    (λ goals enough unmet. c.in_err-answer.ensures.settled.unmet (call_deciding goals c.args.input c.self.inside.root_depth.0 (g.D.Delegate.starts c.args.inspect.now) c.self.inside.limits_met c.new-evaluation.ensures.fits) (rw c.new-evaluation.ensures.begins (call_deciding_begins g.D.Delegate g.D.Cx.Cx c.args.cache.now.cx g.D.Cx.Input.PartialEq.eq c.args.input c.self.inside.root_depth.0 (g.D.Delegate.starts c.args.inspect.now) c.self.inside.limits_met c.new-evaluation.ensures.fits c.args.cache.now.results goals enough.no_overflow enough.definite)) (record { needs = enough.needs; all_definite = refl; unmet = unmet }) enough.settled)

@@ -1,9 +1,13 @@
-use Rattle.std.proofs.Common.{length}
-use Rattle.search_graph.specs.Below.{AreFrom, Awaits, Begins, Call, IsRightFor, KeepsBuilder, KeepsCache, work_left}
+use Rattle.std.proofs.Common.{◌≡◌, length}
+use Rattle.open_goals.specs.declared.goals.Fate.TheVariants as becomes
+use Rattle.search_moves.specs.Settled.{Settles}
+use Rattle.search_rules.specs.Lone.{IsLone}
+use Rattle.search_rules.specs.Settled.{AreSettled, CallNeedsTwoRuns}
+use Rattle.search_graph.specs.Below.{AreFrom, Awaits, Begins, Call, IsRightFor, KeepsBuilder, KeepsCache, verdicts, work_left}
 use Rattle.search_graph.specs.Fates.{KeepsFates}
 use Rattle.search_graph.proofs.graph.evaluate.work_out.Given as goal
 
--- the newest goal waits for the reply, in each call that began so, all is right, and cache and builder keep what moves keep, the nodes of the goals' runs came later than the call, and results are stored by their fates
+-- the newest goal waits for the reply, in each call that began so, all is right, and cache and builder keep what moves keep, the nodes of the goals' runs came later than the call, what answers rest on stays off the goals where two runs are enough, and results are stored by their fates
 abbrev pub invariant-loop-next : goal.invariant-loop-next
 invariant-loop-next g l = record {
   waiting : (call : Call _) → Begins g.D.Delegate g.D.Cx.Cx l.fn.cache.cx g.D.Cx.Input.PartialEq.eq call l.fn.input l.fn.evaluation.root_depth.0 (g.D.Delegate.starts l.fn.inspect) l.fn.evaluation.limits_met l.fn.cache.results
@@ -12,6 +16,9 @@ invariant-loop-next g l = record {
   keeps : KeepsCache g.D.Cx.Input.PartialEq.eq l.fn.evaluation.goals l.fn.cache l.cache;
   from : AreFrom (length l.fn.cache.nodes) l.evaluation.goals;
   builder : KeepsBuilder g.D.Delegate.starts g.D.Delegate.noop l.fn.inspect l.inspect;
+  settled : l.fn.fate ≡ becomes.Stored → (IsLone g.D.Cx.Input.PartialEq.eq l.fn.cache.results l.fn.input → ⊥) → (call : Call _) → Begins g.D.Delegate g.D.Cx.Cx l.fn.cache.cx g.D.Cx.Input.PartialEq.eq call l.fn.input l.fn.evaluation.root_depth.0 (g.D.Delegate.starts l.fn.inspect) l.fn.evaluation.limits_met l.fn.cache.results
+      → CallNeedsTwoRuns g.D.Delegate g.D.Cx.Cx l.fn.cache.cx call (g.D.Delegate.noop l.fn.inspect) → AreSettled (verdicts g.D.Cx.Cx) g.D.Cx.Input.PartialEq.eq l.fn.cache.nodes l.fn.cache.results call.goals
+      → Settles g.D.Delegate g.D.Cx.Cx g.D.Cx.Input.PartialEq.eq call l.received l.cache l.evaluation;
   fates : KeepsFates (g.D.Delegate.scoped l.fn.cache.cx) (g.D.Delegate.script l.fn.cache.cx) g.D.Cx.Input.PartialEq.eq (g.D.Delegate.noop l.fn.inspect) l.fn.input l.fn.fate l.fn.cache.results l.evaluation.goals l.cache.results;
 }
 

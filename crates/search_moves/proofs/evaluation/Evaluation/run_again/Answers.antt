@@ -2,7 +2,7 @@ use Rattle.std.proofs.Common.{arith, ◌-◌, length, ◌++◌, ◌∷◌, [], �
 use Rattle.search_moves.specs.Below.{open_node, rerun_with, change_newest, verdicts, AreFree, AreJustified, runs_of, AreReady}
 use Rattle.global_cache.proofs.Finished.{KeepsFinished-nodes, KeepsFinished-then}
 use Rattle.search_rules.proofs.entries.Reruns.{cleared_at, rerun_ready}
-use Rattle.search_rules.proofs.FinishedRuns.{earlier_taken, taken_from, taken_ends, rerun_free, rerun_justified, reran}
+use Rattle.search_rules.proofs.FinishedRuns.{earlier_taken, taken_from, taken_ends, reran, reran_with_node, rerun_free, rerun_justified}
 use Rattle.search_rules.proofs.records.EarlierNodes.{earlier_of_nodes, earlier_then, first_there, rerun_stays}
 use Rattle.search_moves.proofs.evaluation.Evaluation.run_again.Goals as goal
 
@@ -33,6 +33,11 @@ returns-clause-reran g c = record {
       let place = c.in_ok-own_node.ensures.node in
       omega (arith, place, there));
   cleared = cleared_at g.D.Cx.Input.PartialEq.eq c.args.self.now.provisional c.clear_for_rerun.new.self c.new.result.0 (length c.args.self.now.goals - 1) (c.new.ensures ∙ ap (λ n. n - 1) c.len.ensures) c.clear_for_rerun.ensures;
+  results = ap (λ cache. cache.results) c.in_ok-own_node.ensures.opened ∙ c.in_ok-result_node.ensures.same_results;
+  with_node =
+      reran_with_node (verdicts g.D.Cx.Cx) c.args.cache.now.nodes c.result_node.new.cache.nodes c.open_node.new.self.nodes c.args.self.now.goals c.take_progress-progress.new.self c.run_again.new.self c.last_entry-entry.result.now c.last_run.result.now c.take_progress-progress.result c.args.outcome c.in_ok-result_node.field-0 c.in_ok-frame.frame c.in_ok-own_node.own_node
+      (taken_from c.args.self.now.goals c.take_progress-progress.new.self c.last_entry-entry.result.now c.last_run.result.now c.take_progress-progress.result c.take_progress-progress.ensures.left c.take_progress-progress.ensures.taken c.last_entry-entry.ensures c.last_run.ensures) c.take_progress-progress.ensures.left (c.run_again.ensures ∙ ap (λ lead. change_newest (rerun_with c.args.outcome lead c.in_ok-frame.frame c.in_ok-own_node.own_node) c.take_progress-progress.new.self) c.or-node.ensures) c.in_ok-result_node.ensures.has_node c.in_ok-own_node.ensures.node
+      (ap (λ cache. cache.nodes) c.in_ok-own_node.ensures.opened ∙ ap (λ i. c.result_node.new.cache.nodes ++ open_node i ∷ []) c.input-input.ensures);
   right = record {
     justified =
         subst (λ nodes. AreJustified (verdicts g.D.Cx.Cx) nodes (runs_of c.run_again.new.self)) (sym (ap (λ cache. cache.nodes) c.in_ok-own_node.ensures.opened ∙ ap (λ i. c.result_node.new.cache.nodes ++ open_node i ∷ []) c.input-input.ensures))

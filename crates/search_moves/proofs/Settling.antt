@@ -1,0 +1,136 @@
+-- Where two runs of a goal are enough, each move keeps what answers rest on off the goals under evaluation, and meets no limit.
+use Rattle.std.proofs.Common.{◌≡◌, ◌≢◌, ◌≤◌, ◌||◌, ◌<◌, ℕ, Bool, true, false, if◌then◌else◌, Contains, IsSome, List, [], ◌∷◌, ◌++◌, length, map, reverse, Option, None, Some, option_map, get_or, slice_get, Result, Err, inl, inr, refl, sym, ap, ap₂, ◌∙◌, subst, unwrap_or, arith}
+use Rattle.std.specs.Option.{IfSome, IsSomeAnd, option_or}
+use Rattle.std.specs.List.{list_any}
+use Rattle.std.proofs.lemmas.Bool.{false≢true}
+use Rattle.std.proofs.lemmas.Option.{get_or_from_slice_get, slice_get_within}
+use Rattle.open_goals.specs.declared.goals.Fate.{Fate}
+use Rattle.open_goals.specs.declared.goals.Fate.TheVariants as becomes
+use Rattle.open_goals.specs.declared.goals.Next.TheVariants.{Finished}
+use Rattle.global_cache.proofs.NodeLists.{Grown-appended, KeepsGoals-appended}
+use Rattle.search_moves.specs.Below.{Again, Answer, AtLimit, AvailableDepth, Begin, Cache, CacheNode, Call, CxOf, DelegateOf, Done, Evaluate, fate_for, Fated, fates_of, first_accepted, first_entry, first_run, HasAsked, Hit, is_applicable, IsDefinite, LeavesNested, newest, Next, node_given, open_node, PathKind, path_kind_from, place_of, Pushes, Received, Run, runs_of, StackEntry, StackDepth, Step, Store, stored_at, StoredResult, StoresNewest, Success, usable, usable_entry, Verdicts, verdicts}
+use Rattle.search_moves.specs.declared.evaluation.Evaluation.{Evaluation}
+use Rattle.search_moves.specs.Settled.{Settles, SettlesNext}
+use Rattle.search_moves.specs.Words.{Asked, asking, ByEntry, ByStored, IsRight, OverCycle, Pushed, question_depth, Refused, Requests}
+use Rattle.search_moves.proofs.Asking.{carried}
+use Rattle.search_rules.specs.Free.{AreFree, IsFree}
+use Rattle.search_rules.specs.Justified.{frames_of}
+use Rattle.search_rules.specs.Lone.{IsLone, NoneIsLone}
+use Rattle.search_rules.specs.Settled.{AnswerStaysOff, AreSettled, AreSettledGoals, CallNeedsTwoRuns, IsKnown, IsOff, IsSettling, LeadsOnly}
+use Rattle.search_rules.specs.Below.{hit_of, is_in_cycle, IsLeaf, NodeId, paths_at, shapes_of, stack_of, verdict_of, WithOverflow}
+use Rattle.global_cache.specs.Hits.{hit_at}
+use Rattle.search_rules.proofs.answers.Cycles.{head_is, head_leaf}
+use Rattle.search_rules.proofs.answers.LoneGoals.{asked_not_lone, cycled_none_lone, hit_of_answered, pushed_none_lone, some_and, stored_none_lone}
+use Rattle.search_rules.proofs.answers.OffStack.{goals_grown}
+use Rattle.search_rules.proofs.answers.SettledGoals.{begin_stays_off, cycled_goals, leaf_stays_off, none_on_stack, off_absent, off_lone, off_nested, pushed_goals, stored_goals, stored_stays_off, taken_stack, used_success}
+use Rattle.search_rules.proofs.answers.SettledResults.{settled_grown}
+use Rattle.search_rules.proofs.moves.Moves.{enclosed_asks}
+use Rattle.search_rules.proofs.moves.Questions.{enclosed_refuses_none, may_ask_of}
+use Rattle.std.proofs.lemmas.List.{length-map, length-reverse}
+
+some_of_and : {A : Type 0} (o : Option A) (P : A → Type 0) → IsSomeAnd o P → IsSome o
+some_of_and None P h = absurd h
+some_of_and (Some x) P h = refl
+
+-- no entry is used where the delegate lets none be used
+no_entry : {E : Type 0} (enabled : Bool) (found : Option E) (entry : E) → enabled ≡ false → (if enabled then found else None) ≡ Some entry → ⊥
+no_entry true found entry off is = cc
+no_entry false found entry off is = cc
+
+-- a goal in no scope is stored, if the builder doesn't record
+to_store : {I R T : Type 0} (noop in_scope : Bool) (found : Option (Hit I R T)) → noop ≡ true → in_scope ≡ false → fate_for noop in_scope found ≡ becomes.Stored
+to_store noop in_scope found unrecorded unscoped = ap₂ (λ noop scoped. fate_for noop scoped found) unrecorded unscoped
+
+module _ {D C V P F I R A T : Type 0} (G : DelegateOf D C V P F I R A T) (X : CxOf C I R A T) (same : I → I → Bool) (by_value : (x y : I) → same x y ≡ true → x ≡ y) (own : (x : I) → same x x ≡ true) (cx : C) (kind : PathKind) (goal : I) (old : Cache C I R A T) (e : Evaluation D C V P F I R A T) (starts : ℕ) (call : Call I) (right : IsRight G X same cx old e) (h : IsSettling (verdicts X) same old.nodes old.results call e.goals e.limits_met) where
+  -- the goal is pushed
+  module _ (depth : AvailableDepth) (goals : List (StackEntry C I R A T × Run C F I R A T)) (nodes : List (CacheNode I R)) (pushes : Pushes G X cx goal kind depth old.nodes nodes e.goals goals) (fate : Fate R) (fates : fates_of goals ≡ record { goal = goal; depth = depth.0; fate = fate } ∷ fates_of e.goals) where
+    fate_is : pushes.becomes ≡ fate
+    fate_is =
+        let pushed : fates_of goals ≡ record { goal = goal; depth = depth.0; fate = pushes.becomes } ∷ fates_of e.goals = ap fates_of pushes.is in
+        let both : record { goal = goal; depth = depth.0; fate = pushes.becomes } ∷ fates_of e.goals ≡ record { goal = goal; depth = depth.0; fate = fate } ∷ fates_of e.goals = sym pushed ∙ fates in
+        let one : record { goal = goal; depth = depth.0; fate = pushes.becomes } ≡ record { goal = goal; depth = depth.0; fate = fate } = cc in
+        ap (λ (f : Fated I R). f.fate) one
+
+    pub pushed_settles : fate ≡ becomes.Stored → (IsLone same old.results goal → ⊥) → list_any (λ s. same goal s.0.input) e.goals ≡ false → IsSettling (verdicts X) same nodes old.results call goals e.limits_met
+    pushed_settles stored not_lone absent =
+        let opened = old.nodes ++ open_node goal ∷ [] in
+        let below =
+        goals_grown same old.results old.results (λ g lone. lone) (verdicts X) old.nodes opened (KeepsGoals-appended true old.nodes goal) (Grown-appended (verdicts X) true old.nodes goal)
+        e.goals right.justified.supported right.justified.sound.running h.goals_are in
+        record {
+          unmet = h.unmet;
+          settled = subst (λ ns. AreSettled (verdicts X) same ns old.results call.goals) (sym pushes.opened)
+              (settled_grown (verdicts X) same old.nodes opened (KeepsGoals-appended true old.nodes goal) (Grown-appended (verdicts X) true old.nodes goal) (runs_of e.goals) old.results right.free call.goals h.settled);
+          goals_are = carried G X same cx kind goal old e starts depth goals nodes pushes (λ ns gs. AreSettledGoals (verdicts X) same ns old.results gs)
+              (pushed_goals (verdicts X) same by_value opened old.results goal kind depth pushes.own pushes.frame pushes.becomes e.goals (fate_is ∙ stored) (off_absent same own goal e.goals absent) below);
+          none_lone = pushed_none_lone G X cx same old.results call.goals goal kind depth old.nodes nodes e.goals goals pushes not_lone h.none_lone;
+        }
+
+module _ {D C V P F I R A T : Type 0} (G : DelegateOf D C V P F I R A T) (X : CxOf C I R A T) (same : I → I → Bool) (by_value : (x y : I) → same x y ≡ true → x ≡ y) (own : (x : I) → same x x ≡ true) (more : 2 ≤ G.DIVIDE_AVAILABLE_DEPTH_ON_OVERFLOW) (cx : C) (kind : PathKind) (goal : I) (old : Cache C I R A T) (e : Evaluation D C V P F I R A T) (starts : ℕ)
+    (call : Call I) (ahead : ℕ) (noop : Bool) (needs : CallNeedsTwoRuns G X cx call noop) (asked : Requests G X same cx (Evaluate kind goal) call ahead old e starts) (right : IsRight G X same cx old e) (h : IsSettling (verdicts X) same old.nodes old.results call e.goals e.limits_met) where
+  within : Contains call.goals goal
+  within = enclosed_asks G X cx call ahead kind goal e.goals starts e.limits_met needs.needs.enclosed asked.asked
+
+  -- ---- a stored result answers the question
+
+  module _ (depth : AvailableDepth) (hit : Hit I R T) (found : first_accepted (is_applicable same (asking G X same cx kind goal e)) (usable same old.results goal depth.0) ≡ Some hit) where
+    success : (s : StoredResult C I R A T) × (stored_at same old.results goal Success ≡ Some s) × ((hit_at s.required_depth false s ≡ hit) × (is_applicable same (asking G X same cx kind goal e) hit.nested_goals ≡ true))
+    success =
+        some_and (stored_at same old.results goal Success) _
+        (used_success (is_applicable same (asking G X same cx kind goal e)) depth.0 same old.results goal hit (asked.answers.store.overflow (inr needs.needs.enclosed) goal (inr within) depth.0) found)
+
+    hit_leads : IfSome hit.node (λ n. LeadsOnly (verdicts X) old.nodes (IsKnown same old.results hit.nested_goals) (verdict_of (verdicts X) hit.result) [] n.0)
+    hit_leads =
+        subst (λ (x : Hit I R T). IfSome x.node (λ n. LeadsOnly (verdicts X) old.nodes (IsKnown same old.results x.nested_goals) (verdict_of (verdicts X) x.result) [] n.0)) success.2.0
+        (h.settled.leads goal success.0 within success.1)
+
+    hit_has_node : IsDefinite (verdicts X) hit.result → IsSome hit.node
+    hit_has_node definite =
+        some_of_and hit.node _
+        ((subst (λ (x : Hit I R T). IsFree (verdicts X) old.nodes (runs_of e.goals) goal x.result x.node) success.2.0 (right.free goal Success success.0 success.1)).definite definite)
+
+    hit_off : (other : I) → IsSome (paths_at same hit.nested_goals other) → IsOff (runs_of e.goals) other
+    hit_off = off_nested same hit.nested_goals e.goals (none_on_stack same (asking G X same cx kind goal e) hit.nested_goals success.2.1)
+
+  -- ---- the question closes a cycle
+
+  module _ (head : StackDepth) (entry : StackEntry C I R A T) (is_at : slice_get (reverse (map (λ s. s.0) e.goals)) head.0 ≡ Some entry) where
+    head_stops : IsSomeAnd entry.state.node (λ n. IsLeaf (stack_of (frames_of (verdicts X) (runs_of e.goals))) n.0)
+    head_stops =
+        let stack : List (StackEntry C I R A T) = reverse (map (λ s. s.0) e.goals) in
+        head_leaf (verdicts X) old.nodes e.goals right.justified.supported head.0 entry
+        (head_is (verdicts X) e.goals head.0 entry (slice_get_within stack head.0 entry is_at) (sym (get_or_from_slice_get stack head.0 entry entry is_at)))
+
+  -- whatever the question comes to
+  pub asked_settles : (received : Received R) (new : Cache C I R A T) (after : Evaluation D C V P F I R A T) (later : ℕ) → Asked G X same cx kind goal noop old e starts received new after later → Settles G X same call received new after
+  asked_settles received new after later (Refused goals none noted) = absurd (enclosed_refuses_none G X cx call ahead kind goal starts e.limits_met e.goals none needs.needs.enclosed asked.asked)
+  asked_settles received new after later (ByEntry depth entry goals at is takes nested) = absurd (no_entry G.ENABLE_PROVISIONAL_CACHE _ entry needs.needs.no_entries is)
+  asked_settles received new after later (ByStored depth hit goals at none is takes usable) =
+      let found = hit_of_answered noop (G.scoped cx goal) _ hit is in
+      record {
+        settling = record {
+          unmet = h.unmet;
+          settled = h.settled;
+          goals_are = stored_goals (verdicts X) same by_value old.nodes old.results e.goals goals kind hit takes h.goals_are;
+          none_lone = stored_none_lone G X cx call same old.results needs.needs.enclosed h.settled.require ahead kind goal e.goals goals starts e.limits_met depth.0 asked.asked asked.answers.store (is_applicable same (asking G X same cx kind goal e)) noop (G.scoped cx goal) hit is takes h.none_lone;
+        };
+        answer = stored_stays_off (verdicts X) same by_value old.nodes old.results e.goals goals kind hit takes (hit_off depth hit found) (off_lone same old.results call.goals e.goals h.none_lone) hit.result hit.node (hit_leads depth hit found) (hit_has_node depth hit found);
+      }
+  asked_settles received new after later (OverCycle depth head given goals at none not_stored found closes) = record {
+    settling = record {
+      unmet = h.unmet;
+      settled = h.settled;
+      goals_are = cycled_goals (verdicts X) same by_value old.nodes old.results e.goals goals kind 0 false _ closes.takes goal closes.nested h.goals_are;
+      none_lone = cycled_none_lone same old.results call.goals e.goals goals kind 0 false _ goal closes.takes closes.nested h.none_lone;
+    };
+    answer =
+        subst (λ (r : Received R). AnswerStaysOff (verdicts X) same old.nodes old.results goals r.reply r.node) (sym closes.is)
+        (leaf_stays_off (verdicts X) same by_value old.nodes old.results goals (unwrap_or closes.entry.state.provisional_result (G.initial_result cx (path_kind_from (reverse (map (λ s. s.0) e.goals)) head.0 kind) goal)) closes.entry.state.node
+        (λ definite. subst (λ stack. IsSomeAnd closes.entry.state.node (λ n. IsLeaf stack n.0)) (taken_stack (verdicts X) same by_value old.nodes old.results e.goals goals kind 0 false _ closes.takes) (head_stops head closes.entry closes.is_at)));
+  }
+  asked_settles received new after later (Pushed depth goals nodes now at none not_stored absent pushes fates fated one counted) = record {
+    settling = pushed_settles G X same by_value own cx kind goal old e starts call right h depth goals nodes pushes _ fates (to_store noop (G.scoped cx goal) _ needs.needs.unrecorded (needs.needs.unscoped goal within))
+        (asked_not_lone G X cx call same old.results needs.needs.enclosed h.settled.require ahead kind goal e.goals starts e.limits_met depth.0 (may_ask_of G X cx call ahead kind goal starts e.limits_met more depth e.goals at) asked.asked h.none_lone (asking G X same cx kind goal e) noop (G.scoped cx goal) needs.needs.unrecorded (needs.needs.unscoped goal within) not_stored)
+        absent;
+    answer = begin_stays_off (verdicts X) same by_value nodes old.results goals Begin None (λ r is. let clash : Begin ≡ Answer r = is in cc);
+  }

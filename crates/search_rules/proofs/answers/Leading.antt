@@ -1,0 +1,65 @@
+-- What the walks from a node come to, as nodes are added and finished and the stack changes.
+use Rattle.std.proofs.Common.{◌≡◌, ℕ, List, [], ◌∷◌, Option, Some, option_map, slice_get, refl, sym, ap, ◌∙◌, ◌⊎◌, inl, inr}
+use Rattle.std.proofs.lemmas.Option.{slice_get-map}
+use Rattle.open_graphs.specs.Graph as theory
+use Rattle.open_graphs.specs.Stack.{IsLeaf}
+use Rattle.open_graphs.specs.Use as theory_use
+use Rattle.open_graphs.proofs.Closed.{headless_reaches}
+use Rattle.open_graphs.proofs.Keep.{growth_back, growth_place}
+use Rattle.open_graphs.proofs.Lists.{mapped_some}
+use Rattle.open_graphs.proofs.Transfer.{same_walk}
+use Rattle.open_graphs.proofs.Walks.{carried}
+use Rattle.search_rules.specs.Below.{CacheNode, Entry, IsNodeOf, KeepsGoals, shape_of, shapes_of, Use, UsesNo, Verdicts}
+use Rattle.search_rules.specs.Settled.{LeadsOnly}
+use Rattle.search_rules.proofs.justified.Justified.{no_answers}
+
+module _ {I R : Type 0} (says : Verdicts R) (nodes : List (CacheNode I R)) where
+  -- a node that was finished has the goal that it had
+  goal_before : (after : List (CacheNode I R)) → KeepsGoals nodes after → (v : theory.Verdict) (b : ℕ) → theory.IsFinished (shapes_of says nodes) v b → (goal : I) → IsNodeOf after b goal → IsNodeOf nodes b goal
+  goal_before after kept v b f goal is =
+      let n = mapped_some (shape_of says) (slice_get nodes b) (theory.Finished v f.0) (sym (slice_get-map (shape_of says) nodes b) ∙ f.1) in
+      let was : IsNodeOf nodes b n.0.goal = ap (option_map (λ m. m.goal)) n.1 in
+      was ∙ (sym (kept b n.0.goal was) ∙ is)
+
+  -- what holds of the goals of what is reached, or follows from that
+  pub leads_weaker : (P Q : I → Type 0) → ((goal : I) → P goal → Q goal) → (v : theory.Verdict) (stack : List Entry) (a : ℕ) → LeadsOnly says nodes P v stack a → LeadsOnly says nodes Q v stack a
+  leads_weaker P Q more v stack a leads = λ b q w. elim (leads b q w) [ inl l ↦ inl l | inr holds ↦ inr (λ goal is. more goal (holds goal is)) ]
+
+  -- nodes that are reached keep their goals
+  pub leads_later :
+      (after : List (CacheNode I R)) → KeepsGoals nodes after → (P Q : I → Type 0) → ((goal : I) → P goal → Q goal) → (v : theory.Verdict) (stack : List Entry) (a : ℕ) → theory_use.OpenGraph (shapes_of says nodes) v stack a → LeadsOnly says nodes P v stack a
+      → (b q : ℕ) → theory.Walk (theory_use.Step (shapes_of says nodes) v stack) a q b → IsLeaf stack b ⊎ ((goal : I) → IsNodeOf after b goal → Q goal)
+  leads_later after kept P Q more v stack a graph leads b q w = elim (graph.placed b q w) [
+    | inl l ↦ inl l
+    | inr f ↦ elim (leads b q w) [ inl l ↦ inl l | inr holds ↦ inr (λ goal is. more goal (holds goal (goal_before after kept v b f goal is))) ]
+  ]
+
+  -- the list grows
+  pub leads_grown :
+      (after : List (CacheNode I R)) → KeepsGoals nodes after → theory.Grown (shapes_of says nodes) (shapes_of says after) → (P Q : I → Type 0) → ((goal : I) → P goal → Q goal) → (v : theory.Verdict) (stack : List Entry) (a : ℕ) → theory_use.OpenGraph (shapes_of says nodes) v stack a
+      → LeadsOnly says nodes P v stack a → LeadsOnly says after Q v stack a
+  leads_grown after kept grown P Q more v stack a graph leads = λ b q w.
+      leads_later after kept P Q more v stack a graph leads b q
+      (same_walk (shapes_of says nodes) (shapes_of says after) v stack stack a (growth_back (shapes_of says nodes) (shapes_of says after) v stack a grown graph) (growth_place (shapes_of says nodes) (shapes_of says after) v stack a grown graph) w)
+
+  -- walks stop over a stack, or go on over none
+  pub leads_over : (P : I → Type 0) (v : theory.Verdict) (stack : List Entry) (a : ℕ) → LeadsOnly says nodes P v [] a → LeadsOnly says nodes P v stack a
+  leads_over P v stack a leads = λ b q w.
+      elim (leads b q (carried (theory_use.Step (shapes_of says nodes) v []) (theory_use.Step (shapes_of says nodes) v stack) (λ b. Unit {0}) (λ b k c h e. record { edge = e.edge; inner = λ l. no_answers l.0 l.1 l.2 }) (λ b k c h e. tt) tt w)) [
+        | inl l ↦ absurd (no_answers l.0 l.1 l.2)
+        | inr holds ↦ inr holds
+      ]
+
+  -- an answer without heads reaches the same over no stack
+  pub leads_headless : (P : I → Type 0) (v : theory.Verdict) (stack : List Entry) (from_head : ℕ → ℕ) (front a : ℕ) (heads : theory_use.Heads) → ((depth : ℕ) → UsesNo heads depth) → Use (shapes_of says nodes) v stack from_head front a heads → LeadsOnly says nodes P v stack a → LeadsOnly says nodes P v [] a
+  leads_headless P v stack from_head front a heads none used leads = λ b q w.
+      let reached = headless_reaches (shapes_of says nodes) v stack from_head front a heads none used b q w in
+      elim (leads b q reached.0) [ inl l ↦ absurd (reached.1 l) | inr holds ↦ inr holds ]
+
+  -- a walk from a leaf goes nowhere
+  pub leads_leaf : (P : I → Type 0) (v : theory.Verdict) (stack : List Entry) (a : ℕ) → IsLeaf stack a → LeadsOnly says nodes P v stack a
+  leads_leaf P v stack a l = λ b q w. inl (stays w)
+    where
+      stays : {b q : ℕ} → theory.Walk (theory_use.Step (shapes_of says nodes) v stack) a q b → IsLeaf stack b
+      stays theory.stay = l
+      stays (theory.go e w) = absurd (e.inner l)
