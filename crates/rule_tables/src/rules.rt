@@ -136,10 +136,13 @@ impl Rules {
         let goal = self.goal_named(alloc, name)?;
         let questions = self.askings(alloc, questions)?;
         let candidates = &mut self.candidates[goal.place()];
-        push_last(candidates, Candidate {
-            is_marked,
-            questions,
-        })?;
+        push_last(
+            candidates,
+            Candidate {
+                is_marked,
+                questions,
+            },
+        )?;
         Ok(())
     }
 
