@@ -7,7 +7,7 @@ use Rattle.std.proofs.lemmas.Bool.{or_from}
 use Rattle.std.proofs.lemmas.Bool.Decides.{nat_tests}
 use Rattle.open_goals.specs.declared.goals.Fate.{Fate}
 use Rattle.open_goals.specs.declared.goals.Fate.TheVariants as becomes
-use Rattle.search_graph.specs.Below.{AreSoundResults, AvailableDepth, Begin, Cache, CacheNode, Call, change_newest, counted_by, CxOf, DelegateOf, Done, enters, EntryState, EnterCandidate, Evaluate, fates_of, finishes, FinishCandidate, first_accepted, HasStepped, Ignore, is_in_cycle, IsDefinite, IsNew, ignored_by, Neither, NodeId, Noted, NotesCandidate, OpenRun, Outset, PathKind, Pushes, received, Received, Reply, Request, requested, Requests, Run, run_of, RunRecord, runs_of, StackEntry, Store, StoredResult, Tally, tally_of, usable, UsagesByHead, Verdict, Verdicts, verdicts}
+use Rattle.search_graph.specs.Below.{AreSoundResults, AvailableDepth, Begin, Cache, CacheNode, Call, change_newest, counted_by, CxOf, DelegateOf, enters, EntryState, EnterCandidate, Evaluate, fates_of, finishes, FinishCandidate, first_accepted, HasStepped, Ignore, is_in_cycle, IsNew, ignored_by, Neither, NodeId, Noted, NotesCandidate, OpenRun, Outset, PathKind, Pushes, received, Received, Reply, Request, requested, Requests, Run, run_of, RunRecord, runs_of, StackEntry, Store, StoredResult, Tally, tally_of, usable, Verdict, Verdicts, verdicts}
 use Rattle.search_rules.specs.Below.{Answer, DefiniteAnswer, edge_to, IsVerdict, KeepsAnswer, NestedPaths, No, open_number, paths_at, stack_of, verdict_of, Yes}
 use Rattle.search_rules.specs.Justified.{frames_of, verdict_shape}
 use Rattle.search_moves.specs.Asked.{question_depth}

@@ -1,4 +1,4 @@
-use Rattle.std.proofs.Common.{[], sym, subst}
+use Rattle.std.proofs.Common.{sym, subst}
 use Rattle.search_graph.specs.Below.{Store, StoredResult, verdicts}
 use Rattle.search_graph.proofs.law.nothing_is_settled.Goals as goal
 use Rattle.search_rules.specs.Settled.{AreSettled}
