@@ -7,7 +7,7 @@ use Rattle.std.proofs.lemmas.Bool.{or_from}
 use Rattle.std.proofs.lemmas.Bool.Decides.{nat_tests}
 use Rattle.open_goals.specs.declared.goals.Fate.{Fate}
 use Rattle.open_goals.specs.declared.goals.Fate.TheVariants as becomes
-use Rattle.search_graph.specs.Below.{AreSoundResults, AvailableDepth, Begin, Cache, CacheNode, Call, change_newest, counted_by, CxOf, DelegateOf, Done, enters, EntryState, EnterCandidate, Evaluate, fates_of, finishes, FinishCandidate, first_accepted, HasStepped, Ignore, is_in_cycle, IsDefinite, IsNew, ignored_by, Neither, NodeId, Noted, NotesCandidate, OpenRun, Outset, PathKind, Pushes, received, Received, Reply, Request, requested, Requests, Run, run_of, RunRecord, runs_of, StackEntry, Store, StoredResult, Tally, tally_of, usable, UsagesByHead, Verdict, Verdicts, verdicts}
+use Rattle.search_graph.specs.Below.{AreSoundResults, AvailableDepth, Begin, Cache, CacheNode, Call, change_newest, counted_by, CxOf, DelegateOf, enters, EntryState, EnterCandidate, Evaluate, fates_of, finishes, FinishCandidate, first_accepted, HasStepped, Ignore, is_in_cycle, IsNew, ignored_by, Neither, NodeId, Noted, NotesCandidate, OpenRun, Outset, PathKind, Pushes, received, Received, Reply, Request, requested, Requests, Run, run_of, RunRecord, runs_of, StackEntry, Store, StoredResult, Tally, tally_of, usable, Verdict, Verdicts, verdicts}
 use Rattle.search_rules.specs.Below.{Answer, DefiniteAnswer, edge_to, IsVerdict, KeepsAnswer, NestedPaths, No, open_number, paths_at, stack_of, verdict_of, Yes}
 use Rattle.search_rules.specs.Justified.{frames_of, verdict_shape}
 use Rattle.search_moves.specs.Asked.{question_depth}
@@ -36,7 +36,7 @@ module _ {X F I R A T : Type 0} (says : Verdicts R) (same : I → I → Bool) (n
   answered_off r node v definite verdict off h answers keeps =
       let shape : verdict_shape v ≡ verdict_of says r = verdict_is says r v verdict.0 verdict.1 definite in
       let leads = subst (λ (o : Option NodeId). IsSomeAnd o (λ n. LeadsOnly says nodes (λ goal. IsKnown same results entry.state.nested_goals goal × IsOff (runs_of ((entry, run) ∷ below)) goal) (verdict_of says r) (stack_of (frames_of says (runs_of ((entry, run) ∷ below)))) n.0)) keeps.target_is
-          (off r refl (λ neither. in_theory_definite v definite (shape ∙ neither))) in
+      (off r refl (λ neither. in_theory_definite v definite (shape ∙ neither))) in
       subst WithAnswers (sym keeps.kept)
       (off_answered says same nodes results (record { edge = edge_to keeps.kind keeps.input keeps.node; verdict = v; candidate = open_number run.progress }) (run_of (entry, run)) entry.state.nested_goals (runs_of below)
       (subst (λ w. LeadsOnly says nodes (λ goal. IsKnown same results entry.state.nested_goals goal × IsOff (runs_of ((entry, run) ∷ below)) goal) w (stack_of (frames_of says (runs_of ((entry, run) ∷ below)))) keeps.node.0) (sym shape) leads) h)

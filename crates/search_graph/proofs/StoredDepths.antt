@@ -1,5 +1,5 @@
 -- How deep the goals are that stored results require, before and after a call.
-use Rattle.std.proofs.Common.{◌≡◌, ◌⊎◌, ◌≤◌, ℕ, Bool, true, false, Option, None, Some, IsSomeAnd, refl, sym, ◌∙◌, subst, inl, inr, arith}
+use Rattle.std.proofs.Common.{◌≡◌, ◌⊎◌, ◌≤◌, ℕ, Bool, true, false, Option, None, Some, IsSomeAnd, refl, sym, subst, inl, inr, arith}
 use Rattle.std.proofs.lemmas.Bool.{eqb-true, eq-eqb}
 use Rattle.std.proofs.Math.Dec.{eqb}
 use Rattle.search_graph.specs.Below.{Place, RequireWithin, Store, stored_at, StoredResult, StoresWithin}

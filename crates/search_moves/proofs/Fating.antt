@@ -1,5 +1,5 @@
 -- What moves change of the goals and of what becomes of their results.
-use Rattle.std.proofs.Common.{◌≡◌, ◌<◌, ◌||◌, ◌∙◌, Bool, false, List, [], ◌∷◌, length, refl, sym, ap, subst, arith}
+use Rattle.std.proofs.Common.{◌≡◌, ◌<◌, ◌||◌, ◌∙◌, Bool, false, List, [], ◌∷◌, length, refl, ap, arith}
 use Rattle.std.specs.List.{list_any}
 use Rattle.search_moves.specs.Below.{Cache, CxOf, DelegateOf, Fated, fates_of, IsFated, MovesFates, Next, PathKind, Received, Run, StackEntry}
 use Rattle.search_moves.specs.declared.evaluation.Evaluation.{Evaluation}

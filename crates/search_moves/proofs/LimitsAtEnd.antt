@@ -1,6 +1,6 @@
 -- Whether a limit is met where a run ends.
 use Rattle.std.proofs.Common.{◌≡◌, ◌||◌, Bool, true, false, Option, Result, refl, sym, ap, ◌∙◌}
-use Rattle.search_moves.specs.Below.{CxOf, DelegateOf, RebaseReason, Run, StackEntry, Unstable}
+use Rattle.search_moves.specs.Below.{DelegateOf, RebaseReason, Run, StackEntry, Unstable}
 use Rattle.search_moves.specs.declared.evaluation.Evaluation.{Evaluation}
 use Rattle.search_moves.specs.RunEnded.{ComesToEnd, is_at_limit, MeetsLimitAtEnd}
 

@@ -1,21 +1,21 @@
 -- Where two runs of a goal are enough: what the end of a run leaves.
-use Rattle.std.proofs.Common.{◌≡◌, ◌≢◌, ◌≤◌, ◌||◌, ℕ, Bool, true, false, if◌then◌else◌, IsSome, List, [], ◌∷◌, ◌++◌, length, Option, None, Some, option_map, Result, Ok, Err, inl, inr, refl, sym, ap, ◌∙◌, subst}
+use Rattle.std.proofs.Common.{◌≡◌, ◌≢◌, ◌||◌, ℕ, Bool, true, false, if◌then◌else◌, IsSome, List, [], ◌∷◌, ◌++◌, Option, None, Some, option_map, Result, Ok, Err, inl, inr, refl, sym, ap, ◌∙◌, subst}
 use Rattle.std.specs.Option.{IfSome, IsSomeAnd}
 use Rattle.std.proofs.lemmas.Bool.{false≢true, or_from}
 use Rattle.open_goals.specs.declared.goals.Next.TheVariants.{Finished}
 use Rattle.global_cache.proofs.NodeLists.{Grown-appended, KeepsGoals-appended}
 use Rattle.search_context.proofs.Rules.{KeepsRule}
-use Rattle.search_moves.specs.Below.{Again, AreFree, AreJustified, Answer, AtLimit, Begin, Cache, CacheNode, Call, CxOf, DelegateOf, Done, final_answer, HasAsked, HasNewestNode, HasResultNode, IsDefinite, IsEndOfRun, IsNewestStored, LeavesNested, newest, Next, node_given, open_node, place_of, RebaseReason, Received, Run, runs_of, StackEntry, Step, Store, stored_at, stored_from, StoredResult, StoresNewest, Success, Unstable, Verdicts, verdicts}
+use Rattle.search_moves.specs.Below.{Again, AreFree, AreJustified, Answer, AtLimit, Begin, Cache, CacheNode, Call, CxOf, DelegateOf, Done, final_answer, HasAsked, HasNewestNode, IsDefinite, IsEndOfRun, IsNewestStored, LeavesNested, newest, Next, node_given, open_node, place_of, RebaseReason, Run, runs_of, StackEntry, Step, Store, stored_at, stored_from, StoredResult, StoresNewest, Success, Unstable, verdicts}
 use Rattle.search_moves.specs.declared.evaluation.Evaluation.{Evaluation}
-use Rattle.search_moves.specs.Settled.{Settles, SettlesNext}
+use Rattle.search_moves.specs.Settled.{SettlesNext}
 use Rattle.search_moves.specs.RunEnded.{is_at_limit}
 use Rattle.search_moves.specs.Words.{ComesToEnd, HadMostRuns, IsDone, IsRight, IsRunAgain, MeetsLimitAtEnd, Requests, RunLeads}
-use Rattle.search_rules.specs.Below.{AreRuns, Grown, is_in_cycle, KeepsGoals, NodeId, Overlap, paths_at, Question, rerun_with, shapes_of, verdict_of, with_no_record, WithOverflow}
+use Rattle.search_rules.specs.Below.{AreRuns, Grown, is_in_cycle, KeepsGoals, Overlap, paths_at, Question, shapes_of, WithOverflow}
 use Rattle.search_rules.specs.Calls.{CallIsEnclosed}
 use Rattle.search_rules.specs.Decided.{AllDecided, IsDecided}
 use Rattle.search_rules.specs.Lone.{IsLone, LoneRequire, NoneIsLone}
 use Rattle.search_rules.specs.Moves.{NewestLeaves, Reruns}
-use Rattle.search_rules.specs.Runs.{EndsNewest, RerunsWithNode}
+use Rattle.search_rules.specs.Runs.{RerunsWithNode}
 use Rattle.search_rules.specs.Settled.{AnswerStaysOff, AreSettled, AreSettledGoals, CallNeedsTwoRuns, IsSettling}
 use Rattle.search_rules.proofs.answers.LoneGoals.{lone_after, popped_lone, rerun_none_lone}
 use Rattle.search_rules.proofs.answers.SettledGoals.{begin_stays_off}
@@ -82,7 +82,7 @@ module _ {D C V P F I R A T : Type 0} (G : DelegateOf D C V P F I R A T) (X : Cx
             none_lone = (lone_then s (p ∷ below) new next asked justified free h leaves ended nests stored puts).1;
           },
           subst (AnswerStaysOff (verdicts X) same after later new (Answer r)) (ap node_given leaves.1)
-          (parent_stays_off (verdicts X) same by_value nodes after results later keeps s (p ∷ below) justified r (node_given next) ended definite h.goals_are lone new s.0.step_kind_from_parent s.0.state.required_depth (s.0.state.encountered_overflow || s.1.met_overflow_before) a nests),
+              (parent_stays_off (verdicts X) same by_value nodes after results later keeps s (p ∷ below) justified r (node_given next) ended definite h.goals_are lone new s.0.step_kind_from_parent s.0.state.required_depth (s.0.state.encountered_overflow || s.1.met_overflow_before) a nests),
         )
 
   -- ---- the goal is run again

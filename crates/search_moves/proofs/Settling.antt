@@ -1,23 +1,21 @@
 -- Where two runs of a goal are enough, each move keeps what answers rest on off the goals under evaluation, and meets no limit.
-use Rattle.std.proofs.Common.{◌≡◌, ◌≢◌, ◌≤◌, ◌||◌, ◌<◌, ℕ, Bool, true, false, if◌then◌else◌, Contains, IsSome, List, [], ◌∷◌, ◌++◌, length, map, reverse, Option, None, Some, option_map, get_or, slice_get, Result, Err, inl, inr, refl, sym, ap, ap₂, ◌∙◌, subst, unwrap_or, arith}
-use Rattle.std.specs.Option.{IfSome, IsSomeAnd, option_or}
+use Rattle.std.proofs.Common.{◌≡◌, ◌≤◌, ℕ, Bool, true, false, if◌then◌else◌, Contains, IsSome, List, [], ◌∷◌, ◌++◌, map, reverse, Option, None, Some, slice_get, inr, refl, sym, ap, ap₂, ◌∙◌, subst, unwrap_or}
+use Rattle.std.specs.Option.{IfSome, IsSomeAnd}
 use Rattle.std.specs.List.{list_any}
-use Rattle.std.proofs.lemmas.Bool.{false≢true}
 use Rattle.std.proofs.lemmas.Option.{get_or_from_slice_get, slice_get_within}
 use Rattle.open_goals.specs.declared.goals.Fate.{Fate}
 use Rattle.open_goals.specs.declared.goals.Fate.TheVariants as becomes
-use Rattle.open_goals.specs.declared.goals.Next.TheVariants.{Finished}
 use Rattle.global_cache.proofs.NodeLists.{Grown-appended, KeepsGoals-appended}
-use Rattle.search_moves.specs.Below.{Again, Answer, AtLimit, AvailableDepth, Begin, Cache, CacheNode, Call, CxOf, DelegateOf, Done, Evaluate, fate_for, Fated, fates_of, first_accepted, first_entry, first_run, HasAsked, Hit, is_applicable, IsDefinite, LeavesNested, newest, Next, node_given, open_node, PathKind, path_kind_from, place_of, Pushes, Received, Run, runs_of, StackEntry, StackDepth, Step, Store, stored_at, StoredResult, StoresNewest, Success, usable, usable_entry, Verdicts, verdicts}
+use Rattle.search_moves.specs.Below.{Answer, AvailableDepth, Begin, Cache, CacheNode, Call, CxOf, DelegateOf, Evaluate, fate_for, Fated, fates_of, first_accepted, Hit, is_applicable, IsDefinite, open_node, PathKind, path_kind_from, Pushes, Received, Run, runs_of, StackEntry, StackDepth, stored_at, StoredResult, Success, usable, verdicts}
 use Rattle.search_moves.specs.declared.evaluation.Evaluation.{Evaluation}
-use Rattle.search_moves.specs.Settled.{Settles, SettlesNext}
-use Rattle.search_moves.specs.Words.{Asked, asking, ByEntry, ByStored, IsRight, OverCycle, Pushed, question_depth, Refused, Requests}
+use Rattle.search_moves.specs.Settled.{Settles}
+use Rattle.search_moves.specs.Words.{Asked, asking, ByEntry, ByStored, IsRight, OverCycle, Pushed, Refused, Requests}
 use Rattle.search_moves.proofs.Asking.{carried}
-use Rattle.search_rules.specs.Free.{AreFree, IsFree}
+use Rattle.search_rules.specs.Free.{IsFree}
 use Rattle.search_rules.specs.Justified.{frames_of}
-use Rattle.search_rules.specs.Lone.{IsLone, NoneIsLone}
+use Rattle.search_rules.specs.Lone.{IsLone}
 use Rattle.search_rules.specs.Settled.{AnswerStaysOff, AreSettled, AreSettledGoals, CallNeedsTwoRuns, IsKnown, IsOff, IsSettling, LeadsOnly}
-use Rattle.search_rules.specs.Below.{hit_of, is_in_cycle, IsLeaf, NodeId, paths_at, shapes_of, stack_of, verdict_of, WithOverflow}
+use Rattle.search_rules.specs.Below.{IsLeaf, paths_at, stack_of, verdict_of}
 use Rattle.global_cache.specs.Hits.{hit_at}
 use Rattle.search_rules.proofs.answers.Cycles.{head_is, head_leaf}
 use Rattle.search_rules.proofs.answers.LoneGoals.{asked_not_lone, cycled_none_lone, hit_of_answered, pushed_none_lone, some_and, stored_none_lone}
@@ -26,7 +24,6 @@ use Rattle.search_rules.proofs.answers.SettledGoals.{begin_stays_off, cycled_goa
 use Rattle.search_rules.proofs.answers.SettledResults.{settled_grown}
 use Rattle.search_rules.proofs.moves.Moves.{enclosed_asks}
 use Rattle.search_rules.proofs.moves.Questions.{enclosed_refuses_none, may_ask_of}
-use Rattle.std.proofs.lemmas.List.{length-map, length-reverse}
 
 some_of_and : {A : Type 0} (o : Option A) (P : A → Type 0) → IsSomeAnd o P → IsSome o
 some_of_and None P h = absurd h

@@ -1,5 +1,5 @@
 -- What holds of an evaluation between two of its moves, and what the moves lead to.
-use Rattle.std.specs.Prelude.{◌≡◌, ◌<◌, ◌≤◌, ◌+◌, ◌^◌, ℕ, Bool, true, false, List, [], length, Result, IfOk, IfErr}
+use Rattle.std.specs.Prelude.{◌≡◌, ◌<◌, ◌≤◌, ◌+◌, ◌^◌, ℕ, Bool, true, List, [], length, Result, IfOk, IfErr}
 use Rattle.search_moves.specs.Below.{ChangesNewest, CountsOne, DelegateOf, CxOf, KeepsBuilder, Request, Fault, Evaluate, Next, Received, Cache, KeepsFinished, KeepsResults, PathKind, StackEntry, Run, verdicts}
 use Rattle.search_moves.specs.declared.evaluation.Evaluation.{Evaluation}
 use Rattle.search_context.specs.declared.context.Answer.{Answer}

@@ -1,10 +1,10 @@
 -- What becomes of the results of the goals under evaluation, through the moves, and which stored results stay.
-use Rattle.std.proofs.Common.{◌≡◌, ◌&&◌, ◌||◌, ℕ, ◌≤◌, Bool, true, false, List, [], ◌∷◌, Option, None, Some, refl, sym, ap, ◌∙◌, subst, arith}
+use Rattle.std.proofs.Common.{◌≡◌, ◌||◌, ℕ, ◌≤◌, Bool, true, false, List, [], ◌∷◌, Option, None, Some, refl, sym, ap, ◌∙◌, subst, arith}
 use Rattle.std.specs.List.{list_any}
 use Rattle.std.specs.Option.{IsSomeAnd, option_map}
 use Rattle.open_goals.specs.declared.goals.Fate.{Fate}
 use Rattle.open_goals.specs.declared.goals.Fate.TheVariants as becomes
-use Rattle.search_rules.specs.Below.{AnswersNewest, AvailableDepth, CacheNode, IsPlainTo, IsPlainValue, Reply, CxOf, DelegateOf, Done, EnterCandidate, Evaluate, FinishCandidate, HasStepped, Heads, Hit, Ignore, Item, Next, NotesCandidate, NotesOverflow, PathKind, Place, Received, Request, Run, StackEntry, Store, stored_at, TakesStored, change_newest, enters, finishes, same_key, EvaluationResult, StoredResult}
+use Rattle.search_rules.specs.Below.{AnswersNewest, AvailableDepth, CacheNode, IsPlainTo, IsPlainValue, Reply, CxOf, DelegateOf, Done, EnterCandidate, Evaluate, FinishCandidate, HasStepped, Heads, Hit, Ignore, Next, NotesCandidate, NotesOverflow, PathKind, Place, Received, Request, Run, StackEntry, Store, stored_at, TakesStored, change_newest, enters, finishes, EvaluationResult, StoredResult}
 use Rattle.global_cache.specs.Store.{KeepsResults}
 use Rattle.search_rules.specs.Fates.{Stay, Push, Pop, Untouched, OfNewest}
 use Rattle.search_rules.specs.Results.{NotStored}

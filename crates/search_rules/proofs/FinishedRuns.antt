@@ -4,9 +4,9 @@ use Rattle.std.specs.Option.{IsSomeAnd, option_or}
 use Rattle.std.proofs.lemmas.List.{length-map}
 use Rattle.search_rules.specs.Below.{Answer, AnswersNewest, CacheNode, change_newest, CxOf, DelegateOf, Finished, HasGraph, IsDefinite, newest, NodeId, open_node, Reply, Request, rerun_with, Run, RunRecord, StackEntry, Step, Store, StoredResult, verdict_of, Verdicts, with_no_record}
 use Rattle.search_rules.specs.Runs.{RerunsWithNode}
-use Rattle.search_rules.specs.Words.{AreFree, AreJustified, CanLeave, EndsNewest, EndsRun, HasResultNode, IsFit, IsFree, IsFresh, IsJustifiedNext, KeepsBut, KeepsEarlier, LieBelow, MayAnswer, NewestAsks, NewestLeaves, OpenRun, Reruns, run_of, runs_of, tally_of}
-use Rattle.search_rules.proofs.justified.Justified.{below_is_justified, EndsWithNode, headless_has_graph, last_has_graph, may_answer_parent, rerun_is_justified, stack_length}
-use Rattle.search_rules.proofs.justified.Finishing.{answer_fits, answered_newest_is_justified, ends_run, heads_come, rebases, same_run}
+use Rattle.search_rules.specs.Words.{AreFree, AreJustified, CanLeave, EndsNewest, EndsRun, HasResultNode, IsFit, IsFree, IsFresh, IsJustifiedNext, KeepsBut, KeepsEarlier, LieBelow, MayAnswer, NewestLeaves, OpenRun, Reruns, run_of, runs_of, tally_of}
+use Rattle.search_rules.proofs.justified.Justified.{below_is_justified, EndsWithNode, headless_has_graph, last_has_graph, may_answer_parent, rerun_is_justified}
+use Rattle.search_rules.proofs.justified.Finishing.{answered_newest_is_justified, ends_run, rebases}
 use Rattle.search_rules.proofs.justified.Justified.{new_run, tally_again}
 use Rattle.search_rules.proofs.records.EarlierNodes.{earlier_but}
 use Rattle.search_rules.proofs.answers.Free.{all_free_popped, all_free_rerun, done_is_free}

@@ -8,7 +8,6 @@ pub mod FreeMoves
 pub mod Leading
 pub mod OffStack
 pub mod LoneGoals
-pub mod NestedHeads
 pub mod OneOfBoth
 pub mod NestedGoals
 pub mod SettledGoals

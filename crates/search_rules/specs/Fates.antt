@@ -1,5 +1,5 @@
 -- What becomes of the results of the goals under evaluation, and what moves change of that and of the stored results.
-use Rattle.std.specs.Prelude.{◌≡◌, ℕ, ◌≤◌, Bool, true, false, if◌then◌else◌, List, [], ◌∷◌, map, Option, None, Some}
+use Rattle.std.specs.Prelude.{◌≡◌, ℕ, ◌≤◌, Bool, true, false, List, [], ◌∷◌, map, Option, None, Some}
 use Rattle.std.specs.List.{list_any}
 use Rattle.std.specs.Option.{option_map}
 use Rattle.search_rules.specs.Below.{Hit, IsPlainTo, IsPlainValue, Place, Reply, Request, Run, StackEntry, Store, stored_at, StoredResult}

@@ -28,8 +28,3 @@ module _ {X I R A T : Type 0} (same : I → I → Bool) (results : Store I (Stor
   abbrev pub NoneIsLone : {F : Type 0} → List I → List (StackEntry X I R A T × Run X F I R A T) → Type 0
   NoneIsLone goals [] = Unit {0}
   NoneIsLone goals (s ∷ below) = (IsLone s.0.input → ⊥) × (s.0.state.nested_goals ≡ [] → HasLone goals s.0.state.required_depth) × NoneIsLone goals below
-
--- each goal under evaluation that has heads has nested goals
-abbrev pub HeadsNest : {X F I R A T : Type 0} → List (StackEntry X I R A T × Run X F I R A T) → Type 0
-HeadsNest [] = Unit {0}
-HeadsNest (s ∷ below) = (s.0.state.heads ≢ [] → s.0.state.nested_goals ≢ []) × HeadsNest below

@@ -1,5 +1,5 @@
 -- The provisional entries: why each of them may be used, and what becomes of them when the newest goal is popped.
-use Rattle.std.specs.Prelude.{◌≡◌, ◌≢◌, ◌⊎◌, ◌||◌, ◌&&◌, ℕ, Bool, false, if◌then◌else◌, List, [], ◌∷◌, ◌++◌, length, map, reverse, All, IsSome, Option, None, Some}
+use Rattle.std.specs.Prelude.{◌≡◌, ◌≢◌, ◌⊎◌, ◌&&◌, ℕ, Bool, false, if◌then◌else◌, List, [], ◌∷◌, ◌++◌, length, map, reverse, All, IsSome, Option, None, Some}
 use Rattle.std.specs.List.{filter_map}
 use Rattle.search_rules.specs.Below.{CxOf, DelegateOf, verdicts, Heads, IsTrueReason, StackDepth, PathKind, at_depth, highest, IsRising, stack_of, NodeId, Request, Reply, EvaluationResult, StackEntry, ProvisionalCacheEntry, RebaseReason, CacheNode, HasNode, shapes_of, path_kind_from, IsDefinite, Lists, entries_at, HasNoRank, rebased, changed_for, verdict_of, Run, Verdicts}
 use Rattle.search_rules.specs.Justified.{AreJustified, OpenRun, frame_of, frames_of}

@@ -17,7 +17,7 @@ use Rattle.cycle_heads.proofs.HeadLists.{at_depth-first, at_depth-rest}
 use Rattle.cycle_heads.proofs.HeadShapes.{IsIn, in_head}
 use Rattle.cycle_heads.proofs.PathRanks.{greater_rank}
 use Rattle.search_rules.specs.Words.{AreJustified, AreSupported, asked_now, cycles_node, frame_of, frames_of, heads_of, IsFit, LieBelow, MayAnswer, NewestAsks, OpenRun, run_of, runs_of, tally_of}
-use Rattle.search_rules.proofs.justified.Finishing.{answer_fits, heads_come, same_run}
+use Rattle.search_rules.proofs.justified.Finishing.{heads_come}
 use Rattle.search_rules.proofs.justified.Justified.{stack_length}
 use Rattle.search_rules.proofs.answers.Taken.{later_run, taken_fits}
 

@@ -2,7 +2,7 @@
 use Rattle.std.proofs.Common.{Bool, List, ◌∷◌, sym, subst}
 use Rattle.search_rules.specs.Below.{Request, Reply, Answer, PathKind, StackEntry, StoredResult, CacheNode, Heads, Hit, Store, Run, with_depth, with_nested_goals, AnswersNewest, TakesStored, NotesOverflow, Verdicts}
 use Rattle.search_rules.specs.Words.{AreFree, IsFit, IsFree, IsUsable, NewestAsks, run_of, runs_of}
-use Rattle.search_rules.proofs.justified.Finishing.{answer_fits, overflow_noted_same, same_run, stored_taken_same}
+use Rattle.search_rules.proofs.justified.Finishing.{answer_fits, overflow_noted_same, stored_taken_same}
 use Rattle.search_rules.proofs.answers.Free.{free_answers, uses_kept_free}
 use Rattle.search_rules.proofs.answers.Kept.{taken_keeps}
 

@@ -388,5 +388,5 @@ module _ {D C V P F I R A T : Type 0} (G : DelegateOf D C V P F I R A T) (X : Cx
       lone_require_stored same by_value results later s.0.input (final_answer s r target) none.0 call.goals stores within none.1 require in (
         required,
         popped_none_lone same later call.goals r s below after next (popped_needs same later call.goals token s below r target calm fate heads stored within required) leaves nested
-        (none_lone_stored same by_value results later s.0.input (final_answer s r target) none.0 call.goals stores below differ none.2),
+            (none_lone_stored same by_value results later s.0.input (final_answer s r target) none.0 call.goals stores below differ none.2),
       )

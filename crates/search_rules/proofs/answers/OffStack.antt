@@ -1,6 +1,5 @@
 -- What the answers of a goal rest on stays off the goals under evaluation, and known to the goal, through each change of the goal.
-use Rattle.std.proofs.Common.{◌≡◌, ◌≢◌, ℕ, Bool, true, List, [], ◌∷◌, ◌++◌, IsSome, Option, None, Some, option_map, slice_get, refl, sym, ap, ◌∙◌, subst, ◌⊎◌, inl, inr}
-use Rattle.std.specs.Option.{IsSomeAnd, option_or}
+use Rattle.std.proofs.Common.{◌≡◌, ℕ, Bool, true, List, [], ◌∷◌, ◌++◌, IsSome, Option, Some, option_map, slice_get, sym, ap, ◌∙◌, subst, ◌⊎◌, inl, inr}
 use Rattle.open_graphs.specs.Graph as theory
 use Rattle.open_graphs.specs.Stack.{IsLeaf}
 use Rattle.open_graphs.specs.State.{AllRunning}
@@ -11,7 +10,7 @@ use Rattle.search_rules.specs.Below.{CacheNode, counted_by, DefiniteAnswer, IsDe
 use Rattle.search_rules.specs.Justified.{AreJustified, AreSupported, cycles_node, frame_of, frames_of, IsSupported, OpenRun, verdict_shape}
 use Rattle.search_rules.specs.Lone.{IsLone}
 use Rattle.search_rules.specs.Runs.{run_of, runs_of}
-use Rattle.search_rules.specs.Settled.{AreSettledGoals, IsKnown, IsOff, IsSettledGoal, LeadsOnly, StaysOff}
+use Rattle.search_rules.specs.Settled.{AreSettledGoals, IsKnown, IsOff, LeadsOnly, StaysOff}
 use Rattle.search_rules.specs.Tallies.{Tally}
 use Rattle.search_rules.proofs.answers.Leading.{leads_grown, leads_later, leads_weaker}
 use Rattle.search_rules.proofs.justified.Justified.{EndsWithNode, goal_of_open, new_run, no_answers}

@@ -109,11 +109,11 @@ module _ (nodes : List Node) (stack : List Entry) (from_head : ℕ → ℕ) (a b
   closes i n j e l r =
       let p = pair_at i in
       let two : kind_of i (suc n) ≡ 2 =
-          proof.open_graph.closed p.left p.kind (shared p).kind (shared p).left (kind_of (suc i) n) p.left_walk (left_step p)
-          (subst (Walk (Step nodes Yes stack) (shared p).left (kind_of (suc i) n)) (sym l) (left_walk (suc i) n j (omega (arith, e)))) in
+      proof.open_graph.closed p.left p.kind (shared p).kind (shared p).left (kind_of (suc i) n) p.left_walk (left_step p)
+      (subst (Walk (Step nodes Yes stack) (shared p).left (kind_of (suc i) n)) (sym l) (left_walk (suc i) n j (omega (arith, e)))) in
       let none : kind_of i (suc n) ≡ 0 =
-          refutation.open_graph.closed p.right p.kind (shared p).kind (shared p).right (kind_of (suc i) n) p.right_walk (right_step p)
-          (subst (Walk (Step nodes No stack) (shared p).right (kind_of (suc i) n)) (sym r) (right_walk (suc i) n j (omega (arith, e)))) in
+      refutation.open_graph.closed p.right p.kind (shared p).kind (shared p).right (kind_of (suc i) n) p.right_walk (right_step p)
+      (subst (Walk (Step nodes No stack) (shared p).right (kind_of (suc i) n)) (sym r) (right_walk (suc i) n j (omega (arith, e)))) in
       omega (arith, two, none)
 
   -- there are not both a use for yes and a use for no
@@ -208,8 +208,8 @@ module _ {I R : Type 0} (says : Verdicts R) (scripts : I → List (Reply R) → 
       let n = ended_finished says nodes Yes x is_yes in
       let m = ended_finished says nodes No y is_no in
       let both = clash alike.0 (map question_of n.run.edges) (map question_of m.run.edges)
-          (shown_at Yes says.is_yes Coinductive (yes_sort says) proves yes_is_proved x alike.0 alike.1 n)
-          (shown_at No says.is_no Inductive (no_sort says) refutes no_is_refuted y alike.0 alike.2 m) in
+      (shown_at Yes says.is_yes Coinductive (yes_sort says) proves yes_is_proved x alike.0 alike.1 n)
+      (shown_at No says.is_no Inductive (no_sort says) refutes no_is_refuted y alike.0 alike.2 m) in
       let l = asks Yes x n both.0 both.1 in
       let r = asks No y m both.0 both.2 in
       record { kind = rank_of both.0.kind; left = l.target; right = r.target; left_edge = l.edge; right_edge = r.edge; alike = (both.0.goal, l.home, r.home) }

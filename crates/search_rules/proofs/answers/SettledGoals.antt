@@ -1,5 +1,5 @@
 -- Goals under evaluation whose answers stay off them, through each change of the newest goal.
-use Rattle.std.proofs.Common.{◌≡◌, ◌≢◌, ◌||◌, if◌then◌else◌, nat_le, not, ℕ, Bool, true, false, List, [], ◌∷◌, ◌++◌, length, map, reverse, IsSome, Option, None, Some, is_some, refl, sym, ap, ◌∙◌, subst, ◌⊎◌, inl, inr}
+use Rattle.std.proofs.Common.{◌≡◌, ◌||◌, if◌then◌else◌, nat_le, not, ℕ, Bool, true, false, List, [], ◌∷◌, ◌++◌, map, reverse, IsSome, Option, None, Some, is_some, refl, sym, ap, ◌∙◌, subst, ◌⊎◌, inl, inr}
 use Rattle.std.specs.List.{list_any}
 use Rattle.std.specs.Option.{IfSome, IsSomeAnd}
 use Rattle.std.proofs.lemmas.Bool.{and_parts, false≢true, or_parts}
@@ -8,19 +8,18 @@ use Rattle.open_goals.specs.declared.goals.Fate.{Fate}
 use Rattle.open_goals.specs.declared.goals.Fate.TheVariants as becomes
 use Rattle.open_graphs.specs.Stack.{IsLeaf}
 use Rattle.open_goals.specs.NestedGoals.{TakesHeadGoal, TakesNestedGoals}
-use Rattle.search_rules.specs.Below.{Answer, AnswersNewest, AvailableDepth, Begin, CacheNode, CxOf, DelegateOf, EntryState, first_accepted, first_entry, Heads, Hit, is_in_cycle, IsDefinite, NestedPaths, NestsAnswer, NestsHead, no_record, NodeId, open_node, PathKind, paths_at, Reply, Run, shapes_of, some_heads, stack_of, StackEntry, Store, stored_at, StoredResult, Success, TakesStored, usable, verdict_of, Verdicts, with_depth, with_nested_goals, WithOverflow}
+use Rattle.search_rules.specs.Below.{Answer, AnswersNewest, AvailableDepth, CacheNode, EntryState, first_accepted, first_entry, Heads, Hit, is_in_cycle, IsDefinite, NestedPaths, NestsAnswer, NestsHead, no_record, NodeId, PathKind, paths_at, Reply, Run, stack_of, StackEntry, Store, stored_at, StoredResult, Success, TakesStored, usable, verdict_of, Verdicts, with_depth, with_nested_goals, WithOverflow}
 use Rattle.global_cache.specs.Hits.{hit_at, overflows, successes}
 use Rattle.search_rules.specs.Justified.{frames_of, OpenRun}
 use Rattle.search_rules.specs.LookUp.{Asking, is_applicable}
 use Rattle.search_rules.specs.Lone.{IsLone, NoneIsLone}
-use Rattle.search_rules.specs.Moves.{first_run, Pushes}
 use Rattle.search_rules.specs.Runs.{run_of, runs_of}
-use Rattle.search_rules.specs.Settled.{AnswerStaysOff, AreSettledGoals, IsKnown, IsOff, IsSettledGoal, LeadsOnly, StaysOff}
+use Rattle.search_rules.specs.Settled.{AnswerStaysOff, AreSettledGoals, IsKnown, IsOff, LeadsOnly, StaysOff}
 use Rattle.search_rules.specs.Tallies.{Tally, tally_of}
 use Rattle.search_rules.proofs.answers.Kept.{taken_run}
 use Rattle.search_rules.proofs.answers.Leading.{leads_leaf, leads_over, leads_weaker}
 use Rattle.search_rules.proofs.answers.NestedGoals.{head_itself, head_stay, taken_come, taken_itself, taken_stay}
-use Rattle.search_rules.proofs.answers.OffStack.{known_more, off_changed, off_new}
+use Rattle.search_rules.proofs.answers.OffStack.{off_changed, off_new}
 use Rattle.search_rules.proofs.justified.Justified.{no_tally}
 
 -- ---- a stored result that is used

@@ -1,11 +1,11 @@
 -- Stored results whose graphs have goals alone that they know, as nodes are added and results are stored.
-use Rattle.std.proofs.Common.{◌≡◌, ◌≢◌, ℕ, Bool, true, List, [], ◌∷◌, Contains, IsSome, Option, None, Some, refl, sym, ap, ap₂, ◌∙◌, subst, ◌⊎◌, inl, inr}
-use Rattle.std.specs.Option.{IfSome, IsSomeAnd}
+use Rattle.std.proofs.Common.{◌≡◌, Bool, true, List, [], Contains, Option, None, Some, refl, sym, ap, ap₂, ◌∙◌, subst, inl, inr}
+use Rattle.std.specs.Option.{IfSome}
 use Rattle.open_graphs.specs.Graph as theory
 use Rattle.open_graphs.proofs.Closed.{closed_is_graph, graph_is_use}
 use Rattle.open_graphs.proofs.States.{verdict_cases}
 use Rattle.global_cache.proofs.Stores.{put_cases}
-use Rattle.search_rules.specs.Below.{CacheNode, EvaluationResult, KeepsGoals, no_heads, NodeId, paths_at, place_of, shapes_of, stack_of, Store, stored_at, stored_from, StoredResult, Success, verdict_of, Verdicts}
+use Rattle.search_rules.specs.Below.{CacheNode, EvaluationResult, KeepsGoals, no_heads, NodeId, place_of, shapes_of, stack_of, Store, stored_at, stored_from, StoredResult, Success, verdict_of, Verdicts}
 use Rattle.search_rules.specs.Free.{AreFree, IsFree}
 use Rattle.search_rules.specs.Justified.{frames_of, OpenRun}
 use Rattle.search_rules.specs.Lone.{IsLone, LoneRequire}

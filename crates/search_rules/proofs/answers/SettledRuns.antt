@@ -1,5 +1,5 @@
 -- Goals under evaluation whose answers stay off them, once the newest goal's run has ended: it is popped, or run again.
-use Rattle.std.proofs.Common.{◌≡◌, ◌≢◌, ◌||◌, ℕ, Bool, true, false, List, [], ◌∷◌, ◌++◌, length, IsSome, Option, None, Some, refl, sym, ap, ◌∙◌, subst, ◌⊎◌, inl, inr}
+use Rattle.std.proofs.Common.{◌≡◌, ℕ, Bool, true, false, List, [], ◌∷◌, ◌++◌, length, IsSome, Option, None, Some, refl, sym, ◌∙◌, subst, ◌⊎◌, inl, inr}
 use Rattle.std.specs.Option.{IfSome, IsSomeAnd, option_or}
 use Rattle.std.proofs.lemmas.Bool.{false≢true, or_parts}
 use Rattle.open_graphs.specs.Graph as theory
@@ -7,7 +7,7 @@ use Rattle.open_graphs.proofs.Runs.{answered_grows}
 use Rattle.open_goals.specs.NestedGoals.{TakesNestedGoals}
 use Rattle.global_cache.proofs.NodeLists.{Grown-appended, KeepsGoals-appended}
 use Rattle.search_rules.specs.Below.{Answer, AnswersNewest, CacheNode, Heads, heads_shape, IsDefinite, IsNodeOf, is_in_cycle, NestsAnswer, NodeId, open_node, PathKind, paths_at, rerun_with, Run, shapes_of, some_heads, stack_of, StackEntry, Store, StoredResult, UsesNo, verdict_of, Verdicts, with_no_record, rank_of, path_kind}
-use Rattle.search_rules.specs.Justified.{AreJustified, cycles_node, frame_of, frames_of, OpenRun}
+use Rattle.search_rules.specs.Justified.{AreJustified, frame_of, frames_of, OpenRun}
 use Rattle.search_rules.specs.Lone.{IsLone}
 use Rattle.search_rules.specs.Runs.{HasResultNode, run_of, runs_of}
 use Rattle.search_rules.specs.Settled.{AnswerStaysOff, AreSettledGoals, IsKnown, IsOff, LeadsOnly}
@@ -15,7 +15,7 @@ use Rattle.search_rules.specs.Tallies.{tally_of}
 use Rattle.search_rules.proofs.answers.Kept.{taken_run}
 use Rattle.search_rules.proofs.answers.Leading.{leads_grown, leads_headless, leads_weaker}
 use Rattle.search_rules.proofs.answers.NestedGoals.{taken_come}
-use Rattle.search_rules.proofs.answers.OffStack.{goals_grown, IsLeft, off_new, result_leads}
+use Rattle.search_rules.proofs.answers.OffStack.{goals_grown, off_new, result_leads}
 use Rattle.search_rules.proofs.answers.SettledGoals.{answered_goals}
 use Rattle.search_rules.proofs.justified.Finishing.{rebases}
 use Rattle.search_rules.proofs.justified.Justified.{EndsWithNode, lead_is, leads_there, popped, tally_again, used_at}
@@ -159,5 +159,5 @@ module _ {X F I R A T : Type 0} (says : Verdicts R) (same : I → I → Bool) (n
       stored = goals.0.stored;
     },
     goals_grown same results results (λ goal lone. lone) says nodes opened (λ place goal is. KeepsGoals-appended true after s.0.input place goal (run_ends.goals_kept place goal is)) (λ a v edges is. Grown-appended says true after s.0.input a v edges (run_grows a v edges is))
-    below h.supported.1 h.sound.running.1 goals.1,
+        below h.supported.1 h.sound.running.1 goals.1,
   )

@@ -1,5 +1,5 @@
 -- A goal's later run says what the run before it said, so it needs no third one.
-use Rattle.std.proofs.Common.{◌≡◌, ◌≢◌, ◌≤◌, ◌+◌, ◌↔◌, ℕ, zero, suc, Bool, true, false, IsTrue, List, [], ◌∷◌, map, Option, None, Some, option_map, Result, Err, slice_get, refl, sym, ap, ◌∙◌, subst, ◌⊎◌, inl, inr, arith}
+use Rattle.std.proofs.Common.{◌≡◌, ◌≢◌, ◌≤◌, ◌↔◌, ℕ, zero, suc, Bool, true, false, IsTrue, List, [], ◌∷◌, Option, None, Some, option_map, Result, Err, slice_get, refl, sym, ap, ◌∙◌, subst, ◌⊎◌, inl, inr, arith}
 use Rattle.std.specs.Option.{IfSome, IsSomeAnd}
 use Rattle.open_graphs.specs.Graph as theory
 use Rattle.open_graphs.proofs.Keep.{growth_keeps_use}
@@ -7,7 +7,7 @@ use Rattle.open_graphs.proofs.Runs.{answered_grows}
 use Rattle.open_graphs.proofs.States.{verdict_cases}
 use Rattle.global_cache.proofs.NodeLists.{AreRuns-ended}
 use Rattle.search_context.proofs.Rules.{KeepsRule}
-use Rattle.search_rules.specs.Below.{AreRuns, CacheNode, edges_of, EndedRun, HeadUsages, heads_shape, IsDefinite, IsNodeOf, KeepsGoals, Neither, No, NodeId, Overlap, path_kind, PathKind, Question, rank_of, RebaseReason, Reply, Request, Run, shapes_of, stack_of, StackEntry, Store, StoredResult, Use, Verdict, verdict_of, Verdicts, with_run, Yes}
+use Rattle.search_rules.specs.Below.{AreRuns, CacheNode, edges_of, EndedRun, HeadUsages, heads_shape, IsDefinite, IsNodeOf, Neither, No, NodeId, Overlap, path_kind, PathKind, Question, rank_of, RebaseReason, Reply, Request, Run, shapes_of, stack_of, StackEntry, Store, StoredResult, Use, Verdict, verdict_of, Verdicts, with_run, Yes}
 use Rattle.search_rules.specs.EndOfRun.{IsEndOfRun, Limited, Repeats, Stable, Unused}
 use Rattle.search_rules.specs.Justified.{AreJustified, cycles_node, frame_of, frames_of, OpenRun, verdict_shape}
 use Rattle.search_rules.specs.Runs.{EndsNewest, EndsRun, HasResultNode, run_of, runs_of}

@@ -1,5 +1,5 @@
 -- Which nodes stay as they are: those that were there before the nodes of the goals under evaluation.
-use Rattle.std.proofs.Common.{◌≡◌, ℕ, zero, suc, ◌<◌, ◌≤◌, List, [], ◌∷◌, length, slice_get, Option, Some, refl, sym, ap, ◌∙◌, subst, inl, inr, arith}
+use Rattle.std.proofs.Common.{◌≡◌, ℕ, zero, suc, ◌≤◌, List, [], ◌∷◌, length, slice_get, Option, sym, ap, ◌∙◌, subst, inl, inr, arith}
 use Rattle.std.proofs.lemmas.Option.{slice_get_cases, slice_get_within}
 use Rattle.search_rules.specs.Below.{AnswersNewest, CacheNode, CxOf, DelegateOf, EnterCandidate, Evaluate, FinishCandidate, Done, HasStepped, Heads, Ignore, KeepsNodes, NotesCandidate, NotesOverflow, PathKind, Received, Request, Run, StackEntry, TakesStored, Hit, AvailableDepth, change_newest, enters, finishes, NodeId, rerun_with, with_no_record}
 use Rattle.search_rules.specs.Words.{AreFrom, KeepsBut, KeepsEarlier, KeepsFirst, NewestLeaves, Pushes, StayFrom}

@@ -1,5 +1,5 @@
-use Rattle.std.proofs.Common.{arith, ◌≡◌, ◌∙◌, length, false, None, option_map, refl, sym, subst, ap}
-use Rattle.search_context.proofs.Builders.{builder_goes_on, builder_stays}
+use Rattle.std.proofs.Common.{arith, ◌≡◌, ◌∙◌, length, false, None, sym, subst, ap}
+use Rattle.search_context.proofs.Builders.{builder_goes_on}
 use Rattle.search_graph.specs.Below.{fates_of, IsFated, MovesFates, stored_at, AreFrom, Begin, Finished, Step, Awaits, Call, HasReply, IsRightFor, IsRightNext, LeadsTo, StopsWith, work_left}
 use Rattle.search_rules.proofs.records.EarlierNodes.{first_there, stay_pushed}
 use Rattle.search_moves.proofs.Keeping.{appending_keeps}
