@@ -1,6 +1,6 @@
 //! Names that a table of names finds in one and the same place, as somebody may choose them who knows how names are hashed.
 
-use std::hash::{BuildHasher, BuildHasherDefault, FoldHasher};
+use std::hash::{BuildHasher, BuildHasherDefault, FoldHasher, Hasher};
 use std::io;
 use std::io::Write;
 
@@ -19,7 +19,7 @@ pub fn write_alike<W: Write>(out: &mut W, count: u64) -> io::Result<()> {
             break;
         }
         let name = name_of(number);
-        let hash = hasher.hash_one(&name[..]);
+        let hash = hasher.hash_one(hash_of(&name));
         if (hash ^ (hash >> 32)) & PLACE == 0 {
             written = written.saturating_add(1);
             out.write_all(b"rule ")?;
@@ -28,6 +28,13 @@ pub fn write_alike<W: Write>(out: &mut W, count: u64) -> io::Result<()> {
         }
     }
     Ok(())
+}
+
+/// By this hash a table of names looks for the name.
+fn hash_of(name: &[u8]) -> u64 {
+    let mut hasher = FoldHasher::default();
+    hasher.write(name);
+    hasher.finish()
 }
 
 /// The name of a number.
