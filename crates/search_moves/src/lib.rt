@@ -7,6 +7,7 @@
 //! | `Asked` | what a question comes to |
 //! | `RunEnded` | what the end of a run leads to |
 //! | `RunAgain`, `Popped`, `Storing` | a goal is run again, popped, and stored |
+//! | `Settled` | what holds of an evaluation where two runs of a goal are enough |
 #![tactic(auto)]
 
 pub mod evaluation;

@@ -15,6 +15,7 @@
 //! | `Justified`, `Free` | why each definite answer is right; answers that rest on no goal under evaluation |
 //! | `EntryShapes`, `Provisional` | provisional entries: why each may be used, and what becomes of them |
 //! | `Decided` | goals whose answers are all yes or no |
+//! | `Lone`, `Settled` | when two runs of a goal are enough, and what answers and stored results rest on then |
 //!
 //! Of the proofs that belong to no single function, those in the folders `counts`, `records`, `justified`, `answers`
 //! and `entries` of `proofs/` show what each move keeps true, those in `rebasing` what a pop leaves of an entry, and
