@@ -9,6 +9,8 @@ pub mod Leading
 pub mod StoppedWalks
 pub mod OlderEntries
 pub mod OffStack
+pub mod LoneGoals
+pub mod SettledGoals
 pub mod OneOfBoth
 pub mod TwoRuns
 pub mod NestedGoals

@@ -1,15 +1,16 @@
 -- What the walks from a node come to, as nodes are added and finished and the stack changes.
-use Rattle.std.proofs.Common.{ℕ, List, [], option_map, slice_get, sym, ap, ◌∙◌, ◌⊎◌, inl, inr}
+use Rattle.std.proofs.Common.{ℕ, List, [], option_map, slice_get, refl, sym, ap, ◌∙◌, ◌⊎◌, inl, inr}
 use Rattle.std.proofs.lemmas.Option.{slice_get-map}
 use Rattle.open_graphs.specs.Graph as theory
 use Rattle.open_graphs.specs.Stack.{IsLeaf}
 use Rattle.open_graphs.specs.Use as theory_use
-use Rattle.open_graphs.proofs.Closed.{headless_reaches}
+use Rattle.open_graphs.proofs.Closed.{closed_is_graph, graph_is_use, headless_reaches}
 use Rattle.open_graphs.proofs.Keep.{growth_back, growth_place}
 use Rattle.open_graphs.proofs.Lists.{mapped_some}
 use Rattle.open_graphs.proofs.Transfer.{same_walk}
 use Rattle.open_graphs.proofs.Walks.{carried}
-use Rattle.search_rules.specs.Below.{CacheNode, Entry, IsNodeOf, KeepsGoals, shape_of, shapes_of, Use, UsesNo, Verdicts}
+use Rattle.search_rules.specs.Below.{CacheNode, Entry, IsNodeOf, KeepsGoals, no_heads, shape_of, shapes_of, stack_of, Use, UsesNo, Verdicts}
+use Rattle.search_rules.specs.Justified.{frames_of, OpenRun}
 use Rattle.search_rules.specs.Leads.{HasGoal, LeadsTo, StepOn}
 use Rattle.search_rules.specs.Settled.{LeadsOnly}
 use Rattle.search_rules.proofs.justified.Justified.{no_answers}
@@ -64,3 +65,9 @@ module _ {I R : Type 0} (says : Verdicts R) (nodes : List (CacheNode I R)) where
       let reached = headless_reaches (shapes_of says nodes) v stack from_head front a heads none used b q w in
       let v = carried (StepOn (shapes_of says nodes) v stack Stops) (theory_use.Step (shapes_of says nodes) v stack) (λ b. Unit {0}) (λ b k c h s. record { step = s; on = λ stop. never b stop }) (λ b k c h e. tt) tt reached.0 in
       elim (leads b q v) [ inl l ↦ absurd (reached.1 l) | inr rest ↦ elim rest [ inl stop ↦ absurd (never b stop) | inr i ↦ inr i.1 ] ]
+
+  -- a use without heads is a graph over no stack
+  pub free_graph : (goals : List (OpenRun I R)) (v : theory.Verdict) (a : ℕ) → Use (shapes_of says nodes) v (stack_of (frames_of says goals)) (λ depth. 0) 0 a no_heads → theory_use.OpenGraph (shapes_of says nodes) v [] a
+  free_graph goals v a used =
+      (graph_is_use (shapes_of says nodes) v (λ depth. 0) 0 a no_heads
+      (closed_is_graph (shapes_of says nodes) v (stack_of (frames_of says goals)) (λ depth. 0) 0 a no_heads (λ depth path cycle recorded. recorded.1 refl) used)).open_graph

@@ -37,6 +37,11 @@ below_limit : (above : Option ℕ) (first node : ℕ) → IfSome above (λ limit
 below_limit None first node began before = tt
 below_limit (Some limit) first node began before = omega (arith, began, before)
 
+-- the newest goal began before this node
+abbrev pub AreBefore : {X F I R A T : Type 0} → ℕ → List (StackEntry X I R A T × Run X F I R A T) → Type 0
+AreBefore limit [] = Unit {0}
+AreBefore limit (s ∷ below) = cycles_node (run_of s) < limit
+
 -- ---- nodes are added or finished, results are stored, entries come and go, and more goals are nested
 
 module _ {X I R A T : Type 0} (says : Verdicts R) (same : I → I → Bool) (nodes after : List (CacheNode I R)) (kept : KeepsGoals nodes after) (grown : theory.Grown (shapes_of says nodes) (shapes_of says after)) (results later : Store I (StoredResult X I R A T)) (lone_stay : (goal : I) → IsLone same results goal → IsLone same later goal)
@@ -106,6 +111,14 @@ module _ {X I R A T : Type 0} (says : Verdicts R) (same : I → I → Bool) (nod
           goal_kept s s (goes_on_itself (run_of s)) lower (λ goal there. there) below above above (λ node before. (within node before, before)) h.0.began h.0.itself h.0.first h.0.stored h.0,
           goals_kept below (Some (cycles_node (run_of s))) lower h.1,
         )
+
+    -- a goal begins above them
+    pub narrowed : (goals : List (StackEntry X I R A T × Run X F I R A T)) (limit : ℕ) → ((node : ℕ) → Within node) → AreBefore limit goals → AreSettledGoals says same nodes results entries None goals → AreSettledGoals says same after later more (Some limit) goals
+    narrowed [] limit within before h = tt
+    narrowed (s ∷ below) limit within before h = (
+      goal_kept s s (goes_on_itself (run_of s)) (λ node older. within node) (λ goal there. there) below None (Some limit) (λ node lower. (within node, tt)) before h.0.itself h.0.first h.0.stored h.0,
+      goals_kept below (Some (cycles_node (run_of s))) (λ node older. within node) h.1,
+    )
 
 -- ---- the goal itself
 

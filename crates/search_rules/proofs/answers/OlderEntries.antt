@@ -7,10 +7,12 @@ use Rattle.open_graphs.specs.Graph as theory
 use Rattle.open_graphs.proofs.States.{verdict_cases}
 use Rattle.open_graphs.specs.Stack.{IsLeaf}
 use Rattle.open_graphs.proofs.Keep.{leaf_cases, leaf_left}
-use Rattle.open_graphs.proofs.Lists.{get_end}
+use Rattle.std.proofs.lemmas.Option.{slice_get_within}
+use Rattle.open_graphs.proofs.Lists.{get_end, mapped_some}
+use Rattle.search_rules.proofs.entries.Ready.{is_below}
 use Rattle.search_rules.specs.Below.{at_depth, CacheNode, entries_at, IsDefinite, IsNodeOf, Lists, NodeId, ProvisionalCacheEntry, Reply, Request, shapes_of, stack_of, StackDepth, verdict_of, Verdicts}
 use Rattle.search_rules.specs.EntryShapes.{entry_shape, HoldsOver}
-use Rattle.search_rules.specs.Justified.{cycles_node, frame_of, frames_of, OpenRun}
+use Rattle.search_rules.specs.Justified.{cycles_node, frame_of, frames_of, HaveTallies, OpenRun}
 use Rattle.search_rules.specs.Older.{BeganBefore, HasEntry, HasNoOlder, IsStop}
 use Rattle.search_rules.specs.Provisional.{AreReady, IsHead, IsReady}
 use Rattle.search_rules.proofs.justified.Finishing.{place_of}
@@ -100,3 +102,15 @@ one_entry (e ∷ f ∷ rest) one x y i j at there = absurd (omega (arith, one))
 
 pub same_entry : {E : Type 0} (entries : List E) → length entries ≤ 1 → (x y : E) → Contains entries x → Contains entries y → x ≡ y
 same_entry entries one x y has other = let at = place_of entries x has in let there = place_of entries y other in one_entry entries one x y at.0 there.0 at.1 there.1
+
+-- a node of a goal is in the list
+pub node_within : {I R : Type 0} (nodes : List (CacheNode I R)) (node : ℕ) (goal : I) → IsNodeOf nodes node goal → node < length nodes
+node_within nodes node goal is = let there = mapped_some (λ n. n.goal) (slice_get nodes node) goal is in slice_get_within nodes node there.0 there.1
+
+-- the heads of an entry are goals under evaluation
+pub head_below : {X I R A T : Type 0} (says : Verdicts R) (nodes : List (CacheNode I R)) (goals : List (OpenRun I R)) → HaveTallies goals → (goal : I) (entry : ProvisionalCacheEntry X I R A T) (node : ℕ) → IsKnownEntry says nodes goals goal entry node → (head : StackDepth) → IsSome (at_depth entry.heads head) → head.0 < length goals
+head_below says nodes goals tallies goal entry node known head some = is_below goals tallies head (known.are_heads head some)
+
+-- the goal has no entry
+abbrev pub HasNone : {X I R A T : Type 0} → (I → I → Bool) → Lists I (ProvisionalCacheEntry X I R A T) → I → Type 0
+HasNone same entries goal = (entry : ProvisionalCacheEntry _ _ _ _ _) → Contains (entries_at same entries goal) entry → ⊥
