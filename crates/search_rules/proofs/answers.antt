@@ -9,6 +9,7 @@ pub mod Leading
 pub mod StoppedWalks
 pub mod OlderEntries
 pub mod OffStack
+pub mod LeftEntries
 pub mod LoneGoals
 pub mod SettledGoals
 pub mod OneOfBoth

@@ -10,10 +10,10 @@ use Rattle.open_graphs.proofs.Keep.{leaf_cases, leaf_left}
 use Rattle.std.proofs.lemmas.Option.{slice_get_within}
 use Rattle.open_graphs.proofs.Lists.{get_end, mapped_some}
 use Rattle.search_rules.proofs.entries.Ready.{is_below}
-use Rattle.search_rules.specs.Below.{at_depth, CacheNode, entries_at, IsDefinite, IsNodeOf, Lists, NodeId, ProvisionalCacheEntry, Reply, Request, shapes_of, stack_of, StackDepth, verdict_of, Verdicts}
+use Rattle.search_rules.specs.Below.{at_depth, CacheNode, entries_at, IsDefinite, IsNodeOf, IsRising, Lists, NodeId, ProvisionalCacheEntry, Reply, Request, shapes_of, stack_of, StackDepth, verdict_of, Verdicts}
 use Rattle.search_rules.specs.EntryShapes.{entry_shape, HoldsOver}
 use Rattle.search_rules.specs.Justified.{cycles_node, frame_of, frames_of, HaveTallies, OpenRun}
-use Rattle.search_rules.specs.Older.{BeganBefore, HasEntry, HasNoOlder, IsStop}
+use Rattle.search_rules.specs.Older.{HasEntry, HasNoOlder, IsStop}
 use Rattle.search_rules.specs.Provisional.{AreReady, IsHead, IsReady}
 use Rattle.search_rules.proofs.justified.Finishing.{place_of}
 
@@ -59,11 +59,6 @@ module _ {I R : Type 0} (says : Verdicts R) (o p : OpenRun I R) (f : Follows o p
     | inr here ↦ (length (stack_of (frames_of says below)), (frame_of says p).entry, get_end (stack_of (frames_of says below)) (frame_of says p).entry, f.first_is ∙ here)
   ]
 
--- goals that all began before a node did so, whatever the head is
-pub all_before : (firsts : List ℕ) (node : ℕ) → ((i first : ℕ) → slice_get firsts i ≡ Some first → first < node) → (head : StackDepth) → BeganBefore firsts head node
-all_before [] node before head = tt
-all_before (first ∷ below) node before head = ((λ here. before 0 first refl), all_before below node (λ i later is. before (suc i) later is) head)
-
 -- ---- what is known of an entry
 
 -- it is definite, its node is one of its goal, and may be used over the goals under evaluation
@@ -72,6 +67,7 @@ pub record IsKnownEntry {X I R A T : Type 0} (says : Verdicts R) (nodes : List (
   pub home : IsNodeOf nodes node goal
   pub holds : HoldsOver (shapes_of says nodes) (stack_of (frames_of says goals)) (entry_shape says entry node)
   pub some : entry.heads ≢ []
+  pub rising : IsRising entry.heads
   pub are_heads : (head : StackDepth) → IsSome (at_depth entry.heads head) → IsHead goals head
 
 -- an entry has one node
@@ -89,7 +85,7 @@ module _ {X I R A T : Type 0} (says : Verdicts R) (same : I → I → Bool) (scr
         | inl neither ↦ absurd (no_node (record { 0 = node }) entry.node has.node_is (r.reusable.neither neither))
         | inr definite ↦
             let there = subst (λ (o : Option NodeId). IsSomeAnd o (λ n. IsNodeOf nodes n.0 goal × HoldsOver (shapes_of says nodes) (stack_of (frames_of says goals)) (entry_shape says entry n.0))) has.node_is (r.reusable.definite definite) in
-            record { definite = definite; home = there.0; holds = there.1; some = r.some; are_heads = r.are_heads }
+            record { definite = definite; home = there.0; holds = there.1; some = r.some; rising = r.rising; are_heads = r.are_heads }
       ]
 
 -- where a goal has one entry at most, two of its entries are one
