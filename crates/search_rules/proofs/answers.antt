@@ -12,6 +12,8 @@ pub mod OffStack
 pub mod LeftEntries
 pub mod LoneGoals
 pub mod SettledGoals
+pub mod SettledRuns
+pub mod SettledResults
 pub mod OneOfBoth
 pub mod TwoRuns
 pub mod NestedGoals

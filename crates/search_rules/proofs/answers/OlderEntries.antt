@@ -1,5 +1,5 @@
 -- Entries that are older than a goal, as other entries come and go, and as the goal goes on.
-use Rattle.std.proofs.Common.{◌≡◌, ◌≢◌, ◌<◌, ◌≤◌, ℕ, zero, suc, Bool, Contains, IsSome, List, [], ◌∷◌, length, None, Option, Some, slice_get, refl, sym, ap, ◌∙◌, subst, inl, inr, arith}
+use Rattle.std.proofs.Common.{◌≡◌, ◌≢◌, ◌<◌, ◌≤◌, ℕ, zero, suc, Bool, Contains, IsSome, List, [], ◌∷◌, length, map, None, Option, Some, slice_get, refl, sym, ap, ◌∙◌, subst, inl, inr, arith}
 use Rattle.std.specs.Option.{IsSomeAnd}
 use Rattle.std.proofs.lemmas.Bool.{cases_lt}
 use Rattle.std.proofs.lemmas.List.Elements.{All-contains}
@@ -10,11 +10,13 @@ use Rattle.open_graphs.proofs.Keep.{leaf_cases, leaf_left}
 use Rattle.std.proofs.lemmas.Option.{slice_get_within}
 use Rattle.open_graphs.proofs.Lists.{get_end, mapped_some}
 use Rattle.search_rules.proofs.entries.Ready.{is_below}
-use Rattle.search_rules.specs.Below.{at_depth, CacheNode, entries_at, IsDefinite, IsNodeOf, IsRising, Lists, NodeId, ProvisionalCacheEntry, Reply, Request, shapes_of, stack_of, StackDepth, verdict_of, Verdicts}
+use Rattle.search_rules.specs.Below.{at_depth, CacheNode, entries_at, IsDefinite, IsNodeOf, IsRising, Lists, NodeId, ProvisionalCacheEntry, Reply, Request, Run, shapes_of, stack_of, StackDepth, StackEntry, Store, StoredResult, verdict_of, Verdicts}
 use Rattle.search_rules.specs.EntryShapes.{entry_shape, HoldsOver}
 use Rattle.search_rules.specs.Justified.{cycles_node, frame_of, frames_of, HaveTallies, OpenRun}
-use Rattle.search_rules.specs.Older.{HasEntry, HasNoOlder, IsStop}
+use Rattle.search_rules.specs.Older.{BeganBefore, HasEntry, HasNoOlder, IsStop}
 use Rattle.search_rules.specs.Provisional.{AreReady, IsHead, IsReady}
+use Rattle.search_rules.specs.Runs.{run_of, runs_of}
+use Rattle.search_rules.specs.Settled.{AreSettledGoals}
 use Rattle.search_rules.proofs.justified.Finishing.{place_of}
 
 -- the entries with these nodes stay, and no other ones come
@@ -110,3 +112,11 @@ head_below says nodes goals tallies goal entry node known head some = is_below g
 -- the goal has no entry
 abbrev pub HasNone : {X I R A T : Type 0} → (I → I → Bool) → Lists I (ProvisionalCacheEntry X I R A T) → I → Type 0
 HasNone same entries goal = (entry : ProvisionalCacheEntry _ _ _ _ _) → Contains (entries_at same entries goal) entry → ⊥
+
+-- goals that began before a node did so, whatever the head is
+pub began_before : {X F I R A T : Type 0} (says : Verdicts R) (same : I → I → Bool) (nodes : List (CacheNode I R)) (results : Store I (StoredResult X I R A T)) (entries : Lists I (ProvisionalCacheEntry X I R A T)) (limit : ℕ) (goals : List (StackEntry X I R A T × Run X F I R A T)) → AreSettledGoals says same nodes results entries (Some limit) goals
+    → (node : ℕ) → limit ≤ node → (head : StackDepth) → BeganBefore (map cycles_node (runs_of goals)) head node
+began_before says same nodes results entries limit [] h node within head = tt
+began_before says same nodes results entries limit (s ∷ below) h node within head =
+    let began = h.0.began in
+    ((λ here. omega (arith, began, within)), began_before says same nodes results entries (cycles_node (run_of s)) below h.1 node (omega (arith, began, within)) head)

@@ -25,6 +25,20 @@ stops_here nodes v stack Stops Inner a there b q w = at there w
     at (inl leaf) (theory.go s w) = absurd (s.step.inner leaf)
     at (inr stop) (theory.go s w) = absurd (s.on stop)
 
+-- what is finished with two verdicts has one
+pub walks_as : (nodes : List theory.Node) (w v : theory.Verdict) (stack : List Entry) (Stops Inner : ℕ → Type 0) (a : ℕ) → IsLeaf stack a ⊎ theory.IsFinished nodes v a → WalksTo nodes w stack Stops Inner a → WalksTo nodes v stack Stops Inner a
+walks_as nodes w v stack Stops Inner a (inl leaf) walks = stops_here nodes v stack Stops Inner a (inl leaf)
+walks_as nodes w v stack Stops Inner a (inr f) walks = elim (walks a 0 theory.stay) [
+  | inl leaf ↦ stops_here nodes v stack Stops Inner a (inl leaf)
+  | inr rest ↦ elim rest [
+    | inl stop ↦ stops_here nodes v stack Stops Inner a (inr stop)
+    | inr i ↦
+        let both : Some (theory.Finished w i.0.0) ≡ Some (theory.Finished v f.0) = sym i.0.1 ∙ f.1 in
+        let one : w ≡ v = cc in
+        subst (λ u. WalksTo nodes u stack Stops Inner a) one walks
+  ]
+]
+
 module _ (nodes after : List theory.Node) (v : theory.Verdict) (grown : theory.Grown nodes after) (stack other : List Entry) (Stops Later Inner Then : ℕ → Type 0) (inner : (b : ℕ) → theory.IsFinished nodes v b → Inner b → Then b) (a : ℕ) (walks : WalksTo nodes v stack Stops Inner a) where
   abbrev Old : ℕ → ℕ → ℕ → Type 0
   Old = StepOn nodes v stack Stops
