@@ -13,6 +13,7 @@ pub mod LeftEntries
 pub mod LoneGoals
 pub mod SettledGoals
 pub mod SettledRuns
+pub mod SettledPops
 pub mod SettledResults
 pub mod OneOfBoth
 pub mod TwoRuns
