@@ -8,8 +8,8 @@ use Rattle.search_rules.specs.Settled.{AnswerStaysOff, AreSettled, IsSettling}
 module _ {D C V P F I R A T : Type 0} (G : DelegateOf D C V P F I R A T) (X : CxOf C I R A T) (same : I → I → Bool) (call : Call I) where
   -- no limit was met, and what answers rest on stays off the goals under evaluation, also of the answer that the newest goal gets
   pub record Settles (received : Received R) (cache : Cache C I R A T) (e : Evaluation D C V P F I R A T) : Type 0 where
-    pub settling : IsSettling (verdicts X) same cache.nodes cache.results call e.goals e.limits_met
-    pub answer : AnswerStaysOff (verdicts X) same cache.nodes cache.results e.goals received.reply received.node
+    pub settling : IsSettling (verdicts X) same cache.nodes cache.results e.provisional call e.goals e.limits_met
+    pub answer : AnswerStaysOff (verdicts X) same cache.nodes cache.results e.provisional e.goals received.reply received.node
 
   -- the same of what comes next; and of the stored results, once the call has its answer
   abbrev pub SettlesNext : Next R → Cache C I R A T → Evaluation D C V P F I R A T → Type 0

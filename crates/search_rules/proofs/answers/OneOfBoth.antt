@@ -160,7 +160,7 @@ module _ {I R : Type 0} (nodes : List (CacheNode I R)) where
     pub is : cycles_node run ≡ n
     pub home : IsNodeOf nodes n run.goal
 
-  leads_home : (o : OpenRun I R) (lead : Option NodeId) → IsSomeAnd lead (λ n. IsNodeOf nodes n.0 o.goal) → IsNodeOf nodes (elim lead [ None ↦ o.own | Some n ↦ n.0 ]) o.goal
+  pub leads_home : (o : OpenRun I R) (lead : Option NodeId) → IsSomeAnd lead (λ n. IsNodeOf nodes n.0 o.goal) → IsNodeOf nodes (elim lead [ None ↦ o.own | Some n ↦ n.0 ]) o.goal
   leads_home o None h = absurd h
   leads_home o (Some n) h = h
 

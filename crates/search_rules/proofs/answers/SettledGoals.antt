@@ -4,6 +4,7 @@ use Rattle.std.specs.List.{list_any}
 use Rattle.std.specs.Option.{IfSome, IsSomeAnd}
 use Rattle.std.proofs.lemmas.Bool.{and_parts, cases_lt, false≢true, or_parts}
 use Rattle.std.proofs.lemmas.List.{length-map}
+use Rattle.std.proofs.lemmas.List.Elements.{All-contains}
 use Rattle.std.proofs.lemmas.List.Sorted.{IsPermutation-reverse, list_any-IsPermutation}
 use Rattle.open_goals.specs.declared.goals.Fate.{Fate}
 use Rattle.open_goals.specs.declared.goals.Fate.TheVariants as becomes
@@ -11,22 +12,24 @@ use Rattle.open_graphs.specs.Graph as theory
 use Rattle.open_graphs.specs.Stack.{IsLeaf}
 use Rattle.open_goals.specs.NestedGoals.{NestsItself, TakesHeadGoal, TakesNestedGoals}
 use Rattle.search_stack.specs.Nested.{JoinsPaths}
-use Rattle.search_rules.specs.Below.{Answer, AnswersNewest, at_depth, AvailableDepth, CacheNode, entries_at, EntryState, first_accepted, first_entry, Heads, Hit, is_in_cycle, IsDefinite, IsNodeOf, Lists, NestedPaths, NestsAnswer, NestsHead, no_heads, no_record, NodeId, path_of_no_step, PathKind, paths_at, ProvisionalCacheEntry, Reply, Run, shapes_of, stack_of, StackDepth, StackEntry, Store, stored_at, StoredResult, Success, TakesStored, usable, Use, verdict_of, Verdicts, with_depth, with_nested_goals, WithOverflow}
+use Rattle.search_rules.specs.Below.{Answer, AnswersNewest, at_depth, AvailableDepth, CacheNode, entries_at, EntryState, first_accepted, first_entry, Heads, Hit, is_in_cycle, IsDefinite, IsNodeOf, Lists, NestedPaths, NestsAnswer, NestsHead, no_heads, no_record, NodeId, path_of_no_step, PathKind, paths_at, ProvisionalCacheEntry, Reply, Request, Run, shapes_of, stack_of, StackDepth, StackEntry, Store, stored_at, StoredResult, Success, TakesStored, usable, Use, verdict_of, Verdicts, with_depth, with_nested_goals, WithOverflow}
 use Rattle.global_cache.specs.Hits.{hit_at, overflows, successes}
 use Rattle.search_rules.specs.Free.{IsFree}
-use Rattle.search_rules.specs.Justified.{cycles_node, frames_of, OpenRun}
+use Rattle.search_rules.specs.Justified.{AreSupported, cycles_node, frames_of, HaveTallies, OpenRun}
 use Rattle.search_rules.specs.Leads.{HasGoal, LeadsTo}
 use Rattle.search_rules.specs.LookUp.{Asking, is_applicable}
 use Rattle.search_rules.specs.Lone.{IsLone, NoneIsLone}
 use Rattle.search_rules.specs.Older.{HasEntry, IsStop, RestOnOlder}
+use Rattle.search_rules.specs.Provisional.{AreReady, IsReady}
 use Rattle.search_rules.specs.Runs.{run_of, runs_of}
 use Rattle.search_rules.specs.Settled.{AnswerStaysOff, AreSettledGoals, IsAside, IsKnown, IsOff, LeadsOnly}
 use Rattle.search_rules.specs.Tallies.{Tally, tally_of}
 use Rattle.search_rules.proofs.answers.Kept.{heads_come, taken_counts, taken_run}
 use Rattle.search_rules.proofs.answers.Leading.{free_graph, leads_over, leads_weaker}
 use Rattle.search_rules.proofs.answers.NestedGoals.{head_itself, head_stay, joins_here, joins_some, taken_come, taken_itself, taken_stay}
-use Rattle.search_rules.proofs.answers.OffStack.{aside_leads, goal_kept, GoesOn, off_new}
-use Rattle.search_rules.proofs.answers.OlderEntries.{all_stay, HasNone}
+use Rattle.search_rules.proofs.answers.OffStack.{aside_leads, AreBefore, goal_kept, GoesOn, off_new}
+use Rattle.search_rules.proofs.answers.OneOfBoth.{leads_home}
+use Rattle.search_rules.proofs.answers.OlderEntries.{all_stay, HasNone, head_below, known_entry, node_within}
 use Rattle.search_rules.proofs.answers.StoppedWalks.{stops_here}
 use Rattle.search_rules.proofs.justified.Justified.{no_tally}
 
@@ -309,3 +312,35 @@ module _ {X F I R A T : Type 0} (says : Verdicts R) (same : I → I → Bool) (b
     },
     h,
   )
+
+-- the newest goal began before a node that is added
+pub newest_before : {X F I R A T : Type 0} (says : Verdicts R) (nodes : List (CacheNode I R)) (goals : List (StackEntry X I R A T × Run X F I R A T)) → AreSupported says nodes (runs_of goals) → (own : ℕ) → own ≡ length nodes → AreBefore own goals
+newest_before says nodes [] supported own at = tt
+newest_before says nodes (s ∷ below) supported own at =
+    let within = node_within nodes (cycles_node (run_of s)) s.0.input (leads_home nodes (run_of s) s.0.state.node supported.0.lead_home) in
+    omega (arith, within, at)
+
+-- entries rest on older goals, also where a goal is pushed
+module _ {X F I R A T : Type 0} (says : Verdicts R) (same : I → I → Bool) (scripts : I → List (Reply R) → Request I R) (nodes : List (CacheNode I R)) (goals : List (StackEntry X I R A T × Run X F I R A T)) (entries : Lists I (ProvisionalCacheEntry X I R A T)) (ready : AreReady says same scripts nodes (runs_of goals) entries) where
+  pub pushed_older : HaveTallies (runs_of goals) → (own : ℕ) → RestOnOlder same entries (map cycles_node (runs_of goals)) → RestOnOlder same entries (own ∷ map cycles_node (runs_of goals))
+  pushed_older tallies own older goal entry node has head some = (
+    (λ here.
+        let lower = head_below says nodes (runs_of goals) tallies goal entry node (known_entry says same scripts nodes (runs_of goals) entries ready goal entry node has) head some in
+        let long = length-map (runs_of goals) cycles_node in
+        omega (arith, lower, here, long)),
+    older goal entry node has head some,
+  )
+
+  -- and each entry is older than that goal
+  pub entries_before : (own : ℕ) → own ≡ length nodes → (goal : I) (entry : ProvisionalCacheEntry X I R A T) (node : ℕ) → HasEntry same entries goal entry node → node < own
+  entries_before own at goal entry node has =
+      let within = node_within nodes node goal (known_entry says same scripts nodes (runs_of goals) entries ready goal entry node has).home in
+      omega (arith, within, at)
+
+  -- a definite one has a node
+  pub entry_has_node : (goal : I) (entry : ProvisionalCacheEntry X I R A T) → Contains (entries_at same entries goal) entry → IsDefinite says entry.result → IsSome entry.node
+  entry_has_node goal entry there definite = some_there entry.node _ ((All-contains (IsReady says scripts nodes (runs_of goals) goal) (entries_at same entries goal) entry (ready goal) there).reusable.definite definite)
+    where
+      some_there : {N : Type 0} (o : Option N) (P : N → Type 0) → IsSomeAnd o P → IsSome o
+      some_there None P at = absurd at
+      some_there (Some n) P at = refl

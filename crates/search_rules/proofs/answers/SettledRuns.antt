@@ -72,7 +72,7 @@ module _ {X F I R A T : Type 0} (says : Verdicts R) (same : I → I → Bool) (n
   pub place_first : ends.place ≡ cycles_node (run_of s)
   place_first = one_place target ends.place (cycles_node (run_of s)) (ends.definite definite) target_first
 
-  abbrev pub Left : I → Type 0
+  abbrev Left : I → Type 0
   Left = IsBehind same results entries (run_of s) s.0.state.nested_goals (runs_of below)
 
   -- what it leads to
@@ -92,10 +92,10 @@ module _ {X F I R A T : Type 0} (says : Verdicts R) (same : I → I → Bool) (n
     abbrev rerun : StackEntry X I R A T × Run X F I R A T
     rerun = rerun_with r lead frame own (with_no_record s)
 
-    opened_kept : KeepsGoals nodes opened
+    pub opened_kept : KeepsGoals nodes opened
     opened_kept place goal is = KeepsGoals-appended true after s.0.input place goal (ends.goals_kept place goal is)
 
-    opened_grown : theory.Grown (shapes_of says nodes) (shapes_of says opened)
+    pub opened_grown : theory.Grown (shapes_of says nodes) (shapes_of says opened)
     opened_grown a v edges is = Grown-appended says true after s.0.input a v edges (grows a v edges is)
 
     place_then : cycles_node (run_of rerun) ≡ ends.place
