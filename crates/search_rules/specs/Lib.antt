@@ -3,6 +3,9 @@ pub mod Fates
 pub mod Claims
 pub mod LookUp
 pub mod Lone
+pub mod Apart
+pub mod OneKind
+pub mod Kinds
 pub mod Decided
 pub mod Calls
 pub mod Moves
