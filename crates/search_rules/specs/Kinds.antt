@@ -9,13 +9,15 @@ use Rattle.search_rules.specs.OneKind.{Asks, AsksByOneKind, Leads, Reaches}
 abbrev pub EntriesSuit : {I R : Type 0} → (enabled : Bool) → (I → List (Reply R) → Request I R) → Type 0
 EntriesSuit enabled scripts = (enabled ≡ false) ⊎ AsksByOneKind scripts
 
+-- The paths have the one of no step, and it is the same goal; or they have one whose kind is that of a walk of questions from the goal
+-- to the other.
+abbrev pub IsReachedBy : {I R : Type 0} → (I → List (Reply R) → Request I R) → I → PathsToNested → I → Type 0
+IsReachedBy scripts goal paths other = ((has_empty paths ≡ true) × (other ≡ goal)) ⊎ ((kind : PathKind) × (has_kind paths kind ≡ true) × Leads scripts goal kind other)
+
 module _ {I R : Type 0} (scripts : I → List (Reply R) → Request I R) (same : I → I → Bool) where
-  -- Each nested goal is the goal itself, by the path of no step, or a walk of questions leads to it, whose kind is that of one of its
-  -- paths.
+  -- each nested goal is reached by its paths
   abbrev pub ReachesNested : I → NestedPaths I → Type 0
-  ReachesNested goal nested =
-      (other : I) (paths : PathsToNested) → paths_at same nested other ≡ Some paths
-      → ((has_empty paths ≡ true) × (other ≡ goal)) ⊎ ((kind : PathKind) × (has_kind paths kind ≡ true) × Leads scripts goal kind other)
+  ReachesNested goal nested = (other : I) (paths : PathsToNested) → paths_at same nested other ≡ Some paths → IsReachedBy scripts goal paths other
 
   -- the goals that are nested in the stored success of each of these are reached so
   abbrev pub StoredReachNested : {X A T : Type 0} → List I → Store I (StoredResult X I R A T) → Type 0
@@ -25,12 +27,12 @@ module _ {I R : Type 0} (scripts : I → List (Reply R) → Request I R) (same :
 abbrev pub AskedByKind : {I R : Type 0} → (I → List (Reply R) → Request I R) → I → PathKind → Type 0
 AskedByKind {I} scripts goal kind = (other : I) (other_kind : PathKind) (asked : I) → Asks scripts other other_kind asked → Reaches scripts asked goal → Reaches scripts goal other → other_kind ≡ kind
 
-module _ {X F I R A T : Type 0} (scripts : I → List (Reply R) → Request I R) where
-  -- the goal under evaluation at this place, counted from below, is this one
-  abbrev pub IsGoalAt : List (StackEntry X I R A T × Run X F I R A T) → ℕ → I → Type 0
-  IsGoalAt [] place goal = ⊥
-  IsGoalAt (s ∷ below) place goal = ((place ≡ length below) × (goal ≡ s.0.input)) ⊎ IsGoalAt below place goal
+-- the goal under evaluation at this place, counted from below, is this one
+abbrev pub IsGoalAt : {X F I R A T : Type 0} → List (StackEntry X I R A T × Run X F I R A T) → ℕ → I → Type 0
+IsGoalAt [] place goal = ⊥
+IsGoalAt (s ∷ below) place goal = ((place ≡ length below) × (goal ≡ s.0.input)) ⊎ IsGoalAt below place goal
 
+module _ {X F I R A T : Type 0} (scripts : I → List (Reply R) → Request I R) where
   -- the goal and the one at the place reach each other
   pub record IsJoinedTo (goals : List (StackEntry X I R A T × Run X F I R A T)) (goal : I) (place : ℕ) : Type 0 where
     pub head : I

@@ -1,0 +1,4 @@
+-- The kinds of questions, and what each move keeps of them.
+pub mod Questions
+pub mod Stack
+pub mod NestedPaths
