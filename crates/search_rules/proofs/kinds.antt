@@ -2,3 +2,5 @@
 pub mod Questions
 pub mod Stack
 pub mod NestedPaths
+pub mod TakenAnswers
+pub mod UsedEntries

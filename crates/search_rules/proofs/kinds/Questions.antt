@@ -41,6 +41,13 @@ module _ {I R : Type 0} (scripts : I → List (Reply R) → Request I R) where
   leads_on {x} {y} {z} {step = step} (last {kind = kind} asks) then = subst (λ k. Leads scripts x k z) (greater_swapped kind step) (first asks (last then))
   leads_on {x} {y} {z} {step = step} (first {kind = kind} {rest = more} asks rest) then = subst (λ k. Leads scripts x k z) (greater_turned kind step more) (first asks (leads_on rest then))
 
+  -- a walk that is part of a closed one over a goal has the kind that is known of that
+  pub kind_of_goal : {x y : I} {kind : PathKind} (goal : I) (known : PathKind) → AskedByKind scripts goal known → Leads scripts x kind y → Reaches scripts y goal → Reaches scripts goal x → kind ≡ known
+  kind_of_goal goal known by (last {kind = kind} asks) there back = by _ kind _ asks there back
+  kind_of_goal goal known by (first {goal = x} {kind = kind} {asked = between} {rest = more} asks rest) there back =
+      let here_is : kind ≡ known = by x kind between asks (reaches_on (leads_reaches rest) there) back in
+      greater_same kind more known here_is (kind_of_goal goal known by rest there (reaches_on back (asked_reached asks)))
+
   -- ---- where goals that reach each other ask by one kind
 
   module _ (one : AsksByOneKind scripts) where
@@ -55,10 +62,3 @@ module _ {I R : Type 0} (scripts : I → List (Reply R) → Request I R) where
     -- and if it is closed over a goal, all closed walks over that have its kind
     pub asked_by_kind_of : {x y : I} {kind : PathKind} (goal : I) → Leads scripts x kind y → Reaches scripts y goal → Reaches scripts goal x → AskedByKind scripts goal kind
     asked_by_kind_of goal walk there back = λ other other_kind asked asks comes goes. sym (kind_of_walk walk other other_kind asked asks (reaches_on comes back) (reaches_on there goes))
-
-    -- and has the kind that is known of the goal
-    pub kind_of_goal : {x y : I} {kind : PathKind} (goal : I) (known : PathKind) → AskedByKind scripts goal known → Leads scripts x kind y → Reaches scripts y goal → Reaches scripts goal x → kind ≡ known
-    kind_of_goal goal known by (last {kind = kind} asks) there back = by _ kind _ asks there back
-    kind_of_goal goal known by (first {goal = x} {kind = kind} {asked = between} {rest = more} asks rest) there back =
-        let here_is : kind ≡ known = by x kind between asks (reaches_on (leads_reaches rest) there) back in
-        greater_same kind more known here_is (kind_of_goal goal known by rest there (reaches_on back (asked_reached asks)))
