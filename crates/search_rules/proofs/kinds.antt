@@ -4,3 +4,4 @@ pub mod Stack
 pub mod NestedPaths
 pub mod TakenAnswers
 pub mod UsedEntries
+pub mod PoppedEntries
