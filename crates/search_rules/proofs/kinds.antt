@@ -5,3 +5,4 @@ pub mod NestedPaths
 pub mod TakenAnswers
 pub mod UsedEntries
 pub mod PoppedEntries
+pub mod StandingApart
