@@ -6,3 +6,4 @@ pub mod TakenAnswers
 pub mod UsedEntries
 pub mod PoppedEntries
 pub mod StandingApart
+pub mod Moves
