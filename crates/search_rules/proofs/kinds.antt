@@ -7,3 +7,4 @@ pub mod UsedEntries
 pub mod PoppedEntries
 pub mod StandingApart
 pub mod Moves
+pub mod ApartMoves
