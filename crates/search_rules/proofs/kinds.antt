@@ -8,3 +8,4 @@ pub mod PoppedEntries
 pub mod StandingApart
 pub mod Moves
 pub mod ApartMoves
+pub mod Asking
