@@ -8,7 +8,7 @@ use Rattle.search_moves.specs.declared.evaluation.Evaluation.{Evaluation}
 use Rattle.search_moves.specs.Evaluations.{IsNew}
 use Rattle.search_moves.specs.Words.{Asked, asking, ByEntry, ByStored, ComesToEnd, entry_for, HadMostRuns, IsDone, IsRight, IsRunAgain, OverCycle, Pops, Pushed, Refused, Requests, RunLeads, RunsAgain}
 use Rattle.search_rules.specs.Apart.{StandApart}
-use Rattle.search_rules.specs.Below.{NestedPaths, paths_at, Request}
+use Rattle.search_rules.specs.Below.{HasStepped, NestedPaths, NotesCandidate, paths_at, Request}
 use Rattle.search_rules.specs.Calls.{CallIsEnclosed}
 use Rattle.search_rules.specs.EndOfRun.{IsEndOfRun, Limited, Repeats, Stable, Unused}
 use Rattle.search_rules.specs.Evaluating.{HasAsked, seen}
@@ -20,8 +20,8 @@ use Rattle.search_rules.specs.Provisional.{AreReady, EntriesMetNone}
 use Rattle.search_rules.specs.Settled.{IsOff}
 use Rattle.search_rules.proofs.answers.LoneGoals.{hit_of_answered, some_and}
 use Rattle.search_rules.proofs.answers.SettledGoals.{used_success}
-use Rattle.search_rules.proofs.kinds.ApartMoves.{answered_apart, ready_apart, ready_have_heads, rerun_apart, stored_apart}
-use Rattle.search_rules.proofs.kinds.Moves.{cleared_keeps_kinds, cycle_keeps_kinds, entry_keeps_kinds, none_keeps_kinds, popped_keeps_kinds, pushed_keeps_kinds, rerun_keeps_kinds, stored_keeps_kinds, stored_reach_nested}
+use Rattle.search_rules.proofs.kinds.ApartMoves.{answered_apart, noted_apart, ready_apart, ready_have_heads, rerun_apart, stepped_apart, stored_apart}
+use Rattle.search_rules.proofs.kinds.Moves.{cleared_keeps_kinds, cycle_keeps_kinds, entry_keeps_kinds, none_keeps_kinds, noted_keeps_kinds, popped_keeps_kinds, pushed_keeps_kinds, rerun_keeps_kinds, stepped_keeps_kinds, stored_keeps_kinds, stored_reach_nested}
 use Rattle.search_rules.proofs.kinds.StandingApart.{apart_cleared, apart_none, apart_popped, apart_pushed}
 use Rattle.search_rules.proofs.kinds.UsedEntries.{HaveHeads, none_in_used, none_where_unanswered}
 use Rattle.search_rules.proofs.kinds.Asking.{asks_newest}
@@ -119,6 +119,15 @@ began_keeps {C = C} {I = I} {R = R} {A = A} {T = T} G X same cx kind goal old e 
       apart = apart_none same old.results [] e.provisional none;
       reached = reached;
     }))
+
+-- the newest goal takes its step, and notes what it requested of candidates
+pub noted_keeps : {D C V P F I R A T : Type 0} (G : DelegateOf D C V P F I R A T) (X : CxOf C I R A T) (same : I → I → Bool) (cx : C) (call : Call I) (given : Received R) (request : Request I R) (results : Store I (StoredResult C I R A T)) (old mid after : List (StackEntry C I R A T × Run C F I R A T)) (entries : Lists I (ProvisionalCacheEntry C I R A T))
+    → HasStepped G X cx given request old mid → NotesCandidate request mid after → AreKept G same cx call results old entries → AreKept G same cx call results after entries
+noted_keeps G X same cx call given request results old mid after entries s noted h = record {
+  kinds = noted_keeps_kinds (G.script cx) same G.ENABLE_PROVISIONAL_CACHE entries request mid after noted (stepped_keeps_kinds G X cx same G.ENABLE_PROVISIONAL_CACHE entries old mid given request s h.kinds);
+  apart = noted_apart same results entries request mid after noted (stepped_apart G X cx same results entries old mid given request s h.apart);
+  reached = h.reached;
+}
 
 -- ---- the end of a run
 
