@@ -1,21 +1,19 @@
 -- Each move keeps the kinds of questions, and provisional entries apart from goals that are worked out; so a question that no entry answers
 -- is of a goal without entries, and no goal that is nested in a stored result that is used has one.
-use Rattle.std.proofs.Common.{◌≡◌, ◌≢◌, ◌-◌, ◌||◌, ℕ, Bool, true, false, if◌then◌else◌, not, Contains, IsSome, List, [], ◌∷◌, length, Option, None, Some, option_map, Result, Ok, Err, inl, inr, refl, sym, ap, ◌∙◌, subst}
+use Rattle.std.proofs.Common.{◌≡◌, ◌-◌, ◌||◌, ℕ, Bool, true, false, not, Contains, IsSome, List, [], ◌∷◌, length, Option, None, Some, option_map, Result, Ok, inr, refl, sym, ap, ◌∙◌, subst}
 use Rattle.open_goals.specs.declared.goals.Next.TheVariants.{Finished}
 use Rattle.global_cache.specs.Hits.{hit_at}
-use Rattle.search_moves.specs.Below.{AreJustified, AtLimit, AvailableDepth, Begin, Cache, CacheNode, Call, CxOf, DelegateOf, depends_on, Done, entries_at, Evaluate, final_answer, first_accepted, first_entry, first_run, Hit, is_applicable, LeavesNested, Lists, newest, Next, node_given, Overflow, PathKind, ProvisionalCacheEntry, Pushes, RebaseReason, RebasesNewest, Received, Run, runs_of, StackEntry, Step, Store, stored_at, StoredResult, StoresNewest, Success, Unstable, usable, verdicts}
+use Rattle.search_moves.specs.Below.{AreJustified, AvailableDepth, Cache, CacheNode, Call, CxOf, DelegateOf, depends_on, entries_at, Evaluate, final_answer, first_accepted, first_entry, first_run, Hit, is_applicable, LeavesNested, Lists, newest, Next, node_given, Overflow, PathKind, ProvisionalCacheEntry, Pushes, RebaseReason, RebasesNewest, Received, Run, runs_of, StackEntry, Step, Store, stored_at, StoredResult, StoresNewest, Success, Unstable, usable, verdicts}
 use Rattle.search_moves.specs.declared.evaluation.Evaluation.{Evaluation}
 use Rattle.search_moves.specs.Evaluations.{IsNew}
-use Rattle.search_moves.specs.Words.{Asked, asking, ByEntry, ByStored, ComesToEnd, entry_for, HadMostRuns, IsDone, IsRight, IsRunAgain, OverCycle, Pops, Pushed, Refused, Requests, RunLeads, RunsAgain}
+use Rattle.search_moves.specs.Words.{Asked, asking, ByEntry, ByStored, entry_for, HadMostRuns, IsDone, IsRight, IsRunAgain, OverCycle, Pushed, Refused, Requests, RunLeads, RunsAgain}
 use Rattle.search_rules.specs.Apart.{StandApart}
-use Rattle.search_rules.specs.Below.{HasStepped, NestedPaths, NotesCandidate, paths_at, Request}
+use Rattle.search_rules.specs.Below.{HasStepped, NotesCandidate, paths_at, Request}
 use Rattle.search_rules.specs.Calls.{CallIsEnclosed}
 use Rattle.search_rules.specs.EndOfRun.{IsEndOfRun, Limited, Repeats, Stable, Unused}
-use Rattle.search_rules.specs.Evaluating.{HasAsked, seen}
 use Rattle.search_rules.specs.Kinds.{AsksNewest, EntriesSuit, KeepsKinds, ReachesNested, StoredReachNested}
 use Rattle.search_rules.specs.Lone.{IsLone}
 use Rattle.search_rules.specs.Moves.{NewestLeaves}
-use Rattle.search_rules.specs.OneKind.{Asks}
 use Rattle.search_rules.specs.Provisional.{AreReady, EntriesMetNone}
 use Rattle.search_rules.specs.Settled.{IsOff}
 use Rattle.search_rules.proofs.answers.LoneGoals.{hit_of_answered, some_and}

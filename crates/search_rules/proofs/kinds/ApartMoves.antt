@@ -1,15 +1,14 @@
 -- Moves under which provisional entries stand apart still, and what is known of entries that are ready.
-use Rattle.std.proofs.Common.{◌≡◌, ◌≢◌, ◌+◌, ◌||◌, ℕ, Bool, List, [], ◌∷◌, length, slice_set, IsSome, Option, None, Some, All, refl, sym, ap, ◌∙◌, subst}
+use Rattle.std.proofs.Common.{◌≡◌, ◌≢◌, ℕ, Bool, List, [], ◌∷◌, length, slice_set, IsSome, None, All, refl, sym, ◌∙◌, subst}
 use Rattle.std.proofs.lemmas.Bool.{false≢true}
 use Rattle.std.proofs.lemmas.List.{length-map}
 use Rattle.std.proofs.lemmas.List.Elements.{All-weaker}
 use Rattle.search_rules.specs.Apart.{StandApart}
-use Rattle.search_rules.specs.Below.{AnswersNewest, at_depth, CacheNode, change_newest, CxOf, DelegateOf, Done, EnterCandidate, entries_at, enters, Evaluate, finishes, FinishCandidate, HasStepped, Heads, Hit, Ignore, Lists, NotesCandidate, PathKind, ProvisionalCacheEntry, Received, received_by, Reply, Request, requested, rerun_with, Run, StackDepth, StackEntry, Store, StoredResult, TakesStored, Verdicts, with_depth, with_nested_goals, with_no_record}
+use Rattle.search_rules.specs.Below.{AnswersNewest, at_depth, CacheNode, CxOf, DelegateOf, Done, EnterCandidate, entries_at, enters, Evaluate, finishes, FinishCandidate, HasStepped, Heads, Hit, Ignore, Lists, NotesCandidate, PathKind, ProvisionalCacheEntry, Received, received_by, Reply, Request, requested, rerun_with, Run, StackDepth, StackEntry, Store, StoredResult, TakesStored, Verdicts, with_depth, with_nested_goals, with_no_record}
 use Rattle.search_rules.specs.Justified.{AreJustified}
 use Rattle.search_rules.specs.Moves.{Reruns}
 use Rattle.search_rules.specs.Provisional.{AreReady, IsReady}
 use Rattle.search_rules.specs.Runs.{run_of, runs_of}
-use Rattle.search_rules.specs.Settled.{IsOff}
 use Rattle.search_rules.proofs.entries.LeftOver.{own_head}
 use Rattle.search_rules.proofs.kinds.StandingApart.{apart_over, off_changed}
 use Rattle.search_rules.proofs.kinds.UsedEntries.{HaveHeads}

@@ -1,20 +1,20 @@
 -- Each move keeps the kinds of questions.
-use Rattle.std.proofs.Common.{◌≡◌, ◌≢◌, ◌-◌, ◌+◌, ◌||◌, ℕ, ◌==◌, if◌then◌else◌, not, filter, Bool, true, false, List, [], ◌∷◌, length, map, reverse, slice_get, slice_set, IsSome, Option, None, Some, All, Contains, option_map, refl, sym, ap, ap₂, ◌∙◌, subst, ◌⊎◌, inl, inr, arith}
+use Rattle.std.proofs.Common.{◌≡◌, ◌≢◌, ℕ, ◌==◌, if◌then◌else◌, filter, Bool, true, false, List, [], ◌∷◌, length, slice_get, slice_set, IsSome, Option, None, Some, All, Contains, option_map, refl, sym, ap, ap₂, ◌∙◌, subst, inl, inr, arith}
 use Rattle.std.specs.List.{find}
 use Rattle.std.proofs.lemmas.Bool.{cases_eq, false≢true}
 use Rattle.std.proofs.lemmas.List.Elements.{All-contains, All-filter}
 use Rattle.global_cache.proofs.Stores.{put_cases}
 use Rattle.open_graphs.proofs.Members.{contains_later}
 use Rattle.cycle_heads.proofs.HeadLists.{at_depth-rest}
-use Rattle.open_goals.specs.Candidates.{Ignores, less_head}
+use Rattle.open_goals.specs.Candidates.{less_head}
 use Rattle.open_goals.specs.NestedGoals.{NestsItself}
-use Rattle.search_rules.specs.Below.{AnswersNewest, at_depth, AvailableDepth, CacheNode, change_newest, CxOf, cycle_head, CycleHead, DelegateOf, depends_on, EnterCandidate, entries_at, enters, EntryState, EvaluationResult, Evaluate, Done, finishes, FinishCandidate, first_entry, HasStepped, Heads, highest, Hit, Ignore, IsRising, Lists, may_be_used, NestedPaths, NestsAnswer, NestsHead, NodeId, NotesCandidate, path_kind_from, paths_at, PathKind, PathsToNested, place_of, ProvisionalCacheEntry, RebaseReason, Received, received_by, Reply, Request, requested, rerun_with, Run, StackDepth, StackEntry, Store, stored_at, stored_from, StoredResult, Success, TakesStored, with_no_record, HeadUsages}
-use Rattle.search_rules.specs.Kinds.{AreJoined, AreLinked, AsksNewest, EntriesSuit, EntryIsLinked, IsGoalAt, IsJoinedTo, KeepsKinds, ReachesNested, StoredReachNested}
+use Rattle.search_rules.specs.Below.{AnswersNewest, at_depth, CxOf, CycleHead, DelegateOf, EnterCandidate, entries_at, enters, EntryState, EvaluationResult, Evaluate, Done, finishes, FinishCandidate, HasStepped, Heads, Hit, Ignore, Lists, may_be_used, NestedPaths, NestsAnswer, NestsHead, NotesCandidate, paths_at, PathKind, place_of, ProvisionalCacheEntry, RebaseReason, Received, received_by, Reply, Request, requested, rerun_with, Run, StackDepth, StackEntry, Store, stored_at, stored_from, StoredResult, Success, TakesStored, with_no_record, HeadUsages}
+use Rattle.search_rules.specs.Kinds.{AreJoined, AsksNewest, EntriesSuit, EntryIsLinked, IsGoalAt, IsJoinedTo, KeepsKinds, ReachesNested, StoredReachNested}
 use Rattle.search_rules.specs.LookUp.{usable_entry}
-use Rattle.search_rules.specs.Moves.{ClosesCycle, first_run, Pushes, Reruns}
-use Rattle.search_rules.specs.OneKind.{Asks, here, Reaches}
+use Rattle.search_rules.specs.Moves.{Reruns}
+use Rattle.search_rules.specs.OneKind.{here}
 use Rattle.search_rules.specs.Results.{NotStored, Put, StoresAnswer}
-use Rattle.search_rules.specs.Words.{final_answer, RebasesEntries}
+use Rattle.search_rules.specs.Words.{RebasesEntries}
 use Rattle.search_rules.proofs.kinds.PoppedEntries.{disabled_popped, entries_popped}
 use Rattle.search_rules.proofs.kinds.Stack.{at_read, stack_of}
 use Rattle.search_rules.proofs.kinds.TakenAnswers.{answered_linked, at_changed, cycled_linked, entries_kept, newest_linked, provisional_linked, stored_at_places, stored_linked, taken_at}

@@ -1,9 +1,9 @@
 -- The paths to nested goals are those of walks of questions, also once a goal took over those of an answer.
-use Rattle.std.proofs.Common.{◌≡◌, ℕ, zero, suc, ◌+◌, ◌*◌, ◌/◌, ◌%◌, ◌^◌, ◌<◌, ◌==◌, Bool, true, false, ◌||◌, if◌then◌else◌, List, [], ◌∷◌, ◌++◌, map, Contains, Option, None, Some, option_map, refl, sym, ap, ◌∙◌, subst, ◌⊎◌, inl, inr, arith}
+use Rattle.std.proofs.Common.{◌≡◌, ℕ, zero, suc, ◌+◌, ◌*◌, ◌/◌, ◌%◌, ◌^◌, ◌<◌, ◌==◌, Bool, true, false, if◌then◌else◌, List, [], ◌∷◌, ◌++◌, map, Contains, Option, None, Some, option_map, refl, sym, ap, ◌∙◌, subst, inl, inr, arith}
 use Rattle.std.specs.Int.RustNames.{bit_and, bit_or}
-use Rattle.std.proofs.lemmas.Bool.{cases_Bool, or_left, or_right}
+use Rattle.std.proofs.lemmas.Bool.{cases_Bool, or_left}
 use Rattle.std.proofs.lemmas.Nat.{and_block, and_le_r, or_mod}
-use Rattle.cycle_heads.specs.Paths.{has_empty, kinds_after}
+use Rattle.cycle_heads.specs.Paths.{has_empty}
 use Rattle.cycle_heads.proofs.PathLaws.{extended-kinds, has_kind-union}
 use Rattle.cycle_heads.proofs.PathMembers.{extended-has}
 use Rattle.cycle_heads.proofs.PathRanks.{each_kind}

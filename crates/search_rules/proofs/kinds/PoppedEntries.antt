@@ -1,12 +1,12 @@
 -- The provisional entries once the newest goal was popped: the goals of those that are left are joined to their heads still, and the path
 -- kinds are those of all closed walks over them.
-use Rattle.std.proofs.Common.{◌≡◌, ◌≢◌, ◌<◌, ◌≤◌, ℕ, zero, suc, ◌&&◌, if◌then◌else◌, Bool, true, false, List, [], ◌∷◌, ◌++◌, length, IsSome, Option, None, Some, slice_get, All, refl, sym, ap, ◌∙◌, subst, ◌⊎◌, inl, inr, arith}
-use Rattle.std.specs.List.{cons_option, filter_map}
+use Rattle.std.proofs.Common.{◌≡◌, ◌≢◌, ℕ, zero, suc, ◌&&◌, if◌then◌else◌, Bool, true, false, List, [], ◌∷◌, ◌++◌, length, IsSome, Option, None, Some, slice_get, All, refl, sym, ap, ◌∙◌, subst, inl, inr, arith}
+use Rattle.std.specs.List.{filter_map}
 use Rattle.std.proofs.lemmas.Bool.{cases_eq, false≢true}
 use Rattle.std.proofs.lemmas.List.Elements.{All-append, All-cons, All-nil}
 use Rattle.provisional_cache.proofs.RebasedEntryLists.{All-filter_map}
-use Rattle.search_rules.specs.Below.{at_depth, but_highest, changed_for, CycleHead, entries_at, extended_by_each, from_head, greater_kind, has_usages, Heads, HeadUsages, highest, IsLeftHead, IsRising, Lists, NodeId, no_usages, other_usages, path_kind_from, path_of_no_step, PathKind, PathsToNested, ProvisionalCacheEntry, rebased, RebaseReason, Ambiguity, NoCycleUsages, Overflow, ReachedFixpoint, Reply, Request, Run, StackDepth, StackEntry, with_unused, with_used}
-use Rattle.search_rules.specs.Kinds.{AreJoined, AreLinked, AskedByKind, AsksNewest, EntriesSuit, EntryIsLinked, IsGoalAt, IsJoinedTo, KeepsKinds}
+use Rattle.search_rules.specs.Below.{at_depth, but_highest, changed_for, CycleHead, entries_at, extended_by_each, has_usages, Heads, HeadUsages, highest, IsLeftHead, IsRising, Lists, NodeId, no_usages, other_usages, path_kind_from, path_of_no_step, PathsToNested, ProvisionalCacheEntry, rebased, RebaseReason, Ambiguity, NoCycleUsages, Overflow, ReachedFixpoint, Reply, Request, Run, StackDepth, StackEntry, with_unused, with_used}
+use Rattle.search_rules.specs.Kinds.{AreJoined, AreLinked, AskedByKind, EntriesSuit, EntryIsLinked, IsGoalAt, IsJoinedTo, KeepsKinds}
 use Rattle.search_rules.specs.OneKind.{AsksByOneKind, here, Leads, Reaches}
 use Rattle.search_rules.specs.Words.{depths_of, entries_for, entry_of, final_answer, LieBelow, rebased_for, RebasesEntries}
 use Rattle.search_rules.proofs.HeadOrder.{ascends, at_here, at_later, at_most_highest, highest_there, no_highest}

@@ -1,5 +1,5 @@
 -- Walks of questions and their kinds.
-use Rattle.std.proofs.Common.{◌≡◌, List, refl, sym, ap, ap₂, ◌∙◌, subst, arith}
+use Rattle.std.proofs.Common.{◌≡◌, List, sym, ap₂, ◌∙◌, subst, arith}
 use Rattle.cycle_heads.proofs.PathRanks.{greater_rank, same_kind}
 use Rattle.search_rules.specs.Below.{greater_kind, Inductive, PathKind, Reply, Request}
 use Rattle.search_rules.specs.Kinds.{AskedByKind}

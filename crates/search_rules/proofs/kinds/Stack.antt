@@ -1,14 +1,13 @@
 -- The stack as a walk of questions: the kind of the path from a place on it is that of such a walk.
-use Rattle.std.proofs.Common.{◌≡◌, ℕ, suc, ◌+◌, ◌<◌, Bool, List, [], ◌∷◌, ◌++◌, map, reverse, length, drop, Option, Some, None, slice_get, refl, sym, ap, ◌∙◌, subst, inl, inr, arith}
-use Rattle.std.proofs.lemmas.Bool.{cases_eq}
+use Rattle.std.proofs.Common.{◌≡◌, ℕ, ◌+◌, ◌<◌, Bool, List, [], ◌∷◌, ◌++◌, map, reverse, length, drop, Some, slice_get, sym, ap, ◌∙◌, subst, inl, inr, arith}
 use Rattle.std.proofs.lemmas.Grind.{reverse_onto}
-use Rattle.std.proofs.lemmas.List.{drop-append-le, drop_all, length_push, length-map, length-reverse, map-append}
+use Rattle.std.proofs.lemmas.List.{drop-append-le, drop_all, length-map, length-reverse, map-append}
 use Rattle.open_graphs.proofs.Lists.{get_cases}
 use Rattle.search_rules.specs.Below.{greater_kind, greatest_kind, path_kind_from, PathKind, Reply, Request, Run, StackEntry}
-use Rattle.search_rules.specs.Kinds.{AreLinked, AsksNewest, IsGoalAt, IsLinked}
-use Rattle.search_rules.specs.OneKind.{Asks, here, last, Leads, Reaches}
+use Rattle.search_rules.specs.Kinds.{AreLinked, AsksNewest, IsGoalAt}
+use Rattle.search_rules.specs.OneKind.{here, last, Leads, Reaches}
 use Rattle.search_stack.proofs.Cycles.{greatest-push}
-use Rattle.search_rules.proofs.kinds.Questions.{asked_reached, greater_least, greater_swapped, leads_on, leads_reaches, reaches_on}
+use Rattle.search_rules.proofs.kinds.Questions.{greater_least, greater_swapped, leads_on, leads_reaches}
 
 module _ {X F I R A T : Type 0} where
   -- the stack of the goals

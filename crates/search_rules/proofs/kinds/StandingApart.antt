@@ -1,15 +1,14 @@
 -- Each move keeps provisional entries apart from the goals under evaluation and from lone goals.
-use Rattle.std.proofs.Common.{◌≡◌, ◌≢◌, ◌+◌, ◌≤◌, ℕ, ◌&&◌, if◌then◌else◌, Bool, true, false, not, List, [], ◌∷◌, ◌++◌, length, Option, None, Some, All, Contains, refl, sym, ap, ap₂, ◌∙◌, subst, ◌⊎◌, inl, inr, arith, filter}
+use Rattle.std.proofs.Common.{◌≡◌, ◌≢◌, ◌≤◌, ◌&&◌, if◌then◌else◌, Bool, true, false, List, [], ◌∷◌, ◌++◌, length, Option, None, Some, Contains, refl, sym, ap, ◌∙◌, subst, ◌⊎◌, inl, inr, arith, filter}
 use Rattle.std.specs.List.{cons_option, filter_map}
 use Rattle.std.specs.Option.{IsSomeAnd}
-use Rattle.std.proofs.lemmas.Bool.{false≢true}
 use Rattle.std.proofs.lemmas.List.{length-append}
 use Rattle.std.proofs.lemmas.List.Elements.{All-contains, All-contains_itself, Contains-append_cases}
 use Rattle.global_cache.proofs.Stores.{put_cases}
 use Rattle.open_graphs.proofs.Members.{filtered_member}
 use Rattle.provisional_cache.proofs.RebasedEntryLists.{All-filter_map}
 use Rattle.search_rules.specs.Apart.{StandApart}
-use Rattle.search_rules.specs.Below.{changed_for, CycleHead, depends_on, entries_at, EvaluationResult, Heads, highest, Lists, NodeId, place_of, ProvisionalCacheEntry, rebased, RebaseReason, Run, StackDepth, StackEntry, Store, stored_at, stored_from, StoredResult, Success}
+use Rattle.search_rules.specs.Below.{changed_for, CycleHead, entries_at, highest, Lists, NodeId, place_of, ProvisionalCacheEntry, rebased, RebaseReason, Run, StackDepth, StackEntry, Store, stored_from, StoredResult, Success}
 use Rattle.search_rules.specs.Lone.{IsLone}
 use Rattle.search_rules.specs.Results.{NotStored, Put, StoresAnswer}
 use Rattle.search_rules.specs.Runs.{runs_of}

@@ -1,11 +1,11 @@
 -- The newest goal takes over an answer to its question: it is joined to the heads that come with it, and reaches the nested goals.
-use Rattle.std.proofs.Common.{◌≡◌, ℕ, ◌==◌, if◌then◌else◌, Bool, true, false, List, [], ◌∷◌, length, IsSome, Option, None, Some, All, refl, sym, ap, ◌∙◌, subst, ◌⊎◌, inl, inr, eq-eqb}
-use Rattle.std.proofs.lemmas.Bool.{cases_Bool, cases_eq, false≢true}
+use Rattle.std.proofs.Common.{◌≡◌, ℕ, ◌==◌, if◌then◌else◌, Bool, true, false, List, ◌∷◌, length, IsSome, Option, None, Some, All, refl, sym, ◌∙◌, subst, ◌⊎◌, inl, inr, eq-eqb}
+use Rattle.std.proofs.lemmas.Bool.{false≢true}
 use Rattle.std.proofs.lemmas.List.Elements.{All-weaker}
-use Rattle.search_rules.specs.Below.{AnswersNewest, at_depth, entries_at, EntryState, Heads, Hit, joined_over, Lists, NestedPaths, NestsAnswer, NestsHead, NotesOverflow, PathKind, ProvisionalCacheEntry, Reply, Request, Run, StackDepth, StackEntry, TakesStored, with_depth, with_nested_goals, CycleHead}
+use Rattle.search_rules.specs.Below.{AnswersNewest, at_depth, entries_at, EntryState, Heads, Hit, joined_over, Lists, NestedPaths, NestsAnswer, NestsHead, PathKind, ProvisionalCacheEntry, Reply, Request, Run, StackEntry, TakesStored, with_depth, with_nested_goals, CycleHead}
 use Rattle.open_goals.specs.Entries.{TakesHeads}
-use Rattle.open_goals.specs.NestedGoals.{NestsItself, TakesHeadGoal, TakesNestedGoals}
-use Rattle.search_rules.specs.Kinds.{AreJoined, AreLinked, AsksNewest, EntryIsLinked, IsGoalAt, IsJoinedTo, IsLinked, ReachesNested}
+use Rattle.open_goals.specs.NestedGoals.{NestsItself}
+use Rattle.search_rules.specs.Kinds.{AreJoined, AreLinked, AsksNewest, EntryIsLinked, IsGoalAt, IsJoinedTo, ReachesNested}
 use Rattle.search_rules.specs.OneKind.{Asks}
 use Rattle.search_rules.proofs.kinds.NestedPaths.{nested_head, nested_itself, nested_taken}
 use Rattle.search_rules.proofs.kinds.Questions.{asked_reached, reaches_on}

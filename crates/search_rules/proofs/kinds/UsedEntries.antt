@@ -3,11 +3,11 @@
 use Rattle.std.proofs.Common.{◌≡◌, ◌≢◌, ℕ, nat_eq, not, ◌&&◌, ◌||◌, if◌then◌else◌, Bool, true, false, List, [], ◌∷◌, IsSome, is_some, Option, None, Some, All, Contains, refl, sym, ap, ◌∙◌, subst, inl, inr, eq-eqb, unwrap_or, option_map, arith}
 use Rattle.std.specs.List.{find, list_all, list_any}
 use Rattle.std.proofs.lemmas.Bool.{and_parts, false≢true}
-use Rattle.std.proofs.lemmas.List.Elements.{All-contains, All-head, All-tail}
+use Rattle.std.proofs.lemmas.List.Elements.{All-head}
 use Rattle.std.proofs.lemmas.Map.Views.{Contains-from_lookup}
 use Rattle.cycle_heads.proofs.PathLaws.{first_or_later}
 use Rattle.cycle_heads.proofs.PathMembers.{extended-has}
-use Rattle.search_rules.specs.Below.{at_depth, CycleHead, entries_at, extended, has_kind, has_head_up_to, asking_heads, highest, highest_passes, IsRising, Lists, may_be_used, NestedPaths, path_kind_from, paths_at, PathKind, PathsToNested, ProvisionalCacheEntry, rank_of, Reply, Request, Run, StackDepth, StackEntry}
+use Rattle.search_rules.specs.Below.{CycleHead, entries_at, extended, has_kind, has_head_up_to, asking_heads, highest, IsRising, Lists, may_be_used, NestedPaths, path_kind_from, paths_at, PathKind, PathsToNested, ProvisionalCacheEntry, rank_of, Reply, Request, Run, StackDepth, StackEntry}
 use Rattle.search_rules.specs.Kinds.{AreLinked, AsksNewest, EntryIsLinked, IsJoinedTo, IsReachedBy, KeepsKinds, ReachesNested}
 use Rattle.search_rules.specs.LookUp.{Asking, could_be_used, is_applicable, meets_entry, usable_entry}
 use Rattle.search_rules.specs.OneKind.{here, Leads, Reaches}
