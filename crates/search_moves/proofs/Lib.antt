@@ -8,3 +8,4 @@ pub mod Keeping
 pub mod Fating
 pub mod Storing
 pub mod Given
+pub mod OneKind

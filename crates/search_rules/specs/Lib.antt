@@ -5,6 +5,7 @@ pub mod LookUp
 pub mod Lone
 pub mod Apart
 pub mod OneKind
+pub mod Kinds
 pub mod Decided
 pub mod Calls
 pub mod Moves

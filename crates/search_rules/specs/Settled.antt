@@ -8,10 +8,10 @@ use Rattle.open_graphs.specs.Use as theory_use
 use Rattle.search_rules.specs.Below.{Answer, CacheNode, CxOf, DefiniteAnswer, DelegateOf, Entry, counted_by, is_in_cycle, IsDecisive, IsDefinite, IsEnclosed, IsNodeOf, Lists, NestedPaths, NodeId, paths_at, ProvisionalCacheEntry, Reply, Run, shapes_of, stack_of, StackEntry, Store, stored_at, StoredResult, Success, verdict_of, Verdicts, verdicts}
 use Rattle.search_rules.specs.Calls.{Call}
 use Rattle.search_rules.specs.Justified.{cycles_node, frames_of, OpenRun, verdict_shape}
+use Rattle.search_rules.specs.Kinds.{EntriesSuit}
 use Rattle.search_rules.specs.Leads.{LeadsTo}
 use Rattle.search_rules.specs.Lone.{IsLone, LoneRequire, NoneIsLone}
 use Rattle.search_rules.specs.Older.{HasEntry, HasNoOlder, IsStop, RestOnOlder}
-use Rattle.search_rules.specs.OneKind.{AsksByOneKind}
 use Rattle.search_rules.specs.Runs.{run_of, runs_of}
 
 -- results that are both yes, or both no, are equal
@@ -25,7 +25,7 @@ module _ {D C V P F I R A T : Type 0} (G : DelegateOf D C V P F I R A T) (X : Cx
   pub record NeedsTwoRuns (goals : List I) (depth : ℕ) (goal : I) (noop : Bool) : Type 0 where
     pub decisive : IsDecisive (verdicts X) (G.script cx)
     pub one_of_each : HasOneOfEach (verdicts X)
-    pub one_kind : (G.ENABLE_PROVISIONAL_CACHE ≡ false) ⊎ AsksByOneKind (G.script cx)
+    pub one_kind : EntriesSuit G.ENABLE_PROVISIONAL_CACHE (G.script cx)
     pub some_runs : 2 ≤ G.FIXPOINT_STEP_LIMIT
     pub enclosed : IsEnclosed (G.script cx) goals depth goal
     pub unscoped : (asked : I) → Contains goals asked → G.scoped cx asked ≡ false
