@@ -9,3 +9,4 @@ pub mod Fating
 pub mod Storing
 pub mod Given
 pub mod OneKind
+pub mod KeptEntries

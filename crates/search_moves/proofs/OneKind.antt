@@ -30,7 +30,7 @@ use Rattle.search_rules.proofs.moves.Moves.{enclosed_asks}
 module _ {D C V P F I R A T : Type 0} (G : DelegateOf D C V P F I R A T) (same : I → I → Bool) (cx : C) (call : Call I) where
   -- what is kept of what comes next, which is the stored results alone once the call has its answer
   abbrev pub AreKeptNext : Next R → Store I (StoredResult C I R A T) → List (StackEntry C I R A T × Run C F I R A T) → Lists I (ProvisionalCacheEntry C I R A T) → Type 0
-  AreKeptNext (Step given) results goals entries = AreKept results goals entries
+  AreKeptNext (Step given) results goals entries = AreKept G same cx call results goals entries
   AreKeptNext (Finished answer) results goals entries = StoredReachNested (G.script cx) same call.goals results
 
 -- ---- a goal is pushed that has no entry

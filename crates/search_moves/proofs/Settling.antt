@@ -9,9 +9,10 @@ use Rattle.open_goals.specs.declared.goals.Fate.TheVariants as becomes
 use Rattle.global_cache.proofs.NodeLists.{Grown-appended, KeepsGoals-appended}
 use Rattle.search_moves.specs.Below.{Answer, AvailableDepth, Begin, Cache, CacheNode, Call, CxOf, DelegateOf, entries_at, Evaluate, fate_for, Fated, fates_of, first_accepted, Hit, is_applicable, IsDefinite, open_node, PathKind, path_kind_from, ProvisionalCacheEntry, Pushes, Received, Run, runs_of, StackEntry, StackDepth, stored_at, StoredResult, Success, usable, verdicts}
 use Rattle.search_moves.specs.declared.evaluation.Evaluation.{Evaluation}
-use Rattle.search_moves.specs.Settled.{Settles}
+use Rattle.search_moves.specs.Settled.{KeepsEntries, Settles}
 use Rattle.search_moves.specs.Words.{Asked, asking, entry_for, ByEntry, ByStored, IsRight, OverCycle, Pushed, Refused, Requests}
 use Rattle.search_moves.proofs.Asking.{carried}
+use Rattle.search_moves.proofs.KeptEntries.{asked_keeps_entries, entries_apart, used_have_none}
 use Rattle.search_rules.specs.Apart.{StandApart}
 use Rattle.search_rules.specs.Free.{IsFree}
 use Rattle.search_rules.specs.Justified.{cycles_node, frames_of}
@@ -68,7 +69,10 @@ module _ {D C V P F I R A T : Type 0} (G : DelegateOf D C V P F I R A T) (X : Cx
         }
 
 module _ {D C V P F I R A T : Type 0} (G : DelegateOf D C V P F I R A T) (X : CxOf C I R A T) (same : I → I → Bool) (by_value : (x y : I) → same x y ≡ true → x ≡ y) (own : (x : I) → same x x ≡ true) (more : 2 ≤ G.DIVIDE_AVAILABLE_DEPTH_ON_OVERFLOW) (cx : C) (kind : PathKind) (goal : I) (old : Cache C I R A T) (e : Evaluation D C V P F I R A T) (starts : ℕ)
-    (call : Call I) (ahead : ℕ) (noop : Bool) (needs : CallNeedsTwoRuns G X cx call noop) (asked : Requests G X same cx (Evaluate kind goal) call ahead old e starts) (right : IsRight G X same cx old e) (h : IsSettling (verdicts X) same old.nodes old.results e.provisional call e.goals e.limits_met) (apart : StandApart same old.results e.goals e.provisional) where
+    (call : Call I) (ahead : ℕ) (noop : Bool) (needs : CallNeedsTwoRuns G X cx call noop) (asked : Requests G X same cx (Evaluate kind goal) call ahead old e starts) (right : IsRight G X same cx old e) (h : IsSettling (verdicts X) same old.nodes old.results e.provisional call e.goals e.limits_met) (kept : KeepsEntries G same cx call old.results e.goals e.provisional) where
+  apart : StandApart same old.results e.goals e.provisional
+  apart = entries_apart G same cx call old.results e.goals e.provisional kept
+
   within : Contains call.goals goal
   within = enclosed_asks G X cx call ahead kind goal e.goals starts e.limits_met needs.needs.enclosed asked.asked
 
@@ -106,11 +110,16 @@ module _ {D C V P F I R A T : Type 0} (G : DelegateOf D C V P F I R A T) (X : Cx
     entry_there : Contains (entries_at same e.provisional goal) entry
     entry_there = entry_is_one same (asking G X same cx kind goal e) goal entry G.ENABLE_PROVISIONAL_CACHE is (Contains (entries_at same e.provisional goal)) (All-contains_itself (entries_at same e.provisional goal))
 
-  -- whatever the question comes to, if no goal that is nested in a stored result which answers it has an entry
-  pub asked_settles : ((depth : AvailableDepth) (hit : Hit I R T) → first_accepted (is_applicable same (asking G X same cx kind goal e)) (usable same old.results goal depth.0) ≡ Some hit → (other : I) → IsSome (paths_at same hit.nested_goals other) → entries_at same e.provisional other ≡ [])
-      → (received : Received R) (new : Cache C I R A T) (after : Evaluation D C V P F I R A T) (later : ℕ) → Asked G X same cx kind goal noop old e starts received new after later → Settles G X same call received new after
-  asked_settles nested_none received new after later (Refused goals none noted) = absurd (enclosed_refuses_none G X cx call ahead kind goal starts e.limits_met e.goals none needs.needs.enclosed asked.asked)
-  asked_settles nested_none received new after later (ByEntry depth entry goals at is takes nested) = record {
+  nested_none : (depth : AvailableDepth) (hit : Hit I R T) → first_accepted (is_applicable same (asking G X same cx kind goal e)) (usable same old.results goal depth.0) ≡ Some hit → (other : I) → IsSome (paths_at same hit.nested_goals other) → entries_at same e.provisional other ≡ []
+  nested_none = used_have_none G X same by_value cx kind goal old e starts call ahead needs.needs.enclosed asked right kept
+
+  kept_then : (received : Received R) (new : Cache C I R A T) (after : Evaluation D C V P F I R A T) (later : ℕ) → Asked G X same cx kind goal noop old e starts received new after later → KeepsEntries G same cx call new.results after.goals after.provisional
+  kept_then = asked_keeps_entries G X same by_value cx kind goal old e starts call ahead needs.needs.enclosed asked right kept noop
+
+  -- whatever the question comes to
+  pub asked_settles : (received : Received R) (new : Cache C I R A T) (after : Evaluation D C V P F I R A T) (later : ℕ) → Asked G X same cx kind goal noop old e starts received new after later → Settles G X same cx call received new after
+  asked_settles received new after later (Refused goals none noted) = absurd (enclosed_refuses_none G X cx call ahead kind goal starts e.limits_met e.goals none needs.needs.enclosed asked.asked)
+  asked_settles received new after later (ByEntry depth entry goals at is takes nested) = record {
     settling = record {
       unmet = h.unmet;
       settled = h.settled;
@@ -121,8 +130,9 @@ module _ {D C V P F I R A T : Type 0} (G : DelegateOf D C V P F I R A T) (X : Cx
     answer =
         entry_stays_off (verdicts X) same by_value old.nodes old.results e.provisional e.goals goals kind 0 entry.encountered_overflow entry.heads takes nested goal entry refl (entry_there entry is)
         (entry_has_node (verdicts X) same (G.script cx) old.nodes e.goals e.provisional right.ready goal entry (entry_there entry is)) h.older h.goals_are;
+    entries = kept_then received new after later (ByEntry depth entry goals at is takes nested);
   }
-  asked_settles nested_none received new after later (ByStored depth hit goals at none is takes usable) =
+  asked_settles received new after later (ByStored depth hit goals at none is takes usable) =
       let found = hit_of_answered noop (G.scoped cx goal) _ hit is in
       record {
         settling = record {
@@ -136,8 +146,9 @@ module _ {D C V P F I R A T : Type 0} (G : DelegateOf D C V P F I R A T) (X : Cx
             stored_stays_off (verdicts X) same by_value old.nodes old.results e.provisional e.goals goals kind hit takes (hit_off depth hit found) (off_lone same old.results call.goals e.goals h.none_lone)
             (λ other there entry has. none_there (entries_at same e.provisional other) entry (nested_none depth hit found other there) has) (λ other lone entry has. apart.not_lone other entry has lone)
             goal (runs_of e.goals) hit.result hit.node (hit_free depth hit found) (hit_leads depth hit found);
+        entries = kept_then received new after later (ByStored depth hit goals at none is takes usable);
       }
-  asked_settles nested_none received new after later (OverCycle depth head given goals at none not_stored found closes) = record {
+  asked_settles received new after later (OverCycle depth head given goals at none not_stored found closes) = record {
     settling = record {
       unmet = h.unmet;
       settled = h.settled;
@@ -149,10 +160,12 @@ module _ {D C V P F I R A T : Type 0} (G : DelegateOf D C V P F I R A T) (X : Cx
         subst (λ (r : Received R). AnswerStaysOff (verdicts X) same old.nodes old.results e.provisional goals r.reply r.node) (sym closes.is)
         (leaf_stays_off (verdicts X) same by_value old.nodes old.results e.provisional goals (unwrap_or closes.entry.state.provisional_result (G.initial_result cx (path_kind_from (reverse (map (λ s. s.0) e.goals)) head.0 kind) goal)) closes.entry.state.node
         (λ definite. subst (λ stack. IsSomeAnd closes.entry.state.node (λ n. IsLeaf stack n.0)) (taken_stack (verdicts X) same by_value old.nodes old.results e.provisional e.goals goals kind 0 false _ closes.takes) (head_stops head closes.entry closes.is_at)));
+    entries = kept_then received new after later (OverCycle depth head given goals at none not_stored found closes);
   }
-  asked_settles nested_none received new after later (Pushed depth goals nodes now at none not_stored absent pushes fates fated one counted) = record {
+  asked_settles received new after later (Pushed depth goals nodes now at none not_stored absent pushes fates fated one counted) = record {
     settling = pushed_settles G X same by_value own cx kind goal old e starts call right h depth goals nodes pushes _ fates (to_store noop (G.scoped cx goal) _ needs.needs.unrecorded (needs.needs.unscoped goal within))
         (asked_not_lone G X cx call same old.results needs.needs.enclosed h.settled.require ahead kind goal e.goals starts e.limits_met depth.0 (may_ask_of G X cx call ahead kind goal starts e.limits_met more depth e.goals at) asked.asked h.none_lone (asking G X same cx kind goal e) noop (G.scoped cx goal) needs.needs.unrecorded (needs.needs.unscoped goal within) not_stored)
         absent;
     answer = begin_stays_off (verdicts X) same by_value nodes old.results e.provisional goals Begin None (λ r is. let clash : Begin ≡ Answer r = is in cc);
+    entries = kept_then received new after later (Pushed depth goals nodes now at none not_stored absent pushes fates fated one counted);
   }
