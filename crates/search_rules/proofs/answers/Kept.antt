@@ -125,7 +125,7 @@ mapped_some f None some = absurd (false≢true some)
 mapped_some f (Some x) some = refl
 
 -- each goal that was counted stays counted where a candidate is ignored
-ignored_counts : {X I R A T : Type 0} (parent : StackDepth) (candidate : UsagesByHead) (old new : EntryState X I R A T) (finished later : List UsagesByHead) → Ignores parent candidate old new → CountsAll (tally_of old finished) (tally_of new later)
+pub ignored_counts : {X I R A T : Type 0} (parent : StackDepth) (candidate : UsagesByHead) (old new : EntryState X I R A T) (finished later : List UsagesByHead) → Ignores parent candidate old new → CountsAll (tally_of old finished) (tally_of new later)
 ignored_counts parent candidate old new finished later i = record {
   own = λ some. subst IsSome (sym i.usages) (mapped_some (λ own. less_usages own (at_depth candidate parent)) old.usages some);
   heads = λ head some. subst IsSome (sym (i.heads head)) (by (head.0 == parent.0) head some);
