@@ -79,7 +79,7 @@ module _ {D C V P F I R A T : Type 0} (G : DelegateOf D C V P F I R A T) (X : Cx
 
     got : StaysOff (verdicts X) same nodes results entries replied_goal s.entry.state.nested_goals (runs_of s.below)
     got =
-        replied_off (verdicts X) same nodes results s.entry s.run s.below given.reply given.node s.verdict s.is_verdict
+        replied_off (verdicts X) same nodes results entries s.entry s.run s.below given.reply given.node s.verdict s.is_verdict
         (subst (λ (v : Goals). AnswerStaysOff (verdicts X) same nodes results entries v given.reply given.node) s.was off) was.0.off
 
     counted_there : (c : Option ℕ) → counted_by replied_record.ignored c ≡ true → counted_by replied_goal.ignored c ≡ true
@@ -171,8 +171,8 @@ module _ {D C V P F I R A T : Type 0} (G : DelegateOf D C V P F I R A T) (X : Cx
   }
 
 -- what is noted is no answer
-pub noted_stays_off : {X F I R A T : Type 0} (says : Verdicts R) (same : I → I → Bool) (by_value : (x y : I) → same x y ≡ true → x ≡ y) (nodes : List (CacheNode I R)) (results : Store I (StoredResult X I R A T)) (items : List (StackEntry X I R A T × Run X F I R A T)) → AnswerStaysOff says same nodes results entries items Noted None
-noted_stays_off says same by_value nodes results items = begin_stays_off says same by_value nodes results items Noted None (λ r is. let clash : Noted ≡ Answer r = is in cc)
+pub noted_stays_off : {X F I R A T : Type 0} (says : Verdicts R) (same : I → I → Bool) (by_value : (x y : I) → same x y ≡ true → x ≡ y) (nodes : List (CacheNode I R)) (results : Store I (StoredResult X I R A T)) (entries : Lists I (ProvisionalCacheEntry X I R A T)) (items : List (StackEntry X I R A T × Run X F I R A T)) → AnswerStaysOff says same nodes results entries items Noted None
+noted_stays_off says same by_value nodes results entries items = begin_stays_off says same by_value nodes results entries items Noted None (λ r is. let clash : Noted ≡ Answer r = is in cc)
 
 -- the same of the entries, also where the context is named otherwise
 pub stepped_entries : {D C V P F I R A T : Type 0} (G : DelegateOf D C V P F I R A T) (X : CxOf C I R A T) (same : I → I → Bool) (cx there : C) → there ≡ cx → (call : Call I) (given : Received R) (request : Request I R) (results : Store I (StoredResult C I R A T)) (old mid after : List (StackEntry C I R A T × Run C F I R A T)) (entries : Lists I (ProvisionalCacheEntry C I R A T))
