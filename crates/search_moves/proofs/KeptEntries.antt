@@ -1,6 +1,6 @@
 -- Each move keeps provisional entries apart from the goals that are worked out: where no entry is used there are none, and else goals that
 -- reach each other ask by one kind.
-use Rattle.std.proofs.Common.{◌≡◌, ◌++◌, ◌-◌, ◌&&◌, if◌then◌else◌, Bool, true, false, not, filter, IsSome, List, [], ◌∷◌, length, map, reverse, Option, None, Some, inl, inr, refl, sym, ap, ◌∙◌, subst}
+use Rattle.std.proofs.Common.{◌≡◌, ◌++◌, ◌-◌, ◌&&◌, if◌then◌else◌, Bool, true, false, not, filter, IsSome, List, [], ◌∷◌, length, map, reverse, Option, None, Some, inl, inr, refl, ap, ◌∙◌}
 use Rattle.open_goals.specs.declared.goals.Next.TheVariants.{Finished}
 use Rattle.search_moves.specs.Below.{AvailableDepth, Cache, Call, CxOf, DelegateOf, depends_on, entries_at, entries_for, Evaluate, final_answer, first_accepted, Hit, is_applicable, Lists, Next, node_given, Overflow, PathKind, ProvisionalCacheEntry, Pushes, RebaseReason, rebased_for, RebasesNewest, Received, Run, StackEntry, Step, Store, StoredResult, usable, runs_of, CacheNode}
 use Rattle.search_moves.specs.declared.evaluation.Evaluation.{Evaluation}
@@ -12,7 +12,6 @@ use Rattle.search_rules.specs.Below.{HasStepped, NotesCandidate, paths_at, Reque
 use Rattle.search_rules.specs.Calls.{CallIsEnclosed}
 use Rattle.search_rules.specs.Kinds.{EntriesSuit, StoredSuit}
 use Rattle.search_rules.specs.Lone.{IsLone}
-use Rattle.search_rules.specs.Moves.{NewestLeaves}
 use Rattle.search_rules.specs.Settled.{IsOff}
 use Rattle.search_rules.proofs.kinds.StandingApart.{apart_none}
 use Rattle.search_moves.proofs.OneKind.{AreKeptNext, asked_keeps, began_keeps, led_keeps, noted_keeps, used_without_entries}

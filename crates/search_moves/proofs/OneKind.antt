@@ -8,11 +8,10 @@ use Rattle.search_moves.specs.declared.evaluation.Evaluation.{Evaluation}
 use Rattle.search_moves.specs.Evaluations.{IsNew}
 use Rattle.search_moves.specs.Settled.{AreKept}
 use Rattle.search_moves.specs.Words.{Asked, asking, ByEntry, ByStored, entry_for, HadMostRuns, IsDone, IsRight, IsRunAgain, OverCycle, Pushed, Refused, Requests, RunLeads, RunsAgain}
-use Rattle.search_rules.specs.Apart.{StandApart}
 use Rattle.search_rules.specs.Below.{HasStepped, NotesCandidate, paths_at, Request}
 use Rattle.search_rules.specs.Calls.{CallIsEnclosed}
 use Rattle.search_rules.specs.EndOfRun.{IsEndOfRun, Limited, Repeats, Stable, Unused}
-use Rattle.search_rules.specs.Kinds.{AsksNewest, EntriesSuit, KeepsKinds, ReachesNested, StoredReachNested}
+use Rattle.search_rules.specs.Kinds.{AsksNewest, EntriesSuit, ReachesNested, StoredReachNested}
 use Rattle.search_rules.specs.Lone.{IsLone}
 use Rattle.search_rules.specs.Moves.{NewestLeaves}
 use Rattle.search_rules.specs.Provisional.{AreReady, EntriesMetNone}

@@ -1,14 +1,13 @@
 -- Which entries are left where the newest goal is run again or popped: those that are older than the goal are what they were, and each later
 -- one was there with its node and result, or it is the goal's own answer.
-use Rattle.std.proofs.Common.{◌≡◌, ◌≢◌, ◌<◌, ◌≤◌, ◌-◌, ◌++◌, ◌&&◌, if◌then◌else◌, ℕ, nat_eq, not, zero, suc, All, Bool, true, false, Contains, filter, List, [], ◌∷◌, length, map, reverse, None, Option, Some, IsSome, refl, sym, ap, ◌∙◌, subst, ◌⊎◌, inl, inr, arith}
+use Rattle.std.proofs.Common.{◌≡◌, ◌≢◌, ◌<◌, ◌≤◌, ◌-◌, ◌&&◌, if◌then◌else◌, ℕ, nat_eq, not, suc, All, Bool, true, false, Contains, filter, List, [], ◌∷◌, length, map, reverse, None, Option, Some, IsSome, refl, sym, ap, ◌∙◌, subst, ◌⊎◌, inl, inr, arith}
 use Rattle.std.specs.List.{cons_option, filter_map}
 use Rattle.std.specs.Option.{IsSomeAnd, option_map, unwrap_or}
-use Rattle.std.proofs.lemmas.Bool.{false≢true}
 use Rattle.std.proofs.lemmas.Bool.Decides.{nat_tests}
 use Rattle.std.proofs.lemmas.List.{length-map}
 use Rattle.std.proofs.lemmas.List.Elements.{All-cons, All-contains, All-contains_itself, All-head, All-nil, All-tail, Contains-append_cases, Contains-append_left}
 use Rattle.open_graphs.proofs.Members.{Contains-filtered, contains_later, filtered_member, first_or_later}
-use Rattle.search_rules.specs.Below.{at_depth, changed_for, CycleHead, depends_on, entries_at, EvaluationResult, has_usages, HeadUsages, highest, highest_passes, Lists, NodeId, other_usages, PathKind, ProvisionalCacheEntry, rebased, rebased_at, RebaseReason, rebased_unused, rebased_used, Run, StackDepth, StackEntry}
+use Rattle.search_rules.specs.Below.{changed_for, CycleHead, depends_on, entries_at, has_usages, HeadUsages, highest, Lists, NodeId, other_usages, ProvisionalCacheEntry, rebased, rebased_at, RebaseReason, Run, StackDepth, StackEntry}
 use Rattle.search_rules.specs.Below.{Ambiguity, NoCycleUsages, Overflow, ReachedFixpoint, IsRising}
 use Rattle.search_rules.specs.Justified.{cycles_node}
 use Rattle.search_rules.specs.Older.{HasEntry, RestOnOlder}
@@ -18,7 +17,7 @@ use Rattle.search_rules.specs.Runs.{run_of, runs_of}
 use Rattle.search_rules.proofs.HeadOrder.{ascends, highest_there}
 use Rattle.search_rules.proofs.answers.OlderEntries.{same_node, StaySame}
 use Rattle.search_rules.proofs.entries.Ready.{on_stack_many}
-use Rattle.search_rules.proofs.rebasing.Cases.{HasNewHead, IsRebased, is_rebased, NotUsed, Still, Used}
+use Rattle.search_rules.proofs.rebasing.Cases.{IsRebased, is_rebased, NotUsed, Still, Used}
 
 -- ---- what is given of elements
 

@@ -2,17 +2,16 @@
 use Rattle.std.proofs.Common.{◌≡◌, ◌<◌, ◌≤◌, ℕ, Bool, false, true, List, [], ◌∷◌, ◌++◌, IsSome, Option, None, Some, option_map, slice_get, refl, sym, ap, ◌∙◌, subst, ◌⊎◌, inl, inr, arith}
 use Rattle.std.specs.Option.{IfSome}
 use Rattle.open_graphs.specs.Graph as theory
-use Rattle.open_graphs.specs.Stack.{IsLeaf}
 use Rattle.open_graphs.proofs.Lists.{get_cases, mapped_some}
-use Rattle.search_rules.specs.Below.{CacheNode, counted_by, DefiniteAnswer, is_in_cycle, IsDefinite, IsNodeOf, KeepsGoals, Lists, NestedPaths, NodeId, PathKind, paths_at, ProvisionalCacheEntry, Run, shapes_of, stack_of, StackEntry, Store, StoredResult, verdict_of, Verdicts}
+use Rattle.search_rules.specs.Below.{CacheNode, counted_by, DefiniteAnswer, is_in_cycle, IsDefinite, KeepsGoals, Lists, NestedPaths, NodeId, PathKind, paths_at, ProvisionalCacheEntry, Run, shapes_of, stack_of, StackEntry, Store, StoredResult, verdict_of, Verdicts}
 use Rattle.open_goals.specs.declared.goals.Fate.TheVariants as becomes
 use Rattle.search_rules.specs.Apart.{StandApart}
 use Rattle.search_rules.specs.Justified.{AreJustified, cycles_node, frame_of, frames_of, OpenRun, verdict_shape}
 use Rattle.search_rules.specs.Leads.{HasGoal, LeadsTo, WalksTo}
 use Rattle.search_rules.specs.Lone.{IsLone}
-use Rattle.search_rules.specs.Older.{HasEntry, HasNoOlder, IsStop}
+use Rattle.search_rules.specs.Older.{HasNoOlder, IsStop}
 use Rattle.search_rules.specs.Runs.{run_of, runs_of}
-use Rattle.search_rules.specs.Settled.{AreSettledGoals, EntryStaysOff, IsAside, IsBehind, IsKnown, IsOff, IsSettledGoal, StaysOff}
+use Rattle.search_rules.specs.Settled.{AreSettledGoals, IsAside, IsBehind, IsKnown, IsOff, IsSettledGoal, StaysOff}
 use Rattle.search_rules.specs.Tallies.{Tally}
 use Rattle.search_rules.proofs.answers.Leading.{goals_later}
 use Rattle.search_rules.proofs.answers.OlderEntries.{all_stay, Follows, follows_itself, leaf_kept, no_older_kept, StaySame, stop_kept}
@@ -106,8 +105,7 @@ module _ {X I R A T : Type 0} (says : Verdicts R) (same : I → I → Bool) (nod
     pub goals_kept : (goals : List (StackEntry X I R A T × Run X F I R A T)) (above : Option ℕ) → ((node : ℕ) → IfSome above (λ limit. node < limit) → Within node) → AreSettledGoals says same nodes results entries above goals → AreSettledGoals says same after later more above goals
     goals_kept [] above within h = tt
     goals_kept (s ∷ below) above within h =
-        let lower = λ (node : ℕ) (before : node < cycles_node (run_of s)). within node (below_limit above (cycles_node (run_of s)) node h.0.began before) in
-        (
+        let lower = λ (node : ℕ) (before : node < cycles_node (run_of s)). within node (below_limit above (cycles_node (run_of s)) node h.0.began before) in (
           goal_kept s s (goes_on_itself (run_of s)) lower (λ goal there. there) below above above (λ node before. (within node before, before)) h.0.began h.0.itself h.0.first h.0.stored h.0,
           goals_kept below (Some (cycles_node (run_of s))) lower h.1,
         )

@@ -1,5 +1,5 @@
 -- Goals under evaluation whose answers stay off them, through each change of the newest goal.
-use Rattle.std.proofs.Common.{◌≡◌, ◌<◌, ◌≤◌, ◌||◌, if◌then◌else◌, nat_le, not, ℕ, Bool, true, false, Contains, List, [], ◌∷◌, ◌++◌, length, map, reverse, IsSome, Option, None, Some, is_some, refl, sym, ap, ◌∙◌, subst, ◌⊎◌, inl, inr, arith}
+use Rattle.std.proofs.Common.{◌≡◌, ◌<◌, ◌||◌, if◌then◌else◌, nat_le, not, ℕ, Bool, true, false, Contains, List, [], ◌∷◌, ◌++◌, length, map, reverse, IsSome, Option, None, Some, is_some, refl, sym, ap, ◌∙◌, subst, ◌⊎◌, inl, inr, arith}
 use Rattle.std.specs.List.{list_any}
 use Rattle.std.specs.Option.{IfSome, IsSomeAnd}
 use Rattle.std.proofs.lemmas.Bool.{and_parts, cases_lt, false≢true, or_parts}
@@ -110,7 +110,7 @@ module _ {X F I R A T : Type 0} (says : Verdicts R) (same : I → I → Bool) (b
         → AreSettledGoals says same nodes results entries above ((entry, run) ∷ below) → AreSettledGoals says same nodes results entries above (changed ∷ below)
     newest_changed above provisional grown itself h = (
       goal_kept says same nodes nodes (λ place goal is. is) (λ a v edges is. is) results results (λ goal lone. lone) (λ node. Unit {0}) entries entries (all_stay same entries) (entry, run) changed goes_on (λ node older. tt) grown below above above
-      (λ node before. (tt, before)) (subst (λ first. IfSome above (λ limit. first < limit)) (sym goes_on.follows.first_is) h.0.began) itself (λ none. h.0.first (sym provisional ∙ none)) h.0.stored h.0,
+          (λ node before. (tt, before)) (subst (λ first. IfSome above (λ limit. first < limit)) (sym goes_on.follows.first_is) h.0.began) itself (λ none. h.0.first (sym provisional ∙ none)) h.0.stored h.0,
       subst (λ first. AreSettledGoals says same nodes results entries (Some first) below) (sym goes_on.follows.first_is) h.1,
     )
 

@@ -9,10 +9,9 @@ use Rattle.open_graphs.specs.Graph as theory
 use Rattle.open_graphs.specs.Stack.{IsLeaf}
 use Rattle.open_graphs.specs.Use as theory_use
 use Rattle.open_graphs.proofs.Keep.{leaf_cases}
-use Rattle.open_graphs.proofs.Walks.{carried}
 use Rattle.open_goals.specs.NestedGoals.{TakesNestedGoals}
 use Rattle.search_rules.specs.Apart.{StandApart}
-use Rattle.search_rules.specs.Below.{Answer, AnswersNewest, at_depth, CacheNode, heads_shape, IsDefinite, IsNodeOf, Lists, NestsAnswer, NodeId, path_kind, PathKind, paths_at, ProvisionalCacheEntry, rank_of, Reply, Request, Run, shapes_of, stack_of, StackDepth, StackEntry, Store, StoredResult, Use, UsesNo, verdict_of, Verdicts}
+use Rattle.search_rules.specs.Below.{Answer, AnswersNewest, at_depth, CacheNode, heads_shape, IsDefinite, IsNodeOf, Lists, NestsAnswer, NodeId, path_kind, PathKind, paths_at, ProvisionalCacheEntry, rank_of, Reply, Request, Run, shapes_of, stack_of, StackEntry, Store, StoredResult, Use, UsesNo, verdict_of, Verdicts}
 use Rattle.search_rules.specs.Justified.{AreJustified, AreSupported, cycles_node, frame_of, frames_of, OpenRun}
 use Rattle.search_rules.specs.Leads.{HasGoal, LeadsTo, StepOn}
 use Rattle.search_rules.specs.Lone.{IsLone}
@@ -38,7 +37,6 @@ module _ {X F I R A T : Type 0} (says : Verdicts R) (same : I → I → Bool) (b
     (s : StackEntry X I R A T × Run X F I R A T) (below : List (StackEntry X I R A T × Run X F I R A T)) (h : AreJustified says nodes (runs_of (s ∷ below))) (ready : AreReady says same scripts nodes (runs_of (s ∷ below)) entries) (r : R) (target : Option NodeId) (ended : HasResultNode says nodes after s.0.state.provisional_result s.1.node s.0.state.node s.1.progress r target) (definite : IsDefinite says r)
     (apart : StandApart same results (s ∷ below) entries) (goals : AreSettledGoals says same nodes results entries None (s ∷ below)) (older : RestOnOlder same entries (map cycles_node (runs_of (s ∷ below)))) (again : (earlier : R) → s.0.state.provisional_result ≡ Some earlier → verdict_of says earlier ≡ verdict_of says r)
     (left : LeavesEntries same (cycles_node (run_of s)) s.0.input r entries more) where
-
   abbrev Left : I → Type 0
   Left = IsBehind same results entries (run_of s) s.0.state.nested_goals (runs_of below)
 

@@ -1,24 +1,23 @@
 -- Goals under evaluation whose answers stay off them, once the newest goal's run has ended: the node of its result, and what is left if it
 -- is run again.
-use Rattle.std.proofs.Common.{◌≡◌, ◌≢◌, ◌<◌, ◌≤◌, ℕ, Bool, true, false, List, [], ◌∷◌, ◌++◌, length, map, IsSome, Option, None, Some, option_map, refl, sym, ap, ◌∙◌, subst, ◌⊎◌, inl, inr}
+use Rattle.std.proofs.Common.{◌≡◌, ◌≢◌, ◌<◌, ◌≤◌, ℕ, Bool, true, false, List, [], ◌∷◌, ◌++◌, length, map, IsSome, Option, None, Some, option_map, refl, sym, ap, ◌∙◌, subst, inl, inr}
 use Rattle.std.specs.Option.{IsSomeAnd, option_or}
 use Rattle.std.proofs.lemmas.Bool.{false≢true, or_parts}
 use Rattle.open_graphs.specs.Graph as theory
 use Rattle.open_graphs.proofs.Runs.{answered_grows}
-use Rattle.open_graphs.specs.Run.{Running}
 use Rattle.global_cache.proofs.NodeLists.{Grown-appended, KeepsGoals-appended}
 use Rattle.search_rules.specs.Apart.{StandApart}
 use Rattle.search_rules.specs.Below.{CacheNode, Heads, IsDefinite, IsNodeOf, is_in_cycle, KeepsGoals, Lists, NodeId, open_node, ProvisionalCacheEntry, rerun_with, Run, RunRecord, shapes_of, some_heads, stack_of, StackEntry, Store, StoredResult, verdict_of, Verdicts, with_no_record}
-use Rattle.search_rules.specs.Justified.{AreJustified, cycles_node, frame_of, frames_of, OpenRun}
+use Rattle.search_rules.specs.Justified.{AreJustified, cycles_node, frame_of, frames_of}
 use Rattle.search_rules.specs.Leads.{LeadsTo}
 use Rattle.search_rules.specs.Older.{HasEntry, IsStop, RestOnOlder}
-use Rattle.search_rules.specs.Runs.{Again, Ended, HasResultNode, LeftOpen, run_of, runs_of, SaysAgain}
+use Rattle.search_rules.specs.Runs.{Again, Ended, HasResultNode, LeftOpen, run_of, runs_of}
 use Rattle.search_rules.specs.Settled.{AreSettledGoals, IsBehind}
 use Rattle.search_rules.specs.Tallies.{tally_of}
 use Rattle.search_rules.proofs.answers.OffStack.{aside_leads, behind_leads, goals_kept, off_new, own_no_older, result_leads}
 use Rattle.search_rules.proofs.answers.OlderEntries.{Follows, StaySame}
 use Rattle.search_rules.proofs.justified.Finishing.{rebases}
-use Rattle.search_rules.proofs.justified.Justified.{EndsWithNode, lead_is, leads_there, popped, tally_again}
+use Rattle.search_rules.proofs.justified.Justified.{EndsWithNode, lead_is, leads_there, tally_again}
 
 no_heads_at : (heads : Heads) → some_heads heads ≡ false → heads ≡ []
 no_heads_at [] none = refl

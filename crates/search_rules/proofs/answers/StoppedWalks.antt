@@ -1,6 +1,6 @@
 -- What walks come to that stop at leaves and at further nodes, as nodes are added and finished, the stack changes, and other nodes become
 -- those at which walks stop.
-use Rattle.std.proofs.Common.{◌≡◌, ◌≢◌, ℕ, List, ◌∷◌, ◌++◌, [], length, max, Some, slice_get, slice_set, refl, sym, ap, ◌∙◌, subst, ◌⊎◌, inl, inr}
+use Rattle.std.proofs.Common.{◌≡◌, ◌≢◌, ℕ, List, ◌∷◌, ◌++◌, [], length, max, Some, slice_get, slice_set, refl, sym, ◌∙◌, subst, ◌⊎◌, inl, inr}
 use Rattle.open_graphs.specs.Graph as theory
 use Rattle.open_graphs.specs.Run.{Again, Answered, Anew, Running, Without}
 use Rattle.open_graphs.specs.Stack.{Entry, IsLeaf, path_kind}

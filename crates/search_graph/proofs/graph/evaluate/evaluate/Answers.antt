@@ -2,7 +2,7 @@ use Rattle.std.proofs.Common.{◌≡◌, ◌∙◌, Bool, true, false, Option, S
 use Rattle.std.specs.Option.{IfSome, IsSomeAnd}
 use Rattle.open_goals.specs.declared.goals.Fate.TheVariants as becomes
 use Rattle.search_context.proofs.Builders.{builder_goes_on}
-use Rattle.search_graph.specs.Below.{Begins, Call, EndsWith, Hit, hit_of, IsFated, IsRemembered, usable, verdicts}
+use Rattle.search_graph.specs.Below.{Begins, Call, EndsWith, Hit, hit_of, IsFated, IsRemembered, usable}
 use Rattle.search_rules.specs.Words.{answered_by, fate_for}
 use Rattle.search_rules.proofs.moves.LookUps.{nothing_stored, something_stored, stored_over_none}
 use Rattle.search_rules.proofs.moves.Questions.{if_ok_then}
