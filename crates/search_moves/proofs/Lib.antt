@@ -8,3 +8,5 @@ pub mod Keeping
 pub mod Fating
 pub mod Storing
 pub mod Given
+pub mod OneKind
+pub mod KeptEntries

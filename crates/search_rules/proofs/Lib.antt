@@ -8,6 +8,7 @@ pub mod Fates
 pub mod FinishedRuns
 pub mod DoneGoals
 pub mod answers
+pub mod kinds
 pub mod entries
 pub mod rebasing
 pub mod HeadOrder

@@ -17,7 +17,7 @@ use Rattle.search_rules.specs.Fates.{Stay, Untouched}
 use Rattle.search_moves.specs.Settled.{Settles}
 use Rattle.search_moves.proofs.SettledEnds.{end_unmet, led_settles}
 use Rattle.search_moves.proofs.Settling.{asked_settles}
-use Rattle.search_graph.proofs.SettledSteps.{ask_unmet, needs_with, noted_settles, noted_stays_off}
+use Rattle.search_graph.proofs.SettledSteps.{ask_unmet, needs_with, noted_settles, noted_stays_off, stepped_entries}
 use Rattle.search_graph.proofs.graph.evaluate.advance.Goals as goal
 
 pub step-requires : goal.step-requires
@@ -266,7 +266,8 @@ returns-in_ok-next-in-Evaluate-clause-settled g c = record {
       (needs_with g.D.Delegate g.D.Cx.Cx c.args.cache.now.cx call (g.D.Delegate.noop c.args.inspect.now) (g.D.Delegate.noop c.step.new.inspect) c.step.ensures.same_noop needs)
       (requests g.D.Delegate g.D.Cx.Cx g.D.Cx.Input.PartialEq.eq c.args.cache.now.cx c.args.cache.now c.args.evaluation.now c.args.received c.cx-cx.result c.cx-cx.ensures c.in_ok-request.request c.step.new.goals c.in_ok-request.ensures.stepped (g.D.Delegate.starts c.args.inspect.now) (g.D.Delegate.starts c.step.new.inspect) c.step.ensures.same_starts (Evaluate c.in-Evaluate.kind c.in-Evaluate.input) c.in-Evaluate.is c.requires.right call w)
       (stepped_right g.D.Delegate g.D.Cx.Cx g.D.Cx.Input.PartialEq.eq c.args.cache.now.cx c.args.cache.now c.args.evaluation.now c.args.received c.cx-cx.result c.cx-cx.ensures c.in_ok-request.request c.step.new.goals c.in_ok-request.ensures.stepped (subst (λ (q : Request _ _). NotesCandidate q c.step.new.goals c.step.new.goals) (sym c.in-Evaluate.is) refl) c.requires.right)
-      (noted_settles g.D.Delegate g.D.Cx.Cx c.cx-cx.result g.D.Cx.Input.PartialEq.eq c.args.cache.now.nodes c.args.cache.now.results call c.args.evaluation.now.limits_met c.args.received c.in_ok-request.request c.args.evaluation.now.goals c.step.new.goals c.step.new.goals c.in_ok-request.ensures.stepped s.answer (subst (λ (q : Request _ _). NotesCandidate q c.step.new.goals c.step.new.goals) (sym c.in-Evaluate.is) refl) s.settling)
+      (noted_settles g.D.Delegate g.D.Cx.Cx c.cx-cx.result g.D.Cx.Input.PartialEq.eq c.args.cache.now.nodes c.args.cache.now.results c.args.evaluation.now.provisional call c.args.evaluation.now.limits_met c.args.received c.in_ok-request.request c.args.evaluation.now.goals c.step.new.goals c.step.new.goals c.in_ok-request.ensures.stepped s.answer (subst (λ (q : Request _ _). NotesCandidate q c.step.new.goals c.step.new.goals) (sym c.in-Evaluate.is) refl) s.settling)
+      (stepped_entries g.D.Delegate g.D.Cx.Cx g.D.Cx.Input.PartialEq.eq c.args.cache.now.cx c.cx-cx.result c.cx-cx.ensures call c.args.received c.in_ok-request.request c.args.cache.now.results c.args.evaluation.now.goals c.step.new.goals c.step.new.goals c.args.evaluation.now.provisional c.in_ok-request.ensures.stepped (subst (λ (q : Request _ _). NotesCandidate q c.step.new.goals c.step.new.goals) (sym c.in-Evaluate.is) refl) s.entries)
       c.in_ok-next-in-Evaluate.next c.ask.new.cache c.ask.new.self (g.D.Delegate.starts c.ask.new.inspect) c.in_ok-next-in-Evaluate.ensures.asked;
 }
 
@@ -277,7 +278,8 @@ returns-in_err-next-in-Done-clause-settled g c = record {
       (needs_with g.D.Delegate g.D.Cx.Cx c.args.cache.now.cx call (g.D.Delegate.noop c.args.inspect.now) (g.D.Delegate.noop c.step.new.inspect) c.step.ensures.same_noop needs)
       (requests g.D.Delegate g.D.Cx.Cx g.D.Cx.Input.PartialEq.eq c.args.cache.now.cx c.args.cache.now c.args.evaluation.now c.args.received c.cx-cx.result c.cx-cx.ensures c.in_ok-request.request c.step.new.goals c.in_ok-request.ensures.stepped (g.D.Delegate.starts c.args.inspect.now) (g.D.Delegate.starts c.step.new.inspect) c.step.ensures.same_starts (Done c.in-Done.outcome) c.in-Done.is c.requires.right call w)
       (stepped_right g.D.Delegate g.D.Cx.Cx g.D.Cx.Input.PartialEq.eq c.args.cache.now.cx c.args.cache.now c.args.evaluation.now c.args.received c.cx-cx.result c.cx-cx.ensures c.in_ok-request.request c.step.new.goals c.in_ok-request.ensures.stepped (subst (λ (q : Request _ _). NotesCandidate q c.step.new.goals c.step.new.goals) (sym c.in-Done.is) refl) c.requires.right)
-      (noted_settles g.D.Delegate g.D.Cx.Cx c.cx-cx.result g.D.Cx.Input.PartialEq.eq c.args.cache.now.nodes c.args.cache.now.results call c.args.evaluation.now.limits_met c.args.received c.in_ok-request.request c.args.evaluation.now.goals c.step.new.goals c.step.new.goals c.in_ok-request.ensures.stepped s.answer (subst (λ (q : Request _ _). NotesCandidate q c.step.new.goals c.step.new.goals) (sym c.in-Done.is) refl) s.settling)
+      (noted_settles g.D.Delegate g.D.Cx.Cx c.cx-cx.result g.D.Cx.Input.PartialEq.eq c.args.cache.now.nodes c.args.cache.now.results c.args.evaluation.now.provisional call c.args.evaluation.now.limits_met c.args.received c.in_ok-request.request c.args.evaluation.now.goals c.step.new.goals c.step.new.goals c.in_ok-request.ensures.stepped s.answer (subst (λ (q : Request _ _). NotesCandidate q c.step.new.goals c.step.new.goals) (sym c.in-Done.is) refl) s.settling)
+      (stepped_entries g.D.Delegate g.D.Cx.Cx g.D.Cx.Input.PartialEq.eq c.args.cache.now.cx c.cx-cx.result c.cx-cx.ensures call c.args.received c.in_ok-request.request c.args.cache.now.results c.args.evaluation.now.goals c.step.new.goals c.step.new.goals c.args.evaluation.now.provisional c.in_ok-request.ensures.stepped (subst (λ (q : Request _ _). NotesCandidate q c.step.new.goals c.step.new.goals) (sym c.in-Done.is) refl) s.entries)
       g.D.Cx.Result.PartialEq.eq g.met.D.Cx.Result.Eq.laws.refl g.met.D.Cx.Cx.one_sort (g.met.D.Cx.Cx.clash c.args.cache.now.cx) (g.met.D.Delegate.yes_is_proved c.args.cache.now.cx) (g.met.D.Delegate.no_is_refuted c.args.cache.now.cx) c.has_runs.ensures
       c.finish_run.new.self.limits_met c.finish_run.ensures.meets;
   settles = λ call w needs s. no_ok c.from_residual-in_err-next-in-Done.result _ _ c.from_residual-in_err-next-in-Done.ensures.1;
@@ -290,7 +292,8 @@ returns-in_ok-next-in-Done-clause-settled g c = record {
       (needs_with g.D.Delegate g.D.Cx.Cx c.args.cache.now.cx call (g.D.Delegate.noop c.args.inspect.now) (g.D.Delegate.noop c.step.new.inspect) c.step.ensures.same_noop needs)
       (requests g.D.Delegate g.D.Cx.Cx g.D.Cx.Input.PartialEq.eq c.args.cache.now.cx c.args.cache.now c.args.evaluation.now c.args.received c.cx-cx.result c.cx-cx.ensures c.in_ok-request.request c.step.new.goals c.in_ok-request.ensures.stepped (g.D.Delegate.starts c.args.inspect.now) (g.D.Delegate.starts c.step.new.inspect) c.step.ensures.same_starts (Done c.in-Done.outcome) c.in-Done.is c.requires.right call w)
       (stepped_right g.D.Delegate g.D.Cx.Cx g.D.Cx.Input.PartialEq.eq c.args.cache.now.cx c.args.cache.now c.args.evaluation.now c.args.received c.cx-cx.result c.cx-cx.ensures c.in_ok-request.request c.step.new.goals c.in_ok-request.ensures.stepped (subst (λ (q : Request _ _). NotesCandidate q c.step.new.goals c.step.new.goals) (sym c.in-Done.is) refl) c.requires.right)
-      (noted_settles g.D.Delegate g.D.Cx.Cx c.cx-cx.result g.D.Cx.Input.PartialEq.eq c.args.cache.now.nodes c.args.cache.now.results call c.args.evaluation.now.limits_met c.args.received c.in_ok-request.request c.args.evaluation.now.goals c.step.new.goals c.step.new.goals c.in_ok-request.ensures.stepped s.answer (subst (λ (q : Request _ _). NotesCandidate q c.step.new.goals c.step.new.goals) (sym c.in-Done.is) refl) s.settling)
+      (noted_settles g.D.Delegate g.D.Cx.Cx c.cx-cx.result g.D.Cx.Input.PartialEq.eq c.args.cache.now.nodes c.args.cache.now.results c.args.evaluation.now.provisional call c.args.evaluation.now.limits_met c.args.received c.in_ok-request.request c.args.evaluation.now.goals c.step.new.goals c.step.new.goals c.in_ok-request.ensures.stepped s.answer (subst (λ (q : Request _ _). NotesCandidate q c.step.new.goals c.step.new.goals) (sym c.in-Done.is) refl) s.settling)
+      (stepped_entries g.D.Delegate g.D.Cx.Cx g.D.Cx.Input.PartialEq.eq c.args.cache.now.cx c.cx-cx.result c.cx-cx.ensures call c.args.received c.in_ok-request.request c.args.cache.now.results c.args.evaluation.now.goals c.step.new.goals c.step.new.goals c.args.evaluation.now.provisional c.in_ok-request.ensures.stepped (subst (λ (q : Request _ _). NotesCandidate q c.step.new.goals c.step.new.goals) (sym c.in-Done.is) refl) s.entries)
       g.D.Cx.Result.PartialEq.eq g.met.D.Cx.Result.Eq.laws.refl g.met.D.Cx.Cx.one_sort (g.met.D.Cx.Cx.clash c.args.cache.now.cx) (g.met.D.Delegate.yes_is_proved c.args.cache.now.cx) (g.met.D.Delegate.no_is_refuted c.args.cache.now.cx) c.has_runs.ensures
       c.finish_run.new.self.limits_met c.finish_run.ensures.meets;
   settles = λ call w needs s.
@@ -298,7 +301,8 @@ returns-in_ok-next-in-Done-clause-settled g c = record {
       (needs_with g.D.Delegate g.D.Cx.Cx c.args.cache.now.cx call (g.D.Delegate.noop c.args.inspect.now) (g.D.Delegate.noop c.step.new.inspect) c.step.ensures.same_noop needs)
       (requests g.D.Delegate g.D.Cx.Cx g.D.Cx.Input.PartialEq.eq c.args.cache.now.cx c.args.cache.now c.args.evaluation.now c.args.received c.cx-cx.result c.cx-cx.ensures c.in_ok-request.request c.step.new.goals c.in_ok-request.ensures.stepped (g.D.Delegate.starts c.args.inspect.now) (g.D.Delegate.starts c.step.new.inspect) c.step.ensures.same_starts (Done c.in-Done.outcome) c.in-Done.is c.requires.right call w)
       (stepped_right g.D.Delegate g.D.Cx.Cx g.D.Cx.Input.PartialEq.eq c.args.cache.now.cx c.args.cache.now c.args.evaluation.now c.args.received c.cx-cx.result c.cx-cx.ensures c.in_ok-request.request c.step.new.goals c.in_ok-request.ensures.stepped (subst (λ (q : Request _ _). NotesCandidate q c.step.new.goals c.step.new.goals) (sym c.in-Done.is) refl) c.requires.right)
-      (noted_settles g.D.Delegate g.D.Cx.Cx c.cx-cx.result g.D.Cx.Input.PartialEq.eq c.args.cache.now.nodes c.args.cache.now.results call c.args.evaluation.now.limits_met c.args.received c.in_ok-request.request c.args.evaluation.now.goals c.step.new.goals c.step.new.goals c.in_ok-request.ensures.stepped s.answer (subst (λ (q : Request _ _). NotesCandidate q c.step.new.goals c.step.new.goals) (sym c.in-Done.is) refl) s.settling)
+      (noted_settles g.D.Delegate g.D.Cx.Cx c.cx-cx.result g.D.Cx.Input.PartialEq.eq c.args.cache.now.nodes c.args.cache.now.results c.args.evaluation.now.provisional call c.args.evaluation.now.limits_met c.args.received c.in_ok-request.request c.args.evaluation.now.goals c.step.new.goals c.step.new.goals c.in_ok-request.ensures.stepped s.answer (subst (λ (q : Request _ _). NotesCandidate q c.step.new.goals c.step.new.goals) (sym c.in-Done.is) refl) s.settling)
+      (stepped_entries g.D.Delegate g.D.Cx.Cx g.D.Cx.Input.PartialEq.eq c.args.cache.now.cx c.cx-cx.result c.cx-cx.ensures call c.args.received c.in_ok-request.request c.args.cache.now.results c.args.evaluation.now.goals c.step.new.goals c.step.new.goals c.args.evaluation.now.provisional c.in_ok-request.ensures.stepped (subst (λ (q : Request _ _). NotesCandidate q c.step.new.goals c.step.new.goals) (sym c.in-Done.is) refl) s.entries)
       g.D.Cx.Result.PartialEq.eq g.met.D.Cx.Result.Eq.laws.refl g.met.D.Cx.Cx.one_sort (g.met.D.Cx.Cx.clash c.args.cache.now.cx) (g.met.D.Delegate.yes_is_proved c.args.cache.now.cx) (g.met.D.Delegate.no_is_refuted c.args.cache.now.cx) c.has_runs.ensures
       c.in_ok-next-in-Done.next c.finish_run.new.cache c.finish_run.new.self c.in_ok-next-in-Done.ensures.leads;
 }
@@ -313,9 +317,11 @@ pub returns-in_ok-note_candidate-in_default-clause-settled : goal.returns-in_ok-
 returns-in_ok-note_candidate-in_default-clause-settled g c = record {
   unmet = λ call w needs s. s.settling.unmet;
   settles = λ call w needs s.
-      subst (λ given. Settles g.D.Delegate g.D.Cx.Cx g.D.Cx.Input.PartialEq.eq call given c.args.cache.now (record c.args.evaluation.now { goals = c.note_candidate.new.self })) (sym c.without_node.ensures)
+      subst (λ given. Settles g.D.Delegate g.D.Cx.Cx g.D.Cx.Input.PartialEq.eq c.args.cache.now.cx call given c.args.cache.now (record c.args.evaluation.now { goals = c.note_candidate.new.self })) (sym c.without_node.ensures)
       (record {
-        settling = noted_settles g.D.Delegate g.D.Cx.Cx c.cx-cx.result g.D.Cx.Input.PartialEq.eq c.args.cache.now.nodes c.args.cache.now.results call c.args.evaluation.now.limits_met c.args.received c.in_ok-request.request c.args.evaluation.now.goals c.step.new.goals c.note_candidate.new.self c.in_ok-request.ensures.stepped s.answer c.in_ok-note_candidate-in_default.ensures s.settling;
-        answer = noted_stays_off (verdicts g.D.Cx.Cx) g.D.Cx.Input.PartialEq.eq g.met.D.Cx.Cx.same_input c.args.cache.now.nodes c.args.cache.now.results c.note_candidate.new.self;
+        settling = noted_settles g.D.Delegate g.D.Cx.Cx c.cx-cx.result g.D.Cx.Input.PartialEq.eq c.args.cache.now.nodes c.args.cache.now.results c.args.evaluation.now.provisional call c.args.evaluation.now.limits_met c.args.received c.in_ok-request.request c.args.evaluation.now.goals c.step.new.goals c.note_candidate.new.self c.in_ok-request.ensures.stepped s.answer c.in_ok-note_candidate-in_default.ensures s.settling;
+        answer = noted_stays_off (verdicts g.D.Cx.Cx) g.D.Cx.Input.PartialEq.eq g.met.D.Cx.Cx.same_input c.args.cache.now.nodes c.args.cache.now.results c.args.evaluation.now.provisional c.note_candidate.new.self;
+        entries =
+            stepped_entries g.D.Delegate g.D.Cx.Cx g.D.Cx.Input.PartialEq.eq c.args.cache.now.cx c.cx-cx.result c.cx-cx.ensures call c.args.received c.in_ok-request.request c.args.cache.now.results c.args.evaluation.now.goals c.step.new.goals c.note_candidate.new.self c.args.evaluation.now.provisional c.in_ok-request.ensures.stepped c.in_ok-note_candidate-in_default.ensures s.entries;
       });
 }

@@ -39,9 +39,9 @@ loop-next-init g c = record {
   from = stay_pushed g.D.Delegate g.D.Cx.Cx c.args.cache.now.cx c.args.cache.now.nodes c.args.evaluation.now.goals c.push_goal.new.self.goals c.args.input c.args.step_kind c.args.evaluation.now.root_depth c.push_goal.new.cache.nodes c.in_ok-push_goal.ensures.pushed (length c.args.cache.now.nodes) (omega arith) (subst (AreFrom (length c.args.cache.now.nodes)) (sym c.requires.new.no_goals) tt);
   builder = c.push_goal.ensures.starts.builder;
   settled = λ stored not_lone call at needs settled.
-      subst (λ given. Settles g.D.Delegate g.D.Cx.Cx g.D.Cx.Input.PartialEq.eq call given c.push_goal.new.cache c.push_goal.new.self) (sym c.without_node-received.ensures)
-      (subst (λ cache. Settles g.D.Delegate g.D.Cx.Cx g.D.Cx.Input.PartialEq.eq call (record { reply = Begin; node = None }) cache c.push_goal.new.self) (sym c.push_goal.ensures.cache)
-      (subst (λ e. Settles g.D.Delegate g.D.Cx.Cx g.D.Cx.Input.PartialEq.eq call (record { reply = Begin; node = None }) (record c.args.cache.now { nodes = c.push_goal.new.cache.nodes }) e) (sym c.push_goal.ensures.rest)
+      subst (λ given. Settles g.D.Delegate g.D.Cx.Cx g.D.Cx.Input.PartialEq.eq c.args.cache.now.cx call given c.push_goal.new.cache c.push_goal.new.self) (sym c.without_node-received.ensures)
+      (subst (λ cache. Settles g.D.Delegate g.D.Cx.Cx g.D.Cx.Input.PartialEq.eq c.args.cache.now.cx call (record { reply = Begin; node = None }) cache c.push_goal.new.self) (sym c.push_goal.ensures.cache)
+      (subst (λ e. Settles g.D.Delegate g.D.Cx.Cx g.D.Cx.Input.PartialEq.eq c.args.cache.now.cx call (record { reply = Begin; node = None }) (record c.args.cache.now { nodes = c.push_goal.new.cache.nodes }) e) (sym c.push_goal.ensures.rest)
       (begins_settles g.D.Delegate g.D.Cx.Cx g.D.Cx.Input.PartialEq.eq g.met.D.Cx.Cx.same_input g.met.D.Cx.Input.Eq.laws.refl c.args.cache.now.cx c.args.step_kind c.args.input c.args.cache.now c.args.evaluation.now c.requires.new c.args.evaluation.now.root_depth c.push_goal.new.self.goals c.push_goal.new.cache.nodes c.in_ok-push_goal.ensures.pushed c.args.fate c.in_ok-push_goal.ensures.fates c.has_sound_results.ensures stored not_lone call
       (begins_unmet g.D.Delegate g.D.Cx.Cx c.args.cache.now.cx call _ _ _ _ _ needs at.outset) settled)));
   fates = first_fates (g.D.Delegate.scoped c.args.cache.now.cx) (g.D.Delegate.script c.args.cache.now.cx) g.D.Cx.Input.PartialEq.eq (g.D.Delegate.noop c.args.inspect.now) c.args.input c.args.fate c.args.cache.now.results c.args.evaluation.now.root_depth.0 c.args.evaluation.now.goals c.push_goal.new.self.goals c.push_goal.new.cache.results c.requires.new.no_goals c.in_ok-push_goal.ensures.fates c.requires.fated (ap (λ cache. cache.results) c.push_goal.ensures.cache);
@@ -87,7 +87,7 @@ loop-next-preserved g c =
           c.in_ok-next.ensures.stays first (first_there first c.args.cache.now.nodes c.loop-next.cache.nodes (omega arith) (c.loop-next.invariant.keeps.earlier first (omega arith) begun)) c.loop-next.invariant.from;
       builder = builder_goes_on g.D.Delegate.starts g.D.Delegate.noop c.args.inspect.now c.loop-next.inspect c.advance.new.inspect c.loop-next.invariant.builder c.advance.ensures.builder;
       settled = λ stored not_lone call at needs settled.
-          (subst (λ cx. (call : Call _) → Awaits g.D.Delegate g.D.Cx.Cx g.D.Cx.Input.PartialEq.eq cx call c.loop-next.received c.loop-next.cache c.loop-next.evaluation (g.D.Delegate.starts c.loop-next.inspect) → CallNeedsTwoRuns g.D.Delegate g.D.Cx.Cx cx call (g.D.Delegate.noop c.loop-next.inspect) → Settles g.D.Delegate g.D.Cx.Cx g.D.Cx.Input.PartialEq.eq call c.loop-next.received c.loop-next.cache c.loop-next.evaluation → SettlesNext g.D.Delegate g.D.Cx.Cx g.D.Cx.Input.PartialEq.eq call (Step c.in-Step.next) c.advance.new.cache c.advance.new.evaluation) c.loop-next.invariant.keeps.context (rw c.in-Step.is at c.in_ok-next.ensures.settled.settles)) call (c.loop-next.invariant.waiting call at) (needs_with g.D.Delegate g.D.Cx.Cx c.args.cache.now.cx call _ _ c.loop-next.invariant.builder.same_noop needs) (c.loop-next.invariant.settled stored not_lone call at needs settled);
+          (subst (λ cx. (call : Call _) → Awaits g.D.Delegate g.D.Cx.Cx g.D.Cx.Input.PartialEq.eq cx call c.loop-next.received c.loop-next.cache c.loop-next.evaluation (g.D.Delegate.starts c.loop-next.inspect) → CallNeedsTwoRuns g.D.Delegate g.D.Cx.Cx cx call (g.D.Delegate.noop c.loop-next.inspect) → Settles g.D.Delegate g.D.Cx.Cx g.D.Cx.Input.PartialEq.eq cx call c.loop-next.received c.loop-next.cache c.loop-next.evaluation → SettlesNext g.D.Delegate g.D.Cx.Cx g.D.Cx.Input.PartialEq.eq cx call (Step c.in-Step.next) c.advance.new.cache c.advance.new.evaluation) c.loop-next.invariant.keeps.context (rw c.in-Step.is at c.in_ok-next.ensures.settled.settles)) call (c.loop-next.invariant.waiting call at) (needs_with g.D.Delegate g.D.Cx.Cx c.args.cache.now.cx call _ _ c.loop-next.invariant.builder.same_noop needs) (c.loop-next.invariant.settled stored not_lone call at needs settled);
       fates = then_fates (g.D.Delegate.scoped c.args.cache.now.cx) (g.D.Delegate.script c.args.cache.now.cx) g.D.Cx.Input.PartialEq.eq (g.D.Delegate.noop c.args.inspect.now) c.args.input c.args.fate c.args.cache.now.results c.loop-next.evaluation.goals c.loop-next.cache.results c.advance.new.cache.results c.loop-next.invariant.fates c.advance.ensures.cache.changes c.advance.ensures.cache.keeps.results c.advance.new.evaluation.goals
           (subst (λ b. MovesFates g.D.Cx.Input.PartialEq.eq (IsFated (g.D.Delegate.scoped c.args.cache.now.cx) (g.D.Delegate.script c.args.cache.now.cx) g.D.Cx.Input.PartialEq.eq c.loop-next.cache.results b) (fates_of c.loop-next.evaluation.goals) (fates_of c.advance.new.evaluation.goals)) c.loop-next.invariant.builder.same_noop
           (subst (λ cx. MovesFates g.D.Cx.Input.PartialEq.eq (IsFated (g.D.Delegate.scoped cx) (g.D.Delegate.script cx) g.D.Cx.Input.PartialEq.eq c.loop-next.cache.results (g.D.Delegate.noop c.loop-next.inspect)) (fates_of c.loop-next.evaluation.goals) (fates_of c.advance.new.evaluation.goals)) c.loop-next.invariant.keeps.context c.in_ok-next.ensures.fates));
@@ -163,14 +163,14 @@ returns-in_err-push_goal-clause-settled g c = λ stored not_lone. record {
 pub returns-in_err-next-clause-settled : goal.returns-in_err-next-clause-settled
 returns-in_err-next-clause-settled g c = λ stored not_lone. record {
   unmet = λ call at needs settled.
-      (subst (λ cx. (call : Call _) → Awaits g.D.Delegate g.D.Cx.Cx g.D.Cx.Input.PartialEq.eq cx call c.loop-next.received c.loop-next.cache c.loop-next.evaluation (g.D.Delegate.starts c.loop-next.inspect) → CallNeedsTwoRuns g.D.Delegate g.D.Cx.Cx cx call (g.D.Delegate.noop c.loop-next.inspect) → Settles g.D.Delegate g.D.Cx.Cx g.D.Cx.Input.PartialEq.eq call c.loop-next.received c.loop-next.cache c.loop-next.evaluation → c.advance.new.evaluation.limits_met ≡ false) c.loop-next.invariant.keeps.context c.in_err-next.ensures.settled.unmet) call (c.loop-next.invariant.waiting call at) (needs_with g.D.Delegate g.D.Cx.Cx c.args.cache.now.cx call _ _ c.loop-next.invariant.builder.same_noop needs) (c.loop-next.invariant.settled stored not_lone call at needs settled);
+      (subst (λ cx. (call : Call _) → Awaits g.D.Delegate g.D.Cx.Cx g.D.Cx.Input.PartialEq.eq cx call c.loop-next.received c.loop-next.cache c.loop-next.evaluation (g.D.Delegate.starts c.loop-next.inspect) → CallNeedsTwoRuns g.D.Delegate g.D.Cx.Cx cx call (g.D.Delegate.noop c.loop-next.inspect) → Settles g.D.Delegate g.D.Cx.Cx g.D.Cx.Input.PartialEq.eq cx call c.loop-next.received c.loop-next.cache c.loop-next.evaluation → c.advance.new.evaluation.limits_met ≡ false) c.loop-next.invariant.keeps.context c.in_err-next.ensures.settled.unmet) call (c.loop-next.invariant.waiting call at) (needs_with g.D.Delegate g.D.Cx.Cx c.args.cache.now.cx call _ _ c.loop-next.invariant.builder.same_noop needs) (c.loop-next.invariant.settled stored not_lone call at needs settled);
   settles = λ call at needs settled. no_ok c.from_residual-in_err-next.result _ _ c.from_residual-in_err-next.ensures.1;
 }
 
 pub returns-in-Finished-clause-settled : goal.returns-in-Finished-clause-settled
 returns-in-Finished-clause-settled g c = λ stored not_lone. record {
   unmet = λ call at needs settled.
-      (subst (λ cx. (call : Call _) → Awaits g.D.Delegate g.D.Cx.Cx g.D.Cx.Input.PartialEq.eq cx call c.loop-next.received c.loop-next.cache c.loop-next.evaluation (g.D.Delegate.starts c.loop-next.inspect) → CallNeedsTwoRuns g.D.Delegate g.D.Cx.Cx cx call (g.D.Delegate.noop c.loop-next.inspect) → Settles g.D.Delegate g.D.Cx.Cx g.D.Cx.Input.PartialEq.eq call c.loop-next.received c.loop-next.cache c.loop-next.evaluation → c.advance.new.evaluation.limits_met ≡ false) c.loop-next.invariant.keeps.context c.in_ok-next.ensures.settled.unmet) call (c.loop-next.invariant.waiting call at) (needs_with g.D.Delegate g.D.Cx.Cx c.args.cache.now.cx call _ _ c.loop-next.invariant.builder.same_noop needs) (c.loop-next.invariant.settled stored not_lone call at needs settled);
+      (subst (λ cx. (call : Call _) → Awaits g.D.Delegate g.D.Cx.Cx g.D.Cx.Input.PartialEq.eq cx call c.loop-next.received c.loop-next.cache c.loop-next.evaluation (g.D.Delegate.starts c.loop-next.inspect) → CallNeedsTwoRuns g.D.Delegate g.D.Cx.Cx cx call (g.D.Delegate.noop c.loop-next.inspect) → Settles g.D.Delegate g.D.Cx.Cx g.D.Cx.Input.PartialEq.eq cx call c.loop-next.received c.loop-next.cache c.loop-next.evaluation → c.advance.new.evaluation.limits_met ≡ false) c.loop-next.invariant.keeps.context c.in_ok-next.ensures.settled.unmet) call (c.loop-next.invariant.waiting call at) (needs_with g.D.Delegate g.D.Cx.Cx c.args.cache.now.cx call _ _ c.loop-next.invariant.builder.same_noop needs) (c.loop-next.invariant.settled stored not_lone call at needs settled);
   settles = λ call at needs settled.
-      (subst (λ cx. (call : Call _) → Awaits g.D.Delegate g.D.Cx.Cx g.D.Cx.Input.PartialEq.eq cx call c.loop-next.received c.loop-next.cache c.loop-next.evaluation (g.D.Delegate.starts c.loop-next.inspect) → CallNeedsTwoRuns g.D.Delegate g.D.Cx.Cx cx call (g.D.Delegate.noop c.loop-next.inspect) → Settles g.D.Delegate g.D.Cx.Cx g.D.Cx.Input.PartialEq.eq call c.loop-next.received c.loop-next.cache c.loop-next.evaluation → SettlesNext g.D.Delegate g.D.Cx.Cx g.D.Cx.Input.PartialEq.eq call (Finished c.in-Finished.answer) c.advance.new.cache c.advance.new.evaluation) c.loop-next.invariant.keeps.context (rw c.in-Finished.is at c.in_ok-next.ensures.settled.settles)) call (c.loop-next.invariant.waiting call at) (needs_with g.D.Delegate g.D.Cx.Cx c.args.cache.now.cx call _ _ c.loop-next.invariant.builder.same_noop needs) (c.loop-next.invariant.settled stored not_lone call at needs settled);
+      (subst (λ cx. (call : Call _) → Awaits g.D.Delegate g.D.Cx.Cx g.D.Cx.Input.PartialEq.eq cx call c.loop-next.received c.loop-next.cache c.loop-next.evaluation (g.D.Delegate.starts c.loop-next.inspect) → CallNeedsTwoRuns g.D.Delegate g.D.Cx.Cx cx call (g.D.Delegate.noop c.loop-next.inspect) → Settles g.D.Delegate g.D.Cx.Cx g.D.Cx.Input.PartialEq.eq cx call c.loop-next.received c.loop-next.cache c.loop-next.evaluation → SettlesNext g.D.Delegate g.D.Cx.Cx g.D.Cx.Input.PartialEq.eq cx call (Finished c.in-Finished.answer) c.advance.new.cache c.advance.new.evaluation) c.loop-next.invariant.keeps.context (rw c.in-Finished.is at c.in_ok-next.ensures.settled.settles)) call (c.loop-next.invariant.waiting call at) (needs_with g.D.Delegate g.D.Cx.Cx c.args.cache.now.cx call _ _ c.loop-next.invariant.builder.same_noop needs) (c.loop-next.invariant.settled stored not_lone call at needs settled);
 }

@@ -39,7 +39,7 @@ returns-in-Ok-clause-moves g c = record {
         answers =
             done_keeps g.D.Delegate g.D.Cx.Cx c.args.cache.now.cx call g.D.Cx.Input.PartialEq.eq ahead c.args.outcome _ _ _ c.in-Ok.reason
             (end_leaves (verdicts g.D.Cx.Cx) g.D.Cx.Result.PartialEq.eq g.D.Delegate.initial_kind g.D.Delegate.ambiguity g.met.D.Delegate.ambiguous_is_neither g.D.Delegate.FIXPOINT_STEP_LIMIT c.last_entry.result.now.state.provisional_result c.last_entry.result.now.state.usages c.last_run.result.now.finished_runs c.args.outcome c.end_of_run.result c.in-Ok.reason c.end_of_run.ensures.is_end c.in-Ok.is)
-            g.met.D.Cx.Cx.same_input c.args.cache.now.results c.pop_goal.new.cache.results c.args.self.now.goals c.args.self.now.provisional c.pop_goal.new.self.provisional c.pop_goal.ensures.stored p.rebased h.asked h.answers;
+            _ g.met.D.Cx.Cx.same_input c.args.cache.now.results c.pop_goal.new.cache.results c.args.self.now.goals c.args.self.now.provisional c.pop_goal.new.self.provisional c.pop_goal.ensures.stored p.rebased h.asked h.answers;
         remembered = remembered g.D.Delegate g.D.Cx.Cx c.args.cache.now.cx call g.D.Cx.Input.PartialEq.eq (g.D.Cx.Cx.token c.args.cache.now.cx) ahead c.args.outcome c.args.outcome _ _ c.pop_goal.new.cache.results _ (λ meets. meets) c.args.self.now.goals c.pop_goal.new.self.goals next c.requires.right.justified.tallies h.asked p.left p.stored;
       }));
   stops = λ call ahead h.
@@ -86,7 +86,7 @@ returns-in-Err-AtLimit-clause-moves g c = record {
       subst (λ after. LeadsTo g.D.Delegate g.D.Cx.Cx g.D.Cx.Input.PartialEq.eq c.args.cache.now.cx call ahead c.args.self.now.goals next c.pop_goal-in-Err-AtLimit.new.cache after (g.D.Delegate.starts c.args.inspect.now)) (sym c.pop_goal-in-Err-AtLimit.ensures.rest)
       (record {
         leads = limited_leads g.D.Delegate g.D.Cx.Cx c.args.cache.now.cx call ahead c.args.outcome c.fixpoint_overflow_result-overflow.result next c.args.self.now.goals c.pop_goal-in-Err-AtLimit.new.self.goals _ _ (newest_limited c.args.self.now.goals c.last_entry.result.now c.last_run.result.now c.last_entry.ensures c.last_run.ensures g.D.Delegate.FIXPOINT_STEP_LIMIT (limited g.D.Cx.Result.PartialEq.eq g.D.Delegate.initial_kind g.D.Delegate.ambiguity g.D.Delegate.FIXPOINT_STEP_LIMIT c.last_entry.result.now.state.provisional_result c.last_entry.result.now.state.usages c.last_run.result.now.finished_runs c.args.outcome c.end_of_run.result c.end_of_run.ensures.is_end (c.in-Err-AtLimit.is ∙ ap Err c.in-Err-AtLimit.field-0-is))) p.left h.asked;
-        answers = limited_keeps_answers g.D.Delegate g.D.Cx.Cx c.args.cache.now.cx call g.D.Cx.Input.PartialEq.eq ahead c.args.outcome c.fixpoint_overflow_result-overflow.result _ _ _ _ g.met.D.Cx.Cx.same_input c.args.cache.now.results c.pop_goal-in-Err-AtLimit.new.cache.results c.args.self.now.goals c.args.self.now.provisional c.pop_goal-in-Err-AtLimit.new.self.provisional c.pop_goal-in-Err-AtLimit.ensures.stored p.rebased h.asked h.answers;
+        answers = limited_keeps_answers g.D.Delegate g.D.Cx.Cx c.args.cache.now.cx call g.D.Cx.Input.PartialEq.eq _ ahead c.args.outcome c.fixpoint_overflow_result-overflow.result _ _ _ _ g.met.D.Cx.Cx.same_input c.args.cache.now.results c.pop_goal-in-Err-AtLimit.new.cache.results c.args.self.now.goals c.args.self.now.provisional c.pop_goal-in-Err-AtLimit.new.self.provisional c.pop_goal-in-Err-AtLimit.ensures.stored p.rebased h.asked h.answers;
         remembered = remembered g.D.Delegate g.D.Cx.Cx c.args.cache.now.cx call g.D.Cx.Input.PartialEq.eq (g.D.Cx.Cx.token c.args.cache.now.cx) ahead c.args.outcome c.fixpoint_overflow_result-overflow.result _ c.args.self.now.limits_met c.pop_goal-in-Err-AtLimit.new.cache.results true (met_none_before g.D.Delegate g.D.Cx.Cx c.args.cache.now.cx call c.args.self.now.limits_met) c.args.self.now.goals c.pop_goal-in-Err-AtLimit.new.self.goals next c.requires.right.justified.tallies h.asked p.left p.stored;
       }));
   stops = λ call ahead h.
