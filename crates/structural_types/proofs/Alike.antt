@@ -1,11 +1,11 @@
 -- Numbers of one form are below the same types, and above the same. So are two numbers that are not declared.
-use Rattle.std.proofs.Common.{◌≡◌, ℕ, ◌≤◌, ◌<◌, ◌==◌, if◌then◌else◌, inl, inr, true, List, ◌++◌, map, length, min, slice_get, Contains, Some, None, refl, sym, ap, ◌∙◌, subst, arith}
+use Rattle.std.proofs.Common.{◌≡◌, ℕ, ◌≤◌, ◌<◌, ◌==◌, if◌then◌else◌, inl, inr, List, ◌++◌, map, length, min, slice_get, Contains, refl, sym, ap, ◌∙◌, subst, arith}
 use Rattle.std.proofs.lemmas.Bool.{cases_Bool, eqb-true, eq-eqb}
 use Rattle.std.proofs.lemmas.List.Elements.{Contains-append_left, Contains-append_right, Contains-append_cases}
 use Rattle.std.proofs.lemmas.Option.{slice_get_cases, slice_get_past}
 use Rattle.std.proofs.Math.Nat.{min-eq_left, min-eq_right}
 use Rattle.open_graphs.proofs.Members.{Contains-map, Contains-mapped}
-use Rattle.structural_types.specs.Subtypes.{Base, Bottom, Form, Function, IsBelow, IsRecord, IsSimulation, IsSupported, IsUnion, Top}
+use Rattle.structural_types.specs.Subtypes.{Form, IsBelow, IsRecord, IsSimulation, IsSupported, IsUnion}
 use Rattle.structural_types.specs.Subtypes.IsSupported.{BottomLeft, TopRight, SameWord, Functions, Records, EachLeft, SomeRight}
 use Rattle.structural_types.proofs.Apart.{supported_more}
 

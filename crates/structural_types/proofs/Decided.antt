@@ -1,5 +1,5 @@
 -- A proof graph of a pair gives a simulation, and a refutation graph leaves none.
-use Rattle.std.proofs.Common.{◌≡◌, true, ℕ, ◌-◌, ◌⊎◌, inl, inr, List, map, slice_get, Contains, Option, None, Some, refl, sym, ap, ap₂, ◌∙◌, subst}
+use Rattle.std.proofs.Common.{◌≡◌, true, ℕ, ◌⊎◌, inl, inr, List, map, slice_get, Contains, Option, None, Some, refl, sym, ap, ap₂, ◌∙◌, subst}
 use Rattle.std.specs.Option.{IsSomeAnd}
 use Rattle.search_context.proofs.Graphs.{Contains-map, Contains-mapped, goal_node, HasEdge-from}
 use Rattle.structural_types.specs.Below.{Coinductive, Edge, GraphNode, HasEdge, HasGoal, IsProofGraph, IsRefutationGraph, question_of, Question, Needs, All, Any, Proves, Refutes}

@@ -1,5 +1,5 @@
 -- No question leads out of the pairs of a table's numbers, and a search can be as deep as these are many.
-use Rattle.std.proofs.Common.{◌≡◌, ℕ, ◌+◌, ◌*◌, ◌≤◌, inl, inr, List, [], ◌∷◌, ◌++◌, map, length, slice_get, sum_by, All, Contains, Option, None, Some, refl, sym, ap, subst, ◌∙◌, arith}
+use Rattle.std.proofs.Common.{◌≡◌, ℕ, ◌+◌, ◌*◌, ◌≤◌, inl, inr, List, [], ◌∷◌, map, length, slice_get, sum_by, All, Contains, Option, None, Some, refl, sym, ap, subst, ◌∙◌, arith}
 use Rattle.std.specs.List.{flat_map, range_with_len}
 use Rattle.std.specs.Option.{unwrap_or}
 use Rattle.std.proofs.Math.Nat.{mul-le-mul_right}
@@ -11,11 +11,11 @@ use Rattle.std.proofs.lemmas.List.Sums.{sum_by-le}
 use Rattle.open_graphs.proofs.Members.{Contains-map, Contains-mapped, first_or_later}
 use Rattle.question_lists.specs.Told.{Contains-at}
 use Rattle.question_lists.proofs.Ranked.{asked_of, scripts}
-use Rattle.structural_types.specs.Below.{AsksOnly, Coinductive, IsEnclosed, NoQuestionLeadsOut, Question}
+use Rattle.structural_types.specs.Below.{AsksOnly, Coinductive, IsEnclosed, NoQuestionLeadsOut}
 use Rattle.structural_types.specs.Fields.{Field, part_of}
 use Rattle.structural_types.specs.Pairs.{askable, each_pair, numbers_of}
 use Rattle.structural_types.specs.Parts.{all_parts, extent_of, parts_of}
-use Rattle.structural_types.specs.Rule.{alternatives_in, asks, Case, case_of, fields_in, function_pairs, left_pairs, needs_of, pair, pairs_in, pairs_of, part_at, parts_in, questions_of, record_pairs, right_pairs, BetweenFunctions, BetweenRecords, Fails, Holds, SplitsLeft, SplitsRight}
+use Rattle.structural_types.specs.Rule.{alternatives_in, asks, Case, case_of, fields_in, function_pairs, needs_of, pair, pairs_in, pairs_of, part_at, parts_in, questions_of, BetweenFunctions, BetweenRecords, Fails, Holds, SplitsLeft, SplitsRight}
 use Rattle.structural_types.specs.Subtypes.{Base, Bottom, Form, forms_of, Function, Record, Top, Union}
 use Rattle.structural_types.specs.declared.delegate.Pair.{Pair}
 use Rattle.structural_types.specs.declared.types.Types.{Types}
