@@ -39,8 +39,9 @@ impl<T: LendsTypes> Subtyping<T> {
     /// Whether the left type is below the right one. Types are told by their numbers, and one that is not declared is below
     /// the top and above the bottom alone.
     ///
-    /// `Fault::Memory` where memory is out. A fault lets go of what earlier questions found out, and of its memory; so
-    /// the next question can be asked, and begins anew.
+    /// `Fault::Memory` where memory is out. That a pair never comes to another answer than is stored of it is not proved, so
+    /// `Fault::Conflict` may be told, too. A fault lets go of all that earlier questions found out, and of its memory: the
+    /// next question can be asked, and begins anew.
     pub fn is_below(&mut self, left: usize, right: usize) -> Result<bool, Fault<Pair, Outcome>>
         ensures exact { IfOk result (λ answer. (answer ≡ true)
             ↔ IsBelow (declared_in T.types_of self.old) left right) }
