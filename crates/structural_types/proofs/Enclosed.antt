@@ -39,7 +39,7 @@ each_within numbers =
     let row : ℕ → List Pair = λ x. map (λ y. pair x y) numbers in
     let size : length (flat_map row numbers) ≡ sum_by (λ x. length (row x)) numbers = length-flat_map row numbers in
     let rows : All (λ x. length (row x) ≤ length numbers) numbers =
-        All-weaker (Contains numbers) (λ x. length (row x) ≤ length numbers) (λ x _. let e : length (row x) ≡ length numbers = length-map numbers (λ y. pair x y) in omega (arith, e)) numbers (All-contains_itself numbers) in
+    All-weaker (Contains numbers) (λ x. length (row x) ≤ length numbers) (λ x _. let e : length (row x) ≡ length numbers = length-map numbers (λ y. pair x y) in omega (arith, e)) numbers (All-contains_itself numbers) in
     let total : sum_by (λ x. length (row x)) numbers ≤ length numbers * length numbers = sum_by-le (λ x. length (row x)) (length numbers) numbers rows in
     subst (λ n. n ≤ length numbers * length numbers) (sym size) total
 

@@ -123,12 +123,7 @@ impl Search {
                 self.look_at(subtyping, results, place, Step::Result)?;
             }
             (Some(Form::Record(fields)), Some(Form::Record(others))) => {
-                self.follow_fields(
-                    subtyping,
-                    fields.as_slice(),
-                    others.as_slice(),
-                    place,
-                )?;
+                self.follow_fields(subtyping, fields.as_slice(), others.as_slice(), place)?;
             }
             _ => {}
         }
