@@ -11,6 +11,7 @@ use Rattle.std.proofs.lemmas.List.Sums.{sum_by-le}
 use Rattle.open_graphs.proofs.Members.{Contains-map, Contains-mapped, first_or_later}
 use Rattle.question_lists.specs.Told.{Contains-at}
 use Rattle.question_lists.proofs.Ranked.{asked_of, scripts}
+use Rattle.search_rules.specs.OneKind.{AsksByOneKind}
 use Rattle.structural_types.specs.Below.{AsksOnly, Coinductive, IsEnclosed, NoQuestionLeadsOut}
 use Rattle.structural_types.specs.Fields.{Field, part_of}
 use Rattle.structural_types.specs.Pairs.{askable, each_pair, numbers_of}
@@ -138,6 +139,11 @@ module _ (forms : List Form) where
       let q = asked_of (needs_of forms) (questions_of forms) goal replies (record { kind = kind; goal = asked }) e in
       let m = Contains-map asks (pairs_of forms goal) (record { kind = kind; goal = asked }) q in
       sym (ap (λ q. q.kind) m.2)
+
+  -- so all of them are of one kind
+  pub all_by_one_kind : AsksByOneKind (scripts (needs_of forms) (questions_of forms))
+  all_by_one_kind goal kind asked other other_kind other_asked one there another back =
+      all_coinductive goal one.replies kind asked one.fitting one.asks ∙ sym (all_coinductive other another.replies other_kind other_asked another.fitting another.asks)
 
   how_many : length (numbers_of forms) ≡ extent_of forms + 1
   how_many =

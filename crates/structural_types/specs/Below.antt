@@ -6,6 +6,7 @@ pub use Rattle.delegate_parts.specs.Outcome.{is_no, is_yes, outcome_verdicts}
 pub use Rattle.delegate_parts.specs.declared.outcome.Outcome.{Outcome}
 pub use Rattle.evaluations.specs.Enclosed.{IsEnclosed, NoQuestionLeadsOut}
 pub use Rattle.global_cache.specs.Cache.{Cache}
+pub use Rattle.question_lists.specs.Frame.{script_of}
 pub use Rattle.question_lists.specs.Needs.{Proves, Refutes}
 pub use Rattle.question_lists.specs.declared.needs.Needs.{Needs}
 pub use Rattle.question_lists.specs.declared.needs.Needs.TheVariants.{All, Any}
@@ -20,5 +21,6 @@ pub use Rattle.search_context.specs.declared.context.Delegate.{Ghosts as Delegat
 pub use Rattle.search_context.specs.declared.context.Fault.{Fault}
 pub use Rattle.search_context.specs.declared.context.Fault.TheVariants.{Conflict, Memory}
 pub use Rattle.search_context.specs.declared.context.Verdict.TheVariants.{Neither, No, Yes}
+pub use Rattle.search_rules.specs.Kinds.{StoredReachNested}
 pub use Rattle.search_rules.specs.Results.{AreDefinite, HaveNoOverflowOf}
 pub use Rattle.search_rules.specs.Settled.{AreSettled, HasOneOfEach}

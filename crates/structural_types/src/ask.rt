@@ -8,7 +8,7 @@ ghost use Rattle.structural_types.specs.Ready.{IsReady};
 use crate::delegate::{LendsTypes, Pair, PairsOf, TypesDelegate};
 use crate::subtyping::Subtyping;
 use delegate_parts::{Builder, ContextOf, Outcome};
-use question_lists::{Listed, ListsContext};
+use question_lists::Listed;
 use search_graph::graph::SearchGraph;
 use search_graph::law::nothing_is_settled;
 use search_parts::context::Fault;
@@ -21,7 +21,7 @@ fn empty_cache<T: LendsTypes>(alloc: Global, types: T) -> GlobalCache<TypesDeleg
     ensures same_types { result.cx.0.0.lender ≡ types }
     ensures ready { IsReady ⟦<Pair as PartialEq>⟧.eq (forms_of (T.types_of types)) result }
 {
-    nothing_is_settled::<ListsContext<PairsOf<T>>>();
+    nothing_is_settled::<TypesDelegate<T>>();
     GlobalCache::new(alloc, ContextOf(Listed(PairsOf { lender: types })))
 }
 

@@ -42,7 +42,7 @@ pub struct PairsOf<T> {
 }
 
 /// The delegate of subtypes, which has eight runs of a pair and the provisional cache.
-pub type TypesDelegate<T> = ListsDelegate<PairsOf<T>, 8, 0>;
+pub type TypesDelegate<T> = ListsDelegate<PairsOf<T>, 8, 1>;
 
 /// How a pair is decided, by the forms of its types.
 #[derive(Clone, Copy, Debug, PartialEq, Eq)]

@@ -1,5 +1,6 @@
 use Rattle.std.proofs.Common.{rules, ◌≡◌, ◌≤◌, true, false, length, min, slice_get, refl, sym, ap, ◌∙◌, subst, inl, inr, arith}
 use Rattle.std.proofs.Math.Bool.{Bool-set}
+use Rattle.std.proofs.lemmas.Bool.{true≢false}
 use Rattle.std.proofs.Math.Logic.{∥∥₁_elim, ∥∥₁_map}
 use Rattle.std.proofs.Math.Nat.{min-le_right}
 use Rattle.structural_types.specs.Below.{is_yes}
@@ -21,12 +22,14 @@ invariant_of-self g c =
     let deep : c.new-graph.result.root_depth ≡ 18446744073709551615 = ap (λ graph. graph.root_depth) c.new-graph.ensures in
     record {
       ready = ∥∥₁_map c.args.self.now.ready (λ ready.
-          let never_met = c.evaluate_goal.ensures.two_runs (askable forms) (enough _ _ _ types _ _ _ _ _ refl refl refl (omega arith) (λ _. refl) deep left right c.new-builder.ensures.noop ready) unmet in
+          let never_met = c.evaluate_goal.ensures.two_runs (askable forms) (enough _ _ _ types _ _ _ _ _ refl refl (omega arith) (λ _. refl) deep left right c.new-builder.ensures.noop ready) unmet in
+          let store = c.in-Ok.ensures.two_runs_settle (askable forms) (enough _ _ _ types _ _ _ _ _ refl refl (omega arith) (λ _. refl) deep left right c.new-builder.ensures.noop ready) unmet in
           ready_for _ forms _ c.evaluate_goal.new.cache (ap (λ cx. forms_of (g.T.LendsTypes.types_of cx.0.0.lender)) c.evaluate_goal.ensures.same_context)
           (record {
             definite = c.evaluate_goal.ensures.decisive_results (pairs_are_decisive forms) ready.definite never_met;
             no_overflow = c.evaluate_goal.ensures.enclosed (askable forms) (enclosed_at types _ _ _ deep left right) ready.no_overflow;
-            settled = c.in-Ok.ensures.two_runs_settle (askable forms) (enough _ _ _ types _ _ _ _ _ refl refl refl (omega arith) (λ _. refl) deep left right c.new-builder.ensures.noop ready) unmet;
+            settled = store.settled;
+            reached = elim store.suit [ inl off ↦ absurd (true≢false off) | inr reached ↦ reached ];
           }));
     }
 
@@ -49,7 +52,7 @@ returns-in-Ok-clause-exact g c =
           (subst (λ cx. IsBelow (forms_of (g.T.LendsTypes.types_of cx.0.0.lender)) c.min.result c.min-2.result) c.evaluate_goal.ensures.same_context
           (proved_below later c.in-Ok.answer.node _ (pair c.min.result c.min-2.result) (c.in-Ok.ensures.yes is).graph)),
       λ below. ∥∥₁_elim c.args.self.now.ready (Bool-set _ _) (λ ready.
-          let never_met = c.evaluate_goal.ensures.two_runs (askable forms) (enough _ _ _ types _ _ _ _ _ refl refl refl (omega arith) (λ _. refl) deep left right c.new-builder.ensures.noop ready) unmet in
+          let never_met = c.evaluate_goal.ensures.two_runs (askable forms) (enough _ _ _ types _ _ _ _ _ refl refl (omega arith) (λ _. refl) deep left right c.new-builder.ensures.noop ready) unmet in
           elim (yes_or_no c.in-Ok.answer.result (c.in-Ok.ensures.decisive (pairs_are_decisive forms) ready.definite never_met)) [
             | inl is ↦ search rules
             | inr is ↦ absurd
