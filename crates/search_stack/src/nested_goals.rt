@@ -18,7 +18,7 @@ use std::mem;
 /// A stored result is not used where one of them is on the stack, or has a provisional entry that could be
 /// used: the goal, worked out there, would close a cycle that it did not close before, and so may come to
 /// another result. Goals are added only once there was a cycle or a refused question. That spares the others
-/// the map, of which they hold no more than a null pointer.
+/// the map, which is made when the first goal comes.
 ///
 /// Where a goal gives its nested goals to the one that asked it, only the smaller map of the two is walked, and a
 /// cycle of n goals moves at most n times the logarithm of n of them, and not the square of n.
