@@ -6,5 +6,6 @@
 mod decided;
 #[cfg(test)]
 mod drawn;
+pub mod early;
 #[cfg(test)]
 mod solved;
