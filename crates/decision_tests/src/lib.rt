@@ -8,4 +8,6 @@ mod decided;
 mod drawn;
 pub mod early;
 #[cfg(test)]
+mod many_runs;
+#[cfg(test)]
 mod solved;
