@@ -6,5 +6,8 @@
 mod decided;
 #[cfg(test)]
 mod drawn;
+pub mod early;
+#[cfg(test)]
+mod many_runs;
 #[cfg(test)]
 mod solved;
