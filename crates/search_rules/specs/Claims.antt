@@ -31,6 +31,17 @@ ComesTo {I} {R} scripts limit_result goal r =
     ((replies : List (Reply R)) × IsFitting (scripts goal) replies × (request_after (scripts goal) replies ≡ Some (Done r)))
     ⊎ (r ≡ limit_result goal)
 
+-- where the fault is that another result is stored than a goal came to, this holds of the one that it came to
+abbrev pub IfDiffers : {I R : Type 0} → Fault I R → (R → Type 0) → Type 0
+IfDiffers (Conflict goal stored found) Holds = Holds found
+IfDiffers (Validation goal stored found) Holds = Holds found
+IfDiffers fault Holds = Unit {0}
+
+-- memory is out, or a request came out of order
+pub data IsMemoryOrOrder {I R : Type 0} (fault : Fault I R) : Type 0 where
+  WantsMemory : fault ≡ Memory → IsMemoryOrOrder fault
+  BreaksOrder : (number : ℕ) → fault ≡ Protocol number → IsMemoryOrOrder fault
+
 module _ {D C V P F I R A T : Type 0} (G : DelegateOf D C V P F I R A T) (X : CxOf C I R A T) (same : I → I → Bool) (cache : Cache C I R A T) where
   -- The goal came to `found`, and the cache holds another result of it in the same place. If `found` is yes or no, that has its graph.
   pub record Conflicts (goal : I) (stored found : R) : Type 0 where
