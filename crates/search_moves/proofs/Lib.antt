@@ -7,6 +7,7 @@ pub mod LimitsAtEnd
 pub mod Keeping
 pub mod Fating
 pub mod Storing
+pub mod Failing
 pub mod Given
 pub mod OneKind
 pub mod KeptEntries
