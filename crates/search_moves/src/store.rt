@@ -105,6 +105,7 @@ fn store_for_good<D: Delegate>(
 {
     let token = cache.cx().dep_node(input);
     cache.has_runs();
+    cache.has_sound_results();
     cache.insert(input, answer, token)
 }
 
@@ -125,6 +126,7 @@ fn compare<D: Delegate>(
     ensures differs { OnErr result (answer.now.result ≢ stored) }
 {
     cache.has_runs();
+    cache.has_sound_results();
     let found = answer.result;
     if found == stored {
         return Ok(());

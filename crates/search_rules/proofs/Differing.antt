@@ -1,14 +1,12 @@
 -- Where there is one yes and one no, and each stored result is yes or no, no goal comes to another yes or no than is stored: both have
 -- their graphs.
-use Rattle.std.proofs.Common.{◌≡◌, ◌≢◌, ℕ, Bool, true, false, if◌then◌else◌, List, Option, None, Some, Result, Ok, Err, IfErr, refl, sym, subst, ◌∙◌}
+use Rattle.std.proofs.Common.{◌≡◌, ◌≢◌, ℕ, Bool, true, false, if◌then◌else◌, List, Option, None, Some, Result, Ok, Err, IfErr, refl, sym, subst}
 use Rattle.std.specs.Option.{IsSomeAnd}
 use Rattle.open_graphs.specs.Graph as theory
 use Rattle.open_graphs.proofs.Lists.{mapped_some}
-use Rattle.search_context.proofs.Rules.{KeepsRule}
-use Rattle.search_rules.specs.Below.{AnswersStoring, AreRuns, AreSoundResults, Cache, Conflict, CxOf, DelegateOf, Fault, graph_nodes_of, GraphNode, IsDefinite, IsProofGraph, IsRefutationGraph, Memory, NodeId, Overlap, Protocol, Question, stored_at, StoredResult, Validation, verdict_of, verdicts}
+use Rattle.search_rules.specs.Below.{AnswersStoring, Cache, Conflict, CxOf, DelegateOf, Fault, graph_nodes_of, GraphNode, IsDefinite, IsProofGraph, IsRefutationGraph, Memory, NodeId, Protocol, stored_at, StoredResult, Validation, verdicts}
 use Rattle.search_rules.specs.Settled.{HasOneOfEach}
 use Rattle.search_rules.specs.Words.{AreDefinite, BreaksOrder, Conflicts, IfDiffers, IsCaused, IsMemoryOrOrder, OtherResult, OtherThanStored, OutOfMemory, OutOfOrder, WantsMemory}
-use Rattle.search_rules.proofs.Shown.{no_is_refuted, yes_is_proved}
 
 -- what follows for the result that differs
 pub differs_then : {I R : Type 0} (fault : Fault I R) (P Q : R → Type 0) → ((r : R) → P r → Q r) → IfDiffers fault P → IfDiffers fault Q
@@ -43,7 +41,7 @@ agree false true false true one other proved refuted = refl
 agree false true false false one other proved refuted = absurd (other refl)
 agree false false z m one other proved refuted = absurd (one refl)
 
-module _ {D C V P F I R A T : Type 0} (G : DelegateOf D C V P F I R A T) (X : CxOf C I R A T) (same : I → I → Bool) (cache : Cache C I R A T) (runs_are : AreRuns (verdicts X) (G.script cache.cx) cache.nodes) (clash : (goal : I) (held failed : List (Question I)) → X.proves cache.cx goal held → X.refutes cache.cx goal failed → Overlap held failed) (proves : KeepsRule X.is_yes (G.script cache.cx) (X.proves cache.cx)) (refutes : KeepsRule X.is_no (G.script cache.cx) (X.refutes cache.cx)) (one_sort : (r : R) → X.is_yes r ≡ true → X.is_no r ≡ false) (one_of_each : HasOneOfEach (verdicts X)) (sound : AreSoundResults same (verdicts X) (G.script cache.cx) cache.nodes cache.results) (definite : AreDefinite (verdicts X) same cache.results) where
+module _ {D C V P F I R A T : Type 0} (G : DelegateOf D C V P F I R A T) (X : CxOf C I R A T) (same : I → I → Bool) (cache : Cache C I R A T) (one_of_each : HasOneOfEach (verdicts X)) (definite : AreDefinite (verdicts X) same cache.results) where
   never_fails : (goal : I) (o : Option NodeId) → IsSomeAnd o (λ root. IsRefutationGraph (X.refutes cache.cx) (graph_nodes_of cache.nodes) root.0 goal) → ((others : List (GraphNode I)) (top : ℕ) → IsRefutationGraph (X.refutes cache.cx) others top goal → ⊥) → ⊥
   never_fails goal None graph never = graph
   never_fails goal (Some n) graph never = never (graph_nodes_of cache.nodes) n.0 graph
@@ -53,15 +51,14 @@ module _ {D C V P F I R A T : Type 0} (G : DelegateOf D C V P F I R A T) (X : Cx
   never_holds goal (Some n) graph never = never (graph_nodes_of cache.nodes) n.0 graph
 
   never_conflicts : (goal : I) (stored found : R) → IsDefinite (verdicts X) found → Conflicts G X same cache goal stored found → ⊥
-  never_conflicts goal stored found is_definite h =
+  never_conflicts goal stored found found_definite h =
       let there = mapped_some (λ (s : StoredResult C I R A T). s.result.result) (stored_at same cache.results goal h.place) stored h.is_stored in
-      let s = there.0 in
-      let graph = (sound goal h.place s there.1).graph in
-      let one_verdict : verdict_of (verdicts X) s.result.result ≡ verdict_of (verdicts X) found =
-          agree (X.is_yes s.result.result) (X.is_no s.result.result) (X.is_yes found) (X.is_no found) (definite goal h.place s there.1) is_definite
-          (λ holds fails. absurd (never_fails goal h.node (h.is_refuted fails).graph (yes_is_proved G X cache runs_are clash goal s.result.result s.node graph proves holds).never_refuted))
-          (λ fails holds. absurd (never_holds goal h.node (h.is_proved holds).graph (no_is_refuted G X cache runs_are clash goal s.result.result s.node graph refutes (one_sort s.result.result) fails).never_proved)) in
-      h.differs (sym there.2 ∙ one_of_each s.result.result found (definite goal h.place s there.1) one_verdict)
+      let stored_definite : IsDefinite (verdicts X) stored = subst (IsDefinite (verdicts X)) there.2 (definite goal h.place there.0 there.1) in
+      h.differs
+      (one_of_each stored found stored_definite
+      (agree (X.is_yes stored) (X.is_no stored) (X.is_yes found) (X.is_no found) stored_definite found_definite
+      (λ holds fails. absurd (never_fails goal h.found_node (h.found_is.is_refuted fails).graph (h.stored_is.is_proved holds).never_refuted))
+      (λ fails holds. absurd (never_holds goal h.found_node (h.found_is.is_proved holds).graph (h.stored_is.is_refuted fails).never_proved))))
 
   pub memory_or_order : (fault : Fault I R) → IfDiffers fault (IsDefinite (verdicts X)) → IsCaused G X same cache fault → IsMemoryOrOrder fault
   memory_or_order fault decided (OutOfMemory is) = WantsMemory is

@@ -12,7 +12,7 @@ pub returns-clause-fails : goal.returns-clause-fails
 returns-clause-fails g c =
     storing_fails g.D.Delegate g.D.Cx.Cx g.D.Cx.Input.PartialEq.eq c.args.answer.result c.args.cache.now c.insert.new.self c.insert.result
     (caused_after g.D.Delegate g.D.Cx.Cx g.D.Cx.Input.PartialEq.eq c.args.cache.now c.insert.new.self c.insert.result c.insert.ensures.err
-    (storing_is_caused g.D.Delegate g.D.Cx.Cx g.D.Cx.Input.PartialEq.eq c.args.cache.now c.has_runs.ensures (g.met.D.Cx.Cx.clash c.args.cache.now.cx) (g.met.D.Delegate.yes_is_proved c.args.cache.now.cx) (g.met.D.Delegate.no_is_refuted c.args.cache.now.cx) g.met.D.Cx.Cx.one_sort g.D.Cx.Result.PartialEq.eq g.met.D.Cx.Result.Eq.laws
+    (storing_is_caused g.D.Delegate g.D.Cx.Cx g.D.Cx.Input.PartialEq.eq c.args.cache.now c.has_runs.ensures (g.met.D.Cx.Cx.clash c.args.cache.now.cx) (g.met.D.Delegate.yes_is_proved c.args.cache.now.cx) (g.met.D.Delegate.no_is_refuted c.args.cache.now.cx) g.met.D.Cx.Cx.one_sort c.has_sound_results.ensures g.D.Cx.Result.PartialEq.eq g.met.D.Cx.Result.Eq.laws
     c.args.input (place_of c.args.answer) c.args.answer.result c.args.answer.node (c.requires.storable.graph c.requires.no_heads) c.requires.storable.comes (stored_at g.D.Cx.Input.PartialEq.eq c.args.cache.now.results c.args.input (place_of c.args.answer)) refl c.insert.result c.insert.ensures.answer))
     (storing_differs g.D.Cx.Result.PartialEq.eq c.args.input c.args.answer.result (stored_at g.D.Cx.Input.PartialEq.eq c.args.cache.now.results c.args.input (place_of c.args.answer)) c.insert.result c.insert.ensures.answer)
     (same_results c.insert.result c.args.cache.now c.insert.new.self c.insert.ensures.err)
