@@ -11,6 +11,11 @@ pub on_err : {V E P : Type 0} (r : Result V E) (Q : E → Type 0) → ((fault : 
 on_err (Ok v) Q from h = tt
 on_err (Err fault) Q from h = from fault h
 
+-- what holds whether there is a fault or not
+pub if_err_then : {V E P : Type 0} (r : Result V E) → P → OnErr r P
+if_err_then (Ok v) h = tt
+if_err_then (Err fault) h = h
+
 module _ {D C V P F I R A T : Type 0} (G : DelegateOf D C V P F I R A T) (X : CxOf C I R A T) (same : I → I → Bool) (came_to : R) (old new : Cache C I R A T) where
   -- memory is out
   pub memory_fails : {W : Type 0} (r : Result W (Fault I R)) → IsErrAnd r (λ fault. fault ≡ Memory) → new.results ≡ old.results → IfErr r (Fails G X same came_to old new)

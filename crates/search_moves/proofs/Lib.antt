@@ -1,6 +1,7 @@
 pub mod Asking
 pub mod Settling
 pub mod SettledEnds
+pub mod SettledFaults
 pub mod Said
 pub mod Remembering
 pub mod LimitsAtEnd

@@ -1,13 +1,15 @@
 use Rattle.std.proofs.Common.{arith, ◌≡◌, ◌∙◌, length, false, None, sym, subst, ap}
 use Rattle.search_context.proofs.Builders.{builder_goes_on}
-use Rattle.search_graph.specs.Below.{fates_of, IsFated, MovesFates, stored_at, AreFrom, Begin, Finished, Step, Awaits, Call, HasReply, IsRightFor, IsRightNext, LeadsTo, StopsWith, work_left}
+use Rattle.search_graph.specs.Below.{fates_of, IsFated, MovesFates, stored_at, AreFrom, Begin, Finished, Step, Awaits, Call, HasReply, IsRightFor, IsRightNext, LeadsTo, runs_of, StopsWith, work_left}
 use Rattle.search_rules.proofs.records.EarlierNodes.{first_there, stay_pushed}
 use Rattle.search_moves.proofs.Keeping.{appending_keeps}
-use Rattle.search_graph.proofs.Beginning.{begins_right, begins_waiting, never_pushed, then_keeps}
+use Rattle.search_graph.proofs.Beginning.{begins_right, begins_waiting, never_pushed, new_right, then_keeps}
 use Rattle.search_rules.proofs.moves.Questions.{if_err_and, no_ok}
 use Rattle.search_graph.proofs.KeptFates.{not_stored, first_fates, only_stores, then_fates, then_recorded, then_spared}
 use Rattle.search_graph.proofs.Loops.{call_of, only_one, some_call_begins, only_has_graph}
-use Rattle.search_moves.specs.Settled.{Settles, SettlesNext}
+use Rattle.global_cache.proofs.Finished.{KeepsFinished-nodes}
+use Rattle.search_moves.proofs.SettledFaults.{settled_stays}
+use Rattle.search_moves.specs.Settled.{IsSettledStore, Settles, SettlesNext}
 use Rattle.search_rules.specs.Settled.{CallNeedsTwoRuns}
 use Rattle.search_graph.proofs.SettledSteps.{begins_settles, begins_unmet, needs_with}
 use Rattle.search_graph.proofs.graph.evaluate.work_out.Goals as goal
@@ -157,14 +159,18 @@ returns-in-Finished-clause-spares g c = record {
 pub returns-in_err-push_goal-clause-settled : goal.returns-in_err-push_goal-clause-settled
 returns-in_err-push_goal-clause-settled g c = λ stored not_lone. record {
   unmet = λ call at needs settled. ap (λ e. e.limits_met) c.push_goal.ensures.rest ∙ begins_unmet g.D.Delegate g.D.Cx.Cx c.args.cache.now.cx call _ _ _ _ _ needs at.outset;
-  settles = λ call at needs settled. no_ok c.from_residual.result _ _ c.from_residual.ensures.1;
+  settles = λ call at needs settled.
+      settled_stays g.D.Delegate g.D.Cx.Cx g.D.Cx.Input.PartialEq.eq c.args.cache.now.cx call.goals c.args.cache.now c.push_goal.new.cache (runs_of c.args.evaluation.now.goals)
+      (new_right g.D.Delegate g.D.Cx.Cx g.D.Cx.Input.PartialEq.eq c.args.cache.now.cx c.args.step_kind c.args.input c.args.cache.now c.args.evaluation.now c.requires.new c.has_sound_results.ensures).free
+      (KeepsFinished-nodes c.args.cache.now.nodes c.push_goal.new.cache.nodes c.push_goal.ensures.kept) (ap (λ cache. cache.results) c.push_goal.ensures.cache) settled;
 }
 
 pub returns-in_err-next-clause-settled : goal.returns-in_err-next-clause-settled
 returns-in_err-next-clause-settled g c = λ stored not_lone. record {
   unmet = λ call at needs settled.
       (subst (λ cx. (call : Call _) → Awaits g.D.Delegate g.D.Cx.Cx g.D.Cx.Input.PartialEq.eq cx call c.loop-next.received c.loop-next.cache c.loop-next.evaluation (g.D.Delegate.starts c.loop-next.inspect) → CallNeedsTwoRuns g.D.Delegate g.D.Cx.Cx cx call (g.D.Delegate.noop c.loop-next.inspect) → Settles g.D.Delegate g.D.Cx.Cx g.D.Cx.Input.PartialEq.eq cx call c.loop-next.received c.loop-next.cache c.loop-next.evaluation → c.advance.new.evaluation.limits_met ≡ false) c.loop-next.invariant.keeps.context c.in_err-next.ensures.settled.unmet) call (c.loop-next.invariant.waiting call at) (needs_with g.D.Delegate g.D.Cx.Cx c.args.cache.now.cx call _ _ c.loop-next.invariant.builder.same_noop needs) (c.loop-next.invariant.settled stored not_lone call at needs settled);
-  settles = λ call at needs settled. no_ok c.from_residual-in_err-next.result _ _ c.from_residual-in_err-next.ensures.1;
+  settles = λ call at needs settled.
+      (subst (λ cx. (call : Call _) → Awaits g.D.Delegate g.D.Cx.Cx g.D.Cx.Input.PartialEq.eq cx call c.loop-next.received c.loop-next.cache c.loop-next.evaluation (g.D.Delegate.starts c.loop-next.inspect) → CallNeedsTwoRuns g.D.Delegate g.D.Cx.Cx cx call (g.D.Delegate.noop c.loop-next.inspect) → Settles g.D.Delegate g.D.Cx.Cx g.D.Cx.Input.PartialEq.eq cx call c.loop-next.received c.loop-next.cache c.loop-next.evaluation → IsSettledStore g.D.Delegate g.D.Cx.Cx g.D.Cx.Input.PartialEq.eq cx call.goals c.advance.new.cache.nodes c.advance.new.cache.results) c.loop-next.invariant.keeps.context c.in_err-next.ensures.settled.leaves) call (c.loop-next.invariant.waiting call at) (needs_with g.D.Delegate g.D.Cx.Cx c.args.cache.now.cx call _ _ c.loop-next.invariant.builder.same_noop needs) (c.loop-next.invariant.settled stored not_lone call at needs settled);
 }
 
 pub returns-in-Finished-clause-settled : goal.returns-in-Finished-clause-settled
