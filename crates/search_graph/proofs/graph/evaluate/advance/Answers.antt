@@ -184,41 +184,41 @@ returns-in_ok-next-in-Done-clause-cache g c = record {
   changes = subst (λ fs. ChangesNewest g.D.Cx.Input.PartialEq.eq fs c.args.cache.now.results c.finish_run.new.cache.results) (fates_stepped g.D.Delegate g.D.Cx.Cx c.cx-cx.result c.args.evaluation.now.goals c.step.new.goals c.args.received c.in_ok-request.request c.in_ok-request.ensures.stepped) c.finish_run.ensures.cache.changes;
 }
 
-pub returns-in_ok-next-in-Evaluate-clause-stays : goal.returns-in_ok-next-in-Evaluate-clause-stays
-returns-in_ok-next-in-Evaluate-clause-stays g c =
-    stay_then c.args.cache.now.nodes c.args.evaluation.now.goals c.step.new.goals c.ask.new.self.goals
-    (stay_stepped g.D.Delegate g.D.Cx.Cx c.cx-cx.result c.args.cache.now.nodes c.args.evaluation.now.goals c.step.new.goals c.args.received c.in_ok-request.request c.in_ok-request.ensures.stepped)
-    (asked_from g.D.Delegate g.D.Cx.Cx g.D.Cx.Input.PartialEq.eq c.args.cache.now.cx c.in-Evaluate.kind c.in-Evaluate.input c.args.cache.now (record c.args.evaluation.now { goals = c.step.new.goals }) (g.D.Delegate.starts c.step.new.inspect) (g.D.Delegate.noop c.step.new.inspect) c.in_ok-next-in-Evaluate.next c.ask.new.cache c.ask.new.self (g.D.Delegate.starts c.ask.new.inspect) c.in_ok-next-in-Evaluate.ensures.asked)
-
-pub returns-in_ok-next-in-Done-clause-stays : goal.returns-in_ok-next-in-Done-clause-stays
-returns-in_ok-next-in-Done-clause-stays g c =
-    stay_then c.args.cache.now.nodes c.args.evaluation.now.goals c.step.new.goals c.finish_run.new.self.goals
-    (stay_stepped g.D.Delegate g.D.Cx.Cx c.cx-cx.result c.args.cache.now.nodes c.args.evaluation.now.goals c.step.new.goals c.args.received c.in_ok-request.request c.in_ok-request.ensures.stepped)
-    (led_from g.D.Delegate g.D.Cx.Cx g.D.Cx.Input.PartialEq.eq c.args.cache.now.cx g.D.Cx.Result.PartialEq.eq c.in-Done.outcome c.args.cache.now (record c.args.evaluation.now { goals = c.step.new.goals }) c.in_ok-next-in-Done.next c.finish_run.new.cache c.finish_run.new.self c.in_ok-next-in-Done.ensures.leads)
-
-pub returns-in_ok-note_candidate-in_default-clause-stays : goal.returns-in_ok-note_candidate-in_default-clause-stays
-returns-in_ok-note_candidate-in_default-clause-stays g c =
-    stay_then c.args.cache.now.nodes c.args.evaluation.now.goals c.step.new.goals c.note_candidate.new.self
-    (stay_stepped g.D.Delegate g.D.Cx.Cx c.cx-cx.result c.args.cache.now.nodes c.args.evaluation.now.goals c.step.new.goals c.args.received c.in_ok-request.request c.in_ok-request.ensures.stepped)
-    (stay_candidates c.args.cache.now.nodes c.in_ok-request.request c.step.new.goals c.note_candidate.new.self c.in_ok-note_candidate-in_default.ensures)
-
 -- ---- what becomes of the goals' results, and the stored ones
 
-pub returns-in_ok-next-in-Evaluate-clause-fates : goal.returns-in_ok-next-in-Evaluate-clause-fates
-returns-in_ok-next-in-Evaluate-clause-fates g c =
-    subst (λ fs. MovesFates g.D.Cx.Input.PartialEq.eq (IsFated (g.D.Delegate.scoped c.args.cache.now.cx) (g.D.Delegate.script c.args.cache.now.cx) g.D.Cx.Input.PartialEq.eq c.args.cache.now.results (g.D.Delegate.noop c.args.inspect.now)) fs (fates_of c.ask.new.self.goals)) (fates_stepped g.D.Delegate g.D.Cx.Cx c.cx-cx.result c.args.evaluation.now.goals c.step.new.goals c.args.received c.in_ok-request.request c.in_ok-request.ensures.stepped)
-    (subst (λ b. MovesFates g.D.Cx.Input.PartialEq.eq (IsFated (g.D.Delegate.scoped c.args.cache.now.cx) (g.D.Delegate.script c.args.cache.now.cx) g.D.Cx.Input.PartialEq.eq c.args.cache.now.results b) (fates_of c.step.new.goals) (fates_of c.ask.new.self.goals)) c.step.ensures.same_noop
-    (asked_fates g.D.Delegate g.D.Cx.Cx g.D.Cx.Input.PartialEq.eq c.args.cache.now.cx c.in-Evaluate.kind c.in-Evaluate.input c.args.cache.now (record c.args.evaluation.now { goals = c.step.new.goals }) (g.D.Delegate.starts c.step.new.inspect) (g.D.Delegate.noop c.step.new.inspect) c.in_ok-next-in-Evaluate.next c.ask.new.cache c.ask.new.self (g.D.Delegate.starts c.ask.new.inspect)
-    (stepped_some g.D.Delegate g.D.Cx.Cx c.cx-cx.result c.args.received c.in_ok-request.request c.args.evaluation.now.goals c.step.new.goals c.in_ok-request.ensures.stepped) c.in_ok-next-in-Evaluate.ensures.asked))
+pub returns-in_ok-note_candidate-in_default-clause-goals : goal.returns-in_ok-note_candidate-in_default-clause-goals
+returns-in_ok-note_candidate-in_default-clause-goals g c = record {
+  stays =
+      stay_then c.args.cache.now.nodes c.args.evaluation.now.goals c.step.new.goals c.note_candidate.new.self
+      (stay_stepped g.D.Delegate g.D.Cx.Cx c.cx-cx.result c.args.cache.now.nodes c.args.evaluation.now.goals c.step.new.goals c.args.received c.in_ok-request.request c.in_ok-request.ensures.stepped)
+      (stay_candidates c.args.cache.now.nodes c.in_ok-request.request c.step.new.goals c.note_candidate.new.self c.in_ok-note_candidate-in_default.ensures);
+  fates =
+      Stay (fates_of_candidates c.in_ok-request.request c.step.new.goals c.note_candidate.new.self c.in_ok-note_candidate-in_default.ensures ∙ (fates_stepped g.D.Delegate g.D.Cx.Cx c.cx-cx.result c.args.evaluation.now.goals c.step.new.goals c.args.received c.in_ok-request.request c.in_ok-request.ensures.stepped));
+}
 
-pub returns-in_ok-next-in-Done-clause-fates : goal.returns-in_ok-next-in-Done-clause-fates
-returns-in_ok-next-in-Done-clause-fates g c =
-    subst (λ fs. MovesFates g.D.Cx.Input.PartialEq.eq (IsFated (g.D.Delegate.scoped c.args.cache.now.cx) (g.D.Delegate.script c.args.cache.now.cx) g.D.Cx.Input.PartialEq.eq c.args.cache.now.results (g.D.Delegate.noop c.args.inspect.now)) fs (fates_of c.finish_run.new.self.goals)) (fates_stepped g.D.Delegate g.D.Cx.Cx c.cx-cx.result c.args.evaluation.now.goals c.step.new.goals c.args.received c.in_ok-request.request c.in_ok-request.ensures.stepped)
-    (led_fates g.D.Delegate g.D.Cx.Cx g.D.Cx.Input.PartialEq.eq c.args.cache.now.cx g.D.Cx.Result.PartialEq.eq (IsFated (g.D.Delegate.scoped c.args.cache.now.cx) (g.D.Delegate.script c.args.cache.now.cx) g.D.Cx.Input.PartialEq.eq c.args.cache.now.results (g.D.Delegate.noop c.args.inspect.now)) c.in-Done.outcome c.args.cache.now (record c.args.evaluation.now { goals = c.step.new.goals }) c.in_ok-next-in-Done.next c.finish_run.new.cache c.finish_run.new.self c.in_ok-next-in-Done.ensures.leads)
+pub returns-in_ok-next-in-Done-clause-goals : goal.returns-in_ok-next-in-Done-clause-goals
+returns-in_ok-next-in-Done-clause-goals g c = record {
+  stays =
+      stay_then c.args.cache.now.nodes c.args.evaluation.now.goals c.step.new.goals c.finish_run.new.self.goals
+      (stay_stepped g.D.Delegate g.D.Cx.Cx c.cx-cx.result c.args.cache.now.nodes c.args.evaluation.now.goals c.step.new.goals c.args.received c.in_ok-request.request c.in_ok-request.ensures.stepped)
+      (led_from g.D.Delegate g.D.Cx.Cx g.D.Cx.Input.PartialEq.eq c.args.cache.now.cx g.D.Cx.Result.PartialEq.eq c.in-Done.outcome c.args.cache.now (record c.args.evaluation.now { goals = c.step.new.goals }) c.in_ok-next-in-Done.next c.finish_run.new.cache c.finish_run.new.self c.in_ok-next-in-Done.ensures.leads);
+  fates =
+      subst (λ fs. MovesFates g.D.Cx.Input.PartialEq.eq (IsFated (g.D.Delegate.scoped c.args.cache.now.cx) (g.D.Delegate.script c.args.cache.now.cx) g.D.Cx.Input.PartialEq.eq c.args.cache.now.results (g.D.Delegate.noop c.args.inspect.now)) fs (fates_of c.finish_run.new.self.goals)) (fates_stepped g.D.Delegate g.D.Cx.Cx c.cx-cx.result c.args.evaluation.now.goals c.step.new.goals c.args.received c.in_ok-request.request c.in_ok-request.ensures.stepped)
+      (led_fates g.D.Delegate g.D.Cx.Cx g.D.Cx.Input.PartialEq.eq c.args.cache.now.cx g.D.Cx.Result.PartialEq.eq (IsFated (g.D.Delegate.scoped c.args.cache.now.cx) (g.D.Delegate.script c.args.cache.now.cx) g.D.Cx.Input.PartialEq.eq c.args.cache.now.results (g.D.Delegate.noop c.args.inspect.now)) c.in-Done.outcome c.args.cache.now (record c.args.evaluation.now { goals = c.step.new.goals }) c.in_ok-next-in-Done.next c.finish_run.new.cache c.finish_run.new.self c.in_ok-next-in-Done.ensures.leads);
+}
 
-pub returns-in_ok-note_candidate-in_default-clause-fates : goal.returns-in_ok-note_candidate-in_default-clause-fates
-returns-in_ok-note_candidate-in_default-clause-fates g c =
-    Stay (fates_of_candidates c.in_ok-request.request c.step.new.goals c.note_candidate.new.self c.in_ok-note_candidate-in_default.ensures ∙ (fates_stepped g.D.Delegate g.D.Cx.Cx c.cx-cx.result c.args.evaluation.now.goals c.step.new.goals c.args.received c.in_ok-request.request c.in_ok-request.ensures.stepped))
+pub returns-in_ok-next-in-Evaluate-clause-goals : goal.returns-in_ok-next-in-Evaluate-clause-goals
+returns-in_ok-next-in-Evaluate-clause-goals g c = record {
+  stays =
+      stay_then c.args.cache.now.nodes c.args.evaluation.now.goals c.step.new.goals c.ask.new.self.goals
+      (stay_stepped g.D.Delegate g.D.Cx.Cx c.cx-cx.result c.args.cache.now.nodes c.args.evaluation.now.goals c.step.new.goals c.args.received c.in_ok-request.request c.in_ok-request.ensures.stepped)
+      (asked_from g.D.Delegate g.D.Cx.Cx g.D.Cx.Input.PartialEq.eq c.args.cache.now.cx c.in-Evaluate.kind c.in-Evaluate.input c.args.cache.now (record c.args.evaluation.now { goals = c.step.new.goals }) (g.D.Delegate.starts c.step.new.inspect) (g.D.Delegate.noop c.step.new.inspect) c.in_ok-next-in-Evaluate.next c.ask.new.cache c.ask.new.self (g.D.Delegate.starts c.ask.new.inspect) c.in_ok-next-in-Evaluate.ensures.asked);
+  fates =
+      subst (λ fs. MovesFates g.D.Cx.Input.PartialEq.eq (IsFated (g.D.Delegate.scoped c.args.cache.now.cx) (g.D.Delegate.script c.args.cache.now.cx) g.D.Cx.Input.PartialEq.eq c.args.cache.now.results (g.D.Delegate.noop c.args.inspect.now)) fs (fates_of c.ask.new.self.goals)) (fates_stepped g.D.Delegate g.D.Cx.Cx c.cx-cx.result c.args.evaluation.now.goals c.step.new.goals c.args.received c.in_ok-request.request c.in_ok-request.ensures.stepped)
+      (subst (λ b. MovesFates g.D.Cx.Input.PartialEq.eq (IsFated (g.D.Delegate.scoped c.args.cache.now.cx) (g.D.Delegate.script c.args.cache.now.cx) g.D.Cx.Input.PartialEq.eq c.args.cache.now.results b) (fates_of c.step.new.goals) (fates_of c.ask.new.self.goals)) c.step.ensures.same_noop
+      (asked_fates g.D.Delegate g.D.Cx.Cx g.D.Cx.Input.PartialEq.eq c.args.cache.now.cx c.in-Evaluate.kind c.in-Evaluate.input c.args.cache.now (record c.args.evaluation.now { goals = c.step.new.goals }) (g.D.Delegate.starts c.step.new.inspect) (g.D.Delegate.noop c.step.new.inspect) c.in_ok-next-in-Evaluate.next c.ask.new.cache c.ask.new.self (g.D.Delegate.starts c.ask.new.inspect)
+      (stepped_some g.D.Delegate g.D.Cx.Cx c.cx-cx.result c.args.received c.in_ok-request.request c.args.evaluation.now.goals c.step.new.goals c.in_ok-request.ensures.stepped) c.in_ok-next-in-Evaluate.ensures.asked));
+}
 
 pub returns-in_err-request-clause-cache : goal.returns-in_err-request-clause-cache
 returns-in_err-request-clause-cache g c = record {
