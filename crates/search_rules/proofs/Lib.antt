@@ -4,6 +4,7 @@ pub mod justified
 pub mod moves
 pub mod Shown
 pub mod Storing
+pub mod Differing
 pub mod Fates
 pub mod FinishedRuns
 pub mod DoneGoals

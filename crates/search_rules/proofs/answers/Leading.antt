@@ -9,7 +9,8 @@ use Rattle.open_graphs.proofs.Keep.{growth_back, growth_place}
 use Rattle.open_graphs.proofs.Lists.{mapped_some}
 use Rattle.open_graphs.proofs.Transfer.{same_walk}
 use Rattle.open_graphs.proofs.Walks.{carried}
-use Rattle.search_rules.specs.Below.{CacheNode, Entry, IsNodeOf, KeepsGoals, no_heads, shape_of, shapes_of, stack_of, Use, UsesNo, Verdicts}
+use Rattle.global_cache.proofs.Finished.{finished_stays, Grown-finished}
+use Rattle.search_rules.specs.Below.{CacheNode, Entry, IsNodeOf, KeepsFinished, KeepsGoals, no_heads, shape_of, shapes_of, stack_of, Use, UsesNo, Verdicts}
 use Rattle.search_rules.specs.Justified.{frames_of, OpenRun}
 use Rattle.search_rules.specs.Leads.{HasGoal, LeadsTo, StepOn}
 use Rattle.search_rules.specs.Settled.{LeadsOnly}
@@ -43,6 +44,17 @@ module _ {I R : Type 0} (says : Verdicts R) (nodes : List (CacheNode I R)) where
   leads_grown after kept grown P Q more v stack a graph leads = λ b q w.
       leads_later after kept P Q more v stack a graph leads b q
       (same_walk (shapes_of says nodes) (shapes_of says after) v stack stack a (growth_back (shapes_of says nodes) (shapes_of says after) v stack a grown graph) (growth_place (shapes_of says nodes) (shapes_of says after) v stack a grown graph) w)
+
+  -- the list keeps what is finished
+  pub leads_finished :
+      (after : List (CacheNode I R)) → KeepsFinished nodes after → (P : I → Type 0) (v : theory.Verdict) (stack : List Entry) (a : ℕ) → theory_use.OpenGraph (shapes_of says nodes) v stack a → LeadsOnly says nodes P v stack a → LeadsOnly says after P v stack a
+  leads_finished after kept P v stack a graph leads = λ b q w.
+      let grown = Grown-finished says nodes after kept in
+      let before = same_walk (shapes_of says nodes) (shapes_of says after) v stack stack a (growth_back (shapes_of says nodes) (shapes_of says after) v stack a grown graph) (growth_place (shapes_of says nodes) (shapes_of says after) v stack a grown graph) w in
+      elim (graph.placed b q before) [
+        | inl l ↦ inl l
+        | inr f ↦ elim (leads b q before) [ inl l ↦ inl l | inr holds ↦ inr (λ goal is. holds goal (ap (option_map (λ m. m.goal)) (sym (finished_stays says nodes after kept b v f.0 f.1)) ∙ is)) ]
+      ]
 
   -- the goals that are reached keep their goals, of which the same holds, or what follows from that
   pub goals_later : (after : List (CacheNode I R)) → KeepsGoals nodes after → (P Q : I → Type 0) → ((goal : I) → P goal → Q goal) → (v : theory.Verdict) (b : ℕ) → theory.IsFinished (shapes_of says nodes) v b → HasGoal nodes P b → HasGoal after Q b

@@ -1,9 +1,10 @@
 use Rattle.std.proofs.Common.{List, [], ◌∷◌, length, map, reverse, All, ◌≡◌, ◌+◌, ◌<◌, ◌≤◌, ◌^◌, refl, sym, ap, subst, ◌∙◌, arith}
 use Rattle.std.specs.Option.{IfSome}
 use Rattle.search_moves.specs.Below.{ChangesNewest, fates_of, HaveExpected, IfCompared, IsExpected, IsPlainValue, highest, StackEntry, ProvisionalCacheEntry, entries_at, EvaluationResult, HasGraph, place_of, KeepsResults, IsPlainAt, KeepsFinished, IsPlainTo, verdicts, AreJustified, HaveTallies, AreReady, HasReason, IsNewestUnranked, RebasesNewest, final_answer, AreFree, ComesTo, IsNewestPlainTo, IsNewestStored, IsStored, NewestComesTo, NewestIsPlain, StoresAnswer, StoresNewest, GivesAnswer, GivesNested, LeavesNested, runs_of, IsJustifiedNext, HasNewestNode, HasResultNode, KeepsBut, node_given}
-use Rattle.search_moves.specs.Words.{Pops}
+use Rattle.search_moves.specs.Words.{Fails, Pops}
 use Rattle.global_cache.proofs.Stores.{KeepsResults-same}
 use Rattle.search_moves.proofs.Given.{heads_given, puts_given, storable_given, stores_given}
+use Rattle.search_moves.proofs.Failing.{fails_after, memory_fails}
 use Rattle.search_moves.proofs.Keeping.{ending_keeps}
 use Rattle.search_rules.proofs.entries.Ready.{are_within, heads_on_stack, on_stack_many}
 use Rattle.search_rules.proofs.entries.Pops.{rebased_ready}
@@ -81,6 +82,23 @@ store_answer-requires-clause-expected g c =
 
 pub returns-in_err-next-clause-plain : goal.returns-in_err-next-clause-plain
 returns-in_err-next-clause-plain g c = λ n plain. if_err_and c.from_residual-in_err-next.result _ _ c.from_residual-in_err-next.ensures.1 (λ e is. is)
+
+pub returns-in_err-node-clause-fails : goal.returns-in_err-node-clause-fails
+returns-in_err-node-clause-fails g c = memory_fails g.D.Delegate g.D.Cx.Cx g.D.Cx.Input.PartialEq.eq c.args.outcome c.args.cache.now c.result_node.new.cache c.from_residual.result c.from_residual.ensures.1 c.result_node.ensures.same_results
+
+pub returns-in_err-rebase_entries-clause-fails : goal.returns-in_err-rebase_entries-clause-fails
+returns-in_err-rebase_entries-clause-fails g c = memory_fails g.D.Delegate g.D.Cx.Cx g.D.Cx.Input.PartialEq.eq c.args.outcome c.args.cache.now c.result_node.new.cache c.from_residual-in_err-rebase_entries.result c.from_residual-in_err-rebase_entries.ensures.1 c.result_node.ensures.same_results
+
+pub returns-in_err-next-clause-fails : goal.returns-in_err-next-clause-fails
+returns-in_err-next-clause-fails g c = memory_fails g.D.Delegate g.D.Cx.Cx g.D.Cx.Input.PartialEq.eq c.args.outcome c.args.cache.now c.result_node.new.cache c.from_residual-in_err-next.result c.from_residual-in_err-next.ensures.1 c.result_node.ensures.same_results
+
+pub returns-in_err-store_answer-clause-fails : goal.returns-in_err-store_answer-clause-fails
+returns-in_err-store_answer-clause-fails g c =
+    if_err_and c.from_residual-in_err-store_answer.result _ _ c.from_residual-in_err-store_answer.ensures.1
+    (λ e is.
+    subst (Fails g.D.Delegate g.D.Cx.Cx g.D.Cx.Input.PartialEq.eq c.args.outcome c.args.cache.now c.store_answer.new.cache) (sym is)
+    (fails_after g.D.Delegate g.D.Cx.Cx g.D.Cx.Input.PartialEq.eq c.args.outcome c.args.cache.now c.store_answer.new.cache c.result_node.new.cache c.give_answer.new.answer.result _
+    (ap (λ (a : EvaluationResult _ _ _ _ _). a.result) c.give_answer.ensures.left.others ∙ ap (λ (a : EvaluationResult _ _ _ _ _). a.result) c.finalize-answer.ensures) c.result_node.ensures.same_results c.in_err-store_answer.ensures.fails))
 
 pub returns-in_err-store_answer-clause-stored : goal.returns-in_err-store_answer-clause-stored
 returns-in_err-store_answer-clause-stored g c = newest_stored (verdicts g.D.Cx.Cx) c.args.cache.now.nodes c.result_node.new.cache.nodes c.args.self.now.goals c.pop-entry.result.entry c.pop-entry.result.run c.pop-entry.new.self c.pop-entry.ensures c.args.outcome c.in_ok-node.node c.requires.right.justified c.in_ok-node.ensures.has_node g.D.Cx.Input.PartialEq.eq c.args.cache.now.results c.store_answer.new.cache.results
