@@ -4,8 +4,8 @@ use Rattle.std.specs.Borrow.{Bor}
 use Rattle.std.specs.Io.KnownBytes.{Keeps}
 use Rattle.std.specs.Str.{IsUtf8}
 use Rattle.json.specs.Lex.{tokens}
-use Rattle.shown_graphs.specs.Below.{CxOf, DelegateOf, Goal, IsFirstBadLine, names_of, Outcome, questions_of, Reads, Rules, Table, verdicts}
-use Rattle.shown_graphs.specs.Data.{HaveTexts, plain_claim, PlainClaim}
+use Rattle.shown_graphs.specs.Below.{CxOf, DelegateOf, Goal, IsFirstBadLine, Outcome, questions_of, Reads, Rules, Table, verdicts}
+use Rattle.shown_graphs.specs.Data.{plain_claim, PlainClaim}
 use Rattle.shown_graphs.specs.Page.{AreOfPage, IsPage}
 use Rattle.shown_graphs.specs.Shown.{AreAsked, IsWrittenPage}
 use Rattle.shown_graphs.specs.Told.{AreJudged}
@@ -36,7 +36,7 @@ module _ (known old new : Option (List ℕ)) where
 
 module _ {D V P F A T : Type 0} (G : DelegateOf D (Table (Bor Rules)) V P F Goal Outcome A T) (X : CxOf (Table (Bor Rules)) Goal Outcome A T) (known old new : Option (List ℕ)) where
   -- The text, which is the known one where one is known, makes a table, and all its questions were asked. As data a page is
-  -- written that has the claims of their answers, in order.
+  -- written that has the same rules and the claims of their answers, in order.
   pub record IsShown (form : Form) (all_fine : Bool) : Type 0 where
     pub text : List ℕ
     pub is_known : IfSome known (λ bytes. text ≡ bytes)
@@ -44,7 +44,7 @@ module _ {D V P F A T : Type 0} (G : DelegateOf D (Table (Bor Rules)) V P F Goal
     pub reads : Reads text table.lender.now
     pub claims : List PlainClaim
     pub are_asked : AreAsked (verdicts X) (G.script table) (questions_of table.lender.now) claims all_fine
-    pub is_written : form ≡ Data → HaveTexts (names_of table.lender.now) → IsWrittenPage (names_of table.lender.now) claims old new
+    pub is_written : form ≡ Data → IsWrittenPage table.lender.now claims old new
 
   -- The text is a page of data, and all its claims were judged.
   pub record IsChecked (none_refused : Bool) : Type 0 where

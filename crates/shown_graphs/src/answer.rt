@@ -1,5 +1,6 @@
 //! One question: it is asked, and the graph of a definite answer is checked before anything is shown of it.
-ghost use Rattle.std.specs.Prelude.{◌↔◌, IsTrue, IfOk};
+ghost use Rattle.std.specs.Prelude.{◌≡◌, ◌↔◌, None, IsTrue, IfOk};
+ghost use Rattle.search_context.specs.declared.context.Verdict.TheVariants.{Neither};
 ghost use Rattle.shown_graphs.specs.Below.{IsValidFor, verdicts};
 ghost use Rattle.shown_graphs.specs.Checked.{IsChecked, verdict_of};
 
@@ -75,7 +76,7 @@ where
     }
 }
 
-// The answer with its graph, if it has one and the checker accepts it.
+// The answer with its graph, if it has one and the checker accepts it. One of yes or no names its node.
 fn checked<X, D, P>(
     alloc: Global,
     cx: X,
@@ -88,6 +89,7 @@ where
     X: Cx<Input = Goal, Result = Outcome>,
     D: Delegate<Cx = X, ProofTreeBuilder = Builder>,
     P: Progress,
+    requires { answer.node ≡ None → verdict_of answer.result ≡ Neither }
     ensures { IfOk result (λ came. IsChecked (verdicts X.Cx) (D.script cx) goal came) }
 {
     let outcome = answer.result;
