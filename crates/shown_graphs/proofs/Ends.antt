@@ -115,7 +115,7 @@ module _ (known old : Option (List ℕ)) (text : List ℕ) (is_known : IfSome kn
 -- ---- ends that are none
 
 module _ {D V P F A T : Type 0} (G : DelegateOf D (Table (Bor Rules)) V P F Goal Outcome A T) (X : CxOf (Table (Bor Rules)) Goal Outcome A T) (known old new : Option (List ℕ)) (text : List ℕ) (table : Table (Bor Rules)) (is_known : IfSome known (λ bytes. text ≡ bytes)) where
-  pub shown_of_text : (wanted : Form) (page : Page) → Reads text table.lender.now → (wanted ≡ form.Data → (names : List (List ℕ)) → HasClaims names page []) → (r : Result Bool Stop) →
+  pub shown_of_text : (wanted : Form) (page : Page) → Reads text table.lender.now → (wanted ≡ form.Data → (rules : Rules) → Reads text rules → HasClaims rules page []) → (r : Result Bool Stop) →
       IfOk r (AreShown (verdicts X) (G.script table) table.lender.now page old new) → IfOk r (IsShown G X known old new wanted)
   shown_of_text wanted page reads begun (Ok all_fine) shown = record {
     text = text;

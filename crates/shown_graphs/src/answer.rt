@@ -1,7 +1,6 @@
 //! One question: it is asked, and the graph of a definite answer is checked before anything is shown of it.
-ghost use Rattle.std.specs.Prelude.{◌≡◌, ◌↔◌, None, IsTrue, IfOk};
-ghost use Rattle.search_context.specs.declared.context.Verdict.TheVariants.{Neither};
-ghost use Rattle.shown_graphs.specs.Below.{IsValidFor, verdicts};
+ghost use Rattle.std.specs.Prelude.{◌↔◌, IfOk, IsTrue, List};
+ghost use Rattle.shown_graphs.specs.Below.{Goal as SpecGoal, IsValidFor, Outcome as SpecOutcome, Reply as SpecReply, Request as SpecRequest, verdicts, Verdicts};
 ghost use Rattle.shown_graphs.specs.Checked.{IsChecked, verdict_of};
 
 use crate::progress::Progress;
@@ -76,7 +75,7 @@ where
     }
 }
 
-// The answer with its graph, if it has one and the checker accepts it. One of yes or no names its node.
+// The answer with its graph, if it has one and the checker accepts it.
 fn checked<X, D, P>(
     alloc: Global,
     cx: X,
@@ -89,13 +88,11 @@ where
     X: Cx<Input = Goal, Result = Outcome>,
     D: Delegate<Cx = X, ProofTreeBuilder = Builder>,
     P: Progress,
-    requires { answer.node ≡ None → verdict_of answer.result ≡ Neither }
     ensures { IfOk result (λ came. IsChecked (verdicts X.Cx) (D.script cx) goal came) }
 {
     let outcome = answer.result;
     let Some(node) = answer.node else {
-        let reason = watcher.reason(outcome);
-        return Ok(Came::NoGraph { outcome, reason });
+        return Ok(without_graph(watcher, outcome));
     };
     let Some(graph) = cache.graph_of(node)? else {
         return Ok(Came::Unchecked(outcome));
@@ -107,6 +104,20 @@ where
         })
     } else {
         Ok(Came::Unchecked(outcome))
+    }
+}
+
+// What the question came to where no graph comes with its outcome.
+fn without_graph<P: Progress>(watcher: &mut Watcher<P>, outcome: Outcome) -> Came
+    ensures { (says : Verdicts SpecOutcome) (scripts : SpecGoal → List (SpecReply SpecOutcome) → SpecRequest SpecGoal SpecOutcome)
+        (goal : SpecGoal) → IsChecked says scripts goal result }
+{
+    match outcome {
+        Outcome::Yes | Outcome::No => Came::Unchecked(outcome),
+        Outcome::Maybe | Outcome::Overflow => {
+            let reason = watcher.reason(outcome);
+            Came::NoGraph { outcome, reason }
+        }
     }
 }
 
