@@ -1,6 +1,8 @@
 -- What was shown is accepted where it is read.
 use Rattle.std.proofs.Common.{◌≡◌, ◌∙◌, All, ap, Bool, inl, inr, List, [], ◌∷◌, ◌++◌, map, refl, Some, subst, sym, true, ℕ}
-use Rattle.std.specs.Prelude.{◌&&◌, ◌⊎◌, reverse, slice_get}
+use Rattle.std.specs.Prelude.{◌&&◌, ◌⊎◌, Option, reverse, slice_get}
+use Rattle.std.specs.Borrow.{Bor}
+use Rattle.std.specs.Io.KnownBytes.{Appends}
 use Rattle.std.specs.List.{AllByRecursion, flat_map, list_all}
 use Rattle.std.specs.Option.{option_map}
 use Rattle.std.proofs.lemmas.List.Elements.{All-get_or, All-head, All-tail}
@@ -12,10 +14,18 @@ use Rattle.search_context.specs.Graph.{GraphNode, HasGoal, question_of}
 use Rattle.search_context.specs.Run.{EndsIn, progress_after, questions_answered}
 use Rattle.search_context.specs.Valid.{AreClosed, CyclesHaveKind, goal_nodes_of, IsRunOfSort, IsValid, IsValidFor}
 use Rattle.search_context.specs.declared.context.Verdict.TheVariants as verdict
-use Rattle.shown_graphs.specs.Below.{Goal, Node, Outcome, Reply, Request, Verdict, Verdicts}
+use Rattle.json.specs.Lex.{tokens}
+use Rattle.rule_tables.specs.Frame.{script_of}
+use Rattle.shown_graphs.proofs.Pages.{page_told}
+use Rattle.shown_graphs.proofs.SameRules.{same_script}
+use Rattle.shown_graphs.specs.Below.{candidates_of, CxOf, DelegateOf, Goal, names_of, Node, Outcome, Reply, Request, Rules, Table, Verdict, verdicts, Verdicts}
 use Rattle.shown_graphs.specs.Checked.{IsChecked, verdict_of}
 use Rattle.shown_graphs.specs.Data.{IsClaim, IsNamed, IsNode, plain_claim, plain_node, PlainClaim, PlainNode}
-use Rattle.shown_graphs.specs.Shown.{AreAsked, claims_of}
+use Rattle.shown_graphs.specs.Page.{IsPage}
+use Rattle.shown_graphs.specs.Program.{Finds, IsChecked as IsCheckedText, IsReadBack, IsShown}
+use Rattle.shown_graphs.specs.Rules.{AreSameRules}
+use Rattle.shown_graphs.specs.Shown.{claims_of, IsWrittenPage}
+use Rattle.shown_graphs.specs.declared.page.Form.TheVariants.{Data}
 use Rattle.shown_graphs.specs.Told.{IsJudged, is_not_refused}
 use Rattle.shown_graphs.specs.declared.answer.Came.{Came}
 use Rattle.shown_graphs.specs.declared.answer.Came.TheVariants.{Graph, NoGraph, Unchecked, Fault}
@@ -89,7 +99,7 @@ module _ (says : Verdicts Outcome) (scripts others : Goal → List (Reply Outcom
   append_good [] ys h k = k
   append_good (x ∷ xs) ys h k = (h.0, append_good xs ys h.1 k)
 
-  all_good : (asked : List (Goal × Came)) → All (λ a. IsChecked says scripts a.0 a.1) asked → AllByRecursion IsGood (flat_map (λ a. claims_of a.0 a.1) asked)
+  pub all_good : (asked : List (Goal × Came)) → All (λ a. IsChecked says scripts a.0 a.1) asked → AllByRecursion IsGood (flat_map (λ a. claims_of a.0 a.1) asked)
   all_good [] checked = tt
   all_good (a ∷ asked) checked =
       append_good (claims_of a.0 a.1) (flat_map (λ b. claims_of b.0 b.1) asked) (claim_good a.0 a.1 (All-head (λ b. IsChecked says scripts b.0 b.1) a asked checked)) (all_good asked (All-tail (λ b. IsChecked says scripts b.0 b.1) a asked checked))
@@ -109,3 +119,36 @@ module _ (says : Verdicts Outcome) (scripts others : Goal → List (Reply Outcom
       let claims = map plain_claim (map (λ k. k.0) judged) in
       ap (λ b. b && list_all (λ k. is_not_refused k.1) judged) (not_refused j.0 j.1 good.0 (All-head (IsClaim names) (plain_claim j.0) claims named) (All-head (λ k. IsJudged says others k.0 k.1) j judged right))
       ∙ all_not_refused judged good.1 (All-tail (IsClaim names) (plain_claim j.0) claims named) (All-tail (λ k. IsJudged says others k.0 k.1) j judged right)
+
+-- ---- the round trip of a whole text
+
+module _ {D V P F A T : Type 0} (G : DelegateOf D (Table (Bor Rules)) V P F Goal Outcome A T) (X : CxOf (Table (Bor Rules)) Goal Outcome A T) (scripts : (table : Table (Bor Rules)) → G.script table ≡ (λ goal. script_of (candidates_of table.lender.now goal))) where
+  scripts_of_same : (table other : Table (Bor Rules)) → AreSameRules table.lender.now other.lender.now → (goal : Goal) → IsNamed (names_of table.lender.now) goal → G.script other goal ≡ G.script table goal
+  scripts_of_same table other same goal named =
+      ap (λ f. f goal) (scripts other) ∙ same_script (candidates_of table.lender.now goal) (candidates_of other.lender.now goal) (same.candidates goal _ named) ∙ sym (ap (λ f. f goal) (scripts table))
+
+  module _ (known old new : Option (List ℕ)) (all_fine : Bool) (shown : IsShown G X known old new Data all_fine) (page : IsWrittenPage shown.table.lender.now shown.claims old new) where
+    abbrev rules : Rules
+    rules = shown.table.lender.now
+
+    found : (given told : Option (List ℕ)) (none_refused : Bool) (checked : IsCheckedText G X (Some page.text) given told none_refused) → Finds rules shown.claims checked.table.lender.now (map plain_claim checked.claims) none_refused
+    found given told none_refused checked =
+        let read : List PlainClaim = map plain_claim checked.claims in
+        let is_page : IsPage (tokens page.text) checked.table.lender.now read = subst (λ text. IsPage (tokens text) checked.table.lender.now read) checked.is_known checked.is_page in
+        let both = page_told (tokens page.text) (record { rules = rules; claims = shown.claims; is_page = page.is_page }) (record { rules = checked.table.lender.now; claims = read; is_page = is_page }) in
+        let same = scripts_of_same shown.table checked.table both.0 in
+        let claims : shown.claims ≡ map plain_claim (map (λ j. j.0) checked.are_judged.judged) = sym both.1 ∙ ap (map plain_claim) (sym checked.are_judged.are_claims) in
+        let good = subst (AllByRecursion (IsGood (verdicts X) (G.script shown.table) (G.script checked.table) (names_of rules) same)) (sym shown.are_asked.are_claims ∙ claims) (all_good (verdicts X) (G.script shown.table) (G.script checked.table) (names_of rules) same shown.are_asked.asked shown.are_asked.are_checked) in
+        record {
+          same_rules = both.0;
+          same_claims = both.1;
+          accepted = checked.are_judged.fine ∙ all_not_refused (verdicts X) (G.script shown.table) (G.script checked.table) (names_of rules) same checked.are_judged.judged good (subst (All (IsClaim (names_of rules))) claims page.is_page.named) checked.are_judged.are_right;
+        }
+
+    read_back : IsReadBack G X rules shown.claims page.text
+    read_back = record { is_page = (page.is_utf8, record { rules = rules; claims = shown.claims; is_page = page.is_page }); finds = found }
+
+  pub shown_is_read_back : (known old new : Option (List ℕ)) (all_fine : Bool) (shown : IsShown G X known old new Data all_fine) → (text : List ℕ) × Appends old new text × IsReadBack G X shown.table.lender.now shown.claims text
+  shown_is_read_back known old new all_fine shown =
+      let page = shown.is_written refl in
+      (page.text, page.written, read_back known old new all_fine shown page)

@@ -1,5 +1,5 @@
 -- What a run of a program came to.
-use Rattle.std.specs.Prelude.{◌≡◌, ℕ, Bool, List, map, Option, IfSome, IsSomeAnd, ⊤}
+use Rattle.std.specs.Prelude.{◌≡◌, ℕ, Bool, true, List, map, Option, Some, IfSome, IsSomeAnd, ⊤}
 use Rattle.std.specs.Borrow.{Bor}
 use Rattle.std.specs.Io.KnownBytes.{Keeps}
 use Rattle.std.specs.Str.{IsUtf8}
@@ -7,6 +7,7 @@ use Rattle.json.specs.Lex.{tokens}
 use Rattle.shown_graphs.specs.Below.{CxOf, DelegateOf, Goal, IsFirstBadLine, Outcome, questions_of, Reads, Rules, Table, verdicts}
 use Rattle.shown_graphs.specs.Data.{plain_claim, PlainClaim}
 use Rattle.shown_graphs.specs.Page.{AreOfPage, IsPage}
+use Rattle.shown_graphs.specs.Rules.{AreSameRules}
 use Rattle.shown_graphs.specs.Shown.{AreAsked, IsWrittenPage}
 use Rattle.shown_graphs.specs.Told.{AreJudged}
 use Rattle.shown_graphs.specs.declared.page.Form.{Form}
@@ -54,3 +55,16 @@ module _ {D V P F A T : Type 0} (G : DelegateOf D (Table (Bor Rules)) V P F Goal
     pub claims : List Claim
     pub is_page : IsPage (tokens text) table.lender.now (map plain_claim claims)
     pub are_judged : AreJudged (verdicts X) (G.script table) table.lender.now claims none_refused old new
+
+-- What a check finds are these rules and these claims, none of which it refuses.
+pub record Finds (rules : Rules) (claims : List PlainClaim) (found : Rules) (read : List PlainClaim) (none_refused : Bool) : Type 0 where
+  pub same_rules : AreSameRules rules found
+  pub same_claims : read ≡ claims
+  pub accepted : none_refused ≡ true
+
+module _ {D V P F A T : Type 0} (G : DelegateOf D (Table (Bor Rules)) V P F Goal Outcome A T) (X : CxOf (Table (Bor Rules)) Goal Outcome A T) where
+  -- The text is a page, so it is never bad data, and whatever checks it finds these rules and claims.
+  pub record IsReadBack (rules : Rules) (claims : List PlainClaim) (text : List ℕ) : Type 0 where
+    pub is_page : IsPageText text
+    pub finds : (old new : Option (List ℕ)) (none_refused : Bool) (checked : IsChecked G X (Some text) old new none_refused) →
+        Finds rules claims checked.table.lender.now (map plain_claim checked.claims) none_refused

@@ -1,6 +1,3 @@
-use Rattle.shown_graphs.proofs.RoundTrip.{all_not_refused}
-use Rattle.shown_graphs.proofs.Named.{nodes_named}
-use Rattle.shown_graphs.proofs.Reached.{are_reached}
 use Rattle.shown_graphs.proofs.Pages.{page_told}
 use Rattle.shown_graphs.proofs.law.page_tells_its_rules_and_claims.Goals as goal
 
