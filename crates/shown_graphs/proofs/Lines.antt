@@ -1,24 +1,19 @@
 -- What the lines of a page say.
-use Rattle.std.proofs.Common.{◌+◌, All, None, Option, ◌≡◌, ◌≢◌, ◌∙◌, ◌<◌, ◌||◌, ℕ, ap, append_assoc, arith, Bool, codes, cond, false, get_or, inl, inr, length, List, [], ◌∷◌, ◌++◌, map, refl, subst, suc, sym, take, true, zero}
-use Rattle.std.specs.Prelude.{◌==◌, ◌⊎◌, ⊤, filter, nat_lt}
-use Rattle.std.specs.List.{AllByRecursion, AllPass, AllZip, cons_option, filter_map, flat_map, onto_first, slice_split}
-use Rattle.std.specs.Char.{is_ascii_digit}
+use Rattle.std.proofs.Common.{◌+◌, All, None, Option, ◌≡◌, ◌∙◌, ◌<◌, ℕ, ap, append_assoc, arith, false, get_or, inl, inr, length, List, [], ◌∷◌, ◌++◌, refl, subst, sym, take}
+use Rattle.std.specs.Prelude.{◌==◌}
+use Rattle.std.specs.List.{AllByRecursion, AllZip, cons_option, filter_map, flat_map}
 use Rattle.std.specs.Str.{IsUtf8}
-use Rattle.std.proofs.lemmas.Bool.{cases_Bool, cond-true, lt-ltb}
+use Rattle.std.proofs.lemmas.Bool.{cases_Bool}
 use Rattle.std.proofs.lemmas.Grind.{flat_map-append}
 use Rattle.std.proofs.lemmas.List.{append-nil, take_all, take_more}
-use Rattle.std.proofs.lemmas.List.Elements.{All-from_recursion, All-head, All-tail}
-use Rattle.std.proofs.lemmas.List.Splits.{slice_split-cons_no, slice_split-cons_yes, slice_split_at}
-use Rattle.std.proofs.lemmas.Str.{IsUtf8-from_ascii}
-use Rattle.line_texts.specs.Lines.{IsName, is_name_byte, lines_of, words_of}
-use Rattle.rule_tables.specs.Grammar.{Ask, head_word, IsAsk, IsDepth, IsQuestion, IsRule, letter_of, NamedQuestion, Nothing, Rule, Say, Says, Statement}
+use Rattle.std.proofs.lemmas.List.Elements.{All-from_recursion}
+use Rattle.std.proofs.lemmas.List.Splits.{slice_split_at}
+use Rattle.line_texts.specs.Lines.{lines_of, words_of}
+use Rattle.rule_tables.specs.Grammar.{Ask, Nothing, Rule, Says, Statement}
 use Rattle.rule_tables.specs.Table.{candidate_in, first_mentions, IsCandidate, IsToBeAnswered, names_in, question_in}
 use Rattle.rule_tables.specs.Rules.{candidates_of, names_of, questions_of}
 use Rattle.rule_tables.proofs.Questions.{AllZip-append_one}
-use Rattle.rule_tables.specs.declared.rules.Rules.{Rules}
-use Rattle.cycle_heads.specs.declared.path.PathKind.{PathKind}
-use Rattle.cycle_heads.specs.declared.path.PathKind.TheVariants.{Coinductive, ForcedAmbiguity, Inductive, Unknown}
-use Rattle.shown_graphs.proofs.Plain.{ArePlain, IsPlain, plain_is_utf8, something_is_plain}
+use Rattle.shown_graphs.proofs.Plain.{ArePlain, plain_is_utf8, something_is_plain}
 use Rattle.shown_graphs.proofs.Statements.{says_one}
 use Rattle.shown_graphs.specs.Page.{text_of}
 use Rattle.shown_graphs.specs.Rules.{if_something, MakesTheSame, SayTheSame}

@@ -1,21 +1,20 @@
 -- Each goal of a graph that is shown has a name.
 use Rattle.std.proofs.Common.{false, ◌≡◌, ◌∙◌, ◌<◌, ℕ, All, ap, arith, Bool, length, List, [], ◌∷◌, ◌++◌, map, None, Option, refl, Some, subst, suc, sym, true, zero}
-use Rattle.std.specs.Prelude.{◌^◌, ⊤, Contains, cond, filter, get_or, IsSomeAnd, reverse, slice_get}
+use Rattle.std.specs.Prelude.{◌^◌, ⊤, Contains, cond, filter, get_or, reverse, slice_get}
 use Rattle.std.specs.List.{AllByRecursion, AllZip, flat_map}
 use Rattle.std.specs.Option.{option_map, unwrap_or}
 use Rattle.std.proofs.lemmas.List.Elements.{All-contains, All-from_recursion, All-head, All-map, All-tail, Contains-get_or}
 use Rattle.std.proofs.lemmas.Option.{slice_get-get_or, slice_get-map, slice_get_within}
 use Rattle.std.proofs.lemmas.List.{length-map}
 use Rattle.rule_tables.specs.Below.{Answer, Begin, Done, EnterCandidate, Evaluate, FinishCandidate, Ignore, Noted}
-use Rattle.rule_tables.specs.Frame.{asking, asking_in, asking_next, entering, entering_next, ignoring, marked_from, script_of, state_after, state_with, with_answer, with_ignored}
+use Rattle.rule_tables.specs.Frame.{asking_in, asking_next, entering_next, marked_from, script_of, state_after, state_with, with_answer, with_ignored}
 use Rattle.rule_tables.specs.Table.{AreAsked as AreAskings, IsCandidate, IsTableOf, IsToBeAnswered, NamedCandidate}
 use Rattle.rule_tables.specs.Grammar.{NamedQuestion, Statement}
 use Rattle.rule_tables.specs.declared.frame.State.{State}
 use Rattle.rule_tables.specs.declared.rules.Asking.{Asking}
 use Rattle.rule_tables.specs.declared.rules.Candidate.{Candidate}
-use Rattle.search_context.proofs.Graphs.{goal_node, HasEdge-from, HasGoal-within}
+use Rattle.search_context.proofs.Graphs.{HasEdge-from, HasGoal-within}
 use Rattle.search_context.specs.Graph.{HasEdge, HasGoal, IsWalk, question_of}
-use Rattle.search_context.specs.Question.{Question}
 use Rattle.search_context.specs.Run.{Asked, progress_after, progress_with, Progress, open_candidate, request_after}
 use Rattle.search_context.specs.Valid.{goal_node_of, goal_nodes_of, IsRunOfSort, IsValid}
 use Rattle.search_context.specs.declared.context.Edge.{Edge}

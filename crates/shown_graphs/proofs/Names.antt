@@ -1,15 +1,15 @@
 -- The names in a table that was read.
-use Rattle.std.proofs.Common.{◌≡◌, ◌∙◌, ℕ, ap, Bool, cond, false, inl, inr, List, [], ◌∷◌, ◌++◌, map, None, Option, refl, Some, subst, suc, sym, true, zero}
+use Rattle.std.proofs.Common.{◌≡◌, ◌∙◌, ℕ, ap, Bool, cond, false, inl, inr, List, [], ◌∷◌, ◌++◌, map, refl, Some, subst, suc, sym, true, zero}
 use Rattle.std.specs.Prelude.{fold, slice_get}
 use Rattle.std.specs.List.{AllByRecursion, AllZip, flat_map, list_any}
 use Rattle.std.specs.Option.{unwrap_or}
 use Rattle.std.specs.Str.{bytes_eq}
-use Rattle.line_texts.specs.Lines.{IsName, lines_of}
+use Rattle.line_texts.specs.Lines.{lines_of}
 use Rattle.line_texts.specs.Names.{with_name}
 use Rattle.line_texts.proofs.NameLemmas.{is_among, place_in_longer}
 use Rattle.rule_tables.specs.Grammar.{Ask, IsQuestion, NamedQuestion, Nothing, Rule, Says, Statement}
 use Rattle.rule_tables.specs.Rules.{names_of, number_of}
-use Rattle.rule_tables.specs.Table.{first_mentions, names_in}
+use Rattle.rule_tables.specs.Table.{names_in}
 use Rattle.rule_tables.specs.Text.{Reads}
 use Rattle.rule_tables.specs.declared.rules.Goal.{Goal}
 use Rattle.rule_tables.specs.declared.rules.Rules.{Rules}

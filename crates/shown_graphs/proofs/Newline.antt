@@ -1,6 +1,6 @@
 -- A newline at the end of a text of data is passed over: the text has the same tokens.
-use Rattle.std.proofs.Common.{◌≡◌, ◌∙◌, ◌-◌, ℕ, ap, arith, Bool, cond, drop, false, length, List, [], ◌∷◌, ◌++◌, None, Option, refl, Some, subst, suc, sym, take, true, zero}
-use Rattle.std.specs.Prelude.{nat_eq, nat_lt, ◌&&◌, ◌||◌, ◌==◌, ◌≤◌, ◌+◌}
+use Rattle.std.proofs.Common.{◌≡◌, ◌∙◌, ◌-◌, ℕ, ap, arith, Bool, cond, drop, false, length, List, [], ◌∷◌, ◌++◌, None, Option, refl, Some, take, true}
+use Rattle.std.specs.Prelude.{nat_eq, nat_lt, ◌&&◌, ◌||◌, ◌==◌, ◌+◌}
 use Rattle.std.specs.Char.{is_ascii_digit, is_digit}
 use Rattle.std.specs.List.{prefix_len, starts_with}
 use Rattle.std.specs.Option.{option_and_then, option_map}
@@ -10,8 +10,8 @@ use Rattle.std.proofs.lemmas.List.Sums.{prefix_len-le-length}
 use Rattle.json.specs.Ascii as ascii
 use Rattle.json.specs.Lex.{token, between, class, Class, backslash, in_escape, in_string, in_word, lex, lex_byte, Lexeme, Mode, operator, other, punctuate, fresh, quote, space, string_token, tokens}
 use Rattle.json.specs.Text.{after_backslash, after_high, after_u, code_unit, content, plain, prepend, is_high_surrogate, is_low_surrogate, short_escape, surrogate_pair, Within}
-use Rattle.json.specs.Token.{bad, boolean, null, number, Token}
-use Rattle.json.specs.Word.{after_digits, after_exponent, after_fraction, after_minus, after_number, after_sign, after_whole, ends_word, head, literal, number_before, word}
+use Rattle.json.specs.Token.{bad, boolean, null, number}
+use Rattle.json.specs.Word.{after_digits, after_exponent, after_fraction, after_minus, after_number, after_sign, after_whole, ends_word, literal, number_before, word}
 use Rattle.std.specs.Char.{encode_utf8}
 
 abbrev newline : List ℕ

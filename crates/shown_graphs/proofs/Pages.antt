@@ -1,16 +1,12 @@
 -- A page of data, and the rules on it.
-use Rattle.std.proofs.Common.{◌≡◌, ◌∙◌, ℕ, All, ap, append_assoc, arith, Bool, codes, cond, false, get_or, List, [], ◌∷◌, ◌++◌, nat_eq, None, Option, refl, Some, subst, sym, true}
+use Rattle.std.proofs.Common.{◌≡◌, ◌∙◌, ℕ, All, ap, append_assoc, codes, List, [], ◌∷◌, ◌++◌, None, Option, refl, Some, subst, sym}
 use Rattle.std.specs.Prelude.{⊤, IsSomeAnd, MatchOption, slice_get}
-use Rattle.std.specs.List.{AllZip, flat_map}
 use Rattle.std.proofs.lemmas.List.{flat_map_more}
-use Rattle.std.proofs.lemmas.List.Elements.{All-head}
 use Rattle.std.proofs.lemmas.Slice.Zip.{AllZip-left}
 use Rattle.json.specs.Token.{Token, begin_object, end_array, end_object, key}
-use Rattle.line_texts.specs.Lines.{IsName, is_name_byte, lines_of}
-use Rattle.rule_tables.specs.Grammar.{Ask, head_word, IsAsk, IsQuestion, IsRule, letter_of, NamedQuestion, Nothing, Rule, Say, Says, Statement}
+use Rattle.line_texts.specs.Lines.{lines_of}
+use Rattle.rule_tables.specs.Grammar.{Says}
 use Rattle.rule_tables.specs.Table.{IsTableOf}
-use Rattle.cycle_heads.specs.declared.path.PathKind.{PathKind}
-use Rattle.cycle_heads.specs.declared.path.PathKind.TheVariants.{Coinductive, ForcedAmbiguity, Inductive, Unknown}
 use Rattle.shown_graphs.proofs.Arrays.{array_tail, array_told, Parts, Tells}
 use Rattle.shown_graphs.proofs.Names.{have_own_names}
 use Rattle.shown_graphs.proofs.Readback.{claim_parts, claim_tells}

@@ -1,25 +1,18 @@
 -- A line that says something is ASCII.
-use Rattle.std.proofs.Common.{◌+◌, All, None, Option, ◌≡◌, ◌≢◌, ◌∙◌, ◌<◌, ◌||◌, ℕ, ap, append_assoc, arith, Bool, codes, cond, false, get_or, inl, inr, length, List, [], ◌∷◌, ◌++◌, map, refl, subst, suc, sym, take, true, zero}
-use Rattle.std.specs.Prelude.{◌==◌, ◌⊎◌, ⊤, filter, nat_lt}
-use Rattle.std.specs.List.{AllByRecursion, AllPass, AllZip, cons_option, filter_map, flat_map, onto_first, slice_split}
+use Rattle.std.proofs.Common.{◌≡◌, ◌≢◌, ◌<◌, ℕ, arith, Bool, codes, false, get_or, inl, inr, length, List, [], ◌∷◌, subst, suc, sym, true, zero}
+use Rattle.std.specs.Prelude.{◌==◌, filter, nat_lt}
+use Rattle.std.specs.List.{AllByRecursion, AllPass, AllZip, onto_first, slice_split}
 use Rattle.std.specs.Char.{is_ascii_digit}
 use Rattle.std.specs.Str.{IsUtf8}
 use Rattle.std.proofs.lemmas.Bool.{cases_Bool, cond-true, lt-ltb}
-use Rattle.std.proofs.lemmas.Grind.{flat_map-append}
-use Rattle.std.proofs.lemmas.List.{append-nil, take_all, take_more}
-use Rattle.std.proofs.lemmas.List.Elements.{All-from_recursion, All-head, All-tail}
-use Rattle.std.proofs.lemmas.List.Splits.{slice_split-cons_no, slice_split-cons_yes, slice_split_at}
+use Rattle.std.proofs.lemmas.List.Elements.{All-head, All-tail}
+use Rattle.std.proofs.lemmas.List.Splits.{slice_split-cons_no, slice_split-cons_yes}
 use Rattle.std.proofs.lemmas.Str.{IsUtf8-from_ascii}
-use Rattle.line_texts.specs.Lines.{IsName, is_name_byte, lines_of, words_of}
-use Rattle.rule_tables.specs.Grammar.{Ask, head_word, IsAsk, IsDepth, IsQuestion, IsRule, letter_of, NamedQuestion, Nothing, Rule, Say, Says, Statement}
-use Rattle.rule_tables.specs.Table.{candidate_in, first_mentions, IsCandidate, IsToBeAnswered, names_in, question_in}
-use Rattle.rule_tables.specs.Rules.{candidates_of, names_of, questions_of}
-use Rattle.rule_tables.proofs.Questions.{AllZip-append_one}
-use Rattle.rule_tables.specs.declared.rules.Rules.{Rules}
+use Rattle.line_texts.specs.Lines.{IsName, is_name_byte, words_of}
+use Rattle.rule_tables.specs.Grammar.{Ask, head_word, IsAsk, IsQuestion, IsRule, letter_of, NamedQuestion, Nothing, Rule, Says, Statement}
 use Rattle.cycle_heads.specs.declared.path.PathKind.{PathKind}
 use Rattle.cycle_heads.specs.declared.path.PathKind.TheVariants.{Coinductive, ForcedAmbiguity, Inductive, Unknown}
-use Rattle.shown_graphs.specs.Page.{text_of}
-use Rattle.shown_graphs.specs.Rules.{if_something, MakesTheSame, SayTheSame}
+use Rattle.shown_graphs.specs.Rules.{if_something}
 
 -- an ASCII byte that ends no line
 pub record IsPlain (byte : ℕ) : Type 0 where

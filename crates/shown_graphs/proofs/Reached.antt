@@ -1,5 +1,5 @@
 -- Each node of a graph that is handed out is reached from the first.
-use Rattle.std.proofs.Common.{◌≡◌, ◌∙◌, ◌<◌, ℕ, ap, arith, length, List, [], ◌∷◌, map, Option, refl, Some, subst, suc, sym, zero}
+use Rattle.std.proofs.Common.{◌≡◌, ◌∙◌, ◌<◌, ℕ, ap, arith, length, List, [], ◌∷◌, map, refl, Some, subst, suc, sym, zero}
 use Rattle.std.specs.Prelude.{Contains, IsSomeAnd, slice_get, slice_index}
 use Rattle.std.specs.Option.{option_map}
 use Rattle.std.proofs.lemmas.Option.{get_or_from_slice_get, slice_get-map}

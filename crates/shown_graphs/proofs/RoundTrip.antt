@@ -30,7 +30,6 @@ use Rattle.shown_graphs.specs.Told.{IsJudged, is_not_refused}
 use Rattle.shown_graphs.specs.declared.answer.Came.{Came}
 use Rattle.shown_graphs.specs.declared.answer.Came.TheVariants.{Graph, NoGraph, Unchecked, Fault}
 use Rattle.shown_graphs.specs.declared.program.checking.Said.{Said}
-use Rattle.shown_graphs.specs.declared.program.checking.Said.TheVariants as said
 use Rattle.shown_graphs.specs.declared.reading.Claim.{Claim}
 
 -- ---- where lists lie makes no graph valid

@@ -1,12 +1,12 @@
 -- Two tables that were read of one text, and the scripts of their goals.
-use Rattle.std.proofs.Common.{◌≡◌, ◌∙◌, ℕ, ◌+◌, ap, Bool, cond, List, [], ◌∷◌, None, Option, refl, Some, subst, suc, sym, zero}
+use Rattle.std.proofs.Common.{◌≡◌, ◌∙◌, ℕ, ◌+◌, ap, cond, List, [], ◌∷◌, None, Option, refl, Some, subst, suc, sym, zero}
 use Rattle.std.specs.Prelude.{◌&&◌, ⊤, nat_le, slice_get}
-use Rattle.std.specs.List.{AllZip, filter_map, flat_map}
+use Rattle.std.specs.List.{AllZip, filter_map}
 use Rattle.rule_tables.specs.Below.{Answer, Begin, Done, EnterCandidate, Evaluate, FinishCandidate, Ignore, Noted, Outcome, Reply, Request}
 use Rattle.rule_tables.specs.Frame.{asking, asking_next, asking_in, entering, entering_next, ignoring, marked_from, script_of, state_after, request_of, state_with, with_answer, with_ignored}
 use Rattle.rule_tables.specs.Grammar.{NamedQuestion, Statement}
-use Rattle.rule_tables.specs.Rules.{candidates_of, name_of, names_of, number_of, questions_of}
-use Rattle.rule_tables.specs.Table.{AreAsked, candidate_in, first_mentions, IsAsked, IsCandidate, IsTableOf, IsToBeAnswered, NamedCandidate, names_in, question_in}
+use Rattle.rule_tables.specs.Rules.{candidates_of, names_of, number_of, questions_of}
+use Rattle.rule_tables.specs.Table.{candidate_in, IsAsked, IsCandidate, IsTableOf, IsToBeAnswered, NamedCandidate, question_in}
 use Rattle.rule_tables.specs.declared.frame.State.{State}
 use Rattle.rule_tables.specs.declared.rules.Asking.{Asking}
 use Rattle.rule_tables.specs.declared.rules.Candidate.{Candidate}

@@ -1,24 +1,11 @@
 -- A line says one thing.
-use Rattle.std.proofs.Common.{◌≡◌, ◌∙◌, ℕ, All, ap, append_assoc, arith, Bool, codes, cond, false, get_or, List, [], ◌∷◌, ◌++◌, nat_eq, None, Option, refl, Some, subst, sym, true}
-use Rattle.std.specs.Prelude.{⊤, IsSomeAnd, MatchOption, slice_get}
-use Rattle.std.specs.List.{AllZip, flat_map}
-use Rattle.std.proofs.lemmas.List.{flat_map_more}
+use Rattle.std.proofs.Common.{◌≡◌, ◌∙◌, ℕ, ap, arith, Bool, codes, cond, false, get_or, List, [], ◌∷◌, nat_eq, refl, subst, sym, true}
+use Rattle.std.specs.List.{AllZip}
 use Rattle.std.proofs.lemmas.List.Elements.{All-head}
-use Rattle.std.proofs.lemmas.Slice.Zip.{AllZip-left}
-use Rattle.json.specs.Token.{Token, begin_object, end_array, end_object, key}
-use Rattle.line_texts.specs.Lines.{IsName, is_name_byte, lines_of}
-use Rattle.rule_tables.specs.Grammar.{Ask, head_word, IsAsk, IsQuestion, IsRule, letter_of, NamedQuestion, Nothing, Rule, Say, Says, Statement}
-use Rattle.rule_tables.specs.Table.{IsTableOf}
+use Rattle.line_texts.specs.Lines.{IsName, is_name_byte}
+use Rattle.rule_tables.specs.Grammar.{Ask, head_word, IsAsk, IsQuestion, IsRule, letter_of, NamedQuestion, Nothing, Rule, Say, Statement}
 use Rattle.cycle_heads.specs.declared.path.PathKind.{PathKind}
 use Rattle.cycle_heads.specs.declared.path.PathKind.TheVariants.{Coinductive, ForcedAmbiguity, Inductive, Unknown}
-use Rattle.shown_graphs.proofs.Arrays.{array_tail, array_told, Parts, Tells}
-use Rattle.shown_graphs.proofs.Names.{have_own_names}
-use Rattle.shown_graphs.proofs.Readback.{claim_parts, claim_tells}
-use Rattle.shown_graphs.proofs.SameRules.{same_rules}
-use Rattle.shown_graphs.specs.Below.{IsFirstBadLine, names_of, Reads, Rules}
-use Rattle.shown_graphs.specs.Data.{array_tokens, claim_tokens, IsClaim, list_tokens, PlainClaim, Spells}
-use Rattle.shown_graphs.specs.Page.{AreOfPage, line_tokens, text_of}
-use Rattle.shown_graphs.specs.Rules.{AreSameRules}
 
 kind_of : ℕ → PathKind
 kind_of letter = cond (nat_eq letter 105) Inductive (cond (nat_eq letter 117) Unknown (cond (nat_eq letter 99) Coinductive ForcedAmbiguity))

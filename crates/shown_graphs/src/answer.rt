@@ -97,6 +97,8 @@ where
     let Some(graph) = cache.graph_of(node)? else {
         return Ok(Came::Unchecked(outcome));
     };
+    // They are counted, so each place is a number of 64 bits.
+    let _count = graph.nodes.len();
     if accepts::<X, D>(alloc, cx, &graph, goal, outcome)? {
         Ok(Came::Graph {
             outcome,

@@ -1,5 +1,5 @@
 use Rattle.std.proofs.Common.{◌∷◌, []}
-use Rattle.shown_graphs.proofs.Lines.{line_written, nothing_written}
+use Rattle.shown_graphs.proofs.Lines.{line_written}
 use Rattle.shown_graphs.proofs.Spelling.{puts_none, puts_token}
 use Rattle.shown_graphs.proofs.data.write_line.Goals as goal
 
