@@ -13,6 +13,7 @@ use Rattle.rule_tables.specs.Grammar.{Ask, Nothing, Rule, Says, Statement}
 use Rattle.rule_tables.specs.Table.{candidate_in, first_mentions, IsCandidate, IsToBeAnswered, names_in, question_in}
 use Rattle.rule_tables.specs.Rules.{candidates_of, names_of, questions_of}
 use Rattle.rule_tables.proofs.Questions.{AllZip-append_one}
+use Rattle.shown_graphs.proofs.Lists.{AllZip-append}
 use Rattle.shown_graphs.proofs.Plain.{ArePlain, plain_is_utf8, something_is_plain}
 use Rattle.shown_graphs.proofs.Statements.{says_one}
 use Rattle.shown_graphs.specs.Page.{text_of}
@@ -78,12 +79,6 @@ makes_the_same text lines says rules reads =
     }
 
 -- ---- the lines so far
-
-AllZip-append : {A B : Type 0} (R : A → B → Type 0) (xs xs' : List A) (ys ys' : List B) → AllZip R xs ys → AllZip R xs' ys' → AllZip R (xs ++ xs') (ys ++ ys')
-AllZip-append R [] xs' [] ys' h k = k
-AllZip-append R [] xs' (y ∷ ys) ys' h k = absurd h
-AllZip-append R (x ∷ xs) xs' [] ys' h k = absurd h
-AllZip-append R (x ∷ xs) xs' (y ∷ ys) ys' h k = (h.0, AllZip-append R xs xs' ys ys' h.1 k)
 
 pub none_said : AreSaid [] []
 none_said [] says = tt

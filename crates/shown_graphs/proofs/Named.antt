@@ -18,6 +18,7 @@ use Rattle.search_context.specs.Graph.{HasEdge, HasGoal, IsWalk, question_of}
 use Rattle.search_context.specs.Run.{Asked, progress_after, progress_with, Progress, open_candidate, request_after}
 use Rattle.search_context.specs.Valid.{goal_node_of, goal_nodes_of, IsRunOfSort, IsValid}
 use Rattle.search_context.specs.declared.context.Edge.{Edge}
+use Rattle.shown_graphs.proofs.Lists.{AllByRecursion-append}
 use Rattle.shown_graphs.specs.Checked.{AreReached, IsChecked, IsShownGraph}
 use Rattle.cycle_heads.specs.declared.path.PathKind.{PathKind}
 use Rattle.cycle_heads.specs.declared.path.PathKind.TheVariants.{Coinductive, Inductive}
@@ -229,14 +230,10 @@ module _ (says : Verdicts Outcome) (scripts : Goal → List (Reply Outcome) → 
   claim_named goal (Unchecked outcome) named checked = tt
   claim_named goal (Fault fault) named checked = tt
 
-  append_named : {A : Type 0} (P : A → Type 0) (xs ys : List A) → AllByRecursion P xs → AllByRecursion P ys → AllByRecursion P (xs ++ ys)
-  append_named P [] ys h k = k
-  append_named P (x ∷ xs) ys h k = (h.0, append_named P xs ys h.1 k)
-
   all_claims_named : (asked : List (Goal × Came)) → AllByRecursion (IsNamed (names_of rules)) (map (λ a. a.0) asked) → All (λ a. IsChecked says scripts a.0 a.1) asked → AllByRecursion (IsClaim (names_of rules)) (flat_map (λ a. claims_of a.0 a.1) asked)
   all_claims_named [] named checked = tt
   all_claims_named (a ∷ asked) named checked =
-      append_named (IsClaim (names_of rules)) (claims_of a.0 a.1) (flat_map (λ b. claims_of b.0 b.1) asked) (claim_named a.0 a.1 named.0 (All-head (λ b. IsChecked says scripts b.0 b.1) a asked checked))
+      AllByRecursion-append (IsClaim (names_of rules)) (claims_of a.0 a.1) (flat_map (λ b. claims_of b.0 b.1) asked) (claim_named a.0 a.1 named.0 (All-head (λ b. IsChecked says scripts b.0 b.1) a asked checked))
       (all_claims_named asked named.1 (All-tail (λ b. IsChecked says scripts b.0 b.1) a asked checked))
 
   questions_named : (questions : List (ℕ × Goal)) (written : List (ℕ × List ℕ)) → AllZip (IsToBeAnswered (names_of rules)) questions written → AllByRecursion (IsNamed (names_of rules)) (map (λ q. q.1) questions)

@@ -8,13 +8,14 @@ use Rattle.line_texts.specs.Lines.{lines_of}
 use Rattle.rule_tables.specs.Grammar.{Says}
 use Rattle.rule_tables.specs.Table.{IsTableOf}
 use Rattle.shown_graphs.proofs.Arrays.{array_tail, array_told, Parts, Tells}
+use Rattle.shown_graphs.proofs.Lists.{zip_one}
 use Rattle.shown_graphs.proofs.Names.{have_own_names}
 use Rattle.shown_graphs.proofs.Readback.{claim_parts, claim_tells}
 use Rattle.shown_graphs.proofs.SameRules.{same_rules}
-use Rattle.shown_graphs.proofs.Statements.{says_one, zip_one}
+use Rattle.shown_graphs.proofs.Statements.{says_one}
 use Rattle.shown_graphs.specs.Below.{IsFirstBadLine, names_of, Reads, Rules}
-use Rattle.shown_graphs.specs.Data.{array_tokens, claim_tokens, IsClaim, list_tokens, PlainClaim, Spells}
-use Rattle.shown_graphs.specs.Page.{AreOfPage, line_tokens, text_of}
+use Rattle.shown_graphs.specs.Data.{array_tokens, claim_tokens, IsClaim, list_tokens, PlainClaim, Spells, string_tokens}
+use Rattle.shown_graphs.specs.Page.{AreOfPage, text_of}
 use Rattle.shown_graphs.specs.Rules.{AreSameRules}
 
 -- a text makes one table
@@ -41,10 +42,10 @@ pub text_more : (lines : List (List ℕ)) (line old mid new : List ℕ) → old 
 text_more lines line old mid new so_far one newline =
     newline ∙ ap (λ bytes. bytes ++ 10 ∷ []) (one ∙ ap (λ bytes. bytes ++ line) so_far) ∙ append_assoc (text_of lines) line (10 ∷ []) ∙ flat_map_more (λ l. l ++ codes "\n") [] lines line
 
-pub line_parts : Parts line_tokens
+pub line_parts : Parts string_tokens
 line_parts = record { tail = λ x y r s h. cc; is_no_end = λ x r s h. absurd (cc) }
 
-line_tells : Tells line_tokens (λ _. ⊤)
+line_tells : Tells string_tokens (λ _. ⊤)
 line_tells x y r s p q h = cc
 
 module _ (whole t₁ t₂ : List Token) (page : AreOfPage whole) (begun : whole ≡ begin_object ∷ t₁) (rules_key : t₁ ≡ key (codes "rules") ∷ t₂) where
@@ -52,24 +53,24 @@ module _ (whole t₁ t₂ : List Token) (page : AreOfPage whole) (begun : whole 
   abbrev after_lines : List Token
   after_lines = key (codes "answers") ∷ array_tokens (claim_tokens (names_of page.rules)) page.claims (end_object ∷ [])
 
-  all_lines_left : t₂ ≡ array_tokens line_tokens page.is_page.lines after_lines
+  all_lines_left : t₂ ≡ array_tokens string_tokens page.is_page.lines after_lines
   all_lines_left = cc (page.is_page.are_its)
 
-  pub lines_left : Spells (λ _. ⊤) (array_tokens line_tokens) t₂
+  pub lines_left : Spells (λ _. ⊤) (array_tokens string_tokens) t₂
   lines_left = record { value = page.is_page.lines; is_right = tt; rest = after_lines; are_its = all_lines_left }
 
-  module _ (t₃ : List Token) (lines : List (List ℕ)) (has_lines : t₂ ≡ array_tokens line_tokens lines t₃) where
-    same_lines : list_tokens line_tokens page.is_page.lines (end_array ∷ after_lines) ≡ list_tokens line_tokens lines (end_array ∷ t₃)
+  module _ (t₃ : List Token) (lines : List (List ℕ)) (has_lines : t₂ ≡ array_tokens string_tokens lines t₃) where
+    same_lines : list_tokens string_tokens page.is_page.lines (end_array ∷ after_lines) ≡ list_tokens string_tokens lines (end_array ∷ t₃)
     same_lines = let left = all_lines_left in cc
 
     -- its lines make rules
     pub lines_read : Reads (text_of lines) page.rules
     lines_read =
-        let same = array_told line_tokens line_parts (λ _. ⊤) line_tells page.is_page.lines lines after_lines t₃ (λ k d below. tt) (λ k d below. tt) same_lines in
+        let same = array_told string_tokens line_parts (λ _. ⊤) line_tells page.is_page.lines lines after_lines t₃ (λ k d below. tt) (λ k d below. tt) same_lines in
         subst (λ ls. Reads (text_of ls) page.rules) same page.is_page.reads
 
     pub answers_left : t₃ ≡ after_lines
-    answers_left = sym (array_tail line_tokens line_parts page.is_page.lines lines after_lines t₃ same_lines)
+    answers_left = sym (array_tail string_tokens line_parts page.is_page.lines lines after_lines t₃ same_lines)
 
     module _ (rules : Rules) (reads : Reads (text_of lines) rules) where
       -- in which goals have the same names
@@ -108,7 +109,7 @@ page_told whole written read =
     let names : List (List ℕ) = names_of read.rules in
     let answers : List Token = array_tokens (claim_tokens names) read.claims (end_object ∷ []) in
     let rest : List Token = key (codes "answers") ∷ answers in
-    let array : List Token = array_tokens line_tokens lines rest in
+    let array : List Token = array_tokens string_tokens lines rest in
     let same_names : names_of written.rules ≡ names = names_read whole (key (codes "rules") ∷ array) array written read.is_page.are_its refl rest lines refl read.rules read.is_page.reads in
     let same : answers ≡ array_tokens (claim_tokens names) written.claims (end_object ∷ []) = array_of_claims whole (key (codes "rules") ∷ array) array written read.is_page.are_its refl rest lines refl read.rules read.is_page.reads answers refl in
     let same_list : list_tokens (claim_tokens names) read.claims (end_array ∷ end_object ∷ []) ≡ list_tokens (claim_tokens names) written.claims (end_array ∷ end_object ∷ []) = claims_in_array names _ _ same in

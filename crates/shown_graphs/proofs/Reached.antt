@@ -1,5 +1,5 @@
 -- Each node of a graph that is handed out is reached from the first.
-use Rattle.std.proofs.Common.{◌≡◌, ◌∙◌, ◌<◌, ℕ, ap, arith, length, List, [], ◌∷◌, map, refl, Some, subst, suc, sym, zero}
+use Rattle.std.proofs.Common.{◌≡◌, ◌∙◌, ◌<◌, ℕ, ap, arith, length, List, [], ◌∷◌, map, refl, Some, subst, sym}
 use Rattle.std.specs.Prelude.{Contains, IsSomeAnd, slice_get, slice_index}
 use Rattle.std.specs.Option.{option_map}
 use Rattle.std.proofs.lemmas.Option.{get_or_from_slice_get, slice_get-map}
@@ -10,14 +10,9 @@ use Rattle.search_context.proofs.Graphs.{Contains-map, HasEdge-from, IsReached-s
 use Rattle.search_context.specs.Graph.{HasEdge, IsReached, IsWalk, original_edge}
 use Rattle.search_context.specs.Valid.{goal_node_of, goal_nodes_of}
 use Rattle.search_context.specs.declared.context.Edge.{Edge}
+use Rattle.shown_graphs.proofs.Lists.{item_at}
 use Rattle.shown_graphs.specs.Below.{Goal, Node, Outcome}
 use Rattle.shown_graphs.specs.Checked.{AreReached}
-
--- a place of a list has an item
-pub item_at : {A : Type 0} (xs : List A) (at : ℕ) → at < length xs → (x : A) × (slice_get xs at ≡ Some x)
-item_at [] at l = absurd (omega arith)
-item_at (x ∷ xs) zero l = (x, refl)
-item_at (x ∷ xs) (suc at) l = item_at xs at (omega arith)
 
 module _ (nodes : List (CacheNode Goal Outcome)) (root : ℕ) (copy : List (Node Goal Outcome)) (numbers : List ℕ) (c : Copies nodes root copy numbers) where
   -- a place of the copy that is reached in it, and stands for this node

@@ -1,5 +1,5 @@
 -- What was shown is accepted where it is read.
-use Rattle.std.proofs.Common.{◌≡◌, ◌∙◌, All, ap, Bool, inl, inr, List, [], ◌∷◌, ◌++◌, map, refl, Some, subst, sym, true, ℕ}
+use Rattle.std.proofs.Common.{◌<◌, arith, codes, get_or, suc, zero, ◌≡◌, ◌∙◌, All, ap, Bool, inl, inr, List, [], ◌∷◌, ◌++◌, map, refl, Some, subst, sym, true, ℕ}
 use Rattle.std.specs.Prelude.{◌&&◌, ◌⊎◌, Option, reverse, slice_get}
 use Rattle.std.specs.Borrow.{Bor}
 use Rattle.std.specs.Io.KnownBytes.{Appends}
@@ -7,6 +7,8 @@ use Rattle.std.specs.List.{AllByRecursion, flat_map, list_all}
 use Rattle.std.specs.Option.{option_map}
 use Rattle.std.proofs.lemmas.List.Elements.{All-get_or, All-head, All-tail}
 use Rattle.std.proofs.lemmas.Option.{get_or_from_slice_get, slice_get-map, slice_get_within}
+use Rattle.std.proofs.lemmas.Str.{IsUtf8-append, IsUtf8-from_ascii}
+use Rattle.std.specs.Str.{IsUtf8}
 use Rattle.open_graphs.proofs.Lists.{mapped_some}
 use Rattle.cycle_heads.specs.declared.path.PathKind.{PathKind}
 use Rattle.cycle_heads.specs.declared.path.PathKind.TheVariants.{Coinductive, Inductive}
@@ -16,6 +18,8 @@ use Rattle.search_context.specs.Valid.{AreClosed, CyclesHaveKind, goal_nodes_of,
 use Rattle.search_context.specs.declared.context.Verdict.TheVariants as verdict
 use Rattle.json.specs.Lex.{tokens}
 use Rattle.rule_tables.specs.Frame.{script_of}
+use Rattle.shown_graphs.proofs.Lists.{AllByRecursion-append}
+use Rattle.shown_graphs.proofs.Newline.{newline_passed}
 use Rattle.shown_graphs.proofs.Pages.{page_told}
 use Rattle.shown_graphs.proofs.SameRules.{same_script}
 use Rattle.shown_graphs.specs.Below.{candidates_of, CxOf, DelegateOf, Goal, names_of, Node, Outcome, Reply, Request, Rules, Table, Verdict, verdicts, Verdicts}
@@ -94,14 +98,10 @@ module _ (says : Verdicts Outcome) (scripts others : Goal → List (Reply Outcom
   claim_good goal (Unchecked outcome) checked = tt
   claim_good goal (Fault fault) checked = tt
 
-  append_good : (xs ys : List PlainClaim) → AllByRecursion IsGood xs → AllByRecursion IsGood ys → AllByRecursion IsGood (xs ++ ys)
-  append_good [] ys h k = k
-  append_good (x ∷ xs) ys h k = (h.0, append_good xs ys h.1 k)
-
   pub all_good : (asked : List (Goal × Came)) → All (λ a. IsChecked says scripts a.0 a.1) asked → AllByRecursion IsGood (flat_map (λ a. claims_of a.0 a.1) asked)
   all_good [] checked = tt
   all_good (a ∷ asked) checked =
-      append_good (claims_of a.0 a.1) (flat_map (λ b. claims_of b.0 b.1) asked) (claim_good a.0 a.1 (All-head (λ b. IsChecked says scripts b.0 b.1) a asked checked)) (all_good asked (All-tail (λ b. IsChecked says scripts b.0 b.1) a asked checked))
+      AllByRecursion-append IsGood (claims_of a.0 a.1) (flat_map (λ b. claims_of b.0 b.1) asked) (claim_good a.0 a.1 (All-head (λ b. IsChecked says scripts b.0 b.1) a asked checked)) (all_good asked (All-tail (λ b. IsChecked says scripts b.0 b.1) a asked checked))
 
   no_nodes : (nodes : List (Node Goal Outcome)) → map plain_node nodes ≡ [] → nodes ≡ []
   no_nodes [] none = refl
@@ -121,6 +121,12 @@ module _ (says : Verdicts Outcome) (scripts others : Goal → List (Reply Outcom
 
 -- ---- the round trip of a whole text
 
+newline_is_utf8 : IsUtf8 (codes "\n")
+newline_is_utf8 = IsUtf8-from_ascii (codes "\n") at where
+  at : (i : ℕ) → get_or (codes "\n") i 0 < 128
+  at zero = omega arith
+  at (suc i) = omega arith
+
 module _ {D V P F A T : Type 0} (G : DelegateOf D (Table (Bor Rules)) V P F Goal Outcome A T) (X : CxOf (Table (Bor Rules)) Goal Outcome A T) (scripts : (table : Table (Bor Rules)) → G.script table ≡ (λ goal. script_of (candidates_of table.lender.now goal))) where
   scripts_of_same : (table other : Table (Bor Rules)) → AreSameRules table.lender.now other.lender.now → (goal : Goal) → IsNamed (names_of table.lender.now) goal → G.script other goal ≡ G.script table goal
   scripts_of_same table other same goal named =
@@ -130,11 +136,17 @@ module _ {D V P F A T : Type 0} (G : DelegateOf D (Table (Bor Rules)) V P F Goal
     abbrev rules : Rules
     rules = shown.table.lender.now
 
-    found : (given told : Option (List ℕ)) (none_refused : Bool) (checked : IsCheckedText G X (Some page.text) given told none_refused) → Finds rules shown.claims checked.table.lender.now (map plain_claim checked.claims) none_refused
+    abbrev written : List ℕ
+    written = page.text ++ codes "\n"
+
+    written_page : IsPage (tokens written) rules shown.claims
+    written_page = subst (λ ts. IsPage ts rules shown.claims) (sym (newline_passed page.text)) page.is_page
+
+    found : (given told : Option (List ℕ)) (none_refused : Bool) (checked : IsCheckedText G X (Some written) given told none_refused) → Finds rules shown.claims checked.table.lender.now (map plain_claim checked.claims) none_refused
     found given told none_refused checked =
         let read : List PlainClaim = map plain_claim checked.claims in
-        let is_page : IsPage (tokens page.text) checked.table.lender.now read = subst (λ text. IsPage (tokens text) checked.table.lender.now read) checked.is_known checked.is_page in
-        let both = page_told (tokens page.text) (record { rules = rules; claims = shown.claims; is_page = page.is_page }) (record { rules = checked.table.lender.now; claims = read; is_page = is_page }) in
+        let is_page : IsPage (tokens written) checked.table.lender.now read = subst (λ text. IsPage (tokens text) checked.table.lender.now read) checked.is_known checked.is_page in
+        let both = page_told (tokens written) (record { rules = rules; claims = shown.claims; is_page = written_page }) (record { rules = checked.table.lender.now; claims = read; is_page = is_page }) in
         let same = scripts_of_same shown.table checked.table both.0 in
         let claims : shown.claims ≡ map plain_claim (map (λ j. j.0) checked.are_judged.judged) = sym both.1 ∙ ap (map plain_claim) (sym checked.are_judged.are_claims) in
         let good = subst (AllByRecursion (IsGood (verdicts X) (G.script shown.table) (G.script checked.table) (names_of rules) same)) (sym shown.are_asked.are_claims ∙ claims) (all_good (verdicts X) (G.script shown.table) (G.script checked.table) (names_of rules) same shown.are_asked.asked shown.are_asked.are_checked) in
@@ -144,10 +156,10 @@ module _ {D V P F A T : Type 0} (G : DelegateOf D (Table (Bor Rules)) V P F Goal
           accepted = checked.are_judged.fine ∙ all_not_refused (verdicts X) (G.script shown.table) (G.script checked.table) (names_of rules) same checked.are_judged.judged good (subst (All (IsClaim (names_of rules))) claims page.is_page.named) checked.are_judged.are_right;
         }
 
-    read_back : IsReadBack G X rules shown.claims page.text
-    read_back = record { is_page = (page.is_utf8, record { rules = rules; claims = shown.claims; is_page = page.is_page }); finds = found }
+    read_back : IsReadBack G X rules shown.claims written
+    read_back = record { is_page = (IsUtf8-append page.text (codes "\n") page.is_utf8 newline_is_utf8, record { rules = rules; claims = shown.claims; is_page = written_page }); finds = found }
 
   pub shown_is_read_back : (known old new : Option (List ℕ)) (all_fine : Bool) (shown : IsShown G X known old new Data all_fine) → (text : List ℕ) × Appends old new text × IsReadBack G X shown.table.lender.now shown.claims text
   shown_is_read_back known old new all_fine shown =
       let page = shown.is_written refl in
-      (page.text, page.written, read_back known old new all_fine shown page)
+      (page.text ++ codes "\n", page.written, read_back known old new all_fine shown page)

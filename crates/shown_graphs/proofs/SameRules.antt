@@ -1,7 +1,7 @@
 -- Two tables that were read of one text, and the scripts of their goals.
 use Rattle.std.proofs.Common.{◌≡◌, ◌∙◌, ℕ, ◌+◌, ap, cond, List, [], ◌∷◌, None, Option, refl, Some, subst, suc, sym, zero}
 use Rattle.std.specs.Prelude.{◌&&◌, ⊤, nat_le, slice_get}
-use Rattle.std.specs.List.{AllZip, filter_map}
+use Rattle.std.specs.List.{AllZip, each_same, filter_map}
 use Rattle.rule_tables.specs.Below.{Answer, Begin, Done, EnterCandidate, Evaluate, FinishCandidate, Ignore, Noted, Outcome, Reply, Request}
 use Rattle.rule_tables.specs.Frame.{asking, asking_next, asking_in, entering, entering_next, ignoring, marked_from, script_of, state_after, request_of, state_with, with_answer, with_ignored}
 use Rattle.rule_tables.specs.Grammar.{NamedQuestion, Statement}
@@ -12,25 +12,11 @@ use Rattle.rule_tables.specs.declared.rules.Asking.{Asking}
 use Rattle.rule_tables.specs.declared.rules.Candidate.{Candidate}
 use Rattle.rule_tables.specs.declared.rules.Goal.{Goal}
 use Rattle.rule_tables.specs.declared.rules.Rules.{Rules}
+use Rattle.shown_graphs.proofs.Lists.{zip_over}
 use Rattle.shown_graphs.specs.Data.{HaveOwnNames}
 use Rattle.shown_graphs.specs.Rules.{AreSameRules, IsSameCandidate}
 
 -- ---- statements make one table
-
--- what is related to the same things is related
-zip_over : {A B C : Type 0} (R : A → C → Type 0) (S : B → C → Type 0) (T : A → B → Type 0) → ((a : A) (b : B) (c : C) → R a c → S b c → T a b) → (xs : List A) (ys : List B) (zs : List C) → AllZip R xs zs → AllZip S ys zs → AllZip T xs ys
-zip_over R S T over [] [] zs p q = tt
-zip_over R S T over [] (y ∷ ys) [] p q = absurd q
-zip_over R S T over [] (y ∷ ys) (z ∷ zs) p q = absurd p
-zip_over R S T over (x ∷ xs) ys [] p q = absurd p
-zip_over R S T over (x ∷ xs) [] (z ∷ zs) p q = absurd q
-zip_over R S T over (x ∷ xs) (y ∷ ys) (z ∷ zs) p q = (over x y z p.0 q.0, zip_over R S T over xs ys zs p.1 q.1)
-
-zip_same : {A : Type 0} (xs ys : List A) → AllZip (λ x y. y ≡ x) xs ys → ys ≡ xs
-zip_same [] [] h = refl
-zip_same [] (y ∷ ys) h = absurd h
-zip_same (x ∷ xs) [] h = absurd h
-zip_same (x ∷ xs) (y ∷ ys) h = ap (λ z. z ∷ ys) h.0 ∙ ap (λ zs. x ∷ zs) (zip_same xs ys h.1)
 
 asking_same : (a b : Asking) → b.kind ≡ a.kind → b.goal ≡ a.goal → b ≡ a
 asking_same a b kind goal = ap (λ k. record { kind = k; goal = b.goal }) kind ∙ ap (λ g. record { kind = a.kind; goal = g }) goal
@@ -42,7 +28,7 @@ module _ (names : List (List ℕ)) (own : HaveOwnNames names) where
   same_candidate : (a b : Candidate) (c : NamedCandidate) → IsCandidate names a c → IsCandidate names b c → IsSameCandidate a b
   same_candidate a b c p r = record {
     is_marked = r.is_marked ∙ sym p.is_marked;
-    questions = zip_same a.questions.items b.questions.items (zip_over (IsAsked names) (IsAsked names) (λ x y. y ≡ x) same_asked a.questions.items b.questions.items c.questions p.questions r.questions);
+    questions = each_same a.questions.items b.questions.items (zip_over (IsAsked names) (IsAsked names) (λ x y. y ≡ x) same_asked a.questions.items b.questions.items c.questions p.questions r.questions);
   }
 
   same_question : (a b : ℕ × Goal) (q : ℕ × List ℕ) → IsToBeAnswered names a q → IsToBeAnswered names b q → b ≡ a
@@ -53,7 +39,7 @@ same_rules statements rules others own p q =
     let same : names_of others ≡ names_of rules = q.names ∙ sym p.names in
     record {
       names = same;
-      questions = zip_same (questions_of rules) (questions_of others)
+      questions = each_same (questions_of rules) (questions_of others)
           (zip_over (IsToBeAnswered (names_of rules)) (IsToBeAnswered (names_of rules)) (λ x y. y ≡ x) (same_question (names_of rules) own) (questions_of rules) (questions_of others) (filter_map question_in statements) p.questions
           (subst (λ names. AllZip (IsToBeAnswered names) (questions_of others) (filter_map question_in statements)) same q.questions));
       candidates = λ goal name is.

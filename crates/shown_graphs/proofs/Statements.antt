@@ -3,6 +3,7 @@ use Rattle.std.proofs.Common.{◌≡◌, ◌∙◌, ℕ, ap, arith, Bool, codes,
 use Rattle.std.specs.List.{AllZip}
 use Rattle.std.proofs.lemmas.List.Elements.{All-head}
 use Rattle.line_texts.specs.Lines.{IsName, is_name_byte}
+use Rattle.shown_graphs.proofs.Lists.{zip_one}
 use Rattle.rule_tables.specs.Grammar.{Ask, head_word, IsAsk, IsQuestion, IsRule, letter_of, NamedQuestion, Nothing, Rule, Say, Statement}
 use Rattle.cycle_heads.specs.declared.path.PathKind.{PathKind}
 use Rattle.cycle_heads.specs.declared.path.PathKind.TheVariants.{Coinductive, ForcedAmbiguity, Inductive, Unknown}
@@ -38,14 +39,6 @@ head_same true true name other p q h = (refl, cc)
 head_same true false name other p q h = absurd (no_mark name (subst IsName (sym h) q))
 head_same false true name other p q h = absurd (no_mark other (subst IsName h p))
 head_same false false name other p q h = (refl, h)
-
-pub zip_one : {A B : Type 0} (R : A → B → Type 0) → ((x : A) (y z : B) → R x y → R x z → y ≡ z) → (xs : List A) (ys zs : List B) → AllZip R xs ys → AllZip R xs zs → ys ≡ zs
-zip_one R one [] [] [] p q = refl
-zip_one R one [] [] (z ∷ zs) p q = absurd q
-zip_one R one [] (y ∷ ys) zs p q = absurd p
-zip_one R one (x ∷ xs) [] zs p q = absurd p
-zip_one R one (x ∷ xs) (y ∷ ys) [] p q = absurd q
-zip_one R one (x ∷ xs) (y ∷ ys) (z ∷ zs) p q = ap (λ v. v ∷ ys) (one x y z p.0 q.0) ∙ ap (λ vs. z ∷ vs) (zip_one R one xs ys zs p.1 q.1)
 
 rule_same : (words : List (List ℕ)) (a b : Bool) (name other : List ℕ) (ps qs : List NamedQuestion) → IsRule words a name ps → IsRule words b other qs → Rule a name ps ≡ Rule b other qs
 rule_same words a b name other ps qs p q =

@@ -1,8 +1,7 @@
 -- A page of data as it is written.
-use Rattle.std.proofs.Common.{◌≡◌, ◌∙◌, ◌<◌, ℕ, ap, arith, codes, get_or, suc, zero, List, [], ◌∷◌, ◌++◌, Option, refl, subst, sym}
+use Rattle.std.proofs.Common.{◌≡◌, ◌∙◌, ℕ, ap, codes, List, [], ◌∷◌, ◌++◌, Option, refl, subst, sym}
 use Rattle.std.proofs.KnownBytes.{Appends-trans}
 use Rattle.std.proofs.lemmas.List.{append-nil}
-use Rattle.std.proofs.lemmas.Str.{IsUtf8-append, IsUtf8-from_ascii}
 use Rattle.std.specs.Io.KnownBytes.{Appends}
 use Rattle.std.specs.Prelude.{Err, Ok, OnOk, Result}
 use Rattle.std.specs.Str.{IsUtf8}
@@ -12,30 +11,23 @@ use Rattle.json.specs.Token.{Token, end_array, end_object}
 use Rattle.json.specs.Written.{Written}
 use Rattle.shown_graphs.proofs.Arrays.{list_tokens-push}
 use Rattle.shown_graphs.proofs.Names.{have_texts}
-use Rattle.shown_graphs.proofs.Newline.{newline_passed}
 use Rattle.shown_graphs.specs.Below.{names_of, Reads, Rules}
-use Rattle.shown_graphs.specs.Data.{claim_tokens, HaveTexts, list_tokens, PlainClaim, Puts}
-use Rattle.shown_graphs.specs.Page.{begun_page, line_tokens, text_of}
+use Rattle.shown_graphs.specs.Data.{claim_tokens, HaveTexts, list_tokens, PlainClaim, Puts, string_tokens}
+use Rattle.shown_graphs.specs.Page.{begun_page, text_of}
 use Rattle.shown_graphs.specs.Rules.{MakesTheSame}
 use Rattle.shown_graphs.specs.Shown.{IsBegun, WritesPage}
 
 -- the lines, some more at a time
-list_tokens-append : (xs ys : List (List ℕ)) (rest : List Token) → list_tokens line_tokens (xs ++ ys) rest ≡ list_tokens line_tokens xs (list_tokens line_tokens ys rest)
+list_tokens-append : (xs ys : List (List ℕ)) (rest : List Token) → list_tokens string_tokens (xs ++ ys) rest ≡ list_tokens string_tokens xs (list_tokens string_tokens ys rest)
 list_tokens-append [] ys rest = refl
-list_tokens-append (x ∷ xs) ys rest = ap (line_tokens x) (list_tokens-append xs ys rest)
+list_tokens-append (x ∷ xs) ys rest = ap (string_tokens x) (list_tokens-append xs ys rest)
 
-pub lines_more : (old mid new : Written) (start : List Token → List Token) (some more : List (List ℕ)) → Puts old mid (λ rest. start (list_tokens line_tokens some rest)) → Puts mid new (list_tokens line_tokens more) →
-    Puts old new (λ rest. start (list_tokens line_tokens (some ++ more) rest))
+pub lines_more : (old mid new : Written) (start : List Token → List Token) (some more : List (List ℕ)) → Puts old mid (λ rest. start (list_tokens string_tokens some rest)) → Puts mid new (list_tokens string_tokens more) →
+    Puts old new (λ rest. start (list_tokens string_tokens (some ++ more) rest))
 lines_more old mid new start some more so_far one = record {
   alone = one.alone ∙ so_far.alone;
-  appended = λ rest. one.appended rest ∙ so_far.appended (list_tokens line_tokens more rest) ∙ ap (λ ts. old.tokens ++ start ts) (sym (list_tokens-append some more rest));
+  appended = λ rest. one.appended rest ∙ so_far.appended (list_tokens string_tokens more rest) ∙ ap (λ ts. old.tokens ++ start ts) (sym (list_tokens-append some more rest));
 }
-
-newline_is_utf8 : IsUtf8 (codes "\n")
-newline_is_utf8 = IsUtf8-from_ascii (codes "\n") at where
-  at : (i : ℕ) → get_or (codes "\n") i 0 < 128
-  at zero = omega arith
-  at (suc i) = omega arith
 
 module _ (rules : Rules) where
   -- no claim is written yet
@@ -72,8 +64,8 @@ module _ (rules : Rules) where
       let spelled = sym (append-nil ended.tokens) ∙ end.appended [] ∙ begun.spelled (end_array ∷ end_object ∷ []) in
       let same : text ≡ print ended.tokens = is_text ∙ ap (λ bytes. bytes ++ print ended.tokens) (end.alone ∙ begun.alone) in
       record {
-        text = print ended.tokens ++ codes "\n";
-        is_utf8 = IsUtf8-append (print ended.tokens) (codes "\n") utf8 newline_is_utf8;
-        is_page = record { lines = begun.lines; reads = begun.reads; named = named; are_its = newline_passed (print ended.tokens) ∙ back ∙ spelled };
+        text = print ended.tokens;
+        is_utf8 = utf8;
+        is_page = record { lines = begun.lines; reads = begun.reads; named = named; are_its = back ∙ spelled };
         written = Appends-trans old mid new (print ended.tokens) (codes "\n") (subst (Appends old mid) same first) second;
       }

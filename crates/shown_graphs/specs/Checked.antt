@@ -28,3 +28,7 @@ IsChecked says scripts goal (Graph outcome nodes) = IsShownGraph says scripts go
 IsChecked says scripts goal (NoGraph outcome reason) = verdict_of outcome ≡ verdict.Neither
 IsChecked says scripts goal (Unchecked outcome) = ⊤
 IsChecked says scripts goal (Fault fault) = ⊤
+
+-- it may be shown of any goal, since it shows no graph
+abbrev pub ShowsNoGraph : Came → Type 0
+ShowsNoGraph came = (says : Verdicts Outcome) (scripts : Goal → List (Reply Outcome) → Request Goal Outcome) (goal : Goal) → IsChecked says scripts goal came

@@ -1,5 +1,5 @@
 -- What was shown of questions.
-use Rattle.std.specs.Prelude.{◌≡◌, ℕ, ◌++◌, All, Bool, true, false, List, [], ◌∷◌, map, Option}
+use Rattle.std.specs.Prelude.{◌≡◌, ℕ, ◌++◌, All, Bool, true, false, codes, List, [], ◌∷◌, map, Option}
 use Rattle.std.specs.Io.KnownBytes.{Appends}
 use Rattle.std.specs.List.{flat_map, list_all}
 use Rattle.std.specs.Str.{IsUtf8}
@@ -50,12 +50,12 @@ HasClaims rules (page.Text depth waiting) claims = ⊥
 HasClaims rules (page.Dot count waiting) claims = ⊥
 HasClaims rules (page.Data writer) claims = IsBegun rules writer claims
 
--- The text of a page was written, which has the rules and these claims.
+-- The text of a page was written, and a newline. The page has the rules and these claims.
 pub record IsWrittenPage (rules : Rules) (claims : List PlainClaim) (old new : Option (List ℕ)) : Type 0 where
   pub text : List ℕ
   pub is_utf8 : IsUtf8 text
   pub is_page : IsPage (tokens text) rules claims
-  pub written : Appends old new text
+  pub written : Appends old new (text ++ codes "\n")
 
 -- It was, if each goal in the claims has a name.
 abbrev pub WritesPage : Rules → List PlainClaim → Option (List ℕ) → Option (List ℕ) → Type 0

@@ -1,7 +1,7 @@
 //! One question: it is asked, and the graph of a definite answer is checked before anything is shown of it.
-ghost use Rattle.std.specs.Prelude.{◌↔◌, IfOk, IsTrue, List};
-ghost use Rattle.shown_graphs.specs.Below.{Goal as SpecGoal, IsValidFor, Outcome as SpecOutcome, Reply as SpecReply, Request as SpecRequest, verdicts, Verdicts};
-ghost use Rattle.shown_graphs.specs.Checked.{IsChecked, verdict_of};
+ghost use Rattle.std.specs.Prelude.{◌↔◌, IfOk, IsTrue};
+ghost use Rattle.shown_graphs.specs.Below.{IsValidFor, verdicts};
+ghost use Rattle.shown_graphs.specs.Checked.{IsChecked, ShowsNoGraph, verdict_of};
 
 use crate::progress::Progress;
 use crate::watch::{Reason, Watcher};
@@ -111,8 +111,7 @@ where
 
 // What the question came to where no graph comes with its outcome.
 fn without_graph<P: Progress>(watcher: &mut Watcher<P>, outcome: Outcome) -> Came
-    ensures { (says : Verdicts SpecOutcome) (scripts : SpecGoal → List (SpecReply SpecOutcome) → SpecRequest SpecGoal SpecOutcome)
-        (goal : SpecGoal) → IsChecked says scripts goal result }
+    ensures { ShowsNoGraph result }
 {
     match outcome {
         Outcome::Yes | Outcome::No => Came::Unchecked(outcome),

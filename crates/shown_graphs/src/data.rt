@@ -5,8 +5,8 @@ ghost use Rattle.std.specs.Str.{IsUtf8};
 ghost use Rattle.json.specs.Token.{end_array, end_object};
 ghost use Rattle.rule_tables.specs.Grammar.{Nothing, Says};
 ghost use Rattle.shown_graphs.specs.Below.{names_of, word_of};
-ghost use Rattle.shown_graphs.specs.Data.{array_tokens, claim_tokens, edge_tokens, HaveTexts, list_tokens, node_tokens, plain_node, Puts, reply_tokens, reply_word};
-ghost use Rattle.shown_graphs.specs.Page.{begun_page, line_tokens, text_of};
+ghost use Rattle.shown_graphs.specs.Data.{array_tokens, claim_tokens, edge_tokens, HaveTexts, list_tokens, node_tokens, plain_node, Puts, reply_tokens, reply_word, string_tokens};
+ghost use Rattle.shown_graphs.specs.Page.{begun_page, text_of};
 ghost use Rattle.shown_graphs.specs.Rules.{MakesTheSame, SayTheSame};
 
 use crate::words::{letter, name_of};
@@ -37,7 +37,7 @@ pub(crate) fn write_start(writer: &mut Writer<Global>, text: &[u8]) -> Result<()
 // Writes the line, if it says something.
 fn write_line(writer: &mut Writer<Global>, line: &[u8]) -> Result<(), AllocError>
     ensures { OnOk result ((lines : List (List ℕ)) × SayTheSame line.now lines
-        × Puts writer.old writer.new (list_tokens line_tokens lines)) }
+        × Puts writer.old writer.new (list_tokens string_tokens lines)) }
 {
     if says_something(line) {
         writer.string(text_of_line(line))?;
