@@ -90,15 +90,15 @@ said_more some lines line more so_far one statements says =
     let parts = last_of some statements says in
     subst (AllZip Says (lines ++ more)) (sym (ap spoken parts.2 ∙ flat_map-append if_something parts.0 (parts.1 ∷ []) ∙ ap (λ rest. spoken parts.0 ++ rest) (append-nil (if_something parts.1))))
     (AllZip-append Says lines more (spoken parts.0) (if_something parts.1) (so_far parts.0 parts.3) (one parts.1 parts.4)) where
-  last_of : (some : List (List ℕ)) (statements : List Statement) → AllZip Says (some ++ line ∷ []) statements →
-      (front : List Statement) × (last : Statement) × (statements ≡ front ++ last ∷ []) × AllZip Says some front × Says line last
-  last_of [] [] h = absurd h
-  last_of [] (s ∷ []) h = ([], s, refl, tt, h.0)
-  last_of [] (s ∷ t ∷ statements) h = absurd h.1
-  last_of (first ∷ some) [] h = absurd h
-  last_of (first ∷ some) (s ∷ statements) h =
-      let rest = last_of some statements h.1 in
-      (s ∷ rest.0, rest.1, ap (λ ss. s ∷ ss) rest.2, (h.0, rest.3), rest.4)
+      last_of : (some : List (List ℕ)) (statements : List Statement) → AllZip Says (some ++ line ∷ []) statements →
+          (front : List Statement) × (last : Statement) × (statements ≡ front ++ last ∷ []) × AllZip Says some front × Says line last
+      last_of [] [] h = absurd h
+      last_of [] (s ∷ []) h = ([], s, refl, tt, h.0)
+      last_of [] (s ∷ t ∷ statements) h = absurd h.1
+      last_of (first ∷ some) [] h = absurd h
+      last_of (first ∷ some) (s ∷ statements) h =
+          let rest = last_of some statements h.1 in
+          (s ∷ rest.0, rest.1, ap (λ ss. s ∷ ss) rest.2, (h.0, rest.3), rest.4)
 
 -- the next line of a text
 pub next_said : (all lines : List (List ℕ)) (i : ℕ) (line : List ℕ) (more : List (List ℕ)) → (i < length all) × (line ≡ get_or all i line) → AreSaid (take i all) lines → SayTheSame line more → AreSaid (take (i + 1) all) (lines ++ more)

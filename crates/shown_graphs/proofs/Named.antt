@@ -187,10 +187,10 @@ module _ (statements : List Statement) (rules : Rules) (table : IsTableOf statem
       let all = node_edges_named at from.0 from.1 (named from.0 from.1) in
       let one : IsNamed names e.input = All-contains (λ x. IsNamed names x.input) from.0.edges.items e (All-from_recursion (λ x. IsNamed names x.input) from.0.edges.items all) from.2 in
       subst (IsNamed names) (goal_is e.target n e.input is (valid.closed at e has)) one where
-    edge_from : (all : List (Node Goal Outcome)) (at : ℕ) (e : Edge Goal) → HasEdge (goal_nodes_of all) at e → (m : Node Goal Outcome) × (slice_get all at ≡ Some m) × Contains m.edges.items e
-    edge_from [] at e has = absurd has
-    edge_from (m ∷ all) zero e has = (m, refl, has)
-    edge_from (m ∷ all) (suc at) e has = edge_from all at e has
+        edge_from : (all : List (Node Goal Outcome)) (at : ℕ) (e : Edge Goal) → HasEdge (goal_nodes_of all) at e → (m : Node Goal Outcome) × (slice_get all at ≡ Some m) × Contains m.edges.items e
+        edge_from [] at e has = absurd has
+        edge_from (m ∷ all) zero e has = (m, refl, has)
+        edge_from (m ∷ all) (suc at) e has = edge_from all at e has
 
   walk_named : (from to : ℕ) (walk : List (Edge Goal)) → HasNamed from → IsWalk (goal_nodes_of nodes) from walk to → HasNamed to
   walk_named from to [] named w = subst HasNamed w named
@@ -206,11 +206,11 @@ module _ (statements : List Statement) (rules : Rules) (table : IsTableOf statem
         let named : IsNamed names n.input = walk_named 0 at w.0 root_has w.1 n is in
         let all = All-from_recursion (λ e. IsNamed names e.input) n.edges.items (node_edges_named at n is named) in
         (named, λ k d below. (all k d below, target_within at n is (get_or n.edges.items k d) (Contains-get_or n.edges.items k d below))) where
-      target_within : (at : ℕ) (n : Node Goal Outcome) → slice_get nodes at ≡ Some n → (e : Edge Goal) → Contains n.edges.items e → IsTarget e.target
-      target_within at n is e has =
-          let within = HasGoal-within (goal_nodes_of nodes) e.target e.input (valid.closed at e (HasEdge-from (goal_nodes_of nodes) at (goal_node_of n) e (goal_at at n is) has)) in
-          let same = length-map nodes goal_node_of in
-          omega (arith, within, same, count)
+          target_within : (at : ℕ) (n : Node Goal Outcome) → slice_get nodes at ≡ Some n → (e : Edge Goal) → Contains n.edges.items e → IsTarget e.target
+          target_within at n is e has =
+              let within = HasGoal-within (goal_nodes_of nodes) e.target e.input (valid.closed at e (HasEdge-from (goal_nodes_of nodes) at (goal_node_of n) e (goal_at at n is) has)) in
+              let same = length-map nodes goal_node_of in
+              omega (arith, within, same, count)
 
     pub nodes_named : All (IsNode names) (map plain_node nodes)
     nodes_named = All-map (IsNode names) plain_node nodes (λ k d below. node_named k (get_or nodes k d) (slice_get-get_or nodes k d below))

@@ -58,5 +58,5 @@ pub have_own_names : (text : List ℕ) (rules : Rules) → Reads text rules → 
 have_own_names text rules reads =
     let distinct : AreDistinct (names_of rules) = subst AreDistinct (sym reads.table.names) (mentions_distinct (flat_map names_in reads.statements)) in
     λ a b name e f. same_goal a b (distinct (number_of a) (number_of b) name e f) where
-  same_goal : (a b : Goal) → number_of a ≡ number_of b → a ≡ b
-  same_goal a b same = ap (λ n. record { 0 = n }) same
+      same_goal : (a b : Goal) → number_of a ≡ number_of b → a ≡ b
+      same_goal a b same = ap (λ n. record { 0 = n }) same

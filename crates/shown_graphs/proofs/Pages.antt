@@ -112,9 +112,8 @@ page_told whole written read =
     let array : List Token = array_tokens string_tokens lines rest in
     let same_names : names_of written.rules ≡ names = names_read whole (key (codes "rules") ∷ array) array written read.is_page.are_its refl rest lines refl read.rules read.is_page.reads in
     let same : answers ≡ array_tokens (claim_tokens names) written.claims (end_object ∷ []) = array_of_claims whole (key (codes "rules") ∷ array) array written read.is_page.are_its refl rest lines refl read.rules read.is_page.reads answers refl in
-    let same_list : list_tokens (claim_tokens names) read.claims (end_array ∷ end_object ∷ []) ≡ list_tokens (claim_tokens names) written.claims (end_array ∷ end_object ∷ []) = claims_in_array names _ _ same in
-    (
+    let same_list : list_tokens (claim_tokens names) read.claims (end_array ∷ end_object ∷ []) ≡ list_tokens (claim_tokens names) written.claims (end_array ∷ end_object ∷ []) = claims_in_array names _ _ same in (
       one_table (text_of lines) written.rules read.rules (lines_read whole (key (codes "rules") ∷ array) array written read.is_page.are_its refl rest lines refl) read.is_page.reads,
       array_told (claim_tokens names) (claim_parts names) (IsClaim names) (claim_tells names (have_own_names (text_of lines) read.rules read.is_page.reads)) read.claims written.claims _ _ read.is_page.named
-      (subst (λ ns. All (IsClaim ns) written.claims) same_names written.is_page.named) same_list,
+          (subst (λ ns. All (IsClaim ns) written.claims) same_names written.is_page.named) same_list,
     )

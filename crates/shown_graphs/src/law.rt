@@ -35,8 +35,8 @@ pub fn page_tells_its_rules_and_claims()
 pub fn what_is_shown_is_accepted()
     ensures { (known old new : Option (List ℕ)) (all_fine : Bool)
         (shown : IsShown ⟦<TableDelegate<'static, 8, 1> as Delegate>⟧ ⟦<Table<&'static Rules> as Cx>⟧
-            known old new Data all_fine) →
+        known old new Data all_fine) →
         (text : List ℕ) × Appends old new text ×
         IsReadBack ⟦<TableDelegate<'static, 8, 1> as Delegate>⟧ ⟦<Table<&'static Rules> as Cx>⟧
-            shown.table.lender.now shown.claims text }
+        shown.table.lender.now shown.claims text }
 {}

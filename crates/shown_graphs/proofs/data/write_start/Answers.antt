@@ -23,8 +23,11 @@ loop-line-preserved c =
     c.loop-line.yielded _ c.loop-line.yielded_by _ _ c.in-Some.line c.in-Some.is c.next.ensures.steps in
     let so_far = c.loop-line.invariant in
     let more = c.in_ok-write_line.ensures in
-    rw length_push (so_far.0 ++ more.0, next_said (lines_of c.args.text.now) so_far.0 (length c.loop-line.yielded) c.in-Some.line.now more.0 at so_far.1 more.1,
-    lines_more c.args.writer.now c.loop-line.writer c.write_line.new.writer (λ rest. begin_object ∷ key (codes "rules") ∷ begin_array ∷ rest) so_far.0 more.0 so_far.2 more.2)
+    rw length_push (
+      so_far.0 ++ more.0,
+      next_said (lines_of c.args.text.now) so_far.0 (length c.loop-line.yielded) c.in-Some.line.now more.0 at so_far.1 more.1,
+      lines_more c.args.writer.now c.loop-line.writer c.write_line.new.writer (λ rest. begin_object ∷ key (codes "rules") ∷ begin_array ∷ rest) so_far.0 more.0 so_far.2 more.2,
+    )
 
 pub returns : goal.returns
 returns c =
