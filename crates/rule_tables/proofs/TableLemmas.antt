@@ -92,7 +92,7 @@ module _ (old new : List (List ℕ)) (kept : NamesKept old new) where
 
 -- Names are distinct
 
-abbrev AreDistinct : List (List ℕ) → Type 0
+abbrev pub AreDistinct : List (List ℕ) → Type 0
 AreDistinct names = (m n : ℕ) (x : List ℕ) → slice_get names m ≡ Some x → slice_get names n ≡ Some x → m ≡ n
 
 with_name-distinct : (names : List (List ℕ)) (name : List ℕ) (b : Bool) → list_any (bytes_eq name) names ≡ b → AreDistinct names → AreDistinct (cond b names (names ++ name ∷ []))
@@ -112,7 +112,7 @@ fold-distinct : (more names : List (List ℕ)) → AreDistinct names → AreDist
 fold-distinct [] names h = h
 fold-distinct (name ∷ more) names h = fold-distinct more (with_name names name) (with_name-distinct names name (list_any (bytes_eq name) names) refl h)
 
-mentions_distinct : (names : List (List ℕ)) → AreDistinct (first_mentions names)
+pub mentions_distinct : (names : List (List ℕ)) → AreDistinct (first_mentions names)
 mentions_distinct names = fold-distinct names [] (λ m n x e f. absurd cc)
 
 -- Each name that is mentioned is among the names

@@ -7,10 +7,10 @@ use Rattle.std.proofs.lemmas.List.Elements.{All-push}
 use Rattle.std.proofs.lemmas.List.Folds.{list_all-append}
 use Rattle.std.specs.Io.KnownBytes.{Appends, Keeps}
 use Rattle.std.specs.List.{list_all}
-use Rattle.shown_graphs.specs.Below.{Goal, names_of, Outcome, questions_of, Reply, Request, Rules, Verdicts}
+use Rattle.shown_graphs.specs.Below.{Goal, Outcome, questions_of, Reply, Request, Rules, Verdicts}
 use Rattle.shown_graphs.specs.Checked.{IsChecked}
-use Rattle.shown_graphs.specs.Data.{HaveTexts, PlainClaim}
-use Rattle.shown_graphs.specs.Shown.{AreAsked, AreShown, claims_of, HasClaims, is_fine, IsWrittenPage}
+use Rattle.shown_graphs.specs.Data.{PlainClaim}
+use Rattle.shown_graphs.specs.Shown.{AreAsked, AreShown, claims_of, HasClaims, is_fine, WritesPage}
 use Rattle.shown_graphs.specs.declared.answer.Came.{Came}
 use Rattle.shown_graphs.specs.declared.page.Page.{Page}
 
@@ -21,18 +21,18 @@ kept_appends (Some xs) (Some ys) None bytes kept more = absurd more
 kept_appends (Some xs) (Some ys) (Some zs) bytes kept more = more ∙ ap (λ front. front ++ bytes) kept
 
 -- nothing is written before the page is
-kept_page : (names : List (List ℕ)) (claims : List PlainClaim) (old mid new : Option (List ℕ)) → Keeps old mid → IsWrittenPage names claims mid new → IsWrittenPage names claims old new
-kept_page names claims old mid new kept page = record { lines = page.lines; text = page.text; is_utf8 = page.is_utf8; spells = page.spells; written = kept_appends old mid new _ kept page.written }
+kept_page : (rules : Rules) (claims : List PlainClaim) (old mid new : Option (List ℕ)) → Keeps old mid → WritesPage rules claims mid new → WritesPage rules claims old new
+kept_page rules claims old mid new kept writes named = let page = writes named in record { text = page.text; is_utf8 = page.is_utf8; is_page = page.is_page; written = kept_appends old mid new _ kept page.written }
 
 module _ (says : Verdicts Outcome) (scripts : Goal → List (Reply Outcome) → Request Goal Outcome) (rules : Rules) where
   -- the questions were asked, and the page waits with the claims of their answers
   pub record AreAskedTo (begun page : Page) (old new : Option (List ℕ)) (questions : List (ℕ × Goal)) (all_fine : Bool) : Type 0 where
     pub claims : List PlainClaim
     pub are_asked : AreAsked says scripts questions claims all_fine
-    pub waits : HaveTexts (names_of rules) → HasClaims (names_of rules) begun [] → HasClaims (names_of rules) page claims × Keeps old new
+    pub waits : HasClaims rules begun [] → HasClaims rules page claims × Keeps old new
 
   pub none_asked : (page : Page) (old : Option (List ℕ)) → AreAskedTo page page old old [] true
-  none_asked page old = record { claims = []; are_asked = record { asked = []; are_questions = refl; are_checked = λ k d below. absurd (omega arith); are_claims = refl; fine = refl }; waits = λ texts begun. (begun, Keeps-refl old) }
+  none_asked page old = record { claims = []; are_asked = record { asked = []; are_questions = refl; are_checked = λ k d below. absurd (omega arith); are_claims = refl; fine = refl }; waits = λ begun. (begun, Keeps-refl old) }
 
   question_more : (questions : List (ℕ × Goal)) (claims : List PlainClaim) (i : ℕ) (question d : ℕ × Goal) (came : Came) (before after : Bool) → i < length questions → AreAsked says scripts (take i questions) claims before →
       question ≡ get_or questions i d → IsChecked says scripts question.1 came → after ≡ (before && is_fine came) → AreAsked says scripts (take (i + 1) questions) (claims ++ claims_of question.1 came) after
@@ -49,23 +49,23 @@ module _ (says : Verdicts Outcome) (scripts : Goal → List (Reply Outcome) → 
   -- one question more, whose answer is added to the page
   pub asked_more : (begun page added passed : Page) (old mid new : Option (List ℕ)) (questions : List (ℕ × Goal)) (i : ℕ) (question d : ℕ × Goal) (came : Came) (before after : Bool) → i < length questions →
       AreAskedTo begun page old mid (take i questions) before → question ≡ get_or questions i d → IsChecked says scripts question.1 came → after ≡ (before && is_fine came) →
-      ((claims : List PlainClaim) → HaveTexts (names_of rules) → HasClaims (names_of rules) page claims → HasClaims (names_of rules) added (claims ++ claims_of question.1 came)) →
-      ((names : List (List ℕ)) (claims : List PlainClaim) → HasClaims names added claims → HasClaims names passed claims × Keeps mid new) →
+      ((claims : List PlainClaim) → HasClaims rules page claims → HasClaims rules added (claims ++ claims_of question.1 came)) →
+      ((table : Rules) (claims : List PlainClaim) → HasClaims table added claims → HasClaims table passed claims × Keeps mid new) →
       AreAskedTo begun passed old new (take (i + 1) questions) after
   asked_more begun page added passed old mid new questions i question d came before after below so_far is right both adds passes = record {
     claims = so_far.claims ++ claims_of question.1 came;
     are_asked = question_more questions so_far.claims i question d came before after below so_far.are_asked is right both;
-    waits = λ texts start.
-        let kept = so_far.waits texts start in
-        let next = passes (names_of rules) (so_far.claims ++ claims_of question.1 came) (adds so_far.claims texts kept.0) in
+    waits = λ start.
+        let kept = so_far.waits start in
+        let next = passes rules (so_far.claims ++ claims_of question.1 came) (adds so_far.claims kept.0) in
         (next.0, Keeps-trans old mid new kept.1 next.1);
   }
 
   -- the page is written
   pub all_shown : (begun page : Page) (old mid new : Option (List ℕ)) (questions : List (ℕ × Goal)) (i : ℕ) (fine : Bool) → questions ≡ questions_of rules → length questions ≤ i → AreAskedTo begun page old mid (take i questions) fine →
-      ((names : List (List ℕ)) (claims : List PlainClaim) → HasClaims names page claims → IsWrittenPage names claims mid new) → AreShown says scripts rules begun old new fine
+      ((table : Rules) (claims : List PlainClaim) → HasClaims table page claims → WritesPage table claims mid new) → AreShown says scripts rules begun old new fine
   all_shown begun page old mid new questions i fine same end so_far writes = record {
     claims = so_far.claims;
     are_asked = subst (λ qs. AreAsked says scripts qs so_far.claims fine) (take_all i questions end ∙ same) so_far.are_asked;
-    is_written = λ texts start. let kept = so_far.waits texts start in kept_page (names_of rules) so_far.claims old mid new kept.1 (writes (names_of rules) so_far.claims kept.0);
+    is_written = λ start. let kept = so_far.waits start in kept_page rules so_far.claims old mid new kept.1 (writes rules so_far.claims kept.0);
   }

@@ -10,8 +10,10 @@ use Rattle.json.specs.Lex.{tokens}
 use Rattle.json.specs.Token.{Token}
 use Rattle.line_texts.specs.declared.input.InputFault.{InputFault}
 use Rattle.line_texts.specs.declared.input.InputFault.TheVariants as input
+use Rattle.rule_tables.specs.Frame.{script_of}
 use Rattle.rule_tables.specs.declared.reading.ReadFault.TheVariants as read
-use Rattle.shown_graphs.specs.Below.{CxOf, DelegateOf, Goal, IsFirstBadLine, names_of, Outcome, ReadFault, Reads, Rules, Table, verdicts}
+use Rattle.shown_graphs.proofs.Named.{claims_named}
+use Rattle.shown_graphs.specs.Below.{candidates_of, CxOf, DelegateOf, Goal, IsFirstBadLine, Outcome, ReadFault, Reads, Rules, Table, verdicts}
 use Rattle.shown_graphs.specs.Data.{plain_claim}
 use Rattle.shown_graphs.specs.Page.{AreOfPage, IsPage}
 use Rattle.shown_graphs.specs.Program.{EndsChecking, EndsShowing, IsChecked, IsPageText, IsShown}
@@ -115,18 +117,20 @@ module _ (known old : Option (List ℕ)) (text : List ℕ) (is_known : IfSome kn
 -- ---- ends that are none
 
 module _ {D V P F A T : Type 0} (G : DelegateOf D (Table (Bor Rules)) V P F Goal Outcome A T) (X : CxOf (Table (Bor Rules)) Goal Outcome A T) (known old new : Option (List ℕ)) (text : List ℕ) (table : Table (Bor Rules)) (is_known : IfSome known (λ bytes. text ≡ bytes)) where
-  pub shown_of_text : (wanted : Form) (page : Page) → Reads text table.lender.now → (wanted ≡ form.Data → (names : List (List ℕ)) → HasClaims names page []) → (r : Result Bool Stop) →
+  pub shown_of_text : G.script table ≡ (λ goal. script_of (candidates_of table.lender.now goal)) → (wanted : Form) (page : Page) → Reads text table.lender.now → (wanted ≡ form.Data → (rules : Rules) → Reads text rules → HasClaims rules page []) → (r : Result Bool Stop) →
       IfOk r (AreShown (verdicts X) (G.script table) table.lender.now page old new) → IfOk r (IsShown G X known old new wanted)
-  shown_of_text wanted page reads begun (Ok all_fine) shown = record {
+  shown_of_text scripts wanted page reads begun (Ok all_fine) shown = record {
     text = text;
     is_known = is_known;
     table = table;
     reads = reads;
     claims = shown.claims;
     are_asked = shown.are_asked;
-    is_written = λ is_data texts. shown.is_written texts (begun is_data (names_of table.lender.now));
+    is_written = λ is_data.
+        shown.is_written (begun is_data table.lender.now reads)
+        (claims_named (verdicts X) (G.script table) reads.statements table.lender.now reads.table scripts shown.claims all_fine shown.are_asked);
   }
-  shown_of_text wanted page reads begun (Err stop) shown = tt
+  shown_of_text scripts wanted page reads begun (Err stop) shown = tt
 
   pub checked_of_text : (claims : List Claim) (left : List Token) → left ≡ tokens text → IsPage left table.lender.now (map plain_claim claims) → (r : Result Bool Stop) →
       IfOk r (λ fine. AreJudged (verdicts X) (G.script table) table.lender.now claims fine old new) → IfOk r (IsChecked G X known old new)

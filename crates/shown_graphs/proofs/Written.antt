@@ -10,63 +10,62 @@ use Rattle.json.specs.Print.{print}
 use Rattle.json.specs.Token.{Token, end_array, end_object}
 use Rattle.json.specs.Written.{Written}
 use Rattle.shown_graphs.proofs.Arrays.{list_tokens-push}
-use Rattle.shown_graphs.specs.Data.{claim_tokens, HaveTexts, list_tokens, PlainClaim, Puts}
-use Rattle.shown_graphs.specs.Page.{begun_page, line_tokens}
-use Rattle.shown_graphs.specs.Shown.{IsBegun, IsWrittenPage}
+use Rattle.shown_graphs.proofs.Names.{have_texts}
+use Rattle.shown_graphs.specs.Below.{names_of, Reads, Rules}
+use Rattle.shown_graphs.specs.Data.{claim_tokens, HaveTexts, list_tokens, PlainClaim, Puts, string_tokens}
+use Rattle.shown_graphs.specs.Page.{begun_page, text_of}
+use Rattle.shown_graphs.specs.Rules.{MakesTheSame}
+use Rattle.shown_graphs.specs.Shown.{IsBegun, WritesPage}
 
 -- the lines, some more at a time
-list_tokens-append : (xs ys : List (List ℕ)) (rest : List Token) → list_tokens line_tokens (xs ++ ys) rest ≡ list_tokens line_tokens xs (list_tokens line_tokens ys rest)
+list_tokens-append : (xs ys : List (List ℕ)) (rest : List Token) → list_tokens string_tokens (xs ++ ys) rest ≡ list_tokens string_tokens xs (list_tokens string_tokens ys rest)
 list_tokens-append [] ys rest = refl
-list_tokens-append (x ∷ xs) ys rest = ap (line_tokens x) (list_tokens-append xs ys rest)
+list_tokens-append (x ∷ xs) ys rest = ap (string_tokens x) (list_tokens-append xs ys rest)
 
-pub lines_more : (old mid new : Written) (start : List Token → List Token) → (xs : List (List ℕ)) × Puts old mid (λ rest. start (list_tokens line_tokens xs rest)) → (ys : List (List ℕ)) × Puts mid new (list_tokens line_tokens ys) →
-    (zs : List (List ℕ)) × Puts old new (λ rest. start (list_tokens line_tokens zs rest))
-lines_more old mid new start some more = (
-  some.0 ++ more.0,
-  record {
-    alone = more.1.alone ∙ some.1.alone;
-    appended = λ rest. more.1.appended rest ∙ some.1.appended (list_tokens line_tokens more.0 rest) ∙ ap (λ ts. old.tokens ++ start ts) (sym (list_tokens-append some.0 more.0 rest));
-  },
-)
+pub lines_more : (old mid new : Written) (start : List Token → List Token) (some more : List (List ℕ)) → Puts old mid (λ rest. start (list_tokens string_tokens some rest)) → Puts mid new (list_tokens string_tokens more) →
+    Puts old new (λ rest. start (list_tokens string_tokens (some ++ more) rest))
+lines_more old mid new start some more so_far one = record {
+  alone = one.alone ∙ so_far.alone;
+  appended = λ rest. one.appended rest ∙ so_far.appended (list_tokens string_tokens more rest) ∙ ap (λ ts. old.tokens ++ start ts) (sym (list_tokens-append some more rest));
+}
 
-module _ (names : List (List ℕ)) where
+module _ (rules : Rules) where
   -- no claim is written yet
-  pub page_begun : (old new : Written) → old.before ≡ [] → old.tokens ≡ [] → (lines : List (List ℕ)) × Puts old new (begun_page lines) → IsBegun names new []
-  page_begun old new alone empty start = record {
+  pub page_begun : (text : List ℕ) (old new : Written) → Reads text rules → old.before ≡ [] → old.tokens ≡ [] → (lines : List (List ℕ)) × MakesTheSame text (text_of lines) × Puts old new (begun_page lines) → IsBegun rules new []
+  page_begun text old new reads alone empty start = record {
     lines = start.0;
-    alone = start.1.alone ∙ alone;
-    spelled = λ rest. start.1.appended rest ∙ ap (λ ts. ts ++ begun_page start.0 rest) empty;
+    reads = start.1 rules reads;
+    alone = start.2.alone ∙ alone;
+    spelled = λ rest. start.2.appended rest ∙ ap (λ ts. ts ++ begun_page start.0 rest) empty;
   }
 
   -- and then one more
-  pub claim_added : (old new : Written) (claims : List PlainClaim) (claim : PlainClaim) → Puts old new (claim_tokens names claim) → IsBegun names old claims → IsBegun names new (claims ++ claim ∷ [])
+  pub claim_added : (old new : Written) (claims : List PlainClaim) (claim : PlainClaim) → Puts old new (claim_tokens (names_of rules) claim) → IsBegun rules old claims → IsBegun rules new (claims ++ claim ∷ [])
   claim_added old new claims claim more so_far = record {
     lines = so_far.lines;
+    reads = so_far.reads;
     alone = more.alone ∙ so_far.alone;
-    spelled = λ rest. more.appended rest ∙ so_far.spelled (claim_tokens names claim rest) ∙ ap (begun_page so_far.lines) (sym (list_tokens-push (claim_tokens names) claims claim rest));
+    spelled = λ rest. more.appended rest ∙ so_far.spelled (claim_tokens (names_of rules) claim rest) ∙ ap (begun_page so_far.lines) (sym (list_tokens-push (claim_tokens (names_of rules)) claims claim rest));
   }
 
-  pub claims_added : (old new : Written) (claims : List PlainClaim) (claim : PlainClaim) (added : List PlainClaim) → added ≡ claim ∷ [] → Puts old new (claim_tokens names claim) → IsBegun names old claims → IsBegun names new (claims ++ added)
-  claims_added old new claims claim added one more so_far = subst (λ cs. IsBegun names new (claims ++ cs)) (sym one) (claim_added old new claims claim more so_far)
+  pub claims_added : {E : Type 0} (old new : Written) (claim : PlainClaim) (added : List PlainClaim) (result : Result (Unit {0}) E) → added ≡ claim ∷ [] → (HaveTexts (names_of rules) → OnOk result (Puts old new (claim_tokens (names_of rules) claim))) →
+      OnOk result ((claims : List PlainClaim) → IsBegun rules old claims → IsBegun rules new (claims ++ added))
+  claims_added old new claim added (Ok u) one more = λ claims so_far.
+      subst (λ cs. IsBegun rules new (claims ++ cs)) (sym one) (claim_added old new claims claim (more (have_texts (text_of so_far.lines) rules so_far.reads)) so_far)
+  claims_added old new claim added (Err e) one more = tt
 
-  pub claims_added_ok : {E : Type 0} (old new : Written) (claim : PlainClaim) (added : List PlainClaim) (result : Result (Unit {0}) E) → added ≡ claim ∷ [] → (HaveTexts names → OnOk result (Puts old new (claim_tokens names claim))) →
-      OnOk result ((claims : List PlainClaim) → HaveTexts names → IsBegun names old claims → IsBegun names new (claims ++ added))
-  claims_added_ok old new claim added (Ok u) one more = λ claims texts so_far. claims_added old new claims claim added one (more texts) so_far
-  claims_added_ok old new claim added (Err e) one more = tt
-
-  pub none_added : (writer : Written) (claims added : List PlainClaim) → added ≡ [] → IsBegun names writer claims → IsBegun names writer (claims ++ added)
-  none_added writer claims added none so_far = subst (IsBegun names writer) (sym (ap (λ cs. claims ++ cs) none ∙ append-nil claims)) so_far
+  pub none_added : (writer : Written) (claims added : List PlainClaim) → added ≡ [] → IsBegun rules writer claims → IsBegun rules writer (claims ++ added)
+  none_added writer claims added none so_far = subst (IsBegun rules writer) (sym (ap (λ cs. claims ++ cs) none ∙ append-nil claims)) so_far
 
   -- the end of a page, and a newline
-  pub page_written : (writer ended : Written) (text : List ℕ) (claims : List PlainClaim) (old mid new : Option (List ℕ)) → IsBegun names writer claims → Puts writer ended (λ rest. end_array ∷ end_object ∷ rest) → text ≡ ended.before ++ print ended.tokens →
-      tokens (print ended.tokens) ≡ ended.tokens → IsUtf8 (print ended.tokens) → Appends old mid text → Appends mid new (codes "\n") → IsWrittenPage names claims old new
-  page_written writer ended text claims old mid new begun end is_text back utf8 first second =
+  pub page_written : (writer ended : Written) (text : List ℕ) (claims : List PlainClaim) (old mid new : Option (List ℕ)) → IsBegun rules writer claims → Puts writer ended (λ rest. end_array ∷ end_object ∷ rest) → text ≡ ended.before ++ print ended.tokens →
+      tokens (print ended.tokens) ≡ ended.tokens → IsUtf8 (print ended.tokens) → Appends old mid text → Appends mid new (codes "\n") → WritesPage rules claims old new
+  page_written writer ended text claims old mid new begun end is_text back utf8 first second named =
       let spelled = sym (append-nil ended.tokens) ∙ end.appended [] ∙ begun.spelled (end_array ∷ end_object ∷ []) in
       let same : text ≡ print ended.tokens = is_text ∙ ap (λ bytes. bytes ++ print ended.tokens) (end.alone ∙ begun.alone) in
       record {
-        lines = begun.lines;
         text = print ended.tokens;
         is_utf8 = utf8;
-        spells = back ∙ spelled;
+        is_page = record { lines = begun.lines; reads = begun.reads; named = named; are_its = back ∙ spelled };
         written = Appends-trans old mid new (print ended.tokens) (codes "\n") (subst (Appends old mid) same first) second;
       }

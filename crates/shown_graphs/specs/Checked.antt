@@ -1,6 +1,6 @@
 -- What is known of an answer that is shown.
-use Rattle.std.specs.Prelude.{List}
-use Rattle.shown_graphs.specs.Below.{Goal, IsValidFor, Outcome, Maybe, No, Overflow, Yes, Reply, Request, Verdict, Verdicts}
+use Rattle.std.specs.Prelude.{◌≡◌, ℕ, ◌<◌, ◌^◌, length, List, ⊤}
+use Rattle.shown_graphs.specs.Below.{Goal, goal_nodes_of, IsReached, IsValidFor, Maybe, No, Node, Outcome, Overflow, Reply, Request, Verdict, Verdicts, Yes}
 use Rattle.search_context.specs.declared.context.Verdict.TheVariants as verdict
 use Rattle.shown_graphs.specs.declared.answer.Came.{Came}
 use Rattle.shown_graphs.specs.declared.answer.Came.TheVariants.{Graph, NoGraph, Unchecked, Fault}
@@ -12,9 +12,23 @@ verdict_of No = verdict.No
 verdict_of Maybe = verdict.Neither
 verdict_of Overflow = verdict.Neither
 
--- a graph that is shown is valid for the goal and the outcome
+-- each node is reached from the first
+abbrev pub AreReached : List (Node Goal Outcome) → Type 0
+AreReached nodes = (at : ℕ) → at < length nodes → IsReached (goal_nodes_of nodes) 0 at
+
+-- The graph is valid for the goal and the outcome, and has no node beside those that show it; their places are numbers of 64 bits.
+pub record IsShownGraph (says : Verdicts Outcome) (scripts : Goal → List (Reply Outcome) → Request Goal Outcome) (goal : Goal) (outcome : Outcome) (nodes : List (Node Goal Outcome)) : Type 0 where
+  pub is_valid : IsValidFor says (verdict_of outcome) scripts nodes goal
+  pub are_reached : AreReached nodes
+  pub count : length nodes < 2 ^ 64
+
+-- what is shown of the goal is such a graph, or it came to neither yes nor no
 abbrev pub IsChecked : Verdicts Outcome → (Goal → List (Reply Outcome) → Request Goal Outcome) → Goal → Came → Type 0
-IsChecked says scripts goal (Graph outcome nodes) = IsValidFor says (verdict_of outcome) scripts nodes.items goal
-IsChecked says scripts goal (NoGraph outcome reason) = Unit {0}
-IsChecked says scripts goal (Unchecked outcome) = Unit {0}
-IsChecked says scripts goal (Fault fault) = Unit {0}
+IsChecked says scripts goal (Graph outcome nodes) = IsShownGraph says scripts goal outcome nodes.items
+IsChecked says scripts goal (NoGraph outcome reason) = verdict_of outcome ≡ verdict.Neither
+IsChecked says scripts goal (Unchecked outcome) = ⊤
+IsChecked says scripts goal (Fault fault) = ⊤
+
+-- it may be shown of any goal, since it shows no graph
+abbrev pub ShowsNoGraph : Came → Type 0
+ShowsNoGraph came = (says : Verdicts Outcome) (scripts : Goal → List (Reply Outcome) → Request Goal Outcome) (goal : Goal) → IsChecked says scripts goal came

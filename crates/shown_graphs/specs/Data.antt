@@ -50,6 +50,9 @@ list_tokens spelled (x ∷ xs) rest = spelled x (list_tokens spelled xs rest)
 abbrev pub array_tokens : {A : Type 0} → (A → List Token → List Token) → List A → List Token → List Token
 array_tokens spelled xs rest = begin_array ∷ list_tokens spelled xs (end_array ∷ rest)
 
+abbrev pub string_tokens : List ℕ → List Token → List Token
+string_tokens text rest = string text ∷ rest
+
 abbrev pub number_tokens : ℕ → List Token → List Token
 number_tokens n rest = number (decimal n) ∷ rest
 

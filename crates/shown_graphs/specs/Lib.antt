@@ -4,6 +4,7 @@ pub mod Data
 pub mod Page
 pub mod Plan
 pub mod Program
+pub mod Rules
 pub mod Shown
 pub mod Stop
 pub mod Told

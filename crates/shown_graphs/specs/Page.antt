@@ -1,21 +1,18 @@
 -- A whole page of data.
 use Rattle.std.specs.Prelude.{◌≡◌, ℕ, ◌++◌, All, List, [], ◌∷◌, codes}
 use Rattle.std.specs.List.{flat_map}
-use Rattle.json.specs.Token.{Token, begin_array, begin_object, end_object, key, string}
+use Rattle.json.specs.Token.{Token, begin_array, begin_object, end_object, key}
 use Rattle.shown_graphs.specs.Below.{names_of, Reads, Rules}
-use Rattle.shown_graphs.specs.Data.{array_tokens, claim_tokens, IsClaim, PlainClaim}
-
-abbrev pub line_tokens : List ℕ → List Token → List Token
-line_tokens line rest = string line ∷ rest
+use Rattle.shown_graphs.specs.Data.{array_tokens, claim_tokens, IsClaim, PlainClaim, string_tokens}
 
 -- the lines of the rules, and then the answers
 abbrev pub begun_page : List (List ℕ) → List Token → List Token
-begun_page lines rest = begin_object ∷ key (codes "rules") ∷ array_tokens line_tokens lines (key (codes "answers") ∷ begin_array ∷ rest)
+begun_page lines rest = begin_object ∷ key (codes "rules") ∷ array_tokens string_tokens lines (key (codes "answers") ∷ begin_array ∷ rest)
 
 -- which are claims
 abbrev pub page_tokens : List (List ℕ) → List (List ℕ) → List PlainClaim → List Token → List Token
 page_tokens lines names claims rest =
-    begin_object ∷ key (codes "rules") ∷ array_tokens line_tokens lines
+    begin_object ∷ key (codes "rules") ∷ array_tokens string_tokens lines
     (key (codes "answers") ∷ array_tokens (claim_tokens names) claims (end_object ∷ rest))
 
 -- a text of these lines

@@ -6,10 +6,10 @@ use Rattle.std.specs.Str.{IsUtf8}
 use Rattle.json.specs.Lex.{tokens}
 use Rattle.json.specs.Token.{Token}
 use Rattle.json.specs.Written.{Written}
-use Rattle.shown_graphs.specs.Below.{Goal, names_of, Outcome, questions_of, Reply, Request, Rules, Verdicts}
+use Rattle.shown_graphs.specs.Below.{Goal, names_of, Outcome, questions_of, Reads, Reply, Request, Rules, Verdicts}
 use Rattle.shown_graphs.specs.Checked.{IsChecked}
-use Rattle.shown_graphs.specs.Data.{claim_tokens, HaveTexts, list_tokens, plain_node, PlainClaim}
-use Rattle.shown_graphs.specs.Page.{begun_page, page_tokens}
+use Rattle.shown_graphs.specs.Data.{claim_tokens, IsClaim, list_tokens, plain_node, PlainClaim}
+use Rattle.shown_graphs.specs.Page.{begun_page, IsPage, text_of}
 use Rattle.shown_graphs.specs.declared.answer.Came.{Came}
 use Rattle.shown_graphs.specs.declared.answer.Came.TheVariants.{Graph, NoGraph, Unchecked, Fault}
 use Rattle.shown_graphs.specs.declared.page.Page.{Page}
@@ -37,28 +37,33 @@ pub record AreAsked (says : Verdicts Outcome) (scripts : Goal → List (Reply Ou
   pub are_claims : claims ≡ flat_map (λ a. claims_of a.0 a.1) asked
   pub fine : all_fine ≡ list_all (λ a. is_fine a.1) asked
 
--- The writer has the beginning of a page, and these claims.
-pub record IsBegun (names : List (List ℕ)) (writer : Written) (claims : List PlainClaim) : Type 0 where
+-- The writer has the beginning of a page, with lines that make the rules, and these claims.
+pub record IsBegun (rules : Rules) (writer : Written) (claims : List PlainClaim) : Type 0 where
   pub lines : List (List ℕ)
+  pub reads : Reads (text_of lines) rules
   pub alone : writer.before ≡ []
-  pub spelled : (rest : List Token) → writer.tokens ++ rest ≡ begun_page lines (list_tokens (claim_tokens names) claims rest)
+  pub spelled : (rest : List Token) → writer.tokens ++ rest ≡ begun_page lines (list_tokens (claim_tokens (names_of rules)) claims rest)
 
--- It is a page of data that has these claims.
-abbrev pub HasClaims : List (List ℕ) → Page → List PlainClaim → Type 0
-HasClaims names (page.Text depth waiting) claims = ⊥
-HasClaims names (page.Dot count waiting) claims = ⊥
-HasClaims names (page.Data writer) claims = IsBegun names writer claims
+-- It is a page of data that has the rules and these claims.
+abbrev pub HasClaims : Rules → Page → List PlainClaim → Type 0
+HasClaims rules (page.Text depth waiting) claims = ⊥
+HasClaims rules (page.Dot count waiting) claims = ⊥
+HasClaims rules (page.Data writer) claims = IsBegun rules writer claims
 
--- The text of a page with these claims was written, and a newline.
-pub record IsWrittenPage (names : List (List ℕ)) (claims : List PlainClaim) (old new : Option (List ℕ)) : Type 0 where
-  pub lines : List (List ℕ)
+-- The text of a page was written, and a newline. The page has the rules and these claims.
+pub record IsWrittenPage (rules : Rules) (claims : List PlainClaim) (old new : Option (List ℕ)) : Type 0 where
   pub text : List ℕ
   pub is_utf8 : IsUtf8 text
-  pub spells : tokens text ≡ page_tokens lines names claims []
+  pub is_page : IsPage (tokens text) rules claims
   pub written : Appends old new (text ++ codes "\n")
 
--- All questions were asked. Of a page of data that had no claims yet, the whole is written, with the claims of their answers in order.
+-- It was, if each goal in the claims has a name.
+abbrev pub WritesPage : Rules → List PlainClaim → Option (List ℕ) → Option (List ℕ) → Type 0
+WritesPage rules claims old new = All (IsClaim (names_of rules)) claims → IsWrittenPage rules claims old new
+
+-- All questions were asked. Of a page of data that had the rules and no claims yet, the whole is written, with the claims of
+-- their answers in order.
 pub record AreShown (says : Verdicts Outcome) (scripts : Goal → List (Reply Outcome) → Request Goal Outcome) (rules : Rules) (page : Page) (old new : Option (List ℕ)) (all_fine : Bool) : Type 0 where
   pub claims : List PlainClaim
   pub are_asked : AreAsked says scripts (questions_of rules) claims all_fine
-  pub is_written : HaveTexts (names_of rules) → HasClaims (names_of rules) page [] → IsWrittenPage (names_of rules) claims old new
+  pub is_written : HasClaims rules page [] → WritesPage rules claims old new

@@ -4,6 +4,7 @@ use Rattle.std.specs.Io.KnownBytes.{Appends}
 use Rattle.std.specs.List.{flat_map, list_all}
 use Rattle.std.specs.Option.{unwrap_or}
 use Rattle.shown_graphs.specs.Below.{Goal, IsValidFor, name_of, Outcome, Reply, Request, Rules, Verdicts, word_of}
+use Rattle.search_context.specs.declared.context.Verdict.TheVariants as verdict
 use Rattle.shown_graphs.specs.Checked.{verdict_of}
 use Rattle.shown_graphs.specs.declared.program.checking.Said.{Said}
 use Rattle.shown_graphs.specs.declared.program.checking.Said.TheVariants.{Accepted, NoGraph, Refused}
@@ -25,9 +26,11 @@ abbrev pub line_said : Rules → Goal → Outcome → Said → List ℕ
 line_said rules goal outcome said = unwrap_or (name_of rules goal) [] ++ codes " " ++ word_of outcome ++ codes " " ++ said_words said ++ codes "\n"
 
 module _ (says : Verdicts Outcome) (scripts : Goal → List (Reply Outcome) → Request Goal Outcome) where
-  -- a claim is accepted exactly if its graph is valid for its goal and its outcome
-  abbrev pub IsJudged : Claim → Said → Type 0
-  IsJudged claim said = (said ≡ Accepted) ↔ IsValidFor says (verdict_of claim.outcome) scripts claim.nodes.items claim.goal
+  -- A claim is accepted exactly if its graph is valid for its goal and its outcome. It is told as one without a graph exactly
+  -- if it has no nodes and its outcome is neither yes nor no.
+  pub record IsJudged (claim : Claim) (said : Said) : Type 0 where
+    pub accepted : (said ≡ Accepted) ↔ IsValidFor says (verdict_of claim.outcome) scripts claim.nodes.items claim.goal
+    pub no_graph : (said ≡ NoGraph) ↔ ((verdict_of claim.outcome ≡ verdict.Neither) × (claim.nodes.items ≡ []))
 
   -- Each claim was judged, and their lines were written in order; `none_refused` says that none was refused.
   pub record AreJudged (rules : Rules) (claims : List Claim) (none_refused : Bool) (old new : Option (List ℕ)) : Type 0 where

@@ -1,7 +1,7 @@
 //! One question: it is asked, and the graph of a definite answer is checked before anything is shown of it.
-ghost use Rattle.std.specs.Prelude.{◌↔◌, IsTrue, IfOk};
+ghost use Rattle.std.specs.Prelude.{◌↔◌, IfOk, IsTrue};
 ghost use Rattle.shown_graphs.specs.Below.{IsValidFor, verdicts};
-ghost use Rattle.shown_graphs.specs.Checked.{IsChecked, verdict_of};
+ghost use Rattle.shown_graphs.specs.Checked.{IsChecked, ShowsNoGraph, verdict_of};
 
 use crate::progress::Progress;
 use crate::watch::{Reason, Watcher};
@@ -92,12 +92,13 @@ where
 {
     let outcome = answer.result;
     let Some(node) = answer.node else {
-        let reason = watcher.reason(outcome);
-        return Ok(Came::NoGraph { outcome, reason });
+        return Ok(without_graph(watcher, outcome));
     };
     let Some(graph) = cache.graph_of(node)? else {
         return Ok(Came::Unchecked(outcome));
     };
+    // They are counted, so each place is a number of 64 bits.
+    let _count = graph.nodes.len();
     if accepts::<X, D>(alloc, cx, &graph, goal, outcome)? {
         Ok(Came::Graph {
             outcome,
@@ -105,6 +106,19 @@ where
         })
     } else {
         Ok(Came::Unchecked(outcome))
+    }
+}
+
+// What the question came to where no graph comes with its outcome.
+fn without_graph<P: Progress>(watcher: &mut Watcher<P>, outcome: Outcome) -> Came
+    ensures { ShowsNoGraph result }
+{
+    match outcome {
+        Outcome::Yes | Outcome::No => Came::Unchecked(outcome),
+        Outcome::Maybe | Outcome::Overflow => {
+            let reason = watcher.reason(outcome);
+            Came::NoGraph { outcome, reason }
+        }
     }
 }
 

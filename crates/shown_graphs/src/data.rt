@@ -1,12 +1,17 @@
 //! Graphs as data: what is written.
 ghost use Rattle.std.specs.Prelude.{◌≡◌, ◌∷◌, ℕ, List, OnOk, map};
+ghost use Rattle.std.specs.Bool.{MatchBool};
+ghost use Rattle.std.specs.Str.{IsUtf8};
 ghost use Rattle.json.specs.Token.{end_array, end_object};
+ghost use Rattle.rule_tables.specs.Grammar.{Nothing, Says};
 ghost use Rattle.shown_graphs.specs.Below.{names_of, word_of};
-ghost use Rattle.shown_graphs.specs.Data.{array_tokens, claim_tokens, edge_tokens, HaveTexts, list_tokens, node_tokens, plain_node, Puts, reply_tokens, reply_word};
-ghost use Rattle.shown_graphs.specs.Page.{begun_page, line_tokens};
+ghost use Rattle.shown_graphs.specs.Data.{array_tokens, claim_tokens, edge_tokens, HaveTexts, list_tokens, node_tokens, plain_node, Puts, reply_tokens, reply_word, string_tokens};
+ghost use Rattle.shown_graphs.specs.Page.{begun_page, text_of};
+ghost use Rattle.shown_graphs.specs.Rules.{MakesTheSame, SayTheSame};
 
 use crate::words::{letter, name_of};
 use json::Writer;
+use line_texts::Words;
 use rule_tables::{Goal, Outcome, Rules};
 use search_context::context::{Edge, Node, Reply};
 use std::alloc::{AllocError, Global};
@@ -14,7 +19,8 @@ use std::alloc::{AllocError, Global};
 /// Writes what comes before the first answer: the lines of the text that say something, as the rules that the graphs are
 /// about.
 pub(crate) fn write_start(writer: &mut Writer<Global>, text: &[u8]) -> Result<(), AllocError>
-    ensures { OnOk result ((lines : List (List ℕ)) × Puts writer.old writer.new (begun_page lines)) }
+    ensures { OnOk result ((lines : List (List ℕ)) × MakesTheSame text.now (text_of lines)
+        × Puts writer.old writer.new (begun_page lines)) }
 {
     writer.begin_object()?;
     writer.key("rules")?;
@@ -30,20 +36,30 @@ pub(crate) fn write_start(writer: &mut Writer<Global>, text: &[u8]) -> Result<()
 
 // Writes the line, if it says something.
 fn write_line(writer: &mut Writer<Global>, line: &[u8]) -> Result<(), AllocError>
-    ensures { OnOk result ((lines : List (List ℕ)) × Puts writer.old writer.new (list_tokens line_tokens lines)) }
+    ensures { OnOk result ((lines : List (List ℕ)) × SayTheSame line.now lines
+        × Puts writer.old writer.new (list_tokens string_tokens lines)) }
 {
     if says_something(line) {
-        writer.string(std::str::from_utf8(line).unwrap_or(""))?;
+        writer.string(text_of_line(line))?;
     }
     Ok(())
 }
 
 // Whether the line is neither empty nor a comment.
-fn says_something(line: &[u8]) -> bool {
-    match line.iter().find(|byte| **byte != b' ') {
-        Some(byte) => *byte != b'#',
-        None => false,
+fn says_something(line: &[u8]) -> bool
+    ensures { MatchBool result (¬ (Says line.now Nothing)) (Says line.now Nothing) }
+{
+    match Words::new(line).next() {
+        None | Some([b'#', ..]) => false,
+        Some(_) => true,
     }
+}
+
+// The line as text, which one that the grammar allows is unless it says nothing.
+fn text_of_line(line: &[u8]) -> &str
+    ensures { IsUtf8 line.now → result.now ≡ line.now }
+{
+    std::str::from_utf8(line).unwrap_or("")
 }
 
 /// Writes what follows the last answer.

@@ -1,12 +1,17 @@
 //! Laws of graphs as data.
-ghost use Rattle.std.specs.Prelude.{◌≡◌, ℕ, [], All, List};
-ghost use Rattle.std.specs.Str.{IsUtf8};
-ghost use Rattle.json.specs.Lex.{tokens};
+ghost use Rattle.std.specs.Prelude.{◌≡◌, ℕ, Bool, List, Option};
+ghost use Rattle.std.specs.Io.KnownBytes.{Appends};
 ghost use Rattle.json.specs.Token.{Token};
-ghost use Rattle.shown_graphs.specs.Below.{names_of, Reads, Rules};
+ghost use Rattle.shown_graphs.specs.Below.{Rules as SpecRules};
 ghost use Rattle.shown_graphs.specs.Data.{claim_tokens, HaveOwnNames, IsClaim, PlainClaim};
-ghost use Rattle.shown_graphs.specs.Page.{IsPage, page_tokens, text_of};
-ghost use Rattle.shown_graphs.specs.Program.{IsPageText};
+ghost use Rattle.shown_graphs.specs.Page.{IsPage};
+ghost use Rattle.shown_graphs.specs.Program.{IsReadBack, IsShown};
+ghost use Rattle.shown_graphs.specs.Rules.{AreSameRules};
+ghost use Rattle.shown_graphs.specs.declared.page.Form.TheVariants.{Data};
+
+use rule_tables::delegate::Table;
+use rule_tables::{Rules, TableDelegate};
+use search_context::context::{Cx, Delegate};
 
 /// The tokens that spell a graph with its goal and its verdict spell no other one, whatever follows them, where no two goals
 /// have one name. `write_answer` writes these tokens, and `read_claim` reads nothing else.
@@ -17,17 +22,21 @@ pub fn data_tells_its_graph()
         (written ≡ read) × (after ≡ rest) }
 {}
 
-/// The text of a page that was written is one to be read, if its lines make the rules, in which each goal of it has a name. So
-/// `check` does not call it bad data.
-pub fn written_page_is_no_bad_data()
-    ensures { (rules : Rules) (lines : List (List ℕ)) (claims : List PlainClaim) (text : List ℕ) →
-        IsUtf8 text → tokens text ≡ page_tokens lines (names_of rules) claims [] →
-        Reads (text_of lines) rules → All (IsClaim (names_of rules)) claims → IsPageText text }
+/// A page tells its rules and its claims: what is read of it are the same rules, and all its claims, in order.
+pub fn page_tells_its_rules_and_claims()
+    ensures { (page : List Token) (rules others : SpecRules) (written read : List PlainClaim) →
+        IsPage page rules written → IsPage page others read →
+        AreSameRules rules others × (read ≡ written) }
 {}
 
-/// And what is read of it are its claims, all of them and in order, where no two goals have one name.
-pub fn page_tells_its_claims()
-    ensures { (page : List Token) (rules others : Rules) (written read : List PlainClaim) →
-        HaveOwnNames (names_of rules) → IsPage page rules written → IsPage page others read →
-        read ≡ written }
+/// And what `explain` writes as data is accepted where it is checked: it is a page, so it is never bad data, and whatever is
+/// found in it are the rules of the text that was explained and the claims of all its answers, in order, none of which is
+/// refused.
+pub fn what_is_shown_is_accepted()
+    ensures { (known old new : Option (List ℕ)) (all_fine : Bool)
+        (shown : IsShown ⟦<TableDelegate<'static, 8, 1> as Delegate>⟧ ⟦<Table<&'static Rules> as Cx>⟧
+        known old new Data all_fine) →
+        (text : List ℕ) × Appends old new text ×
+        IsReadBack ⟦<TableDelegate<'static, 8, 1> as Delegate>⟧ ⟦<Table<&'static Rules> as Cx>⟧
+        shown.table.lender.now shown.claims text }
 {}

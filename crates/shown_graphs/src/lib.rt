@@ -7,6 +7,11 @@
 //! | `Plan` | the lines of a graph's text, before they are words |
 //! | `Checked` | what is known of an answer that is shown |
 //! | `Data` | the tokens that spell graphs as data |
+//! | `Page` | a whole page of data |
+//! | `Rules` | the rules on a page, and when two tables are the same |
+//! | `Shown` | what was shown of questions |
+//! | `Told` | what is told of graphs that were read |
+//! | `Program` | what a run of each program came to, and that what one writes is accepted by the other |
 //! | `Watch` | what a watcher stands beside |
 #![tactic(auto)]
 

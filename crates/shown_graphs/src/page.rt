@@ -1,10 +1,10 @@
 //! What is written of the questions, in each form.
-ghost use Rattle.std.specs.Prelude.{◌≡◌, ◌∷◌, ◌++◌, ◌⊎◌, [], IfErr, IfOk, List, map, OnOk, ℕ};
+ghost use Rattle.std.specs.Prelude.{◌≡◌, ◌∷◌, ◌++◌, ◌⊎◌, [], IfErr, IfOk, List, map, OnOk};
 ghost use Rattle.std.specs.Io.KnownBytes.{Keeps};
 ghost use Rattle.std.specs.Option.{option_map_or};
-ghost use Rattle.shown_graphs.specs.Below.{Goal as SpecGoal, names_of};
-ghost use Rattle.shown_graphs.specs.Data.{HaveTexts, plain_node, PlainClaim};
-ghost use Rattle.shown_graphs.specs.Shown.{claims_of, HasClaims, IsBegun, IsWrittenPage};
+ghost use Rattle.shown_graphs.specs.Below.{Goal as SpecGoal, Reads, Rules as SpecRules};
+ghost use Rattle.shown_graphs.specs.Data.{plain_node, PlainClaim};
+ghost use Rattle.shown_graphs.specs.Shown.{claims_of, HasClaims, IsBegun, WritesPage};
 
 use crate::answer::Came;
 use crate::data::{word, write_answer, write_end as end_data, write_start as start_data};
@@ -42,7 +42,8 @@ pub(crate) enum Page {
 impl Page {
     /// The beginning of a page about this text of rules.
     pub(crate) fn new(alloc: Global, form: Form, text: &[u8]) -> Result<Page, Stop>
-        ensures begun { IfOk result (λ page. form ≡ Form.Data → (names : List (List ℕ)) → HasClaims names page []) }
+        ensures begun { IfOk result (λ page. form ≡ Form.Data → (rules : SpecRules) → Reads text.now rules →
+            HasClaims rules page []) }
         ensures fault { IfErr result (λ stop. stop ≡ Stop.Memory) }
     {
         let mut waiting = Vec::new(alloc);
@@ -68,9 +69,8 @@ impl Page {
         goal: Goal,
         came: &Came,
     ) -> Result<(), Stop>
-        ensures added { OnOk result ((claims : List PlainClaim) → HaveTexts (names_of rules.now) →
-            HasClaims (names_of rules.now) self.old claims →
-            HasClaims (names_of rules.now) self.new (claims ++ claims_of goal came.now)) }
+        ensures added { OnOk result ((claims : List PlainClaim) → HasClaims rules.now self.old claims →
+            HasClaims rules.now self.new (claims ++ claims_of goal came.now)) }
         ensures fault { IfErr result (λ stop. stop ≡ Stop.Memory) }
     {
         match self {
@@ -91,9 +91,9 @@ impl Page {
 
     /// Writes what waits, unless all has to be written at once.
     pub(crate) fn pass_on<W: Write>(&mut self, out: &mut W) -> io::Result<()>
-        ensures { OnOk result ((names : List (List ℕ)) (claims : List PlainClaim) →
-            HasClaims names self.old claims →
-            HasClaims names self.new claims × Keeps (W.contents out.old) (W.contents out.new)) }
+        ensures { OnOk result ((rules : SpecRules) (claims : List PlainClaim) →
+            HasClaims rules self.old claims →
+            HasClaims rules self.new claims × Keeps (W.contents out.old) (W.contents out.new)) }
     {
         match self {
             Page::Text { waiting, .. } | Page::Dot { waiting, .. } => {
@@ -107,8 +107,8 @@ impl Page {
 
     /// Writes the rest.
     pub(crate) fn finish<W: Write>(self, out: &mut W) -> Result<(), Stop>
-        ensures written { OnOk result ((names : List (List ℕ)) (claims : List PlainClaim) →
-            HasClaims names self claims → IsWrittenPage names claims (W.contents out.old) (W.contents out.new)) }
+        ensures written { OnOk result ((rules : SpecRules) (claims : List PlainClaim) →
+            HasClaims rules self claims → WritesPage rules claims (W.contents out.old) (W.contents out.new)) }
         ensures fault { IfErr result (λ stop. (stop ≡ Stop.InputOrOutput) ⊎ (stop ≡ Stop.Memory)) }
     {
         match self {
@@ -143,9 +143,8 @@ fn add_data(
     goal: Goal,
     came: &Came,
 ) -> Result<(), AllocError>
-    ensures { OnOk result ((claims : List PlainClaim) → HaveTexts (names_of rules.now) →
-        IsBegun (names_of rules.now) writer.old claims →
-        IsBegun (names_of rules.now) writer.new (claims ++ claims_of goal came.now)) }
+    ensures { OnOk result ((claims : List PlainClaim) → IsBegun rules.now writer.old claims →
+        IsBegun rules.now writer.new (claims ++ claims_of goal came.now)) }
 {
     match shown_of(came) {
         Some((outcome, nodes)) => write_answer(writer, rules, goal, outcome, nodes),
@@ -155,8 +154,8 @@ fn add_data(
 
 // Writes the page as far as it waits, and its end.
 fn finish_data<W: Write>(mut writer: Writer<Global>, out: &mut W) -> Result<(), Stop>
-    ensures written { OnOk result ((names : List (List ℕ)) (claims : List PlainClaim) →
-        IsBegun names writer claims → IsWrittenPage names claims (W.contents out.old) (W.contents out.new)) }
+    ensures written { OnOk result ((rules : SpecRules) (claims : List PlainClaim) →
+        IsBegun rules writer claims → WritesPage rules claims (W.contents out.old) (W.contents out.new)) }
     ensures fault { IfErr result (λ stop. (stop ≡ Stop.InputOrOutput) ⊎ (stop ≡ Stop.Memory)) }
 {
     end_data(&mut writer)?;

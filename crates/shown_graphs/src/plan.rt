@@ -54,7 +54,7 @@ struct Walk<'a> {
     most: usize,
     lines: Vec<Line>,
     marks: Vec<Mark>,
-    open: Vec<Open<'a>>,
+    stack: Vec<Open<'a>>,
     shown: usize,
 }
 
@@ -75,7 +75,7 @@ pub(crate) fn plan(
         most,
         lines: Vec::new(alloc),
         marks: Vec::from_elem(alloc, Mark::Unseen, nodes.len())?,
-        open: Vec::new(alloc),
+        stack: Vec::new(alloc),
         shown: 0,
     };
     walk.meet(nodes, 0)?;
@@ -92,19 +92,19 @@ impl<'a> Walk<'a> {
     // node is open.
     fn advance(&mut self, nodes: &'a [Node<Goal, Outcome>]) -> Result<bool, NoMemory>
         requires walk { IsWalk self.old.lines.items self.old.marks.items }
-        requires replayed { IsReplayed nodes.now self.old.lines.items (pending_of self.old.open.items) }
+        requires replayed { IsReplayed nodes.now self.old.lines.items (pending_of self.old.stack.items) }
         ensures walk { IsWalk self.new.lines.items self.new.marks.items }
         ensures replayed { OnOk result
-            (IsReplayed nodes.now self.new.lines.items (pending_of self.new.open.items)) }
-        ensures end { result ≡ Ok false → self.new.open.items ≡ [] }
+            (IsReplayed nodes.now self.new.lines.items (pending_of self.new.stack.items)) }
+        ensures end { result ≡ Ok false → self.new.stack.items ≡ [] }
     {
-        let Some(newest) = self.open.pop() else {
+        let Some(newest) = self.stack.pop() else {
             return Ok(false);
         };
         match newest.rest.split_first() {
             None => self.leave(newest.place),
             Some((edge, rest)) => {
-                self.open.push(Open {
+                self.stack.push(Open {
                     place: newest.place,
                     rest,
                 })?;
@@ -123,7 +123,7 @@ impl<'a> Walk<'a> {
     fn leave(&mut self, place: usize)
         requires { IsWalk self.old.lines.items self.old.marks.items }
         ensures walk { IsWalk self.new.lines.items self.new.marks.items }
-        ensures rest { (self.new.lines ≡ self.old.lines) × (self.new.open ≡ self.old.open) }
+        ensures rest { (self.new.lines ≡ self.old.lines) × (self.new.stack ≡ self.old.stack) }
     {
         if let Some(Mark::Open(number)) = self.mark_of(place) {
             self.marks[place] = Mark::Done(number);
@@ -133,12 +133,12 @@ impl<'a> Walk<'a> {
     // One more line, of the node at this place.
     fn meet(&mut self, nodes: &'a [Node<Goal, Outcome>], place: usize) -> Result<(), NoMemory>
         requires walk { IsWalk self.old.lines.items self.old.marks.items }
-        requires expected { Expects nodes.now self.old.lines.items place (pending_of self.old.open.items) }
+        requires expected { Expects nodes.now self.old.lines.items place (pending_of self.old.stack.items) }
         ensures walk { IsWalk self.new.lines.items self.new.marks.items }
         ensures replayed { OnOk result
-            (IsReplayed nodes.now self.new.lines.items (pending_of self.new.open.items)) }
+            (IsReplayed nodes.now self.new.lines.items (pending_of self.new.stack.items)) }
     {
-        let level = self.open.len();
+        let level = self.stack.len();
         match self.mark_of(place) {
             Some(Mark::Unseen) if level <= self.most => self.show(nodes, place, level)?,
             Some(Mark::Open(number)) => self.again(place, level, number, true)?,
@@ -162,7 +162,7 @@ impl<'a> Walk<'a> {
         ensures walk { IsWalk self.new.lines.items self.new.marks.items }
         ensures line { OnOk result (self.new.lines.items
             ≡ self.old.lines.items ++ Again place level number closes ∷ []) }
-        ensures open { self.new.open ≡ self.old.open }
+        ensures stack { self.new.stack ≡ self.old.stack }
     {
         self.lines.push(Line::Again {
             place,
@@ -184,13 +184,13 @@ impl<'a> Walk<'a> {
         ensures walk { IsWalk self.new.lines.items self.new.marks.items }
         ensures line { OnOk result ((number : ℕ) ×
             (self.new.lines.items ≡ self.old.lines.items ++ Shown place level number ∷ [])) }
-        ensures open { OnOk result (pending_of self.new.open.items
-            ≡ targets_of nodes.now place ∷ pending_of self.old.open.items) }
+        ensures stack { OnOk result (pending_of self.new.stack.items
+            ≡ targets_of nodes.now place ∷ pending_of self.old.stack.items) }
     {
         let number = self.shown;
         self.shown = number.saturating_add(1);
         let rest = edges_of(nodes, place);
-        self.open.push(Open { place, rest })?;
+        self.stack.push(Open { place, rest })?;
         self.lines.push(Line::Shown {
             place,
             level,

@@ -132,8 +132,8 @@ pub fn explain<R: Read + Drop, W: Write, E: Write + Drop, P: Progress>(
 ) -> u8
     ensures status { result ≤ 4 }
 
-    // All questions of the text were asked in turn, and as data their answers are what was written; 0 says that none met
-    // a fault and no graph was refused.
+    // All questions of the text were asked in turn, and as data a page with the same rules and their answers is what was
+    // written; 0 says that none met a fault and no graph was refused.
     ensures told { result ≤ 1 → IsShown ⟦<TableDelegate<'static, 8, 1> as Delegate>⟧
         ⟦<Table<&'static Rules> as Cx>⟧ (R.remaining input)
         (W.contents out.old) (W.contents out.new) form (result == 0) }

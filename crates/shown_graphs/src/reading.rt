@@ -2,8 +2,8 @@
 ghost use Rattle.std.specs.Prelude.{◌≡◌, ◌≢◌, ℕ, All, List, map, IfErr, IfNone, IfOk, IfSome, ⊤};
 ghost use Rattle.json.specs.Token.{Token as SpecToken};
 ghost use Rattle.shown_graphs.specs.Below.{names_of, Outcome as SpecOutcome, Reads, Reply as SpecReply, Rules as SpecRules, word_of};
-ghost use Rattle.shown_graphs.specs.Data.{array_tokens, claim_tokens, edge_tokens, goal_tokens, HaveOwnNames, IsClaim, IsEdge, IsNamed, IsNode, kind_tokens, left_in, node_tokens, outcome_tokens, plain_claim, plain_node, PlainClaim, reply_tokens, reply_word, Spells};
-ghost use Rattle.shown_graphs.specs.Page.{AreOfPage, IsPage, line_tokens, text_of};
+ghost use Rattle.shown_graphs.specs.Data.{array_tokens, claim_tokens, edge_tokens, goal_tokens, HaveOwnNames, IsClaim, IsEdge, IsNamed, IsNode, kind_tokens, left_in, node_tokens, outcome_tokens, plain_claim, plain_node, PlainClaim, reply_tokens, reply_word, Spells, string_tokens};
+ghost use Rattle.shown_graphs.specs.Page.{AreOfPage, IsPage, text_of};
 ghost use Rattle.shown_graphs.specs.Stop.{StopsUnless};
 
 mod source;
@@ -51,8 +51,8 @@ pub(crate) fn read_claims(alloc: Global, source: &mut Source<'_>) -> Result<Clai
 // The lines of rules, which stand in an array.
 fn read_lines(alloc: Global, source: &mut Source<'_>) -> Result<Vec<u8>, Stop>
     ensures spelled { IfOk result (λ text. (lines : List (List ℕ)) × (text.items ≡ text_of lines)
-        × (left_in source.old ≡ array_tokens line_tokens lines (left_in source.new))) }
-    ensures refused { IfErr result (StopsUnless (Spells (λ _. ⊤) (array_tokens line_tokens) (left_in source.old))) }
+        × (left_in source.old ≡ array_tokens string_tokens lines (left_in source.new))) }
+    ensures refused { IfErr result (StopsUnless (Spells (λ _. ⊤) (array_tokens string_tokens) (left_in source.old))) }
 {
     let mut text = Vec::new(alloc);
     source.begin_array()?;

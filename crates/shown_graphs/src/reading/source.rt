@@ -3,8 +3,8 @@
 ghost use Rattle.std.specs.Prelude.{◌≡◌, ◌≢◌, ◌∷◌, ◌<◌, ◌^◌, ℕ, [], decimal, IfErr, IfOk, IfNone, IfSome, OnOk, ⊤};
 ghost use Rattle.std.specs.Bool.{MatchBool};
 ghost use Rattle.json.specs.Print.{IsNumber};
-ghost use Rattle.json.specs.Token.{begin_array, begin_object, end_array, end_object, key, number, string};
-ghost use Rattle.shown_graphs.specs.Data.{Begins, IsTarget, left_in, number_tokens, Spells};
+ghost use Rattle.json.specs.Token.{begin_array, begin_object, end_array, end_object, key, number};
+ghost use Rattle.shown_graphs.specs.Data.{Begins, IsTarget, left_in, number_tokens, Spells, string_tokens};
 ghost use Rattle.shown_graphs.specs.Stop.{IsBadData, StopsUnless};
 
 use crate::program::Stop;
@@ -80,8 +80,8 @@ impl<'a> Source<'a> {
     }
 
     pub(crate) fn string(&mut self) -> Result<&'a str, Stop>
-        ensures read { IfOk result (λ text. left_in self.old ≡ string text.now ∷ left_in self.new) }
-        ensures refused { IfErr result (StopsUnless (Spells (λ _. ⊤) (λ text rest. string text ∷ rest) (left_in self.old))) }
+        ensures read { IfOk result (λ text. left_in self.old ≡ string_tokens text.now (left_in self.new)) }
+        ensures refused { IfErr result (StopsUnless (Spells (λ _. ⊤) string_tokens (left_in self.old))) }
     {
         match self.reader.next() {
             Some(Token::String(text)) => Ok(text),

@@ -4,5 +4,5 @@ use Rattle.shown_graphs.proofs.plan.plan.Given as goal
 abbrev pub invariant-loop : goal.invariant-loop
 invariant-loop l = record {
   walk : IsWalk l.walk.lines.items l.walk.marks.items;
-  replayed : IsReplayed l.nodes l.walk.lines.items (pending_of l.walk.open.items);
+  replayed : IsReplayed l.nodes l.walk.lines.items (pending_of l.walk.stack.items);
 }

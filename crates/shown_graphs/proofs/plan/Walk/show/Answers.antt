@@ -8,5 +8,5 @@ use Rattle.shown_graphs.proofs.plan.Walk.show.Goals as goal
 pub returns-clause-walk : goal.returns-clause-walk
 returns-clause-walk c = rw c.in_ok-push-2.ensures.items (walk_shown nat_eq_equiv _ _ _ _ _ _ c.requires.unseen c.requires.walk)
 
-pub returns-clause-open : goal.returns-clause-open
-returns-clause-open c = ap pending_of c.in_ok-push.ensures.items ∙ pending_of-push c.args.self.now.open.items (record { place = c.args.place; rest = c.edges_of-rest.result }) ∙ ap (λ targets. targets ∷ pending_of c.args.self.now.open.items) c.edges_of-rest.ensures
+pub returns-clause-stack : goal.returns-clause-stack
+returns-clause-stack c = ap pending_of c.in_ok-push.ensures.items ∙ pending_of-push c.args.self.now.stack.items (record { place = c.args.place; rest = c.edges_of-rest.result }) ∙ ap (λ targets. targets ∷ pending_of c.args.self.now.stack.items) c.edges_of-rest.ensures
