@@ -1,6 +1,10 @@
 -- Two runs of each pair are enough.
-use Rattle.std.proofs.Common.{◌≡◌, ℕ, ◌≤◌, Bool, true, false, List, length, inr, sym, subst}
+use Rattle.std.proofs.Common.{◌≡◌, ◌⊎◌, ℕ, ◌≤◌, Bool, true, false, List, length, inl, inr, refl, sym, subst}
+use Rattle.std.proofs.Math.Logic.{∥∥₁_elim}
+use Rattle.search_context.specs.declared.context.Fault.{Fault}
+use Rattle.search_context.specs.declared.context.Fault.TheVariants.{Conflict, Memory}
 use Rattle.search_graph.specs.Settled.{TwoRunsAreEnough}
+use Rattle.search_rules.specs.Claims.{BreaksOrder, IsMemoryOrOrder, WantsMemory}
 use Rattle.question_lists.proofs.Ranked.{scripts}
 use Rattle.search_rules.specs.OneKind.{AsksByOneKind}
 use Rattle.structural_types.specs.Below.{AreDefinite, AreSettled, Cache, CxOf, DelegateOf, HasOneOfEach, IsDecisive, IsEnclosed, Outcome, outcome_verdicts, StoredReachNested, verdicts}
@@ -49,3 +53,19 @@ module _ {D C V P F A T : Type 0} (G : DelegateOf D C V P F Pair Outcome A T) (X
 -- the cache is ready for the same types in other words
 pub ready_for : {C A T : Type 0} (same : Pair → Pair → Bool) (forms others : List Form) (cache : Cache C Pair Outcome A T) → others ≡ forms → IsReady same forms cache → IsReady same others cache
 ready_for same forms others cache are ready = subst (λ fs. IsReady same fs cache) (sym are) ready
+
+-- a pair came to another answer than the one that is stored of it
+abbrev pub IsConflict : Fault Pair Outcome → Type 0
+IsConflict (Conflict asked stored found) = Unit {0}
+IsConflict fault = ⊥
+
+-- a conflict is neither want of memory nor a request out of order
+pub only_memory : (fault : Fault Pair Outcome) → (fault ≡ Memory) ⊎ IsConflict fault → ∥ IsMemoryOrOrder fault ∥₁ → fault ≡ Memory
+only_memory fault (inl is) caused = is
+only_memory (Conflict asked stored found) (inr conflict) caused = absurd (∥∥₁_elim caused (λ a b. absurd a) never)
+  where
+    never : IsMemoryOrOrder (Conflict asked stored found) → ⊥
+    never (WantsMemory is) = cc
+    never (BreaksOrder number is) = cc
+only_memory Memory (inr conflict) caused = refl
+only_memory fault (inr conflict) caused = absurd conflict

@@ -1,7 +1,5 @@
 -- What a subtyping is to those that use it.
 use Rattle.std.specs.Prelude.{List}
-use Rattle.structural_types.specs.Below.{Conflict, Fault, Outcome}
-use Rattle.structural_types.specs.declared.delegate.Pair.{Pair}
 use Rattle.structural_types.specs.declared.types.Types.{Types}
 use Rattle.structural_types.specs.declared.delegate.LendsTypes.{Ghosts as LendsTypesOf}
 use Rattle.structural_types.specs.declared.subtyping.Subtyping.{Subtyping}
@@ -10,8 +8,3 @@ use Rattle.structural_types.specs.Subtypes.{Form, forms_of}
 -- the types that it is asked about; `types_of` gives those that a lender lends
 abbrev pub declared_in : {T : Type 0} {G : LendsTypesOf T} → (T → Types) → Subtyping T G → List Form
 declared_in types_of subtyping = forms_of (types_of subtyping.cache.cx.0.0.lender)
-
--- a pair came to another answer than the one that is stored of it
-abbrev pub IsConflict : Fault Pair Outcome → Type 0
-IsConflict (Conflict asked stored found) = Unit {0}
-IsConflict fault = ⊥

@@ -19,7 +19,7 @@ pub use Rattle.search_context.specs.Verdicts.{verdicts}
 pub use Rattle.search_context.specs.declared.context.Cx.{Ghosts as CxOf}
 pub use Rattle.search_context.specs.declared.context.Delegate.{Ghosts as DelegateOf}
 pub use Rattle.search_context.specs.declared.context.Fault.{Fault}
-pub use Rattle.search_context.specs.declared.context.Fault.TheVariants.{Conflict, Memory}
+pub use Rattle.search_context.specs.declared.context.Fault.TheVariants.{Memory}
 pub use Rattle.search_context.specs.declared.context.Verdict.TheVariants.{Neither, No, Yes}
 pub use Rattle.search_rules.specs.Kinds.{StoredReachNested}
 pub use Rattle.search_rules.specs.Results.{AreDefinite, HaveNoOverflowOf}

@@ -1,7 +1,7 @@
 //! Whether a type is below another, in words of types alone.
-ghost use Rattle.std.specs.Prelude.{◌≡◌, ◌↔◌, ◌⊎◌, true, IfErr, IfOk};
+ghost use Rattle.std.specs.Prelude.{◌≡◌, ◌↔◌, true, IfErr, IfOk};
 ghost use Rattle.structural_types.specs.Subtypes.{IsBelow, forms_of};
-ghost use Rattle.structural_types.specs.Asked.{declared_in, IsConflict};
+ghost use Rattle.structural_types.specs.Asked.{declared_in};
 ghost use Rattle.structural_types.specs.Below.{Memory};
 ghost use Rattle.structural_types.specs.Ready.{IsReady};
 
@@ -39,18 +39,16 @@ impl<T: LendsTypes> Subtyping<T> {
     /// Whether the left type is below the right one. Types are told by their numbers, and one that is not declared is below
     /// the top and above the bottom alone.
     ///
-    /// `Fault::Memory` where memory is out. That a pair never comes to another answer than is stored of it is not proved, so
-    /// `Fault::Conflict` may be told, too. A fault lets go of all that earlier questions found out, and of its memory: the
-    /// next question can be asked, and begins anew.
+    /// `Fault::Memory` where memory is out, and no other fault. What was found out till then stays, and the next question
+    /// can be asked.
     pub fn is_below(&mut self, left: usize, right: usize) -> Result<bool, Fault<Pair, Outcome>>
         ensures exact { IfOk result (λ answer. (answer ≡ true)
             ↔ IsBelow (declared_in T.types_of self.old) left right) }
-        ensures faults { IfErr result (λ fault. (fault ≡ Memory) ⊎ IsConflict fault) }
+        ensures faults { IfErr result (λ fault. fault ≡ Memory) }
         ensures same_types { declared_in T.types_of self.new ≡ declared_in T.types_of self.old }
     {
-        let types = self.cache.cx().0.0.lender;
         // all numbers that are not declared are alike
-        let undeclared = types.types().count();
+        let undeclared = self.cache.cx().0.0.lender.types().count();
         let pair = Pair {
             left: left.min(undeclared),
             right: right.min(undeclared),
@@ -60,10 +58,7 @@ impl<T: LendsTypes> Subtyping<T> {
         let mut builder = Builder::new(true);
         match graph.evaluate_goal(&mut self.cache, pair, PathKind::Coinductive, &mut builder) {
             Ok(answer) => Ok(answer.result == Outcome::Yes),
-            Err(fault) => {
-                self.cache = empty_cache(self.alloc, types);
-                Err(fault)
-            }
+            Err(fault) => Err(fault),
         }
     }
 }

@@ -3,7 +3,7 @@
 //! Types are base words, a top, a bottom, functions, records and unions, and they are structural: a type is what its
 //! equation says, its name does not matter. They may be recursive, as `stream = { head: Int tail: stream }`. A question
 //! that leads back to itself counts as answered yes, as is right for types without end. Each question is answered, yes or
-//! no, unless it meets a fault, as where memory is out.
+//! no, unless memory is out.
 //!
 //! The rule is two dozen lines, in `delegate`; the search does the rest.
 //!

@@ -9,7 +9,7 @@ use Rattle.structural_types.specs.Rule.{pair}
 use Rattle.structural_types.specs.Subtypes.{IsBelow, forms_of}
 use Rattle.structural_types.proofs.Alike.{below_alike, none_beyond}
 use Rattle.structural_types.proofs.Decided.{pairs_are_decisive, proved_below, refuted_not_below, yes_or_no}
-use Rattle.structural_types.proofs.Enough.{enclosed_at, enough, ready_for}
+use Rattle.structural_types.proofs.Enough.{enclosed_at, enough, only_memory, ready_for}
 use Rattle.structural_types.proofs.subtyping.Subtyping.is_below.Goals as goal
 
 pub invariant_of-self : goal.invariant_of-self
@@ -23,7 +23,7 @@ invariant_of-self g c =
     record {
       ready = ∥∥₁_map c.args.self.now.ready (λ ready.
           let never_met = c.evaluate_goal.ensures.two_runs (askable forms) (enough _ _ _ types _ _ _ _ _ refl refl (omega arith) (λ _. refl) deep left right c.new-builder.ensures.noop ready) unmet in
-          let store = c.in-Ok.ensures.two_runs_settle (askable forms) (enough _ _ _ types _ _ _ _ _ refl refl (omega arith) (λ _. refl) deep left right c.new-builder.ensures.noop ready) unmet in
+          let store = c.evaluate_goal.ensures.two_runs_settle (askable forms) (enough _ _ _ types _ _ _ _ _ refl refl (omega arith) (λ _. refl) deep left right c.new-builder.ensures.noop ready) unmet in
           ready_for _ forms _ c.evaluate_goal.new.cache (ap (λ cx. forms_of (g.T.LendsTypes.types_of cx.0.0.lender)) c.evaluate_goal.ensures.same_context)
           (record {
             definite = c.evaluate_goal.ensures.decisive_results (pairs_are_decisive forms) ready.definite never_met;
@@ -61,3 +61,16 @@ returns-in-Ok-clause-exact g c =
                 (below_alike forms c.args.left c.min.result c.args.right c.min-2.result left_alike right_alike below)))
           ]),
     )
+
+pub returns-in-Err-clause-faults : goal.returns-in-Err-clause-faults
+returns-in-Err-clause-faults g c =
+    let types = g.T.LendsTypes.types_of c.args.self.now.cache.cx.0.0.lender in
+    let forms = forms_of types in
+    let at_left : c.min.result ≡ min c.args.left (length forms) = search rules in
+    let at_right : c.min-2.result ≡ min c.args.right (length forms) = search rules in
+    let left : c.min.result ≤ length forms = subst (λ n. n ≤ length forms) (sym at_left) (min-le_right c.args.left (length forms)) in
+    let right : c.min-2.result ≤ length forms = subst (λ n. n ≤ length forms) (sym at_right) (min-le_right c.args.right (length forms)) in
+    let unmet : c.new-graph.result.limits_met ≡ false = ap (λ graph. graph.limits_met) c.new-graph.ensures in
+    let deep : c.new-graph.result.root_depth ≡ 18446744073709551615 = ap (λ graph. graph.root_depth) c.new-graph.ensures in
+    only_memory c.in-Err.fault (search rules)
+    (∥∥₁_map c.args.self.now.ready (λ ready. c.in-Err.ensures.two_runs_faults (askable forms) (enough _ _ _ types _ _ _ _ _ refl refl (omega arith) (λ _. refl) deep left right c.new-builder.ensures.noop ready) unmet))
