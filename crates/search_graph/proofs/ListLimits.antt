@@ -1,5 +1,5 @@
 -- What limits mean for a list of queries: for none, and for one more.
-use Rattle.std.proofs.Common.{◌≡◌, ◌||◌, ◌⊎◌, ℕ, zero, suc, ◌+◌, ◌≤◌, max, min, All, Contains, Bool, true, false, List, [], ◌∷◌, ◌++◌, length, slice_get, Some, Result, Ok, IfOk, refl, sym, ap, ◌∙◌, subst, inl, inr, arith, le_refl}
+use Rattle.std.proofs.Common.{◌≡◌, ◌||◌, ◌⊎◌, ℕ, zero, suc, ◌+◌, ◌≤◌, max, min, All, Contains, Bool, true, false, List, [], ◌∷◌, ◌++◌, length, slice_get, Some, Result, Ok, Err, IfOk, IfErr, refl, sym, ap, ◌∙◌, subst, inl, inr, arith, le_refl}
 use Rattle.std.proofs.lemmas.List.Elements.{All-cons, All-head, All-nil, All-tail}
 use Rattle.search_context.specs.declared.context.Answer.{Answer}
 use Rattle.search_graph.specs.Below.{Cache, CxOf, DelegateOf, Fault, HasCounted, HaveNoOverflow, HaveNoOverflowOf, IsDecisive, IsEnclosed, IsPaid, PathKind, verdicts}
@@ -44,14 +44,15 @@ module _ {D C V P F I R A T : Type 0} (G : DelegateOf D C V P F I R A T) (X : Cx
   no_limits cache starts answers = record {
     met = false;
     decisive = λ decisive all unmet. all;
-    decided = λ decisive all unmet at answer beyond is. absurd (beyond_none answers at answer beyond is);
+    decided = λ decisive all unmet at answer beyond is. absurd (beyond_none answers at (Ok answer) beyond is);
+    faults = λ decisive one all unmet at fault beyond is. absurd (beyond_none answers at (Err fault) beyond is);
     no_overflow = λ counted none unmet. none;
     price = λ counted none met. absurd cc;
     enclosed = λ goals all none. none;
     by_runs = λ goals all none counted met. absurd cc;
   }
     where
-      beyond_none : (xs : List (Result (Answer R) (Fault I R))) (at : ℕ) (answer : Answer R) → length xs ≤ at → slice_get xs at ≡ Some (Ok answer) → ⊥
+      beyond_none : (xs : List (Result (Answer R) (Fault I R))) (at : ℕ) (answer : Result (Answer R) (Fault I R)) → length xs ≤ at → slice_get xs at ≡ Some answer → ⊥
       beyond_none [] at answer beyond is = absurd cc
       beyond_none (x ∷ xs) zero answer beyond is = absurd (omega (arith, beyond))
       beyond_none (x ∷ xs) (suc n) answer beyond is = beyond_none xs n answer (omega (arith, beyond)) is
@@ -94,6 +95,12 @@ module _ {D C V P F I R A T : Type 0} (G : DelegateOf D C V P F I R A T) (X : Cx
           | inl there ↦ first.decided decisive all each.0 at given beyond there
           | inr same_answer ↦ second.decided (moved decisive) (first.decisive decisive all each.0) each.1 0 given (omega arith) (ap Some same_answer)
         ];
+    faults = λ decisive one all unmet at fault beyond is.
+        let each = neither_of first.met second.met unmet in
+        elim (at_or_last answers answer at (Err fault) is) [
+          | inl there ↦ first.faults decisive one all each.0 at fault beyond there
+          | inr same_answer ↦ second.faults (moved decisive) one (first.decisive decisive all each.0) each.1 0 fault (omega arith) (ap Some same_answer)
+        ];
     no_overflow = λ counted none unmet.
         let each = neither_of first.met second.met unmet in
         second.no_overflow counted (first.no_overflow counted none each.0) each.1;
@@ -128,3 +135,8 @@ module _ {D C V P F I R A T : Type 0} (G : DelegateOf D C V P F I R A T) (X : Cx
 pub only_answer : {R E : Type 0} (r : Result (Answer R) E) (P : Answer R → Type 0) → IfOk r P → (at : ℕ) (answer : Answer R) → slice_get (r ∷ []) at ≡ Some (Ok answer) → P answer
 only_answer r P h zero answer is = let same : r ≡ Ok answer = cc in subst (λ s. IfOk s P) same h
 only_answer r P h (suc n) answer is = absurd cc
+
+-- and of the only fault
+pub only_fault : {A E : Type 0} (r : Result A E) (P : E → Type 0) → IfErr r P → (at : ℕ) (fault : E) → slice_get (r ∷ []) at ≡ Some (Err fault) → P fault
+only_fault r P h zero fault is = let same : r ≡ Err fault = cc in subst (λ s. IfErr s P) same h
+only_fault r P h (suc n) fault is = absurd cc

@@ -2,14 +2,16 @@
 use Rattle.std.proofs.Common.{◌≡◌, ℕ, ◌+◌, ◌<◌, ◌≤◌, ◌^◌, max, Bool, true, false, List, [], ◌∷◌, Contains, Result, Ok, Err, IfOk, IfErr, inl, inr, refl}
 use Rattle.std.proofs.lemmas.List.Elements.{All-head}
 use Rattle.search_context.specs.declared.context.Answer.{Answer}
-use Rattle.search_graph.specs.Below.{AreDefinite, Begins, Cache, Call, CxOf, DelegateOf, EndsWith, Fault, frames_within, HasCounted, HaveNoOverflow, HaveNoOverflowOf, IsDecisive, IsDefinite, IsEnclosed, IsPaid, IsPlainTo, IsPlainValue, Memory, PathKind, StopsWith, StoresWithin, verdicts}
+use Rattle.search_graph.specs.Below.{AreDefinite, Begins, Cache, Call, CxOf, DelegateOf, EndsWith, Fault, frames_within, HasCounted, HaveNoOverflow, HaveNoOverflowOf, IsCaused, IsDecisive, IsDefinite, IsEnclosed, IsMemoryOrOrder, IsPaid, IsPlainTo, IsPlainValue, Memory, PathKind, StopsWith, StoresWithin, verdicts}
 use Rattle.search_graph.specs.Lists.{AreEnclosed, HasLimits}
-use Rattle.search_graph.proofs.ListLimits.{only_answer}
+use Rattle.search_graph.proofs.ListLimits.{only_answer, only_fault}
 use Rattle.search_graph.proofs.Loops.{call_among, call_of, call_over, call_among_begins, call_begins, call_over_begins}
 use Rattle.search_graph.proofs.Promises.{ended_by_runs, ended_paid, ended_plain, ended_within, stopped_by_runs, stopped_paid, stopped_within}
 use Rattle.search_graph.proofs.StoredDepths.{stores_within}
 use Rattle.search_moves.specs.declared.evaluation.Evaluation.{Evaluation}
+use Rattle.search_rules.proofs.Differing.{memory_or_order}
 use Rattle.search_rules.specs.Evaluating.{KeepsStore}
+use Rattle.search_rules.specs.Settled.{HasOneOfEach}
 
 module _ {D C V P F I R A T : Type 0} (G : DelegateOf D C V P F I R A T) (X : CxOf C I R A T) (same : I → I → Bool) (old new : Cache C I R A T) (input : I) (root : ℕ) (fits : root < 2 ^ 64) (starts now : ℕ) (is_stored : Type 0) (e : Evaluation D C V P F I R A T) where
   -- the goal was worked out, on a graph that had met no limit
@@ -55,6 +57,12 @@ module _ {D C V P F I R A T : Type 0} (G : DelegateOf D C V P F I R A T) (X : Cx
   decided_at (Ok answer) h decisive all unmet = (h (known false true) (begins false true (λ never. absurd cc) (λ is. all))).ended.decided (decisive, refl) unmet
   decided_at (Err fault) h decisive all unmet = tt
 
+  fault_at : (r : Result (Answer R) (Fault I R)) → IsWorkedOut r → IfErr r (IsCaused G X same new) → IsDecisive (verdicts X) (G.script old.cx) → HasOneOfEach (verdicts X) → AreDefinite (verdicts X) same old.results → e.limits_met ≡ false → IfErr r (λ fault. IsMemoryOrOrder fault)
+  fault_at (Ok answer) h caused decisive one all unmet = tt
+  fault_at (Err fault) h caused decisive one all unmet =
+      let stopped = h (known false true) (begins false true (λ never. absurd cc) (λ is. all)) in
+      memory_or_order G X same new one (stopped.store.definite (decisive, refl) unmet) fault (stopped.stopped.decided (decisive, refl) unmet) caused
+
   paid_at : (r : Result (Answer R) (Fault I R)) → IsWorkedOut r → G.counts ≡ true → HaveNoOverflow same old.results → e.limits_met ≡ true → IsPaid (max 1 G.FIXPOINT_STEP_LIMIT) root G.last starts now
   paid_at (Ok answer) h counted none met = ended_paid G X old.cx (known true false) now e.limits_met answer.result (h (known true false) (begins true false (λ is. none) (λ never. absurd cc))).ended counted refl refl met
   paid_at (Err fault) h counted none met = stopped_paid G X old.cx (known true false) now e.limits_met fault (h (known true false) (begins true false (λ is. none) (λ never. absurd cc))).stopped counted refl refl met
@@ -74,11 +82,12 @@ module _ {D C V P F I R A T : Type 0} (G : DelegateOf D C V P F I R A T) (X : Cx
   runs_at (Ok answer) h goals enclosed none counted met = ended_by_runs G X old.cx (known_among goals) now e.limits_met answer.result (h (known_among goals) (among_begins goals none)).ended enclosed counted refl met
   runs_at (Err fault) h goals enclosed none counted met = stopped_by_runs G X old.cx (known_among goals) now e.limits_met fault (h (known_among goals) (among_begins goals none)).stopped enclosed counted refl met
 
-  pub worked_limits : (kind : PathKind) (r : Result (Answer R) (Fault I R)) → IsWorkedOut r → HasLimits G X same ((root, input, kind) ∷ []) old new starts now [] (r ∷ [])
-  worked_limits kind r h = record {
+  pub worked_limits : (kind : PathKind) (r : Result (Answer R) (Fault I R)) → IsWorkedOut r → IfErr r (IsCaused G X same new) → HasLimits G X same ((root, input, kind) ∷ []) old new starts now [] (r ∷ [])
+  worked_limits kind r h caused = record {
     met = e.limits_met;
     decisive = λ decisive all unmet. (keeps_store r h false true (begins false true (λ never. absurd cc) (λ is. all))).definite (decisive, refl) unmet;
     decided = λ decisive all unmet at answer beyond is. only_answer r (λ a. IsDefinite (verdicts X) a.result) (decided_at r h decisive all unmet) at answer is;
+    faults = λ decisive one all unmet at fault beyond is. only_fault r (λ told. IsMemoryOrOrder told) (fault_at r h caused decisive one all unmet) at fault is;
     no_overflow = λ counted none unmet goal depth. (keeps_store r h true false (begins true false (λ is. none) (λ never. absurd cc))).overflow (inl ((counted, refl, inl refl), unmet)) goal (inl refl) depth;
     price = λ counted none met. record { at = 0; query = (root, input, kind); is_at = refl; paid = paid_at r h counted none met };
     enclosed = λ goals all none goal among depth. (among_store r h goals none).overflow (inr (only all)) goal (inr among) depth;

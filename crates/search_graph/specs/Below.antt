@@ -53,7 +53,7 @@ pub use Rattle.open_goals.specs.declared.goals.Run.{Run}
 pub use Rattle.search_moves.specs.Evaluations.{Awaits, ChangesCache, EndsWith, HasReply, HasRequest, IsNew, IsRight, IsRightFor}
 pub use Rattle.search_moves.specs.Evaluations.{IsRememberedWhere, IsRightNext, KeepsCache, LeadsTo, Requests, StopsWith}
 pub use Rattle.search_rules.specs.Calls.{bound, Call, CallIsEnclosed, HadNoOverflow, IsCounted, limits, Outset, runs}
-pub use Rattle.search_rules.specs.Claims.{Decides, IsCaused, IsProved, IsRefuted, IsRemembered, OutOfMemory}
+pub use Rattle.search_rules.specs.Claims.{Decides, IsCaused, IsMemoryOrOrder, IsProved, IsRefuted, IsRemembered, OutOfMemory}
 pub use Rattle.search_rules.specs.Decided.{IsDecided}
 pub use Rattle.search_rules.specs.Evaluating.{Begins, CallGoesOn, HasAsked, HasEnded, HasStopped, IsOnly, IsWaiting}
 pub use Rattle.search_rules.specs.Evaluating.{KeepsAnswers, Leads, seen, work_left}

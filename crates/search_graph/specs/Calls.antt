@@ -1,6 +1,6 @@
 -- What a move, and the whole of an evaluation, comes to in whatever call it is made.
-use Rattle.std.specs.Prelude.{◌≡◌, ℕ, Bool, false, Result, IfOk, IfErr}
-use Rattle.search_graph.specs.Below.{Awaits, Begins, Cache, Call, CxOf, DelegateOf, EndsWith, Fault, KeepsFinished, KeepsNodes, KeepsResults, LeadsTo, Next, Place, Received, Store, stored_at, StopsWith, work_left}
+use Rattle.std.specs.Prelude.{◌≡◌, ℕ, Bool, false, List, Result, IfOk, IfErr}
+use Rattle.search_graph.specs.Below.{Awaits, Begins, Cache, CacheNode, Call, CxOf, DelegateOf, EndsWith, Fated, Fault, fates_of, HasGraph, IsCaused, KeepsFinished, KeepsNodes, KeepsResults, LeadsTo, MovesFates, Next, Place, Received, Run, StackEntry, StayFrom, Store, stored_at, StopsWith, verdicts, work_left}
 use Rattle.open_goals.specs.declared.goals.Fate.{Fate}
 use Rattle.open_goals.specs.declared.goals.Fate.TheVariants as becomes
 use Rattle.search_context.specs.declared.context.Answer.{Answer}
@@ -17,6 +17,17 @@ pub record KeepsAll {C I R A T : Type 0} (same : I → I → Bool) (old new : Ca
 pub record Spares {I S R : Type 0} (same : I → I → Bool) (noop : Bool) (fate : Fate R) (goal : I) (old new : Store I S) : Type 0 where
   pub recorded : noop ≡ false → new ≡ old
   pub spared : fate ≡ becomes.NotStored → (place : Place) → stored_at same new goal place ≡ stored_at same old goal place
+
+-- What a move does with the goals under evaluation: their runs' nodes are no older than they were, and their results' fates stay as they
+-- were, but for a goal that is pushed or popped.
+pub record MovesGoals {C F I R A T : Type 0} (same : I → I → Bool) (suits : Fated I R → Type 0) (nodes : List (CacheNode I R)) (old new : List (StackEntry C I R A T × Run C F I R A T)) : Type 0 where
+  pub stays : StayFrom nodes old new
+  pub fates : MovesFates same suits (fates_of old) (fates_of new)
+
+-- an answer has its graph, and a fault its cause
+pub record IsGrounded {D C V P F I R A T : Type 0} (G : DelegateOf D C V P F I R A T) (X : CxOf C I R A T) (same : I → I → Bool) (goal : I) (cache : Cache C I R A T) (result : Result (Answer R) (Fault I R)) : Type 0 where
+  pub has_graph : IfOk result (λ answer. HasGraph (verdicts X) cache.nodes goal answer.result answer.node)
+  pub caused : IfErr result (IsCaused G X same cache)
 
 module _ {D C V P F I R A T : Type 0} (G : DelegateOf D C V P F I R A T) (X : CxOf C I R A T) (same : I → I → Bool) (cx : C) where
   -- where the newest goal awaited the reply, what comes next leads on, or a fault stops the call

@@ -1,9 +1,10 @@
 -- What a list of queries is answered with. A query is a root depth, a goal, and the kind of the step that asks it.
-use Rattle.std.specs.Prelude.{◌≡◌, ℕ, ◌≤◌, max, All, Bool, true, false, Contains, List, ◌++◌, length, slice_get, None, Some, IfSome, Result, Ok, IfOk, IfErr}
+use Rattle.std.specs.Prelude.{◌≡◌, ℕ, ◌≤◌, max, All, Bool, true, false, Contains, List, ◌++◌, length, slice_get, None, Some, IfSome, Result, Ok, Err, IfOk, IfErr}
 use Rattle.std.specs.List.{AllZip, sum_by}
 use Rattle.search_graph.specs.Below.{AreDefinite, CxOf, DelegateOf, Fault, HasCounted, HaveNoOverflow, HaveNoOverflowOf, IsDecisive, IsEnclosed, IsDefinite, IsPaid, Memory, PathKind, Cache, KeepsFinished, HasGraph, IsWhole, IsPlainTo, IsPlainValue, frames_within, KeepsResults, verdicts}
 use Rattle.search_context.specs.declared.context.Answer.{Answer}
-use Rattle.search_rules.specs.Claims.{IsProved, IsRefuted, IsCaused}
+use Rattle.search_rules.specs.Claims.{IsProved, IsRefuted, IsCaused, IsMemoryOrOrder}
+use Rattle.search_rules.specs.Settled.{HasOneOfEach}
 
 -- the new list has the items of the old one, and then one for each query, in order, of which this holds
 pub record AppendsEach {Q A : Type 0} (Holds : Q → A → Type 0) (queries : List Q) (old new : List A) : Type 0 where
@@ -53,13 +54,16 @@ module _ {D C V P F I R A T : Type 0} (G : DelegateOf D C V P F I R A T) (X : Cx
   AreEnclosed cx goals queries = All (λ query. IsEnclosed (G.script cx) goals query.0 query.1) queries
 
   -- Whether a limit was met while the queries were answered. Until one is, a decisive delegate's answers and stored results are yes
-  -- or no, and no result is stored that met overflow. One that is met is paid for. Where the queries are enclosed, no question is
+  -- or no, and if there is one yes and one no, the only faults are want of memory and requests out of order; and no result is stored
+  -- that met overflow. One that is met is paid for. Where the queries are enclosed, no question is
   -- refused: no result of the goals is stored that met overflow, and a limit costs all runs of one goal.
   pub record HasLimits (queries : List (ℕ × I × PathKind)) (old new : Cache C I R A T) (before now : ℕ) (answers_old answers_new : List (Result (Answer R) (Fault I R))) : Type 0 where
     pub met : Bool
     pub decisive : IsDecisive (verdicts X) (G.script old.cx) → AreDefinite (verdicts X) same old.results → met ≡ false → AreDefinite (verdicts X) same new.results
     pub decided : IsDecisive (verdicts X) (G.script old.cx) → AreDefinite (verdicts X) same old.results → met ≡ false
         → (at : ℕ) (answer : Answer R) → length answers_old ≤ at → slice_get answers_new at ≡ Some (Ok answer) → IsDefinite (verdicts X) answer.result
+    pub faults : IsDecisive (verdicts X) (G.script old.cx) → HasOneOfEach (verdicts X) → AreDefinite (verdicts X) same old.results → met ≡ false
+        → (at : ℕ) (fault : Fault I R) → length answers_old ≤ at → slice_get answers_new at ≡ Some (Err fault) → IsMemoryOrOrder fault
     pub no_overflow : G.counts ≡ true → HaveNoOverflow same old.results → met ≡ false → HaveNoOverflow same new.results
     pub price : G.counts ≡ true → HaveNoOverflow same old.results → met ≡ true → HasPaid queries before now
     pub enclosed : (goals : List I) → AreEnclosed old.cx goals queries → HaveNoOverflowOf (Contains goals) same old.results → HaveNoOverflowOf (Contains goals) same new.results

@@ -1,28 +1,30 @@
 -- Calls for which two runs of a goal are enough.
-use Rattle.std.specs.Prelude.{Bool, Contains, false, ◌≡◌, List, ℕ, Result, IfOk}
+use Rattle.std.specs.Prelude.{Bool, Contains, false, ◌≡◌, List, ℕ, Result, IfOk, OnErr}
 use Rattle.search_context.specs.declared.context.Answer.{Answer}
 use Rattle.search_graph.specs.Below.{AreDefinite, Awaits, Begins, Cache, Call, CxOf, DelegateOf, Fault, HaveNoOverflowOf, Next, Received, verdicts}
-use Rattle.search_moves.specs.Settled.{Settles, SettlesNext}
+use Rattle.search_moves.specs.Settled.{IsSettledStore, Settles, SettlesNext}
 use Rattle.search_moves.specs.declared.evaluation.Evaluation.{Evaluation}
-use Rattle.search_rules.specs.Settled.{AreSettled, CallNeedsTwoRuns, NeedsTwoRuns}
+use Rattle.search_rules.specs.Settled.{CallNeedsTwoRuns, NeedsTwoRuns}
 
 module _ {D C V P F I R A T : Type 0} (G : DelegateOf D C V P F I R A T) (X : CxOf C I R A T) (same : I → I → Bool) where
   -- Two runs of each goal are enough over the cache: no overflow result is stored of the goals, each stored result is yes or no, and
-  -- they are settled.
+  -- they are settled, and suit provisional entries.
   pub record TwoRunsAreEnough (goals : List I) (cache : Cache C I R A T) (depth : ℕ) (goal : I) (noop : Bool) : Type 0 where
     pub needs : NeedsTwoRuns G X cache.cx goals depth goal noop
     pub no_overflow : HaveNoOverflowOf (Contains goals) same cache.results
     pub definite : AreDefinite (verdicts X) same cache.results
-    pub settled : AreSettled (verdicts X) same cache.nodes cache.results goals
+    pub settled : IsSettledStore G X same cache.cx goals cache.nodes cache.results
 
   module _ (cx : C) (noop : Bool) where
-    -- a move meets no limit, also if it fails, and keeps what answers rest on off the goals under evaluation
+    -- a move meets no limit, also if it fails, and keeps what answers rest on off the goals under evaluation; one that fails leaves the
+    -- stored results settled
     pub record StaysSettled (received : Received R) (old : Cache C I R A T) (before : Evaluation D C V P F I R A T) (from : ℕ) (result : Result (Next R) (Fault I R)) (new : Cache C I R A T) (after : Evaluation D C V P F I R A T) : Type 0 where
-      pub unmet : (call : Call I) → Awaits G X same cx call received old before from → CallNeedsTwoRuns G X cx call noop → Settles G X same call received old before → after.limits_met ≡ false
-      pub settles : (call : Call I) → Awaits G X same cx call received old before from → CallNeedsTwoRuns G X cx call noop → Settles G X same call received old before → IfOk result (λ next. SettlesNext G X same call next new after)
+      pub unmet : (call : Call I) → Awaits G X same cx call received old before from → CallNeedsTwoRuns G X cx call noop → Settles G X same cx call received old before → after.limits_met ≡ false
+      pub settles : (call : Call I) → Awaits G X same cx call received old before from → CallNeedsTwoRuns G X cx call noop → Settles G X same cx call received old before → IfOk result (λ next. SettlesNext G X same cx call next new after)
+      pub leaves : (call : Call I) → Awaits G X same cx call received old before from → CallNeedsTwoRuns G X cx call noop → Settles G X same cx call received old before → OnErr result (IsSettledStore G X same cx call.goals new.nodes new.results)
 
-    -- an evaluation meets none either, and leaves the stored results settled
+    -- an evaluation meets none either, and leaves the stored results settled, whether it has an answer or a fault
     pub record EndsSettled (goal : I) (old : Cache C I R A T) (before : Evaluation D C V P F I R A T) (from : ℕ) (result : Result (Answer R) (Fault I R)) (new : Cache C I R A T) (after : Evaluation D C V P F I R A T) : Type 0 where
-      pub unmet : (call : Call I) → Begins G X cx same call goal before.root_depth.0 from before.limits_met old.results → CallNeedsTwoRuns G X cx call noop → AreSettled (verdicts X) same old.nodes old.results call.goals → after.limits_met ≡ false
-      pub settles : (call : Call I) → Begins G X cx same call goal before.root_depth.0 from before.limits_met old.results → CallNeedsTwoRuns G X cx call noop → AreSettled (verdicts X) same old.nodes old.results call.goals
-          → IfOk result (λ answer. AreSettled (verdicts X) same new.nodes new.results call.goals)
+      pub unmet : (call : Call I) → Begins G X cx same call goal before.root_depth.0 from before.limits_met old.results → CallNeedsTwoRuns G X cx call noop → IsSettledStore G X same cx call.goals old.nodes old.results → after.limits_met ≡ false
+      pub settles : (call : Call I) → Begins G X cx same call goal before.root_depth.0 from before.limits_met old.results → CallNeedsTwoRuns G X cx call noop → IsSettledStore G X same cx call.goals old.nodes old.results
+          → IsSettledStore G X same cx call.goals new.nodes new.results

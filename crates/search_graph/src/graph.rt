@@ -1,9 +1,10 @@
 //! The search graph. A call has the goals under evaluation in one list and works through them in one loop,
 //! so that no depth of goals takes native stack.
 ghost use Rattle.std.specs.Prelude.{◌≡◌, ◌≤◌, ◌+◌, ℕ, Bool, true, false, None, IsTrue, IfOk, IfErr, IfSome, Ok, Err, [], ◌≢◌, max, List, Contains};
-ghost use Rattle.search_graph.specs.Below.{first_accepted, usable, IsPlainTo, IsPlainValue, frames_within, KeepsResults, Memory, Protocol, KeepsFinished, KeepsNodes, IsWhole, KeepsWhole, IsDecisive, IsDefinite, HasGraph, IsPaid, verdicts, Decides, IsRemembered, IsCaused, IsProved, IsRefuted, AreDefinite, HaveNoOverflow, HaveNoOverflowOf, HasCounted, IsEnclosed, StoresWithin};
+ghost use Rattle.search_graph.specs.Below.{first_accepted, usable, IsPlainTo, IsPlainValue, frames_within, KeepsResults, Memory, Protocol, KeepsFinished, KeepsNodes, IsWhole, KeepsWhole, IsDecisive, IsDefinite, HasGraph, IsPaid, verdicts, Decides, IsRemembered, IsCaused, IsMemoryOrOrder, IsProved, IsRefuted, AreDefinite, HaveNoOverflow, HaveNoOverflowOf, HasCounted, IsEnclosed, StoresWithin};
 ghost use Rattle.search_graph.specs.Settled.{TwoRunsAreEnough};
-ghost use Rattle.search_rules.specs.Settled.{AreSettled};
+ghost use Rattle.search_moves.specs.Settled.{IsSettledStore};
+ghost use Rattle.search_rules.specs.Settled.{HasOneOfEach};
 
 mod evaluate;
 mod list;
@@ -140,6 +141,14 @@ impl<D: Delegate> SearchGraph<D> {
             self.new.limits_met ≡ false →
             IfOk result (λ answer. Decides D.Cx.Cx cache.old.cx input answer.result) }
 
+        // And if there is one yes and one no, no two results differ that are stored in one place: the only fault is
+        // want of memory, or a request out of order.
+        ensures decisive_faults { IsDecisive (verdicts D.Cx.Cx) (D.script cache.old.cx) →
+            HasOneOfEach (verdicts D.Cx.Cx) →
+            AreDefinite (verdicts D.Cx.Cx) D.Cx.Input.eq cache.old.results →
+            self.new.limits_met ≡ false →
+            IfErr result IsMemoryOrOrder }
+
         // A goal that a stored result answers takes no memory and starts no frame, unless the builder records or the
         // delegate has the result validated.
         ensures stored { D.noop inspect.old ≡ true → D.scoped cache.old.cx input ≡ false →
@@ -197,10 +206,12 @@ impl<D: Delegate> SearchGraph<D> {
             IfOk result (IsRemembered D.Cx.Input.eq cache.new.results input self.old.root_depth) }
 
         // Where besides scripts ask inductively and coinductively alone and decide after decided answers, there is one
-        // yes and one no, the delegate lets no provisional entry be used and a goal be run twice, none of the goals is
-        // in a scope, the builder does not record, each stored result is yes or no, and the graphs of the stored ones
-        // are settled, two runs of each goal are enough: no limit is met, also where the call ends in a fault. So the
-        // answer decides its goal, and leaves the stored results settled. An empty cache is.
+        // yes and one no, the delegate lets no provisional entry be used or goals that reach each other ask by one kind
+        // of step, a goal may be run twice, none of the goals is in a scope, the builder does not record, each stored
+        // result is yes or no, and the graphs of the stored ones are settled, two runs of each goal are enough: no limit
+        // is met, also where the call ends in a fault. So the answer decides its goal, and the only fault is want of
+        // memory, or a request out of order. The stored results are left settled, whether there is an answer or a
+        // fault. An empty cache is settled.
         ensures two_runs { (goals : List D.Cx.Input) →
             TwoRunsAreEnough D.Delegate D.Cx.Cx D.Cx.Input.eq goals cache.old self.old.root_depth input
             (D.noop inspect.old) → self.old.limits_met ≡ false → self.new.limits_met ≡ false }
@@ -208,11 +219,15 @@ impl<D: Delegate> SearchGraph<D> {
             TwoRunsAreEnough D.Delegate D.Cx.Cx D.Cx.Input.eq goals cache.old self.old.root_depth input
             (D.noop inspect.old) → self.old.limits_met ≡ false →
             IfOk result (λ answer. Decides D.Cx.Cx cache.old.cx input answer.result) }
+        ensures two_runs_faults { (goals : List D.Cx.Input) →
+            TwoRunsAreEnough D.Delegate D.Cx.Cx D.Cx.Input.eq goals cache.old self.old.root_depth input
+            (D.noop inspect.old) → self.old.limits_met ≡ false →
+            IfErr result IsMemoryOrOrder }
         ensures two_runs_settle { (goals : List D.Cx.Input) →
             TwoRunsAreEnough D.Delegate D.Cx.Cx D.Cx.Input.eq goals cache.old self.old.root_depth input
             (D.noop inspect.old) → self.old.limits_met ≡ false →
-            IfOk result (λ answer. AreSettled (verdicts D.Cx.Cx) D.Cx.Input.eq cache.new.nodes
-            cache.new.results goals) }
+            IsSettledStore D.Delegate D.Cx.Cx D.Cx.Input.eq cache.old.cx goals cache.new.nodes
+            cache.new.results }
 
         // No goal requires more than its depth: each stored result requires no more than the root depth, or as much as
         // the one that stood in its place before.

@@ -1,13 +1,14 @@
 //! A law of what calls promise of stored results.
 ghost use Rattle.std.specs.Prelude.{◌≡◌, List, []};
-ghost use Rattle.search_graph.specs.Below.{CacheNode, Store, StoredResult, verdicts};
-ghost use Rattle.search_rules.specs.Settled.{AreSettled};
+ghost use Rattle.search_graph.specs.Below.{CacheNode, Store, StoredResult};
+ghost use Rattle.search_moves.specs.Settled.{IsSettledStore};
 
-use search_parts::context::Cx;
+use search_parts::context::Delegate;
 
 /// Where nothing is stored, as in a new cache, the stored results are settled, whatever the goals are.
-pub fn nothing_is_settled<X: Cx>()
-    ensures { (nodes : List (CacheNode X.Input X.Result)) (goals : List X.Input)
-        (results : Store X.Input (StoredResult X X.Input X.Result X.AmbiguityInfo X.DepNodeIndex)) →
-        results ≡ [] → AreSettled (verdicts X.Cx) X.Input.eq nodes results goals }
+pub fn nothing_is_settled<D: Delegate>()
+    ensures { (cx : D.Cx) (nodes : List (CacheNode D.Cx.Input D.Cx.Result)) (goals : List D.Cx.Input)
+        (results : Store D.Cx.Input
+        (StoredResult D.Cx D.Cx.Input D.Cx.Result D.Cx.AmbiguityInfo D.Cx.DepNodeIndex)) →
+        results ≡ [] → IsSettledStore D.Delegate D.Cx.Cx D.Cx.Input.eq cx goals nodes results }
 {}

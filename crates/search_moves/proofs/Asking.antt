@@ -78,6 +78,7 @@ module _ {D C V P F I R A T : Type 0} (G : DelegateOf D C V P F I R A T) (X : Cx
         stops = waits_stops (seen G X cx) (Stood G X cx) (G.script cx) (limits G X cx call) (IsCounted G X cx call) call.top (bound G X cx call) (Answer (G.stack_overflow cx goal)) _ starts true waiting.waits;
         keeps = waiting.keeps;
         plain = λ n p room. refl;
+        decided = λ decisive unmet. tt;
       }
 
   pub refused_stops :

@@ -1,10 +1,14 @@
 pub mod Asking
 pub mod Settling
 pub mod SettledEnds
+pub mod SettledFaults
 pub mod Said
 pub mod Remembering
 pub mod LimitsAtEnd
 pub mod Keeping
 pub mod Fating
 pub mod Storing
+pub mod Failing
 pub mod Given
+pub mod OneKind
+pub mod KeptEntries

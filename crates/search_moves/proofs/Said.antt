@@ -2,6 +2,7 @@
 use Rattle.std.proofs.Common.{◌≡◌, ℕ, ◌&&◌, ◌||◌, if◌then◌else◌, Bool, true, false, List, [], ◌∷◌, map, reverse, All, Option, Some, None, Result, Ok, refl, sym, subst}
 use Rattle.std.specs.List.{filter}
 use Rattle.std.proofs.lemmas.List.Elements.{All-append, All-cons, All-filter, All-nil}
+use Rattle.search_rules.specs.Below.{NodeId}
 use Rattle.search_moves.specs.Below.{StackDepth, CycleHead, PathKind, HeadUsages, highest, has_usages, other_usages, DelegateOf, CxOf, Done, StoredResult, ProvisionalCacheEntry, RebaseReason, EvaluationResult, StackEntry, IsDefinite, IsNeither, Lists, entries_at, but_highest, rebased, changed_for, with_unused, with_used, Store, Run, Verdicts, verdicts, Unstable, Call, CallMeetsNone, HasAsked, KeepsAnswers, KeepsStore, final_answer, entries_for, entry_of, rebased_for, RebasesEntries, RebasesNewest, MayPutNewest, IsReason, IsEndOfRun, Ambiguous, Initial, Limited, Repeated, Repeats, Stable, WithoutUsages}
 use Rattle.provisional_cache.specs.declared.RebaseReason.TheVariants as why
 use Rattle.provisional_cache.proofs.RebasedEntryLists.{All-filter_map}
@@ -147,11 +148,11 @@ module _ {D C V P F I R A T : Type 0} (G : DelegateOf D C V P F I R A T) (X : Cx
       (calm_of G X cx call ahead done starts met s below meets h) rebases
 
   -- a goal that had its most runs was popped, which meets a limit
-  pub limited_keeps_answers : (ahead : ℕ) (done r : R) (starts : ℕ) (met enabled : Bool) (reason : Option (RebaseReason C I R A T)) → ((x y : I) → same x y ≡ true → x ≡ y) → (before after : Store I (StoredResult C I R A T)) (goals : List (StackEntry C I R A T × Run C F I R A T)) (old new : Lists I (ProvisionalCacheEntry C I R A T)) → MayPutNewest same goals r before after → RebasesNewest same enabled (G.propagated cx) (G.fixpoint_overflow cx) reason r goals old new → HasAsked G X cx call ahead (Done done) goals starts met → KeepsAnswers G X cx same call met before old → KeepsAnswers G X cx same call true after new
-  limited_keeps_answers ahead done r starts met enabled reason by_value before after [] old new put rebases h keeps = absurd put
-  limited_keeps_answers ahead done r starts met enabled reason by_value before after (s ∷ below) old new put rebases h keeps = record {
+  pub limited_keeps_answers : (target : Option NodeId) (ahead : ℕ) (done r : R) (starts : ℕ) (met enabled : Bool) (reason : Option (RebaseReason C I R A T)) → ((x y : I) → same x y ≡ true → x ≡ y) → (before after : Store I (StoredResult C I R A T)) (goals : List (StackEntry C I R A T × Run C F I R A T)) (old new : Lists I (ProvisionalCacheEntry C I R A T)) → MayPutNewest same goals r before after → RebasesNewest same enabled (G.propagated cx) (G.fixpoint_overflow cx) reason r target goals old new → HasAsked G X cx call ahead (Done done) goals starts met → KeepsAnswers G X cx same call met before old → KeepsAnswers G X cx same call true after new
+  limited_keeps_answers target ahead done r starts met enabled reason by_value before after [] old new put rebases h keeps = absurd put
+  limited_keeps_answers target ahead done r starts met enabled reason by_value before after (s ∷ below) old new put rebases h keeps = record {
     store = limited_keeps G X cx call same by_value before after ahead done r (s ∷ below) starts met put h keeps.store;
-    met_none = λ meets. let was = met_none_before G X cx call met meets in entries_met_none ahead done r starts met enabled reason s below old new was h rebases (keeps.met_none was);
+    met_none = λ meets. let was = met_none_before G X cx call met meets in entries_met_none ahead done r starts met enabled reason s below old new was h rebases.0 (keeps.met_none was);
     definite = λ decisive unmet. absurd cc;
   }
 
@@ -170,10 +171,10 @@ module _ {D C V P F I R A T : Type 0} (G : DelegateOf D C V P F I R A T) (X : Cx
         definite rebases
 
     -- the newest goal was popped
-    pub done_keeps : ((x y : I) → same x y ≡ true → x ≡ y) → (before after : Store I (StoredResult C I R A T)) (goals : List (StackEntry C I R A T × Run C F I R A T)) (old new : Lists I (ProvisionalCacheEntry C I R A T)) → MayPutNewest same goals done before after → RebasesNewest same enabled (G.propagated cx) (G.fixpoint_overflow cx) reason done goals old new → HasAsked G X cx call ahead (Done done) goals starts met → KeepsAnswers G X cx same call met before old → KeepsAnswers G X cx same call met after new
-    done_keeps by_value before after [] old new put rebases h keeps = absurd put
-    done_keeps by_value before after (s ∷ below) old new put rebases h keeps = record {
+    pub done_keeps : (target : Option NodeId) → ((x y : I) → same x y ≡ true → x ≡ y) → (before after : Store I (StoredResult C I R A T)) (goals : List (StackEntry C I R A T × Run C F I R A T)) (old new : Lists I (ProvisionalCacheEntry C I R A T)) → MayPutNewest same goals done before after → RebasesNewest same enabled (G.propagated cx) (G.fixpoint_overflow cx) reason done target goals old new → HasAsked G X cx call ahead (Done done) goals starts met → KeepsAnswers G X cx same call met before old → KeepsAnswers G X cx same call met after new
+    done_keeps target by_value before after [] old new put rebases h keeps = absurd put
+    done_keeps target by_value before after (s ∷ below) old new put rebases h keeps = record {
       store = put_keeps G X cx call same by_value before after ahead done (s ∷ below) starts met put h keeps.store;
-      met_none = λ meets. entries_met_none ahead done done starts met enabled reason s below old new meets h rebases (keeps.met_none meets);
-      definite = λ decisive unmet. entries_definite s below old new (done_definite G X cx call ahead done (s ∷ below) starts met h decisive unmet) rebases (keeps.definite decisive unmet);
+      met_none = λ meets. entries_met_none ahead done done starts met enabled reason s below old new meets h rebases.0 (keeps.met_none meets);
+      definite = λ decisive unmet. entries_definite s below old new (done_definite G X cx call ahead done (s ∷ below) starts met h decisive unmet) rebases.0 (keeps.definite decisive unmet);
     }

@@ -30,5 +30,5 @@ module _ {D C V P F I R A T : Type 0} (G : DelegateOf D C V P F I R A T) (X : Cx
     pub nested : LeavesNested same before.goals after.goals
     pub stored : IsNewestStored same (X.token old.cx) before.goals outcome (node_given next) new.results
     pub puts : StoresNewest same before.goals outcome (node_given next) old.results new.results
-    pub rebased : RebasesNewest same G.ENABLE_PROVISIONAL_CACHE (G.propagated old.cx) (G.fixpoint_overflow old.cx) reason outcome before.goals before.provisional after.provisional
+    pub rebased : RebasesNewest same G.ENABLE_PROVISIONAL_CACHE (G.propagated old.cx) (G.fixpoint_overflow old.cx) reason outcome (node_given next) before.goals before.provisional after.provisional
     pub right : IsRightNext G X same old.cx before.goals next new after

@@ -1,17 +1,39 @@
 -- What holds of an evaluation where two runs of a goal are enough.
-use Rattle.std.specs.Prelude.{Bool}
-use Rattle.search_moves.specs.Below.{Cache, Call, CxOf, DelegateOf, Next, Received, verdicts}
+use Rattle.std.specs.Prelude.{◌≡◌, Bool, false, List, []}
+use Rattle.search_moves.specs.Below.{Cache, CacheNode, Call, CxOf, DelegateOf, entries_at, Lists, Next, ProvisionalCacheEntry, Received, Run, StackEntry, Store, StoredResult, verdicts}
 use Rattle.open_goals.specs.declared.goals.Next.TheVariants.{Finished, Step}
 use Rattle.search_moves.specs.declared.evaluation.Evaluation.{Evaluation}
+use Rattle.search_rules.specs.Apart.{StandApart}
+use Rattle.search_rules.specs.Kinds.{KeepsKinds, StoredReachNested, StoredSuit}
 use Rattle.search_rules.specs.Settled.{AnswerStaysOff, AreSettled, IsSettling}
 
-module _ {D C V P F I R A T : Type 0} (G : DelegateOf D C V P F I R A T) (X : CxOf C I R A T) (same : I → I → Bool) (call : Call I) where
-  -- no limit was met, and what answers rest on stays off the goals under evaluation, also of the answer that the newest goal gets
-  pub record Settles (received : Received R) (cache : Cache C I R A T) (e : Evaluation D C V P F I R A T) : Type 0 where
-    pub settling : IsSettling (verdicts X) same cache.nodes cache.results call e.goals e.limits_met
-    pub answer : AnswerStaysOff (verdicts X) same cache.nodes cache.results e.goals received.reply received.node
+module _ {D C V P F I R A T : Type 0} (G : DelegateOf D C V P F I R A T) (same : I → I → Bool) (cx : C) (call : Call I) where
+  -- the kinds of questions are kept, with provisional entries apart, and goals that are nested in stored successes are reached by their paths
+  pub record AreKept (results : Store I (StoredResult C I R A T)) (goals : List (StackEntry C I R A T × Run C F I R A T)) (entries : Lists I (ProvisionalCacheEntry C I R A T)) : Type 0 where
+    pub kinds : KeepsKinds (G.script cx) same G.ENABLE_PROVISIONAL_CACHE goals entries
+    pub apart : StandApart same results goals entries
+    pub reached : StoredReachNested (G.script cx) same call.goals results
 
-  -- the same of what comes next; and of the stored results, once the call has its answer
-  abbrev pub SettlesNext : Next R → Cache C I R A T → Evaluation D C V P F I R A T → Type 0
-  SettlesNext (Step given) cache e = Settles given cache e
-  SettlesNext (Finished answer) cache e = AreSettled (verdicts X) same cache.nodes cache.results call.goals
+  -- no provisional entry is used, and there are none, or this is kept
+  pub data KeepsEntries (results : Store I (StoredResult C I R A T)) (goals : List (StackEntry C I R A T × Run C F I R A T)) (entries : Lists I (ProvisionalCacheEntry C I R A T)) : Type 0 where
+    NoneUsed : G.ENABLE_PROVISIONAL_CACHE ≡ false → ((goal : I) → entries_at same entries goal ≡ []) → KeepsEntries results goals entries
+    OneKind : AreKept results goals entries → KeepsEntries results goals entries
+
+module _ {D C V P F I R A T : Type 0} (G : DelegateOf D C V P F I R A T) (X : CxOf C I R A T) (same : I → I → Bool) (cx : C) where
+  -- the stored results of these goals are settled, and suit the provisional entries
+  pub record IsSettledStore (goals : List I) (nodes : List (CacheNode I R)) (results : Store I (StoredResult C I R A T)) : Type 0 where
+    pub settled : AreSettled (verdicts X) same nodes results goals
+    pub suit : StoredSuit G.ENABLE_PROVISIONAL_CACHE (G.script cx) same goals results
+
+  module _ (call : Call I) where
+    -- no limit was met, and what answers rest on stays off the goals under evaluation, also of the answer that the newest goal gets; and
+    -- provisional entries suit this
+    pub record Settles (received : Received R) (cache : Cache C I R A T) (e : Evaluation D C V P F I R A T) : Type 0 where
+      pub settling : IsSettling (verdicts X) same cache.nodes cache.results e.provisional call e.goals e.limits_met
+      pub answer : AnswerStaysOff (verdicts X) same cache.nodes cache.results e.provisional e.goals received.reply received.node
+      pub entries : KeepsEntries G same cx call cache.results e.goals e.provisional
+
+    -- the same of what comes next; and of the stored results, once the call has its answer
+    abbrev pub SettlesNext : Next R → Cache C I R A T → Evaluation D C V P F I R A T → Type 0
+    SettlesNext (Step given) cache e = Settles given cache e
+    SettlesNext (Finished answer) cache e = IsSettledStore call.goals cache.nodes cache.results

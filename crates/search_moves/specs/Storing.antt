@@ -1,10 +1,10 @@
--- What is stored of a goal that is done.
+-- What is stored of a goal that is done, and what is known where that fails.
 use Rattle.std.specs.Prelude.{◌≡◌, ◌&&◌, ◌++◌, if◌then◌else◌, ℕ, Bool, [], ◌∷◌, map, reverse}
-use Rattle.search_moves.specs.Below.{DelegateOf, CxOf, Cache, EvaluationResult, HasGraph, IsPlainAt, KeepsResults, PathKind, entries_at, place_of, verdicts}
+use Rattle.search_moves.specs.Below.{DelegateOf, CxOf, Cache, EvaluationResult, Fault, HasGraph, IsPlainAt, KeepsResults, PathKind, entries_at, place_of, verdicts}
 use Rattle.search_moves.specs.declared.evaluation.Evaluation.{Evaluation}
 use Rattle.open_goals.specs.declared.goals.Fate.{Fate}
 use Rattle.open_goals.specs.declared.goals.Fate.TheVariants as becomes
-use Rattle.search_rules.specs.Claims.{ComesTo}
+use Rattle.search_rules.specs.Claims.{ComesTo, IfDiffers, IsCaused}
 use Rattle.search_rules.specs.Fates.{ChangesNewest}
 use Rattle.search_rules.specs.Provisional.{entries_for}
 use Rattle.search_rules.specs.Results.{IsStored, StoresAnswer}
@@ -26,6 +26,12 @@ module _ {D C V P F I R A T : Type 0} (G : DelegateOf D C V P F I R A T) (X : Cx
     pub graph : answer.heads ≡ [] → HasGraph (verdicts X) cache.nodes goal answer.result answer.node
     pub plain : IsPlainAt (G.script cache.cx) goal (place_of answer) answer.result
     pub comes : ComesTo (G.script cache.cx) (G.fixpoint_overflow cache.cx) goal answer.result
+
+  -- The fault has its cause. If another result is stored than the goal came to, it came to this one. And nothing was stored.
+  pub record Fails (same : I → I → Bool) (came_to : R) (old new : Cache C I R A T) (fault : Fault I R) : Type 0 where
+    pub caused : IsCaused G X same new fault
+    pub differs : IfDiffers fault (λ found. found ≡ came_to)
+    pub unstored : new.results ≡ old.results
 
   -- The answer, which was asked over the step, is stored as it is, with the goal's token, if it rests on no goal and that is its fate; one that rests on goals is a
   -- provisional entry of its goal, if the delegate lets such entries be used.

@@ -1,7 +1,7 @@
 //! A goal is popped, with its result.
 ghost use Rattle.std.specs.Prelude.{◌≡◌, ◌<◌, ◌+◌, ◌^◌, ℕ, length, IfOk, IfErr, OnOk};
-ghost use Rattle.search_moves.specs.Below.{Memory, IsCaused, ChangesNewest, fates_of, IsNewestPlainTo, MayPutNewest, GivesAnswer, GivesNested, LeavesAnswer};
-ghost use Rattle.search_moves.specs.Words.{MayPop, Pops, IsRightNext, KeepsCache};
+ghost use Rattle.search_moves.specs.Below.{Memory, ChangesNewest, fates_of, IsNewestPlainTo, MayPutNewest, GivesAnswer, GivesNested, LeavesAnswer};
+ghost use Rattle.search_moves.specs.Words.{Fails, MayPop, Pops, IsRightNext, KeepsCache};
 
 use crate::evaluation::Evaluation;
 use open_goals::goals::{Next, OpenGoals, Popped, Received, Run};
@@ -31,7 +31,8 @@ impl<D: Delegate> Evaluation<D> {
             cache.new.results }
         ensures rest { self.new
             ≡ record self.old { goals = self.new.goals; provisional = self.new.provisional } }
-        ensures caused { IfErr result (IsCaused D.Delegate D.Cx.Cx D.Cx.Input.eq cache.new) }
+        ensures fails { IfErr result (Fails D.Delegate D.Cx.Cx D.Cx.Input.eq outcome cache.old
+            cache.new) }
         ensures plain { (n : ℕ) → IsNewestPlainTo (D.script cache.old.cx) n self.old.goals →
             IfErr result (λ fault. fault ≡ Memory) }
         ensures keeps { KeepsCache D.Cx.Input.eq self.old.goals cache.old cache.new }

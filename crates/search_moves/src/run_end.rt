@@ -1,5 +1,5 @@
 //! The newest goal's run ends.
-ghost use Rattle.std.specs.Prelude.{IfOk, IfErr, Some};
+ghost use Rattle.std.specs.Prelude.{◌≡◌, IfOk, IfErr, OnErr, Some};
 ghost use Rattle.search_moves.specs.Below.{Done, IsCaused, KeepsBuilder};
 ghost use Rattle.search_moves.specs.Words.{ChangesCache, HasRequest, Moves, IsRightNext, RunLeads, MeetsLimitAtEnd};
 
@@ -33,6 +33,7 @@ impl<D: Delegate> Evaluation<D> {
             IsRightNext D.Delegate D.Cx.Cx D.Cx.Input.eq cache.old.cx self.old.goals next
             cache.new self.new) }
         ensures caused { IfErr result (IsCaused D.Delegate D.Cx.Cx D.Cx.Input.eq cache.new) }
+        ensures unstored { OnErr result (cache.new.results ≡ cache.old.results) }
         ensures cache { ChangesCache D.Cx.Input.eq self.old.goals cache.old cache.new }
         ensures builder { KeepsBuilder D.starts D.noop inspect.old inspect.new }
     {

@@ -1,8 +1,8 @@
 //! What is stored of a goal that is done.
 ghost use Rattle.std.specs.Prelude.{◌≡◌, ◌≢◌, ◌<◌, ℕ, [], length, IfErr, IfSome, OnOk, OnErr};
-ghost use Rattle.search_moves.specs.Below.{highest, IfCompared, IsExpected, IsPlainTo, IsPlainValue, place_of, Memory, Success, IsCaused, IsStored, StoresAnswer, entry_of};
+ghost use Rattle.search_moves.specs.Below.{highest, IfCompared, IsExpected, IsPlainTo, IsPlainValue, place_of, Memory, Success, IsStored, StoresAnswer, entry_of};
 ghost use Rattle.provisional_cache.specs.Provisional.{AppendsEntry};
-ghost use Rattle.search_moves.specs.Words.{ChangesResults, IsStorable, PutsAnswer, Stores};
+ghost use Rattle.search_moves.specs.Words.{ChangesResults, Fails, IsStorable, PutsAnswer, Stores};
 
 use crate::evaluation::Evaluation;
 use open_goals::goals::Fate;
@@ -34,7 +34,8 @@ impl<D: Delegate> Evaluation<D> {
         ensures stores { OnOk result (
             Stores D.Delegate D.Cx.Cx D.Cx.Input.eq step input answer fate self.old self.new cache.new) }
         ensures rest { self.new ≡ record self.old { provisional = self.new.provisional } }
-        ensures caused { IfErr result (IsCaused D.Delegate D.Cx.Cx D.Cx.Input.eq cache.new) }
+        ensures fails { IfErr result (Fails D.Delegate D.Cx.Cx D.Cx.Input.eq answer.result cache.old
+            cache.new) }
         ensures plain { (n : ℕ) → IsPlainTo (D.script cache.old.cx) n input →
             place_of answer ≡ Success → IfCompared fate (IsPlainValue (D.script cache.old.cx) n input) →
             IfErr result (λ fault. fault ≡ Memory) }
@@ -96,13 +97,15 @@ fn store_for_good<D: Delegate>(
     ensures is_stored { OnOk result (
         IsStored D.Cx.Input.eq (D.Cx.token cache.old.cx) cache.new.results input answer) }
     ensures cache { ChangesResults D.Cx.Input.eq cache.old cache.new }
-    ensures caused { IfErr result (IsCaused D.Delegate D.Cx.Cx D.Cx.Input.eq cache.new) }
+    ensures fails { IfErr result (Fails D.Delegate D.Cx.Cx D.Cx.Input.eq answer.result cache.old
+        cache.new) }
     ensures plain { (n : ℕ) → IsPlainTo (D.script cache.old.cx) n input →
         place_of answer ≡ Success →
         IfErr result (λ fault. fault ≡ Memory) }
 {
     let token = cache.cx().dep_node(input);
     cache.has_runs();
+    cache.has_sound_results();
     cache.insert(input, answer, token)
 }
 
@@ -118,10 +121,12 @@ fn compare<D: Delegate>(
     requires expected { IsExpected (D.scoped cache.now.cx) D.Cx.Input.eq cache.now.results input
         stored }
     ensures same { OnOk result (answer.now.result ≡ stored) }
-    ensures caused { IfErr result (IsCaused D.Delegate D.Cx.Cx D.Cx.Input.eq cache.now) }
+    ensures fails { IfErr result (Fails D.Delegate D.Cx.Cx D.Cx.Input.eq answer.now.result cache.now
+        cache.now) }
     ensures differs { OnErr result (answer.now.result ≢ stored) }
 {
     cache.has_runs();
+    cache.has_sound_results();
     let found = answer.result;
     if found == stored {
         return Ok(());

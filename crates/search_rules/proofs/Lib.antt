@@ -4,10 +4,12 @@ pub mod justified
 pub mod moves
 pub mod Shown
 pub mod Storing
+pub mod Differing
 pub mod Fates
 pub mod FinishedRuns
 pub mod DoneGoals
 pub mod answers
+pub mod kinds
 pub mod entries
 pub mod rebasing
 pub mod HeadOrder

@@ -1,9 +1,10 @@
 -- What storing the answer of a goal that is done changes, and why it may fail.
 use Rattle.std.proofs.Common.{◌≡◌, Bool, true, false, if◌then◌else◌, List, [], Option, None, Some, Result, Ok, Err, IfErr, OnOk, OnErr, option_map, refl, sym, ap, ◌∙◌, subst}
 use Rattle.std.specs.Cmp.{IsEquivalence}
-use Rattle.search_rules.specs.Below.{DelegateOf, CxOf, Fault, Conflict, Memory, NodeId, Place, StoredResult, EvaluationResult, Cache, AreRuns, HasGraph, Question, Validation, Overlap, Store, stored_at, place_of, stored_from, AnswersStoring, Puts, verdicts}
+use Rattle.search_rules.specs.Below.{DelegateOf, CxOf, Fault, Conflict, Memory, NodeId, Place, StoredResult, EvaluationResult, Cache, AreRuns, AreSoundResults, HasGraph, Question, Validation, Overlap, Store, stored_at, place_of, stored_from, AnswersStoring, Puts, verdicts}
+use Rattle.open_graphs.proofs.Lists.{mapped_some}
 use Rattle.search_context.proofs.Rules.{KeepsRule}
-use Rattle.search_rules.specs.Words.{ComesTo, Conflicts, IsCaused, IsExpected, OutOfMemory, OtherResult, OtherThanStored, StoresAnswer, Put, MayPut, Same, WithResult}
+use Rattle.search_rules.specs.Words.{ComesTo, Conflicts, IsCaused, IsExpected, IsShown, OutOfMemory, OtherResult, OtherThanStored, StoresAnswer, Put, MayPut, Same, WithResult}
 use Rattle.search_rules.specs.Results.{NotStored}
 use Rattle.search_rules.proofs.Shown.{yes_is_proved, no_is_refuted}
 
@@ -23,18 +24,28 @@ pub put_is_stored : {X I R A T U E : Type 0} (same : I → I → Bool) (old new 
 put_is_stored same old new goal place s (Ok u) puts = puts.here
 put_is_stored same old new goal place s (Err e) puts = tt
 
-module _ {D C V P F I R A T : Type 0} (G : DelegateOf D C V P F I R A T) (X : CxOf C I R A T) (same : I → I → Bool) (cache : Cache C I R A T) (runs_are : AreRuns (verdicts X) (G.script cache.cx) cache.nodes) (clash : (goal : I) (held failed : List (Question I)) → X.proves cache.cx goal held → X.refutes cache.cx goal failed → Overlap held failed) (proves : KeepsRule X.is_yes (G.script cache.cx) (X.proves cache.cx)) (refutes : KeepsRule X.is_no (G.script cache.cx) (X.refutes cache.cx)) (one : (r : R) → X.is_yes r ≡ true → X.is_no r ≡ false) (equal : R → R → Bool) (laws : IsEquivalence equal) where
+module _ {D C V P F I R A T : Type 0} (G : DelegateOf D C V P F I R A T) (X : CxOf C I R A T) (same : I → I → Bool) (cache : Cache C I R A T) (runs_are : AreRuns (verdicts X) (G.script cache.cx) cache.nodes) (clash : (goal : I) (held failed : List (Question I)) → X.proves cache.cx goal held → X.refutes cache.cx goal failed → Overlap held failed) (proves : KeepsRule X.is_yes (G.script cache.cx) (X.proves cache.cx)) (refutes : KeepsRule X.is_no (G.script cache.cx) (X.refutes cache.cx)) (one : (r : R) → X.is_yes r ≡ true → X.is_no r ≡ false) (sound : AreSoundResults same (verdicts X) (G.script cache.cx) cache.nodes cache.results) (equal : R → R → Bool) (laws : IsEquivalence equal) where
+  -- a result has its graph, if it is yes or no
+  shown : (goal : I) (r : R) (node : Option NodeId) → HasGraph (verdicts X) cache.nodes goal r node → IsShown X cache goal node r
+  shown goal r node has = record {
+    is_proved = λ holds. yes_is_proved G X cache runs_are clash goal r node has proves holds;
+    is_refuted = λ fails. no_is_refuted G X cache runs_are clash goal r node has refutes (one r) fails;
+  }
+
   -- another result of the goal is stored than it came to
   conflicts : (goal : I) (place : Place) (found : R) (node : Option NodeId) → HasGraph (verdicts X) cache.nodes goal found node → ComesTo (G.script cache.cx) (G.fixpoint_overflow cache.cx) goal found → (stored : R) → option_map (λ s. s.result.result) (stored_at same cache.results goal place) ≡ Some stored → (stored ≡ found → ⊥) → Conflicts G X same cache goal stored found
-  conflicts goal place found node has comes stored at differs = record {
-    place = place;
-    is_stored = at;
-    differs = differs;
-    comes = comes;
-    node = node;
-    is_proved = λ holds. yes_is_proved G X cache runs_are clash goal found node has proves holds;
-    is_refuted = λ fails. no_is_refuted G X cache runs_are clash goal found node has refutes (one found) fails;
-  }
+  conflicts goal place found node has comes stored at differs =
+      let there = mapped_some (λ (s : StoredResult C I R A T). s.result.result) (stored_at same cache.results goal place) stored at in
+      record {
+        place = place;
+        is_stored = at;
+        differs = differs;
+        comes = comes;
+        stored_node = there.0.node;
+        stored_is = subst (IsShown X cache goal there.0.node) there.2 (shown goal there.0.result.result there.0.node (sound goal place there.0 there.1).graph);
+        found_node = node;
+        found_is = shown goal found node has;
+      }
 
   -- comparing fails since another result is stored
   pub comparing_is_caused : (goal : I) (found stored : R) (node : Option NodeId) → HasGraph (verdicts X) cache.nodes goal found node → ComesTo (G.script cache.cx) (G.fixpoint_overflow cache.cx) goal found → IsExpected (G.scoped cache.cx) same cache.results goal stored → equal found stored ≡ false → IsCaused G X same cache (Validation goal stored found)

@@ -6,11 +6,15 @@ pub mod Cycles
 pub mod Free
 pub mod FreeMoves
 pub mod Leading
+pub mod StoppedWalks
+pub mod OlderEntries
 pub mod OffStack
+pub mod LeftEntries
 pub mod LoneGoals
-pub mod OneOfBoth
-pub mod NestedGoals
 pub mod SettledGoals
 pub mod SettledRuns
+pub mod SettledPops
 pub mod SettledResults
+pub mod OneOfBoth
 pub mod TwoRuns
+pub mod NestedGoals

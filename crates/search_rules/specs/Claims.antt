@@ -15,6 +15,11 @@ module _ {C I R A T : Type 0} (X : CxOf C I R A T) (cache : Cache C I R A T) (go
     pub graph : IsSomeAnd node (λ root. IsRefutationGraph (X.refutes cache.cx) (graph_nodes_of cache.nodes) root.0 goal)
     pub never_proved : (others : List (GraphNode I)) (top : ℕ) → IsProofGraph (X.proves cache.cx) others top goal → ⊥
 
+  -- the result has its graph, if it is yes or no
+  pub record IsShown (r : R) : Type 0 where
+    pub is_proved : X.is_yes r ≡ true → IsProved
+    pub is_refuted : X.is_no r ≡ true → IsRefuted
+
 -- the result is yes if the goal has a proof graph anywhere, and no if it has a refutation graph
 pub record Decides {C I R A T : Type 0} (X : CxOf C I R A T) (cx : C) (goal : I) (r : R) : Type 0 where
   pub proved : (nodes : List (GraphNode I)) (root : ℕ) → IsProofGraph (X.proves cx) nodes root goal → X.is_yes r ≡ true
@@ -31,16 +36,28 @@ ComesTo {I} {R} scripts limit_result goal r =
     ((replies : List (Reply R)) × IsFitting (scripts goal) replies × (request_after (scripts goal) replies ≡ Some (Done r)))
     ⊎ (r ≡ limit_result goal)
 
+-- where the fault is that another result is stored than a goal came to, this holds of the one that it came to
+abbrev pub IfDiffers : {I R : Type 0} → Fault I R → (R → Type 0) → Type 0
+IfDiffers (Conflict goal stored found) Holds = Holds found
+IfDiffers (Validation goal stored found) Holds = Holds found
+IfDiffers fault Holds = Unit {0}
+
+-- memory is out, or a request came out of order
+pub data IsMemoryOrOrder {I R : Type 0} (fault : Fault I R) : Type 0 where
+  WantsMemory : fault ≡ Memory → IsMemoryOrOrder fault
+  BreaksOrder : (number : ℕ) → fault ≡ Protocol number → IsMemoryOrOrder fault
+
 module _ {D C V P F I R A T : Type 0} (G : DelegateOf D C V P F I R A T) (X : CxOf C I R A T) (same : I → I → Bool) (cache : Cache C I R A T) where
-  -- The goal came to `found`, and the cache holds another result of it in the same place. If `found` is yes or no, that has its graph.
+  -- The goal came to `found`, and the cache holds another result of it in the same place. Each of the two has its graph, if it is yes or no.
   pub record Conflicts (goal : I) (stored found : R) : Type 0 where
     pub place : Place
     pub is_stored : option_map (λ s. s.result.result) (stored_at same cache.results goal place) ≡ Some stored
     pub differs : stored ≢ found
     pub comes : ComesTo (G.script cache.cx) (G.fixpoint_overflow cache.cx) goal found
-    pub node : Option NodeId
-    pub is_proved : X.is_yes found ≡ true → IsProved X cache goal node
-    pub is_refuted : X.is_no found ≡ true → IsRefuted X cache goal node
+    pub stored_node : Option NodeId
+    pub stored_is : IsShown X cache goal stored_node stored
+    pub found_node : Option NodeId
+    pub found_is : IsShown X cache goal found_node found
 
   -- memory is out, some goal's script makes a request out of order after replies that fit, two results conflict, or a goal in a scope
   -- came to another result than is stored

@@ -4,6 +4,7 @@ use Rattle.search_rules.specs.Below.{DelegateOf, CxOf, Request, Reply, Fault, St
 use Rattle.search_rules.specs.Results.{AreDefinite, HaveNoOverflowOf, RequireWithin}
 use Rattle.evaluations.specs.Frames.{Frame}
 use Rattle.search_rules.specs.Calls.{Call, CallMeetsNone, HadNoOverflow, Outset, runs, limits, bound, IsCounted, KeepsLimits}
+use Rattle.search_rules.specs.Claims.{IfDiffers}
 use Rattle.search_rules.specs.Decided.{AllDecided, WhereDecisive}
 use Rattle.search_rules.specs.Provisional.{EntriesDefinite, EntriesMetNone}
 
@@ -73,11 +74,13 @@ module _ {D C V P F I R A T : Type 0} (G : DelegateOf D C V P F I R A T) (X : Cx
     pub keeps : KeepsLimits G X cx call met
     pub decided : Decidedly call met (IsDefinite (verdicts X) r)
 
-  -- the call stopped with a fault, which is want of memory where the goal's rank fits its depth
+  -- The call stopped with a fault, which is want of memory where the goal's rank fits its depth. If another result is stored than a goal
+  -- came to, the one that it came to is yes or no, where the delegate is decisive.
   pub record HasStopped (call : Call I) (fault : Fault I R) (starts : ℕ) (met : Bool) : Type 0 where
     pub stops : Stops (G.script cx) (limits G X cx call) (IsCounted G X cx call) call.top (bound G X cx call) starts met
     pub keeps : KeepsLimits G X cx call met
     pub plain : (n : ℕ) → IsPlainTo (G.script cx) n call.top → n ≤ call.root → fault ≡ Memory
+    pub decided : Decidedly call met (IfDiffers fault (IsDefinite (verdicts X)))
 
   -- the item is the only one, and of this goal
   abbrev pub IsOnly : List (Item G X cx) → I → Type 0

@@ -3,6 +3,9 @@ pub mod Fates
 pub mod Claims
 pub mod LookUp
 pub mod Lone
+pub mod Apart
+pub mod OneKind
+pub mod Kinds
 pub mod Decided
 pub mod Calls
 pub mod Moves
@@ -14,6 +17,8 @@ pub mod EndOfRun
 pub mod EntryShapes
 pub mod Provisional
 pub mod Evaluating
+pub mod Leads
+pub mod Older
 pub mod Settled
 pub mod Below
 pub mod Words

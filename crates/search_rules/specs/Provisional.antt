@@ -80,10 +80,10 @@ module _ {X I R A T : Type 0} where
           ≡ rebased_for (propagated goal) (overflow goal) reason (reverse (map (λ s. s.0) below)) s.0 (entries_at same old goal)
           ++ (if enabled && same s.0.input goal then entries_for (reverse (map (λ s. s.0) below)) s.0.step_kind_from_parent (final_answer s r node) else [])
 
-    -- the same of the newest one of the goals
-    abbrev pub RebasesNewest : (I → I → Bool) → Bool → (I → A → R) → (I → R) → Option (RebaseReason X I R A T) → R → List (StackEntry X I R A T × Run X F I R A T) → (old new : Lists I (ProvisionalCacheEntry X I R A T)) → Type 0
-    RebasesNewest same enabled propagated overflow reason r [] old new = ⊥
-    RebasesNewest same enabled propagated overflow reason r (s ∷ below) old new = RebasesEntries same enabled propagated overflow reason r s below old new
+    -- the same of the newest one of the goals, whose answer has this node
+    abbrev pub RebasesNewest : (I → I → Bool) → Bool → (I → A → R) → (I → R) → Option (RebaseReason X I R A T) → R → Option NodeId → List (StackEntry X I R A T × Run X F I R A T) → (old new : Lists I (ProvisionalCacheEntry X I R A T)) → Type 0
+    RebasesNewest same enabled propagated overflow reason r target [] old new = ⊥
+    RebasesNewest same enabled propagated overflow reason r target (s ∷ below) old new = (rebases : RebasesEntries same enabled propagated overflow reason r s below old new) × (rebases.node ≡ target)
 
     -- The reason is true of the newest goal, which came to this result. Without one, the goal was not used as a head.
     abbrev pub HasReason : (says : Verdicts R) → Option (RebaseReason X I R A T) → List (StackEntry X I R A T × Run X F I R A T) → R → Type 0

@@ -4,7 +4,8 @@ pub use Rattle.search_rules.specs.Decided.{AllDecided, IsDecided}
 pub use Rattle.search_rules.specs.Evaluating.{Begins, CallGoesOn, Decidedly, HasAsked, HasEnded, HasStopped, IsOnly}
 pub use Rattle.search_rules.specs.Evaluating.{IsWaiting, KeepsAnswers, KeepsStore, Leads, seen, work_left}
 pub use Rattle.search_rules.specs.Free.{AreFree, IsFree}
-pub use Rattle.search_rules.specs.Claims.{ComesTo, Conflicts, Decides, IsCaused, IsProved, IsRefuted, IsRemembered}
+pub use Rattle.search_rules.specs.Claims.{BreaksOrder, ComesTo, Conflicts, Decides, IfDiffers, IsCaused, IsMemoryOrOrder}
+pub use Rattle.search_rules.specs.Claims.{IsProved, IsRefuted, IsRemembered, IsShown, WantsMemory}
 pub use Rattle.search_rules.specs.Claims.{OtherResult, OtherThanStored, OutOfMemory, OutOfOrder}
 pub use Rattle.search_rules.specs.Justified.{AreCharged, AreEdges, AreJustified, AreOpen, AreSupported, asked_now}
 pub use Rattle.search_rules.specs.Justified.{cycles_node, frame_of, frames_of, HasTally, HaveTallies, IsFit, MayAnswer}

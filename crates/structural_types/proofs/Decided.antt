@@ -1,5 +1,5 @@
 -- A proof graph of a pair gives a simulation, and a refutation graph leaves none.
-use Rattle.std.proofs.Common.{◌≡◌, true, ℕ, ◌-◌, ◌⊎◌, inl, inr, List, map, slice_get, Contains, Option, None, Some, refl, sym, ap, ap₂, ◌∙◌, subst}
+use Rattle.std.proofs.Common.{◌≡◌, true, ℕ, ◌⊎◌, inl, inr, List, map, slice_get, Contains, Option, None, Some, refl, sym, ap, ap₂, ◌∙◌, subst}
 use Rattle.std.specs.Option.{IsSomeAnd}
 use Rattle.search_context.proofs.Graphs.{Contains-map, Contains-mapped, goal_node, HasEdge-from}
 use Rattle.structural_types.specs.Below.{Coinductive, Edge, GraphNode, HasEdge, HasGoal, IsProofGraph, IsRefutationGraph, question_of, Question, Needs, All, Any, Proves, Refutes}
@@ -7,7 +7,7 @@ use Rattle.search_context.specs.declared.context.NodeId.{NodeId}
 use Rattle.search_context.specs.Decisive.{IsDecidedKind, IsDecisive}
 use Rattle.search_context.specs.Verdicts.{IsDefinite}
 use Rattle.delegate_parts.specs.declared.outcome.Outcome.TheVariants.{Maybe, No, Overflow, Yes}
-use Rattle.structural_types.specs.Below.{Outcome, is_no, is_yes, outcome_verdicts}
+use Rattle.structural_types.specs.Below.{HasOneOfEach, Outcome, is_no, is_yes, outcome_verdicts}
 use Rattle.question_lists.proofs.Ranked.{decisive, scripts}
 use Rattle.structural_types.specs.Subtypes.{Form, IsBelow, IsSimulation, IsSupported}
 use Rattle.structural_types.specs.Rule.{asks, needs_of, pair, pairs_of, questions_of}
@@ -110,3 +110,16 @@ yes_or_no Yes h = inl refl
 yes_or_no No h = inr refl
 yes_or_no Maybe h = absurd (h refl)
 yes_or_no Overflow h = absurd (h refl)
+
+-- results that are both yes, or both no, are equal
+pub one_of_each : HasOneOfEach outcome_verdicts
+one_of_each Yes Yes h e = refl
+one_of_each No No h e = refl
+one_of_each Yes No h e = absurd cc
+one_of_each Yes Maybe h e = absurd cc
+one_of_each Yes Overflow h e = absurd cc
+one_of_each No Yes h e = absurd cc
+one_of_each No Maybe h e = absurd cc
+one_of_each No Overflow h e = absurd cc
+one_of_each Maybe y h e = absurd (h refl)
+one_of_each Overflow y h e = absurd (h refl)

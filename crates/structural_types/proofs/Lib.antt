@@ -4,3 +4,6 @@ pub mod Decided
 pub mod Bound
 pub mod Reflexive
 pub mod Transitive
+pub mod Alike
+pub mod Enclosed
+pub mod Enough

@@ -37,7 +37,7 @@ form_at (f ∷ fs) zero l = (f, refl)
 form_at (f ∷ fs) (suc n) l = form_at fs n (omega arith)
 
 -- the type that is found is one of those of the fields
-part_in : (fields : List Field) (name y : ℕ) → part_of fields name ≡ Some y → Contains (map (λ field. field.part) fields) y
+pub part_in : (fields : List Field) (name y : ℕ) → part_of fields name ≡ Some y → Contains (map (λ field. field.part) fields) y
 part_in [] name y e = absurd cc
 part_in (f ∷ fs) name y e = elim (cases_Bool (f.name == name)) [
   | inl is ↦

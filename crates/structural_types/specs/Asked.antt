@@ -1,5 +1,7 @@
 -- What a subtyping is to those that use it.
-use Rattle.std.specs.Prelude.{Bool, List}
+use Rattle.std.specs.Prelude.{List}
+use Rattle.structural_types.specs.Below.{Conflict, Fault, Outcome}
+use Rattle.structural_types.specs.declared.delegate.Pair.{Pair}
 use Rattle.structural_types.specs.declared.types.Types.{Types}
 use Rattle.structural_types.specs.declared.delegate.LendsTypes.{Ghosts as LendsTypesOf}
 use Rattle.structural_types.specs.declared.subtyping.Subtyping.{Subtyping}
@@ -9,6 +11,7 @@ use Rattle.structural_types.specs.Subtypes.{Form, forms_of}
 abbrev pub declared_in : {T : Type 0} {G : LendsTypesOf T} → (T → Types) → Subtyping T G → List Form
 declared_in types_of subtyping = forms_of (types_of subtyping.cache.cx.0.0.lender)
 
--- a question was cut off since it was made
-abbrev pub had_limits : {T : Type 0} {G : LendsTypesOf T} → Subtyping T G → Bool
-had_limits subtyping = subtyping.limits_met
+-- a pair came to another answer than the one that is stored of it
+abbrev pub IsConflict : Fault Pair Outcome → Type 0
+IsConflict (Conflict asked stored found) = Unit {0}
+IsConflict fault = ⊥

@@ -1,13 +1,7 @@
 -- When the types that are declared are in order: each part is one of them, and unions end.
-use Rattle.std.specs.Prelude.{◌≡◌, ◌<◌, ℕ, List, [], ◌∷◌, map, length, slice_get, Contains, Some}
-use Rattle.structural_types.specs.Subtypes.{Form, Function, IsUnion, Record, Union}
-
--- the parts of a type
-abbrev pub parts_of : Form → List ℕ
-parts_of (Function a b) = a ∷ b ∷ []
-parts_of (Record fields) = map (λ field. field.part) fields.items
-parts_of (Union alternatives) = alternatives.items
-parts_of _ = []
+use Rattle.std.specs.Prelude.{◌≡◌, ◌<◌, ℕ, List, length, slice_get, Contains, Some}
+pub use Rattle.structural_types.specs.Parts.{parts_of}
+use Rattle.structural_types.specs.Subtypes.{Form, IsUnion}
 
 -- each part of each type is declared
 abbrev pub AreDeclared : List Form → Type 0

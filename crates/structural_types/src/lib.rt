@@ -2,7 +2,8 @@
 //!
 //! Types are base words, a top, a bottom, functions, records and unions, and they are structural: a type is what its
 //! equation says, its name does not matter. They may be recursive, as `stream = { head: Int tail: stream }`. A question
-//! that leads back to itself counts as answered yes, as is right for types without end.
+//! that leads back to itself counts as answered yes, as is right for types without end. Each question is answered, yes or
+//! no, unless it meets a fault, as where memory is out.
 //!
 //! The rule is two dozen lines, in `delegate`; the search does the rest.
 //!
@@ -11,6 +12,8 @@
 //! | `Subtypes` | when a type is below another; it names no search |
 //! | `Order` | when types are in an order |
 //! | `Rule` | the rule of a pair as a list of questions |
+//! | `Parts`, `Pairs` | the parts of types, and the pairs that may be asked |
+//! | `Ready` | what is kept true of the stored answers, so that the next question is decided, too |
 #![tactic(auto)]
 
 mod ask;

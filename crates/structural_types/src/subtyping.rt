@@ -1,6 +1,6 @@
 //! What is kept from one question about types to the next.
-ghost use Rattle.std.specs.Prelude.{◌≡◌, false};
-ghost use Rattle.structural_types.specs.Below.{AreDefinite, outcome_verdicts};
+ghost use Rattle.structural_types.specs.Ready.{IsReady};
+ghost use Rattle.structural_types.specs.Subtypes.{forms_of};
 
 use crate::delegate::{LendsTypes, Pair, TypesDelegate};
 use search_parts::global_cache::GlobalCache;
@@ -10,8 +10,7 @@ use std::alloc::Global;
 #[derive(Drop)]
 pub struct Subtyping<T: LendsTypes> {
     pub(crate) cache: GlobalCache<TypesDelegate<T>>,
-    pub(crate) limits_met: bool,
     pub(crate) alloc: Global,
-    // Until a limit is met, each stored answer is yes or no.
-    ghost decided: { limits_met ≡ false → AreDefinite outcome_verdicts ⟦<Pair as PartialEq>⟧.eq cache.results },
+    // What is stored never keeps a question from being decided.
+    ghost ready: { ∥ IsReady ⟦<Pair as PartialEq>⟧.eq (forms_of (T.types_of cache.cx.0.0.lender)) cache ∥₁ },
 }

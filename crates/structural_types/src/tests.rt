@@ -4,7 +4,6 @@ use crate::delegate::LendsTypes;
 use crate::fields::Field;
 use crate::subtyping::Subtyping;
 use crate::types::{Form, Types};
-use search_parts::context::Verdict;
 use std::alloc::Global;
 use std::process::Abort;
 use std::test::Fail;
@@ -28,17 +27,13 @@ fn record(alloc: Global, fields: &[(u32, usize)]) -> Result<Form, Fail> {
     Ok(Form::Record(own))
 }
 
-/// What the two come to, at a depth that suffices.
+/// What the two come to.
 fn below<T: LendsTypes>(
     subtyping: &mut Subtyping<T>,
     left: usize,
     right: usize,
 ) -> Result<bool, Fail> {
-    match subtyping.is_below(left, right, 1000)? {
-        Verdict::Yes => Ok(true),
-        Verdict::No => Ok(false),
-        Verdict::Neither => Err("neither".into()),
-    }
+    Ok(subtyping.is_below(left, right)?)
 }
 
 const INT: usize = 0;
@@ -83,9 +78,11 @@ fn base_types_are_below_themselves_when_asked<T: LendsTypes>(
     assert!(rt; !below(&mut subtyping, INT, BOTTOM)?);
     assert!(rt; below(&mut subtyping, BOTTOM, TOP)?);
     assert!(rt; !below(&mut subtyping, TOP, BOTTOM)?);
+    // numbers that are not declared
+    assert!(rt; !below(&mut subtyping, 5, 5)?);
     assert!(rt; !below(&mut subtyping, 9, 9)?);
     assert!(rt; below(&mut subtyping, BOTTOM, 9)?);
-    assert!(rt; !subtyping.limits_met());
+    assert!(rt; below(&mut subtyping, usize::MAX, TOP)?);
     Ok(())
 }
 
@@ -244,25 +241,33 @@ fn unions_are_taken_apart_on_both_sides_when_asked<T: LendsTypes>(
 }
 
 #[test]
-fn a_depth_that_is_too_small_is_told(rt: HostRuntime) -> Result<(), Fail> {
+fn rings_are_compared_all_the_way_round(rt: HostRuntime) -> Result<(), Fail> {
     let alloc = rt.alloc();
     let mut types = first_types(alloc)?;
-    types.declare(record(alloc, &[(1, 5)])?)?;
-    types.declare(record(alloc, &[(1, 6)])?)?;
-    types.declare(record(alloc, &[(1, 4)])?)?;
-    types.declare(record(alloc, &[(1, 7)])?)?;
-    a_depth_that_is_too_small_is_told_when_asked::<&Types>(&rt, &types)
+    // three records and four, each with the next one of its ring as its field
+    for next in [5, 6, 4, 8, 9, 10, 7] {
+        types.declare(record(alloc, &[(1, next)])?)?;
+    }
+    // and four of which the last one has another field
+    for next in [12, 13, 14] {
+        types.declare(record(alloc, &[(1, next)])?)?;
+    }
+    types.declare(record(alloc, &[(2, 11)])?)?;
+    assert_eq!(rt; types.count(), 15);
+    rings_are_compared_all_the_way_round_when_asked::<&Types>(&rt, &types)
 }
 
-fn a_depth_that_is_too_small_is_told_when_asked<T: LendsTypes>(
+fn rings_are_compared_all_the_way_round_when_asked<T: LendsTypes>(
     rt: &(impl Abort + AllocGlobal),
     types: T,
 ) -> Result<(), Fail> {
-    let long = 4;
-    let short = 7;
+    let three = 4;
+    let four = 7;
+    let other = 11;
     let mut subtyping = Subtyping::<T>::new(rt.alloc(), types);
-    assert_eq!(rt; subtyping.is_below(long, short, 1)?, Verdict::Neither);
-    assert!(rt; subtyping.limits_met());
-    assert_eq!(rt; subtyping.is_below(long, short, 3)?, Verdict::Yes);
+    assert!(rt; below(&mut subtyping, three, four)?);
+    assert!(rt; below(&mut subtyping, four, three)?);
+    assert!(rt; !below(&mut subtyping, three, other)?);
+    assert!(rt; !below(&mut subtyping, other, four)?);
     Ok(())
 }

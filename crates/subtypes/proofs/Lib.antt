@@ -1,3 +1,2 @@
-pub mod Right
 pub mod Telling
 pub mod OfText

@@ -1,5 +1,5 @@
 -- Questions that were told, and their lines.
-use Rattle.std.proofs.Common.{◌≡◌, ◌∙◌, ℕ, ◌+◌, ◌<◌, ◌≤◌, Bool, ◌&&◌, length, take, get_or, List, [], ◌∷◌, ◌++◌, Option, Result, ap, arith, sym, refl, subst, true, map}
+use Rattle.std.proofs.Common.{◌≡◌, ◌∙◌, ℕ, ◌+◌, ◌<◌, ◌≤◌, Bool, ◌&&◌, length, take, get_or, List, [], ◌∷◌, ◌++◌, Option, Result, ap, arith, sym, refl, subst, true}
 use Rattle.std.proofs.Math.Bool.{and-true}
 use Rattle.std.proofs.KnownBytes.{Appends-nil}
 use Rattle.std.proofs.lemmas.List.{flat_map_more, map-append, take_all, take_more}

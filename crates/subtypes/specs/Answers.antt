@@ -1,24 +1,24 @@
 -- What the answers of a text's questions are.
-use Rattle.std.specs.Prelude.{◌≡◌, ◌≢◌, ℕ, All, Bool, List, [], map, take, Option, Result, IfOk, is_ok}
+use Rattle.std.specs.Prelude.{◌≡◌, ◌↔◌, ℕ, true, All, Bool, List, [], map, take, Option, Result, IfOk, is_ok}
 use Rattle.std.specs.Io.KnownBytes.{Appends}
 use Rattle.std.specs.List.{flat_map, list_all}
 use Rattle.std.specs.Option.{unwrap_or}
 use Rattle.delegate_parts.specs.declared.outcome.Outcome.{Outcome}
 use Rattle.line_texts.specs.Writing.{AppendsBeginning}
 use Rattle.search_context.specs.declared.context.Fault.{Fault}
-use Rattle.search_context.specs.declared.context.Verdict.TheVariants.{No}
 use Rattle.std.specs.Prelude.{slice_get}
 use Rattle.structural_types.specs.declared.delegate.Pair.{Pair}
+use Rattle.structural_types.specs.Subtypes.{IsBelow}
 use Rattle.structural_types.specs.declared.types.Form.{Form}
-use Rattle.subtypes.specs.Told.{IsRight, line_told}
+use Rattle.subtypes.specs.Told.{line_told}
 use Rattle.subtypes.specs.declared.program.questions.Told.{Told}
 use Rattle.type_texts.specs.declared.table.TypeTable.{TypeTable}
 use Rattle.type_texts.specs.Table.{forms_in, names_of, questions_of}
 
--- the verdict on the pair is right, and only a no has a reason
+-- the answer is yes exactly if the pair's left type is below its right one, and only a no has a reason
 pub record IsTold (forms : List Form) (pair : Pair) (told : Told) : Type 0 where
-  pub is_right : IsRight forms pair told.verdict
-  pub no_reason : told.verdict ≢ No → told.reason.items ≡ []
+  pub is_exact : (told.is_below ≡ true) ↔ IsBelow forms pair.left pair.right
+  pub no_reason : told.is_below ≡ true → told.reason.items ≡ []
 
 -- a question, by its pair, and what it came to
 pub record Answered : Type 0 where

@@ -78,8 +78,8 @@ impl From<InputFault> for Stop {
 }
 
 /// Reads types and questions and answers each question in order, on a line of its own: `NAME < NAME yes`, or `no` with
-/// the way to the reason, as `List < Stream no at tail.head: Text is not below Int`, or `undecided` where a limit was met.
-/// A fault is told as `NAME < NAME fault memory`, with `conflict`, `validation` or `protocol`.
+/// the way to the reason, as `List < Stream no at tail.head: Text is not below Int`. A fault is told as
+/// `NAME < NAME fault memory`, with `conflict`, `validation` or `protocol`.
 ///
 /// The answer is the exit status: 0 where all questions were answered, and 1 where one met a fault. 2 where a line is
 /// malformed or its names are not in order, as `TypeTable::read` says: then no question is asked. 3 where reading or

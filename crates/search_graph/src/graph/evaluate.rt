@@ -1,8 +1,8 @@
 //! The evaluation of a goal: one loop over the goals under evaluation.
 ghost use Rattle.std.specs.Prelude.{◌≡◌, ℕ, true, false, IfOk, IfErr, IfSome, OnOk, Ok};
 ghost use Rattle.open_goals.specs.declared.goals.Fate.TheVariants.{Stored};
-ghost use Rattle.search_graph.specs.Below.{ChangesCache, fates_of, IsFated, MovesFates, first_accepted, usable, HasGraph, verdicts, IsCaused, IsNew, KeepsBuilder, KeepsCache, HasReply, IsRightNext, StayFrom};
-ghost use Rattle.search_graph.specs.Calls.{Advances, Evaluates, Spares};
+ghost use Rattle.search_graph.specs.Below.{ChangesCache, IsFated, first_accepted, usable, IsCaused, IsNew, KeepsBuilder, KeepsCache, HasReply, IsRightNext};
+ghost use Rattle.search_graph.specs.Calls.{Advances, Evaluates, IsGrounded, MovesGoals, Spares};
 ghost use Rattle.search_graph.specs.Settled.{EndsSettled, StaysSettled};
 ghost use Rattle.search_rules.specs.Lone.{IsLone};
 
@@ -37,9 +37,7 @@ pub(crate) fn evaluate<D: Delegate>(
         × (D.starts inspect.new ≡ D.starts inspect.old)
         × (evaluation.new.limits_met ≡ evaluation.old.limits_met) × (cache.new ≡ cache.old)) }
     ensures recorded { D.noop inspect.old ≡ false → cache.new.results ≡ cache.old.results }
-    ensures caused { IfErr result (IsCaused D.Delegate D.Cx.Cx D.Cx.Input.eq cache.new) }
-    ensures has_graph { IfOk result (λ answer.
-        HasGraph (verdicts D.Cx.Cx) cache.new.nodes input answer.result answer.node) }
+    ensures grounded { IsGrounded D.Delegate D.Cx.Cx D.Cx.Input.eq input cache.new result }
     ensures keeps { KeepsCache D.Cx.Input.eq evaluation.old.goals cache.old cache.new }
     ensures builder { KeepsBuilder D.starts D.noop inspect.old inspect.new }
 {
@@ -89,9 +87,7 @@ pub(crate) fn work_out<D: Delegate>(
         cache.new evaluation.new }
     ensures spares { Spares D.Cx.Input.eq (D.noop inspect.old) fate input cache.old.results
         cache.new.results }
-    ensures caused { IfErr result (IsCaused D.Delegate D.Cx.Cx D.Cx.Input.eq cache.new) }
-    ensures has_graph { IfOk result (λ answer.
-        HasGraph (verdicts D.Cx.Cx) cache.new.nodes input answer.result answer.node) }
+    ensures grounded { IsGrounded D.Delegate D.Cx.Cx D.Cx.Input.eq input cache.new result }
     ensures keeps { KeepsCache D.Cx.Input.eq evaluation.old.goals cache.old cache.new }
     ensures builder { KeepsBuilder D.starts D.noop inspect.old inspect.new }
 {
@@ -125,12 +121,10 @@ fn advance<D: Delegate>(
     ensures right { IfOk result (λ next.
         IsRightNext D.Delegate D.Cx.Cx D.Cx.Input.eq cache.old.cx evaluation.old.goals next
         cache.new evaluation.new) }
-    ensures stays { OnOk result (StayFrom cache.old.nodes evaluation.old.goals
-        evaluation.new.goals) }
-    ensures fates { OnOk result (MovesFates D.Cx.Input.eq
+    ensures goals { OnOk result (MovesGoals D.Cx.Input.eq
         (IsFated (D.scoped cache.old.cx) (D.script cache.old.cx) D.Cx.Input.eq cache.old.results
         (D.noop inspect.old))
-        (fates_of evaluation.old.goals) (fates_of evaluation.new.goals)) }
+        cache.old.nodes evaluation.old.goals evaluation.new.goals) }
     ensures caused { IfErr result (IsCaused D.Delegate D.Cx.Cx D.Cx.Input.eq cache.new) }
     ensures cache { ChangesCache D.Cx.Input.eq evaluation.old.goals cache.old cache.new }
     ensures builder { KeepsBuilder D.starts D.noop inspect.old inspect.new }

@@ -1,5 +1,5 @@
 -- What the newest goal notes keeps all answers and heads: those that may be used over the goals may be used over them then.
-use Rattle.std.proofs.Common.{◌≡◌, ℕ, ◌==◌, Bool, true, false, if◌then◌else◌, List, [], ◌∷◌, ◌++◌, length, Option, None, Some, IsSome, inr, inl, refl, sym, subst, ap, slice_set}
+use Rattle.std.proofs.Common.{◌≡◌, ◌≢◌, ℕ, ◌==◌, Bool, true, false, if◌then◌else◌, List, [], ◌∷◌, ◌++◌, length, Option, None, Some, IsSome, inr, inl, refl, sym, subst, ap, ne_eqb, slice_set}
 use Rattle.std.specs.Option.{option_map}
 use Rattle.std.proofs.lemmas.Bool.{false≢true}
 use Rattle.search_rules.specs.Below.{StackDepth, CycleHead, PathKind, HeadUsages, UsagesByHead, Heads, at_depth, DelegateOf, CxOf, Final, ProvisionalEntry, KeepsGoals, NodeId, Request, Evaluate, EnterCandidate, FinishCandidate, Ignore, Done, EntryState, StackEntry, CacheNode, open_node, Received, Run, enters, finishes, less_head, less_usages, Ignores, NotesCandidate, joined_over, usages_over, AnswersNewest, requested, HasStepped, received_by, Verdicts, verdicts}
@@ -20,9 +20,9 @@ some_of_usages None some = absurd (false≢true some)
 some_of_usages (Some k) some = refl
 
 -- a tally that counts its own goal and its heads as before counts the same goals, and perhaps more
-record CountsAll (t later : Tally) : Type 0 where
-  own : IsSome t.own → IsSome later.own
-  heads : (head : StackDepth) → IsSome (at_depth t.heads head) → IsSome (at_depth later.heads head)
+pub record CountsAll (t later : Tally) : Type 0 where
+  pub own : IsSome t.own → IsSome later.own
+  pub heads : (head : StackDepth) → IsSome (at_depth t.heads head) → IsSome (at_depth later.heads head)
 
 counts_all : (t later : Tally) → CountsAll t later → (place : ℕ) (head : StackDepth) → IsSome (counted place t head) → IsSome (counted place later head)
 counts_all t later all place head = by (head.0 == place)
@@ -80,7 +80,7 @@ heads_grow step own None some = some
 heads_grow step own (Some head) some = refl
 
 module _ {X F I R A T : Type 0} (says : Verdicts R) (nodes : List (CacheNode I R)) (old new : List (StackEntry X I R A T × Run X F I R A T)) (step : PathKind) (required : ℕ) (overflow : Bool) (answer : Heads) (a : AnswersNewest step required overflow answer old new) where
-  taken_counts : CountsAll (tally_of a.entry.state a.run.candidates) (tally_of a.state a.run.candidates)
+  pub taken_counts : CountsAll (tally_of a.entry.state a.run.candidates) (tally_of a.state a.run.candidates)
   taken_counts = record {
     own = λ some. subst IsSome (sym a.takes.usages) (usages_grow a.entry.state.usages (at_depth answer (record { 0 = length a.below })) some);
     heads = λ head some. subst IsSome (sym (a.takes.heads head)) (by (head.0 == length a.below) head some);
@@ -90,6 +90,14 @@ module _ {X F I R A T : Type 0} (says : Verdicts R) (nodes : List (CacheNode I R
           → IsSome (if b then at_depth a.entry.state.heads head else joined_over step (at_depth a.entry.state.heads head) (at_depth answer head))
       by true head some = some
       by false head some = heads_grow step (at_depth a.entry.state.heads head) (at_depth answer head) some
+
+  -- it has the heads of the answer then, but for its own place
+  pub heads_come : (head : StackDepth) → head.0 ≢ length a.below → IsSome (at_depth answer head) → IsSome (at_depth a.state.heads head)
+  heads_come head other some = subst IsSome (sym (a.takes.heads head)) (rw (ne_eqb head.0 (length a.below) other) (comes (at_depth a.entry.state.heads head) (at_depth answer head) some))
+    where
+      comes : (own used : Option CycleHead) → IsSome used → IsSome (joined_over step own used)
+      comes own None some = absurd (false≢true some)
+      comes own (Some head) some = refl
 
   -- but for what it counts, the newest goal's run is the same
   pub taken_run : run_of (record a.entry { state = a.state }, a.run) ≡ record (run_of (a.entry, a.run)) { tally = tally_of a.state a.run.candidates }
@@ -117,7 +125,7 @@ mapped_some f None some = absurd (false≢true some)
 mapped_some f (Some x) some = refl
 
 -- each goal that was counted stays counted where a candidate is ignored
-ignored_counts : {X I R A T : Type 0} (parent : StackDepth) (candidate : UsagesByHead) (old new : EntryState X I R A T) (finished later : List UsagesByHead) → Ignores parent candidate old new → CountsAll (tally_of old finished) (tally_of new later)
+pub ignored_counts : {X I R A T : Type 0} (parent : StackDepth) (candidate : UsagesByHead) (old new : EntryState X I R A T) (finished later : List UsagesByHead) → Ignores parent candidate old new → CountsAll (tally_of old finished) (tally_of new later)
 ignored_counts parent candidate old new finished later i = record {
   own = λ some. subst IsSome (sym i.usages) (mapped_some (λ own. less_usages own (at_depth candidate parent)) old.usages some);
   heads = λ head some. subst IsSome (sym (i.heads head)) (by (head.0 == parent.0) head some);

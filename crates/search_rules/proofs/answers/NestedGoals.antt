@@ -20,13 +20,13 @@ joined_right o (Some more) f some = joined_some o (f more)
 
 module _ {I : Type 0} (same : I → I → Bool) (by_value : (x y : I) → same x y ≡ true → x ≡ y) where
   -- goals that were nested stay so, and the joined one is nested
-  joins_some : (old new : NestedPaths I) (input : I) (paths : PathsToNested) → JoinsPaths same old new input paths → (goal : I) → IsSome (paths_at same old goal) → IsSome (paths_at same new goal)
+  pub joins_some : (old new : NestedPaths I) (input : I) (paths : PathsToNested) → JoinsPaths same old new input paths → (goal : I) → IsSome (paths_at same old goal) → IsSome (paths_at same new goal)
   joins_some old new input paths joins goal there = elim (cases_Bool (same input goal)) [
     | inl one ↦ subst (λ g. IsSome (paths_at same new g)) (by_value input goal one) (subst IsSome (sym joins.here) (joined_some (paths_at same old input) paths))
     | inr other ↦ subst IsSome (sym (joins.others goal other)) there
   ]
 
-  joins_here : (old new : NestedPaths I) (input : I) (paths : PathsToNested) → JoinsPaths same old new input paths → IsSome (paths_at same new input)
+  pub joins_here : (old new : NestedPaths I) (input : I) (paths : PathsToNested) → JoinsPaths same old new input paths → IsSome (paths_at same new input)
   joins_here old new input paths joins = subst IsSome (sym joins.here) (joined_some (paths_at same old input) paths)
 
   module _ (own : I) (step : PathKind) (answer old new : NestedPaths I) where

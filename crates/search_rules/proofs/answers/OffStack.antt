@@ -1,128 +1,193 @@
 -- What the answers of a goal rest on stays off the goals under evaluation, and known to the goal, through each change of the goal.
-use Rattle.std.proofs.Common.{◌≡◌, ℕ, Bool, true, List, [], ◌∷◌, ◌++◌, IsSome, Option, Some, option_map, slice_get, sym, ap, ◌∙◌, subst, ◌⊎◌, inl, inr}
+use Rattle.std.proofs.Common.{◌≡◌, ◌<◌, ◌≤◌, ℕ, Bool, false, true, List, [], ◌∷◌, ◌++◌, IsSome, Option, None, Some, option_map, slice_get, refl, sym, ap, ◌∙◌, subst, ◌⊎◌, inl, inr, arith}
+use Rattle.std.specs.Option.{IfSome}
 use Rattle.open_graphs.specs.Graph as theory
-use Rattle.open_graphs.specs.Stack.{IsLeaf}
-use Rattle.open_graphs.specs.State.{AllRunning}
-use Rattle.open_graphs.specs.Use as theory_use
 use Rattle.open_graphs.proofs.Lists.{get_cases, mapped_some}
-use Rattle.open_graphs.proofs.Runs.{answered_reaches}
-use Rattle.search_rules.specs.Below.{CacheNode, counted_by, DefiniteAnswer, IsDefinite, IsNodeOf, KeepsGoals, NestedPaths, NodeId, PathKind, paths_at, Request, Run, shapes_of, stack_of, StackEntry, Store, StoredResult, verdict_of, Verdicts}
-use Rattle.search_rules.specs.Justified.{AreJustified, AreSupported, cycles_node, frame_of, frames_of, IsSupported, OpenRun, verdict_shape}
+use Rattle.search_rules.specs.Below.{CacheNode, counted_by, DefiniteAnswer, is_in_cycle, IsDefinite, KeepsGoals, Lists, NestedPaths, NodeId, PathKind, paths_at, ProvisionalCacheEntry, Run, shapes_of, stack_of, StackEntry, Store, StoredResult, verdict_of, Verdicts}
+use Rattle.open_goals.specs.declared.goals.Fate.TheVariants as becomes
+use Rattle.search_rules.specs.Apart.{StandApart}
+use Rattle.search_rules.specs.Justified.{AreJustified, cycles_node, frame_of, frames_of, OpenRun, verdict_shape}
+use Rattle.search_rules.specs.Leads.{HasGoal, LeadsTo, WalksTo}
 use Rattle.search_rules.specs.Lone.{IsLone}
+use Rattle.search_rules.specs.Older.{HasNoOlder, IsStop}
 use Rattle.search_rules.specs.Runs.{run_of, runs_of}
-use Rattle.search_rules.specs.Settled.{AreSettledGoals, IsKnown, IsOff, LeadsOnly, StaysOff}
+use Rattle.search_rules.specs.Settled.{AreSettledGoals, IsAside, IsBehind, IsKnown, IsOff, IsSettledGoal, StaysOff}
 use Rattle.search_rules.specs.Tallies.{Tally}
-use Rattle.search_rules.proofs.answers.Leading.{leads_grown, leads_later, leads_weaker}
+use Rattle.search_rules.proofs.answers.Leading.{goals_later}
+use Rattle.search_rules.proofs.answers.OlderEntries.{all_stay, Follows, follows_itself, leaf_kept, no_older_kept, StaySame, stop_kept}
+use Rattle.search_rules.proofs.answers.StoppedWalks.{answered_walks, walks_kept}
 use Rattle.search_rules.proofs.justified.Justified.{EndsWithNode, goal_of_open, new_run, no_answers}
 
-module _ {X I R A T : Type 0} (same : I → I → Bool) (results later : Store I (StoredResult X I R A T)) (stay : (goal : I) → IsLone same results goal → IsLone same later goal) where
-  -- what is known stays known where more goals are nested
-  pub known_more : (nested more : NestedPaths I) → ((goal : I) → IsSome (paths_at same nested goal) → IsSome (paths_at same more goal)) → (goal : I) → IsKnown same results nested goal → IsKnown same later more goal
-  known_more nested more grown goal (inl there) = inl (grown goal there)
-  known_more nested more grown goal (inr lone) = inr (stay goal lone)
+-- what is known stays known where more goals are nested
+pub known_more : {X I R A T : Type 0} (same : I → I → Bool) (results later : Store I (StoredResult X I R A T)) → ((goal : I) → IsLone same results goal → IsLone same later goal) → (nested more : NestedPaths I) → ((goal : I) → IsSome (paths_at same nested goal) → IsSome (paths_at same more goal)) → (goal : I) → IsKnown same results nested goal → IsKnown same later more goal
+known_more same results later stay nested more grown goal (inl there) = inl (grown goal there)
+known_more same results later stay nested more grown goal (inr lone) = inr (stay goal lone)
 
-  module _ (says : Verdicts R) (nodes after : List (CacheNode I R)) (kept : KeepsGoals nodes after) (grown : theory.Grown (shapes_of says nodes) (shapes_of says after)) where
-    -- nodes are added or finished, and results are stored
-    pub off_grown : (o : OpenRun I R) (nested : NestedPaths I) (below : List (OpenRun I R)) → IsSupported says nodes o below → AllRunning (shapes_of says nodes) (frames_of says (o ∷ below)) → StaysOff says same nodes results o nested below → StaysOff says same after later o nested below
-    off_grown o nested below supported running h = record {
-      answers = λ i a at counts.
-          leads_grown says nodes after kept grown (λ goal. IsKnown same results nested goal × IsOff (o ∷ below) goal) (λ goal. IsKnown same later nested goal × IsOff (o ∷ below) goal) (λ goal p. (known_more nested nested (λ g there. there) goal p.0, p.1))
-          (verdict_shape a.verdict) (stack_of (frames_of says (o ∷ below))) a.edge.target (supported.charged i a at counts).used.open_graph (h.answers i a at counts);
-      earlier = λ r is definite.
-          leads_grown says nodes after kept grown (λ goal. ((goal ≡ o.goal) ⊎ IsKnown same results nested goal) × IsOff below goal) (λ goal. ((goal ≡ o.goal) ⊎ IsKnown same later nested goal) × IsOff below goal) (λ goal p. (own_or nested goal o.goal p.0, p.1))
-          (verdict_of says r) (stack_of (frames_of says below)) (cycles_node o) (running.0.earlier (verdict_of says r) definite (ap (option_map (verdict_of says)) is)).open_graph (h.earlier r is definite);
+-- the goal goes on with its answers, of which perhaps fewer count
+pub record GoesOn {I R : Type 0} (o p : OpenRun I R) : Type 0 where
+  pub follows : Follows o p
+  pub answers : (i : ℕ) (a : DefiniteAnswer I) → slice_get p.answers i ≡ Some a → counted_by p.ignored a.candidate ≡ true → (slice_get o.answers i ≡ Some a) × (counted_by o.ignored a.candidate ≡ true)
+  pub provisional : p.provisional ≡ o.provisional
+
+pub goes_on_itself : {I R : Type 0} (o : OpenRun I R) → GoesOn o o
+goes_on_itself o = record { follows = follows_itself o; answers = λ i a at counts. (at, counts); provisional = refl }
+
+below_limit : (above : Option ℕ) (first node : ℕ) → IfSome above (λ limit. first < limit) → node < first → IfSome above (λ limit. node < limit)
+below_limit None first node began before = tt
+below_limit (Some limit) first node began before = omega (arith, began, before)
+
+-- the newest goal began before this node
+abbrev pub AreBefore : {X F I R A T : Type 0} → ℕ → List (StackEntry X I R A T × Run X F I R A T) → Type 0
+AreBefore limit [] = Unit {0}
+AreBefore limit (s ∷ below) = cycles_node (run_of s) < limit
+
+-- ---- nodes are added or finished, results are stored, entries come and go, and more goals are nested
+
+module _ {X I R A T : Type 0} (says : Verdicts R) (same : I → I → Bool) (nodes after : List (CacheNode I R)) (kept : KeepsGoals nodes after) (grown : theory.Grown (shapes_of says nodes) (shapes_of says after)) (results later : Store I (StoredResult X I R A T)) (lone_stay : (goal : I) → IsLone same results goal → IsLone same later goal)
+    (Within : ℕ → Type 0) (entries more : Lists I (ProvisionalCacheEntry X I R A T)) (stay : StaySame same Within entries more) where
+  module _ (o p : OpenRun I R) (f : Follows o p) (within : (node : ℕ) → node < cycles_node o → Within node) (nested further : NestedPaths I) (nested_grown : (goal : I) → IsSome (paths_at same nested goal) → IsSome (paths_at same further goal)) (below : List (OpenRun I R)) where
+    pub aside_kept : (goal : I) → IsAside same results entries o nested below goal → IsAside same later more p further below goal
+    aside_kept goal a = record {
+      known = known_more same results later lone_stay nested further nested_grown goal a.known;
+      off = ((λ is. a.off.0 (is ∙ f.goal_is)), a.off.1);
+      no_older = no_older_kept same Within entries more stay o p f within goal a.no_older;
     }
-      where
-        own_or : (nested : NestedPaths I) (goal own : I) → (goal ≡ own) ⊎ IsKnown same results nested goal → (goal ≡ own) ⊎ IsKnown same later nested goal
-        own_or nested goal own (inl is) = inl is
-        own_or nested goal own (inr known) = inr (known_more nested nested (λ g there. there) goal known)
+
+    pub behind_kept : (goal : I) → IsBehind same results entries o nested below goal → IsBehind same later more p further below goal
+    behind_kept goal a = record {
+      known = elim a.known [ inl own ↦ inl (own ∙ sym f.goal_is) | inr known ↦ inr (known_more same results later lone_stay nested further nested_grown goal known) ];
+      off = a.off;
+      no_older = no_older_kept same Within entries more stay o p f within goal a.no_older;
+    }
+
+    pub aside_leads : (v : theory.Verdict) (a : ℕ) → LeadsTo says nodes (IsStop same entries o) (IsAside same results entries o nested below) v (stack_of (frames_of says (o ∷ below))) a → LeadsTo says after (IsStop same more p) (IsAside same later more p further below) v (stack_of (frames_of says (p ∷ below))) a
+    aside_leads v a leads =
+        walks_kept (shapes_of says nodes) (shapes_of says after) v grown (stack_of (frames_of says (o ∷ below))) (stack_of (frames_of says (p ∷ below))) (IsStop same entries o) (IsStop same more p)
+        (HasGoal nodes (IsAside same results entries o nested below)) (HasGoal after (IsAside same later more p further below))
+        (goals_later says nodes after kept (IsAside same results entries o nested below) (IsAside same later more p further below) aside_kept v) a leads
+        (leaf_kept says o p f below) (stop_kept same Within entries more stay o p f within)
+
+    pub behind_leads : (v : theory.Verdict) (a : ℕ) → LeadsTo says nodes (IsStop same entries o) (IsBehind same results entries o nested below) v (stack_of (frames_of says below)) a → LeadsTo says after (IsStop same more p) (IsBehind same later more p further below) v (stack_of (frames_of says below)) a
+    behind_leads v a leads =
+        walks_kept (shapes_of says nodes) (shapes_of says after) v grown (stack_of (frames_of says below)) (stack_of (frames_of says below)) (IsStop same entries o) (IsStop same more p)
+        (HasGoal nodes (IsBehind same results entries o nested below)) (HasGoal after (IsBehind same later more p further below))
+        (goals_later says nodes after kept (IsBehind same results entries o nested below) (IsBehind same later more p further below) behind_kept v) a leads
+        (λ b leaf. leaf) (stop_kept same Within entries more stay o p f within)
+
+  pub off_kept : (o p : OpenRun I R) (g : GoesOn o p) → ((node : ℕ) → node < cycles_node o → Within node) → (nested further : NestedPaths I) → ((goal : I) → IsSome (paths_at same nested goal) → IsSome (paths_at same further goal)) → (below : List (OpenRun I R)) → StaysOff says same nodes results entries o nested below → StaysOff says same after later more p further below
+  off_kept o p g within nested further nested_grown below h = record {
+    answers = λ i a at counts. let was = g.answers i a at counts in aside_leads o p g.follows within nested further nested_grown below (verdict_shape a.verdict) a.edge.target (h.answers i a was.0 was.1);
+    earlier = λ r is definite.
+        subst (LeadsTo says after (IsStop same more p) (IsBehind same later more p further below) (verdict_of says r) (stack_of (frames_of says below))) (sym g.follows.first_is)
+        (behind_leads o p g.follows within nested further nested_grown below (verdict_of says r) (cycles_node o) (h.earlier r (sym g.provisional ∙ is) definite));
+  }
+
+  -- all that holds of a goal
+  module _ {F : Type 0} where
+    pub goal_kept : (s t : StackEntry X I R A T × Run X F I R A T) (g : GoesOn (run_of s) (run_of t)) → ((node : ℕ) → node < cycles_node (run_of s) → Within node) → ((goal : I) → IsSome (paths_at same s.0.state.nested_goals goal) → IsSome (paths_at same t.0.state.nested_goals goal)) → (below : List (StackEntry X I R A T × Run X F I R A T)) (above then : Option ℕ)
+        → ((node : ℕ) → IfSome then (λ first. node < first) → Within node × IfSome above (λ first. node < first)) → IfSome then (λ first. cycles_node (run_of t) < first)
+        → IsSome (paths_at same t.0.state.nested_goals t.0.input) ⊎ ((t.0.state.nested_goals ≡ []) × (is_in_cycle t.0.state ≡ false)) → (t.0.state.provisional_result ≡ None → t.1.finished_runs ≡ 0) → t.1.fate ≡ becomes.Stored
+        → IsSettledGoal says same nodes results entries above s below → IsSettledGoal says same after later more then t below
+    goal_kept s t g within nested_grown below above then up began itself first stored h = record {
+      off = off_kept (run_of s) (run_of t) g within s.0.state.nested_goals t.0.state.nested_goals nested_grown (runs_of below) h.off;
+      made = λ goal entry node has since before.
+          let limits = up node before in
+          aside_leads (run_of s) (run_of t) g.follows within s.0.state.nested_goals t.0.state.nested_goals nested_grown (runs_of below) (verdict_of says entry.result) node
+          (h.made goal entry node (stay.comes goal entry node has limits.0) (subst (λ first. first ≤ node) g.follows.first_is since) limits.1);
+      began = began;
+      apart = subst (IsOff (runs_of below)) (sym g.follows.goal_is) h.apart;
+      itself = itself;
+      first = first;
+      stored = stored;
+    }
 
     -- the same of all goals
-    pub goals_grown : {F : Type 0} (goals : List (StackEntry X I R A T × Run X F I R A T)) → AreSupported says nodes (runs_of goals) → AllRunning (shapes_of says nodes) (frames_of says (runs_of goals)) → AreSettledGoals says same nodes results goals → AreSettledGoals says same after later goals
-    goals_grown [] supported running h = tt
-    goals_grown (s ∷ below) supported running h = (
-      record {
-        off = off_grown (run_of s) s.0.state.nested_goals (runs_of below) supported.0 running h.0.off;
-        apart = h.0.apart;
-        itself = h.0.itself;
-        first = h.0.first;
-        stored = h.0.stored;
-      },
-      goals_grown below supported.1 running.1 h.1,
+    pub goals_kept : (goals : List (StackEntry X I R A T × Run X F I R A T)) (above : Option ℕ) → ((node : ℕ) → IfSome above (λ limit. node < limit) → Within node) → AreSettledGoals says same nodes results entries above goals → AreSettledGoals says same after later more above goals
+    goals_kept [] above within h = tt
+    goals_kept (s ∷ below) above within h =
+        let lower = λ (node : ℕ) (before : node < cycles_node (run_of s)). within node (below_limit above (cycles_node (run_of s)) node h.0.began before) in (
+          goal_kept s s (goes_on_itself (run_of s)) lower (λ goal there. there) below above above (λ node before. (within node before, before)) h.0.began h.0.itself h.0.first h.0.stored h.0,
+          goals_kept below (Some (cycles_node (run_of s))) lower h.1,
+        )
+
+    -- a goal begins above them
+    pub narrowed : (goals : List (StackEntry X I R A T × Run X F I R A T)) (limit : ℕ) → ((node : ℕ) → Within node) → AreBefore limit goals → AreSettledGoals says same nodes results entries None goals → AreSettledGoals says same after later more (Some limit) goals
+    narrowed [] limit within before h = tt
+    narrowed (s ∷ below) limit within before h = (
+      goal_kept s s (goes_on_itself (run_of s)) (λ node older. within node) (λ goal there. there) below None (Some limit) (λ node lower. (within node, tt)) before h.0.itself h.0.first h.0.stored h.0,
+      goals_kept below (Some (cycles_node (run_of s))) (λ node older. within node) h.1,
     )
 
-module _ {X I R A T : Type 0} (says : Verdicts R) (same : I → I → Bool) (nodes : List (CacheNode I R)) (results : Store I (StoredResult X I R A T)) where
-  -- what the goal counts changes, and its candidates, and more goals are nested in it
-  pub off_changed :
-      (tally : Tally) (is_open : Bool) (ignored : List Bool) (request : Option (Request I R)) (o : OpenRun I R) (nested more : NestedPaths I) (below : List (OpenRun I R))
-      → ((c : Option ℕ) → counted_by ignored c ≡ true → counted_by o.ignored c ≡ true) → ((goal : I) → IsSome (paths_at same nested goal) → IsSome (paths_at same more goal))
-      → StaysOff says same nodes results o nested below → StaysOff says same nodes results (record o { tally = tally; is_open = is_open; ignored = ignored; request = request }) more below
-  off_changed tally is_open ignored request o nested more below before grown h = record {
-    answers = λ i a at counts.
-        leads_weaker says nodes (λ goal. IsKnown same results nested goal × IsOff (o ∷ below) goal) (λ goal. IsKnown same results more goal × IsOff (o ∷ below) goal) (λ goal p. (known_more same results results (λ g lone. lone) nested more grown goal p.0, p.1))
-        (verdict_shape a.verdict) (stack_of (frames_of says (o ∷ below))) a.edge.target (h.answers i a at (before a.candidate counts));
-    earlier = λ r is definite.
-        leads_weaker says nodes (λ goal. ((goal ≡ o.goal) ⊎ IsKnown same results nested goal) × IsOff below goal) (λ goal. ((goal ≡ o.goal) ⊎ IsKnown same results more goal) × IsOff below goal) (λ goal p. (own_or goal p.0, p.1))
-        (verdict_of says r) (stack_of (frames_of says below)) (cycles_node o) (h.earlier r is definite);
-  }
-    where
-      own_or : (goal : I) → (goal ≡ o.goal) ⊎ IsKnown same results nested goal → (goal ≡ o.goal) ⊎ IsKnown same results more goal
-      own_or goal (inl is) = inl is
-      own_or goal (inr known) = inr (known_more same results results (λ g lone. lone) nested more grown goal known)
+-- ---- the goal itself
 
+module _ {X I R A T : Type 0} (says : Verdicts R) (same : I → I → Bool) (nodes : List (CacheNode I R)) (results : Store I (StoredResult X I R A T)) (entries : Lists I (ProvisionalCacheEntry X I R A T)) where
   -- it gets one more answer
-  pub off_answered :
-      (a : DefiniteAnswer I) (o : OpenRun I R) (nested : NestedPaths I) (below : List (OpenRun I R)) → LeadsOnly says nodes (λ goal. IsKnown same results nested goal × IsOff (o ∷ below) goal) (verdict_shape a.verdict) (stack_of (frames_of says (o ∷ below))) a.edge.target
-      → StaysOff says same nodes results o nested below → StaysOff says same nodes results (record o { answers = o.answers ++ a ∷ [] }) nested below
-  off_answered a o nested below leads h = record {
-    answers = λ i b at counts. elim (get_cases o.answers a i b at) [
-      | inl old ↦ h.answers i b old counts
-      | inr new ↦ subst (λ (d : DefiniteAnswer I). LeadsOnly says nodes (λ goal. IsKnown same results nested goal × IsOff (o ∷ below) goal) (verdict_shape d.verdict) (stack_of (frames_of says (o ∷ below))) d.edge.target) new.1 leads
-    ];
-    earlier = h.earlier;
-  }
+  module _ (a : DefiniteAnswer I) (o : OpenRun I R) (nested : NestedPaths I) (below : List (OpenRun I R)) where
+    abbrev answered : OpenRun I R
+    answered = record o { answers = o.answers ++ a ∷ [] }
+
+    follows : Follows o answered
+    follows = record { goal_is = refl; first_is = refl; heads = λ head some. some }
+
+    aside_later : (v : theory.Verdict) (b : ℕ) → LeadsTo says nodes (IsStop same entries o) (IsAside same results entries o nested below) v (stack_of (frames_of says (o ∷ below))) b → LeadsTo says nodes (IsStop same entries answered) (IsAside same results entries answered nested below) v (stack_of (frames_of says (answered ∷ below))) b
+    aside_later = aside_leads says same nodes nodes (λ place goal is. is) (λ a v edges is. is) results results (λ goal lone. lone) (λ node. Unit {0}) entries entries (all_stay same entries) o answered follows (λ node older. tt) nested nested (λ goal there. there) below
+
+    behind_later : (v : theory.Verdict) (b : ℕ) → LeadsTo says nodes (IsStop same entries o) (IsBehind same results entries o nested below) v (stack_of (frames_of says below)) b → LeadsTo says nodes (IsStop same entries answered) (IsBehind same results entries answered nested below) v (stack_of (frames_of says below)) b
+    behind_later = behind_leads says same nodes nodes (λ place goal is. is) (λ a v edges is. is) results results (λ goal lone. lone) (λ node. Unit {0}) entries entries (all_stay same entries) o answered follows (λ node older. tt) nested nested (λ goal there. there) below
+
+    pub off_answered : LeadsTo says nodes (IsStop same entries o) (IsAside same results entries o nested below) (verdict_shape a.verdict) (stack_of (frames_of says (o ∷ below))) a.edge.target → StaysOff says same nodes results entries o nested below → StaysOff says same nodes results entries answered nested below
+    off_answered leads h = record {
+      answers = λ i b at counts. elim (get_cases o.answers a i b at) [
+        | inl old ↦ aside_later (verdict_shape b.verdict) b.edge.target (h.answers i b old counts)
+        | inr new ↦ subst (λ (d : DefiniteAnswer I). LeadsTo says nodes (IsStop same entries answered) (IsAside same results entries answered nested below) (verdict_shape d.verdict) (stack_of (frames_of says (answered ∷ below))) d.edge.target) new.1 (aside_later (verdict_shape a.verdict) a.edge.target leads)
+      ];
+      earlier = λ r is definite. behind_later (verdict_of says r) (cycles_node o) (h.earlier r is definite);
+    }
 
   -- it begins, or is run again
   pub off_new : (goal : I) (step : PathKind) (own : NodeId) (lead : Option NodeId) (earlier : Option R) (tally : Tally) (nested : NestedPaths I) (below : List (OpenRun I R))
-      → ((r : R) → earlier ≡ Some r → IsDefinite says r → LeadsOnly says nodes (λ g. ((g ≡ goal) ⊎ IsKnown same results nested g) × IsOff below g) (verdict_of says r) (stack_of (frames_of says below)) (cycles_node (new_run goal step own lead earlier tally)))
-      → StaysOff says same nodes results (new_run goal step own lead earlier tally) nested below
+      → ((r : R) → earlier ≡ Some r → IsDefinite says r → LeadsTo says nodes (IsStop same entries (new_run goal step own lead earlier tally)) (IsBehind same results entries (new_run goal step own lead earlier tally) nested below) (verdict_of says r) (stack_of (frames_of says below)) (cycles_node (new_run goal step own lead earlier tally)))
+      → StaysOff says same nodes results entries (new_run goal step own lead earlier tally) nested below
   off_new goal step own lead earlier tally nested below leads = record { answers = λ i a at counts. absurd (no_answers i a at); earlier = leads }
+
+-- a goal under evaluation has no entry
+pub own_no_older : {X F I R A T : Type 0} (same : I → I → Bool) (results : Store I (StoredResult X I R A T)) (entries : Lists I (ProvisionalCacheEntry X I R A T)) (s : StackEntry X I R A T × Run X F I R A T) (below : List (StackEntry X I R A T × Run X F I R A T)) → StandApart same results (s ∷ below) entries → HasNoOlder same entries (run_of s) s.0.input
+own_no_older same results entries s below apart entry node has = absurd ((apart.off s.0.input entry has.there).0 refl)
 
 -- ---- the goal's run has ended
 
-module _ {X I R A T : Type 0} (says : Verdicts R) (same : I → I → Bool) (nodes after : List (CacheNode I R)) (results : Store I (StoredResult X I R A T)) (o : OpenRun I R) (below : List (OpenRun I R)) (h : AreJustified says nodes (o ∷ below)) (r : R) (target : Option NodeId) (s : EndsWithNode says nodes after o below r target) (nested : NestedPaths I) (off : StaysOff says same nodes results o nested below) (apart : IsOff below o.goal) (definite : IsDefinite says r) where
-  -- what its result may rest on
-  abbrev pub IsLeft : I → Type 0
-  IsLeft goal = ((goal ≡ o.goal) ⊎ IsKnown same results nested goal) × IsOff below goal
+module _ {X I R A T : Type 0} (says : Verdicts R) (same : I → I → Bool) (nodes after : List (CacheNode I R)) (results : Store I (StoredResult X I R A T)) (entries : Lists I (ProvisionalCacheEntry X I R A T)) (o : OpenRun I R) (below : List (OpenRun I R)) (h : AreJustified says nodes (o ∷ below)) (r : R) (target : Option NodeId) (s : EndsWithNode says nodes after o below r target) (nested : NestedPaths I) (off : StaysOff says same nodes results entries o nested below) (apart : IsOff below o.goal)
+    (own_none : HasNoOlder same entries o o.goal) (definite : IsDefinite says r) where
+  abbrev Left : I → Type 0
+  Left = IsBehind same results entries o nested below
 
-  abbrev Placed : ℕ → Type 0
-  Placed b = IsLeaf (stack_of (frames_of says below)) b ⊎ ((goal : I) → IsNodeOf after b goal → IsLeft goal)
-
-  own_placed : Placed o.own
-  own_placed = inr (λ goal is.
+  own_left : HasGoal after Left o.own
+  own_left goal is =
       let found : Some o.goal ≡ Some goal = sym (s.goals_kept o.own o.goal (goal_of_open nodes o.own o.goal h.are_open.0)) ∙ is in
       let one : o.goal ≡ goal = cc in
-      (inl (sym one), subst (IsOff below) one apart))
+      record { known = inl (sym one); off = subst (IsOff below) one apart; no_older = subst (HasNoOlder same entries o) one own_none }
 
-  behind : (i : ℕ) (edge : theory.Edge) → slice_get (s.edges (verdict_of says r)) i ≡ Some edge → (b q : ℕ) → theory.Walk (theory_use.Step (shapes_of says nodes) (verdict_of says r) (stack_of (frames_of says (o ∷ below)))) edge.target q b → IsLeaf (stack_of (frames_of says (o ∷ below))) b ⊎ Placed b
-  behind i edge at b q w =
+  behind : (i : ℕ) (edge : theory.Edge) → slice_get (s.edges (verdict_of says r)) i ≡ Some edge → WalksTo (shapes_of says nodes) (verdict_of says r) (stack_of (frames_of says (o ∷ below))) (IsStop same entries o) (HasGoal after Left) edge.target
+  behind i edge at =
       let from = s.from (verdict_of says r) i edge at in
-      elim (leads_later says nodes after s.goals_kept (λ goal. IsKnown same results nested goal × IsOff (o ∷ below) goal) IsLeft (λ goal p. (inr p.0, p.1.1))
-      (verdict_shape from.answer.verdict) (stack_of (frames_of says (o ∷ below))) from.answer.edge.target (h.supported.0.charged from.place from.answer from.is_at from.counts).used.open_graph (off.answers from.place from.answer from.is_at from.counts) b q
-      (subst (λ v. theory.Walk (theory_use.Step (shapes_of says nodes) v (stack_of (frames_of says (o ∷ below)))) from.answer.edge.target q b) (sym from.verdict_is)
-      (subst (λ a. theory.Walk (theory_use.Step (shapes_of says nodes) (verdict_of says r) (stack_of (frames_of says (o ∷ below)))) a q b) (ap (λ (e : theory.Edge). e.target) (sym from.edge_is)) w))) [
-        | inl l ↦ inl l
-        | inr holds ↦ inr (inr holds)
-      ]
+      let target_is : from.answer.edge.target ≡ edge.target = ap (λ (e : theory.Edge). e.target) from.edge_is in
+      subst (λ v. WalksTo (shapes_of says nodes) v (stack_of (frames_of says (o ∷ below))) (IsStop same entries o) (HasGoal after Left) edge.target) from.verdict_is
+      (subst (WalksTo (shapes_of says nodes) (verdict_shape from.answer.verdict) (stack_of (frames_of says (o ∷ below))) (IsStop same entries o) (HasGoal after Left)) target_is
+      (walks_kept (shapes_of says nodes) (shapes_of says nodes) (verdict_shape from.answer.verdict) (λ a v es is. is) (stack_of (frames_of says (o ∷ below))) (stack_of (frames_of says (o ∷ below))) (IsStop same entries o) (IsStop same entries o)
+      (HasGoal nodes (IsAside same results entries o nested below)) (HasGoal after Left)
+      (goals_later says nodes after s.goals_kept (IsAside same results entries o nested below) Left (λ goal p. record { known = inr p.known; off = p.off.1; no_older = p.no_older }) (verdict_shape from.answer.verdict))
+      from.answer.edge.target (off.answers from.place from.answer from.is_at from.counts) (λ b leaf. leaf) (λ b stop. stop)))
 
-  before : option_map (verdict_of says) o.provisional ≡ Some (verdict_of says r) → (b q : ℕ) → theory.Walk (theory_use.Step (shapes_of says nodes) (verdict_of says r) (stack_of (frames_of says below))) (cycles_node o) q b → Placed b
-  before again b q w =
+  before : option_map (verdict_of says) o.provisional ≡ Some (verdict_of says r) → WalksTo (shapes_of says nodes) (verdict_of says r) (stack_of (frames_of says below)) (IsStop same entries o) (HasGoal after Left) (cycles_node o)
+  before again =
       let was = mapped_some (verdict_of says) o.provisional (verdict_of says r) again in
-      leads_later says nodes after s.goals_kept IsLeft IsLeft (λ goal p. p) (verdict_of says r) (stack_of (frames_of says below)) (cycles_node o) (h.sound.running.0.earlier (verdict_of says r) definite again).open_graph
-      (subst (λ v. LeadsOnly says nodes IsLeft v (stack_of (frames_of says below)) (cycles_node o)) was.2 (off.earlier was.0 was.1 (λ neither. definite (sym was.2 ∙ neither)))) b q w
+      walks_kept (shapes_of says nodes) (shapes_of says nodes) (verdict_of says r) (λ a v es is. is) (stack_of (frames_of says below)) (stack_of (frames_of says below)) (IsStop same entries o) (IsStop same entries o) (HasGoal nodes Left) (HasGoal after Left)
+      (goals_later says nodes after s.goals_kept Left Left (λ goal p. p) (verdict_of says r)) (cycles_node o)
+      (subst (λ v. LeadsTo says nodes (IsStop same entries o) Left v (stack_of (frames_of says below)) (cycles_node o)) was.2 (off.earlier was.0 was.1 (λ neither. definite (sym was.2 ∙ neither))))
+      (λ b leaf. leaf) (λ b stop. stop)
 
   -- the node of its result leads to goals that it knows, or to itself, and to none below it
-  pub result_leads : LeadsOnly says after IsLeft (verdict_of says r) (stack_of (frames_of says below)) s.place
+  pub result_leads : LeadsTo says after (IsStop same entries o) Left (verdict_of says r) (stack_of (frames_of says below)) s.place
   result_leads =
-      answered_reaches (shapes_of says nodes) (stack_of (frames_of says below)) (frame_of says o).entry o.own s.edges (frame_of says o).heads_before (frame_of says o).heads (verdict_of says r) (shapes_of says after) s.place definite s.answered s.sound.running.0
-      Placed (λ b l. inl l) own_placed behind before
+      answered_walks (shapes_of says nodes) (stack_of (frames_of says below)) (frame_of says o).entry o.own s.edges (frame_of says o).heads_before (frame_of says o).heads (verdict_of says r) s.sound.running.0
+      (IsStop same entries o) (HasGoal after Left) own_left behind definite s.answered before

@@ -1,7 +1,8 @@
--- Over one stack no goal has both an answer yes and an answer no, if no node inside their graphs has a goal that is on the stack. By the
--- clash law the two graphs have an edge of one question at each pair of nodes of one goal, so both can be walked in step. A leaf of one graph
--- is then met with the same leaf of the other, by walks of one kind, and no cycle of that goal was answered both yes and no. Where no leaf is
--- met, some pair comes twice, which closes a walk of one kind in each graph.
+-- Over one stack no goal has both an answer yes and an answer no, if no node inside their graphs has a goal that is on the stack, or one of a
+-- node at which walks stop. By the clash law the two graphs have an edge of one question at each pair of nodes of one goal, so both can be
+-- walked in step. A leaf of one graph is then met with the same leaf of the other, by walks of one kind, and no cycle of that goal was
+-- answered both yes and no. Another node at which walks stop is met with itself, and it is not both yes and no. Where neither is met, some
+-- pair comes twice, which closes a walk of one kind in each graph.
 use Rattle.std.proofs.Common.{◌≡◌, ℕ, zero, suc, ◌+◌, ◌-◌, ◌≤◌, max, Bool, List, [], ◌∷◌, map, length, slice_get, Contains, Option, None, Some, option_map, ◌⊎◌, inl, inr, refl, sym, ap, ◌∙◌, subst, arith}
 use Rattle.std.specs.Option.{IsSomeAnd}
 use Rattle.std.proofs.lemmas.Option.{slice_get_within}
@@ -16,7 +17,11 @@ use Rattle.search_context.proofs.Pigeonhole.{pair_twice}
 use Rattle.search_context.proofs.Graphs.{Contains-map}
 use Rattle.global_cache.proofs.Bridge.{Ended, IsSort, ended_finished, edge_step, shown_by_run, yes_sort, no_sort}
 use Rattle.search_rules.specs.Words.{OpenRun, frame_of, frames_of, cycles_node, AreSupported}
+use Rattle.search_rules.specs.Leads.{LeadsTo, StepOn}
+use Rattle.search_rules.specs.Settled.{IsOff}
+use Rattle.search_rules.proofs.answers.StoppedWalks.{unstopped}
 use Rattle.search_rules.proofs.justified.Finishing.{place_of}
+use Rattle.search_rules.proofs.justified.Justified.{no_answers}
 
 -- ---- shapes
 
@@ -37,13 +42,13 @@ record Shared (nodes : List Node) (Alike : ℕ → ℕ → Type 0) (x y : ℕ) :
   right_edge : HasShapeEdge nodes No y kind right
   alike : Alike left right
 
--- Two nodes are alike if they have one goal. Nodes that are alike, and that walks of one kind lead to, are the same leaf if one of them is a
--- leaf.
-module _ (nodes : List Node) (stack : List Entry) (from_head : ℕ → ℕ) (a b : ℕ) (ha hb : Heads)
+-- Two nodes are alike if they have one goal. Walks stop at leaves and at further nodes. Nodes that are alike, and that walks of one kind lead
+-- to, are the same leaf if walks stop at one of them.
+module _ (nodes : List Node) (stack : List Entry) (Stops : ℕ → Type 0) (from_head : ℕ → ℕ) (a b : ℕ) (ha hb : Heads)
     (proof : Use nodes Yes stack from_head 0 a ha) (refutation : Use nodes No stack from_head 0 b hb)
     (Alike : ℕ → ℕ → Type 0) (at_roots : Alike a b)
     (share : (x y : ℕ) → Alike x y → IsFinished nodes Yes x → IsFinished nodes No y → Shared nodes Alike x y)
-    (meet : (x y p : ℕ) → Alike x y → Walk (Step nodes Yes stack) a p x → Walk (Step nodes No stack) b p y → IsLeaf stack x ⊎ IsLeaf stack y → (IsLeaf stack x → x ≡ y → ⊥) → ⊥) where
+    (meet : (x y p : ℕ) → Alike x y → Walk (StepOn nodes Yes stack Stops) a p x → Walk (StepOn nodes No stack Stops) b p y → (IsLeaf stack x ⊎ Stops x) ⊎ (IsLeaf stack y ⊎ Stops y) → (IsLeaf stack x → x ≡ y → ⊥) → ⊥) where
   -- walks of one kind lead to no leaf in both graphs
   no_leaf : (x p : ℕ) → Walk (Step nodes Yes stack) a p x → Walk (Step nodes No stack) b p x → IsLeaf stack x → ⊥
   no_leaf x p v w l =
@@ -56,29 +61,35 @@ module _ (nodes : List Node) (stack : List Entry) (from_head : ℕ → ℕ) (a b
     left : ℕ
     right : ℕ
     kind : ℕ
-    left_walk : Walk (Step nodes Yes stack) a kind left
-    right_walk : Walk (Step nodes No stack) b kind right
+    left_walk : Walk (StepOn nodes Yes stack Stops) a kind left
+    right_walk : Walk (StepOn nodes No stack Stops) b kind right
     alike : Alike left right
 
-  neither_leaf : (p : Pair) → IsLeaf stack p.left ⊎ IsLeaf stack p.right → ⊥
-  neither_leaf p l =
+  left_came : (p : Pair) → Walk (Step nodes Yes stack) a p.kind p.left
+  left_came p = unstopped nodes Yes stack Stops p.left_walk
+
+  right_came : (p : Pair) → Walk (Step nodes No stack) b p.kind p.right
+  right_came p = unstopped nodes No stack Stops p.right_walk
+
+  neither_stops : (p : Pair) → (IsLeaf stack p.left ⊎ Stops p.left) ⊎ (IsLeaf stack p.right ⊎ Stops p.right) → ⊥
+  neither_stops p l =
       meet p.left p.right p.kind p.alike p.left_walk p.right_walk l
-      (λ leaf same. no_leaf p.left p.kind p.left_walk (subst (Walk (Step nodes No stack) b p.kind) (sym same) p.right_walk) leaf)
+      (λ leaf same. no_leaf p.left p.kind (left_came p) (subst (Walk (Step nodes No stack) b p.kind) (sym same) (right_came p)) leaf)
 
   left_finished : (p : Pair) → IsFinished nodes Yes p.left
-  left_finished p = elim (proof.open_graph.placed p.left p.kind p.left_walk) [ inl l ↦ absurd (neither_leaf p (inl l)) | inr f ↦ f ]
+  left_finished p = elim (proof.open_graph.placed p.left p.kind (left_came p)) [ inl l ↦ absurd (neither_stops p (inl (inl l))) | inr f ↦ f ]
 
   right_finished : (p : Pair) → IsFinished nodes No p.right
-  right_finished p = elim (refutation.open_graph.placed p.right p.kind p.right_walk) [ inl l ↦ absurd (neither_leaf p (inr l)) | inr f ↦ f ]
+  right_finished p = elim (refutation.open_graph.placed p.right p.kind (right_came p)) [ inl l ↦ absurd (neither_stops p (inr (inl l))) | inr f ↦ f ]
 
   shared : (p : Pair) → Shared nodes Alike p.left p.right
   shared p = share p.left p.right p.alike (left_finished p) (right_finished p)
 
-  left_step : (p : Pair) → Step nodes Yes stack p.left (shared p).kind (shared p).left
-  left_step p = record { edge = (shared p).left_edge; inner = λ l. neither_leaf p (inl l) }
+  left_step : (p : Pair) → StepOn nodes Yes stack Stops p.left (shared p).kind (shared p).left
+  left_step p = record { step = record { edge = (shared p).left_edge; inner = λ l. neither_stops p (inl (inl l)) }; on = λ stop. neither_stops p (inl (inr stop)) }
 
-  right_step : (p : Pair) → Step nodes No stack p.right (shared p).kind (shared p).right
-  right_step p = record { edge = (shared p).right_edge; inner = λ l. neither_leaf p (inr l) }
+  right_step : (p : Pair) → StepOn nodes No stack Stops p.right (shared p).kind (shared p).right
+  right_step p = record { step = record { edge = (shared p).right_edge; inner = λ l. neither_stops p (inr (inl l)) }; on = λ stop. neither_stops p (inr (inr stop)) }
 
   -- both graphs walked in step
   abbrev pair_at : ℕ → Pair
@@ -87,8 +98,8 @@ module _ (nodes : List Node) (stack : List Entry) (from_head : ℕ → ℕ) (a b
     left = (shared (pair_at i)).left;
     right = (shared (pair_at i)).right;
     kind = max (pair_at i).kind (shared (pair_at i)).kind;
-    left_walk = then_step (Step nodes Yes stack) (pair_at i).left_walk (left_step (pair_at i));
-    right_walk = then_step (Step nodes No stack) (pair_at i).right_walk (right_step (pair_at i));
+    left_walk = then_step (StepOn nodes Yes stack Stops) (pair_at i).left_walk (left_step (pair_at i));
+    right_walk = then_step (StepOn nodes No stack Stops) (pair_at i).right_walk (right_step (pair_at i));
     alike = (shared (pair_at i)).alike;
   }
 
@@ -99,20 +110,20 @@ module _ (nodes : List Node) (stack : List Entry) (from_head : ℕ → ℕ) (a b
 
   left_walk : (i n j : ℕ) → i + n ≡ j → Walk (Step nodes Yes stack) (pair_at i).left (kind_of i n) (pair_at j).left
   left_walk i zero j e = let same : i ≡ j = omega arith in subst (λ k. Walk (Step nodes Yes stack) (pair_at i).left 0 (pair_at k).left) same stay
-  left_walk i (suc n) j e = go (left_step (pair_at i)) (left_walk (suc i) n j (omega arith))
+  left_walk i (suc n) j e = go (left_step (pair_at i)).step (left_walk (suc i) n j (omega arith))
 
   right_walk : (i n j : ℕ) → i + n ≡ j → Walk (Step nodes No stack) (pair_at i).right (kind_of i n) (pair_at j).right
   right_walk i zero j e = let same : i ≡ j = omega arith in subst (λ k. Walk (Step nodes No stack) (pair_at i).right 0 (pair_at k).right) same stay
-  right_walk i (suc n) j e = go (right_step (pair_at i)) (right_walk (suc i) n j (omega arith))
+  right_walk i (suc n) j e = go (right_step (pair_at i)).step (right_walk (suc i) n j (omega arith))
 
   closes : (i n j : ℕ) → i + suc n ≡ j → (pair_at i).left ≡ (pair_at j).left → (pair_at i).right ≡ (pair_at j).right → ⊥
   closes i n j e l r =
       let p = pair_at i in
       let two : kind_of i (suc n) ≡ 2 =
-      proof.open_graph.closed p.left p.kind (shared p).kind (shared p).left (kind_of (suc i) n) p.left_walk (left_step p)
+      proof.open_graph.closed p.left p.kind (shared p).kind (shared p).left (kind_of (suc i) n) (left_came p) (left_step p).step
       (subst (Walk (Step nodes Yes stack) (shared p).left (kind_of (suc i) n)) (sym l) (left_walk (suc i) n j (omega (arith, e)))) in
       let none : kind_of i (suc n) ≡ 0 =
-      refutation.open_graph.closed p.right p.kind (shared p).kind (shared p).right (kind_of (suc i) n) p.right_walk (right_step p)
+      refutation.open_graph.closed p.right p.kind (shared p).kind (shared p).right (kind_of (suc i) n) (right_came p) (right_step p).step
       (subst (Walk (Step nodes No stack) (shared p).right (kind_of (suc i) n)) (sym r) (right_walk (suc i) n j (omega (arith, e)))) in
       omega (arith, two, none)
 
@@ -131,29 +142,29 @@ abbrev pub HaveDistinctGoals : {I R : Type 0} → List (OpenRun I R) → Type 0
 HaveDistinctGoals {I} {R} goals =
     (i j : ℕ) (o p : OpenRun I R) → slice_get goals i ≡ Some o → slice_get goals j ≡ Some p → o.goal ≡ p.goal → i ≡ j
 
--- what the node reaches before the leaves has no goal that is under evaluation
-abbrev pub KeepsOff : {I R : Type 0} → Verdicts R → List (CacheNode I R) → List (OpenRun I R) → theory.Verdict → ℕ → Type 0
-KeepsOff {I} {R} says nodes goals verdict root =
-    (n q : ℕ) → Walk (Step (shapes_of says nodes) verdict (stack_of (frames_of says goals))) root q n → (IsLeaf (stack_of (frames_of says goals)) n → ⊥)
-    → (goal : I) → IsNodeOf nodes n goal → (i : ℕ) (o : OpenRun I R) → slice_get goals i ≡ Some o → o.goal ≡ goal → ⊥
+-- a goal that is none of those under evaluation is not the one at a place of them
+pub off_at : {I R : Type 0} (goals : List (OpenRun I R)) (goal : I) → IsOff goals goal → (i : ℕ) (o : OpenRun I R) → slice_get goals i ≡ Some o → o.goal ≡ goal → ⊥
+off_at [] goal off i o at is = no_answers i o at
+off_at (p ∷ below) goal off zero o at is = let one : p ≡ o = cc in off.0 (sym (ap (λ (x : OpenRun _ _). x.goal) one ∙ is))
+off_at (p ∷ below) goal off (suc i) o at is = off_at below goal off.1 i o at is
 
 module _ {I R : Type 0} (nodes : List (CacheNode I R)) where
-  one_goal : (at : ℕ) (goal other : I) → IsNodeOf nodes at goal → IsNodeOf nodes at other → goal ≡ other
+  pub one_goal : (at : ℕ) (goal other : I) → IsNodeOf nodes at goal → IsNodeOf nodes at other → goal ≡ other
   one_goal at goal other is also = let same : Some goal ≡ Some other = sym is ∙ also in cc
 
   -- a goal under evaluation of which the node is a leaf
-  record LeafOf (goals : List (OpenRun I R)) (n : ℕ) : Type 0 where
-    index : ℕ
-    run : OpenRun I R
-    at : slice_get goals index ≡ Some run
-    is : cycles_node run ≡ n
-    home : IsNodeOf nodes n run.goal
+  pub record LeafOf (goals : List (OpenRun I R)) (n : ℕ) : Type 0 where
+    pub index : ℕ
+    pub run : OpenRun I R
+    pub at : slice_get goals index ≡ Some run
+    pub is : cycles_node run ≡ n
+    pub home : IsNodeOf nodes n run.goal
 
-  leads_home : (o : OpenRun I R) (lead : Option NodeId) → IsSomeAnd lead (λ n. IsNodeOf nodes n.0 o.goal) → IsNodeOf nodes (elim lead [ None ↦ o.own | Some n ↦ n.0 ]) o.goal
+  pub leads_home : (o : OpenRun I R) (lead : Option NodeId) → IsSomeAnd lead (λ n. IsNodeOf nodes n.0 o.goal) → IsNodeOf nodes (elim lead [ None ↦ o.own | Some n ↦ n.0 ]) o.goal
   leads_home o None h = absurd h
   leads_home o (Some n) h = h
 
-  leaf_of : (says : Verdicts R) (goals : List (OpenRun I R)) → AreSupported says nodes goals → (n : ℕ) → IsLeaf (stack_of (frames_of says goals)) n → LeafOf goals n
+  pub leaf_of : (says : Verdicts R) (goals : List (OpenRun I R)) → AreSupported says nodes goals → (n : ℕ) → IsLeaf (stack_of (frames_of says goals)) n → LeafOf goals n
   leaf_of says [] h n l = let none = l.2 in absurd cc
   leaf_of says (o ∷ below) h n l = elim (leaf_cases (stack_of (frames_of says below)) (frame_of says o).entry n l) [
     | inl lower ↦ let w = leaf_of says below h.1 n lower in record { index = suc w.index; run = w.run; at = w.at; is = w.is; home = w.home }
@@ -214,28 +225,66 @@ module _ {I R : Type 0} (says : Verdicts R) (scripts : I → List (Reply R) → 
       let r = asks No y m both.0 both.2 in
       record { kind = rank_of both.0.kind; left = l.target; right = r.target; left_edge = l.edge; right_edge = r.edge; alike = (both.0.goal, l.home, r.home) }
 
-  -- A goal does not have both a node that may be used for yes over the goals under evaluation and one that may be used for no, if their graphs
-  -- keep off these goals.
+  -- A goal does not have both a node that may be used for yes over the goals under evaluation and one that may be used for no, if no goal that
+  -- their graphs come to is one of these goals, or one of a node at which walks stop. Two such nodes of one goal are the same.
   module _ (below : List (OpenRun I R)) (supported : AreSupported says nodes below) (distinct : HaveDistinctGoals below) (from_head : ℕ → ℕ) (goal : I) (a b : ℕ)
-      (is_a : IsNodeOf nodes a goal) (is_b : IsNodeOf nodes b goal) (ha hb : Heads) where
-    meet :
-        KeepsOff says nodes below Yes a → KeepsOff says nodes below No b → (x y p : ℕ) → Alike x y
-        → Walk (Step (shapes_of says nodes) Yes (stack_of (frames_of says below))) a p x → Walk (Step (shapes_of says nodes) No (stack_of (frames_of says below))) b p y
-        → IsLeaf (stack_of (frames_of says below)) x ⊎ IsLeaf (stack_of (frames_of says below)) y → (IsLeaf (stack_of (frames_of says below)) x → x ≡ y → ⊥) → ⊥
-    meet yes_off no_off x y p alike v w (inl leaf) apart =
-        let l = leaf_of nodes says below supported x leaf in
-        no_off y p w
-        (λ other. apart leaf (same_leaf nodes below distinct x y alike.0 alike.1 alike.2 l (leaf_of nodes says below supported y other)))
-        alike.0 alike.2 l.index l.run l.at (one_goal nodes x l.run.goal alike.0 l.home alike.1)
-    meet yes_off no_off x y p alike v w (inr leaf) apart =
-        let l = leaf_of nodes says below supported y leaf in
-        yes_off x p v
-        (λ other. apart other (same_leaf nodes below distinct x y alike.0 alike.1 alike.2 (leaf_of nodes says below supported x other) l))
-        alike.0 alike.1 l.index l.run l.at (one_goal nodes y l.run.goal alike.0 l.home alike.2)
+      (is_a : IsNodeOf nodes a goal) (is_b : IsNodeOf nodes b goal) (ha hb : Heads) (Stops : ℕ → Type 0) (Holds : I → Type 0)
+      (off : (goal : I) → Holds goal → IsOff below goal) (past : (goal : I) → Holds goal → (n : ℕ) → Stops n → IsNodeOf nodes n goal → ⊥)
+      (stop_off : (n : ℕ) → Stops n → (goal : I) → IsNodeOf nodes n goal → IsOff below goal) (stop_same : (x y : ℕ) → Stops x → Stops y → Alike x y → x ≡ y)
+      (proof : Use (shapes_of says nodes) Yes (stack_of (frames_of says below)) from_head 0 a ha) (refutation : Use (shapes_of says nodes) No (stack_of (frames_of says below)) from_head 0 b hb)
+      (yes_leads : LeadsTo says nodes Stops Holds Yes (stack_of (frames_of says below)) a) (no_leads : LeadsTo says nodes Stops Holds No (stack_of (frames_of says below)) b) where
+    abbrev stack : List Entry
+    stack = stack_of (frames_of says below)
 
-    pub one_of_both :
-        Use (shapes_of says nodes) Yes (stack_of (frames_of says below)) from_head 0 a ha
-        → Use (shapes_of says nodes) No (stack_of (frames_of says below)) from_head 0 b hb
-        → KeepsOff says nodes below Yes a → KeepsOff says nodes below No b → ⊥
-    one_of_both proof refutation yes_off no_off =
-        never_both_used (shapes_of says nodes) (stack_of (frames_of says below)) from_head a b ha hb proof refutation Alike (goal, is_a, is_b) share (meet yes_off no_off)
+    -- a leaf's goal is under evaluation
+    not_off : (n : ℕ) → IsLeaf stack n → (goal : I) → IsNodeOf nodes n goal → IsOff below goal → ⊥
+    not_off n leaf goal is goal_off = let l = leaf_of nodes says below supported n leaf in off_at below goal goal_off l.index l.run l.at (one_goal nodes n l.run.goal goal l.home is)
+
+    both_stop : (x y p : ℕ) → Walk (StepOn (shapes_of says nodes) Yes stack Stops) a p x → Walk (StepOn (shapes_of says nodes) No stack Stops) b p y → (IsLeaf stack x → x ≡ y → ⊥) → x ≡ y → ⊥
+    both_stop x y p v w apart same = elim (proof.open_graph.placed x p (unstopped (shapes_of says nodes) Yes stack Stops v)) [
+      | inl leaf ↦ apart leaf same
+      | inr f ↦ elim (refutation.open_graph.placed y p (unstopped (shapes_of says nodes) No stack Stops w)) [
+        | inl leaf ↦ apart (subst (IsLeaf stack) (sym same) leaf) same
+        | inr g ↦
+            let yes : slice_get (shapes_of says nodes) y ≡ Some (theory.Finished Yes f.0) = subst (λ n. slice_get (shapes_of says nodes) n ≡ Some (theory.Finished Yes f.0)) same f.1 in
+            let no : slice_get (shapes_of says nodes) y ≡ Some (theory.Finished No g.0) = g.1 in
+            absurd cc
+      ]
+    ]
+
+    meet :
+        (x y p : ℕ) → Alike x y
+        → Walk (StepOn (shapes_of says nodes) Yes stack Stops) a p x → Walk (StepOn (shapes_of says nodes) No stack Stops) b p y
+        → (IsLeaf stack x ⊎ Stops x) ⊎ (IsLeaf stack y ⊎ Stops y) → (IsLeaf stack x → x ≡ y → ⊥) → ⊥
+    meet x y p alike v w (inl (inl leaf)) apart = elim (no_leads y p w) [
+      | inl other ↦ apart leaf (same_leaf nodes below distinct x y alike.0 alike.1 alike.2 (leaf_of nodes says below supported x leaf) (leaf_of nodes says below supported y other))
+      | inr rest ↦ elim rest [
+        | inl stop ↦ not_off x leaf alike.0 alike.1 (stop_off y stop alike.0 alike.2)
+        | inr i ↦ not_off x leaf alike.0 alike.1 (off alike.0 (i.1 alike.0 alike.2))
+      ]
+    ]
+    meet x y p alike v w (inl (inr stop)) apart = elim (no_leads y p w) [
+      | inl leaf ↦ not_off y leaf alike.0 alike.2 (stop_off x stop alike.0 alike.1)
+      | inr rest ↦ elim rest [
+        | inl other ↦ both_stop x y p v w apart (stop_same x y stop other alike)
+        | inr i ↦ past alike.0 (i.1 alike.0 alike.2) x stop alike.1
+      ]
+    ]
+    meet x y p alike v w (inr (inl leaf)) apart = elim (yes_leads x p v) [
+      | inl other ↦ apart other (same_leaf nodes below distinct x y alike.0 alike.1 alike.2 (leaf_of nodes says below supported x other) (leaf_of nodes says below supported y leaf))
+      | inr rest ↦ elim rest [
+        | inl stop ↦ not_off y leaf alike.0 alike.2 (stop_off x stop alike.0 alike.1)
+        | inr i ↦ not_off y leaf alike.0 alike.2 (off alike.0 (i.1 alike.0 alike.1))
+      ]
+    ]
+    meet x y p alike v w (inr (inr stop)) apart = elim (yes_leads x p v) [
+      | inl leaf ↦ not_off x leaf alike.0 alike.1 (stop_off y stop alike.0 alike.2)
+      | inr rest ↦ elim rest [
+        | inl other ↦ both_stop x y p v w apart (stop_same x y other stop alike)
+        | inr i ↦ past alike.0 (i.1 alike.0 alike.1) y stop alike.2
+      ]
+    ]
+
+    pub one_of_both : ⊥
+    one_of_both =
+        never_both_used (shapes_of says nodes) stack Stops from_head a b ha hb proof refutation Alike (goal, is_a, is_b) share meet

@@ -5,13 +5,13 @@ use Rattle.open_graphs.specs.Graph as theory
 use Rattle.open_graphs.proofs.Closed.{closed_is_graph, graph_is_use}
 use Rattle.open_graphs.proofs.States.{verdict_cases}
 use Rattle.global_cache.proofs.Stores.{put_cases}
-use Rattle.search_rules.specs.Below.{CacheNode, EvaluationResult, KeepsGoals, no_heads, NodeId, place_of, shapes_of, stack_of, Store, stored_at, stored_from, StoredResult, Success, verdict_of, Verdicts}
+use Rattle.search_rules.specs.Below.{CacheNode, EvaluationResult, KeepsFinished, KeepsGoals, NestedPaths, no_heads, NodeId, place_of, shapes_of, stack_of, Store, stored_at, stored_from, StoredResult, Success, verdict_of, Verdicts}
 use Rattle.search_rules.specs.Free.{AreFree, IsFree}
 use Rattle.search_rules.specs.Justified.{frames_of, OpenRun}
 use Rattle.search_rules.specs.Lone.{IsLone, LoneRequire}
 use Rattle.search_rules.specs.Results.{NotStored, Put, StoresAnswer}
 use Rattle.search_rules.specs.Settled.{AreSettled, IsKnown, LeadsOnly}
-use Rattle.search_rules.proofs.answers.Leading.{leads_grown}
+use Rattle.search_rules.proofs.answers.Leading.{free_graph, leads_finished, leads_grown}
 use Rattle.search_rules.proofs.answers.OffStack.{known_more}
 
 module _ {X I R A T : Type 0} (says : Verdicts R) (same : I → I → Bool) (nodes after : List (CacheNode I R)) (kept : KeepsGoals nodes after) (grown : theory.Grown (shapes_of says nodes) (shapes_of says after)) (runs : List (OpenRun I R)) (results later : Store I (StoredResult X I R A T)) (stay : (goal : I) → IsLone same results goal → IsLone same later goal) (free : AreFree says same nodes runs results) (goals : List I) (settled : AreSettled says same nodes results goals) where
@@ -58,3 +58,17 @@ settled_grown says same nodes after kept grown runs results free goals settled =
   leads = leads_before says same nodes after kept grown runs results results (λ goal lone. lone) free goals settled;
   require = settled.require;
 }
+
+-- what is finished stays, as after a move that failed
+pub settled_finished : {X I R A T : Type 0} (says : Verdicts R) (same : I → I → Bool) (nodes after : List (CacheNode I R)) → KeepsFinished nodes after → (runs : List (OpenRun I R)) (results : Store I (StoredResult X I R A T)) → AreFree says same nodes runs results → (goals : List I) → AreSettled says same nodes results goals → AreSettled says same after results goals
+settled_finished {X} {I} {R} {A} {T} says same nodes after kept runs results free goals settled = record {
+  leads = λ goal s within at. leads_at s.nested_goals goal s.result.result s.node (free goal Success s at) (settled.leads goal s within at);
+  require = settled.require;
+}
+  where
+    leads_at : (nested : NestedPaths I) (goal : I) (r : R) (o : Option NodeId) → IsFree says nodes runs goal r o → IfSome o (λ n. LeadsOnly says nodes (IsKnown same results nested) (verdict_of says r) [] n.0) → IfSome o (λ n. LeadsOnly says after (IsKnown same results nested) (verdict_of says r) [] n.0)
+    leads_at nested goal r None is_free leads = tt
+    leads_at nested goal r (Some n) is_free leads = elim (verdict_cases (verdict_of says r) theory.Neither) [
+      | inl neither ↦ let none : Some n ≡ None = is_free.neither neither in absurd cc
+      | inr definite ↦ leads_finished says nodes after kept (IsKnown same results nested) (verdict_of says r) [] n.0 (free_graph says nodes runs (verdict_of says r) n.0 (is_free.definite definite).1) leads
+    ]

@@ -1,24 +1,23 @@
--- Goals under evaluation whose answers stay off them, once the newest goal's run has ended: it is popped, or run again.
-use Rattle.std.proofs.Common.{◌≡◌, ℕ, Bool, true, false, List, [], ◌∷◌, ◌++◌, length, IsSome, Option, None, Some, refl, sym, ◌∙◌, subst, ◌⊎◌, inl, inr}
-use Rattle.std.specs.Option.{IfSome, IsSomeAnd, option_or}
+-- Goals under evaluation whose answers stay off them, once the newest goal's run has ended: the node of its result, and what is left if it
+-- is run again.
+use Rattle.std.proofs.Common.{◌≡◌, ◌≢◌, ◌<◌, ◌≤◌, ℕ, Bool, true, false, List, [], ◌∷◌, ◌++◌, length, map, IsSome, Option, None, Some, option_map, refl, sym, ap, ◌∙◌, subst, inl, inr}
+use Rattle.std.specs.Option.{IsSomeAnd, option_or}
 use Rattle.std.proofs.lemmas.Bool.{false≢true, or_parts}
 use Rattle.open_graphs.specs.Graph as theory
 use Rattle.open_graphs.proofs.Runs.{answered_grows}
-use Rattle.open_goals.specs.NestedGoals.{TakesNestedGoals}
 use Rattle.global_cache.proofs.NodeLists.{Grown-appended, KeepsGoals-appended}
-use Rattle.search_rules.specs.Below.{Answer, AnswersNewest, CacheNode, Heads, heads_shape, IsDefinite, IsNodeOf, is_in_cycle, NestsAnswer, NodeId, open_node, PathKind, paths_at, rerun_with, Run, shapes_of, some_heads, stack_of, StackEntry, Store, StoredResult, UsesNo, verdict_of, Verdicts, with_no_record, rank_of, path_kind}
-use Rattle.search_rules.specs.Justified.{AreJustified, frame_of, frames_of, OpenRun}
-use Rattle.search_rules.specs.Lone.{IsLone}
-use Rattle.search_rules.specs.Runs.{HasResultNode, run_of, runs_of}
-use Rattle.search_rules.specs.Settled.{AnswerStaysOff, AreSettledGoals, IsKnown, IsOff, LeadsOnly}
+use Rattle.search_rules.specs.Apart.{StandApart}
+use Rattle.search_rules.specs.Below.{CacheNode, Heads, IsDefinite, IsNodeOf, is_in_cycle, KeepsGoals, Lists, NodeId, open_node, ProvisionalCacheEntry, rerun_with, Run, RunRecord, shapes_of, some_heads, stack_of, StackEntry, Store, StoredResult, verdict_of, Verdicts, with_no_record}
+use Rattle.search_rules.specs.Justified.{AreJustified, cycles_node, frame_of, frames_of}
+use Rattle.search_rules.specs.Leads.{LeadsTo}
+use Rattle.search_rules.specs.Older.{HasEntry, IsStop, RestOnOlder}
+use Rattle.search_rules.specs.Runs.{Again, Ended, HasResultNode, LeftOpen, run_of, runs_of}
+use Rattle.search_rules.specs.Settled.{AreSettledGoals, IsBehind}
 use Rattle.search_rules.specs.Tallies.{tally_of}
-use Rattle.search_rules.proofs.answers.Kept.{taken_run}
-use Rattle.search_rules.proofs.answers.Leading.{leads_grown, leads_headless, leads_weaker}
-use Rattle.search_rules.proofs.answers.NestedGoals.{taken_come}
-use Rattle.search_rules.proofs.answers.OffStack.{goals_grown, off_new, result_leads}
-use Rattle.search_rules.proofs.answers.SettledGoals.{answered_goals}
+use Rattle.search_rules.proofs.answers.OffStack.{aside_leads, behind_leads, goals_kept, off_new, own_no_older, result_leads}
+use Rattle.search_rules.proofs.answers.OlderEntries.{Follows, StaySame}
 use Rattle.search_rules.proofs.justified.Finishing.{rebases}
-use Rattle.search_rules.proofs.justified.Justified.{EndsWithNode, lead_is, leads_there, popped, tally_again, used_at}
+use Rattle.search_rules.proofs.justified.Justified.{EndsWithNode, lead_is, leads_there, tally_again}
 
 no_heads_at : (heads : Heads) → some_heads heads ≡ false → heads ≡ []
 no_heads_at [] none = refl
@@ -28,136 +27,109 @@ no_heads_at (head ∷ heads) none = absurd cc
 pub headless : {X I R A T : Type 0} (e : StackEntry X I R A T) → is_in_cycle e.state ≡ false → e.state.heads ≡ []
 headless e apart = no_heads_at e.state.heads (or_parts _ (some_heads e.state.heads) apart).1
 
-module _ {X F I R A T : Type 0} (says : Verdicts R) (same : I → I → Bool) (by_value : (x y : I) → same x y ≡ true → x ≡ y) (nodes after : List (CacheNode I R)) (results later : Store I (StoredResult X I R A T)) (stay : (goal : I) → IsLone same results goal → IsLone same later goal)
-    (s : StackEntry X I R A T × Run X F I R A T) (below : List (StackEntry X I R A T × Run X F I R A T)) (h : AreJustified says nodes (runs_of (s ∷ below))) (r : R) (target : Option NodeId) (ended : HasResultNode says nodes after s.0.state.provisional_result s.1.node s.0.state.node s.1.progress r target) (definite : IsDefinite says r) (goals : AreSettledGoals says same nodes results (s ∷ below)) where
+-- ---- the node of its result is its first one
+
+module _ {I R : Type 0} (says : Verdicts R) where
+  -- a result that says what the one before said has its node, and the first one has the run's own
+  result_node_at :
+      (before after : List (CacheNode I R)) (earlier : Option R) (node : NodeId) (cycles_lead : Option NodeId) (p : RunRecord I R) (r : R) (target : Option NodeId) → HasResultNode says before after earlier node cycles_lead p r target → IsDefinite says r
+      → ((x : R) → earlier ≡ Some x → verdict_of says x ≡ verdict_of says r) → (own first : ℕ) → own ≡ node.0 → IsSomeAnd cycles_lead (λ n. n.0 ≡ first) → (earlier ≡ None → first ≡ own) → IsSomeAnd target (λ n. n.0 ≡ first)
+  result_node_at before after earlier node cycles_lead p r target (Again some is same) definite again own first own_is lead_is first_is = lead_is
+  result_node_at before after None node cycles_lead p r target (Ended run of_result done some not_again is edges) definite again own first own_is lead_is first_is = sym own_is ∙ sym (first_is refl)
+  result_node_at before after (Some x) node cycles_lead p r target (Ended run of_result done some not_again is edges) definite again own first own_is lead_is first_is = absurd (not_again (ap Some (again x refl)))
+  result_node_at before after earlier node cycles_lead p r target (LeftOpen neither is) definite again own first own_is lead_is first_is = absurd (definite neither)
+
+lead_first : (own : ℕ) (lead : Option NodeId) → IsSome lead → IsSomeAnd lead (λ n. n.0 ≡ elim lead [ None ↦ own | Some n ↦ n.0 ])
+lead_first own None some = absurd (false≢true some)
+lead_first own (Some n) some = refl
+
+there : {A : Type 0} (P : A → Type 0) (o : Option A) → IsSomeAnd o P → IsSome o
+there P None at = absurd at
+there P (Some x) at = refl
+
+module _ {X F I R A T : Type 0} (says : Verdicts R) (same : I → I → Bool) (nodes after : List (CacheNode I R)) (results : Store I (StoredResult X I R A T)) (entries : Lists I (ProvisionalCacheEntry X I R A T))
+    (s : StackEntry X I R A T × Run X F I R A T) (below : List (StackEntry X I R A T × Run X F I R A T)) (h : AreJustified says nodes (runs_of (s ∷ below))) (r : R) (target : Option NodeId) (ended : HasResultNode says nodes after s.0.state.provisional_result s.1.node s.0.state.node s.1.progress r target) (definite : IsDefinite says r)
+    (apart : StandApart same results (s ∷ below) entries) (goals : AreSettledGoals says same nodes results entries None (s ∷ below)) (again : (earlier : R) → s.0.state.provisional_result ≡ Some earlier → verdict_of says earlier ≡ verdict_of says r) where
   pub ends : EndsWithNode says nodes after (run_of s) (runs_of below) r target
   ends = rebases says nodes after s.0 s.1 below h r target ended
 
   pub grows : theory.Grown (shapes_of says nodes) (shapes_of says after)
   grows = answered_grows (shapes_of says nodes) (frame_of says (run_of s)).entry (run_of s).own ends.edges (verdict_of says r) h.sound.running.0.unfinished ends.answered
 
+  first_run_node : s.0.state.provisional_result ≡ None → cycles_node (run_of s) ≡ s.1.node.0
+  first_run_node none = elim h.sound.running.0.which_run [ inl first ↦ first.0 | inr later ↦ absurd (later.1 (ap (option_map (verdict_of says)) none)) ]
+
+  pub target_first : IsSomeAnd target (λ n. n.0 ≡ cycles_node (run_of s))
+  target_first =
+      result_node_at says nodes after s.0.state.provisional_result s.1.node s.0.state.node s.1.progress r target ended definite again s.1.node.0 (cycles_node (run_of s)) refl
+      (lead_first s.1.node.0 s.0.state.node (there (λ n. IsNodeOf nodes n.0 s.0.input) s.0.state.node h.supported.0.lead_home)) first_run_node
+
+  one_place : (o : Option NodeId) (place first : ℕ) → IsSomeAnd o (λ n. (n.0 ≡ place) × IsNodeOf after n.0 s.0.input) → IsSomeAnd o (λ n. n.0 ≡ first) → place ≡ first
+  one_place None place first at is = absurd at
+  one_place (Some n) place first at is = sym at.0 ∙ is
+
+  pub place_first : ends.place ≡ cycles_node (run_of s)
+  place_first = one_place target ends.place (cycles_node (run_of s)) (ends.definite definite) target_first
+
   abbrev Left : I → Type 0
-  Left goal = ((goal ≡ s.0.input) ⊎ IsKnown same results s.0.state.nested_goals goal) × IsOff (runs_of below) goal
+  Left = IsBehind same results entries (run_of s) s.0.state.nested_goals (runs_of below)
 
-  leads : LeadsOnly says after Left (verdict_of says r) (stack_of (frames_of says (runs_of below))) ends.place
-  leads = result_leads says same nodes after results (run_of s) (runs_of below) h r target ends s.0.state.nested_goals goals.0.off goals.0.apart definite
+  -- what it leads to
+  pub leads : LeadsTo says after (IsStop same entries (run_of s)) Left (verdict_of says r) (stack_of (frames_of says (runs_of below))) ends.place
+  leads = result_leads says same nodes after results entries (run_of s) (runs_of below) h r target ends s.0.state.nested_goals goals.0.off goals.0.apart (own_no_older same results entries s below apart) definite
 
-  -- the goals below it
-  below_goals : AreSettledGoals says same after later below
-  below_goals = goals_grown same results later stay says nodes after ends.goals_kept grows below h.supported.1 h.sound.running.1 goals.1
+  -- ---- it is run again
 
-  -- where nothing is nested in it, and it rests on no goal, it is lone then
-  module _ (lone : s.0.state.nested_goals ≡ [] → s.0.state.heads ≡ [] → IsLone same later s.0.input) where
-    own_known : IsKnown same later s.0.state.nested_goals s.0.input
-    own_known = elim goals.0.itself [ inl there ↦ inl there | inr w ↦ inr (lone w.0 (headless s.0 w.1)) ]
+  module _ (more : Lists I (ProvisionalCacheEntry X I R A T)) (stay : StaySame same (λ node. node < cycles_node (run_of s)) entries more) (comes : (goal : I) (entry : ProvisionalCacheEntry X I R A T) (node : ℕ) → HasEntry same more goal entry node → HasEntry same entries goal entry node)
+      (frame : F) (own : NodeId) (at : own.0 ≡ length after) (used : is_in_cycle s.0.state ≡ true) where
+    abbrev lead : Option NodeId
+    lead = option_or target s.0.state.node
 
-    left_known : (goal : I) → Left goal → IsKnown same later s.0.state.nested_goals goal
-    left_known goal p = elim p.0 [
-      | inl own ↦ subst (IsKnown same later s.0.state.nested_goals) (sym own) own_known
-      | inr known ↦ elim known [ inl there ↦ inl there | inr alone ↦ inr (stay goal alone) ]
-    ]
+    abbrev opened : List (CacheNode I R)
+    opened = after ++ open_node s.0.input ∷ []
 
-    -- the graph of its result has goals alone that it knows, if it has no heads
-    pub result_known : s.0.state.heads ≡ [] → IfSome target (λ n. LeadsOnly says after (IsKnown same later s.0.state.nested_goals) (verdict_of says r) [] n.0)
-    result_known none = at target (ends.definite definite)
-      where
-        over_none : LeadsOnly says after (IsKnown same later s.0.state.nested_goals) (verdict_of says r) [] ends.place
-        over_none =
-            leads_headless says after (IsKnown same later s.0.state.nested_goals) (verdict_of says r) (stack_of (frames_of says (runs_of below))) (path_kind (stack_of (frames_of says (runs_of below))) (rank_of s.0.step_kind_from_parent)) 0 ends.place (heads_shape s.0.state.heads)
-            (subst (λ heads. (depth : ℕ) → UsesNo (heads_shape heads) depth) (sym none) (λ depth path cycle recorded. recorded.1 refl))
-            ((popped says nodes after (run_of s) (runs_of below) h r target ends).1 definite)
-            (leads_weaker says after Left (IsKnown same later s.0.state.nested_goals) left_known (verdict_of says r) (stack_of (frames_of says (runs_of below))) ends.place leads)
+    abbrev rerun : StackEntry X I R A T × Run X F I R A T
+    rerun = rerun_with r lead frame own (with_no_record s)
 
-        at : (o : Option NodeId) → IsSomeAnd o (λ n. (n.0 ≡ ends.place) × IsNodeOf after n.0 s.0.input) → IfSome o (λ n. LeadsOnly says after (IsKnown same later s.0.state.nested_goals) (verdict_of says r) [] n.0)
-        at None there = absurd there
-        at (Some n) there = subst (LeadsOnly says after (IsKnown same later s.0.state.nested_goals) (verdict_of says r) []) (sym there.0) over_none
+    pub opened_kept : KeepsGoals nodes opened
+    opened_kept place goal is = KeepsGoals-appended true after s.0.input place goal (ends.goals_kept place goal is)
 
-    -- the goal below it takes its answer over
-    module _ (new : List (StackEntry X I R A T × Run X F I R A T)) (step : PathKind) (required : ℕ) (overflow : Bool) (a : AnswersNewest step required overflow s.0.state.heads below new) (nests : NestsAnswer same step s.0.state.nested_goals below new) where
-      none_nested : s.0.state.nested_goals ≡ [] → s.0.state.heads ≡ []
-      none_nested empty = elim goals.0.itself [
-        | inl there ↦ absurd (false≢true (subst (λ n. IsSome (paths_at same n s.0.input)) empty there))
-        | inr w ↦ headless s.0 w.1
-      ]
+    pub opened_grown : theory.Grown (shapes_of says nodes) (shapes_of says opened)
+    opened_grown a v edges is = Grown-appended says true after s.0.input a v edges (grows a v edges is)
 
-      pub parent_goals : AreSettledGoals says same after later new
-      parent_goals = answered_goals says same by_value after later below new step required overflow s.0.state.heads a s.0.state.nested_goals none_nested nests below_goals
+    place_then : cycles_node (run_of rerun) ≡ ends.place
+    place_then = leads_there says nodes after (run_of s) (runs_of below) h r target ends own at lead (lead_is says nodes after (run_of s) (runs_of below) h r target ends)
 
-      abbrev parent : StackEntry X I R A T × Run X F I R A T
-      parent = (record a.entry { state = a.state }, a.run)
+    follows : Follows (run_of s) (run_of rerun)
+    follows = record { goal_is = refl; first_is = place_then ∙ place_first; heads = λ head some. some }
 
-      takes : TakesNestedGoals same a.entry.input step s.0.state.nested_goals a.entry.state.nested_goals a.state.nested_goals
-      takes = subst (NestsAnswer same step s.0.state.nested_goals ((a.entry, a.run) ∷ a.below)) a.is (subst (λ l. NestsAnswer same step s.0.state.nested_goals l new) a.was nests)
+    leads_then : LeadsTo says opened (IsStop same more (run_of rerun)) (IsBehind same results more (run_of rerun) s.0.state.nested_goals (runs_of below)) (verdict_of says r) (stack_of (frames_of says (runs_of below))) (cycles_node (run_of rerun))
+    leads_then =
+        subst (LeadsTo says opened (IsStop same more (run_of rerun)) (IsBehind same results more (run_of rerun) s.0.state.nested_goals (runs_of below)) (verdict_of says r) (stack_of (frames_of says (runs_of below)))) (sym place_then)
+        (behind_leads says same after opened (KeepsGoals-appended true after s.0.input) (Grown-appended says true after s.0.input) results results (λ goal lone. lone) (λ node. node < cycles_node (run_of s)) entries more stay (run_of s) (run_of rerun) follows (λ node older. older)
+        s.0.state.nested_goals s.0.state.nested_goals (λ goal nested. nested) (runs_of below) (verdict_of says r) ends.place leads)
 
-      carried : (P : List (OpenRun I R) → Type 0) → P (runs_of below) → P (record (run_of (a.entry, a.run)) { tally = tally_of a.state a.run.candidates } ∷ runs_of a.below) → P (runs_of (parent ∷ a.below))
-      carried P was now = subst (λ o. P (o ∷ runs_of a.below)) (sym (taken_run says after below new step required overflow s.0.state.heads a)) now
+    pub rerun_goals : AreSettledGoals says same opened results more None (rerun ∷ below)
+    rerun_goals = (
+      record {
+        off = off_new says same opened results more s.0.input s.0.step_kind_from_parent own lead (Some r) (tally_again (tally_of s.0.state s.1.candidates)) s.0.state.nested_goals (runs_of below)
+            (λ other is d.
+            let one : r ≡ other = cc in
+            subst (λ x. LeadsTo says opened (IsStop same more (run_of rerun)) (IsBehind same results more (run_of rerun) s.0.state.nested_goals (runs_of below)) (verdict_of says x) (stack_of (frames_of says (runs_of below))) (cycles_node (run_of rerun))) one leads_then);
+        made = λ goal entry node has since before.
+            aside_leads says same nodes opened opened_kept opened_grown results results (λ g lone. lone) (λ node. node < cycles_node (run_of s)) entries more stay (run_of s) (run_of rerun) follows (λ node older. older)
+            s.0.state.nested_goals s.0.state.nested_goals (λ g nested. nested) (runs_of below) (verdict_of says entry.result) node
+            (goals.0.made goal entry node (comes goal entry node has) (subst (λ first. first ≤ node) follows.first_is since) tt);
+        began = tt;
+        apart = goals.0.apart;
+        itself = elim goals.0.itself [ inl nested ↦ inl nested | inr w ↦ absurd (false≢true (sym w.1 ∙ used)) ];
+        first = λ none. absurd cc;
+        stored = goals.0.stored;
+      },
+      subst (λ first. AreSettledGoals says same opened results more (Some first) below) (sym follows.first_is)
+          (goals_kept says same nodes opened opened_kept opened_grown results results (λ goal lone. lone) (λ node. node < cycles_node (run_of s)) entries more stay below (Some (cycles_node (run_of s))) (λ node older. older) goals.1),
+    )
 
-      same_below : (P : List (OpenRun I R) → Type 0) → P (runs_of below) → P (run_of (a.entry, a.run) ∷ runs_of a.below)
-      same_below P was = subst (λ l. P (runs_of l)) a.was was
-
-      abbrev IsOffParent : I → Type 0
-      IsOffParent goal = IsKnown same later a.state.nested_goals goal × IsOff (runs_of (parent ∷ a.below)) goal
-
-      parent_off : (goal : I) → Left goal → IsOffParent goal
-      parent_off goal p = (
-        elim (left_known goal p) [
-          | inl there ↦ inl (taken_come same by_value a.entry.input step s.0.state.nested_goals a.entry.state.nested_goals a.state.nested_goals takes goal there)
-          | inr alone ↦ inr alone
-        ],
-        carried (λ l. IsOff l goal) p.1 (same_below (λ l. IsOff l goal) p.1),
-      )
-
-      parent_leads : LeadsOnly says after IsOffParent (verdict_of says r) (stack_of (frames_of says (runs_of (parent ∷ a.below)))) ends.place
-      parent_leads =
-          let weaker = leads_weaker says after Left IsOffParent parent_off (verdict_of says r) (stack_of (frames_of says (runs_of below))) ends.place leads in
-          carried (λ l. LeadsOnly says after IsOffParent (verdict_of says r) (stack_of (frames_of says l)) ends.place) weaker (same_below (λ l. LeadsOnly says after IsOffParent (verdict_of says r) (stack_of (frames_of says l)) ends.place) weaker)
-
-      pub parent_stays_off : AnswerStaysOff says same after later new (Answer r) target
-      parent_stays_off =
-          subst (λ l. AnswerStaysOff says same after later l (Answer r) target) (sym a.is)
-          (λ other is d.
-          let one : r ≡ other = cc in
-          subst (λ x. IsSomeAnd target (λ n. LeadsOnly says after IsOffParent (verdict_of says x) (stack_of (frames_of says (runs_of (parent ∷ a.below)))) n.0)) one
-          (used_at says nodes after (run_of s) (runs_of below) h r target ends target definite (ends.definite definite) (λ n. LeadsOnly says after IsOffParent (verdict_of says r) (stack_of (frames_of says (runs_of (parent ∷ a.below)))) n) (λ of_goal. parent_leads)))
-
--- it is run again
-module _ {X F I R A T : Type 0} (says : Verdicts R) (same : I → I → Bool) (nodes after : List (CacheNode I R)) (results : Store I (StoredResult X I R A T))
-    (s : StackEntry X I R A T × Run X F I R A T) (below : List (StackEntry X I R A T × Run X F I R A T)) (h : AreJustified says nodes (runs_of (s ∷ below))) (r : R) (target : Option NodeId) (ended : HasResultNode says nodes after s.0.state.provisional_result s.1.node s.0.state.node s.1.progress r target) (definite : IsDefinite says r) (goals : AreSettledGoals says same nodes results (s ∷ below))
-    (frame : F) (own : NodeId) (at : own.0 ≡ length after) (used : is_in_cycle s.0.state ≡ true) where
-  abbrev lead : Option NodeId
-  lead = option_or target s.0.state.node
-
-  abbrev opened : List (CacheNode I R)
-  opened = after ++ open_node s.0.input ∷ []
-
-  pub run_ends : EndsWithNode says nodes after (run_of s) (runs_of below) r target
-  run_ends = rebases says nodes after s.0 s.1 below h r target ended
-
-  pub run_grows : theory.Grown (shapes_of says nodes) (shapes_of says after)
-  run_grows = answered_grows (shapes_of says nodes) (frame_of says (run_of s)).entry (run_of s).own run_ends.edges (verdict_of says r) h.sound.running.0.unfinished run_ends.answered
-
-  abbrev LeftThen : I → Type 0
-  LeftThen goal = ((goal ≡ s.0.input) ⊎ IsKnown same results s.0.state.nested_goals goal) × IsOff (runs_of below) goal
-
-  leads_then : LeadsOnly says opened LeftThen (verdict_of says r) (stack_of (frames_of says (runs_of below))) run_ends.place
-  leads_then =
-      leads_grown says after opened (KeepsGoals-appended true after s.0.input) (Grown-appended says true after s.0.input) LeftThen LeftThen (λ goal p. p) (verdict_of says r) (stack_of (frames_of says (runs_of below))) run_ends.place
-      ((popped says nodes after (run_of s) (runs_of below) h r target run_ends).1 definite).open_graph
-      (result_leads says same nodes after results (run_of s) (runs_of below) h r target run_ends s.0.state.nested_goals goals.0.off goals.0.apart definite)
-
-  pub rerun_goals : AreSettledGoals says same opened results (rerun_with r lead frame own (with_no_record s) ∷ below)
-  rerun_goals = (
-    record {
-      off = off_new says same opened results s.0.input s.0.step_kind_from_parent own lead (Some r) (tally_again (tally_of s.0.state s.1.candidates)) s.0.state.nested_goals (runs_of below)
-          (λ other is d.
-          let one : r ≡ other = cc in
-          subst (λ x. LeadsOnly says opened LeftThen (verdict_of says x) (stack_of (frames_of says (runs_of below))) (elim lead [ None ↦ own.0 | Some n ↦ n.0 ])) one
-          (subst (LeadsOnly says opened LeftThen (verdict_of says r) (stack_of (frames_of says (runs_of below)))) (sym (leads_there says nodes after (run_of s) (runs_of below) h r target run_ends own at lead (lead_is says nodes after (run_of s) (runs_of below) h r target run_ends))) leads_then));
-      apart = goals.0.apart;
-      itself = elim goals.0.itself [ inl there ↦ inl there | inr w ↦ absurd (false≢true (sym w.1 ∙ used)) ];
-      first = λ none. absurd cc;
-      stored = goals.0.stored;
-    },
-    goals_grown same results results (λ goal lone. lone) says nodes opened (λ place goal is. KeepsGoals-appended true after s.0.input place goal (run_ends.goals_kept place goal is)) (λ a v edges is. Grown-appended says true after s.0.input a v edges (run_grows a v edges is))
-        below h.supported.1 h.sound.running.1 goals.1,
-  )
+    -- entries rest on older goals still
+    pub rerun_older : RestOnOlder same entries (map cycles_node (runs_of (s ∷ below))) → RestOnOlder same more (map cycles_node (runs_of (rerun ∷ below)))
+    rerun_older older = subst (λ first. RestOnOlder same more (first ∷ map cycles_node (runs_of below))) (sym follows.first_is) (λ goal entry node has. older goal entry node (comes goal entry node has))

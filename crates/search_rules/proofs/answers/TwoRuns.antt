@@ -1,5 +1,5 @@
 -- A goal's later run says what the run before it said, so it needs no third one.
-use Rattle.std.proofs.Common.{◌≡◌, ◌≢◌, ◌≤◌, ◌↔◌, ℕ, zero, suc, Bool, true, false, IsTrue, List, [], ◌∷◌, Option, None, Some, option_map, Result, Err, slice_get, refl, sym, ap, ◌∙◌, subst, ◌⊎◌, inl, inr, arith}
+use Rattle.std.proofs.Common.{◌≡◌, ◌≢◌, ◌≤◌, ◌↔◌, ℕ, zero, suc, Bool, true, false, IsTrue, List, [], ◌∷◌, Option, None, Some, option_map, Result, Err, refl, sym, ap, ◌∙◌, subst, inl, inr, arith}
 use Rattle.std.specs.Option.{IfSome, IsSomeAnd}
 use Rattle.open_graphs.specs.Graph as theory
 use Rattle.open_graphs.proofs.Keep.{growth_keeps_use}
@@ -7,16 +7,20 @@ use Rattle.open_graphs.proofs.Runs.{answered_grows}
 use Rattle.open_graphs.proofs.States.{verdict_cases}
 use Rattle.global_cache.proofs.NodeLists.{AreRuns-ended}
 use Rattle.search_context.proofs.Rules.{KeepsRule}
-use Rattle.search_rules.specs.Below.{AreRuns, CacheNode, edges_of, EndedRun, HeadUsages, heads_shape, IsDefinite, IsNodeOf, Neither, No, NodeId, Overlap, path_kind, PathKind, Question, rank_of, RebaseReason, Reply, Request, Run, shapes_of, stack_of, StackEntry, Store, StoredResult, Use, Verdict, verdict_of, Verdicts, with_run, Yes}
+use Rattle.search_rules.specs.Below.{AreRuns, CacheNode, edges_of, EndedRun, entries_at, HeadUsages, heads_shape, IsDefinite, IsNodeOf, Lists, Neither, No, NodeId, Overlap, path_kind, PathKind, ProvisionalCacheEntry, Question, rank_of, RebaseReason, Reply, Request, Run, shapes_of, stack_of, StackEntry, Store, StoredResult, Use, Verdict, verdict_of, Verdicts, with_run, Yes}
 use Rattle.search_rules.specs.EndOfRun.{IsEndOfRun, Limited, Repeats, Stable, Unused}
 use Rattle.search_rules.specs.Justified.{AreJustified, cycles_node, frame_of, frames_of, OpenRun, verdict_shape}
 use Rattle.search_rules.specs.Runs.{EndsNewest, EndsRun, HasResultNode, run_of, runs_of}
-use Rattle.search_rules.specs.Settled.{AreSettledGoals, HasOneOfEach, IsKnown, IsOff, LeadsOnly}
+use Rattle.search_rules.specs.Apart.{StandApart}
+use Rattle.search_rules.specs.Leads.{LeadsTo}
+use Rattle.search_rules.specs.Older.{HasEntry, IsStop}
+use Rattle.search_rules.specs.Provisional.{AreReady}
+use Rattle.search_rules.specs.Settled.{AreSettledGoals, HasOneOfEach, IsBehind, IsOff}
 use Rattle.search_rules.specs.declared.end_of_run.Unstable.{Unstable}
 use Rattle.search_rules.specs.declared.end_of_run.Unstable.TheVariants.{Again, AtLimit}
-use Rattle.search_rules.proofs.answers.Leading.{leads_grown}
-use Rattle.search_rules.proofs.answers.OffStack.{result_leads}
-use Rattle.search_rules.proofs.answers.OneOfBoth.{HaveDistinctGoals, KeepsOff, one_of_both}
+use Rattle.search_rules.proofs.answers.OffStack.{behind_leads, own_no_older, result_leads}
+use Rattle.search_rules.proofs.answers.OlderEntries.{all_stay, follows_itself, known_entry, same_entry, same_node}
+use Rattle.search_rules.proofs.answers.OneOfBoth.{HaveDistinctGoals, off_at, one_goal, one_of_both}
 use Rattle.search_rules.proofs.justified.Finishing.{ended_node, ends_run, neither_is, open_for_run, rebases}
 use Rattle.search_rules.proofs.justified.Justified.{below_is_justified, EndsWithNode, no_answers, popped}
 use Rattle.search_rules.proofs.justified.Replies.{verdict_is}
@@ -33,34 +37,21 @@ sorted true false one = record { verdict = Yes; yes = (λ is. refl, λ is. refl)
 sorted false true one = record { verdict = No; yes = (λ is. absurd cc, λ is. absurd cc); no = (λ is. refl, λ is. refl) }
 sorted false false one = record { verdict = Neither; yes = (λ is. absurd cc, λ is. absurd cc); no = (λ is. absurd cc, λ is. absurd cc) }
 
--- a goal that is none of those under evaluation is not the one at a place of them
-off_at : {I R : Type 0} (goals : List (OpenRun I R)) (goal : I) → IsOff goals goal → (i : ℕ) (o : OpenRun I R) → slice_get goals i ≡ Some o → o.goal ≡ goal → ⊥
-off_at [] goal off i o at is = no_answers i o at
-off_at (p ∷ below) goal off zero o at is = let one : p ≡ o = cc in off.0 (sym (ap (λ (x : OpenRun _ _). x.goal) one ∙ is))
-off_at (p ∷ below) goal off (suc i) o at is = off_at below goal off.1 i o at is
-
-module _ {X F I R A T : Type 0} (says : Verdicts R) (same : I → I → Bool) (nodes : List (CacheNode I R)) (results : Store I (StoredResult X I R A T)) where
+module _ {X F I R A T : Type 0} (says : Verdicts R) (same : I → I → Bool) (nodes : List (CacheNode I R)) (results : Store I (StoredResult X I R A T)) (entries : Lists I (ProvisionalCacheEntry X I R A T)) where
   -- no two of the goals are the same
-  distinct_goals : (goals : List (StackEntry X I R A T × Run X F I R A T)) → AreSettledGoals says same nodes results goals → HaveDistinctGoals (runs_of goals)
-  distinct_goals [] h i j o p at at' is = absurd (no_answers i o at)
-  distinct_goals (s ∷ below) h zero zero o p at at' is = refl
-  distinct_goals (s ∷ below) h zero (suc j) o p at at' is = let one : run_of s ≡ o = cc in absurd (off_at (runs_of below) s.0.input h.0.apart j p at' (sym is ∙ ap (λ (x : OpenRun I R). x.goal) (sym one)))
-  distinct_goals (s ∷ below) h (suc i) zero o p at at' is = let one : run_of s ≡ p = cc in absurd (off_at (runs_of below) s.0.input h.0.apart i o at (is ∙ ap (λ (x : OpenRun I R). x.goal) (sym one)))
-  distinct_goals (s ∷ below) h (suc i) (suc j) o p at at' is = ap suc (distinct_goals below h.1 i j o p at at' is)
-
--- what leads to other goals alone keeps off them
-keeps_off : {I R : Type 0} (says : Verdicts R) (nodes : List (CacheNode I R)) (goals : List (OpenRun I R)) (P : I → Type 0) (verdict : theory.Verdict) (a : ℕ) → LeadsOnly says nodes (λ goal. P goal × IsOff goals goal) verdict (stack_of (frames_of says goals)) a → KeepsOff says nodes goals verdict a
-keeps_off says nodes goals P verdict a leads = λ n q w inner goal is i o at one. elim (leads n q w) [
-  | inl leaf ↦ inner leaf
-  | inr holds ↦ off_at goals goal (holds goal is).1 i o at one
-]
+  distinct_goals : (above : Option ℕ) (goals : List (StackEntry X I R A T × Run X F I R A T)) → AreSettledGoals says same nodes results entries above goals → HaveDistinctGoals (runs_of goals)
+  distinct_goals above [] h i j o p at at' is = absurd (no_answers i o at)
+  distinct_goals above (s ∷ below) h zero zero o p at at' is = refl
+  distinct_goals above (s ∷ below) h zero (suc j) o p at at' is = let one : run_of s ≡ o = cc in absurd (off_at (runs_of below) s.0.input h.0.apart j p at' (sym is ∙ ap (λ (x : OpenRun I R). x.goal) (sym one)))
+  distinct_goals above (s ∷ below) h (suc i) zero o p at at' is = let one : run_of s ≡ p = cc in absurd (off_at (runs_of below) s.0.input h.0.apart i o at (is ∙ ap (λ (x : OpenRun I R). x.goal) (sym one)))
+  distinct_goals above (s ∷ below) h (suc i) (suc j) o p at at' is = ap suc (distinct_goals (Some (cycles_node (run_of s))) below h.1 i j o p at at' is)
 
 module _ {X F I R A T : Type 0} (says : Verdicts R) (one_sort : (r : R) → says.is_yes r ≡ true → says.is_no r ≡ false) (scripts : I → List (Reply R) → Request I R) (nodes : List (CacheNode I R)) (runs : AreRuns says scripts nodes)
     (proves refutes : I → List (Question I) → Type 0)
     (clash : (goal : I) (held failed : List (Question I)) → proves goal held → refutes goal failed → Overlap held failed)
     (yes_is_proved : KeepsRule says.is_yes scripts proves) (no_is_refuted : KeepsRule says.is_no scripts refutes)
     (same : I → I → Bool) (results : Store I (StoredResult X I R A T)) (s : StackEntry X I R A T × Run X F I R A T) (below : List (StackEntry X I R A T × Run X F I R A T))
-    (h : AreJustified says nodes (runs_of (s ∷ below))) (goals : AreSettledGoals says same nodes results (s ∷ below)) (r : R) (came : EndsNewest says scripts (s ∷ below) r) (definite : IsDefinite says r)
+    (entries : Lists I (ProvisionalCacheEntry X I R A T)) (h : AreJustified says nodes (runs_of (s ∷ below))) (ready : AreReady says same scripts nodes (runs_of (s ∷ below)) entries) (apart : StandApart same results (s ∷ below) entries) (goals : AreSettledGoals says same nodes results entries None (s ∷ below)) (r : R) (came : EndsNewest says scripts (s ∷ below) r) (definite : IsDefinite says r)
     (earlier : R) (was : s.0.state.provisional_result ≡ Some earlier) (definite_then : IsDefinite says earlier) where
   run_ended : EndsRun says scripts nodes s.1.node s.1.progress r
   run_ended = ends_run says nodes nodes s.0 s.1 below h scripts r came
@@ -99,17 +90,20 @@ module _ {X F I R A T : Type 0} (says : Verdicts R) (one_sort : (r : R) → says
     grows : theory.Grown (shapes_of says nodes) (shapes_of says after)
     grows = answered_grows (shapes_of says nodes) (frame_of says (run_of s)).entry (run_of s).own run_ends.edges (verdict_of says r) h.sound.running.0.unfinished run_ends.answered
 
-    abbrev Known : I → Type 0
-    Known goal = (goal ≡ s.0.input) ⊎ IsKnown same results s.0.state.nested_goals goal
-
     abbrev kind_from : ℕ → ℕ
     kind_from = path_kind (stack_of (frames_of says (runs_of below))) (rank_of s.0.step_kind_from_parent)
 
     used_now : Use (shapes_of says after) (verdict_of says r) (stack_of (frames_of says (runs_of below))) kind_from 0 run_ends.place (heads_shape s.0.state.heads)
     used_now = (popped says nodes after (run_of s) (runs_of below) h r (Some s.1.node) run_ends).1 definite
 
-    off_now : KeepsOff says after (runs_of below) (verdict_of says r) run_ends.place
-    off_now = keeps_off says after (runs_of below) Known (verdict_of says r) run_ends.place (result_leads says same nodes after results (run_of s) (runs_of below) h r (Some s.1.node) run_ends s.0.state.nested_goals goals.0.off goals.0.apart definite)
+    abbrev Stops : ℕ → Type 0
+    Stops = IsStop same entries (run_of s)
+
+    abbrev Left : I → Type 0
+    Left = IsBehind same results entries (run_of s) s.0.state.nested_goals (runs_of below)
+
+    leads_now : LeadsTo says after Stops Left (verdict_of says r) (stack_of (frames_of says (runs_of below))) run_ends.place
+    leads_now = result_leads says same nodes after results entries (run_of s) (runs_of below) h r (Some s.1.node) run_ends s.0.state.nested_goals goals.0.off goals.0.apart (own_no_older same results entries s below apart) definite
 
     home_now : IsNodeOf after run_ends.place s.0.input
     home_now = let there = run_ends.definite definite in subst (λ n. IsNodeOf after n s.0.input) there.0 there.1
@@ -120,11 +114,10 @@ module _ {X F I R A T : Type 0} (says : Verdicts R) (one_sort : (r : R) → says
     used_then : Use (shapes_of says after) (verdict_of says earlier) (stack_of (frames_of says (runs_of below))) kind_from 0 (cycles_node (run_of s)) (frame_of says (run_of s)).heads_before
     used_then = growth_keeps_use (shapes_of says nodes) (shapes_of says after) (verdict_of says earlier) (stack_of (frames_of says (runs_of below))) kind_from 0 (cycles_node (run_of s)) (frame_of says (run_of s)).heads_before grows (before (verdict_of says earlier) refl)
 
-    off_then : KeepsOff says after (runs_of below) (verdict_of says earlier) (cycles_node (run_of s))
-    off_then =
-        keeps_off says after (runs_of below) Known (verdict_of says earlier) (cycles_node (run_of s))
-        (leads_grown says nodes after run_ends.goals_kept grows (λ goal. Known goal × IsOff (runs_of below) goal) (λ goal. Known goal × IsOff (runs_of below) goal) (λ goal p. p) (verdict_of says earlier) (stack_of (frames_of says (runs_of below))) (cycles_node (run_of s))
-        (before (verdict_of says earlier) refl).open_graph (goals.0.off.earlier earlier was definite_then))
+    leads_then : LeadsTo says after Stops Left (verdict_of says earlier) (stack_of (frames_of says (runs_of below))) (cycles_node (run_of s))
+    leads_then =
+        behind_leads says same nodes after run_ends.goals_kept grows results results (λ goal lone. lone) (λ node. Unit {0}) entries entries (all_stay same entries) (run_of s) (run_of s) (follows_itself (run_of s)) (λ node older. tt)
+        s.0.state.nested_goals s.0.state.nested_goals (λ goal there. there) (runs_of below) (verdict_of says earlier) (cycles_node (run_of s)) (goals.0.off.earlier earlier was definite_then)
 
     home_then : IsNodeOf after (cycles_node (run_of s)) s.0.input
     home_then = at s.0.state.node h.supported.0.lead_home
@@ -136,22 +129,43 @@ module _ {X F I R A T : Type 0} (says : Verdicts R) (one_sort : (r : R) → says
     runs_then : AreRuns says scripts after
     runs_then = AreRuns-ended says scripts nodes s.1.node.0 ended_run (open_for_run says scripts nodes s.1.node s.1.progress r run_ended sort.verdict sort.yes sort.no) runs
 
+    -- a node at which walks stop has the goal of its entry,
+    stop_goal : (n : ℕ) (stop : Stops n) (goal : I) → IsNodeOf after n goal → stop.goal ≡ goal
+    stop_goal n stop goal is = one_goal after n stop.goal goal (run_ends.goals_kept n stop.goal (known_entry says same scripts nodes (runs_of (s ∷ below)) entries ready stop.goal stop.entry n stop.has).home) is
+
+    -- which is none of these goals, and has no other entry
+    past : (goal : I) → Left goal → (n : ℕ) → Stops n → IsNodeOf after n goal → ⊥
+    past goal left n stop is =
+        let later = left.no_older stop.entry n (subst (λ g. HasEntry same entries g stop.entry n) (stop_goal n stop goal is) stop.has) in
+        let older = stop.older in
+        omega (arith, later, older)
+
+    stop_off : (n : ℕ) → Stops n → (goal : I) → IsNodeOf after n goal → IsOff (runs_of below) goal
+    stop_off n stop goal is = subst (IsOff (runs_of below)) (stop_goal n stop goal is) (apart.off stop.goal stop.entry stop.has.there).1
+
+    stop_same : (x y : ℕ) → Stops x → Stops y → (goal : I) × IsNodeOf after x goal × IsNodeOf after y goal → x ≡ y
+    stop_same x y stop other alike =
+        let there : HasEntry same entries alike.0 stop.entry x = subst (λ g. HasEntry same entries g stop.entry x) (stop_goal x stop alike.0 alike.1) stop.has in
+        let here : HasEntry same entries alike.0 other.entry y = subst (λ g. HasEntry same entries g other.entry y) (stop_goal y other alike.0 alike.2) other.has in
+        let one : stop.entry ≡ other.entry = same_entry (entries_at same entries alike.0) (apart.one alike.0) stop.entry other.entry there.there here.there in
+        same_node x y stop.entry.node there.node_is (ap (λ (e : ProvisionalCacheEntry X I R A T). e.node) one ∙ here.node_is)
+
     -- one says yes and the other one no
     meet : (v w : theory.Verdict) (a b : ℕ) (ha hb : _) → v ≢ theory.Neither → w ≢ theory.Neither → v ≢ w → Use (shapes_of says after) v (stack_of (frames_of says (runs_of below))) kind_from 0 a ha → Use (shapes_of says after) w (stack_of (frames_of says (runs_of below))) kind_from 0 b hb
-        → KeepsOff says after (runs_of below) v a → KeepsOff says after (runs_of below) w b → IsNodeOf after a s.0.input → IsNodeOf after b s.0.input → ⊥
-    meet theory.Yes theory.No a b ha hb dv dw d ua ub ka kb ia ib =
-        one_of_both says scripts after runs_then proves refutes clash yes_is_proved no_is_refuted (runs_of below) (below_is_justified says nodes after (run_of s) (runs_of below) h r (Some s.1.node) run_ends).supported (distinct_goals says same nodes results below goals.1)
-        kind_from s.0.input a b ia ib ha hb ua ub ka kb
-    meet theory.No theory.Yes a b ha hb dv dw d ua ub ka kb ia ib =
-        one_of_both says scripts after runs_then proves refutes clash yes_is_proved no_is_refuted (runs_of below) (below_is_justified says nodes after (run_of s) (runs_of below) h r (Some s.1.node) run_ends).supported (distinct_goals says same nodes results below goals.1)
-        kind_from s.0.input b a ib ia hb ha ub ua kb ka
-    meet theory.Yes theory.Yes a b ha hb dv dw d ua ub ka kb ia ib = d refl
-    meet theory.No theory.No a b ha hb dv dw d ua ub ka kb ia ib = d refl
-    meet theory.Neither w a b ha hb dv dw d ua ub ka kb ia ib = dv refl
-    meet v theory.Neither a b ha hb dv dw d ua ub ka kb ia ib = dw refl
+        → LeadsTo says after Stops Left v (stack_of (frames_of says (runs_of below))) a → LeadsTo says after Stops Left w (stack_of (frames_of says (runs_of below))) b → IsNodeOf after a s.0.input → IsNodeOf after b s.0.input → ⊥
+    meet theory.Yes theory.No a b ha hb dv dw d ua ub la lb ia ib =
+        one_of_both says scripts after runs_then proves refutes clash yes_is_proved no_is_refuted (runs_of below) (below_is_justified says nodes after (run_of s) (runs_of below) h r (Some s.1.node) run_ends).supported (distinct_goals says same nodes results entries (Some (cycles_node (run_of s))) below goals.1)
+        kind_from s.0.input a b ia ib ha hb Stops Left (λ goal left. left.off) past stop_off stop_same ua ub la lb
+    meet theory.No theory.Yes a b ha hb dv dw d ua ub la lb ia ib =
+        one_of_both says scripts after runs_then proves refutes clash yes_is_proved no_is_refuted (runs_of below) (below_is_justified says nodes after (run_of s) (runs_of below) h r (Some s.1.node) run_ends).supported (distinct_goals says same nodes results entries (Some (cycles_node (run_of s))) below goals.1)
+        kind_from s.0.input b a ib ia hb ha Stops Left (λ goal left. left.off) past stop_off stop_same ub ua lb la
+    meet theory.Yes theory.Yes a b ha hb dv dw d ua ub la lb ia ib = d refl
+    meet theory.No theory.No a b ha hb dv dw d ua ub la lb ia ib = d refl
+    meet theory.Neither w a b ha hb dv dw d ua ub la lb ia ib = dv refl
+    meet v theory.Neither a b ha hb dv dw d ua ub la lb ia ib = dw refl
 
     never : ⊥
-    never = meet (verdict_of says earlier) (verdict_of says r) (cycles_node (run_of s)) run_ends.place _ _ definite_then definite differ used_then used_now off_then off_now home_then home_now
+    never = meet (verdict_of says earlier) (verdict_of says r) (cycles_node (run_of s)) run_ends.place _ _ definite_then definite differ used_then used_now leads_then leads_now home_then home_now
 
   -- the run says what the one before it said
   pub says_again : verdict_of says earlier ≡ verdict_of says r

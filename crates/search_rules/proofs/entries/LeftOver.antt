@@ -38,7 +38,7 @@ heads_taken step required overflow answer old new a head there =
     at (inl (inr later)) = inr later
     at (inr came) = inl (has (inr came))
 
-first_head : (heads : Heads) → heads ≢ [] → (head : StackDepth) × IsSome (at_depth heads head)
+pub first_head : (heads : Heads) → heads ≢ [] → (head : StackDepth) × IsSome (at_depth heads head)
 first_head [] some = absurd (some refl)
 first_head (e ∷ es) some = (e.0, subst IsSome (sym (at_here e es e.0 refl)) refl)
 

@@ -1,9 +1,10 @@
 -- What a run that ended came to, and what storing that keeps of the cache.
 use Rattle.std.proofs.Common.{◌≡◌, ℕ, ◌<◌, ◌≤◌, ◌&&◌, ◌||◌, if◌then◌else◌, Bool, true, false, List, [], ◌∷◌, Some, Result, Ok, Err, IfErr, option_map, refl, sym, ap, ap₂, ◌∙◌, subst, inl, inr, arith}
-use Rattle.search_rules.specs.Below.{DelegateOf, CxOf, Request, Done, Reply, Place, Success, WithOverflow, StoredResult, StackEntry, IsDefinite, IsPlainTo, HasNoRank, IsPlain, IsBelowRank, Store, stored_at, same_key, IsPlainAt, IsSafeOutcome, Run, is_in_cycle, newest, Stood, Verdicts, verdicts}
+use Rattle.search_rules.specs.Below.{DelegateOf, CxOf, Fault, Request, Done, Reply, Place, Success, WithOverflow, StoredResult, StackEntry, IsDefinite, IsPlainTo, HasNoRank, IsPlain, IsBelowRank, Store, stored_at, same_key, IsPlainAt, IsSafeOutcome, Run, is_in_cycle, newest, Stood, Verdicts, verdicts}
 use Rattle.global_cache.proofs.Stores.{put_cases}
 use Rattle.evaluations.proofs.Mirrors.{leaves_calm, leaves_safe, requested_fits}
-use Rattle.search_rules.specs.Words.{Call, CallMeetsNone, limits, bound, IsCounted, KeepsStore, seen, HasAsked, AreDefinite, HaveNoOverflowOf, HadNoOverflow, MayPut, RequireWithin, Same, WithResult, MayPutNewest, NewestComesTo, NewestIsPlain, IsNewestPlainTo, place_of_item}
+use Rattle.search_rules.specs.Words.{Call, CallMeetsNone, Decidedly, IfDiffers, limits, bound, IsCounted, KeepsStore, seen, HasAsked, AreDefinite, HaveNoOverflowOf, HadNoOverflow, MayPut, RequireWithin, Same, WithResult, MayPutNewest, NewestComesTo, NewestIsPlain, IsNewestPlainTo, place_of_item}
+use Rattle.search_rules.proofs.Differing.{differs_then}
 use Rattle.search_rules.proofs.moves.Moves.{asker_requires, done_definite, ends_newest, leaving, outcome_of, met_none_before}
 
 -- where a result belongs, by whether it met overflow
@@ -32,6 +33,10 @@ stopped_each (Err fault) P stops = stops fault
 pub stopped_by : {V E : Type 0} (answer : Result V E) (P Q : E → Type 0) → ((fault : E) → Q fault → P fault) → IfErr answer Q → IfErr answer P
 stopped_by (Ok v) P Q stops h = tt
 stopped_by (Err fault) P Q stops h = stops fault h
+
+pub stopped_by_both : {V E : Type 0} (answer : Result V E) (P Q S : E → Type 0) → ((fault : E) → Q fault → S fault → P fault) → IfErr answer Q → IfErr answer S → IfErr answer P
+stopped_by_both (Ok v) P Q S stops h k = tt
+stopped_by_both (Err fault) P Q S stops h k = stops fault h k
 
 module _ {D C V P F I R A T : Type 0} (G : DelegateOf D C V P F I R A T) (X : CxOf C I R A T) (cx : C) (call : Call I) (ahead : ℕ) (done : R) (starts : ℕ) (met : Bool) where
   -- the run's result is the script's
@@ -79,6 +84,12 @@ module _ {D C V P F I R A T : Type 0} (G : DelegateOf D C V P F I R A T) (X : Cx
   pub memory_alone : {V E : Type 0} (answer : Result V E) (memory : E) (goals : List (StackEntry C I R A T × Run C F I R A T)) → ((m : ℕ) → IsNewestPlainTo (G.script cx) m goals → IfErr answer (λ fault. fault ≡ memory)) → HasAsked G X cx call ahead (Done done) goals starts met → IfErr answer (λ fault. (n : ℕ) → IsPlainTo (G.script cx) n call.top → n ≤ call.root → fault ≡ memory)
   memory_alone (Ok v) memory goals plain h = tt
   memory_alone (Err fault) memory goals plain h = λ n p fits. let m = newest_ranked goals n p fits h in plain m.0 m.1
+
+  -- a result that differs from a stored one is the run's, so it is yes or no where the delegate is decisive
+  pub differs_definite : {V : Type 0} (answer : Result V (Fault I R)) (goals : List (StackEntry C I R A T × Run C F I R A T)) → IfErr answer (λ fault. IfDiffers fault (λ found. found ≡ done)) → HasAsked G X cx call ahead (Done done) goals starts met → IfErr answer (λ fault. Decidedly G X cx call met (IfDiffers fault (IsDefinite (verdicts X))))
+  differs_definite (Ok v) goals differs h = tt
+  differs_definite (Err fault) goals differs h = λ decisive unmet.
+      differs_then fault (λ found. found ≡ done) (IsDefinite (verdicts X)) (λ found is. subst (IsDefinite (verdicts X)) (sym is) (done_definite G X cx call ahead done goals starts met h decisive unmet)) differs
 
   -- as long as the call meets none, the newest goal met no overflow
   pub calm_of : (s : StackEntry C I R A T × Run C F I R A T) (below : List (StackEntry C I R A T × Run C F I R A T)) → CallMeetsNone G X cx call met → HasAsked G X cx call ahead (Done done) (s ∷ below) starts met → (s.0.state.encountered_overflow || s.1.met_overflow_before) ≡ false

@@ -8,7 +8,7 @@ use Rattle.evaluations.specs.Frames.{Frame, answered}
 use Rattle.evaluations.proofs.Mirrors.{step_requests, can_take, refused_waits, answered_waits, pushed_waits, rerun_waits, popped_waits, popped_at_limit_waits, last_item_ends, last_item_ends_at_limit, last_run_stops, failed_rerun_stops, WaitsWithLess, first_waits, waits_stops, requested_stops, failed_push_stops, cycle_found, requested_fits, requested_by, asked_among, none_refused}
 use Rattle.evaluations.proofs.Evaluations.{evaluation_stops, fitting_meets_no_limit}
 use Rattle.evaluations.proofs.Plains.{unranked_is_safe}
-use Rattle.search_rules.specs.Words.{EndsNewest, Call, runs, limits, bound, IsCounted, CallMeetsNone, CallIsEnclosed, HadNoOverflow, KeepsLimits, AllDecided, Decidedly, seen, IsWaiting, work_left, HasAsked, CallGoesOn, HasStopped, Leads, first_run, Pushes, Reruns, CanLeave, NewestLeaves, ClosesCycle}
+use Rattle.search_rules.specs.Words.{EndsNewest, Call, runs, limits, bound, IsCounted, CallMeetsNone, CallIsEnclosed, HadNoOverflow, KeepsLimits, AllDecided, Decidedly, IfDiffers, seen, IsWaiting, work_left, HasAsked, CallGoesOn, HasStopped, Leads, first_run, Pushes, Reruns, CanLeave, NewestLeaves, ClosesCycle}
 use Rattle.search_rules.proofs.records.ProgressLaws.{records_new, records_received, fault_is}
 use Rattle.search_rules.proofs.moves.DecidedGoals.{below_decided, changed_decided, cycle_decided, newest_decided, pushed_decided, replied_decided}
 
@@ -120,6 +120,7 @@ module _ {D C V P F I R A T : Type 0} (G : DelegateOf D C V P F I R A T) (X : Cx
             let here : fault_after (G.script cx entry.input) (given.reply ∷ m.0.earlier) ≡ None = subst (λ g. fault_after (G.script cx g.goal) g.replies ≡ None) m.0.is none in
             let clash : None ≡ Some number = sym here ∙ told in
             absurd cc;
+        decided = λ decisive unmet. subst (λ f. IfDiffers f (IsDefinite (verdicts X))) (sym is) tt;
       }
 
   -- a step that failed
@@ -129,6 +130,7 @@ module _ {D C V P F I R A T : Type 0} (G : DelegateOf D C V P F I R A T) (X : Cx
         stops = waits_stops (seen G X cx) (Stood G X cx) (G.script cx) (limits G X cx call) (IsCounted G X cx call) call.top (bound G X cx call) given.reply goals starts met h.waits;
         keeps = h.keeps;
         plain = λ n p room. is;
+        decided = λ decisive unmet. subst (λ f. IfDiffers f (IsDefinite (verdicts X))) (sym is) tt;
       }
   step_stops given goals fault starts met sorts (OutOfOrder entry run frame verdict below request number was is_verdict steps disorderly is) h =
       let there : IsWaiting G X cx call given.reply ((entry, run) ∷ below) starts met = subst (λ v. IsWaiting G X cx call given.reply v starts met) was h in
@@ -310,6 +312,7 @@ module _ {D C V P F I R A T : Type 0} (G : DelegateOf D C V P F I R A T) (X : Cx
     stops = failed_rerun_stops (seen G X cx) (Stood G X cx) (G.script cx) (limits G X cx call) (IsCounted G X cx call) call.top (bound G X cx call) ahead (Done done) now s below starts met (may s below refl) more one h.asked;
     keeps = h.keeps;
     plain = λ n p room. refl;
+    decided = λ decisive unmet. tt;
   }
 
   -- a limit was met by a goal in a cycle
@@ -334,6 +337,7 @@ module _ {D C V P F I R A T : Type 0} (G : DelegateOf D C V P F I R A T) (X : Cx
             let calm : is_in_cycle s.0.state ≡ false = (requested_fits (seen G X cx) (Stood G X cx) (G.script cx) (limits G X cx call) (IsCounted G X cx call) call.top (bound G X cx call) ahead (Done done) s below starts met n p fits h.asked).2 in
             let clash : true ≡ false = sym can.0 ∙ calm in
             absurd cc;
+        decided = λ decisive unmet. absurd cc;
       }
 
   -- its start failed
@@ -342,18 +346,20 @@ module _ {D C V P F I R A T : Type 0} (G : DelegateOf D C V P F I R A T) (X : Cx
     stops = failed_push_stops (seen G X cx) (Stood G X cx) (G.script cx) (limits G X cx call) (IsCounted G X cx call) call.top (bound G X cx call) (some_runs G.FIXPOINT_STEP_LIMIT) ahead kind goal depth now s below starts met may more one h.asked;
     keeps = h.keeps;
     plain = λ n p room. refl;
+    decided = λ decisive unmet. tt;
   }
 
   -- the goal could not be popped, or there was no memory for an answer
-  pub asked_stopped_by : (ahead : ℕ) (request : Request I R) (goals : List Goal) (fault : Fault I R) (starts : ℕ) (met : Bool) → ((n : ℕ) → IsPlainTo (G.script cx) n call.top → n ≤ call.root → fault ≡ Memory) → HasAsked G X cx call ahead request goals starts met → HasStopped G X cx call fault starts met
-  asked_stopped_by ahead request goals fault starts met plain h = record {
+  pub asked_stopped_by : (ahead : ℕ) (request : Request I R) (goals : List Goal) (fault : Fault I R) (starts : ℕ) (met : Bool) → ((n : ℕ) → IsPlainTo (G.script cx) n call.top → n ≤ call.root → fault ≡ Memory) → Decidedly G X cx call met (IfDiffers fault (IsDefinite (verdicts X))) → HasAsked G X cx call ahead request goals starts met → HasStopped G X cx call fault starts met
+  asked_stopped_by ahead request goals fault starts met plain decided h = record {
     stops = requested_stops (seen G X cx) (Stood G X cx) (G.script cx) (limits G X cx call) (IsCounted G X cx call) call.top (bound G X cx call) ahead request goals starts met h.asked;
     keeps = h.keeps;
     plain = plain;
+    decided = decided;
   }
 
   pub asked_stopped : (ahead : ℕ) (request : Request I R) (goals : List Goal) (starts : ℕ) (met : Bool) → HasAsked G X cx call ahead request goals starts met → HasStopped G X cx call Memory starts met
-  asked_stopped ahead request goals starts met h = asked_stopped_by ahead request goals Memory starts met (λ n p room. refl) h
+  asked_stopped ahead request goals starts met h = asked_stopped_by ahead request goals Memory starts met (λ n p room. refl) (λ decisive unmet. tt) h
 
   -- the depths on the stack fall from the root's on, and no goal requires more than it has
   falling : (f : Frame I R) (below : List (Frame I R)) → IsRooted call.top call.root (f ∷ below) → AreSafe (G.script cx) (f ∷ below) → f.available ≤ call.root
@@ -477,4 +483,5 @@ module _ {D C V P F I R A T : Type 0} (G : DelegateOf D C V P F I R A T) (X : Cx
     };
     keeps = kept now;
     plain = λ n p room. refl;
+    decided = λ decisive unmet. tt;
   }

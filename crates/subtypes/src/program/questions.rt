@@ -5,14 +5,14 @@ ghost use Rattle.line_texts.specs.Writing.{AppendsBeginning, Passes};
 ghost use Rattle.structural_types.specs.Asked.{declared_in};
 ghost use Rattle.structural_types.specs.Subtypes.{forms_of};
 ghost use Rattle.subtypes.specs.Answers.{AreAllTold, AreFirstTold, IsTold, name_of};
-ghost use Rattle.subtypes.specs.Told.{fault_word_of, IsRight, line_told, verdict_word_of, words_of_answer};
+ghost use Rattle.subtypes.specs.Told.{answer_word_of, fault_word_of, line_told, words_of_answer};
 ghost use Rattle.type_texts.specs.Table.{forms_in};
 
 use crate::program::Stop;
 use crate::program::reason::reason_of;
 use delegate_parts::Outcome;
 use line_texts::{Flush, write_bytes};
-use search_parts::context::{Fault, Verdict};
+use search_parts::context::Fault;
 use std::alloc::Global;
 use std::io;
 use std::io::Write;
@@ -29,8 +29,9 @@ const ROOM: usize = 8192;
 /// What a question came to.
 #[derive(Debug, Drop)]
 pub(super) struct Told {
-    pub(super) verdict: Verdict,
-    /// What is written after a `no`, and nothing after another verdict.
+    /// Whether the left type is below the right one.
+    pub(super) is_below: bool,
+    /// What is written after a `no`, and nothing after a `yes`.
     pub(super) reason: Vec<u8>,
 }
 
@@ -66,8 +67,7 @@ pub(super) fn answer_questions<T: LendsTypes, W: Flush>(
     Ok(all_fine)
 }
 
-// Asks whether the left type is below the right one, and seeks the reason if it isn't. The depth is the number of all
-// pairs of types, so no question is cut off by it.
+// Asks whether the left type is below the right one, and seeks the reason if it isn't.
 fn ask<T: LendsTypes>(
     alloc: Global,
     subtyping: &mut Subtyping<T>,
@@ -77,25 +77,13 @@ fn ask<T: LendsTypes>(
     ensures told { IfOk result (IsTold (declared_in T.types_of subtyping.old) pair) }
     ensures same_types { declared_in T.types_of subtyping.new ≡ declared_in T.types_of subtyping.old }
 {
-    let depth = table.count().saturating_mul(table.count());
-    let verdict = decide(subtyping, pair, depth)?;
-    let reason = match verdict {
-        Verdict::No => reason_of(alloc, subtyping, table, pair, depth)?,
-        _ => Vec::new(alloc),
+    let is_below = subtyping.is_below(pair.left, pair.right)?;
+    let reason = if is_below {
+        Vec::new(alloc)
+    } else {
+        reason_of(alloc, subtyping, table, pair)?
     };
-    Ok(Told { verdict, reason })
-}
-
-// Whether the left type is below the right one.
-fn decide<T: LendsTypes>(
-    subtyping: &mut Subtyping<T>,
-    pair: Pair,
-    depth: usize,
-) -> Result<Verdict, Fault<Pair, Outcome>>
-    ensures is_right { IfOk result (λ verdict. IsRight (declared_in T.types_of subtyping.old) pair verdict) }
-    ensures same_types { declared_in T.types_of subtyping.new ≡ declared_in T.types_of subtyping.old }
-{
-    subtyping.is_below(pair.left, pair.right, depth)
+    Ok(Told { is_below, reason })
 }
 
 // The line waits, until there are enough to be written.
@@ -145,8 +133,8 @@ fn write_line<W: Write>(
 fn write_told<W: Write>(out: &mut W, told: Told) -> io::Result<()>
     ensures { OnOk result (Appends (W.contents out.old) (W.contents out.new) (words_of_answer (Ok told))) }
 {
-    let Told { verdict, reason } = told;
-    let word = verdict_word(verdict);
+    let Told { is_below, reason } = told;
+    let word = answer_word(is_below);
     write!(out, " {word}")?;
     out.write_all(reason.as_slice())?;
     out.write_all(b"\n")
@@ -159,14 +147,10 @@ fn write_fault<W: Write>(out: &mut W, fault: Fault<Pair, Outcome>) -> io::Result
     writeln!(out, " fault {word}")
 }
 
-fn verdict_word(verdict: Verdict) -> &'static str
-    ensures { result.now ≡ verdict_word_of verdict }
+fn answer_word(is_below: bool) -> &'static str
+    ensures { result.now ≡ answer_word_of is_below }
 {
-    match verdict {
-        Verdict::Yes => "yes",
-        Verdict::No => "no",
-        Verdict::Neither => "undecided",
-    }
+    if is_below { "yes" } else { "no" }
 }
 
 fn fault_word(fault: Fault<Pair, Outcome>) -> &'static str

@@ -4,7 +4,7 @@ ghost use Rattle.structural_types.specs.Asked.{declared_in};
 
 use crate::program::text::{write_end, write_way};
 use delegate_parts::Outcome;
-use search_parts::context::{Fault, NoMemory, Verdict};
+use search_parts::context::{Fault, NoMemory};
 use std::alloc::Global;
 use std::collections::HashSet;
 use structural_types::{Field, Form, LendsTypes, Pair, Subtyping, Types};
@@ -52,12 +52,11 @@ pub(super) fn reason_of<T: LendsTypes>(
     subtyping: &mut Subtyping<T>,
     table: &TypeTable,
     pair: Pair,
-    depth: usize,
 ) -> Result<Vec<u8>, Fault<Pair, Outcome>>
     ensures { declared_in T.types_of subtyping.new ≡ declared_in T.types_of subtyping.old }
 {
     let mut search = Search::new(alloc, pair)?;
-    for place in 0..depth {
+    for place in 0..usize::MAX {
         let Some(found) = search.found.get(place).copied() else {
             break;
         };
@@ -68,7 +67,7 @@ pub(super) fn reason_of<T: LendsTypes>(
             write_end(&mut text, table, found.pair, end)?;
             return Ok(text);
         }
-        search.follow(subtyping, table.types(), place, found.pair, depth)?;
+        search.follow(subtyping, table.types(), place, found.pair)?;
     }
     Ok(Vec::new(alloc))
 }
@@ -98,7 +97,6 @@ impl Search {
         types: &Types,
         place: usize,
         pair: Pair,
-        depth: usize,
     ) -> Result<(), Fault<Pair, Outcome>>
         ensures { declared_in T.types_of subtyping.new ≡ declared_in T.types_of subtyping.old }
     {
@@ -109,7 +107,7 @@ impl Search {
                         left: *left,
                         ..pair
                     };
-                    self.look_at(subtyping, part, place, Step::Alternative, depth)?;
+                    self.look_at(subtyping, part, place, Step::Alternative)?;
                 }
             }
             (Some(Form::Function(a, b)), Some(Form::Function(c, d))) => {
@@ -117,21 +115,15 @@ impl Search {
                     left: *c,
                     right: *a,
                 };
-                self.look_at(subtyping, arguments, place, Step::Argument, depth)?;
+                self.look_at(subtyping, arguments, place, Step::Argument)?;
                 let results = Pair {
                     left: *b,
                     right: *d,
                 };
-                self.look_at(subtyping, results, place, Step::Result, depth)?;
+                self.look_at(subtyping, results, place, Step::Result)?;
             }
             (Some(Form::Record(fields)), Some(Form::Record(others))) => {
-                self.follow_fields(
-                    subtyping,
-                    fields.as_slice(),
-                    others.as_slice(),
-                    place,
-                    depth,
-                )?;
+                self.follow_fields(subtyping, fields.as_slice(), others.as_slice(), place)?;
             }
             _ => {}
         }
@@ -145,7 +137,6 @@ impl Search {
         fields: &[Field],
         others: &[Field],
         place: usize,
-        depth: usize,
     ) -> Result<(), Fault<Pair, Outcome>>
         ensures { declared_in T.types_of subtyping.new ≡ declared_in T.types_of subtyping.old }
     {
@@ -155,7 +146,7 @@ impl Search {
                     left,
                     right: other.part,
                 };
-                self.look_at(subtyping, part, place, Step::Field(other.name), depth)?;
+                self.look_at(subtyping, part, place, Step::Field(other.name))?;
             }
         }
         Ok(())
@@ -168,14 +159,13 @@ impl Search {
         pair: Pair,
         from: usize,
         step: Step,
-        depth: usize,
     ) -> Result<(), Fault<Pair, Outcome>>
         ensures { declared_in T.types_of subtyping.new ≡ declared_in T.types_of subtyping.old }
     {
         if self.seen.contains(&pair) {
             return Ok(());
         }
-        if subtyping.is_below(pair.left, pair.right, depth)? == Verdict::No {
+        if !subtyping.is_below(pair.left, pair.right)? {
             self.note(pair, from, step)?;
         }
         Ok(())

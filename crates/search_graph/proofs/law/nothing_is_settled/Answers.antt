@@ -1,9 +1,9 @@
-use Rattle.std.proofs.Common.{sym, subst}
-use Rattle.search_graph.specs.Below.{Store, StoredResult, verdicts}
+use Rattle.std.proofs.Common.{inr, sym, subst}
+use Rattle.search_graph.specs.Below.{Store, StoredResult}
 use Rattle.search_graph.proofs.law.nothing_is_settled.Goals as goal
-use Rattle.search_rules.specs.Settled.{AreSettled}
+use Rattle.search_moves.specs.Settled.{IsSettledStore}
 
 pub returns : goal.returns
-returns g c = λ nodes goals results none.
-    subst (λ (rs : Store _ (StoredResult _ _ _ _ _)). AreSettled (verdicts g.X.Cx) g.X.Input.PartialEq.eq nodes rs goals) (sym none)
-    (record { leads = λ goal s within at. absurd cc; require = λ goal s within at empty. absurd cc })
+returns g c = λ cx nodes goals results none.
+    subst (λ (rs : Store _ (StoredResult _ _ _ _ _)). IsSettledStore g.D.Delegate g.D.Cx.Cx g.D.Cx.Input.PartialEq.eq cx goals nodes rs) (sym none)
+    (record { settled = record { leads = λ goal s within at. absurd cc; require = λ goal s within at empty. absurd cc }; suit = inr (λ goal s within at. absurd cc) })

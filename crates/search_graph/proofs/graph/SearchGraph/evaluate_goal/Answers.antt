@@ -1,28 +1,37 @@
-use Rattle.std.proofs.Common.{◌∙◌, ap, Ok, true, false, inl, inr, refl, subst}
+use Rattle.std.proofs.Common.{◌∙◌, ap, sym, Ok, true, false, inl, inr, refl, subst}
 use Rattle.global_cache.proofs.Definites.{definite_is_whole}
 use Rattle.global_cache.proofs.Whole.{whole_stays}
 use Rattle.search_graph.proofs.Loops.{call_among, call_deciding, call_of, call_over, call_among_begins, call_begins, call_deciding_begins, call_over_begins, some_call_begins}
 use Rattle.search_graph.proofs.StoredDepths.{stores_within}
 use Rattle.search_graph.proofs.Promises.{call_is_stored, definite_decides, ended_by_runs, ended_plain, ended_within, ended_paid, stopped_by_runs, stopped_within, stopped_paid}
+use Rattle.search_rules.proofs.Differing.{memory_or_order}
 use Rattle.search_rules.proofs.Shown.{yes_is_proved, no_is_refuted, neither_is_none}
 use Rattle.search_rules.proofs.moves.Questions.{if_err_and, same_err}
 use Rattle.search_graph.proofs.graph.SearchGraph.evaluate_goal.Goals as goal
-use Rattle.search_graph.specs.Below.{Decides, verdicts}
+use Rattle.search_graph.specs.Below.{Decides, IsCaused, IsMemoryOrOrder, verdicts}
 use Rattle.search_rules.proofs.records.EarlierNodes.{nodes_of_earlier}
 
 -- ---- an answer
 
 pub returns-clause-yes : goal.returns-clause-yes
-returns-clause-yes g c = λ is. yes_is_proved g.D.Delegate g.D.Cx.Cx c.evaluate-outcome.new.cache c.has_runs.ensures (g.met.D.Cx.Cx.clash c.evaluate-outcome.new.cache.cx) c.args.input c.in_ok-answer.answer.result c.in_ok-answer.answer.node c.in_ok-answer.ensures.has_graph (g.met.D.Delegate.yes_is_proved c.evaluate-outcome.new.cache.cx) is
+returns-clause-yes g c = λ is. yes_is_proved g.D.Delegate g.D.Cx.Cx c.evaluate-outcome.new.cache c.has_runs.ensures (g.met.D.Cx.Cx.clash c.evaluate-outcome.new.cache.cx) c.args.input c.in_ok-answer.answer.result c.in_ok-answer.answer.node c.in_ok-answer.ensures.grounded.has_graph (g.met.D.Delegate.yes_is_proved c.evaluate-outcome.new.cache.cx) is
 
 pub returns-clause-no : goal.returns-clause-no
-returns-clause-no g c = λ is. no_is_refuted g.D.Delegate g.D.Cx.Cx c.evaluate-outcome.new.cache c.has_runs.ensures (g.met.D.Cx.Cx.clash c.evaluate-outcome.new.cache.cx) c.args.input c.in_ok-answer.answer.result c.in_ok-answer.answer.node c.in_ok-answer.ensures.has_graph (g.met.D.Delegate.no_is_refuted c.evaluate-outcome.new.cache.cx) (g.met.D.Cx.Cx.one_sort c.in_ok-answer.answer.result) is
+returns-clause-no g c = λ is. no_is_refuted g.D.Delegate g.D.Cx.Cx c.evaluate-outcome.new.cache c.has_runs.ensures (g.met.D.Cx.Cx.clash c.evaluate-outcome.new.cache.cx) c.args.input c.in_ok-answer.answer.result c.in_ok-answer.answer.node c.in_ok-answer.ensures.grounded.has_graph (g.met.D.Delegate.no_is_refuted c.evaluate-outcome.new.cache.cx) (g.met.D.Cx.Cx.one_sort c.in_ok-answer.answer.result) is
 
 pub returns-clause-neither : goal.returns-clause-neither
-returns-clause-neither g c = λ not_yes not_no. neither_is_none g.D.Delegate g.D.Cx.Cx c.evaluate-outcome.new.cache c.has_runs.ensures (g.met.D.Cx.Cx.clash c.evaluate-outcome.new.cache.cx) c.args.input c.in_ok-answer.answer.result c.in_ok-answer.answer.node c.in_ok-answer.ensures.has_graph not_yes not_no
+returns-clause-neither g c = λ not_yes not_no. neither_is_none g.D.Delegate g.D.Cx.Cx c.evaluate-outcome.new.cache c.has_runs.ensures (g.met.D.Cx.Cx.clash c.evaluate-outcome.new.cache.cx) c.args.input c.in_ok-answer.answer.result c.in_ok-answer.answer.node c.in_ok-answer.ensures.grounded.has_graph not_yes not_no
+
+pub returns-clause-has_graph : goal.returns-clause-has_graph
+returns-clause-has_graph g c = c.in_ok-answer.ensures.grounded.has_graph
+
+pub returns-in_err-answer-clause-faults : goal.returns-in_err-answer-clause-faults
+returns-in_err-answer-clause-faults g c =
+    if_err_and c.from_residual.result _ _ c.from_residual.ensures.1
+    (λ e is. subst (IsCaused g.D.Delegate g.D.Cx.Cx g.D.Cx.Input.PartialEq.eq c.evaluate-outcome.new.cache) (sym is) c.in_err-answer.ensures.grounded.caused)
 
 pub returns-clause-whole : goal.returns-clause-whole
-returns-clause-whole g c = definite_is_whole (verdicts g.D.Cx.Cx) c.evaluate-outcome.new.cache.nodes c.args.input c.in_ok-answer.answer.result c.in_ok-answer.answer.node c.in_ok-answer.ensures.has_graph
+returns-clause-whole g c = definite_is_whole (verdicts g.D.Cx.Cx) c.evaluate-outcome.new.cache.nodes c.args.input c.in_ok-answer.answer.result c.in_ok-answer.answer.node c.in_ok-answer.ensures.grounded.has_graph
 
 pub returns-clause-kept_whole : goal.returns-clause-kept_whole
 returns-clause-kept_whole g c = whole_stays c.args.cache.now.nodes c.evaluate-outcome.new.cache.nodes c.evaluate-outcome.ensures.keeps.nodes
@@ -112,6 +121,17 @@ returns-in_err-answer-clause-decisive_results g c = λ decisive all unmet.
     let fits = c.new-evaluation.ensures.fits in
     ((c.in_err-answer.ensures.evaluates.stopped (call_of c.args.input c.self.inside.root_depth.0 (g.D.Delegate.starts c.args.inspect.now) c.self.inside.limits_met false true fits) (rw c.new-evaluation.ensures.begins (call_begins g.D.Delegate g.D.Cx.Cx c.args.cache.now.cx g.D.Cx.Input.PartialEq.eq c.args.input c.self.inside.root_depth.0 (g.D.Delegate.starts c.args.inspect.now) c.self.inside.limits_met fits c.args.cache.now.results false true (λ e. absurd cc) (λ e. all)))).store).definite (decisive, refl) unmet
 
+-- no two results differ
+pub returns-in_err-answer-clause-decisive_faults : goal.returns-in_err-answer-clause-decisive_faults
+returns-in_err-answer-clause-decisive_faults g c = λ decisive one_of_each all unmet.
+    let fits = c.new-evaluation.ensures.fits in
+    if_err_and c.from_residual.result _ _ c.from_residual.ensures.1
+    (λ e is.
+    subst (λ fault. IsMemoryOrOrder fault) (sym is)
+    (memory_or_order g.D.Delegate g.D.Cx.Cx g.D.Cx.Input.PartialEq.eq c.evaluate-outcome.new.cache one_of_each (returns-in_err-answer-clause-decisive_results g c decisive all unmet) _
+    ((c.in_err-answer.ensures.evaluates.stopped (call_of c.args.input c.self.inside.root_depth.0 (g.D.Delegate.starts c.args.inspect.now) c.self.inside.limits_met false true fits) (rw c.new-evaluation.ensures.begins (call_begins g.D.Delegate g.D.Cx.Cx c.args.cache.now.cx g.D.Cx.Input.PartialEq.eq c.args.input c.self.inside.root_depth.0 (g.D.Delegate.starts c.args.inspect.now) c.self.inside.limits_met fits c.args.cache.now.results false true (λ e. absurd cc) (λ e. all)))).stopped.decided (decisive, refl) unmet)
+    c.in_err-answer.ensures.grounded.caused))
+
 pub returns-in_err-answer-clause-stored : goal.returns-in_err-answer-clause-stored
 returns-in_err-answer-clause-stored g c =
     rw (← c.self.view_is)
@@ -137,8 +157,8 @@ returns-clause-decides g c = λ decisive all unmet.
     let context = c.evaluate-outcome.ensures.keeps.context in
     subst (λ cx. Decides g.D.Cx.Cx cx c.args.input c.in_ok-answer.answer.result) context
     (definite_decides g.D.Delegate g.D.Cx.Cx c.evaluate-outcome.new.cache c.args.input c.in_ok-answer.answer.result c.in_ok-answer.answer.node
-    (yes_is_proved g.D.Delegate g.D.Cx.Cx c.evaluate-outcome.new.cache c.has_runs.ensures (g.met.D.Cx.Cx.clash c.evaluate-outcome.new.cache.cx) c.args.input c.in_ok-answer.answer.result c.in_ok-answer.answer.node c.in_ok-answer.ensures.has_graph (g.met.D.Delegate.yes_is_proved c.evaluate-outcome.new.cache.cx))
-    (no_is_refuted g.D.Delegate g.D.Cx.Cx c.evaluate-outcome.new.cache c.has_runs.ensures (g.met.D.Cx.Cx.clash c.evaluate-outcome.new.cache.cx) c.args.input c.in_ok-answer.answer.result c.in_ok-answer.answer.node c.in_ok-answer.ensures.has_graph (g.met.D.Delegate.no_is_refuted c.evaluate-outcome.new.cache.cx) (g.met.D.Cx.Cx.one_sort c.in_ok-answer.answer.result))
+    (yes_is_proved g.D.Delegate g.D.Cx.Cx c.evaluate-outcome.new.cache c.has_runs.ensures (g.met.D.Cx.Cx.clash c.evaluate-outcome.new.cache.cx) c.args.input c.in_ok-answer.answer.result c.in_ok-answer.answer.node c.in_ok-answer.ensures.grounded.has_graph (g.met.D.Delegate.yes_is_proved c.evaluate-outcome.new.cache.cx))
+    (no_is_refuted g.D.Delegate g.D.Cx.Cx c.evaluate-outcome.new.cache c.has_runs.ensures (g.met.D.Cx.Cx.clash c.evaluate-outcome.new.cache.cx) c.args.input c.in_ok-answer.answer.result c.in_ok-answer.answer.node c.in_ok-answer.ensures.grounded.has_graph (g.met.D.Delegate.no_is_refuted c.evaluate-outcome.new.cache.cx) (g.met.D.Cx.Cx.one_sort c.in_ok-answer.answer.result))
     (((c.in_ok-answer.ensures.evaluates.ended (call_of c.args.input c.self.inside.root_depth.0 (g.D.Delegate.starts c.args.inspect.now) c.self.inside.limits_met false true fits) (rw c.new-evaluation.ensures.begins (call_begins g.D.Delegate g.D.Cx.Cx c.args.cache.now.cx g.D.Cx.Input.PartialEq.eq c.args.input c.self.inside.root_depth.0 (g.D.Delegate.starts c.args.inspect.now) c.self.inside.limits_met fits c.args.cache.now.results false true (λ e. absurd cc) (λ e. all)))).ended).decided (decisive, refl) unmet))
 
 pub returns-clause-remembered : goal.returns-clause-remembered
@@ -224,3 +244,11 @@ pub returns-in_err-answer-clause-two_runs : goal.returns-in_err-answer-clause-tw
 returns-in_err-answer-clause-two_runs g c =
     rw (← c.self.view_is)
     (λ goals enough unmet. c.in_err-answer.ensures.settled.unmet (call_deciding goals c.args.input c.self.inside.root_depth.0 (g.D.Delegate.starts c.args.inspect.now) c.self.inside.limits_met c.new-evaluation.ensures.fits) (rw c.new-evaluation.ensures.begins (call_deciding_begins g.D.Delegate g.D.Cx.Cx c.args.cache.now.cx g.D.Cx.Input.PartialEq.eq c.args.input c.self.inside.root_depth.0 (g.D.Delegate.starts c.args.inspect.now) c.self.inside.limits_met c.new-evaluation.ensures.fits c.args.cache.now.results goals enough.no_overflow enough.definite)) (record { needs = enough.needs; all_definite = refl; unmet = unmet }) enough.settled)
+
+pub returns-in_err-answer-clause-two_runs_faults : goal.returns-in_err-answer-clause-two_runs_faults
+returns-in_err-answer-clause-two_runs_faults g c = λ goals enough unmet. returns-in_err-answer-clause-decisive_faults g c enough.needs.decisive enough.needs.one_of_each enough.definite (returns-in_err-answer-clause-two_runs g c goals enough unmet)
+
+pub returns-in_err-answer-clause-two_runs_settle : goal.returns-in_err-answer-clause-two_runs_settle
+returns-in_err-answer-clause-two_runs_settle g c =
+    rw (← c.self.view_is)
+    (λ goals enough unmet. c.in_err-answer.ensures.settled.settles (call_deciding goals c.args.input c.self.inside.root_depth.0 (g.D.Delegate.starts c.args.inspect.now) c.self.inside.limits_met c.new-evaluation.ensures.fits) (rw c.new-evaluation.ensures.begins (call_deciding_begins g.D.Delegate g.D.Cx.Cx c.args.cache.now.cx g.D.Cx.Input.PartialEq.eq c.args.input c.self.inside.root_depth.0 (g.D.Delegate.starts c.args.inspect.now) c.self.inside.limits_met c.new-evaluation.ensures.fits c.args.cache.now.results goals enough.no_overflow enough.definite)) (record { needs = enough.needs; all_definite = refl; unmet = unmet }) enough.settled)

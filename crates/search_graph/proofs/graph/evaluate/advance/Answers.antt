@@ -15,9 +15,11 @@ use Rattle.search_moves.proofs.Fating.{asked_fates, led_fates}
 use Rattle.search_rules.proofs.Fates.{fates_of_candidates, fates_stepped}
 use Rattle.search_rules.specs.Fates.{Stay, Untouched}
 use Rattle.search_moves.specs.Settled.{Settles}
+use Rattle.search_moves.proofs.Failing.{if_err_then}
 use Rattle.search_moves.proofs.SettledEnds.{end_unmet, led_settles}
+use Rattle.search_moves.proofs.SettledFaults.{settled_stays, store_settled}
 use Rattle.search_moves.proofs.Settling.{asked_settles}
-use Rattle.search_graph.proofs.SettledSteps.{ask_unmet, needs_with, noted_settles, noted_stays_off}
+use Rattle.search_graph.proofs.SettledSteps.{ask_unmet, needs_with, noted_settles, noted_stays_off, stepped_entries}
 use Rattle.search_graph.proofs.graph.evaluate.advance.Goals as goal
 
 pub step-requires : goal.step-requires
@@ -182,41 +184,41 @@ returns-in_ok-next-in-Done-clause-cache g c = record {
   changes = subst (λ fs. ChangesNewest g.D.Cx.Input.PartialEq.eq fs c.args.cache.now.results c.finish_run.new.cache.results) (fates_stepped g.D.Delegate g.D.Cx.Cx c.cx-cx.result c.args.evaluation.now.goals c.step.new.goals c.args.received c.in_ok-request.request c.in_ok-request.ensures.stepped) c.finish_run.ensures.cache.changes;
 }
 
-pub returns-in_ok-next-in-Evaluate-clause-stays : goal.returns-in_ok-next-in-Evaluate-clause-stays
-returns-in_ok-next-in-Evaluate-clause-stays g c =
-    stay_then c.args.cache.now.nodes c.args.evaluation.now.goals c.step.new.goals c.ask.new.self.goals
-    (stay_stepped g.D.Delegate g.D.Cx.Cx c.cx-cx.result c.args.cache.now.nodes c.args.evaluation.now.goals c.step.new.goals c.args.received c.in_ok-request.request c.in_ok-request.ensures.stepped)
-    (asked_from g.D.Delegate g.D.Cx.Cx g.D.Cx.Input.PartialEq.eq c.args.cache.now.cx c.in-Evaluate.kind c.in-Evaluate.input c.args.cache.now (record c.args.evaluation.now { goals = c.step.new.goals }) (g.D.Delegate.starts c.step.new.inspect) (g.D.Delegate.noop c.step.new.inspect) c.in_ok-next-in-Evaluate.next c.ask.new.cache c.ask.new.self (g.D.Delegate.starts c.ask.new.inspect) c.in_ok-next-in-Evaluate.ensures.asked)
-
-pub returns-in_ok-next-in-Done-clause-stays : goal.returns-in_ok-next-in-Done-clause-stays
-returns-in_ok-next-in-Done-clause-stays g c =
-    stay_then c.args.cache.now.nodes c.args.evaluation.now.goals c.step.new.goals c.finish_run.new.self.goals
-    (stay_stepped g.D.Delegate g.D.Cx.Cx c.cx-cx.result c.args.cache.now.nodes c.args.evaluation.now.goals c.step.new.goals c.args.received c.in_ok-request.request c.in_ok-request.ensures.stepped)
-    (led_from g.D.Delegate g.D.Cx.Cx g.D.Cx.Input.PartialEq.eq c.args.cache.now.cx g.D.Cx.Result.PartialEq.eq c.in-Done.outcome c.args.cache.now (record c.args.evaluation.now { goals = c.step.new.goals }) c.in_ok-next-in-Done.next c.finish_run.new.cache c.finish_run.new.self c.in_ok-next-in-Done.ensures.leads)
-
-pub returns-in_ok-note_candidate-in_default-clause-stays : goal.returns-in_ok-note_candidate-in_default-clause-stays
-returns-in_ok-note_candidate-in_default-clause-stays g c =
-    stay_then c.args.cache.now.nodes c.args.evaluation.now.goals c.step.new.goals c.note_candidate.new.self
-    (stay_stepped g.D.Delegate g.D.Cx.Cx c.cx-cx.result c.args.cache.now.nodes c.args.evaluation.now.goals c.step.new.goals c.args.received c.in_ok-request.request c.in_ok-request.ensures.stepped)
-    (stay_candidates c.args.cache.now.nodes c.in_ok-request.request c.step.new.goals c.note_candidate.new.self c.in_ok-note_candidate-in_default.ensures)
-
 -- ---- what becomes of the goals' results, and the stored ones
 
-pub returns-in_ok-next-in-Evaluate-clause-fates : goal.returns-in_ok-next-in-Evaluate-clause-fates
-returns-in_ok-next-in-Evaluate-clause-fates g c =
-    subst (λ fs. MovesFates g.D.Cx.Input.PartialEq.eq (IsFated (g.D.Delegate.scoped c.args.cache.now.cx) (g.D.Delegate.script c.args.cache.now.cx) g.D.Cx.Input.PartialEq.eq c.args.cache.now.results (g.D.Delegate.noop c.args.inspect.now)) fs (fates_of c.ask.new.self.goals)) (fates_stepped g.D.Delegate g.D.Cx.Cx c.cx-cx.result c.args.evaluation.now.goals c.step.new.goals c.args.received c.in_ok-request.request c.in_ok-request.ensures.stepped)
-    (subst (λ b. MovesFates g.D.Cx.Input.PartialEq.eq (IsFated (g.D.Delegate.scoped c.args.cache.now.cx) (g.D.Delegate.script c.args.cache.now.cx) g.D.Cx.Input.PartialEq.eq c.args.cache.now.results b) (fates_of c.step.new.goals) (fates_of c.ask.new.self.goals)) c.step.ensures.same_noop
-    (asked_fates g.D.Delegate g.D.Cx.Cx g.D.Cx.Input.PartialEq.eq c.args.cache.now.cx c.in-Evaluate.kind c.in-Evaluate.input c.args.cache.now (record c.args.evaluation.now { goals = c.step.new.goals }) (g.D.Delegate.starts c.step.new.inspect) (g.D.Delegate.noop c.step.new.inspect) c.in_ok-next-in-Evaluate.next c.ask.new.cache c.ask.new.self (g.D.Delegate.starts c.ask.new.inspect)
-    (stepped_some g.D.Delegate g.D.Cx.Cx c.cx-cx.result c.args.received c.in_ok-request.request c.args.evaluation.now.goals c.step.new.goals c.in_ok-request.ensures.stepped) c.in_ok-next-in-Evaluate.ensures.asked))
+pub returns-in_ok-note_candidate-in_default-clause-goals : goal.returns-in_ok-note_candidate-in_default-clause-goals
+returns-in_ok-note_candidate-in_default-clause-goals g c = record {
+  stays =
+      stay_then c.args.cache.now.nodes c.args.evaluation.now.goals c.step.new.goals c.note_candidate.new.self
+      (stay_stepped g.D.Delegate g.D.Cx.Cx c.cx-cx.result c.args.cache.now.nodes c.args.evaluation.now.goals c.step.new.goals c.args.received c.in_ok-request.request c.in_ok-request.ensures.stepped)
+      (stay_candidates c.args.cache.now.nodes c.in_ok-request.request c.step.new.goals c.note_candidate.new.self c.in_ok-note_candidate-in_default.ensures);
+  fates =
+      Stay (fates_of_candidates c.in_ok-request.request c.step.new.goals c.note_candidate.new.self c.in_ok-note_candidate-in_default.ensures ∙ (fates_stepped g.D.Delegate g.D.Cx.Cx c.cx-cx.result c.args.evaluation.now.goals c.step.new.goals c.args.received c.in_ok-request.request c.in_ok-request.ensures.stepped));
+}
 
-pub returns-in_ok-next-in-Done-clause-fates : goal.returns-in_ok-next-in-Done-clause-fates
-returns-in_ok-next-in-Done-clause-fates g c =
-    subst (λ fs. MovesFates g.D.Cx.Input.PartialEq.eq (IsFated (g.D.Delegate.scoped c.args.cache.now.cx) (g.D.Delegate.script c.args.cache.now.cx) g.D.Cx.Input.PartialEq.eq c.args.cache.now.results (g.D.Delegate.noop c.args.inspect.now)) fs (fates_of c.finish_run.new.self.goals)) (fates_stepped g.D.Delegate g.D.Cx.Cx c.cx-cx.result c.args.evaluation.now.goals c.step.new.goals c.args.received c.in_ok-request.request c.in_ok-request.ensures.stepped)
-    (led_fates g.D.Delegate g.D.Cx.Cx g.D.Cx.Input.PartialEq.eq c.args.cache.now.cx g.D.Cx.Result.PartialEq.eq (IsFated (g.D.Delegate.scoped c.args.cache.now.cx) (g.D.Delegate.script c.args.cache.now.cx) g.D.Cx.Input.PartialEq.eq c.args.cache.now.results (g.D.Delegate.noop c.args.inspect.now)) c.in-Done.outcome c.args.cache.now (record c.args.evaluation.now { goals = c.step.new.goals }) c.in_ok-next-in-Done.next c.finish_run.new.cache c.finish_run.new.self c.in_ok-next-in-Done.ensures.leads)
+pub returns-in_ok-next-in-Done-clause-goals : goal.returns-in_ok-next-in-Done-clause-goals
+returns-in_ok-next-in-Done-clause-goals g c = record {
+  stays =
+      stay_then c.args.cache.now.nodes c.args.evaluation.now.goals c.step.new.goals c.finish_run.new.self.goals
+      (stay_stepped g.D.Delegate g.D.Cx.Cx c.cx-cx.result c.args.cache.now.nodes c.args.evaluation.now.goals c.step.new.goals c.args.received c.in_ok-request.request c.in_ok-request.ensures.stepped)
+      (led_from g.D.Delegate g.D.Cx.Cx g.D.Cx.Input.PartialEq.eq c.args.cache.now.cx g.D.Cx.Result.PartialEq.eq c.in-Done.outcome c.args.cache.now (record c.args.evaluation.now { goals = c.step.new.goals }) c.in_ok-next-in-Done.next c.finish_run.new.cache c.finish_run.new.self c.in_ok-next-in-Done.ensures.leads);
+  fates =
+      subst (λ fs. MovesFates g.D.Cx.Input.PartialEq.eq (IsFated (g.D.Delegate.scoped c.args.cache.now.cx) (g.D.Delegate.script c.args.cache.now.cx) g.D.Cx.Input.PartialEq.eq c.args.cache.now.results (g.D.Delegate.noop c.args.inspect.now)) fs (fates_of c.finish_run.new.self.goals)) (fates_stepped g.D.Delegate g.D.Cx.Cx c.cx-cx.result c.args.evaluation.now.goals c.step.new.goals c.args.received c.in_ok-request.request c.in_ok-request.ensures.stepped)
+      (led_fates g.D.Delegate g.D.Cx.Cx g.D.Cx.Input.PartialEq.eq c.args.cache.now.cx g.D.Cx.Result.PartialEq.eq (IsFated (g.D.Delegate.scoped c.args.cache.now.cx) (g.D.Delegate.script c.args.cache.now.cx) g.D.Cx.Input.PartialEq.eq c.args.cache.now.results (g.D.Delegate.noop c.args.inspect.now)) c.in-Done.outcome c.args.cache.now (record c.args.evaluation.now { goals = c.step.new.goals }) c.in_ok-next-in-Done.next c.finish_run.new.cache c.finish_run.new.self c.in_ok-next-in-Done.ensures.leads);
+}
 
-pub returns-in_ok-note_candidate-in_default-clause-fates : goal.returns-in_ok-note_candidate-in_default-clause-fates
-returns-in_ok-note_candidate-in_default-clause-fates g c =
-    Stay (fates_of_candidates c.in_ok-request.request c.step.new.goals c.note_candidate.new.self c.in_ok-note_candidate-in_default.ensures ∙ (fates_stepped g.D.Delegate g.D.Cx.Cx c.cx-cx.result c.args.evaluation.now.goals c.step.new.goals c.args.received c.in_ok-request.request c.in_ok-request.ensures.stepped))
+pub returns-in_ok-next-in-Evaluate-clause-goals : goal.returns-in_ok-next-in-Evaluate-clause-goals
+returns-in_ok-next-in-Evaluate-clause-goals g c = record {
+  stays =
+      stay_then c.args.cache.now.nodes c.args.evaluation.now.goals c.step.new.goals c.ask.new.self.goals
+      (stay_stepped g.D.Delegate g.D.Cx.Cx c.cx-cx.result c.args.cache.now.nodes c.args.evaluation.now.goals c.step.new.goals c.args.received c.in_ok-request.request c.in_ok-request.ensures.stepped)
+      (asked_from g.D.Delegate g.D.Cx.Cx g.D.Cx.Input.PartialEq.eq c.args.cache.now.cx c.in-Evaluate.kind c.in-Evaluate.input c.args.cache.now (record c.args.evaluation.now { goals = c.step.new.goals }) (g.D.Delegate.starts c.step.new.inspect) (g.D.Delegate.noop c.step.new.inspect) c.in_ok-next-in-Evaluate.next c.ask.new.cache c.ask.new.self (g.D.Delegate.starts c.ask.new.inspect) c.in_ok-next-in-Evaluate.ensures.asked);
+  fates =
+      subst (λ fs. MovesFates g.D.Cx.Input.PartialEq.eq (IsFated (g.D.Delegate.scoped c.args.cache.now.cx) (g.D.Delegate.script c.args.cache.now.cx) g.D.Cx.Input.PartialEq.eq c.args.cache.now.results (g.D.Delegate.noop c.args.inspect.now)) fs (fates_of c.ask.new.self.goals)) (fates_stepped g.D.Delegate g.D.Cx.Cx c.cx-cx.result c.args.evaluation.now.goals c.step.new.goals c.args.received c.in_ok-request.request c.in_ok-request.ensures.stepped)
+      (subst (λ b. MovesFates g.D.Cx.Input.PartialEq.eq (IsFated (g.D.Delegate.scoped c.args.cache.now.cx) (g.D.Delegate.script c.args.cache.now.cx) g.D.Cx.Input.PartialEq.eq c.args.cache.now.results b) (fates_of c.step.new.goals) (fates_of c.ask.new.self.goals)) c.step.ensures.same_noop
+      (asked_fates g.D.Delegate g.D.Cx.Cx g.D.Cx.Input.PartialEq.eq c.args.cache.now.cx c.in-Evaluate.kind c.in-Evaluate.input c.args.cache.now (record c.args.evaluation.now { goals = c.step.new.goals }) (g.D.Delegate.starts c.step.new.inspect) (g.D.Delegate.noop c.step.new.inspect) c.in_ok-next-in-Evaluate.next c.ask.new.cache c.ask.new.self (g.D.Delegate.starts c.ask.new.inspect)
+      (stepped_some g.D.Delegate g.D.Cx.Cx c.cx-cx.result c.args.received c.in_ok-request.request c.args.evaluation.now.goals c.step.new.goals c.in_ok-request.ensures.stepped) c.in_ok-next-in-Evaluate.ensures.asked));
+}
 
 pub returns-in_err-request-clause-cache : goal.returns-in_err-request-clause-cache
 returns-in_err-request-clause-cache g c = record {
@@ -242,6 +244,7 @@ pub returns-in_err-request-clause-settled : goal.returns-in_err-request-clause-s
 returns-in_err-request-clause-settled g c = record {
   unmet = λ call w needs s. s.settling.unmet;
   settles = λ call w needs s. no_ok c.from_residual.result _ _ c.from_residual.ensures.1;
+  leaves = λ call w needs s. if_err_then c.from_residual.result (store_settled g.D.Delegate g.D.Cx.Cx g.D.Cx.Input.PartialEq.eq c.args.cache.now.cx call c.args.received c.args.cache.now c.args.evaluation.now s);
 }
 
 pub returns-in_err-next-in-Evaluate-clause-settled : goal.returns-in_err-next-in-Evaluate-clause-settled
@@ -252,6 +255,10 @@ returns-in_err-next-in-Evaluate-clause-settled g c = record {
       (requests g.D.Delegate g.D.Cx.Cx g.D.Cx.Input.PartialEq.eq c.args.cache.now.cx c.args.cache.now c.args.evaluation.now c.args.received c.cx-cx.result c.cx-cx.ensures c.in_ok-request.request c.step.new.goals c.in_ok-request.ensures.stepped (g.D.Delegate.starts c.args.inspect.now) (g.D.Delegate.starts c.step.new.inspect) c.step.ensures.same_starts (Evaluate c.in-Evaluate.kind c.in-Evaluate.input) c.in-Evaluate.is c.requires.right call w)
       c.ask.new.self.limits_met s.settling.unmet c.ask.ensures.meets;
   settles = λ call w needs s. no_ok c.from_residual-in_err-next-in-Evaluate.result _ _ c.from_residual-in_err-next-in-Evaluate.ensures.1;
+  leaves = λ call w needs s.
+      if_err_then c.from_residual-in_err-next-in-Evaluate.result
+      (settled_stays g.D.Delegate g.D.Cx.Cx g.D.Cx.Input.PartialEq.eq c.args.cache.now.cx call.goals c.args.cache.now c.ask.new.cache (runs_of c.args.evaluation.now.goals) c.requires.right.right.free c.ask.ensures.keeps.nodes c.ask.ensures.same_results
+      (store_settled g.D.Delegate g.D.Cx.Cx g.D.Cx.Input.PartialEq.eq c.args.cache.now.cx call c.args.received c.args.cache.now c.args.evaluation.now s));
 }
 
 pub returns-in_ok-next-in-Evaluate-clause-settled : goal.returns-in_ok-next-in-Evaluate-clause-settled
@@ -266,8 +273,10 @@ returns-in_ok-next-in-Evaluate-clause-settled g c = record {
       (needs_with g.D.Delegate g.D.Cx.Cx c.args.cache.now.cx call (g.D.Delegate.noop c.args.inspect.now) (g.D.Delegate.noop c.step.new.inspect) c.step.ensures.same_noop needs)
       (requests g.D.Delegate g.D.Cx.Cx g.D.Cx.Input.PartialEq.eq c.args.cache.now.cx c.args.cache.now c.args.evaluation.now c.args.received c.cx-cx.result c.cx-cx.ensures c.in_ok-request.request c.step.new.goals c.in_ok-request.ensures.stepped (g.D.Delegate.starts c.args.inspect.now) (g.D.Delegate.starts c.step.new.inspect) c.step.ensures.same_starts (Evaluate c.in-Evaluate.kind c.in-Evaluate.input) c.in-Evaluate.is c.requires.right call w)
       (stepped_right g.D.Delegate g.D.Cx.Cx g.D.Cx.Input.PartialEq.eq c.args.cache.now.cx c.args.cache.now c.args.evaluation.now c.args.received c.cx-cx.result c.cx-cx.ensures c.in_ok-request.request c.step.new.goals c.in_ok-request.ensures.stepped (subst (λ (q : Request _ _). NotesCandidate q c.step.new.goals c.step.new.goals) (sym c.in-Evaluate.is) refl) c.requires.right)
-      (noted_settles g.D.Delegate g.D.Cx.Cx c.cx-cx.result g.D.Cx.Input.PartialEq.eq c.args.cache.now.nodes c.args.cache.now.results call c.args.evaluation.now.limits_met c.args.received c.in_ok-request.request c.args.evaluation.now.goals c.step.new.goals c.step.new.goals c.in_ok-request.ensures.stepped s.answer (subst (λ (q : Request _ _). NotesCandidate q c.step.new.goals c.step.new.goals) (sym c.in-Evaluate.is) refl) s.settling)
+      (noted_settles g.D.Delegate g.D.Cx.Cx c.cx-cx.result g.D.Cx.Input.PartialEq.eq c.args.cache.now.nodes c.args.cache.now.results c.args.evaluation.now.provisional call c.args.evaluation.now.limits_met c.args.received c.in_ok-request.request c.args.evaluation.now.goals c.step.new.goals c.step.new.goals c.in_ok-request.ensures.stepped s.answer (subst (λ (q : Request _ _). NotesCandidate q c.step.new.goals c.step.new.goals) (sym c.in-Evaluate.is) refl) s.settling)
+      (stepped_entries g.D.Delegate g.D.Cx.Cx g.D.Cx.Input.PartialEq.eq c.args.cache.now.cx c.cx-cx.result c.cx-cx.ensures call c.args.received c.in_ok-request.request c.args.cache.now.results c.args.evaluation.now.goals c.step.new.goals c.step.new.goals c.args.evaluation.now.provisional c.in_ok-request.ensures.stepped (subst (λ (q : Request _ _). NotesCandidate q c.step.new.goals c.step.new.goals) (sym c.in-Evaluate.is) refl) s.entries)
       c.in_ok-next-in-Evaluate.next c.ask.new.cache c.ask.new.self (g.D.Delegate.starts c.ask.new.inspect) c.in_ok-next-in-Evaluate.ensures.asked;
+  leaves = λ call w needs s. tt;
 }
 
 pub returns-in_err-next-in-Done-clause-settled : goal.returns-in_err-next-in-Done-clause-settled
@@ -277,10 +286,15 @@ returns-in_err-next-in-Done-clause-settled g c = record {
       (needs_with g.D.Delegate g.D.Cx.Cx c.args.cache.now.cx call (g.D.Delegate.noop c.args.inspect.now) (g.D.Delegate.noop c.step.new.inspect) c.step.ensures.same_noop needs)
       (requests g.D.Delegate g.D.Cx.Cx g.D.Cx.Input.PartialEq.eq c.args.cache.now.cx c.args.cache.now c.args.evaluation.now c.args.received c.cx-cx.result c.cx-cx.ensures c.in_ok-request.request c.step.new.goals c.in_ok-request.ensures.stepped (g.D.Delegate.starts c.args.inspect.now) (g.D.Delegate.starts c.step.new.inspect) c.step.ensures.same_starts (Done c.in-Done.outcome) c.in-Done.is c.requires.right call w)
       (stepped_right g.D.Delegate g.D.Cx.Cx g.D.Cx.Input.PartialEq.eq c.args.cache.now.cx c.args.cache.now c.args.evaluation.now c.args.received c.cx-cx.result c.cx-cx.ensures c.in_ok-request.request c.step.new.goals c.in_ok-request.ensures.stepped (subst (λ (q : Request _ _). NotesCandidate q c.step.new.goals c.step.new.goals) (sym c.in-Done.is) refl) c.requires.right)
-      (noted_settles g.D.Delegate g.D.Cx.Cx c.cx-cx.result g.D.Cx.Input.PartialEq.eq c.args.cache.now.nodes c.args.cache.now.results call c.args.evaluation.now.limits_met c.args.received c.in_ok-request.request c.args.evaluation.now.goals c.step.new.goals c.step.new.goals c.in_ok-request.ensures.stepped s.answer (subst (λ (q : Request _ _). NotesCandidate q c.step.new.goals c.step.new.goals) (sym c.in-Done.is) refl) s.settling)
+      (noted_settles g.D.Delegate g.D.Cx.Cx c.cx-cx.result g.D.Cx.Input.PartialEq.eq c.args.cache.now.nodes c.args.cache.now.results c.args.evaluation.now.provisional call c.args.evaluation.now.limits_met c.args.received c.in_ok-request.request c.args.evaluation.now.goals c.step.new.goals c.step.new.goals c.in_ok-request.ensures.stepped s.answer (subst (λ (q : Request _ _). NotesCandidate q c.step.new.goals c.step.new.goals) (sym c.in-Done.is) refl) s.settling)
+      (stepped_entries g.D.Delegate g.D.Cx.Cx g.D.Cx.Input.PartialEq.eq c.args.cache.now.cx c.cx-cx.result c.cx-cx.ensures call c.args.received c.in_ok-request.request c.args.cache.now.results c.args.evaluation.now.goals c.step.new.goals c.step.new.goals c.args.evaluation.now.provisional c.in_ok-request.ensures.stepped (subst (λ (q : Request _ _). NotesCandidate q c.step.new.goals c.step.new.goals) (sym c.in-Done.is) refl) s.entries)
       g.D.Cx.Result.PartialEq.eq g.met.D.Cx.Result.Eq.laws.refl g.met.D.Cx.Cx.one_sort (g.met.D.Cx.Cx.clash c.args.cache.now.cx) (g.met.D.Delegate.yes_is_proved c.args.cache.now.cx) (g.met.D.Delegate.no_is_refuted c.args.cache.now.cx) c.has_runs.ensures
       c.finish_run.new.self.limits_met c.finish_run.ensures.meets;
   settles = λ call w needs s. no_ok c.from_residual-in_err-next-in-Done.result _ _ c.from_residual-in_err-next-in-Done.ensures.1;
+  leaves = λ call w needs s.
+      if_err_then c.from_residual-in_err-next-in-Done.result
+      (settled_stays g.D.Delegate g.D.Cx.Cx g.D.Cx.Input.PartialEq.eq c.args.cache.now.cx call.goals c.args.cache.now c.finish_run.new.cache (runs_of c.args.evaluation.now.goals) c.requires.right.right.free c.finish_run.ensures.cache.keeps.nodes c.in_err-next-in-Done.ensures.unstored
+      (store_settled g.D.Delegate g.D.Cx.Cx g.D.Cx.Input.PartialEq.eq c.args.cache.now.cx call c.args.received c.args.cache.now c.args.evaluation.now s));
 }
 
 pub returns-in_ok-next-in-Done-clause-settled : goal.returns-in_ok-next-in-Done-clause-settled
@@ -290,7 +304,8 @@ returns-in_ok-next-in-Done-clause-settled g c = record {
       (needs_with g.D.Delegate g.D.Cx.Cx c.args.cache.now.cx call (g.D.Delegate.noop c.args.inspect.now) (g.D.Delegate.noop c.step.new.inspect) c.step.ensures.same_noop needs)
       (requests g.D.Delegate g.D.Cx.Cx g.D.Cx.Input.PartialEq.eq c.args.cache.now.cx c.args.cache.now c.args.evaluation.now c.args.received c.cx-cx.result c.cx-cx.ensures c.in_ok-request.request c.step.new.goals c.in_ok-request.ensures.stepped (g.D.Delegate.starts c.args.inspect.now) (g.D.Delegate.starts c.step.new.inspect) c.step.ensures.same_starts (Done c.in-Done.outcome) c.in-Done.is c.requires.right call w)
       (stepped_right g.D.Delegate g.D.Cx.Cx g.D.Cx.Input.PartialEq.eq c.args.cache.now.cx c.args.cache.now c.args.evaluation.now c.args.received c.cx-cx.result c.cx-cx.ensures c.in_ok-request.request c.step.new.goals c.in_ok-request.ensures.stepped (subst (λ (q : Request _ _). NotesCandidate q c.step.new.goals c.step.new.goals) (sym c.in-Done.is) refl) c.requires.right)
-      (noted_settles g.D.Delegate g.D.Cx.Cx c.cx-cx.result g.D.Cx.Input.PartialEq.eq c.args.cache.now.nodes c.args.cache.now.results call c.args.evaluation.now.limits_met c.args.received c.in_ok-request.request c.args.evaluation.now.goals c.step.new.goals c.step.new.goals c.in_ok-request.ensures.stepped s.answer (subst (λ (q : Request _ _). NotesCandidate q c.step.new.goals c.step.new.goals) (sym c.in-Done.is) refl) s.settling)
+      (noted_settles g.D.Delegate g.D.Cx.Cx c.cx-cx.result g.D.Cx.Input.PartialEq.eq c.args.cache.now.nodes c.args.cache.now.results c.args.evaluation.now.provisional call c.args.evaluation.now.limits_met c.args.received c.in_ok-request.request c.args.evaluation.now.goals c.step.new.goals c.step.new.goals c.in_ok-request.ensures.stepped s.answer (subst (λ (q : Request _ _). NotesCandidate q c.step.new.goals c.step.new.goals) (sym c.in-Done.is) refl) s.settling)
+      (stepped_entries g.D.Delegate g.D.Cx.Cx g.D.Cx.Input.PartialEq.eq c.args.cache.now.cx c.cx-cx.result c.cx-cx.ensures call c.args.received c.in_ok-request.request c.args.cache.now.results c.args.evaluation.now.goals c.step.new.goals c.step.new.goals c.args.evaluation.now.provisional c.in_ok-request.ensures.stepped (subst (λ (q : Request _ _). NotesCandidate q c.step.new.goals c.step.new.goals) (sym c.in-Done.is) refl) s.entries)
       g.D.Cx.Result.PartialEq.eq g.met.D.Cx.Result.Eq.laws.refl g.met.D.Cx.Cx.one_sort (g.met.D.Cx.Cx.clash c.args.cache.now.cx) (g.met.D.Delegate.yes_is_proved c.args.cache.now.cx) (g.met.D.Delegate.no_is_refuted c.args.cache.now.cx) c.has_runs.ensures
       c.finish_run.new.self.limits_met c.finish_run.ensures.meets;
   settles = λ call w needs s.
@@ -298,24 +313,30 @@ returns-in_ok-next-in-Done-clause-settled g c = record {
       (needs_with g.D.Delegate g.D.Cx.Cx c.args.cache.now.cx call (g.D.Delegate.noop c.args.inspect.now) (g.D.Delegate.noop c.step.new.inspect) c.step.ensures.same_noop needs)
       (requests g.D.Delegate g.D.Cx.Cx g.D.Cx.Input.PartialEq.eq c.args.cache.now.cx c.args.cache.now c.args.evaluation.now c.args.received c.cx-cx.result c.cx-cx.ensures c.in_ok-request.request c.step.new.goals c.in_ok-request.ensures.stepped (g.D.Delegate.starts c.args.inspect.now) (g.D.Delegate.starts c.step.new.inspect) c.step.ensures.same_starts (Done c.in-Done.outcome) c.in-Done.is c.requires.right call w)
       (stepped_right g.D.Delegate g.D.Cx.Cx g.D.Cx.Input.PartialEq.eq c.args.cache.now.cx c.args.cache.now c.args.evaluation.now c.args.received c.cx-cx.result c.cx-cx.ensures c.in_ok-request.request c.step.new.goals c.in_ok-request.ensures.stepped (subst (λ (q : Request _ _). NotesCandidate q c.step.new.goals c.step.new.goals) (sym c.in-Done.is) refl) c.requires.right)
-      (noted_settles g.D.Delegate g.D.Cx.Cx c.cx-cx.result g.D.Cx.Input.PartialEq.eq c.args.cache.now.nodes c.args.cache.now.results call c.args.evaluation.now.limits_met c.args.received c.in_ok-request.request c.args.evaluation.now.goals c.step.new.goals c.step.new.goals c.in_ok-request.ensures.stepped s.answer (subst (λ (q : Request _ _). NotesCandidate q c.step.new.goals c.step.new.goals) (sym c.in-Done.is) refl) s.settling)
+      (noted_settles g.D.Delegate g.D.Cx.Cx c.cx-cx.result g.D.Cx.Input.PartialEq.eq c.args.cache.now.nodes c.args.cache.now.results c.args.evaluation.now.provisional call c.args.evaluation.now.limits_met c.args.received c.in_ok-request.request c.args.evaluation.now.goals c.step.new.goals c.step.new.goals c.in_ok-request.ensures.stepped s.answer (subst (λ (q : Request _ _). NotesCandidate q c.step.new.goals c.step.new.goals) (sym c.in-Done.is) refl) s.settling)
+      (stepped_entries g.D.Delegate g.D.Cx.Cx g.D.Cx.Input.PartialEq.eq c.args.cache.now.cx c.cx-cx.result c.cx-cx.ensures call c.args.received c.in_ok-request.request c.args.cache.now.results c.args.evaluation.now.goals c.step.new.goals c.step.new.goals c.args.evaluation.now.provisional c.in_ok-request.ensures.stepped (subst (λ (q : Request _ _). NotesCandidate q c.step.new.goals c.step.new.goals) (sym c.in-Done.is) refl) s.entries)
       g.D.Cx.Result.PartialEq.eq g.met.D.Cx.Result.Eq.laws.refl g.met.D.Cx.Cx.one_sort (g.met.D.Cx.Cx.clash c.args.cache.now.cx) (g.met.D.Delegate.yes_is_proved c.args.cache.now.cx) (g.met.D.Delegate.no_is_refuted c.args.cache.now.cx) c.has_runs.ensures
       c.in_ok-next-in-Done.next c.finish_run.new.cache c.finish_run.new.self c.in_ok-next-in-Done.ensures.leads;
+  leaves = λ call w needs s. tt;
 }
 
 pub returns-in_err-note_candidate-in_default-clause-settled : goal.returns-in_err-note_candidate-in_default-clause-settled
 returns-in_err-note_candidate-in_default-clause-settled g c = record {
   unmet = λ call w needs s. s.settling.unmet;
   settles = λ call w needs s. no_ok c.from_residual-in_err-note_candidate-in_default.result _ _ c.from_residual-in_err-note_candidate-in_default.ensures.1;
+  leaves = λ call w needs s. if_err_then c.from_residual-in_err-note_candidate-in_default.result (store_settled g.D.Delegate g.D.Cx.Cx g.D.Cx.Input.PartialEq.eq c.args.cache.now.cx call c.args.received c.args.cache.now c.args.evaluation.now s);
 }
 
 pub returns-in_ok-note_candidate-in_default-clause-settled : goal.returns-in_ok-note_candidate-in_default-clause-settled
 returns-in_ok-note_candidate-in_default-clause-settled g c = record {
   unmet = λ call w needs s. s.settling.unmet;
   settles = λ call w needs s.
-      subst (λ given. Settles g.D.Delegate g.D.Cx.Cx g.D.Cx.Input.PartialEq.eq call given c.args.cache.now (record c.args.evaluation.now { goals = c.note_candidate.new.self })) (sym c.without_node.ensures)
+      subst (λ given. Settles g.D.Delegate g.D.Cx.Cx g.D.Cx.Input.PartialEq.eq c.args.cache.now.cx call given c.args.cache.now (record c.args.evaluation.now { goals = c.note_candidate.new.self })) (sym c.without_node.ensures)
       (record {
-        settling = noted_settles g.D.Delegate g.D.Cx.Cx c.cx-cx.result g.D.Cx.Input.PartialEq.eq c.args.cache.now.nodes c.args.cache.now.results call c.args.evaluation.now.limits_met c.args.received c.in_ok-request.request c.args.evaluation.now.goals c.step.new.goals c.note_candidate.new.self c.in_ok-request.ensures.stepped s.answer c.in_ok-note_candidate-in_default.ensures s.settling;
-        answer = noted_stays_off (verdicts g.D.Cx.Cx) g.D.Cx.Input.PartialEq.eq g.met.D.Cx.Cx.same_input c.args.cache.now.nodes c.args.cache.now.results c.note_candidate.new.self;
+        settling = noted_settles g.D.Delegate g.D.Cx.Cx c.cx-cx.result g.D.Cx.Input.PartialEq.eq c.args.cache.now.nodes c.args.cache.now.results c.args.evaluation.now.provisional call c.args.evaluation.now.limits_met c.args.received c.in_ok-request.request c.args.evaluation.now.goals c.step.new.goals c.note_candidate.new.self c.in_ok-request.ensures.stepped s.answer c.in_ok-note_candidate-in_default.ensures s.settling;
+        answer = noted_stays_off (verdicts g.D.Cx.Cx) g.D.Cx.Input.PartialEq.eq g.met.D.Cx.Cx.same_input c.args.cache.now.nodes c.args.cache.now.results c.args.evaluation.now.provisional c.note_candidate.new.self;
+        entries =
+            stepped_entries g.D.Delegate g.D.Cx.Cx g.D.Cx.Input.PartialEq.eq c.args.cache.now.cx c.cx-cx.result c.cx-cx.ensures call c.args.received c.in_ok-request.request c.args.cache.now.results c.args.evaluation.now.goals c.step.new.goals c.note_candidate.new.self c.args.evaluation.now.provisional c.in_ok-request.ensures.stepped c.in_ok-note_candidate-in_default.ensures s.entries;
       });
+  leaves = λ call w needs s. tt;
 }

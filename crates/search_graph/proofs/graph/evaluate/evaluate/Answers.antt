@@ -2,12 +2,13 @@ use Rattle.std.proofs.Common.{◌≡◌, ◌∙◌, Bool, true, false, Option, S
 use Rattle.std.specs.Option.{IfSome, IsSomeAnd}
 use Rattle.open_goals.specs.declared.goals.Fate.TheVariants as becomes
 use Rattle.search_context.proofs.Builders.{builder_goes_on}
-use Rattle.search_graph.specs.Below.{Begins, Call, EndsWith, Hit, hit_of, IsFated, IsRemembered, usable, verdicts}
+use Rattle.search_graph.specs.Below.{Begins, Call, EndsWith, Hit, hit_of, IsFated, IsRemembered, usable}
 use Rattle.search_rules.specs.Words.{answered_by, fate_for}
 use Rattle.search_rules.proofs.moves.LookUps.{nothing_stored, something_stored, stored_over_none}
 use Rattle.search_rules.proofs.moves.Questions.{if_ok_then}
 use Rattle.search_rules.proofs.moves.StoredAnswers.{stored_ends}
-use Rattle.search_rules.specs.Settled.{AreSettled, CallNeedsTwoRuns}
+use Rattle.search_moves.specs.Settled.{IsSettledStore}
+use Rattle.search_rules.specs.Settled.{CallNeedsTwoRuns}
 use Rattle.search_graph.proofs.SettledSteps.{begins_unmet, begins_unscoped, needs_with, none_found, top_is_not_lone}
 use Rattle.search_graph.proofs.graph.evaluate.evaluate.Goals as goal
 
@@ -44,7 +45,13 @@ pub returns-in-Some-clause-stored : goal.returns-in-Some-clause-stored
 returns-in-Some-clause-stored g c = λ is_noop unscoped.
     something_stored c.consult-stored.result.stored _ _ c.in-Some.stored c.in-Some.is (stored_over_none g.D.Cx.Input.PartialEq.eq c.args.evaluation.now.goals c.requires.no_goals c.consult-stored.result.stored c.stack-stack.result.now c.stack-stack.ensures c.args.evaluation.now.provisional c.requires.no_entries c.args.step_kind (usable g.D.Cx.Input.PartialEq.eq c.args.cache.now.results c.args.input c.args.evaluation.now.root_depth.0) (found_by _ _ hit_of c.consult-stored.result.stored _ is_noop unscoped c.consult-stored.ensures.consults.stored)) (refl, c.consult-stored.ensures.same_starts, refl, refl)
 
+pub returns-in-Some-clause-grounded : goal.returns-in-Some-clause-grounded
+returns-in-Some-clause-grounded g c = record { has_graph = is_some_with _ c.consult-stored.result.stored c.in-Some.stored c.in-Some.is c.consult-stored.ensures.graph; caused = tt }
+
 -- ---- it is worked out
+
+pub returns-clause-grounded : goal.returns-clause-grounded
+returns-clause-grounded g c = c.work_out.ensures.grounded
 
 pub returns-clause-evaluates : goal.returns-clause-evaluates
 returns-clause-evaluates g c = record {
@@ -81,10 +88,10 @@ returns-in-Some-clause-settled g c = record {
 
 pub returns-clause-settled : goal.returns-clause-settled
 returns-clause-settled g c =
-    let over = λ (call : Call _) (at : Begins g.D.Delegate g.D.Cx.Cx c.args.cache.now.cx g.D.Cx.Input.PartialEq.eq call c.args.input c.args.evaluation.now.root_depth.0 (g.D.Delegate.starts c.args.inspect.now) c.args.evaluation.now.limits_met c.args.cache.now.results) (needs : CallNeedsTwoRuns g.D.Delegate g.D.Cx.Cx c.args.cache.now.cx call (g.D.Delegate.noop c.args.inspect.now)) (settled : AreSettled (verdicts g.D.Cx.Cx) g.D.Cx.Input.PartialEq.eq c.args.cache.now.nodes c.args.cache.now.results call.goals).
+    let over = λ (call : Call _) (at : Begins g.D.Delegate g.D.Cx.Cx c.args.cache.now.cx g.D.Cx.Input.PartialEq.eq call c.args.input c.args.evaluation.now.root_depth.0 (g.D.Delegate.starts c.args.inspect.now) c.args.evaluation.now.limits_met c.args.cache.now.results) (needs : CallNeedsTwoRuns g.D.Delegate g.D.Cx.Cx c.args.cache.now.cx call (g.D.Delegate.noop c.args.inspect.now)) (settled : IsSettledStore g.D.Delegate g.D.Cx.Cx g.D.Cx.Input.PartialEq.eq c.args.cache.now.cx call.goals c.args.cache.now.nodes c.args.cache.now.results).
     c.work_out.ensures.settled
     (c.consult-stored.ensures.consults.fate ∙ stored_unless _ _ _ needs.needs.unrecorded (begins_unscoped g.D.Delegate g.D.Cx.Cx c.args.cache.now.cx call _ _ _ _ _ needs at.outset))
-    (top_is_not_lone g.D.Delegate g.D.Cx.Cx c.args.cache.now.cx g.D.Cx.Input.PartialEq.eq call _ c.args.cache.now.results c.args.input c.args.evaluation.now.root_depth.0 _ _ needs settled.require at.outset
+    (top_is_not_lone g.D.Delegate g.D.Cx.Cx c.args.cache.now.cx g.D.Cx.Input.PartialEq.eq call _ c.args.cache.now.results c.args.input c.args.evaluation.now.root_depth.0 _ _ needs settled.settled.require at.outset
     (none_found hit_of c.consult-stored.result.stored _ c.in_default.not-Some
     (stored_over_none g.D.Cx.Input.PartialEq.eq c.args.evaluation.now.goals c.requires.no_goals c.consult-stored.result.stored c.stack-stack.result.now c.stack-stack.ensures c.args.evaluation.now.provisional c.requires.no_entries c.args.step_kind (usable g.D.Cx.Input.PartialEq.eq c.args.cache.now.results c.args.input c.args.evaluation.now.root_depth.0) (found_by _ _ hit_of c.consult-stored.result.stored _ needs.needs.unrecorded (begins_unscoped g.D.Delegate g.D.Cx.Cx c.args.cache.now.cx call _ _ _ _ _ needs at.outset) c.consult-stored.ensures.consults.stored)))) in
     record {

@@ -1,13 +1,15 @@
 use Rattle.std.proofs.Common.{arith, ◌≡◌, ◌∙◌, length, false, None, sym, subst, ap}
 use Rattle.search_context.proofs.Builders.{builder_goes_on}
-use Rattle.search_graph.specs.Below.{fates_of, IsFated, MovesFates, stored_at, AreFrom, Begin, Finished, Step, Awaits, Call, HasReply, IsRightFor, IsRightNext, LeadsTo, StopsWith, work_left}
+use Rattle.search_graph.specs.Below.{fates_of, IsFated, MovesFates, stored_at, AreFrom, Begin, Finished, Step, Awaits, Call, HasReply, IsCaused, IsRightFor, IsRightNext, LeadsTo, OutOfMemory, runs_of, StopsWith, work_left}
 use Rattle.search_rules.proofs.records.EarlierNodes.{first_there, stay_pushed}
 use Rattle.search_moves.proofs.Keeping.{appending_keeps}
-use Rattle.search_graph.proofs.Beginning.{begins_right, begins_waiting, never_pushed, then_keeps}
+use Rattle.search_graph.proofs.Beginning.{begins_right, begins_waiting, never_pushed, new_right, then_keeps}
 use Rattle.search_rules.proofs.moves.Questions.{if_err_and, no_ok}
 use Rattle.search_graph.proofs.KeptFates.{not_stored, first_fates, only_stores, then_fates, then_recorded, then_spared}
 use Rattle.search_graph.proofs.Loops.{call_of, only_one, some_call_begins, only_has_graph}
-use Rattle.search_moves.specs.Settled.{Settles, SettlesNext}
+use Rattle.global_cache.proofs.Finished.{KeepsFinished-nodes}
+use Rattle.search_moves.proofs.SettledFaults.{settled_stays}
+use Rattle.search_moves.specs.Settled.{IsSettledStore, Settles, SettlesNext}
 use Rattle.search_rules.specs.Settled.{CallNeedsTwoRuns}
 use Rattle.search_graph.proofs.SettledSteps.{begins_settles, begins_unmet, needs_with}
 use Rattle.search_graph.proofs.graph.evaluate.work_out.Goals as goal
@@ -39,9 +41,9 @@ loop-next-init g c = record {
   from = stay_pushed g.D.Delegate g.D.Cx.Cx c.args.cache.now.cx c.args.cache.now.nodes c.args.evaluation.now.goals c.push_goal.new.self.goals c.args.input c.args.step_kind c.args.evaluation.now.root_depth c.push_goal.new.cache.nodes c.in_ok-push_goal.ensures.pushed (length c.args.cache.now.nodes) (omega arith) (subst (AreFrom (length c.args.cache.now.nodes)) (sym c.requires.new.no_goals) tt);
   builder = c.push_goal.ensures.starts.builder;
   settled = λ stored not_lone call at needs settled.
-      subst (λ given. Settles g.D.Delegate g.D.Cx.Cx g.D.Cx.Input.PartialEq.eq call given c.push_goal.new.cache c.push_goal.new.self) (sym c.without_node-received.ensures)
-      (subst (λ cache. Settles g.D.Delegate g.D.Cx.Cx g.D.Cx.Input.PartialEq.eq call (record { reply = Begin; node = None }) cache c.push_goal.new.self) (sym c.push_goal.ensures.cache)
-      (subst (λ e. Settles g.D.Delegate g.D.Cx.Cx g.D.Cx.Input.PartialEq.eq call (record { reply = Begin; node = None }) (record c.args.cache.now { nodes = c.push_goal.new.cache.nodes }) e) (sym c.push_goal.ensures.rest)
+      subst (λ given. Settles g.D.Delegate g.D.Cx.Cx g.D.Cx.Input.PartialEq.eq c.args.cache.now.cx call given c.push_goal.new.cache c.push_goal.new.self) (sym c.without_node-received.ensures)
+      (subst (λ cache. Settles g.D.Delegate g.D.Cx.Cx g.D.Cx.Input.PartialEq.eq c.args.cache.now.cx call (record { reply = Begin; node = None }) cache c.push_goal.new.self) (sym c.push_goal.ensures.cache)
+      (subst (λ e. Settles g.D.Delegate g.D.Cx.Cx g.D.Cx.Input.PartialEq.eq c.args.cache.now.cx call (record { reply = Begin; node = None }) (record c.args.cache.now { nodes = c.push_goal.new.cache.nodes }) e) (sym c.push_goal.ensures.rest)
       (begins_settles g.D.Delegate g.D.Cx.Cx g.D.Cx.Input.PartialEq.eq g.met.D.Cx.Cx.same_input g.met.D.Cx.Input.Eq.laws.refl c.args.cache.now.cx c.args.step_kind c.args.input c.args.cache.now c.args.evaluation.now c.requires.new c.args.evaluation.now.root_depth c.push_goal.new.self.goals c.push_goal.new.cache.nodes c.in_ok-push_goal.ensures.pushed c.args.fate c.in_ok-push_goal.ensures.fates c.has_sound_results.ensures stored not_lone call
       (begins_unmet g.D.Delegate g.D.Cx.Cx c.args.cache.now.cx call _ _ _ _ _ needs at.outset) settled)));
   fates = first_fates (g.D.Delegate.scoped c.args.cache.now.cx) (g.D.Delegate.script c.args.cache.now.cx) g.D.Cx.Input.PartialEq.eq (g.D.Delegate.noop c.args.inspect.now) c.args.input c.args.fate c.args.cache.now.results c.args.evaluation.now.root_depth.0 c.args.evaluation.now.goals c.push_goal.new.self.goals c.push_goal.new.cache.results c.requires.new.no_goals c.in_ok-push_goal.ensures.fates c.requires.fated (ap (λ cache. cache.results) c.push_goal.ensures.cache);
@@ -84,13 +86,13 @@ loop-next-preserved g c =
       from =
           let first = length c.args.cache.now.nodes in
           let begun = subst (AreFrom first) (sym c.requires.new.no_goals) tt in
-          c.in_ok-next.ensures.stays first (first_there first c.args.cache.now.nodes c.loop-next.cache.nodes (omega arith) (c.loop-next.invariant.keeps.earlier first (omega arith) begun)) c.loop-next.invariant.from;
+          c.in_ok-next.ensures.goals.stays first (first_there first c.args.cache.now.nodes c.loop-next.cache.nodes (omega arith) (c.loop-next.invariant.keeps.earlier first (omega arith) begun)) c.loop-next.invariant.from;
       builder = builder_goes_on g.D.Delegate.starts g.D.Delegate.noop c.args.inspect.now c.loop-next.inspect c.advance.new.inspect c.loop-next.invariant.builder c.advance.ensures.builder;
       settled = λ stored not_lone call at needs settled.
-          (subst (λ cx. (call : Call _) → Awaits g.D.Delegate g.D.Cx.Cx g.D.Cx.Input.PartialEq.eq cx call c.loop-next.received c.loop-next.cache c.loop-next.evaluation (g.D.Delegate.starts c.loop-next.inspect) → CallNeedsTwoRuns g.D.Delegate g.D.Cx.Cx cx call (g.D.Delegate.noop c.loop-next.inspect) → Settles g.D.Delegate g.D.Cx.Cx g.D.Cx.Input.PartialEq.eq call c.loop-next.received c.loop-next.cache c.loop-next.evaluation → SettlesNext g.D.Delegate g.D.Cx.Cx g.D.Cx.Input.PartialEq.eq call (Step c.in-Step.next) c.advance.new.cache c.advance.new.evaluation) c.loop-next.invariant.keeps.context (rw c.in-Step.is at c.in_ok-next.ensures.settled.settles)) call (c.loop-next.invariant.waiting call at) (needs_with g.D.Delegate g.D.Cx.Cx c.args.cache.now.cx call _ _ c.loop-next.invariant.builder.same_noop needs) (c.loop-next.invariant.settled stored not_lone call at needs settled);
+          (subst (λ cx. (call : Call _) → Awaits g.D.Delegate g.D.Cx.Cx g.D.Cx.Input.PartialEq.eq cx call c.loop-next.received c.loop-next.cache c.loop-next.evaluation (g.D.Delegate.starts c.loop-next.inspect) → CallNeedsTwoRuns g.D.Delegate g.D.Cx.Cx cx call (g.D.Delegate.noop c.loop-next.inspect) → Settles g.D.Delegate g.D.Cx.Cx g.D.Cx.Input.PartialEq.eq cx call c.loop-next.received c.loop-next.cache c.loop-next.evaluation → SettlesNext g.D.Delegate g.D.Cx.Cx g.D.Cx.Input.PartialEq.eq cx call (Step c.in-Step.next) c.advance.new.cache c.advance.new.evaluation) c.loop-next.invariant.keeps.context (rw c.in-Step.is at c.in_ok-next.ensures.settled.settles)) call (c.loop-next.invariant.waiting call at) (needs_with g.D.Delegate g.D.Cx.Cx c.args.cache.now.cx call _ _ c.loop-next.invariant.builder.same_noop needs) (c.loop-next.invariant.settled stored not_lone call at needs settled);
       fates = then_fates (g.D.Delegate.scoped c.args.cache.now.cx) (g.D.Delegate.script c.args.cache.now.cx) g.D.Cx.Input.PartialEq.eq (g.D.Delegate.noop c.args.inspect.now) c.args.input c.args.fate c.args.cache.now.results c.loop-next.evaluation.goals c.loop-next.cache.results c.advance.new.cache.results c.loop-next.invariant.fates c.advance.ensures.cache.changes c.advance.ensures.cache.keeps.results c.advance.new.evaluation.goals
           (subst (λ b. MovesFates g.D.Cx.Input.PartialEq.eq (IsFated (g.D.Delegate.scoped c.args.cache.now.cx) (g.D.Delegate.script c.args.cache.now.cx) g.D.Cx.Input.PartialEq.eq c.loop-next.cache.results b) (fates_of c.loop-next.evaluation.goals) (fates_of c.advance.new.evaluation.goals)) c.loop-next.invariant.builder.same_noop
-          (subst (λ cx. MovesFates g.D.Cx.Input.PartialEq.eq (IsFated (g.D.Delegate.scoped cx) (g.D.Delegate.script cx) g.D.Cx.Input.PartialEq.eq c.loop-next.cache.results (g.D.Delegate.noop c.loop-next.inspect)) (fates_of c.loop-next.evaluation.goals) (fates_of c.advance.new.evaluation.goals)) c.loop-next.invariant.keeps.context c.in_ok-next.ensures.fates));
+          (subst (λ cx. MovesFates g.D.Cx.Input.PartialEq.eq (IsFated (g.D.Delegate.scoped cx) (g.D.Delegate.script cx) g.D.Cx.Input.PartialEq.eq c.loop-next.cache.results (g.D.Delegate.noop c.loop-next.inspect)) (fates_of c.loop-next.evaluation.goals) (fates_of c.advance.new.evaluation.goals)) c.loop-next.invariant.keeps.context c.in_ok-next.ensures.goals.fates));
     }
 
 -- ---- the goal has its answer
@@ -109,12 +111,31 @@ returns-in-Finished-clause-evaluates g c = record {
   stopped = λ call at. tt;
 }
 
-pub returns-in-Finished-clause-has_graph : goal.returns-in-Finished-clause-has_graph
-returns-in-Finished-clause-has_graph g c =
-    let fits = c.requires.new.fits in
-    let on = (subst (λ cx. (call : Call _) → Awaits g.D.Delegate g.D.Cx.Cx g.D.Cx.Input.PartialEq.eq cx call c.loop-next.received c.loop-next.cache c.loop-next.evaluation (g.D.Delegate.starts c.loop-next.inspect) → LeadsTo g.D.Delegate g.D.Cx.Cx g.D.Cx.Input.PartialEq.eq cx call (work_left g.D.Delegate g.D.Cx.Cx cx c.loop-next.evaluation.goals) c.loop-next.evaluation.goals (Finished c.in-Finished.answer) c.advance.new.cache c.advance.new.evaluation (g.D.Delegate.starts c.advance.new.inspect)) c.loop-next.invariant.keeps.context (rw c.in-Finished.is at c.in_ok-next.ensures.advances.leads)) (call_of c.args.input c.args.evaluation.now.root_depth.0 (g.D.Delegate.starts c.args.inspect.now) c.args.evaluation.now.limits_met false false fits) (c.loop-next.invariant.waiting _ (some_call_begins g.D.Delegate g.D.Cx.Cx c.args.cache.now.cx g.D.Cx.Input.PartialEq.eq c.args.input c.args.evaluation.now.root_depth.0 (g.D.Delegate.starts c.args.inspect.now) c.args.evaluation.now.limits_met fits c.args.cache.now.results)) in
-    only_has_graph g.D.Delegate g.D.Cx.Cx c.args.cache.now.cx c.advance.new.cache.nodes c.loop-next.evaluation.goals c.advance.new.evaluation.goals c.args.input c.in-Finished.answer on.leads.1
-    (rw c.in-Finished.is at c.in_ok-next.ensures.right).justified
+pub returns-in-Finished-clause-grounded : goal.returns-in-Finished-clause-grounded
+returns-in-Finished-clause-grounded g c = record {
+  has_graph =
+      let fits = c.requires.new.fits in
+      let on = (subst (λ cx. (call : Call _) → Awaits g.D.Delegate g.D.Cx.Cx g.D.Cx.Input.PartialEq.eq cx call c.loop-next.received c.loop-next.cache c.loop-next.evaluation (g.D.Delegate.starts c.loop-next.inspect) → LeadsTo g.D.Delegate g.D.Cx.Cx g.D.Cx.Input.PartialEq.eq cx call (work_left g.D.Delegate g.D.Cx.Cx cx c.loop-next.evaluation.goals) c.loop-next.evaluation.goals (Finished c.in-Finished.answer) c.advance.new.cache c.advance.new.evaluation (g.D.Delegate.starts c.advance.new.inspect)) c.loop-next.invariant.keeps.context (rw c.in-Finished.is at c.in_ok-next.ensures.advances.leads)) (call_of c.args.input c.args.evaluation.now.root_depth.0 (g.D.Delegate.starts c.args.inspect.now) c.args.evaluation.now.limits_met false false fits) (c.loop-next.invariant.waiting _ (some_call_begins g.D.Delegate g.D.Cx.Cx c.args.cache.now.cx g.D.Cx.Input.PartialEq.eq c.args.input c.args.evaluation.now.root_depth.0 (g.D.Delegate.starts c.args.inspect.now) c.args.evaluation.now.limits_met fits c.args.cache.now.results)) in
+      only_has_graph g.D.Delegate g.D.Cx.Cx c.args.cache.now.cx c.advance.new.cache.nodes c.loop-next.evaluation.goals c.advance.new.evaluation.goals c.args.input c.in-Finished.answer on.leads.1
+      (rw c.in-Finished.is at c.in_ok-next.ensures.right).justified;
+  caused = tt;
+}
+
+-- ---- it has none
+
+pub returns-in_err-push_goal-clause-grounded : goal.returns-in_err-push_goal-clause-grounded
+returns-in_err-push_goal-clause-grounded g c = record {
+  has_graph = no_ok c.from_residual.result _ _ c.from_residual.ensures.1;
+  caused = if_err_and c.from_residual.result _ _ c.from_residual.ensures.1 (λ e is. OutOfMemory is);
+}
+
+pub returns-in_err-next-clause-grounded : goal.returns-in_err-next-clause-grounded
+returns-in_err-next-clause-grounded g c = record {
+  has_graph = no_ok c.from_residual-in_err-next.result _ _ c.from_residual-in_err-next.ensures.1;
+  caused =
+      if_err_and c.from_residual-in_err-next.result _ _ c.from_residual-in_err-next.ensures.1
+      (λ e is. subst (IsCaused g.D.Delegate g.D.Cx.Cx g.D.Cx.Input.PartialEq.eq c.advance.new.cache) (sym is) c.in_err-next.ensures.caused);
+}
 
 pub returns-in-Finished-clause-keeps : goal.returns-in-Finished-clause-keeps
 returns-in-Finished-clause-keeps g c = then_keeps g.D.Cx.Input.PartialEq.eq c.args.evaluation.now.goals c.loop-next.evaluation.goals c.args.cache.now c.loop-next.cache c.advance.new.cache c.loop-next.invariant.from c.loop-next.invariant.keeps c.advance.ensures.cache.keeps
@@ -157,20 +178,24 @@ returns-in-Finished-clause-spares g c = record {
 pub returns-in_err-push_goal-clause-settled : goal.returns-in_err-push_goal-clause-settled
 returns-in_err-push_goal-clause-settled g c = λ stored not_lone. record {
   unmet = λ call at needs settled. ap (λ e. e.limits_met) c.push_goal.ensures.rest ∙ begins_unmet g.D.Delegate g.D.Cx.Cx c.args.cache.now.cx call _ _ _ _ _ needs at.outset;
-  settles = λ call at needs settled. no_ok c.from_residual.result _ _ c.from_residual.ensures.1;
+  settles = λ call at needs settled.
+      settled_stays g.D.Delegate g.D.Cx.Cx g.D.Cx.Input.PartialEq.eq c.args.cache.now.cx call.goals c.args.cache.now c.push_goal.new.cache (runs_of c.args.evaluation.now.goals)
+      (new_right g.D.Delegate g.D.Cx.Cx g.D.Cx.Input.PartialEq.eq c.args.cache.now.cx c.args.step_kind c.args.input c.args.cache.now c.args.evaluation.now c.requires.new c.has_sound_results.ensures).free
+      (KeepsFinished-nodes c.args.cache.now.nodes c.push_goal.new.cache.nodes c.push_goal.ensures.kept) (ap (λ cache. cache.results) c.push_goal.ensures.cache) settled;
 }
 
 pub returns-in_err-next-clause-settled : goal.returns-in_err-next-clause-settled
 returns-in_err-next-clause-settled g c = λ stored not_lone. record {
   unmet = λ call at needs settled.
-      (subst (λ cx. (call : Call _) → Awaits g.D.Delegate g.D.Cx.Cx g.D.Cx.Input.PartialEq.eq cx call c.loop-next.received c.loop-next.cache c.loop-next.evaluation (g.D.Delegate.starts c.loop-next.inspect) → CallNeedsTwoRuns g.D.Delegate g.D.Cx.Cx cx call (g.D.Delegate.noop c.loop-next.inspect) → Settles g.D.Delegate g.D.Cx.Cx g.D.Cx.Input.PartialEq.eq call c.loop-next.received c.loop-next.cache c.loop-next.evaluation → c.advance.new.evaluation.limits_met ≡ false) c.loop-next.invariant.keeps.context c.in_err-next.ensures.settled.unmet) call (c.loop-next.invariant.waiting call at) (needs_with g.D.Delegate g.D.Cx.Cx c.args.cache.now.cx call _ _ c.loop-next.invariant.builder.same_noop needs) (c.loop-next.invariant.settled stored not_lone call at needs settled);
-  settles = λ call at needs settled. no_ok c.from_residual-in_err-next.result _ _ c.from_residual-in_err-next.ensures.1;
+      (subst (λ cx. (call : Call _) → Awaits g.D.Delegate g.D.Cx.Cx g.D.Cx.Input.PartialEq.eq cx call c.loop-next.received c.loop-next.cache c.loop-next.evaluation (g.D.Delegate.starts c.loop-next.inspect) → CallNeedsTwoRuns g.D.Delegate g.D.Cx.Cx cx call (g.D.Delegate.noop c.loop-next.inspect) → Settles g.D.Delegate g.D.Cx.Cx g.D.Cx.Input.PartialEq.eq cx call c.loop-next.received c.loop-next.cache c.loop-next.evaluation → c.advance.new.evaluation.limits_met ≡ false) c.loop-next.invariant.keeps.context c.in_err-next.ensures.settled.unmet) call (c.loop-next.invariant.waiting call at) (needs_with g.D.Delegate g.D.Cx.Cx c.args.cache.now.cx call _ _ c.loop-next.invariant.builder.same_noop needs) (c.loop-next.invariant.settled stored not_lone call at needs settled);
+  settles = λ call at needs settled.
+      (subst (λ cx. (call : Call _) → Awaits g.D.Delegate g.D.Cx.Cx g.D.Cx.Input.PartialEq.eq cx call c.loop-next.received c.loop-next.cache c.loop-next.evaluation (g.D.Delegate.starts c.loop-next.inspect) → CallNeedsTwoRuns g.D.Delegate g.D.Cx.Cx cx call (g.D.Delegate.noop c.loop-next.inspect) → Settles g.D.Delegate g.D.Cx.Cx g.D.Cx.Input.PartialEq.eq cx call c.loop-next.received c.loop-next.cache c.loop-next.evaluation → IsSettledStore g.D.Delegate g.D.Cx.Cx g.D.Cx.Input.PartialEq.eq cx call.goals c.advance.new.cache.nodes c.advance.new.cache.results) c.loop-next.invariant.keeps.context c.in_err-next.ensures.settled.leaves) call (c.loop-next.invariant.waiting call at) (needs_with g.D.Delegate g.D.Cx.Cx c.args.cache.now.cx call _ _ c.loop-next.invariant.builder.same_noop needs) (c.loop-next.invariant.settled stored not_lone call at needs settled);
 }
 
 pub returns-in-Finished-clause-settled : goal.returns-in-Finished-clause-settled
 returns-in-Finished-clause-settled g c = λ stored not_lone. record {
   unmet = λ call at needs settled.
-      (subst (λ cx. (call : Call _) → Awaits g.D.Delegate g.D.Cx.Cx g.D.Cx.Input.PartialEq.eq cx call c.loop-next.received c.loop-next.cache c.loop-next.evaluation (g.D.Delegate.starts c.loop-next.inspect) → CallNeedsTwoRuns g.D.Delegate g.D.Cx.Cx cx call (g.D.Delegate.noop c.loop-next.inspect) → Settles g.D.Delegate g.D.Cx.Cx g.D.Cx.Input.PartialEq.eq call c.loop-next.received c.loop-next.cache c.loop-next.evaluation → c.advance.new.evaluation.limits_met ≡ false) c.loop-next.invariant.keeps.context c.in_ok-next.ensures.settled.unmet) call (c.loop-next.invariant.waiting call at) (needs_with g.D.Delegate g.D.Cx.Cx c.args.cache.now.cx call _ _ c.loop-next.invariant.builder.same_noop needs) (c.loop-next.invariant.settled stored not_lone call at needs settled);
+      (subst (λ cx. (call : Call _) → Awaits g.D.Delegate g.D.Cx.Cx g.D.Cx.Input.PartialEq.eq cx call c.loop-next.received c.loop-next.cache c.loop-next.evaluation (g.D.Delegate.starts c.loop-next.inspect) → CallNeedsTwoRuns g.D.Delegate g.D.Cx.Cx cx call (g.D.Delegate.noop c.loop-next.inspect) → Settles g.D.Delegate g.D.Cx.Cx g.D.Cx.Input.PartialEq.eq cx call c.loop-next.received c.loop-next.cache c.loop-next.evaluation → c.advance.new.evaluation.limits_met ≡ false) c.loop-next.invariant.keeps.context c.in_ok-next.ensures.settled.unmet) call (c.loop-next.invariant.waiting call at) (needs_with g.D.Delegate g.D.Cx.Cx c.args.cache.now.cx call _ _ c.loop-next.invariant.builder.same_noop needs) (c.loop-next.invariant.settled stored not_lone call at needs settled);
   settles = λ call at needs settled.
-      (subst (λ cx. (call : Call _) → Awaits g.D.Delegate g.D.Cx.Cx g.D.Cx.Input.PartialEq.eq cx call c.loop-next.received c.loop-next.cache c.loop-next.evaluation (g.D.Delegate.starts c.loop-next.inspect) → CallNeedsTwoRuns g.D.Delegate g.D.Cx.Cx cx call (g.D.Delegate.noop c.loop-next.inspect) → Settles g.D.Delegate g.D.Cx.Cx g.D.Cx.Input.PartialEq.eq call c.loop-next.received c.loop-next.cache c.loop-next.evaluation → SettlesNext g.D.Delegate g.D.Cx.Cx g.D.Cx.Input.PartialEq.eq call (Finished c.in-Finished.answer) c.advance.new.cache c.advance.new.evaluation) c.loop-next.invariant.keeps.context (rw c.in-Finished.is at c.in_ok-next.ensures.settled.settles)) call (c.loop-next.invariant.waiting call at) (needs_with g.D.Delegate g.D.Cx.Cx c.args.cache.now.cx call _ _ c.loop-next.invariant.builder.same_noop needs) (c.loop-next.invariant.settled stored not_lone call at needs settled);
+      (subst (λ cx. (call : Call _) → Awaits g.D.Delegate g.D.Cx.Cx g.D.Cx.Input.PartialEq.eq cx call c.loop-next.received c.loop-next.cache c.loop-next.evaluation (g.D.Delegate.starts c.loop-next.inspect) → CallNeedsTwoRuns g.D.Delegate g.D.Cx.Cx cx call (g.D.Delegate.noop c.loop-next.inspect) → Settles g.D.Delegate g.D.Cx.Cx g.D.Cx.Input.PartialEq.eq cx call c.loop-next.received c.loop-next.cache c.loop-next.evaluation → SettlesNext g.D.Delegate g.D.Cx.Cx g.D.Cx.Input.PartialEq.eq cx call (Finished c.in-Finished.answer) c.advance.new.cache c.advance.new.evaluation) c.loop-next.invariant.keeps.context (rw c.in-Finished.is at c.in_ok-next.ensures.settled.settles)) call (c.loop-next.invariant.waiting call at) (needs_with g.D.Delegate g.D.Cx.Cx c.args.cache.now.cx call _ _ c.loop-next.invariant.builder.same_noop needs) (c.loop-next.invariant.settled stored not_lone call at needs settled);
 }

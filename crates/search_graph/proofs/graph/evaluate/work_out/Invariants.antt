@@ -1,9 +1,9 @@
 use Rattle.std.proofs.Common.{◌≡◌, length}
 use Rattle.open_goals.specs.declared.goals.Fate.TheVariants as becomes
-use Rattle.search_moves.specs.Settled.{Settles}
+use Rattle.search_moves.specs.Settled.{IsSettledStore, Settles}
 use Rattle.search_rules.specs.Lone.{IsLone}
-use Rattle.search_rules.specs.Settled.{AreSettled, CallNeedsTwoRuns}
-use Rattle.search_graph.specs.Below.{AreFrom, Awaits, Begins, Call, IsRightFor, KeepsBuilder, KeepsCache, verdicts, work_left}
+use Rattle.search_rules.specs.Settled.{CallNeedsTwoRuns}
+use Rattle.search_graph.specs.Below.{AreFrom, Awaits, Begins, Call, IsRightFor, KeepsBuilder, KeepsCache, work_left}
 use Rattle.search_graph.specs.Fates.{KeepsFates}
 use Rattle.search_graph.proofs.graph.evaluate.work_out.Given as goal
 
@@ -17,8 +17,8 @@ invariant-loop-next g l = record {
   from : AreFrom (length l.fn.cache.nodes) l.evaluation.goals;
   builder : KeepsBuilder g.D.Delegate.starts g.D.Delegate.noop l.fn.inspect l.inspect;
   settled : l.fn.fate ≡ becomes.Stored → (IsLone g.D.Cx.Input.PartialEq.eq l.fn.cache.results l.fn.input → ⊥) → (call : Call _) → Begins g.D.Delegate g.D.Cx.Cx l.fn.cache.cx g.D.Cx.Input.PartialEq.eq call l.fn.input l.fn.evaluation.root_depth.0 (g.D.Delegate.starts l.fn.inspect) l.fn.evaluation.limits_met l.fn.cache.results
-      → CallNeedsTwoRuns g.D.Delegate g.D.Cx.Cx l.fn.cache.cx call (g.D.Delegate.noop l.fn.inspect) → AreSettled (verdicts g.D.Cx.Cx) g.D.Cx.Input.PartialEq.eq l.fn.cache.nodes l.fn.cache.results call.goals
-      → Settles g.D.Delegate g.D.Cx.Cx g.D.Cx.Input.PartialEq.eq call l.received l.cache l.evaluation;
+      → CallNeedsTwoRuns g.D.Delegate g.D.Cx.Cx l.fn.cache.cx call (g.D.Delegate.noop l.fn.inspect) → IsSettledStore g.D.Delegate g.D.Cx.Cx g.D.Cx.Input.PartialEq.eq l.fn.cache.cx call.goals l.fn.cache.nodes l.fn.cache.results
+      → Settles g.D.Delegate g.D.Cx.Cx g.D.Cx.Input.PartialEq.eq l.fn.cache.cx call l.received l.cache l.evaluation;
   fates : KeepsFates (g.D.Delegate.scoped l.fn.cache.cx) (g.D.Delegate.script l.fn.cache.cx) g.D.Cx.Input.PartialEq.eq (g.D.Delegate.noop l.fn.inspect) l.fn.input l.fn.fate l.fn.cache.results l.evaluation.goals l.cache.results;
 }
 

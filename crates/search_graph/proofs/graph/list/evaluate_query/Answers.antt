@@ -1,12 +1,12 @@
 use Rattle.std.proofs.Common.{◌≡◌, ℕ, ◌≤◌, max, false, List, [], ◌∷◌, IfOk, IfErr, refl, sym, ap, subst}
 use Rattle.std.proofs.lemmas.List.Elements.{All-head}
 use Rattle.search_graph.specs.Lists.{AreEnclosed}
-use Rattle.search_graph.specs.Below.{IsDefinite, IsEnclosed, IsPaid, verdicts, Memory, IsPlainTo, IsPlainValue, IsCaused, StoresWithin}
+use Rattle.search_graph.specs.Below.{IsDefinite, IsEnclosed, IsMemoryOrOrder, IsPaid, verdicts, Memory, IsPlainTo, IsPlainValue, IsCaused, StoresWithin}
 use Rattle.global_cache.proofs.Finished.{KeepsFinished-same}
 use Rattle.global_cache.proofs.Stores.{KeepsResults-same}
 use Rattle.search_graph.specs.Words.{HadCause}
 use Rattle.search_graph.proofs.ListAnswers.{IfErr-weaker}
-use Rattle.search_graph.proofs.ListLimits.{only_answer}
+use Rattle.search_graph.proofs.ListLimits.{only_answer, only_fault}
 use Rattle.search_graph.proofs.graph.list.evaluate_query.Goals as goal
 
 pub returns-clause-answered : goal.returns-clause-answered
@@ -41,6 +41,7 @@ returns-clause-limits g c =
       met = c.evaluate_goal.new.self.limits_met;
       decisive = c.evaluate_goal.ensures.decisive_results;
       decided = λ decisive all unmet at answer beyond is. only_answer c.evaluate_goal.result (λ a. IsDefinite (verdicts g.D.Cx.Cx) a.result) (c.evaluate_goal.ensures.decisive decisive all unmet) at answer is;
+      faults = λ decisive one all unmet at fault beyond is. only_fault c.evaluate_goal.result (λ told. IsMemoryOrOrder told) (c.evaluate_goal.ensures.decisive_faults decisive one all unmet) at fault is;
       no_overflow = λ counted none unmet. c.evaluate_goal.ensures.no_overflow counted none fresh unmet;
       price = λ counted none met. record {
         at = 0;

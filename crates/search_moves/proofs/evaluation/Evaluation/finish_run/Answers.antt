@@ -6,10 +6,11 @@ use Rattle.search_moves.specs.Words.{HadMostRuns, IsDone, IsRunAgain, LeadsTo, P
 use Rattle.search_rules.proofs.justified.Finishing.{begin_fits, neither_is}
 use Rattle.search_rules.proofs.moves.Moves.{asked_stopped_by, can_leave, ends_newest, failed_rerun_stopped, leave_leads, limited_leads, limited_stopped, met_none_before, rerun_goes_on}
 use Rattle.search_rules.proofs.moves.Questions.{if_err_and, if_ok_then, no_ok}
-use Rattle.search_rules.proofs.moves.DoneRuns.{limit_comes, limited_keeps, limited_plain, memory_alone, newest_comes, newest_plain, put_keeps, stopped_by, stopped_each}
+use Rattle.search_rules.proofs.moves.DoneRuns.{differs_definite, limit_comes, limited_keeps, limited_plain, memory_alone, newest_comes, newest_plain, put_keeps, stopped_by, stopped_by_both, stopped_each}
 use Rattle.search_rules.proofs.Reasons.{newest_reason, newest_unranked}
 use Rattle.search_rules.proofs.moves.EndOfRunLaws.{limited, unstable, newest_limited, newest_unstable}
 use Rattle.search_context.proofs.Builders.{builder_stays}
+use Rattle.search_moves.proofs.Failing.{on_err}
 use Rattle.search_moves.proofs.Keeping.{leaves_results}
 use Rattle.search_moves.proofs.LimitsAtEnd.{meets_at_end, or_met, or_not}
 use Rattle.search_moves.proofs.evaluation.Evaluation.finish_run.Goals as goal
@@ -39,18 +40,19 @@ returns-in-Ok-clause-moves g c = record {
         answers =
             done_keeps g.D.Delegate g.D.Cx.Cx c.args.cache.now.cx call g.D.Cx.Input.PartialEq.eq ahead c.args.outcome _ _ _ c.in-Ok.reason
             (end_leaves (verdicts g.D.Cx.Cx) g.D.Cx.Result.PartialEq.eq g.D.Delegate.initial_kind g.D.Delegate.ambiguity g.met.D.Delegate.ambiguous_is_neither g.D.Delegate.FIXPOINT_STEP_LIMIT c.last_entry.result.now.state.provisional_result c.last_entry.result.now.state.usages c.last_run.result.now.finished_runs c.args.outcome c.end_of_run.result c.in-Ok.reason c.end_of_run.ensures.is_end c.in-Ok.is)
-            g.met.D.Cx.Cx.same_input c.args.cache.now.results c.pop_goal.new.cache.results c.args.self.now.goals c.args.self.now.provisional c.pop_goal.new.self.provisional c.pop_goal.ensures.stored p.rebased h.asked h.answers;
+            _ g.met.D.Cx.Cx.same_input c.args.cache.now.results c.pop_goal.new.cache.results c.args.self.now.goals c.args.self.now.provisional c.pop_goal.new.self.provisional c.pop_goal.ensures.stored p.rebased h.asked h.answers;
         remembered = remembered g.D.Delegate g.D.Cx.Cx c.args.cache.now.cx call g.D.Cx.Input.PartialEq.eq (g.D.Cx.Cx.token c.args.cache.now.cx) ahead c.args.outcome c.args.outcome _ _ c.pop_goal.new.cache.results _ (λ meets. meets) c.args.self.now.goals c.pop_goal.new.self.goals next c.requires.right.justified.tallies h.asked p.left p.stored;
       }));
   stops = λ call ahead h.
-      stopped_by c.pop_goal.result _ _
-      (λ fault plain.
+      stopped_by_both c.pop_goal.result _ _ _
+      (λ fault plain decided.
       subst (λ after. StopsWith g.D.Delegate g.D.Cx.Cx g.D.Cx.Input.PartialEq.eq c.args.cache.now.cx call fault c.pop_goal.new.cache after (g.D.Delegate.starts c.args.inspect.now)) (sym c.pop_goal.ensures.rest)
       (record {
-        stopped = asked_stopped_by g.D.Delegate g.D.Cx.Cx c.args.cache.now.cx call ahead _ c.args.self.now.goals fault _ _ plain h.asked;
+        stopped = asked_stopped_by g.D.Delegate g.D.Cx.Cx c.args.cache.now.cx call ahead _ c.args.self.now.goals fault _ _ plain decided h.asked;
         store = put_keeps g.D.Delegate g.D.Cx.Cx c.args.cache.now.cx call g.D.Cx.Input.PartialEq.eq g.met.D.Cx.Cx.same_input c.args.cache.now.results c.pop_goal.new.cache.results ahead c.args.outcome c.args.self.now.goals _ _ c.pop_goal.ensures.stored h.asked h.answers.store;
       }))
-      (memory_alone g.D.Delegate g.D.Cx.Cx c.args.cache.now.cx call ahead c.args.outcome _ _ c.pop_goal.result Memory c.args.self.now.goals c.pop_goal.ensures.plain h.asked);
+      (memory_alone g.D.Delegate g.D.Cx.Cx c.args.cache.now.cx call ahead c.args.outcome _ _ c.pop_goal.result Memory c.args.self.now.goals c.pop_goal.ensures.plain h.asked)
+      (differs_definite g.D.Delegate g.D.Cx.Cx c.args.cache.now.cx call ahead c.args.outcome _ _ c.pop_goal.result c.args.self.now.goals (stopped_by c.pop_goal.result _ _ (λ fault fails. fails.differs) c.pop_goal.ensures.fails) h.asked);
 }
 
 -- what becomes of the goal, whose run came to its result
@@ -86,7 +88,7 @@ returns-in-Err-AtLimit-clause-moves g c = record {
       subst (λ after. LeadsTo g.D.Delegate g.D.Cx.Cx g.D.Cx.Input.PartialEq.eq c.args.cache.now.cx call ahead c.args.self.now.goals next c.pop_goal-in-Err-AtLimit.new.cache after (g.D.Delegate.starts c.args.inspect.now)) (sym c.pop_goal-in-Err-AtLimit.ensures.rest)
       (record {
         leads = limited_leads g.D.Delegate g.D.Cx.Cx c.args.cache.now.cx call ahead c.args.outcome c.fixpoint_overflow_result-overflow.result next c.args.self.now.goals c.pop_goal-in-Err-AtLimit.new.self.goals _ _ (newest_limited c.args.self.now.goals c.last_entry.result.now c.last_run.result.now c.last_entry.ensures c.last_run.ensures g.D.Delegate.FIXPOINT_STEP_LIMIT (limited g.D.Cx.Result.PartialEq.eq g.D.Delegate.initial_kind g.D.Delegate.ambiguity g.D.Delegate.FIXPOINT_STEP_LIMIT c.last_entry.result.now.state.provisional_result c.last_entry.result.now.state.usages c.last_run.result.now.finished_runs c.args.outcome c.end_of_run.result c.end_of_run.ensures.is_end (c.in-Err-AtLimit.is ∙ ap Err c.in-Err-AtLimit.field-0-is))) p.left h.asked;
-        answers = limited_keeps_answers g.D.Delegate g.D.Cx.Cx c.args.cache.now.cx call g.D.Cx.Input.PartialEq.eq ahead c.args.outcome c.fixpoint_overflow_result-overflow.result _ _ _ _ g.met.D.Cx.Cx.same_input c.args.cache.now.results c.pop_goal-in-Err-AtLimit.new.cache.results c.args.self.now.goals c.args.self.now.provisional c.pop_goal-in-Err-AtLimit.new.self.provisional c.pop_goal-in-Err-AtLimit.ensures.stored p.rebased h.asked h.answers;
+        answers = limited_keeps_answers g.D.Delegate g.D.Cx.Cx c.args.cache.now.cx call g.D.Cx.Input.PartialEq.eq _ ahead c.args.outcome c.fixpoint_overflow_result-overflow.result _ _ _ _ g.met.D.Cx.Cx.same_input c.args.cache.now.results c.pop_goal-in-Err-AtLimit.new.cache.results c.args.self.now.goals c.args.self.now.provisional c.pop_goal-in-Err-AtLimit.new.self.provisional c.pop_goal-in-Err-AtLimit.ensures.stored p.rebased h.asked h.answers;
         remembered = remembered g.D.Delegate g.D.Cx.Cx c.args.cache.now.cx call g.D.Cx.Input.PartialEq.eq (g.D.Cx.Cx.token c.args.cache.now.cx) ahead c.args.outcome c.fixpoint_overflow_result-overflow.result _ c.args.self.now.limits_met c.pop_goal-in-Err-AtLimit.new.cache.results true (met_none_before g.D.Delegate g.D.Cx.Cx c.args.cache.now.cx call c.args.self.now.limits_met) c.args.self.now.goals c.pop_goal-in-Err-AtLimit.new.self.goals next c.requires.right.justified.tallies h.asked p.left p.stored;
       }));
   stops = λ call ahead h.
@@ -196,6 +198,20 @@ returns-in-Ok-clause-builder g c = builder_stays g.D.Delegate.starts g.D.Delegat
 
 pub returns-in-Err-AtLimit-clause-builder : goal.returns-in-Err-AtLimit-clause-builder
 returns-in-Err-AtLimit-clause-builder g c = builder_stays g.D.Delegate.starts g.D.Delegate.noop c.args.inspect.now
+
+-- ---- where it could not be popped
+
+pub returns-in-Ok-clause-caused : goal.returns-in-Ok-clause-caused
+returns-in-Ok-clause-caused g c = stopped_by c.pop_goal.result _ _ (λ fault fails. fails.caused) c.pop_goal.ensures.fails
+
+pub returns-in-Err-AtLimit-clause-caused : goal.returns-in-Err-AtLimit-clause-caused
+returns-in-Err-AtLimit-clause-caused g c = stopped_by c.pop_goal-in-Err-AtLimit.result _ _ (λ fault fails. fails.caused) c.pop_goal-in-Err-AtLimit.ensures.fails
+
+pub returns-in-Ok-clause-unstored : goal.returns-in-Ok-clause-unstored
+returns-in-Ok-clause-unstored g c = on_err c.pop_goal.result _ (λ fault fails. fails.unstored) c.pop_goal.ensures.fails
+
+pub returns-in-Err-AtLimit-clause-unstored : goal.returns-in-Err-AtLimit-clause-unstored
+returns-in-Err-AtLimit-clause-unstored g c = on_err c.pop_goal-in-Err-AtLimit.result _ (λ fault fails. fails.unstored) c.pop_goal-in-Err-AtLimit.ensures.fails
 
 -- ---- the stored results
 

@@ -1,9 +1,10 @@
 use Rattle.std.proofs.Common.{List, [], ◌∷◌, length, map, reverse, All, ◌≡◌, ◌+◌, ◌<◌, ◌≤◌, ◌^◌, refl, sym, ap, subst, ◌∙◌, arith}
 use Rattle.std.specs.Option.{IfSome}
 use Rattle.search_moves.specs.Below.{ChangesNewest, fates_of, HaveExpected, IfCompared, IsExpected, IsPlainValue, highest, StackEntry, ProvisionalCacheEntry, entries_at, EvaluationResult, HasGraph, place_of, KeepsResults, IsPlainAt, KeepsFinished, IsPlainTo, verdicts, AreJustified, HaveTallies, AreReady, HasReason, IsNewestUnranked, RebasesNewest, final_answer, AreFree, ComesTo, IsNewestPlainTo, IsNewestStored, IsStored, NewestComesTo, NewestIsPlain, StoresAnswer, StoresNewest, GivesAnswer, GivesNested, LeavesNested, runs_of, IsJustifiedNext, HasNewestNode, HasResultNode, KeepsBut, node_given}
-use Rattle.search_moves.specs.Words.{Pops}
+use Rattle.search_moves.specs.Words.{Fails, Pops}
 use Rattle.global_cache.proofs.Stores.{KeepsResults-same}
 use Rattle.search_moves.proofs.Given.{heads_given, puts_given, storable_given, stores_given}
+use Rattle.search_moves.proofs.Failing.{fails_after, memory_fails}
 use Rattle.search_moves.proofs.Keeping.{ending_keeps}
 use Rattle.search_rules.proofs.entries.Ready.{are_within, heads_on_stack, on_stack_many}
 use Rattle.search_rules.proofs.entries.Pops.{rebased_ready}
@@ -81,6 +82,23 @@ store_answer-requires-clause-expected g c =
 
 pub returns-in_err-next-clause-plain : goal.returns-in_err-next-clause-plain
 returns-in_err-next-clause-plain g c = λ n plain. if_err_and c.from_residual-in_err-next.result _ _ c.from_residual-in_err-next.ensures.1 (λ e is. is)
+
+pub returns-in_err-node-clause-fails : goal.returns-in_err-node-clause-fails
+returns-in_err-node-clause-fails g c = memory_fails g.D.Delegate g.D.Cx.Cx g.D.Cx.Input.PartialEq.eq c.args.outcome c.args.cache.now c.result_node.new.cache c.from_residual.result c.from_residual.ensures.1 c.result_node.ensures.same_results
+
+pub returns-in_err-rebase_entries-clause-fails : goal.returns-in_err-rebase_entries-clause-fails
+returns-in_err-rebase_entries-clause-fails g c = memory_fails g.D.Delegate g.D.Cx.Cx g.D.Cx.Input.PartialEq.eq c.args.outcome c.args.cache.now c.result_node.new.cache c.from_residual-in_err-rebase_entries.result c.from_residual-in_err-rebase_entries.ensures.1 c.result_node.ensures.same_results
+
+pub returns-in_err-next-clause-fails : goal.returns-in_err-next-clause-fails
+returns-in_err-next-clause-fails g c = memory_fails g.D.Delegate g.D.Cx.Cx g.D.Cx.Input.PartialEq.eq c.args.outcome c.args.cache.now c.result_node.new.cache c.from_residual-in_err-next.result c.from_residual-in_err-next.ensures.1 c.result_node.ensures.same_results
+
+pub returns-in_err-store_answer-clause-fails : goal.returns-in_err-store_answer-clause-fails
+returns-in_err-store_answer-clause-fails g c =
+    if_err_and c.from_residual-in_err-store_answer.result _ _ c.from_residual-in_err-store_answer.ensures.1
+    (λ e is.
+    subst (Fails g.D.Delegate g.D.Cx.Cx g.D.Cx.Input.PartialEq.eq c.args.outcome c.args.cache.now c.store_answer.new.cache) (sym is)
+    (fails_after g.D.Delegate g.D.Cx.Cx g.D.Cx.Input.PartialEq.eq c.args.outcome c.args.cache.now c.store_answer.new.cache c.result_node.new.cache c.give_answer.new.answer.result _
+    (ap (λ (a : EvaluationResult _ _ _ _ _). a.result) c.give_answer.ensures.left.others ∙ ap (λ (a : EvaluationResult _ _ _ _ _). a.result) c.finalize-answer.ensures) c.result_node.ensures.same_results c.in_err-store_answer.ensures.fails))
 
 pub returns-in_err-store_answer-clause-stored : goal.returns-in_err-store_answer-clause-stored
 returns-in_err-store_answer-clause-stored g c = newest_stored (verdicts g.D.Cx.Cx) c.args.cache.now.nodes c.result_node.new.cache.nodes c.args.self.now.goals c.pop-entry.result.entry c.pop-entry.result.run c.pop-entry.new.self c.pop-entry.ensures c.args.outcome c.in_ok-node.node c.requires.right.justified c.in_ok-node.ensures.has_node g.D.Cx.Input.PartialEq.eq c.args.cache.now.results c.store_answer.new.cache.results
@@ -168,8 +186,8 @@ returns-clause-popped g c =
           (subst (λ node. HasResultNode (verdicts g.D.Cx.Cx) c.args.cache.now.nodes c.store_answer.new.cache.nodes c.pop-entry.result.entry.state.provisional_result c.pop-entry.result.run.node c.pop-entry.result.entry.state.node c.pop-entry.result.run.progress c.args.outcome node) (sym node_is)
           (subst (λ nodes. HasResultNode (verdicts g.D.Cx.Cx) c.args.cache.now.nodes nodes c.pop-entry.result.entry.state.provisional_result c.pop-entry.result.run.node c.pop-entry.result.entry.state.node c.pop-entry.result.run.progress c.args.outcome c.in_ok-node.node) (sym (ap (λ cache. cache.nodes) c.store_answer.ensures.puts.cache.rest)) c.in_ok-node.ensures.has_node));
       rebased =
-          subst (λ l. RebasesNewest g.D.Cx.Input.PartialEq.eq g.D.Delegate.ENABLE_PROVISIONAL_CACHE (g.D.Delegate.propagated c.args.cache.now.cx) (g.D.Delegate.fixpoint_overflow c.args.cache.now.cx) c.args.reason c.args.outcome l c.args.self.now.provisional c.store_answer.new.self.provisional) (sym c.pop-entry.ensures)
-          (record { node = c.in_ok-node.node; entries = entries_rebased g.D.Cx.Input.PartialEq.eq g.D.Delegate.ENABLE_PROVISIONAL_CACHE g.D.Delegate.propagated g.D.Delegate.fixpoint_overflow c.cx.result c.args.cache.now.cx (c.cx.ensures ∙ c.in_ok-node.ensures.same_context) c.args.reason c.args.outcome c.in_ok-node.node (c.pop-entry.result.entry, c.pop-entry.result.run) c.pop-entry.new.self c.give_answer.new.goals c.in_ok-next.next c.stack-stack.result.now (reverse (map (λ s. s.0) c.give_answer.new.goals)) c.stack-stack.ensures refl c.step_kind_from_parent-step.result c.step_kind_from_parent-step.ensures c.input-input.result c.input-input.ensures c.finalize-answer.result c.finalize-answer.ensures c.in_ok-next.ensures.given c.args.self.now.provisional c.rebase_entries.new.provisional c.store_answer.new.self.provisional c.in_ok-rebase_entries.ensures.exact (stores_given g.D.Delegate g.D.Cx.Cx c.finalize-answer.result c.give_answer.new.answer c.give_answer.ensures.left g.D.Cx.Input.PartialEq.eq c.step_kind_from_parent-step.result c.input-input.result c.pop-entry.result.run.fate (record c.args.self.now { goals = c.give_answer.new.goals; provisional = c.rebase_entries.new.provisional }) c.store_answer.new.self c.store_answer.new.cache c.in_ok-store_answer.ensures.stores).entry });
+          subst (λ l. RebasesNewest g.D.Cx.Input.PartialEq.eq g.D.Delegate.ENABLE_PROVISIONAL_CACHE (g.D.Delegate.propagated c.args.cache.now.cx) (g.D.Delegate.fixpoint_overflow c.args.cache.now.cx) c.args.reason c.args.outcome (node_given c.in_ok-next.next) l c.args.self.now.provisional c.store_answer.new.self.provisional) (sym c.pop-entry.ensures)
+          (record { node = c.in_ok-node.node; entries = entries_rebased g.D.Cx.Input.PartialEq.eq g.D.Delegate.ENABLE_PROVISIONAL_CACHE g.D.Delegate.propagated g.D.Delegate.fixpoint_overflow c.cx.result c.args.cache.now.cx (c.cx.ensures ∙ c.in_ok-node.ensures.same_context) c.args.reason c.args.outcome c.in_ok-node.node (c.pop-entry.result.entry, c.pop-entry.result.run) c.pop-entry.new.self c.give_answer.new.goals c.in_ok-next.next c.stack-stack.result.now (reverse (map (λ s. s.0) c.give_answer.new.goals)) c.stack-stack.ensures refl c.step_kind_from_parent-step.result c.step_kind_from_parent-step.ensures c.input-input.result c.input-input.ensures c.finalize-answer.result c.finalize-answer.ensures c.in_ok-next.ensures.given c.args.self.now.provisional c.rebase_entries.new.provisional c.store_answer.new.self.provisional c.in_ok-rebase_entries.ensures.exact (stores_given g.D.Delegate g.D.Cx.Cx c.finalize-answer.result c.give_answer.new.answer c.give_answer.ensures.left g.D.Cx.Input.PartialEq.eq c.step_kind_from_parent-step.result c.input-input.result c.pop-entry.result.run.fate (record c.args.self.now { goals = c.give_answer.new.goals; provisional = c.rebase_entries.new.provisional }) c.store_answer.new.self c.store_answer.new.cache c.in_ok-store_answer.ensures.stores).entry }, sym node_is);
       right = record {
         justified =
             subst (λ nodes. IsJustifiedNext (verdicts g.D.Cx.Cx) nodes c.args.self.now.goals c.give_answer.new.goals c.in_ok-next.next) (sym (ap (λ cache. cache.nodes) c.store_answer.ensures.puts.cache.rest))
