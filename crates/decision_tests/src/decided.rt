@@ -1,6 +1,7 @@
 //! The search beside the solver, where a goal has two runs at most.
 
 use crate::drawn::{Kinds, random_goals, text_of};
+use crate::early::EarlyDelegate;
 use crate::solved::have_proofs;
 use chance::Chance;
 use rule_tables::delegate::Table;
@@ -12,6 +13,15 @@ use search_parts::path::PathKind;
 use std::alloc::Global;
 use std::process::Abort;
 use std::test::Fail;
+
+/// Which questions a script asks.
+#[derive(Clone, Copy, Debug)]
+enum Scripts {
+    /// All of its goal's.
+    AskAll,
+    /// No more of a candidate after an answer that is not yes, and none after a candidate that holds.
+    StopEarly,
+}
 
 /// What tables came to.
 #[derive(Clone, Copy, Debug, Default)]
@@ -56,6 +66,7 @@ where
 /// Draws so many tables of so many goals, and lays the search, with or without its provisional cache, beside the solver.
 fn expect_decided<const PROVISIONAL: usize>(
     rt: &(impl Abort + AllocGlobal),
+    scripts: Scripts,
     tables: usize,
     goals: usize,
     kinds: Kinds,
@@ -67,13 +78,23 @@ fn expect_decided<const PROVISIONAL: usize>(
         let proved = have_proofs(rt.alloc(), drawn.as_slice())?;
         let text = text_of(rt.alloc(), drawn.as_slice())?;
         let rules = &Rules::read(rt.alloc(), text.as_bytes())?;
-        let flaw = ask_all::<Table<&Rules>, TableDelegate<'_, 2, PROVISIONAL>>(
-            rt.alloc(),
-            Table { lender: rules },
-            rules,
-            proved.as_slice(),
-            &mut tally,
-        )?;
+        let table = Table { lender: rules };
+        let flaw = match scripts {
+            Scripts::AskAll => ask_all::<Table<&Rules>, TableDelegate<'_, 2, PROVISIONAL>>(
+                rt.alloc(),
+                table,
+                rules,
+                proved.as_slice(),
+                &mut tally,
+            )?,
+            Scripts::StopEarly => ask_all::<Table<&Rules>, EarlyDelegate<&Rules, 2, PROVISIONAL>>(
+                rt.alloc(),
+                table,
+                rules,
+                proved.as_slice(),
+                &mut tally,
+            )?,
+        };
         assert!(rt; flaw.is_none(), "{flaw:?}\n{text}");
     }
     // Many goals are proved, many are refuted, and some are run twice.
@@ -88,30 +109,45 @@ fn expect_decided<const PROVISIONAL: usize>(
 
 #[test]
 fn three_goals_with_cycles_of_one_kind_are_decided(rt: HostRuntime) -> Result<(), Fail> {
-    expect_decided::<1>(&rt, 400_000, 3, Kinds::OneInACycle)
+    expect_decided::<1>(&rt, Scripts::AskAll, 400_000, 3, Kinds::OneInACycle)
 }
 
 #[test]
 fn five_goals_with_cycles_of_one_kind_are_decided(rt: HostRuntime) -> Result<(), Fail> {
-    expect_decided::<1>(&rt, 300_000, 5, Kinds::OneInACycle)
+    expect_decided::<1>(&rt, Scripts::AskAll, 300_000, 5, Kinds::OneInACycle)
 }
 
 #[test]
 fn seven_goals_with_cycles_of_one_kind_are_decided(rt: HostRuntime) -> Result<(), Fail> {
-    expect_decided::<1>(&rt, 200_000, 7, Kinds::OneInACycle)
+    expect_decided::<1>(&rt, Scripts::AskAll, 200_000, 7, Kinds::OneInACycle)
 }
 
 #[test]
 fn ten_goals_with_cycles_of_one_kind_are_decided(rt: HostRuntime) -> Result<(), Fail> {
-    expect_decided::<1>(&rt, 100_000, 10, Kinds::OneInACycle)
+    expect_decided::<1>(&rt, Scripts::AskAll, 100_000, 10, Kinds::OneInACycle)
 }
 
 #[test]
 fn four_goals_are_decided_without_provisional_entries(rt: HostRuntime) -> Result<(), Fail> {
-    expect_decided::<0>(&rt, 100_000, 4, Kinds::Both)
+    expect_decided::<0>(&rt, Scripts::AskAll, 100_000, 4, Kinds::Both)
 }
 
 #[test]
 fn six_goals_are_decided_without_provisional_entries(rt: HostRuntime) -> Result<(), Fail> {
-    expect_decided::<0>(&rt, 50_000, 6, Kinds::Both)
+    expect_decided::<0>(&rt, Scripts::AskAll, 50_000, 6, Kinds::Both)
+}
+
+#[test]
+fn four_goals_with_cycles_of_one_kind_are_decided_early(rt: HostRuntime) -> Result<(), Fail> {
+    expect_decided::<1>(&rt, Scripts::StopEarly, 200_000, 4, Kinds::OneInACycle)
+}
+
+#[test]
+fn eight_goals_with_cycles_of_one_kind_are_decided_early(rt: HostRuntime) -> Result<(), Fail> {
+    expect_decided::<1>(&rt, Scripts::StopEarly, 100_000, 8, Kinds::OneInACycle)
+}
+
+#[test]
+fn five_goals_are_decided_early_without_provisional_entries(rt: HostRuntime) -> Result<(), Fail> {
+    expect_decided::<0>(&rt, Scripts::StopEarly, 50_000, 5, Kinds::Both)
 }

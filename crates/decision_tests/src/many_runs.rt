@@ -1,5 +1,6 @@
 //! Tables in which one goal needs more runs than any number that is chosen beforehand, where scripts stop early and
-//! provisional entries are used. The values are those of rustc's own code.
+//! provisional entries are used. The frames and the answers are those of rustc's own code. `docs/PROOF.md` says how it comes
+//! about.
 
 use crate::early::EarlyDelegate;
 use delegate_parts::{Builder, Outcome};
