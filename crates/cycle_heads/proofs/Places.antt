@@ -1,5 +1,5 @@
 -- What a search by depth finds, and what an edit at that place does.
-use Rattle.std.proofs.Common.{◌≡◌, ℕ, zero, suc, ◌<◌, ◌≤◌, List, [], ◌∷◌, length, get_or, set, true, Option, Some, None, IsSome, Result, Ok, Err, IsOk, refl, sym, ap, subst, ◌∙◌, inl, inr, arith, lt-ltb, le-ltb, eq-eqb, ne_eqb}
+use Rattle.std.proofs.Common.{◌≡◌, ℕ, zero, suc, ◌-◌, ◌<◌, ◌≤◌, List, [], ◌∷◌, length, get_or, set, true, Option, Some, None, IsSome, Result, Ok, Err, IsOk, refl, sym, ap, subst, ◌∙◌, inl, inr, arith, lt-ltb, le-ltb, eq-eqb, ne_eqb}
 use Rattle.std.proofs.lemmas.Bool.{cases_lt, cases_eq, false≢true}
 use Rattle.std.proofs.lemmas.Bool.Decides.{nat_tests}
 use Rattle.std.proofs.lemmas.Cmp.{ranked}
@@ -7,7 +7,7 @@ use Rattle.std.proofs.lemmas.List.{get_or-map, length-map}
 use Rattle.std.proofs.lemmas.List.Elements.{All-from_recursion, recursion_from_All}
 use Rattle.std.proofs.lemmas.Map.Keys.{Less-from_sorted, sorted_head}
 use Rattle.std.proofs.lemmas.Map.Views.{All-keys-insert_entry}
-use Rattle.std.proofs.lemmas.Option.{slice_get-get_or}
+use Rattle.std.proofs.lemmas.Option.{get_or_from_slice_get, slice_get-get_or, slice_get_read, slice_get_within}
 use Rattle.std.specs.BTreeMap.{insert_entry, is_at}
 use Rattle.std.specs.List.{AllByRecursion, insert, slice_get}
 use Rattle.std.specs.List.Sorted.{IsSearchInRange, IsBinarySearchResult, IsNonDecreasingBy, IsStrictlySortedBy}
@@ -16,7 +16,7 @@ use Rattle.std.specs.Option.{option_map}
 use Rattle.std.specs.Ordering.{is_eq, match_ordering, ordering_index}
 use Rattle.std.specs.declared.cmp.Ordering.{Ordering}
 use Rattle.std.specs.declared.cmp.Ordering.TheVariants.{Less, Equal, Greater}
-use Rattle.cycle_heads.specs.Words.{StackDepth, at_depth, depth_cmp, IsRising, place_of}
+use Rattle.cycle_heads.specs.Words.{AreBelow, StackDepth, at_depth, depth_cmp, IsRising, place_of}
 use Rattle.cycle_heads.specs.Places.{one_later}
 use Rattle.cycle_heads.proofs.HeadLists.{at_depth-rest, placed_first, placed_here, placed_later, absent_below, rising_later}
 
@@ -24,6 +24,10 @@ pub rising_at : {A : Type 0} (entries : List (StackDepth × A)) → IsRising ent
 rising_at entries rising i j e lt within =
     let here = Less-from_sorted depth_cmp (keys_of entries) i j e.0 rising lt (rw (length-map entries (λ e. e.0)) within) in
     ranked _ _ Less (sym (rw (get_or-map (λ e. e.0) entries i e e.0 (omega arith), get_or-map (λ e. e.0) entries j e e.0 within) at here))
+
+-- what is read at a place stands there
+pub there : {A : Type 0} (xs : List A) (i : ℕ) (x : A) → (i < length xs) × ((d : A) → x ≡ get_or xs i d) → slice_get xs i ≡ Some x
+there xs i x read = slice_get_read xs (length xs) i x refl read.0 (read.1 x)
 
 -- ---- the place of a depth, one entry at a time
 
@@ -207,6 +211,44 @@ module _ {A : Type 0} (depth : StackDepth) where
         above = λ j other le lt. gap.above (suc j) other (omega arith) (omega arith);
       } in
       placed e es Greater (greater depth e.0 (gap.below 0 e (omega arith))) ∙ ap one_later (place_in_gap es i rest)
+
+  -- ---- what a guess finds
+
+  module _ (entries : List (StackDepth × A)) (rising : IsRising entries) (count : ℕ) where
+    -- the entries up to one that is below the depth
+    pub below_from_last : (last : StackDepth × A) → 0 < count → slice_get entries (count - 1) ≡ Some last → last.0.0 < depth.0 → AreBelow entries count depth
+    below_from_last last some at lt = record {
+      within = omega (arith, some, slice_get_within entries (count - 1) last at);
+      below = λ i e before. elim (cases_eq i (count - 1)) [
+        | inl eq ↦ subst (λ j. (get_or entries j e).0.0 < depth.0) (sym eq) (here e)
+        | inr ne ↦ omega (arith, rising_at entries rising i (count - 1) e (omega arith) (slice_get_within entries (count - 1) last at), here e)
+      ];
+    }
+      where
+        here : (e : StackDepth × A) → (get_or entries (count - 1) e).0.0 < depth.0
+        here e = subst (λ x. x.0.0 < depth.0) (sym (get_or_from_slice_get entries (count - 1) last e at)) lt
+
+    module _ (below : AreBelow entries count depth) where
+      pub none_is_gap : slice_get entries count ≡ None → place_of entries depth ≡ Err count
+      none_is_gap none = place_in_gap entries count (record {
+        within = below.within;
+        below = below.below;
+        above = λ j e le lt. let some = slice_get-get_or entries count e (omega arith) in absurd (let clash = sym none ∙ some in cc);
+      })
+
+      module _ (next : StackDepth × A) (at : slice_get entries count ≡ Some next) where
+        pub next_is_place : next.0.0 ≡ depth.0 → place_of entries depth ≡ Ok count
+        next_is_place eq = place_here_is entries count rising (slice_get_within entries count next at) (λ e. ap (λ x. x.0.0) (get_or_from_slice_get entries count next e at) ∙ eq)
+
+        pub next_is_behind : depth.0 < next.0.0 → place_of entries depth ≡ Err count
+        next_is_behind lt = place_in_gap entries count (record {
+          within = below.within;
+          below = below.below;
+          above = λ j e le within. elim (cases_eq j count) [
+            | inl eq ↦ subst (λ i. depth.0 < (get_or entries i e).0.0) (sym eq) (subst (λ x. depth.0 < x.0.0) (sym (get_or_from_slice_get entries count next e at)) lt)
+            | inr ne ↦ omega (arith, rising_at entries rising count j e (omega arith) within, subst (λ x. depth.0 < x.0.0) (sym (get_or_from_slice_get entries count next e at)) lt)
+          ];
+        })
 
   module _ (entries : List (StackDepth × A)) (rising : IsRising entries) where
     -- the comparisons with the depth rise along the list

@@ -4,7 +4,7 @@ pub use Rattle.cycle_heads.specs.HeadShapes.{count_at, has_rank, head_shape}
 pub use Rattle.cycle_heads.specs.Heads.{at_depth, depth_cmp, Heads, highest, IsRising, joined_head, lowest, replace_head}
 pub use Rattle.cycle_heads.specs.Heads.{with_head}
 pub use Rattle.cycle_heads.specs.Path.{greater_kind, rank_of}
-pub use Rattle.cycle_heads.specs.Places.{place_of}
+pub use Rattle.cycle_heads.specs.Places.{AreBelow, place_of}
 pub use Rattle.cycle_heads.specs.Paths.{extended_by_each, has_empty, has_kind, kinds_after, kinds_in, no_paths, paths_of}
 pub use Rattle.cycle_heads.specs.Paths.{union, union_of, unnamed_in}
 unfoldable pub use Rattle.cycle_heads.specs.Paths.{extended}

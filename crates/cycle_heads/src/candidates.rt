@@ -3,7 +3,7 @@ ghost use Rattle.std.specs.Prelude.{◌≡◌, ◌↔◌, [], IsTrue, IsSome, Is
 ghost use Rattle.cycle_heads.specs.Words.{StackDepth, merged, with_added, with_noted, at_depth, depth_cmp, IsRising, place_of};
 ghost use Rattle.std.specs.BTreeMap.{insert_entry};
 
-use crate::by_depth::{at_place, place_of};
+use crate::by_depth::{at_place, place_near, place_of};
 use crate::depth::StackDepth;
 use crate::memory::NoMemory;
 use crate::usages::HeadUsages;
@@ -68,7 +68,25 @@ impl CandidateHeadUsages {
         ensures err { OnErr result (self.new ≡ self.old) }
         ensures known { IsSome (at_depth self.old head) → IsOk result }
     {
-        let place = place_of(self.as_slice(), head);
+        let last = self.usages.len();
+        self.note_usages_near(last, head, usages)?;
+        Ok(())
+    }
+
+    /// Counts usages as `note_usages` does. The head is looked for at the guessed place of the list first; with a wrong
+    /// guess all is the same, but takes a search. The answer is the place behind the head: the guess for a next greater
+    /// one.
+    pub fn note_usages_near(
+        &mut self,
+        guess: usize,
+        head: StackDepth,
+        usages: HeadUsages,
+    ) -> Result<usize, NoMemory>
+        ensures ok { OnOk result (self.new ≡ with_noted self.old head usages) }
+        ensures err { OnErr result (self.new ≡ self.old) }
+        ensures known { IsSome (at_depth self.old head) → IsOk result }
+    {
+        let place = place_near(self.as_slice(), guess, head);
         let mut noted = at_place(self.as_slice(), head, place).unwrap_or_default();
         noted.add_usages_from_nested(usages);
         self.put(head, place, noted)
@@ -108,26 +126,32 @@ impl CandidateHeadUsages {
         if let Some(known) = at_place(self.as_slice(), head, place) {
             sum.add_usages(known);
         }
-        self.put(head, place, sum)
+        self.put(head, place, sum)?;
+        Ok(())
     }
 
-    // Makes these the usages of the head, whose place is given.
+    // Makes these the usages of the head, whose place is given. Answers the place behind it.
     fn put(
         &mut self,
         head: StackDepth,
         place: Result<usize, usize>,
         usages: HeadUsages,
-    ) -> Result<(), NoMemory>
+    ) -> Result<usize, NoMemory>
         requires { place ≡ place_of self.old head }
         ensures ok { OnOk result (self.new ≡ insert_entry depth_cmp self.old head usages) }
         ensures err { OnErr result (self.new ≡ self.old) }
         ensures known { IsSome (at_depth self.old head) → IsOk result }
     {
         match place {
-            Ok(index) => *self.usages.get_mut(index).unwrap() = (head, usages),
-            Err(index) => self.usages.insert(index, (head, usages))?,
+            Ok(index) => {
+                *self.usages.get_mut(index).unwrap() = (head, usages);
+                Ok(index.saturating_add(1))
+            }
+            Err(index) => {
+                self.usages.insert(index, (head, usages))?;
+                Ok(index.saturating_add(1))
+            }
         }
-        Ok(())
     }
 }
 

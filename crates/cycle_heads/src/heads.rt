@@ -3,7 +3,7 @@ ghost use Rattle.std.specs.Prelude.{◌≡◌, ◌≢◌, ◌<◌, ◌≤◌, �
 ghost use Rattle.std.specs.Option.{option_map};
 ghost use Rattle.cycle_heads.specs.Words.{StackDepth, CycleHead, HeadUsages, PathKind, PathsToNested, at_depth, highest, joined_head, lowest, place_of, replace_head, with_head, Heads, IsRising, count_of, without_usages};
 
-use crate::by_depth::{at_place, place_of};
+use crate::by_depth::{at_place, place_near, place_of};
 use crate::depth::StackDepth;
 use crate::memory::NoMemory;
 use crate::path::PathsToNested;
@@ -133,14 +133,37 @@ impl CycleHeads {
         ensures err { OnErr result (self.new ≡ self.old) }
         ensures known { IsSome (at_depth self.old head) → IsOk result }
     {
-        let place = place_of(self.as_slice(), head);
+        let last = self.heads.len();
+        self.insert_near(last, head, paths, usages)?;
+        Ok(())
+    }
+
+    /// Records a head as `insert` does. It is looked for at the guessed place of the list first; with a wrong guess all
+    /// is the same, but takes a search. The answer is the place behind the head: the guess for a next greater one.
+    pub fn insert_near(
+        &mut self,
+        guess: usize,
+        head: StackDepth,
+        paths: PathsToNested,
+        usages: HeadUsages,
+    ) -> Result<usize, NoMemory>
+        ensures ok { OnOk result (self.new ≡ with_head self.old head paths usages) }
+        ensures err { OnErr result (self.new ≡ self.old) }
+        ensures known { IsSome (at_depth self.old head) → IsOk result }
+    {
+        let place = place_near(self.as_slice(), guess, head);
         let known = at_place(self.as_slice(), head, place);
         let joined = CycleHead::joined(known, paths, usages);
         match place {
-            Ok(index) => self.set(index, head, joined),
-            Err(index) => self.heads.insert(index, (head, joined))?,
+            Ok(index) => {
+                self.set(index, head, joined);
+                Ok(index.saturating_add(1))
+            }
+            Err(index) => {
+                self.heads.insert(index, (head, joined))?;
+                Ok(index.saturating_add(1))
+            }
         }
-        Ok(())
     }
 
     // Makes the head at the place, which has this depth, another one.

@@ -1,37 +1,33 @@
 //! Names and their numbers.
 ghost use Rattle.std.specs.Prelude.{◌≡◌, ◌↔◌, ℕ, List, [], length, Some, IfOk, OnOk, OnErr, slice_get};
 ghost use Rattle.std.specs.Option.{option_copied};
-ghost use Rattle.line_texts.specs.Names.{hash_of, is_at, with_name};
+ghost use Rattle.line_texts.specs.Names.{with_name};
 
-use smallvec::SmallVec;
+mod name;
+
+use crate::names::name::{Asked, Name};
+use indexmap::IndexSet;
 use std::alloc::{AllocError, Global};
-use std::collections::HashMap;
-use std::hash::{FoldHasher, Hasher};
 use std::marker::Model;
-
-/// A name of so many bytes takes no memory of its own.
-const SHORT: usize = 16;
 
 /// Distinct names, each with a number: its place in the order in which they came.
 #[derive(Drop)]
 pub struct Names {
-    texts: Vec<SmallVec<u8, SHORT>>,
-    /// For each hash, the number of the first name that has it.
-    firsts: HashMap<u64, usize>,
-    /// The numbers of the names that came later than another one with the same hash: hardly ever are there any.
-    others: HashMap<Vec<u8>, usize>,
+    names: IndexSet<Name>,
 }
 
 impl Model for Names {
     ghost use Rattle.std.specs.Prelude.{ℕ, List};
+    ghost use Rattle.std.specs.Str.{bytes_eq};
+    ghost use Rattle.indexmap.specs.IndexSet.{IsUnique};
 
     ghost Value = { List (List ℕ) };
 
-    ghost use Rattle.line_texts.specs.Names.{texts_of, IsNumbered};
+    ghost use Rattle.line_texts.specs.Names.{texts_of, same_name};
 
-    ghost view = { λ names. texts_of names.texts };
+    ghost view = { λ names. texts_of names.names };
 
-    ghost invariant = { λ names. IsNumbered names.firsts names.others (texts_of names.texts) };
+    ghost invariant = { λ names. IsUnique same_name names.names };
 }
 
 impl Names {
@@ -40,9 +36,7 @@ impl Names {
         ensures { result ≡ [] }
     {
         Names {
-            texts: Vec::new(alloc),
-            firsts: HashMap::new(alloc),
-            others: HashMap::new(alloc),
+            names: IndexSet::new(alloc),
         }
     }
 
@@ -50,26 +44,21 @@ impl Names {
     pub fn number(&self, name: &[u8]) -> Option<usize>
         ensures { (n : ℕ) → (result ≡ Some n) ↔ (slice_get self.now n ≡ Some name.now) }
     {
-        let first = *self.firsts.get(&hash_of(name))?;
-        if self.is_at(first, name) {
-            Some(first)
-        } else {
-            self.others.get(name).copied()
-        }
+        self.names.get_index_of(Asked(name))
     }
 
     /// How many names there are.
     pub fn count(&self) -> usize
         ensures { result ≡ length self.now }
     {
-        self.texts.len()
+        self.names.len()
     }
 
     /// The name of this number.
     pub fn text(&self, number: usize) -> Option<&[u8]>
         ensures { option_copied result ≡ slice_get self.now number }
     {
-        self.texts.get(number).map(|text| text.as_slice())
+        self.names.get_index(number).map(|name| name.text())
     }
 
     /// The name's number, which is the next one where the name is new. A failure changes nothing.
@@ -81,35 +70,7 @@ impl Names {
         if let Some(number) = self.number(name) {
             return Ok(number);
         }
-        let number = self.texts.len();
-        let text = SmallVec::from_slice(alloc, name)?;
-        self.texts.reserve(1)?;
-        let hash = hash_of(name);
-        if self.firsts.contains_key(&hash) {
-            let key = Vec::from_slice(alloc, name)?;
-            self.others.insert(key, number)?;
-        } else {
-            self.firsts.insert(hash, number)?;
-        }
-        self.texts.push(text).unwrap();
+        let (number, _) = self.names.insert_full(Name::new(alloc, name)?)?;
         Ok(number)
     }
-
-    // Whether the name has this number.
-    fn is_at(&self, number: usize, name: &[u8]) -> bool
-        ensures { result ≡ is_at self.now number name.now }
-    {
-        match self.text(number) {
-            Some(text) => text == name,
-            None => false,
-        }
-    }
-}
-
-fn hash_of(name: &[u8]) -> u64
-    ensures { result ≡ hash_of name.now }
-{
-    let mut hasher = FoldHasher::default();
-    hasher.write(name);
-    hasher.finish()
 }

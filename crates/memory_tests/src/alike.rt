@@ -1,6 +1,6 @@
 //! Names that a table of names finds in one and the same place, as somebody may choose them who knows how names are hashed.
 
-use std::hash::{BuildHasher, BuildHasherDefault, FoldHasher, Hasher};
+use std::hash::{FoldHasher, Hasher};
 use std::io;
 use std::io::Write;
 
@@ -12,14 +12,13 @@ const PLACE: u64 = (1 << 13) - 1;
 
 /// Writes a rule for each of so many names, all of which have the same place.
 pub fn write_alike<W: Write>(out: &mut W, count: u64) -> io::Result<()> {
-    let hasher = BuildHasherDefault::<FoldHasher>::new();
     let mut written = 0u64;
     for number in 0..u64::MAX {
         if written == count {
             break;
         }
         let name = name_of(number);
-        let hash = hasher.hash_one(hash_of(&name));
+        let hash = hash_of(&name);
         if (hash ^ (hash >> 32)) & PLACE == 0 {
             written = written.saturating_add(1);
             out.write_all(b"rule ")?;

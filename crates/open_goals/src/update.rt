@@ -33,8 +33,9 @@ pub fn note_heads<X: Cx>(
 ) -> Result<(), NoMemory>
     ensures { OnOk result (TakesHeads parent step heads.now state.old state.new) }
 {
+    let mut guesses = Guesses::at_the_lowest();
     for (head, used) in heads.as_slice() {
-        note_head(state, parent, step, *head, *used)?;
+        note_head_near(state, &mut guesses, parent, step, *head, *used)?;
     }
     Ok(())
 }
@@ -50,8 +51,39 @@ pub fn note_head<X: Cx>(
 ) -> Result<(), NoMemory>
     ensures { OnOk result (state.new ≡ with_used_head parent step head used state.old) }
 {
+    let mut guesses = Guesses::at_the_lowest();
+    note_head_near(state, &mut guesses, parent, step, head, used)
+}
+
+/// Where a head is looked for first among the heads, and among those that the open candidate used: behind the one that
+/// was noted before it. An answer's heads rise, and most are there already, so that they are found without a search.
+#[derive(Clone, Copy)]
+struct Guesses {
+    head: usize,
+    candidate: usize,
+}
+
+impl Guesses {
+    fn at_the_lowest() -> Guesses {
+        Guesses {
+            head: 0,
+            candidate: 0,
+        }
+    }
+}
+
+fn note_head_near<X: Cx>(
+    state: &mut EntryState<X>,
+    guesses: &mut Guesses,
+    parent: StackDepth,
+    step: PathKind,
+    head: StackDepth,
+    used: CycleHead,
+) -> Result<(), NoMemory>
+    ensures { OnOk result (state.new ≡ with_used_head parent step head used state.old) }
+{
     if let Some(candidate) = &mut state.candidate_usages {
-        candidate.note_usages(head, used.usages)?;
+        guesses.candidate = candidate.note_usages_near(guesses.candidate, head, used.usages)?;
     }
     if head == parent {
         let mut usages = state.usages.unwrap_or_default();
@@ -60,7 +92,10 @@ pub fn note_head<X: Cx>(
         return Ok(());
     }
     let paths = used.paths_to_head.extend_with(step);
-    state.heads.insert(head, paths, used.usages)
+    guesses.head = state
+        .heads
+        .insert_near(guesses.head, head, paths, used.usages)?;
+    Ok(())
 }
 
 /// Takes away from the state of the entry at `parent` what a candidate used of the goals on the stack: of the

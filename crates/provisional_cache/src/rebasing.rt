@@ -224,8 +224,9 @@ fn rebase_used<X: Cx>(
 fn insert_unused(heads: &mut CycleHeads, done: &CycleHeads) -> Result<(), NoMemory>
     ensures { OnOk result (heads.new ≡ with_unused done.now heads.old) }
 {
+    let mut guess = 0;
     for (depth, _) in done.as_slice() {
-        heads.insert(*depth, PathsToNested::EMPTY, HeadUsages::default())?;
+        guess = heads.insert_near(guess, *depth, PathsToNested::EMPTY, HeadUsages::default())?;
     }
     Ok(())
 }
@@ -238,9 +239,10 @@ fn insert_used(
 ) -> Result<(), NoMemory>
     ensures { OnOk result (heads.new ≡ with_used done.now to_done heads.old) }
 {
+    let mut guess = 0;
     for (depth, head) in done.as_slice() {
         let paths = to_done.extend_with_paths(head.paths_to_head);
-        heads.insert(*depth, paths, head.usages)?;
+        guess = heads.insert_near(guess, *depth, paths, head.usages)?;
     }
     Ok(())
 }

@@ -9,7 +9,7 @@ use smallvec::SmallVec;
 use std::alloc::Global;
 
 /// So many questions of a candidate take no memory of their own.
-const FEW: usize = 4;
+pub(crate) const FEW: usize = 4;
 
 /// A goal, which is a name, by that name's number in the order of first mention.
 #[derive(Clone, Copy, Debug, PartialEq, Eq, Hash)]

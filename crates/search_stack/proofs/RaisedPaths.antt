@@ -1,12 +1,12 @@
 -- Paths that are extended together.
-use Rattle.std.proofs.Common.{◌≡◌, ℕ, ◌+◌, ◌<◌, ◌≤◌, nat_lt, Bool, true, false, List, if◌then◌else◌, is_some, Option, Some, None, refl, sym, ap, ◌∙◌, subst, inl, inr, arith}
+use Rattle.std.proofs.Common.{◌≡◌, ◌+◌, ◌≤◌, nat_lt, Bool, true, false, List, Option, Some, None, refl, sym, ap, ◌∙◌, inl, inr, arith}
 use Rattle.std.proofs.lemmas.Bool.{cases_Bool}
 use Rattle.std.proofs.lemmas.Bool.Decides.{nat_tests}
 use Rattle.std.proofs.lemmas.Map.Made.{lookup-map_values}
 use Rattle.std.specs.Map.{lookup}
 use Rattle.std.specs.Option.{option_map, IfSome}
 use Rattle.cycle_heads.proofs.PathLaws.{extended-twice}
-use Rattle.search_stack.specs.Below.{PathKind, PathsToNested, Inductive, extended, greater_kind, union}
+use Rattle.search_stack.specs.Below.{PathKind, PathsToNested, Inductive, extended, greater_kind}
 use Rattle.search_stack.specs.declared.raises.NotedPaths.{NotedPaths}
 use Rattle.search_stack.specs.declared.raises.Raises.{Raises}
 use Rattle.search_stack.specs.Words.{AreNoted, joined_paths, JoinsPaths, NestedPaths, kind_past, noted_now, paths_at, paths_noted, paths_now, raised, with_step}
@@ -32,10 +32,6 @@ now-raised raises step noted none within =
           let same : noted.raises ≡ raises.count = grind (arith, nat_tests) in
           rw last (ap (λ k. extended noted.paths (greater_kind k step)) (ap (kind_past raises.steps) same ∙ none) ∙ ap (extended noted.paths) (least-greater step))
     ]
-
-pub some_mapped : {A B : Type 0} (f : A → B) (o : Option A) → is_some (option_map f o) ≡ is_some o
-some_mapped f None = refl
-some_mapped f (Some a) = refl
 
 module _ {I : Type 0} (same : I → I → Bool) where
   -- what is noted at a goal tells the paths to it

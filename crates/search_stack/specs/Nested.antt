@@ -1,5 +1,5 @@
 -- The goals below a goal, with the paths to each.
-use Rattle.std.specs.Prelude.{◌≡◌, Bool, false, List, Option, Some, None}
+use Rattle.std.specs.Prelude.{◌≡◌, Bool, false, List, [], Option, Some, None}
 use Rattle.std.specs.Map.{lookup}
 use Rattle.std.specs.Option.{option_map}
 use Rattle.search_stack.specs.Below.{PathKind, PathsToNested, extended, union}
@@ -7,6 +7,11 @@ use Rattle.search_stack.specs.Below.{PathKind, PathsToNested, extended, union}
 -- goals with the paths to them, in some order
 abbrev pub NestedPaths : Type 0 → Type 0
 NestedPaths I = List (I × PathsToNested)
+
+-- the goals of a map that is made once there are any
+abbrev pub goals_in : {I : Type 0} → Option (NestedPaths I) → NestedPaths I
+goals_in None = []
+goals_in (Some goals) = goals
 
 -- the paths to a goal
 abbrev pub paths_at : {I : Type 0} → (I → I → Bool) → NestedPaths I → I → Option PathsToNested

@@ -12,6 +12,7 @@
 
 pub mod depth;
 pub mod nested_goals;
+mod noted_goals;
 mod raises;
 pub mod result;
 pub mod stack;

@@ -5,8 +5,10 @@ ghost use Rattle.rule_tables.specs.Words.{NamedQuestion, Statement, IsQuestion, 
 
 use crate::reading::depth::depth_of;
 use crate::reading::question::{Question, question_of};
+use crate::rules::FEW;
 use line_texts::{Words, is_name};
 use search_context::context::NoMemory;
+use smallvec::SmallVec;
 use std::alloc::{AllocError, AllocFailed, Global};
 
 /// What a line says.
@@ -18,7 +20,7 @@ pub enum Line<'a> {
     Rule {
         is_marked: bool,
         name: &'a [u8],
-        questions: Vec<Question<'a>>,
+        questions: SmallVec<Question<'a>, FEW>,
     },
     /// A question of the program.
     Ask {
@@ -103,11 +105,14 @@ fn rule_of<'a>(alloc: Global, mut words: Words<'a>) -> Result<Line<'a>, LineFaul
     })
 }
 
-fn questions_of<'a>(alloc: Global, words: Words<'a>) -> Result<Vec<Question<'a>>, LineFault>
+fn questions_of<'a>(
+    alloc: Global,
+    words: Words<'a>,
+) -> Result<SmallVec<Question<'a>, FEW>, LineFault>
     ensures ok { IfOk result (λ questions. AllZip IsQuestion (words_left words.entry) (map named questions.items)) }
     ensures malformed { result ≡ Err LineFault.Malformed → (questions : List NamedQuestion) → AllZip IsQuestion (words_left words.entry) questions → ⊥ }
 {
-    let mut questions = Vec::new(alloc);
+    let mut questions = SmallVec::new(alloc);
     for word in words {
         let Some(question) = question_of(word) else {
             return Err(LineFault::Malformed);

@@ -12,6 +12,16 @@ pub struct Question<'a> {
     pub name: &'a [u8],
 }
 
+// What stands in the places of a list that have no question.
+impl<'a> Default for Question<'a> {
+    fn default() -> Question<'a> {
+        Question {
+            kind: PathKind::Inductive,
+            name: &[],
+        }
+    }
+}
+
 /// The question that the word is, and nothing for any other word.
 pub fn question_of(word: &[u8]) -> Option<Question<'_>>
     ensures { MatchOption result ((q : NamedQuestion) → IsQuestion word.now q → ⊥) (λ question. IsQuestion word.now (named question)) }

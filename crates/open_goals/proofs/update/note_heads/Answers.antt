@@ -23,7 +23,7 @@ loop-head-preserved g c =
     × ((depth : StackDepth) → head_over c.args.parent c.args.step depth (at_depth s.heads depth) (at_depth rest depth) ≡ head_over c.args.parent c.args.step depth (at_depth c.args.state.now.heads depth) (at_depth items depth))
     × ((depth : StackDepth) → counted_over depth s.candidate_usages (at_depth rest depth) ≡ counted_over depth c.args.state.now.candidate_usages (at_depth items depth))
     × ((is_in_cycle s || some_heads rest) ≡ (is_in_cycle c.args.state.now || some_heads items))
-    ) (sym c.in_ok-note_head.ensures) (
+    ) (sym c.in_ok-note_head_near.ensures) (
       others_kept c.args.parent c.args.step head used rest once c.loop-head.state c.args.state.now i.0,
       usages_taken c.args.parent c.args.step head used rest once c.loop-head.state ∙ ap (λ l. usages_over c.loop-head.state.usages (at_depth l c.args.parent)) (sym more) ∙ i.1,
       λ depth. head_taken c.args.parent c.args.step head used rest once c.loop-head.state depth

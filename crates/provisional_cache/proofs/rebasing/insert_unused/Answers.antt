@@ -11,7 +11,7 @@ loop-depth-preserved c =
     let items = c.as_slice-depth-items.result.now in
     let index = c.loop-depth.depth-index in
     let none : c.default.result ≡ no_usages = none_by_counts c.default.result (search rules) (search rules) (search rules) (search rules) in
-    let inserted = c.in_ok-insert.ensures.ok ∙ ap (with_head c.loop-depth.heads (get_or items index no_head).0 path_of_no_step) none in
+    let inserted = c.in_ok-guess.ensures.ok ∙ ap (with_head c.loop-depth.heads (get_or items index no_head).0 path_of_no_step) none in
     ap (with_unused (drop (index + 1) items)) inserted
     ∙ ap (λ rest. with_unused rest c.loop-depth.heads) (sym (next_entry items index no_head c.loop-depth-test.true))
     ∙ c.loop-depth.invariant

@@ -10,8 +10,8 @@ loop-depth-preserved c =
     let items = c.as_slice-depth-items.result.now in
     let index = c.loop-depth.depth-index in
     let head = get_or items index no_head in
-    let inserted : c.insert.new.self ≡ with_head c.loop-depth.heads head.0 (extended_by_each c.args.to_done head.1.paths_to_head) head.1.usages =
-    rw (← c.extend_with_paths-paths.ensures) c.in_ok-insert.ensures.ok in
+    let inserted : c.insert_near.new.self ≡ with_head c.loop-depth.heads head.0 (extended_by_each c.args.to_done head.1.paths_to_head) head.1.usages =
+    rw (← c.extend_with_paths-paths.ensures) c.in_ok-guess.ensures.ok in
     ap (with_used (drop (index + 1) items) c.args.to_done) inserted
     ∙ ap (λ rest. with_used rest c.args.to_done c.loop-depth.heads) (sym (next_entry items index no_head c.loop-depth-test.true))
     ∙ c.loop-depth.invariant

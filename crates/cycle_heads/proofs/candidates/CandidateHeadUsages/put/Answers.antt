@@ -21,8 +21,8 @@ insert-requires c =
     let gap = ap (λ usages. place_of usages c.args.head) c.self.view_is ∙ sym c.requires ∙ c.in-Err.is in
     (omega arith, gap_within c.args.head c.self.inside.usages.items c.in-Err.index gap)
 
-pub invariant_of-self-in-Continue-1 : goal.invariant_of-self-in-Continue-1
-invariant_of-self-in-Continue-1 c =
+pub invariant_of-self-in-Err : goal.invariant_of-self-in-Err
+invariant_of-self-in-Err c =
     let gap = ap (λ usages. place_of usages c.args.head) c.self.view_is ∙ sym c.requires ∙ c.in-Err.is in
     subst IsRising (sym (c.in_ok-insert-in-Err.ensures.ok ∙ inserted_in_gap c.args.head c.args.usages c.self.inside.usages.items c.in-Err.index gap))
     (rising_kept c.args.head c.args.usages c.self.inside.usages.items c.self.invariant)

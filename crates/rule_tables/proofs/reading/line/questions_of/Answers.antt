@@ -5,4 +5,4 @@ pub returns-in_default-clause-malformed : goal.returns-in_default-clause-malform
 returns-in_default-clause-malformed c = λ _. refused _ _ _ _ _ c.loop-word.invariant c.in-Some.ensures.steps c.in_default.ensures
 
 pub loop-word-preserved : goal.loop-word-preserved
-loop-word-preserved c = read_more _ _ _ _ _ _ _ c.loop-word.invariant c.in-Some.ensures.steps c.in-Some-question_of.ensures c.in_ok-push.ensures.items
+loop-word-preserved c = read_more _ _ _ _ _ _ _ c.loop-word.invariant c.in-Some.ensures.steps c.in-Some-question_of.ensures c.in_ok-push.ensures.ok

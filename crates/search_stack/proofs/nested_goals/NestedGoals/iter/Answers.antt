@@ -1,10 +1,16 @@
-use Rattle.std.proofs.Common.{ap, sym, subst, ◌∙◌}
+use Rattle.std.proofs.Common.{ap, subst, sym, ◌∙◌}
 use Rattle.std.specs.List.{IsDistinct}
 use Rattle.std.specs.Map.{keys_of}
-use Rattle.std.proofs.lemmas.Map.Made.{keys_of-map_values}
-use Rattle.search_stack.specs.Words.{paths_now}
+use Rattle.std.specs.Option.{option_map}
+use Rattle.search_stack.specs.Words.{goals_in}
 use Rattle.search_stack.proofs.nested_goals.NestedGoals.iter.Goals as goal
+use Rattle.search_stack.proofs.nested_goals.NestedGoals.iter.Goals.{in-Some, in-None}
 
 pub returns-clause-distinct : goal.returns-clause-distinct
+unfolding IsDistinct
 returns-clause-distinct g c =
-    subst (IsDistinct g.X.Input.PartialEq.eq) (sym (keys_of-map_values (paths_now c.self.inside.raises) c.self.inside.noted.entries) ∙ ap keys_of c.self.view_is) c.iter.ensures.unique
+    let same = g.X.Input.PartialEq.eq in
+    elim c.match-self.branch [
+      | in-Some w ↦ subst (λ goals. IsDistinct same (keys_of goals)) (w.deref.ensures ∙ sym (ap (λ goals. goals_in (option_map (λ b. b.value) goals)) w.in-Some.is) ∙ c.self.view_is) w.iter.ensures.distinct
+      | in-None w ↦ subst (λ goals. IsDistinct same (keys_of goals)) (sym (ap (λ goals. goals_in (option_map (λ b. b.value) goals)) w.in-None.is) ∙ c.self.view_is) tt
+    ]

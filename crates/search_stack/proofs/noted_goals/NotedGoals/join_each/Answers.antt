@@ -1,9 +1,9 @@
-use Rattle.std.proofs.Common.{◌≡◌, [], ◌∷◌, ap, sym, ◌∙◌}
+use Rattle.std.proofs.Common.{◌≡◌, [], ◌∷◌, ap, ◌∙◌}
 use Rattle.std.specs.HashMap.{spare}
 use Rattle.search_stack.specs.Words.{after_step, paths_at, paths_noted}
 use Rattle.search_stack.proofs.NestedLists.{IsJoining-more, IsJoining-end}
 use Rattle.search_stack.proofs.RaisedPaths.{same_noted}
-use Rattle.search_stack.proofs.nested_goals.NestedGoals.join_each.Goals as goal
+use Rattle.search_stack.proofs.noted_goals.NotedGoals.join_each.Goals as goal
 
 pub loop-input-preserved : goal.loop-input-preserved
 loop-input-preserved g c =
