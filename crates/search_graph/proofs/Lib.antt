@@ -9,5 +9,6 @@ mod Advancing
 mod KeptFates
 mod Beginning
 pub mod ListLimits
+pub mod ListRuns
 mod SettledSteps
 pub mod WorkedOut

@@ -6,7 +6,7 @@ use Rattle.search_graph.specs.Below.{Cache, CxOf, DelegateOf, Fault, HasCounted,
 use Rattle.search_graph.specs.Lists.{AreEnclosed, HasLimits, HasPaid}
 
 -- a place of a list with one more is in the list, or is the last
-at_or_last : {A : Type 0} (xs : List A) (x : A) (at : ℕ) (y : A) → slice_get (xs ++ x ∷ []) at ≡ Some y → (slice_get xs at ≡ Some y) ⊎ (x ≡ y)
+pub at_or_last : {A : Type 0} (xs : List A) (x : A) (at : ℕ) (y : A) → slice_get (xs ++ x ∷ []) at ≡ Some y → (slice_get xs at ≡ Some y) ⊎ (x ≡ y)
 at_or_last [] x zero y is = inr cc
 at_or_last [] x (suc n) y is = absurd cc
 at_or_last (z ∷ xs) x zero y is = inl is
@@ -22,13 +22,19 @@ last_at : {A : Type 0} (xs : List A) (x : A) → slice_get (xs ++ x ∷ []) (len
 last_at [] x = refl
 last_at (z ∷ xs) x = last_at xs x
 
+-- no place is beyond a list and in it
+pub beyond_none : {A : Type 0} (xs : List A) (at : ℕ) (x : A) → length xs ≤ at → slice_get xs at ≡ Some x → ⊥
+beyond_none [] at x beyond is = absurd cc
+beyond_none (y ∷ xs) zero x beyond is = absurd (omega (arith, beyond))
+beyond_none (y ∷ xs) (suc n) x beyond is = beyond_none xs n x (omega (arith, beyond)) is
+
 -- neither of two is true
 neither_of : (first second : Bool) → (first || second) ≡ false → (first ≡ false) × (second ≡ false)
 neither_of true second none = absurd cc
 neither_of false second none = (refl, none)
 
 -- what holds of all of a list with one more holds of the others, and of that one
-each_of : {A : Type 0} (P : A → Type 0) (xs : List A) (x : A) → All P (xs ++ x ∷ []) → All P xs × P x
+pub each_of : {A : Type 0} (P : A → Type 0) (xs : List A) (x : A) → All P (xs ++ x ∷ []) → All P xs × P x
 each_of P [] x h = (All-nil P, All-head P x [] h)
 each_of P (z ∷ xs) x h =
     let rest = each_of P xs x (All-tail P z (xs ++ x ∷ []) h) in
@@ -51,11 +57,6 @@ module _ {D C V P F I R A T : Type 0} (G : DelegateOf D C V P F I R A T) (X : Cx
     enclosed = λ goals all none. none;
     by_runs = λ goals all none counted met. absurd cc;
   }
-    where
-      beyond_none : (xs : List (Result (Answer R) (Fault I R))) (at : ℕ) (answer : Result (Answer R) (Fault I R)) → length xs ≤ at → slice_get xs at ≡ Some answer → ⊥
-      beyond_none [] at answer beyond is = absurd cc
-      beyond_none (x ∷ xs) zero answer beyond is = absurd (omega (arith, beyond))
-      beyond_none (x ∷ xs) (suc n) answer beyond is = beyond_none xs n answer (omega (arith, beyond)) is
 
   -- what was paid stays paid
   paid_later : (queries : List (ℕ × I × PathKind)) (query : ℕ × I × PathKind) (before mid now : ℕ) → mid ≤ now → HasPaid G X same queries before mid → HasPaid G X same (queries ++ query ∷ []) before now
@@ -140,3 +141,8 @@ only_answer r P h (suc n) answer is = absurd cc
 pub only_fault : {A E : Type 0} (r : Result A E) (P : E → Type 0) → IfErr r P → (at : ℕ) (fault : E) → slice_get (r ∷ []) at ≡ Some (Err fault) → P fault
 only_fault r P h zero fault is = let same : r ≡ Err fault = cc in subst (λ s. IfErr s P) same h
 only_fault r P h (suc n) fault is = absurd cc
+
+-- and of both
+pub only_is : {A E : Type 0} (P : A → Type 0) (Q : E → Type 0) (r : Result A E) → IfOk r P → IfErr r Q → (at : ℕ) (answer : Result A E) → slice_get (r ∷ []) at ≡ Some answer → IfOk answer P × IfErr answer Q
+only_is P Q r h k zero answer is = let same : r ≡ answer = cc in subst (λ s. IfOk s P × IfErr s Q) same (h, k)
+only_is P Q r h k (suc n) answer is = absurd cc

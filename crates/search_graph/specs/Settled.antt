@@ -1,7 +1,7 @@
--- Calls for which two runs of a goal are enough.
-use Rattle.std.specs.Prelude.{Bool, Contains, false, ◌≡◌, List, ℕ, Result, IfOk, OnErr}
+-- Calls for which two runs of a goal are enough, and lists of such calls.
+use Rattle.std.specs.Prelude.{All, Bool, Contains, false, ◌≡◌, ◌≤◌, length, List, ℕ, Result, IfOk, IfErr, OnErr, slice_get, Some}
 use Rattle.search_context.specs.declared.context.Answer.{Answer}
-use Rattle.search_graph.specs.Below.{AreDefinite, Awaits, Begins, Cache, Call, CxOf, DelegateOf, Fault, HaveNoOverflowOf, Next, Received, verdicts}
+use Rattle.search_graph.specs.Below.{AreDefinite, Awaits, Begins, Cache, Call, CxOf, DelegateOf, Fault, HaveNoOverflowOf, IsDefinite, IsMemoryOrOrder, Next, PathKind, Received, verdicts}
 use Rattle.search_moves.specs.Settled.{IsSettledStore, Settles, SettlesNext}
 use Rattle.search_moves.specs.declared.evaluation.Evaluation.{Evaluation}
 use Rattle.search_rules.specs.Settled.{CallNeedsTwoRuns, NeedsTwoRuns}
@@ -14,6 +14,13 @@ module _ {D C V P F I R A T : Type 0} (G : DelegateOf D C V P F I R A T) (X : Cx
     pub no_overflow : HaveNoOverflowOf (Contains goals) same cache.results
     pub definite : AreDefinite (verdicts X) same cache.results
     pub settled : IsSettledStore G X same cache.cx goals cache.nodes cache.results
+
+  -- Where two runs of each goal are enough for all of the queries, they stay so for each query that they were enough for; and each new
+  -- answer is yes or no, or its fault is want of memory or a request out of order.
+  pub record TakesTwoRuns (noop : Bool) (queries : List (ℕ × I × PathKind)) (old new : Cache C I R A T) (answers_old answers_new : List (Result (Answer R) (Fault I R))) : Type 0 where
+    pub stays : (goals : List I) (depth : ℕ) (goal : I) → All (λ query. TwoRunsAreEnough goals old query.0 query.1 noop) queries → TwoRunsAreEnough goals old depth goal noop → TwoRunsAreEnough goals new depth goal noop
+    pub answers : (goals : List I) (at : ℕ) (answer : Result (Answer R) (Fault I R)) → All (λ query. TwoRunsAreEnough goals old query.0 query.1 noop) queries → length answers_old ≤ at → slice_get answers_new at ≡ Some answer
+        → IfOk answer (λ a. IsDefinite (verdicts X) a.result) × IfErr answer (λ fault. IsMemoryOrOrder fault)
 
   module _ (cx : C) (noop : Bool) where
     -- a move meets no limit, also if it fails, and keeps what answers rest on off the goals under evaluation; one that fails leaves the

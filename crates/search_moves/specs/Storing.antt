@@ -27,11 +27,15 @@ module _ {D C V P F I R A T : Type 0} (G : DelegateOf D C V P F I R A T) (X : Cx
     pub plain : IsPlainAt (G.script cache.cx) goal (place_of answer) answer.result
     pub comes : ComesTo (G.script cache.cx) (G.fixpoint_overflow cache.cx) goal answer.result
 
-  -- The fault has its cause. If another result is stored than the goal came to, it came to this one. And nothing was stored.
-  pub record Fails (same : I → I → Bool) (came_to : R) (old new : Cache C I R A T) (fault : Fault I R) : Type 0 where
+  -- the fault has its cause, and nothing was stored
+  pub record StoresNothing (same : I → I → Bool) (old new : Cache C I R A T) (fault : Fault I R) : Type 0 where
     pub caused : IsCaused G X same new fault
-    pub differs : IfDiffers fault (λ found. found ≡ came_to)
     pub unstored : new.results ≡ old.results
+
+  -- besides, if another result is stored than the goal came to, it came to this one
+  pub record Fails (same : I → I → Bool) (came_to : R) (old new : Cache C I R A T) (fault : Fault I R) : Type 0 where
+    pub stores : StoresNothing same old new fault
+    pub differs : IfDiffers fault (λ found. found ≡ came_to)
 
   -- The answer, which was asked over the step, is stored as it is, with the goal's token, if it rests on no goal and that is its fate; one that rests on goals is a
   -- provisional entry of its goal, if the delegate lets such entries be used.

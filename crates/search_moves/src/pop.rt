@@ -1,7 +1,7 @@
 //! A goal is popped, with its result.
 ghost use Rattle.std.specs.Prelude.{◌≡◌, ◌<◌, ◌+◌, ◌^◌, ℕ, length, IfOk, IfErr, OnOk};
 ghost use Rattle.search_moves.specs.Below.{Memory, ChangesNewest, fates_of, IsNewestPlainTo, MayPutNewest, GivesAnswer, GivesNested, LeavesAnswer};
-ghost use Rattle.search_moves.specs.Words.{Fails, MayPop, Pops, IsRightNext, KeepsCache};
+ghost use Rattle.search_moves.specs.Words.{Fails, MayPop, Pops, KeepsCache};
 
 use crate::evaluation::Evaluation;
 use open_goals::goals::{Next, OpenGoals, Popped, Received, Run};

@@ -1,5 +1,5 @@
 //! The evaluation of a goal: one loop over the goals under evaluation.
-ghost use Rattle.std.specs.Prelude.{◌≡◌, ℕ, true, false, IfOk, IfErr, IfSome, OnOk, Ok};
+ghost use Rattle.std.specs.Prelude.{◌≡◌, true, false, IfOk, IfErr, IfSome, OnOk, Ok};
 ghost use Rattle.open_goals.specs.declared.goals.Fate.TheVariants.{Stored};
 ghost use Rattle.search_graph.specs.Below.{ChangesCache, IsFated, first_accepted, usable, IsCaused, IsNew, KeepsBuilder, KeepsCache, HasReply, IsRightNext};
 ghost use Rattle.search_graph.specs.Calls.{Advances, Evaluates, IsGrounded, MovesGoals, Spares};

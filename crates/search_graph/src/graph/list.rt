@@ -4,6 +4,7 @@ ghost use Rattle.search_graph.specs.Below.{KeepsBuilder, KeepsFinished, KeepsNod
 ghost use Rattle.search_graph.specs.Words.{HasAnswer, frames_for};
 ghost use Rattle.search_graph.specs.Calls.{KeepsAll};
 ghost use Rattle.search_graph.specs.Lists.{AppendsEach, HasLimits, IsAnsweredQuery};
+ghost use Rattle.search_graph.specs.Settled.{TakesTwoRuns};
 
 use super::SearchGraph;
 use search_parts::context::{Answer, Cx, Delegate, Fault, NoMemory};
@@ -55,6 +56,13 @@ impl<D: Delegate> SearchGraph<D> {
             cache.old cache.new (D.starts inspect.old) (D.starts inspect.new)
             answers.old.items answers.new.items) }
 
+        // Where two runs of each goal are enough for all of the queries, as for one call, each answer is yes or no, which
+        // decides its goal, or its fault is want of memory or a request out of order. And two runs stay enough, whether
+        // there were faults or not.
+        ensures two_runs { OnOk result (TakesTwoRuns D.Delegate D.Cx.Cx D.Cx.Input.eq
+            (D.noop inspect.old) queries.now cache.old cache.new answers.old.items
+            answers.new.items) }
+
         // Each stored result requires no more than the greatest of the depths, or as much as the one that stood in its
         // place before.
         ensures within { (depth : ℕ) → All (λ query. query.0 ≤ depth) queries.now →
@@ -90,6 +98,8 @@ fn evaluate_query<D: Delegate>(
     ensures answered { HasAnswer D.Delegate D.Cx.Cx D.Cx.Input.eq cache.new query result }
     ensures limits { HasLimits D.Delegate D.Cx.Cx D.Cx.Input.eq (query ∷ []) cache.old cache.new
         (D.starts inspect.old) (D.starts inspect.new) [] (result ∷ []) }
+    ensures two_runs { TakesTwoRuns D.Delegate D.Cx.Cx D.Cx.Input.eq (D.noop inspect.old)
+        (query ∷ []) cache.old cache.new [] (result ∷ []) }
     ensures builder { KeepsBuilder D.starts D.noop inspect.old inspect.new }
     ensures frames { D.starts inspect.new ≤ D.starts inspect.old + frames_within
         (max 1 D.FIXPOINT_STEP_LIMIT) (D.width cache.old.cx) query.0 }

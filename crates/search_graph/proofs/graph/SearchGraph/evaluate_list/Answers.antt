@@ -9,7 +9,9 @@ use Rattle.global_cache.proofs.Stores.{KeepsResults-same, KeepsResults-then}
 use Rattle.global_cache.proofs.Whole.{whole_stays}
 use Rattle.search_graph.specs.Words.{HasAnswer}
 use Rattle.search_graph.specs.Lists.{AppendsEach, HasLimits, IsAnsweredQuery}
+use Rattle.search_graph.specs.Settled.{TakesTwoRuns}
 use Rattle.search_graph.proofs.ListLimits.{limits_more, no_limits}
+use Rattle.search_graph.proofs.ListRuns.{no_runs, runs_more}
 use Rattle.search_graph.proofs.ListAnswers.{AppendsEach-more, AppendsEach-weaker, sum_by-more, HasAnswer-kept, answer_is_shown}
 use Rattle.search_graph.proofs.StoredDepths.{StoresWithin-same, StoresWithin-then}
 use Rattle.search_graph.proofs.graph.SearchGraph.evaluate_list.Goals as goal
@@ -26,6 +28,7 @@ loop-query-init g c = record {
   kept_nodes = λ at node there. there;
   builder = builder_stays g.D.Delegate.starts g.D.Delegate.noop c.args.inspect.now;
   recorded = λ records. refl;
+  two_runs = no_runs g.D.Delegate g.D.Cx.Cx g.D.Cx.Input.PartialEq.eq (g.D.Delegate.noop c.args.inspect.now) c.args.cache.now c.reserve.new.self.items;
   limits = no_limits g.D.Delegate g.D.Cx.Cx g.D.Cx.Input.PartialEq.eq c.args.cache.now (g.D.Delegate.starts c.args.inspect.now) c.reserve.new.self.items;
 }
 
@@ -61,6 +64,10 @@ loop-query-preserved g c =
       kept_nodes = λ at node there. now.keeps.nodes at node (then.kept_nodes at node there);
       builder = builder_goes_on g.D.Delegate.starts g.D.Delegate.noop c.args.inspect.now c.loop-query.inspect c.evaluate_query-answer.new.inspect then.builder now.builder;
       recorded = λ records. now.recorded (then.builder.same_noop ∙ records) ∙ then.recorded records;
+      two_runs =
+          subst (λ qs. TakesTwoRuns g.D.Delegate g.D.Cx.Cx same (g.D.Delegate.noop c.args.inspect.now) qs c.args.cache.now new answers c.push_reserved.new.self.items) (ap (λ q. take at queries ++ q ∷ []) c.query-item.is ∙ sym (take_more queries at query below))
+          (subst (λ items. TakesTwoRuns g.D.Delegate g.D.Cx.Cx same (g.D.Delegate.noop c.args.inspect.now) (take at queries ++ query ∷ []) c.args.cache.now new answers items) (sym c.push_reserved.ensures.items)
+          (runs_more g.D.Delegate g.D.Cx.Cx same (g.D.Delegate.noop c.args.inspect.now) (g.D.Delegate.noop c.loop-query.inspect) then.builder.same_noop (take at queries) query c.args.cache.now old new answers c.loop-query.answers.items c.evaluate_query-answer.result then.two_runs now.two_runs));
       limits =
           subst (λ qs. HasLimits g.D.Delegate g.D.Cx.Cx same qs c.args.cache.now new (g.D.Delegate.starts c.args.inspect.now) (g.D.Delegate.starts c.evaluate_query-answer.new.inspect) answers c.push_reserved.new.self.items) (ap (λ q. take at queries ++ q ∷ []) c.query-item.is ∙ sym (take_more queries at query below))
           (subst (λ items. HasLimits g.D.Delegate g.D.Cx.Cx same (take at queries ++ query ∷ []) c.args.cache.now new (g.D.Delegate.starts c.args.inspect.now) (g.D.Delegate.starts c.evaluate_query-answer.new.inspect) answers items) (sym c.push_reserved.ensures.items)
@@ -72,6 +79,12 @@ returns-clause-limits g c =
     let all = take_all c.loop-query.query-index c.args.queries.now c.loop-query-test.false in
     let limits = subst (λ old. HasLimits g.D.Delegate g.D.Cx.Cx g.D.Cx.Input.PartialEq.eq (take c.loop-query.query-index c.args.queries.now) c.args.cache.now c.loop-query.cache (g.D.Delegate.starts c.args.inspect.now) (g.D.Delegate.starts c.loop-query.inspect) old c.loop-query.answers.items) c.reserve.ensures.items c.loop-query.invariant.limits in
     subst (λ queries. HasLimits g.D.Delegate g.D.Cx.Cx g.D.Cx.Input.PartialEq.eq queries c.args.cache.now c.loop-query.cache (g.D.Delegate.starts c.args.inspect.now) (g.D.Delegate.starts c.loop-query.inspect) c.args.answers.now.items c.loop-query.answers.items) all limits
+
+pub returns-clause-two_runs : goal.returns-clause-two_runs
+returns-clause-two_runs g c =
+    let all = take_all c.loop-query.query-index c.args.queries.now c.loop-query-test.false in
+    let runs = subst (λ old. TakesTwoRuns g.D.Delegate g.D.Cx.Cx g.D.Cx.Input.PartialEq.eq (g.D.Delegate.noop c.args.inspect.now) (take c.loop-query.query-index c.args.queries.now) c.args.cache.now c.loop-query.cache old c.loop-query.answers.items) c.reserve.ensures.items c.loop-query.invariant.two_runs in
+    subst (λ queries. TakesTwoRuns g.D.Delegate g.D.Cx.Cx g.D.Cx.Input.PartialEq.eq (g.D.Delegate.noop c.args.inspect.now) queries c.args.cache.now c.loop-query.cache c.args.answers.now.items c.loop-query.answers.items) all runs
 
 pub returns-clause-kept_whole : goal.returns-clause-kept_whole
 returns-clause-kept_whole g c = whole_stays c.args.cache.now.nodes c.loop-query.cache.nodes c.loop-query.invariant.kept

@@ -2,6 +2,7 @@ use Rattle.std.proofs.Common.{◌≡◌, false, ◌≤◌, ◌+◌, ◌-◌, ℕ
 use Rattle.search_graph.specs.Below.{KeepsBuilder, KeepsFinished, KeepsNodes, KeepsResults, StoresWithin}
 use Rattle.search_graph.specs.Words.{HasAnswer, frames_for}
 use Rattle.search_graph.specs.Lists.{AppendsEach, HasLimits}
+use Rattle.search_graph.specs.Settled.{TakesTwoRuns}
 use Rattle.search_graph.proofs.graph.SearchGraph.evaluate_list.Given as goal
 
 -- the first queries have their answers, and there is room for the others'
@@ -17,5 +18,6 @@ invariant-loop-query g l = record {
   kept_nodes : KeepsNodes l.initial.cache.nodes l.cache.nodes;
   builder : KeepsBuilder g.D.Delegate.starts g.D.Delegate.noop l.initial.inspect l.inspect;
   recorded : g.D.Delegate.noop l.initial.inspect ≡ false → l.cache.results ≡ l.initial.cache.results;
+  two_runs : TakesTwoRuns g.D.Delegate g.D.Cx.Cx g.D.Cx.Input.PartialEq.eq (g.D.Delegate.noop l.initial.inspect) (take l.query-index l.queries) l.initial.cache l.cache l.initial.answers.items l.answers.items;
   limits : HasLimits g.D.Delegate g.D.Cx.Cx g.D.Cx.Input.PartialEq.eq (take l.query-index l.queries) l.initial.cache l.cache (g.D.Delegate.starts l.initial.inspect) (g.D.Delegate.starts l.inspect) l.initial.answers.items l.answers.items;
 }

@@ -106,6 +106,11 @@ returns-in_ok-next-in-Done-clause-right g c = record {
   ready = c.in_ok-next-in-Done.ensures.right.ready;
 }
 
+pub returns-in_err-next-in-Done-clause-caused : goal.returns-in_err-next-in-Done-clause-caused
+returns-in_err-next-in-Done-clause-caused g c =
+    if_err_and c.from_residual-in_err-next-in-Done.result _ _ c.from_residual-in_err-next-in-Done.ensures.1
+    (λ e is. subst (IsCaused g.D.Delegate g.D.Cx.Cx g.D.Cx.Input.PartialEq.eq c.finish_run.new.cache) (sym is) c.in_err-next-in-Done.ensures.fails.caused)
+
 -- ---- candidates
 
 pub note_candidate-requires : goal.note_candidate-requires
@@ -293,7 +298,7 @@ returns-in_err-next-in-Done-clause-settled g c = record {
   settles = λ call w needs s. no_ok c.from_residual-in_err-next-in-Done.result _ _ c.from_residual-in_err-next-in-Done.ensures.1;
   leaves = λ call w needs s.
       if_err_then c.from_residual-in_err-next-in-Done.result
-      (settled_stays g.D.Delegate g.D.Cx.Cx g.D.Cx.Input.PartialEq.eq c.args.cache.now.cx call.goals c.args.cache.now c.finish_run.new.cache (runs_of c.args.evaluation.now.goals) c.requires.right.right.free c.finish_run.ensures.cache.keeps.nodes c.in_err-next-in-Done.ensures.unstored
+      (settled_stays g.D.Delegate g.D.Cx.Cx g.D.Cx.Input.PartialEq.eq c.args.cache.now.cx call.goals c.args.cache.now c.finish_run.new.cache (runs_of c.args.evaluation.now.goals) c.requires.right.right.free c.finish_run.ensures.cache.keeps.nodes c.in_err-next-in-Done.ensures.fails.unstored
       (store_settled g.D.Delegate g.D.Cx.Cx g.D.Cx.Input.PartialEq.eq c.args.cache.now.cx call c.args.received c.args.cache.now c.args.evaluation.now s));
 }
 

@@ -1,12 +1,14 @@
-use Rattle.std.proofs.Common.{◌≡◌, ℕ, ◌≤◌, max, false, List, [], ◌∷◌, IfOk, IfErr, refl, sym, ap, subst}
+use Rattle.std.proofs.Common.{◌≡◌, ℕ, ◌≤◌, max, All, false, List, [], ◌∷◌, IfOk, IfErr, refl, sym, ap, subst}
 use Rattle.std.proofs.lemmas.List.Elements.{All-head}
 use Rattle.search_graph.specs.Lists.{AreEnclosed}
-use Rattle.search_graph.specs.Below.{IsDefinite, IsEnclosed, IsMemoryOrOrder, IsPaid, verdicts, Memory, IsPlainTo, IsPlainValue, IsCaused, StoresWithin}
+use Rattle.search_graph.specs.Settled.{TwoRunsAreEnough}
+use Rattle.search_graph.specs.Below.{IsDefinite, IsEnclosed, IsMemoryOrOrder, IsPaid, PathKind, verdicts, Memory, IsPlainTo, IsPlainValue, IsCaused, StoresWithin}
 use Rattle.global_cache.proofs.Finished.{KeepsFinished-same}
 use Rattle.global_cache.proofs.Stores.{KeepsResults-same}
 use Rattle.search_graph.specs.Words.{HadCause}
 use Rattle.search_graph.proofs.ListAnswers.{IfErr-weaker}
-use Rattle.search_graph.proofs.ListLimits.{only_answer, only_fault}
+use Rattle.search_graph.proofs.ListLimits.{only_answer, only_fault, only_is}
+use Rattle.search_graph.proofs.ListRuns.{enough_later}
 use Rattle.search_graph.proofs.graph.list.evaluate_query.Goals as goal
 
 pub returns-clause-answered : goal.returns-clause-answered
@@ -58,6 +60,29 @@ returns-clause-limits g c =
     at_depth goals all =
         subst (λ root. IsEnclosed (g.D.Delegate.script c.args.cache.now.cx) goals root c.args.query.1) (sym (ap (λ graph. graph.root_depth) c.new-graph.ensures))
         (All-head (λ query. IsEnclosed (g.D.Delegate.script c.args.cache.now.cx) goals query.0 query.1) c.args.query [] all)
+
+pub returns-clause-two_runs : goal.returns-clause-two_runs
+returns-clause-two_runs g c =
+    let fresh : c.new-graph.result.limits_met ≡ false = ap (λ graph. graph.limits_met) c.new-graph.ensures in
+    let new = c.evaluate_goal.new.cache in
+    record {
+      stays = λ goals depth goal all enough.
+          let first = here goals all in
+          enough_later g.D.Delegate g.D.Cx.Cx g.D.Cx.Input.PartialEq.eq goals c.args.cache.now new depth goal (g.D.Delegate.noop c.args.inspect.now) c.evaluate_goal.ensures.same_context
+          (c.evaluate_goal.ensures.enclosed goals first.needs.enclosed first.no_overflow)
+          (c.evaluate_goal.ensures.decisive_results first.needs.decisive first.definite (c.evaluate_goal.ensures.two_runs goals first fresh))
+          (c.evaluate_goal.ensures.two_runs_settle goals first fresh) enough;
+      answers = λ goals at answer all beyond is.
+          let first = here goals all in
+          only_is (λ a. IsDefinite (verdicts g.D.Cx.Cx) a.result) (λ told. IsMemoryOrOrder told) c.evaluate_goal.result
+          (c.evaluate_goal.ensures.decisive first.needs.decisive first.definite (c.evaluate_goal.ensures.two_runs goals first fresh))
+          (c.evaluate_goal.ensures.two_runs_faults goals first fresh) at answer is;
+    }
+  where
+    here : (goals : List _) → All (λ (query : ℕ × _ × PathKind). TwoRunsAreEnough g.D.Delegate g.D.Cx.Cx g.D.Cx.Input.PartialEq.eq goals c.args.cache.now query.0 query.1 (g.D.Delegate.noop c.args.inspect.now)) (c.args.query ∷ []) → TwoRunsAreEnough g.D.Delegate g.D.Cx.Cx g.D.Cx.Input.PartialEq.eq goals c.args.cache.now c.new-graph.result.root_depth c.args.query.1 (g.D.Delegate.noop c.args.inspect.now)
+    here goals all =
+        subst (λ root. TwoRunsAreEnough g.D.Delegate g.D.Cx.Cx g.D.Cx.Input.PartialEq.eq goals c.args.cache.now root c.args.query.1 (g.D.Delegate.noop c.args.inspect.now)) (sym (ap (λ graph. graph.root_depth) c.new-graph.ensures))
+        (All-head (λ (query : ℕ × _ × PathKind). TwoRunsAreEnough g.D.Delegate g.D.Cx.Cx g.D.Cx.Input.PartialEq.eq goals c.args.cache.now query.0 query.1 (g.D.Delegate.noop c.args.inspect.now)) c.args.query [] all)
 
 pub returns-clause-builder : goal.returns-clause-builder
 returns-clause-builder g c = record { at_least = c.evaluate_goal.ensures.at_least; same_noop = c.evaluate_goal.ensures.same_noop }

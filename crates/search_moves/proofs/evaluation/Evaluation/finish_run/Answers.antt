@@ -10,7 +10,7 @@ use Rattle.search_rules.proofs.moves.DoneRuns.{differs_definite, limit_comes, li
 use Rattle.search_rules.proofs.Reasons.{newest_reason, newest_unranked}
 use Rattle.search_rules.proofs.moves.EndOfRunLaws.{limited, unstable, newest_limited, newest_unstable}
 use Rattle.search_context.proofs.Builders.{builder_stays}
-use Rattle.search_moves.proofs.Failing.{on_err}
+use Rattle.search_moves.proofs.Failing.{memory_stores}
 use Rattle.search_moves.proofs.Keeping.{leaves_results}
 use Rattle.search_moves.proofs.LimitsAtEnd.{meets_at_end, or_met, or_not}
 use Rattle.search_moves.proofs.evaluation.Evaluation.finish_run.Goals as goal
@@ -199,19 +199,16 @@ returns-in-Ok-clause-builder g c = builder_stays g.D.Delegate.starts g.D.Delegat
 pub returns-in-Err-AtLimit-clause-builder : goal.returns-in-Err-AtLimit-clause-builder
 returns-in-Err-AtLimit-clause-builder g c = builder_stays g.D.Delegate.starts g.D.Delegate.noop c.args.inspect.now
 
--- ---- where it could not be popped
+-- ---- where it could not be popped or run again
 
-pub returns-in-Ok-clause-caused : goal.returns-in-Ok-clause-caused
-returns-in-Ok-clause-caused g c = stopped_by c.pop_goal.result _ _ (λ fault fails. fails.caused) c.pop_goal.ensures.fails
+pub returns-in-Ok-clause-fails : goal.returns-in-Ok-clause-fails
+returns-in-Ok-clause-fails g c = stopped_by c.pop_goal.result _ _ (λ fault fails. fails.stores) c.pop_goal.ensures.fails
 
-pub returns-in-Err-AtLimit-clause-caused : goal.returns-in-Err-AtLimit-clause-caused
-returns-in-Err-AtLimit-clause-caused g c = stopped_by c.pop_goal-in-Err-AtLimit.result _ _ (λ fault fails. fails.caused) c.pop_goal-in-Err-AtLimit.ensures.fails
+pub returns-in-Err-AtLimit-clause-fails : goal.returns-in-Err-AtLimit-clause-fails
+returns-in-Err-AtLimit-clause-fails g c = stopped_by c.pop_goal-in-Err-AtLimit.result _ _ (λ fault fails. fails.stores) c.pop_goal-in-Err-AtLimit.ensures.fails
 
-pub returns-in-Ok-clause-unstored : goal.returns-in-Ok-clause-unstored
-returns-in-Ok-clause-unstored g c = on_err c.pop_goal.result _ (λ fault fails. fails.unstored) c.pop_goal.ensures.fails
-
-pub returns-in-Err-AtLimit-clause-unstored : goal.returns-in-Err-AtLimit-clause-unstored
-returns-in-Err-AtLimit-clause-unstored g c = on_err c.pop_goal-in-Err-AtLimit.result _ (λ fault fails. fails.unstored) c.pop_goal-in-Err-AtLimit.ensures.fails
+pub returns-in_err-run_again-in-Err-Again-clause-fails : goal.returns-in_err-run_again-in-Err-Again-clause-fails
+returns-in_err-run_again-in-Err-Again-clause-fails g c = memory_stores g.D.Delegate g.D.Cx.Cx g.D.Cx.Input.PartialEq.eq c.args.cache.now c.run_again.new.cache c.from_residual.result c.from_residual.ensures.1 (ap (λ cache. cache.results) c.run_again.ensures.cache)
 
 -- ---- the stored results
 
