@@ -6,7 +6,7 @@ use Rattle.search_moves.proofs.Storing.{equal_results, puts_nothing, stores_comp
 use Rattle.search_moves.specs.Words.{Stores}
 use Rattle.provisional_cache.specs.Provisional.{AppendsEntry}
 use Rattle.search_rules.proofs.Fates.{storing_changes}
-use Rattle.search_moves.proofs.evaluation.Evaluation.store_answer.Goals.{then-ENABLE_PROVISIONAL_CACHE+in_ok-insert_entry, else-ENABLE_PROVISIONAL_CACHE}
+use Rattle.search_moves.proofs.evaluation.Evaluation.store_answer.Goals.{then-ENABLE_PROVISIONAL_CACHE+in_ok-insert_entry, else-ENABLE_PROVISIONAL_CACHE+in-None-1, else-ENABLE_PROVISIONAL_CACHE+in-Some-1}
 use Rattle.search_moves.proofs.evaluation.Evaluation.store_answer.Goals as goal
 
 pub store_for_good-requires-clause-no_heads : goal.store_for_good-requires-clause-no_heads
@@ -51,5 +51,6 @@ returns-clause-stores g c =
           subst (λ after. Stores g.D.Delegate g.D.Cx.Cx g.D.Cx.Input.PartialEq.eq c.args.step c.args.input c.args.answer c.args.fate c.args.self.now after c.args.cache.now) (sym w.self-is)
           (stores_entry g.D.Delegate g.D.Cx.Cx g.D.Cx.Input.PartialEq.eq g.met.D.Cx.Cx.same_input c.args.step c.args.input c.args.answer c.args.fate c.args.self.now _ c.args.cache.now c.in-Some.head (sym c.in-Some.is ∙ c.opt_highest_cycle_head_index.ensures) (sym c.ENABLE_PROVISIONAL_CACHE.ensures ∙ w.if-ENABLE_PROVISIONAL_CACHE.true)
           (subst (λ stack. AppendsEntry g.D.Cx.Input.PartialEq.eq c.args.self.now.provisional w.insert_entry.new.provisional c.args.input (entry_of stack c.in-Some.head.0 c.args.step c.args.answer)) w.stack-stack.ensures w.in_ok-insert_entry.ensures.kept))
-      | else-ENABLE_PROVISIONAL_CACHE w ↦ stores_none g.D.Delegate g.D.Cx.Cx g.D.Cx.Input.PartialEq.eq g.met.D.Cx.Cx.same_input c.args.step c.args.input c.args.answer c.args.fate c.args.self.now _ c.args.cache.now c.in-Some.head (sym c.in-Some.is ∙ c.opt_highest_cycle_head_index.ensures) (sym c.ENABLE_PROVISIONAL_CACHE.ensures ∙ w.if-ENABLE_PROVISIONAL_CACHE.false) w.self-is
+      | else-ENABLE_PROVISIONAL_CACHE+in-None-1 w ↦ stores_none g.D.Delegate g.D.Cx.Cx g.D.Cx.Input.PartialEq.eq g.met.D.Cx.Cx.same_input c.args.step c.args.input c.args.answer c.args.fate c.args.self.now _ c.args.cache.now c.in-Some.head (sym c.in-Some.is ∙ c.opt_highest_cycle_head_index.ensures) (sym c.ENABLE_PROVISIONAL_CACHE.ensures ∙ w.if-ENABLE_PROVISIONAL_CACHE.false) w.self-is
+      | else-ENABLE_PROVISIONAL_CACHE+in-Some-1 w ↦ stores_none g.D.Delegate g.D.Cx.Cx g.D.Cx.Input.PartialEq.eq g.met.D.Cx.Cx.same_input c.args.step c.args.input c.args.answer c.args.fate c.args.self.now _ c.args.cache.now c.in-Some.head (sym c.in-Some.is ∙ c.opt_highest_cycle_head_index.ensures) (sym c.ENABLE_PROVISIONAL_CACHE.ensures ∙ w.if-ENABLE_PROVISIONAL_CACHE.false) w.self-is
     ]
