@@ -142,7 +142,7 @@ module _ (forms : List Form) where
 
   -- so all of them are of one kind
   pub all_by_one_kind : AsksByOneKind (scripts (needs_of forms) (questions_of forms))
-  all_by_one_kind goal kind asked other other_kind other_asked one there another back =
+  all_by_one_kind goal kind asked other other_kind other_asked one _ another _ =
       all_coinductive goal one.replies kind asked one.fitting one.asks ∙ sym (all_coinductive other another.replies other_kind other_asked another.fitting another.asks)
 
   how_many : length (numbers_of forms) ≡ extent_of forms + 1
