@@ -74,8 +74,8 @@ impl CandidateHeadUsages {
     }
 
     /// Counts usages as `note_usages` does. The head is looked for at the guessed place of the list first; with a wrong
-    /// guess all is the same, but takes a search. The answer is the place behind the head: the guess for a next greater
-    /// one.
+    /// guess all is the same, but takes a search. The answer is the guess for a next greater head, the place behind this
+    /// one; no clause says so, since nothing but time depends on it.
     pub fn note_usages_near(
         &mut self,
         guess: usize,

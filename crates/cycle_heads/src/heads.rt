@@ -139,7 +139,8 @@ impl CycleHeads {
     }
 
     /// Records a head as `insert` does. It is looked for at the guessed place of the list first; with a wrong guess all
-    /// is the same, but takes a search. The answer is the place behind the head: the guess for a next greater one.
+    /// is the same, but takes a search. The answer is the guess for a next greater head, the place behind this one; no
+    /// clause says so, since nothing but time depends on it.
     pub fn insert_near(
         &mut self,
         guess: usize,

@@ -19,9 +19,9 @@ abbrev pub HasOneOfEach : {R : Type 0} → Verdicts R → Type 0
 HasOneOfEach {R} says = (x y : R) → IsDefinite says x → verdict_of says x ≡ verdict_of says y → x ≡ y
 
 module _ {D C V P F I R A T : Type 0} (G : DelegateOf D C V P F I R A T) (X : CxOf C I R A T) (cx : C) where
-  -- What makes two runs of a goal enough: scripts decide, and there is one yes and one no; no provisional entry is used, or
-  -- goals that reach each other ask by one kind of step; a goal may be run twice; the goal is one of these, no question leads out of them, there is depth enough for them, and none is in a scope; and
-  -- the builder does not record.
+  -- What makes two runs of a goal enough: scripts decide, and there is one yes and one no; no provisional entry is used, or goals that
+  -- reach each other ask by one kind of step; a goal may be run twice; the goal is one of these, no question leads out of them, there is
+  -- depth enough for them, and none is in a scope; and the builder does not record.
   pub record NeedsTwoRuns (goals : List I) (depth : ℕ) (goal : I) (noop : Bool) : Type 0 where
     pub decisive : IsDecisive (verdicts X) (G.script cx)
     pub one_of_each : HasOneOfEach (verdicts X)
