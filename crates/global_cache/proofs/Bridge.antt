@@ -30,13 +30,13 @@ module _ {I R : Type 0} (says : Verdicts R) where
     pub ended : node.run ≡ Some run
     pub sort : verdict_of says run.outcome ≡ verdict
 
-  ended_run : (verdict : theory.Verdict) (goal : I) (r : Option (EndedRun I R)) (edges : List theory.Edge) → Some (shape_of says (record { goal = goal; run = r })) ≡ Some (theory.Finished verdict edges) → Ended verdict (Some (record { goal = goal; run = r }))
-  ended_run verdict goal None edges e = absurd cc
-  ended_run verdict goal (Some run) edges e = record { node = record { goal = goal; run = Some run }; run = run; is = refl; ended = refl; sort = cc }
+  ended_run : (verdict : theory.Verdict) (n : CacheNode I R) (r : Option (EndedRun I R)) (edges : List theory.Edge) → Some (shape_of says (record n { run = r })) ≡ Some (theory.Finished verdict edges) → Ended verdict (Some (record n { run = r }))
+  ended_run verdict n None edges e = absurd cc
+  ended_run verdict n (Some run) edges e = record { node = record n { run = Some run }; run = run; is = refl; ended = refl; sort = cc }
 
   ended_node : (verdict : theory.Verdict) (o : Option (CacheNode I R)) (edges : List theory.Edge) → option_map (shape_of says) o ≡ Some (theory.Finished verdict edges) → Ended verdict o
   ended_node verdict None edges e = absurd cc
-  ended_node verdict (Some n) edges e = ended_run verdict n.goal n.run edges e
+  ended_node verdict (Some n) edges e = ended_run verdict n n.run edges e
 
   module _ (nodes : List (CacheNode I R)) (verdict : theory.Verdict) where
     abbrev Known : ℕ → Type 0
@@ -61,7 +61,7 @@ module _ {I R : Type 0} (says : Verdicts R) where
       finished =
           slice_get-map (shape_of says) nodes at
           ∙ (ap (option_map (shape_of says)) n.is
-          ∙ (ap (λ r. Some (shape_of says (record { goal = n.node.goal; run = r }))) n.ended
+          ∙ (ap (λ r. Some (shape_of says (record n.node { run = r }))) n.ended
           ∙ ap (λ v. Some (theory.Finished v (map edge_shape n.run.edges))) n.sort));
       edge = slice_get-map edge_shape n.run.edges i ∙ ap (option_map edge_shape) is;
     }
@@ -70,7 +70,7 @@ module _ {I R : Type 0} (says : Verdicts R) where
     graph_node_at at n =
         slice_get-map graph_node_of nodes at
         ∙ (ap (option_map graph_node_of) n.is
-        ∙ ap (λ r. Some (graph_node_of (record { goal = n.node.goal; run = r }))) n.ended)
+        ∙ ap (λ r. Some (graph_node_of (record n.node { run = r }))) n.ended)
 
     -- the place of an edge among those of its node
     edge_at : (at : ℕ) (n : Ended verdict (slice_get nodes at)) (e : Edge I) → HasEdge (graph_nodes_of nodes) at e → (i : ℕ) × (slice_get n.run.edges i ≡ Some e)

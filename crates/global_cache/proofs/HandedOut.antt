@@ -71,7 +71,7 @@ module _ {I R : Type 0} (nodes : List (CacheNode I R)) (root : ℕ) where
         (is_inside : (i : ℕ) (e : Edge I) → slice_get n.edges.items i ≡ Some e → e.target < length more) where
       still : (at : ℕ) (m : Node I R) → slice_get copy at ≡ Some m → original_node (slice_index more) m ≡ original_node (slice_index numbers) m
       still at m is =
-          ap (λ edges. record { goal = m.input; run = Some (record { replies = m.replies.items; edges = edges; outcome = m.result }) })
+          ap (λ edges. record { goal = m.input; run = Some (record { replies = m.replies.items; edges = edges; outcome = m.result }); gone = false })
           (same_originals numbers more finds.stays m.edges.items (begun.inside at m is))
 
       next_same : (at : ℕ) (m : Node I R) → slice_get (copy ++ n ∷ []) at ≡ Some m → finished_node nodes (slice_index more at) ≡ Some (original_node (slice_index more) m)

@@ -11,3 +11,9 @@ pub mod Stores
 pub mod Hits
 pub mod Stored
 pub mod Sound
+pub mod Collecting
+pub mod HeldNodes
+pub mod SearchedNodes
+pub mod MarkedNodes
+pub mod KeptNodes
+pub mod LetGo

@@ -9,7 +9,7 @@ use Rattle.open_graphs.specs.Graph as theory
 use Rattle.open_graphs.proofs.Lists.{mapped_some, get_left, get_cases, get_set_same, get_set_other}
 use Rattle.open_graphs.proofs.Keep.{append_grows, finish_grows}
 use Rattle.global_cache.specs.Below.{Request, Reply, Verdicts}
-use Rattle.global_cache.specs.Words.{EndedRun, CacheNode, open_node, open_goal, with_run, IsNodeOf, IsRun, AreRuns, KeepsNodes, KeepsGoals, run_shape, shape_of, shapes_of}
+use Rattle.global_cache.specs.Words.{EndedRun, CacheNode, goal_if_open, open_node, open_goal, with_run, IsNodeOf, IsRun, AreRuns, KeepsNodes, KeepsGoals, run_shape, shape_of, shapes_of}
 
 -- what is at a place
 pub node_at : {I R : Type 0} (o : Option (CacheNode I R)) (goal : I) → option_map (λ n. n.goal) o ≡ Some goal → (n : CacheNode I R) × (o ≡ Some n) × (n.goal ≡ goal)
@@ -56,27 +56,28 @@ pub AreRuns-appended : {I R : Type 0} (says : Verdicts R) (scripts : I → List 
 AreRuns-appended says scripts true nodes goal h = AreRuns-grown says scripts nodes goal h
 AreRuns-appended says scripts false nodes goal h = h
 
-open_case : {I R : Type 0} (goal : I) (run : Option (EndedRun I R)) (P : I → Type 0) → IsSomeAnd (elim run [ None ↦ Some goal | Some r ↦ None ]) P → (run ≡ None) × P goal
-open_case goal None P h = (refl, h)
-open_case goal (Some r) P h = absurd h
+open_case : {I R : Type 0} (goal : I) (run : Option (EndedRun I R)) (gone : Bool) (P : I → Type 0) → IsSomeAnd (elim run [ None ↦ if gone then None else Some goal | Some r ↦ None ]) P → (run ≡ None) × (gone ≡ false) × P goal
+open_case goal None true P h = absurd h
+open_case goal None false P h = (refl, refl, h)
+open_case goal (Some r) gone P h = absurd h
 
-open_at : {I R : Type 0} (o : Option (CacheNode I R)) (P : I → Type 0) → IsSomeAnd (elim o [ None ↦ None | Some n ↦ elim n.run [ None ↦ Some n.goal | Some run ↦ None ] ]) P → (n : CacheNode I R) × (o ≡ Some n) × (n.run ≡ None) × P n.goal
+open_at : {I R : Type 0} (o : Option (CacheNode I R)) (P : I → Type 0) → IsSomeAnd (elim o [ None ↦ None | Some n ↦ goal_if_open n ]) P → (n : CacheNode I R) × (o ≡ Some n) × (n.run ≡ None) × P n.goal × (n.gone ≡ false)
 open_at None P h = absurd h
-open_at (Some n) P h = let w = open_case n.goal n.run P h in (n, refl, w.0, w.1)
+open_at (Some n) P h = let w = open_case n.goal n.run n.gone P h in (n, refl, w.0, w.2, w.1)
 
 -- the run of an open node ends
 module _ {I R : Type 0} (nodes : List (CacheNode I R)) (k : ℕ) (run : EndedRun I R) (P : I → Type 0) (is_open : IsSomeAnd (open_goal nodes k) P) where
   -- the node before
-  pub before : (n : CacheNode I R) × (slice_get nodes k ≡ Some n) × (n.run ≡ None) × P n.goal
+  pub before : (n : CacheNode I R) × (slice_get nodes k ≡ Some n) × (n.run ≡ None) × P n.goal × (n.gone ≡ false)
   before = open_at (slice_get nodes k) P is_open
 
   abbrev after : CacheNode I R
-  after = record { goal = before.0.goal; run = Some run }
+  after = record before.0 { run = Some run }
 
-  pub with_run-is : with_run nodes k run ≡ slice_set nodes k (record { goal = before.0.goal; run = Some run })
-  with_run-is = ap (λ o. elim o [ None ↦ nodes | Some n ↦ slice_set nodes k (record { goal = n.goal; run = Some run }) ]) before.1
+  pub with_run-is : with_run nodes k run ≡ slice_set nodes k (record before.0 { run = Some run })
+  with_run-is = ap (λ o. elim o [ None ↦ nodes | Some n ↦ slice_set nodes k (record n { run = Some run }) ]) before.1
 
-  pub node_is : slice_get (with_run nodes k run) k ≡ Some (record { goal = before.0.goal; run = Some run })
+  pub node_is : slice_get (with_run nodes k run) k ≡ Some (record before.0 { run = Some run })
   node_is = ap (λ more. slice_get more k) with_run-is ∙ get_set_same nodes k before.0 after before.1
 
   pub others_are : (at : ℕ) → (at ≡ k → ⊥) → slice_get (with_run nodes k run) at ≡ slice_get nodes at
@@ -101,7 +102,7 @@ module _ {I R : Type 0} (nodes : List (CacheNode I R)) (k : ℕ) (run : EndedRun
       (finish_grows (shapes_of says nodes) k (run_shape says run)
       (slice_get-map (shape_of says) nodes k
       ∙ (ap (option_map (shape_of says)) before.1
-      ∙ ap (λ r. Some (shape_of says (record { goal = before.0.goal; run = r }))) before.2))))
+      ∙ ap (λ r. Some (shape_of says (record before.0 { run = r }))) before.2))))
 
 pub AreRuns-ended : {I R : Type 0} (says : Verdicts R) (scripts : I → List (Reply R) → Request I R) (nodes : List (CacheNode I R)) (k : ℕ) (run : EndedRun I R) → IsSomeAnd (open_goal nodes k) (λ goal. IsRun says (scripts goal) nodes run) → AreRuns says scripts nodes → AreRuns says scripts (with_run nodes k run)
 AreRuns-ended {I} {R} says scripts nodes k run is_open h at n r there ended =
@@ -110,7 +111,7 @@ AreRuns-ended {I} {R} says scripts nodes k run is_open h at n r there ended =
     let w = before nodes k run P is_open in
     elim (ℕ_discrete at k) [
       | yes e ↦
-          let both : Some (record { goal = w.0.goal; run = Some run }) ≡ Some n =
+          let both : Some (record w.0 { run = Some run }) ≡ Some n =
           sym (node_is nodes k run P is_open) ∙ (ap (slice_get (with_run nodes k run)) (sym e) ∙ there) in
           let goals : w.0.goal ≡ n.goal = cc in
           let runs : run ≡ r = cc in

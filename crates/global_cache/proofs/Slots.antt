@@ -1,56 +1,62 @@
--- The cache's slots as its nodes: what a write of a slot does to the list of nodes.
-use Rattle.std.proofs.Common.{◌≡◌, ℕ, ◌<◌, Bool, true, false, if◌then◌else◌, List, [], ◌∷◌, ◌++◌, map, Option, None, Some, option_map, slice_get, slice_set, get_or, length, refl, sym, ◌∙◌, ap, subst}
+-- The cache's list of nodes in the words of its clauses: what a call of the list makes of the cache.
+use Rattle.std.proofs.Common.{◌≡◌, ℕ, Bool, if◌then◌else◌, List, [], ◌∷◌, ◌++◌, Option, None, Some, Result, Ok, Err, is_ok, IsSome, slice_get, refl, sym, ◌∙◌, ap, subst}
+use Rattle.std.specs.Prelude.{IfOk, OnErr}
 use Rattle.std.specs.Option.{IsSomeAnd}
-use Rattle.std.proofs.lemmas.List.{map-append, map-set}
-use Rattle.std.proofs.lemmas.Option.{slice_get-map, slice_get_read, get_or_from_slice_get}
 use Rattle.global_cache.specs.Below.{Node, Request, Reply, Verdicts}
-use Rattle.global_cache.specs.Words.{Slot, Open, Finished, StoredResult, CacheNode, Cache, open_goal, with_run, IsRun, AreRuns, Store, run_of, ended_node, node_of}
-use Rattle.global_cache.proofs.NodeLists.{appended, before, with_run-is}
+use Rattle.global_cache.specs.Words.{Slot, Finished, StoredResult, EndedRun, CacheNode, Cache, finished_node, goal_if_open, open_goal, open_node, with_run, IsGone, IsRun, AreRuns, Store, run_of, ended_node, node_of}
+use Rattle.global_cache.proofs.NodeLists.{appended}
 
-pushed_nodes : {I R : Type 0} (grew : Bool) (slots : List (Slot I R)) (goal : I) → map node_of (if grew then slots ++ Open goal ∷ [] else slots) ≡ appended grew (map node_of slots) goal
-pushed_nodes true slots goal = map-append node_of slots (Open goal ∷ [])
-pushed_nodes false slots goal = refl
+-- an open node is appended, or none is
+pub is_appended : {I R E : Type 0} (answer : Result ℕ E) (old new : List (CacheNode I R)) (goal : I) → IfOk answer (λ number. new ≡ old ++ open_node goal ∷ []) → OnErr answer (new ≡ old) → new ≡ appended (is_ok answer) old goal
+is_appended (Ok number) old new goal pushed refused = pushed
+is_appended (Err e) old new goal pushed refused = refused
 
--- an open slot is pushed, unless the growth was refused
-pub nodes_pushed : {X I R A T : Type 0} (cx : X) (slots more : List (Slot I R)) (results : Store I (StoredResult X I R A T)) (cache : Cache X I R A T) (grew : Bool) (goal : I) → record { cx = cx; nodes = map node_of slots; results = results } ≡ cache → more ≡ (if grew then slots ++ Open goal ∷ [] else slots) → map node_of more ≡ appended grew cache.nodes goal
-nodes_pushed cx slots more results cache grew goal view is =
-    ap (map node_of) is ∙ (pushed_nodes grew slots goal ∙ ap (λ c. appended grew c.nodes goal) view)
+pub is_some_and : {A : Type 0} (P : A → Type 0) (o : Option A) → IsSomeAnd o P → IsSome o
+is_some_and P None h = absurd h
+is_some_and P (Some x) h = refl
 
--- what the whole cache is then
-pub cache_pushed : {X I R A T : Type 0} (cx : X) (slots more : List (Slot I R)) (results : Store I (StoredResult X I R A T)) (cache : Cache X I R A T) (grew : Bool) (goal : I) → record { cx = cx; nodes = map node_of slots; results = results } ≡ cache → more ≡ (if grew then slots ++ Open goal ∷ [] else slots) → record { cx = cx; nodes = map node_of more; results = results } ≡ record cache { nodes = appended grew cache.nodes goal }
-cache_pushed cx slots more results cache grew goal view is =
-    let nodes = nodes_pushed cx slots more results cache grew goal view is in
-    λ i. record { cx = (view i).cx; nodes = nodes i; results = (view i).results }
+-- a cache whose context, nodes and results are these
+module _ {X I R A T : Type 0} (cx : X) (nodes : List (CacheNode I R)) (results : Store I (StoredResult X I R A T)) (cache : Cache X I R A T) (view : record { cx = cx; nodes = nodes; results = results } ≡ cache) where
+  module _ (grew : Bool) (goal : I) (more : List (CacheNode I R)) (is : more ≡ appended grew nodes goal) where
+    pub nodes_pushed : more ≡ appended grew cache.nodes goal
+    nodes_pushed = is ∙ ap (λ c. appended grew c.nodes goal) view
 
-slot_case : {I R : Type 0} (slots : List (Slot I R)) (k : ℕ) (slot : Slot I R) (m : CacheNode I R) (o : Option (Slot I R)) → slice_get slots k ≡ o → slot ≡ get_or slots k slot → option_map node_of o ≡ Some m → node_of slot ≡ m
-slot_case slots k slot m None at e is = absurd cc
-slot_case slots k slot m (Some s) at e is = ap node_of (e ∙ get_or_from_slice_get slots k s slot at) ∙ cc
+    -- what the whole cache is then
+    pub cache_pushed : record { cx = cx; nodes = more; results = results } ≡ record cache { nodes = appended grew cache.nodes goal }
+    cache_pushed = λ i. record { cx = (view i).cx; nodes = nodes_pushed i; results = (view i).results }
 
--- a slot's node is the one at its place
-node_of_slot : {I R : Type 0} (slots : List (Slot I R)) (k : ℕ) (slot : Slot I R) (m : CacheNode I R) → slot ≡ get_or slots k slot → slice_get (map node_of slots) k ≡ Some m → node_of slot ≡ m
-node_of_slot slots k slot m e is = slot_case slots k slot m (slice_get slots k) refl e (sym (slice_get-map node_of slots k) ∙ is)
+  module _ (k : ℕ) (run : EndedRun I R) where
+    pub open_there : (P : I → Type 0) → IsSomeAnd (open_goal cache.nodes k) P → IsSome (open_goal nodes k)
+    open_there P is_open = is_some_and P (open_goal nodes k) (subst (λ (c : Cache X I R A T). IsSomeAnd (open_goal c.nodes k) P) (sym view) is_open)
 
--- an open slot is finished with a run of its goal
-pub nodes_ended : {X I R A T : Type 0} (cx : X) (slots : List (Slot I R)) (results : Store I (StoredResult X I R A T)) (cache : Cache X I R A T) (k : ℕ) (slot : Slot I R) (n : Node I R) (P : I → Type 0) → record { cx = cx; nodes = map node_of slots; results = results } ≡ cache → slot ≡ get_or slots k slot → n.input ≡ (node_of slot).goal → IsSomeAnd (open_goal cache.nodes k) P → map node_of (slice_set slots k (Finished n)) ≡ with_run cache.nodes k (run_of n)
-nodes_ended cx slots results cache k slot n P view there goal is_open =
-    let nodes : map node_of slots ≡ cache.nodes = ap (λ c. c.nodes) view in
-    let was = before cache.nodes k (run_of n) P is_open in
-    let same : node_of slot ≡ was.0 = node_of_slot slots k slot was.0 there (ap (λ list. slice_get list k) nodes ∙ was.1) in
-    map-set node_of slots k (Finished n)
-    ∙ (ap (λ list. slice_set list k (record { goal = n.input; run = Some (run_of n) })) nodes
-    ∙ (ap (λ g. slice_set cache.nodes k (record { goal = g; run = Some (run_of n) })) (goal ∙ ap (λ m. m.goal) same)
-    ∙ sym (with_run-is cache.nodes k (run_of n) P is_open)))
+    module _ (more : List (CacheNode I R)) (is : more ≡ with_run nodes k run) where
+      pub nodes_ended : more ≡ with_run cache.nodes k run
+      nodes_ended = is ∙ ap (λ (c : Cache X I R A T). with_run c.nodes k run) view
 
--- what the whole cache is then
-pub cache_ended : {X I R A T : Type 0} (cx : X) (slots : List (Slot I R)) (results : Store I (StoredResult X I R A T)) (cache : Cache X I R A T) (k : ℕ) (slot : Slot I R) (n : Node I R) (P : I → Type 0) → record { cx = cx; nodes = map node_of slots; results = results } ≡ cache → slot ≡ get_or slots k slot → n.input ≡ (node_of slot).goal → IsSomeAnd (open_goal cache.nodes k) P → record { cx = cx; nodes = map node_of (slice_set slots k (Finished n)); results = results } ≡ record cache { nodes = with_run cache.nodes k (run_of n) }
-cache_ended cx slots results cache k slot n P view there goal is_open =
-    let nodes = nodes_ended cx slots results cache k slot n P view there goal is_open in
-    λ i. record { cx = (view i).cx; nodes = nodes i; results = (view i).results }
+      -- what the whole cache is then
+      pub cache_ended : record { cx = cx; nodes = more; results = results } ≡ record cache { nodes = with_run cache.nodes k run }
+      cache_ended = λ i. record { cx = (view i).cx; nodes = nodes_ended i; results = (view i).results }
 
--- a finished slot is a run of its goal
-pub finished_is_run : {X I R A T : Type 0} (says : Verdicts R) (scripts : X → I → List (Reply R) → Request I R) (cx : X) (slots items : List (Slot I R)) (results : Store I (StoredResult X I R A T)) (cache : Cache X I R A T) (at : ℕ) (slot : Slot I R) (n : Node I R) → record { cx = cx; nodes = map node_of slots; results = results } ≡ cache → AreRuns says (scripts cx) (map node_of slots) → items ≡ slots → at < length items → slot ≡ get_or items at slot → slot ≡ Finished n → IsRun says (scripts cache.cx n.input) cache.nodes (run_of n)
-finished_is_run says scripts cx slots items results cache at slot n view runs same within there is =
-    let found : slice_get slots at ≡ Some (Finished n) =
-    ap (λ list. slice_get list at) (sym same) ∙ (slice_get_read items (length items) at slot refl within there ∙ ap Some is) in
-    subst (λ c. IsRun says (scripts c.cx n.input) c.nodes (run_of n)) view
-    (runs at (ended_node n) (run_of n) (slice_get-map node_of slots at ∙ ap (option_map node_of) found) refl)
+  -- a finished slot is a run of its goal
+  pub finished_is_run : (says : Verdicts R) (scripts : X → I → List (Reply R) → Request I R) (at : ℕ) (n : Node I R) (slot : Slot I R) → AreRuns says (scripts cx) nodes → slice_get nodes at ≡ Some (node_of slot) → slot ≡ Finished n → IsRun says (scripts cache.cx n.input) cache.nodes (run_of n)
+  finished_is_run says scripts at n slot runs there is =
+      subst (λ c. IsRun says (scripts c.cx n.input) c.nodes (run_of n)) view
+      (runs at (ended_node n) (run_of n) (there ∙ ap (λ s. Some (node_of s)) is) refl)
+
+module _ {I R : Type 0} where
+  none_finished : (o : Option (CacheNode I R)) → IsGone o → ◌≡◌ {A = Option (CacheNode I R)} (elim o [ None ↦ None | Some n ↦ elim n.run [ None ↦ None | Some run ↦ Some n ] ]) None
+  none_finished None gone = refl
+  none_finished (Some n) gone = ap (λ run. elim run [ None ↦ None | Some r ↦ Some n ]) gone.0
+
+  none_open : (o : Option (CacheNode I R)) → IsGone o → ◌≡◌ {A = Option I} (elim o [ None ↦ None | Some n ↦ goal_if_open n ]) None
+  none_open None gone = refl
+  none_open (Some n) gone =
+      ap (λ run. elim run [ None ↦ if n.gone then None else Some n.goal | Some r ↦ None ]) gone.0
+      ∙ ap (λ (b : Bool). if b then None else Some n.goal) gone.1
+
+  -- a node that is gone is neither finished nor open
+  pub gone_is_not_finished : (nodes : List (CacheNode I R)) (at : ℕ) → IsGone (slice_get nodes at) → finished_node nodes at ≡ None
+  gone_is_not_finished nodes at gone = none_finished (slice_get nodes at) gone
+
+  pub gone_is_not_open : (nodes : List (CacheNode I R)) (at : ℕ) → IsGone (slice_get nodes at) → open_goal nodes at ≡ None
+  gone_is_not_open nodes at gone = none_open (slice_get nodes at) gone

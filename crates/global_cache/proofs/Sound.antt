@@ -1,10 +1,11 @@
 -- What holds of every cache still holds when an open node is appended, when the run of an open node ends, and when a result
 -- is stored. What a look-up gives is worth as much.
-use Rattle.std.proofs.Common.{◌≡◌, Bool, true, List, ℕ, Option, Result, sym, subst, subst₂}
+use Rattle.std.proofs.Common.{◌≡◌, Bool, true, List, ℕ, Option, Result, Ok, Err, sym, subst, subst₂}
 use Rattle.std.specs.Prelude.{OnOk, OnErr}
 use Rattle.std.specs.Option.{IsSomeAnd, IfSome, option_map}
-use Rattle.global_cache.specs.Below.{Request, Reply, EvaluationResult, NestedPaths, Verdicts}
-use Rattle.global_cache.specs.Words.{CacheData, Place, StoredResult, EndedRun, CacheNode, Cache, open_goal, with_run, IsRun, HasGraph, hit_of, first_accepted, usable, IsSoundCache, Store, Puts, place_of, stored_from, IsPlainAt, IsSoundResult}
+use Rattle.global_cache.specs.Below.{Request, Reply, EvaluationResult, NestedPaths, NodeId, Verdicts}
+use Rattle.global_cache.specs.Words.{CacheData, Place, StoredResult, EndedRun, CacheNode, Cache, open_goal, with_run, IsRun, HasGraph, hit_of, first_accepted, usable, IsSoundCache, Store, Puts, place_of, stored_from, IsPlainAt, IsSoundResult, AreLive, AreRooted, Collected}
+use Rattle.global_cache.proofs.Collecting.{AreRuns-collected, AreSoundResults-collected}
 use Rattle.global_cache.proofs.NodeLists.{appended, AreRuns-appended, AreRuns-ended, KeepsGoals-appended, Grown-appended, KeepsGoals-ended, Grown-ended}
 use Rattle.global_cache.proofs.Stored.{AreSoundResults-grown, AreSoundResults-stored, IsWorth, result_is_worth}
 
@@ -48,3 +49,16 @@ module _ {X I R A T : Type 0} (same : I → I → Bool) (says : Verdicts R) (scr
   found_is_worth accepts input available found is =
       subst (λ (c : Cache X I R A T). IfSome found (λ hit. IsWorth says (scripts c.cx) c.nodes input available (hit_of hit))) view
       (result_is_worth says (scripts cx) nodes input available accepts same results found sound.results is)
+
+  -- nodes are let go to which nothing leads, or nothing changes
+  pub IsSoundCache-collected : {U E : Type 0} (answer : Result U E) (new : List (CacheNode I R)) (first : ℕ) (roots : List NodeId)
+      → AreRooted same first roots cache.results
+      → OnOk answer ((live : ℕ → Bool) × AreLive nodes first roots live × Collected live nodes new) → OnErr answer (new ≡ nodes)
+      → IsSoundCache same says scripts (record { cx = cx; nodes = new; results = results })
+  IsSoundCache-collected (Ok u) new first roots rooted ok err = record {
+    runs = AreRuns-collected ok.0 nodes new ok.2 says (scripts cx) sound.runs;
+    results = AreSoundResults-collected ok.0 nodes new ok.2 says (scripts cx) same first roots results ok.1
+        (subst (λ (c : Cache X I R A T). AreRooted same first roots c.results) (sym view) rooted) sound.results;
+  }
+  IsSoundCache-collected (Err e) new first roots rooted ok err =
+      subst (λ (l : List (CacheNode I R)). IsSoundCache same says scripts (record { cx = cx; nodes = l; results = results })) (sym err) sound

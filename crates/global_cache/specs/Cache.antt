@@ -1,6 +1,6 @@
 -- What a cache holds: its context, a list of nodes, and the results that are stored. A node stands for one run of a goal.
--- It is open until that run has ended, and never changes from then on.
-use Rattle.std.specs.Prelude.{◌≡◌, ℕ, true, List, [], map, reverse, Option, None, Some, slice_get, slice_set}
+-- It is open until that run has ended, and never changes from then on, but that it may be let go once nothing leads to it.
+use Rattle.std.specs.Prelude.{◌≡◌, ℕ, Bool, true, false, if◌then◌else◌, List, [], map, reverse, Option, None, Some, slice_get, slice_set}
 use Rattle.std.specs.Option.{option_map, IsSomeAnd}
 use Rattle.search_context.specs.declared.context.Request.{Request}
 use Rattle.search_context.specs.declared.context.Reply.{Reply}
@@ -17,10 +17,11 @@ pub record EndedRun (I R : Type 0) : Type 0 where
   pub edges : List (Edge I)
   pub outcome : R
 
--- a goal, and its run once that has ended
+-- A goal, and its run once that has ended. A node that was let go is gone: its number stays, with some goal and without a run.
 pub record CacheNode (I R : Type 0) : Type 0 where
   pub goal : I
   pub run : Option (EndedRun I R)
+  pub gone : Bool
 
 -- the context, the nodes by their numbers, and the stored results
 pub record Cache (X I R A T : Type 0) : Type 0 where
@@ -30,12 +31,19 @@ pub record Cache (X I R A T : Type 0) : Type 0 where
 
 -- a node whose run has not ended
 abbrev pub open_node : {I R : Type 0} → I → CacheNode I R
-open_node goal = record { goal = goal; run = None }
+open_node goal = record { goal = goal; run = None; gone = false }
+
+-- a number whose node was let go
+abbrev pub gone_node : {I R : Type 0} → I → CacheNode I R
+gone_node goal = record { goal = goal; run = None; gone = true }
+
+-- the goal of a node that is open
+abbrev pub goal_if_open : {I R : Type 0} → CacheNode I R → Option I
+goal_if_open n = elim n.run [ None ↦ if n.gone then None else Some n.goal | Some run ↦ None ]
 
 -- the goal of the node, if that is in the list and open
 abbrev pub open_goal : {I R : Type 0} → List (CacheNode I R) → ℕ → Option I
-open_goal nodes at =
-    elim (slice_get nodes at) [ None ↦ None | Some n ↦ elim n.run [ None ↦ Some n.goal | Some run ↦ None ] ]
+open_goal nodes at = elim (slice_get nodes at) [ None ↦ None | Some n ↦ goal_if_open n ]
 
 -- the node, if it is in the list and its run has ended
 abbrev pub finished_node : {I R : Type 0} → List (CacheNode I R) → ℕ → Option (CacheNode I R)
@@ -45,7 +53,7 @@ finished_node nodes at =
 -- the list once the node's run has ended
 abbrev pub with_run : {I R : Type 0} → List (CacheNode I R) → ℕ → EndedRun I R → List (CacheNode I R)
 with_run nodes at run =
-    elim (slice_get nodes at) [ None ↦ nodes | Some n ↦ slice_set nodes at (record { goal = n.goal; run = Some run }) ]
+    elim (slice_get nodes at) [ None ↦ nodes | Some n ↦ slice_set nodes at (record n { run = Some run }) ]
 
 -- the node at a place is of this goal
 abbrev pub IsNodeOf : {I R : Type 0} → List (CacheNode I R) → ℕ → I → Type 0

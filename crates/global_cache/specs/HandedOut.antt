@@ -1,5 +1,5 @@
 -- Graphs handed out as data: which nodes of a cache have one, and what it is a copy of.
-use Rattle.std.specs.Prelude.{◌≡◌, ℕ, ◌<◌, List, map, length, slice_get, slice_index, Some, IsSome}
+use Rattle.std.specs.Prelude.{◌≡◌, ℕ, ◌<◌, List, map, length, slice_get, slice_index, false, Some, IsSome}
 use Rattle.search_context.specs.declared.context.Edge.{Edge}
 use Rattle.search_context.specs.declared.context.Node.{Node}
 use Rattle.global_cache.specs.Cache.{CacheNode, finished_node, graph_nodes_of}
@@ -17,7 +17,7 @@ KeepsWhole old new = (root : ℕ) → IsWhole old root → IsWhole new root
 -- the node of a cache that this one is a copy of, where `original` gives the number of the node that each target stands for
 abbrev pub original_node : {I R : Type 0} → (ℕ → ℕ) → Node I R → CacheNode I R
 original_node original n =
-    record { goal = n.input; run = Some (record { replies = n.replies.items; edges = map (original_edge original) n.edges.items; outcome = n.result }) }
+    record { goal = n.input; run = Some (record { replies = n.replies.items; edges = map (original_edge original) n.edges.items; outcome = n.result }); gone = false }
 
 -- The nodes of the copy stand for those of the list with these numbers. The first is that of the root. Each is the same
 -- as the finished node that it stands for, but that its edges lead to places of the copy. Each stands for a node that is

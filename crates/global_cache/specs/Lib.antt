@@ -3,7 +3,10 @@ pub mod Hits
 pub mod Cache
 pub mod HandedOut
 pub mod Found
+pub mod Collected
 pub mod View
+pub mod Held
+pub mod Marked
 pub mod Shapes
 pub mod Definite
 pub mod Stored

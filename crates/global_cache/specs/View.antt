@@ -1,8 +1,8 @@
 -- The cache's slots as the nodes that contracts see.
-use Rattle.std.specs.Prelude.{Some}
+use Rattle.std.specs.Prelude.{Some, false}
 use Rattle.search_context.specs.declared.context.Node.{Node}
-use Rattle.global_cache.specs.declared.nodes.Slot.{Slot}
-use Rattle.global_cache.specs.declared.nodes.Slot.TheVariants.{Open, Finished}
+use Rattle.global_cache.specs.declared.node_list.Slot.{Slot}
+use Rattle.global_cache.specs.declared.node_list.Slot.TheVariants.{Open, Finished}
 use Rattle.global_cache.specs.Cache.{EndedRun, CacheNode, open_node}
 
 -- the run that a finished node stands for
@@ -11,7 +11,7 @@ run_of n = record { replies = n.replies.items; edges = n.edges.items; outcome = 
 
 -- a finished node as contracts see it
 abbrev pub ended_node : {I R : Type 0} → Node I R → CacheNode I R
-ended_node n = record { goal = n.input; run = Some (run_of n) }
+ended_node n = record { goal = n.input; run = Some (run_of n); gone = false }
 
 -- a slot as contracts see it
 abbrev pub node_of : {I R : Type 0} → Slot I R → CacheNode I R

@@ -56,7 +56,7 @@ impl<D: Delegate> GlobalCache<D> {
             (IsWhole self.now.nodes root.0 → ⊥)
             (λ nodes. IsCopyFrom self.now.nodes root.0 nodes.items)) }
     {
-        let alloc = *self.nodes.allocator();
+        let alloc = self.nodes.allocator();
         let mut found = Found::new(alloc);
         found.place_of(root.0)?;
         let mut nodes = Vec::new(alloc);

@@ -3,7 +3,9 @@
 //!
 //! | File of `specs/` | Has |
 //! |---|---|
-//! | `Cache`, `View`, `Sound` | what a cache holds, how its slots are seen as nodes, and what holds of every cache |
+//! | `Cache`, `Sound` | what a cache holds, and what holds of every cache |
+//! | `View`, `Held` | how the nodes that are held are seen as the list of all nodes |
+//! | `Collected`, `Marked` | what is left when nodes are let go, and how it is found out which these are |
 //! | `HandedOut`, `Found` | which nodes have a graph to hand out, what that is a copy of, and how its nodes are found |
 //! | `Store`, `Hits` | the results that a cache stores, and which of them a look-up gives |
 //! | `Stored` | what each stored result is worth |
@@ -19,38 +21,42 @@ use std::alloc::Global;
 use std::collections::HashMap;
 use std::marker::Model;
 
+mod collect;
 mod found;
 pub mod get;
 mod graph;
+mod held;
+mod marking;
+mod node_list;
 mod nodes;
 pub mod results;
 
 pub use get::{CacheData, NestedTest};
-use nodes::Slot;
+use node_list::NodeList;
 pub use results::{Place, StoredResult};
 
 /// The context of all searches over this cache, the nodes of their answers' graphs, and the results of
-/// goals. The list of nodes only grows, and a node that is finished never changes. Each result is right
-/// wherever it is used: what `insert` asks of it still holds. Ports `GlobalCache`.
+/// goals. The list of nodes never gets shorter, and a node that is finished never changes, but that
+/// `collect` lets go of nodes to which nothing leads any more: no memory is held for these, and their
+/// numbers stay. Each result is right wherever it is used: what `insert` asks of it still holds. Ports
+/// `GlobalCache`.
 #[derive(Drop)]
 pub struct GlobalCache<D: Delegate> {
     cx: D::Cx,
-    nodes: Vec<Slot<<D::Cx as Cx>::Input, <D::Cx as Cx>::Result>>,
+    nodes: NodeList<<D::Cx as Cx>::Input, <D::Cx as Cx>::Result>,
     results: HashMap<(<D::Cx as Cx>::Input, Place), StoredResult<D::Cx>>,
 }
 
 impl<D: Delegate> Model for GlobalCache<D> {
-    ghost use Rattle.std.specs.Prelude.{map};
     ghost use Rattle.global_cache.specs.Cache.{Cache};
     ghost use Rattle.global_cache.specs.Sound.{IsSoundCache};
     ghost use Rattle.search_context.specs.Verdicts.{verdicts};
-    ghost use Rattle.global_cache.specs.View.{node_of};
 
     ghost Value = { Cache D.Cx D.Cx.Input D.Cx.Result D.Cx.AmbiguityInfo D.Cx.DepNodeIndex };
 
-    ghost view = { λ c. record { cx = c.cx; nodes = map node_of c.nodes.items; results = c.results.entries } };
+    ghost view = { λ c. record { cx = c.cx; nodes = c.nodes; results = c.results.entries } };
 
-    ghost invariant = { λ c. IsSoundCache D.Cx.Input.eq (verdicts D.Cx.Cx) D.script (record { cx = c.cx; nodes = map node_of c.nodes.items; results = c.results.entries }) };
+    ghost invariant = { λ c. IsSoundCache D.Cx.Input.eq (verdicts D.Cx.Cx) D.script (record { cx = c.cx; nodes = c.nodes; results = c.results.entries }) };
 }
 
 impl<D: Delegate> GlobalCache<D> {
@@ -60,7 +66,7 @@ impl<D: Delegate> GlobalCache<D> {
     {
         GlobalCache {
             cx,
-            nodes: Vec::new(alloc),
+            nodes: NodeList::new(alloc),
             results: HashMap::new(alloc),
         }
     }
@@ -74,7 +80,7 @@ impl<D: Delegate> GlobalCache<D> {
 
     /// What the cache takes its memory from.
     pub fn allocator(&self) -> Global {
-        *self.nodes.allocator()
+        self.nodes.allocator()
     }
 
     /// Each node that is finished is a run of its goal.

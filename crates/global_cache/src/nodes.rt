@@ -1,32 +1,12 @@
 //! The list of nodes: the runs of goals that have ended, which the graphs of answers are made of.
-ghost use Rattle.std.specs.Prelude.{◌≡◌, ◌∷◌, ◌++◌, [], length, IfOk, OnErr, IfSome};
+ghost use Rattle.std.specs.Prelude.{◌≡◌, ◌∷◌, ◌++◌, [], count_by, length, IfOk, OnErr, IfSome};
 ghost use Rattle.std.specs.Option.{is_some, option_map};
 ghost use Rattle.global_cache.specs.Below.{verdicts};
-ghost use Rattle.global_cache.specs.Words.{open_node as new_node, open_goal, finished_node, with_run, IsRun, KeepsNodes, KeepsFinished, KeepsGoals, HasGrown, CanFinish, ended_run, node_of, run_of, ended_node};
+ghost use Rattle.global_cache.specs.Words.{open_node as new_node, open_goal, finished_node, with_run, IsRun, KeepsNodes, KeepsFinished, KeepsGoals, HasGrown, CanFinish, ended_run, node_of, run_of, ended_node, is_held};
 
 use crate::GlobalCache;
+use crate::node_list::Slot;
 use search_context::context::{Cx, Delegate, Edge, NoMemory, Node, NodeId, Reply};
-
-/// A place of the list of nodes.
-#[derive(Drop)]
-pub(super) enum Slot<I, R> {
-    /// The goal of a run that has not ended.
-    Open(I),
-    /// A run that has ended.
-    Finished(Node<I, R>),
-}
-
-impl<I: Copy, R: Drop> Slot<I, R> {
-    /// The node's goal.
-    fn input(&self) -> I
-        ensures { result ≡ (node_of self.now).goal }
-    {
-        match self {
-            Slot::Open(input) => *input,
-            Slot::Finished(node) => node.input,
-        }
-    }
-}
 
 impl<D: Delegate> GlobalCache<D> {
     /// Appends an open node of the goal and answers its number, which counts from 0. `NoMemory` leaves
@@ -40,9 +20,7 @@ impl<D: Delegate> GlobalCache<D> {
         ensures goals { KeepsGoals self.old.nodes self.new.nodes }
         ensures grown { HasGrown (verdicts D.Cx.Cx) self.old.nodes self.new.nodes }
     {
-        let node = NodeId(self.nodes.len());
-        self.nodes.push(Slot::Open(input))?;
-        Ok(node)
+        Ok(NodeId(self.nodes.push(input)?))
     }
 
     /// Whether the node is in the list and its run has not ended.
@@ -70,13 +48,7 @@ impl<D: Delegate> GlobalCache<D> {
         ensures goals { KeepsGoals self.old.nodes self.new.nodes }
         ensures grown { HasGrown (verdicts D.Cx.Cx) self.old.nodes self.new.nodes }
     {
-        let input = self.nodes[node.0].input();
-        self.nodes[node.0] = Slot::Finished(Node {
-            input,
-            replies,
-            edges,
-            result: outcome,
-        });
+        self.nodes.finish(node.0, replies, edges, outcome);
     }
 
     /// The node, if it is in the list and its run has ended: a run of its goal.
@@ -91,5 +63,21 @@ impl<D: Delegate> GlobalCache<D> {
             Slot::Open(_) => None,
             Slot::Finished(finished) => Some(finished),
         }
+    }
+
+    /// The number that the next node gets. It counts all nodes that ever were opened, also those that
+    /// were let go.
+    pub fn next_node(&self) -> usize
+        ensures { result ≡ length self.now.nodes }
+    {
+        self.nodes.next_number()
+    }
+
+    /// How many nodes are held: those that were opened, whether their runs have ended or not, and were
+    /// not let go.
+    pub fn held_nodes(&self) -> usize
+        ensures { result ≡ count_by is_held self.now.nodes }
+    {
+        self.nodes.held_count()
     }
 }

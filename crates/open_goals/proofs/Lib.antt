@@ -6,3 +6,4 @@ pub mod IgnoredHeads
 pub mod CandidateMoves
 pub mod OldestFirst
 pub mod Steps
+pub mod Nodes

@@ -6,6 +6,7 @@ ghost use Rattle.open_goals.specs.Below.{position_of, verdicts};
 ghost use Rattle.open_goals.specs.Words.{CanStep, IsVerdict, HasStepped, IsStepFault};
 
 mod candidates;
+mod nodes;
 
 use crate::candidates::FinishedCandidates;
 use crate::progress::Progress;

@@ -7,6 +7,7 @@
 //! | `Newest`, `Items` | the goals, the newest first, and what becomes of the newest one |
 //! | `Entries`, `NestedGoals` | what changes of its entry, and of the goals that are recorded below it |
 //! | `Steps`, `Progress` | the step of a frame, and what a run has done so far |
+//! | `Nodes` | the nodes to which a goal leads |
 //! | `Candidates` | a candidate is opened, finished or ignored |
 #![tactic(auto)]
 

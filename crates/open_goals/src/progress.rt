@@ -1,6 +1,7 @@
 //! What a run has done so far.
-ghost use Rattle.std.specs.Prelude.{◌≡◌, OnOk, IfOk};
-ghost use Rattle.open_goals.specs.Words.{no_record, received, requested, answers_with, fault_of, edges_of, rests_on, ignored_by};
+ghost use Rattle.std.specs.Prelude.{◌≡◌, All, Contains, OnOk, IfOk};
+ghost use Rattle.open_goals.specs.Below.{NodeId};
+ghost use Rattle.open_goals.specs.Words.{HasTarget, no_record, received, requested, answers_with, fault_of, edges_of, rests_on, ignored_by};
 
 use search_parts::context::{Edge, NoMemory, NodeId, Reply, Request, Verdict};
 use std::alloc::Global;
@@ -154,6 +155,18 @@ impl<I: Copy, R: Copy> Progress<I, R> {
         ensures { result ≡ ignored_by self.now.ignored number }
     {
         self.ignored.get(number) == Some(&true)
+    }
+
+    /// Appends the nodes of the definite answers, also of those in ignored candidates. A refusal may leave a part
+    /// of them appended.
+    pub fn push_targets(&self, nodes: &mut Vec<NodeId>) -> Result<(), NoMemory>
+        ensures kept { (n : NodeId) → Contains nodes.old.items n → Contains nodes.new.items n }
+        ensures answers { OnOk result (All (HasTarget nodes.new.items) self.now.answers) }
+    {
+        for answer in &self.answers {
+            nodes.push(NodeId(answer.edge.target))?;
+        }
+        Ok(())
     }
 
     /// Hands out the replies, the oldest first.

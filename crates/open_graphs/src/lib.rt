@@ -4,8 +4,8 @@
 //!
 //! Its words:
 //!
-//! - *Nodes* stand in one list that only grows. A node is finished once, with a verdict and its edges, and
-//!   never changes. The *graph* of a node is all that is reached from it: finished nodes of one verdict,
+//! - *Nodes* stand in one list, to which nodes are added. A node is finished once, with a verdict and its edges, and
+//!   never changes, but that one to which nothing leads any more may be let go. The *graph* of a node is all that is reached from it: finished nodes of one verdict,
 //!   where each closed walk has the kind of that verdict's cycles, coinductive for yes and inductive for no.
 //! - A goal under evaluation is an *entry* of the stack and has a node. While it is evaluated its edges are
 //!   not known, so walks stop at its node, which is then called a *leaf*. What lies before the leaves is an
@@ -28,10 +28,11 @@
 //! | `Use`, `TakeOver` | heads; answers that may be used, and provisional entries |
 //! | `Run` | a run of a goal, and what holds between its steps |
 //! | `State`, `StateLaws`, `AnswerLaws` | the whole state, and that each move of an evaluation keeps it sound |
+//! | `Collected` | the list once nodes were let go to which nothing leads any more |
 //! | `Rebased` | the rule by which provisional entries outlive their highest head |
 //!
 //! How answers come about and what they outlast is said by the lemmas of `proofs/`: `Answers`, `Finish`,
-//! `Keep` and `Closed` for answers that may be used, `Store` and `Rebase` for provisional entries, `Runs` for runs.
+//! `Keep` and `Closed` for answers that may be used, `Store` and `Rebase` for provisional entries, `Runs` for runs, `Collecting` for nodes that are let go.
 //!
 //! A search carries `State.IsSoundState` along by one theorem of `state` for each of its moves, and has the graph
 //! of an answer by `state::final_is_graph`. Beside that a search has to show what this theory does not

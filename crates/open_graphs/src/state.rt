@@ -1,4 +1,5 @@
 //! Whole states of an evaluation.
+ghost use Rattle.open_graphs.specs.Collected.{CollectingKeepsSound};
 ghost use Rattle.open_graphs.specs.Words.{OneAnswerKeepsSound, CycleIsAnswered, DoneIsAnswered, ProvisionalIsAnswered, FinalIsAnswered, StartIsSound, PushKeepsSound, AnswersKeepSound, PopKeepsSound, RerunKeepsSound, FinalIsGraph};
 
 /// An evaluation begins in a sound state.
@@ -13,6 +14,11 @@ pub fn moves_keep_sound()
     ensures answers { AnswersKeepSound }
     ensures pop { PopKeepsSound }
     ensures rerun { RerunKeepsSound }
+{}
+
+/// A sound state stays sound when nodes are let go to which nothing of it leads.
+pub fn collecting_keeps_sound()
+    ensures { CollectingKeepsSound }
 {}
 
 /// The newest run may be answered by a goal on the stack, by a goal that was just evaluated, by a

@@ -2,7 +2,7 @@
 use Rattle.std.proofs.Common.{◌≡◌, ℕ, List, [], ◌∷◌, ◌++◌, length, Some, None, option_map, slice_get, sym, ◌∙◌, ap, ap₂, subst}
 use Rattle.std.specs.Option.{IsSomeAnd}
 use Rattle.open_graphs.proofs.Lists.{get_end}
-use Rattle.parts_tests.specs.Below.{EndedRun, CacheNode, open_node, open_goal, with_run, IsNodeOf, KeepsNodes}
+use Rattle.parts_tests.specs.Below.{EndedRun, CacheNode, goal_if_open, open_node, open_goal, with_run, IsNodeOf, KeepsNodes}
 use Rattle.global_cache.proofs.NodeLists.{others_are, KeepsGoals-ended}
 
 module _ {I R : Type 0} (nodes more : List (CacheNode I R)) (at : ℕ) (goal : I) (is_last : at ≡ length nodes) (is_opened : more ≡ nodes ++ open_node goal ∷ []) where
@@ -15,7 +15,7 @@ module _ {I R : Type 0} (nodes more : List (CacheNode I R)) (at : ℕ) (goal : I
 
   -- it stays open while nodes stay
   pub opened_stays : (most : List (CacheNode I R)) → KeepsNodes more most → open_goal most at ≡ Some goal
-  opened_stays most kept = ap (λ o. elim o [ None ↦ None | Some n ↦ elim n.run [ None ↦ Some n.goal | Some run ↦ None ] ]) (kept at (open_node goal) opened_there)
+  opened_stays most kept = ap (λ o. elim o [ None ↦ None | Some n ↦ goal_if_open n ]) (kept at (open_node goal) opened_there)
 
 -- the run of an open node ends
 module _ {I R : Type 0} (nodes more : List (CacheNode I R)) (k : ℕ) (run : EndedRun I R) (its_goal : I) (is_open : open_goal nodes k ≡ Some its_goal) (is_ended : more ≡ with_run nodes k run) where
@@ -25,7 +25,7 @@ module _ {I R : Type 0} (nodes more : List (CacheNode I R)) (k : ℕ) (run : End
   -- another one stays open
   pub other_stays_open : (at : ℕ) (goal : I) → (at ≡ k → ⊥) → open_goal nodes at ≡ Some goal → open_goal more at ≡ Some goal
   other_stays_open at goal other here =
-      ap (λ o. elim o [ None ↦ None | Some n ↦ elim n.run [ None ↦ Some n.goal | Some r ↦ None ] ])
+      ap (λ o. elim o [ None ↦ None | Some n ↦ goal_if_open n ])
       (ap (λ l. slice_get l at) is_ended ∙ others_are nodes k run (λ _. Unit {0}) some_goal at other) ∙ here
 
   -- each keeps its goal

@@ -1,6 +1,6 @@
 -- What results of goals that ask themselves are worth: each may be stored where the goal's rank is concerned, since it has
 -- none, and a definite one comes with the graph of a node that asks itself.
-use Rattle.std.proofs.Common.{◌≡◌, ℕ, zero, suc, max, List, [], ◌∷◌, Some, None, option_map, slice_get, refl, sym, ap, ◌∙◌, ◌⊎◌, inl, inr, arith}
+use Rattle.std.proofs.Common.{false, ◌≡◌, ℕ, zero, suc, max, List, [], ◌∷◌, Some, None, option_map, slice_get, refl, sym, ap, ◌∙◌, ◌⊎◌, inl, inr, arith}
 use Rattle.std.proofs.lemmas.Option.{slice_get-map}
 use Rattle.open_graphs.specs.Graph as theory
 use Rattle.open_graphs.proofs.Verdicts.{is_finished}
@@ -71,7 +71,7 @@ module _ (nodes : List theory.Node) (verdict : theory.Verdict) (n kind : ℕ) (h
 
 -- a finished run of a goal shows its answer, where cycles of the goal's kind count as that
 pub has_loop : (nodes : List (CacheNode PathKind Outcome)) (node : NodeId) (goal : PathKind) (r : Outcome)
-    → slice_get nodes node.0 ≡ Some (record { goal = goal; run = Some (loop_run goal node.0 r) })
+    → slice_get nodes node.0 ≡ Some (record { goal = goal; run = Some (loop_run goal node.0 r); gone = false })
     → rank_of goal ≡ theory.cycle_kind (verdict_of outcome_verdicts r) → (verdict_of outcome_verdicts r ≡ theory.Neither → ⊥)
     → HasGraph outcome_verdicts nodes goal r (Some node)
 has_loop nodes node goal r at cycles definite = record {

@@ -17,7 +17,7 @@ pub use Rattle.search_context.specs.declared.context.Request.TheVariants.{Done, 
 pub use Rattle.search_context.specs.declared.context.Request.TheVariants.{Ignore}
 pub use Rattle.provisional_cache.specs.Provisional.{AppendsEntry, entries_at, Lists}
 pub use Rattle.provisional_cache.specs.declared.ProvisionalCacheEntry.{ProvisionalCacheEntry}
-pub use Rattle.global_cache.specs.Cache.{CacheNode, EndedRun, IsNodeOf, KeepsNodes, open_goal, open_node, with_run}
+pub use Rattle.global_cache.specs.Cache.{CacheNode, EndedRun, goal_if_open, IsNodeOf, KeepsNodes, open_goal, open_node, with_run}
 pub use Rattle.global_cache.specs.Definite.{HasGraph}
 pub use Rattle.global_cache.specs.Shapes.{shape_of, shapes_of}
 pub use Rattle.global_cache.specs.Store.{place_of}

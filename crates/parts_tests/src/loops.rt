@@ -1,6 +1,6 @@
 //! Goals that ask themselves. A goal is a path kind: it asks itself over a step of this kind, and its
 //! result is the answer.
-ghost use Rattle.std.specs.Prelude.{◌≡◌, Some, IfOk, OnOk, OnErr, slice_get};
+ghost use Rattle.std.specs.Prelude.{◌≡◌, false, Some, IfOk, OnOk, OnErr, slice_get};
 ghost use Rattle.parts_tests.specs.Below.{open_goal, with_run, IsNodeOf};
 ghost use Rattle.parts_tests.specs.Words.{loop_run};
 
@@ -170,7 +170,7 @@ pub fn answered_loop(
     goal: PathKind,
     outcome: Outcome,
 ) -> Result<NodeId, NoMemory>
-    ensures { IfOk result (λ node. slice_get cache.new.nodes node.0 ≡ Some (record { goal = goal; run = Some (loop_run goal node.0 outcome) })) }
+    ensures { IfOk result (λ node. slice_get cache.new.nodes node.0 ≡ Some (record { goal = goal; run = Some (loop_run goal node.0 outcome); gone = false })) }
 {
     let node = cache.open_node(goal)?;
     finish_loop(cache, alloc, node, goal, outcome)?;

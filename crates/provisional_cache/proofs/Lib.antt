@@ -6,3 +6,4 @@ pub mod RebasedEntries
 pub mod RebasedLists
 pub mod RebasedEntryLists
 pub mod ConcernedLists
+pub mod EntryNodes

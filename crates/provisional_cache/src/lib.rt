@@ -5,6 +5,7 @@
 //! | `Provisional` | the lists of entries, by goal |
 //! | `Reuse` | which entries may be used, and which a rerun clears |
 //! | `Rebasing`, `EntryChange` | what becomes of an entry when a goal that it rests on is done |
+//! | `Nodes` | the nodes to which entries lead |
 #![tactic(auto)]
 
 ghost use Rattle.std.specs.Prelude.{◌≡◌, ◌≢◌, ◌↔◌, ◌<◌, ◌≤◌, not, [], length, All, IsTrue, IfSome, OnOk, OnErr};
@@ -17,6 +18,7 @@ mod clearing;
 mod concerned;
 mod kinds;
 mod lookup;
+mod nodes;
 mod rebasing;
 
 use cycle_heads::depth::StackDepth;

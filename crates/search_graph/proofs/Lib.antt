@@ -11,4 +11,5 @@ mod Beginning
 pub mod ListLimits
 pub mod ListRuns
 mod SettledSteps
+mod Turns
 pub mod WorkedOut

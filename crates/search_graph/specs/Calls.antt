@@ -1,9 +1,10 @@
 -- What a move, and the whole of an evaluation, comes to in whatever call it is made.
 use Rattle.std.specs.Prelude.{◌≡◌, ℕ, Bool, false, List, Result, IfOk, IfErr}
-use Rattle.search_graph.specs.Below.{Awaits, Begins, Cache, CacheNode, Call, CxOf, DelegateOf, EndsWith, Fated, Fault, fates_of, HasGraph, IsCaused, KeepsFinished, KeepsNodes, KeepsResults, LeadsTo, MovesFates, Next, Place, Received, Run, StackEntry, StayFrom, Store, stored_at, StopsWith, verdicts, work_left}
+use Rattle.search_graph.specs.Below.{Awaits, Begins, Cache, CacheNode, Call, CxOf, DelegateOf, EndsWith, Fated, Fault, fates_of, HasGraph, IsCaused, IsNew, KeepsFinished, KeepsNodes, KeepsResults, LeadsTo, MovesFates, Next, Place, Received, Run, StackEntry, StayFrom, Store, stored_at, StopsWith, verdicts, work_left}
 use Rattle.open_goals.specs.declared.goals.Fate.{Fate}
 use Rattle.open_goals.specs.declared.goals.Fate.TheVariants as becomes
 use Rattle.search_context.specs.declared.context.Answer.{Answer}
+use Rattle.search_moves.specs.Drafts.{HasNoDrafts, LeavesReached}
 use Rattle.search_moves.specs.declared.evaluation.Evaluation.{Evaluation}
 
 -- What a call keeps of the cache: the context, stored results or equal ones, finished nodes, and each node's goal.
@@ -24,17 +25,19 @@ pub record MovesGoals {C F I R A T : Type 0} (same : I → I → Bool) (suits : 
   pub stays : StayFrom nodes old new
   pub fates : MovesFates same suits (fates_of old) (fates_of new)
 
--- an answer has its graph, and a fault its cause
-pub record IsGrounded {D C V P F I R A T : Type 0} (G : DelegateOf D C V P F I R A T) (X : CxOf C I R A T) (same : I → I → Bool) (goal : I) (cache : Cache C I R A T) (result : Result (Answer R) (Fault I R)) : Type 0 where
+-- an answer has its graph, beside which nothing is left of the nodes from this place on but what is stored; and a fault has its cause
+pub record IsGrounded {D C V P F I R A T : Type 0} (G : DelegateOf D C V P F I R A T) (X : CxOf C I R A T) (same : I → I → Bool) (goal : I) (first : ℕ) (cache : Cache C I R A T) (result : Result (Answer R) (Fault I R)) : Type 0 where
   pub has_graph : IfOk result (λ answer. HasGraph (verdicts X) cache.nodes goal answer.result answer.node)
+  pub leaves : IfOk result (λ answer. LeavesReached same first answer.node cache)
   pub caused : IfErr result (IsCaused G X same cache)
 
 module _ {D C V P F I R A T : Type 0} (G : DelegateOf D C V P F I R A T) (X : CxOf C I R A T) (same : I → I → Bool) (cx : C) where
-  -- where the newest goal awaited the reply, what comes next leads on, or a fault stops the call
+  -- where the newest goal awaited the reply, what comes next leads on, or a fault with a cause stops the call
   pub record Advances (received : Received R) (old : Cache C I R A T) (before : Evaluation D C V P F I R A T) (from : ℕ) (result : Result (Next R) (Fault I R)) (new : Cache C I R A T) (after : Evaluation D C V P F I R A T) (to : ℕ) : Type 0 where
     pub leads : (call : Call I) → Awaits G X same cx call received old before from
         → IfOk result (λ next. LeadsTo G X same cx call (work_left G X cx before.goals) before.goals next new after to)
     pub stops : (call : Call I) → Awaits G X same cx call received old before from → IfErr result (λ fault. StopsWith G X same cx call fault new after to)
+    pub caused : IfErr result (IsCaused G X same new)
 
   -- where the call began, an answer ended it, which is stored where this holds, or a fault stopped it
   pub record Evaluates (is_stored : Type 0) (goal : I) (old : Cache C I R A T) (before : Evaluation D C V P F I R A T) (from : ℕ) (result : Result (Answer R) (Fault I R)) (new : Cache C I R A T) (after : Evaluation D C V P F I R A T) (to : ℕ) : Type 0 where
@@ -42,3 +45,14 @@ module _ {D C V P F I R A T : Type 0} (G : DelegateOf D C V P F I R A T) (X : Cx
         → IfOk result (λ answer. EndsWith G X same cx is_stored call answer new after to)
     pub stopped : (call : Call I) → Begins G X cx same call goal before.root_depth.0 from before.limits_met old.results
         → IfErr result (λ fault. StopsWith G X same cx call fault new after to)
+
+-- a call begins: no goal is under evaluation, and it has written no node
+pub record IsNewCall {D C V P F I R A T : Type 0} (cache : Cache C I R A T) (e : Evaluation D C V P F I R A T) : Type 0 where
+  pub new : IsNew e
+  pub drafts : HasNoDrafts cache.nodes e.drafts
+
+-- and it has a goal, whose result has this fate
+pub record IsNewCallFor {D C V P F I R A T : Type 0} (suits : Fated I R → Type 0) (goal : I) (fate : Fate R) (cache : Cache C I R A T) (e : Evaluation D C V P F I R A T) : Type 0 where
+  pub new : IsNew e
+  pub drafts : HasNoDrafts cache.nodes e.drafts
+  pub fated : suits (record { goal = goal; depth = e.root_depth.0; fate = fate })

@@ -1,6 +1,7 @@
 //! The search graph. A call has the goals under evaluation in one list and works through them in one loop,
 //! so that no depth of goals takes native stack.
-ghost use Rattle.std.specs.Prelude.{◌≡◌, ◌≤◌, ◌+◌, ℕ, true, false, None, IsTrue, IfOk, IfErr, IfSome, Ok, Err, [], ◌≢◌, max, List, Contains};
+ghost use Rattle.search_moves.specs.Drafts.{LeavesReached};
+ghost use Rattle.std.specs.Prelude.{◌≡◌, ◌≤◌, ◌+◌, length, ℕ, true, false, None, IsTrue, IfOk, IfErr, IfSome, Ok, Err, [], ◌≢◌, max, List, Contains};
 ghost use Rattle.search_graph.specs.Below.{first_accepted, usable, IsPlainTo, IsPlainValue, frames_within, KeepsResults, Memory, Protocol, KeepsFinished, KeepsNodes, IsWhole, KeepsWhole, IsDecisive, IsDefinite, HasGraph, IsPaid, verdicts, Decides, IsRemembered, IsCaused, IsMemoryOrOrder, IsProved, IsRefuted, AreDefinite, HaveNoOverflow, HaveNoOverflowOf, HasCounted, IsEnclosed, StoresWithin};
 ghost use Rattle.search_graph.specs.Settled.{TwoRunsAreEnough};
 ghost use Rattle.search_moves.specs.Settled.{IsSettledStore};
@@ -11,6 +12,7 @@ mod list;
 mod proof_tree;
 
 use evaluate::evaluate;
+use search_moves::drafts::Drafts;
 use search_moves::evaluation::Evaluation;
 use search_parts::context::{Answer, Cx, Delegate, Fault};
 use search_parts::global_cache::GlobalCache;
@@ -243,8 +245,15 @@ impl<D: Delegate> SearchGraph<D> {
         ensures kept { KeepsFinished cache.old.nodes cache.new.nodes }
         // An open node stays open, too.
         ensures kept_nodes { KeepsNodes cache.old.nodes cache.new.nodes }
+
+        // Of the nodes that the call wrote those alone are left whose run has ended and that the answer or a goal of
+        // which a result is stored leads to.
+        ensures leaves { IfOk result (λ answer.
+            LeavesReached D.Cx.Input.eq (length cache.old.nodes) answer.node cache.new) }
     {
-        let mut evaluation = Evaluation::<D>::new(self.alloc, self.root_depth, self.limits_met);
+        let drafts = Drafts::new(self.alloc, cache);
+        let limits_met = self.limits_met;
+        let mut evaluation = Evaluation::<D>::new(self.alloc, self.root_depth, limits_met, drafts);
         let outcome = evaluate::<D>(
             &mut evaluation,
             cache,

@@ -1,3 +1,5 @@
+pub mod Noting
+pub mod LettingGo
 pub mod Asking
 pub mod Settling
 pub mod SettledEnds

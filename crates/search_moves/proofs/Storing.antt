@@ -11,7 +11,7 @@ use Rattle.search_rules.specs.Fates.{Untouched}
 use Rattle.search_rules.specs.Results.{NotStored}
 use Rattle.search_moves.specs.Storing.{PutsAnswer, Stores}
 use Rattle.search_moves.specs.declared.evaluation.Evaluation.{Evaluation}
-use Rattle.search_moves.specs.Below.{Cache, CxOf, DelegateOf, entries_at, entries_for, entry_of, EvaluationResult, highest, Lists, PathKind, ProvisionalCacheEntry, StackEntry}
+use Rattle.search_moves.specs.Below.{Cache, CxOf, DelegateOf, entries_at, entries_for, entry_of, EvaluationResult, highest, IsStored, Lists, PathKind, ProvisionalCacheEntry, StackEntry}
 use Rattle.std.proofs.lemmas.List.{append-nil}
 
 module _ {X I R A T : Type 0} (same : I → I → Bool) (by_value : (x y : I) → same x y ≡ true → x ≡ y) (stack : List (StackEntry X I R A T)) (step : PathKind) (input : I) (answer : EvaluationResult X I R A T) (old new : Lists I (ProvisionalCacheEntry X I R A T)) where
@@ -55,7 +55,7 @@ module _ {D C V P F I R A T : Type 0} (G : DelegateOf D C V P F I R A T) (X : Cx
         (ap (λ e. entries_at same e.provisional other) unchanged ∙ sym (append-nil (entries_at same old.provisional other)));
   }
 
--- nothing is stored of an answer without heads that is compared, and it has no entry
+-- an answer without heads: nothing is stored of one that is compared, and it has no entry
 module _ {D C V P F I R A T : Type 0} (G : DelegateOf D C V P F I R A T) (X : CxOf C I R A T) (same : I → I → Bool) (step : PathKind) (goal : I) (answer : EvaluationResult C I R A T) (fate : Fate R) (evaluation : Evaluation D C V P F I R A T) (cache : Cache C I R A T) where
   no_entry : (stack : List (StackEntry C I R A T)) → highest answer.heads ≡ None → (b : Bool) → entries_for stack step answer ≡ [] → (if b then entries_for stack step answer else []) ≡ []
   no_entry stack none true is = is
@@ -68,6 +68,17 @@ module _ {D C V P F I R A T : Type 0} (G : DelegateOf D C V P F I R A T) (X : Cx
     entry = λ other.
         let stack = reverse (map (λ s. s.0) evaluation.goals) in
         sym (ap (λ l. entries_at same evaluation.provisional other ++ l) (no_entry stack none (G.ENABLE_PROVISIONAL_CACHE && same goal other) (rw (none, entries_for) refl)) ∙ append-nil (entries_at same evaluation.provisional other));
+  }
+
+  -- it is stored, and has no entry, either
+  pub stores_result : {U E : Type 0} (result : Result U E) (after : Evaluation D C V P F I R A T) → after.provisional ≡ evaluation.provisional → highest answer.heads ≡ None → OnOk result (IsStored same (X.token cache.cx) cache.results goal answer) → OnOk result (Stores G X same step goal answer fate evaluation after cache)
+  stores_result (Err e) after entries none is = tt
+  stores_result (Ok u) after entries none is = record {
+    stored = λ stores rests. is;
+    entry = λ other.
+        let stack = reverse (map (λ s. s.0) evaluation.goals) in
+        ap (λ lists. entries_at same lists other) entries
+        ∙ sym (ap (λ l. entries_at same evaluation.provisional other ++ l) (no_entry stack none (G.ENABLE_PROVISIONAL_CACHE && same goal other) (rw (none, entries_for) refl)) ∙ append-nil (entries_at same evaluation.provisional other));
   }
 
 -- a comparison of equal results does not fail

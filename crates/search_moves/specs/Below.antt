@@ -10,7 +10,9 @@ pub use Rattle.search_context.specs.Rank.{IsPlainTo, IsPlainValue}
 pub use Rattle.search_context.specs.Verdicts.{IsDefinite, verdict_of, Verdicts, verdicts}
 pub use Rattle.search_context.specs.declared.context.Cx.{Ghosts as CxOf}
 pub use Rattle.search_context.specs.declared.context.Delegate.{Ghosts as DelegateOf}
+pub use Rattle.search_context.specs.Graph.{HasEdge, IsReached}
 pub use Rattle.search_context.specs.declared.context.Fault.{Fault}
+pub use Rattle.search_context.specs.declared.context.NodeId.{NodeId}
 pub use Rattle.search_context.specs.declared.context.Fault.TheVariants.{Memory}
 pub use Rattle.search_context.specs.declared.context.Reply.TheVariants.{Answer, Begin}
 pub use Rattle.search_context.specs.declared.context.Request.{Request}
@@ -26,11 +28,12 @@ pub use Rattle.provisional_cache.specs.Reuse.{depends_on}
 pub use Rattle.provisional_cache.specs.declared.ProvisionalCacheEntry.{ProvisionalCacheEntry}
 pub use Rattle.provisional_cache.specs.declared.RebaseReason.{RebaseReason}
 pub use Rattle.provisional_cache.specs.declared.RebaseReason.TheVariants.{Overflow}
-pub use Rattle.global_cache.specs.Cache.{Cache, CacheNode, KeepsFinished, KeepsNodes, open_node}
+pub use Rattle.global_cache.specs.Cache.{Cache, CacheNode, finished_node, graph_nodes_of, KeepsFinished, KeepsNodes, open_node}
 pub use Rattle.global_cache.specs.Definite.{HasGraph}
 pub use Rattle.global_cache.specs.Hits.{first_accepted, Hit, hit_of, usable}
 pub use Rattle.global_cache.specs.Store.{KeepsResults, place_of, Store, stored_at, stored_from}
 pub use Rattle.global_cache.specs.Stored.{IsPlainAt}
+pub use Rattle.global_cache.specs.declared.results.Place.{Place}
 pub use Rattle.global_cache.specs.declared.results.Place.TheVariants.{Success}
 pub use Rattle.global_cache.specs.declared.results.StoredResult.{StoredResult}
 pub use Rattle.open_goals.specs.Entries.{cycle_head, first_entry}

@@ -1,4 +1,5 @@
 pub mod Evaluations
+pub mod Drafts
 pub mod Asked
 pub mod Popped
 pub mod RunAgain

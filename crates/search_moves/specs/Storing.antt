@@ -1,6 +1,8 @@
 -- What is stored of a goal that is done, and what is known where that fails.
-use Rattle.std.specs.Prelude.{◌≡◌, ◌&&◌, ◌++◌, if◌then◌else◌, ℕ, Bool, [], ◌∷◌, map, reverse}
-use Rattle.search_moves.specs.Below.{DelegateOf, CxOf, Cache, EvaluationResult, Fault, HasGraph, IsPlainAt, KeepsResults, PathKind, entries_at, place_of, verdicts}
+use Rattle.std.specs.Prelude.{◌≡◌, ◌<◌, ◌&&◌, ◌++◌, if◌then◌else◌, ℕ, Bool, [], ◌∷◌, IfErr, IfOk, IfSome, length, map, Result, reverse}
+use Rattle.search_moves.specs.Below.{DelegateOf, CxOf, Cache, EvaluationResult, Fault, HasGraph, highest, IfCompared, IsExpected, IsPlainAt, KeepsResults, PathKind, entries_at, place_of, verdicts}
+use Rattle.search_moves.specs.Drafts.{KeepsNoted}
+use Rattle.search_moves.specs.declared.drafts.Drafts.{Drafts}
 use Rattle.search_moves.specs.declared.evaluation.Evaluation.{Evaluation}
 use Rattle.open_goals.specs.declared.goals.Fate.{Fate}
 use Rattle.open_goals.specs.declared.goals.Fate.TheVariants as becomes
@@ -27,10 +29,21 @@ module _ {D C V P F I R A T : Type 0} (G : DelegateOf D C V P F I R A T) (X : Cx
     pub plain : IsPlainAt (G.script cache.cx) goal (place_of answer) answer.result
     pub comes : ComesTo (G.script cache.cx) (G.fixpoint_overflow cache.cx) goal answer.result
 
+  -- the answer to a goal may be stored, or compared with what is stored, as its fate is; or be an entry, if it rests on goals of the stack
+  pub record MayStore (scoped : C → I → Bool) (same : I → I → Bool) (cache : Cache C I R A T) (e : Evaluation D C V P F I R A T) (goal : I) (answer : EvaluationResult C I R A T) (fate : Fate R) : Type 0 where
+    pub storable : IsStorable cache goal answer
+    pub expected : IfCompared fate (IsExpected (scoped cache.cx) same cache.results goal)
+    pub on_stack : IfSome (highest answer.heads) (λ head. head.0.0 < length e.goals)
+
   -- the fault has its cause, and nothing was stored
   pub record StoresNothing (same : I → I → Bool) (old new : Cache C I R A T) (fault : Fault I R) : Type 0 where
     pub caused : IsCaused G X same new fault
     pub unstored : new.results ≡ old.results
+
+  -- the nodes of stored results stay noted; or there is a fault, and nothing was stored
+  pub record StoresOrFails {B : Type 0} (same : I → I → Bool) (old : Cache C I R A T) (before : Drafts) (result : Result B (Fault I R)) (new : Cache C I R A T) (after : Drafts) : Type 0 where
+    pub noted : IfOk result (λ _. KeepsNoted same old before new after)
+    pub fails : IfErr result (StoresNothing same old new)
 
   -- besides, if another result is stored than the goal came to, it came to this one
   pub record Fails (same : I → I → Bool) (came_to : R) (old new : Cache C I R A T) (fault : Fault I R) : Type 0 where

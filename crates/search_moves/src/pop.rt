@@ -1,6 +1,7 @@
 //! A goal is popped, with its result.
 ghost use Rattle.std.specs.Prelude.{◌≡◌, ◌<◌, ◌+◌, ◌^◌, ℕ, length, IfOk, IfErr, OnOk};
 ghost use Rattle.search_moves.specs.Below.{Memory, ChangesNewest, fates_of, IsNewestPlainTo, MayPutNewest, GivesAnswer, GivesNested, LeavesAnswer};
+ghost use Rattle.search_moves.specs.Drafts.{KeepsNoted};
 ghost use Rattle.search_moves.specs.Words.{Fails, MayPop, Pops, KeepsCache};
 
 use crate::evaluation::Evaluation;
@@ -29,8 +30,13 @@ impl<D: Delegate> Evaluation<D> {
             cache.new.results }
         ensures changes { ChangesNewest D.Cx.Input.eq (fates_of self.old.goals) cache.old.results
             cache.new.results }
-        ensures rest { self.new
-            ≡ record self.old { goals = self.new.goals; provisional = self.new.provisional } }
+        ensures noted { OnOk result (
+            KeepsNoted D.Cx.Input.eq cache.old self.old.drafts cache.new self.new.drafts) }
+        ensures rest { self.new ≡ record self.old {
+          goals = self.new.goals;
+          provisional = self.new.provisional;
+          drafts = self.new.drafts;
+        } }
         ensures fails { IfErr result (Fails D.Delegate D.Cx.Cx D.Cx.Input.eq outcome cache.old
             cache.new) }
         ensures plain { (n : ℕ) → IsNewestPlainTo (D.script cache.old.cx) n self.old.goals →

@@ -1,7 +1,7 @@
 //! The newest goal's run ends.
-ghost use Rattle.std.specs.Prelude.{IfOk, IfErr, Some};
+ghost use Rattle.std.specs.Prelude.{IfOk, Some};
 ghost use Rattle.search_moves.specs.Below.{Done, KeepsBuilder};
-ghost use Rattle.search_moves.specs.Words.{ChangesCache, HasRequest, Moves, IsRightNext, RunLeads, MeetsLimitAtEnd, StoresNothing};
+ghost use Rattle.search_moves.specs.Words.{ChangesCache, HasRequest, Moves, IsRightNext, RunLeads, MeetsLimitAtEnd, StoresOrFails};
 
 use crate::evaluation::Evaluation;
 use open_goals::goals::{Next, Received};
@@ -32,8 +32,8 @@ impl<D: Delegate> Evaluation<D> {
         ensures right { IfOk result (λ next.
             IsRightNext D.Delegate D.Cx.Cx D.Cx.Input.eq cache.old.cx self.old.goals next
             cache.new self.new) }
-        ensures fails { IfErr result (StoresNothing D.Delegate D.Cx.Cx D.Cx.Input.eq cache.old
-            cache.new) }
+        ensures stores { StoresOrFails D.Delegate D.Cx.Cx D.Cx.Input.eq cache.old self.old.drafts
+            result cache.new self.new.drafts }
         ensures cache { ChangesCache D.Cx.Input.eq self.old.goals cache.old cache.new }
         ensures builder { KeepsBuilder D.starts D.noop inspect.old inspect.new }
     {

@@ -2,8 +2,10 @@
 ghost use Rattle.std.specs.Prelude.{◌≡◌, ◌≢◌, ◌<◌, ℕ, [], length, IfErr, IfSome, OnOk, OnErr};
 ghost use Rattle.search_moves.specs.Below.{highest, IfCompared, IsExpected, IsPlainTo, IsPlainValue, place_of, Memory, Success, IsStored, StoresAnswer, entry_of};
 ghost use Rattle.provisional_cache.specs.Provisional.{AppendsEntry};
-ghost use Rattle.search_moves.specs.Words.{ChangesResults, Fails, IsStorable, PutsAnswer, Stores};
+ghost use Rattle.search_moves.specs.Drafts.{KeepsNoted};
+ghost use Rattle.search_moves.specs.Words.{ChangesResults, Fails, IsStorable, MayStore, PutsAnswer, Stores};
 
+use crate::drafts::Drafts;
 use crate::evaluation::Evaluation;
 use open_goals::goals::Fate;
 use search_parts::context::{Cx, Delegate, Fault, NoMemory};
@@ -25,15 +27,15 @@ impl<D: Delegate> Evaluation<D> {
         answer: EvaluationResult<D::Cx>,
         fate: Fate<<D::Cx as Cx>::Result>,
     ) -> Result<(), Fault<<D::Cx as Cx>::Input, <D::Cx as Cx>::Result>>
-        requires storable { IsStorable D.Delegate D.Cx.Cx cache.old input answer }
-        requires expected { IfCompared fate (IsExpected (D.scoped cache.old.cx) D.Cx.Input.eq
-            cache.old.results input) }
-        requires on_stack { IfSome (highest answer.heads) (λ head.
-            head.0.0 < length self.old.goals) }
+        requires { MayStore D.Delegate D.Cx.Cx D.scoped D.Cx.Input.eq cache.old self.old input answer
+            fate }
         ensures puts { PutsAnswer D.Cx.Input.eq input answer fate cache.old cache.new }
+        ensures noted { OnOk result (
+            KeepsNoted D.Cx.Input.eq cache.old self.old.drafts cache.new self.new.drafts) }
         ensures stores { OnOk result (
             Stores D.Delegate D.Cx.Cx D.Cx.Input.eq step input answer fate self.old self.new cache.new) }
-        ensures rest { self.new ≡ record self.old { provisional = self.new.provisional } }
+        ensures rest { self.new
+            ≡ record self.old { provisional = self.new.provisional; drafts = self.new.drafts } }
         ensures fails { IfErr result (Fails D.Delegate D.Cx.Cx D.Cx.Input.eq answer.result cache.old
             cache.new) }
         ensures plain { (n : ℕ) → IsPlainTo (D.script cache.old.cx) n input →
@@ -43,7 +45,7 @@ impl<D: Delegate> Evaluation<D> {
         // An answer with heads rests on provisional results of goals under evaluation, which may still change.
         let Some(head) = answer.heads.opt_highest_cycle_head_index() else {
             return match fate {
-                Fate::Stored => store_for_good::<D>(cache, input, answer),
+                Fate::Stored => store_for_good::<D>(cache, &mut self.drafts, input, answer),
                 Fate::NotStored => Ok(()),
                 Fate::Compared(stored) => compare::<D>(cache, input, stored, &answer),
             };
@@ -88,6 +90,7 @@ fn insert_entry<D: Delegate>(
 /// Stores a result that rests on no goal of the stack. Ports `SearchGraph::insert_global_cache`.
 fn store_for_good<D: Delegate>(
     cache: &mut GlobalCache<D>,
+    drafts: &mut Drafts,
     input: <D::Cx as Cx>::Input,
     answer: EvaluationResult<D::Cx>,
 ) -> Result<(), Fault<<D::Cx as Cx>::Input, <D::Cx as Cx>::Result>>
@@ -97,6 +100,7 @@ fn store_for_good<D: Delegate>(
     ensures is_stored { OnOk result (
         IsStored D.Cx.Input.eq (D.Cx.token cache.old.cx) cache.new.results input answer) }
     ensures cache { ChangesResults D.Cx.Input.eq cache.old cache.new }
+    ensures noted { OnOk result (KeepsNoted D.Cx.Input.eq cache.old drafts.old cache.new drafts.new) }
     ensures fails { IfErr result (Fails D.Delegate D.Cx.Cx D.Cx.Input.eq answer.result cache.old
         cache.new) }
     ensures plain { (n : ℕ) → IsPlainTo (D.script cache.old.cx) n input →
@@ -104,6 +108,9 @@ fn store_for_good<D: Delegate>(
         IfErr result (λ fault. fault ≡ Memory) }
 {
     let token = cache.cx().dep_node(input);
+    // It is noted first: a node that is noted and stored of nothing stays without need, and one that is not noted would
+    // be let go.
+    drafts.note_stored(answer.node)?;
     cache.has_runs();
     cache.has_sound_results();
     cache.insert(input, answer, token)

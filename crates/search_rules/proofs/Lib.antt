@@ -10,6 +10,7 @@ pub mod FinishedRuns
 pub mod DoneGoals
 pub mod answers
 pub mod kinds
+pub mod collecting
 pub mod entries
 pub mod rebasing
 pub mod HeadOrder

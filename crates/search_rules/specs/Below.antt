@@ -66,7 +66,7 @@ pub use Rattle.provisional_cache.specs.declared.RebaseReason.{RebaseReason}
 pub use Rattle.provisional_cache.specs.declared.RebaseReason.TheVariants.{Ambiguity, NoCycleUsages}
 pub use Rattle.provisional_cache.specs.declared.RebaseReason.TheVariants.{Overflow, ReachedFixpoint}
 pub use Rattle.global_cache.specs.Cache.{AreRuns, Cache, CacheNode, EndedRun, graph_nodes_of, IsNodeOf, IsRun}
-pub use Rattle.global_cache.specs.Cache.{KeepsFinished, KeepsGoals, KeepsNodes, open_goal, open_node, with_run}
+pub use Rattle.global_cache.specs.Cache.{KeepsFinished, KeepsGoals, KeepsNodes, goal_if_open, open_goal, open_node, with_run}
 pub use Rattle.global_cache.specs.Definite.{HasGraph, HasNode}
 pub use Rattle.global_cache.specs.Hits.{first_accepted, Hit, hit_of, usable}
 pub use Rattle.global_cache.specs.Shapes.{edge_shape, shape_of, shapes_of}

@@ -18,6 +18,7 @@ pub mod EntryShapes
 pub mod Provisional
 pub mod Evaluating
 pub mod Leads
+pub mod Live
 pub mod Older
 pub mod Settled
 pub mod Below

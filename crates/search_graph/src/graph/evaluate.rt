@@ -1,9 +1,11 @@
 //! The evaluation of a goal: one loop over the goals under evaluation.
-ghost use Rattle.std.specs.Prelude.{◌≡◌, true, false, IfOk, IfErr, IfSome, OnOk, Ok};
+ghost use Rattle.std.specs.Prelude.{◌≡◌, true, false, length, IfOk, IfErr, IfSome, OnOk, Ok};
 ghost use Rattle.open_goals.specs.declared.goals.Fate.TheVariants.{Stored};
-ghost use Rattle.search_graph.specs.Below.{ChangesCache, IsFated, first_accepted, usable, IsCaused, IsNew, KeepsBuilder, KeepsCache, HasReply, IsRightNext};
-ghost use Rattle.search_graph.specs.Calls.{Advances, Evaluates, IsGrounded, MovesGoals, Spares};
+ghost use Rattle.search_graph.specs.Below.{ChangesCache, IsFated, first_accepted, usable, KeepsBuilder, KeepsCache, HasReply, IsRightNext};
+ghost use Rattle.search_graph.specs.Calls.{Advances, Evaluates, IsGrounded, IsNewCall, IsNewCallFor, MovesGoals, Spares};
 ghost use Rattle.search_graph.specs.Settled.{EndsSettled, StaysSettled};
+ghost use Rattle.search_graph.specs.Turns.{IsRightTurn, KeepsDrafts, MayTurn, TurnsCache};
+ghost use Rattle.search_moves.specs.Drafts.{KeepsNoted};
 ghost use Rattle.search_rules.specs.Lone.{IsLone};
 
 use open_goals::goals::{Fate, Next, Received, step};
@@ -22,7 +24,7 @@ pub(crate) fn evaluate<D: Delegate>(
     input: <D::Cx as Cx>::Input,
     inspect: &mut D::ProofTreeBuilder,
 ) -> Result<Answer<<D::Cx as Cx>::Result>, Fault<<D::Cx as Cx>::Input, <D::Cx as Cx>::Result>>
-    requires { IsNew evaluation.old }
+    requires { IsNewCall cache.old evaluation.old }
     ensures evaluates { Evaluates D.Delegate D.Cx.Cx D.Cx.Input.eq cache.old.cx
         ((D.noop inspect.old ≡ true) × (D.scoped cache.old.cx input ≡ false)) input
         cache.old evaluation.old (D.starts inspect.old) result
@@ -37,7 +39,8 @@ pub(crate) fn evaluate<D: Delegate>(
         × (D.starts inspect.new ≡ D.starts inspect.old)
         × (evaluation.new.limits_met ≡ evaluation.old.limits_met) × (cache.new ≡ cache.old)) }
     ensures recorded { D.noop inspect.old ≡ false → cache.new.results ≡ cache.old.results }
-    ensures grounded { IsGrounded D.Delegate D.Cx.Cx D.Cx.Input.eq input cache.new result }
+    ensures grounded { IsGrounded D.Delegate D.Cx.Cx D.Cx.Input.eq input (length cache.old.nodes)
+        cache.new result }
     ensures keeps { KeepsCache D.Cx.Input.eq evaluation.old.goals cache.old cache.new }
     ensures builder { KeepsBuilder D.starts D.noop inspect.old inspect.new }
 {
@@ -74,10 +77,8 @@ pub(crate) fn work_out<D: Delegate>(
     fate: Fate<<D::Cx as Cx>::Result>,
     inspect: &mut D::ProofTreeBuilder,
 ) -> Result<Answer<<D::Cx as Cx>::Result>, Fault<<D::Cx as Cx>::Input, <D::Cx as Cx>::Result>>
-    requires new { IsNew evaluation.old }
-    requires fated { IsFated (D.scoped cache.old.cx) (D.script cache.old.cx) D.Cx.Input.eq
-        cache.old.results (D.noop inspect.old)
-        (record { goal = input; depth = evaluation.old.root_depth.0; fate = fate }) }
+    requires { IsNewCallFor (IsFated (D.scoped cache.old.cx) (D.script cache.old.cx) D.Cx.Input.eq
+        cache.old.results (D.noop inspect.old)) input fate cache.old evaluation.old }
     ensures evaluates { Evaluates D.Delegate D.Cx.Cx D.Cx.Input.eq cache.old.cx (fate ≡ Stored) input
         cache.old evaluation.old (D.starts inspect.old) result
         cache.new evaluation.new (D.starts inspect.new) }
@@ -87,18 +88,60 @@ pub(crate) fn work_out<D: Delegate>(
         cache.new evaluation.new }
     ensures spares { Spares D.Cx.Input.eq (D.noop inspect.old) fate input cache.old.results
         cache.new.results }
-    ensures grounded { IsGrounded D.Delegate D.Cx.Cx D.Cx.Input.eq input cache.new result }
+    ensures grounded { IsGrounded D.Delegate D.Cx.Cx D.Cx.Input.eq input (length cache.old.nodes)
+        cache.new result }
     ensures keeps { KeepsCache D.Cx.Input.eq evaluation.old.goals cache.old cache.new }
     ensures builder { KeepsBuilder D.starts D.noop inspect.old inspect.new }
 {
     let depth = evaluation.root_depth;
+    cache.has_runs();
     cache.has_sound_results();
     evaluation.push_goal(cache, step_kind, input, depth, fate, inspect)?;
     let mut received = Received::without_node(Reply::Begin);
     loop {
-        match advance::<D>(evaluation, cache, received, inspect)? {
+        match take_turn::<D>(evaluation, cache, received, inspect)? {
             Next::Step(next) => received = next,
             Next::Finished(answer) => return Ok(answer),
+        }
+    }
+}
+
+/// One turn of the loop: a move, after which nodes are let go to which nothing leads any more. Among the moves it is the
+/// only place where nodes go, so each move only adds to them.
+fn take_turn<D: Delegate>(
+    evaluation: &mut Evaluation<D>,
+    cache: &mut GlobalCache<D>,
+    received: Received<<D::Cx as Cx>::Result>,
+    inspect: &mut D::ProofTreeBuilder,
+) -> Result<Next<<D::Cx as Cx>::Result>, Fault<<D::Cx as Cx>::Input, <D::Cx as Cx>::Result>>
+    requires { MayTurn D.Delegate D.Cx.Cx D.Cx.Input.eq cache.old.cx received
+        cache.old evaluation.old (D.starts inspect.old) }
+    ensures advances { Advances D.Delegate D.Cx.Cx D.Cx.Input.eq cache.old.cx received
+        cache.old evaluation.old (D.starts inspect.old) result
+        cache.new evaluation.new (D.starts inspect.new) }
+    ensures settled { StaysSettled D.Delegate D.Cx.Cx D.Cx.Input.eq cache.old.cx
+        (D.noop inspect.old) received cache.old evaluation.old (D.starts inspect.old) result
+        cache.new evaluation.new }
+    ensures right { IfOk result (λ next.
+        IsRightTurn D.Delegate D.Cx.Cx D.Cx.Input.eq cache.old.cx evaluation.old.goals next
+        cache.new evaluation.new) }
+    ensures goals { OnOk result (MovesGoals D.Cx.Input.eq
+        (IsFated (D.scoped cache.old.cx) (D.script cache.old.cx) D.Cx.Input.eq cache.old.results
+        (D.noop inspect.old))
+        cache.old.nodes evaluation.old.goals evaluation.new.goals) }
+    ensures cache { TurnsCache D.Cx.Input.eq evaluation.old cache.old cache.new }
+    ensures drafts { IfOk result (λ next.
+        KeepsDrafts D.Cx.Input.eq evaluation.old next cache.new evaluation.new) }
+    ensures builder { KeepsBuilder D.starts D.noop inspect.old inspect.new }
+{
+    match advance::<D>(evaluation, cache, received, inspect)? {
+        Next::Step(given) => {
+            evaluation.collect_drafts(cache, given.node);
+            Ok(Next::Step(given))
+        }
+        Next::Finished(answer) => {
+            evaluation.settle_drafts(cache, answer.node)?;
+            Ok(Next::Finished(answer))
         }
     }
 }
@@ -125,8 +168,9 @@ fn advance<D: Delegate>(
         (IsFated (D.scoped cache.old.cx) (D.script cache.old.cx) D.Cx.Input.eq cache.old.results
         (D.noop inspect.old))
         cache.old.nodes evaluation.old.goals evaluation.new.goals) }
-    ensures caused { IfErr result (IsCaused D.Delegate D.Cx.Cx D.Cx.Input.eq cache.new) }
     ensures cache { ChangesCache D.Cx.Input.eq evaluation.old.goals cache.old cache.new }
+    ensures noted { OnOk result (KeepsNoted D.Cx.Input.eq cache.old evaluation.old.drafts
+        cache.new evaluation.new.drafts) }
     ensures builder { KeepsBuilder D.starts D.noop inspect.old inspect.new }
 {
     let cx = cache.cx();

@@ -1,5 +1,6 @@
 //! A goal that is worked out whatever is stored of it, so that a builder sees all of it.
-ghost use Rattle.std.specs.Prelude.{◌≡◌, ◌≤◌, ◌+◌, ◌∷◌, ℕ, true, false, max, [], None, IfOk, IfErr, IfSome};
+ghost use Rattle.search_moves.specs.Drafts.{LeavesReached};
+ghost use Rattle.std.specs.Prelude.{◌≡◌, ◌≤◌, ◌+◌, length, ◌∷◌, ℕ, true, false, max, [], None, IfOk, IfErr, IfSome};
 ghost use Rattle.cycle_heads.specs.declared.path.PathKind.TheVariants.{Inductive};
 ghost use Rattle.search_graph.specs.Below.{frames_within, HasGraph, IsCaused, IsPlainTo, IsPlainValue, IsProved, IsRefuted, IsWhole, KeepsFinished, KeepsNodes, KeepsResults, KeepsWhole, Memory, Place, StoresWithin, stored_at, verdicts};
 ghost use Rattle.search_graph.specs.Lists.{HasLimits};
@@ -7,6 +8,7 @@ ghost use Rattle.search_graph.specs.Lists.{HasLimits};
 use super::SearchGraph;
 use super::evaluate::work_out;
 use open_goals::goals::Fate;
+use search_moves::drafts::Drafts;
 use search_moves::evaluation::Evaluation;
 use search_parts::context::{Answer, Cx, Delegate, Fault};
 use search_parts::global_cache::GlobalCache;
@@ -79,9 +81,15 @@ impl<D: Delegate> SearchGraph<D> {
         ensures kept_results { KeepsResults D.Cx.Input.eq cache.old.results cache.new.results }
         ensures kept { KeepsFinished cache.old.nodes cache.new.nodes }
         ensures kept_nodes { KeepsNodes cache.old.nodes cache.new.nodes }
+
+        // Of the nodes that the call wrote those alone are left whose run has ended and that the answer or a goal of
+        // which a result is stored leads to.
+        ensures leaves { IfOk result (λ answer.
+            LeavesReached D.Cx.Input.eq (length cache.old.nodes) answer.node cache.new) }
     {
         let depth = AvailableDepth(root_depth);
-        let mut evaluation = Evaluation::<D>::new(cache.allocator(), depth, false);
+        let drafts = Drafts::new(cache.allocator(), cache);
+        let mut evaluation = Evaluation::<D>::new(cache.allocator(), depth, false, drafts);
         // Which step asks the first goal of a call is used nowhere.
         let step_kind = PathKind::Inductive;
         let fate = Fate::NotStored;

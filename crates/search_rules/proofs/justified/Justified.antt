@@ -1,9 +1,9 @@
 -- Each move of the search keeps the goals under evaluation justified.
-use Rattle.std.proofs.Common.{◌≡◌, ◌≢◌, ℕ, zero, suc, Bool, true, false, cond, List, [], ◌∷◌, ◌++◌, map, length, length-append, arith, Option, None, Some, option_map, slice_get, slice_set, refl, sym, ap, ◌∙◌, subst, inl, inr}
+use Rattle.std.proofs.Common.{◌≡◌, ◌≢◌, ℕ, zero, suc, Bool, true, false, cond, if◌then◌else◌, List, [], ◌∷◌, ◌++◌, map, length, length-append, arith, Option, None, Some, option_map, slice_get, slice_set, refl, sym, ap, ◌∙◌, subst, inl, inr}
 use Rattle.std.specs.Option.{IsSomeAnd, option_or}
 use Rattle.std.proofs.lemmas.List.{map-append, map-set, length-map}
 use Rattle.open_graphs.specs.Graph as theory
-use Rattle.search_rules.specs.Below.{Entry, path_kind, IsClosedGraph, Use, Includes, IncludesBelow, UsesNo, RunningGoal, ProvisionalEntry, Final, stack_of, in_first_run, in_next_run, answering, OwnsOther, IsSoundState, TakesIn, Answered, Again, Anew, Without, IsAnsweredEdge, AllAnswered, PathKind, Edge, Request, NodeId, heads_shape, no_usages, rank_of, EndedRun, CacheNode, open_node, open_goal, with_run, IsNodeOf, KeepsNodes, KeepsGoals, verdict_of, edge_shape, shape_of, shapes_of, DefiniteAnswer, HasGraph, counted_by, Verdicts}
+use Rattle.search_rules.specs.Below.{Entry, path_kind, IsClosedGraph, Use, Includes, IncludesBelow, UsesNo, RunningGoal, ProvisionalEntry, Final, stack_of, in_first_run, in_next_run, answering, OwnsOther, IsSoundState, TakesIn, Answered, Again, Anew, Without, IsAnsweredEdge, AllAnswered, PathKind, Edge, Request, NodeId, heads_shape, no_usages, rank_of, EndedRun, CacheNode, goal_if_open, open_node, open_goal, with_run, IsNodeOf, KeepsNodes, KeepsGoals, verdict_of, edge_shape, shape_of, shapes_of, DefiniteAnswer, HasGraph, counted_by, Verdicts}
 use Rattle.open_graphs.specs.Use as theory_use
 use Rattle.open_graphs.proofs.Lists.{get_cases, get_end, get_set_other}
 use Rattle.open_graphs.proofs.Verdicts.{same as same_verdicts}
@@ -19,19 +19,17 @@ use Rattle.search_rules.proofs.counts.Tallies.{charge_within, fresh_tallied, rer
 
 -- ---- open nodes
 
-open_run : {I R : Type 0} (n : CacheNode I R) (goal : I) (run : Option (EndedRun I R)) → n.run ≡ run → elim run [ None ↦ Some n.goal | Some r ↦ None ] ≡ Some goal → (m : CacheNode I R) × (Some n ≡ Some m) × (m.run ≡ None) × (m.goal ≡ goal)
-open_run n goal None is h = (n, refl, is, cc)
-open_run n goal (Some r) is h = absurd cc
+open_run : {I R : Type 0} (n : CacheNode I R) (goal : I) (run : Option (EndedRun I R)) (gone : Bool) → n.run ≡ run → elim run [ None ↦ if gone then None else Some n.goal | Some r ↦ None ] ≡ Some goal → (m : CacheNode I R) × (Some n ≡ Some m) × (m.run ≡ None) × (m.goal ≡ goal)
+open_run n goal None true is h = absurd cc
+open_run n goal None false is h = (n, refl, is, cc)
+open_run n goal (Some r) gone is h = absurd cc
 
-open_is : {I R : Type 0} (o : Option (CacheNode I R)) (goal : I) → elim o [ None ↦ None | Some n ↦ elim n.run [ None ↦ Some n.goal | Some run ↦ None ] ] ≡ Some goal → (n : CacheNode I R) × (o ≡ Some n) × (n.run ≡ None) × (n.goal ≡ goal)
+open_is : {I R : Type 0} (o : Option (CacheNode I R)) (goal : I) → elim o [ None ↦ None | Some n ↦ goal_if_open n ] ≡ Some goal → (n : CacheNode I R) × (o ≡ Some n) × (n.run ≡ None) × (n.goal ≡ goal)
 open_is None goal h = absurd cc
-open_is (Some n) goal h = open_run n goal (n.run) refl h
+open_is (Some n) goal h = open_run n goal n.run n.gone refl h
 
-goal_open : {I R : Type 0} (nodes : List (CacheNode I R)) (at : ℕ) (n : CacheNode I R) (goal : I) → slice_get nodes at ≡ Some n → n.run ≡ None → n.goal ≡ goal → open_goal nodes at ≡ Some goal
-goal_open nodes at n goal is none same =
-    ap (λ o. elim o [ None ↦ None | Some m ↦ elim m.run [ None ↦ Some m.goal | Some run ↦ None ] ]) is
-    ∙ ap (λ r. elim r [ None ↦ Some n.goal | Some run ↦ None ]) none
-    ∙ ap Some same
+opened_goal : {I R : Type 0} (nodes : List (CacheNode I R)) (at : ℕ) (goal : I) → slice_get nodes at ≡ Some (open_node goal) → open_goal nodes at ≡ Some goal
+opened_goal nodes at goal is = ap (λ o. elim o [ None ↦ None | Some n ↦ goal_if_open n ]) is
 
 -- an open node has its goal
 pub goal_of_open : {I R : Type 0} (nodes : List (CacheNode I R)) (at : ℕ) (goal : I) → open_goal nodes at ≡ Some goal → IsNodeOf nodes at goal
@@ -40,7 +38,7 @@ goal_of_open nodes at goal h = let w = open_is (slice_get nodes at) goal h in ap
 module _ {I R : Type 0} (nodes more : List (CacheNode I R)) where
   -- what is at a place stays there, so the place is open with the same goal
   open_kept : (at : ℕ) (goal : I) → ((n : CacheNode I R) → slice_get nodes at ≡ Some n → slice_get more at ≡ Some n) → open_goal nodes at ≡ Some goal → open_goal more at ≡ Some goal
-  open_kept at goal kept h = let w = open_is (slice_get nodes at) goal h in goal_open more at w.0 goal (kept w.0 w.1) w.2 w.3
+  open_kept at goal kept h = let w = open_is (slice_get nodes at) goal h in ap (λ o. elim o [ None ↦ None | Some n ↦ goal_if_open n ]) (kept w.0 w.1 ∙ sym w.1) ∙ h
 
   AreOpen-kept : KeepsNodes nodes more → (goals : List (OpenRun I R)) → AreOpen nodes goals → AreOpen more goals
   AreOpen-kept kept [] h = tt
@@ -158,7 +156,7 @@ module _ {I R : Type 0} (says : Verdicts R) (nodes : List (CacheNode I R)) where
             (heads_change (shapes_of says nodes ++ theory.Unfinished ∷ []) (in_first_run (rank_of step) own.0 (heads_shape [])) (frames_of says goals) [] [] (spare_heads no_tally) (heads_shape []) (λ depth path cycle recorded. absurd (recorded.1 refl)) (λ depth path cycle recorded. absurd (recorded.1 refl))
             (subst (λ n. IsSoundState (shapes_of says nodes ++ theory.Unfinished ∷ []) (in_first_run (rank_of step) n (heads_shape []) ∷ frames_of says goals) [] []) many
             (push_keeps_sound (shapes_of says nodes) (frames_of says goals) [] [] (rank_of step) (heads_shape []) h.sound)));
-        are_open = (goal_open (nodes ++ open_node goal ∷ []) own.0 (open_node goal) goal last refl refl, AreOpen-kept nodes (nodes ++ open_node goal ∷ []) (KeepsNodes-appended true nodes goal) goals h.are_open);
+        are_open = (opened_goal (nodes ++ open_node goal ∷ []) own.0 goal last, AreOpen-kept nodes (nodes ++ open_node goal ∷ []) (KeepsNodes-appended true nodes goal) goals h.are_open);
         supported = (
           record { lead_home = subst (λ n. IsNodeOf (nodes ++ open_node goal ∷ []) n goal) (sym at) (new_node_is goal); placed = λ i a is. absurd (no_answers i a is); charged = λ i a is. absurd (no_answers i a is) },
           supported_kept says nodes (nodes ++ open_node goal ∷ []) (KeepsGoals-appended true nodes goal) (opened_grows goal) goals h.supported,
@@ -251,7 +249,7 @@ module _ {I R : Type 0} (says : Verdicts R) (nodes : List (CacheNode I R)) where
   AreOpen-ended run k goal is (o ∷ below) apart h =
       let w = open_is (slice_get nodes k) goal is in
       let other : (o.own ≡ k) → ⊥ = λ e. apart.0 (sym e) in (
-        open_kept nodes (with_run nodes k run) o.own o.goal (λ n at. ap (λ more. slice_get more o.own) (ap (λ x. elim x [ None ↦ nodes | Some m ↦ slice_set nodes k (record { goal = m.goal; run = Some run }) ]) w.1) ∙ get_set_other nodes k (record { goal = w.0.goal; run = Some run }) o.own other ∙ at) h.0,
+        open_kept nodes (with_run nodes k run) o.own o.goal (λ n at. ap (λ more. slice_get more o.own) (ap (λ x. elim x [ None ↦ nodes | Some m ↦ slice_set nodes k (record m { run = Some run }) ]) w.1) ∙ get_set_other nodes k (record w.0 { run = Some run }) o.own other ∙ at) h.0,
         AreOpen-ended run k goal is below apart.1 h.1,
       )
 
@@ -309,7 +307,7 @@ module _ {I R : Type 0} (says : Verdicts R) (nodes : List (CacheNode I R)) (o : 
     later_shapes : shapes_of says (with_run nodes o.own run) ≡ slice_set (shapes_of says nodes) o.own (theory.Finished (verdict_of says run.outcome) (map edge_shape run.edges))
     later_shapes =
         ap (shapes_of says) (with_run-is nodes o.own run (λ goal. goal ≡ o.goal) is_open)
-        ∙ map-set (shape_of says) nodes o.own (record { goal = (before nodes o.own run (λ goal. goal ≡ o.goal) is_open).0.goal; run = Some run })
+        ∙ map-set (shape_of says) nodes o.own (record (before nodes o.own run (λ goal. goal ≡ o.goal) is_open).0 { run = Some run })
 
     later_same : slice_set (shapes_of says nodes) o.own (theory.Finished (verdict_of says run.outcome) (chosen_edges says nodes (verdict_of says run.outcome) run.edges (verdict_of says run.outcome))) ≡ shapes_of says (with_run nodes o.own run)
     later_same =
@@ -425,7 +423,7 @@ module _ {I R : Type 0} (says : Verdicts R) (nodes after : List (CacheNode I R))
               (subst (λ p. IsSoundState (shapes_of says after ++ theory.Unfinished ∷ []) (record { entry = record { step = rank_of o.step; provisional = Some v; node = p }; own = own.0; edges = λ verdict. []; heads_before = spare_heads (tally_again o.tally); heads = heads_shape o.tally.heads } ∷ frames_of says below) [] []) (sym (leads_there (option_or target o.cycles_lead) lead_is))
               (heads_change (shapes_of says after ++ theory.Unfinished ∷ []) (in_next_run (frame_of says o) v s.place own.0) (frames_of says below) [] [] (spare_heads (tally_again o.tally)) (heads_shape o.tally.heads) (rerun_keeps o.tally) (spare_within (length below) (tally_again o.tally))
               (subst (λ n. IsSoundState (shapes_of says after ++ theory.Unfinished ∷ []) (in_next_run (frame_of says o) v s.place n ∷ frames_of says below) [] []) many again)));
-          are_open = (goal_open (after ++ open_node o.goal ∷ []) own.0 (open_node o.goal) o.goal last refl refl, AreOpen-kept after (after ++ open_node o.goal ∷ []) (KeepsNodes-appended true after o.goal) below s.open_below);
+          are_open = (opened_goal (after ++ open_node o.goal ∷ []) own.0 o.goal last, AreOpen-kept after (after ++ open_node o.goal ∷ []) (KeepsNodes-appended true after o.goal) below s.open_below);
           supported = (
             record {
               lead_home = IsSomeAnd-weaker (λ n. (n.0 ≡ s.place) × IsNodeOf after n.0 o.goal) (λ n. IsNodeOf (after ++ open_node o.goal ∷ []) n.0 o.goal) (λ n is. KeepsGoals-appended true after o.goal n.0 o.goal is.1) (option_or target o.cycles_lead) lead_is;

@@ -3,6 +3,7 @@ use Rattle.search_moves.specs.Below.{stored_at, stored_from, place_of}
 use Rattle.search_moves.proofs.Failing.{storing_fails}
 use Rattle.search_rules.proofs.Differing.{storing_differs}
 use Rattle.search_rules.proofs.Storing.{caused_after, put_is_stored, same_results, stored_either, storing_is_caused}
+use Rattle.search_moves.proofs.Noting.{noted_storing}
 use Rattle.search_moves.proofs.store.store_for_good.Goals as goal
 
 pub returns-clause-stored : goal.returns-clause-stored
@@ -21,3 +22,8 @@ pub returns-clause-is_stored : goal.returns-clause-is_stored
 returns-clause-is_stored g c =
     subst (λ token. OnOk c.insert.result (stored_at g.D.Cx.Input.PartialEq.eq c.insert.new.self.results c.args.input (place_of c.args.answer) ≡ Some (stored_from c.args.answer token))) (c.dep_node-token.ensures ∙ ap (λ cx. g.D.Cx.Cx.token cx c.args.input) c.cx.ensures)
     (put_is_stored g.D.Cx.Input.PartialEq.eq c.args.cache.now.results c.insert.new.self.results c.args.input (place_of c.args.answer) (stored_from c.args.answer c.dep_node-token.result) c.insert.result c.insert.ensures.ok)
+
+pub returns-clause-noted : goal.returns-clause-noted
+returns-clause-noted g c =
+    noted_storing g.D.Cx.Input.PartialEq.eq c.args.cache.now c.insert.new.self g.D.Cx.Cx g.met.D.Cx.Cx.same_input c.args.input (place_of c.args.answer) (stored_from c.args.answer c.dep_node-token.result) c.insert.ensures.rest c.insert.ensures.kept (c.requires.storable.graph c.requires.no_heads)
+    c.args.drafts.now c.note_stored.new.self c.in_ok-note_stored.ensures.first c.in_ok-note_stored.ensures.noted c.insert.result c.insert.ensures.ok

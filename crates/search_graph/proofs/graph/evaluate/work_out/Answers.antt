@@ -1,9 +1,12 @@
-use Rattle.std.proofs.Common.{arith, ◌≡◌, ◌∙◌, length, false, None, sym, subst, ap}
+use Rattle.std.proofs.Common.{arith, [], ◌≡◌, ◌∙◌, length, false, None, sym, subst, ap}
 use Rattle.search_context.proofs.Builders.{builder_goes_on}
-use Rattle.search_graph.specs.Below.{fates_of, IsFated, MovesFates, stored_at, AreFrom, Begin, Finished, Step, Awaits, Call, HasReply, IsCaused, IsRightFor, IsRightNext, LeadsTo, OutOfMemory, runs_of, StopsWith, work_left}
+use Rattle.search_graph.specs.Below.{fates_of, IsFated, MovesFates, stored_at, AreFrom, Begin, Finished, Step, Awaits, Call, HasReply, IsCaused, IsRightFor, LeadsTo, OutOfMemory, runs_of, StopsWith, work_left}
 use Rattle.search_rules.proofs.records.EarlierNodes.{first_there, stay_pushed}
 use Rattle.search_moves.proofs.Keeping.{appending_keeps}
-use Rattle.search_graph.proofs.Beginning.{begins_right, begins_waiting, never_pushed, new_right, then_keeps}
+use Rattle.search_graph.proofs.Beginning.{begins_right, begins_waiting, never_pushed, new_right}
+use Rattle.search_graph.proofs.Turns.{begins_drafts, then_turns}
+use Rattle.search_graph.specs.Turns.{IsRightTurn}
+use Rattle.search_moves.specs.Drafts.{LeavesReached}
 use Rattle.search_rules.proofs.moves.Questions.{if_err_and, no_ok}
 use Rattle.search_graph.proofs.KeptFates.{not_stored, first_fates, only_stores, then_fates, then_recorded, then_spared}
 use Rattle.search_graph.proofs.Loops.{call_of, only_one, some_call_begins, only_has_graph}
@@ -39,6 +42,10 @@ loop-next-init g c = record {
       (begins_right g.D.Delegate g.D.Cx.Cx g.D.Cx.Input.PartialEq.eq c.args.cache.now.cx c.args.step_kind c.args.input c.args.cache.now c.args.evaluation.now c.requires.new c.args.evaluation.now.root_depth c.push_goal.new.self.goals c.push_goal.new.cache.nodes c.in_ok-push_goal.ensures.pushed c.has_sound_results.ensures)));
   keeps = appending_keeps g.D.Cx.Input.PartialEq.eq c.args.evaluation.now.goals c.args.cache.now c.push_goal.new.cache c.push_goal.ensures.cache c.push_goal.ensures.kept;
   from = stay_pushed g.D.Delegate g.D.Cx.Cx c.args.cache.now.cx c.args.cache.now.nodes c.args.evaluation.now.goals c.push_goal.new.self.goals c.args.input c.args.step_kind c.args.evaluation.now.root_depth c.push_goal.new.cache.nodes c.in_ok-push_goal.ensures.pushed (length c.args.cache.now.nodes) (omega arith) (subst (AreFrom (length c.args.cache.now.nodes)) (sym c.requires.new.no_goals) tt);
+  drafts =
+      begins_drafts g.D.Cx.Cx g.D.Cx.Input.PartialEq.eq (g.D.Delegate.script c.args.cache.now.cx) c.args.cache.now c.push_goal.new.cache c.args.evaluation.now c.push_goal.new.self c.requires.drafts c.has_runs.ensures c.has_sound_results.ensures c.push_goal.ensures.cache c.push_goal.ensures.kept (ap (λ e. e.drafts) c.push_goal.ensures.rest)
+      (stay_pushed g.D.Delegate g.D.Cx.Cx c.args.cache.now.cx c.args.cache.now.nodes c.args.evaluation.now.goals c.push_goal.new.self.goals c.args.input c.args.step_kind c.args.evaluation.now.root_depth c.push_goal.new.cache.nodes c.in_ok-push_goal.ensures.pushed (length c.args.cache.now.nodes) (omega arith) (subst (AreFrom (length c.args.cache.now.nodes)) (sym c.requires.new.no_goals) tt));
+  first = ap (λ e. e.drafts.first) c.push_goal.ensures.rest ∙ c.requires.drafts.first;
   builder = c.push_goal.ensures.starts.builder;
   settled = λ stored not_lone call at needs settled.
       subst (λ given. Settles g.D.Delegate g.D.Cx.Cx g.D.Cx.Input.PartialEq.eq c.args.cache.now.cx call given c.push_goal.new.cache c.push_goal.new.self) (sym c.without_node-received.ensures)
@@ -51,48 +58,52 @@ loop-next-init g c = record {
 
 -- ---- a move is made
 
-pub advance-requires : goal.advance-requires
-advance-requires g c =
-    let fits = c.requires.new.fits in
-    subst (λ cx. HasReply g.D.Delegate g.D.Cx.Cx g.D.Cx.Input.PartialEq.eq cx c.loop-next.received c.loop-next.cache c.loop-next.evaluation (g.D.Delegate.starts c.loop-next.inspect)) (sym c.loop-next.invariant.keeps.context)
-    (record { call = (call_of c.args.input c.args.evaluation.now.root_depth.0 (g.D.Delegate.starts c.args.inspect.now) c.args.evaluation.now.limits_met false false fits); waiting = (c.loop-next.invariant.waiting _ (some_call_begins g.D.Delegate g.D.Cx.Cx c.args.cache.now.cx g.D.Cx.Input.PartialEq.eq c.args.input c.args.evaluation.now.root_depth.0 (g.D.Delegate.starts c.args.inspect.now) c.args.evaluation.now.limits_met fits c.args.cache.now.results)).waiting; right = c.loop-next.invariant.right; expected = c.loop-next.invariant.fates.expected })
+pub take_turn-requires : goal.take_turn-requires
+take_turn-requires g c = record {
+  reply =
+      let fits = c.requires.new.fits in
+      subst (λ cx. HasReply g.D.Delegate g.D.Cx.Cx g.D.Cx.Input.PartialEq.eq cx c.loop-next.received c.loop-next.cache c.loop-next.evaluation (g.D.Delegate.starts c.loop-next.inspect)) (sym c.loop-next.invariant.keeps.context)
+      (record { call = (call_of c.args.input c.args.evaluation.now.root_depth.0 (g.D.Delegate.starts c.args.inspect.now) c.args.evaluation.now.limits_met false false fits); waiting = (c.loop-next.invariant.waiting _ (some_call_begins g.D.Delegate g.D.Cx.Cx c.args.cache.now.cx g.D.Cx.Input.PartialEq.eq c.args.input c.args.evaluation.now.root_depth.0 (g.D.Delegate.starts c.args.inspect.now) c.args.evaluation.now.limits_met fits c.args.cache.now.results)).waiting; right = c.loop-next.invariant.right; expected = c.loop-next.invariant.fates.expected });
+  drafts = c.loop-next.invariant.drafts;
+}
 
 pub returns-in_err-next-clause-evaluates : goal.returns-in_err-next-clause-evaluates
 returns-in_err-next-clause-evaluates g c = record {
   ended = λ call at. no_ok c.from_residual-in_err-next.result _ _ c.from_residual-in_err-next.ensures.1;
   stopped = λ call at.
       if_err_and c.from_residual-in_err-next.result _ _ c.from_residual-in_err-next.ensures.1
-      (λ e is. subst (λ fault. StopsWith g.D.Delegate g.D.Cx.Cx g.D.Cx.Input.PartialEq.eq c.args.cache.now.cx call fault c.advance.new.cache c.advance.new.evaluation (g.D.Delegate.starts c.advance.new.inspect)) (sym is)
-      (subst (λ cx. (call : Call _) → Awaits g.D.Delegate g.D.Cx.Cx g.D.Cx.Input.PartialEq.eq cx call c.loop-next.received c.loop-next.cache c.loop-next.evaluation (g.D.Delegate.starts c.loop-next.inspect) → StopsWith g.D.Delegate g.D.Cx.Cx g.D.Cx.Input.PartialEq.eq cx call c.in_err-next.field-0.0 c.advance.new.cache c.advance.new.evaluation (g.D.Delegate.starts c.advance.new.inspect)) c.loop-next.invariant.keeps.context c.in_err-next.ensures.advances.stops call (c.loop-next.invariant.waiting call at)));
+      (λ e is. subst (λ fault. StopsWith g.D.Delegate g.D.Cx.Cx g.D.Cx.Input.PartialEq.eq c.args.cache.now.cx call fault c.take_turn.new.cache c.take_turn.new.evaluation (g.D.Delegate.starts c.take_turn.new.inspect)) (sym is)
+      (subst (λ cx. (call : Call _) → Awaits g.D.Delegate g.D.Cx.Cx g.D.Cx.Input.PartialEq.eq cx call c.loop-next.received c.loop-next.cache c.loop-next.evaluation (g.D.Delegate.starts c.loop-next.inspect) → StopsWith g.D.Delegate g.D.Cx.Cx g.D.Cx.Input.PartialEq.eq cx call c.in_err-next.field-0.0 c.take_turn.new.cache c.take_turn.new.evaluation (g.D.Delegate.starts c.take_turn.new.inspect)) c.loop-next.invariant.keeps.context c.in_err-next.ensures.advances.stops call (c.loop-next.invariant.waiting call at)));
 }
 
 pub returns-in_err-next-clause-keeps : goal.returns-in_err-next-clause-keeps
-returns-in_err-next-clause-keeps g c = then_keeps g.D.Cx.Input.PartialEq.eq c.args.evaluation.now.goals c.loop-next.evaluation.goals c.args.cache.now c.loop-next.cache c.advance.new.cache c.loop-next.invariant.from c.loop-next.invariant.keeps c.advance.ensures.cache.keeps
+returns-in_err-next-clause-keeps g c = then_turns g.D.Cx.Input.PartialEq.eq c.args.evaluation.now.goals c.args.cache.now c.loop-next.cache c.take_turn.new.cache c.loop-next.evaluation c.loop-next.invariant.first c.loop-next.invariant.keeps c.take_turn.ensures.cache
 
 pub loop-next-smaller : goal.loop-next-smaller
 loop-next-smaller g c =
     let fits = c.requires.new.fits in
-    ((subst (λ cx. (call : Call _) → Awaits g.D.Delegate g.D.Cx.Cx g.D.Cx.Input.PartialEq.eq cx call c.loop-next.received c.loop-next.cache c.loop-next.evaluation (g.D.Delegate.starts c.loop-next.inspect) → LeadsTo g.D.Delegate g.D.Cx.Cx g.D.Cx.Input.PartialEq.eq cx call (work_left g.D.Delegate g.D.Cx.Cx cx c.loop-next.evaluation.goals) c.loop-next.evaluation.goals (Step c.in-Step.next) c.advance.new.cache c.advance.new.evaluation (g.D.Delegate.starts c.advance.new.inspect)) c.loop-next.invariant.keeps.context (rw c.in-Step.is at c.in_ok-next.ensures.advances.leads)) (call_of c.args.input c.args.evaluation.now.root_depth.0 (g.D.Delegate.starts c.args.inspect.now) c.args.evaluation.now.limits_met false false fits) (c.loop-next.invariant.waiting _ (some_call_begins g.D.Delegate g.D.Cx.Cx c.args.cache.now.cx g.D.Cx.Input.PartialEq.eq c.args.input c.args.evaluation.now.root_depth.0 (g.D.Delegate.starts c.args.inspect.now) c.args.evaluation.now.limits_met fits c.args.cache.now.results))).leads.falls
+    ((subst (λ cx. (call : Call _) → Awaits g.D.Delegate g.D.Cx.Cx g.D.Cx.Input.PartialEq.eq cx call c.loop-next.received c.loop-next.cache c.loop-next.evaluation (g.D.Delegate.starts c.loop-next.inspect) → LeadsTo g.D.Delegate g.D.Cx.Cx g.D.Cx.Input.PartialEq.eq cx call (work_left g.D.Delegate g.D.Cx.Cx cx c.loop-next.evaluation.goals) c.loop-next.evaluation.goals (Step c.in-Step.next) c.take_turn.new.cache c.take_turn.new.evaluation (g.D.Delegate.starts c.take_turn.new.inspect)) c.loop-next.invariant.keeps.context (rw c.in-Step.is at c.in_ok-next.ensures.advances.leads)) (call_of c.args.input c.args.evaluation.now.root_depth.0 (g.D.Delegate.starts c.args.inspect.now) c.args.evaluation.now.limits_met false false fits) (c.loop-next.invariant.waiting _ (some_call_begins g.D.Delegate g.D.Cx.Cx c.args.cache.now.cx g.D.Cx.Input.PartialEq.eq c.args.input c.args.evaluation.now.root_depth.0 (g.D.Delegate.starts c.args.inspect.now) c.args.evaluation.now.limits_met fits c.args.cache.now.results))).leads.falls
 
 pub loop-next-preserved : goal.loop-next-preserved
 loop-next-preserved g c =
-    let right = subst (λ cx. IsRightNext g.D.Delegate g.D.Cx.Cx g.D.Cx.Input.PartialEq.eq cx c.loop-next.evaluation.goals (Step c.in-Step.next) c.advance.new.cache c.advance.new.evaluation) c.loop-next.invariant.keeps.context (rw c.in-Step.is at c.in_ok-next.ensures.right) in
     record {
       waiting = λ call at.
-          let on = (subst (λ cx. (call : Call _) → Awaits g.D.Delegate g.D.Cx.Cx g.D.Cx.Input.PartialEq.eq cx call c.loop-next.received c.loop-next.cache c.loop-next.evaluation (g.D.Delegate.starts c.loop-next.inspect) → LeadsTo g.D.Delegate g.D.Cx.Cx g.D.Cx.Input.PartialEq.eq cx call (work_left g.D.Delegate g.D.Cx.Cx cx c.loop-next.evaluation.goals) c.loop-next.evaluation.goals (Step c.in-Step.next) c.advance.new.cache c.advance.new.evaluation (g.D.Delegate.starts c.advance.new.inspect)) c.loop-next.invariant.keeps.context (rw c.in-Step.is at c.in_ok-next.ensures.advances.leads)) call (c.loop-next.invariant.waiting call at) in
+          let on = (subst (λ cx. (call : Call _) → Awaits g.D.Delegate g.D.Cx.Cx g.D.Cx.Input.PartialEq.eq cx call c.loop-next.received c.loop-next.cache c.loop-next.evaluation (g.D.Delegate.starts c.loop-next.inspect) → LeadsTo g.D.Delegate g.D.Cx.Cx g.D.Cx.Input.PartialEq.eq cx call (work_left g.D.Delegate g.D.Cx.Cx cx c.loop-next.evaluation.goals) c.loop-next.evaluation.goals (Step c.in-Step.next) c.take_turn.new.cache c.take_turn.new.evaluation (g.D.Delegate.starts c.take_turn.new.inspect)) c.loop-next.invariant.keeps.context (rw c.in-Step.is at c.in_ok-next.ensures.advances.leads)) call (c.loop-next.invariant.waiting call at) in
           record { waiting = on.leads.waiting; answers = on.answers };
-      right = record { right = record { justified = right.justified.0; free = right.free; ready = right.ready }; fits = right.justified.1 };
-      keeps = then_keeps g.D.Cx.Input.PartialEq.eq c.args.evaluation.now.goals c.loop-next.evaluation.goals c.args.cache.now c.loop-next.cache c.advance.new.cache c.loop-next.invariant.from c.loop-next.invariant.keeps c.advance.ensures.cache.keeps;
+      right = subst (λ cx. IsRightTurn g.D.Delegate g.D.Cx.Cx g.D.Cx.Input.PartialEq.eq cx c.loop-next.evaluation.goals (Step c.in-Step.next) c.take_turn.new.cache c.take_turn.new.evaluation) c.loop-next.invariant.keeps.context (rw c.in-Step.is at c.in_ok-next.ensures.right);
+      drafts = (rw c.in-Step.is at c.in_ok-next.ensures.drafts).has;
+      first = (rw c.in-Step.is at c.in_ok-next.ensures.drafts).first ∙ c.loop-next.invariant.first;
+      keeps = then_turns g.D.Cx.Input.PartialEq.eq c.args.evaluation.now.goals c.args.cache.now c.loop-next.cache c.take_turn.new.cache c.loop-next.evaluation c.loop-next.invariant.first c.loop-next.invariant.keeps c.take_turn.ensures.cache;
       from =
           let first = length c.args.cache.now.nodes in
           let begun = subst (AreFrom first) (sym c.requires.new.no_goals) tt in
           c.in_ok-next.ensures.goals.stays first (first_there first c.args.cache.now.nodes c.loop-next.cache.nodes (omega arith) (c.loop-next.invariant.keeps.earlier first (omega arith) begun)) c.loop-next.invariant.from;
-      builder = builder_goes_on g.D.Delegate.starts g.D.Delegate.noop c.args.inspect.now c.loop-next.inspect c.advance.new.inspect c.loop-next.invariant.builder c.advance.ensures.builder;
+      builder = builder_goes_on g.D.Delegate.starts g.D.Delegate.noop c.args.inspect.now c.loop-next.inspect c.take_turn.new.inspect c.loop-next.invariant.builder c.take_turn.ensures.builder;
       settled = λ stored not_lone call at needs settled.
-          (subst (λ cx. (call : Call _) → Awaits g.D.Delegate g.D.Cx.Cx g.D.Cx.Input.PartialEq.eq cx call c.loop-next.received c.loop-next.cache c.loop-next.evaluation (g.D.Delegate.starts c.loop-next.inspect) → CallNeedsTwoRuns g.D.Delegate g.D.Cx.Cx cx call (g.D.Delegate.noop c.loop-next.inspect) → Settles g.D.Delegate g.D.Cx.Cx g.D.Cx.Input.PartialEq.eq cx call c.loop-next.received c.loop-next.cache c.loop-next.evaluation → SettlesNext g.D.Delegate g.D.Cx.Cx g.D.Cx.Input.PartialEq.eq cx call (Step c.in-Step.next) c.advance.new.cache c.advance.new.evaluation) c.loop-next.invariant.keeps.context (rw c.in-Step.is at c.in_ok-next.ensures.settled.settles)) call (c.loop-next.invariant.waiting call at) (needs_with g.D.Delegate g.D.Cx.Cx c.args.cache.now.cx call _ _ c.loop-next.invariant.builder.same_noop needs) (c.loop-next.invariant.settled stored not_lone call at needs settled);
-      fates = then_fates (g.D.Delegate.scoped c.args.cache.now.cx) (g.D.Delegate.script c.args.cache.now.cx) g.D.Cx.Input.PartialEq.eq (g.D.Delegate.noop c.args.inspect.now) c.args.input c.args.fate c.args.cache.now.results c.loop-next.evaluation.goals c.loop-next.cache.results c.advance.new.cache.results c.loop-next.invariant.fates c.advance.ensures.cache.changes c.advance.ensures.cache.keeps.results c.advance.new.evaluation.goals
-          (subst (λ b. MovesFates g.D.Cx.Input.PartialEq.eq (IsFated (g.D.Delegate.scoped c.args.cache.now.cx) (g.D.Delegate.script c.args.cache.now.cx) g.D.Cx.Input.PartialEq.eq c.loop-next.cache.results b) (fates_of c.loop-next.evaluation.goals) (fates_of c.advance.new.evaluation.goals)) c.loop-next.invariant.builder.same_noop
-          (subst (λ cx. MovesFates g.D.Cx.Input.PartialEq.eq (IsFated (g.D.Delegate.scoped cx) (g.D.Delegate.script cx) g.D.Cx.Input.PartialEq.eq c.loop-next.cache.results (g.D.Delegate.noop c.loop-next.inspect)) (fates_of c.loop-next.evaluation.goals) (fates_of c.advance.new.evaluation.goals)) c.loop-next.invariant.keeps.context c.in_ok-next.ensures.goals.fates));
+          (subst (λ cx. (call : Call _) → Awaits g.D.Delegate g.D.Cx.Cx g.D.Cx.Input.PartialEq.eq cx call c.loop-next.received c.loop-next.cache c.loop-next.evaluation (g.D.Delegate.starts c.loop-next.inspect) → CallNeedsTwoRuns g.D.Delegate g.D.Cx.Cx cx call (g.D.Delegate.noop c.loop-next.inspect) → Settles g.D.Delegate g.D.Cx.Cx g.D.Cx.Input.PartialEq.eq cx call c.loop-next.received c.loop-next.cache c.loop-next.evaluation → SettlesNext g.D.Delegate g.D.Cx.Cx g.D.Cx.Input.PartialEq.eq cx call (Step c.in-Step.next) c.take_turn.new.cache c.take_turn.new.evaluation) c.loop-next.invariant.keeps.context (rw c.in-Step.is at c.in_ok-next.ensures.settled.settles)) call (c.loop-next.invariant.waiting call at) (needs_with g.D.Delegate g.D.Cx.Cx c.args.cache.now.cx call _ _ c.loop-next.invariant.builder.same_noop needs) (c.loop-next.invariant.settled stored not_lone call at needs settled);
+      fates = then_fates (g.D.Delegate.scoped c.args.cache.now.cx) (g.D.Delegate.script c.args.cache.now.cx) g.D.Cx.Input.PartialEq.eq (g.D.Delegate.noop c.args.inspect.now) c.args.input c.args.fate c.args.cache.now.results c.loop-next.evaluation.goals c.loop-next.cache.results c.take_turn.new.cache.results c.loop-next.invariant.fates c.take_turn.ensures.cache.changes c.take_turn.ensures.cache.results c.take_turn.new.evaluation.goals
+          (subst (λ b. MovesFates g.D.Cx.Input.PartialEq.eq (IsFated (g.D.Delegate.scoped c.args.cache.now.cx) (g.D.Delegate.script c.args.cache.now.cx) g.D.Cx.Input.PartialEq.eq c.loop-next.cache.results b) (fates_of c.loop-next.evaluation.goals) (fates_of c.take_turn.new.evaluation.goals)) c.loop-next.invariant.builder.same_noop
+          (subst (λ cx. MovesFates g.D.Cx.Input.PartialEq.eq (IsFated (g.D.Delegate.scoped cx) (g.D.Delegate.script cx) g.D.Cx.Input.PartialEq.eq c.loop-next.cache.results (g.D.Delegate.noop c.loop-next.inspect)) (fates_of c.loop-next.evaluation.goals) (fates_of c.take_turn.new.evaluation.goals)) c.loop-next.invariant.keeps.context c.in_ok-next.ensures.goals.fates));
     }
 
 -- ---- the goal has its answer
@@ -100,7 +111,7 @@ loop-next-preserved g c =
 pub returns-in-Finished-clause-evaluates : goal.returns-in-Finished-clause-evaluates
 returns-in-Finished-clause-evaluates g c = record {
   ended = λ call at.
-      let on = (subst (λ cx. (call : Call _) → Awaits g.D.Delegate g.D.Cx.Cx g.D.Cx.Input.PartialEq.eq cx call c.loop-next.received c.loop-next.cache c.loop-next.evaluation (g.D.Delegate.starts c.loop-next.inspect) → LeadsTo g.D.Delegate g.D.Cx.Cx g.D.Cx.Input.PartialEq.eq cx call (work_left g.D.Delegate g.D.Cx.Cx cx c.loop-next.evaluation.goals) c.loop-next.evaluation.goals (Finished c.in-Finished.answer) c.advance.new.cache c.advance.new.evaluation (g.D.Delegate.starts c.advance.new.inspect)) c.loop-next.invariant.keeps.context (rw c.in-Finished.is at c.in_ok-next.ensures.advances.leads)) call (c.loop-next.invariant.waiting call at) in
+      let on = (subst (λ cx. (call : Call _) → Awaits g.D.Delegate g.D.Cx.Cx g.D.Cx.Input.PartialEq.eq cx call c.loop-next.received c.loop-next.cache c.loop-next.evaluation (g.D.Delegate.starts c.loop-next.inspect) → LeadsTo g.D.Delegate g.D.Cx.Cx g.D.Cx.Input.PartialEq.eq cx call (work_left g.D.Delegate g.D.Cx.Cx cx c.loop-next.evaluation.goals) c.loop-next.evaluation.goals (Finished c.in-Finished.answer) c.take_turn.new.cache c.take_turn.new.evaluation (g.D.Delegate.starts c.take_turn.new.inspect)) c.loop-next.invariant.keeps.context (rw c.in-Finished.is at c.in_ok-next.ensures.advances.leads)) call (c.loop-next.invariant.waiting call at) in
       record {
         ended = on.leads.2;
         store = on.answers.store;
@@ -115,9 +126,12 @@ pub returns-in-Finished-clause-grounded : goal.returns-in-Finished-clause-ground
 returns-in-Finished-clause-grounded g c = record {
   has_graph =
       let fits = c.requires.new.fits in
-      let on = (subst (λ cx. (call : Call _) → Awaits g.D.Delegate g.D.Cx.Cx g.D.Cx.Input.PartialEq.eq cx call c.loop-next.received c.loop-next.cache c.loop-next.evaluation (g.D.Delegate.starts c.loop-next.inspect) → LeadsTo g.D.Delegate g.D.Cx.Cx g.D.Cx.Input.PartialEq.eq cx call (work_left g.D.Delegate g.D.Cx.Cx cx c.loop-next.evaluation.goals) c.loop-next.evaluation.goals (Finished c.in-Finished.answer) c.advance.new.cache c.advance.new.evaluation (g.D.Delegate.starts c.advance.new.inspect)) c.loop-next.invariant.keeps.context (rw c.in-Finished.is at c.in_ok-next.ensures.advances.leads)) (call_of c.args.input c.args.evaluation.now.root_depth.0 (g.D.Delegate.starts c.args.inspect.now) c.args.evaluation.now.limits_met false false fits) (c.loop-next.invariant.waiting _ (some_call_begins g.D.Delegate g.D.Cx.Cx c.args.cache.now.cx g.D.Cx.Input.PartialEq.eq c.args.input c.args.evaluation.now.root_depth.0 (g.D.Delegate.starts c.args.inspect.now) c.args.evaluation.now.limits_met fits c.args.cache.now.results)) in
-      only_has_graph g.D.Delegate g.D.Cx.Cx c.args.cache.now.cx c.advance.new.cache.nodes c.loop-next.evaluation.goals c.advance.new.evaluation.goals c.args.input c.in-Finished.answer on.leads.1
-      (rw c.in-Finished.is at c.in_ok-next.ensures.right).justified;
+      let on = (subst (λ cx. (call : Call _) → Awaits g.D.Delegate g.D.Cx.Cx g.D.Cx.Input.PartialEq.eq cx call c.loop-next.received c.loop-next.cache c.loop-next.evaluation (g.D.Delegate.starts c.loop-next.inspect) → LeadsTo g.D.Delegate g.D.Cx.Cx g.D.Cx.Input.PartialEq.eq cx call (work_left g.D.Delegate g.D.Cx.Cx cx c.loop-next.evaluation.goals) c.loop-next.evaluation.goals (Finished c.in-Finished.answer) c.take_turn.new.cache c.take_turn.new.evaluation (g.D.Delegate.starts c.take_turn.new.inspect)) c.loop-next.invariant.keeps.context (rw c.in-Finished.is at c.in_ok-next.ensures.advances.leads)) (call_of c.args.input c.args.evaluation.now.root_depth.0 (g.D.Delegate.starts c.args.inspect.now) c.args.evaluation.now.limits_met false false fits) (c.loop-next.invariant.waiting _ (some_call_begins g.D.Delegate g.D.Cx.Cx c.args.cache.now.cx g.D.Cx.Input.PartialEq.eq c.args.input c.args.evaluation.now.root_depth.0 (g.D.Delegate.starts c.args.inspect.now) c.args.evaluation.now.limits_met fits c.args.cache.now.results)) in
+      only_has_graph g.D.Delegate g.D.Cx.Cx c.args.cache.now.cx c.take_turn.new.cache.nodes c.loop-next.evaluation.goals [] c.args.input c.in-Finished.answer on.leads.1
+      (rw c.in-Finished.is at c.in_ok-next.ensures.right);
+  leaves =
+      subst (λ n. LeavesReached g.D.Cx.Input.PartialEq.eq n c.in-Finished.answer.node c.take_turn.new.cache) ((rw c.in-Finished.is at c.in_ok-next.ensures.drafts).first ∙ c.loop-next.invariant.first)
+      (rw c.in-Finished.is at c.in_ok-next.ensures.drafts).has;
   caused = tt;
 }
 
@@ -126,27 +140,29 @@ returns-in-Finished-clause-grounded g c = record {
 pub returns-in_err-push_goal-clause-grounded : goal.returns-in_err-push_goal-clause-grounded
 returns-in_err-push_goal-clause-grounded g c = record {
   has_graph = no_ok c.from_residual.result _ _ c.from_residual.ensures.1;
+  leaves = no_ok c.from_residual.result _ _ c.from_residual.ensures.1;
   caused = if_err_and c.from_residual.result _ _ c.from_residual.ensures.1 (λ e is. OutOfMemory is);
 }
 
 pub returns-in_err-next-clause-grounded : goal.returns-in_err-next-clause-grounded
 returns-in_err-next-clause-grounded g c = record {
   has_graph = no_ok c.from_residual-in_err-next.result _ _ c.from_residual-in_err-next.ensures.1;
+  leaves = no_ok c.from_residual-in_err-next.result _ _ c.from_residual-in_err-next.ensures.1;
   caused =
       if_err_and c.from_residual-in_err-next.result _ _ c.from_residual-in_err-next.ensures.1
-      (λ e is. subst (IsCaused g.D.Delegate g.D.Cx.Cx g.D.Cx.Input.PartialEq.eq c.advance.new.cache) (sym is) c.in_err-next.ensures.caused);
+      (λ e is. subst (IsCaused g.D.Delegate g.D.Cx.Cx g.D.Cx.Input.PartialEq.eq c.take_turn.new.cache) (sym is) c.in_err-next.ensures.advances.caused);
 }
 
 pub returns-in-Finished-clause-keeps : goal.returns-in-Finished-clause-keeps
-returns-in-Finished-clause-keeps g c = then_keeps g.D.Cx.Input.PartialEq.eq c.args.evaluation.now.goals c.loop-next.evaluation.goals c.args.cache.now c.loop-next.cache c.advance.new.cache c.loop-next.invariant.from c.loop-next.invariant.keeps c.advance.ensures.cache.keeps
+returns-in-Finished-clause-keeps g c = then_turns g.D.Cx.Input.PartialEq.eq c.args.evaluation.now.goals c.args.cache.now c.loop-next.cache c.take_turn.new.cache c.loop-next.evaluation c.loop-next.invariant.first c.loop-next.invariant.keeps c.take_turn.ensures.cache
 
 -- ---- the builder
 
 pub returns-in_err-next-clause-builder : goal.returns-in_err-next-clause-builder
-returns-in_err-next-clause-builder g c = builder_goes_on g.D.Delegate.starts g.D.Delegate.noop c.args.inspect.now c.loop-next.inspect c.advance.new.inspect c.loop-next.invariant.builder c.advance.ensures.builder
+returns-in_err-next-clause-builder g c = builder_goes_on g.D.Delegate.starts g.D.Delegate.noop c.args.inspect.now c.loop-next.inspect c.take_turn.new.inspect c.loop-next.invariant.builder c.take_turn.ensures.builder
 
 pub returns-in-Finished-clause-builder : goal.returns-in-Finished-clause-builder
-returns-in-Finished-clause-builder g c = builder_goes_on g.D.Delegate.starts g.D.Delegate.noop c.args.inspect.now c.loop-next.inspect c.advance.new.inspect c.loop-next.invariant.builder c.advance.ensures.builder
+returns-in-Finished-clause-builder g c = builder_goes_on g.D.Delegate.starts g.D.Delegate.noop c.args.inspect.now c.loop-next.inspect c.take_turn.new.inspect c.loop-next.invariant.builder c.take_turn.ensures.builder
 
 -- ---- nodes that were there
 
@@ -163,14 +179,14 @@ returns-in_err-push_goal-clause-spares g c = record {
 
 pub returns-in_err-next-clause-spares : goal.returns-in_err-next-clause-spares
 returns-in_err-next-clause-spares g c = record {
-  recorded = then_recorded (g.D.Delegate.scoped c.args.cache.now.cx) (g.D.Delegate.script c.args.cache.now.cx) g.D.Cx.Input.PartialEq.eq (g.D.Delegate.noop c.args.inspect.now) c.args.input c.args.fate c.args.cache.now.results c.loop-next.evaluation.goals c.loop-next.cache.results c.advance.new.cache.results c.loop-next.invariant.fates c.advance.ensures.cache.changes;
-  spared = λ unstored. then_spared (g.D.Delegate.scoped c.args.cache.now.cx) (g.D.Delegate.script c.args.cache.now.cx) g.D.Cx.Input.PartialEq.eq (g.D.Delegate.noop c.args.inspect.now) c.args.input c.args.fate c.args.cache.now.results c.loop-next.evaluation.goals c.loop-next.cache.results c.advance.new.cache.results c.loop-next.invariant.fates c.advance.ensures.cache.changes (not_stored c.args.fate unstored);
+  recorded = then_recorded (g.D.Delegate.scoped c.args.cache.now.cx) (g.D.Delegate.script c.args.cache.now.cx) g.D.Cx.Input.PartialEq.eq (g.D.Delegate.noop c.args.inspect.now) c.args.input c.args.fate c.args.cache.now.results c.loop-next.evaluation.goals c.loop-next.cache.results c.take_turn.new.cache.results c.loop-next.invariant.fates c.take_turn.ensures.cache.changes;
+  spared = λ unstored. then_spared (g.D.Delegate.scoped c.args.cache.now.cx) (g.D.Delegate.script c.args.cache.now.cx) g.D.Cx.Input.PartialEq.eq (g.D.Delegate.noop c.args.inspect.now) c.args.input c.args.fate c.args.cache.now.results c.loop-next.evaluation.goals c.loop-next.cache.results c.take_turn.new.cache.results c.loop-next.invariant.fates c.take_turn.ensures.cache.changes (not_stored c.args.fate unstored);
 }
 
 pub returns-in-Finished-clause-spares : goal.returns-in-Finished-clause-spares
 returns-in-Finished-clause-spares g c = record {
-  recorded = then_recorded (g.D.Delegate.scoped c.args.cache.now.cx) (g.D.Delegate.script c.args.cache.now.cx) g.D.Cx.Input.PartialEq.eq (g.D.Delegate.noop c.args.inspect.now) c.args.input c.args.fate c.args.cache.now.results c.loop-next.evaluation.goals c.loop-next.cache.results c.advance.new.cache.results c.loop-next.invariant.fates c.advance.ensures.cache.changes;
-  spared = λ unstored. then_spared (g.D.Delegate.scoped c.args.cache.now.cx) (g.D.Delegate.script c.args.cache.now.cx) g.D.Cx.Input.PartialEq.eq (g.D.Delegate.noop c.args.inspect.now) c.args.input c.args.fate c.args.cache.now.results c.loop-next.evaluation.goals c.loop-next.cache.results c.advance.new.cache.results c.loop-next.invariant.fates c.advance.ensures.cache.changes (not_stored c.args.fate unstored);
+  recorded = then_recorded (g.D.Delegate.scoped c.args.cache.now.cx) (g.D.Delegate.script c.args.cache.now.cx) g.D.Cx.Input.PartialEq.eq (g.D.Delegate.noop c.args.inspect.now) c.args.input c.args.fate c.args.cache.now.results c.loop-next.evaluation.goals c.loop-next.cache.results c.take_turn.new.cache.results c.loop-next.invariant.fates c.take_turn.ensures.cache.changes;
+  spared = λ unstored. then_spared (g.D.Delegate.scoped c.args.cache.now.cx) (g.D.Delegate.script c.args.cache.now.cx) g.D.Cx.Input.PartialEq.eq (g.D.Delegate.noop c.args.inspect.now) c.args.input c.args.fate c.args.cache.now.results c.loop-next.evaluation.goals c.loop-next.cache.results c.take_turn.new.cache.results c.loop-next.invariant.fates c.take_turn.ensures.cache.changes (not_stored c.args.fate unstored);
 }
 
 -- ---- where two runs of a goal are enough
@@ -187,15 +203,15 @@ returns-in_err-push_goal-clause-settled g c = λ stored not_lone. record {
 pub returns-in_err-next-clause-settled : goal.returns-in_err-next-clause-settled
 returns-in_err-next-clause-settled g c = λ stored not_lone. record {
   unmet = λ call at needs settled.
-      (subst (λ cx. (call : Call _) → Awaits g.D.Delegate g.D.Cx.Cx g.D.Cx.Input.PartialEq.eq cx call c.loop-next.received c.loop-next.cache c.loop-next.evaluation (g.D.Delegate.starts c.loop-next.inspect) → CallNeedsTwoRuns g.D.Delegate g.D.Cx.Cx cx call (g.D.Delegate.noop c.loop-next.inspect) → Settles g.D.Delegate g.D.Cx.Cx g.D.Cx.Input.PartialEq.eq cx call c.loop-next.received c.loop-next.cache c.loop-next.evaluation → c.advance.new.evaluation.limits_met ≡ false) c.loop-next.invariant.keeps.context c.in_err-next.ensures.settled.unmet) call (c.loop-next.invariant.waiting call at) (needs_with g.D.Delegate g.D.Cx.Cx c.args.cache.now.cx call _ _ c.loop-next.invariant.builder.same_noop needs) (c.loop-next.invariant.settled stored not_lone call at needs settled);
+      (subst (λ cx. (call : Call _) → Awaits g.D.Delegate g.D.Cx.Cx g.D.Cx.Input.PartialEq.eq cx call c.loop-next.received c.loop-next.cache c.loop-next.evaluation (g.D.Delegate.starts c.loop-next.inspect) → CallNeedsTwoRuns g.D.Delegate g.D.Cx.Cx cx call (g.D.Delegate.noop c.loop-next.inspect) → Settles g.D.Delegate g.D.Cx.Cx g.D.Cx.Input.PartialEq.eq cx call c.loop-next.received c.loop-next.cache c.loop-next.evaluation → c.take_turn.new.evaluation.limits_met ≡ false) c.loop-next.invariant.keeps.context c.in_err-next.ensures.settled.unmet) call (c.loop-next.invariant.waiting call at) (needs_with g.D.Delegate g.D.Cx.Cx c.args.cache.now.cx call _ _ c.loop-next.invariant.builder.same_noop needs) (c.loop-next.invariant.settled stored not_lone call at needs settled);
   settles = λ call at needs settled.
-      (subst (λ cx. (call : Call _) → Awaits g.D.Delegate g.D.Cx.Cx g.D.Cx.Input.PartialEq.eq cx call c.loop-next.received c.loop-next.cache c.loop-next.evaluation (g.D.Delegate.starts c.loop-next.inspect) → CallNeedsTwoRuns g.D.Delegate g.D.Cx.Cx cx call (g.D.Delegate.noop c.loop-next.inspect) → Settles g.D.Delegate g.D.Cx.Cx g.D.Cx.Input.PartialEq.eq cx call c.loop-next.received c.loop-next.cache c.loop-next.evaluation → IsSettledStore g.D.Delegate g.D.Cx.Cx g.D.Cx.Input.PartialEq.eq cx call.goals c.advance.new.cache.nodes c.advance.new.cache.results) c.loop-next.invariant.keeps.context c.in_err-next.ensures.settled.leaves) call (c.loop-next.invariant.waiting call at) (needs_with g.D.Delegate g.D.Cx.Cx c.args.cache.now.cx call _ _ c.loop-next.invariant.builder.same_noop needs) (c.loop-next.invariant.settled stored not_lone call at needs settled);
+      (subst (λ cx. (call : Call _) → Awaits g.D.Delegate g.D.Cx.Cx g.D.Cx.Input.PartialEq.eq cx call c.loop-next.received c.loop-next.cache c.loop-next.evaluation (g.D.Delegate.starts c.loop-next.inspect) → CallNeedsTwoRuns g.D.Delegate g.D.Cx.Cx cx call (g.D.Delegate.noop c.loop-next.inspect) → Settles g.D.Delegate g.D.Cx.Cx g.D.Cx.Input.PartialEq.eq cx call c.loop-next.received c.loop-next.cache c.loop-next.evaluation → IsSettledStore g.D.Delegate g.D.Cx.Cx g.D.Cx.Input.PartialEq.eq cx call.goals c.take_turn.new.cache.nodes c.take_turn.new.cache.results) c.loop-next.invariant.keeps.context c.in_err-next.ensures.settled.leaves) call (c.loop-next.invariant.waiting call at) (needs_with g.D.Delegate g.D.Cx.Cx c.args.cache.now.cx call _ _ c.loop-next.invariant.builder.same_noop needs) (c.loop-next.invariant.settled stored not_lone call at needs settled);
 }
 
 pub returns-in-Finished-clause-settled : goal.returns-in-Finished-clause-settled
 returns-in-Finished-clause-settled g c = λ stored not_lone. record {
   unmet = λ call at needs settled.
-      (subst (λ cx. (call : Call _) → Awaits g.D.Delegate g.D.Cx.Cx g.D.Cx.Input.PartialEq.eq cx call c.loop-next.received c.loop-next.cache c.loop-next.evaluation (g.D.Delegate.starts c.loop-next.inspect) → CallNeedsTwoRuns g.D.Delegate g.D.Cx.Cx cx call (g.D.Delegate.noop c.loop-next.inspect) → Settles g.D.Delegate g.D.Cx.Cx g.D.Cx.Input.PartialEq.eq cx call c.loop-next.received c.loop-next.cache c.loop-next.evaluation → c.advance.new.evaluation.limits_met ≡ false) c.loop-next.invariant.keeps.context c.in_ok-next.ensures.settled.unmet) call (c.loop-next.invariant.waiting call at) (needs_with g.D.Delegate g.D.Cx.Cx c.args.cache.now.cx call _ _ c.loop-next.invariant.builder.same_noop needs) (c.loop-next.invariant.settled stored not_lone call at needs settled);
+      (subst (λ cx. (call : Call _) → Awaits g.D.Delegate g.D.Cx.Cx g.D.Cx.Input.PartialEq.eq cx call c.loop-next.received c.loop-next.cache c.loop-next.evaluation (g.D.Delegate.starts c.loop-next.inspect) → CallNeedsTwoRuns g.D.Delegate g.D.Cx.Cx cx call (g.D.Delegate.noop c.loop-next.inspect) → Settles g.D.Delegate g.D.Cx.Cx g.D.Cx.Input.PartialEq.eq cx call c.loop-next.received c.loop-next.cache c.loop-next.evaluation → c.take_turn.new.evaluation.limits_met ≡ false) c.loop-next.invariant.keeps.context c.in_ok-next.ensures.settled.unmet) call (c.loop-next.invariant.waiting call at) (needs_with g.D.Delegate g.D.Cx.Cx c.args.cache.now.cx call _ _ c.loop-next.invariant.builder.same_noop needs) (c.loop-next.invariant.settled stored not_lone call at needs settled);
   settles = λ call at needs settled.
-      (subst (λ cx. (call : Call _) → Awaits g.D.Delegate g.D.Cx.Cx g.D.Cx.Input.PartialEq.eq cx call c.loop-next.received c.loop-next.cache c.loop-next.evaluation (g.D.Delegate.starts c.loop-next.inspect) → CallNeedsTwoRuns g.D.Delegate g.D.Cx.Cx cx call (g.D.Delegate.noop c.loop-next.inspect) → Settles g.D.Delegate g.D.Cx.Cx g.D.Cx.Input.PartialEq.eq cx call c.loop-next.received c.loop-next.cache c.loop-next.evaluation → SettlesNext g.D.Delegate g.D.Cx.Cx g.D.Cx.Input.PartialEq.eq cx call (Finished c.in-Finished.answer) c.advance.new.cache c.advance.new.evaluation) c.loop-next.invariant.keeps.context (rw c.in-Finished.is at c.in_ok-next.ensures.settled.settles)) call (c.loop-next.invariant.waiting call at) (needs_with g.D.Delegate g.D.Cx.Cx c.args.cache.now.cx call _ _ c.loop-next.invariant.builder.same_noop needs) (c.loop-next.invariant.settled stored not_lone call at needs settled);
+      (subst (λ cx. (call : Call _) → Awaits g.D.Delegate g.D.Cx.Cx g.D.Cx.Input.PartialEq.eq cx call c.loop-next.received c.loop-next.cache c.loop-next.evaluation (g.D.Delegate.starts c.loop-next.inspect) → CallNeedsTwoRuns g.D.Delegate g.D.Cx.Cx cx call (g.D.Delegate.noop c.loop-next.inspect) → Settles g.D.Delegate g.D.Cx.Cx g.D.Cx.Input.PartialEq.eq cx call c.loop-next.received c.loop-next.cache c.loop-next.evaluation → SettlesNext g.D.Delegate g.D.Cx.Cx g.D.Cx.Input.PartialEq.eq cx call (Finished c.in-Finished.answer) c.take_turn.new.cache c.take_turn.new.evaluation) c.loop-next.invariant.keeps.context (rw c.in-Finished.is at c.in_ok-next.ensures.settled.settles)) call (c.loop-next.invariant.waiting call at) (needs_with g.D.Delegate g.D.Cx.Cx c.args.cache.now.cx call _ _ c.loop-next.invariant.builder.same_noop needs) (c.loop-next.invariant.settled stored not_lone call at needs settled);
 }

@@ -6,6 +6,7 @@ use Rattle.global_cache.proofs.Stores.{KeepsResults-same}
 use Rattle.search_moves.proofs.Given.{heads_given, puts_given, storable_given, stores_given}
 use Rattle.search_moves.proofs.Failing.{fails_after, memory_fails}
 use Rattle.search_moves.proofs.Keeping.{ending_keeps}
+use Rattle.search_moves.proofs.Noting.{noted_same, noted_then}
 use Rattle.search_rules.proofs.entries.Ready.{are_within, heads_on_stack, on_stack_many}
 use Rattle.search_rules.proofs.entries.Pops.{rebased_ready}
 use Rattle.search_rules.proofs.rebasing.Lists.{entries_rebased, highest_stays}
@@ -40,43 +41,41 @@ rebase_entries-requires-clause-within g c = λ input.
     (subst (λ l. HaveTallies (runs_of l)) c.pop-entry.ensures c.requires.right.justified.tallies)
     (subst (λ l. AreReady (verdicts g.D.Cx.Cx) g.D.Cx.Input.PartialEq.eq (g.D.Delegate.script c.args.cache.now.cx) c.args.cache.now.nodes (runs_of l) c.args.self.now.provisional) c.pop-entry.ensures c.requires.right.ready) input)
 
-pub store_answer-requires-clause-on_stack : goal.store_answer-requires-clause-on_stack
-store_answer-requires-clause-on_stack g c =
-    subst (λ n. IfSome (highest c.give_answer.new.answer.heads) (λ head. head.0.0 < n)) (on_stack_many c.give_answer.new.goals)
-    (subst (λ heads. IfSome (highest heads) (λ head. head.0.0 < length (reverse (map (λ s. s.0) c.give_answer.new.goals)))) (sym (heads_given c.finalize-answer.result c.give_answer.new.answer c.give_answer.ensures.left ∙ ap (λ (a : EvaluationResult _ _ _ _ _). a.heads) c.finalize-answer.ensures))
-    (highest_stays c.pop-entry.result.entry.step_kind_from_parent (final_answer (c.pop-entry.result.entry, c.pop-entry.result.run) c.args.outcome c.in_ok-node.node) c.pop-entry.new.self c.give_answer.new.goals c.in_ok-next.next
-    (subst (λ step. GivesAnswer step (final_answer (c.pop-entry.result.entry, c.pop-entry.result.run) c.args.outcome c.in_ok-node.node) c.pop-entry.new.self c.in_ok-next.next c.give_answer.new.goals) c.step_kind_from_parent-step.ensures
-    (subst (λ (a : EvaluationResult _ _ _ _ _). GivesAnswer c.step_kind_from_parent-step.result a c.pop-entry.new.self c.in_ok-next.next c.give_answer.new.goals) c.finalize-answer.ensures c.in_ok-next.ensures.given))
-    c.pop-entry.result.entry.state.heads
-    (heads_on_stack (c.pop-entry.result.entry, c.pop-entry.result.run) c.pop-entry.new.self (subst (λ l. HaveTallies (runs_of l)) c.pop-entry.ensures c.requires.right.justified.tallies))))
+-- ---- the answer may be stored, and what it is compared with is stored
 
--- ---- the answer may be stored
-
-pub store_answer-requires-clause-storable : goal.store_answer-requires-clause-storable
-store_answer-requires-clause-storable g c = storable_given g.D.Delegate g.D.Cx.Cx c.finalize-answer.result c.give_answer.new.answer c.give_answer.ensures.left c.result_node.new.cache c.input-input.result (record {
-  graph =
-      subst (λ (a : EvaluationResult _ _ _ _ _). a.heads ≡ [] → HasGraph (verdicts g.D.Cx.Cx) c.result_node.new.cache.nodes c.input-input.result a.result a.node) (sym c.finalize-answer.ensures)
-      (λ none. subst (λ i. HasGraph (verdicts g.D.Cx.Cx) c.result_node.new.cache.nodes i c.args.outcome c.in_ok-node.node) (sym c.input-input.ensures)
-      (headless_graph (verdicts g.D.Cx.Cx) c.args.cache.now.nodes c.result_node.new.cache.nodes c.args.self.now.goals c.pop-entry.result.entry c.pop-entry.result.run c.pop-entry.new.self c.pop-entry.ensures c.args.outcome c.in_ok-node.node c.requires.right.justified c.in_ok-node.ensures.has_node none));
-  plain =
-      subst (λ (a : EvaluationResult _ _ _ _ _). IsPlainAt (g.D.Delegate.script c.result_node.new.cache.cx) c.input-input.result (place_of a) a.result) (sym c.finalize-answer.ensures)
-      (subst (λ i. IsPlainAt (g.D.Delegate.script c.result_node.new.cache.cx) i (place_of (final_answer (c.pop-entry.result.entry, c.pop-entry.result.run) c.args.outcome c.in_ok-node.node)) c.args.outcome) (sym c.input-input.ensures)
-      (subst (λ x. IsPlainAt (g.D.Delegate.script x) c.pop-entry.result.entry.input (place_of (final_answer (c.pop-entry.result.entry, c.pop-entry.result.run) c.args.outcome c.in_ok-node.node)) c.args.outcome) (sym c.in_ok-node.ensures.same_context)
-      (subst (λ l. NewestIsPlain (g.D.Delegate.script c.args.cache.now.cx) l c.args.outcome) c.pop-entry.ensures c.requires.plain)));
-  comes =
-      subst (λ (a : EvaluationResult _ _ _ _ _). ComesTo (g.D.Delegate.script c.result_node.new.cache.cx) (g.D.Delegate.fixpoint_overflow c.result_node.new.cache.cx) c.input-input.result a.result) (sym c.finalize-answer.ensures)
-      (subst (λ i. ComesTo (g.D.Delegate.script c.result_node.new.cache.cx) (g.D.Delegate.fixpoint_overflow c.result_node.new.cache.cx) i c.args.outcome) (sym c.input-input.ensures)
-      (subst (λ x. ComesTo (g.D.Delegate.script x) (g.D.Delegate.fixpoint_overflow x) c.pop-entry.result.entry.input c.args.outcome) (sym c.in_ok-node.ensures.same_context)
-      (subst (λ l. NewestComesTo (g.D.Delegate.script c.args.cache.now.cx) (g.D.Delegate.fixpoint_overflow c.args.cache.now.cx) l c.args.outcome) c.pop-entry.ensures c.requires.comes)));
-})
-
--- what the result is compared with is stored
-pub store_answer-requires-clause-expected : goal.store_answer-requires-clause-expected
-store_answer-requires-clause-expected g c =
-    subst (λ x. IfCompared c.pop-entry.result.run.fate (IsExpected (g.D.Delegate.scoped x) g.D.Cx.Input.PartialEq.eq c.result_node.new.cache.results c.input-input.result)) (sym c.in_ok-node.ensures.same_context)
-    (subst (λ results. IfCompared c.pop-entry.result.run.fate (IsExpected (g.D.Delegate.scoped c.args.cache.now.cx) g.D.Cx.Input.PartialEq.eq results c.input-input.result)) (sym c.in_ok-node.ensures.same_results)
-    (subst (λ i. IfCompared c.pop-entry.result.run.fate (IsExpected (g.D.Delegate.scoped c.args.cache.now.cx) g.D.Cx.Input.PartialEq.eq c.args.cache.now.results i)) (sym c.input-input.ensures)
-    (subst (λ l. HaveExpected (g.D.Delegate.scoped c.args.cache.now.cx) (g.D.Delegate.script c.args.cache.now.cx) g.D.Cx.Input.PartialEq.eq c.args.cache.now.results (fates_of l)) c.pop-entry.ensures c.requires.expected).0.expected))
+pub store_answer-requires : goal.store_answer-requires
+store_answer-requires g c = record {
+  storable =
+      storable_given g.D.Delegate g.D.Cx.Cx c.finalize-answer.result c.give_answer.new.answer c.give_answer.ensures.left c.result_node.new.cache c.input-input.result (record {
+        graph =
+            subst (λ (a : EvaluationResult _ _ _ _ _). a.heads ≡ [] → HasGraph (verdicts g.D.Cx.Cx) c.result_node.new.cache.nodes c.input-input.result a.result a.node) (sym c.finalize-answer.ensures)
+            (λ none. subst (λ i. HasGraph (verdicts g.D.Cx.Cx) c.result_node.new.cache.nodes i c.args.outcome c.in_ok-node.node) (sym c.input-input.ensures)
+            (headless_graph (verdicts g.D.Cx.Cx) c.args.cache.now.nodes c.result_node.new.cache.nodes c.args.self.now.goals c.pop-entry.result.entry c.pop-entry.result.run c.pop-entry.new.self c.pop-entry.ensures c.args.outcome c.in_ok-node.node c.requires.right.justified c.in_ok-node.ensures.has_node none));
+        plain =
+            subst (λ (a : EvaluationResult _ _ _ _ _). IsPlainAt (g.D.Delegate.script c.result_node.new.cache.cx) c.input-input.result (place_of a) a.result) (sym c.finalize-answer.ensures)
+            (subst (λ i. IsPlainAt (g.D.Delegate.script c.result_node.new.cache.cx) i (place_of (final_answer (c.pop-entry.result.entry, c.pop-entry.result.run) c.args.outcome c.in_ok-node.node)) c.args.outcome) (sym c.input-input.ensures)
+            (subst (λ x. IsPlainAt (g.D.Delegate.script x) c.pop-entry.result.entry.input (place_of (final_answer (c.pop-entry.result.entry, c.pop-entry.result.run) c.args.outcome c.in_ok-node.node)) c.args.outcome) (sym c.in_ok-node.ensures.same_context)
+            (subst (λ l. NewestIsPlain (g.D.Delegate.script c.args.cache.now.cx) l c.args.outcome) c.pop-entry.ensures c.requires.plain)));
+        comes =
+            subst (λ (a : EvaluationResult _ _ _ _ _). ComesTo (g.D.Delegate.script c.result_node.new.cache.cx) (g.D.Delegate.fixpoint_overflow c.result_node.new.cache.cx) c.input-input.result a.result) (sym c.finalize-answer.ensures)
+            (subst (λ i. ComesTo (g.D.Delegate.script c.result_node.new.cache.cx) (g.D.Delegate.fixpoint_overflow c.result_node.new.cache.cx) i c.args.outcome) (sym c.input-input.ensures)
+            (subst (λ x. ComesTo (g.D.Delegate.script x) (g.D.Delegate.fixpoint_overflow x) c.pop-entry.result.entry.input c.args.outcome) (sym c.in_ok-node.ensures.same_context)
+            (subst (λ l. NewestComesTo (g.D.Delegate.script c.args.cache.now.cx) (g.D.Delegate.fixpoint_overflow c.args.cache.now.cx) l c.args.outcome) c.pop-entry.ensures c.requires.comes)));
+      });
+  expected =
+      subst (λ x. IfCompared c.pop-entry.result.run.fate (IsExpected (g.D.Delegate.scoped x) g.D.Cx.Input.PartialEq.eq c.result_node.new.cache.results c.input-input.result)) (sym c.in_ok-node.ensures.same_context)
+      (subst (λ results. IfCompared c.pop-entry.result.run.fate (IsExpected (g.D.Delegate.scoped c.args.cache.now.cx) g.D.Cx.Input.PartialEq.eq results c.input-input.result)) (sym c.in_ok-node.ensures.same_results)
+      (subst (λ i. IfCompared c.pop-entry.result.run.fate (IsExpected (g.D.Delegate.scoped c.args.cache.now.cx) g.D.Cx.Input.PartialEq.eq c.args.cache.now.results i)) (sym c.input-input.ensures)
+      (subst (λ l. HaveExpected (g.D.Delegate.scoped c.args.cache.now.cx) (g.D.Delegate.script c.args.cache.now.cx) g.D.Cx.Input.PartialEq.eq c.args.cache.now.results (fates_of l)) c.pop-entry.ensures c.requires.expected).0.expected));
+  on_stack =
+      subst (λ n. IfSome (highest c.give_answer.new.answer.heads) (λ head. head.0.0 < n)) (on_stack_many c.give_answer.new.goals)
+      (subst (λ heads. IfSome (highest heads) (λ head. head.0.0 < length (reverse (map (λ s. s.0) c.give_answer.new.goals)))) (sym (heads_given c.finalize-answer.result c.give_answer.new.answer c.give_answer.ensures.left ∙ ap (λ (a : EvaluationResult _ _ _ _ _). a.heads) c.finalize-answer.ensures))
+      (highest_stays c.pop-entry.result.entry.step_kind_from_parent (final_answer (c.pop-entry.result.entry, c.pop-entry.result.run) c.args.outcome c.in_ok-node.node) c.pop-entry.new.self c.give_answer.new.goals c.in_ok-next.next
+      (subst (λ step. GivesAnswer step (final_answer (c.pop-entry.result.entry, c.pop-entry.result.run) c.args.outcome c.in_ok-node.node) c.pop-entry.new.self c.in_ok-next.next c.give_answer.new.goals) c.step_kind_from_parent-step.ensures
+      (subst (λ (a : EvaluationResult _ _ _ _ _). GivesAnswer c.step_kind_from_parent-step.result a c.pop-entry.new.self c.in_ok-next.next c.give_answer.new.goals) c.finalize-answer.ensures c.in_ok-next.ensures.given))
+      c.pop-entry.result.entry.state.heads
+      (heads_on_stack (c.pop-entry.result.entry, c.pop-entry.result.run) c.pop-entry.new.self (subst (λ l. HaveTallies (runs_of l)) c.pop-entry.ensures c.requires.right.justified.tallies))));
+}
 
 -- ---- the answer could not be given or stored
 
@@ -243,3 +242,9 @@ returns-in_err-rebase_entries-clause-changes g c = Untouched c.result_node.ensur
 
 pub returns-in_err-next-clause-changes : goal.returns-in_err-next-clause-changes
 returns-in_err-next-clause-changes g c = Untouched c.result_node.ensures.same_results
+
+pub returns-clause-noted : goal.returns-clause-noted
+returns-clause-noted g c =
+    noted_then g.D.Cx.Input.PartialEq.eq c.args.cache.now c.result_node.new.cache c.store_answer.new.cache c.args.self.now.drafts c.args.self.now.drafts c.store_answer.new.self.drafts
+    (noted_same g.D.Cx.Input.PartialEq.eq c.args.cache.now c.result_node.new.cache c.args.self.now.drafts c.args.self.now.drafts refl c.in_ok-node.ensures.kept c.in_ok-node.ensures.same_results (KeepsResults-same g.D.Cx.Input.PartialEq.eq c.args.cache.now.results c.result_node.new.cache.results c.in_ok-node.ensures.same_results))
+    c.in_ok-store_answer.ensures.noted

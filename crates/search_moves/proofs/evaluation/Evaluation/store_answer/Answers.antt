@@ -1,8 +1,9 @@
 use Rattle.search_rules.proofs.rebasing.Lists.{headless}
-use Rattle.std.proofs.Common.{◌∷◌, [], ◌∙◌, sym, ap, subst}
-use Rattle.search_moves.specs.Below.{ChangesNewest, highest, IfCompared, entry_of, IsPlainAt, IsPlainValue, Memory}
+use Rattle.std.proofs.Common.{◌∷◌, [], ◌∙◌, OnOk, refl, sym, ap, subst}
+use Rattle.search_moves.proofs.Noting.{noted_if_same}
+use Rattle.search_moves.specs.Below.{ChangesNewest, highest, IfCompared, entry_of, IsPlainAt, IsPlainValue, IsStored, Memory}
 use Rattle.search_context.proofs.Ranks.{one_plain_value}
-use Rattle.search_moves.proofs.Storing.{equal_results, puts_nothing, stores_compared, stores_entry, stores_none}
+use Rattle.search_moves.proofs.Storing.{equal_results, puts_nothing, stores_compared, stores_entry, stores_none, stores_result}
 use Rattle.search_moves.specs.Words.{Stores}
 use Rattle.provisional_cache.specs.Provisional.{AppendsEntry}
 use Rattle.search_rules.proofs.Fates.{storing_changes}
@@ -54,3 +55,12 @@ returns-clause-stores g c =
       | else-ENABLE_PROVISIONAL_CACHE+in-None-1 w ↦ stores_none g.D.Delegate g.D.Cx.Cx g.D.Cx.Input.PartialEq.eq g.met.D.Cx.Cx.same_input c.args.step c.args.input c.args.answer c.args.fate c.args.self.now _ c.args.cache.now c.in-Some.head (sym c.in-Some.is ∙ c.opt_highest_cycle_head_index.ensures) (sym c.ENABLE_PROVISIONAL_CACHE.ensures ∙ w.if-ENABLE_PROVISIONAL_CACHE.false) w.self-is
       | else-ENABLE_PROVISIONAL_CACHE+in-Some-1 w ↦ stores_none g.D.Delegate g.D.Cx.Cx g.D.Cx.Input.PartialEq.eq g.met.D.Cx.Cx.same_input c.args.step c.args.input c.args.answer c.args.fate c.args.self.now _ c.args.cache.now c.in-Some.head (sym c.in-Some.is ∙ c.opt_highest_cycle_head_index.ensures) (sym c.ENABLE_PROVISIONAL_CACHE.ensures ∙ w.if-ENABLE_PROVISIONAL_CACHE.false) w.self-is
     ]
+
+pub returns-in-Stored-clause-stores : goal.returns-in-Stored-clause-stores
+returns-in-Stored-clause-stores g c =
+    stores_result g.D.Delegate g.D.Cx.Cx g.D.Cx.Input.PartialEq.eq c.args.step c.args.input c.args.answer c.args.fate c.args.self.now c.store_for_good.new.cache c.store_for_good.result _ refl
+    (ap highest (headless c.args.answer c.opt_highest_cycle_head_index.result c.opt_highest_cycle_head_index.ensures c.in_default.is))
+    (subst (λ cx. OnOk c.store_for_good.result (IsStored g.D.Cx.Input.PartialEq.eq (g.D.Cx.Cx.token cx) c.store_for_good.new.cache.results c.args.input c.args.answer)) (sym (ap (λ cache. cache.cx) c.store_for_good.ensures.cache.rest)) c.store_for_good.ensures.is_stored)
+
+pub returns-in-Compared-clause-noted : goal.returns-in-Compared-clause-noted
+returns-in-Compared-clause-noted g c = noted_if_same g.D.Cx.Input.PartialEq.eq c.args.cache.now c.args.self.now.drafts c.compare.result

@@ -1,0 +1,32 @@
+-- The list of nodes once those were let go to which nothing leads any more.
+use Rattle.std.specs.Prelude.{◌≡◌, ◌⊎◌, ◌<◌, ℕ, Bool, Contains, IsTrue, List, slice_get, Some}
+use Rattle.std.specs.Option.{IfSome}
+use Rattle.search_context.specs.declared.context.Edge.{Edge}
+use Rattle.search_context.specs.declared.context.NodeId.{NodeId}
+use Rattle.search_context.specs.Graph.{HasEdge, IsReached}
+use Rattle.global_cache.specs.declared.results.Place.{Place}
+use Rattle.global_cache.specs.declared.results.StoredResult.{StoredResult}
+use Rattle.global_cache.specs.Cache.{CacheNode, finished_node, graph_nodes_of}
+use Rattle.global_cache.specs.Store.{Store, stored_at}
+
+-- no edge leads from a node before this place to one that is not before it
+abbrev pub StayBefore : {I R : Type 0} → ℕ → List (CacheNode I R) → Type 0
+StayBefore {I} first nodes = (at : ℕ) (e : Edge I) → at < first → HasEdge (graph_nodes_of nodes) at e → e.target < first
+
+-- the node of each stored result is before this place, or is one of the roots
+abbrev pub AreRooted : {X I R A T : Type 0} → (I → I → Bool) → ℕ → List NodeId → Store I (StoredResult X I R A T) → Type 0
+AreRooted {X} {I} {R} {A} {T} same first roots results =
+    (goal : I) (place : Place) (s : StoredResult X I R A T)
+    → stored_at same results goal place ≡ Some s → IfSome s.node (λ n. (n.0 < first) ⊎ Contains roots n)
+
+-- Live are the nodes before this place, and of the others those that are reached from a root.
+pub record AreLive {I R : Type 0} (nodes : List (CacheNode I R)) (first : ℕ) (roots : List NodeId) (live : ℕ → Bool) : Type 0 where
+  pub earlier : (at : ℕ) → at < first → IsTrue (live at)
+  pub rooted : (root : NodeId) → Contains roots root → IsTrue (live root.0)
+  pub reached : (at : ℕ) → IsTrue (live at) → (at < first) ⊎ ((root : NodeId) × Contains roots root × IsReached (graph_nodes_of nodes) root.0 at)
+
+-- Live nodes are as they were, and lead to live ones alone. No other node is finished.
+pub record Collected {I R : Type 0} (live : ℕ → Bool) (old new : List (CacheNode I R)) : Type 0 where
+  pub same : (at : ℕ) → IsTrue (live at) → slice_get new at ≡ slice_get old at
+  pub closed : (at : ℕ) (e : Edge I) → IsTrue (live at) → HasEdge (graph_nodes_of old) at e → IsTrue (live e.target)
+  pub left : (at : ℕ) (n : CacheNode I R) → finished_node new at ≡ Some n → IsTrue (live at)

@@ -1,0 +1,64 @@
+-- Which of the nodes that are held are reached from some numbers by the edges of these nodes.
+use Rattle.std.specs.Prelude.{◌≡◌, ◌+◌, ◌⊎◌, ℕ, suc, if◌then◌else◌, Bool, true, false, List, [], ◌∷◌, map, slice_get, Some, length, Contains}
+use Rattle.search_context.specs.declared.context.Edge.{Edge}
+use Rattle.global_cache.specs.declared.node_list.Held.{Held}
+use Rattle.global_cache.specs.declared.node_list.Slot.{Slot}
+use Rattle.global_cache.specs.declared.node_list.Slot.TheVariants.{Open, Finished}
+use Rattle.global_cache.specs.Held.{HasNumber}
+
+-- the edges of a node that is held
+abbrev pub edges_of : {I R : Type 0} → Slot I R → List (Edge I)
+edges_of (Open goal) = []
+edges_of (Finished n) = n.edges.items
+
+-- the numbers to which they lead
+abbrev pub targets_of : {I R : Type 0} → Slot I R → List ℕ
+targets_of slot = map (λ e. e.target) (edges_of slot)
+
+-- a number is one of the roots, or an edge leads to it from a node whose number is found
+pub data IsFound {I R : Type 0} (held : List (Held I R)) (roots : List ℕ) : ℕ → Type 0 where
+  root : (n : ℕ) → Contains roots n → IsFound held roots n
+  next : (n place : ℕ) (h : Held I R) → IsFound held roots h.number → slice_get held place ≡ Some h → Contains (targets_of h.slot) n → IsFound held roots n
+
+-- the node at this place is marked
+abbrev pub IsMarked : List Bool → ℕ → Type 0
+IsMarked marked place = slice_get marked place ≡ Some true
+
+-- Marked are the nodes whose numbers are found, of each node its place.
+pub record AreMarked {I R : Type 0} (held : List (Held I R)) (roots : List ℕ) (marked : List Bool) : Type 0 where
+  pub each : length marked ≡ length held
+  pub rooted : (place n : ℕ) → Contains roots n → HasNumber held place n → IsMarked marked place
+  pub closed : (place : ℕ) (h : Held I R) (other n : ℕ) → IsMarked marked place → slice_get held place ≡ Some h → Contains (targets_of h.slot) n → HasNumber held other n → IsMarked marked other
+  pub found : (place : ℕ) (h : Held I R) → IsMarked marked place → slice_get held place ≡ Some h → IsFound held roots h.number
+
+-- how many places are not marked
+abbrev pub unmarked : List Bool → ℕ
+unmarked [] = 0
+unmarked (true ∷ marked) = unmarked marked
+unmarked (false ∷ marked) = suc (unmarked marked)
+
+-- the queue has each place that is marked, and none twice
+pub record IsQueued (marked : List Bool) (queue : List ℕ) : Type 0 where
+  pub queued : (place : ℕ) → IsMarked marked place → (i : ℕ) × (slice_get queue i ≡ Some place)
+  pub marked_there : (i place : ℕ) → slice_get queue i ≡ Some place → IsMarked marked place
+  pub once : length queue + unmarked marked ≡ length marked
+
+-- of these numbers each that is held is marked, and no other one than before; the queue only grows
+pub record Marks {I R : Type 0} (held : List (Held I R)) (numbers : List ℕ) (old new : List Bool) (was is : List ℕ) : Type 0 where
+  pub each : length new ≡ length old
+  pub stays : (place : ℕ) → IsMarked old place → IsMarked new place
+  pub here : (place n : ℕ) → Contains numbers n → HasNumber held place n → IsMarked new place
+  pub only : (place : ℕ) → IsMarked new place → IsMarked old place ⊎ ((n : ℕ) × Contains numbers n × HasNumber held place n)
+  pub comes_first : (i place : ℕ) → slice_get was i ≡ Some place → slice_get is i ≡ Some place
+
+-- what is marked, in its order
+abbrev pub kept : {A : Type 0} → List Bool → List A → List A
+kept [] xs = []
+kept (m ∷ marked) [] = []
+kept (m ∷ marked) (x ∷ xs) = if m then x ∷ kept marked xs else kept marked xs
+
+-- nothing is marked of so many places
+pub record AreNone (count : ℕ) (marked : List Bool) (queue : List ℕ) : Type 0 where
+  pub each : length marked ≡ count
+  pub queued : IsQueued marked queue
+  pub none : (place : ℕ) → IsMarked marked place → ⊥

@@ -1,0 +1,152 @@
+//! Which nodes are reached from some roots, by their places among the nodes that are held.
+ghost use Rattle.std.specs.Prelude.{◌≡◌, ◌∷◌, ◌++◌, [], ◌<◌, ◌≤◌, ℕ, drop, length, take, map, slice_get, IfOk, OnOk};
+ghost use Rattle.global_cache.specs.Words.{AreMarked, AreNone, IsQueued, IsRising, kept, Marks as Marking, targets_of};
+
+use crate::held::place_of;
+use crate::node_list::{Held, Slot};
+use search_context::context::{Edge, NoMemory, NodeId};
+use std::alloc::Global;
+
+/// The nodes that were found so far.
+#[derive(Drop)]
+struct Marks {
+    /// Of each place, whether its node was found.
+    marked: Vec<bool>,
+    /// The places of these, in the order of finding: the queue of what is still to be followed.
+    queue: Vec<usize>,
+}
+
+impl Marks {
+    // No node is found yet.
+    fn new(alloc: Global, count: usize) -> Result<Marks, NoMemory>
+        ensures { IfOk result (λ marks. AreNone count marks.marked.items marks.queue.items) }
+    {
+        Ok(Marks {
+            marked: Vec::from_elem(alloc, false, count)?,
+            queue: Vec::new(alloc),
+        })
+    }
+
+    // What stands at a place of the queue.
+    fn queued(&self, done: usize) -> Option<usize>
+        ensures { result ≡ slice_get self.now.queue.items done }
+    {
+        self.queue.get(done).copied()
+    }
+
+    // Marks the node with this number, if it is held.
+    fn mark<I, R>(&mut self, held: &[Held<I, R>], number: usize) -> Result<(), NoMemory>
+        requires rising { IsRising held.now }
+        requires each { length self.old.marked.items ≡ length held.now }
+        requires queued { IsQueued self.old.marked.items self.old.queue.items }
+        ensures queued { OnOk result (IsQueued self.new.marked.items self.new.queue.items) }
+        ensures marks { OnOk result (Marking held.now (number ∷ [])
+            self.old.marked.items self.new.marked.items self.old.queue.items self.new.queue.items) }
+    {
+        let Some(place) = place_of(held, number) else {
+            return Ok(());
+        };
+        if self.marked[place] {
+            return Ok(());
+        }
+        self.queue.push(place)?;
+        self.marked[place] = true;
+        Ok(())
+    }
+
+    // Marks the roots that are held.
+    fn mark_roots<I, R>(&mut self, held: &[Held<I, R>], roots: &[NodeId]) -> Result<(), NoMemory>
+        requires rising { IsRising held.now }
+        requires each { length self.old.marked.items ≡ length held.now }
+        requires queued { IsQueued self.old.marked.items self.old.queue.items }
+        ensures queued { OnOk result (IsQueued self.new.marked.items self.new.queue.items) }
+        ensures marks { OnOk result (Marking held.now (map (λ r. r.0) roots.now)
+            self.old.marked.items self.new.marked.items self.old.queue.items self.new.queue.items) }
+    {
+        for root in roots {
+            self.mark(held, root.0)?;
+        }
+        Ok(())
+    }
+
+    // Marks what these edges lead to, where that is held.
+    fn mark_targets<I, R>(&mut self, held: &[Held<I, R>], edges: &[Edge<I>]) -> Result<(), NoMemory>
+        requires rising { IsRising held.now }
+        requires each { length self.old.marked.items ≡ length held.now }
+        requires queued { IsQueued self.old.marked.items self.old.queue.items }
+        ensures queued { OnOk result (IsQueued self.new.marked.items self.new.queue.items) }
+        ensures marks { OnOk result (Marking held.now (map (λ e. e.target) edges.now)
+            self.old.marked.items self.new.marked.items self.old.queue.items self.new.queue.items) }
+    {
+        for edge in edges {
+            self.mark(held, edge.target)?;
+        }
+        Ok(())
+    }
+
+    // Marks what the node leads to, where that is held.
+    fn mark_behind<I, R>(&mut self, held: &[Held<I, R>], slot: &Slot<I, R>) -> Result<(), NoMemory>
+        requires rising { IsRising held.now }
+        requires each { length self.old.marked.items ≡ length held.now }
+        requires queued { IsQueued self.old.marked.items self.old.queue.items }
+        ensures queued { OnOk result (IsQueued self.new.marked.items self.new.queue.items) }
+        ensures marks { OnOk result (Marking held.now (targets_of slot.now)
+            self.old.marked.items self.new.marked.items self.old.queue.items self.new.queue.items) }
+    {
+        match slot {
+            Slot::Open(_) => Ok(()),
+            Slot::Finished(node) => self.mark_targets(held, &node.edges),
+        }
+    }
+}
+
+// Of each of these nodes, whether it is reached from the roots by their edges. Numbers that none of
+// them has are passed over.
+pub(super) fn marked_from<I, R>(
+    alloc: Global,
+    held: &[Held<I, R>],
+    roots: &[NodeId],
+) -> Result<Vec<bool>, NoMemory>
+    requires { IsRising held.now }
+    ensures { IfOk result (λ marked. AreMarked held.now (map (λ r. r.0) roots.now) marked.items) }
+{
+    let mut marks = Marks::new(alloc, held.len())?;
+    marks.mark_roots(held, roots)?;
+    let mut done = 0;
+    while let Some(place) = marks.queued(done) {
+        let entry = &held[place];
+        marks.mark_behind(held, &entry.slot)?;
+        done += 1;
+    }
+    let Marks { marked, queue: _ } = marks;
+    Ok(marked)
+}
+
+// Of what stands from this place on, only what is marked is left, in its order.
+pub(super) fn keep_from<T: Drop>(items: &mut Vec<T>, place: usize, marked: &[bool])
+    requires within { place ≤ length items.old.items }
+    requires each { length marked.now ≡ length (drop place items.old.items) }
+    ensures { items.new.items
+        ≡ take place items.old.items ++ kept marked.now (drop place items.old.items) }
+{
+    let count = keep_marked(&mut items[place..], marked);
+    items.truncate(place + count);
+}
+
+// Moves what is marked to the front, in its order, and answers how much that is.
+fn keep_marked<T>(items: &mut [T], marked: &[bool]) -> usize
+    requires { length items.old ≡ length marked.now }
+    ensures within { result ≤ length items.old }
+    ensures count { result ≡ length (kept marked.now items.old) }
+    ensures kept { (i : ℕ) → i < result →
+        slice_get items.new i ≡ slice_get (kept marked.now items.old) i }
+{
+    let mut count = 0;
+    for place in 0..marked.len() {
+        if marked[place] {
+            items.swap(count, place);
+            count += 1;
+        }
+    }
+    count
+}

@@ -1,0 +1,25 @@
+-- The nodes to which a goal under evaluation leads.
+use Rattle.std.specs.Prelude.{All, Contains, List}
+use Rattle.std.specs.Option.{IfSome}
+use Rattle.open_goals.specs.Below.{NodeId, StackEntry}
+use Rattle.open_goals.specs.declared.goals.Run.{Run}
+use Rattle.open_goals.specs.declared.progress.DefiniteAnswer.{DefiniteAnswer}
+
+-- its run's own, the one to which the answers of its cycles lead, and those of its run's definite answers, also of those in ignored candidates
+pub record HasNodes {X F I R A T : Type 0} (nodes : List NodeId) (s : StackEntry X I R A T × Run X F I R A T) : Type 0 where
+  pub own : Contains nodes s.1.node
+  pub cycles : IfSome s.0.state.node (Contains nodes)
+  pub answers : All (λ a. Contains nodes (record { 0 = a.edge.target })) s.1.progress.answers
+
+-- the one to which the answers of its cycles lead
+abbrev pub HasCycleNode : {X I R A T : Type 0} → List NodeId → StackEntry X I R A T → Type 0
+HasCycleNode nodes entry = IfSome entry.state.node (Contains nodes)
+
+-- the one to which a definite answer leads
+abbrev pub HasTarget : {I : Type 0} → List NodeId → DefiniteAnswer I → Type 0
+HasTarget nodes answer = Contains nodes (record { 0 = answer.edge.target })
+
+-- those of a run: its own, and those of its definite answers
+pub record HasRunNodes {X F I R A T : Type 0} (nodes : List NodeId) (run : Run X F I R A T) : Type 0 where
+  pub own : Contains nodes run.node
+  pub answers : All (HasTarget nodes) run.progress.answers

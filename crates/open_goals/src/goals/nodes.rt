@@ -1,0 +1,52 @@
+//! The nodes to which the goals lead.
+ghost use Rattle.std.specs.Prelude.{All, Contains, OnOk};
+ghost use Rattle.open_goals.specs.Below.{NodeId};
+ghost use Rattle.open_goals.specs.Words.{HasCycleNode, HasNodes, HasRunNodes};
+
+use crate::goals::{OpenGoals, Run};
+use search_parts::context::{Cx, NoMemory, NodeId};
+use search_parts::parts::{Stack, StackDepth};
+
+impl<X: Cx, F: Drop, S: Drop> OpenGoals<X, F, S> {
+    /// Appends the nodes that the goals lead to: those of their runs, those to which the answers of their cycles
+    /// lead, and those of their runs' definite answers, also in ignored candidates. A refusal may leave a part of
+    /// them appended.
+    ///
+    /// Once a goal is run again, the answers of its cycles lead to the node of its provisional result, which is not
+    /// that of its run. It counts before the first such answer, since a cycle may come to it at any time.
+    pub fn push_nodes(&self, nodes: &mut Vec<NodeId>) -> Result<(), NoMemory>
+        ensures kept { (n : NodeId) → Contains nodes.old.items n → Contains nodes.new.items n }
+        ensures nodes { OnOk result (All (HasNodes nodes.new.items) self.now) }
+    {
+        push_cycle_nodes(&self.stack, nodes)?;
+        push_run_nodes(self.runs.as_slice(), nodes)
+    }
+}
+
+/// Appends the nodes to which the answers of the goals' cycles lead.
+fn push_cycle_nodes<X: Cx>(stack: &Stack<X>, nodes: &mut Vec<NodeId>) -> Result<(), NoMemory>
+    ensures kept { (n : NodeId) → Contains nodes.old.items n → Contains nodes.new.items n }
+    ensures cycles { OnOk result (All (HasCycleNode nodes.new.items) stack.now) }
+{
+    for place in 0..stack.len() {
+        if let Some(node) = stack[StackDepth::new(place)].state.node {
+            nodes.push(node)?;
+        }
+    }
+    Ok(())
+}
+
+/// Appends the runs' own nodes and those of their definite answers.
+fn push_run_nodes<X: Cx, F: Drop>(
+    runs: &[Run<X, F>],
+    nodes: &mut Vec<NodeId>,
+) -> Result<(), NoMemory>
+    ensures kept { (n : NodeId) → Contains nodes.old.items n → Contains nodes.new.items n }
+    ensures runs { OnOk result (All (HasRunNodes nodes.new.items) runs.now) }
+{
+    for run in runs {
+        nodes.push(run.node)?;
+        run.progress.push_targets(nodes)?;
+    }
+    Ok(())
+}

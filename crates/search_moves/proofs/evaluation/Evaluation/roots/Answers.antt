@@ -1,0 +1,11 @@
+use Rattle.std.proofs.Common.{subst, sym}
+use Rattle.std.specs.List.{Contains}
+use Rattle.search_moves.proofs.LettingGo.{has_more}
+use Rattle.search_moves.proofs.evaluation.Evaluation.roots.Goals as goal
+
+pub returns : goal.returns
+returns g c = record {
+  noted_are = λ n has. c.push_nodes-2.ensures.kept n (c.push_nodes.ensures.kept n (subst (λ l. Contains l n) (sym c.in_ok-roots.ensures) has));
+  goals = has_more c.push_nodes.new.nodes.items c.push_nodes-2.new.nodes.items c.push_nodes-2.ensures.kept c.args.self.now.goals c.in_ok-push_nodes.ensures.nodes;
+  entries = c.in_ok-push_nodes-2.ensures.nodes;
+}

@@ -1,0 +1,75 @@
+//! Nodes that a call wrote are let go once nothing leads to them any more.
+ghost use Rattle.std.specs.Prelude.{◌≡◌, IfOk, OnErr, OnOk};
+ghost use Rattle.global_cache.specs.Collected.{StayBefore};
+ghost use Rattle.search_moves.specs.Drafts.{AreNoted, HasRoots, LetsGo, LetsGoAtEnd, noted};
+
+use crate::evaluation::Evaluation;
+use search_parts::context::{Delegate, NoMemory, NodeId};
+use search_parts::global_cache::GlobalCache;
+
+impl<D: Delegate> Evaluation<D> {
+    /// Lets go of the call's nodes to which nothing leads any more, if it wrote so many since it did that the last time
+    /// that it is worth it. `target` is the node of the reply for the newest goal. Where there is no memory to
+    /// find out which these are, all stay.
+    pub fn collect_drafts(&mut self, cache: &mut GlobalCache<D>, target: Option<NodeId>)
+        requires before { StayBefore self.old.drafts.first cache.old.nodes }
+        requires noted { AreNoted D.Cx.Input.eq cache.old self.old.drafts }
+        ensures lets_go { LetsGo D.Cx.Input.eq self.old target cache.old cache.new }
+        ensures first { self.new.drafts.first ≡ self.old.drafts.first }
+        ensures stored { self.new.drafts.stored ≡ self.old.drafts.stored }
+        ensures rest { self.new ≡ record self.old { drafts = self.new.drafts } }
+    {
+        if self.drafts.are_many(cache.held_nodes()) {
+            let _ = self.collect(cache, target);
+            self.drafts.looked_through(cache.held_nodes());
+        }
+    }
+
+    /// Lets go of the call's nodes to which nothing leads any more.
+    fn collect(&self, cache: &mut GlobalCache<D>, target: Option<NodeId>) -> Result<(), NoMemory>
+        requires before { StayBefore self.now.drafts.first cache.old.nodes }
+        requires noted { AreNoted D.Cx.Input.eq cache.old self.now.drafts }
+        ensures lets_go { LetsGo D.Cx.Input.eq self.now target cache.old cache.new }
+    {
+        let roots = self.roots(target)?;
+        cache.collect(self.drafts.first, &roots)
+    }
+
+    /// The nodes that stay with all that they lead to: those of stored results, this one, and those of goals under evaluation
+    /// and of provisional entries.
+    fn roots(&self, target: Option<NodeId>) -> Result<Vec<NodeId>, NoMemory>
+        ensures { IfOk result (λ roots. HasRoots D.Cx.Input.eq self.now target roots.items) }
+    {
+        let mut roots = self.settled_roots(target)?;
+        self.goals.push_nodes(&mut roots)?;
+        self.provisional.push_nodes(&mut roots)?;
+        Ok(roots)
+    }
+
+    /// Lets go of the call's nodes to which neither its answer leads, whose node is `target`, nor a stored result.
+    /// `NoMemory` where there is none to find out which these are, and then all stay.
+    pub fn settle_drafts(
+        &self,
+        cache: &mut GlobalCache<D>,
+        target: Option<NodeId>,
+    ) -> Result<(), NoMemory>
+        requires before { StayBefore self.now.drafts.first cache.old.nodes }
+        requires noted { AreNoted D.Cx.Input.eq cache.old self.now.drafts }
+        ensures settles { OnOk result (LetsGoAtEnd D.Cx.Input.eq self.now target cache.old cache.new) }
+        ensures refused { OnErr result (cache.new ≡ cache.old) }
+    {
+        let roots = self.settled_roots(target)?;
+        cache.collect(self.drafts.first, &roots)
+    }
+
+    /// The nodes of the results that the call stored, and this one.
+    fn settled_roots(&self, target: Option<NodeId>) -> Result<Vec<NodeId>, NoMemory>
+        ensures { IfOk result (λ roots. roots.items ≡ noted target self.now.drafts.stored.items) }
+    {
+        let mut roots = Vec::from_slice(self.goals.allocator(), &self.drafts.stored)?;
+        if let Some(node) = target {
+            roots.push(node)?;
+        }
+        Ok(roots)
+    }
+}
