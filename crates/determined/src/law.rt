@@ -28,7 +28,8 @@ pub fn answer_is_exact<D: Delegate>()
 /// Where some questions are settled, the same holds of graphs that stop at these: a proof graph may rest on settled
 /// questions that are true, and a refutation graph on those that are false.
 pub fn has_one_over_settled<D: Delegate>()
-    ensures { (cx : D.Cx) (settled : Question D.Cx.Input → Option Bool) (goals : List D.Cx.Input) (most : ℕ) →
+    ensures { (cx : D.Cx) (settled : Question D.Cx.Input → Option Bool) (goals : List D.Cx.Input)
+        (most : ℕ) →
         IsDecisive (verdicts D.Cx.Cx) (D.script cx) → IsClosedButSettled settled (D.script cx) goals most →
         (goal : D.Cx.Input) → Contains goals goal →
         ExactlyOne (HasProofOver settled (D.Cx.proves cx) goal)

@@ -130,7 +130,8 @@ impl<I: Copy, R: Drop> NodeList<I, R> {
         outcome: R,
     )
         requires { IsSome (open_goal self.old number) }
-        ensures { self.new ≡ with_run self.old number (ended_run replies.items edges.items outcome) }
+        ensures { self.new ≡ with_run self.old number
+            (ended_run replies.items edges.items outcome) }
     {
         let place = place_of(&self.held, number).unwrap();
         let input = self.held[place].slot.input();

@@ -158,7 +158,8 @@ impl<D: Delegate> Delegate for Refusing<D> {
         inspect: &mut Refusals<D::ProofTreeBuilder>,
     ) -> Result<Request<<D::Cx as Cx>::Input, <D::Cx as Cx>::Result>, NoMemory>
         requires { CanTake D.stands D.script frame.old reply }
-        ensures request { IfOk result (λ request. Steps D.stands D.script frame.old reply request frame.new) }
+        ensures request { IfOk result
+            (λ request. Steps D.stands D.script frame.old reply request frame.new) }
         ensures falls { OnOk result (D.left frame.new < D.left frame.old) }
         ensures same_starts { D.starts inspect.new.builder ≡ D.starts inspect.old.builder }
         ensures same_noop { D.noop inspect.new.builder ≡ D.noop inspect.old.builder }

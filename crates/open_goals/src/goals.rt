@@ -295,7 +295,8 @@ impl<X: Cx, F: Drop, S: Drop> OpenGoals<X, F, S> {
         kind: PathKind,
     ) -> Result<(), NoMemory>
         requires { 0 < length self.old }
-        ensures answered { OnOk result (AnswersNewest step 0 false ((head, cycle_head step kind) ∷ [])
+        ensures answered { OnOk result
+            (AnswersNewest step 0 false ((head, cycle_head step kind) ∷ [])
             self.old self.new) }
         ensures nested { OnOk result (NestsHead X.Input.eq step goal self.old self.new) }
     {

@@ -87,7 +87,8 @@ impl Frame {
     ghost use Rattle.parts_tests.specs.CountFrames.{request_at};
 
     fn request(&self) -> Request<Count, Outcome>
-        ensures { result ≡ request_at self.now.asks_twice self.now.goal self.now.stage self.now.outcome }
+        ensures { result ≡ request_at self.now.asks_twice self.now.goal self.now.stage
+            self.now.outcome }
     {
         if self.goal.0 == 0 {
             return Request::Done(Outcome::Yes);

@@ -78,7 +78,9 @@ pub fn cache_of(
     alloc: Global,
     answers: &[TestEntry],
 ) -> Result<ProvisionalCache<LoopsDelegate>, NoMemory>
-    ensures { IfOk result (λ cache. (input : PathKind) → All (λ entry. All (λ head. head.0.0 ≤ 1) entry.heads) (entries_at ⟦<PathKind as PartialEq>⟧.eq cache input)) }
+    ensures { IfOk result (λ cache. (input : PathKind) →
+        All (λ entry. All (λ head. head.0.0 ≤ 1) entry.heads)
+        (entries_at ⟦<PathKind as PartialEq>⟧.eq cache input)) }
 {
     let mut cache = ProvisionalCache::<LoopsDelegate>::new(alloc);
     for answer in answers {

@@ -134,7 +134,10 @@ pub fn finish_towards(
 ) -> Result<(), NoMemory>
     requires is_open { open_goal cache.old.nodes node.0 ≡ Some goal }
     requires target { IsNodeOf cache.old.nodes target.0 goal }
-    ensures ended { OnOk result (cache.new ≡ record cache.old { nodes = with_run cache.old.nodes node.0 (loop_run goal target.0 outcome) }) }
+    ensures ended { OnOk result
+        (cache.new ≡ record cache.old {
+          nodes = with_run cache.old.nodes node.0 (loop_run goal target.0 outcome);
+        }) }
     ensures refused { OnErr result (cache.new ≡ cache.old) }
 {
     let replies = vec![in alloc; Reply::Begin, Reply::Answer(outcome)]?;
@@ -157,7 +160,10 @@ pub fn finish_loop(
     outcome: Outcome,
 ) -> Result<(), NoMemory>
     requires { open_goal cache.old.nodes node.0 ≡ Some goal }
-    ensures ended { OnOk result (cache.new ≡ record cache.old { nodes = with_run cache.old.nodes node.0 (loop_run goal node.0 outcome) }) }
+    ensures ended { OnOk result
+        (cache.new ≡ record cache.old {
+          nodes = with_run cache.old.nodes node.0 (loop_run goal node.0 outcome);
+        }) }
     ensures refused { OnErr result (cache.new ≡ cache.old) }
 {
     finish_towards(cache, alloc, node, goal, node, outcome)
@@ -170,7 +176,12 @@ pub fn answered_loop(
     goal: PathKind,
     outcome: Outcome,
 ) -> Result<NodeId, NoMemory>
-    ensures { IfOk result (λ node. slice_get cache.new.nodes node.0 ≡ Some (record { goal = goal; run = Some (loop_run goal node.0 outcome); gone = false })) }
+    ensures { IfOk result
+        (λ node. slice_get cache.new.nodes node.0 ≡ Some (record {
+          goal = goal;
+          run = Some (loop_run goal node.0 outcome);
+          gone = false;
+        })) }
 {
     let node = cache.open_node(goal)?;
     finish_loop(cache, alloc, node, goal, outcome)?;

@@ -41,7 +41,14 @@ impl NestedTest<LoopsContext> for Leaves {
 
 // A result without goals below it.
 fn success(alloc: Global, outcome: Outcome, required_depth: usize) -> EvaluationResult<LoopsContext>
-    ensures { result ≡ record { encountered_overflow = false; required_depth = required_depth; heads = []; nested_goals = []; result = outcome; node = None } }
+    ensures { result ≡ record {
+      encountered_overflow = false;
+      required_depth = required_depth;
+      heads = [];
+      nested_goals = [];
+      result = outcome;
+      node = None;
+    } }
 {
     EvaluationResult {
         encountered_overflow: false,
@@ -59,7 +66,14 @@ fn overflow(
     outcome: Outcome,
     required_depth: usize,
 ) -> EvaluationResult<LoopsContext>
-    ensures { result ≡ record { encountered_overflow = true; required_depth = required_depth; heads = []; nested_goals = []; result = outcome; node = None } }
+    ensures { result ≡ record {
+      encountered_overflow = true;
+      required_depth = required_depth;
+      heads = [];
+      nested_goals = [];
+      result = outcome;
+      node = None;
+    } }
 {
     let mut evaluation_result = success(alloc, outcome, required_depth);
     evaluation_result.encountered_overflow = true;
@@ -73,7 +87,8 @@ fn store(
     evaluation_result: EvaluationResult<LoopsContext>,
 ) -> Result<(), Fault<PathKind, Outcome>>
     requires no_heads { evaluation_result.heads ≡ [] }
-    requires graph { HasGraph outcome_verdicts cache.old.nodes goal evaluation_result.result evaluation_result.node }
+    requires graph { HasGraph outcome_verdicts cache.old.nodes goal evaluation_result.result
+        evaluation_result.node }
 {
     cache.insert(goal, evaluation_result, ())
 }

@@ -26,15 +26,18 @@ pub trait Words<I, R> {
 
     /// Writes the kind of a step. Each error is the writer's; then a part may have been written.
     fn write_kind<W: Write>(&self, out: &mut W, kind: PathKind) -> io::Result<()>
-        ensures { OnOk result (Appends (W.contents out.old) (W.contents out.new) (kind_words self.now kind)) };
+        ensures { OnOk result
+            (Appends (W.contents out.old) (W.contents out.new) (kind_words self.now kind)) };
 
     /// Writes a goal.
     fn write_goal<W: Write>(&self, out: &mut W, goal: I) -> io::Result<()>
-        ensures { OnOk result (Appends (W.contents out.old) (W.contents out.new) (goal_words self.now goal)) };
+        ensures { OnOk result
+            (Appends (W.contents out.old) (W.contents out.new) (goal_words self.now goal)) };
 
     /// Writes a result.
     fn write_result<W: Write>(&self, out: &mut W, outcome: R) -> io::Result<()>
-        ensures { OnOk result (Appends (W.contents out.old) (W.contents out.new) (result_words self.now outcome)) };
+        ensures { OnOk result
+            (Appends (W.contents out.old) (W.contents out.new) (result_words self.now outcome)) };
 }
 
 /// Writes a tree, each entry on a line that is indented by its level: `i:B, run 1` for a run of a goal, which for the root
@@ -84,7 +87,8 @@ fn write_indentation<W: Write>(out: &mut W, level: usize) -> io::Result<()>
 }
 
 fn write_deep<W: Write>(out: &mut W, level: usize) -> io::Result<()>
-    ensures { OnOk result (Appends (W.contents out.old) (W.contents out.new) (deep_indentation level)) }
+    ensures { OnOk result
+        (Appends (W.contents out.old) (W.contents out.new) (deep_indentation level)) }
 {
     out.write_all(SPACES)?;
     write!(out, "[{level}] ")

@@ -93,7 +93,8 @@ impl Program {
 
 // Whether all numbers are below a bound.
 fn are_below(numbers: &[usize], bound: usize) -> bool
-    ensures { MatchBool result (All (λ n. n < bound) numbers.now) (All (λ n. n < bound) numbers.now → ⊥) }
+    ensures { MatchBool result (All (λ n. n < bound) numbers.now)
+        (All (λ n. n < bound) numbers.now → ⊥) }
 {
     numbers.iter().all(|number| *number < bound)
 }

@@ -37,7 +37,8 @@ impl Rules {
     /// `BadLine` gives the first line of another form, unless memory runs out before it is reached.
     pub fn read(alloc: Global, text: &[u8]) -> Result<Rules, ReadFault>
         ensures ok { IfOk result (Reads text.now) }
-        ensures bad_line { (n : ℕ) → result ≡ Err (ReadFault.BadLine n) → IsFirstBadLine text.now n }
+        ensures bad_line { (n : ℕ) → result ≡ Err (ReadFault.BadLine n) →
+            IsFirstBadLine text.now n }
     {
         let mut rules = Rules::new(alloc);
         for (before, line) in text.split(|byte| *byte == b'\n').enumerate() {

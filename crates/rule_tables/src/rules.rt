@@ -131,7 +131,8 @@ impl Rules {
         name: &[u8],
         questions: &[Question<'_>],
     ) -> Result<(), NoMemory>
-        ensures { OnOk result (Adds (grammar.Rule is_marked name.now (map named questions.now)) self.old self.new) }
+        ensures { OnOk result
+            (Adds (grammar.Rule is_marked name.now (map named questions.now)) self.old self.new) }
     {
         let goal = self.goal_named(alloc, name)?;
         let questions = self.askings(alloc, questions)?;
@@ -165,8 +166,10 @@ impl Rules {
         alloc: Global,
         questions: &[Question<'_>],
     ) -> Result<SmallVec<Asking, FEW>, NoMemory>
-        ensures mentions { OnOk result (Mentions self.old self.new (map (λ q. q.name.now) questions.now)) }
-        ensures asked { IfOk result (λ askings. AreAsked (names_of self.new) askings.items (map named questions.now)) }
+        ensures mentions { OnOk result
+            (Mentions self.old self.new (map (λ q. q.name.now) questions.now)) }
+        ensures asked { IfOk result
+            (λ askings. AreAsked (names_of self.new) askings.items (map named questions.now)) }
     {
         let mut askings = SmallVec::with_capacity(alloc, questions.len())?;
         for question in questions {

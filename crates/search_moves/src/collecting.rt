@@ -55,7 +55,8 @@ impl<D: Delegate> Evaluation<D> {
     ) -> Result<(), NoMemory>
         requires before { StayBefore self.now.drafts.first cache.old.nodes }
         requires noted { AreNoted D.Cx.Input.eq cache.old self.now.drafts }
-        ensures settles { OnOk result (LetsGoAtEnd D.Cx.Input.eq self.now target cache.old cache.new) }
+        ensures settles { OnOk result
+            (LetsGoAtEnd D.Cx.Input.eq self.now target cache.old cache.new) }
         ensures refused { OnErr result (cache.new ≡ cache.old) }
     {
         let roots = self.settled_roots(target)?;

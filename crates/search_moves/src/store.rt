@@ -27,7 +27,8 @@ impl<D: Delegate> Evaluation<D> {
         answer: EvaluationResult<D::Cx>,
         fate: Fate<<D::Cx as Cx>::Result>,
     ) -> Result<(), Fault<<D::Cx as Cx>::Input, <D::Cx as Cx>::Result>>
-        requires { MayStore D.Delegate D.Cx.Cx D.scoped D.Cx.Input.eq cache.old self.old input answer
+        requires { MayStore D.Delegate D.Cx.Cx D.scoped D.Cx.Input.eq cache.old self.old input
+            answer
             fate }
         ensures puts { PutsAnswer D.Cx.Input.eq input answer fate cache.old cache.new }
         ensures noted { OnOk result (
@@ -100,7 +101,8 @@ fn store_for_good<D: Delegate>(
     ensures is_stored { OnOk result (
         IsStored D.Cx.Input.eq (D.Cx.token cache.old.cx) cache.new.results input answer) }
     ensures cache { ChangesResults D.Cx.Input.eq cache.old cache.new }
-    ensures noted { OnOk result (KeepsNoted D.Cx.Input.eq cache.old drafts.old cache.new drafts.new) }
+    ensures noted { OnOk result
+        (KeepsNoted D.Cx.Input.eq cache.old drafts.old cache.new drafts.new) }
     ensures fails { IfErr result (Fails D.Delegate D.Cx.Cx D.Cx.Input.eq answer.result cache.old
         cache.new) }
     ensures plain { (n : ℕ) → IsPlainTo (D.script cache.old.cx) n input →

@@ -20,7 +20,8 @@ pub fn rebase_entries<D: Delegate>(
     requires within { (input : D.Cx.Input) →
         All (λ entry. All (λ head. head.0.0 ≤ length stack.now) entry.heads)
         (entries_at D.Cx.Input.eq provisional.old input) }
-    ensures exact { OnOk result ((input : D.Cx.Input) → entries_at D.Cx.Input.eq provisional.new input
+    ensures exact { OnOk result
+        ((input : D.Cx.Input) → entries_at D.Cx.Input.eq provisional.new input
         ≡ rebased_for (D.propagated cx input)
         (D.fixpoint_overflow cx input) reason stack.now done.now
         (entries_at D.Cx.Input.eq provisional.old input)) }

@@ -153,7 +153,8 @@ impl<X: Cx> NestedGoals<X> {
 
     /// Joins each goal of another map by its paths after the step, if there is one.
     fn join_each(&mut self, step: Option<PathKind>, more: &NestedGoals<X>) -> Result<(), NoMemory>
-        ensures ok { OnOk result (JoinsEach X.Input.eq (after_step step) self.old more.now self.new) }
+        ensures ok { OnOk result
+            (JoinsEach X.Input.eq (after_step step) self.old more.now self.new) }
         ensures err { OnErr result (self.new ≡ self.old) }
         ensures none { more.now ≡ [] → IsOk result }
     {

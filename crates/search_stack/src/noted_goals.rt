@@ -89,7 +89,8 @@ impl<X: Cx> NotedGoals<X> {
         step: Option<PathKind>,
         more: &NotedGoals<X>,
     ) -> Result<(), NoMemory>
-        ensures ok { OnOk result (JoinsEach X.Input.eq (after_step step) self.old more.now self.new) }
+        ensures ok { OnOk result
+            (JoinsEach X.Input.eq (after_step step) self.old more.now self.new) }
         ensures err { OnErr result (self.new ≡ self.old) }
         ensures none { more.now ≡ [] → IsOk result }
     {
@@ -136,7 +137,8 @@ fn join_paths<I: Eq + Hash + Copy>(
         (paths_noted raises goals.new.entries) input paths) }
     ensures noted { AreNoted I.eq raises goals.new.entries }
     ensures err { OnErr result (goals.new.entries ≡ goals.old.entries) }
-    ensures known { IsSome (paths_at I.eq (paths_noted raises goals.old.entries) input) → IsOk result }
+    ensures known { IsSome (paths_at I.eq (paths_noted raises goals.old.entries) input) →
+        IsOk result }
     ensures room { 0 < spare goals.old → IsOk result }
     ensures left { spare goals.old ≤ spare goals.new + 1 }
 {

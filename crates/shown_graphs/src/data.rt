@@ -79,7 +79,8 @@ pub(crate) fn write_answer(
     outcome: Outcome,
     nodes: &[Node<Goal, Outcome>],
 ) -> Result<(), AllocError>
-    ensures { HaveTexts (names_of rules.now) → OnOk result (Puts writer.old writer.new (claim_tokens (names_of rules.now)
+    ensures { HaveTexts (names_of rules.now) →
+        OnOk result (Puts writer.old writer.new (claim_tokens (names_of rules.now)
         (record { goal = goal; outcome = outcome; nodes = map plain_node nodes.now }))) }
 {
     writer.begin_object()?;

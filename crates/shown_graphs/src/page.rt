@@ -42,7 +42,8 @@ pub(crate) enum Page {
 impl Page {
     /// The beginning of a page about this text of rules.
     pub(crate) fn new(alloc: Global, form: Form, text: &[u8]) -> Result<Page, Stop>
-        ensures begun { IfOk result (λ page. form ≡ Form.Data → (rules : SpecRules) → Reads text.now rules →
+        ensures begun { IfOk result
+            (λ page. form ≡ Form.Data → (rules : SpecRules) → Reads text.now rules →
             HasClaims rules page []) }
         ensures fault { IfErr result (λ stop. stop ≡ Stop.Memory) }
     {
@@ -69,7 +70,8 @@ impl Page {
         goal: Goal,
         came: &Came,
     ) -> Result<(), Stop>
-        ensures added { OnOk result ((claims : List PlainClaim) → HasClaims rules.now self.old claims →
+        ensures added { OnOk result
+            ((claims : List PlainClaim) → HasClaims rules.now self.old claims →
             HasClaims rules.now self.new (claims ++ claims_of goal came.now)) }
         ensures fault { IfErr result (λ stop. stop ≡ Stop.Memory) }
     {

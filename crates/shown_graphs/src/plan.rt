@@ -92,7 +92,8 @@ impl<'a> Walk<'a> {
     // node is open.
     fn advance(&mut self, nodes: &'a [Node<Goal, Outcome>]) -> Result<bool, NoMemory>
         requires walk { IsWalk self.old.lines.items self.old.marks.items }
-        requires replayed { IsReplayed nodes.now self.old.lines.items (pending_of self.old.stack.items) }
+        requires replayed { IsReplayed nodes.now self.old.lines.items
+            (pending_of self.old.stack.items) }
         ensures walk { IsWalk self.new.lines.items self.new.marks.items }
         ensures replayed { OnOk result
             (IsReplayed nodes.now self.new.lines.items (pending_of self.new.stack.items)) }
@@ -133,7 +134,8 @@ impl<'a> Walk<'a> {
     // One more line, of the node at this place.
     fn meet(&mut self, nodes: &'a [Node<Goal, Outcome>], place: usize) -> Result<(), NoMemory>
         requires walk { IsWalk self.old.lines.items self.old.marks.items }
-        requires expected { Expects nodes.now self.old.lines.items place (pending_of self.old.stack.items) }
+        requires expected { Expects nodes.now self.old.lines.items place
+            (pending_of self.old.stack.items) }
         ensures walk { IsWalk self.new.lines.items self.new.marks.items }
         ensures replayed { OnOk result
             (IsReplayed nodes.now self.new.lines.items (pending_of self.new.stack.items)) }

@@ -34,7 +34,8 @@ pub(crate) struct Claims {
 /// Reads data as `--json` writes it: the members of each object in the same order, and none beside them. `BadData` tells
 /// before which byte of the text something else was found, and `Memory` that memory is out.
 pub(crate) fn read_claims(alloc: Global, source: &mut Source<'_>) -> Result<Claims, Stop>
-    ensures read { IfOk result (λ claims. IsPage (left_in source.old) claims.rules (map plain_claim claims.all.items)) }
+    ensures read { IfOk result
+        (λ claims. IsPage (left_in source.old) claims.rules (map plain_claim claims.all.items)) }
     ensures refused { IfErr result (StopsUnless (AreOfPage (left_in source.old))) }
 {
     source.begin_object()?;
@@ -52,7 +53,8 @@ pub(crate) fn read_claims(alloc: Global, source: &mut Source<'_>) -> Result<Clai
 fn read_lines(alloc: Global, source: &mut Source<'_>) -> Result<Vec<u8>, Stop>
     ensures spelled { IfOk result (λ text. (lines : List (List ℕ)) × (text.items ≡ text_of lines)
         × (left_in source.old ≡ array_tokens string_tokens lines (left_in source.new))) }
-    ensures refused { IfErr result (StopsUnless (Spells (λ _. ⊤) (array_tokens string_tokens) (left_in source.old))) }
+    ensures refused { IfErr result
+        (StopsUnless (Spells (λ _. ⊤) (array_tokens string_tokens) (left_in source.old))) }
 {
     let mut text = Vec::new(alloc);
     source.begin_array()?;
@@ -82,7 +84,8 @@ fn rules_of(alloc: Global, source: &Source<'_>, text: &[u8]) -> Result<Rules, St
 fn read_answers(alloc: Global, source: &mut Source<'_>, rules: &Rules) -> Result<Vec<Claim>, Stop>
     ensures spelled { IfOk result (λ claims. left_in source.old
         ≡ array_tokens (claim_tokens (names_of rules.now)) (map plain_claim claims.items) (left_in source.new)) }
-    ensures named { IfOk result (λ claims. All (IsClaim (names_of rules.now)) (map plain_claim claims.items)) }
+    ensures named { IfOk result
+        (λ claims. All (IsClaim (names_of rules.now)) (map plain_claim claims.items)) }
     ensures refused { IfErr result (StopsUnless (Spells (All (IsClaim (names_of rules.now)))
         (array_tokens (claim_tokens (names_of rules.now))) (left_in source.old))) }
 {
@@ -144,7 +147,8 @@ fn read_nodes(
 ) -> Result<Vec<Node<Goal, Outcome>>, Stop>
     ensures spelled { IfOk result (λ nodes. left_in source.old
         ≡ array_tokens (node_tokens (names_of rules.now)) (map plain_node nodes.items) (left_in source.new)) }
-    ensures named { IfOk result (λ nodes. All (IsNode (names_of rules.now)) (map plain_node nodes.items)) }
+    ensures named { IfOk result
+        (λ nodes. All (IsNode (names_of rules.now)) (map plain_node nodes.items)) }
     ensures refused { IfErr result (StopsUnless (Spells (All (IsNode (names_of rules.now)))
         (array_tokens (node_tokens (names_of rules.now))) (left_in source.old))) }
 {
@@ -206,8 +210,10 @@ fn read_replies(alloc: Global, source: &mut Source<'_>) -> Result<Vec<Reply<Outc
 }
 
 fn read_reply(source: &mut Source<'_>) -> Result<Reply<Outcome>, Stop>
-    ensures spelled { IfOk result (λ reply. left_in source.old ≡ reply_tokens reply (left_in source.new)) }
-    ensures refused { IfErr result (StopsUnless (Spells (λ _. ⊤) reply_tokens (left_in source.old))) }
+    ensures spelled { IfOk result
+        (λ reply. left_in source.old ≡ reply_tokens reply (left_in source.new)) }
+    ensures refused { IfErr result
+        (StopsUnless (Spells (λ _. ⊤) reply_tokens (left_in source.old))) }
 {
     let word = source.string()?;
     reply_of(word).ok_or(source.fault())
@@ -258,8 +264,10 @@ fn read_edge(source: &mut Source<'_>, rules: &Rules) -> Result<Edge<Goal>, Stop>
 }
 
 fn read_kind(source: &mut Source<'_>) -> Result<PathKind, Stop>
-    ensures spelled { IfOk result (λ kind. left_in source.old ≡ kind_tokens kind (left_in source.new)) }
-    ensures refused { IfErr result (StopsUnless (Spells (λ _. ⊤) kind_tokens (left_in source.old))) }
+    ensures spelled { IfOk result
+        (λ kind. left_in source.old ≡ kind_tokens kind (left_in source.new)) }
+    ensures refused { IfErr result
+        (StopsUnless (Spells (λ _. ⊤) kind_tokens (left_in source.old))) }
 {
     let letter = source.string()?;
     kind_of(letter).ok_or(source.fault())
@@ -278,8 +286,10 @@ fn read_goal(source: &mut Source<'_>, rules: &Rules) -> Result<Goal, Stop>
 }
 
 fn read_outcome(source: &mut Source<'_>) -> Result<Outcome, Stop>
-    ensures spelled { IfOk result (λ outcome. left_in source.old ≡ outcome_tokens outcome (left_in source.new)) }
-    ensures refused { IfErr result (StopsUnless (Spells (λ _. ⊤) outcome_tokens (left_in source.old))) }
+    ensures spelled { IfOk result
+        (λ outcome. left_in source.old ≡ outcome_tokens outcome (left_in source.new)) }
+    ensures refused { IfErr result
+        (StopsUnless (Spells (λ _. ⊤) outcome_tokens (left_in source.old))) }
 {
     let word = source.string()?;
     outcome_of(word).ok_or(source.fault())

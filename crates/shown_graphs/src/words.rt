@@ -38,7 +38,8 @@ pub(crate) fn kind_of(letter: &str) -> Option<PathKind>
 
 /// The goal's name. A goal of another table has none.
 pub(crate) fn name_of(rules: &Rules, goal: Goal) -> &str
-    ensures { IsUtf8 (goal_text (names_of rules.now) goal) → result.now ≡ goal_text (names_of rules.now) goal }
+    ensures { IsUtf8 (goal_text (names_of rules.now) goal) →
+        result.now ≡ goal_text (names_of rules.now) goal }
 {
     match rules.name(goal) {
         Some(name) => std::str::from_utf8(name).unwrap_or(""),

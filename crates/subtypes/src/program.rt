@@ -119,9 +119,11 @@ pub(crate) fn run<R: Read + Drop, W: Flush, E: Write + Drop>(
 
 // Whether each question was answered without a fault.
 fn answer_input<R: Read, W: Flush>(alloc: Global, input: &mut R, out: &mut W) -> Result<bool, Stop>
-    ensures told { IfOk result (IsAllTold (R.remaining input.old) (W.contents out.old) (W.contents out.new)) }
+    ensures told { IfOk result
+        (IsAllTold (R.remaining input.old) (W.contents out.old) (W.contents out.new)) }
     ensures flushed { OnOk result (W.is_flushed out.new) }
-    ensures refused { IfErr result (λ stop. status_of stop ≡ 2 → IfSome (R.remaining input.old) IsRefused) }
+    ensures refused { IfErr result
+        (λ stop. status_of stop ≡ 2 → IfSome (R.remaining input.old) IsRefused) }
     ensures nothing_written { IfErr result (λ stop. status_of stop ≡ 2 →
         Keeps (W.contents out.old) (W.contents out.new)) }
     ensures beginning { OnErr result (IsBrokenOff (R.remaining input.old)

@@ -73,7 +73,8 @@ impl TypeTable {
     // The number of the type of this name.
     fn number_of(&self, name: &[u8]) -> Result<usize, EntryFault>
         ensures number { IfOk result (λ number. IsNumberOf (names_of self.now) number name.now) }
-        ensures undeclared { IfErr result (λ fault. HasUndeclared (names_of self.now) (name.now ∷ [])) }
+        ensures undeclared { IfErr result
+            (λ fault. HasUndeclared (names_of self.now) (name.now ∷ [])) }
     {
         match self.names.number(name) {
             Some(number) => Ok(number),
@@ -83,7 +84,8 @@ impl TypeTable {
 
     // The number of a word, which may be new.
     fn word_of(&mut self, alloc: Global, word: &[u8]) -> Result<u32, EntryFault>
-        ensures number { IfOk result (λ number. slice_get (labels_of self.new) number ≡ Some word.now) }
+        ensures number { IfOk result
+            (λ number. slice_get (labels_of self.new) number ≡ Some word.now) }
         ensures grows { OnOk result (GrowsLabels self.old self.new) }
         ensures refused { IfErr result (λ fault. fault ≡ EntryFault.Memory) }
     {

@@ -30,7 +30,8 @@ pub(crate) fn unguarded_union(
 // The alternatives of each type, by their numbers: those of a union, and none of another type.
 fn union_graph(alloc: Global, types: &Types, count: usize) -> Result<Vec<Vec<usize>>, NoMemory>
     requires { count ≡ length (forms_of types.now) }
-    ensures { IfOk result (λ graph. successor_lists graph.items ≡ union_lists (forms_of types.now)) }
+    ensures { IfOk result
+        (λ graph. successor_lists graph.items ≡ union_lists (forms_of types.now)) }
 {
     let mut graph = Vec::with_capacity(alloc, count)?;
     for number in 0..count {

@@ -78,8 +78,10 @@ pub(crate) fn line_of<'a>(alloc: Global, line: &'a [u8]) -> Result<Line<'a>, Lin
 
 // The words after `type`.
 fn type_of<'a>(alloc: Global, mut words: Words<'a>) -> Result<Line<'a>, LineFault>
-    ensures said { IfOk result (λ said. Say (codes "type" ∷ words_left words.entry) (statement_of said)) }
-    ensures malformed { result ≡ Err LineFault.Malformed → SayNothing (codes "type" ∷ words_left words.entry) }
+    ensures said { IfOk result
+        (λ said. Say (codes "type" ∷ words_left words.entry) (statement_of said)) }
+    ensures malformed { result ≡ Err LineFault.Malformed →
+        SayNothing (codes "type" ∷ words_left words.entry) }
 {
     let name = words.next().ok_or(LineFault::Malformed)?;
     let Some(b"=") = words.next() else {
@@ -94,8 +96,10 @@ fn type_of<'a>(alloc: Global, mut words: Words<'a>) -> Result<Line<'a>, LineFaul
 
 // The words after `ask`.
 fn ask_of<'a>(mut words: Words<'a>) -> Result<Line<'a>, LineFault>
-    ensures said { IfOk result (λ said. Say (codes "ask" ∷ words_left words.entry) (statement_of said)) }
-    ensures malformed { result ≡ Err LineFault.Malformed → SayNothing (codes "ask" ∷ words_left words.entry) }
+    ensures said { IfOk result
+        (λ said. Say (codes "ask" ∷ words_left words.entry) (statement_of said)) }
+    ensures malformed { result ≡ Err LineFault.Malformed →
+        SayNothing (codes "ask" ∷ words_left words.entry) }
 {
     let left = words.next().ok_or(LineFault::Malformed)?;
     let Some(b"<") = words.next() else {

@@ -83,9 +83,11 @@ impl TypeTable {
     /// `Memory` where memory runs out before.
     pub fn read(alloc: Global, text: &[u8]) -> Result<TypeTable, ReadFault>
         ensures read { IfOk result (Reads text.now) }
-        ensures bad_line { (n : ℕ) → result ≡ Err (ReadFault.BadLine n) → IsFirstBadLine text.now n }
+        ensures bad_line { (n : ℕ) → result ≡ Err (ReadFault.BadLine n) →
+            IsFirstBadLine text.now n }
         ensures twice { (n : ℕ) → result ≡ Err (ReadFault.Twice n) → IsDeclaredTwice text.now n }
-        ensures undeclared { (n : ℕ) → result ≡ Err (ReadFault.Undeclared n) → IsUndeclared text.now n }
+        ensures undeclared { (n : ℕ) → result ≡ Err (ReadFault.Undeclared n) →
+            IsUndeclared text.now n }
         ensures unguarded { (n : ℕ) → result ≡ Err (ReadFault.Unguarded n) → IsUnguarded text.now }
     {
         let lines = lines_in(alloc, text)?;
@@ -100,7 +102,8 @@ impl TypeTable {
 
 // What the lines say.
 fn lines_in<'a>(alloc: Global, text: &'a [u8]) -> Result<Vec<Line<'a>>, ReadFault>
-    ensures lines { IfOk result (λ lines. AllZip Says (lines_of text.now) (map statement_of lines.items)) }
+    ensures lines { IfOk result
+        (λ lines. AllZip Says (lines_of text.now) (map statement_of lines.items)) }
     ensures fault { IfErr result (λ fault. IsOfLines text.now fault) }
 {
     let mut lines = Vec::new(alloc);

@@ -5,7 +5,8 @@ ghost use Rattle.rule_tables.specs.Words.{IsDepth};
 
 /// The number that 1 to 7 decimal digits spell, and nothing for any other word.
 pub fn depth_of(word: &[u8]) -> Option<usize>
-    ensures { MatchOption result (IsDepth word.now → ⊥) (λ depth. IsDepth word.now × (depth ≡ digits_value 10 word.now)) }
+    ensures { MatchOption result (IsDepth word.now → ⊥)
+        (λ depth. IsDepth word.now × (depth ≡ digits_value 10 word.now)) }
 {
     if word.is_empty() || word.len() > 7 {
         return None;

@@ -83,8 +83,10 @@ pub fn line_of<'a>(alloc: Global, line: &'a [u8]) -> Result<Line<'a>, LineFault>
 
 // The words after `rule`.
 fn rule_of<'a>(alloc: Global, mut words: Words<'a>) -> Result<Line<'a>, LineFault>
-    ensures ok { IfOk result (λ said. Say (codes "rule" ∷ words_left words.entry) (statement_of said)) }
-    ensures malformed { result ≡ Err LineFault.Malformed → (s : Statement) → Say (codes "rule" ∷ words_left words.entry) s → ⊥ }
+    ensures ok { IfOk result
+        (λ said. Say (codes "rule" ∷ words_left words.entry) (statement_of said)) }
+    ensures malformed { result ≡ Err LineFault.Malformed → (s : Statement) →
+        Say (codes "rule" ∷ words_left words.entry) s → ⊥ }
 {
     let head = words.next().ok_or(LineFault::Malformed)?;
     let Some(b"=") = words.next() else {
@@ -109,8 +111,10 @@ fn questions_of<'a>(
     alloc: Global,
     words: Words<'a>,
 ) -> Result<SmallVec<Question<'a>, FEW>, LineFault>
-    ensures ok { IfOk result (λ questions. AllZip IsQuestion (words_left words.entry) (map named questions.items)) }
-    ensures malformed { result ≡ Err LineFault.Malformed → (questions : List NamedQuestion) → AllZip IsQuestion (words_left words.entry) questions → ⊥ }
+    ensures ok { IfOk result
+        (λ questions. AllZip IsQuestion (words_left words.entry) (map named questions.items)) }
+    ensures malformed { result ≡ Err LineFault.Malformed → (questions : List NamedQuestion) →
+        AllZip IsQuestion (words_left words.entry) questions → ⊥ }
 {
     let mut questions = SmallVec::new(alloc);
     for word in words {
@@ -124,8 +128,10 @@ fn questions_of<'a>(
 
 // The words after `ask`.
 fn ask_of<'a>(mut words: Words<'a>) -> Result<Line<'a>, LineFault>
-    ensures ok { IfOk result (λ said. Say (codes "ask" ∷ words_left words.entry) (statement_of said)) }
-    ensures malformed { result ≡ Err LineFault.Malformed → (s : Statement) → Say (codes "ask" ∷ words_left words.entry) s → ⊥ }
+    ensures ok { IfOk result
+        (λ said. Say (codes "ask" ∷ words_left words.entry) (statement_of said)) }
+    ensures malformed { result ≡ Err LineFault.Malformed → (s : Statement) →
+        Say (codes "ask" ∷ words_left words.entry) s → ⊥ }
 {
     let digits = words.next().ok_or(LineFault::Malformed)?;
     let name = words.next().ok_or(LineFault::Malformed)?;

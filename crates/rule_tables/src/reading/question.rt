@@ -24,7 +24,8 @@ impl<'a> Default for Question<'a> {
 
 /// The question that the word is, and nothing for any other word.
 pub fn question_of(word: &[u8]) -> Option<Question<'_>>
-    ensures { MatchOption result ((q : NamedQuestion) → IsQuestion word.now q → ⊥) (λ question. IsQuestion word.now (named question)) }
+    ensures { MatchOption result ((q : NamedQuestion) → IsQuestion word.now q → ⊥)
+        (λ question. IsQuestion word.now (named question)) }
 {
     match word {
         [letter, b':', name @ ..] if is_name(name) => Some(Question {
@@ -37,7 +38,8 @@ pub fn question_of(word: &[u8]) -> Option<Question<'_>>
 
 // The kind of this letter.
 fn kind_of(letter: u8) -> Option<PathKind>
-    ensures { MatchOption result ((kind : PathKind) → letter_of kind ≡ letter → ⊥) (λ kind. letter_of kind ≡ letter) }
+    ensures { MatchOption result ((kind : PathKind) → letter_of kind ≡ letter → ⊥)
+        (λ kind. letter_of kind ≡ letter) }
 {
     match letter {
         b'i' => Some(PathKind::Inductive),

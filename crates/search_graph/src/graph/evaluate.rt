@@ -79,7 +79,8 @@ pub(crate) fn work_out<D: Delegate>(
 ) -> Result<Answer<<D::Cx as Cx>::Result>, Fault<<D::Cx as Cx>::Input, <D::Cx as Cx>::Result>>
     requires { IsNewCallFor (IsFated (D.scoped cache.old.cx) (D.script cache.old.cx) D.Cx.Input.eq
         cache.old.results (D.noop inspect.old)) input fate cache.old evaluation.old }
-    ensures evaluates { Evaluates D.Delegate D.Cx.Cx D.Cx.Input.eq cache.old.cx (fate ≡ Stored) input
+    ensures evaluates { Evaluates D.Delegate D.Cx.Cx D.Cx.Input.eq cache.old.cx
+        (fate ≡ Stored) input
         cache.old evaluation.old (D.starts inspect.old) result
         cache.new evaluation.new (D.starts inspect.new) }
     ensures settled { fate ≡ Stored → (IsLone D.Cx.Input.eq cache.old.results input → ⊥) →

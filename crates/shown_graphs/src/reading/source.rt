@@ -80,8 +80,10 @@ impl<'a> Source<'a> {
     }
 
     pub(crate) fn string(&mut self) -> Result<&'a str, Stop>
-        ensures read { IfOk result (λ text. left_in self.old ≡ string_tokens text.now (left_in self.new)) }
-        ensures refused { IfErr result (StopsUnless (Spells (λ _. ⊤) string_tokens (left_in self.old))) }
+        ensures read { IfOk result
+            (λ text. left_in self.old ≡ string_tokens text.now (left_in self.new)) }
+        ensures refused { IfErr result
+            (StopsUnless (Spells (λ _. ⊤) string_tokens (left_in self.old))) }
     {
         match self.reader.next() {
             Some(Token::String(text)) => Ok(text),
@@ -92,7 +94,8 @@ impl<'a> Source<'a> {
     /// A number without sign, point or exponent.
     pub(crate) fn number(&mut self) -> Result<usize, Stop>
         ensures read { IfOk result (λ n. left_in self.old ≡ number_tokens n (left_in self.new)) }
-        ensures refused { IfErr result (StopsUnless (Spells IsTarget number_tokens (left_in self.old))) }
+        ensures refused { IfErr result
+            (StopsUnless (Spells IsTarget number_tokens (left_in self.old))) }
     {
         match self.reader.next() {
             Some(Token::Number(text)) => number_of(text).ok_or(self.fault()),

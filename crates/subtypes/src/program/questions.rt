@@ -49,7 +49,8 @@ pub(super) fn answer_questions<T: LendsTypes, W: Flush>(
     ensures flushed { OnOk result (W.is_flushed out.new) }
 
     // Else a beginning of the lines of those that were asked.
-    ensures beginning { OnErr result (AreFirstTold table.now (W.contents out.old) (W.contents out.new)) }
+    ensures beginning { OnErr result
+        (AreFirstTold table.now (W.contents out.old) (W.contents out.new)) }
     ensures fault { IfErr result (λ stop. (stop ≡ Stop.InputOrOutput) ⊎ (stop ≡ Stop.Memory)) }
 {
     let mut waiting = Vec::with_capacity(alloc, ROOM)?;
@@ -75,7 +76,8 @@ fn ask<T: LendsTypes>(
     pair: Pair,
 ) -> Result<Told, Fault<Pair, Outcome>>
     ensures told { IfOk result (IsTold (declared_in T.types_of subtyping.old) pair) }
-    ensures same_types { declared_in T.types_of subtyping.new ≡ declared_in T.types_of subtyping.old }
+    ensures same_types { declared_in T.types_of subtyping.new
+        ≡ declared_in T.types_of subtyping.old }
 {
     let is_below = subtyping.is_below(pair.left, pair.right)?;
     let reason = if is_below {
@@ -131,7 +133,8 @@ fn write_line<W: Write>(
 }
 
 fn write_told<W: Write>(out: &mut W, told: Told) -> io::Result<()>
-    ensures { OnOk result (Appends (W.contents out.old) (W.contents out.new) (words_of_answer (Ok told))) }
+    ensures { OnOk result
+        (Appends (W.contents out.old) (W.contents out.new) (words_of_answer (Ok told))) }
 {
     let Told { is_below, reason } = told;
     let word = answer_word(is_below);
@@ -141,7 +144,8 @@ fn write_told<W: Write>(out: &mut W, told: Told) -> io::Result<()>
 }
 
 fn write_fault<W: Write>(out: &mut W, fault: Fault<Pair, Outcome>) -> io::Result<()>
-    ensures { OnOk result (Appends (W.contents out.old) (W.contents out.new) (words_of_answer (Err fault))) }
+    ensures { OnOk result
+        (Appends (W.contents out.old) (W.contents out.new) (words_of_answer (Err fault))) }
 {
     let word = fault_word(fault);
     writeln!(out, " fault {word}")

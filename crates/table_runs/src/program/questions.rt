@@ -87,7 +87,8 @@ where
     ensures flushed { OnOk result (W.is_flushed out.new) }
 
     // Else a beginning of the lines of those that were asked.
-    ensures beginning { AreCountedStarts D.starts D.noop → OnErr result (AreFirstTold D.Delegate X.Cx
+    ensures beginning { AreCountedStarts D.starts D.noop →
+        OnErr result (AreFirstTold D.Delegate X.Cx
         ⟦<Goal as PartialEq>⟧.eq checks cx rules.now (W.contents out.old) (W.contents out.new)) }
     ensures fault { IfErr result (λ stop. (stop ≡ Stop.InputOrOutput) ⊎ (stop ≡ Stop.Memory)) }
 {
@@ -144,7 +145,8 @@ fn write_line<W: Write>(
     name: &[u8],
     came: Result<Told, Fault<Goal, Outcome>>,
 ) -> io::Result<()>
-    ensures { OnOk result (Appends (W.contents out.old) (W.contents out.new) (line_told name.now came)) }
+    ensures { OnOk result
+        (Appends (W.contents out.old) (W.contents out.new) (line_told name.now came)) }
 {
     out.write_all(name)?;
     match came {
@@ -165,7 +167,8 @@ fn write_told<W: Write>(out: &mut W, told: Told) -> io::Result<()>
 }
 
 fn write_fault<W: Write>(out: &mut W, fault: Fault<Goal, Outcome>) -> io::Result<()>
-    ensures { OnOk result (Appends (W.contents out.old) (W.contents out.new) (words_of_answer (Err fault))) }
+    ensures { OnOk result
+        (Appends (W.contents out.old) (W.contents out.new) (words_of_answer (Err fault))) }
 {
     let word = fault_word(fault);
     writeln!(out, " fault {word}")
@@ -187,7 +190,8 @@ where
     ensures accepted { IfOk result (λ told. told.check ≢ Check.Refused) }
 
     // Where starts are those that the builder counts, this is the search's answer at this depth, with its frames.
-    ensures answered { AreCountedStarts D.starts D.noop → IsAnswered D.Delegate X.Cx ⟦<Goal as PartialEq>⟧.eq
+    ensures answered { AreCountedStarts D.starts D.noop →
+        IsAnswered D.Delegate X.Cx ⟦<Goal as PartialEq>⟧.eq
         checks cache.old (record { question = (depth, goal); came = result }) cache.new }
 {
     let mut graph = SearchGraph::<D>::new(alloc, depth);

@@ -35,7 +35,8 @@ impl ShownNodes {
     where
         X: Cx<Input = Goal, Result = Outcome>,
         D: Delegate<Cx = X, ProofTreeBuilder = Builder>,
-        ensures { HasGraph (verdicts X.Cx) cache.now.nodes goal outcome (Some node) → IsDefinite (verdicts X.Cx) outcome →
+        ensures { HasGraph (verdicts X.Cx) cache.now.nodes goal outcome (Some node) →
+            IsDefinite (verdicts X.Cx) outcome →
             IfOk result (λ shown. IsTrue shown) }
     {
         if self.shown.contains(&(goal, node)) {
@@ -60,7 +61,8 @@ fn is_shown<X, D>(
 where
     X: Cx<Input = Goal, Result = Outcome>,
     D: Delegate<Cx = X, ProofTreeBuilder = Builder>,
-    ensures { HasGraph (verdicts X.Cx) cache.now.nodes goal outcome (Some node) → IsDefinite (verdicts X.Cx) outcome →
+    ensures { HasGraph (verdicts X.Cx) cache.now.nodes goal outcome (Some node) →
+        IsDefinite (verdicts X.Cx) outcome →
         IfOk result (λ shown. IsTrue shown) }
 {
     let Some(graph) = cache.graph_of(node)? else {

@@ -67,7 +67,8 @@ fn write_answer<W: Write>(
     came: Result<Answer<Outcome>, Fault<Goal, Outcome>>,
     started: u64,
 ) -> io::Result<()>
-    ensures { OnOk result (Appends (W.contents out.old) (W.contents out.new) (answer_words came started)) }
+    ensures { OnOk result
+        (Appends (W.contents out.old) (W.contents out.new) (answer_words came started)) }
 {
     match came {
         Ok(answer) => {

@@ -12,7 +12,8 @@ pub(super) fn alternatives_of<'a>(
     first: &'a [u8],
     words: Words<'a>,
 ) -> Result<Vec<&'a [u8]>, LineFault>
-    ensures spelled { IfOk result (λ names. AreAlternatives (first.now ∷ codes "|" ∷ words_left words.entry)
+    ensures spelled { IfOk result
+        (λ names. AreAlternatives (first.now ∷ codes "|" ∷ words_left words.entry)
         (map (λ name. name.now) names.items)) }
     ensures malformed { result ≡ Err LineFault.Malformed → (names : List (List ℕ)) →
         AreAlternatives (first.now ∷ codes "|" ∷ words_left words.entry) names → ⊥ }

@@ -14,7 +14,8 @@ pub(super) fn fields_of<'a>(
     alloc: Global,
     words: Words<'a>,
 ) -> Result<Vec<WrittenField<'a>>, LineFault>
-    ensures spelled { IfOk result (λ fields. AreFields (words_left words.entry) (map named fields.items)) }
+    ensures spelled { IfOk result
+        (λ fields. AreFields (words_left words.entry) (map named fields.items)) }
     ensures malformed { result ≡ Err LineFault.Malformed → (fields : List NamedField) →
         AreFields (words_left words.entry) fields → ⊥ }
 {
@@ -50,7 +51,8 @@ fn is_brace(word: &[u8]) -> bool
 
 // The field of this name, if the word names a type.
 fn field_of<'a>(name: &'a [u8], word: &'a [u8]) -> Result<WrittenField<'a>, LineFault>
-    ensures same { IfOk result (λ field. named field ≡ record { name = name.now; part = word.now }) }
+    ensures same { IfOk result
+        (λ field. named field ≡ record { name = name.now; part = word.now }) }
     ensures is_name { IfOk result (λ field. IsName word.now) }
     ensures malformed { IfErr result (λ fault. IsName word.now → ⊥) }
 {
@@ -67,7 +69,8 @@ fn field_name<'a>(fields: &[WrittenField<'a>], word: &'a [u8]) -> Result<&'a [u8
     ensures is_name { IfOk result (λ name. IsName name.now) }
     ensures is_new { IfOk result (λ name.
         list_any (λ field. bytes_eq field.name.now name.now) fields.now ≡ false) }
-    ensures malformed { IfErr result (λ fault. (name : List ℕ) → word.now ≡ name ++ codes ":" → IsName name →
+    ensures malformed { IfErr result
+        (λ fault. (name : List ℕ) → word.now ≡ name ++ codes ":" → IsName name →
         list_any (λ field. bytes_eq field.name.now name) fields.now ≡ true) }
 {
     match word {
