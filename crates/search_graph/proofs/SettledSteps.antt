@@ -16,7 +16,7 @@ use Rattle.search_moves.specs.declared.evaluation.Evaluation.{Evaluation}
 use Rattle.search_moves.proofs.KeptEntries.{began_keeps_entries, noted_keeps_entries}
 use Rattle.search_moves.proofs.Settling.{pushed_settles}
 use Rattle.search_rules.specs.Lone.{IsLone, LoneRequire, NoneIsLone}
-use Rattle.search_rules.specs.Leads.{LeadsTo}
+use Rattle.search_rules.specs.Leads.{WalksToGoals}
 use Rattle.search_rules.specs.Older.{IsStop, RestOnOlder}
 use Rattle.search_rules.specs.Settled.{AnswerStaysOff, AreSettledGoals, CallNeedsTwoRuns, IsAside, IsOff, IsSettling, StaysOff}
 use Rattle.search_rules.proofs.answers.LoneGoals.{noted_none_lone, stepped_none_lone, top_not_lone}
@@ -40,11 +40,11 @@ module _ {X F I R A T : Type 0} (says : Verdicts R) (same : I → I → Bool) (n
   answered_off : (r : R) (node : Option NodeId) (v : Verdict) → v ≢ Neither → IsVerdict says (Answer r) v → AnswerStaysOff says same nodes results entries ((entry, run) ∷ below) (Answer r) node → WithAnswers run.progress.answers → (answers : List (DefiniteAnswer I)) → KeepsAnswer run.progress v node answers → WithAnswers answers
   answered_off r node v definite verdict off h answers keeps =
       let shape : verdict_shape v ≡ verdict_of says r = verdict_is says r v verdict.0 verdict.1 definite in
-      let leads = subst (λ (o : Option NodeId). IsSomeAnd o (λ n. LeadsTo says nodes (IsStop same entries (run_of (entry, run))) (IsAside same results entries (run_of (entry, run)) entry.state.nested_goals (runs_of below)) (verdict_of says r) (stack_of (frames_of says (runs_of ((entry, run) ∷ below)))) n.0)) keeps.target_is
+      let leads = subst (λ (o : Option NodeId). IsSomeAnd o (λ n. WalksToGoals says nodes (IsStop same entries (run_of (entry, run))) (IsAside same results entries (run_of (entry, run)) entry.state.nested_goals (runs_of below)) (verdict_of says r) (stack_of (frames_of says (runs_of ((entry, run) ∷ below)))) n.0)) keeps.target_is
       (off r refl (λ neither. in_theory_definite v definite (shape ∙ neither))) in
       subst WithAnswers (sym keeps.kept)
       (off_answered says same nodes results entries (record { edge = edge_to keeps.kind keeps.input keeps.node; verdict = v; candidate = open_number run.progress }) (run_of (entry, run)) entry.state.nested_goals (runs_of below)
-      (subst (λ w. LeadsTo says nodes (IsStop same entries (run_of (entry, run))) (IsAside same results entries (run_of (entry, run)) entry.state.nested_goals (runs_of below)) w (stack_of (frames_of says (runs_of ((entry, run) ∷ below)))) keeps.node.0) (sym shape) leads) h)
+      (subst (λ w. WalksToGoals says nodes (IsStop same entries (run_of (entry, run))) (IsAside same results entries (run_of (entry, run)) entry.state.nested_goals (runs_of below)) w (stack_of (frames_of says (runs_of ((entry, run) ∷ below)))) keeps.node.0) (sym shape) leads) h)
 
   definite_off : (reply : Reply R) (node : Option NodeId) (v : Verdict) → v ≢ Neither → IsVerdict says reply v → AnswerStaysOff says same nodes results entries ((entry, run) ∷ below) reply node → WithAnswers run.progress.answers → WithAnswers (received run.progress reply v node).answers
   definite_off (Answer r) node v definite verdict off h = elim (answers_received run.progress v (Answer r) node) [

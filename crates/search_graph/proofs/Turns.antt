@@ -15,7 +15,7 @@ use Rattle.search_context.specs.Graph.{HasEdge}
 use Rattle.search_graph.specs.Below.{AreFrom, AreRuns, AreSoundResults, Awaits, Cache, CacheNode, Call, ChangesNewest, CxOf, DelegateOf, fates_of, Finished, HasEnded, HasGraph, HasStopped, IsRightFor, IsRightNext, KeepsCache, KeepsFinished, KeepsFirst, KeepsNodes, KeepsResults, LeadsTo, Memory, Next, NodeId, Place, Received, Reply, Request, Run, StackEntry, Step, StopsWith, stored_at, StoredResult, verdicts, Verdicts}
 use Rattle.search_rules.proofs.records.EarlierNodes.{first_there}
 use Rattle.search_graph.specs.Turns.{HasDrafts, IsRightTurn, KeepsDrafts, TurnsCache}
-use Rattle.search_moves.specs.Drafts.{AreNoted, HasNoDrafts, LeavesReached, LetsGo, LetsGoAtEnd}
+use Rattle.search_moves.specs.Drafts.{AreNotedNodes, HasNoDrafts, LeavesReached, LetsGo, LetsGoAtEnd}
 use Rattle.search_moves.specs.Settled.{IsSettledStore, Settles, SettlesNext}
 use Rattle.search_moves.specs.declared.drafts.Drafts.{Drafts}
 use Rattle.search_moves.specs.declared.evaluation.Evaluation.{Evaluation}
@@ -125,7 +125,7 @@ module _ {D C V P F I R A T : Type 0} (same : I → I → Bool) (before : Evalua
   }
 
   -- the drafts are in order still
-  pub turn_has : (after : Evaluation D C V P F I R A T) → after.drafts.first ≡ before.drafts.first → AreFrom before.drafts.first after.goals → AreNoted same new after.drafts → HasDrafts same new after
+  pub turn_has : (after : Evaluation D C V P F I R A T) → after.drafts.first ≡ before.drafts.first → AreFrom before.drafts.first after.goals → AreNotedNodes same new after.drafts → HasDrafts same new after
   turn_has after first from noted_are = record {
     there = subst (λ n. n ≤ length new.nodes) (sym first) (first_there before.drafts.first old.nodes new.nodes has.there first_kept);
     before = subst (λ n. StayBefore n new.nodes) (sym first) (stay_before_kept old.nodes new.nodes before.drafts.first first_kept has.before);
@@ -134,7 +134,7 @@ module _ {D C V P F I R A T : Type 0} (same : I → I → Bool) (before : Evalua
   }
 
 -- drafts with the same nodes
-pub noted_of : {C I R A T : Type 0} (same : I → I → Bool) (cache : Cache C I R A T) (drafts later : Drafts) → later.first ≡ drafts.first → later.stored ≡ drafts.stored → AreNoted same cache drafts → AreNoted same cache later
+pub noted_of : {C I R A T : Type 0} (same : I → I → Bool) (cache : Cache C I R A T) (drafts later : Drafts) → later.first ≡ drafts.first → later.stored ≡ drafts.stored → AreNotedNodes same cache drafts → AreNotedNodes same cache later
 noted_of same cache drafts later first stored h = record {
   rooted = subst (λ n. AreRooted same n later.stored.items cache.results) (sym first) (subst (λ (v : Vec NodeId Global). AreRooted same drafts.first v.items cache.results) (sym stored) h.rooted);
   of_stored = λ node has. h.of_stored node (subst (λ (v : Vec NodeId Global). Contains v.items node) stored has);

@@ -2,7 +2,7 @@
 use Rattle.std.specs.Prelude.{◌≡◌, ◌≤◌, ℕ, Bool, length, List, []}
 use Rattle.global_cache.specs.Collected.{StayBefore}
 use Rattle.search_graph.specs.Below.{AreFrom, Cache, ChangesNewest, CxOf, DelegateOf, fates_of, Finished, HasReply, IsJustifiedNext, IsRightFor, KeepsFirst, KeepsResults, Next, Received, Run, StackEntry, Step, verdicts}
-use Rattle.search_moves.specs.Drafts.{AreNoted, LeavesReached}
+use Rattle.search_moves.specs.Drafts.{AreNotedNodes, LeavesReached}
 use Rattle.search_moves.specs.declared.evaluation.Evaluation.{Evaluation}
 
 module _ {D C V P F I R A T : Type 0} (same : I → I → Bool) where
@@ -12,7 +12,7 @@ module _ {D C V P F I R A T : Type 0} (same : I → I → Bool) where
     pub there : e.drafts.first ≤ length cache.nodes
     pub before : StayBefore e.drafts.first cache.nodes
     pub from : AreFrom e.drafts.first e.goals
-    pub noted_are : AreNoted same cache e.drafts
+    pub noted_are : AreNotedNodes same cache e.drafts
 
   -- this stays so; and once the call has its answer, only nodes are left of it that are reached from there or from goals of which a result is stored
   abbrev pub HasDraftsNext : Next R → Cache C I R A T → Evaluation D C V P F I R A T → Type 0

@@ -5,7 +5,7 @@ use Rattle.std.proofs.lemmas.List.{length-map, length-reverse}
 use Rattle.std.proofs.lemmas.Option.{get_or_from_slice_get, slice_get_within}
 use Rattle.search_moves.specs.Below.{DelegateOf, CxOf, Evaluate, Received, Answer, Begin, Cache, IsNeither, IsCycleResult, CacheNode, AvailableDepth, first_entry, open_node, PathKind, StackEntry, Run, Memory, path_kind_from, IsDefinite, verdicts, AreFree, AreJustified, AreReady, bound, Call, CallMeetsNone, depth_below, first_run, HasAsked, HasStopped, IsCounted, KeepsStore, IsFit, IsReady, limits, newest, NewestAsks, Pushes, runs_of, seen, Stood}
 use Rattle.search_moves.specs.declared.evaluation.Evaluation.{Evaluation}
-use Rattle.search_moves.specs.Words.{Asked, asking, ByEntry, ByStored, GoesOnWith, IsRight, IsRightFor, OverCycle, Pushed, question_depth, Refused, Requests, StopsWith}
+use Rattle.search_moves.specs.Words.{AskingLeadsTo, asking, ByEntry, ByStored, GoesOnWith, IsRight, IsRightFor, OverCycle, Pushed, question_depth, Refused, Requests, StopsWith}
 use Rattle.search_rules.proofs.justified.Finishing.{answered_newest_is_justified, begin_fits, neither_fits, neither_is, overflow_noted_is_justified, pushed_goal_is_justified, stored_taken_same}
 use Rattle.search_rules.proofs.moves.Questions.{ask_in_cycle, ask_provisional, ask_pushes, ask_refused, ask_stops, ask_stored, enclosed_refuses_none, refused_at}
 use Rattle.search_rules.proofs.moves.Moves.{not_among}
@@ -36,7 +36,7 @@ module _ {D C V P F I R A T : Type 0} (G : DelegateOf D C V P F I R A T) (X : Cx
   pub asked_goes_on :
       2 ≤ G.DIVIDE_AVAILABLE_DEPTH_ON_OVERFLOW → ((x y : I) → same x y ≡ true → x ≡ y) → ((x : I) → same x x ≡ true) → ((cycle : PathKind) (asked : I) → IsCycleResult X.is_yes X.is_no cycle (G.initial_result cx cycle asked))
       → (noop : Bool) (received : Received R) (new : Cache C I R A T) (after : Evaluation D C V P F I R A T) (later : ℕ)
-      → Asked G X same cx kind goal noop old e starts received new after later → AreReady (verdicts X) same (G.script cx) old.nodes (runs_of e.goals) e.provisional
+      → AskingLeadsTo G X same cx kind goal noop old e starts received new after later → AreReady (verdicts X) same (G.script cx) old.nodes (runs_of e.goals) e.provisional
       → (call : Call I) (ahead : ℕ) → Requests G X same cx (Evaluate kind goal) call ahead old e starts → GoesOnWith G X same cx call ahead received new after later
   asked_goes_on more exact own sorts noop received new after later (Refused goals none noted) ready call ahead h = record {
     goes_on = ask_refused G X cx call ahead kind goal starts e.limits_met same (G.stack_overflow cx goal) e.goals goals none noted h.asked;
@@ -128,7 +128,7 @@ module _ {D C V P F I R A T : Type 0} (G : DelegateOf D C V P F I R A T) (X : Cx
   pub asked_right :
       ((x : C) (asked : I) → IsNeither X.is_yes X.is_no (G.stack_overflow x asked)) → ((cycle : PathKind) (asked : I) → IsCycleResult X.is_yes X.is_no cycle (G.initial_result cx cycle asked))
       → (noop : Bool) (received : Received R) (new : Cache C I R A T) (after : Evaluation D C V P F I R A T) (later : ℕ)
-      → Asked G X same cx kind goal noop old e starts received new after later → NewestAsks (runs_of e.goals) kind goal → IsRight G X same cx old e → IsRightFor G X same cx received new after
+      → AskingLeadsTo G X same cx kind goal noop old e starts received new after later → NewestAsks (runs_of e.goals) kind goal → IsRight G X same cx old e → IsRightFor G X same cx received new after
   asked_right neither sorts noop received new after later (Refused goals none noted) asks h = record {
     right = record {
       justified = overflow_noted_is_justified (verdicts X) old.nodes same e.goals goals noted h.justified;

@@ -3,7 +3,7 @@ use Rattle.std.proofs.Common.{◌≡◌, ◌<◌, ◌||◌, ◌∙◌, Bool, fal
 use Rattle.std.specs.List.{list_any}
 use Rattle.search_moves.specs.Below.{Cache, CxOf, DelegateOf, Fated, fates_of, IsFated, MovesFates, Next, PathKind, Received, Run, StackEntry}
 use Rattle.search_moves.specs.declared.evaluation.Evaluation.{Evaluation}
-use Rattle.search_moves.specs.Words.{Asked, ByEntry, ByStored, HadMostRuns, IsDone, IsRunAgain, OverCycle, Pushed, Refused, RunLeads}
+use Rattle.search_moves.specs.Words.{AskingLeadsTo, ByEntry, ByStored, HadMostRuns, IsDone, IsRunAgain, OverCycle, Pushed, Refused, RunLeads}
 use Rattle.search_rules.proofs.Fates.{fates_left, fates_noted, fates_rerun, fates_stored, fates_taken}
 use Rattle.search_rules.specs.Fates.{Pop, Push, Stay}
 
@@ -20,7 +20,7 @@ module _ {D C V P F I R A T : Type 0} (G : DelegateOf D C V P F I R A T) (X : Cx
   -- a question
   pub asked_fates :
       (kind : PathKind) (goal : I) (old : Cache C I R A T) (e : Evaluation D C V P F I R A T) (starts : _) (noop : Bool) (received : Received R) (new : Cache C I R A T) (after : Evaluation D C V P F I R A T) (later : _)
-      → 0 < length e.goals → Asked G X same cx kind goal noop old e starts received new after later → MovesFates same (IsFated (G.scoped cx) (G.script cx) same old.results noop) (fates_of e.goals) (fates_of after.goals)
+      → 0 < length e.goals → AskingLeadsTo G X same cx kind goal noop old e starts received new after later → MovesFates same (IsFated (G.scoped cx) (G.script cx) same old.results noop) (fates_of e.goals) (fates_of after.goals)
   asked_fates kind goal old e starts noop received new after later some (Refused goals none noted) = Stay (fates_noted e.goals goals same noted)
   asked_fates kind goal old e starts noop received new after later some (ByEntry depth entry goals at is takes nested) = Stay (fates_taken e.goals goals kind 0 entry.encountered_overflow entry.heads takes)
   asked_fates kind goal old e starts noop received new after later some (ByStored depth hit goals at none is takes usable) = Stay (fates_stored e.goals goals same kind hit takes)

@@ -6,7 +6,7 @@ use Rattle.search_rules.proofs.records.EarlierNodes.{earlier_but, earlier_of_nod
 use Rattle.search_moves.specs.Below.{Cache, CacheNode, CxOf, DelegateOf, KeepsBut, KeepsEarlier, KeepsFinished, KeepsNodes, KeepsResults, Next, PathKind, Received, Run, StackEntry, StayFrom}
 use Rattle.search_moves.specs.declared.evaluation.Evaluation.{Evaluation}
 use Rattle.search_rules.specs.Fates.{Untouched}
-use Rattle.search_moves.specs.Words.{Asked, ByEntry, ByStored, ChangesCache, HadMostRuns, IsDone, IsRunAgain, KeepsCache, OverCycle, Pushed, Refused, RunLeads}
+use Rattle.search_moves.specs.Words.{AskingLeadsTo, ByEntry, ByStored, ChangesCache, HadMostRuns, IsDone, IsRunAgain, KeepsCache, OverCycle, Pushed, Refused, RunLeads}
 
 module _ {C F I R A T : Type 0} (same : I → I → Bool) (goals : List (StackEntry C I R A T × Run C F I R A T)) where
   -- one that changes nothing
@@ -66,7 +66,7 @@ module _ {D C V P F I R A T : Type 0} (G : DelegateOf D C V P F I R A T) (X : Cx
   -- the goals after a question
   pub asked_from :
       (kind : PathKind) (goal : I) (old : Cache C I R A T) (e : Evaluation D C V P F I R A T) (starts : _) (noop : Bool) (received : Received R) (new : Cache C I R A T) (after : Evaluation D C V P F I R A T) (later : _)
-      → Asked G X same cx kind goal noop old e starts received new after later → StayFrom old.nodes e.goals after.goals
+      → AskingLeadsTo G X same cx kind goal noop old e starts received new after later → StayFrom old.nodes e.goals after.goals
   asked_from kind goal old e starts noop received new after later (Refused goals none noted) = stay_noted old.nodes e.goals goals same noted
   asked_from kind goal old e starts noop received new after later (ByEntry depth entry goals at is takes nested) = stay_taken old.nodes e.goals goals kind 0 entry.encountered_overflow entry.heads takes
   asked_from kind goal old e starts noop received new after later (ByStored depth hit goals at none is takes usable) = stay_stored old.nodes e.goals goals same kind hit takes
@@ -76,7 +76,7 @@ module _ {D C V P F I R A T : Type 0} (G : DelegateOf D C V P F I R A T) (X : Cx
   -- a question leaves the drafts as they are
   pub asked_drafts :
       (kind : PathKind) (goal : I) (old : Cache C I R A T) (e : Evaluation D C V P F I R A T) (starts : _) (noop : Bool) (received : Received R) (new : Cache C I R A T) (after : Evaluation D C V P F I R A T) (later : _)
-      → Asked G X same cx kind goal noop old e starts received new after later → after.drafts ≡ e.drafts
+      → AskingLeadsTo G X same cx kind goal noop old e starts received new after later → after.drafts ≡ e.drafts
   asked_drafts kind goal old e starts noop received new after later (Refused goals none noted) = refl
   asked_drafts kind goal old e starts noop received new after later (ByEntry depth entry goals at is takes nested) = refl
   asked_drafts kind goal old e starts noop received new after later (ByStored depth hit goals at none is takes usable) = refl

@@ -6,7 +6,7 @@ use Rattle.search_moves.specs.Below.{AvailableDepth, Cache, Call, CxOf, Delegate
 use Rattle.search_moves.specs.declared.evaluation.Evaluation.{Evaluation}
 use Rattle.search_moves.specs.Evaluations.{IsNew}
 use Rattle.search_moves.specs.Settled.{KeepsEntries, NoneUsed, OneKind}
-use Rattle.search_moves.specs.Words.{Asked, asking, ByEntry, ByStored, HadMostRuns, IsDone, IsRight, IsRunAgain, OverCycle, Pushed, Refused, Requests, RunLeads}
+use Rattle.search_moves.specs.Words.{AskingLeadsTo, asking, ByEntry, ByStored, HadMostRuns, IsDone, IsRight, IsRunAgain, OverCycle, Pushed, Refused, Requests, RunLeads}
 use Rattle.search_rules.specs.Apart.{StandApart}
 use Rattle.search_rules.specs.Below.{HasStepped, NotesCandidate, paths_at, Request}
 use Rattle.search_rules.specs.Calls.{CallIsEnclosed}
@@ -44,7 +44,7 @@ module _ {D C V P F I R A T : Type 0} (G : DelegateOf D C V P F I R A T) (X : Cx
   used_have_none (NoneUsed off none) depth hit found other nested = none other
   used_have_none (OneKind kept) depth hit found other nested = used_without_entries G X same by_value cx kind goal old e starts call ahead enclosed asked right kept depth hit found other nested
 
-  pub asked_keeps_entries : KeepsEntries G same cx call old.results e.goals e.provisional → (noop : Bool) (received : Received R) (new : Cache C I R A T) (after : Evaluation D C V P F I R A T) (later : _) → Asked G X same cx kind goal noop old e starts received new after later → KeepsEntries G same cx call new.results after.goals after.provisional
+  pub asked_keeps_entries : KeepsEntries G same cx call old.results e.goals e.provisional → (noop : Bool) (received : Received R) (new : Cache C I R A T) (after : Evaluation D C V P F I R A T) (later : _) → AskingLeadsTo G X same cx kind goal noop old e starts received new after later → KeepsEntries G same cx call new.results after.goals after.provisional
   asked_keeps_entries (OneKind kept) noop received new after later comes = OneKind (asked_keeps G X same by_value cx kind goal old e starts call ahead enclosed asked right kept noop received new after later comes)
   asked_keeps_entries (NoneUsed off none) noop received new after later (Refused goals refused noted) = NoneUsed off none
   asked_keeps_entries (NoneUsed off none) noop received new after later (ByEntry depth entry goals at is takes nested) = NoneUsed off none

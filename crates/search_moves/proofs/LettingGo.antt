@@ -12,7 +12,7 @@ use Rattle.search_context.specs.Graph.{IsWalk}
 use Rattle.search_context.specs.declared.context.Edge.{Edge}
 use Rattle.search_moves.proofs.Noting.{noted_cases, of_stored_stays, still_noted, target_is_noted}
 use Rattle.search_moves.specs.Below.{AreFree, Cache, CacheNode, Call, CxOf, DelegateOf, entries_at, graph_nodes_of, HasEdge, HasGraph, IsReached, NodeId, ProvisionalCacheEntry, Received, Run, run_of, runs_of, StackEntry, Store, StoredResult, verdicts}
-use Rattle.search_moves.specs.Drafts.{AreNoted, HasRoots, IsOfStored, LetsGo, LetsGoAtEnd, noted}
+use Rattle.search_moves.specs.Drafts.{AreNotedNodes, HasRoots, IsOfStored, LetsGo, LetsGoAtEnd, noted}
 use Rattle.search_moves.specs.Evaluations.{IsRight, IsRightFor}
 use Rattle.search_moves.specs.Settled.{IsSettledStore, Settles}
 use Rattle.search_moves.specs.declared.evaluation.Evaluation.{Evaluation}
@@ -101,7 +101,7 @@ module _ {D C V P F I R A T : Type 0} (same : I → I → Bool) (e : Evaluation 
 
   -- ---- what the collecting of roots leaves
 
-  module _ (old : Cache C I R A T) (roots : List NodeId) (noted_are : AreNoted same old e.drafts) where
+  module _ (old : Cache C I R A T) (roots : List NodeId) (noted_are : AreNotedNodes same old e.drafts) where
     pub rooted_among : ((n : NodeId) → Contains (noted target e.drafts.stored.items) n → Contains roots n) → AreRooted same e.drafts.first roots old.results
     rooted_among among goal place s at = at_node s.node (noted_are.rooted goal place s at)
       where
@@ -109,7 +109,7 @@ module _ {D C V P F I R A T : Type 0} (same : I → I → Bool) (e : Evaluation 
         at_node None h = tt
         at_node (Some n) h = elim h [ inl lower ↦ inl lower | inr root ↦ inr (among n (still_noted target e.drafts.stored.items n root)) ]
 
-  module _ (old new : Cache C I R A T) (roots : List NodeId) (is : new ≡ record old { nodes = new.nodes }) (earlier : (at : ℕ) → at < e.drafts.first → slice_get new.nodes at ≡ slice_get old.nodes at) (noted_are : AreNoted same old e.drafts) (live : ℕ → Bool) (are : AreLive old.nodes e.drafts.first roots live) (collected : Collected live old.nodes new.nodes) where
+  module _ (old new : Cache C I R A T) (roots : List NodeId) (is : new ≡ record old { nodes = new.nodes }) (earlier : (at : ℕ) → at < e.drafts.first → slice_get new.nodes at ≡ slice_get old.nodes at) (noted_are : AreNotedNodes same old e.drafts) (live : ℕ → Bool) (are : AreLive old.nodes e.drafts.first roots live) (collected : Collected live old.nodes new.nodes) where
     goes_for_roots : HasRoots same e target roots → LetsGo same e target old new
     goes_for_roots has = record {
       live = live;
@@ -146,7 +146,7 @@ module _ {D C V P F I R A T : Type 0} (same : I → I → Bool) (e : Evaluation 
         ]
 
   -- whether there was memory or not
-  module _ (old new : Cache C I R A T) (roots : List NodeId) (noted_are : AreNoted same old e.drafts) (is : new ≡ record old { nodes = new.nodes }) (earlier : (at : ℕ) → at < e.drafts.first → slice_get new.nodes at ≡ slice_get old.nodes at) where
+  module _ (old new : Cache C I R A T) (roots : List NodeId) (noted_are : AreNotedNodes same old e.drafts) (is : new ≡ record old { nodes = new.nodes }) (earlier : (at : ℕ) → at < e.drafts.first → slice_get new.nodes at ≡ slice_get old.nodes at) where
     pub goes_either : {E : Type 0} (result : Result (Unit {0}) E) → OnOk result ((live : ℕ → Bool) × AreLive old.nodes e.drafts.first roots live × Collected live old.nodes new.nodes) → OnErr result (new ≡ old) → HasRoots same e target roots → LetsGo same e target old new
     goes_either (Ok u) ok err has = goes_for_roots old new roots is earlier noted_are ok.0 ok.1 ok.2 has
     goes_either (Err fault) ok err has = nothing_goes old new err
@@ -185,7 +185,7 @@ module _ {D C V P F I R A T : Type 0} (G : DelegateOf D C V P F I R A T) (X : Cx
       ready = ready_stay (verdicts X) goes.live old.nodes new.nodes goes.collected same (G.script cx) (runs_of e.goals) e.provisional goes.entries h.ready;
     }
 
-    pub noted_stay : AreNoted same old e.drafts → AreNoted same new e.drafts
+    pub noted_stay : AreNotedNodes same old e.drafts → AreNotedNodes same new e.drafts
     noted_stay h = record {
       rooted = subst (AreRooted same e.drafts.first e.drafts.stored.items) (sym same_results) h.rooted;
       of_stored = λ node has. of_stored_stays same old new node.0 same_results (goes.collected.same node.0 (goes.noted_are node has)) (h.of_stored node has);

@@ -7,7 +7,7 @@ use Rattle.global_cache.proofs.Bridge.{ended_at}
 use Rattle.global_cache.proofs.Stores.{put_cases}
 use Rattle.global_cache.specs.Store.{Puts}
 use Rattle.search_moves.specs.Below.{Cache, CxOf, finished_node, HasGraph, IsDefinite, KeepsFinished, KeepsResults, NodeId, Place, stored_at, StoredResult, verdict_of, verdicts}
-use Rattle.search_moves.specs.Drafts.{AreNoted, IsOfStored, KeepsNoted, noted}
+use Rattle.search_moves.specs.Drafts.{AreNotedNodes, IsOfStored, KeepsNoted, noted}
 use Rattle.search_moves.specs.declared.drafts.Drafts.{Drafts}
 
 some_is : {A : Type 0} (P : A → Type 0) (o : Option A) (x : A) → o ≡ Some x → IsSomeAnd o P → P x
@@ -64,7 +64,7 @@ module _ {C I R A T : Type 0} (same : I → I → Bool) (old new : Cache C I R A
     stored = still_some was.run.goal was.place results was.stored;
   }
 
-  pub noted_grows : (drafts : Drafts) → KeepsFinished old.nodes new.nodes → new.results ≡ old.results → KeepsResults same old.results new.results → AreNoted same old drafts → AreNoted same new drafts
+  pub noted_grows : (drafts : Drafts) → KeepsFinished old.nodes new.nodes → new.results ≡ old.results → KeepsResults same old.results new.results → AreNotedNodes same old drafts → AreNotedNodes same new drafts
   noted_grows drafts nodes results kept h = record {
     rooted = λ goal place s at. h.rooted goal place s (ap (λ r. stored_at same r goal place) (sym results) ∙ at);
     of_stored = λ node has. of_stored_grows node.0 nodes kept (h.of_stored node has);
@@ -93,7 +93,7 @@ module _ {C I R A T : Type 0} (same : I → I → Bool) (old new : Cache C I R A
           stored = subst (λ goal. IsSome (stored_at same new.results goal place)) (sym own) (ap is_some puts.here);
         }
 
-    pub noted_put : (before after : Drafts) → after.first ≡ before.first → after.stored.items ≡ noted stored.node before.stored.items → AreNoted same old before → AreNoted same new after
+    pub noted_put : (before after : Drafts) → after.first ≡ before.first → after.stored.items ≡ noted stored.node before.stored.items → AreNotedNodes same old before → AreNotedNodes same new after
     noted_put before after first items h = record {
       rooted = λ goal at s there. elim (put_cases same by_value old.results new.results input place stored puts goal at) [
         | inl w ↦
@@ -127,7 +127,7 @@ noted_storing same old new X by_value input place stored rest kept graph before 
 
 -- the stored results stay, and the drafts do
 pub noted_same : {C I R A T : Type 0} (same : I → I → Bool) (old new : Cache C I R A T) (before after : Drafts) → after ≡ before → KeepsFinished old.nodes new.nodes → new.results ≡ old.results → KeepsResults same old.results new.results → KeepsNoted same old before new after
-noted_same same old new before after is nodes results kept = record { first = ap (λ (d : Drafts). d.first) is; noted_are = λ h. noted_grows same old new after nodes results kept (subst (AreNoted same old) (sym is) h) }
+noted_same same old new before after is nodes results kept = record { first = ap (λ (d : Drafts). d.first) is; noted_are = λ h. noted_grows same old new after nodes results kept (subst (AreNotedNodes same old) (sym is) h) }
 
 pub noted_if_same : {C I R A T U E : Type 0} (same : I → I → Bool) (cache : Cache C I R A T) (drafts : Drafts) (result : Result U E) → OnOk result (KeepsNoted same cache drafts cache drafts)
 noted_if_same same cache drafts (Ok u) = record { first = refl; noted_are = λ h. h }

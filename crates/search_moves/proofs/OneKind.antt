@@ -7,7 +7,7 @@ use Rattle.search_moves.specs.Below.{AreJustified, AvailableDepth, Cache, CacheN
 use Rattle.search_moves.specs.declared.evaluation.Evaluation.{Evaluation}
 use Rattle.search_moves.specs.Evaluations.{IsNew}
 use Rattle.search_moves.specs.Settled.{AreKept}
-use Rattle.search_moves.specs.Words.{Asked, asking, ByEntry, ByStored, entry_for, HadMostRuns, IsDone, IsRight, IsRunAgain, OverCycle, Pushed, Refused, Requests, RunLeads, RunsAgain}
+use Rattle.search_moves.specs.Words.{AskingLeadsTo, asking, ByEntry, ByStored, entry_for, HadMostRuns, IsDone, IsRight, IsRunAgain, OverCycle, Pushed, Refused, Requests, RunLeads, RunsAgain}
 use Rattle.search_rules.specs.Below.{HasStepped, NotesCandidate, paths_at, Request}
 use Rattle.search_rules.specs.Calls.{CallIsEnclosed}
 use Rattle.search_rules.specs.EndOfRun.{IsEndOfRun, Limited, Repeats, Stable, Unused}
@@ -78,7 +78,7 @@ module _ {D C V P F I R A T : Type 0} (G : DelegateOf D C V P F I R A T) (X : Cx
     used_without_entries = none_in_used (G.script cx) same e.goals h.kinds.goals_are kind goal asks G.ENABLE_PROVISIONAL_CACHE e.provisional h.kinds have calm hit.nested_goals hit_reached by_value success.2.1
 
   -- whatever it comes to
-  pub asked_keeps : (noop : Bool) (received : Received R) (new : Cache C I R A T) (after : Evaluation D C V P F I R A T) (later : ℕ) → Asked G X same cx kind goal noop old e starts received new after later → AreKept G same cx call new.results after.goals after.provisional
+  pub asked_keeps : (noop : Bool) (received : Received R) (new : Cache C I R A T) (after : Evaluation D C V P F I R A T) (later : ℕ) → AskingLeadsTo G X same cx kind goal noop old e starts received new after later → AreKept G same cx call new.results after.goals after.provisional
   asked_keeps noop received new after later (Refused goals none noted) = absurd (enclosed_refuses_none G X cx call ahead kind goal starts e.limits_met e.goals none enclosed asked.asked)
   asked_keeps noop received new after later (ByEntry depth entry goals at is takes nested) = record {
     kinds = entry_keeps_kinds (G.script cx) same G.ENABLE_PROVISIONAL_CACHE by_value e.goals goals kind goal asks e.provisional h.kinds entry 0 entry.encountered_overflow is takes nested;

@@ -10,7 +10,7 @@ use Rattle.global_cache.proofs.NodeLists.{Grown-appended, KeepsGoals-appended}
 use Rattle.search_moves.specs.Below.{Answer, AvailableDepth, Begin, Cache, CacheNode, Call, CxOf, DelegateOf, entries_at, Evaluate, fate_for, Fated, fates_of, first_accepted, Hit, is_applicable, open_node, PathKind, path_kind_from, ProvisionalCacheEntry, Pushes, Received, Run, runs_of, StackEntry, StackDepth, stored_at, StoredResult, Success, usable, verdicts}
 use Rattle.search_moves.specs.declared.evaluation.Evaluation.{Evaluation}
 use Rattle.search_moves.specs.Settled.{KeepsEntries, Settles}
-use Rattle.search_moves.specs.Words.{Asked, asking, entry_for, ByEntry, ByStored, IsRight, OverCycle, Pushed, Refused, Requests}
+use Rattle.search_moves.specs.Words.{AskingLeadsTo, asking, entry_for, ByEntry, ByStored, IsRight, OverCycle, Pushed, Refused, Requests}
 use Rattle.search_moves.proofs.Asking.{carried}
 use Rattle.search_moves.proofs.KeptEntries.{asked_keeps_entries, entries_apart, used_have_none}
 use Rattle.search_rules.specs.Apart.{StandApart}
@@ -113,11 +113,11 @@ module _ {D C V P F I R A T : Type 0} (G : DelegateOf D C V P F I R A T) (X : Cx
   nested_none : (depth : AvailableDepth) (hit : Hit I R T) → first_accepted (is_applicable same (asking G X same cx kind goal e)) (usable same old.results goal depth.0) ≡ Some hit → (other : I) → IsSome (paths_at same hit.nested_goals other) → entries_at same e.provisional other ≡ []
   nested_none = used_have_none G X same by_value cx kind goal old e starts call ahead needs.needs.enclosed asked right kept
 
-  kept_then : (received : Received R) (new : Cache C I R A T) (after : Evaluation D C V P F I R A T) (later : ℕ) → Asked G X same cx kind goal noop old e starts received new after later → KeepsEntries G same cx call new.results after.goals after.provisional
+  kept_then : (received : Received R) (new : Cache C I R A T) (after : Evaluation D C V P F I R A T) (later : ℕ) → AskingLeadsTo G X same cx kind goal noop old e starts received new after later → KeepsEntries G same cx call new.results after.goals after.provisional
   kept_then = asked_keeps_entries G X same by_value cx kind goal old e starts call ahead needs.needs.enclosed asked right kept noop
 
   -- whatever the question comes to
-  pub asked_settles : (received : Received R) (new : Cache C I R A T) (after : Evaluation D C V P F I R A T) (later : ℕ) → Asked G X same cx kind goal noop old e starts received new after later → Settles G X same cx call received new after
+  pub asked_settles : (received : Received R) (new : Cache C I R A T) (after : Evaluation D C V P F I R A T) (later : ℕ) → AskingLeadsTo G X same cx kind goal noop old e starts received new after later → Settles G X same cx call received new after
   asked_settles received new after later (Refused goals none noted) = absurd (enclosed_refuses_none G X cx call ahead kind goal starts e.limits_met e.goals none needs.needs.enclosed asked.asked)
   asked_settles received new after later (ByEntry depth entry goals at is takes nested) = record {
     settling = record {

@@ -34,25 +34,25 @@ module _ {D C V P F I R A T : Type 0} (G : DelegateOf D C V P F I R A T) (X : Cx
   -- used; else by a stored result, if one may be used; else over a cycle, if its goal is on the stack; else its goal is pushed. With a
   -- builder that records no stored result is used, and that of a goal that is pushed is not stored; in a scope it is compared with the
   -- one that is stored.
-  pub data Asked (noop : Bool) (old : Cache C I R A T) (e : Evaluation D C V P F I R A T) (starts : ℕ) : Received R → Cache C I R A T → Evaluation D C V P F I R A T → ℕ → Type 0 where
+  pub data AskingLeadsTo (noop : Bool) (old : Cache C I R A T) (e : Evaluation D C V P F I R A T) (starts : ℕ) : Received R → Cache C I R A T → Evaluation D C V P F I R A T → ℕ → Type 0 where
     Refused :
         (goals : List (StackEntry C I R A T × Run C F I R A T))
         → None ≡ question_depth G e → NotesOverflow same e.goals goals
-        → Asked noop old e starts (record { reply = reply.Answer (G.stack_overflow cx goal); node = None }) old (record e { goals = goals; limits_met = true }) starts
+        → AskingLeadsTo noop old e starts (record { reply = reply.Answer (G.stack_overflow cx goal); node = None }) old (record e { goals = goals; limits_met = true }) starts
     ByEntry :
         (depth : AvailableDepth) (entry : ProvisionalCacheEntry C I R A T) (goals : List (StackEntry C I R A T × Run C F I R A T))
         → Some depth.0 ≡ question_depth G e → entry_for e ≡ Some entry → AnswersNewest kind 0 entry.encountered_overflow entry.heads e.goals goals → NestsItself same e.goals goals
-        → Asked noop old e starts (record { reply = reply.Answer entry.result; node = entry.node }) old (record e { goals = goals }) starts
+        → AskingLeadsTo noop old e starts (record { reply = reply.Answer entry.result; node = entry.node }) old (record e { goals = goals }) starts
     ByStored :
         (depth : AvailableDepth) (hit : Hit I R T) (goals : List (StackEntry C I R A T × Run C F I R A T))
         → Some depth.0 ≡ question_depth G e → entry_for e ≡ None → stored_for noop old e depth.0 ≡ Some hit → TakesStored same kind hit e.goals goals
         → IsUsable same (G.script cx) old.results goal depth.0 hit
-        → Asked noop old e starts (record { reply = reply.Answer hit.result; node = hit.node }) old (record e { goals = goals }) starts
+        → AskingLeadsTo noop old e starts (record { reply = reply.Answer hit.result; node = hit.node }) old (record e { goals = goals }) starts
     OverCycle :
         (depth : AvailableDepth) (head : StackDepth) (received : Received R) (goals : List (StackEntry C I R A T × Run C F I R A T))
         → Some depth.0 ≡ question_depth G e → entry_for e ≡ None → stored_for noop old e depth.0 ≡ None
         → list_any (λ s. same goal s.0.input) e.goals ≡ true → ClosesCycle G X cx same kind goal head received e.goals goals
-        → Asked noop old e starts received old (record e { goals = goals }) starts
+        → AskingLeadsTo noop old e starts received old (record e { goals = goals }) starts
     Pushed :
         (depth : AvailableDepth) (goals : List (StackEntry C I R A T × Run C F I R A T)) (nodes : List (CacheNode I R)) (later : ℕ)
         → Some depth.0 ≡ question_depth G e → entry_for e ≡ None → stored_for noop old e depth.0 ≡ None
@@ -60,4 +60,4 @@ module _ {D C V P F I R A T : Type 0} (G : DelegateOf D C V P F I R A T) (X : Cx
         → fates_of goals ≡ record { goal = goal; depth = depth.0; fate = fate_for noop (G.scoped cx goal) (found_for old e depth.0) } ∷ fates_of e.goals
         → IsFated (G.scoped cx) (G.script cx) same old.results noop (record { goal = goal; depth = depth.0; fate = fate_for noop (G.scoped cx goal) (found_for old e depth.0) })
         → later ≤ starts + 1 → (G.counts ≡ true → CountsOne G.last starts later)
-        → Asked noop old e starts (record { reply = reply.Begin; node = None }) (record old { nodes = nodes }) (record e { goals = goals }) later
+        → AskingLeadsTo noop old e starts (record { reply = reply.Begin; node = None }) (record old { nodes = nodes }) (record e { goals = goals }) later

@@ -27,14 +27,14 @@ module _ {C I R A T : Type 0} (same : I → I → Bool) where
     pub stored : IsSome (stored_at same cache.results run.goal place)
 
   -- The node of each stored result was there when the call began, or is noted; and each noted one is of a goal of which a result is stored.
-  pub record AreNoted (cache : Cache C I R A T) (drafts : Drafts) : Type 0 where
+  pub record AreNotedNodes (cache : Cache C I R A T) (drafts : Drafts) : Type 0 where
     pub rooted : AreRooted same drafts.first drafts.stored.items cache.results
     pub of_stored : (node : NodeId) → Contains drafts.stored.items node → IsOfStored cache node.0
 
   -- this stays so, of the same call
   pub record KeepsNoted (old : Cache C I R A T) (before : Drafts) (new : Cache C I R A T) (after : Drafts) : Type 0 where
     pub first : after.first ≡ before.first
-    pub noted_are : AreNoted old before → AreNoted new after
+    pub noted_are : AreNotedNodes old before → AreNotedNodes new after
 
   -- Each node from this place on whose run has ended is reached from the answer's node, or from one of a goal of which a result is stored.
   abbrev pub LeavesReached : ℕ → Option NodeId → Cache C I R A T → Type 0

@@ -2,7 +2,7 @@
 pub use Rattle.search_moves.specs.Evaluations.{Awaits, ChangesCache, EndsWith, GoesOnWith, HasReply, HasRequest, IsNew, IsRight}
 pub use Rattle.search_moves.specs.Evaluations.{IsRememberedWhere, IsRightFor, IsRightNext, KeepsCache, LeadsTo, Moves}
 pub use Rattle.search_moves.specs.Evaluations.{Requests, StartsFrame, StopsWith}
-pub use Rattle.search_moves.specs.Asked.{Asked, asking, ByEntry, ByStored, entry_for, OverCycle, Pushed}
+pub use Rattle.search_moves.specs.Asked.{AskingLeadsTo, asking, ByEntry, ByStored, entry_for, OverCycle, Pushed}
 pub use Rattle.search_moves.specs.Asked.{question_depth, Refused, stored_for}
 pub use Rattle.search_moves.specs.Popped.{MayPop, Pops}
 pub use Rattle.search_moves.specs.RunAgain.{MayRunAgain, RunsAgain}

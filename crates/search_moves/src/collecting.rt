@@ -1,7 +1,7 @@
 //! Nodes that a call wrote are let go once nothing leads to them any more.
 ghost use Rattle.std.specs.Prelude.{◌≡◌, IfOk, OnErr, OnOk};
 ghost use Rattle.global_cache.specs.Collected.{StayBefore};
-ghost use Rattle.search_moves.specs.Drafts.{AreNoted, HasRoots, LetsGo, LetsGoAtEnd, noted};
+ghost use Rattle.search_moves.specs.Drafts.{AreNotedNodes, HasRoots, LetsGo, LetsGoAtEnd, noted};
 
 use crate::evaluation::Evaluation;
 use search_parts::context::{Delegate, NoMemory, NodeId};
@@ -13,7 +13,7 @@ impl<D: Delegate> Evaluation<D> {
     /// find out which these are, all stay.
     pub fn collect_drafts(&mut self, cache: &mut GlobalCache<D>, target: Option<NodeId>)
         requires before { StayBefore self.old.drafts.first cache.old.nodes }
-        requires noted { AreNoted D.Cx.Input.eq cache.old self.old.drafts }
+        requires noted { AreNotedNodes D.Cx.Input.eq cache.old self.old.drafts }
         ensures lets_go { LetsGo D.Cx.Input.eq self.old target cache.old cache.new }
         ensures first { self.new.drafts.first ≡ self.old.drafts.first }
         ensures stored { self.new.drafts.stored ≡ self.old.drafts.stored }
@@ -28,7 +28,7 @@ impl<D: Delegate> Evaluation<D> {
     /// Lets go of the call's nodes to which nothing leads any more.
     fn collect(&self, cache: &mut GlobalCache<D>, target: Option<NodeId>) -> Result<(), NoMemory>
         requires before { StayBefore self.now.drafts.first cache.old.nodes }
-        requires noted { AreNoted D.Cx.Input.eq cache.old self.now.drafts }
+        requires noted { AreNotedNodes D.Cx.Input.eq cache.old self.now.drafts }
         ensures lets_go { LetsGo D.Cx.Input.eq self.now target cache.old cache.new }
     {
         let roots = self.roots(target)?;
@@ -54,7 +54,7 @@ impl<D: Delegate> Evaluation<D> {
         target: Option<NodeId>,
     ) -> Result<(), NoMemory>
         requires before { StayBefore self.now.drafts.first cache.old.nodes }
-        requires noted { AreNoted D.Cx.Input.eq cache.old self.now.drafts }
+        requires noted { AreNotedNodes D.Cx.Input.eq cache.old self.now.drafts }
         ensures settles { OnOk result
             (LetsGoAtEnd D.Cx.Input.eq self.now target cache.old cache.new) }
         ensures refused { OnErr result (cache.new ≡ cache.old) }

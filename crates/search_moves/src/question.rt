@@ -4,7 +4,7 @@ ghost use Rattle.std.specs.Prelude.{◌≡◌, ◌<◌, ◌||◌, ◌∷◌, ℕ
 ghost use Rattle.std.specs.List.{list_any, position};
 ghost use Rattle.std.specs.Option.{is_none, option_map, option_and_then};
 ghost use Rattle.search_moves.specs.Below.{depth_below, KeepsBuilder, CacheNode, KeepsNodes, Lists, Store, ProvisionalCacheEntry, Evaluate, StoredResult, Memory, newest, Call, AreFree, ClosesCycle, Pushes, NewestAsks, AreJustified, IsFit, AreReady, runs_of, fates_of};
-ghost use Rattle.search_moves.specs.Words.{HasRequest, Requests, IsRightFor, GoesOnWith, StopsWith, KeepsCache, StartsFrame, Asked, question_depth};
+ghost use Rattle.search_moves.specs.Words.{HasRequest, Requests, IsRightFor, GoesOnWith, StopsWith, KeepsCache, StartsFrame, AskingLeadsTo, question_depth};
 
 use crate::evaluation::Evaluation;
 use open_goals::candidates::FinishedCandidates;
@@ -29,7 +29,7 @@ impl<D: Delegate> Evaluation<D> {
         requires { HasRequest D.Delegate D.Cx.Cx D.Cx.Input.eq cache.old.cx (Evaluate kind input)
             cache.old self.old (D.starts inspect.old) }
         ensures asked { IfOk result (λ received.
-            Asked D.Delegate D.Cx.Cx D.Cx.Input.eq cache.old.cx kind input (D.noop inspect.old)
+            AskingLeadsTo D.Delegate D.Cx.Cx D.Cx.Input.eq cache.old.cx kind input (D.noop inspect.old)
             cache.old self.old (D.starts inspect.old) received
             cache.new self.new (D.starts inspect.new)) }
         ensures meets { self.new.limits_met

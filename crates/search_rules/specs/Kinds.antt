@@ -3,7 +3,7 @@
 use Rattle.std.specs.Prelude.{◌≡◌, ◌⊎◌, ℕ, Bool, true, false, All, Contains, IsSome, length, List, [], ◌∷◌, Some}
 use Rattle.cycle_heads.specs.Paths.{has_empty}
 use Rattle.search_rules.specs.Below.{at_depth, entries_at, has_kind, Heads, Lists, NestedPaths, paths_at, PathKind, PathsToNested, ProvisionalCacheEntry, Reply, Request, Run, StackDepth, StackEntry, Store, stored_at, StoredResult, Success}
-use Rattle.search_rules.specs.OneKind.{Asks, AsksByOneKind, Leads, Reaches}
+use Rattle.search_rules.specs.OneKind.{MayAsk, AsksByOneKind, MayLeadTo, MayReach}
 
 -- no provisional entry is used, or goals that reach each other ask by one kind
 abbrev pub EntriesSuit : {I R : Type 0} → (enabled : Bool) → (I → List (Reply R) → Request I R) → Type 0
@@ -12,7 +12,7 @@ EntriesSuit enabled scripts = (enabled ≡ false) ⊎ AsksByOneKind scripts
 -- The paths have the one of no step, and it is the same goal; or they have one whose kind is that of a walk of questions from the goal
 -- to the other.
 abbrev pub IsReachedBy : {I R : Type 0} → (I → List (Reply R) → Request I R) → I → PathsToNested → I → Type 0
-IsReachedBy scripts goal paths other = ((has_empty paths ≡ true) × (other ≡ goal)) ⊎ ((kind : PathKind) × (has_kind paths kind ≡ true) × Leads scripts goal kind other)
+IsReachedBy scripts goal paths other = ((has_empty paths ≡ true) × (other ≡ goal)) ⊎ ((kind : PathKind) × (has_kind paths kind ≡ true) × MayLeadTo scripts goal kind other)
 
 module _ {I R : Type 0} (scripts : I → List (Reply R) → Request I R) (same : I → I → Bool) where
   -- each nested goal is reached by its paths
@@ -30,7 +30,7 @@ StoredSuit enabled scripts same goals results = (enabled ≡ false) ⊎ StoredRe
 
 -- each question on a closed walk of questions over the goal is of this kind
 abbrev pub AskedByKind : {I R : Type 0} → (I → List (Reply R) → Request I R) → I → PathKind → Type 0
-AskedByKind {I} scripts goal kind = (other : I) (other_kind : PathKind) (asked : I) → Asks scripts other other_kind asked → Reaches scripts asked goal → Reaches scripts goal other → other_kind ≡ kind
+AskedByKind {I} scripts goal kind = (other : I) (other_kind : PathKind) (asked : I) → MayAsk scripts other other_kind asked → MayReach scripts asked goal → MayReach scripts goal other → other_kind ≡ kind
 
 -- the goal under evaluation at this place, counted from below, is this one
 abbrev pub IsGoalAt : {X F I R A T : Type 0} → List (StackEntry X I R A T × Run X F I R A T) → ℕ → I → Type 0
@@ -42,8 +42,8 @@ module _ {X F I R A T : Type 0} (scripts : I → List (Reply R) → Request I R)
   pub record IsJoinedTo (goals : List (StackEntry X I R A T × Run X F I R A T)) (goal : I) (place : ℕ) : Type 0 where
     pub head : I
     pub is_at : IsGoalAt goals place head
-    pub there : Reaches scripts goal head
-    pub back : Reaches scripts head goal
+    pub there : MayReach scripts goal head
+    pub back : MayReach scripts head goal
 
   -- the goal and each of the heads reach each other
   abbrev pub AreJoined : List (StackEntry X I R A T × Run X F I R A T) → I → Heads → Type 0
@@ -52,7 +52,7 @@ module _ {X F I R A T : Type 0} (scripts : I → List (Reply R) → Request I R)
   -- the newest goal asks this question; an outer call asks for anything
   abbrev pub AsksNewest : List (StackEntry X I R A T × Run X F I R A T) → PathKind → I → Type 0
   AsksNewest [] kind goal = Unit {0}
-  AsksNewest (s ∷ below) kind goal = Asks scripts s.0.input kind goal
+  AsksNewest (s ∷ below) kind goal = MayAsk scripts s.0.input kind goal
 
   module _ (same : I → I → Bool) where
     -- the goal was asked by the one below it, is joined to its heads, and reaches its nested goals

@@ -17,9 +17,9 @@ WalksTo nodes verdict stack Stops Inner a =
 
 module _ {I R : Type 0} where
   -- the node's goal is one of which this holds
-  abbrev pub HasGoal : List (CacheNode I R) → (I → Type 0) → ℕ → Type 0
-  HasGoal nodes Holds b = (goal : I) → IsNodeOf nodes b goal → Holds goal
+  abbrev pub HasSuchGoal : List (CacheNode I R) → (I → Type 0) → ℕ → Type 0
+  HasSuchGoal nodes Holds b = (goal : I) → IsNodeOf nodes b goal → Holds goal
 
   -- each node that such a walk comes to is one at which walks stop, or its goal is one of which this holds
-  abbrev pub LeadsTo : Verdicts R → List (CacheNode I R) → (ℕ → Type 0) → (I → Type 0) → theory.Verdict → List Entry → ℕ → Type 0
-  LeadsTo says nodes Stops Holds verdict stack = WalksTo (shapes_of says nodes) verdict stack Stops (HasGoal nodes Holds)
+  abbrev pub WalksToGoals : Verdicts R → List (CacheNode I R) → (ℕ → Type 0) → (I → Type 0) → theory.Verdict → List Entry → ℕ → Type 0
+  WalksToGoals says nodes Stops Holds verdict stack = WalksTo (shapes_of says nodes) verdict stack Stops (HasSuchGoal nodes Holds)

@@ -4,23 +4,23 @@ use Rattle.search_rules.specs.Below.{Evaluate, greater_kind, IsFitting, PathKind
 
 module _ {I R : Type 0} (scripts : I → List (Reply R) → Request I R) where
   -- the goal's script asks this question after some replies
-  pub record Asks (goal : I) (kind : PathKind) (asked : I) : Type 0 where
+  pub record MayAsk (goal : I) (kind : PathKind) (asked : I) : Type 0 where
     pub replies : List (Reply R)
     pub fitting : IsFitting (scripts goal) replies
     pub asks : request_after (scripts goal) replies ≡ Some (Evaluate kind asked)
 
   -- a walk of questions leads from the first goal to the second, perhaps one of no step
-  pub data Reaches : I → I → Type 0 where
-    here : {goal : I} → Reaches goal goal
-    on : {goal : I} {kind : PathKind} {asked : I} {other : I} → Asks goal kind asked → Reaches asked other → Reaches goal other
+  pub data MayReach : I → I → Type 0 where
+    here : {goal : I} → MayReach goal goal
+    on : {goal : I} {kind : PathKind} {asked : I} {other : I} → MayAsk goal kind asked → MayReach asked other → MayReach goal other
 
   -- a walk of one question or more, and the greatest kind of its questions
-  pub data Leads : I → PathKind → I → Type 0 where
-    last : {goal : I} {kind : PathKind} {asked : I} → Asks goal kind asked → Leads goal kind asked
-    first : {goal : I} {kind : PathKind} {asked : I} {rest : PathKind} {other : I} → Asks goal kind asked → Leads asked rest other → Leads goal (greater_kind kind rest) other
+  pub data MayLeadTo : I → PathKind → I → Type 0 where
+    last : {goal : I} {kind : PathKind} {asked : I} → MayAsk goal kind asked → MayLeadTo goal kind asked
+    first : {goal : I} {kind : PathKind} {asked : I} {rest : PathKind} {other : I} → MayAsk goal kind asked → MayLeadTo asked rest other → MayLeadTo goal (greater_kind kind rest) other
 
   -- any two questions on one closed walk of questions are of one kind
   abbrev pub AsksByOneKind : Type 0
   AsksByOneKind =
       (goal : I) (kind : PathKind) (asked other : I) (other_kind : PathKind) (other_asked : I)
-      → Asks goal kind asked → Reaches asked other → Asks other other_kind other_asked → Reaches other_asked goal → kind ≡ other_kind
+      → MayAsk goal kind asked → MayReach asked other → MayAsk other other_kind other_asked → MayReach other_asked goal → kind ≡ other_kind

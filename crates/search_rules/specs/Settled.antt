@@ -9,7 +9,7 @@ use Rattle.search_rules.specs.Below.{Answer, CacheNode, CxOf, DefiniteAnswer, De
 use Rattle.search_rules.specs.Calls.{Call}
 use Rattle.search_rules.specs.Justified.{cycles_node, frames_of, OpenRun, verdict_shape}
 use Rattle.search_rules.specs.Kinds.{EntriesSuit}
-use Rattle.search_rules.specs.Leads.{LeadsTo}
+use Rattle.search_rules.specs.Leads.{WalksToGoals}
 use Rattle.search_rules.specs.Lone.{IsLone, LoneRequire, NoneIsLone}
 use Rattle.search_rules.specs.Older.{HasEntry, HasNoOlder, IsStop, RestOnOlder}
 use Rattle.search_rules.specs.Runs.{run_of, runs_of}
@@ -77,13 +77,13 @@ module _ {X I R A T : Type 0} (says : Verdicts R) (same : I → I → Bool) (nod
     -- and have no entries that are older than the goal; and the goal knows them: they are nested in it or lone.
     pub record StaysOff (o : OpenRun I R) (nested : NestedPaths I) (below : List (OpenRun I R)) : Type 0 where
       pub answers : (i : ℕ) (a : DefiniteAnswer I) → slice_get o.answers i ≡ Some a → counted_by o.ignored a.candidate ≡ true
-          → LeadsTo says nodes (IsStop same entries o) (IsAside same results entries o nested below) (verdict_shape a.verdict) (stack_of (frames_of says (o ∷ below))) a.edge.target
+          → WalksToGoals says nodes (IsStop same entries o) (IsAside same results entries o nested below) (verdict_shape a.verdict) (stack_of (frames_of says (o ∷ below))) a.edge.target
       pub earlier : (r : R) → o.provisional ≡ Some r → IsDefinite says r
-          → LeadsTo says nodes (IsStop same entries o) (IsBehind same results entries o nested below) (verdict_of says r) (stack_of (frames_of says below)) (cycles_node o)
+          → WalksToGoals says nodes (IsStop same entries o) (IsBehind same results entries o nested below) (verdict_of says r) (stack_of (frames_of says below)) (cycles_node o)
 
     -- so is what the entry with this node rests on
     abbrev pub EntryStaysOff : OpenRun I R → NestedPaths I → List (OpenRun I R) → ProvisionalCacheEntry X I R A T → ℕ → Type 0
-    EntryStaysOff o nested below entry = LeadsTo says nodes (IsStop same entries o) (IsAside same results entries o nested below) (verdict_of says entry.result) (stack_of (frames_of says (o ∷ below)))
+    EntryStaysOff o nested below entry = WalksToGoals says nodes (IsStop same entries o) (IsAside same results entries o nested below) (verdict_of says entry.result) (stack_of (frames_of says (o ∷ below)))
 
     module _ {F : Type 0} where
       -- The goal's answers stay off the goals under evaluation, and it is none of those below it; so do the entries that were made since it
@@ -117,4 +117,4 @@ module _ {X I R A T : Type 0} (says : Verdicts R) (same : I → I → Bool) (nod
       AnswerStaysOff [] reply target = Unit {0}
       AnswerStaysOff (s ∷ below) reply target =
           (r : R) → reply ≡ Answer r → IsDefinite says r
-          → IsSomeAnd target (λ n. LeadsTo says nodes (IsStop same entries (run_of s)) (IsAside same results entries (run_of s) s.0.state.nested_goals (runs_of below)) (verdict_of says r) (stack_of (frames_of says (runs_of (s ∷ below)))) n.0)
+          → IsSomeAnd target (λ n. WalksToGoals says nodes (IsStop same entries (run_of s)) (IsAside same results entries (run_of s) s.0.state.nested_goals (runs_of below)) (verdict_of says r) (stack_of (frames_of says (runs_of (s ∷ below)))) n.0)

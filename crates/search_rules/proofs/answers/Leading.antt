@@ -12,7 +12,7 @@ use Rattle.open_graphs.proofs.Walks.{carried}
 use Rattle.global_cache.proofs.Finished.{finished_stays, Grown-finished}
 use Rattle.search_rules.specs.Below.{CacheNode, Entry, IsNodeOf, KeepsFinished, KeepsGoals, no_heads, shape_of, shapes_of, stack_of, Use, UsesNo, Verdicts}
 use Rattle.search_rules.specs.Justified.{frames_of, OpenRun}
-use Rattle.search_rules.specs.Leads.{HasGoal, LeadsTo, StepOn}
+use Rattle.search_rules.specs.Leads.{HasSuchGoal, WalksToGoals, StepOn}
 use Rattle.search_rules.specs.Settled.{LeadsOnly}
 use Rattle.search_rules.proofs.justified.Justified.{no_answers}
 
@@ -57,11 +57,11 @@ module _ {I R : Type 0} (says : Verdicts R) (nodes : List (CacheNode I R)) where
       ]
 
   -- the goals that are reached keep their goals, of which the same holds, or what follows from that
-  pub goals_later : (after : List (CacheNode I R)) → KeepsGoals nodes after → (P Q : I → Type 0) → ((goal : I) → P goal → Q goal) → (v : theory.Verdict) (b : ℕ) → theory.IsFinished (shapes_of says nodes) v b → HasGoal nodes P b → HasGoal after Q b
+  pub goals_later : (after : List (CacheNode I R)) → KeepsGoals nodes after → (P Q : I → Type 0) → ((goal : I) → P goal → Q goal) → (v : theory.Verdict) (b : ℕ) → theory.IsFinished (shapes_of says nodes) v b → HasSuchGoal nodes P b → HasSuchGoal after Q b
   goals_later after kept P Q more v b f holds = λ goal is. more goal (holds goal (goal_before after kept v b f goal is))
 
   -- walks stop over a stack, and at further nodes
-  pub leads_over : (P : I → Type 0) (v : theory.Verdict) (stack : List Entry) (Stops : ℕ → Type 0) (a : ℕ) → theory_use.OpenGraph (shapes_of says nodes) v [] a → LeadsOnly says nodes P v [] a → LeadsTo says nodes Stops P v stack a
+  pub leads_over : (P : I → Type 0) (v : theory.Verdict) (stack : List Entry) (Stops : ℕ → Type 0) (a : ℕ) → theory_use.OpenGraph (shapes_of says nodes) v [] a → LeadsOnly says nodes P v [] a → WalksToGoals says nodes Stops P v stack a
   leads_over P v stack Stops a graph leads = λ b q w.
       let v = carried (theory_use.Step (shapes_of says nodes) v []) (StepOn (shapes_of says nodes) v stack Stops) (λ b. Unit {0}) (λ b k c h s. record { edge = s.step.edge; inner = λ l. no_answers l.0 l.1 l.2 }) (λ b k c h e. tt) tt w in
       elim (leads b q v) [
@@ -71,7 +71,7 @@ module _ {I R : Type 0} (says : Verdicts R) (nodes : List (CacheNode I R)) where
 
   -- an answer without heads reaches the same over no stack, if its walks stop nowhere else
   pub leads_headless :
-      (P : I → Type 0) (v : theory.Verdict) (stack : List Entry) (Stops : ℕ → Type 0) (from_head : ℕ → ℕ) (front a : ℕ) (heads : theory_use.Heads) → ((depth : ℕ) → UsesNo heads depth) → ((b : ℕ) → Stops b → ⊥) → Use (shapes_of says nodes) v stack from_head front a heads → LeadsTo says nodes Stops P v stack a
+      (P : I → Type 0) (v : theory.Verdict) (stack : List Entry) (Stops : ℕ → Type 0) (from_head : ℕ → ℕ) (front a : ℕ) (heads : theory_use.Heads) → ((depth : ℕ) → UsesNo heads depth) → ((b : ℕ) → Stops b → ⊥) → Use (shapes_of says nodes) v stack from_head front a heads → WalksToGoals says nodes Stops P v stack a
       → LeadsOnly says nodes P v [] a
   leads_headless P v stack Stops from_head front a heads none never used leads = λ b q w.
       let reached = headless_reaches (shapes_of says nodes) v stack from_head front a heads none used b q w in

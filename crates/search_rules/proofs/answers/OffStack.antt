@@ -7,7 +7,7 @@ use Rattle.search_rules.specs.Below.{CacheNode, counted_by, DefiniteAnswer, is_i
 use Rattle.open_goals.specs.declared.goals.Fate.TheVariants as becomes
 use Rattle.search_rules.specs.Apart.{StandApart}
 use Rattle.search_rules.specs.Justified.{AreJustified, cycles_node, frame_of, frames_of, OpenRun, verdict_shape}
-use Rattle.search_rules.specs.Leads.{HasGoal, LeadsTo, WalksTo}
+use Rattle.search_rules.specs.Leads.{HasSuchGoal, WalksToGoals, WalksTo}
 use Rattle.search_rules.specs.Lone.{IsLone}
 use Rattle.search_rules.specs.Older.{HasNoOlder, IsStop}
 use Rattle.search_rules.specs.Runs.{run_of, runs_of}
@@ -60,17 +60,17 @@ module _ {X I R A T : Type 0} (says : Verdicts R) (same : I → I → Bool) (nod
       no_older = no_older_kept same Within entries more stay o p f within goal a.no_older;
     }
 
-    pub aside_leads : (v : theory.Verdict) (a : ℕ) → LeadsTo says nodes (IsStop same entries o) (IsAside same results entries o nested below) v (stack_of (frames_of says (o ∷ below))) a → LeadsTo says after (IsStop same more p) (IsAside same later more p further below) v (stack_of (frames_of says (p ∷ below))) a
+    pub aside_leads : (v : theory.Verdict) (a : ℕ) → WalksToGoals says nodes (IsStop same entries o) (IsAside same results entries o nested below) v (stack_of (frames_of says (o ∷ below))) a → WalksToGoals says after (IsStop same more p) (IsAside same later more p further below) v (stack_of (frames_of says (p ∷ below))) a
     aside_leads v a leads =
         walks_kept (shapes_of says nodes) (shapes_of says after) v grown (stack_of (frames_of says (o ∷ below))) (stack_of (frames_of says (p ∷ below))) (IsStop same entries o) (IsStop same more p)
-        (HasGoal nodes (IsAside same results entries o nested below)) (HasGoal after (IsAside same later more p further below))
+        (HasSuchGoal nodes (IsAside same results entries o nested below)) (HasSuchGoal after (IsAside same later more p further below))
         (goals_later says nodes after kept (IsAside same results entries o nested below) (IsAside same later more p further below) aside_kept v) a leads
         (leaf_kept says o p f below) (stop_kept same Within entries more stay o p f within)
 
-    pub behind_leads : (v : theory.Verdict) (a : ℕ) → LeadsTo says nodes (IsStop same entries o) (IsBehind same results entries o nested below) v (stack_of (frames_of says below)) a → LeadsTo says after (IsStop same more p) (IsBehind same later more p further below) v (stack_of (frames_of says below)) a
+    pub behind_leads : (v : theory.Verdict) (a : ℕ) → WalksToGoals says nodes (IsStop same entries o) (IsBehind same results entries o nested below) v (stack_of (frames_of says below)) a → WalksToGoals says after (IsStop same more p) (IsBehind same later more p further below) v (stack_of (frames_of says below)) a
     behind_leads v a leads =
         walks_kept (shapes_of says nodes) (shapes_of says after) v grown (stack_of (frames_of says below)) (stack_of (frames_of says below)) (IsStop same entries o) (IsStop same more p)
-        (HasGoal nodes (IsBehind same results entries o nested below)) (HasGoal after (IsBehind same later more p further below))
+        (HasSuchGoal nodes (IsBehind same results entries o nested below)) (HasSuchGoal after (IsBehind same later more p further below))
         (goals_later says nodes after kept (IsBehind same results entries o nested below) (IsBehind same later more p further below) behind_kept v) a leads
         (λ b leaf. leaf) (stop_kept same Within entries more stay o p f within)
 
@@ -78,7 +78,7 @@ module _ {X I R A T : Type 0} (says : Verdicts R) (same : I → I → Bool) (nod
   off_kept o p g within nested further nested_grown below h = record {
     answers = λ i a at counts. let was = g.answers i a at counts in aside_leads o p g.follows within nested further nested_grown below (verdict_shape a.verdict) a.edge.target (h.answers i a was.0 was.1);
     earlier = λ r is definite.
-        subst (LeadsTo says after (IsStop same more p) (IsBehind same later more p further below) (verdict_of says r) (stack_of (frames_of says below))) (sym g.follows.first_is)
+        subst (WalksToGoals says after (IsStop same more p) (IsBehind same later more p further below) (verdict_of says r) (stack_of (frames_of says below))) (sym g.follows.first_is)
         (behind_leads o p g.follows within nested further nested_grown below (verdict_of says r) (cycles_node o) (h.earlier r (sym g.provisional ∙ is) definite));
   }
 
@@ -129,24 +129,24 @@ module _ {X I R A T : Type 0} (says : Verdicts R) (same : I → I → Bool) (nod
     follows : Follows o answered
     follows = record { goal_is = refl; first_is = refl; heads = λ head some. some }
 
-    aside_later : (v : theory.Verdict) (b : ℕ) → LeadsTo says nodes (IsStop same entries o) (IsAside same results entries o nested below) v (stack_of (frames_of says (o ∷ below))) b → LeadsTo says nodes (IsStop same entries answered) (IsAside same results entries answered nested below) v (stack_of (frames_of says (answered ∷ below))) b
+    aside_later : (v : theory.Verdict) (b : ℕ) → WalksToGoals says nodes (IsStop same entries o) (IsAside same results entries o nested below) v (stack_of (frames_of says (o ∷ below))) b → WalksToGoals says nodes (IsStop same entries answered) (IsAside same results entries answered nested below) v (stack_of (frames_of says (answered ∷ below))) b
     aside_later = aside_leads says same nodes nodes (λ place goal is. is) (λ a v edges is. is) results results (λ goal lone. lone) (λ node. Unit {0}) entries entries (all_stay same entries) o answered follows (λ node older. tt) nested nested (λ goal there. there) below
 
-    behind_later : (v : theory.Verdict) (b : ℕ) → LeadsTo says nodes (IsStop same entries o) (IsBehind same results entries o nested below) v (stack_of (frames_of says below)) b → LeadsTo says nodes (IsStop same entries answered) (IsBehind same results entries answered nested below) v (stack_of (frames_of says below)) b
+    behind_later : (v : theory.Verdict) (b : ℕ) → WalksToGoals says nodes (IsStop same entries o) (IsBehind same results entries o nested below) v (stack_of (frames_of says below)) b → WalksToGoals says nodes (IsStop same entries answered) (IsBehind same results entries answered nested below) v (stack_of (frames_of says below)) b
     behind_later = behind_leads says same nodes nodes (λ place goal is. is) (λ a v edges is. is) results results (λ goal lone. lone) (λ node. Unit {0}) entries entries (all_stay same entries) o answered follows (λ node older. tt) nested nested (λ goal there. there) below
 
-    pub off_answered : LeadsTo says nodes (IsStop same entries o) (IsAside same results entries o nested below) (verdict_shape a.verdict) (stack_of (frames_of says (o ∷ below))) a.edge.target → StaysOff says same nodes results entries o nested below → StaysOff says same nodes results entries answered nested below
+    pub off_answered : WalksToGoals says nodes (IsStop same entries o) (IsAside same results entries o nested below) (verdict_shape a.verdict) (stack_of (frames_of says (o ∷ below))) a.edge.target → StaysOff says same nodes results entries o nested below → StaysOff says same nodes results entries answered nested below
     off_answered leads h = record {
       answers = λ i b at counts. elim (get_cases o.answers a i b at) [
         | inl old ↦ aside_later (verdict_shape b.verdict) b.edge.target (h.answers i b old counts)
-        | inr new ↦ subst (λ (d : DefiniteAnswer I). LeadsTo says nodes (IsStop same entries answered) (IsAside same results entries answered nested below) (verdict_shape d.verdict) (stack_of (frames_of says (answered ∷ below))) d.edge.target) new.1 (aside_later (verdict_shape a.verdict) a.edge.target leads)
+        | inr new ↦ subst (λ (d : DefiniteAnswer I). WalksToGoals says nodes (IsStop same entries answered) (IsAside same results entries answered nested below) (verdict_shape d.verdict) (stack_of (frames_of says (answered ∷ below))) d.edge.target) new.1 (aside_later (verdict_shape a.verdict) a.edge.target leads)
       ];
       earlier = λ r is definite. behind_later (verdict_of says r) (cycles_node o) (h.earlier r is definite);
     }
 
   -- it begins, or is run again
   pub off_new : (goal : I) (step : PathKind) (own : NodeId) (lead : Option NodeId) (earlier : Option R) (tally : Tally) (nested : NestedPaths I) (below : List (OpenRun I R))
-      → ((r : R) → earlier ≡ Some r → IsDefinite says r → LeadsTo says nodes (IsStop same entries (new_run goal step own lead earlier tally)) (IsBehind same results entries (new_run goal step own lead earlier tally) nested below) (verdict_of says r) (stack_of (frames_of says below)) (cycles_node (new_run goal step own lead earlier tally)))
+      → ((r : R) → earlier ≡ Some r → IsDefinite says r → WalksToGoals says nodes (IsStop same entries (new_run goal step own lead earlier tally)) (IsBehind same results entries (new_run goal step own lead earlier tally) nested below) (verdict_of says r) (stack_of (frames_of says below)) (cycles_node (new_run goal step own lead earlier tally)))
       → StaysOff says same nodes results entries (new_run goal step own lead earlier tally) nested below
   off_new goal step own lead earlier tally nested below leads = record { answers = λ i a at counts. absurd (no_answers i a at); earlier = leads }
 
@@ -161,33 +161,33 @@ module _ {X I R A T : Type 0} (says : Verdicts R) (same : I → I → Bool) (nod
   abbrev Left : I → Type 0
   Left = IsBehind same results entries o nested below
 
-  own_left : HasGoal after Left o.own
+  own_left : HasSuchGoal after Left o.own
   own_left goal is =
       let found : Some o.goal ≡ Some goal = sym (s.goals_kept o.own o.goal (goal_of_open nodes o.own o.goal h.are_open.0)) ∙ is in
       let one : o.goal ≡ goal = cc in
       record { known = inl (sym one); off = subst (IsOff below) one apart; no_older = subst (HasNoOlder same entries o) one own_none }
 
-  behind : (i : ℕ) (edge : theory.Edge) → slice_get (s.edges (verdict_of says r)) i ≡ Some edge → WalksTo (shapes_of says nodes) (verdict_of says r) (stack_of (frames_of says (o ∷ below))) (IsStop same entries o) (HasGoal after Left) edge.target
+  behind : (i : ℕ) (edge : theory.Edge) → slice_get (s.edges (verdict_of says r)) i ≡ Some edge → WalksTo (shapes_of says nodes) (verdict_of says r) (stack_of (frames_of says (o ∷ below))) (IsStop same entries o) (HasSuchGoal after Left) edge.target
   behind i edge at =
       let from = s.from (verdict_of says r) i edge at in
       let target_is : from.answer.edge.target ≡ edge.target = ap (λ (e : theory.Edge). e.target) from.edge_is in
-      subst (λ v. WalksTo (shapes_of says nodes) v (stack_of (frames_of says (o ∷ below))) (IsStop same entries o) (HasGoal after Left) edge.target) from.verdict_is
-      (subst (WalksTo (shapes_of says nodes) (verdict_shape from.answer.verdict) (stack_of (frames_of says (o ∷ below))) (IsStop same entries o) (HasGoal after Left)) target_is
+      subst (λ v. WalksTo (shapes_of says nodes) v (stack_of (frames_of says (o ∷ below))) (IsStop same entries o) (HasSuchGoal after Left) edge.target) from.verdict_is
+      (subst (WalksTo (shapes_of says nodes) (verdict_shape from.answer.verdict) (stack_of (frames_of says (o ∷ below))) (IsStop same entries o) (HasSuchGoal after Left)) target_is
       (walks_kept (shapes_of says nodes) (shapes_of says nodes) (verdict_shape from.answer.verdict) (λ a v es is. is) (stack_of (frames_of says (o ∷ below))) (stack_of (frames_of says (o ∷ below))) (IsStop same entries o) (IsStop same entries o)
-      (HasGoal nodes (IsAside same results entries o nested below)) (HasGoal after Left)
+      (HasSuchGoal nodes (IsAside same results entries o nested below)) (HasSuchGoal after Left)
       (goals_later says nodes after s.goals_kept (IsAside same results entries o nested below) Left (λ goal p. record { known = inr p.known; off = p.off.1; no_older = p.no_older }) (verdict_shape from.answer.verdict))
       from.answer.edge.target (off.answers from.place from.answer from.is_at from.counts) (λ b leaf. leaf) (λ b stop. stop)))
 
-  before : option_map (verdict_of says) o.provisional ≡ Some (verdict_of says r) → WalksTo (shapes_of says nodes) (verdict_of says r) (stack_of (frames_of says below)) (IsStop same entries o) (HasGoal after Left) (cycles_node o)
+  before : option_map (verdict_of says) o.provisional ≡ Some (verdict_of says r) → WalksTo (shapes_of says nodes) (verdict_of says r) (stack_of (frames_of says below)) (IsStop same entries o) (HasSuchGoal after Left) (cycles_node o)
   before again =
       let was = mapped_some (verdict_of says) o.provisional (verdict_of says r) again in
-      walks_kept (shapes_of says nodes) (shapes_of says nodes) (verdict_of says r) (λ a v es is. is) (stack_of (frames_of says below)) (stack_of (frames_of says below)) (IsStop same entries o) (IsStop same entries o) (HasGoal nodes Left) (HasGoal after Left)
+      walks_kept (shapes_of says nodes) (shapes_of says nodes) (verdict_of says r) (λ a v es is. is) (stack_of (frames_of says below)) (stack_of (frames_of says below)) (IsStop same entries o) (IsStop same entries o) (HasSuchGoal nodes Left) (HasSuchGoal after Left)
       (goals_later says nodes after s.goals_kept Left Left (λ goal p. p) (verdict_of says r)) (cycles_node o)
-      (subst (λ v. LeadsTo says nodes (IsStop same entries o) Left v (stack_of (frames_of says below)) (cycles_node o)) was.2 (off.earlier was.0 was.1 (λ neither. definite (sym was.2 ∙ neither))))
+      (subst (λ v. WalksToGoals says nodes (IsStop same entries o) Left v (stack_of (frames_of says below)) (cycles_node o)) was.2 (off.earlier was.0 was.1 (λ neither. definite (sym was.2 ∙ neither))))
       (λ b leaf. leaf) (λ b stop. stop)
 
   -- the node of its result leads to goals that it knows, or to itself, and to none below it
-  pub result_leads : LeadsTo says after (IsStop same entries o) Left (verdict_of says r) (stack_of (frames_of says below)) s.place
+  pub result_leads : WalksToGoals says after (IsStop same entries o) Left (verdict_of says r) (stack_of (frames_of says below)) s.place
   result_leads =
       answered_walks (shapes_of says nodes) (stack_of (frames_of says below)) (frame_of says o).entry o.own s.edges (frame_of says o).heads_before (frame_of says o).heads (verdict_of says r) s.sound.running.0
-      (IsStop same entries o) (HasGoal after Left) own_left behind definite s.answered before
+      (IsStop same entries o) (HasSuchGoal after Left) own_left behind definite s.answered before

@@ -17,7 +17,7 @@ use Rattle.search_context.proofs.Pigeonhole.{pair_twice}
 use Rattle.search_context.proofs.Graphs.{Contains-map}
 use Rattle.global_cache.proofs.Bridge.{Ended, IsSort, ended_finished, edge_step, shown_by_run, yes_sort, no_sort}
 use Rattle.search_rules.specs.Words.{OpenRun, frame_of, frames_of, cycles_node, AreSupported}
-use Rattle.search_rules.specs.Leads.{LeadsTo, StepOn}
+use Rattle.search_rules.specs.Leads.{WalksToGoals, StepOn}
 use Rattle.search_rules.specs.Settled.{IsOff}
 use Rattle.search_rules.proofs.answers.StoppedWalks.{unstopped}
 use Rattle.search_rules.proofs.justified.Finishing.{place_of}
@@ -232,7 +232,7 @@ module _ {I R : Type 0} (says : Verdicts R) (scripts : I → List (Reply R) → 
       (off : (goal : I) → Holds goal → IsOff below goal) (past : (goal : I) → Holds goal → (n : ℕ) → Stops n → IsNodeOf nodes n goal → ⊥)
       (stop_off : (n : ℕ) → Stops n → (goal : I) → IsNodeOf nodes n goal → IsOff below goal) (stop_same : (x y : ℕ) → Stops x → Stops y → Alike x y → x ≡ y)
       (proof : Use (shapes_of says nodes) Yes (stack_of (frames_of says below)) from_head 0 a ha) (refutation : Use (shapes_of says nodes) No (stack_of (frames_of says below)) from_head 0 b hb)
-      (yes_leads : LeadsTo says nodes Stops Holds Yes (stack_of (frames_of says below)) a) (no_leads : LeadsTo says nodes Stops Holds No (stack_of (frames_of says below)) b) where
+      (yes_leads : WalksToGoals says nodes Stops Holds Yes (stack_of (frames_of says below)) a) (no_leads : WalksToGoals says nodes Stops Holds No (stack_of (frames_of says below)) b) where
     abbrev stack : List Entry
     stack = stack_of (frames_of says below)
 

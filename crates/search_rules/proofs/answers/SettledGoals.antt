@@ -16,7 +16,7 @@ use Rattle.search_rules.specs.Below.{Answer, AnswersNewest, at_depth, AvailableD
 use Rattle.global_cache.specs.Hits.{hit_at, overflows, successes}
 use Rattle.search_rules.specs.Free.{IsFree}
 use Rattle.search_rules.specs.Justified.{AreSupported, cycles_node, frames_of, HaveTallies, OpenRun}
-use Rattle.search_rules.specs.Leads.{HasGoal, LeadsTo}
+use Rattle.search_rules.specs.Leads.{HasSuchGoal, WalksToGoals}
 use Rattle.search_rules.specs.LookUp.{Asking, is_applicable}
 use Rattle.search_rules.specs.Lone.{IsLone, NoneIsLone}
 use Rattle.search_rules.specs.Older.{HasEntry, IsStop, RestOnOlder}
@@ -116,8 +116,8 @@ module _ {X F I R A T : Type 0} (says : Verdicts R) (same : I → I → Bool) (b
 
     -- what stayed off it does so still
     stays_aside : ((goal : I) → IsSome (paths_at same entry.state.nested_goals goal) → IsSome (paths_at same state.nested_goals goal)) → (v : theory.Verdict) (a : ℕ)
-        → LeadsTo says nodes (IsStop same entries (run_of (entry, run))) (IsAside same results entries (run_of (entry, run)) entry.state.nested_goals (runs_of below)) v (stack_of (frames_of says (runs_of ((entry, run) ∷ below)))) a
-        → LeadsTo says nodes (IsStop same entries (run_of changed)) (IsAside same results entries (run_of changed) state.nested_goals (runs_of below)) v (stack_of (frames_of says (runs_of (changed ∷ below)))) a
+        → WalksToGoals says nodes (IsStop same entries (run_of (entry, run))) (IsAside same results entries (run_of (entry, run)) entry.state.nested_goals (runs_of below)) v (stack_of (frames_of says (runs_of ((entry, run) ∷ below)))) a
+        → WalksToGoals says nodes (IsStop same entries (run_of changed)) (IsAside same results entries (run_of changed) state.nested_goals (runs_of below)) v (stack_of (frames_of says (runs_of (changed ∷ below)))) a
     stays_aside grown =
         aside_leads says same nodes nodes (λ place goal is. is) (λ a v edges is. is) results results (λ goal lone. lone) (λ node. Unit {0}) entries entries (all_stay same entries) (run_of (entry, run)) (run_of changed) goes_on.follows (λ node older. tt)
         entry.state.nested_goals state.nested_goals grown (runs_of below)
@@ -185,10 +185,10 @@ module _ {X F I R A T : Type 0} (says : Verdicts R) (same : I → I → Bool) (b
           later_goes_on : GoesOn (run_of (a.entry, a.run)) (run_of later)
           later_goes_on = goes_on a.entry a.run a.state (tally_of a.state a.run.candidates) a.below (taken_run says nodes old new step required overflow heads a) (taken_counts says nodes old new step required overflow heads a).heads
 
-          entry_leads : (node : ℕ) → HasEntry same entries goal entry node → LeadsTo says nodes (IsStop same entries (run_of later)) (IsAside same results entries (run_of later) a.state.nested_goals (runs_of a.below)) (verdict_of says entry.result) (stack_of (frames_of says (runs_of (later ∷ a.below)))) node
+          entry_leads : (node : ℕ) → HasEntry same entries goal entry node → WalksToGoals says nodes (IsStop same entries (run_of later)) (IsAside same results entries (run_of later) a.state.nested_goals (runs_of a.below)) (verdict_of says entry.result) (stack_of (frames_of says (runs_of (later ∷ a.below)))) node
           entry_leads node has = elim (cases_lt node (cycles_node (run_of (a.entry, a.run)))) [
             | inl before ↦
-                stops_here (shapes_of says nodes) (verdict_of says entry.result) (stack_of (frames_of says (runs_of (later ∷ a.below)))) (IsStop same entries (run_of later)) (HasGoal nodes (IsAside same results entries (run_of later) a.state.nested_goals (runs_of a.below))) node
+                stops_here (shapes_of says nodes) (verdict_of says entry.result) (stack_of (frames_of says (runs_of (later ∷ a.below)))) (IsStop same entries (run_of later)) (HasSuchGoal nodes (IsAside same results entries (run_of later) a.state.nested_goals (runs_of a.below))) node
                 (inr (record {
                   goal = goal;
                   entry = entry;
@@ -211,10 +211,10 @@ module _ {X F I R A T : Type 0} (says : Verdicts R) (same : I → I → Bool) (b
               subst (λ l. AnswerStaysOff says same nodes results entries l (Answer entry.result) entry.node) (sym a.is)
               (λ other is definite. let one : entry.result ≡ other = cc in at entry.node refl (some (subst (IsDefinite says) (sym one) definite)) other one)
             where
-              at : (o : Option NodeId) → entry.node ≡ o → IsSome o → (other : R) → entry.result ≡ other → IsSomeAnd o (λ n. LeadsTo says nodes (IsStop same entries (run_of later)) (IsAside same results entries (run_of later) a.state.nested_goals (runs_of a.below)) (verdict_of says other) (stack_of (frames_of says (runs_of (later ∷ a.below)))) n.0)
+              at : (o : Option NodeId) → entry.node ≡ o → IsSome o → (other : R) → entry.result ≡ other → IsSomeAnd o (λ n. WalksToGoals says nodes (IsStop same entries (run_of later)) (IsAside same results entries (run_of later) a.state.nested_goals (runs_of a.below)) (verdict_of says other) (stack_of (frames_of says (runs_of (later ∷ a.below)))) n.0)
               at None is some other one = absurd (false≢true some)
               at (Some n) is some other one =
-                  subst (λ x. LeadsTo says nodes (IsStop same entries (run_of later)) (IsAside same results entries (run_of later) a.state.nested_goals (runs_of a.below)) (verdict_of says x) (stack_of (frames_of says (runs_of (later ∷ a.below)))) n.0) one
+                  subst (λ x. WalksToGoals says nodes (IsStop same entries (run_of later)) (IsAside same results entries (run_of later) a.state.nested_goals (runs_of a.below)) (verdict_of says x) (stack_of (frames_of says (runs_of (later ∷ a.below)))) n.0) one
                   (entry_leads n.0 (record { there = there; node_is = is }))
 
     -- or a stored result
@@ -243,7 +243,7 @@ module _ {X F I R A T : Type 0} (says : Verdicts R) (same : I → I → Bool) (b
       IsOffThen = IsAside same results entries (run_of with_result) t.nested (runs_of t.below)
 
       abbrev LeadsThen : theory.Verdict → ℕ → Type 0
-      LeadsThen v = LeadsTo says nodes (IsStop same entries (run_of with_result)) IsOffThen v (stack_of (frames_of says (runs_of (with_result ∷ t.below))))
+      LeadsThen v = WalksToGoals says nodes (IsStop same entries (run_of with_result)) IsOffThen v (stack_of (frames_of says (runs_of (with_result ∷ t.below))))
 
       module _ (off_nested : (goal : I) → IsSome (paths_at same hit.nested_goals goal) → IsOff (runs_of old) goal) (off_lone : (goal : I) → IsLone same results goal → IsOff (runs_of old) goal)
           (none_nested : (goal : I) → IsSome (paths_at same hit.nested_goals goal) → HasNone same entries goal) (none_lone : (goal : I) → IsLone same results goal → HasNone same entries goal) where
@@ -286,9 +286,9 @@ module _ {X F I R A T : Type 0} (says : Verdicts R) (same : I → I → Bool) (b
       at node other (leaf (subst (IsDefinite says) (sym one) definite))
     where
       at : (o : Option NodeId) (other : R) → IsSomeAnd o (λ n. IsLeaf (stack_of (frames_of says (runs_of (s ∷ below)))) n.0)
-          → IsSomeAnd o (λ n. LeadsTo says nodes (IsStop same entries (run_of s)) (IsAside same results entries (run_of s) s.0.state.nested_goals (runs_of below)) (verdict_of says other) (stack_of (frames_of says (runs_of (s ∷ below)))) n.0)
+          → IsSomeAnd o (λ n. WalksToGoals says nodes (IsStop same entries (run_of s)) (IsAside same results entries (run_of s) s.0.state.nested_goals (runs_of below)) (verdict_of says other) (stack_of (frames_of says (runs_of (s ∷ below)))) n.0)
       at None other h = absurd h
-      at (Some n) other h = stops_here (shapes_of says nodes) (verdict_of says other) (stack_of (frames_of says (runs_of (s ∷ below)))) (IsStop same entries (run_of s)) (HasGoal nodes (IsAside same results entries (run_of s) s.0.state.nested_goals (runs_of below))) n.0 (inl h)
+      at (Some n) other h = stops_here (shapes_of says nodes) (verdict_of says other) (stack_of (frames_of says (runs_of (s ∷ below)))) (IsStop same entries (run_of s)) (HasSuchGoal nodes (IsAside same results entries (run_of s) s.0.state.nested_goals (runs_of below))) n.0 (inl h)
 
   -- a reply that is no answer
   pub begin_stays_off : (items : List (StackEntry X I R A T × Run X F I R A T)) (reply : Reply R) (node : Option NodeId) → ((r : R) → reply ≡ Answer r → ⊥) → AnswerStaysOff says same nodes results entries items reply node

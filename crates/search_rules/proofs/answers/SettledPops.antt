@@ -13,7 +13,7 @@ use Rattle.open_goals.specs.NestedGoals.{TakesNestedGoals}
 use Rattle.search_rules.specs.Apart.{StandApart}
 use Rattle.search_rules.specs.Below.{Answer, AnswersNewest, at_depth, CacheNode, heads_shape, IsDefinite, IsNodeOf, Lists, NestsAnswer, NodeId, path_kind, PathKind, paths_at, ProvisionalCacheEntry, rank_of, Reply, Request, Run, shapes_of, stack_of, StackEntry, Store, StoredResult, Use, UsesNo, verdict_of, Verdicts}
 use Rattle.search_rules.specs.Justified.{AreJustified, AreSupported, cycles_node, frame_of, frames_of, OpenRun}
-use Rattle.search_rules.specs.Leads.{HasGoal, LeadsTo, StepOn}
+use Rattle.search_rules.specs.Leads.{HasSuchGoal, WalksToGoals, StepOn}
 use Rattle.search_rules.specs.Lone.{IsLone}
 use Rattle.search_rules.specs.Older.{BeganBefore, HasEntry, HasNoOlder, IsStop, RestOnOlder}
 use Rattle.search_rules.specs.Provisional.{AreReady}
@@ -52,7 +52,7 @@ module _ {X F I R A T : Type 0} (says : Verdicts R) (same : I → I → Bool) (b
   place_is : place ≡ cycles_node (run_of s)
   place_is = place_first says same nodes after results entries s below h r target ended definite apart goals again
 
-  result_walks : LeadsTo says after (IsStop same entries (run_of s)) Left (verdict_of says r) (stack_of (frames_of says (runs_of below))) place
+  result_walks : WalksToGoals says after (IsStop same entries (run_of s)) Left (verdict_of says r) (stack_of (frames_of says (runs_of below))) place
   result_walks = leads says same nodes after results entries s below h r target ended definite apart goals again
 
   used : Use (shapes_of says after) (verdict_of says r) (stack_of (frames_of says (runs_of below))) (path_kind (stack_of (frames_of says (runs_of below))) (rank_of s.0.step_kind_from_parent)) 0 place (heads_shape s.0.state.heads)
@@ -94,7 +94,7 @@ module _ {X F I R A T : Type 0} (says : Verdicts R) (same : I → I → Bool) (b
       over_none =
           leads_headless says after (IsKnown same later s.0.state.nested_goals) (verdict_of says r) (stack_of (frames_of says (runs_of below))) (IsStop same entries (run_of s)) (path_kind (stack_of (frames_of says (runs_of below))) (rank_of s.0.step_kind_from_parent)) 0 place (heads_shape s.0.state.heads)
           (subst (λ heads. (depth : ℕ) → UsesNo (heads_shape heads) depth) (sym none) (λ depth path cycle recorded. recorded.1 refl)) no_stop used
-          (walks_kept (shapes_of says after) (shapes_of says after) (verdict_of says r) (λ a v edges is. is) (stack_of (frames_of says (runs_of below))) (stack_of (frames_of says (runs_of below))) (IsStop same entries (run_of s)) (IsStop same entries (run_of s)) (HasGoal after Left) (HasGoal after (IsKnown same later s.0.state.nested_goals))
+          (walks_kept (shapes_of says after) (shapes_of says after) (verdict_of says r) (λ a v edges is. is) (stack_of (frames_of says (runs_of below))) (stack_of (frames_of says (runs_of below))) (IsStop same entries (run_of s)) (IsStop same entries (run_of s)) (HasSuchGoal after Left) (HasSuchGoal after (IsKnown same later s.0.state.nested_goals))
           (λ b f holds goal is. left_known goal (holds goal is)) place result_walks (λ b leaf. leaf) (λ b stop. stop))
 
       pub result_known : IfSome target (λ n. LeadsOnly says after (IsKnown same later s.0.state.nested_goals) (verdict_of says r) [] n.0)
@@ -146,7 +146,7 @@ module _ {X F I R A T : Type 0} (says : Verdicts R) (same : I → I → Bool) (b
       Then = IsAside same later more (run_of parent) a.state.nested_goals (runs_of a.below)
 
       abbrev LeadsThen : theory.Verdict → ℕ → Type 0
-      LeadsThen v = LeadsTo says after Stops Then v (stack_of (frames_of says (runs_of (parent ∷ a.below))))
+      LeadsThen v = WalksToGoals says after Stops Then v (stack_of (frames_of says (runs_of (parent ∷ a.below))))
 
       began : cycles_node (run_of parent) < cycles_node (run_of s)
       began = parent_settled.0.began
@@ -179,7 +179,7 @@ module _ {X F I R A T : Type 0} (says : Verdicts R) (same : I → I → Bool) (b
           let has : HasEntry same more stop.goal stop.entry b = left.stay.stays stop.goal stop.entry b stop.has stop.older in
           elim (cases_lt b (cycles_node (run_of parent))) [
             | inl earlier ↦
-                stops_here (shapes_of says after) v (stack_of (frames_of says (runs_of (parent ∷ a.below)))) Stops (HasGoal after Then) b
+                stops_here (shapes_of says after) v (stack_of (frames_of says (runs_of (parent ∷ a.below)))) Stops (HasSuchGoal after Then) b
                 (inr (record {
                   goal = stop.goal;
                   entry = stop.entry;
@@ -196,7 +196,7 @@ module _ {X F I R A T : Type 0} (says : Verdicts R) (same : I → I → Bool) (b
                       (stop.known head some));
                 }))
             | inr since ↦
-                walks_as (shapes_of says after) (verdict_of says stop.entry.result) v (stack_of (frames_of says (runs_of (parent ∷ a.below)))) Stops (HasGoal after Then) b placed
+                walks_as (shapes_of says after) (verdict_of says stop.entry.result) v (stack_of (frames_of says (runs_of (parent ∷ a.below)))) Stops (HasSuchGoal after Then) b placed
                 (parent_settled.0.made stop.goal stop.entry b has since stop.older)
           ]
 
@@ -207,14 +207,14 @@ module _ {X F I R A T : Type 0} (says : Verdicts R) (same : I → I → Bool) (b
 
       parent_leads : LeadsThen (verdict_of says r) place
       parent_leads =
-          walks_on (shapes_of says after) (shapes_of says after) (verdict_of says r) (λ x v edges is. is) (stack_of (frames_of says (runs_of below))) (stack_of (frames_of says (runs_of (parent ∷ a.below)))) (IsStop same entries (run_of s)) Stops (HasGoal after Left) (HasGoal after Then)
+          walks_on (shapes_of says after) (shapes_of says after) (verdict_of says r) (λ x v edges is. is) (stack_of (frames_of says (runs_of below))) (stack_of (frames_of says (runs_of (parent ∷ a.below)))) (IsStop same entries (run_of s)) Stops (HasSuchGoal after Left) (HasSuchGoal after Then)
           (λ b f holds goal is. parent_off goal (holds goal is)) place result_walks
           (λ b f holds. (
             (λ leaf. let l = leaf_of after says (runs_of below) supported_below b leaf in off_at (runs_of below) l.run.goal (holds l.run.goal l.home).off l.index l.run l.at refl),
             (λ stop. stop_past b stop (λ goal is. (holds goal (goals_same b goal is)).no_older)),
           ))
           (λ b q w. λ end. elim end [
-            | inl leaf ↦ stops_here (shapes_of says after) (verdict_of says r) (stack_of (frames_of says (runs_of (parent ∷ a.below)))) Stops (HasGoal after Then) b (inl (leaf_to b leaf))
+            | inl leaf ↦ stops_here (shapes_of says after) (verdict_of says r) (stack_of (frames_of says (runs_of (parent ∷ a.below)))) Stops (HasSuchGoal after Then) b (inl (leaf_to b leaf))
             | inr stop ↦ from_stop (verdict_of says r) b stop (placed_by (verdict_of says r) place (subst (λ stack. theory_use.OpenGraph (shapes_of says after) (verdict_of says r) stack place) same_stack used.open_graph) b q w)
           ])
 
@@ -241,10 +241,10 @@ module _ {X F I R A T : Type 0} (says : Verdicts R) (same : I → I → Bool) (b
         entry_placed : (b q : ℕ) → theory.Walk (StepOn (shapes_of says after) v (stack_of (frames_of says (runs_of (parent ∷ a.below)))) Stops) node q b → IsLeaf (stack_of (frames_of says (runs_of (parent ∷ a.below)))) b ⊎ theory.IsFinished (shapes_of says after) v b
         entry_placed = placed_by v node entry_graph
 
-        kept_leads : LeadsTo says nodes (IsStop same entries (run_of s)) (IsAside same results entries (run_of s) s.0.state.nested_goals (runs_of below)) v (stack_of (frames_of says (runs_of (s ∷ below)))) node → LeadsThen v node
+        kept_leads : WalksToGoals says nodes (IsStop same entries (run_of s)) (IsAside same results entries (run_of s) s.0.state.nested_goals (runs_of below)) v (stack_of (frames_of says (runs_of (s ∷ below)))) node → LeadsThen v node
         kept_leads made =
             walks_on (shapes_of says nodes) (shapes_of says after) v nodes_grow (stack_of (frames_of says (runs_of (s ∷ below)))) (stack_of (frames_of says (runs_of (parent ∷ a.below)))) (IsStop same entries (run_of s)) Stops
-            (HasGoal nodes (IsAside same results entries (run_of s) s.0.state.nested_goals (runs_of below))) (HasGoal after Then)
+            (HasSuchGoal nodes (IsAside same results entries (run_of s) s.0.state.nested_goals (runs_of below))) (HasSuchGoal after Then)
             (goals_later says nodes after goals_same (IsAside same results entries (run_of s) s.0.state.nested_goals (runs_of below)) Then (λ g p. parent_off g (record { known = inr p.known; off = p.off.1; no_older = p.no_older })) v) node made
             (λ b f holds. (
               (λ leaf. let l = leaf_of nodes says (runs_of (s ∷ below)) h.supported b leaf in off_at (runs_of (s ∷ below)) l.run.goal (holds l.run.goal l.home).off l.index l.run l.at refl),
@@ -252,8 +252,8 @@ module _ {X F I R A T : Type 0} (says : Verdicts R) (same : I → I → Bool) (b
             ))
             (λ b q w. λ end. elim end [
               | inl leaf ↦ elim (leaf_cases (stack_of (frames_of says (runs_of below))) (frame_of says (run_of s)).entry b leaf) [
-                | inl lower ↦ stops_here (shapes_of says after) v (stack_of (frames_of says (runs_of (parent ∷ a.below)))) Stops (HasGoal after Then) b (inl (leaf_to b lower))
-                | inr here ↦ walks_as (shapes_of says after) (verdict_of says r) v (stack_of (frames_of says (runs_of (parent ∷ a.below)))) Stops (HasGoal after Then) b (entry_placed b q w) (subst (LeadsThen (verdict_of says r)) (place_is ∙ here) parent_leads)
+                | inl lower ↦ stops_here (shapes_of says after) v (stack_of (frames_of says (runs_of (parent ∷ a.below)))) Stops (HasSuchGoal after Then) b (inl (leaf_to b lower))
+                | inr here ↦ walks_as (shapes_of says after) (verdict_of says r) v (stack_of (frames_of says (runs_of (parent ∷ a.below)))) Stops (HasSuchGoal after Then) b (entry_placed b q w) (subst (LeadsThen (verdict_of says r)) (place_is ∙ here) parent_leads)
               ]
               | inr stop ↦ from_stop v b stop (entry_placed b q w)
             ])
@@ -262,7 +262,7 @@ module _ {X F I R A T : Type 0} (says : Verdicts R) (same : I → I → Bool) (b
         since_leads since = elim (left.since goal entry node has since) [
           | inl was ↦
               kept_leads
-              (subst (λ x. LeadsTo says nodes (IsStop same entries (run_of s)) (IsAside same results entries (run_of s) s.0.state.nested_goals (runs_of below)) (verdict_of says x) (stack_of (frames_of says (runs_of (s ∷ below)))) node) was.2
+              (subst (λ x. WalksToGoals says nodes (IsStop same entries (run_of s)) (IsAside same results entries (run_of s) s.0.state.nested_goals (runs_of below)) (verdict_of says x) (stack_of (frames_of says (runs_of (s ∷ below)))) node) was.2
               (goals.0.made goal was.0 node was.1 since tt))
           | inr own ↦ subst (λ x. LeadsThen (verdict_of says x) node) (sym own.2) (subst (LeadsThen (verdict_of says r)) (place_is ∙ sym own.1) parent_leads)
         ]

@@ -9,7 +9,7 @@ use Rattle.global_cache.proofs.NodeLists.{Grown-appended, KeepsGoals-appended}
 use Rattle.search_rules.specs.Apart.{StandApart}
 use Rattle.search_rules.specs.Below.{CacheNode, Heads, IsDefinite, IsNodeOf, is_in_cycle, KeepsGoals, Lists, NodeId, open_node, ProvisionalCacheEntry, rerun_with, Run, RunRecord, shapes_of, some_heads, stack_of, StackEntry, Store, StoredResult, verdict_of, Verdicts, with_no_record}
 use Rattle.search_rules.specs.Justified.{AreJustified, cycles_node, frame_of, frames_of}
-use Rattle.search_rules.specs.Leads.{LeadsTo}
+use Rattle.search_rules.specs.Leads.{WalksToGoals}
 use Rattle.search_rules.specs.Older.{HasEntry, IsStop, RestOnOlder}
 use Rattle.search_rules.specs.Runs.{Again, Ended, HasResultNode, LeftOpen, run_of, runs_of}
 use Rattle.search_rules.specs.Settled.{AreSettledGoals, IsBehind}
@@ -75,7 +75,7 @@ module _ {X F I R A T : Type 0} (says : Verdicts R) (same : I → I → Bool) (n
   Left = IsBehind same results entries (run_of s) s.0.state.nested_goals (runs_of below)
 
   -- what it leads to
-  pub leads : LeadsTo says after (IsStop same entries (run_of s)) Left (verdict_of says r) (stack_of (frames_of says (runs_of below))) ends.place
+  pub leads : WalksToGoals says after (IsStop same entries (run_of s)) Left (verdict_of says r) (stack_of (frames_of says (runs_of below))) ends.place
   leads = result_leads says same nodes after results entries (run_of s) (runs_of below) h r target ends s.0.state.nested_goals goals.0.off goals.0.apart (own_no_older same results entries s below apart) definite
 
   -- ---- it is run again
@@ -103,9 +103,9 @@ module _ {X F I R A T : Type 0} (says : Verdicts R) (same : I → I → Bool) (n
     follows : Follows (run_of s) (run_of rerun)
     follows = record { goal_is = refl; first_is = place_then ∙ place_first; heads = λ head some. some }
 
-    leads_then : LeadsTo says opened (IsStop same more (run_of rerun)) (IsBehind same results more (run_of rerun) s.0.state.nested_goals (runs_of below)) (verdict_of says r) (stack_of (frames_of says (runs_of below))) (cycles_node (run_of rerun))
+    leads_then : WalksToGoals says opened (IsStop same more (run_of rerun)) (IsBehind same results more (run_of rerun) s.0.state.nested_goals (runs_of below)) (verdict_of says r) (stack_of (frames_of says (runs_of below))) (cycles_node (run_of rerun))
     leads_then =
-        subst (LeadsTo says opened (IsStop same more (run_of rerun)) (IsBehind same results more (run_of rerun) s.0.state.nested_goals (runs_of below)) (verdict_of says r) (stack_of (frames_of says (runs_of below)))) (sym place_then)
+        subst (WalksToGoals says opened (IsStop same more (run_of rerun)) (IsBehind same results more (run_of rerun) s.0.state.nested_goals (runs_of below)) (verdict_of says r) (stack_of (frames_of says (runs_of below)))) (sym place_then)
         (behind_leads says same after opened (KeepsGoals-appended true after s.0.input) (Grown-appended says true after s.0.input) results results (λ goal lone. lone) (λ node. node < cycles_node (run_of s)) entries more stay (run_of s) (run_of rerun) follows (λ node older. older)
         s.0.state.nested_goals s.0.state.nested_goals (λ goal nested. nested) (runs_of below) (verdict_of says r) ends.place leads)
 
@@ -115,7 +115,7 @@ module _ {X F I R A T : Type 0} (says : Verdicts R) (same : I → I → Bool) (n
         off = off_new says same opened results more s.0.input s.0.step_kind_from_parent own lead (Some r) (tally_again (tally_of s.0.state s.1.candidates)) s.0.state.nested_goals (runs_of below)
             (λ other is d.
             let one : r ≡ other = cc in
-            subst (λ x. LeadsTo says opened (IsStop same more (run_of rerun)) (IsBehind same results more (run_of rerun) s.0.state.nested_goals (runs_of below)) (verdict_of says x) (stack_of (frames_of says (runs_of below))) (cycles_node (run_of rerun))) one leads_then);
+            subst (λ x. WalksToGoals says opened (IsStop same more (run_of rerun)) (IsBehind same results more (run_of rerun) s.0.state.nested_goals (runs_of below)) (verdict_of says x) (stack_of (frames_of says (runs_of below))) (cycles_node (run_of rerun))) one leads_then);
         made = λ goal entry node has since before.
             aside_leads says same nodes opened opened_kept opened_grown results results (λ g lone. lone) (λ node. node < cycles_node (run_of s)) entries more stay (run_of s) (run_of rerun) follows (λ node older. older)
             s.0.state.nested_goals s.0.state.nested_goals (λ g nested. nested) (runs_of below) (verdict_of says entry.result) node

@@ -12,7 +12,7 @@ use Rattle.search_rules.specs.EndOfRun.{IsEndOfRun, Limited, Repeats, Stable, Un
 use Rattle.search_rules.specs.Justified.{AreJustified, cycles_node, frame_of, frames_of, OpenRun, verdict_shape}
 use Rattle.search_rules.specs.Runs.{EndsNewest, EndsRun, HasResultNode, run_of, runs_of}
 use Rattle.search_rules.specs.Apart.{StandApart}
-use Rattle.search_rules.specs.Leads.{LeadsTo}
+use Rattle.search_rules.specs.Leads.{WalksToGoals}
 use Rattle.search_rules.specs.Older.{HasEntry, IsStop}
 use Rattle.search_rules.specs.Provisional.{AreReady}
 use Rattle.search_rules.specs.Settled.{AreSettledGoals, HasOneOfEach, IsBehind, IsOff}
@@ -102,7 +102,7 @@ module _ {X F I R A T : Type 0} (says : Verdicts R) (one_sort : (r : R) → says
     abbrev Left : I → Type 0
     Left = IsBehind same results entries (run_of s) s.0.state.nested_goals (runs_of below)
 
-    leads_now : LeadsTo says after Stops Left (verdict_of says r) (stack_of (frames_of says (runs_of below))) run_ends.place
+    leads_now : WalksToGoals says after Stops Left (verdict_of says r) (stack_of (frames_of says (runs_of below))) run_ends.place
     leads_now = result_leads says same nodes after results entries (run_of s) (runs_of below) h r (Some s.1.node) run_ends s.0.state.nested_goals goals.0.off goals.0.apart (own_no_older same results entries s below apart) definite
 
     home_now : IsNodeOf after run_ends.place s.0.input
@@ -114,7 +114,7 @@ module _ {X F I R A T : Type 0} (says : Verdicts R) (one_sort : (r : R) → says
     used_then : Use (shapes_of says after) (verdict_of says earlier) (stack_of (frames_of says (runs_of below))) kind_from 0 (cycles_node (run_of s)) (frame_of says (run_of s)).heads_before
     used_then = growth_keeps_use (shapes_of says nodes) (shapes_of says after) (verdict_of says earlier) (stack_of (frames_of says (runs_of below))) kind_from 0 (cycles_node (run_of s)) (frame_of says (run_of s)).heads_before grows (before (verdict_of says earlier) refl)
 
-    leads_then : LeadsTo says after Stops Left (verdict_of says earlier) (stack_of (frames_of says (runs_of below))) (cycles_node (run_of s))
+    leads_then : WalksToGoals says after Stops Left (verdict_of says earlier) (stack_of (frames_of says (runs_of below))) (cycles_node (run_of s))
     leads_then =
         behind_leads says same nodes after run_ends.goals_kept grows results results (λ goal lone. lone) (λ node. Unit {0}) entries entries (all_stay same entries) (run_of s) (run_of s) (follows_itself (run_of s)) (λ node older. tt)
         s.0.state.nested_goals s.0.state.nested_goals (λ goal there. there) (runs_of below) (verdict_of says earlier) (cycles_node (run_of s)) (goals.0.off.earlier earlier was definite_then)
@@ -152,7 +152,7 @@ module _ {X F I R A T : Type 0} (says : Verdicts R) (one_sort : (r : R) → says
 
     -- one says yes and the other one no
     meet : (v w : theory.Verdict) (a b : ℕ) (ha hb : _) → v ≢ theory.Neither → w ≢ theory.Neither → v ≢ w → Use (shapes_of says after) v (stack_of (frames_of says (runs_of below))) kind_from 0 a ha → Use (shapes_of says after) w (stack_of (frames_of says (runs_of below))) kind_from 0 b hb
-        → LeadsTo says after Stops Left v (stack_of (frames_of says (runs_of below))) a → LeadsTo says after Stops Left w (stack_of (frames_of says (runs_of below))) b → IsNodeOf after a s.0.input → IsNodeOf after b s.0.input → ⊥
+        → WalksToGoals says after Stops Left v (stack_of (frames_of says (runs_of below))) a → WalksToGoals says after Stops Left w (stack_of (frames_of says (runs_of below))) b → IsNodeOf after a s.0.input → IsNodeOf after b s.0.input → ⊥
     meet theory.Yes theory.No a b ha hb dv dw d ua ub la lb ia ib =
         one_of_both says scripts after runs_then proves refutes clash yes_is_proved no_is_refuted (runs_of below) (below_is_justified says nodes after (run_of s) (runs_of below) h r (Some s.1.node) run_ends).supported (distinct_goals says same nodes results entries (Some (cycles_node (run_of s))) below goals.1)
         kind_from s.0.input a b ia ib ha hb Stops Left (λ goal left. left.off) past stop_off stop_same ua ub la lb

@@ -11,7 +11,7 @@ use Rattle.global_cache.specs.Collected.{Collected}
 use Rattle.search_rules.specs.Below.{CacheNode, Entry, entries_at, Lists, NodeId, ProvisionalCacheEntry, Reply, Run, shapes_of, StackEntry, Store, StoredResult, Success, Verdicts}
 use Rattle.search_rules.specs.Calls.{Call}
 use Rattle.search_rules.specs.Justified.{cycles_node, OpenRun}
-use Rattle.search_rules.specs.Leads.{LeadsTo, StepOn}
+use Rattle.search_rules.specs.Leads.{WalksToGoals, StepOn}
 use Rattle.search_rules.specs.Live.{AreLiveEntries, AreLiveResults, AreLiveRuns, IsLiveNode, IsLiveRun}
 use Rattle.search_rules.specs.Older.{HasEntry}
 use Rattle.search_rules.specs.Runs.{run_of, runs_of}
@@ -33,7 +33,7 @@ module _ {I R : Type 0} (says : Verdicts R) (live : ℕ → Bool) (old new : Lis
         | inr holds ↦ inr (λ goal at. holds goal (node_was says live old new collected b goal there at))
       ]
 
-  pub lead_stays : (Stops : ℕ → Type 0) (Holds : I → Type 0) (verdict : graphs.Verdict) (stack : List Entry) (a : ℕ) → IsTrue (live a) → LeadsTo says old Stops Holds verdict stack a → LeadsTo says new Stops Holds verdict stack a
+  pub lead_stays : (Stops : ℕ → Type 0) (Holds : I → Type 0) (verdict : graphs.Verdict) (stack : List Entry) (a : ℕ) → IsTrue (live a) → WalksToGoals says old Stops Holds verdict stack a → WalksToGoals says new Stops Holds verdict stack a
   lead_stays Stops Holds verdict stack a is h b q w =
       let v =
       carried (StepOn (shapes_of says old) verdict stack Stops) (StepOn (shapes_of says new) verdict stack Stops) (λ b. Unit {0})

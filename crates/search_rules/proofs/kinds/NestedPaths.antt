@@ -10,7 +10,7 @@ use Rattle.cycle_heads.proofs.PathRanks.{each_kind}
 use Rattle.open_goals.specs.NestedGoals.{Joined, Nothing, TakesHeadGoal, TakesNestedGoals}
 use Rattle.search_rules.specs.Below.{extended, greater_kind, has_kind, Inductive, kinds_in, NestedPaths, path_of_no_step, paths_at, paths_of, PathKind, PathsToNested, Reply, Request, union}
 use Rattle.search_rules.specs.Kinds.{IsReachedBy, ReachesNested}
-use Rattle.search_rules.specs.OneKind.{Asks, first, last, Leads}
+use Rattle.search_rules.specs.OneKind.{MayAsk, first, last, MayLeadTo}
 use Rattle.search_stack.specs.Nested.{joined_paths, JoinsPaths}
 use Rattle.search_rules.proofs.kinds.Questions.{greater_least}
 
@@ -55,8 +55,8 @@ module _ {I R : Type 0} (scripts : I → List (Reply R) → Request I R) where
   reached_left goal other paths more (inr walk) = inr (walk.0, has_kind-union paths more walk.0 ∙ or_left (has_kind paths walk.0) (has_kind more walk.0) walk.1, walk.2)
 
   -- paths after a question
-  pub reached_after : (own goal other : I) (step : PathKind) (paths : PathsToNested) → Asks scripts own step goal → IsReachedBy scripts goal paths other → IsReachedBy scripts own (extended paths step) other
-  reached_after own goal other step paths asks (inl itself) = inr (step, extended_empty paths step itself.0, subst (Leads scripts own step) (sym itself.1) (last asks))
+  pub reached_after : (own goal other : I) (step : PathKind) (paths : PathsToNested) → MayAsk scripts own step goal → IsReachedBy scripts goal paths other → IsReachedBy scripts own (extended paths step) other
+  reached_after own goal other step paths asks (inl itself) = inr (step, extended_empty paths step itself.0, subst (MayLeadTo scripts own step) (sym itself.1) (last asks))
   reached_after own goal other step paths asks (inr walk) = inr (greater_kind step walk.0, extended-has paths step walk.0 walk.1, first asks walk.2)
 
   -- paths that were joined
@@ -84,7 +84,7 @@ module _ {I R : Type 0} (scripts : I → List (Reply R) → Request I R) where
     nested_itself own old new joins h = nested_joined own own path_of_no_step old new joins (inl (refl, refl)) h
 
     -- the goals of an answer to a question are
-    pub nested_taken : (own goal : I) (step : PathKind) (answer old new : NestedPaths I) → Asks scripts own step goal → ReachesNested scripts same goal answer → TakesNestedGoals same own step answer old new → ReachesNested scripts same own old → ReachesNested scripts same own new
+    pub nested_taken : (own goal : I) (step : PathKind) (answer old new : NestedPaths I) → MayAsk scripts own step goal → ReachesNested scripts same goal answer → TakesNestedGoals same own step answer old new → ReachesNested scripts same own old → ReachesNested scripts same own new
     nested_taken own goal step answer old new asks reached (Nothing empty is) h = subst (ReachesNested scripts same own) (sym is) h
     nested_taken own goal step answer old new asks reached (Joined between some each itself) h =
         nested_itself own between new itself
@@ -99,5 +99,5 @@ module _ {I R : Type 0} (scripts : I → List (Reply R) → Request I R) where
             subst (λ x. IsReachedBy scripts own x other) one (reached_after own goal other step q asks (reached other q found))
 
     -- the head of a cycle is
-    pub nested_head : (own goal : I) (step : PathKind) (old new : NestedPaths I) → Asks scripts own step goal → TakesHeadGoal same own step goal old new → ReachesNested scripts same own old → ReachesNested scripts same own new
+    pub nested_head : (own goal : I) (step : PathKind) (old new : NestedPaths I) → MayAsk scripts own step goal → TakesHeadGoal same own step goal old new → ReachesNested scripts same own old → ReachesNested scripts same own new
     nested_head own goal step old new asks takes h = nested_itself own takes.between new takes.itself (nested_joined own goal (paths_of step) old takes.between takes.head (inr (step, own_kind step, last asks)) h)

@@ -7,7 +7,7 @@ use Rattle.std.proofs.lemmas.List.Elements.{All-append, All-cons, All-nil}
 use Rattle.provisional_cache.proofs.RebasedEntryLists.{All-filter_map}
 use Rattle.search_rules.specs.Below.{at_depth, but_highest, changed_for, CycleHead, entries_at, extended_by_each, has_usages, Heads, HeadUsages, highest, IsLeftHead, IsRising, Lists, NodeId, no_usages, other_usages, path_kind_from, path_of_no_step, PathsToNested, ProvisionalCacheEntry, rebased, RebaseReason, Ambiguity, NoCycleUsages, Overflow, ReachedFixpoint, Reply, Request, Run, StackDepth, StackEntry, with_unused, with_used}
 use Rattle.search_rules.specs.Kinds.{AreJoined, AreLinked, AskedByKind, EntriesSuit, EntryIsLinked, IsGoalAt, IsJoinedTo, KeepsKinds}
-use Rattle.search_rules.specs.OneKind.{AsksByOneKind, here, Leads, Reaches}
+use Rattle.search_rules.specs.OneKind.{AsksByOneKind, here, MayLeadTo, MayReach}
 use Rattle.search_rules.specs.Words.{depths_of, entries_for, entry_of, final_answer, LieBelow, rebased_for, RebasesEntries}
 use Rattle.search_rules.proofs.HeadOrder.{ascends, at_here, at_later, at_most_highest, highest_there, no_highest}
 use Rattle.search_rules.proofs.kinds.Questions.{asked_by_kind_of, greater_same, kind_of_goal, reaches_on}
@@ -42,7 +42,7 @@ changed_path_same propagated overflow (ReachedFixpoint (Some kind)) usages entry
 
 module _ {X F I R A T : Type 0} (scripts : I → List (Reply R) → Request I R) (same : I → I → Bool) (s : StackEntry X I R A T × Run X F I R A T) (below : List (StackEntry X I R A T × Run X F I R A T)) (linked : AreLinked scripts same (s ∷ below)) where
   -- a walk of questions leads from each goal below to the one that is done
-  walk_to : (place : ℕ) (head : I) → IsGoalAt below place head → Leads scripts head (path_kind_from (stack_of below) place s.0.step_kind_from_parent) s.0.input
+  walk_to : (place : ℕ) (head : I) → IsGoalAt below place head → MayLeadTo scripts head (path_kind_from (stack_of below) place s.0.step_kind_from_parent) s.0.input
   walk_to place head at = stack_leads scripts same below place head s.0.step_kind_from_parent s.0.input linked.1 linked.0.asked at
 
   heads_lower : LieBelow (length (stack_of below)) s.0.state.heads
@@ -83,11 +83,11 @@ module _ {X F I R A T : Type 0} (scripts : I → List (Reply R) → Request I R)
 
       -- the goal that is done was its highest head
       module _ (head : StackDepth × CycleHead) (top : highest entry.heads ≡ Some head) (place : head.0.0 ≡ length (stack_of below)) where
-        both_ways : Reaches scripts goal s.0.input × Reaches scripts s.0.input goal
+        both_ways : MayReach scripts goal s.0.input × MayReach scripts s.0.input goal
         both_ways =
             let j = e.heads head.0 (subst IsSome (sym (highest_there entry.heads head (ascends entry.heads rising) top)) refl) in
             let is : j.head ≡ s.0.input = at_newest s below head.0.0 j.head j.is_at (place ∙ many below) in
-            (subst (Reaches scripts goal) is j.there, subst (λ x. Reaches scripts x goal) is j.back)
+            (subst (MayReach scripts goal) is j.there, subst (λ x. MayReach scripts x goal) is j.back)
 
         left_joined : (depth : StackDepth) → IsLeftHead (length (stack_of below)) (depths_of entry.heads) (depths_of s.0.state.heads) depth.0 → IsJoinedTo scripts below goal depth.0
         left_joined depth left = elim left.1 [

@@ -5,7 +5,7 @@ use Rattle.std.proofs.lemmas.List.{drop-append-le, drop_all, length-map, length-
 use Rattle.open_graphs.proofs.Lists.{get_cases}
 use Rattle.search_rules.specs.Below.{greater_kind, greatest_kind, path_kind_from, PathKind, Reply, Request, Run, StackEntry}
 use Rattle.search_rules.specs.Kinds.{AreLinked, AsksNewest, IsGoalAt}
-use Rattle.search_rules.specs.OneKind.{here, last, Leads, Reaches}
+use Rattle.search_rules.specs.OneKind.{here, last, MayLeadTo, MayReach}
 use Rattle.search_stack.proofs.Cycles.{greatest-push}
 use Rattle.search_rules.proofs.kinds.Questions.{greater_least, greater_swapped, leads_on, leads_reaches}
 
@@ -66,16 +66,16 @@ module _ {X F I R A T : Type 0} where
 
   module _ (scripts : I → List (Reply R) → Request I R) (same : I → I → Bool) where
     -- a question of the newest goal ends a walk of questions from each goal on the stack, whose kind is that of the path
-    pub stack_leads : (goals : List (StackEntry X I R A T × Run X F I R A T)) (place : ℕ) (head : I) (step : PathKind) (goal : I) → AreLinked scripts same goals → AsksNewest scripts goals step goal → IsGoalAt goals place head → Leads scripts head (path_kind_from (stack_of goals) place step) goal
+    pub stack_leads : (goals : List (StackEntry X I R A T × Run X F I R A T)) (place : ℕ) (head : I) (step : PathKind) (goal : I) → AreLinked scripts same goals → AsksNewest scripts goals step goal → IsGoalAt goals place head → MayLeadTo scripts head (path_kind_from (stack_of goals) place step) goal
     stack_leads [] place head step goal linked asks at = absurd at
     stack_leads (s ∷ below) place head step goal linked asks (inl at) =
-        subst (λ k. Leads scripts head k goal) (sym (path_from_newest s below place step at.0))
-        (subst (λ h. Leads scripts h step goal) (sym at.1) (last asks))
+        subst (λ k. MayLeadTo scripts head k goal) (sym (path_from_newest s below place step at.0))
+        (subst (λ h. MayLeadTo scripts h step goal) (sym at.1) (last asks))
     stack_leads (s ∷ below) place head step goal linked asks (inr at) =
-        subst (λ k. Leads scripts head k goal) (sym (path_from_below s below place step (at_lies_below below place head at)))
+        subst (λ k. MayLeadTo scripts head k goal) (sym (path_from_below s below place step (at_lies_below below place head at)))
         (leads_on scripts (stack_leads below place head s.0.step_kind_from_parent s.0.input linked.1 linked.0.asked at) asks)
 
     -- each goal on the stack reaches the newest one
-    pub stack_reaches : (s : StackEntry X I R A T × Run X F I R A T) (below : List (StackEntry X I R A T × Run X F I R A T)) (place : ℕ) (head : I) → AreLinked scripts same (s ∷ below) → IsGoalAt (s ∷ below) place head → Reaches scripts head s.0.input
-    stack_reaches s below place head linked (inl at) = subst (λ h. Reaches scripts h s.0.input) (sym at.1) here
+    pub stack_reaches : (s : StackEntry X I R A T × Run X F I R A T) (below : List (StackEntry X I R A T × Run X F I R A T)) (place : ℕ) (head : I) → AreLinked scripts same (s ∷ below) → IsGoalAt (s ∷ below) place head → MayReach scripts head s.0.input
+    stack_reaches s below place head linked (inl at) = subst (λ h. MayReach scripts h s.0.input) (sym at.1) here
     stack_reaches s below place head linked (inr at) = leads_reaches scripts (stack_leads below place head s.0.step_kind_from_parent s.0.input linked.1 linked.0.asked at)

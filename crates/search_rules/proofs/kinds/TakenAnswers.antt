@@ -6,7 +6,7 @@ use Rattle.search_rules.specs.Below.{AnswersNewest, at_depth, entries_at, EntryS
 use Rattle.open_goals.specs.Entries.{TakesHeads}
 use Rattle.open_goals.specs.NestedGoals.{NestsItself}
 use Rattle.search_rules.specs.Kinds.{AreJoined, AreLinked, AsksNewest, EntryIsLinked, IsGoalAt, IsJoinedTo, ReachesNested}
-use Rattle.search_rules.specs.OneKind.{Asks}
+use Rattle.search_rules.specs.OneKind.{MayAsk}
 use Rattle.search_rules.proofs.kinds.NestedPaths.{nested_head, nested_itself, nested_taken}
 use Rattle.search_rules.proofs.kinds.Questions.{asked_reached, reaches_on}
 use Rattle.search_rules.proofs.kinds.Stack.{at_below, stack_reaches}
@@ -44,7 +44,7 @@ module _ {X F I R A T : Type 0} (scripts : I → List (Reply R) → Request I R)
 
   -- the goal that asked is joined to the heads of the answer, and to those that it had
   heads_joined : (s : StackEntry X I R A T × Run X F I R A T) (below : List (StackEntry X I R A T × Run X F I R A T)) (step : PathKind) (goal : I) (answer : Heads) (was now : EntryState X I R A T)
-      → AreLinked scripts same (s ∷ below) → Asks scripts s.0.input step goal → AreJoined scripts (s ∷ below) goal answer → TakesHeads (record { 0 = length below }) step answer was now → AreJoined scripts below s.0.input was.heads → AreJoined scripts below s.0.input now.heads
+      → AreLinked scripts same (s ∷ below) → MayAsk scripts s.0.input step goal → AreJoined scripts (s ∷ below) goal answer → TakesHeads (record { 0 = length below }) step answer was now → AreJoined scripts below s.0.input was.heads → AreJoined scripts below s.0.input now.heads
   heads_joined s below step goal answer was now linked asks joined takes before depth there =
       elim (head_from (depth.0 == length below) step (at_depth was.heads depth) (at_depth answer depth) (at_depth now.heads depth) (takes.heads depth) there) [
         | inl own ↦ before depth own
@@ -68,7 +68,7 @@ module _ {X F I R A T : Type 0} (scripts : I → List (Reply R) → Request I R)
       was : AreLinked scripts same ((a.entry, a.run) ∷ a.below)
       was = subst (AreLinked scripts same) a.was h
 
-      asks_there : Asks scripts a.entry.input step goal
+      asks_there : MayAsk scripts a.entry.input step goal
       asks_there = subst (λ l. AsksNewest scripts l step goal) a.was asks
 
       now_joined : AreJoined scripts a.below a.entry.input a.state.heads

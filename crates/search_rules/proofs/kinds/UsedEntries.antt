@@ -10,7 +10,7 @@ use Rattle.cycle_heads.proofs.PathMembers.{extended-has}
 use Rattle.search_rules.specs.Below.{CycleHead, entries_at, extended, has_kind, has_head_up_to, asking_heads, highest, IsRising, Lists, may_be_used, NestedPaths, path_kind_from, paths_at, PathKind, PathsToNested, ProvisionalCacheEntry, rank_of, Reply, Request, Run, StackDepth, StackEntry}
 use Rattle.search_rules.specs.Kinds.{AreLinked, AsksNewest, EntryIsLinked, IsJoinedTo, IsReachedBy, KeepsKinds, ReachesNested}
 use Rattle.search_rules.specs.LookUp.{Asking, could_be_used, is_applicable, meets_entry, usable_entry}
-use Rattle.search_rules.specs.OneKind.{here, Leads, Reaches}
+use Rattle.search_rules.specs.OneKind.{here, MayLeadTo, MayReach}
 use Rattle.search_rules.specs.Provisional.{EntriesMetNone}
 use Rattle.search_rules.proofs.HeadOrder.{ascends, highest_there, no_highest}
 use Rattle.search_rules.proofs.kinds.NestedPaths.{extended_empty}
@@ -61,18 +61,18 @@ module _ {X F I R A T : Type 0} (scripts : I → List (Reply R) → Request I R)
     joined : IsJoinedTo scripts goals other head.0.0
     joined = e.heads head.0 (subst IsSome (sym (highest_there entry.heads head (ascends entry.heads rising) top)) refl)
 
-    walk : Leads scripts joined.head (path_kind_from (stack_of goals) head.0.0 step) goal
+    walk : MayLeadTo scripts joined.head (path_kind_from (stack_of goals) head.0.0 step) goal
     walk = stack_leads scripts same goals head.0.0 joined.head step goal linked asks joined.is_at
 
     -- the kind of that is the entry's, if the asked goal reaches the entry's
-    path_is : Reaches scripts goal other → path_kind_from (stack_of goals) head.0.0 step ≡ entry.path_from_head
+    path_is : MayReach scripts goal other → path_kind_from (stack_of goals) head.0.0 step ≡ entry.path_from_head
     path_is reaches = kind_of_goal scripts other entry.path_from_head e.kind walk reaches joined.there
 
     -- also by paths that are added
     added_is : (paths : PathsToNested) → IsReachedBy scripts goal paths other → has_kind (extended paths (path_kind_from (stack_of goals) head.0.0 step)) entry.path_from_head ≡ true
     added_is paths (inl itself) =
         let path = path_kind_from (stack_of goals) head.0.0 step in
-        subst (λ k. has_kind (extended paths path) k ≡ true) (path_is (subst (Reaches scripts goal) (sym itself.1) here)) (extended_empty paths path itself.0)
+        subst (λ k. has_kind (extended paths path) k ≡ true) (path_is (subst (MayReach scripts goal) (sym itself.1) here)) (extended_empty paths path itself.0)
     added_is paths (inr by) =
         let path = path_kind_from (stack_of goals) head.0.0 step in
         let rest : by.0 ≡ entry.path_from_head = kind_of_goal scripts other entry.path_from_head e.kind by.2 here (reaches_on scripts joined.there (leads_reaches scripts walk)) in

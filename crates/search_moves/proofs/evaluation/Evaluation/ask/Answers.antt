@@ -1,7 +1,7 @@
 use Rattle.std.proofs.Common.{arith, ◌≡◌, ◌≤◌, ◌+◌, ◌∷◌, Option, None, Some, option_map, refl, is_some, true, sym, ap, ◌∙◌, subst}
 use Rattle.std.specs.Option.{IfSome, option_copied}
 use Rattle.search_moves.specs.Below.{Answer, Begin, CountsOne, fates_of, answered_by, fate_for, IsFated, first_accepted, usable, hit_of, verdicts, AreOnStack, is_applicable, usable_entry, ClosesCycle}
-use Rattle.search_moves.specs.Words.{Asked, Refused, ByEntry, ByStored, OverCycle, Pushed}
+use Rattle.search_moves.specs.Words.{AskingLeadsTo, Refused, ByEntry, ByStored, OverCycle, Pushed}
 use Rattle.search_moves.proofs.Asking.{push_stops, refused_stops}
 use Rattle.search_moves.proofs.Keeping.{appending_keeps}
 use Rattle.search_rules.proofs.moves.Questions.{asked_depth_fits, if_err, if_ok_then, none_of}
@@ -21,7 +21,7 @@ returns-in_err-note_overflow-clause-stops g c = λ call ahead h.
 
 pub returns-in_default-clause-asked : goal.returns-in_default-clause-asked
 returns-in_default-clause-asked g c =
-    subst (λ given. Asked g.D.Delegate g.D.Cx.Cx g.D.Cx.Input.PartialEq.eq c.args.cache.now.cx c.args.kind c.args.input (g.D.Delegate.noop c.args.inspect.now) c.args.cache.now c.args.self.now (g.D.Delegate.starts c.args.inspect.now) given c.args.cache.now (record c.args.self.now { goals = c.note_overflow.new.self; limits_met = true }) (g.D.Delegate.starts c.args.inspect.now))
+    subst (λ given. AskingLeadsTo g.D.Delegate g.D.Cx.Cx g.D.Cx.Input.PartialEq.eq c.args.cache.now.cx c.args.kind c.args.input (g.D.Delegate.noop c.args.inspect.now) c.args.cache.now c.args.self.now (g.D.Delegate.starts c.args.inspect.now) given c.args.cache.now (record c.args.self.now { goals = c.note_overflow.new.self; limits_met = true }) (g.D.Delegate.starts c.args.inspect.now))
     (sym (c.without_node.ensures ∙ ap (λ r. record { reply = Answer r; node = None }) (c.stack_overflow_result-answer.ensures ∙ ap (λ x. g.D.Delegate.stack_overflow x c.args.input) c.cx-cx.ensures)))
     (Refused c.note_overflow.new.self (none_of (λ d. d.0) c.allowed_depth.result c.in_default.not-Some ∙ c.allowed_depth.ensures) c.in_ok-note_overflow.ensures)
 
@@ -64,7 +64,7 @@ note_stored-requires-clause-fits g c =
 
 pub returns-in-Some-stored-clause-asked : goal.returns-in-Some-stored-clause-asked
 returns-in-Some-stored-clause-asked g c =
-    subst (λ n. Asked g.D.Delegate g.D.Cx.Cx g.D.Cx.Input.PartialEq.eq c.args.cache.now.cx c.args.kind c.args.input (g.D.Delegate.noop c.args.inspect.now) c.args.cache.now c.args.self.now (g.D.Delegate.starts c.args.inspect.now) (record { reply = Answer c.in-Some-stored.stored.result; node = c.in-Some-stored.stored.node }) c.args.cache.now (record c.args.self.now { goals = c.note_stored.new.self }) n) (sym c.consult-stored.ensures.same_starts)
+    subst (λ n. AskingLeadsTo g.D.Delegate g.D.Cx.Cx g.D.Cx.Input.PartialEq.eq c.args.cache.now.cx c.args.kind c.args.input (g.D.Delegate.noop c.args.inspect.now) c.args.cache.now c.args.self.now (g.D.Delegate.starts c.args.inspect.now) (record { reply = Answer c.in-Some-stored.stored.result; node = c.in-Some-stored.stored.node }) c.args.cache.now (record c.args.self.now { goals = c.note_stored.new.self }) n) (sym c.consult-stored.ensures.same_starts)
     (ByStored c.in-Some.depth (hit_of c.in-Some-stored.stored) c.note_stored.new.self c.in-Some.ensures
     (subst (λ stack. usable_entry g.D.Cx.Input.PartialEq.eq g.D.Delegate.ENABLE_PROVISIONAL_CACHE (record { stack = stack; entries = c.args.self.now.provisional; step = c.args.kind }) c.args.input ≡ None) c.stack-stack.ensures (sym c.look_up_entry.ensures ∙ ap option_copied c.in_default-look_up_entry.is))
     (subst (λ stack. answered_by (g.D.Delegate.noop c.args.inspect.now) (g.D.Delegate.scoped c.args.cache.now.cx c.args.input) (first_accepted (is_applicable g.D.Cx.Input.PartialEq.eq (record { stack = stack; entries = c.args.self.now.provisional; step = c.args.kind })) (usable g.D.Cx.Input.PartialEq.eq c.args.cache.now.results c.args.input c.in-Some.depth.0)) ≡ Some (hit_of c.in-Some-stored.stored)) c.stack-stack-2.ensures (sym c.consult-stored.ensures.consults.stored ∙ ap (option_map hit_of) c.in-Some-stored.is))
@@ -82,8 +82,8 @@ pub returns-in-Some-find-clause-asked : goal.returns-in-Some-find-clause-asked
 returns-in-Some-find-clause-asked g c =
     if_ok_then c.answer_cycle.result _ _ c.answer_cycle.ensures.answered
     (λ given closes.
-    subst (λ n. Asked g.D.Delegate g.D.Cx.Cx g.D.Cx.Input.PartialEq.eq c.args.cache.now.cx c.args.kind c.args.input (g.D.Delegate.noop c.args.inspect.now) c.args.cache.now c.args.self.now (g.D.Delegate.starts c.args.inspect.now) given c.args.cache.now c.answer_cycle.new.self n) (sym c.consult-stored.ensures.same_starts)
-    (subst (λ after. Asked g.D.Delegate g.D.Cx.Cx g.D.Cx.Input.PartialEq.eq c.args.cache.now.cx c.args.kind c.args.input (g.D.Delegate.noop c.args.inspect.now) c.args.cache.now c.args.self.now (g.D.Delegate.starts c.args.inspect.now) given c.args.cache.now after (g.D.Delegate.starts c.args.inspect.now)) (sym c.answer_cycle.ensures.rest)
+    subst (λ n. AskingLeadsTo g.D.Delegate g.D.Cx.Cx g.D.Cx.Input.PartialEq.eq c.args.cache.now.cx c.args.kind c.args.input (g.D.Delegate.noop c.args.inspect.now) c.args.cache.now c.args.self.now (g.D.Delegate.starts c.args.inspect.now) given c.args.cache.now c.answer_cycle.new.self n) (sym c.consult-stored.ensures.same_starts)
+    (subst (λ after. AskingLeadsTo g.D.Delegate g.D.Cx.Cx g.D.Cx.Input.PartialEq.eq c.args.cache.now.cx c.args.kind c.args.input (g.D.Delegate.noop c.args.inspect.now) c.args.cache.now c.args.self.now (g.D.Delegate.starts c.args.inspect.now) given c.args.cache.now after (g.D.Delegate.starts c.args.inspect.now)) (sym c.answer_cycle.ensures.rest)
     (OverCycle c.in-Some.depth c.in-Some-find.head given c.answer_cycle.new.self.goals c.in-Some.ensures
     (subst (λ stack. usable_entry g.D.Cx.Input.PartialEq.eq g.D.Delegate.ENABLE_PROVISIONAL_CACHE (record { stack = stack; entries = c.args.self.now.provisional; step = c.args.kind }) c.args.input ≡ None) c.stack-stack.ensures (sym c.look_up_entry.ensures ∙ ap option_copied c.in_default-look_up_entry.is))
     (subst (λ stack. answered_by (g.D.Delegate.noop c.args.inspect.now) (g.D.Delegate.scoped c.args.cache.now.cx c.args.input) (first_accepted (is_applicable g.D.Cx.Input.PartialEq.eq (record { stack = stack; entries = c.args.self.now.provisional; step = c.args.kind })) (usable g.D.Cx.Input.PartialEq.eq c.args.cache.now.results c.args.input c.in-Some.depth.0)) ≡ None) c.stack-stack-2.ensures (sym c.consult-stored.ensures.consults.stored ∙ ap (option_map hit_of) c.in_default-stored.is))
@@ -107,10 +107,10 @@ pub returns-clause-asked : goal.returns-clause-asked
 returns-clause-asked g c =
     let stack_is = c.stack-stack-2.ensures in
     let fate_is = subst (λ stack. c.consult-stored.result.fate ≡ fate_for (g.D.Delegate.noop c.args.inspect.now) (g.D.Delegate.scoped c.args.cache.now.cx c.args.input) (first_accepted (is_applicable g.D.Cx.Input.PartialEq.eq (record { stack = stack; entries = c.args.self.now.provisional; step = c.args.kind })) (usable g.D.Cx.Input.PartialEq.eq c.args.cache.now.results c.args.input c.in-Some.depth.0))) stack_is c.consult-stored.ensures.consults.fate in
-    subst (λ given. Asked g.D.Delegate g.D.Cx.Cx g.D.Cx.Input.PartialEq.eq c.args.cache.now.cx c.args.kind c.args.input (g.D.Delegate.noop c.args.inspect.now) c.args.cache.now c.args.self.now (g.D.Delegate.starts c.args.inspect.now) given c.push_goal.new.cache (record c.push_goal.new.self { goals = c.hold.new.self }) (g.D.Delegate.starts c.push_goal.new.inspect)) (sym c.without_node-2.ensures)
-    (subst (λ goals. Asked g.D.Delegate g.D.Cx.Cx g.D.Cx.Input.PartialEq.eq c.args.cache.now.cx c.args.kind c.args.input (g.D.Delegate.noop c.args.inspect.now) c.args.cache.now c.args.self.now (g.D.Delegate.starts c.args.inspect.now) (record { reply = Begin; node = None }) c.push_goal.new.cache (record c.push_goal.new.self { goals = goals }) (g.D.Delegate.starts c.push_goal.new.inspect)) (sym c.hold.ensures)
-    (subst (λ cache. Asked g.D.Delegate g.D.Cx.Cx g.D.Cx.Input.PartialEq.eq c.args.cache.now.cx c.args.kind c.args.input (g.D.Delegate.noop c.args.inspect.now) c.args.cache.now c.args.self.now (g.D.Delegate.starts c.args.inspect.now) (record { reply = Begin; node = None }) cache c.push_goal.new.self (g.D.Delegate.starts c.push_goal.new.inspect)) (sym c.push_goal.ensures.cache)
-    (subst (λ after. Asked g.D.Delegate g.D.Cx.Cx g.D.Cx.Input.PartialEq.eq c.args.cache.now.cx c.args.kind c.args.input (g.D.Delegate.noop c.args.inspect.now) c.args.cache.now c.args.self.now (g.D.Delegate.starts c.args.inspect.now) (record { reply = Begin; node = None }) (record c.args.cache.now { nodes = c.push_goal.new.cache.nodes }) after (g.D.Delegate.starts c.push_goal.new.inspect)) (sym c.push_goal.ensures.rest)
+    subst (λ given. AskingLeadsTo g.D.Delegate g.D.Cx.Cx g.D.Cx.Input.PartialEq.eq c.args.cache.now.cx c.args.kind c.args.input (g.D.Delegate.noop c.args.inspect.now) c.args.cache.now c.args.self.now (g.D.Delegate.starts c.args.inspect.now) given c.push_goal.new.cache (record c.push_goal.new.self { goals = c.hold.new.self }) (g.D.Delegate.starts c.push_goal.new.inspect)) (sym c.without_node-2.ensures)
+    (subst (λ goals. AskingLeadsTo g.D.Delegate g.D.Cx.Cx g.D.Cx.Input.PartialEq.eq c.args.cache.now.cx c.args.kind c.args.input (g.D.Delegate.noop c.args.inspect.now) c.args.cache.now c.args.self.now (g.D.Delegate.starts c.args.inspect.now) (record { reply = Begin; node = None }) c.push_goal.new.cache (record c.push_goal.new.self { goals = goals }) (g.D.Delegate.starts c.push_goal.new.inspect)) (sym c.hold.ensures)
+    (subst (λ cache. AskingLeadsTo g.D.Delegate g.D.Cx.Cx g.D.Cx.Input.PartialEq.eq c.args.cache.now.cx c.args.kind c.args.input (g.D.Delegate.noop c.args.inspect.now) c.args.cache.now c.args.self.now (g.D.Delegate.starts c.args.inspect.now) (record { reply = Begin; node = None }) cache c.push_goal.new.self (g.D.Delegate.starts c.push_goal.new.inspect)) (sym c.push_goal.ensures.cache)
+    (subst (λ after. AskingLeadsTo g.D.Delegate g.D.Cx.Cx g.D.Cx.Input.PartialEq.eq c.args.cache.now.cx c.args.kind c.args.input (g.D.Delegate.noop c.args.inspect.now) c.args.cache.now c.args.self.now (g.D.Delegate.starts c.args.inspect.now) (record { reply = Begin; node = None }) (record c.args.cache.now { nodes = c.push_goal.new.cache.nodes }) after (g.D.Delegate.starts c.push_goal.new.inspect)) (sym c.push_goal.ensures.rest)
     (Pushed c.in-Some.depth c.push_goal.new.self.goals c.push_goal.new.cache.nodes (g.D.Delegate.starts c.push_goal.new.inspect) c.in-Some.ensures
     (subst (λ stack. usable_entry g.D.Cx.Input.PartialEq.eq g.D.Delegate.ENABLE_PROVISIONAL_CACHE (record { stack = stack; entries = c.args.self.now.provisional; step = c.args.kind }) c.args.input ≡ None) c.stack-stack.ensures (sym c.look_up_entry.ensures ∙ ap option_copied c.in_default-look_up_entry.is))
     (subst (λ stack. answered_by (g.D.Delegate.noop c.args.inspect.now) (g.D.Delegate.scoped c.args.cache.now.cx c.args.input) (first_accepted (is_applicable g.D.Cx.Input.PartialEq.eq (record { stack = stack; entries = c.args.self.now.provisional; step = c.args.kind })) (usable g.D.Cx.Input.PartialEq.eq c.args.cache.now.results c.args.input c.in-Some.depth.0)) ≡ None) stack_is (sym c.consult-stored.ensures.consults.stored ∙ ap (option_map hit_of) c.in_default-stored.is))
