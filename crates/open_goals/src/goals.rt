@@ -3,7 +3,7 @@ ghost use Rattle.std.specs.Prelude.{◌≡◌, ℕ, ◌+◌, ◌^◌, ◌<◌, L
 ghost use Rattle.std.specs.List.{list_any};
 ghost use Rattle.std.specs.Option.{option_map};
 ghost use Rattle.open_goals.specs.Below.{position_of, verdicts};
-ghost use Rattle.open_goals.specs.Words.{CanStep, IsVerdict, HasStepped, IsStepFault};
+ghost use Rattle.open_goals.specs.Words.{CanStep, IsVerdict, HasStepped, IsStepFault, no_record};
 
 mod candidates;
 mod nodes;
@@ -318,15 +318,18 @@ impl<X: Cx, F: Drop, S: Drop> OpenGoals<X, F, S> {
         &self.runs[self.runs.len() - 1]
     }
 
-    /// Takes what the newest goal's run has done, and leaves a new record.
-    pub fn take_progress(&mut self) -> Progress<X::Input, X::Result>
-        requires { 0 < length self.old }
+    /// Takes what the newest goal's run has done, and leaves the record of one that has done nothing.
+    pub fn take_progress(
+        &mut self,
+        nothing: Progress<X::Input, X::Result>,
+    ) -> Progress<X::Input, X::Result>
+        requires some { 0 < length self.old }
+        requires nothing { nothing ≡ no_record }
         ensures taken { option_map (λ s. s.1.progress) (newest self.old) ≡ Some result }
         ensures left { self.new ≡ change_newest with_no_record self.old }
     {
-        let alloc = self.allocator();
         let last = self.runs.len() - 1;
-        mem::replace(&mut self.runs[last].progress, Progress::new(alloc))
+        mem::replace(&mut self.runs[last].progress, nothing)
     }
 
     /// Runs the newest goal again under this result, with a frame and a node for the new run. The answers

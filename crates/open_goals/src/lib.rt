@@ -14,4 +14,5 @@
 pub mod candidates;
 pub mod goals;
 pub mod progress;
+pub mod spare;
 pub mod update;

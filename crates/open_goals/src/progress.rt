@@ -169,11 +169,22 @@ impl<I: Copy, R: Copy> Progress<I, R> {
         Ok(())
     }
 
-    /// Hands out the replies, the oldest first.
-    pub fn into_replies(mut self) -> Vec<Reply<R>>
-        ensures { result.items ≡ self.replies }
+    /// The replies, the oldest first, in a list that has no room to spare: the node of the run has it for good.
+    pub fn replies(&self) -> Result<Vec<Reply<R>>, NoMemory>
+        ensures { IfOk result (λ replies. replies.items ≡ self.now.replies) }
     {
-        self.replies.shrink_to_fit();
-        self.replies
+        let replies = Vec::from_slice(*self.replies.allocator(), &self.replies)?;
+        Ok(replies)
+    }
+
+    /// Forgets what was done, and keeps the memory.
+    pub fn clear(&mut self)
+        ensures { self.new ≡ no_record }
+    {
+        self.replies.clear();
+        self.request = None;
+        self.answers.clear();
+        self.is_open = false;
+        self.ignored.clear();
     }
 }

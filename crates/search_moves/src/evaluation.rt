@@ -3,7 +3,8 @@ ghost use Rattle.std.specs.Prelude.{◌≡◌, ◌<◌, ◌^◌, []};
 
 use crate::drafts::Drafts;
 use open_goals::goals::OpenGoals;
-use search_parts::context::Delegate;
+use open_goals::spare::SpareRun;
+use search_parts::context::{Cx, Delegate};
 use search_parts::parts::{AvailableDepth, ProvisionalCache};
 use std::alloc::Global;
 
@@ -18,6 +19,7 @@ pub struct Evaluation<D: Delegate> {
     pub root_depth: AvailableDepth,
     pub limits_met: bool,
     pub drafts: Drafts,
+    pub(crate) spare: SpareRun<<D::Cx as Cx>::Input, <D::Cx as Cx>::Result>,
 }
 
 impl<D: Delegate> Evaluation<D> {
@@ -34,6 +36,7 @@ impl<D: Delegate> Evaluation<D> {
           root_depth = root_depth;
           limits_met = limits_met;
           drafts = drafts;
+          spare = tt;
         } }
         ensures fits { root_depth.0 < 2 ^ 64 }
     {
@@ -43,6 +46,7 @@ impl<D: Delegate> Evaluation<D> {
             root_depth,
             limits_met,
             drafts,
+            spare: SpareRun::new(alloc),
         }
     }
 }

@@ -55,14 +55,16 @@ impl<D: Delegate> Evaluation<D> {
             progress,
             finished_runs: _,
             met_overflow_before,
-            candidates: _,
+            candidates,
             fate,
         } = run;
         let step = entry.step_kind_from_parent();
         let mut encountered_overflow = entry.state.encountered_overflow;
         encountered_overflow |= met_overflow_before;
         let input = entry.input();
-        let node = result_node::<D>(cache, &entry.state, own_node, progress, outcome)?;
+        let node = result_node::<D>(cache, &entry.state, own_node, &progress, outcome)?;
+        self.spare.keep_progress(progress);
+        self.spare.keep_candidates(candidates);
         entry.state.heads.are_rising();
         // First the entries are rebased, since the goal's own entry must not be rebased over the goal itself;
         // the answer is moved into the cache last.

@@ -7,9 +7,7 @@ ghost use Rattle.search_moves.specs.Below.{depth_below, KeepsBuilder, CacheNode,
 ghost use Rattle.search_moves.specs.Words.{HasRequest, Requests, IsRightFor, GoesOnWith, StopsWith, KeepsCache, StartsFrame, AskingLeadsTo, question_depth};
 
 use crate::evaluation::Evaluation;
-use open_goals::candidates::FinishedCandidates;
 use open_goals::goals::{Fate, OpenGoals, Received, Run};
-use open_goals::progress::Progress;
 use search_parts::context::{Cx, Delegate, NoMemory, Reply};
 use search_parts::global_cache::GlobalCache;
 use search_parts::parts::{AvailableDepth, StackDepth, StackEntry};
@@ -155,10 +153,10 @@ impl<D: Delegate> Evaluation<D> {
             Run {
                 frame,
                 node,
-                progress: Progress::new(alloc),
+                progress: self.spare.new_progress(),
                 finished_runs: 0,
                 met_overflow_before: false,
-                candidates: FinishedCandidates::new(alloc),
+                candidates: self.spare.new_candidates(),
                 fate,
             },
         )?;

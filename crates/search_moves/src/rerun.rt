@@ -33,13 +33,15 @@ impl<D: Delegate> Evaluation<D> {
         // goal as a head stay: they are rebased when it is popped.
         self.provisional
             .clear_for_rerun(StackDepth::new(self.goals.len() - 1));
-        let progress = self.goals.take_progress();
+        let nothing = self.spare.new_progress();
+        let progress = self.goals.take_progress(nothing);
         let own_node = self.goals.last_run().node;
         let entry = self.goals.last_entry();
         let input = entry.input();
-        let node = result_node::<D>(cache, &entry.state, own_node, progress, outcome)?.or(
+        let node = result_node::<D>(cache, &entry.state, own_node, &progress, outcome)?.or(
             entry.state.node,
         );
+        self.spare.keep_progress(progress);
         let frame = D::start(cache.cx(), input, inspect)?;
         let own_node = cache.open_node(input)?;
         // The goal stays on the stack: its entry has the step, depths, heads and nested goals of all its runs.

@@ -16,15 +16,15 @@ pub fn result_node<D: Delegate>(
     cache: &mut GlobalCache<D>,
     state: &EntryState<D::Cx>,
     own_node: NodeId,
-    progress: Progress<<D::Cx as Cx>::Input, <D::Cx as Cx>::Result>,
+    progress: &Progress<<D::Cx as Cx>::Input, <D::Cx as Cx>::Result>,
     outcome: <D::Cx as Cx>::Result,
 ) -> Result<Option<NodeId>, NoMemory>
     requires { IsDefinite (verdicts D.Cx.Cx) outcome →
         EndsRun (verdicts D.Cx.Cx)
-        (D.script cache.old.cx) cache.old.nodes own_node progress outcome }
+        (D.script cache.old.cx) cache.old.nodes own_node progress.now outcome }
     ensures has_node { IfOk result (λ answer.
         HasResultNode (verdicts D.Cx.Cx) cache.old.nodes cache.new.nodes
-        state.now.provisional_result own_node state.now.node progress outcome answer) }
+        state.now.provisional_result own_node state.now.node progress.now outcome answer) }
     ensures same_context { cache.new.cx ≡ cache.old.cx }
     ensures same_results { cache.new.results ≡ cache.old.results }
     ensures kept { KeepsFinished cache.old.nodes cache.new.nodes }
@@ -41,7 +41,7 @@ pub fn result_node<D: Delegate>(
         return Ok(state.node);
     }
     let edges = progress.edges(verdict)?;
-    let replies = progress.into_replies();
+    let replies = progress.replies()?;
     cache.finish_node(own_node, replies, edges, outcome);
     Ok(Some(own_node))
 }

@@ -8,32 +8,32 @@ use Rattle.search_rules.proofs.records.Verdicts.{fails_at}
 use Rattle.search_rules.proofs.nodes.result_node.Goals as goal
 
 pub returns-in-Neither-clause-has_node : goal.returns-in-Neither-clause-has_node
-returns-in-Neither-clause-has_node g c = left_open (verdicts g.D.Cx.Cx) c.args.cache.now.nodes c.args.state.now.provisional_result c.args.own_node c.args.state.now.node c.args.progress c.args.outcome c.sort-verdict.result c.sort-verdict.ensures.yes c.sort-verdict.ensures.no c.in-Neither.is
+returns-in-Neither-clause-has_node g c = left_open (verdicts g.D.Cx.Cx) c.args.cache.now.nodes c.args.state.now.provisional_result c.args.own_node c.args.state.now.node c.args.progress.now c.args.outcome c.sort-verdict.result c.sort-verdict.ensures.yes c.sort-verdict.ensures.no c.in-Neither.is
 
 pub returns-then-says_again-clause-has_node : goal.returns-then-says_again-clause-has_node
 returns-then-says_again-clause-has_node g c =
-    again (verdicts g.D.Cx.Cx) c.args.cache.now.nodes c.args.state.now.provisional_result c.args.own_node c.args.state.now.node c.args.progress c.args.outcome c.sort-verdict.result c.sort-verdict.ensures.yes c.sort-verdict.ensures.no c.in_default.not-Neither (c.says_again.ensures.0 c.if-says_again.true)
+    again (verdicts g.D.Cx.Cx) c.args.cache.now.nodes c.args.state.now.provisional_result c.args.own_node c.args.state.now.node c.args.progress.now c.args.outcome c.sort-verdict.result c.sort-verdict.ensures.yes c.sort-verdict.ensures.no c.in_default.not-Neither (c.says_again.ensures.0 c.if-says_again.true)
 
 pub finish_node-requires : goal.finish_node-requires
 finish_node-requires g c =
-    subst (λ replies. IsSomeAnd (open_goal c.args.cache.now.nodes c.args.own_node.0) (λ goal. IsRun (verdicts g.D.Cx.Cx) (g.D.Delegate.script c.args.cache.now.cx goal) c.args.cache.now.nodes (record { replies = replies; edges = c.in_ok-edges.edges.items; outcome = c.args.outcome }))) (sym c.into_replies-replies.ensures)
-    (subst (λ edges. IsSomeAnd (open_goal c.args.cache.now.nodes c.args.own_node.0) (λ goal. IsRun (verdicts g.D.Cx.Cx) (g.D.Delegate.script c.args.cache.now.cx goal) c.args.cache.now.nodes (record { replies = c.args.progress.replies; edges = edges; outcome = c.args.outcome }))) (sym c.in_ok-edges.ensures)
-    (open_for_run (verdicts g.D.Cx.Cx) (g.D.Delegate.script c.args.cache.now.cx) c.args.cache.now.nodes c.args.own_node c.args.progress c.args.outcome (c.requires (definite_result (verdicts g.D.Cx.Cx) c.args.cache.now.nodes c.args.state.now.provisional_result c.args.own_node c.args.state.now.node c.args.progress c.args.outcome c.sort-verdict.result c.sort-verdict.ensures.yes c.sort-verdict.ensures.no c.in_default.not-Neither)) c.sort-verdict.result c.sort-verdict.ensures.yes c.sort-verdict.ensures.no))
+    subst (λ replies. IsSomeAnd (open_goal c.args.cache.now.nodes c.args.own_node.0) (λ goal. IsRun (verdicts g.D.Cx.Cx) (g.D.Delegate.script c.args.cache.now.cx goal) c.args.cache.now.nodes (record { replies = replies; edges = c.in_ok-edges.edges.items; outcome = c.args.outcome }))) (sym c.in_ok-replies.ensures)
+    (subst (λ edges. IsSomeAnd (open_goal c.args.cache.now.nodes c.args.own_node.0) (λ goal. IsRun (verdicts g.D.Cx.Cx) (g.D.Delegate.script c.args.cache.now.cx goal) c.args.cache.now.nodes (record { replies = c.args.progress.now.replies; edges = edges; outcome = c.args.outcome }))) (sym c.in_ok-edges.ensures)
+    (open_for_run (verdicts g.D.Cx.Cx) (g.D.Delegate.script c.args.cache.now.cx) c.args.cache.now.nodes c.args.own_node c.args.progress.now c.args.outcome (c.requires (definite_result (verdicts g.D.Cx.Cx) c.args.cache.now.nodes c.args.state.now.provisional_result c.args.own_node c.args.state.now.node c.args.progress.now c.args.outcome c.sort-verdict.result c.sort-verdict.ensures.yes c.sort-verdict.ensures.no c.in_default.not-Neither)) c.sort-verdict.result c.sort-verdict.ensures.yes c.sort-verdict.ensures.no))
 
 pub returns-clause-has_node : goal.returns-clause-has_node
 returns-clause-has_node g c =
-    ended_node (verdicts g.D.Cx.Cx) (g.D.Delegate.script c.args.cache.now.cx) c.args.cache.now.nodes c.args.own_node c.args.progress c.args.outcome (c.requires (definite_result (verdicts g.D.Cx.Cx) c.args.cache.now.nodes c.args.state.now.provisional_result c.args.own_node c.args.state.now.node c.args.progress c.args.outcome c.sort-verdict.result c.sort-verdict.ensures.yes c.sort-verdict.ensures.no c.in_default.not-Neither)) c.sort-verdict.result c.sort-verdict.ensures.yes c.sort-verdict.ensures.no c.in_default.not-Neither c.args.state.now.provisional_result c.args.state.now.node
+    ended_node (verdicts g.D.Cx.Cx) (g.D.Delegate.script c.args.cache.now.cx) c.args.cache.now.nodes c.args.own_node c.args.progress.now c.args.outcome (c.requires (definite_result (verdicts g.D.Cx.Cx) c.args.cache.now.nodes c.args.state.now.provisional_result c.args.own_node c.args.state.now.node c.args.progress.now c.args.outcome c.sort-verdict.result c.sort-verdict.ensures.yes c.sort-verdict.ensures.no c.in_default.not-Neither)) c.sort-verdict.result c.sort-verdict.ensures.yes c.sort-verdict.ensures.no c.in_default.not-Neither c.args.state.now.provisional_result c.args.state.now.node
     (λ repeats. fails_at c.if-says_again.false (c.says_again.ensures.1 repeats)) c.finish_node.new.self.nodes
     (ap (λ cache. cache.nodes) c.finish_node.ensures.ended
-    ∙ ap (λ replies. with_run c.args.cache.now.nodes c.args.own_node.0 (record { replies = replies; edges = c.in_ok-edges.edges.items; outcome = c.args.outcome })) c.into_replies-replies.ensures
-    ∙ ap (λ edges. with_run c.args.cache.now.nodes c.args.own_node.0 (record { replies = c.args.progress.replies; edges = edges; outcome = c.args.outcome })) c.in_ok-edges.ensures)
+    ∙ ap (λ replies. with_run c.args.cache.now.nodes c.args.own_node.0 (record { replies = replies; edges = c.in_ok-edges.edges.items; outcome = c.args.outcome })) c.in_ok-replies.ensures
+    ∙ ap (λ edges. with_run c.args.cache.now.nodes c.args.own_node.0 (record { replies = c.args.progress.now.replies; edges = edges; outcome = c.args.outcome })) c.in_ok-edges.ensures)
 
 pub returns-clause-kept : goal.returns-clause-kept
 returns-clause-kept g c =
     subst (KeepsFinished c.args.cache.now.nodes) (sym (ap (λ cache. cache.nodes) c.finish_node.ensures.ended))
-    (KeepsFinished-ended c.args.cache.now.nodes c.args.own_node.0 _ (λ goal. IsRun (verdicts g.D.Cx.Cx) (g.D.Delegate.script c.args.cache.now.cx goal) c.args.cache.now.nodes (record { replies = c.args.progress.replies; edges = edges_of c.args.progress c.sort-verdict.result; outcome = c.args.outcome })) (open_for_run (verdicts g.D.Cx.Cx) (g.D.Delegate.script c.args.cache.now.cx) c.args.cache.now.nodes c.args.own_node c.args.progress c.args.outcome (c.requires (definite_result (verdicts g.D.Cx.Cx) c.args.cache.now.nodes c.args.state.now.provisional_result c.args.own_node c.args.state.now.node c.args.progress c.args.outcome c.sort-verdict.result c.sort-verdict.ensures.yes c.sort-verdict.ensures.no c.in_default.not-Neither)) c.sort-verdict.result c.sort-verdict.ensures.yes c.sort-verdict.ensures.no))
+    (KeepsFinished-ended c.args.cache.now.nodes c.args.own_node.0 _ (λ goal. IsRun (verdicts g.D.Cx.Cx) (g.D.Delegate.script c.args.cache.now.cx goal) c.args.cache.now.nodes (record { replies = c.args.progress.now.replies; edges = edges_of c.args.progress.now c.sort-verdict.result; outcome = c.args.outcome })) (open_for_run (verdicts g.D.Cx.Cx) (g.D.Delegate.script c.args.cache.now.cx) c.args.cache.now.nodes c.args.own_node c.args.progress.now c.args.outcome (c.requires (definite_result (verdicts g.D.Cx.Cx) c.args.cache.now.nodes c.args.state.now.provisional_result c.args.own_node c.args.state.now.node c.args.progress.now c.args.outcome c.sort-verdict.result c.sort-verdict.ensures.yes c.sort-verdict.ensures.no c.in_default.not-Neither)) c.sort-verdict.result c.sort-verdict.ensures.yes c.sort-verdict.ensures.no))
 
 pub returns-clause-others : goal.returns-clause-others
 returns-clause-others g c = λ at other.
     ap (λ cache. slice_get cache.nodes at) c.finish_node.ensures.ended
-    ∙ others_are c.args.cache.now.nodes c.args.own_node.0 _ (λ goal. IsRun (verdicts g.D.Cx.Cx) (g.D.Delegate.script c.args.cache.now.cx goal) c.args.cache.now.nodes (record { replies = c.args.progress.replies; edges = edges_of c.args.progress c.sort-verdict.result; outcome = c.args.outcome })) (open_for_run (verdicts g.D.Cx.Cx) (g.D.Delegate.script c.args.cache.now.cx) c.args.cache.now.nodes c.args.own_node c.args.progress c.args.outcome (c.requires (definite_result (verdicts g.D.Cx.Cx) c.args.cache.now.nodes c.args.state.now.provisional_result c.args.own_node c.args.state.now.node c.args.progress c.args.outcome c.sort-verdict.result c.sort-verdict.ensures.yes c.sort-verdict.ensures.no c.in_default.not-Neither)) c.sort-verdict.result c.sort-verdict.ensures.yes c.sort-verdict.ensures.no) at other
+    ∙ others_are c.args.cache.now.nodes c.args.own_node.0 _ (λ goal. IsRun (verdicts g.D.Cx.Cx) (g.D.Delegate.script c.args.cache.now.cx goal) c.args.cache.now.nodes (record { replies = c.args.progress.now.replies; edges = edges_of c.args.progress.now c.sort-verdict.result; outcome = c.args.outcome })) (open_for_run (verdicts g.D.Cx.Cx) (g.D.Delegate.script c.args.cache.now.cx) c.args.cache.now.nodes c.args.own_node c.args.progress.now c.args.outcome (c.requires (definite_result (verdicts g.D.Cx.Cx) c.args.cache.now.nodes c.args.state.now.provisional_result c.args.own_node c.args.state.now.node c.args.progress.now c.args.outcome c.sort-verdict.result c.sort-verdict.ensures.yes c.sort-verdict.ensures.no c.in_default.not-Neither)) c.sort-verdict.result c.sort-verdict.ensures.yes c.sort-verdict.ensures.no) at other

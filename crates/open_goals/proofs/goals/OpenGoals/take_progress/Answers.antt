@@ -6,9 +6,9 @@ use Rattle.open_goals.proofs.goals.OpenGoals.take_progress.Goals as goal
 
 pub returns-clause-taken : goal.returns-clause-taken
 returns-clause-taken g c =
-    newest_run c.self.inside.stack c.self.inside.runs.items _ c.self.invariant c.self.view_is c.requires (λ r. r.progress) (c.len-last.result - 1) c.index_mut.result.now (grind (arith, common_steps)) c.index_mut.ensures.value ∙ ap Some (sym c.replace.ensures.value)
+    newest_run c.self.inside.stack c.self.inside.runs.items _ c.self.invariant c.self.view_is c.requires.some (λ r. r.progress) (c.len-last.result - 1) c.index_mut.result.now (grind (arith, common_steps)) c.index_mut.ensures.value ∙ ap Some (sym c.replace.ensures.value)
 
 pub returns-clause-left : goal.returns-clause-left
 returns-clause-left g c =
-    run_changed c.self.inside.stack c.self.inside.runs.items _ c.self.invariant c.self.view_is c.requires (c.len-last.result - 1) c.index_mut.result.now _ (grind (arith, common_steps)) c.index_mut.ensures.value (λ r. record r { progress = no_record })
-    (ap (λ p. record c.index_mut.result.now { progress = p }) (c.replace.ensures.after ∙ c.new.ensures))
+    run_changed c.self.inside.stack c.self.inside.runs.items _ c.self.invariant c.self.view_is c.requires.some (c.len-last.result - 1) c.index_mut.result.now _ (grind (arith, common_steps)) c.index_mut.ensures.value (λ r. record r { progress = no_record })
+    (ap (λ p. record c.index_mut.result.now { progress = p }) (c.replace.ensures.after ∙ c.requires.nothing))
