@@ -38,6 +38,13 @@ impl CandidateHeadUsages {
         }
     }
 
+    /// Forgets all heads, and keeps the memory.
+    pub fn clear(&mut self)
+        ensures { self.new ≡ [] }
+    {
+        self.usages.clear();
+    }
+
     /// Whether no head is recorded. A head may be recorded without usages.
     pub fn is_empty(&self) -> bool
         ensures { IsTrue result ↔ (self.now ≡ []) }

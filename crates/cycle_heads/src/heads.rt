@@ -120,6 +120,16 @@ impl CycleHeads {
         self.as_slice().first().map(|head| head.0)
     }
 
+    /// Makes room for so many heads in all, so that the list is not moved again and again while it grows to that. A
+    /// refusal changes nothing, either.
+    pub fn make_room(&mut self, count: usize) -> Result<(), NoMemory>
+        ensures { self.new ≡ self.old }
+    {
+        let more = count.saturating_sub(self.heads.len());
+        self.heads.reserve(more)?;
+        Ok(())
+    }
+
     /// Records a head. One that is there already keeps its paths and counts at most one more usage
     /// of each kind. Only a new head takes memory, and a refusal changes nothing. Ports
     /// `CycleHeads::insert`.

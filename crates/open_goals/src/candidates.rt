@@ -51,7 +51,17 @@ impl FinishedCandidates {
         mem::replace(&mut self.usages[number], nothing)
     }
 
-    /// Forgets all of them.
+    /// How many there are.
+    pub(crate) fn len(&self) -> usize {
+        self.usages.len()
+    }
+
+    /// Takes out what the last one used.
+    pub(crate) fn pop(&mut self) -> Option<CandidateHeadUsages> {
+        self.usages.pop()
+    }
+
+    /// Forgets all of them, and keeps the memory of the list.
     pub fn clear(&mut self)
         ensures { self.new ≡ [] }
     {

@@ -10,6 +10,7 @@ mod nodes;
 
 use crate::candidates::FinishedCandidates;
 use crate::progress::Progress;
+use crate::spare::SpareMemory;
 use crate::update::{
     cycle_head, note_depth, note_head, note_heads, note_nested_goals, take_nested_goals,
 };
@@ -346,6 +347,7 @@ impl<X: Cx, F: Drop, S: Drop> OpenGoals<X, F, S> {
         node: Option<NodeId>,
         frame: F,
         own_node: NodeId,
+        spare: &mut SpareMemory<X::Input, X::Result>,
     )
         requires some { 0 < length self.old }
         requires fits { IfSome (newest self.old) (λ s. s.1.finished_runs + 1 < 2 ^ 64) }
@@ -365,7 +367,7 @@ impl<X: Cx, F: Drop, S: Drop> OpenGoals<X, F, S> {
         run.node = own_node;
         run.finished_runs += 1;
         run.met_overflow_before |= met_overflow;
-        run.candidates.clear();
+        spare.keep_usages(&mut run.candidates);
     }
 
     /// What the goals take their memory from.

@@ -4,19 +4,24 @@ ghost use Rattle.open_goals.specs.Words.{no_record};
 
 use crate::candidates::FinishedCandidates;
 use crate::progress::Progress;
+use search_parts::parts::CandidateHeadUsages;
 use std::alloc::Global;
 use std::marker::Model;
 
-/// The memory of a run that has ended, for the next one. Most runs take as much as the one before them, so that a new one
-/// seldom asks for any. Clauses see nothing of it.
+/// Of each kind of list so many are kept at most.
+const MOST: usize = 32;
+
+/// The memory of runs that have ended, for later ones: lists that are empty again, but have their room. Most runs need as
+/// much as those before them, so that a new one seldom takes any. Clauses see nothing of it.
 #[derive(Drop)]
-pub struct SpareRun<I, R> {
+pub struct SpareMemory<I, R> {
     alloc: Global,
-    progress: Option<Progress<I, R>>,
-    candidates: Option<FinishedCandidates>,
+    progress: Vec<Progress<I, R>>,
+    candidates: Vec<FinishedCandidates>,
+    usages: Vec<CandidateHeadUsages>,
 }
 
-impl<I, R> Model for SpareRun<I, R> {
+impl<I, R> Model for SpareMemory<I, R> {
     ghost use Rattle.std.specs.Prelude.{⊤};
 
     ghost Value = { ⊤ };
@@ -24,13 +29,14 @@ impl<I, R> Model for SpareRun<I, R> {
     ghost view = { λ s. tt };
 }
 
-impl<I: Copy, R: Copy> SpareRun<I, R> {
+impl<I: Copy, R: Copy> SpareMemory<I, R> {
     /// Nothing is spare yet.
     pub fn new(alloc: Global) -> Self {
-        SpareRun {
+        SpareMemory {
             alloc,
-            progress: None,
-            candidates: None,
+            progress: Vec::new(alloc),
+            candidates: Vec::new(alloc),
+            usages: Vec::new(alloc),
         }
     }
 
@@ -38,7 +44,7 @@ impl<I: Copy, R: Copy> SpareRun<I, R> {
     pub fn new_progress(&mut self) -> Progress<I, R>
         ensures { result ≡ no_record }
     {
-        match self.progress.take() {
+        match self.progress.pop() {
             Some(mut progress) => {
                 progress.clear();
                 progress
@@ -47,16 +53,16 @@ impl<I: Copy, R: Copy> SpareRun<I, R> {
         }
     }
 
-    /// Keeps the memory of the record for a next run.
+    /// Keeps the memory of the record.
     pub fn keep_progress(&mut self, progress: Progress<I, R>) {
-        self.progress = Some(progress);
+        keep(&mut self.progress, progress);
     }
 
     /// The candidates of a run that has finished none.
     pub fn new_candidates(&mut self) -> FinishedCandidates
         ensures { result ≡ [] }
     {
-        match self.candidates.take() {
+        match self.candidates.pop() {
             Some(mut candidates) => {
                 candidates.clear();
                 candidates
@@ -65,9 +71,41 @@ impl<I: Copy, R: Copy> SpareRun<I, R> {
         }
     }
 
-    /// Keeps the memory of the list of candidates for a next run, but not what each of them used.
+    /// Keeps the memory of the list of candidates, and of what each of them used.
     pub fn keep_candidates(&mut self, mut candidates: FinishedCandidates) {
+        self.keep_usages(&mut candidates);
+        keep(&mut self.candidates, candidates);
+    }
+
+    /// Forgets what the candidates used, and keeps the memory of that.
+    pub fn keep_usages(&mut self, candidates: &mut FinishedCandidates)
+        ensures { candidates.new ≡ [] }
+    {
+        for _ in 0..candidates.len() {
+            if let Some(usages) = candidates.pop() {
+                keep(&mut self.usages, usages);
+            }
+        }
         candidates.clear();
-        self.candidates = Some(candidates);
+    }
+
+    /// A candidate that used no head.
+    pub fn new_usages(&mut self) -> CandidateHeadUsages
+        ensures { result ≡ [] }
+    {
+        match self.usages.pop() {
+            Some(mut usages) => {
+                usages.clear();
+                usages
+            }
+            None => CandidateHeadUsages::new(self.alloc),
+        }
+    }
+}
+
+/// Keeps a list, if there are not too many of its kind. Where there is no memory to keep it, it is let go.
+fn keep<T: Drop>(lists: &mut Vec<T>, list: T) {
+    if lists.len() < MOST {
+        let _ = lists.push(list);
     }
 }

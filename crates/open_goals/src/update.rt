@@ -33,6 +33,18 @@ pub fn note_heads<X: Cx>(
 ) -> Result<(), NoMemory>
     ensures { OnOk result (TakesHeads parent step heads.now state.old state.new) }
 {
+    state.heads.make_room(heads.as_slice().len())?;
+    note_each_head(state, parent, step, heads)
+}
+
+fn note_each_head<X: Cx>(
+    state: &mut EntryState<X>,
+    parent: StackDepth,
+    step: PathKind,
+    heads: &CycleHeads,
+) -> Result<(), NoMemory>
+    ensures { OnOk result (TakesHeads parent step heads.now state.old state.new) }
+{
     let mut guesses = Guesses::at_the_lowest();
     for (head, used) in heads.as_slice() {
         note_head_near(state, &mut guesses, parent, step, *head, *used)?;

@@ -3,7 +3,7 @@ ghost use Rattle.std.specs.Prelude.{◌≡◌, ◌<◌, ◌^◌, []};
 
 use crate::drafts::Drafts;
 use open_goals::goals::OpenGoals;
-use open_goals::spare::SpareRun;
+use open_goals::spare::SpareMemory;
 use search_parts::context::{Cx, Delegate};
 use search_parts::parts::{AvailableDepth, ProvisionalCache};
 use std::alloc::Global;
@@ -19,7 +19,7 @@ pub struct Evaluation<D: Delegate> {
     pub root_depth: AvailableDepth,
     pub limits_met: bool,
     pub drafts: Drafts,
-    pub(crate) spare: SpareRun<<D::Cx as Cx>::Input, <D::Cx as Cx>::Result>,
+    pub spare: SpareMemory<<D::Cx as Cx>::Input, <D::Cx as Cx>::Result>,
 }
 
 impl<D: Delegate> Evaluation<D> {
@@ -46,7 +46,7 @@ impl<D: Delegate> Evaluation<D> {
             root_depth,
             limits_met,
             drafts,
-            spare: SpareRun::new(alloc),
+            spare: SpareMemory::new(alloc),
         }
     }
 }

@@ -45,7 +45,8 @@ impl<D: Delegate> Evaluation<D> {
         let frame = D::start(cache.cx(), input, inspect)?;
         let own_node = cache.open_node(input)?;
         // The goal stays on the stack: its entry has the step, depths, heads and nested goals of all its runs.
-        self.goals.run_again(outcome, node, frame, own_node);
+        self.goals
+            .run_again(outcome, node, frame, own_node, &mut self.spare);
         Ok(())
     }
 }

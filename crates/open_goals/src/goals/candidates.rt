@@ -1,9 +1,10 @@
 //! The candidates of the newest goal: each is opened, finished, and may be ignored.
-ghost use Rattle.std.specs.Prelude.{◌≡◌, ◌<◌, ◌∷◌, length, is_some, true, IfSome, OnOk, Some};
+ghost use Rattle.std.specs.Prelude.{◌≡◌, ◌<◌, ◌∷◌, [], length, is_some, true, IfSome, OnOk, Some};
 ghost use Rattle.std.specs.Option.{option_map};
 ghost use Rattle.open_goals.specs.Words.{enters, records_candidate, leaves, CanIgnoreNewest, CanIgnoreUsages, CanNote, IgnoresNewest, IgnoresUsages, NotesCandidate, newest, change_newest};
 
 use crate::goals::OpenGoals;
+use crate::spare::SpareMemory;
 use crate::update;
 use search_parts::context::{Cx, NoMemory, Request};
 use search_parts::parts::{CandidateHeadUsages, StackDepth};
@@ -11,12 +12,16 @@ use search_parts::parts::{CandidateHeadUsages, StackDepth};
 impl<X: Cx, F: Drop, S: Drop> OpenGoals<X, F, S> {
     /// Does what the newest goal's frame requested of its candidates; other requests change nothing. After a
     /// refusal the goals may only be cleared.
-    pub fn note_candidate(&mut self, request: Request<X::Input, X::Result>) -> Result<(), NoMemory>
+    pub fn note_candidate(
+        &mut self,
+        request: Request<X::Input, X::Result>,
+        spare: &mut SpareMemory<X::Input, X::Result>,
+    ) -> Result<(), NoMemory>
         requires { CanNote request self.old }
         ensures { OnOk result (NotesCandidate request self.old self.new) }
     {
         match request {
-            Request::EnterCandidate => self.enter_candidate(),
+            Request::EnterCandidate => self.enter_candidate(spare.new_usages()),
             Request::FinishCandidate => {
                 let candidate = self.finish_candidate();
                 self.record_candidate(candidate)?;
@@ -27,13 +32,13 @@ impl<X: Cx, F: Drop, S: Drop> OpenGoals<X, F, S> {
         Ok(())
     }
 
-    /// Opens a candidate of the newest goal.
-    pub fn enter_candidate(&mut self)
-        requires { 0 < length self.old }
+    /// Opens a candidate of the newest goal, which has used nothing.
+    pub fn enter_candidate(&mut self, nothing: CandidateHeadUsages)
+        requires some { 0 < length self.old }
+        requires nothing { nothing ≡ [] }
         ensures { self.new ≡ change_newest enters self.old }
     {
-        let alloc = self.allocator();
-        self.stack.last_mut().candidate_usages = Some(CandidateHeadUsages::new(alloc));
+        self.stack.last_mut().candidate_usages = Some(nothing);
     }
 
     /// Ends the open candidate of the newest goal, and hands out what it used.

@@ -186,7 +186,9 @@ fn advance<D: Delegate>(
             Ok(next)
         }
         request => {
-            evaluation.goals.note_candidate(request)?;
+            evaluation
+                .goals
+                .note_candidate(request, &mut evaluation.spare)?;
             Ok(Next::Step(Received::without_node(Reply::Noted)))
         }
     }

@@ -8,7 +8,7 @@ invariant_of-self g c = length-change_last _ _ ∙ c.self.invariant
 
 pub returns : goal.returns
 returns g c =
-    state_changed c.self.inside.stack c.self.inside.runs.items _ c.self.invariant c.self.view_is c.requires c.last_mut.result.now (record c.last_mut.result.now { candidate_usages = Some c.new.result }) (λ e. record e { state = record e.state { candidate_usages = Some [] } }) c.last_mut.ensures.value
+    state_changed c.self.inside.stack c.self.inside.runs.items _ c.self.invariant c.self.view_is c.requires.some c.last_mut.result.now (record c.last_mut.result.now { candidate_usages = Some c.args.nothing }) (λ e. record e { state = record e.state { candidate_usages = Some [] } }) c.last_mut.ensures.value
     (λ e was.
-    ap (λ counts. record e { state = record c.last_mut.result.now { candidate_usages = Some counts } }) c.new.ensures
+    ap (λ counts. record e { state = record c.last_mut.result.now { candidate_usages = Some counts } }) c.requires.nothing
     ∙ ap (λ s. record e { state = record s { candidate_usages = Some [] } }) was)

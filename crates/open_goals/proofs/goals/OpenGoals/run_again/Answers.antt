@@ -19,7 +19,7 @@ returns g c = both_changed c.self.inside.stack c.self.inside.runs.items _ c.self
     ap (λ l. (
       record e { state = record c.last_mut-state.result.now { provisional_result = Some c.args.provisional_result; encountered_overflow = false; usages = Some c.default.result; candidate_usages = None; node = c.args.node } },
       record c.index_mut-run.result.now { frame = c.args.frame; node = c.args.own_node; finished_runs = c.index_mut-run.result.now.finished_runs + 1; met_overflow_before = c.index_mut-run.result.now.met_overflow_before || c.last_mut-state.result.now.encountered_overflow; candidates = l },
-    )) c.clear.ensures
+    )) c.keep_usages.ensures
     ∙ ap (λ u. (
       record e { state = record c.last_mut-state.result.now { provisional_result = Some c.args.provisional_result; encountered_overflow = false; usages = Some u; candidate_usages = None; node = c.args.node } },
       record c.index_mut-run.result.now { frame = c.args.frame; node = c.args.own_node; finished_runs = c.index_mut-run.result.now.finished_runs + 1; met_overflow_before = c.index_mut-run.result.now.met_overflow_before || c.last_mut-state.result.now.encountered_overflow; candidates = [] },

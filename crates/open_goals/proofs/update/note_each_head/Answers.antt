@@ -4,7 +4,7 @@ use Rattle.open_goals.specs.Below.{StackDepth, at_depth, IsRising}
 use Rattle.cycle_heads.proofs.HeadLists.{absent_later, next_entry, no_head, rising_from}
 use Rattle.open_goals.specs.Words.{some_heads, usages_over, is_in_cycle}
 use Rattle.open_goals.proofs.TakenHeads.{counted_over, head_over, head_taken, candidate_taken, usages_taken, cycle_taken, others_kept, all_taken}
-use Rattle.open_goals.proofs.update.note_heads.Goals as goal
+use Rattle.open_goals.proofs.update.note_each_head.Goals as goal
 
 pub loop-head-preserved : goal.loop-head-preserved
 loop-head-preserved g c =

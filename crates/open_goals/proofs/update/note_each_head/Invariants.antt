@@ -2,7 +2,7 @@ use Rattle.std.proofs.Common.{◌≡◌, ◌||◌, drop}
 use Rattle.open_goals.specs.Below.{StackDepth, at_depth}
 use Rattle.open_goals.specs.Words.{some_heads, usages_over, is_in_cycle}
 use Rattle.open_goals.proofs.TakenHeads.{counted_over, head_over}
-use Rattle.open_goals.proofs.update.note_heads.Given as goal
+use Rattle.open_goals.proofs.update.note_each_head.Given as goal
 
 -- the heads that are left and those that were taken over are together those of the answer
 abbrev pub invariant-loop-head : goal.invariant-loop-head
