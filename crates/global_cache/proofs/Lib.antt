@@ -14,6 +14,7 @@ pub mod Sound
 pub mod Collecting
 pub mod HeldNodes
 pub mod SearchedNodes
+pub mod NearNodes
 pub mod MarkedNodes
 pub mod KeptNodes
 pub mod LetGo

@@ -1,5 +1,5 @@
 -- The nodes that are held, by rising numbers, and the list of all nodes that they stand for.
-use Rattle.std.specs.Prelude.{◌≡◌, ◌==◌, ◌<◌, ◌≤◌, ◌++◌, ℕ, zero, suc, if◌then◌else◌, Bool, true, IsSome, List, [], ◌∷◌, Option, None, Some, slice_get, length, not}
+use Rattle.std.specs.Prelude.{◌≡◌, ◌≢◌, ◌==◌, ◌<◌, ◌≤◌, ◌++◌, ℕ, zero, suc, if◌then◌else◌, Bool, true, IsSome, List, [], ◌∷◌, Option, None, Some, slice_get, length, not}
 use Rattle.std.specs.Option.{option_map}
 use Rattle.global_cache.specs.declared.node_list.Held.{Held}
 use Rattle.global_cache.specs.declared.node_list.Slot.{Slot}
@@ -45,6 +45,13 @@ pub record IsSplit {I R : Type 0} (held : List (Held I R)) (first place : ℕ) :
   pub within : place ≤ length held
   pub before : (i : ℕ) (h : Held I R) → slice_get held i ≡ Some h → i < place → h.number < first
   pub behind : (i : ℕ) (h : Held I R) → slice_get held i ≡ Some h → place ≤ i → first ≤ h.number
+
+-- no node with this number stands before the place `low`, nor from the place `high` on
+pub record IsWindow {I R : Type 0} (held : List (Held I R)) (low high number : ℕ) : Type 0 where
+  pub ordered : low ≤ high
+  pub within : high ≤ length held
+  pub before : (i : ℕ) (h : Held I R) → slice_get held i ≡ Some h → i < low → h.number ≢ number
+  pub behind : (i : ℕ) (h : Held I R) → slice_get held i ≡ Some h → high ≤ i → h.number ≢ number
 
 -- a node that is not gone
 abbrev pub is_held : {I R : Type 0} → CacheNode I R → Bool

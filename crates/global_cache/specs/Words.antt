@@ -6,7 +6,7 @@ pub use Rattle.global_cache.specs.Collected.{AreLive, AreRooted, Collected, Stay
 pub use Rattle.global_cache.specs.Definite.{HasGraph, HasNode}
 pub use Rattle.global_cache.specs.Found.{ArePlaced, Finds}
 pub use Rattle.global_cache.specs.HandedOut.{Copies, IsCopyFrom, IsWhole, KeepsWhole, original_node}
-pub use Rattle.global_cache.specs.Held.{AreHeld, HasNumber, is_held, IsGone, IsRising, IsSplit, node_if_held, nodes_below, nodes_of, slot_at}
+pub use Rattle.global_cache.specs.Held.{AreHeld, HasNumber, is_held, IsGone, IsRising, IsSplit, IsWindow, node_if_held, nodes_below, nodes_of, slot_at}
 pub use Rattle.global_cache.specs.Hits.{first_accepted, Hit, hit_at, hit_of, overflows, successes, usable}
 pub use Rattle.global_cache.specs.Marked.{AreMarked, AreNone, edges_of, IsFound, IsMarked, IsQueued, kept, Marks, targets_of, unmarked}
 pub use Rattle.global_cache.specs.Marked.IsFound.{root, next}

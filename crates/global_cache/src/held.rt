@@ -1,11 +1,12 @@
 //! Where numbers stand among the nodes that are held.
 ghost use Rattle.std.specs.Prelude.{◌≡◌, MatchOption, None};
-ghost use Rattle.global_cache.specs.Words.{HasNumber, IsRising, IsSplit, slot_at};
+ghost use Rattle.global_cache.specs.Words.{HasNumber, IsRising, IsSplit, IsWindow, slot_at};
 
 use crate::node_list::Held;
 
 // The place of the node with this number. Where nothing was let go since the first of these nodes, it is
-// as far behind that one's place as the number is behind that one's; otherwise it is searched by halves.
+// as far behind that one's place as the number is behind that one's; otherwise it is looked for from the
+// end on, since most look-ups are of the newest nodes.
 pub(super) fn place_of<I, R>(held: &[Held<I, R>], number: usize) -> Option<usize>
     requires { IsRising held.now }
     ensures { MatchOption result (slot_at held.now number ≡ None)
@@ -20,9 +21,40 @@ pub(super) fn place_of<I, R>(held: &[Held<I, R>], number: usize) -> Option<usize
             return Some(guess);
         }
     }
-    match held.binary_search_by_key(&number, |entry| entry.number) {
-        Ok(place) => Some(place),
+    place_near(held, held.len().saturating_sub(1), number)
+}
+
+// The place of the node with this number, which is looked for from the place `near` on: it is no farther
+// from there than its number is from that one's. So the search reads few nodes, which stand together.
+pub(super) fn place_near<I, R>(held: &[Held<I, R>], near: usize, number: usize) -> Option<usize>
+    requires { IsRising held.now }
+    ensures { MatchOption result (slot_at held.now number ≡ None)
+        (λ place. HasNumber held.now place number) }
+{
+    let (low, high) = window_near(held, near, number);
+    match held[low..high].binary_search_by_key(&number, |entry| entry.number) {
+        Ok(behind) => Some(low + behind),
         Err(_) => None,
+    }
+}
+
+// The first place that the node with this number can have, and the one past the last: all of them, where
+// no node stands at `near`.
+fn window_near<I, R>(held: &[Held<I, R>], near: usize, number: usize) -> (usize, usize)
+    requires { IsRising held.now }
+    ensures { IsWindow held.now result.0 result.1 number }
+{
+    let Some(entry) = held.get(near) else {
+        return (0, held.len());
+    };
+    if number < entry.number {
+        return (near.saturating_sub(entry.number - number), near);
+    }
+    let ahead = number - entry.number;
+    if ahead < held.len() - near {
+        (near, near + ahead + 1)
+    } else {
+        (near, held.len())
     }
 }
 

@@ -2,7 +2,7 @@
 ghost use Rattle.std.specs.Prelude.{◌≡◌, ◌∷◌, ◌++◌, [], ◌<◌, ◌≤◌, ℕ, drop, length, take, map, slice_get, IfOk, OnOk};
 ghost use Rattle.global_cache.specs.Words.{AreMarked, AreNone, IsQueued, IsRising, kept, Marks as Marking, targets_of};
 
-use crate::held::place_of;
+use crate::held::place_near;
 use crate::node_list::{Held, Slot};
 use search_context::context::{Edge, NoMemory, NodeId};
 use std::alloc::Global;
@@ -34,8 +34,13 @@ impl Marks {
         self.queue.get(done).copied()
     }
 
-    // Marks the node with this number, if it is held.
-    fn mark<I, R>(&mut self, held: &[Held<I, R>], number: usize) -> Result<(), NoMemory>
+    // Marks the node with this number, if it is held. It is looked for from the place `near` on.
+    fn mark<I, R>(
+        &mut self,
+        held: &[Held<I, R>],
+        near: usize,
+        number: usize,
+    ) -> Result<(), NoMemory>
         requires rising { IsRising held.now }
         requires each { length self.old.marked.items ≡ length held.now }
         requires queued { IsQueued self.old.marked.items self.old.queue.items }
@@ -43,7 +48,7 @@ impl Marks {
         ensures marks { OnOk result (Marking held.now (number ∷ [])
             self.old.marked.items self.new.marked.items self.old.queue.items self.new.queue.items) }
     {
-        let Some(place) = place_of(held, number) else {
+        let Some(place) = place_near(held, near, number) else {
             return Ok(());
         };
         if self.marked[place] {
@@ -54,7 +59,7 @@ impl Marks {
         Ok(())
     }
 
-    // Marks the roots that are held.
+    // Marks the roots that are held. They are looked for from the end on, since most of them are new.
     fn mark_roots<I, R>(&mut self, held: &[Held<I, R>], roots: &[NodeId]) -> Result<(), NoMemory>
         requires rising { IsRising held.now }
         requires each { length self.old.marked.items ≡ length held.now }
@@ -63,14 +68,21 @@ impl Marks {
         ensures marks { OnOk result (Marking held.now (map (λ r. r.0) roots.now)
             self.old.marked.items self.new.marked.items self.old.queue.items self.new.queue.items) }
     {
+        let last = held.len().saturating_sub(1);
         for root in roots {
-            self.mark(held, root.0)?;
+            self.mark(held, last, root.0)?;
         }
         Ok(())
     }
 
-    // Marks what these edges lead to, where that is held.
-    fn mark_targets<I, R>(&mut self, held: &[Held<I, R>], edges: &[Edge<I>]) -> Result<(), NoMemory>
+    // Marks what these edges lead to, where that is held. It is looked for from the place of the node
+    // that they leave on, since most of it stands near there.
+    fn mark_targets<I, R>(
+        &mut self,
+        held: &[Held<I, R>],
+        near: usize,
+        edges: &[Edge<I>],
+    ) -> Result<(), NoMemory>
         requires rising { IsRising held.now }
         requires each { length self.old.marked.items ≡ length held.now }
         requires queued { IsQueued self.old.marked.items self.old.queue.items }
@@ -79,13 +91,18 @@ impl Marks {
             self.old.marked.items self.new.marked.items self.old.queue.items self.new.queue.items) }
     {
         for edge in edges {
-            self.mark(held, edge.target)?;
+            self.mark(held, near, edge.target)?;
         }
         Ok(())
     }
 
-    // Marks what the node leads to, where that is held.
-    fn mark_behind<I, R>(&mut self, held: &[Held<I, R>], slot: &Slot<I, R>) -> Result<(), NoMemory>
+    // Marks what the node of this slot leads to, where that is held. The node stands at the place `near`.
+    fn mark_behind<I, R>(
+        &mut self,
+        held: &[Held<I, R>],
+        near: usize,
+        slot: &Slot<I, R>,
+    ) -> Result<(), NoMemory>
         requires rising { IsRising held.now }
         requires each { length self.old.marked.items ≡ length held.now }
         requires queued { IsQueued self.old.marked.items self.old.queue.items }
@@ -95,7 +112,7 @@ impl Marks {
     {
         match slot {
             Slot::Open(_) => Ok(()),
-            Slot::Finished(node) => self.mark_targets(held, &node.edges),
+            Slot::Finished(node) => self.mark_targets(held, near, &node.edges),
         }
     }
 }
@@ -115,7 +132,7 @@ pub(super) fn marked_from<I, R>(
     let mut done = 0;
     while let Some(place) = marks.queued(done) {
         let entry = &held[place];
-        marks.mark_behind(held, &entry.slot)?;
+        marks.mark_behind(held, place, &entry.slot)?;
         done += 1;
     }
     let Marks { marked, queue: _ } = marks;
