@@ -2,7 +2,7 @@
 pub use Rattle.cycle_heads.specs.declared.path.PathKind.TheVariants.{Coinductive, Inductive}
 pub use Rattle.cycle_heads.specs.declared.path.PathKind.{PathKind}
 pub use Rattle.search_context.specs.Delegate.{CountsOne}
-pub use Rattle.search_context.specs.Rank.{AsksOnly, HasNoRank, HasRank, IsBelowRank, IsOrderlyTo, IsPlain, IsPlainTo}
+pub use Rattle.search_context.specs.Rank.{AsksOnly, HasNoRank, IsBelowRank, IsOrderlyTo, IsPlain, IsPlainTo}
 pub use Rattle.search_context.specs.Rank.{IsPlainValue, IsRanked}
 unfoldable pub use Rattle.search_context.specs.Rank.{frames_within}
 pub use Rattle.search_context.specs.Run.{fault_after, AreRepliesTo, IsFitting, IsOrderly, IsReplyTo, order_fault, Progress}
