@@ -63,6 +63,6 @@ pub use Rattle.search_rules.specs.Justified.{AreJustified, IsFit, NewestAsks, Op
 pub use Rattle.search_rules.specs.Moves.{Pushes}
 pub use Rattle.search_rules.specs.Provisional.{AreReady}
 pub use Rattle.search_rules.specs.Results.{AreDefinite, HaveNoOverflow, HaveNoOverflowOf, RequireWithin, StoresWithin}
-pub use Rattle.search_rules.specs.Runs.{AreFrom, IfFinished, IsJustifiedNext, KeepsEarlier, KeepsFirst, run_of, runs_of, StayFrom}
+pub use Rattle.search_rules.specs.Runs.{AreFrom, IfFinished, IsJustifiedNext, KeepsFirst, run_of, runs_of, StayFrom}
 pub use Rattle.search_rules.specs.Tallies.{candidate_at, candidates_count, counted, heads_of, IsCovered, IsTallied}
 pub use Rattle.search_rules.specs.Tallies.{Tally, tally_of, usages_of}

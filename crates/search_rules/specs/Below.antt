@@ -87,7 +87,7 @@ pub use Rattle.open_goals.specs.Candidates.{enters, finishes, Ignores, less_head
 pub use Rattle.open_goals.specs.Entries.{cycle_head, first_entry, is_in_cycle, joined_over, overflowed, some_heads}
 pub use Rattle.open_goals.specs.Entries.{TakesAnswer, TakesHeads, usages_over, with_depth, with_nested_goals}
 pub use Rattle.open_goals.specs.Items.{AnswersNewest, rerun_with, with_no_record}
-pub use Rattle.open_goals.specs.NestedGoals.{LeavesAnswer, NestsAnswer, NestsHead, NotesOverflow, TakesStored}
+pub use Rattle.open_goals.specs.NestedGoals.{NestsAnswer, NestsHead, NotesOverflow, TakesStored}
 pub use Rattle.open_goals.specs.Newest.{change_newest, newest}
 pub use Rattle.open_goals.specs.Progress.{acted, Agrees, answered, answers_after, answers_with, asked_in, asked_of}
 pub use Rattle.open_goals.specs.Progress.{asked_with, counted_by, edge_to, edges_of, fault_of, is_same_verdict}
