@@ -141,7 +141,7 @@ fn take_turn<D: Delegate>(
             Ok(Next::Step(given))
         }
         Next::Finished(answer) => {
-            evaluation.settle_drafts(cache, answer.node)?;
+            evaluation.collect_at_end(cache, answer.node)?;
             Ok(Next::Finished(answer))
         }
     }
