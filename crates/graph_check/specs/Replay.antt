@@ -70,19 +70,19 @@ module _ {I R : Type 0} where
   questions_counted p = map question_asked (filter (λ a. counted_by p.ignored a.candidate) p.asked)
 
 -- a question and its candidate, in the record
-abbrev pub asked_in : {I : Type 0} → AskedQuestion I → Question I × Option ℕ
-asked_in a = (question_asked a, a.candidate)
+abbrev pub asked_of : {I : Type 0} → AskedQuestion I → Question I × Option ℕ
+asked_of a = (question_asked a, a.candidate)
 
 -- the same in the run
-abbrev pub asked_by : {I R : Type 0} → Asked I R → Question I × Option ℕ
-asked_by a = (a.question, a.candidate)
+abbrev pub asked_in : {I R : Type 0} → Asked I R → Question I × Option ℕ
+asked_in a = (a.question, a.candidate)
 
 -- the record says what the run did
 pub record Agrees {I R : Type 0} (test : R → Bool) (p : Replayed I R) (done : Progress I R) : Type 0 where
   pub open_is : p.is_open ≡ done.is_open
   pub finished_are : length p.ignored ≡ done.finished
   pub ignored_are : (n : ℕ) → is_ignored done.ignored n ≡ ignored_by p.ignored n
-  pub asked_are : map asked_in p.asked ≡ map asked_by (filter (λ a. test a.answer) done.asked)
+  pub asked_are : map asked_of p.asked ≡ map asked_in (filter (λ a. test a.answer) done.asked)
 
 -- the replies can be replayed: each fits, and no request comes out of order
 pub record IsLegal {I R : Type 0} (script : List (Reply R) → Request I R) (replies : List (Reply R)) : Type 0 where
