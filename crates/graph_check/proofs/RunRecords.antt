@@ -4,8 +4,8 @@ use Rattle.std.specs.List.{filter}
 use Rattle.std.proofs.lemmas.List.{append-nil, map-append, length-append, length-set}
 use Rattle.std.proofs.lemmas.List.Elements.{filter_agree}
 use Rattle.std.proofs.lemmas.Bool.Decides.{nat_tests}
-use Rattle.graph_check.specs.Below.{PathKind, Request, Evaluate, EnterCandidate, FinishCandidate, Ignore, Done, Reply, Begin, Answer, Noted, Question, Progress, Asked, progress_with, order_fault, is_ignored, is_counted, open_candidate, questions_answered, Fits}
-use Rattle.graph_check.specs.Words.{Replayed, replied, is_answer, is_orderly, counted_by, ignored_by, open_number, asked_of, asked_in, questions_counted, Agrees}
+use Rattle.graph_check.specs.Below.{PathKind, Request, Evaluate, EnterCandidate, FinishCandidate, Ignore, Done, Reply, Begin, Answer, Noted, Question, Progress, Asked, progress_with, order_fault, counted_by, ignored_by, is_ignored, is_counted, open_candidate, questions_answered, Fits}
+use Rattle.graph_check.specs.Words.{Replayed, replied, is_answer, is_orderly, open_number, asked_of, asked_in, questions_counted, Agrees}
 use Rattle.search_context.proofs.Filtered.{filtered_more, filtered_twice, filtered_halves, ignored_after_finish, ignored_after_ignore}
 
 -- a candidate may begin or end, or else that is a fault

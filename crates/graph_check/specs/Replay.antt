@@ -1,6 +1,6 @@
 -- How far a run has come that is replayed, and what its record has of it. The newest reply stands first.
-use Rattle.std.specs.Prelude.{◌≡◌, ℕ, nat_lt, Bool, true, false, not, ◌&&◌, if◌then◌else◌, List, [], ◌∷◌, ◌++◌, map, filter, length, get_or, slice_set, Option, None, Some}
-use Rattle.graph_check.specs.Below.{Request, Evaluate, EnterCandidate, FinishCandidate, Ignore, Reply, Answer, Verdict, Yes, No, Neither, Question, Asked, Progress, request_after, progress_after, is_ignored, IsFitting, IsInOrder, Verdicts}
+use Rattle.std.specs.Prelude.{◌≡◌, ℕ, nat_lt, Bool, true, false, not, ◌&&◌, if◌then◌else◌, List, [], ◌∷◌, ◌++◌, map, filter, length, slice_set, Option, None, Some}
+use Rattle.graph_check.specs.Below.{Request, Evaluate, EnterCandidate, FinishCandidate, Ignore, Reply, Answer, Verdict, Yes, No, Neither, Question, Asked, Progress, request_after, progress_after, counted_by, ignored_by, is_ignored, IsFitting, IsInOrder, Verdicts}
 use Rattle.graph_check.specs.declared.replay.run_record.AskedQuestion.{AskedQuestion}
 
 -- the test that a result is of this sort; for neither there is no test
@@ -21,15 +21,6 @@ pub record Replayed (I R : Type 0) : Type 0 where
   pub asked : List (AskedQuestion I)
   pub is_open : Bool
   pub ignored : List Bool
-
--- whether the candidate of this number is ignored
-abbrev pub ignored_by : List Bool → ℕ → Bool
-ignored_by ignored n = get_or ignored n false
-
--- what is asked outside candidates stays, and what is asked in a candidate unless that is ignored
-abbrev pub counted_by : List Bool → Option ℕ → Bool
-counted_by ignored None = true
-counted_by ignored (Some n) = not (ignored_by ignored n)
 
 -- what was asked
 abbrev pub question_asked : {I : Type 0} → AskedQuestion I → Question I

@@ -8,7 +8,7 @@ pub use Rattle.open_goals.specs.Items.{AnswersNewest, rerun_with}
 pub use Rattle.open_goals.specs.NestedGoals.{ChangesNested, Joined, LeavesAnswer, NotesOverflow, TakesHeadGoal, TakesNestedGoals, TakesStored}
 pub use Rattle.open_goals.specs.Newest.{change_newest, newest, paired}
 pub use Rattle.open_goals.specs.Nodes.{HasCycleNode, HasNodes, HasRunNodes, HasTarget}
-pub use Rattle.open_goals.specs.Progress.{answers_with, edges_of, fault_of, ignored_by, no_record, received, requested}
+pub use Rattle.open_goals.specs.Progress.{answers_with, edges_of, fault_of, no_record, received, requested}
 pub use Rattle.open_goals.specs.Progress.{rests_on}
 pub use Rattle.open_goals.specs.Steps.{CanStep, HasStepped, IsStepFault, IsVerdict, OutOfOrder}
 pub use Rattle.open_goals.specs.declared.goals.Received.{Received}
