@@ -5,5 +5,4 @@ pub mod Heads
 pub mod Places
 pub mod Candidates
 pub mod HeadShapes
-pub mod Below
 pub mod Words

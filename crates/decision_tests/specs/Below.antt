@@ -8,8 +8,7 @@ pub use Rattle.rule_tables.specs.declared.rules.Asking.{Asking}
 pub use Rattle.rule_tables.specs.declared.rules.Candidate.{Candidate}
 pub use Rattle.rule_tables.specs.declared.rules.Goal.{Goal}
 pub use Rattle.rule_tables.specs.declared.rules.Rules.{Rules}
-pub use Rattle.search_context.specs.Question.{Question}
-pub use Rattle.search_context.specs.Run.{Asked, EndsIn, Fits, is_counted, IsFitting, no_progress, open_candidate, Progress}
+pub use Rattle.search_context.specs.Run.{Asked, EndsIn, Fits, is_counted, IsFitting, no_progress, Progress}
 pub use Rattle.search_context.specs.Run.{progress_after, progress_with, questions_answered, request_after}
 pub use Rattle.search_context.specs.declared.context.Reply.{Reply}
 pub use Rattle.search_context.specs.declared.context.Reply.TheVariants.{Answer, Begin, Noted}

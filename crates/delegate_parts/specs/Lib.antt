@@ -1,5 +1,4 @@
 pub mod Below
-pub mod Words
 pub mod Outcome
 pub mod Laws
 pub mod Builder

@@ -4,7 +4,7 @@ pub use Rattle.cycle_heads.specs.declared.path.PathKind.{PathKind}
 pub use Rattle.cycle_heads.specs.Path.{greater_kind}
 pub use Rattle.search_context.specs.Decisive.{AreDecided, IsDecidedKind, IsDecidedReply, IsDecisive}
 pub use Rattle.search_context.specs.Delegate.{IsCycleResult}
-pub use Rattle.search_context.specs.Graph.{GraphNode, HasEdge, HasGoal, IsGraph, IsProofGraph, IsReached, IsRefutationGraph, IsWalk, question_of, walk_kind}
+pub use Rattle.search_context.specs.Graph.{GraphNode, HasEdge, HasGoal, IsGraph, IsProofGraph, IsRefutationGraph, IsWalk, question_of, walk_kind}
 pub use Rattle.search_context.specs.Question.{IsWithin, Overlap, Question}
 pub use Rattle.search_context.specs.Rank.{AsksOnly}
 pub use Rattle.search_context.specs.Run.{Asked, EndsIn, IsFitting, IsInOrder, IsOrderly, IsReplyTo, Progress, fault_after, is_counted, open_candidate, progress_after, progress_with, questions_answered, request_after}

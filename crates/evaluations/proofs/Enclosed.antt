@@ -20,10 +20,6 @@ module _ (I R : Type 0) where
       let at : f.available + length below ≡ root = h.0 in
       (omega (arith, at, next), refl, refl, h)
 
-  -- an answer that met no overflow
-  pub answered_depths : (root : ℕ) (f : Frame I R) (below : List (Frame I R)) (o : Outcome R) → o.met_overflow ≡ false → HaveFullDepths root (f ∷ below) → HaveFullDepths root (answered f o ∷ below)
-  answered_depths root f below o calm h = changed_depths root f (answered f o) below refl (λ a b. (or_from f.met_overflow o.met_overflow a calm, b)) h
-
   -- a further run
   pub rerun_depths : (root : ℕ) (f : Frame I R) (below : List (Frame I R)) (left : ℕ) → HaveFullDepths root (f ∷ below) → HaveFullDepths root (run_again f left ∷ below)
   rerun_depths root f below left h = (h.0, refl, or_from f.met_before f.met_overflow h.2 h.1, h.3)

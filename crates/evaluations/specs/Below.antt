@@ -1,12 +1,11 @@
 -- What the crates below have, from one place.
-pub use Rattle.cycle_heads.specs.declared.path.PathKind.TheVariants.{Coinductive, Inductive}
 pub use Rattle.cycle_heads.specs.declared.path.PathKind.{PathKind}
 pub use Rattle.search_context.specs.Delegate.{CountsOne}
-pub use Rattle.search_context.specs.Rank.{AsksOnly, HasNoRank, HasRank, IsBelowRank, IsOrderlyTo, IsPlain, IsPlainTo}
-pub use Rattle.search_context.specs.Rank.{IsPlainValue, IsRanked}
+pub use Rattle.search_context.specs.Rank.{AsksOnly, HasNoRank, IsBelowRank, IsPlain, IsPlainTo}
+pub use Rattle.search_context.specs.Rank.{IsPlainValue}
 unfoldable pub use Rattle.search_context.specs.Rank.{frames_within}
-pub use Rattle.search_context.specs.Run.{fault_after, AreRepliesTo, IsFitting, IsOrderly, IsReplyTo, order_fault, Progress}
-pub use Rattle.search_context.specs.Run.{progress_after, request_after}
+pub use Rattle.search_context.specs.Run.{fault_after, AreRepliesTo, IsFitting, IsOrderly, IsReplyTo}
+pub use Rattle.search_context.specs.Run.{request_after}
 pub use Rattle.search_context.specs.declared.context.Reply.{Reply}
 pub use Rattle.search_context.specs.declared.context.Reply.TheVariants.{Answer, Begin, Noted}
 pub use Rattle.search_context.specs.declared.context.Request.{Request}

@@ -1,19 +1,13 @@
 -- What the crates below have, from one place.
-pub use Rattle.cycle_heads.specs.declared.path.PathKind.{PathKind}
-pub use Rattle.cycle_heads.specs.declared.path.PathKind.TheVariants.{Coinductive, Inductive}
-pub use Rattle.cycle_heads.specs.Path.{greater_kind}
-pub use Rattle.delegate_parts.specs.Outcome.{is_no, is_yes, outcome_verdicts}
-pub use Rattle.delegate_parts.specs.declared.outcome.Outcome.{Outcome}
+pub use Rattle.cycle_heads.specs.declared.path.PathKind.TheVariants.{Inductive}
+pub use Rattle.delegate_parts.specs.Outcome.{outcome_verdicts}
 pub use Rattle.global_cache.specs.Cache.{graph_nodes_of}
 pub use Rattle.question_lists.specs.Needs.{Proves, Refutes}
 pub use Rattle.question_lists.specs.declared.needs.Needs.{Needs}
 pub use Rattle.question_lists.specs.declared.needs.Needs.TheVariants.{All, Any}
 pub use Rattle.search_context.specs.Decisive.{IsDecidedKind, IsDecisive}
-pub use Rattle.search_context.specs.Graph.{GraphNode, HasEdge, HasGoal, IsGraph, IsProofGraph, IsReached, IsRefutationGraph, IsWalk, question_of, walk_kind}
-pub use Rattle.search_context.specs.Question.{IsWithin, Overlap, Question}
-pub use Rattle.search_context.specs.Verdicts.{IsDefinite}
-pub use Rattle.search_context.specs.declared.context.Edge.{Edge}
+pub use Rattle.search_context.specs.Graph.{GraphNode, HasGoal, IsProofGraph, IsReached, IsRefutationGraph}
+pub use Rattle.search_context.specs.Question.{Question}
 pub use Rattle.search_context.specs.declared.context.NodeId.{NodeId}
-pub use Rattle.search_context.specs.declared.context.Verdict.{Verdict}
 pub use Rattle.search_context.specs.declared.context.Verdict.TheVariants.{Neither, No, Yes}
 pub use Rattle.search_rules.specs.Results.{AreDefinite}

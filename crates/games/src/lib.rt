@@ -9,6 +9,7 @@
 //! |---|---|
 //! | `Strategy` | how One wins, as a tree of finite depth; it names no search |
 //! | `Rule` | the rule of a position as a list of questions |
+//! | `Solved` | the positions of a solver's game, and whether a question was cut off |
 #![tactic(auto)]
 
 mod delegate;

@@ -231,9 +231,6 @@ module _ {I R : Type 0} where
 
   -- ---- what is held of the list
 
-  none_past : (first_goal : Option I) (held : List (Held I R)) (next : ℕ) → AreHeld first_goal held next → (number : ℕ) → next ≤ number → slot_at held number ≡ None
-  none_past first_goal held next are number le = not_held held number (λ i h is e. let lt : h.number < next = are.below i h is in absurd (omega arith))
-
   pub not_held_is_gone : (first_goal : Option I) (held : List (Held I R)) (next : ℕ) (number : ℕ) → slot_at held number ≡ None → IsGone (slice_get (nodes_of first_goal held next) number)
   not_held_is_gone None held next number none = tt
   not_held_is_gone (Some goal) held next number none = elim (cases_lt number next) [

@@ -1,9 +1,9 @@
 -- The cache's list of nodes in the words of its clauses: what a call of the list makes of the cache.
-use Rattle.std.proofs.Common.{◌≡◌, ℕ, Bool, if◌then◌else◌, List, [], ◌∷◌, ◌++◌, Option, None, Some, Result, Ok, Err, is_ok, IsSome, slice_get, refl, sym, ◌∙◌, ap, subst}
+use Rattle.std.proofs.Common.{◌≡◌, ℕ, Bool, List, [], ◌∷◌, ◌++◌, Option, None, Some, Result, Ok, Err, is_ok, IsSome, slice_get, refl, sym, ◌∙◌, ap, subst}
 use Rattle.std.specs.Prelude.{IfOk, OnErr}
 use Rattle.std.specs.Option.{IsSomeAnd}
 use Rattle.global_cache.specs.Below.{Node, Request, Reply, Verdicts}
-use Rattle.global_cache.specs.Words.{Slot, Finished, StoredResult, EndedRun, CacheNode, Cache, finished_node, goal_if_open, open_goal, open_node, with_run, IsGone, IsRun, AreRuns, Store, run_of, ended_node, node_of}
+use Rattle.global_cache.specs.Words.{Slot, Finished, StoredResult, EndedRun, CacheNode, Cache, finished_node, open_goal, open_node, with_run, IsGone, IsRun, AreRuns, Store, run_of, ended_node, node_of}
 use Rattle.global_cache.proofs.NodeLists.{appended}
 
 -- an open node is appended, or none is
@@ -48,15 +48,6 @@ module _ {I R : Type 0} where
   none_finished None gone = refl
   none_finished (Some n) gone = ap (λ run. elim run [ None ↦ None | Some r ↦ Some n ]) gone.0
 
-  none_open : (o : Option (CacheNode I R)) → IsGone o → ◌≡◌ {A = Option I} (elim o [ None ↦ None | Some n ↦ goal_if_open n ]) None
-  none_open None gone = refl
-  none_open (Some n) gone =
-      ap (λ run. elim run [ None ↦ if n.gone then None else Some n.goal | Some r ↦ None ]) gone.0
-      ∙ ap (λ (b : Bool). if b then None else Some n.goal) gone.1
-
   -- a node that is gone is neither finished nor open
   pub gone_is_not_finished : (nodes : List (CacheNode I R)) (at : ℕ) → IsGone (slice_get nodes at) → finished_node nodes at ≡ None
   gone_is_not_finished nodes at gone = none_finished (slice_get nodes at) gone
-
-  pub gone_is_not_open : (nodes : List (CacheNode I R)) (at : ℕ) → IsGone (slice_get nodes at) → open_goal nodes at ≡ None
-  gone_is_not_open nodes at gone = none_open (slice_get nodes at) gone

@@ -7,7 +7,7 @@ pub use Rattle.search_context.specs.Graph.{GraphNode, HasEdge, HasGoal, IsCopy, 
 pub use Rattle.search_context.specs.Graph.{IsRefutationGraph, IsWalk, original_edge, question_of, walk_kind}
 pub use Rattle.search_context.specs.Question.{Question}
 pub use Rattle.search_context.specs.Rank.{IsBelowRank, IsPlain, IsPlainTo}
-pub use Rattle.search_context.specs.Run.{EndsIn, progress_after, questions_answered}
+pub use Rattle.search_context.specs.Run.{progress_after, questions_answered}
 pub use Rattle.search_context.specs.Valid.{goal_node_of, goal_nodes_of, IsRunOfSort, IsValid}
 pub use Rattle.search_context.specs.Verdicts.{IsDefinite, verdict_of, Verdicts, verdicts}
 pub use Rattle.search_context.specs.declared.context.Edge.{Edge}

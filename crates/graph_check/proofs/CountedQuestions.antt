@@ -1,8 +1,8 @@
 -- Edges are compared one by one with the questions that a record has.
 use Rattle.std.proofs.Common.{◌≡◌, ◌↔◌, ℕ, List, map, drop}
 use Rattle.std.specs.List.{filter}
-use Rattle.graph_check.specs.Below.{Edge, Question, question_of}
-use Rattle.graph_check.specs.Words.{Replayed, counted_by, question_asked, questions_counted}
+use Rattle.graph_check.specs.Below.{Edge, Question, counted_by, question_of}
+use Rattle.graph_check.specs.Words.{Replayed, question_asked, questions_counted}
 
 module _ {I R : Type 0} (p : Replayed I R) where
   -- the questions outside ignored candidates, of those from this place on

@@ -4,8 +4,8 @@ use Rattle.std.specs.List.{filter}
 use Rattle.std.proofs.lemmas.List.{append-nil, map-append, length-append, length-set}
 use Rattle.std.proofs.lemmas.List.Elements.{filter_agree}
 use Rattle.std.proofs.lemmas.Bool.Decides.{nat_tests}
-use Rattle.graph_check.specs.Below.{PathKind, Request, Evaluate, EnterCandidate, FinishCandidate, Ignore, Done, Reply, Begin, Answer, Noted, Question, Progress, Asked, progress_with, order_fault, is_ignored, is_counted, open_candidate, questions_answered, Fits}
-use Rattle.graph_check.specs.Words.{Replayed, replied, is_answer, is_orderly, counted_by, ignored_by, open_number, asked_in, asked_by, questions_counted, Agrees}
+use Rattle.graph_check.specs.Below.{PathKind, Request, Evaluate, EnterCandidate, FinishCandidate, Ignore, Done, Reply, Begin, Answer, Noted, Question, Progress, Asked, progress_with, order_fault, counted_by, ignored_by, is_ignored, is_counted, open_candidate, questions_answered, Fits}
+use Rattle.graph_check.specs.Words.{Replayed, replied, is_answer, is_orderly, open_number, asked_of, asked_in, questions_counted, Agrees}
 use Rattle.search_context.proofs.Filtered.{filtered_more, filtered_twice, filtered_halves, ignored_after_finish, ignored_after_ignore}
 
 -- a candidate may begin or end, or else that is a fault
@@ -71,9 +71,9 @@ module _ {I R : Type 0} (test : R → Bool) (p : Replayed I R) (done : Progress 
     finished_are = h.finished_are;
     ignored_are = h.ignored_are;
     asked_are =
-        map-append asked_in p.asked (record { kind = kind; input = goal; candidate = open_number p } ∷ [])
+        map-append asked_of p.asked (record { kind = kind; input = goal; candidate = open_number p } ∷ [])
         ∙ ap₂ (λ asked c. asked ++ (record { kind = kind; goal = goal }, c) ∷ []) h.asked_are same_number
-        ∙ sym (filtered_more asked_by (λ (a : Asked I R). test a.answer) done.asked (record { question = record { kind = kind; goal = goal }; answer = r; candidate = open_candidate done }) true is);
+        ∙ sym (filtered_more asked_in (λ (a : Asked I R). test a.answer) done.asked (record { question = record { kind = kind; goal = goal }; answer = r; candidate = open_candidate done }) true is);
   }
   agrees_answered kind goal r false is = record {
     open_is = h.open_is;
@@ -82,7 +82,7 @@ module _ {I R : Type 0} (test : R → Bool) (p : Replayed I R) (done : Progress 
     asked_are =
         h.asked_are
         ∙ sym (append-nil _)
-        ∙ sym (filtered_more asked_by (λ (a : Asked I R). test a.answer) done.asked (record { question = record { kind = kind; goal = goal }; answer = r; candidate = open_candidate done }) false is);
+        ∙ sym (filtered_more asked_in (λ (a : Asked I R). test a.answer) done.asked (record { question = record { kind = kind; goal = goal }; answer = r; candidate = open_candidate done }) false is);
   }
 
   -- the record agrees with the run after each reply to a request that isn't out of order
@@ -114,7 +114,7 @@ module _ {I R : Type 0} (test : R → Bool) (p : Replayed I R) (done : Progress 
   -- the record has the questions that the result rests on
   pub counted_are_answered : questions_counted p ≡ questions_answered test done
   counted_are_answered =
-      filtered_halves asked_in (counted_by p.ignored) p.asked
+      filtered_halves asked_of (counted_by p.ignored) p.asked
       ∙ ap (λ (asked : List (Question I × Option ℕ)). map (λ q. q.0) (filter (λ q. counted_by p.ignored q.1) asked)) h.asked_are
-      ∙ ap (map (λ (q : Question I × Option ℕ). q.0)) (filter_agree (λ q. counted_by p.ignored q.1) (λ q. is_counted done.ignored q.1) (λ q. counted_by_number q.1) (map asked_by (filter (λ (a : Asked I R). test a.answer) done.asked)))
-      ∙ sym (filtered_twice asked_by (λ (a : Asked I R). test a.answer) (is_counted done.ignored) done.asked)
+      ∙ ap (map (λ (q : Question I × Option ℕ). q.0)) (filter_agree (λ q. counted_by p.ignored q.1) (λ q. is_counted done.ignored q.1) (λ q. counted_by_number q.1) (map asked_in (filter (λ (a : Asked I R). test a.answer) done.asked)))
+      ∙ sym (filtered_twice asked_in (λ (a : Asked I R). test a.answer) (is_counted done.ignored) done.asked)

@@ -1,13 +1,14 @@
 -- What the crates below have, from one place.
 pub use Rattle.strong_components.specs.Components.{AreComponents, HasStep, Reaches, StaysInside, successor_lists}
 pub use Rattle.strong_components.specs.Components.Reaches.{go, stay}
-pub use Rattle.cycle_heads.specs.declared.path.PathKind.TheVariants.{Coinductive, ForcedAmbiguity, Inductive, Unknown}
+pub use Rattle.cycle_heads.specs.declared.path.PathKind.TheVariants.{Coinductive, ForcedAmbiguity, Inductive}
 pub use Rattle.cycle_heads.specs.declared.path.PathKind.{PathKind}
 pub use Rattle.cycle_heads.specs.Path.{rank_of}
 pub use Rattle.search_context.specs.Graph.{GraphNode, HasEdge, HasGoal, IsGraph, IsProofGraph, IsRefutationGraph, IsWalk}
 pub use Rattle.search_context.specs.Graph.{question_of, walk_kind}
 pub use Rattle.search_context.specs.Question.{Question}
-pub use Rattle.search_context.specs.Run.{Asked, EndsIn, fault_after, Fits, is_counted, is_ignored, IsFitting, IsInOrder}
+pub use Rattle.search_context.specs.Run.{Asked, counted_by, fault_after, Fits, ignored_by, is_counted, is_ignored, IsFitting}
+pub use Rattle.search_context.specs.Run.{IsInOrder}
 pub use Rattle.search_context.specs.Run.{open_candidate, order_fault, Progress, progress_after, progress_with}
 pub use Rattle.search_context.specs.Run.{questions_answered, request_after}
 pub use Rattle.search_context.specs.Verdicts.{verdicts, Verdicts}

@@ -1,6 +1,6 @@
 -- How far a run has come that is replayed, and what its record has of it. The newest reply stands first.
-use Rattle.std.specs.Prelude.{◌≡◌, ℕ, nat_lt, Bool, true, false, not, ◌&&◌, if◌then◌else◌, List, [], ◌∷◌, ◌++◌, map, filter, length, get_or, slice_set, Option, None, Some}
-use Rattle.graph_check.specs.Below.{Request, Evaluate, EnterCandidate, FinishCandidate, Ignore, Reply, Answer, Verdict, Yes, No, Neither, Question, Asked, Progress, request_after, progress_after, is_ignored, IsFitting, IsInOrder, Verdicts}
+use Rattle.std.specs.Prelude.{◌≡◌, ℕ, nat_lt, Bool, true, false, not, ◌&&◌, if◌then◌else◌, List, [], ◌∷◌, ◌++◌, map, filter, length, slice_set, Option, None, Some}
+use Rattle.graph_check.specs.Below.{Request, Evaluate, EnterCandidate, FinishCandidate, Ignore, Reply, Answer, Verdict, Yes, No, Neither, Question, Asked, Progress, request_after, progress_after, counted_by, ignored_by, is_ignored, IsFitting, IsInOrder, Verdicts}
 use Rattle.graph_check.specs.declared.replay.run_record.AskedQuestion.{AskedQuestion}
 
 -- the test that a result is of this sort; for neither there is no test
@@ -21,15 +21,6 @@ pub record Replayed (I R : Type 0) : Type 0 where
   pub asked : List (AskedQuestion I)
   pub is_open : Bool
   pub ignored : List Bool
-
--- whether the candidate of this number is ignored
-abbrev pub ignored_by : List Bool → ℕ → Bool
-ignored_by ignored n = get_or ignored n false
-
--- what is asked outside candidates stays, and what is asked in a candidate unless that is ignored
-abbrev pub counted_by : List Bool → Option ℕ → Bool
-counted_by ignored None = true
-counted_by ignored (Some n) = not (ignored_by ignored n)
 
 -- what was asked
 abbrev pub question_asked : {I : Type 0} → AskedQuestion I → Question I
@@ -70,19 +61,19 @@ module _ {I R : Type 0} where
   questions_counted p = map question_asked (filter (λ a. counted_by p.ignored a.candidate) p.asked)
 
 -- a question and its candidate, in the record
-abbrev pub asked_in : {I : Type 0} → AskedQuestion I → Question I × Option ℕ
-asked_in a = (question_asked a, a.candidate)
+abbrev pub asked_of : {I : Type 0} → AskedQuestion I → Question I × Option ℕ
+asked_of a = (question_asked a, a.candidate)
 
 -- the same in the run
-abbrev pub asked_by : {I R : Type 0} → Asked I R → Question I × Option ℕ
-asked_by a = (a.question, a.candidate)
+abbrev pub asked_in : {I R : Type 0} → Asked I R → Question I × Option ℕ
+asked_in a = (a.question, a.candidate)
 
 -- the record says what the run did
 pub record Agrees {I R : Type 0} (test : R → Bool) (p : Replayed I R) (done : Progress I R) : Type 0 where
   pub open_is : p.is_open ≡ done.is_open
   pub finished_are : length p.ignored ≡ done.finished
   pub ignored_are : (n : ℕ) → is_ignored done.ignored n ≡ ignored_by p.ignored n
-  pub asked_are : map asked_in p.asked ≡ map asked_by (filter (λ a. test a.answer) done.asked)
+  pub asked_are : map asked_of p.asked ≡ map asked_in (filter (λ a. test a.answer) done.asked)
 
 -- the replies can be replayed: each fits, and no request comes out of order
 pub record IsLegal {I R : Type 0} (script : List (Reply R) → Request I R) (replies : List (Reply R)) : Type 0 where

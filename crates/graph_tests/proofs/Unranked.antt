@@ -1,7 +1,6 @@
 -- Goals that can be asked below themselves have no rank, so each result that is neither yes nor no may be stored of them.
-use Rattle.std.proofs.Common.{Option, IfSome, ◌≡◌, ℕ, zero, suc, Bool, true, false, List, [], ◌∷◌, Some, None, refl, sym, ap, ◌∙◌, subst}
-use Rattle.open_graphs.specs.Graph as theory
-use Rattle.graph_tests.specs.Below.{Fits, CacheNode, CanTake, HasGraph, HasNoRank, IsPlainAt, IsRanked, Place, Success, WithOverflow, Begin, EnterCandidate, Evaluate, Noted, PathKind, Reply, Request, Verdicts, verdict_of}
+use Rattle.std.proofs.Common.{Option, IfSome, ◌≡◌, ℕ, zero, suc, Bool, true, false, List, [], ◌∷◌, Some, sym, ap, ◌∙◌, subst}
+use Rattle.graph_tests.specs.Below.{Fits, CanTake, HasNoRank, IsPlainAt, IsRanked, Place, Success, WithOverflow, Begin, EnterCandidate, Evaluate, Noted, PathKind, Reply, Request}
 use Rattle.graph_tests.specs.Asks.{CanAsk}
 
 module _ {I R : Type 0} (scripts : I → List (Reply R) → Request I R) where
@@ -27,10 +26,6 @@ module _ {I R : Type 0} (scripts : I → List (Reply R) → Request I R) where
   -- a goal asks another one first in its first candidate
   pub asks_in_candidate : (goal other : I) (kind : PathKind) → EnterCandidate ≡ scripts goal (Begin ∷ []) → Evaluate kind other ≡ scripts goal (Noted ∷ Begin ∷ []) → CanAsk scripts goal other
   asks_in_candidate goal other kind enters is = record { replies = Noted ∷ Begin ∷ []; kind = kind; is_fitting = (noted_fits (scripts goal (Begin ∷ [])) enters, (tt, tt)); is_asked = ap Some (sym is) }
-
--- a result that is neither yes nor no needs no node
-pub needs_no_graph : {I R : Type 0} (says : Verdicts R) (nodes : List (CacheNode I R)) (goal : I) (r : R) → verdict_of says r ≡ theory.Neither → HasGraph says nodes goal r None
-needs_no_graph says nodes goal r neither = record { definite = λ is. absurd (is neither); neither = λ _. refl }
 
 -- what holds of the value that an option has
 pub of_some : {A : Type 0} (P : A → Type 0) (o : Option A) (a : A) → o ≡ Some a → IfSome o P → P a

@@ -11,7 +11,8 @@ pub use Rattle.cycle_heads.specs.declared.usages.HeadUsages.{HeadUsages}
 pub use Rattle.search_context.specs.Delegate.{CanTake, Steps}
 pub use Rattle.search_context.specs.Graph.{question_of}
 pub use Rattle.search_context.specs.Question.{Question}
-pub use Rattle.search_context.specs.Run.{Asked, is_ignored, IsFitting, IsInOrder, Progress, progress_after, request_after}
+pub use Rattle.search_context.specs.Run.{Asked, counted_by, ignored_by, is_ignored, IsFitting, IsInOrder, Progress}
+pub use Rattle.search_context.specs.Run.{progress_after, request_after}
 pub use Rattle.search_context.specs.Verdicts.{verdicts, Verdicts}
 pub use Rattle.search_context.specs.declared.context.Cx.{Ghosts as CxOf}
 pub use Rattle.search_context.specs.declared.context.Delegate.{Ghosts as DelegateOf}

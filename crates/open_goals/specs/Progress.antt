@@ -1,6 +1,6 @@
 -- What a run has done so far, as its record has it. The replies stand with the oldest first.
-use Rattle.std.specs.Prelude.{◌≡◌, ◌↔◌, ℕ, nat_lt, IsTrue, IsSome, Bool, true, false, not, ◌&&◌, if◌then◌else◌, List, [], ◌∷◌, ◌++◌, map, filter, length, reverse, get_or, slice_set, Option, None, Some, Contains}
-use Rattle.open_goals.specs.Below.{Request, Evaluate, EnterCandidate, FinishCandidate, Ignore, Reply, Answer, Verdict, Yes, No, Neither, NodeId, Edge, PathKind, Question, question_of, Asked, Progress, request_after, progress_after, is_ignored, IsInOrder, Verdicts}
+use Rattle.std.specs.Prelude.{◌≡◌, ◌↔◌, ℕ, nat_lt, IsTrue, IsSome, Bool, true, false, ◌&&◌, if◌then◌else◌, List, [], ◌∷◌, ◌++◌, map, filter, length, reverse, slice_set, Option, None, Some, Contains}
+use Rattle.open_goals.specs.Below.{Request, Evaluate, EnterCandidate, FinishCandidate, Ignore, Reply, Answer, Verdict, Yes, No, Neither, NodeId, Edge, PathKind, Question, question_of, Asked, Progress, request_after, progress_after, counted_by, ignored_by, is_ignored, IsInOrder, Verdicts}
 use Rattle.open_goals.specs.declared.progress.DefiniteAnswer.{DefiniteAnswer}
 
 -- the replies, the last request, the definite answers, whether a candidate is open, and for each finished candidate whether it is ignored
@@ -11,21 +11,12 @@ pub record RunRecord (I R : Type 0) : Type 0 where
   pub is_open : Bool
   pub ignored : List Bool
 
--- whether the candidate of this number is ignored
-abbrev pub ignored_by : List Bool → ℕ → Bool
-ignored_by ignored n = get_or ignored n false
-
 -- whether the two verdicts are the same
 abbrev pub is_same_verdict : Verdict → Verdict → Bool
 is_same_verdict Yes Yes = true
 is_same_verdict No No = true
 is_same_verdict Neither Neither = true
 is_same_verdict _ _ = false
-
--- what is asked outside candidates stays, and what is asked in a candidate unless that is ignored
-abbrev pub counted_by : List Bool → Option ℕ → Bool
-counted_by ignored None = true
-counted_by ignored (Some n) = not (ignored_by ignored n)
 
 -- whether a result of this verdict rests on the answer
 abbrev pub rests_on : {I : Type 0} → List Bool → Verdict → DefiniteAnswer I → Bool

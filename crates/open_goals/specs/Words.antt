@@ -5,10 +5,10 @@ pub use Rattle.open_goals.specs.Candidates.{NotesCandidate, usages_at, with_repl
 pub use Rattle.open_goals.specs.Entries.{candidate_over, cycle_head, is_in_cycle, joined_over, rerun_under, some_heads}
 pub use Rattle.open_goals.specs.Entries.{TakesHeads, usages_over, with_depth, with_nested_goals, with_used_head}
 pub use Rattle.open_goals.specs.Items.{AnswersNewest, rerun_with}
-pub use Rattle.open_goals.specs.NestedGoals.{ChangesNested, Joined, LeavesAnswer, NestsAnswer, NestsHead, NestsItself, NotesOverflow, TakesHeadGoal, TakesNestedGoals, TakesStored}
+pub use Rattle.open_goals.specs.NestedGoals.{ChangesNested, Joined, LeavesAnswer, NotesOverflow, TakesHeadGoal, TakesNestedGoals, TakesStored}
 pub use Rattle.open_goals.specs.Newest.{change_newest, newest, paired}
 pub use Rattle.open_goals.specs.Nodes.{HasCycleNode, HasNodes, HasRunNodes, HasTarget}
-pub use Rattle.open_goals.specs.Progress.{answers_with, edges_of, fault_of, ignored_by, no_record, received, requested}
+pub use Rattle.open_goals.specs.Progress.{answers_with, edges_of, fault_of, no_record, received, requested}
 pub use Rattle.open_goals.specs.Progress.{rests_on}
 pub use Rattle.open_goals.specs.Steps.{CanStep, HasStepped, IsStepFault, IsVerdict, OutOfOrder}
 pub use Rattle.open_goals.specs.declared.goals.Received.{Received}

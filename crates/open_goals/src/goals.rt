@@ -88,7 +88,7 @@ pub struct Popped<X: Cx, F: Drop, S: Drop> {
 
 /// A scope in which the result of a goal is compared with what is stored.
 #[derive(Drop)]
-struct Held<S: Drop> {
+struct HeldScope<S: Drop> {
     /// How many goals there were when the goal was the newest one.
     goals: usize,
     scope: S,
@@ -101,7 +101,7 @@ pub struct OpenGoals<X: Cx, F: Drop, S: Drop> {
     runs: Vec<Run<X, F>>,
     /// The scopes that are held, each for its goal. No clause sees them: nothing depends on a scope but when it is
     /// dropped.
-    scopes: Vec<Held<S>>,
+    scopes: Vec<HeldScope<S>>,
 }
 
 impl<X: Cx, F: Drop, S: Drop> Model for OpenGoals<X, F, S> {
@@ -195,7 +195,7 @@ impl<X: Cx, F: Drop, S: Drop> OpenGoals<X, F, S> {
     {
         if let Some(scope) = scope {
             let goals = self.runs.len();
-            self.scopes.push(Held { goals, scope })?;
+            self.scopes.push(HeldScope { goals, scope })?;
         }
         Ok(())
     }

@@ -1,7 +1,7 @@
 //! What a run has done so far.
 ghost use Rattle.std.specs.Prelude.{◌≡◌, All, Contains, OnOk, IfOk};
-ghost use Rattle.open_goals.specs.Below.{NodeId};
-ghost use Rattle.open_goals.specs.Words.{HasTarget, no_record, received, requested, answers_with, fault_of, edges_of, rests_on, ignored_by};
+ghost use Rattle.open_goals.specs.Below.{NodeId, ignored_by};
+ghost use Rattle.open_goals.specs.Words.{HasTarget, no_record, received, requested, answers_with, fault_of, edges_of, rests_on};
 
 use search_parts::context::{Edge, NoMemory, NodeId, Reply, Request, Verdict};
 use std::alloc::Global;

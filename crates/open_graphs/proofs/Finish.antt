@@ -116,19 +116,3 @@ module _ (nodes : List Node) (verdict : Verdict) (below : List Entry) (top : Ent
     };
     covered = λ depth entry q on at w. covered depth entry at refl w;
   }
-
-  -- What holds of the new node, and of all at which the walks from its edges' targets do not stop, holds of all that it reaches but
-  -- the leaves.
-  pub finish_reaches :
-      (Placed : ℕ → Type 0) → ((b : ℕ) → IsLeaf below b → Placed b) → Placed n
-      → ((i : ℕ) (edge : Edge) → slice_get edges i ≡ Some edge → (b q : ℕ) → Walk (Step nodes verdict (below ++ top ∷ [])) edge.target q b → IsLeaf (below ++ top ∷ []) b ⊎ Placed b)
-      → (b q : ℕ) → Walk (Step (slice_set nodes n (Finished verdict edges)) verdict below) n q b → Placed b
-  finish_reaches Placed leaves here behind =
-      placed_walk old new out n (cycle_kind verdict) from_new elsewhere segment old_closed Placed here
-      (λ k a q b o w d. elim (behind o.0 (record { kind = k; target = a }) o.1 b q w) [
-        | inl l ↦ elim (leaf_cases below top b l) [
-          | inl x ↦ leaves b x
-          | inr e ↦ absurd (d (sym e ∙ top_is_n k a q o (subst (λ x. Walk old a q x) (sym e) w)))
-        ]
-        | inr p ↦ p
-      ])

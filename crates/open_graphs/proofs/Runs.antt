@@ -1,9 +1,9 @@
 -- Runs of a goal on the stack.
-use Rattle.std.proofs.Common.{◌≡◌, ◌≢◌, ℕ, ◌<◌, List, [], ◌∷◌, ◌++◌, Some, None, length, slice_get, arith, refl, ap, sym, subst, ◌∙◌, ◌⊎◌, inl, inr, length-append, false}
-use Rattle.open_graphs.specs.Words.{Verdict, Neither, Edge, Node, Unfinished, Finished, Grown, Walk, Entry, IsLeaf, path_kind, Step, Heads, Use, Running, IsStack, Answered, Again, Anew, Without, IsClosedGraph, UsesNo}
+use Rattle.std.proofs.Common.{◌≡◌, ◌≢◌, ℕ, ◌<◌, List, [], ◌∷◌, ◌++◌, Some, None, length, slice_get, arith, refl, ap, sym, subst, ◌∙◌, inl, inr, length-append, false}
+use Rattle.open_graphs.specs.Words.{Verdict, Neither, Edge, Node, Unfinished, Finished, Grown, Entry, IsLeaf, path_kind, Heads, Use, Running, IsStack, Answered, Again, Anew, Without, IsClosedGraph, UsesNo}
 use Rattle.open_graphs.proofs.Lists.{get_left, get_end, get_cases}
 use Rattle.open_graphs.proofs.Keep.{append_grows, finish_grows, growth_keeps_use, heads_keep_use}
-use Rattle.open_graphs.proofs.Finish.{finish_gives_use, finish_reaches}
+use Rattle.open_graphs.proofs.Finish.{finish_gives_use}
 use Rattle.open_graphs.proofs.Store.{included}
 use Rattle.open_graphs.proofs.Closed.{closed_is_graph}
 
@@ -90,23 +90,6 @@ pub run_gives_use :
     → Grown nodes later × Use later verdict below (path_kind below top.step) 0 a heads
 run_gives_use nodes below top own edges heads_before heads verdict later a definite answer r =
     (answered_grows nodes top own edges verdict r.unfinished answer, answered_use nodes below top own edges heads_before heads verdict definite answer r)
-
--- What holds of the run's own node, of all that its answers lead to, and of all that the provisional result leads to, holds of all
--- that the node of its result leads to below.
-pub answered_reaches :
-    (nodes : List Node) (below : List Entry) (top : Entry) (own : ℕ) (edges : Verdict → List Edge)
-    (heads_before heads : Heads) (verdict : Verdict) (later : List Node) (a : ℕ)
-    → verdict ≢ Neither → Answered nodes top own edges verdict later a → Running nodes below top own edges heads_before heads
-    → (Placed : ℕ → Type 0) → ((b : ℕ) → IsLeaf below b → Placed b) → Placed own
-    → ((i : ℕ) (edge : Edge) → slice_get (edges verdict) i ≡ Some edge → (b q : ℕ) → Walk (Step nodes verdict (below ++ top ∷ [])) edge.target q b → IsLeaf (below ++ top ∷ []) b ⊎ Placed b)
-    → (top.provisional ≡ Some verdict → (b q : ℕ) → Walk (Step nodes verdict below) top.node q b → Placed b)
-    → (b q : ℕ) → Walk (Step later verdict below) a q b → Placed b
-answered_reaches nodes below top own edges heads_before heads verdict later a definite (Again e) r Placed leaves here behind earlier = earlier e
-answered_reaches nodes below top own edges heads_before heads verdict later a definite (Anew ne) r Placed leaves here behind earlier =
-    finish_reaches nodes verdict below top own (edges verdict) heads r.unfinished r.lower
-    (elim r.which_run [ inl first ↦ inl first | inr again ↦ inr (again.0, again.1, ne) ])
-    (r.answered verdict) Placed leaves here behind
-answered_reaches nodes below top own edges heads_before heads verdict later a definite (Without e) r Placed leaves here behind earlier = absurd (definite e)
 
 -- The goal is then run again under this result, with a new node and no answers.
 pub next_run_starts :

@@ -5,6 +5,7 @@ use Rattle.open_graphs.specs.Graph.{Verdict, Yes, No, Neither, Node}
 use Rattle.open_graphs.specs.Stack.{Entry, path_kind}
 use Rattle.open_graphs.specs.Use.{Head, Heads, Use, ProvisionalUse}
 use Rattle.open_graphs.specs.State.{ProvisionalEntry, AfterPop}
+use Rattle.open_graphs.specs.TakeOver.{KeepsCycleKind}
 
 -- why the popped goal is done; at a fixpoint of its first run with the kind whose initial result it reached
 pub data Reason : Type 0 where
@@ -65,8 +66,7 @@ abbrev pub PassesPathTest : List Entry → Entry → ℕ → Heads → Heads →
 PassesPathTest below top path heads top_heads =
     (depth top_path own_path : ℕ)
     → IsTrue ((top_heads depth).paths top_path) → IsTrue ((heads (length below)).paths own_path)
-    → let from_head = path_kind below top.step depth in
-    max from_head top_path ≡ max (max (max from_head path) own_path) top_path
+    → KeepsCycleKind below top path depth top_path own_path
 
 -- the head was not used
 abbrev pub IsZero : Head → Type 0

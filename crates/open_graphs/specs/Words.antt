@@ -4,10 +4,10 @@ pub use Rattle.open_graphs.specs.AnswerLaws.{ProvisionalIsAnswered, with_edge}
 pub use Rattle.open_graphs.specs.Graph.{Avoids, cycle_kind, Edge, end, Finished, go, Grown, has_verdict, HasShapeEdge}
 pub use Rattle.open_graphs.specs.Graph.{IsFinished, IsClosedGraph, Neither, No, Node, Path, same_verdict, stay, then, Unfinished}
 pub use Rattle.open_graphs.specs.Graph.{Verdict, Walk, Yes}
-pub use Rattle.open_graphs.specs.Rebased.{Ambiguity, Coinductive, ForcedAmbiguity, HasResult, Inductive, InsertsHeads}
-pub use Rattle.open_graphs.specs.Rebased.{IsInitial, IsLeftHead, IsRebasable, IsSingle, IsTakenOut}
-pub use Rattle.open_graphs.specs.Rebased.{IsTrueReason, Needed, NoCycleUsages, NotNeeded, Overflow, PassesPathTest}
-pub use Rattle.open_graphs.specs.Rebased.{ReachedFixpoint, Reason, RebasedBy, RebasedIsAfterPop}
+pub use Rattle.open_graphs.specs.Rebased.{Ambiguity, Coinductive, ForcedAmbiguity, HasResult, Inductive}
+pub use Rattle.open_graphs.specs.Rebased.{IsInitial, IsRebasable, IsSingle, IsTakenOut}
+pub use Rattle.open_graphs.specs.Rebased.{IsTrueReason, Needed, NoCycleUsages, NotNeeded, Overflow}
+pub use Rattle.open_graphs.specs.Rebased.{ReachedFixpoint, Reason, RebasedIsAfterPop}
 pub use Rattle.open_graphs.specs.Rebased.{RebasedKeepsStored, Stays, Unknown}
 pub use Rattle.open_graphs.specs.Run.{Again, AllAnswered, Anew, Answered, IsAnsweredEdge, IsRunsNode, IsStack, Running, Without}
 pub use Rattle.open_graphs.specs.Stack.{Accepts, DistinctNodes, Entry, greatest, IsLeaf, IsSameOrFresh, path_kind}

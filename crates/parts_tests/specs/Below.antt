@@ -1,14 +1,14 @@
 -- What the crates below have, from one place.
 pub use Rattle.cycle_heads.specs.Path.{rank_of}
 pub use Rattle.cycle_heads.specs.declared.path.PathKind.{PathKind}
-pub use Rattle.cycle_heads.specs.declared.path.PathKind.TheVariants.{Coinductive, ForcedAmbiguity, Inductive, Unknown}
+pub use Rattle.cycle_heads.specs.declared.path.PathKind.TheVariants.{Coinductive, Inductive}
 pub use Rattle.delegate_parts.specs.Outcome.{is_no, is_yes, outcome_verdicts}
 pub use Rattle.delegate_parts.specs.declared.outcome.Outcome.{Outcome}
 pub use Rattle.delegate_parts.specs.declared.outcome.Outcome.TheVariants.{Maybe, No, Overflow, Yes}
 pub use Rattle.search_context.specs.Question.{IsWithin, Overlap, Question}
 pub use Rattle.search_context.specs.Rank.{HasNoRank, IsRanked}
 pub use Rattle.search_context.specs.Run.{EndsIn, Fits, progress_after, questions_answered}
-pub use Rattle.search_context.specs.Verdicts.{verdict_of, verdicts, Verdicts}
+pub use Rattle.search_context.specs.Verdicts.{verdict_of}
 pub use Rattle.search_context.specs.declared.context.NodeId.{NodeId}
 pub use Rattle.search_context.specs.declared.context.Reply.{Reply}
 pub use Rattle.search_context.specs.declared.context.Reply.TheVariants.{Answer, Begin, Noted}

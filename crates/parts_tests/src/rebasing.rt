@@ -131,7 +131,7 @@ fn reasons() -> [RebaseReason<LoopsContext>; 6] {
 
 #[test]
 fn an_entry_that_used_the_goal_is_rebased_by_the_reason(rt: HostRuntime) -> Result<(), Fail> {
-    let kept = TestEntry::yes(1, used(0, 1));
+    let entry = TestEntry::yes(1, used(0, 1));
     let yes = LeftAnswer::yes(PathsToNested::COINDUCTIVE, used(0, 1));
     let maybe = LeftAnswer {
         result: Outcome::Maybe,
@@ -152,7 +152,7 @@ fn an_entry_that_used_the_goal_is_rebased_by_the_reason(rt: HostRuntime) -> Resu
         None,
     ];
     for (reason, want) in reasons().into_iter().zip(wanted) {
-        let cache = rebased(rt.alloc(), &[kept], Some(Head::coinductive()), reason)?;
+        let cache = rebased(rt.alloc(), &[entry], Some(Head::coinductive()), reason)?;
         assert_eq!(rt; left(&cache)?, want);
         assert_eq!(rt; cache.is_empty(), want.is_none());
     }
@@ -161,10 +161,10 @@ fn an_entry_that_used_the_goal_is_rebased_by_the_reason(rt: HostRuntime) -> Resu
 
 #[test]
 fn an_answer_that_did_not_use_the_goal_stays(rt: HostRuntime) -> Result<(), Fail> {
-    let kept = TestEntry::yes(1, used(0, 0));
+    let entry = TestEntry::yes(1, used(0, 0));
     let want = LeftAnswer::yes(PathsToNested::EMPTY, used(0, 0));
     for reason in reasons() {
-        let cache = rebased(rt.alloc(), &[kept], Some(Head::coinductive()), reason)?;
+        let cache = rebased(rt.alloc(), &[entry], Some(Head::coinductive()), reason)?;
         assert_eq!(rt; left(&cache)?, Some(want));
     }
     Ok(())
@@ -172,13 +172,13 @@ fn an_answer_that_did_not_use_the_goal_stays(rt: HostRuntime) -> Result<(), Fail
 
 #[test]
 fn an_answer_that_changes_a_cycle_is_dropped(rt: HostRuntime) -> Result<(), Fail> {
-    let kept = TestEntry::yes(1, used(0, 1));
+    let entry = TestEntry::yes(1, used(0, 1));
     let inductive = Head {
         paths: PathsToNested::INDUCTIVE,
         usages: used(1, 0),
     };
     for reason in reasons() {
-        let cache = rebased(rt.alloc(), &[kept], Some(inductive), reason)?;
+        let cache = rebased(rt.alloc(), &[entry], Some(inductive), reason)?;
         assert_eq!(rt; left(&cache)?, None);
         assert!(rt; cache.is_empty());
     }
@@ -187,9 +187,9 @@ fn an_answer_that_changes_a_cycle_is_dropped(rt: HostRuntime) -> Result<(), Fail
 
 #[test]
 fn an_answer_without_another_head_is_dropped(rt: HostRuntime) -> Result<(), Fail> {
-    let kept = TestEntry::yes(1, used(0, 1));
+    let entry = TestEntry::yes(1, used(0, 1));
     for reason in reasons() {
-        let cache = rebased(rt.alloc(), &[kept], None, reason)?;
+        let cache = rebased(rt.alloc(), &[entry], None, reason)?;
         assert_eq!(rt; left(&cache)?, None);
         assert!(rt; cache.is_empty());
     }

@@ -2,7 +2,6 @@
 pub use Rattle.cycle_heads.specs.declared.memory.NoMemory.{NoMemory}
 pub use Rattle.cycle_heads.specs.declared.path.PathKind.{PathKind}
 pub use Rattle.search_context.specs.Delegate.{CanTake, CountsOne, Steps}
-pub use Rattle.search_context.specs.declared.context.Delegate.{Ghosts as DelegateOf}
 pub use Rattle.search_context.specs.declared.context.Reply.{Reply}
 pub use Rattle.search_context.specs.declared.context.Reply.TheVariants.{Answer}
 pub use Rattle.search_context.specs.declared.context.Request.{Request}

@@ -3,11 +3,11 @@
 use Rattle.std.specs.Prelude.{◌≢◌, ◌≤◌, ◌-◌, ℕ, Bool, nat_eq, if◌then◌else◌, List, [], length, take, fold, All, Option, Some, None}
 use Rattle.std.specs.List.{list_all}
 use Rattle.std.specs.Option.{option_map, option_and_then}
-use Rattle.provisional_cache.specs.Below.{PathKind, PathsToNested, StackDepth, CycleHead, HeadUsages, Heads, highest, with_head, rank_of, greater_kind, kinds_in, extended_by_each, path_of_no_step, has_usages, no_usages, other_usages}
+use Rattle.provisional_cache.specs.Below.{PathKind, PathsToNested, StackDepth, CycleHead, HeadUsages, Heads, highest, with_head, rank_of, greater_kind, kinds_in, extended_by_each, path_of_no_step, has_usages, no_usages}
 use Rattle.search_stack.specs.declared.stack.StackEntry.{StackEntry}
 use Rattle.provisional_cache.specs.declared.ProvisionalCacheEntry.{ProvisionalCacheEntry}
 use Rattle.provisional_cache.specs.declared.RebaseReason.{RebaseReason}
-use Rattle.provisional_cache.specs.declared.RebaseReason.TheVariants.{NoCycleUsages, Ambiguity, Overflow, ReachedFixpoint}
+use Rattle.provisional_cache.specs.EntryChange.{change_of, changed_by}
 use Rattle.search_stack.specs.Cycle.{path_kind_from}
 
 -- the heads but the highest one
@@ -29,15 +29,9 @@ keeps_kind from_head to_entry to_done to_head =
     nat_eq (rank_of (greater_kind from_head to_head)) (rank_of (greater_kind (greater_kind (greater_kind from_head to_entry) to_done) to_head))
 
 module _ {X I R A T : Type 0} where
-  -- what becomes of an entry that used the goal that is done: if no cycle was used it is dropped; an ambiguous goal and one that
-  -- had its most runs leave their results and no node; a later run that is stable leaves it as it is; and so does a stable first run,
-  -- where it was used by cycles of that kind alone
+  -- what becomes of an entry that used the goal that is done for this reason
   abbrev pub changed_for : (A → R) → R → RebaseReason X I R A T → HeadUsages → ProvisionalCacheEntry X I R A T → Option (ProvisionalCacheEntry X I R A T)
-  changed_for propagated overflow NoCycleUsages usages entry = None
-  changed_for propagated overflow (Ambiguity info) usages entry = Some (record entry { result = propagated info; node = None })
-  changed_for propagated overflow Overflow usages entry = Some (record entry { result = overflow; node = None })
-  changed_for propagated overflow (ReachedFixpoint None) usages entry = Some entry
-  changed_for propagated overflow (ReachedFixpoint (Some kind)) usages entry = if has_usages (other_usages usages kind) then None else Some entry
+  changed_for propagated overflow reason = changed_by (change_of propagated overflow reason)
 
   module _ (stack : List (StackEntry X I R A T)) (done : StackEntry X I R A T) where
     -- the kind of the path from a head through the step by which the goal that is done was asked

@@ -1,5 +1,5 @@
 -- A step of a frame takes it where the script does, and leaves fewer.
-use Rattle.std.proofs.Common.{◌≡◌, ℕ, ◌<◌, true, List, [], ◌∷◌, length, refl, sym, ap, ap₂, subst, ◌∙◌, arith}
+use Rattle.std.proofs.Common.{◌≡◌, ℕ, ◌<◌, List, [], ◌∷◌, length, refl, sym, ap, ap₂, subst, ◌∙◌, arith}
 use Rattle.std.proofs.lemmas.Option.{slice_get_within}
 use Rattle.question_lists.specs.Below.{Question, Reply, Begin, Answer, Noted, Outcome, IsFitting}
 use Rattle.question_lists.specs.declared.needs.Needs.{Needs}
@@ -8,15 +8,6 @@ use Rattle.question_lists.specs.Frame.{with_reply, outcome_of, next_question, st
 use Rattle.question_lists.specs.Told.{answers_question, next_question-is}
 
 module _ {I : Type 0} (needs : Needs) (questions : List (Question I)) where
-  -- the state has had a first reply
-  begun : (replies : List (Reply Outcome)) (x : Reply Outcome) → IsFitting (script_of needs questions) (x ∷ replies) → (state_after needs (x ∷ replies)).begun ≡ true
-  begun [] Begin h = refl
-  begun [] (Answer r) h = absurd h.0
-  begun [] Noted h = absurd h.0
-  begun (y ∷ earlier) Begin h = refl
-  begun (y ∷ earlier) (Answer r) h = begun earlier y h.1
-  begun (y ∷ earlier) Noted h = begun earlier y h.1
-
   -- an answer is to the question at the frame's place
   pub answer_within : (replies : List (Reply Outcome)) (r : Outcome) → IsFitting (script_of needs questions) (Answer r ∷ replies) → (state_after needs replies).place < length questions
   answer_within [] r h = absurd h.0

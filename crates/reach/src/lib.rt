@@ -8,6 +8,7 @@
 //! |---|---|
 //! | `Paths` | ways back through the blocks, and which of them end at a write; it names no search |
 //! | `Rule` | the rule of a question as a list of questions |
+//! | `Program`, `Analysed` | the blocks of a program, and of the one that an analysis is about |
 #![tactic(auto)]
 
 mod analysis;

@@ -4,7 +4,7 @@ pub use Rattle.rule_tables.specs.Frame.{script_of, state_after, state_with, step
 pub use Rattle.rule_tables.specs.Frame.{with_ignored}
 pub use Rattle.rule_tables.specs.Grammar.{Ask, IsDepth, IsMalformed, IsQuestion, letter_of, NamedQuestion}
 pub use Rattle.rule_tables.specs.Grammar.{Nothing, Rule, Say, Says, Statement}
-pub use Rattle.line_texts.specs.Lines.{IsName, lines_of, words_of}
+pub use Rattle.line_texts.specs.Lines.{lines_of}
 pub use Rattle.line_texts.specs.LineWords.{words_left}
 pub use Rattle.rule_tables.specs.Laws.Runs.{request_after-is}
 pub use Rattle.rule_tables.specs.Line.{statement_of}

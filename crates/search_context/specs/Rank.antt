@@ -1,6 +1,6 @@
 -- Goals without cycles: how deep their questions go, and the results that they have whatever else is known.
 -- `scripts` gives each goal's script.
-use Rattle.std.specs.Prelude.{◌≡◌, ℕ, zero, suc, ◌+◌, ◌*◌, ◌<◌, ◌≤◌, List, Some}
+use Rattle.std.specs.Prelude.{◌≡◌, ℕ, zero, suc, ◌+◌, ◌*◌, ◌<◌, List, Some}
 use Rattle.search_context.specs.Below.{PathKind}
 use Rattle.search_context.specs.declared.context.Request.{Request}
 use Rattle.search_context.specs.declared.context.Request.TheVariants.{Evaluate, Done}
@@ -15,11 +15,6 @@ AsksOnly {I} {R} among script = (replies : List (Reply R)) (kind : PathKind) (go
 abbrev pub IsRanked : {I R : Type 0} → (I → List (Reply R) → Request I R) → ℕ → I → Type 0
 IsRanked scripts zero goal = AsksOnly (λ _ _. ⊥) (scripts goal)
 IsRanked scripts (suc n) goal = AsksOnly (λ _ h. IsRanked scripts n h) (scripts goal)
-
--- the least such depth
-pub record HasRank {I R : Type 0} (scripts : I → List (Reply R) → Request I R) (goal : I) (n : ℕ) : Type 0 where
-  pub is_ranked : IsRanked scripts n goal
-  pub is_least : (m : ℕ) → IsRanked scripts m goal → n ≤ m
 
 -- the goal's script is orderly, and so are those of the goals below it, to this depth
 abbrev pub IsOrderlyTo : {I R : Type 0} → (I → List (Reply R) → Request I R) → ℕ → I → Type 0

@@ -1,5 +1,5 @@
 -- Runs of a frame. A script gives the request that follows some replies, of which the newest stands first.
-use Rattle.std.specs.Prelude.{◌≡◌, ℕ, ◌+◌, ◌==◌, nat_lt, Bool, true, false, not, ◌&&◌, if◌then◌else◌, List, [], ◌∷◌, ◌++◌, map, filter, Option, None, Some, ⊤}
+use Rattle.std.specs.Prelude.{◌≡◌, ℕ, ◌+◌, ◌==◌, nat_lt, Bool, true, false, not, ◌&&◌, if◌then◌else◌, List, [], ◌∷◌, ◌++◌, map, filter, get_or, Option, None, Some, ⊤}
 use Rattle.std.specs.List.{list_any}
 use Rattle.search_context.specs.declared.context.Request.{Request}
 use Rattle.search_context.specs.declared.context.Request.TheVariants.{Evaluate, EnterCandidate, FinishCandidate, Ignore, Done}
@@ -109,3 +109,12 @@ is_counted ignored (Some n) = not (is_ignored ignored n)
 -- the questions outside ignored candidates whose answers pass the test, in the order of asking
 abbrev pub questions_answered : {I R : Type 0} → (R → Bool) → Progress I R → List (Question I)
 questions_answered test p = map (λ a. a.question) (filter (λ a. test a.answer && is_counted p.ignored a.candidate) p.asked)
+
+-- the same where each finished candidate has a flag: whether the candidate of this number is ignored
+abbrev pub ignored_by : List Bool → ℕ → Bool
+ignored_by ignored n = get_or ignored n false
+
+-- and whether what was asked there counts
+abbrev pub counted_by : List Bool → Option ℕ → Bool
+counted_by ignored None = true
+counted_by ignored (Some n) = not (ignored_by ignored n)

@@ -1,9 +1,6 @@
 -- An evaluation begins: its goal is the first one that is pushed.
-use Rattle.std.proofs.Common.{◌≡◌, ◌≤◌, ◌+◌, ℕ, Bool, true, List, length, None, sym, ◌∙◌, subst}
-use Rattle.search_rules.proofs.records.EarlierNodes.{first_there, from_less}
-use Rattle.search_graph.specs.Below.{AreFrom, AreSoundResults, AvailableDepth, Begin, Cache, CacheNode, CountsOne, CxOf, DelegateOf, Memory, PathKind, Run, StackEntry, verdicts, AreFree, AreJustified, AreReady, NewestAsks, Awaits, Begins, Call, IsNew, IsRight, IsRightFor, KeepsAnswers, KeepsCache, Pushes, StopsWith, runs_of}
-use Rattle.global_cache.proofs.Finished.{KeepsFinished-then}
-use Rattle.global_cache.proofs.Stores.{KeepsResults-then}
+use Rattle.std.proofs.Common.{◌≡◌, ◌≤◌, ◌+◌, ℕ, Bool, true, List, None, sym, subst}
+use Rattle.search_graph.specs.Below.{AreSoundResults, AvailableDepth, Begin, Cache, CacheNode, CountsOne, CxOf, DelegateOf, Memory, PathKind, Run, StackEntry, verdicts, AreFree, AreJustified, AreReady, NewestAsks, Awaits, Begins, Call, IsNew, IsRight, IsRightFor, KeepsAnswers, Pushes, StopsWith, runs_of}
 use Rattle.search_moves.specs.declared.evaluation.Evaluation.{Evaluation}
 use Rattle.search_moves.proofs.Asking.{pushed_right}
 use Rattle.search_rules.proofs.justified.Justified.{nothing_is_justified}
@@ -11,17 +8,6 @@ use Rattle.search_graph.proofs.Loops.{first_stopped, first_waits}
 use Rattle.search_rules.proofs.answers.Free.{all_free_nothing}
 use Rattle.search_moves.proofs.Said.{no_entries}
 use Rattle.search_rules.proofs.entries.Ready.{none_ready}
-
--- what a call has kept so far and what a move keeps, both keep together, where the nodes of the goals' runs came later than the call
-pub then_keeps : {C F I R A T : Type 0} (same : I → I → Bool) (first_goals goals : List (StackEntry C I R A T × Run C F I R A T)) (old mid new : Cache C I R A T) → AreFrom (length old.nodes) goals → KeepsCache same first_goals old mid → KeepsCache same goals mid new → KeepsCache same first_goals old new
-then_keeps same first_goals goals old mid new from first second = record {
-  context = second.context ∙ first.context;
-  results = KeepsResults-then same old.results mid.results new.results first.results second.results;
-  nodes = KeepsFinished-then old.nodes mid.nodes new.nodes first.nodes second.nodes;
-  earlier = λ place within later at less.
-      second.earlier place (first_there place old.nodes mid.nodes within (first.earlier place within later)) (from_less place (length old.nodes) goals within from) at less
-      ∙ first.earlier place within later at less;
-}
 
 module _ {D C V P F I R A T : Type 0} (G : DelegateOf D C V P F I R A T) (X : CxOf C I R A T) (same : I → I → Bool) (cx : C) (kind : PathKind) (goal : I) (old : Cache C I R A T) (e : Evaluation D C V P F I R A T) (is_new : IsNew e) where
   -- where no goal is under evaluation, all is right

@@ -11,7 +11,7 @@ use Rattle.search_graph.specs.Below.{AreSoundResults, AvailableDepth, Begin, Cac
 use Rattle.search_rules.specs.Below.{Answer, at_depth, DefiniteAnswer, edge_to, IsVerdict, KeepsAnswer, Lists, NestedPaths, No, open_number, paths_at, ProvisionalCacheEntry, stack_of, StackDepth, verdict_of, Yes}
 use Rattle.search_rules.specs.Justified.{cycles_node, frames_of, verdict_shape}
 use Rattle.search_moves.specs.Asked.{question_depth}
-use Rattle.search_moves.specs.Settled.{IsSettledStore, KeepsEntries, Settles}
+use Rattle.search_moves.specs.Settled.{IsSettledStore, EntriesSuitCall, Settles}
 use Rattle.search_moves.specs.declared.evaluation.Evaluation.{Evaluation}
 use Rattle.search_moves.proofs.KeptEntries.{began_keeps_entries, noted_keeps_entries}
 use Rattle.search_moves.proofs.Settling.{pushed_settles}
@@ -176,9 +176,9 @@ noted_stays_off says same by_value nodes results entries items = begin_stays_off
 
 -- the same of the entries, also where the context is named otherwise
 pub stepped_entries : {D C V P F I R A T : Type 0} (G : DelegateOf D C V P F I R A T) (X : CxOf C I R A T) (same : I → I → Bool) (cx there : C) → there ≡ cx → (call : Call I) (given : Received R) (request : Request I R) (results : Store I (StoredResult C I R A T)) (old mid after : List (StackEntry C I R A T × Run C F I R A T)) (entries : Lists I (ProvisionalCacheEntry C I R A T))
-    → HasStepped G X there given request old mid → NotesCandidate request mid after → KeepsEntries G same cx call results old entries → KeepsEntries G same cx call results after entries
+    → HasStepped G X there given request old mid → NotesCandidate request mid after → EntriesSuitCall G same cx call results old entries → EntriesSuitCall G same cx call results after entries
 stepped_entries G X same cx there is call given request results old mid after entries s noted =
-    subst (λ c. HasStepped G X c given request old mid → NotesCandidate request mid after → KeepsEntries G same cx call results old entries → KeepsEntries G same cx call results after entries) (sym is)
+    subst (λ c. HasStepped G X c given request old mid → NotesCandidate request mid after → EntriesSuitCall G same cx call results old entries → EntriesSuitCall G same cx call results after entries) (sym is)
     (noted_keeps_entries G X same cx call given request results old mid after entries) s noted
 
 -- a call that needs two runs of a goal needs no more with another builder that doesn't record either

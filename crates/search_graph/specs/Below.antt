@@ -12,7 +12,7 @@ pub use Rattle.search_context.specs.Delegate.{CountsOne, KeepsBuilder}
 pub use Rattle.search_context.specs.Question.{Overlap, Question}
 unfoldable pub use Rattle.search_context.specs.Rank.{frames_within}
 pub use Rattle.search_context.specs.Rank.{IsPlainTo, IsPlainValue}
-pub use Rattle.search_context.specs.Run.{IsReplyTo}
+pub use Rattle.search_context.specs.Run.{counted_by, ignored_by, IsReplyTo}
 pub use Rattle.search_context.specs.Verdicts.{IsDefinite, Verdicts, verdicts}
 pub use Rattle.search_context.specs.declared.context.Cx.{Ghosts as CxOf}
 pub use Rattle.search_context.specs.declared.context.Delegate.{Ghosts as DelegateOf}
@@ -43,7 +43,7 @@ pub use Rattle.open_goals.specs.Candidates.{CanIgnore, CanNote, Covers, enters, 
 pub use Rattle.open_goals.specs.Candidates.{less_head, less_usages, NotesCandidate}
 pub use Rattle.open_goals.specs.Entries.{is_in_cycle}
 pub use Rattle.open_goals.specs.Newest.{change_newest}
-pub use Rattle.open_goals.specs.Progress.{answered, counted_by, ignored_by, IsReplySorted, received, requested}
+pub use Rattle.open_goals.specs.Progress.{answered, IsReplySorted, received, requested}
 pub use Rattle.open_goals.specs.Progress.{RunRecord}
 pub use Rattle.open_goals.specs.Steps.{CanStep, HasStepped, IsStepFault, NoMemoryLeft, received_by, Stood}
 pub use Rattle.open_goals.specs.declared.goals.Next.{Next}
@@ -63,6 +63,6 @@ pub use Rattle.search_rules.specs.Justified.{AreJustified, IsFit, NewestAsks, Op
 pub use Rattle.search_rules.specs.Moves.{Pushes}
 pub use Rattle.search_rules.specs.Provisional.{AreReady}
 pub use Rattle.search_rules.specs.Results.{AreDefinite, HaveNoOverflow, HaveNoOverflowOf, RequireWithin, StoresWithin}
-pub use Rattle.search_rules.specs.Runs.{AreFrom, IfFinished, IsJustifiedNext, KeepsEarlier, KeepsFirst, run_of, runs_of, StayFrom}
+pub use Rattle.search_rules.specs.Runs.{AreFrom, IfFinished, IsJustifiedNext, KeepsFirst, run_of, runs_of, StayFrom}
 pub use Rattle.search_rules.specs.Tallies.{candidate_at, candidates_count, counted, heads_of, IsCovered, IsTallied}
 pub use Rattle.search_rules.specs.Tallies.{Tally, tally_of, usages_of}

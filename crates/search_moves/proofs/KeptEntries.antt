@@ -5,7 +5,7 @@ use Rattle.open_goals.specs.declared.goals.Next.TheVariants.{Finished}
 use Rattle.search_moves.specs.Below.{AvailableDepth, Cache, Call, CxOf, DelegateOf, depends_on, entries_at, entries_for, Evaluate, final_answer, first_accepted, Hit, is_applicable, Lists, Next, node_given, Overflow, PathKind, ProvisionalCacheEntry, Pushes, RebaseReason, rebased_for, RebasesNewest, Received, Run, StackEntry, Step, Store, StoredResult, usable, runs_of, CacheNode}
 use Rattle.search_moves.specs.declared.evaluation.Evaluation.{Evaluation}
 use Rattle.search_moves.specs.Evaluations.{IsNew}
-use Rattle.search_moves.specs.Settled.{KeepsEntries, NoneUsed, OneKind}
+use Rattle.search_moves.specs.Settled.{EntriesSuitCall, NoneUsed, OneKind}
 use Rattle.search_moves.specs.Words.{AskingLeadsTo, asking, ByEntry, ByStored, HadMostRuns, IsDone, IsRight, IsRunAgain, OverCycle, Pushed, Refused, Requests, RunLeads}
 use Rattle.search_rules.specs.Apart.{StandApart}
 use Rattle.search_rules.specs.Below.{HasStepped, NotesCandidate, paths_at, Request}
@@ -14,24 +14,24 @@ use Rattle.search_rules.specs.Kinds.{EntriesSuit, StoredSuit}
 use Rattle.search_rules.specs.Lone.{IsLone}
 use Rattle.search_rules.specs.Settled.{IsOff}
 use Rattle.search_rules.proofs.kinds.StandingApart.{apart_none}
-use Rattle.search_moves.proofs.OneKind.{AreKeptNext, asked_keeps, began_keeps, led_keeps, noted_keeps, used_without_entries}
+use Rattle.search_moves.proofs.OneKind.{HaveOneKindNext, asked_keeps, began_keeps, led_keeps, noted_keeps, used_without_entries}
 
 module _ {D C V P F I R A T : Type 0} (G : DelegateOf D C V P F I R A T) (same : I → I → Bool) (cx : C) (call : Call I) where
   -- the entries stand apart
-  pub entries_apart : (results : Store I (StoredResult C I R A T)) (goals : List (StackEntry C I R A T × Run C F I R A T)) (entries : Lists I (ProvisionalCacheEntry C I R A T)) → KeepsEntries G same cx call results goals entries → StandApart same results goals entries
+  pub entries_apart : (results : Store I (StoredResult C I R A T)) (goals : List (StackEntry C I R A T × Run C F I R A T)) (entries : Lists I (ProvisionalCacheEntry C I R A T)) → EntriesSuitCall G same cx call results goals entries → StandApart same results goals entries
   entries_apart results goals entries (NoneUsed off none) = apart_none same results goals entries none
   entries_apart results goals entries (OneKind kept) = kept.apart
 
   -- what is kept of what comes next, which is the stored results alone once the call has its answer
-  abbrev pub KeepsEntriesNext : Next R → Store I (StoredResult C I R A T) → List (StackEntry C I R A T × Run C F I R A T) → Lists I (ProvisionalCacheEntry C I R A T) → Type 0
-  KeepsEntriesNext (Step given) results goals entries = KeepsEntries G same cx call results goals entries
-  KeepsEntriesNext (Finished answer) results goals entries = StoredSuit G.ENABLE_PROVISIONAL_CACHE (G.script cx) same call.goals results
+  abbrev pub EntriesSuitNext : Next R → Store I (StoredResult C I R A T) → List (StackEntry C I R A T × Run C F I R A T) → Lists I (ProvisionalCacheEntry C I R A T) → Type 0
+  EntriesSuitNext (Step given) results goals entries = EntriesSuitCall G same cx call results goals entries
+  EntriesSuitNext (Finished answer) results goals entries = StoredSuit G.ENABLE_PROVISIONAL_CACHE (G.script cx) same call.goals results
 
-  of_one_kind : (next : Next R) (results : Store I (StoredResult C I R A T)) (goals : List (StackEntry C I R A T × Run C F I R A T)) (entries : Lists I (ProvisionalCacheEntry C I R A T)) → AreKeptNext G same cx call next results goals entries → KeepsEntriesNext next results goals entries
+  of_one_kind : (next : Next R) (results : Store I (StoredResult C I R A T)) (goals : List (StackEntry C I R A T × Run C F I R A T)) (entries : Lists I (ProvisionalCacheEntry C I R A T)) → HaveOneKindNext G same cx call next results goals entries → EntriesSuitNext next results goals entries
   of_one_kind (Step given) results goals entries kept = OneKind kept
   of_one_kind (Finished answer) results goals entries reached = inr reached
 
-  of_none : (next : Next R) (results : Store I (StoredResult C I R A T)) (goals : List (StackEntry C I R A T × Run C F I R A T)) (entries : Lists I (ProvisionalCacheEntry C I R A T)) → G.ENABLE_PROVISIONAL_CACHE ≡ false → ((goal : I) → entries_at same entries goal ≡ []) → KeepsEntriesNext next results goals entries
+  of_none : (next : Next R) (results : Store I (StoredResult C I R A T)) (goals : List (StackEntry C I R A T × Run C F I R A T)) (entries : Lists I (ProvisionalCacheEntry C I R A T)) → G.ENABLE_PROVISIONAL_CACHE ≡ false → ((goal : I) → entries_at same entries goal ≡ []) → EntriesSuitNext next results goals entries
   of_none (Step given) results goals entries off none = NoneUsed off none
   of_none (Finished answer) results goals entries off none = inl off
 
@@ -40,11 +40,11 @@ module _ {D C V P F I R A T : Type 0} (G : DelegateOf D C V P F I R A T) (same :
 module _ {D C V P F I R A T : Type 0} (G : DelegateOf D C V P F I R A T) (X : CxOf C I R A T) (same : I → I → Bool) (by_value : (x y : I) → same x y ≡ true → x ≡ y) (cx : C) (kind : PathKind) (goal : I) (old : Cache C I R A T) (e : Evaluation D C V P F I R A T) (starts : _) (call : Call I) (ahead : _) (enclosed : CallIsEnclosed G X cx call)
     (asked : Requests G X same cx (Evaluate kind goal) call ahead old e starts) (right : IsRight G X same cx old e) where
   -- no goal that is nested in the stored result that answers it has an entry
-  pub used_have_none : KeepsEntries G same cx call old.results e.goals e.provisional → (depth : AvailableDepth) (hit : Hit I R T) → first_accepted (is_applicable same (asking G X same cx kind goal e)) (usable same old.results goal depth.0) ≡ Some hit → (other : I) → IsSome (paths_at same hit.nested_goals other) → entries_at same e.provisional other ≡ []
+  pub used_have_none : EntriesSuitCall G same cx call old.results e.goals e.provisional → (depth : AvailableDepth) (hit : Hit I R T) → first_accepted (is_applicable same (asking G X same cx kind goal e)) (usable same old.results goal depth.0) ≡ Some hit → (other : I) → IsSome (paths_at same hit.nested_goals other) → entries_at same e.provisional other ≡ []
   used_have_none (NoneUsed off none) depth hit found other nested = none other
   used_have_none (OneKind kept) depth hit found other nested = used_without_entries G X same by_value cx kind goal old e starts call ahead enclosed asked right kept depth hit found other nested
 
-  pub asked_keeps_entries : KeepsEntries G same cx call old.results e.goals e.provisional → (noop : Bool) (received : Received R) (new : Cache C I R A T) (after : Evaluation D C V P F I R A T) (later : _) → AskingLeadsTo G X same cx kind goal noop old e starts received new after later → KeepsEntries G same cx call new.results after.goals after.provisional
+  pub asked_keeps_entries : EntriesSuitCall G same cx call old.results e.goals e.provisional → (noop : Bool) (received : Received R) (new : Cache C I R A T) (after : Evaluation D C V P F I R A T) (later : _) → AskingLeadsTo G X same cx kind goal noop old e starts received new after later → EntriesSuitCall G same cx call new.results after.goals after.provisional
   asked_keeps_entries (OneKind kept) noop received new after later comes = OneKind (asked_keeps G X same by_value cx kind goal old e starts call ahead enclosed asked right kept noop received new after later comes)
   asked_keeps_entries (NoneUsed off none) noop received new after later (Refused goals refused noted) = NoneUsed off none
   asked_keeps_entries (NoneUsed off none) noop received new after later (ByEntry depth entry goals at is takes nested) = NoneUsed off none
@@ -54,13 +54,13 @@ module _ {D C V P F I R A T : Type 0} (G : DelegateOf D C V P F I R A T) (X : Cx
 
 -- a call begins with a goal that is pushed
 pub began_keeps_entries : {D C V P F I R A T : Type 0} (G : DelegateOf D C V P F I R A T) (X : CxOf C I R A T) (same : I → I → Bool) (cx : C) (kind : PathKind) (goal : I) (old : Cache C I R A T) (e : Evaluation D C V P F I R A T) (is_new : IsNew e) (depth : AvailableDepth) (goals : List (StackEntry C I R A T × Run C F I R A T)) (nodes : List (CacheNode I R))
-    → Pushes G X cx goal kind depth old.nodes nodes e.goals goals → (call : Call I) → StoredSuit G.ENABLE_PROVISIONAL_CACHE (G.script cx) same call.goals old.results → KeepsEntries G same cx call old.results goals e.provisional
+    → Pushes G X cx goal kind depth old.nodes nodes e.goals goals → (call : Call I) → StoredSuit G.ENABLE_PROVISIONAL_CACHE (G.script cx) same call.goals old.results → EntriesSuitCall G same cx call old.results goals e.provisional
 began_keeps_entries G X same cx kind goal old e is_new depth goals nodes pushes call (inr reached) = OneKind (began_keeps G X same cx kind goal old e is_new depth goals nodes pushes call reached)
 began_keeps_entries {C = C} {I = I} {R = R} {A = A} {T = T} G X same cx kind goal old e is_new depth goals nodes pushes call (inl off) = NoneUsed off (λ other. ap (λ (l : Lists I (ProvisionalCacheEntry C I R A T)). entries_at same l other) is_new.no_entries)
 
 -- the newest goal takes its step, and notes what it requested of candidates
 pub noted_keeps_entries : {D C V P F I R A T : Type 0} (G : DelegateOf D C V P F I R A T) (X : CxOf C I R A T) (same : I → I → Bool) (cx : C) (call : Call I) (given : Received R) (request : Request I R) (results : Store I (StoredResult C I R A T)) (old mid after : List (StackEntry C I R A T × Run C F I R A T)) (entries : Lists I (ProvisionalCacheEntry C I R A T))
-    → HasStepped G X cx given request old mid → NotesCandidate request mid after → KeepsEntries G same cx call results old entries → KeepsEntries G same cx call results after entries
+    → HasStepped G X cx given request old mid → NotesCandidate request mid after → EntriesSuitCall G same cx call results old entries → EntriesSuitCall G same cx call results after entries
 noted_keeps_entries G X same cx call given request results old mid after entries s noted (NoneUsed off none) = NoneUsed off none
 noted_keeps_entries G X same cx call given request results old mid after entries s noted (OneKind kept) = OneKind (noted_keeps G X same cx call given request results old mid after entries s noted kept)
 
@@ -83,7 +83,7 @@ module _ {D C V P F I R A T : Type 0} (G : DelegateOf D C V P F I R A T) (X : Cx
       ∙ (ap (λ l. rebased_for (G.propagated old.cx goal) (G.fixpoint_overflow old.cx goal) reason stack s.0 l ++ []) (none goal)
       ∙ ap (λ l. l ++ []) (none_rebased (G.propagated old.cx goal) (G.fixpoint_overflow old.cx goal) reason stack s.0)))
 
-  pub led_keeps_entries : (same_result : R → R → Bool) (next : Next R) (new : Cache C I R A T) (after : Evaluation D C V P F I R A T) → RunLeads G X same same_result outcome old before next new after → KeepsEntries G same old.cx call old.results before.goals before.provisional → KeepsEntriesNext G same old.cx call next new.results after.goals after.provisional
+  pub led_keeps_entries : (same_result : R → R → Bool) (next : Next R) (new : Cache C I R A T) (after : Evaluation D C V P F I R A T) → RunLeads G X same same_result outcome old before next new after → EntriesSuitCall G same old.cx call old.results before.goals before.provisional → EntriesSuitNext G same old.cx call next new.results after.goals after.provisional
   led_keeps_entries same_result next new after leads (OneKind kept) = of_one_kind G same old.cx call next new.results after.goals after.provisional (led_keeps G X same by_value old before call outcome suits right not_lone off kept same_result next new after leads)
   led_keeps_entries same_result next new after (IsDone entry run reason comes pops unmet) (NoneUsed disabled none) =
       of_none G same old.cx call next new.results after.goals after.provisional disabled (none_left disabled before.goals reason outcome (node_given next) before.provisional after.provisional pops.rebased none)

@@ -6,7 +6,7 @@ use Rattle.global_cache.specs.Hits.{hit_at}
 use Rattle.search_moves.specs.Below.{AreJustified, AvailableDepth, Cache, CacheNode, Call, CxOf, DelegateOf, depends_on, entries_at, Evaluate, final_answer, first_accepted, first_entry, first_run, Hit, is_applicable, LeavesNested, Lists, newest, Next, node_given, Overflow, PathKind, ProvisionalCacheEntry, Pushes, RebaseReason, RebasesNewest, Received, Run, runs_of, StackEntry, Step, Store, stored_at, StoredResult, StoresNewest, Success, Unstable, usable, verdicts}
 use Rattle.search_moves.specs.declared.evaluation.Evaluation.{Evaluation}
 use Rattle.search_moves.specs.Evaluations.{IsNew}
-use Rattle.search_moves.specs.Settled.{AreKept}
+use Rattle.search_moves.specs.Settled.{HaveOneKind}
 use Rattle.search_moves.specs.Words.{AskingLeadsTo, asking, ByEntry, ByStored, entry_for, HadMostRuns, IsDone, IsRight, IsRunAgain, OverCycle, Pushed, Refused, Requests, RunLeads, RunsAgain}
 use Rattle.search_rules.specs.Below.{HasStepped, NotesCandidate, paths_at, Request}
 use Rattle.search_rules.specs.Calls.{CallIsEnclosed}
@@ -28,16 +28,16 @@ use Rattle.search_rules.proofs.moves.Moves.{enclosed_asks}
 
 module _ {D C V P F I R A T : Type 0} (G : DelegateOf D C V P F I R A T) (same : I → I → Bool) (cx : C) (call : Call I) where
   -- what is kept of what comes next, which is the stored results alone once the call has its answer
-  abbrev pub AreKeptNext : Next R → Store I (StoredResult C I R A T) → List (StackEntry C I R A T × Run C F I R A T) → Lists I (ProvisionalCacheEntry C I R A T) → Type 0
-  AreKeptNext (Step given) results goals entries = AreKept G same cx call results goals entries
-  AreKeptNext (Finished answer) results goals entries = StoredReachNested (G.script cx) same call.goals results
+  abbrev pub HaveOneKindNext : Next R → Store I (StoredResult C I R A T) → List (StackEntry C I R A T × Run C F I R A T) → Lists I (ProvisionalCacheEntry C I R A T) → Type 0
+  HaveOneKindNext (Step given) results goals entries = HaveOneKind G same cx call results goals entries
+  HaveOneKindNext (Finished answer) results goals entries = StoredReachNested (G.script cx) same call.goals results
 
 -- ---- a goal is pushed that has no entry
 
 module _ {D C V P F I R A T : Type 0} (G : DelegateOf D C V P F I R A T) (X : CxOf C I R A T) (same : I → I → Bool) (cx : C) (call : Call I) (kind : PathKind) (goal : I) (depth : AvailableDepth) (nodes later : List (CacheNode I R)) (results : Store I (StoredResult C I R A T)) (old new : List (StackEntry C I R A T × Run C F I R A T)) (entries : Lists I (ProvisionalCacheEntry C I R A T)) where
-  pushed_keeps : AsksNewest (G.script cx) old kind goal → entries_at same entries goal ≡ [] → Pushes G X cx goal kind depth nodes later old new → AreKept G same cx call results old entries → AreKept G same cx call results new entries
+  pushed_keeps : AsksNewest (G.script cx) old kind goal → entries_at same entries goal ≡ [] → Pushes G X cx goal kind depth nodes later old new → HaveOneKind G same cx call results old entries → HaveOneKind G same cx call results new entries
   pushed_keeps asks none pushes h =
-      subst (λ l. AreKept G same cx call results l entries) (sym pushes.is)
+      subst (λ l. HaveOneKind G same cx call results l entries) (sym pushes.is)
       (record {
         kinds = pushed_keeps_kinds (G.script cx) same G.ENABLE_PROVISIONAL_CACHE (first_entry goal kind depth pushes.own, first_run G X cx pushes.frame pushes.own pushes.becomes) old entries asks refl refl h.kinds;
         apart = apart_pushed same results (first_entry goal kind depth pushes.own, first_run G X cx pushes.frame pushes.own pushes.becomes) old entries none h.apart;
@@ -47,7 +47,7 @@ module _ {D C V P F I R A T : Type 0} (G : DelegateOf D C V P F I R A T) (X : Cx
 -- ---- a question
 
 module _ {D C V P F I R A T : Type 0} (G : DelegateOf D C V P F I R A T) (X : CxOf C I R A T) (same : I → I → Bool) (by_value : (x y : I) → same x y ≡ true → x ≡ y) (cx : C) (kind : PathKind) (goal : I) (old : Cache C I R A T) (e : Evaluation D C V P F I R A T) (starts : ℕ) (call : Call I) (ahead : ℕ) (enclosed : CallIsEnclosed G X cx call)
-    (asked : Requests G X same cx (Evaluate kind goal) call ahead old e starts) (right : IsRight G X same cx old e) (h : AreKept G same cx call old.results e.goals e.provisional) where
+    (asked : Requests G X same cx (Evaluate kind goal) call ahead old e starts) (right : IsRight G X same cx old e) (h : HaveOneKind G same cx call old.results e.goals e.provisional) where
   asks : AsksNewest (G.script cx) e.goals kind goal
   asks = asks_newest G X cx call ahead kind goal e.goals starts e.limits_met asked.asked
 
@@ -78,7 +78,7 @@ module _ {D C V P F I R A T : Type 0} (G : DelegateOf D C V P F I R A T) (X : Cx
     used_without_entries = none_in_used (G.script cx) same e.goals h.kinds.goals_are kind goal asks G.ENABLE_PROVISIONAL_CACHE e.provisional h.kinds have calm hit.nested_goals hit_reached by_value success.2.1
 
   -- whatever it comes to
-  pub asked_keeps : (noop : Bool) (received : Received R) (new : Cache C I R A T) (after : Evaluation D C V P F I R A T) (later : ℕ) → AskingLeadsTo G X same cx kind goal noop old e starts received new after later → AreKept G same cx call new.results after.goals after.provisional
+  pub asked_keeps : (noop : Bool) (received : Received R) (new : Cache C I R A T) (after : Evaluation D C V P F I R A T) (later : ℕ) → AskingLeadsTo G X same cx kind goal noop old e starts received new after later → HaveOneKind G same cx call new.results after.goals after.provisional
   asked_keeps noop received new after later (Refused goals none noted) = absurd (enclosed_refuses_none G X cx call ahead kind goal starts e.limits_met e.goals none enclosed asked.asked)
   asked_keeps noop received new after later (ByEntry depth entry goals at is takes nested) = record {
     kinds = entry_keeps_kinds (G.script cx) same G.ENABLE_PROVISIONAL_CACHE by_value e.goals goals kind goal asks e.provisional h.kinds entry 0 entry.encountered_overflow is takes nested;
@@ -100,12 +100,12 @@ module _ {D C V P F I R A T : Type 0} (G : DelegateOf D C V P F I R A T) (X : Cx
 
 -- a call begins with a goal that is pushed
 pub began_keeps : {D C V P F I R A T : Type 0} (G : DelegateOf D C V P F I R A T) (X : CxOf C I R A T) (same : I → I → Bool) (cx : C) (kind : PathKind) (goal : I) (old : Cache C I R A T) (e : Evaluation D C V P F I R A T) (is_new : IsNew e) (depth : AvailableDepth) (goals : List (StackEntry C I R A T × Run C F I R A T)) (nodes : List (CacheNode I R))
-    → Pushes G X cx goal kind depth old.nodes nodes e.goals goals → (call : Call I) → StoredReachNested (G.script cx) same call.goals old.results → AreKept G same cx call old.results goals e.provisional
+    → Pushes G X cx goal kind depth old.nodes nodes e.goals goals → (call : Call I) → StoredReachNested (G.script cx) same call.goals old.results → HaveOneKind G same cx call old.results goals e.provisional
 began_keeps {C = C} {I = I} {R = R} {A = A} {T = T} G X same cx kind goal old e is_new depth goals nodes pushes call reached =
     let none : (other : I) → entries_at same e.provisional other ≡ [] = λ other. ap (λ (l : Lists I (ProvisionalCacheEntry C I R A T)). entries_at same l other) is_new.no_entries in
     pushed_keeps G X same cx call kind goal depth old.nodes nodes old.results e.goals goals e.provisional
     (subst (λ l. AsksNewest (G.script cx) l kind goal) (sym is_new.no_goals) tt) (none goal) pushes
-    (subst (λ l. AreKept G same cx call old.results l e.provisional) (sym is_new.no_goals)
+    (subst (λ l. HaveOneKind G same cx call old.results l e.provisional) (sym is_new.no_goals)
     (record {
       kinds = none_keeps_kinds (G.script cx) same G.ENABLE_PROVISIONAL_CACHE e.provisional none;
       apart = apart_none same old.results [] e.provisional none;
@@ -114,7 +114,7 @@ began_keeps {C = C} {I = I} {R = R} {A = A} {T = T} G X same cx kind goal old e 
 
 -- the newest goal takes its step, and notes what it requested of candidates
 pub noted_keeps : {D C V P F I R A T : Type 0} (G : DelegateOf D C V P F I R A T) (X : CxOf C I R A T) (same : I → I → Bool) (cx : C) (call : Call I) (given : Received R) (request : Request I R) (results : Store I (StoredResult C I R A T)) (old mid after : List (StackEntry C I R A T × Run C F I R A T)) (entries : Lists I (ProvisionalCacheEntry C I R A T))
-    → HasStepped G X cx given request old mid → NotesCandidate request mid after → AreKept G same cx call results old entries → AreKept G same cx call results after entries
+    → HasStepped G X cx given request old mid → NotesCandidate request mid after → HaveOneKind G same cx call results old entries → HaveOneKind G same cx call results after entries
 noted_keeps G X same cx call given request results old mid after entries s noted h = record {
   kinds = noted_keeps_kinds (G.script cx) same G.ENABLE_PROVISIONAL_CACHE entries request mid after noted (stepped_keeps_kinds G X cx same G.ENABLE_PROVISIONAL_CACHE entries old mid given request s h.kinds);
   apart = noted_apart same results entries request mid after noted (stepped_apart G X cx same results entries old mid given request s h.apart);
@@ -136,13 +136,13 @@ module _ {D C V P F I R A T : Type 0} (G : DelegateOf D C V P F I R A T) (X : Cx
       → ((s : StackEntry C I R A T × Run C F I R A T) (below : List (StackEntry C I R A T × Run C F I R A T)) → goals ≡ s ∷ below → IsLone same results s.0.input → ⊥)
       → ((s : StackEntry C I R A T × Run C F I R A T) (below : List (StackEntry C I R A T × Run C F I R A T)) → goals ≡ s ∷ below → IsOff (runs_of below) s.0.input)
       → NewestLeaves r goals next left → LeavesNested same goals left → StoresNewest same goals r (node_given next) results later → RebasesNewest same G.ENABLE_PROVISIONAL_CACHE (G.propagated cx) (G.fixpoint_overflow cx) reason r (node_given next) goals old new
-      → AreKept G same cx call results goals old → AreKeptNext G same cx call next later left new
+      → HaveOneKind G same cx call results goals old → HaveOneKindNext G same cx call next later left new
   popped_keeps [] left next justified ready unused not_lone off leaves nests puts rebases h = absurd leaves
   popped_keeps (s ∷ []) left next justified ready unused not_lone off leaves nests puts rebases h =
-      subst (λ n. AreKeptNext G same cx call n later left new) (sym leaves.1)
+      subst (λ n. HaveOneKindNext G same cx call n later left new) (sym leaves.1)
       (stored_reach_nested (G.script cx) same by_value call.goals results later s.0.input (final_answer s r (node_given next)) h.kinds.goals_are.0.nested puts h.reached)
   popped_keeps (s ∷ p ∷ below) left next justified ready unused not_lone off leaves nests puts rebases h =
-      subst (λ n. AreKeptNext G same cx call n later left new) (sym leaves.1)
+      subst (λ n. HaveOneKindNext G same cx call n later left new) (sym leaves.1)
       (record {
         kinds = popped_keeps_kinds (G.script cx) same G.ENABLE_PROVISIONAL_CACHE by_value suits (G.propagated cx) (G.fixpoint_overflow cx) reason r s p below old new h.kinds
             (ready_have_heads (verdicts X) same (G.script cx) nodes old (s ∷ p ∷ below) ready)
@@ -154,11 +154,11 @@ module _ {D C V P F I R A T : Type 0} (G : DelegateOf D C V P F I R A T) (X : Cx
 
 module _ {D C V P F I R A T : Type 0} (G : DelegateOf D C V P F I R A T) (X : CxOf C I R A T) (same : I → I → Bool) (by_value : (x y : I) → same x y ≡ true → x ≡ y) (old : Cache C I R A T) (before : Evaluation D C V P F I R A T) (call : Call I) (outcome : R) (suits : EntriesSuit G.ENABLE_PROVISIONAL_CACHE (G.script old.cx)) (right : IsRight G X same old.cx old before)
     (not_lone : (s : StackEntry C I R A T × Run C F I R A T) (below : List (StackEntry C I R A T × Run C F I R A T)) → before.goals ≡ s ∷ below → IsLone same old.results s.0.input → ⊥)
-    (off : (s : StackEntry C I R A T × Run C F I R A T) (below : List (StackEntry C I R A T × Run C F I R A T)) → before.goals ≡ s ∷ below → IsOff (runs_of below) s.0.input) (h : AreKept G same old.cx call old.results before.goals before.provisional) where
+    (off : (s : StackEntry C I R A T × Run C F I R A T) (below : List (StackEntry C I R A T × Run C F I R A T)) → before.goals ≡ s ∷ below → IsOff (runs_of below) s.0.input) (h : HaveOneKind G same old.cx call old.results before.goals before.provisional) where
   -- the goal is run again
-  pub rerun_keeps : (new : Cache C I R A T) (after : Evaluation D C V P F I R A T) → RunsAgain G X same outcome old before new after → AreKept G same old.cx call new.results after.goals after.provisional
+  pub rerun_keeps : (new : Cache C I R A T) (after : Evaluation D C V P F I R A T) → RunsAgain G X same outcome old before new after → HaveOneKind G same old.cx call new.results after.goals after.provisional
   rerun_keeps new after again =
-      subst (λ (results : Store I (StoredResult C I R A T)). AreKept G same old.cx call results after.goals after.provisional) (sym again.results)
+      subst (λ (results : Store I (StoredResult C I R A T)). HaveOneKind G same old.cx call results after.goals after.provisional) (sym again.results)
       (record {
         kinds =
             cleared_keeps_kinds (G.script old.cx) same G.ENABLE_PROVISIONAL_CACHE after.goals before.provisional after.provisional (λ entry. not (depends_on (record { 0 = length before.goals - 1 }) entry)) again.cleared
@@ -170,7 +170,7 @@ module _ {D C V P F I R A T : Type 0} (G : DelegateOf D C V P F I R A T) (X : Cx
       })
 
   -- whatever the end of its run leads to
-  pub led_keeps : (same_result : R → R → Bool) (next : Next R) (new : Cache C I R A T) (after : Evaluation D C V P F I R A T) → RunLeads G X same same_result outcome old before next new after → AreKeptNext G same old.cx call next new.results after.goals after.provisional
+  pub led_keeps : (same_result : R → R → Bool) (next : Next R) (new : Cache C I R A T) (after : Evaluation D C V P F I R A T) → RunLeads G X same same_result outcome old before next new after → HaveOneKindNext G same old.cx call next new.results after.goals after.provisional
   led_keeps same_result next new after (IsDone entry run reason comes pops unmet) =
       popped_keeps G X same by_value old.cx call suits old.nodes old.results new.results reason outcome before.provisional after.provisional before.goals after.goals next right.justified right.ready
       (λ s below was none.
@@ -183,4 +183,4 @@ module _ {D C V P F I R A T : Type 0} (G : DelegateOf D C V P F I R A T) (X : Cx
       popped_keeps G X same by_value old.cx call suits old.nodes old.results new.results (Some Overflow) (G.fixpoint_overflow old.cx entry.input) before.provisional after.provisional before.goals after.goals next right.justified right.ready
       (λ s below was none. absurd cc) not_lone off pops.left pops.nested pops.puts pops.rebased h
   led_keeps same_result next new after (IsRunAgain entry run comes again is unmet) =
-      subst (λ n. AreKeptNext G same old.cx call n new.results after.goals after.provisional) (sym is) (rerun_keeps new after again)
+      subst (λ n. HaveOneKindNext G same old.cx call n new.results after.goals after.provisional) (sym is) (rerun_keeps new after again)

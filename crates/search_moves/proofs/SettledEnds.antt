@@ -6,8 +6,8 @@ use Rattle.open_goals.specs.declared.goals.Next.TheVariants.{Finished}
 use Rattle.search_context.proofs.Rules.{KeepsRule}
 use Rattle.search_moves.specs.Below.{Again, AreFree, AreJustified, Answer, AtLimit, Begin, Cache, CacheNode, Call, CxOf, DelegateOf, Done, final_answer, HasAsked, HasNewestNode, depends_on, entries_at, IsDefinite, IsEndOfRun, IsNewestStored, LeavesNested, Lists, newest, Next, node_given, open_node, place_of, ProvisionalCacheEntry, RebaseReason, RebasesNewest, Run, runs_of, StackEntry, Step, Store, stored_at, stored_from, StoredResult, StoresNewest, Success, Unstable, verdict_of, Verdicts, verdicts, AreReady}
 use Rattle.search_moves.specs.declared.evaluation.Evaluation.{Evaluation}
-use Rattle.search_moves.specs.Settled.{KeepsEntries, SettlesNext}
-use Rattle.search_moves.proofs.KeptEntries.{entries_apart, KeepsEntriesNext, led_keeps_entries}
+use Rattle.search_moves.specs.Settled.{EntriesSuitCall, SettlesNext}
+use Rattle.search_moves.proofs.KeptEntries.{entries_apart, EntriesSuitNext, led_keeps_entries}
 use Rattle.search_moves.specs.RunEnded.{is_at_limit}
 use Rattle.search_moves.specs.Words.{ComesToEnd, HadMostRuns, IsDone, IsRight, IsRunAgain, MeetsLimitAtEnd, Requests, RunLeads}
 use Rattle.search_rules.specs.Below.{AreRuns, Grown, is_in_cycle, IsRising, KeepsGoals, NodeId, Overlap, paths_at, Question, shapes_of, WithOverflow}
@@ -231,7 +231,7 @@ module _ {D C V P F I R A T : Type 0} (G : DelegateOf D C V P F I R A T) (X : Cx
 -- ---- whatever the end of the run leads to
 
 module _ {D C V P F I R A T : Type 0} (G : DelegateOf D C V P F I R A T) (X : CxOf C I R A T) (same : I → I → Bool) (by_value : (x y : I) → same x y ≡ true → x ≡ y) (old : Cache C I R A T) (before : Evaluation D C V P F I R A T) (starts : ℕ) (call : Call I) (ahead : ℕ) (noop : Bool) (outcome : R)
-    (needs : CallNeedsTwoRuns G X old.cx call noop) (asked : Requests G X same old.cx (Done outcome) call ahead old before starts) (right : IsRight G X same old.cx old before) (h : IsSettling (verdicts X) same old.nodes old.results before.provisional call before.goals before.limits_met) (kept : KeepsEntries G same old.cx call old.results before.goals before.provisional)
+    (needs : CallNeedsTwoRuns G X old.cx call noop) (asked : Requests G X same old.cx (Done outcome) call ahead old before starts) (right : IsRight G X same old.cx old before) (h : IsSettling (verdicts X) same old.nodes old.results before.provisional call before.goals before.limits_met) (kept : EntriesSuitCall G same old.cx call old.results before.goals before.provisional)
     (same_result : R → R → Bool) (own_result : (x : R) → same_result x x ≡ true) (one_sort : (r : R) → X.is_yes r ≡ true → X.is_no r ≡ false)
     (clash : (goal : I) (held failed : List (Question I)) → X.proves old.cx goal held → X.refutes old.cx goal failed → Overlap held failed) (yes_is_proved : KeepsRule X.is_yes (G.script old.cx) (X.proves old.cx)) (no_is_refuted : KeepsRule X.is_no (G.script old.cx) (X.refutes old.cx))
     (are_runs : AreRuns (verdicts X) (G.script old.cx) old.nodes) where
@@ -252,7 +252,7 @@ module _ {D C V P F I R A T : Type 0} (G : DelegateOf D C V P F I R A T) (X : Cx
       asked.asked right.justified right.ready apart h
 
   next_settles : (reason : Option (RebaseReason C I R A T)) (next : Next R) (new : Cache C I R A T) (after : Evaluation D C V P F I R A T) → after.limits_met ≡ before.limits_met
-      → PopSettles G X same by_value old.cx call needs.needs.enclosed old.nodes new.nodes old.results new.results before.provisional after.provisional (X.token old.cx) ahead outcome starts before.limits_met result_definite reason next after.goals → KeepsEntriesNext G same old.cx call next new.results after.goals after.provisional
+      → PopSettles G X same by_value old.cx call needs.needs.enclosed old.nodes new.nodes old.results new.results before.provisional after.provisional (X.token old.cx) ahead outcome starts before.limits_met result_definite reason next after.goals → EntriesSuitNext G same old.cx call next new.results after.goals after.provisional
       → SettlesNext G X same old.cx call next new after
   next_settles reason (Step given) new after unmet p entries = record {
     settling = subst (IsSettling (verdicts X) same new.nodes new.results after.provisional call after.goals) (sym unmet) p.0;
@@ -267,7 +267,7 @@ module _ {D C V P F I R A T : Type 0} (G : DelegateOf D C V P F I R A T) (X : Cx
   off_at_newest : (goals : List (StackEntry C I R A T × Run C F I R A T)) → AreSettledGoals (verdicts X) same old.nodes old.results before.provisional None goals → (s : StackEntry C I R A T × Run C F I R A T) (below : List (StackEntry C I R A T × Run C F I R A T)) → goals ≡ s ∷ below → IsOff (runs_of below) s.0.input
   off_at_newest goals settled s below was = (subst (AreSettledGoals (verdicts X) same old.nodes old.results before.provisional None) was settled).0.apart
 
-  entries_next : (next : Next R) (new : Cache C I R A T) (after : Evaluation D C V P F I R A T) → RunLeads G X same same_result outcome old before next new after → KeepsEntriesNext G same old.cx call next new.results after.goals after.provisional
+  entries_next : (next : Next R) (new : Cache C I R A T) (after : Evaluation D C V P F I R A T) → RunLeads G X same same_result outcome old before next new after → EntriesSuitNext G same old.cx call next new.results after.goals after.provisional
   entries_next next new after leads =
       led_keeps_entries G X same by_value old before call outcome needs.needs.one_kind right (not_lone_at before.goals h.none_lone) (off_at_newest before.goals h.goals_are) same_result next new after leads kept
 
@@ -303,7 +303,7 @@ module _ {D C V P F I R A T : Type 0} (G : DelegateOf D C V P F I R A T) (X : Cx
             (λ s below was. (newest_unstable before.goals entry run comes.is_entry comes.is_run G.FIXPOINT_STEP_LIMIT (unstable same_result G.initial_kind G.ambiguity G.FIXPOINT_STEP_LIMIT entry.state.provisional_result entry.state.usages run.finished_runs outcome (Err Again) comes.ends refl) s below was).0)
             reran.cleared reran.with_node));
         answer = begin_stays_off (verdicts X) same by_value new.nodes new.results after.provisional after.goals Begin None (λ r begins. let clashing : Begin ≡ Answer r = begins in cc);
-        entries = subst (λ n. KeepsEntriesNext G same old.cx call n new.results after.goals after.provisional) is (entries_next next new after (IsRunAgain entry run comes reran is unmet));
+        entries = subst (λ n. EntriesSuitNext G same old.cx call n new.results after.goals after.provisional) is (entries_next next new after (IsRunAgain entry run comes reran is unmet));
       })
 
   at_limit_not : (end : Result (Option (RebaseReason C I R A T)) Unstable) → (end ≡ Err AtLimit → ⊥) → is_at_limit end ≡ false

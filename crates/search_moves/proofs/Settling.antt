@@ -9,7 +9,7 @@ use Rattle.open_goals.specs.declared.goals.Fate.TheVariants as becomes
 use Rattle.global_cache.proofs.NodeLists.{Grown-appended, KeepsGoals-appended}
 use Rattle.search_moves.specs.Below.{Answer, AvailableDepth, Begin, Cache, CacheNode, Call, CxOf, DelegateOf, entries_at, Evaluate, fate_for, Fated, fates_of, first_accepted, Hit, is_applicable, open_node, PathKind, path_kind_from, ProvisionalCacheEntry, Pushes, Received, Run, runs_of, StackEntry, StackDepth, stored_at, StoredResult, Success, usable, verdicts}
 use Rattle.search_moves.specs.declared.evaluation.Evaluation.{Evaluation}
-use Rattle.search_moves.specs.Settled.{KeepsEntries, Settles}
+use Rattle.search_moves.specs.Settled.{EntriesSuitCall, Settles}
 use Rattle.search_moves.specs.Words.{AskingLeadsTo, asking, entry_for, ByEntry, ByStored, IsRight, OverCycle, Pushed, Refused, Requests}
 use Rattle.search_moves.proofs.Asking.{carried}
 use Rattle.search_moves.proofs.KeptEntries.{asked_keeps_entries, entries_apart, used_have_none}
@@ -69,7 +69,7 @@ module _ {D C V P F I R A T : Type 0} (G : DelegateOf D C V P F I R A T) (X : Cx
         }
 
 module _ {D C V P F I R A T : Type 0} (G : DelegateOf D C V P F I R A T) (X : CxOf C I R A T) (same : I → I → Bool) (by_value : (x y : I) → same x y ≡ true → x ≡ y) (own : (x : I) → same x x ≡ true) (more : 2 ≤ G.DIVIDE_AVAILABLE_DEPTH_ON_OVERFLOW) (cx : C) (kind : PathKind) (goal : I) (old : Cache C I R A T) (e : Evaluation D C V P F I R A T) (starts : ℕ)
-    (call : Call I) (ahead : ℕ) (noop : Bool) (needs : CallNeedsTwoRuns G X cx call noop) (asked : Requests G X same cx (Evaluate kind goal) call ahead old e starts) (right : IsRight G X same cx old e) (h : IsSettling (verdicts X) same old.nodes old.results e.provisional call e.goals e.limits_met) (kept : KeepsEntries G same cx call old.results e.goals e.provisional) where
+    (call : Call I) (ahead : ℕ) (noop : Bool) (needs : CallNeedsTwoRuns G X cx call noop) (asked : Requests G X same cx (Evaluate kind goal) call ahead old e starts) (right : IsRight G X same cx old e) (h : IsSettling (verdicts X) same old.nodes old.results e.provisional call e.goals e.limits_met) (kept : EntriesSuitCall G same cx call old.results e.goals e.provisional) where
   apart : StandApart same old.results e.goals e.provisional
   apart = entries_apart G same cx call old.results e.goals e.provisional kept
 
@@ -113,7 +113,7 @@ module _ {D C V P F I R A T : Type 0} (G : DelegateOf D C V P F I R A T) (X : Cx
   nested_none : (depth : AvailableDepth) (hit : Hit I R T) → first_accepted (is_applicable same (asking G X same cx kind goal e)) (usable same old.results goal depth.0) ≡ Some hit → (other : I) → IsSome (paths_at same hit.nested_goals other) → entries_at same e.provisional other ≡ []
   nested_none = used_have_none G X same by_value cx kind goal old e starts call ahead needs.needs.enclosed asked right kept
 
-  kept_then : (received : Received R) (new : Cache C I R A T) (after : Evaluation D C V P F I R A T) (later : ℕ) → AskingLeadsTo G X same cx kind goal noop old e starts received new after later → KeepsEntries G same cx call new.results after.goals after.provisional
+  kept_then : (received : Received R) (new : Cache C I R A T) (after : Evaluation D C V P F I R A T) (later : ℕ) → AskingLeadsTo G X same cx kind goal noop old e starts received new after later → EntriesSuitCall G same cx call new.results after.goals after.provisional
   kept_then = asked_keeps_entries G X same by_value cx kind goal old e starts call ahead needs.needs.enclosed asked right kept noop
 
   -- whatever the question comes to

@@ -46,8 +46,8 @@ pub use Rattle.open_goals.specs.declared.goals.Next.TheVariants.{Step}
 pub use Rattle.open_goals.specs.declared.goals.Received.{Received}
 pub use Rattle.open_goals.specs.declared.goals.Run.{Run}
 pub use Rattle.search_rules.specs.Calls.{bound, Call, CallMeetsNone, IsCounted, limits}
-pub use Rattle.search_rules.specs.Claims.{ComesTo, IsCaused, IsRemembered}
-pub use Rattle.search_rules.specs.EndOfRun.{Ambiguous, Initial, IsEndOfRun, IsReason, IsStable, Limited, Repeated}
+pub use Rattle.search_rules.specs.Claims.{ComesTo, IsRemembered}
+pub use Rattle.search_rules.specs.EndOfRun.{Ambiguous, Initial, IsEndOfRun, IsReason, Limited, Repeated}
 pub use Rattle.search_rules.specs.EndOfRun.{Repeats, Stable, WithoutUsages}
 pub use Rattle.search_rules.specs.Evaluating.{CallGoesOn, HasAsked, HasStopped, KeepsAnswers, KeepsStore, seen}
 pub use Rattle.search_rules.specs.Fates.{answered_by, ChangesNewest, fate_for, Fated, fates_of, HaveExpected, IfCompared, IsExpected}
@@ -59,8 +59,8 @@ pub use Rattle.search_rules.specs.Moves.{ClosesCycle, first_run, GivesAnswer, Gi
 pub use Rattle.search_rules.specs.Provisional.{AreReady, entries_for, entry_of, HasReason}
 pub use Rattle.search_rules.specs.Provisional.{IsNewestUnranked, IsReady, rebased_for, RebasesEntries, RebasesNewest}
 pub use Rattle.search_rules.specs.Results.{final_answer, IsNewestPlainTo, IsNewestStored, IsStored, MayPutNewest}
-pub use Rattle.search_rules.specs.Results.{NewestComesTo, NewestIsPlain, RequireWithin, StoresAnswer, StoresNewest}
-pub use Rattle.search_rules.specs.Runs.{AreFrom, HasNewestNode, HasResultNode, IfFinished, IsJustifiedNext, KeepsBut}
+pub use Rattle.search_rules.specs.Results.{NewestComesTo, NewestIsPlain, StoresAnswer, StoresNewest}
+pub use Rattle.search_rules.specs.Runs.{HasNewestNode, HasResultNode, IfFinished, IsJustifiedNext, KeepsBut}
 pub use Rattle.search_rules.specs.Runs.{KeepsEarlier, node_given, StayFrom}
 pub use Rattle.search_rules.specs.Runs.{run_of, runs_of}
 pub use Rattle.search_rules.specs.declared.end_of_run.Unstable.{Unstable}

@@ -8,16 +8,17 @@ use Rattle.search_rules.specs.Kinds.{KeepsKinds, StoredReachNested, StoredSuit}
 use Rattle.search_rules.specs.Settled.{AnswerStaysOff, AreSettled, IsSettling}
 
 module _ {D C V P F I R A T : Type 0} (G : DelegateOf D C V P F I R A T) (same : I → I → Bool) (cx : C) (call : Call I) where
-  -- the kinds of questions are kept, with provisional entries apart, and goals that are nested in stored successes are reached by their paths
-  pub record AreKept (results : Store I (StoredResult C I R A T)) (goals : List (StackEntry C I R A T × Run C F I R A T)) (entries : Lists I (ProvisionalCacheEntry C I R A T)) : Type 0 where
+  -- goals under evaluation and provisional entries are linked by one kind of questions, the entries stand apart, and goals that are nested in
+  -- stored successes are reached by their paths
+  pub record HaveOneKind (results : Store I (StoredResult C I R A T)) (goals : List (StackEntry C I R A T × Run C F I R A T)) (entries : Lists I (ProvisionalCacheEntry C I R A T)) : Type 0 where
     pub kinds : KeepsKinds (G.script cx) same G.ENABLE_PROVISIONAL_CACHE goals entries
     pub apart : StandApart same results goals entries
     pub reached : StoredReachNested (G.script cx) same call.goals results
 
-  -- no provisional entry is used, and there are none, or this is kept
-  pub data KeepsEntries (results : Store I (StoredResult C I R A T)) (goals : List (StackEntry C I R A T × Run C F I R A T)) (entries : Lists I (ProvisionalCacheEntry C I R A T)) : Type 0 where
-    NoneUsed : G.ENABLE_PROVISIONAL_CACHE ≡ false → ((goal : I) → entries_at same entries goal ≡ []) → KeepsEntries results goals entries
-    OneKind : AreKept results goals entries → KeepsEntries results goals entries
+  -- no provisional entry is used, and there are none, or they are of one kind
+  pub data EntriesSuitCall (results : Store I (StoredResult C I R A T)) (goals : List (StackEntry C I R A T × Run C F I R A T)) (entries : Lists I (ProvisionalCacheEntry C I R A T)) : Type 0 where
+    NoneUsed : G.ENABLE_PROVISIONAL_CACHE ≡ false → ((goal : I) → entries_at same entries goal ≡ []) → EntriesSuitCall results goals entries
+    OneKind : HaveOneKind results goals entries → EntriesSuitCall results goals entries
 
 module _ {D C V P F I R A T : Type 0} (G : DelegateOf D C V P F I R A T) (X : CxOf C I R A T) (same : I → I → Bool) (cx : C) where
   -- the stored results of these goals are settled, and suit the provisional entries
@@ -31,7 +32,7 @@ module _ {D C V P F I R A T : Type 0} (G : DelegateOf D C V P F I R A T) (X : Cx
     pub record Settles (received : Received R) (cache : Cache C I R A T) (e : Evaluation D C V P F I R A T) : Type 0 where
       pub settling : IsSettling (verdicts X) same cache.nodes cache.results e.provisional call e.goals e.limits_met
       pub answer : AnswerStaysOff (verdicts X) same cache.nodes cache.results e.provisional e.goals received.reply received.node
-      pub entries : KeepsEntries G same cx call cache.results e.goals e.provisional
+      pub entries : EntriesSuitCall G same cx call cache.results e.goals e.provisional
 
     -- the same of what comes next; and of the stored results, once the call has its answer
     abbrev pub SettlesNext : Next R → Cache C I R A T → Evaluation D C V P F I R A T → Type 0

@@ -40,7 +40,7 @@ impl<D: Delegate> Evaluation<D> {
     fn roots(&self, target: Option<NodeId>) -> Result<Vec<NodeId>, NoMemory>
         ensures { IfOk result (λ roots. HasRoots D.Cx.Input.eq self.now target roots.items) }
     {
-        let mut roots = self.settled_roots(target)?;
+        let mut roots = self.last_roots(target)?;
         self.goals.push_nodes(&mut roots)?;
         self.provisional.push_nodes(&mut roots)?;
         Ok(roots)
@@ -48,7 +48,7 @@ impl<D: Delegate> Evaluation<D> {
 
     /// Lets go of the call's nodes to which neither its answer leads, whose node is `target`, nor a stored result.
     /// `NoMemory` where there is none to find out which these are, and then all stay.
-    pub fn settle_drafts(
+    pub fn collect_at_end(
         &self,
         cache: &mut GlobalCache<D>,
         target: Option<NodeId>,
@@ -59,12 +59,12 @@ impl<D: Delegate> Evaluation<D> {
             (LetsGoAtEnd D.Cx.Input.eq self.now target cache.old cache.new) }
         ensures refused { OnErr result (cache.new ≡ cache.old) }
     {
-        let roots = self.settled_roots(target)?;
+        let roots = self.last_roots(target)?;
         cache.collect(self.drafts.first, &roots)
     }
 
     /// The nodes of the results that the call stored, and this one.
-    fn settled_roots(&self, target: Option<NodeId>) -> Result<Vec<NodeId>, NoMemory>
+    fn last_roots(&self, target: Option<NodeId>) -> Result<Vec<NodeId>, NoMemory>
         ensures { IfOk result (λ roots. roots.items ≡ noted target self.now.drafts.stored.items) }
     {
         let mut roots = Vec::from_slice(self.goals.allocator(), &self.drafts.stored)?;

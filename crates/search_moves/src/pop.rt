@@ -1,8 +1,8 @@
 //! A goal is popped, with its result.
 ghost use Rattle.std.specs.Prelude.{◌≡◌, ◌<◌, ◌+◌, ◌^◌, ℕ, length, IfOk, IfErr, OnOk};
-ghost use Rattle.search_moves.specs.Below.{Memory, ChangesNewest, fates_of, IsNewestPlainTo, MayPutNewest, GivesAnswer, GivesNested, LeavesAnswer};
+ghost use Rattle.search_moves.specs.Below.{Memory, IsNewestPlainTo, MayPutNewest, GivesAnswer, GivesNested, LeavesAnswer};
 ghost use Rattle.search_moves.specs.Drafts.{KeepsNoted};
-ghost use Rattle.search_moves.specs.Words.{Fails, MayPop, Pops, KeepsCache};
+ghost use Rattle.search_moves.specs.Words.{ChangesCache, Fails, MayPop, Pops};
 
 use crate::evaluation::Evaluation;
 use open_goals::goals::{Next, OpenGoals, Popped, Received, Run};
@@ -28,8 +28,7 @@ impl<D: Delegate> Evaluation<D> {
             self.new) }
         ensures stored { MayPutNewest D.Cx.Input.eq self.old.goals outcome cache.old.results
             cache.new.results }
-        ensures changes { ChangesNewest D.Cx.Input.eq (fates_of self.old.goals) cache.old.results
-            cache.new.results }
+        ensures cache { ChangesCache D.Cx.Input.eq self.old.goals cache.old cache.new }
         ensures noted { OnOk result (
             KeepsNoted D.Cx.Input.eq cache.old self.old.drafts cache.new self.new.drafts) }
         ensures rest { self.new ≡ record self.old {
@@ -41,7 +40,6 @@ impl<D: Delegate> Evaluation<D> {
             cache.new) }
         ensures plain { (n : ℕ) → IsNewestPlainTo (D.script cache.old.cx) n self.old.goals →
             IfErr result (λ fault. fault ≡ Memory) }
-        ensures keeps { KeepsCache D.Cx.Input.eq self.old.goals cache.old cache.new }
     {
         // The scope is bound first, so it is dropped last, when the goal's frame is gone and its result compared.
         let Popped {

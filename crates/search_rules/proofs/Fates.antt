@@ -1,14 +1,14 @@
 -- What becomes of the results of the goals under evaluation, through the moves, and which stored results stay.
-use Rattle.std.proofs.Common.{◌≡◌, ◌||◌, ℕ, ◌≤◌, Bool, true, false, List, [], ◌∷◌, Option, None, Some, refl, sym, ap, ◌∙◌, subst, arith}
+use Rattle.std.proofs.Common.{◌≡◌, ◌||◌, ℕ, Bool, true, false, List, [], ◌∷◌, Option, None, Some, refl, sym, ap, ◌∙◌, subst}
 use Rattle.std.specs.List.{list_any}
 use Rattle.std.specs.Option.{IsSomeAnd, option_map}
 use Rattle.open_goals.specs.declared.goals.Fate.{Fate}
 use Rattle.open_goals.specs.declared.goals.Fate.TheVariants as becomes
-use Rattle.search_rules.specs.Below.{AnswersNewest, AvailableDepth, CacheNode, IsPlainTo, IsPlainValue, Reply, CxOf, DelegateOf, Done, EnterCandidate, Evaluate, FinishCandidate, HasStepped, Heads, Hit, Ignore, Next, NotesCandidate, NotesOverflow, PathKind, Place, Received, Request, Run, StackEntry, Store, stored_at, TakesStored, change_newest, enters, finishes, EvaluationResult, StoredResult}
+use Rattle.search_rules.specs.Below.{AnswersNewest, Reply, CxOf, DelegateOf, Done, EnterCandidate, Evaluate, FinishCandidate, HasStepped, Heads, Hit, Ignore, Next, NotesCandidate, NotesOverflow, PathKind, Place, Received, Request, Run, StackEntry, Store, stored_at, TakesStored, change_newest, enters, finishes, EvaluationResult, StoredResult}
 use Rattle.global_cache.specs.Store.{KeepsResults}
 use Rattle.search_rules.specs.Fates.{Stay, Push, Pop, Untouched, OfNewest}
 use Rattle.search_rules.specs.Results.{NotStored}
-use Rattle.search_rules.specs.Words.{ChangesNewest, Fated, fates_of, HasExpected, HasOldest, HaveExpected, IfCompared, IsExpected, IsFated, IsUsable, MovesFates, NewestLeaves, NoneStored, Pushes, Put, Reruns, StoresAnswer}
+use Rattle.search_rules.specs.Words.{ChangesNewest, Fated, fates_of, HasOldest, HaveExpected, IfCompared, IsExpected, IsFated, MovesFates, NewestLeaves, NoneStored, Put, Reruns, StoresAnswer}
 
 -- ---- what moves change of the goals
 
@@ -49,9 +49,6 @@ module _ {X F I R A T : Type 0} where
   fates_of_candidates (Done r) old new is = ap (λ l. fates_of l) is
 
 module _ {D C V P F I R A T : Type 0} (G : DelegateOf D C V P F I R A T) (X : CxOf C I R A T) (cx : C) (old new : List (StackEntry C I R A T × Run C F I R A T)) where
-  pub fates_pushed : (input : I) (kind : PathKind) (depth : AvailableDepth) (before after : List (CacheNode I R)) (pushes : Pushes G X cx input kind depth before after old new) → fates_of new ≡ record { goal = input; depth = depth.0; fate = pushes.becomes } ∷ fates_of old
-  fates_pushed input kind depth before after pushes = ap (λ l. fates_of l) pushes.is
-
   pub fates_stepped : (given : Received R) (request : Request I R) → HasStepped G X cx given request old new → fates_of new ≡ fates_of old
   fates_stepped given request stepped = ap (λ l. fates_of l) stepped.is ∙ sym (ap (λ l. fates_of l) stepped.was)
 
@@ -125,17 +122,6 @@ storing_changes same old new goal depth answer (Put token none puts) = OfNewest 
 -- ---- what results are compared with
 
 module _ {X I R A T : Type 0} (scopes : I → Bool) (scripts : I → List (Reply R) → Request I R) (same : I → I → Bool) where
-  -- a stored result that may be used is one to compare with
-  pub used_is_expected : (results : Store I (StoredResult X I R A T)) (goal : I) (depth : ℕ) (hit : Hit I R T) → scopes goal ≡ true → IsUsable same scripts results goal depth hit → HasExpected scopes scripts same results (record { goal = goal; depth = depth; fate = becomes.Compared hit.result })
-  used_is_expected results goal depth hit in_scope usable = record {
-    expected = record { in_scope = in_scope; place = usable.place; is_stored = ap (option_map (λ s. s.result.result)) usable.is_stored ∙ ap Some usable.result_is };
-    plain = λ n plain fits. plain_at hit.encountered_overflow refl n plain fits;
-  }
-    where
-      plain_at : (b : Bool) → hit.encountered_overflow ≡ b → (n : ℕ) → IsPlainTo scripts n goal → n ≤ depth → IsPlainValue scripts n goal hit.result
-      plain_at true met n plain fits = let less = usable.overflow met n plain in absurd (omega (arith, less, fits))
-      plain_at false met n plain fits = usable.value met n plain
-
   module _ (old new : Store I (StoredResult X I R A T)) (kept : KeepsResults same old new) where
     still_expected : (goal : I) (r : R) → IsExpected scopes same old goal r → IsExpected scopes same new goal r
     still_expected goal r h = record { in_scope = h.in_scope; place = h.place; is_stored = at (stored_at same old goal h.place) refl h.is_stored }

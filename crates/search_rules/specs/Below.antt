@@ -31,7 +31,8 @@ pub use Rattle.search_context.specs.Graph.{GraphNode, IsProofGraph, IsRefutation
 pub use Rattle.search_context.specs.Question.{Overlap, Question}
 unfoldable pub use Rattle.search_context.specs.Rank.{frames_within}
 pub use Rattle.search_context.specs.Rank.{HasNoRank, IsBelowRank, IsPlain, IsPlainTo, IsPlainValue}
-pub use Rattle.search_context.specs.Run.{Asked, EndsIn, fault_after, Fits, is_counted, is_ignored, IsFitting, IsInOrder}
+pub use Rattle.search_context.specs.Run.{Asked, counted_by, EndsIn, fault_after, Fits, is_counted, is_ignored, IsFitting}
+pub use Rattle.search_context.specs.Run.{IsInOrder}
 pub use Rattle.search_context.specs.Run.{open_candidate, order_fault, Progress, progress_after, progress_with}
 pub use Rattle.search_context.specs.Run.{questions_answered, request_after}
 pub use Rattle.search_context.specs.Verdicts.{IsDefinite, verdict_of, Verdicts, verdicts}
@@ -87,10 +88,10 @@ pub use Rattle.open_goals.specs.Candidates.{enters, finishes, Ignores, less_head
 pub use Rattle.open_goals.specs.Entries.{cycle_head, first_entry, is_in_cycle, joined_over, overflowed, some_heads}
 pub use Rattle.open_goals.specs.Entries.{TakesAnswer, TakesHeads, usages_over, with_depth, with_nested_goals}
 pub use Rattle.open_goals.specs.Items.{AnswersNewest, rerun_with, with_no_record}
-pub use Rattle.open_goals.specs.NestedGoals.{LeavesAnswer, NestsAnswer, NestsHead, NotesOverflow, TakesStored}
+pub use Rattle.open_goals.specs.NestedGoals.{NestsAnswer, NestsHead, NotesOverflow, TakesStored}
 pub use Rattle.open_goals.specs.Newest.{change_newest, newest}
 pub use Rattle.open_goals.specs.Progress.{acted, Agrees, answered, answers_after, answers_with, asked_in, asked_of}
-pub use Rattle.open_goals.specs.Progress.{asked_with, counted_by, edge_to, edges_of, fault_of, is_same_verdict}
+pub use Rattle.open_goals.specs.Progress.{asked_with, edge_to, edges_of, fault_of, is_same_verdict}
 pub use Rattle.open_goals.specs.Progress.{IsEdgeOfAnswer, IsReplySorted, IsSortedAs, KeepsAnswer, no_record}
 pub use Rattle.open_goals.specs.Progress.{open_number, received, Records, requested, RunRecord}
 pub use Rattle.open_goals.specs.Steps.{CanStep, HasStepped, IsStepFault, IsVerdict, Item, NoMemoryLeft, OutOfOrder}

@@ -1,5 +1,5 @@
--- What a goal under evaluation counts of the goals on the stack, and which part of that its candidates count: what is taken away
--- with an ignored candidate is what that counted, and what others used stays counted.
+-- What a goal under evaluation counts of each goal on the stack, and how much of that its candidates used. To ignore a candidate
+-- subtracts from these counts what it used; the goal keeps all that was counted outside it.
 use Rattle.std.specs.Prelude.{◌≡◌, ◌⊎◌, ℕ, ◌+◌, ◌-◌, ◌^◌, ◌<◌, ◌≤◌, ◌==◌, if◌then◌else◌, IsSome, List, [], ◌∷◌, ◌++◌, slice_get, Option, None, Some, unwrap_or}
 use Rattle.std.specs.List.{sum_by}
 use Rattle.std.specs.Option.{option_map}

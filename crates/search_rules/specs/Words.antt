@@ -1,11 +1,11 @@
 -- The words of this crate, from one place.
-pub use Rattle.search_rules.specs.Calls.{bound, Call, CallMeetsNone, CallIsEnclosed, HadNoOverflow, IsCounted, KeepsLimits, limits, Outset, runs}
+pub use Rattle.search_rules.specs.Calls.{bound, Call, CallMeetsNone, CallIsEnclosed, HadNoOverflow, IsCounted, KeepsLimits, limits, runs}
 pub use Rattle.search_rules.specs.Decided.{AllDecided, IsDecided}
-pub use Rattle.search_rules.specs.Evaluating.{Begins, CallGoesOn, Decidedly, HasAsked, HasEnded, HasStopped, IsOnly}
-pub use Rattle.search_rules.specs.Evaluating.{IsWaiting, KeepsAnswers, KeepsStore, Leads, seen, work_left}
+pub use Rattle.search_rules.specs.Evaluating.{Begins, CallGoesOn, Decidedly, HasAsked, HasEnded, HasStopped}
+pub use Rattle.search_rules.specs.Evaluating.{IsWaiting, KeepsStore, Leads, seen, work_left}
 pub use Rattle.search_rules.specs.Free.{AreFree, IsFree}
-pub use Rattle.search_rules.specs.Claims.{BreaksOrder, ComesTo, Conflicts, Decides, IfDiffers, IsCaused, IsMemoryOrOrder}
-pub use Rattle.search_rules.specs.Claims.{IsProved, IsRefuted, IsRemembered, IsShown, WantsMemory}
+pub use Rattle.search_rules.specs.Claims.{BreaksOrder, ComesTo, Conflicts, IfDiffers, IsCaused, IsMemoryOrOrder}
+pub use Rattle.search_rules.specs.Claims.{IsProved, IsRefuted, IsShown, WantsMemory}
 pub use Rattle.search_rules.specs.Claims.{OtherResult, OtherThanStored, OutOfMemory, OutOfOrder}
 pub use Rattle.search_rules.specs.Justified.{AreCharged, AreEdges, AreJustified, AreOpen, AreSupported, asked_now}
 pub use Rattle.search_rules.specs.Justified.{cycles_node, frame_of, frames_of, HasTally, HaveTallies, IsFit, MayAnswer}
@@ -16,16 +16,16 @@ pub use Rattle.search_rules.specs.LookUp.{usable_entry, UsesStored}
 pub use Rattle.search_rules.specs.Moves.{CanLeave, ClosesCycle, first_run, GivesAnswer, GivesNested, IsFresh, LeavesNested, NewestLeaves}
 pub use Rattle.search_rules.specs.Moves.{Pushes, Reruns}
 pub use Rattle.search_rules.specs.Provisional.{AreReady, entries_for, entry_of, HasReason, IsHead}
-pub use Rattle.search_rules.specs.Provisional.{IsLeftOver, IsNewestUnranked, IsReady, IsReusable, IsWorkedOut, LeavesReady}
-pub use Rattle.search_rules.specs.Provisional.{rebased_for, RebasesEntries, RebasesNewest, RestsOn}
-pub use Rattle.search_rules.specs.Fates.{answered_by, ChangesNewest, Consults, fate_for, Fated, fates_of, HasExpected, HasOldest, HaveExpected}
-pub use Rattle.search_rules.specs.Fates.{IfCompared, is_compared, IsExpected, IsFated, IsNewestToStore, MovesFates, NoneStored}
-pub use Rattle.search_rules.specs.Results.{AreDefinite, final_answer, HaveNoOverflow, HaveNoOverflowOf, IsNewestPlainTo, IsNewestStored, IsStored}
+pub use Rattle.search_rules.specs.Provisional.{IsLeftOver, IsNewestUnranked, IsReady, IsReusable, LeavesReady}
+pub use Rattle.search_rules.specs.Provisional.{rebased_for, RebasesEntries, RestsOn}
+pub use Rattle.search_rules.specs.Fates.{answered_by, ChangesNewest, Consults, fate_for, Fated, fates_of, HasOldest, HaveExpected}
+pub use Rattle.search_rules.specs.Fates.{IfCompared, is_compared, IsExpected, IsFated, MovesFates, NoneStored}
+pub use Rattle.search_rules.specs.Results.{AreDefinite, final_answer, HaveNoOverflowOf, IsNewestPlainTo, IsNewestStored}
 pub use Rattle.search_rules.specs.Results.{MayPut, MayPutNewest, NewestComesTo, NewestIsPlain, place_of_item, Put}
-pub use Rattle.search_rules.specs.Results.{RequireWithin, Same, StoresAnswer, StoresWithin, WithResult}
+pub use Rattle.search_rules.specs.Results.{RequireWithin, Same, StoresAnswer, WithResult}
 pub use Rattle.search_rules.specs.EndOfRun.{Ambiguous, Initial, IsEndOfRun, IsReason, IsStable, IsUsed, Limited}
 pub use Rattle.search_rules.specs.EndOfRun.{Repeated, Repeats, Stable, WithoutUsages}
-pub use Rattle.search_rules.specs.Runs.{Ended, EndsNewest, EndsRun, HasNewestNode, HasResultNode, IfFinished, IsJustifiedNext}
+pub use Rattle.search_rules.specs.Runs.{Ended, EndsNewest, EndsRun, HasResultNode, IsJustifiedNext}
 pub use Rattle.search_rules.specs.Runs.{AreFrom, KeepsBut, KeepsEarlier, KeepsFirst, LeftOpen, node_given, StayFrom}
 pub use Rattle.search_rules.specs.Runs.{run_of, runs_of, SaysAgain}
 pub use Rattle.search_rules.specs.Tallies.{candidate_at, candidates_count, counted, head_with, heads_of, heads_with}

@@ -7,7 +7,7 @@ use Rattle.std.proofs.Math.ListN.{length-append}
 use Rattle.std.proofs.Math.Seq.{get_or-append_seam}
 use Rattle.search_stack.specs.Below.{PathKind, Inductive, Unknown, Coinductive, ForcedAmbiguity, greater_kind, greatest_kind}
 use Rattle.search_stack.specs.declared.steps.LastSteps.{LastSteps}
-use Rattle.search_stack.specs.Words.{StackEntry, step_kinds_above, AreLastSteps, kind_by, kind_past, no_steps, TellsKinds, with_step}
+use Rattle.search_stack.specs.Words.{StackEntry, step_kinds_above, AreLastSteps, kind_by, kind_past, TellsKinds, with_step}
 use Rattle.search_stack.proofs.Cycles.{greatest-push}
 
 -- one more kind is there
@@ -83,10 +83,6 @@ none_past-step steps ForcedAmbiguity below none = record { forced = omega arith;
 drop_whole : {X : Type 0} (xs : List X) → drop (length xs) xs ≡ []
 drop_whole [] = refl
 drop_whole (x ∷ xs) = drop_whole xs
-
--- an empty stack has no steps
-pub TellsKinds-none : TellsKinds no_steps []
-TellsKinds-none count within = let none : count ≡ 0 = omega (arith, within) in rw none refl
 
 -- one step more
 pub TellsKinds-step : (steps : LastSteps) (kinds : List PathKind) (kind : PathKind) (below : ℕ) → below ≡ length kinds

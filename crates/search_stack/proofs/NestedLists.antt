@@ -94,10 +94,6 @@ IsJoining-more {same = same} laws by_value f start goals new all left rest input
       distinct = distinct_later same input paths rest distinct;
     }
 
-pub IsJoining-start : {I : Type 0} {same : I → I → Bool} (f : PathsToNested → PathsToNested) (start all : NestedPaths I) (room : ℕ)
-    → length all ≤ room → IsDistinct same (keys_of all) → IsJoining same f start start all all room
-IsJoining-start f start all room fits distinct = record { agrees = λ input. refl; fits = fits; distinct = distinct }
-
 pub IsJoining-end : {I : Type 0} {same : I → I → Bool} (f : PathsToNested → PathsToNested) (old start goals child all rest : NestedPaths I) (room : ℕ)
     → rest ≡ [] → IsJoining same f start goals all rest room → (input : I)
     → paths_at same start input ≡ paths_at same old input → all ≡ child

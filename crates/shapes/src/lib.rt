@@ -10,6 +10,7 @@
 //! |---|---|
 //! | `Bisimulation` | when two shapes are equal; it names no search |
 //! | `Rule` | the rule of a pair as a list of questions |
+//! | `Compared` | the equations that a comparison is about, and whether a question was cut off |
 #![tactic(auto)]
 
 mod compare;

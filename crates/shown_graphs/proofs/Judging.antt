@@ -1,11 +1,11 @@
 -- What is told of claims, one claim further.
 use Rattle.std.proofs.Common.{◌≡◌, ◌∙◌, ℕ, Bool, true, ◌&&◌, List, [], ◌∷◌, ◌++◌, Option, ap, sym, refl, rules, subst}
 use Rattle.std.proofs.Math.Bool.{and-true}
-use Rattle.std.proofs.KnownBytes.{Appends-nil, Appends-trans, Appends-kept}
+use Rattle.std.proofs.KnownBytes.{Appends-nil, Appends-trans}
 use Rattle.std.proofs.lemmas.List.{flat_map_more, map-append}
 use Rattle.std.proofs.lemmas.List.Elements.{All-push}
 use Rattle.std.proofs.lemmas.List.Folds.{list_all-append}
-use Rattle.std.specs.Io.KnownBytes.{Appends, Keeps}
+use Rattle.std.specs.Io.KnownBytes.{Appends}
 use Rattle.std.specs.List.{list_all}
 use Rattle.shown_graphs.specs.Below.{Goal, Outcome, Reply, Request, Rules, Verdicts}
 use Rattle.shown_graphs.specs.Told.{AreJudged, IsJudged, is_not_refused, line_said}
@@ -27,14 +27,4 @@ module _ (says : Verdicts Outcome) (scripts : Goal → List (Reply Outcome) → 
     are_right = All-push (λ j. IsJudged says scripts j.0 j.1) so_far.judged (claim, said) so_far.are_right right;
     written = subst (λ bytes. Appends old new bytes) (flat_map_more (λ j. line_said table j.0.goal j.0.outcome j.1) [] so_far.judged (claim, said)) (Appends-trans old mid new _ _ so_far.written more);
     fine = both ∙ ap (λ b. b && is_not_refused said) so_far.fine ∙ sym (list_all-append (λ j. is_not_refused j.1) so_far.judged ((claim, said) ∷ []) ∙ ap (λ b. list_all (λ j. is_not_refused j.1) so_far.judged && b) (and-true (is_not_refused said)));
-  }
-
-  -- all claims are told, and the bytes flushed
-  pub all_judged : (claims all : List Claim) (old mid new : Option (List ℕ)) (fine : Bool) → claims ≡ all → AreJudged says scripts table claims fine old mid → Keeps mid new → AreJudged says scripts table all fine old new
-  all_judged claims all old mid new fine same so_far kept = record {
-    judged = so_far.judged;
-    are_claims = so_far.are_claims ∙ same;
-    are_right = so_far.are_right;
-    written = Appends-kept old mid new _ so_far.written kept;
-    fine = so_far.fine;
   }

@@ -8,14 +8,13 @@ use Rattle.std.proofs.lemmas.Grind.{flat_map-append}
 use Rattle.std.proofs.lemmas.List.{append-nil, take_all, take_more}
 use Rattle.std.proofs.lemmas.List.Elements.{All-from_recursion}
 use Rattle.std.proofs.lemmas.List.Splits.{slice_split_at}
-use Rattle.line_texts.specs.Lines.{lines_of, words_of}
+use Rattle.line_texts.specs.Lines.{lines_of}
 use Rattle.rule_tables.specs.Grammar.{Ask, Nothing, Rule, Says, Statement}
 use Rattle.rule_tables.specs.Table.{candidate_in, first_mentions, IsCandidate, IsToBeAnswered, names_in, question_in}
 use Rattle.rule_tables.specs.Rules.{candidates_of, names_of, questions_of}
 use Rattle.rule_tables.proofs.Questions.{AllZip-append_one}
 use Rattle.shown_graphs.proofs.Lists.{AllZip-append}
 use Rattle.shown_graphs.proofs.Plain.{ArePlain, plain_is_utf8, something_is_plain}
-use Rattle.shown_graphs.proofs.Statements.{says_one}
 use Rattle.shown_graphs.specs.Page.{text_of}
 use Rattle.shown_graphs.specs.Rules.{if_something, MakesTheSame, SayTheSame}
 
@@ -118,6 +117,3 @@ line_written line text something same (Rule is_marked name questions) says =
 line_written line text something same (Ask depth name) says =
     let plain = something_is_plain line (Ask depth name) (Ask depth name) [] refl says in
     (subst (λ l. Says l (Ask depth name)) (sym (same (plain_is_utf8 line plain))) says, tt)
-
-pub nothing_written : (line : List ℕ) → Says line Nothing → SayTheSame line []
-nothing_written line nothing s says = subst (λ t. AllZip Says [] (if_something t)) (says_one (words_of line) Nothing s nothing says) tt

@@ -11,10 +11,9 @@ use Rattle.json.specs.Token.{Token, end_array, end_object}
 use Rattle.json.specs.Written.{Written}
 use Rattle.shown_graphs.proofs.Arrays.{list_tokens-push}
 use Rattle.shown_graphs.proofs.Names.{have_texts}
-use Rattle.shown_graphs.specs.Below.{names_of, Reads, Rules}
+use Rattle.shown_graphs.specs.Below.{names_of, Rules}
 use Rattle.shown_graphs.specs.Data.{claim_tokens, HaveTexts, list_tokens, PlainClaim, Puts, string_tokens}
 use Rattle.shown_graphs.specs.Page.{begun_page, text_of}
-use Rattle.shown_graphs.specs.Rules.{MakesTheSame}
 use Rattle.shown_graphs.specs.Shown.{IsBegun, WritesPage}
 
 -- the lines, some more at a time
@@ -30,15 +29,6 @@ lines_more old mid new start some more so_far one = record {
 }
 
 module _ (rules : Rules) where
-  -- no claim is written yet
-  pub page_begun : (text : List ℕ) (old new : Written) → Reads text rules → old.before ≡ [] → old.tokens ≡ [] → (lines : List (List ℕ)) × MakesTheSame text (text_of lines) × Puts old new (begun_page lines) → IsBegun rules new []
-  page_begun text old new reads alone empty start = record {
-    lines = start.0;
-    reads = start.1 rules reads;
-    alone = start.2.alone ∙ alone;
-    spelled = λ rest. start.2.appended rest ∙ ap (λ ts. ts ++ begun_page start.0 rest) empty;
-  }
-
   -- and then one more
   pub claim_added : (old new : Written) (claims : List PlainClaim) (claim : PlainClaim) → Puts old new (claim_tokens (names_of rules) claim) → IsBegun rules old claims → IsBegun rules new (claims ++ claim ∷ [])
   claim_added old new claims claim more so_far = record {
@@ -53,9 +43,6 @@ module _ (rules : Rules) where
   claims_added old new claim added (Ok u) one more = λ claims so_far.
       subst (λ cs. IsBegun rules new (claims ++ cs)) (sym one) (claim_added old new claims claim (more (have_texts (text_of so_far.lines) rules so_far.reads)) so_far)
   claims_added old new claim added (Err e) one more = tt
-
-  pub none_added : (writer : Written) (claims added : List PlainClaim) → added ≡ [] → IsBegun rules writer claims → IsBegun rules writer (claims ++ added)
-  none_added writer claims added none so_far = subst (IsBegun rules writer) (sym (ap (λ cs. claims ++ cs) none ∙ append-nil claims)) so_far
 
   -- the end of a page, and a newline
   pub page_written : (writer ended : Written) (text : List ℕ) (claims : List PlainClaim) (old mid new : Option (List ℕ)) → IsBegun rules writer claims → Puts writer ended (λ rest. end_array ∷ end_object ∷ rest) → text ≡ ended.before ++ print ended.tokens →

@@ -23,16 +23,6 @@ flat-Contains {A} f (z ∷ xs) y h = elim (Contains-append_cases (f z) (flat_map
   | inr later ↦ let w = flat-Contains f xs y later in (w.0, Contains-append_right (z ∷ []) xs w.0 w.1, w.2)
 ]
 
--- what is a union has these alternatives
-pub union_has : (o : Option Form) (xs : List ℕ) (x : ℕ) → IsUnion o xs → Contains xs x → Contains (alternatives_in o) x
-union_has (Some (Union v)) xs x u h = subst (λ ys. Contains ys x) (sym u) h
-union_has (Some (Base w)) xs x u h = absurd u
-union_has (Some Top) xs x u h = absurd u
-union_has (Some Bottom) xs x u h = absurd u
-union_has (Some (Function a b)) xs x u h = absurd u
-union_has (Some (Record v)) xs x u h = absurd u
-union_has None xs x u h = absurd u
-
 -- what has an alternative is a union
 pub has_union : (o : Option Form) (x : ℕ) → Contains (alternatives_in o) x → IsUnion o (alternatives_in o)
 has_union (Some (Union v)) x h = refl

@@ -1,7 +1,5 @@
 -- What the crates below have, from one place.
-pub use Rattle.cycle_heads.specs.declared.path.PathKind.{PathKind}
-pub use Rattle.cycle_heads.specs.declared.path.PathKind.TheVariants.{Coinductive, Inductive}
-pub use Rattle.cycle_heads.specs.Path.{greater_kind, greatest_kind}
+pub use Rattle.cycle_heads.specs.declared.path.PathKind.TheVariants.{Coinductive}
 pub use Rattle.delegate_parts.specs.Outcome.{is_no, is_yes, outcome_verdicts}
 pub use Rattle.delegate_parts.specs.declared.outcome.Outcome.{Outcome}
 pub use Rattle.evaluations.specs.Enclosed.{IsEnclosed, NoQuestionLeadsOut}
@@ -11,16 +9,14 @@ pub use Rattle.question_lists.specs.Needs.{Proves, Refutes}
 pub use Rattle.question_lists.specs.declared.needs.Needs.{Needs}
 pub use Rattle.question_lists.specs.declared.needs.Needs.TheVariants.{All, Any}
 pub use Rattle.search_context.specs.Question.{IsWithin, Overlap, Question}
-pub use Rattle.search_context.specs.Graph.{GraphNode, HasEdge, HasGoal, IsGraph, IsProofGraph, IsReached, IsRefutationGraph, IsWalk, question_of, walk_kind}
+pub use Rattle.search_context.specs.Graph.{GraphNode, HasEdge, HasGoal, IsProofGraph, IsRefutationGraph, question_of}
 pub use Rattle.search_context.specs.Rank.{AsksOnly}
 pub use Rattle.search_context.specs.declared.context.Edge.{Edge}
 pub use Rattle.search_context.specs.Decisive.{IsDecisive}
 pub use Rattle.search_context.specs.Verdicts.{verdicts}
 pub use Rattle.search_context.specs.declared.context.Cx.{Ghosts as CxOf}
 pub use Rattle.search_context.specs.declared.context.Delegate.{Ghosts as DelegateOf}
-pub use Rattle.search_context.specs.declared.context.Fault.{Fault}
 pub use Rattle.search_context.specs.declared.context.Fault.TheVariants.{Memory}
-pub use Rattle.search_context.specs.declared.context.Verdict.TheVariants.{Neither, No, Yes}
 pub use Rattle.search_rules.specs.Kinds.{StoredReachNested}
 pub use Rattle.search_rules.specs.Results.{AreDefinite, HaveNoOverflowOf}
 pub use Rattle.search_rules.specs.Settled.{AreSettled, HasOneOfEach}

@@ -13,6 +13,8 @@
 //! | `Order` | when types are in an order |
 //! | `Rule` | the rule of a pair as a list of questions |
 //! | `Parts`, `Pairs` | the parts of types, and the pairs that may be asked |
+//! | `Fields` | the fields of records, found by their names |
+//! | `Asked` | the types that a subtyping is asked about |
 //! | `Ready` | what is kept true of the stored answers, so that the next question is decided, too |
 #![tactic(auto)]
 

@@ -4,7 +4,7 @@
 //! | File of `specs/` | Has |
 //! |---|---|
 //! | `Told`, `Answers` | the line of a question, and what a question came to |
-//! | `Stop`, `Program` | why a program ends early, and what a run of it came to |
+//! | `Program` | what a run of a program came to |
 #![tactic(auto)]
 
 mod program;

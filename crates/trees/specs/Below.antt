@@ -1,13 +1,12 @@
 -- What the crates below have, from one place.
 pub use Rattle.cycle_heads.specs.declared.path.PathKind.{PathKind}
 pub use Rattle.cycle_heads.specs.declared.path.PathKind.TheVariants.{Coinductive, ForcedAmbiguity, Inductive, Unknown}
-pub use Rattle.delegate_parts.specs.Outcome.{is_no, is_yes, word_of}
+pub use Rattle.delegate_parts.specs.Outcome.{word_of}
 pub use Rattle.delegate_parts.specs.declared.outcome.Outcome.{Outcome}
 pub use Rattle.proof_trees.specs.Text.{text_of, WordsOf}
 pub use Rattle.proof_trees.specs.declared.entry.Entry.{Entry}
-pub use Rattle.rule_tables.specs.Rules.{name_of, Proves, questions_of, Refutes}
-pub use Rattle.rule_tables.specs.Text.{IsFirstBadLine, Reads}
-pub use Rattle.rule_tables.specs.declared.reading.ReadFault.{ReadFault}
+pub use Rattle.rule_tables.specs.Rules.{name_of}
+pub use Rattle.rule_tables.specs.Text.{IsFirstBadLine}
 pub use Rattle.rule_tables.specs.declared.rules.Goal.{Goal}
 pub use Rattle.rule_tables.specs.declared.rules.Rules.{Rules}
 pub use Rattle.search_context.specs.declared.context.Answer.{Answer}

@@ -1,9 +1,7 @@
 -- Entering what a statement says.
-use Rattle.std.proofs.Common.{◌≡◌, ℕ, zero, suc, ◌+◌, ◌<◌, List, [], ◌∷◌, ◌++◌, length, map, take, get_or, Some, refl, ap, sym, ◌∙◌, subst, inl, inr, arith}
+use Rattle.std.proofs.Common.{◌≡◌, ℕ, zero, suc, ◌+◌, ◌<◌, List, [], ◌∷◌, ◌++◌, length, map, take, get_or, Some, refl, ap, sym, ◌∙◌, subst, arith}
 use Rattle.std.specs.Prelude.{Contains, slice_get}
-use Rattle.std.specs.List.{AllZip, filter_map, list_any}
-use Rattle.std.specs.Str.{bytes_eq}
-use Rattle.std.proofs.lemmas.Bool.{cases_Bool}
+use Rattle.std.specs.List.{AllZip, filter_map}
 use Rattle.std.proofs.lemmas.List.{append-nil}
 use Rattle.std.proofs.lemmas.List.Elements.{filter_map-append}
 use Rattle.structural_types.specs.declared.delegate.Pair.{Pair}
@@ -14,16 +12,8 @@ use Rattle.type_texts.specs.declared.table.TypeTable.{TypeTable}
 use Rattle.type_texts.specs.declared.written.WrittenField.{WrittenField}
 use Rattle.type_texts.specs.Grammar.{Base, Bottom, Function, Meaning, NamedField, Record, Top, Union}
 use Rattle.type_texts.specs.Table.{meaning_in, question_in}
-use Rattle.type_texts.specs.Words.{Adds, forms_in, GrowsLabels, HasUndeclared, IsAsked, IsForm, IsNumberOf, IsSameField, IsTableOf, labels_of, named, names_of, questions_of, Statement, with_name}
+use Rattle.type_texts.specs.Words.{Adds, forms_in, GrowsLabels, HasUndeclared, IsAsked, IsForm, IsNumberOf, IsSameField, IsTableOf, labels_of, named, names_of, questions_of, Statement}
 use Rattle.type_texts.proofs.Lists.{AllZip-append, AllZip-append_one, AllZip-weaker, contains_later, map_take_next}
-use Rattle.line_texts.proofs.NameLemmas.{slice_get-append_left}
-
--- interning keeps numbers
-pub kept_with : (names : List (List ℕ)) (name : List ℕ) → (n : ℕ) (x : List ℕ) → slice_get names n ≡ Some x → slice_get (with_name names name) n ≡ Some x
-kept_with names name n x at = elim (cases_Bool (list_any (bytes_eq name) names)) [
-  | inl w ↦ rw w at
-  | inr w ↦ rw w (slice_get-append_left names (name ∷ []) n x at)
-]
 
 module _ (names old new : List (List ℕ)) (kept : (n : ℕ) (x : List ℕ) → slice_get old n ≡ Some x → slice_get new n ≡ Some x) where
   form_kept : (form : Form) (meaning : Meaning) → IsForm names old form meaning → IsForm names new form meaning

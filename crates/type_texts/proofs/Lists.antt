@@ -9,11 +9,6 @@ use Rattle.std.proofs.lemmas.List.{map-append, take_more}
 pub contains_later : {A : Type 0} (y x : A) (xs : List A) → Contains xs y → Contains (x ∷ xs) y
 contains_later y x xs h = let l = h.1 in (suc h.0, omega arith, h.2)
 
-pub contains_earlier : {A : Type 0} (y : A) (xs ys : List A) → Contains xs y → Contains (xs ++ ys) y
-contains_earlier y [] ys h = absurd (let l = h.1 in omega arith)
-contains_earlier y (x ∷ xs) ys (zero, l, e) = (0, omega arith, e)
-contains_earlier y (x ∷ xs) ys (suc n, l, e) = contains_later y x (xs ++ ys) (contains_earlier y xs ys (n, omega arith, e))
-
 module _ (f : ℕ → ℕ) (n : ℕ) where
   -- some item has the number
   pub any_found : (xs : List ℕ) → list_any (λ x. f x == n) xs ≡ true → (x : ℕ) × Contains xs x × (f x ≡ n)

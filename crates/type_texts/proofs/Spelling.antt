@@ -8,7 +8,7 @@ use Rattle.std.proofs.lemmas.Slice.Eq.{bytes_eq-Decides}
 use Rattle.std.proofs.lemmas.Grind.{flat_map-append}
 use Rattle.std.proofs.lemmas.List.{append-nil, length_push, map-append}
 use Rattle.std.proofs.lemmas.List.Elements.{All-push}
-use Rattle.type_texts.specs.Words.{AreAlternatives, AreDistinct, AreFields, barred, field_words, IsField, IsName, named, NamedField}
+use Rattle.type_texts.specs.Words.{AreDistinct, AreFields, barred, field_words, IsField, IsName, named, NamedField}
 use Rattle.type_texts.specs.declared.written.WrittenField.{WrittenField}
 use Rattle.type_texts.proofs.Declared.{distinct_more}
 
@@ -55,13 +55,6 @@ bar_more all left rest names word so_far e is = record {
   are_two = λ f. absurd cc;
 }
 
-pub all_names : (all left names : List (List ℕ)) → AreNamesTo all left names false → left ≡ [] → AreAlternatives all names
-all_names all left names so_far e = record {
-  spelled = ap (λ ws. ws ++ codes "|" ∷ []) (so_far.whole ∙ ap (λ ws. so_far.read ++ ws) e ∙ append-nil so_far.read) ∙ so_far.if_not refl;
-  are_two = so_far.are_two refl;
-  are_names = so_far.are_names;
-}
-
 -- the words of a field without its type, and the closing brace
 abbrev pub last_words : Option (List ℕ) → Bool → List (List ℕ)
 last_words None false = []
@@ -80,17 +73,6 @@ pub record AreFieldsTo (all left : List (List ℕ)) (fields : List NamedField) (
   pub distinct : AreDistinct (names_in fields)
   pub none_due : is_closed ≡ true → due ≡ None
   pub is_due : (name : List ℕ) → due ≡ Some name → IsName name × ((n : ℕ) → slice_get (names_in fields) n ≡ Some name → ⊥)
-
-pub no_field : (all : List (List ℕ)) → AreFieldsTo all all [] None false
-no_field all = record {
-  read = [];
-  whole = refl;
-  spelled = refl;
-  are_fields = λ k d l. absurd (omega arith);
-  distinct = λ i j x p q. absurd cc;
-  none_due = λ e. refl;
-  is_due = λ name e. absurd cc;
-}
 
 pub field_more : (all left rest : List (List ℕ)) (fields after : List NamedField) (name word : List ℕ) (field : NamedField) (is_closed : Bool) → AreFieldsTo all left fields (Some name) is_closed → left ≡ word ∷ rest →
     field ≡ record { name = name; part = word } → IsName word → after ≡ fields ++ field ∷ [] → AreFieldsTo all rest after None false

@@ -5,7 +5,9 @@
 //! |---|---|
 //! | `Grammar`, `Text` | the grammar of lines and of whole texts |
 //! | `Line` | lines as the reading has them |
+//! | `Guard` | unions that lead back to themselves through unions alone |
 //! | `Table` | the table that a text makes |
+//! | `Faults` | why a part of the reading failed |
 #![tactic(auto)]
 
 mod entering;

@@ -1,7 +1,7 @@
 //! How far a run has come that is replayed.
 ghost use Rattle.std.specs.Prelude.{◌≡◌, ◌↔◌, IsTrue, OnOk, true, map};
-ghost use Rattle.graph_check.specs.Below.{question_of, Fits};
-ghost use Rattle.graph_check.specs.Words.{nothing_replayed, replied, requested, is_orderly, ignored_by, counted_by, question_asked, questions_counted};
+ghost use Rattle.graph_check.specs.Below.{question_of, Fits, counted_by, ignored_by};
+ghost use Rattle.graph_check.specs.Words.{nothing_replayed, replied, requested, is_orderly, question_asked, questions_counted};
 
 use cycle_heads::path::PathKind;
 use search_context::context::{Cx, Edge, NoMemory, Reply, Request};

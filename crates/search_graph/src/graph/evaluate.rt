@@ -107,8 +107,8 @@ pub(crate) fn work_out<D: Delegate>(
     }
 }
 
-/// One turn of the loop: a move, after which nodes are let go to which nothing leads any more. Among the moves it is the
-/// only place where nodes go, so each move only adds to them.
+/// One turn of the loop: a move, after which nodes are let go to which nothing leads any more. This is the only place
+/// where nodes are let go; a move only adds nodes.
 fn take_turn<D: Delegate>(
     evaluation: &mut Evaluation<D>,
     cache: &mut GlobalCache<D>,
@@ -141,7 +141,7 @@ fn take_turn<D: Delegate>(
             Ok(Next::Step(given))
         }
         Next::Finished(answer) => {
-            evaluation.settle_drafts(cache, answer.node)?;
+            evaluation.collect_at_end(cache, answer.node)?;
             Ok(Next::Finished(answer))
         }
     }

@@ -6,7 +6,7 @@ use Rattle.std.proofs.lemmas.Bool.{cases_lt}
 use Rattle.std.proofs.lemmas.List.Elements.{All-cons, All-head, All-nil, All-tail}
 use Rattle.std.proofs.lemmas.Bool.Decides.{nat_tests}
 use Rattle.std.specs.Option.{IsSomeAnd}
-use Rattle.search_rules.specs.Below.{Success, WithOverflow, StoredResult, StackEntry, EvaluationResult, Run, Store, stored_at, place_of, stored_from, PathsToNested, NestedPaths, paths_at, PathKind, AvailableDepth, CacheNode, Heads, Hit, first_accepted, usable, Request, Evaluate, EnterCandidate, FinishCandidate, Ignore, Done, Next, NodeId, DelegateOf, CxOf, Stood, IsAllowed, AreSeen, AnswersNewest, NestsAnswer, NestsHead, NotesOverflow, TakesStored, NotesCandidate, HasStepped, Received, EntryState, overflowed, with_depth, with_nested_goals, rerun_with, with_no_record, received_by, requested}
+use Rattle.search_rules.specs.Below.{Success, WithOverflow, StoredResult, StackEntry, EvaluationResult, Run, Store, stored_at, place_of, stored_from, PathsToNested, NestedPaths, paths_at, PathKind, AvailableDepth, CacheNode, Heads, Hit, first_accepted, usable, Request, Evaluate, EnterCandidate, FinishCandidate, Ignore, Done, Next, NodeId, DelegateOf, CxOf, Stood, IsAllowed, AreSeen, AnswersNewest, NestsAnswer, NestsHead, TakesStored, NotesCandidate, HasStepped, Received, EntryState, with_depth, with_nested_goals, rerun_with, with_no_record, received_by, requested}
 use Rattle.search_stack.specs.Nested.{joined_paths, JoinsPaths}
 use Rattle.global_cache.specs.Hits.{hit_at, successes, overflows}
 use Rattle.global_cache.proofs.Stores.{put_cases}
@@ -179,14 +179,6 @@ module _ {X I R A T : Type 0} (same : I → I → Bool) (results : Store I (Stor
         (newest_kept (a.entry, a.run) (record a.entry { state = a.state }, a.run) a.below refl
         (λ before empty. absurd (joined_are_some same a.entry.state.nested_goals a.state.nested_goals a.entry.input _ joins empty))
         (subst (NoneIsLone same results goals) a.was h))
-
-    -- or a question of it was refused
-    pub overflowed_none_lone : NotesOverflow same old new → NoneIsLone same results goals old → NoneIsLone same results goals new
-    overflowed_none_lone n h =
-        subst (NoneIsLone same results goals) (sym n.is)
-        (newest_kept (n.entry, n.run) (overflowed (record n.entry { state = with_nested_goals n.entry.state n.nested }), n.run) n.below refl
-        (λ before empty. absurd (joined_are_some same n.entry.state.nested_goals n.nested n.entry.input _ n.joins empty))
-        (subst (NoneIsLone same results goals) n.was h))
 
     -- or it takes a stored result
     pub taken_none_lone : (step : PathKind) (hit : Hit I R T) → (hit.nested_goals ≡ [] → HasLone same results goals (hit.required_depth + 1)) → TakesStored same step hit old new → NoneIsLone same results goals old → NoneIsLone same results goals new

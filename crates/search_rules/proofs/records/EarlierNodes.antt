@@ -36,10 +36,6 @@ module _ {X F I R A T : Type 0} where
   pub nodes_of_earlier : (goals : List (StackEntry X I R A T × Run X F I R A T)) (old new : List (CacheNode I R)) → goals ≡ [] → KeepsEarlier goals old new → KeepsNodes old new
   nodes_of_earlier goals old new none earlier at n is = earlier (length old) (omega arith) (subst (AreFrom (length old)) (sym none) tt) at (slice_get_within old at n is) ∙ is
 
-  pub from_less : (first many : ℕ) (goals : List (StackEntry X I R A T × Run X F I R A T)) → first ≤ many → AreFrom many goals → AreFrom first goals
-  from_less first many [] less from = tt
-  from_less first many (s ∷ below) less from = (let later = from.0 in omega (arith, less, later), from_less first many below less from.1)
-
   -- and goals that are from there on stay so, under any first place
   pub earlier_over : (goals later : List (StackEntry X I R A T × Run X F I R A T)) (old new : List (CacheNode I R)) → StayFrom old goals later → KeepsEarlier later old new → KeepsEarlier goals old new
   earlier_over goals later old new stays earlier = λ first within from. earlier first within (stays first within from)

@@ -149,7 +149,7 @@ rule A = i:B
 rule B = i:C
 rule C =
 
-# Too shallow: C is not asked. What A and B come to is kept for these depths alone.
+# Too shallow: C is not asked. What A and B come to is stored for these depths alone.
 ask 1 A
 
 # Deep enough: all three goals are worked out, and their results hold at any greater depth.

@@ -54,45 +54,45 @@ returns-in-Step-clause-drafts g c = record {
 
 -- ---- and once the call has its answer
 
-pub settle_drafts-requires-clause-before : goal.settle_drafts-requires-clause-before
-settle_drafts-requires-clause-before g c = (turn_has g.D.Cx.Input.PartialEq.eq c.args.evaluation.now c.args.cache.now c.advance.new.cache c.advance.new.cache c.requires.drafts c.advance.ensures.cache.keeps c.advance.ensures.cache.changes (λ at lower. refl) refl c.advance.new.evaluation c.in_ok-given.ensures.noted.first (c.in_ok-given.ensures.goals.stays c.args.evaluation.now.drafts.first c.requires.drafts.there c.requires.drafts.from) (c.in_ok-given.ensures.noted.noted_are c.requires.drafts.noted_are)).before
+pub collect_at_end-requires-clause-before : goal.collect_at_end-requires-clause-before
+collect_at_end-requires-clause-before g c = (turn_has g.D.Cx.Input.PartialEq.eq c.args.evaluation.now c.args.cache.now c.advance.new.cache c.advance.new.cache c.requires.drafts c.advance.ensures.cache.keeps c.advance.ensures.cache.changes (λ at lower. refl) refl c.advance.new.evaluation c.in_ok-given.ensures.noted.first (c.in_ok-given.ensures.goals.stays c.args.evaluation.now.drafts.first c.requires.drafts.there c.requires.drafts.from) (c.in_ok-given.ensures.noted.noted_are c.requires.drafts.noted_are)).before
 
-pub returns-in_ok-settle_drafts-in-Finished-clause-advances : goal.returns-in_ok-settle_drafts-in-Finished-clause-advances
-returns-in_ok-settle_drafts-in-Finished-clause-advances g c = record {
-  leads = λ call h. end_leads g.D.Delegate g.D.Cx.Cx g.D.Cx.Input.PartialEq.eq c.args.cache.now.cx c.advance.new.evaluation c.advance.new.evaluation c.advance.new.cache c.settle_drafts.new.cache c.in-Finished.answer c.in_ok-settle_drafts-in-Finished.ensures.settles call _ c.args.evaluation.now.goals (g.D.Delegate.starts c.advance.new.inspect) ((rw c.in-Finished.is at c.in_ok-given.ensures.advances.leads) call h);
+pub returns-in_ok-collect_at_end-in-Finished-clause-advances : goal.returns-in_ok-collect_at_end-in-Finished-clause-advances
+returns-in_ok-collect_at_end-in-Finished-clause-advances g c = record {
+  leads = λ call h. end_leads g.D.Delegate g.D.Cx.Cx g.D.Cx.Input.PartialEq.eq c.args.cache.now.cx c.advance.new.evaluation c.advance.new.evaluation c.advance.new.cache c.collect_at_end.new.cache c.in-Finished.answer c.in_ok-collect_at_end-in-Finished.ensures.settles call _ c.args.evaluation.now.goals (g.D.Delegate.starts c.advance.new.inspect) ((rw c.in-Finished.is at c.in_ok-given.ensures.advances.leads) call h);
   stops = λ call h. tt;
   caused = tt;
 }
 
-pub returns-in_ok-settle_drafts-in-Finished-clause-settled : goal.returns-in_ok-settle_drafts-in-Finished-clause-settled
-returns-in_ok-settle_drafts-in-Finished-clause-settled g c = record {
+pub returns-in_ok-collect_at_end-in-Finished-clause-settled : goal.returns-in_ok-collect_at_end-in-Finished-clause-settled
+returns-in_ok-collect_at_end-in-Finished-clause-settled g c = record {
   unmet = c.in_ok-given.ensures.settled.unmet;
-  settles = λ call at needs settled. store_stays_at_end g.D.Delegate g.D.Cx.Cx g.D.Cx.Input.PartialEq.eq c.args.cache.now.cx c.advance.new.evaluation c.advance.new.cache c.settle_drafts.new.cache c.in-Finished.answer.node c.in_ok-settle_drafts-in-Finished.ensures.settles call.goals ((rw c.in-Finished.is at c.in_ok-given.ensures.settled.settles) call at needs settled);
+  settles = λ call at needs settled. store_stays_at_end g.D.Delegate g.D.Cx.Cx g.D.Cx.Input.PartialEq.eq c.args.cache.now.cx c.advance.new.evaluation c.advance.new.cache c.collect_at_end.new.cache c.in-Finished.answer.node c.in_ok-collect_at_end-in-Finished.ensures.settles call.goals ((rw c.in-Finished.is at c.in_ok-given.ensures.settled.settles) call at needs settled);
   leaves = λ call at needs settled. tt;
 }
 
-pub returns-in_ok-settle_drafts-in-Finished-clause-right : goal.returns-in_ok-settle_drafts-in-Finished-clause-right
-returns-in_ok-settle_drafts-in-Finished-clause-right g c = end_right g.D.Delegate g.D.Cx.Cx g.D.Cx.Input.PartialEq.eq c.args.cache.now.cx c.advance.new.evaluation c.advance.new.evaluation c.advance.new.cache c.settle_drafts.new.cache c.in-Finished.answer c.in_ok-settle_drafts-in-Finished.ensures.settles c.args.evaluation.now.goals (rw c.in-Finished.is at c.in_ok-given.ensures.right)
+pub returns-in_ok-collect_at_end-in-Finished-clause-right : goal.returns-in_ok-collect_at_end-in-Finished-clause-right
+returns-in_ok-collect_at_end-in-Finished-clause-right g c = end_right g.D.Delegate g.D.Cx.Cx g.D.Cx.Input.PartialEq.eq c.args.cache.now.cx c.advance.new.evaluation c.advance.new.evaluation c.advance.new.cache c.collect_at_end.new.cache c.in-Finished.answer c.in_ok-collect_at_end-in-Finished.ensures.settles c.args.evaluation.now.goals (rw c.in-Finished.is at c.in_ok-given.ensures.right)
 
-pub returns-in_ok-settle_drafts-in-Finished-clause-cache : goal.returns-in_ok-settle_drafts-in-Finished-clause-cache
-returns-in_ok-settle_drafts-in-Finished-clause-cache g c =
-    turn_keeps g.D.Cx.Input.PartialEq.eq c.args.evaluation.now c.args.cache.now c.advance.new.cache c.settle_drafts.new.cache c.requires.drafts c.advance.ensures.cache.keeps c.advance.ensures.cache.changes
-    (subst (λ n. KeepsFirst n c.advance.new.cache.nodes c.settle_drafts.new.cache.nodes) c.in_ok-given.ensures.noted.first c.in_ok-settle_drafts-in-Finished.ensures.settles.earlier) c.in_ok-settle_drafts-in-Finished.ensures.settles.rest
+pub returns-in_ok-collect_at_end-in-Finished-clause-cache : goal.returns-in_ok-collect_at_end-in-Finished-clause-cache
+returns-in_ok-collect_at_end-in-Finished-clause-cache g c =
+    turn_keeps g.D.Cx.Input.PartialEq.eq c.args.evaluation.now c.args.cache.now c.advance.new.cache c.collect_at_end.new.cache c.requires.drafts c.advance.ensures.cache.keeps c.advance.ensures.cache.changes
+    (subst (λ n. KeepsFirst n c.advance.new.cache.nodes c.collect_at_end.new.cache.nodes) c.in_ok-given.ensures.noted.first c.in_ok-collect_at_end-in-Finished.ensures.settles.earlier) c.in_ok-collect_at_end-in-Finished.ensures.settles.rest
 
 -- ---- where there was no memory for that
 
-pub returns-in_err-settle_drafts-in-Finished-clause-advances : goal.returns-in_err-settle_drafts-in-Finished-clause-advances
-returns-in_err-settle_drafts-in-Finished-clause-advances g c = record {
-  leads = λ call h. no_ok c.from_residual-in_err-settle_drafts-in-Finished.result _ _ c.from_residual-in_err-settle_drafts-in-Finished.ensures.1;
+pub returns-in_err-collect_at_end-in-Finished-clause-advances : goal.returns-in_err-collect_at_end-in-Finished-clause-advances
+returns-in_err-collect_at_end-in-Finished-clause-advances g c = record {
+  leads = λ call h. no_ok c.from_residual-in_err-collect_at_end-in-Finished.result _ _ c.from_residual-in_err-collect_at_end-in-Finished.ensures.1;
   stops = λ call h.
-      if_err_and c.from_residual-in_err-settle_drafts-in-Finished.result _ _ c.from_residual-in_err-settle_drafts-in-Finished.ensures.1
-      (λ e is. subst (λ fault. StopsWith g.D.Delegate g.D.Cx.Cx g.D.Cx.Input.PartialEq.eq c.args.cache.now.cx call fault c.settle_drafts.new.cache c.advance.new.evaluation (g.D.Delegate.starts c.advance.new.inspect)) (sym is)
-      (subst (λ cache. StopsWith g.D.Delegate g.D.Cx.Cx g.D.Cx.Input.PartialEq.eq c.args.cache.now.cx call Memory cache c.advance.new.evaluation (g.D.Delegate.starts c.advance.new.inspect)) (sym c.in_err-settle_drafts-in-Finished.ensures.refused)
+      if_err_and c.from_residual-in_err-collect_at_end-in-Finished.result _ _ c.from_residual-in_err-collect_at_end-in-Finished.ensures.1
+      (λ e is. subst (λ fault. StopsWith g.D.Delegate g.D.Cx.Cx g.D.Cx.Input.PartialEq.eq c.args.cache.now.cx call fault c.collect_at_end.new.cache c.advance.new.evaluation (g.D.Delegate.starts c.advance.new.inspect)) (sym is)
+      (subst (λ cache. StopsWith g.D.Delegate g.D.Cx.Cx g.D.Cx.Input.PartialEq.eq c.args.cache.now.cx call Memory cache c.advance.new.evaluation (g.D.Delegate.starts c.advance.new.inspect)) (sym c.in_err-collect_at_end-in-Finished.ensures.refused)
       (end_stops g.D.Delegate g.D.Cx.Cx g.D.Cx.Input.PartialEq.eq c.args.cache.now.cx c.advance.new.evaluation c.advance.new.evaluation c.advance.new.cache c.advance.new.cache c.in-Finished.answer call _ c.args.evaluation.now.goals (g.D.Delegate.starts c.advance.new.inspect) ((rw c.in-Finished.is at c.in_ok-given.ensures.advances.leads) call h))));
-  caused = if_err_and c.from_residual-in_err-settle_drafts-in-Finished.result _ _ c.from_residual-in_err-settle_drafts-in-Finished.ensures.1 (λ e is. OutOfMemory is);
+  caused = if_err_and c.from_residual-in_err-collect_at_end-in-Finished.result _ _ c.from_residual-in_err-collect_at_end-in-Finished.ensures.1 (λ e is. OutOfMemory is);
 }
 
-pub returns-in_err-settle_drafts-in-Finished-clause-cache : goal.returns-in_err-settle_drafts-in-Finished-clause-cache
-returns-in_err-settle_drafts-in-Finished-clause-cache g c =
-    subst (TurnsCache g.D.Cx.Input.PartialEq.eq c.args.evaluation.now c.args.cache.now) (sym c.in_err-settle_drafts-in-Finished.ensures.refused)
+pub returns-in_err-collect_at_end-in-Finished-clause-cache : goal.returns-in_err-collect_at_end-in-Finished-clause-cache
+returns-in_err-collect_at_end-in-Finished-clause-cache g c =
+    subst (TurnsCache g.D.Cx.Input.PartialEq.eq c.args.evaluation.now c.args.cache.now) (sym c.in_err-collect_at_end-in-Finished.ensures.refused)
     (turn_keeps g.D.Cx.Input.PartialEq.eq c.args.evaluation.now c.args.cache.now c.advance.new.cache c.advance.new.cache c.requires.drafts c.advance.ensures.cache.keeps c.advance.ensures.cache.changes (λ at lower. refl) refl)

@@ -215,10 +215,10 @@ returns-in_err-run_again-in-Err-Again-clause-stores g c = record { noted = no_ok
 -- ---- the stored results
 
 pub returns-in-Ok-clause-cache : goal.returns-in-Ok-clause-cache
-returns-in-Ok-clause-cache g c = record { keeps = c.pop_goal.ensures.keeps; changes = c.pop_goal.ensures.changes }
+returns-in-Ok-clause-cache g c = c.pop_goal.ensures.cache
 
 pub returns-in-Err-AtLimit-clause-cache : goal.returns-in-Err-AtLimit-clause-cache
-returns-in-Err-AtLimit-clause-cache g c = record { keeps = c.pop_goal-in-Err-AtLimit.ensures.keeps; changes = c.pop_goal-in-Err-AtLimit.ensures.changes }
+returns-in-Err-AtLimit-clause-cache g c = c.pop_goal-in-Err-AtLimit.ensures.cache
 
 pub returns-in_err-run_again-in-Err-Again-clause-cache : goal.returns-in_err-run_again-in-Err-Again-clause-cache
 returns-in_err-run_again-in-Err-Again-clause-cache g c = leaves_results g.D.Cx.Input.PartialEq.eq c.args.self.now.goals c.args.cache.now c.run_again.new.cache c.run_again.ensures.cache c.run_again.ensures.kept c.run_again.ensures.earlier

@@ -115,38 +115,61 @@ returns-in_err-store_answer-clause-plain g c = λ n plain.
     (subst (λ i. IfCompared c.pop-entry.result.run.fate (IsPlainValue (g.D.Delegate.script c.args.cache.now.cx) n i)) (sym c.input-input.ensures)
     ((subst (λ l. HaveExpected (g.D.Delegate.scoped c.args.cache.now.cx) (g.D.Delegate.script c.args.cache.now.cx) g.D.Cx.Input.PartialEq.eq c.args.cache.now.results (fates_of l)) c.pop-entry.ensures c.requires.expected).0.plain n here.0 here.2))))
 
-pub returns-in_err-store_answer-clause-keeps : goal.returns-in_err-store_answer-clause-keeps
-returns-in_err-store_answer-clause-keeps g c =
-    ending_keeps g.D.Cx.Input.PartialEq.eq c.args.self.now.goals c.args.cache.now c.store_answer.new.cache (c.pop-entry.result.entry, c.pop-entry.result.run) c.pop-entry.new.self c.pop-entry.ensures
-    (ap (λ cache. cache.cx) c.store_answer.ensures.puts.cache.rest ∙ c.in_ok-node.ensures.same_context)
-    (subst (λ before. KeepsResults g.D.Cx.Input.PartialEq.eq before c.store_answer.new.cache.results) c.in_ok-node.ensures.same_results c.store_answer.ensures.puts.cache.kept)
-    (subst (KeepsFinished c.args.cache.now.nodes) (sym (ap (λ cache. cache.nodes) c.store_answer.ensures.puts.cache.rest)) c.in_ok-node.ensures.kept)
-    (subst (KeepsBut c.pop-entry.result.run.node.0 c.args.cache.now.nodes) (sym (ap (λ cache. cache.nodes) c.store_answer.ensures.puts.cache.rest)) c.in_ok-node.ensures.others)
+pub returns-in_err-store_answer-clause-cache : goal.returns-in_err-store_answer-clause-cache
+returns-in_err-store_answer-clause-cache g c = record {
+  keeps =
+      ending_keeps g.D.Cx.Input.PartialEq.eq c.args.self.now.goals c.args.cache.now c.store_answer.new.cache (c.pop-entry.result.entry, c.pop-entry.result.run) c.pop-entry.new.self c.pop-entry.ensures
+      (ap (λ cache. cache.cx) c.store_answer.ensures.puts.cache.rest ∙ c.in_ok-node.ensures.same_context)
+      (subst (λ before. KeepsResults g.D.Cx.Input.PartialEq.eq before c.store_answer.new.cache.results) c.in_ok-node.ensures.same_results c.store_answer.ensures.puts.cache.kept)
+      (subst (KeepsFinished c.args.cache.now.nodes) (sym (ap (λ cache. cache.nodes) c.store_answer.ensures.puts.cache.rest)) c.in_ok-node.ensures.kept)
+      (subst (KeepsBut c.pop-entry.result.run.node.0 c.args.cache.now.nodes) (sym (ap (λ cache. cache.nodes) c.store_answer.ensures.puts.cache.rest)) c.in_ok-node.ensures.others);
+  changes =
+      subst (λ l. ChangesNewest g.D.Cx.Input.PartialEq.eq (fates_of l) c.args.cache.now.results c.store_answer.new.cache.results) (sym c.pop-entry.ensures)
+      (newest_changes g.D.Cx.Input.PartialEq.eq (record { goal = c.pop-entry.result.entry.input; depth = c.pop-entry.result.entry.available_depth.0; fate = c.pop-entry.result.run.fate }) (fates_of c.pop-entry.new.self) c.args.cache.now.results c.store_answer.new.cache.results
+      (subst (λ before. ChangesNewest g.D.Cx.Input.PartialEq.eq (record { goal = c.pop-entry.result.entry.input; depth = c.pop-entry.result.entry.available_depth.0; fate = c.pop-entry.result.run.fate } ∷ []) before c.store_answer.new.cache.results) c.in_ok-node.ensures.same_results
+      (subst (λ i. ChangesNewest g.D.Cx.Input.PartialEq.eq (record { goal = i; depth = c.pop-entry.result.entry.available_depth.0; fate = c.pop-entry.result.run.fate } ∷ []) c.result_node.new.cache.results c.store_answer.new.cache.results) c.input-input.ensures (c.store_answer.ensures.puts.changes c.pop-entry.result.entry.available_depth.0))));
+}
 
-pub returns-in_err-node-clause-keeps : goal.returns-in_err-node-clause-keeps
-returns-in_err-node-clause-keeps g c =
-    ending_keeps g.D.Cx.Input.PartialEq.eq c.args.self.now.goals c.args.cache.now c.result_node.new.cache (c.pop-entry.result.entry, c.pop-entry.result.run) c.pop-entry.new.self c.pop-entry.ensures
-    c.result_node.ensures.same_context (KeepsResults-same g.D.Cx.Input.PartialEq.eq c.args.cache.now.results c.result_node.new.cache.results c.result_node.ensures.same_results) c.result_node.ensures.kept c.result_node.ensures.others
+pub returns-in_err-node-clause-cache : goal.returns-in_err-node-clause-cache
+returns-in_err-node-clause-cache g c = record {
+  keeps =
+      ending_keeps g.D.Cx.Input.PartialEq.eq c.args.self.now.goals c.args.cache.now c.result_node.new.cache (c.pop-entry.result.entry, c.pop-entry.result.run) c.pop-entry.new.self c.pop-entry.ensures
+      c.result_node.ensures.same_context (KeepsResults-same g.D.Cx.Input.PartialEq.eq c.args.cache.now.results c.result_node.new.cache.results c.result_node.ensures.same_results) c.result_node.ensures.kept c.result_node.ensures.others;
+  changes = Untouched c.result_node.ensures.same_results;
+}
 
-pub returns-in_err-rebase_entries-clause-keeps : goal.returns-in_err-rebase_entries-clause-keeps
-returns-in_err-rebase_entries-clause-keeps g c =
-    ending_keeps g.D.Cx.Input.PartialEq.eq c.args.self.now.goals c.args.cache.now c.result_node.new.cache (c.pop-entry.result.entry, c.pop-entry.result.run) c.pop-entry.new.self c.pop-entry.ensures
-    c.result_node.ensures.same_context (KeepsResults-same g.D.Cx.Input.PartialEq.eq c.args.cache.now.results c.result_node.new.cache.results c.result_node.ensures.same_results) c.result_node.ensures.kept c.result_node.ensures.others
+pub returns-in_err-rebase_entries-clause-cache : goal.returns-in_err-rebase_entries-clause-cache
+returns-in_err-rebase_entries-clause-cache g c = record {
+  keeps =
+      ending_keeps g.D.Cx.Input.PartialEq.eq c.args.self.now.goals c.args.cache.now c.result_node.new.cache (c.pop-entry.result.entry, c.pop-entry.result.run) c.pop-entry.new.self c.pop-entry.ensures
+      c.result_node.ensures.same_context (KeepsResults-same g.D.Cx.Input.PartialEq.eq c.args.cache.now.results c.result_node.new.cache.results c.result_node.ensures.same_results) c.result_node.ensures.kept c.result_node.ensures.others;
+  changes = Untouched c.result_node.ensures.same_results;
+}
 
-pub returns-in_err-next-clause-keeps : goal.returns-in_err-next-clause-keeps
-returns-in_err-next-clause-keeps g c =
-    ending_keeps g.D.Cx.Input.PartialEq.eq c.args.self.now.goals c.args.cache.now c.result_node.new.cache (c.pop-entry.result.entry, c.pop-entry.result.run) c.pop-entry.new.self c.pop-entry.ensures
-    c.result_node.ensures.same_context (KeepsResults-same g.D.Cx.Input.PartialEq.eq c.args.cache.now.results c.result_node.new.cache.results c.result_node.ensures.same_results) c.result_node.ensures.kept c.result_node.ensures.others
+pub returns-in_err-next-clause-cache : goal.returns-in_err-next-clause-cache
+returns-in_err-next-clause-cache g c = record {
+  keeps =
+      ending_keeps g.D.Cx.Input.PartialEq.eq c.args.self.now.goals c.args.cache.now c.result_node.new.cache (c.pop-entry.result.entry, c.pop-entry.result.run) c.pop-entry.new.self c.pop-entry.ensures
+      c.result_node.ensures.same_context (KeepsResults-same g.D.Cx.Input.PartialEq.eq c.args.cache.now.results c.result_node.new.cache.results c.result_node.ensures.same_results) c.result_node.ensures.kept c.result_node.ensures.others;
+  changes = Untouched c.result_node.ensures.same_results;
+}
 
 -- ---- they were
 
-pub returns-clause-keeps : goal.returns-clause-keeps
-returns-clause-keeps g c =
-    ending_keeps g.D.Cx.Input.PartialEq.eq c.args.self.now.goals c.args.cache.now c.store_answer.new.cache (c.pop-entry.result.entry, c.pop-entry.result.run) c.pop-entry.new.self c.pop-entry.ensures
-    (ap (λ cache. cache.cx) c.store_answer.ensures.puts.cache.rest ∙ c.in_ok-node.ensures.same_context)
-    (subst (λ before. KeepsResults g.D.Cx.Input.PartialEq.eq before c.store_answer.new.cache.results) c.in_ok-node.ensures.same_results c.store_answer.ensures.puts.cache.kept)
-    (subst (KeepsFinished c.args.cache.now.nodes) (sym (ap (λ cache. cache.nodes) c.store_answer.ensures.puts.cache.rest)) c.in_ok-node.ensures.kept)
-    (subst (KeepsBut c.pop-entry.result.run.node.0 c.args.cache.now.nodes) (sym (ap (λ cache. cache.nodes) c.store_answer.ensures.puts.cache.rest)) c.in_ok-node.ensures.others)
+pub returns-clause-cache : goal.returns-clause-cache
+returns-clause-cache g c = record {
+  keeps =
+      ending_keeps g.D.Cx.Input.PartialEq.eq c.args.self.now.goals c.args.cache.now c.store_answer.new.cache (c.pop-entry.result.entry, c.pop-entry.result.run) c.pop-entry.new.self c.pop-entry.ensures
+      (ap (λ cache. cache.cx) c.store_answer.ensures.puts.cache.rest ∙ c.in_ok-node.ensures.same_context)
+      (subst (λ before. KeepsResults g.D.Cx.Input.PartialEq.eq before c.store_answer.new.cache.results) c.in_ok-node.ensures.same_results c.store_answer.ensures.puts.cache.kept)
+      (subst (KeepsFinished c.args.cache.now.nodes) (sym (ap (λ cache. cache.nodes) c.store_answer.ensures.puts.cache.rest)) c.in_ok-node.ensures.kept)
+      (subst (KeepsBut c.pop-entry.result.run.node.0 c.args.cache.now.nodes) (sym (ap (λ cache. cache.nodes) c.store_answer.ensures.puts.cache.rest)) c.in_ok-node.ensures.others);
+  changes =
+      subst (λ l. ChangesNewest g.D.Cx.Input.PartialEq.eq (fates_of l) c.args.cache.now.results c.store_answer.new.cache.results) (sym c.pop-entry.ensures)
+      (newest_changes g.D.Cx.Input.PartialEq.eq (record { goal = c.pop-entry.result.entry.input; depth = c.pop-entry.result.entry.available_depth.0; fate = c.pop-entry.result.run.fate }) (fates_of c.pop-entry.new.self) c.args.cache.now.results c.store_answer.new.cache.results
+      (subst (λ before. ChangesNewest g.D.Cx.Input.PartialEq.eq (record { goal = c.pop-entry.result.entry.input; depth = c.pop-entry.result.entry.available_depth.0; fate = c.pop-entry.result.run.fate } ∷ []) before c.store_answer.new.cache.results) c.in_ok-node.ensures.same_results
+      (subst (λ i. ChangesNewest g.D.Cx.Input.PartialEq.eq (record { goal = i; depth = c.pop-entry.result.entry.available_depth.0; fate = c.pop-entry.result.run.fate } ∷ []) c.result_node.new.cache.results c.store_answer.new.cache.results) c.input-input.ensures (c.store_answer.ensures.puts.changes c.pop-entry.result.entry.available_depth.0))));
+}
 
 pub returns-clause-stored : goal.returns-clause-stored
 returns-clause-stored g c = newest_stored (verdicts g.D.Cx.Cx) c.args.cache.now.nodes c.result_node.new.cache.nodes c.args.self.now.goals c.pop-entry.result.entry c.pop-entry.result.run c.pop-entry.new.self c.pop-entry.ensures c.args.outcome c.in_ok-node.node c.requires.right.justified c.in_ok-node.ensures.has_node g.D.Cx.Input.PartialEq.eq c.args.cache.now.results c.store_answer.new.cache.results
@@ -219,29 +242,6 @@ returns-clause-popped g c =
             (subst (λ (a : EvaluationResult _ _ _ _ _). GivesAnswer c.step_kind_from_parent-step.result a c.pop-entry.new.self c.in_ok-next.next c.give_answer.new.goals) c.finalize-answer.ensures c.in_ok-next.ensures.given)));
       };
     })
-
-pub returns-in_err-store_answer-clause-changes : goal.returns-in_err-store_answer-clause-changes
-returns-in_err-store_answer-clause-changes g c =
-    subst (λ l. ChangesNewest g.D.Cx.Input.PartialEq.eq (fates_of l) c.args.cache.now.results c.store_answer.new.cache.results) (sym c.pop-entry.ensures)
-    (newest_changes g.D.Cx.Input.PartialEq.eq (record { goal = c.pop-entry.result.entry.input; depth = c.pop-entry.result.entry.available_depth.0; fate = c.pop-entry.result.run.fate }) (fates_of c.pop-entry.new.self) c.args.cache.now.results c.store_answer.new.cache.results
-    (subst (λ before. ChangesNewest g.D.Cx.Input.PartialEq.eq (record { goal = c.pop-entry.result.entry.input; depth = c.pop-entry.result.entry.available_depth.0; fate = c.pop-entry.result.run.fate } ∷ []) before c.store_answer.new.cache.results) c.in_ok-node.ensures.same_results
-    (subst (λ i. ChangesNewest g.D.Cx.Input.PartialEq.eq (record { goal = i; depth = c.pop-entry.result.entry.available_depth.0; fate = c.pop-entry.result.run.fate } ∷ []) c.result_node.new.cache.results c.store_answer.new.cache.results) c.input-input.ensures (c.store_answer.ensures.puts.changes c.pop-entry.result.entry.available_depth.0))))
-
-pub returns-clause-changes : goal.returns-clause-changes
-returns-clause-changes g c =
-    subst (λ l. ChangesNewest g.D.Cx.Input.PartialEq.eq (fates_of l) c.args.cache.now.results c.store_answer.new.cache.results) (sym c.pop-entry.ensures)
-    (newest_changes g.D.Cx.Input.PartialEq.eq (record { goal = c.pop-entry.result.entry.input; depth = c.pop-entry.result.entry.available_depth.0; fate = c.pop-entry.result.run.fate }) (fates_of c.pop-entry.new.self) c.args.cache.now.results c.store_answer.new.cache.results
-    (subst (λ before. ChangesNewest g.D.Cx.Input.PartialEq.eq (record { goal = c.pop-entry.result.entry.input; depth = c.pop-entry.result.entry.available_depth.0; fate = c.pop-entry.result.run.fate } ∷ []) before c.store_answer.new.cache.results) c.in_ok-node.ensures.same_results
-    (subst (λ i. ChangesNewest g.D.Cx.Input.PartialEq.eq (record { goal = i; depth = c.pop-entry.result.entry.available_depth.0; fate = c.pop-entry.result.run.fate } ∷ []) c.result_node.new.cache.results c.store_answer.new.cache.results) c.input-input.ensures (c.store_answer.ensures.puts.changes c.pop-entry.result.entry.available_depth.0))))
-
-pub returns-in_err-node-clause-changes : goal.returns-in_err-node-clause-changes
-returns-in_err-node-clause-changes g c = Untouched c.result_node.ensures.same_results
-
-pub returns-in_err-rebase_entries-clause-changes : goal.returns-in_err-rebase_entries-clause-changes
-returns-in_err-rebase_entries-clause-changes g c = Untouched c.result_node.ensures.same_results
-
-pub returns-in_err-next-clause-changes : goal.returns-in_err-next-clause-changes
-returns-in_err-next-clause-changes g c = Untouched c.result_node.ensures.same_results
 
 pub returns-clause-noted : goal.returns-clause-noted
 returns-clause-noted g c =

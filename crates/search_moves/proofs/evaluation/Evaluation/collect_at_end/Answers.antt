@@ -1,7 +1,7 @@
 use Rattle.std.proofs.Common.{subst, sym, ◌∙◌}
 use Rattle.std.specs.List.{Contains}
 use Rattle.search_moves.proofs.LettingGo.{goes_at_end_if, rooted_among}
-use Rattle.search_moves.proofs.evaluation.Evaluation.settle_drafts.Goals as goal
+use Rattle.search_moves.proofs.evaluation.Evaluation.collect_at_end.Goals as goal
 
 pub collect-requires-clause-rooted : goal.collect-requires-clause-rooted
 collect-requires-clause-rooted g c = rooted_among g.D.Cx.Input.PartialEq.eq c.args.self.now c.args.target c.args.cache.now c.deref.result.now c.requires.noted (λ n has. subst (λ l. Contains l n) (sym (c.deref.ensures.value ∙ c.in_ok-roots.ensures)) has)
