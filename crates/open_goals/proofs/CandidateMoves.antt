@@ -6,6 +6,7 @@ use Rattle.open_goals.specs.Below.{change_last, StackEntry, EntryState, StackDep
 use Rattle.open_goals.specs.Words.{Run, paired, newest, CanIgnore, CanIgnoreUsages, CanIgnoreNewest, Ignores, IgnoresUsages, IgnoresNewest}
 use Rattle.open_goals.proofs.Pairs.{last_pair, LastPair, length_of_view}
 use Rattle.open_goals.proofs.Changes.{newest_state}
+use Rattle.open_goals.specs.OpenGoal.{OpenGoal}
 
 -- what is there, where something of it holds
 there_is : {A : Type 0} (o : Option A) (P : A → Type 0) → IsSomeAnd o P → (x : A) × (o ≡ Some x)
@@ -13,11 +14,11 @@ there_is None P holds = absurd holds
 there_is (Some x) P holds = (x, refl)
 
 -- where a candidate's usages can be taken away, there is a goal
-pub some_counted : {X F I R A T : Type 0} (candidate : UsagesByHead) (view : List (StackEntry X I R A T × Run X F I R A T)) → CanIgnoreUsages candidate view → 0 < length view
+pub some_counted : {X F I R A T : Type 0} (candidate : UsagesByHead) (view : List (OpenGoal X F I R A T)) → CanIgnoreUsages candidate view → 0 < length view
 some_counted candidate [] can = absurd can
 some_counted candidate (s ∷ below) can = omega arith
 
-module _ {X F I R A T : Type 0} (es : List (StackEntry X I R A T)) (fs : List (Run X F I R A T)) (view : List (StackEntry X I R A T × Run X F I R A T)) (same : length es ≡ length fs) (is : paired [] es fs ≡ view) where
+module _ {X F I R A T : Type 0} (es : List (StackEntry X I R A T)) (fs : List (Run X F I R A T)) (view : List (OpenGoal X F I R A T)) (same : length es ≡ length fs) (is : paired [] es fs ≡ view) where
   module _ (some : 0 < length view) (w x : EntryState X I R A T) (w_is : (d : StackEntry X I R A T) → w ≡ (get_or es (length es - 1) d).state) where
     -- a candidate of the newest goal is open
     pub open_candidate : IfSome (newest view) (λ s. is_some s.0.state.candidate_usages ≡ true) → IsSome w.candidate_usages
@@ -52,7 +53,7 @@ module _ {X F I R A T : Type 0} (es : List (StackEntry X I R A T)) (fs : List (R
             ignores = subst (λ p. Ignores p candidate n.entry.state x) place (subst (λ (s : EntryState X I R A T). Ignores parent candidate s x) (sym n.state_is) ignores);
           }
 
-  some_goal : (number : ℕ) (v : List (StackEntry X I R A T × Run X F I R A T)) → CanIgnoreNewest number v → 0 < length v
+  some_goal : (number : ℕ) (v : List (OpenGoal X F I R A T)) → CanIgnoreNewest number v → 0 < length v
   some_goal number [] can = absurd can
   some_goal number (s ∷ below) can = omega arith
 
@@ -78,14 +79,14 @@ module _ {X F I R A T : Type 0} (es : List (StackEntry X I R A T)) (fs : List (R
       taken_counts = subst (CanIgnoreUsages candidate) (sym (top.after_set (record run { candidates = left }))) (subst (λ o. IsSomeAnd o (λ used. CanIgnore (record { 0 = length top.rest }) used top.entry.state)) taken can_here)
 
       -- the newest goal after its state became this one
-      abbrev Becomes : EntryState X I R A T → (old new : List (StackEntry X I R A T × Run X F I R A T)) → Type 0
+      abbrev Becomes : EntryState X I R A T → (old new : List (OpenGoal X F I R A T)) → Type 0
       Becomes state [] new = ⊥
       Becomes state (s ∷ below) new = (new ≡ (record s.0 { state = state }, s.1) ∷ below) × Ignores (record { 0 = length below }) candidate s.0.state state
 
-      becomes : (old new : List (StackEntry X I R A T × Run X F I R A T)) (i : IgnoresUsages candidate old new) → Becomes i.state old new
+      becomes : (old new : List (OpenGoal X F I R A T)) (i : IgnoresUsages candidate old new) → Becomes i.state old new
       becomes old new i = subst (λ v. Becomes i.state v new) (sym i.was) (i.is, i.ignores)
 
-      pub taken_ignored : (new : List (StackEntry X I R A T × Run X F I R A T)) → IgnoresUsages candidate (paired [] es (slice_set fs n (record run { candidates = left }))) new → IgnoresNewest number view new
+      pub taken_ignored : (new : List (OpenGoal X F I R A T)) → IgnoresUsages candidate (paired [] es (slice_set fs n (record run { candidates = left }))) new → IgnoresNewest number view new
       taken_ignored new i =
           let b = subst (λ v. Becomes i.state v new) (top.after_set (record run { candidates = left })) (becomes _ new i) in
           record {

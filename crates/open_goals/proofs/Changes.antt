@@ -4,6 +4,7 @@ use Rattle.open_goals.specs.Below.{change_last, StackEntry, EntryState, PathKind
 use Rattle.search_stack.proofs.LastState.{some_element}
 use Rattle.open_goals.specs.Words.{Run, with_depth, with_nested_goals, TakesHeads, AnswersNewest, paired, newest, change_newest}
 use Rattle.open_goals.proofs.Pairs.{last_pair, LastPair, length_of_view}
+use Rattle.open_goals.specs.OpenGoal.{OpenGoal}
 
 module _ {E F : Type 0} (es : List E) (fs : List F) (view : List (E × F)) (same : length es ≡ length fs) (is : paired [] es fs ≡ view) (some : 0 < length view) where
   some_runs : 0 < length fs
@@ -78,7 +79,7 @@ pub record NewestState {X I R A T F : Type 0} (es : List (StackEntry X I R A T))
   pub state_is : entry.state ≡ w
   pub depth_is : length es - 1 ≡ length below
 
-module _ {X F I R A T : Type 0} (es : List (StackEntry X I R A T)) (fs : List (Run X F I R A T)) (view : List (StackEntry X I R A T × Run X F I R A T)) (same : length es ≡ length fs) (is : paired [] es fs ≡ view) (some : 0 < length view) where
+module _ {X F I R A T : Type 0} (es : List (StackEntry X I R A T)) (fs : List (Run X F I R A T)) (view : List (OpenGoal X F I R A T)) (same : length es ≡ length fs) (is : paired [] es fs ≡ view) (some : 0 < length view) where
   pub newest_state : (w x : EntryState X I R A T) → ((d : StackEntry X I R A T) → w ≡ (get_or es (length es - 1) d).state) → NewestState es fs view w x
   newest_state w x w_is =
       let top = last es fs view same is some in

@@ -4,6 +4,7 @@ use Rattle.std.specs.Option.{option_map}
 use Rattle.open_goals.specs.Below.{PathKind, StackDepth, Heads, StackEntry, EntryState, change_last, Hit, NestedPaths, joined_paths, paths_at, JoinsPaths, extended, path_of_no_step, paths_of}
 use Rattle.open_goals.specs.Words.{Run, with_depth, with_nested_goals, ChangesNested, TakesHeads, TakesHeadGoal, TakesNestedGoals, Joined, NotesOverflow, TakesStored, paired}
 use Rattle.open_goals.proofs.Changes.{NewestState, newest_state}
+use Rattle.open_goals.specs.OpenGoal.{OpenGoal}
 
 -- the goals of an answer are joined, and then the goal itself
 pub goals_joined : {I V E : Type 0} (same : I → I → Bool) (own : I) (step : PathKind) (answer old between new : NestedPaths I) (r : Result V E) (none : Bool) → none ≡ false → (answer ≡ [] → none ≡ true) → ((input : I) → paths_at same between input ≡ joined_paths (paths_at same old input) (option_map (λ paths. extended paths step) (paths_at same answer input))) → OnOk r (JoinsPaths same between new own path_of_no_step) → OnOk r (TakesNestedGoals same own step answer old new)
@@ -15,7 +16,7 @@ pub head_joined : {I V E : Type 0} (same : I → I → Bool) (own : I) (step : P
 head_joined same own step goal old between new (Ok v) head itself = record { between = between; head = head; itself = itself }
 head_joined same own step goal old between new (Err e) head itself = tt
 
-module _ {X F I R A T : Type 0} (same : I → I → Bool) (es : List (StackEntry X I R A T)) (fs : List (Run X F I R A T)) (view : List (StackEntry X I R A T × Run X F I R A T)) (long : length es ≡ length fs) (is : paired [] es fs ≡ view) (some : 0 < length view) (w x : EntryState X I R A T) (w_is : (d : StackEntry X I R A T) → w ≡ (get_or es (length es - 1) d).state) (e : StackEntry X I R A T) (e_is : e ≡ get_or es (length es - 1) e) where
+module _ {X F I R A T : Type 0} (same : I → I → Bool) (es : List (StackEntry X I R A T)) (fs : List (Run X F I R A T)) (view : List (OpenGoal X F I R A T)) (long : length es ≡ length fs) (is : paired [] es fs ≡ view) (some : 0 < length view) (w x : EntryState X I R A T) (w_is : (d : StackEntry X I R A T) → w ≡ (get_or es (length es - 1) d).state) (e : StackEntry X I R A T) (e_is : e ≡ get_or es (length es - 1) e) where
   -- the newest goal with its state
   here : NewestState es fs view w x
   here = newest_state es fs view long is some w x w_is

@@ -6,6 +6,7 @@ use Rattle.std.specs.Option.{IfSome}
 use Rattle.open_goals.specs.Below.{NodeId, StackEntry}
 use Rattle.open_goals.specs.Words.{paired, Run, HasCycleNode, HasNodes, HasRunNodes, HasTarget}
 use Rattle.open_goals.specs.declared.progress.DefiniteAnswer.{DefiniteAnswer}
+use Rattle.open_goals.specs.OpenGoal.{OpenGoal}
 
 -- what is in one list is in the other
 abbrev pub Kept : List NodeId → List NodeId → Type 0
@@ -68,7 +69,7 @@ module _ {X F I R A T : Type 0} (nodes : List NodeId) where
   both : (e : StackEntry X I R A T) (run : Run X F I R A T) → HasCycleNode nodes e → HasRunNodes nodes run → HasNodes nodes (e, run)
   both e run cycle own = record { own = own.own; cycles = cycle; answers = own.answers }
 
-  pub all_paired : (below : List (StackEntry X I R A T × Run X F I R A T)) (es : List (StackEntry X I R A T)) (runs : List (Run X F I R A T))
+  pub all_paired : (below : List (OpenGoal X F I R A T)) (es : List (StackEntry X I R A T)) (runs : List (Run X F I R A T))
       → All (HasNodes nodes) below → All (HasCycleNode nodes) es → All (HasRunNodes nodes) runs → All (HasNodes nodes) (paired below es runs)
   all_paired below [] runs had cycles own = had
   all_paired below (e ∷ es) [] had cycles own = had
@@ -79,7 +80,7 @@ module _ {X F I R A T : Type 0} (nodes : List NodeId) where
       (All-tail (HasRunNodes nodes) run runs own)
 
 -- the goals have their nodes where their entries had theirs before the runs' were appended
-pub goals_on_ok : {X F I R A T U E : Type 0} (es : List (StackEntry X I R A T)) (runs : List (Run X F I R A T)) (view : List (StackEntry X I R A T × Run X F I R A T)) → paired [] es runs ≡ view
+pub goals_on_ok : {X F I R A T U E : Type 0} (es : List (StackEntry X I R A T)) (runs : List (Run X F I R A T)) (view : List (OpenGoal X F I R A T)) → paired [] es runs ≡ view
     → (few many : List NodeId) → Kept few many → All (HasCycleNode few) es → (r : Result U E) → OnOk r (All (HasRunNodes many) runs) → OnOk r (All (HasNodes many) view)
 goals_on_ok es runs view is few many kept cycles (Ok u) own =
     subst (All (HasNodes many)) is (all_paired many [] es runs (All-nil (HasNodes many)) (All-weaker (HasCycleNode few) (HasCycleNode many) (keeps_cycle_node few many kept) es cycles) own)

@@ -5,6 +5,7 @@ use Rattle.open_goals.specs.Below.{StackDepth, CycleHead, PathKind, HeadUsages, 
 use Rattle.open_goals.specs.declared.goals.Run.{Run}
 use Rattle.open_goals.specs.Entries.{is_in_cycle}
 use Rattle.open_goals.specs.Newest.{change_newest}
+use Rattle.open_goals.specs.OpenGoal.{OpenGoal}
 
 -- the counts hold these usages
 abbrev pub Covers : HeadUsages → HeadUsages → Type 0
@@ -52,46 +53,46 @@ module _ {X I R A T : Type 0} where
 
 module _ {X F I R A T : Type 0} where
   -- a candidate of the goal is open, which used nothing yet
-  abbrev pub enters : StackEntry X I R A T × Run X F I R A T → StackEntry X I R A T × Run X F I R A T
+  abbrev pub enters : OpenGoal X F I R A T → OpenGoal X F I R A T
   enters s = (record s.0 { state = record s.0.state { candidate_usages = Some [] } }, s.1)
 
   -- no candidate of the goal is open
-  abbrev pub leaves : StackEntry X I R A T × Run X F I R A T → StackEntry X I R A T × Run X F I R A T
+  abbrev pub leaves : OpenGoal X F I R A T → OpenGoal X F I R A T
   leaves s = (record s.0 { state = record s.0.state { candidate_usages = None } }, s.1)
 
   -- one more candidate of the goal is finished
-  abbrev pub records_candidate : UsagesByHead → StackEntry X I R A T × Run X F I R A T → StackEntry X I R A T × Run X F I R A T
+  abbrev pub records_candidate : UsagesByHead → OpenGoal X F I R A T → OpenGoal X F I R A T
   records_candidate candidate s = (s.0, record s.1 { candidates = s.1.candidates ++ candidate ∷ [] })
 
   -- the open candidate of the goal is finished
-  abbrev pub finishes : StackEntry X I R A T × Run X F I R A T → StackEntry X I R A T × Run X F I R A T
+  abbrev pub finishes : OpenGoal X F I R A T → OpenGoal X F I R A T
   finishes s = records_candidate (unwrap_or s.0.state.candidate_usages []) (leaves s)
 
   -- all that the candidate used is counted by the newest goal
-  abbrev pub CanIgnoreUsages : UsagesByHead → List (StackEntry X I R A T × Run X F I R A T) → Type 0
+  abbrev pub CanIgnoreUsages : UsagesByHead → List (OpenGoal X F I R A T) → Type 0
   CanIgnoreUsages candidate [] = ⊥
   CanIgnoreUsages candidate (s ∷ below) = CanIgnore (record { 0 = length below }) candidate s.0.state
 
   -- the newest goal doesn't count it any more
-  pub record IgnoresUsages (candidate : UsagesByHead) (old new : List (StackEntry X I R A T × Run X F I R A T)) : Type 0 where
+  pub record IgnoresUsages (candidate : UsagesByHead) (old new : List (OpenGoal X F I R A T)) : Type 0 where
     pub entry : StackEntry X I R A T
     pub run : Run X F I R A T
-    pub below : List (StackEntry X I R A T × Run X F I R A T)
+    pub below : List (OpenGoal X F I R A T)
     pub state : EntryState X I R A T
     pub was : old ≡ (entry, run) ∷ below
     pub is : new ≡ (record entry { state = state }, run) ∷ below
     pub ignores : Ignores (record { 0 = length below }) candidate entry.state state
 
   -- the newest goal's candidate of this number is finished, and all that it used is counted
-  abbrev pub CanIgnoreNewest : ℕ → List (StackEntry X I R A T × Run X F I R A T) → Type 0
+  abbrev pub CanIgnoreNewest : ℕ → List (OpenGoal X F I R A T) → Type 0
   CanIgnoreNewest number [] = ⊥
   CanIgnoreNewest number (s ∷ below) = IsSomeAnd (slice_get s.1.candidates number) (λ candidate. CanIgnore (record { 0 = length below }) candidate s.0.state)
 
   -- the newest goal's candidate of this number is ignored: what it used isn't counted any more, and won't be taken away again
-  pub record IgnoresNewest (number : ℕ) (old new : List (StackEntry X I R A T × Run X F I R A T)) : Type 0 where
+  pub record IgnoresNewest (number : ℕ) (old new : List (OpenGoal X F I R A T)) : Type 0 where
     pub entry : StackEntry X I R A T
     pub run : Run X F I R A T
-    pub below : List (StackEntry X I R A T × Run X F I R A T)
+    pub below : List (OpenGoal X F I R A T)
     pub candidate : UsagesByHead
     pub state : EntryState X I R A T
     pub was : old ≡ (entry, run) ∷ below
@@ -100,7 +101,7 @@ module _ {X F I R A T : Type 0} where
     pub ignores : Ignores (record { 0 = length below }) candidate entry.state state
 
   -- what the newest goal's frame requested of its candidates can be done
-  abbrev pub CanNote : Request I R → List (StackEntry X I R A T × Run X F I R A T) → Type 0
+  abbrev pub CanNote : Request I R → List (OpenGoal X F I R A T) → Type 0
   CanNote request [] = ⊥
   CanNote EnterCandidate (s ∷ below) = Unit {0}
   CanNote FinishCandidate (s ∷ below) = is_some s.0.state.candidate_usages ≡ true
@@ -108,7 +109,7 @@ module _ {X F I R A T : Type 0} where
   CanNote _ (s ∷ below) = Unit {0}
 
   -- it was done
-  abbrev pub NotesCandidate : Request I R → List (StackEntry X I R A T × Run X F I R A T) → List (StackEntry X I R A T × Run X F I R A T) → Type 0
+  abbrev pub NotesCandidate : Request I R → List (OpenGoal X F I R A T) → List (OpenGoal X F I R A T) → Type 0
   NotesCandidate EnterCandidate old new = new ≡ change_newest enters old
   NotesCandidate FinishCandidate old new = new ≡ change_newest finishes old
   NotesCandidate (Ignore number) old new = IgnoresNewest number old new

@@ -1,4 +1,5 @@
 pub mod Newest
+pub mod OpenGoal
 pub mod Entries
 pub mod NestedGoals
 pub mod Items

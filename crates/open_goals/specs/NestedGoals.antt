@@ -4,6 +4,7 @@ use Rattle.std.specs.Option.{option_map}
 use Rattle.open_goals.specs.Below.{EvaluationResult, PathKind, StackEntry, Hit, NestedPaths, joined_paths, paths_at, JoinsPaths, extended, path_of_no_step, paths_of}
 use Rattle.open_goals.specs.declared.goals.Run.{Run}
 use Rattle.open_goals.specs.Entries.{overflowed, with_depth, with_nested_goals}
+use Rattle.open_goals.specs.OpenGoal.{OpenGoal}
 
 -- The goals below `own` take over those of an answer over the step: each with its paths after the step, and `own` itself by the
 -- path of no step. An answer without goals changes nothing.
@@ -30,38 +31,38 @@ pub record LeavesAnswer {X I R A T : Type 0} (old new : EvaluationResult X I R A
 
 module _ {X F I R A T : Type 0} where
   -- what becomes of the goals below the newest goal, by a relation of its own goal with those before and those after
-  abbrev pub ChangesNested : (I → NestedPaths I → NestedPaths I → Type 0) → List (StackEntry X I R A T × Run X F I R A T) → List (StackEntry X I R A T × Run X F I R A T) → Type 0
+  abbrev pub ChangesNested : (I → NestedPaths I → NestedPaths I → Type 0) → List (OpenGoal X F I R A T) → List (OpenGoal X F I R A T) → Type 0
   ChangesNested takes (s ∷ below) (t ∷ after) = takes s.0.input s.0.state.nested_goals t.0.state.nested_goals
   ChangesNested takes _ _ = ⊥
 
 module _ {X F I R A T : Type 0} (same : I → I → Bool) where
   -- the newest goal takes over the goals of an answer over the step
-  abbrev pub NestsAnswer : PathKind → NestedPaths I → List (StackEntry X I R A T × Run X F I R A T) → List (StackEntry X I R A T × Run X F I R A T) → Type 0
+  abbrev pub NestsAnswer : PathKind → NestedPaths I → List (OpenGoal X F I R A T) → List (OpenGoal X F I R A T) → Type 0
   NestsAnswer step answer = ChangesNested (λ own. TakesNestedGoals same own step answer)
 
   -- the head of a cycle that the step closed is one of the goals below the newest goal, and so is this itself
-  abbrev pub NestsHead : PathKind → I → List (StackEntry X I R A T × Run X F I R A T) → List (StackEntry X I R A T × Run X F I R A T) → Type 0
+  abbrev pub NestsHead : PathKind → I → List (OpenGoal X F I R A T) → List (OpenGoal X F I R A T) → Type 0
   NestsHead step goal = ChangesNested (λ own. TakesHeadGoal same own step goal)
 
   -- the newest goal is one of the goals below itself, and no other one is new
-  abbrev pub NestsItself : List (StackEntry X I R A T × Run X F I R A T) → List (StackEntry X I R A T × Run X F I R A T) → Type 0
+  abbrev pub NestsItself : List (OpenGoal X F I R A T) → List (OpenGoal X F I R A T) → Type 0
   NestsItself = ChangesNested (λ own old new. JoinsPaths same old new own path_of_no_step)
 
   -- a question of the newest goal was refused: it met overflow, and is one of the goals below itself
-  pub record NotesOverflow (old new : List (StackEntry X I R A T × Run X F I R A T)) : Type 0 where
+  pub record NotesOverflow (old new : List (OpenGoal X F I R A T)) : Type 0 where
     pub entry : StackEntry X I R A T
     pub run : Run X F I R A T
-    pub below : List (StackEntry X I R A T × Run X F I R A T)
+    pub below : List (OpenGoal X F I R A T)
     pub nested : NestedPaths I
     pub was : old ≡ (entry, run) ∷ below
     pub is : new ≡ (overflowed (record entry { state = with_nested_goals entry.state nested }), run) ∷ below
     pub joins : JoinsPaths same entry.state.nested_goals nested entry.input path_of_no_step
 
   -- the newest goal takes a stored result over the step: the depth that this required, whether it met overflow, and its goals
-  pub record TakesStored (step : PathKind) (hit : Hit I R T) (old new : List (StackEntry X I R A T × Run X F I R A T)) : Type 0 where
+  pub record TakesStored (step : PathKind) (hit : Hit I R T) (old new : List (OpenGoal X F I R A T)) : Type 0 where
     pub entry : StackEntry X I R A T
     pub run : Run X F I R A T
-    pub below : List (StackEntry X I R A T × Run X F I R A T)
+    pub below : List (OpenGoal X F I R A T)
     pub nested : NestedPaths I
     pub was : old ≡ (entry, run) ∷ below
     pub is : new ≡ (record entry { state = with_nested_goals (with_depth entry.state hit.required_depth hit.encountered_overflow) nested }, run) ∷ below

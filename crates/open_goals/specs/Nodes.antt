@@ -4,9 +4,10 @@ use Rattle.std.specs.Option.{IfSome}
 use Rattle.open_goals.specs.Below.{NodeId, StackEntry}
 use Rattle.open_goals.specs.declared.goals.Run.{Run}
 use Rattle.open_goals.specs.declared.progress.DefiniteAnswer.{DefiniteAnswer}
+use Rattle.open_goals.specs.OpenGoal.{OpenGoal}
 
 -- its run's own, the one to which the answers of its cycles lead, and those of its run's definite answers, also of those in ignored candidates
-pub record HasNodes {X F I R A T : Type 0} (nodes : List NodeId) (s : StackEntry X I R A T × Run X F I R A T) : Type 0 where
+pub record HasNodes {X F I R A T : Type 0} (nodes : List NodeId) (s : OpenGoal X F I R A T) : Type 0 where
   pub own : Contains nodes s.1.node
   pub cycles : IfSome s.0.state.node (Contains nodes)
   pub answers : All (λ a. Contains nodes (record { 0 = a.edge.target })) s.1.progress.answers

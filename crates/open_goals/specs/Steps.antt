@@ -4,6 +4,7 @@ use Rattle.open_goals.specs.Below.{DelegateOf, CxOf, Request, Reply, Begin, Answ
 use Rattle.open_goals.specs.Progress.{RunRecord, received, requested, fault_of, Records}
 use Rattle.open_goals.specs.declared.goals.Received.{Received}
 use Rattle.open_goals.specs.declared.goals.Run.{Run}
+use Rattle.open_goals.specs.OpenGoal.{OpenGoal}
 
 -- the verdict is that of the answer, if the reply is one
 abbrev pub IsVerdict : {R : Type 0} → Verdicts R → Reply R → Verdict → Type 0
@@ -14,7 +15,7 @@ IsVerdict says (Answer r) verdict = ((verdict ≡ Yes) ↔ IsTrue (says.is_yes r
 module _ {D C V P F I R A T : Type 0} (G : DelegateOf D C V P F I R A T) (X : CxOf C I R A T) (cx : C) where
   -- a goal under evaluation with its run
   abbrev pub Item : Type 0
-  Item = StackEntry C I R A T × Run C F I R A T
+  Item = OpenGoal C F I R A T
 
   -- the item's frame has had these replies, the newest first, and so says its record
   abbrev pub Stood : Item → List (Reply R) → Type 0

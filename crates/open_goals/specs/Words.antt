@@ -7,6 +7,7 @@ pub use Rattle.open_goals.specs.Entries.{TakesHeads, usages_over, with_depth, wi
 pub use Rattle.open_goals.specs.Items.{AnswersNewest, rerun_with}
 pub use Rattle.open_goals.specs.NestedGoals.{ChangesNested, Joined, LeavesAnswer, NotesOverflow, TakesHeadGoal, TakesNestedGoals, TakesStored}
 pub use Rattle.open_goals.specs.Newest.{change_newest, newest, paired}
+pub use Rattle.open_goals.specs.OpenGoal.{OpenGoal}
 pub use Rattle.open_goals.specs.Nodes.{HasCycleNode, HasNodes, HasRunNodes, HasTarget}
 pub use Rattle.open_goals.specs.Progress.{answers_with, edges_of, fault_of, no_record, received, requested}
 pub use Rattle.open_goals.specs.Progress.{rests_on}

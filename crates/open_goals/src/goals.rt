@@ -106,11 +106,10 @@ pub struct OpenGoals<X: Cx, F: Drop, S: Drop> {
 
 impl<X: Cx, F: Drop, S: Drop> Model for OpenGoals<X, F, S> {
     ghost use Rattle.std.specs.Prelude.{◌≡◌, List, [], length};
-    ghost use Rattle.open_goals.specs.Below.{StackEntry};
-    ghost use Rattle.open_goals.specs.declared.goals.Run.{Run};
     ghost use Rattle.open_goals.specs.Newest.{paired};
+    ghost use Rattle.open_goals.specs.OpenGoal.{OpenGoal};
 
-    ghost Value = { List (StackEntry X X.Input X.Result X.AmbiguityInfo X.DepNodeIndex × Run X F X.Input X.Result X.AmbiguityInfo X.DepNodeIndex) };
+    ghost Value = { List (OpenGoal X F X.Input X.Result X.AmbiguityInfo X.DepNodeIndex) };
 
     ghost view = { λ t. paired [] t.stack t.runs.items };
 

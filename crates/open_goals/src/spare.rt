@@ -63,9 +63,9 @@ impl<I: Copy, R: Copy> SpareMemory<I, R> {
         ensures { result ≡ [] }
     {
         match self.candidates.pop() {
-            Some(mut candidates) => {
-                candidates.clear();
-                candidates
+            Some(mut emptied) => {
+                emptied.clear();
+                emptied
             }
             None => FinishedCandidates::new(self.alloc),
         }

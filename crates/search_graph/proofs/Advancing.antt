@@ -1,6 +1,6 @@
 -- The newest frame gets its reply and makes a request: what the moves after that may rest on.
 use Rattle.std.proofs.Common.{◌≡◌, ℕ, Bool, List, sym, ◌∙◌, subst}
-use Rattle.search_graph.specs.Below.{DelegateOf, CxOf, Request, Received, Cache, HasStepped, IsStepFault, NotesCandidate, StackEntry, Run, Fault, Awaits, Call, HasReply, HasRequest, HaveExpected, IsRight, IsRightFor, Requests, StopsWith, work_left}
+use Rattle.search_graph.specs.Below.{DelegateOf, CxOf, Request, Received, Cache, HasStepped, IsStepFault, NotesCandidate, OpenGoal, Fault, Awaits, Call, HasReply, HasRequest, HaveExpected, IsRight, IsRightFor, Requests, StopsWith, work_left}
 use Rattle.search_moves.specs.declared.evaluation.Evaluation.{Evaluation}
 use Rattle.search_graph.proofs.Causes.{step_keeps_free}
 use Rattle.search_graph.proofs.Loops.{advance_asks, advance_justified, advance_stops, step_asks_for, stepped_some}
@@ -10,14 +10,14 @@ use Rattle.search_rules.proofs.entries.Moves.{stepped_ready}
 module _ {D C V P F I R A T : Type 0} (G : DelegateOf D C V P F I R A T) (X : CxOf C I R A T) (same : I → I → Bool) (cx : C) (cache : Cache C I R A T) (e : Evaluation D C V P F I R A T) (given : Received R) where
   -- a frame that failed ends the call
   pub step_stops :
-      (read : C) → read ≡ cx → (goals : List (StackEntry C I R A T × Run C F I R A T)) (starts now : ℕ) → now ≡ starts → (fault : Fault I R) → IsStepFault G X read given e.goals fault
+      (read : C) → read ≡ cx → (goals : List (OpenGoal C F I R A T)) (starts now : ℕ) → now ≡ starts → (fault : Fault I R) → IsStepFault G X read given e.goals fault
       → IsRightFor G X same cx given cache e → (call : Call I) → Awaits G X same cx call given cache e starts → StopsWith G X same cx call fault cache (record e { goals = goals }) now
   step_stops read reads goals starts now same_starts fault is h call w = record {
     stopped = advance_stops G X cx given e.goals goals read reads fault is starts now e.limits_met same_starts cache.nodes h.fits call w.waiting;
     store = w.answers.store;
   }
 
-  module _ (read : C) (reads : read ≡ cx) (made : Request I R) (goals : List (StackEntry C I R A T × Run C F I R A T)) (stepped : HasStepped G X read given made e.goals goals) where
+  module _ (read : C) (reads : read ≡ cx) (made : Request I R) (goals : List (OpenGoal C F I R A T)) (stepped : HasStepped G X read given made e.goals goals) where
     pub requests :
         (starts now : ℕ) → now ≡ starts → (request : Request I R) → made ≡ request → IsRightFor G X same cx given cache e
         → (call : Call I) → Awaits G X same cx call given cache e starts → Requests G X same cx request call (work_left G X cx e.goals) cache (record e { goals = goals }) now

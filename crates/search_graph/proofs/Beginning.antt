@@ -1,6 +1,6 @@
 -- An evaluation begins: its goal is the first one that is pushed.
 use Rattle.std.proofs.Common.{◌≡◌, ◌≤◌, ◌+◌, ℕ, Bool, true, List, None, sym, subst}
-use Rattle.search_graph.specs.Below.{AreSoundResults, AvailableDepth, Begin, Cache, CacheNode, CountsOne, CxOf, DelegateOf, Memory, PathKind, Run, StackEntry, verdicts, AreFree, AreJustified, AreReady, NewestAsks, Awaits, Begins, Call, IsNew, IsRight, IsRightFor, KeepsAnswers, Pushes, StopsWith, runs_of}
+use Rattle.search_graph.specs.Below.{AreSoundResults, AvailableDepth, Begin, Cache, CacheNode, CountsOne, CxOf, DelegateOf, Memory, PathKind, verdicts, OpenGoal, AreFree, AreJustified, AreReady, NewestAsks, Awaits, Begins, Call, IsNew, IsRight, IsRightFor, KeepsAnswers, Pushes, StopsWith, runs_of}
 use Rattle.search_moves.specs.declared.evaluation.Evaluation.{Evaluation}
 use Rattle.search_moves.proofs.Asking.{pushed_right}
 use Rattle.search_rules.proofs.justified.Justified.{nothing_is_justified}
@@ -27,7 +27,7 @@ module _ {D C V P F I R A T : Type 0} (G : DelegateOf D C V P F I R A T) (X : Cx
       (subst (λ a. StopsWith G X same cx call Memory (record old { nodes = new.nodes }) a later) (sym is_after)
       (record { stopped = first_stopped G X cx goal kind depth starts later e.limits_met least most call begins.outset; store = begins.store }))
 
-  module _ (depth : AvailableDepth) (goals : List (StackEntry C I R A T × Run C F I R A T)) (nodes : List (CacheNode I R)) (pushes : Pushes G X cx goal kind depth old.nodes nodes e.goals goals) where
+  module _ (depth : AvailableDepth) (goals : List (OpenGoal C F I R A T)) (nodes : List (CacheNode I R)) (pushes : Pushes G X cx goal kind depth old.nodes nodes e.goals goals) where
     pub begins_right : AreSoundResults same (verdicts X) (G.script cx) old.nodes old.results → IsRightFor G X same cx (record { reply = Begin; node = None }) (record old { nodes = nodes }) (record e { goals = goals })
     begins_right sound =
         pushed_right G X same cx kind goal old e 0 depth goals nodes pushes (subst (λ gs. NewestAsks (runs_of gs) kind goal) (sym is_new.no_goals) tt) (new_right sound)

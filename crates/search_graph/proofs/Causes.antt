@@ -1,13 +1,13 @@
 -- Why a step fails, and that stored results rest on no goal while steps are taken.
 use Rattle.std.proofs.Common.{◌≡◌, ℕ, Bool, List, ◌∷◌, refl, sym, subst}
-use Rattle.search_graph.specs.Below.{DelegateOf, CxOf, Request, Fault, StoredResult, StackEntry, Cache, CacheNode, Store, Run, Received, requested, HasStepped, IsStepFault, NoMemoryLeft, received_by, verdicts, Call, IsWaiting, AreFree, IsCaused, OutOfMemory, IsFit, run_of, runs_of}
+use Rattle.search_graph.specs.Below.{DelegateOf, CxOf, Request, Fault, StoredResult, OpenGoal, Cache, CacheNode, Store, Received, requested, HasStepped, IsStepFault, NoMemoryLeft, received_by, verdicts, Call, IsWaiting, AreFree, IsCaused, OutOfMemory, IsFit, run_of, runs_of}
 use Rattle.search_rules.specs.Claims.{OutOfOrder}
 use Rattle.open_goals.specs.Steps as steps
 use Rattle.search_rules.proofs.moves.Moves.{can_step_record, fault_after_step}
 use Rattle.search_rules.proofs.justified.Replies.{replies_sorted}
 use Rattle.search_rules.proofs.answers.Free.{all_free_above}
 
-module _ {D C V P F I R A T : Type 0} (G : DelegateOf D C V P F I R A T) (X : CxOf C I R A T) (same : I → I → Bool) (cache : Cache C I R A T) (given : Received R) (goals : List (StackEntry C I R A T × Run C F I R A T)) (starts : ℕ) (met : Bool) where
+module _ {D C V P F I R A T : Type 0} (G : DelegateOf D C V P F I R A T) (X : CxOf C I R A T) (same : I → I → Bool) (cache : Cache C I R A T) (given : Received R) (goals : List (OpenGoal C F I R A T)) (starts : ℕ) (met : Bool) where
   -- a step failed for want of memory, or since the newest goal's request was out of order
   caused_at : (call : Call I) → IsFit (verdicts X) cache.nodes (runs_of goals) given.reply given.node → IsWaiting G X cache.cx call given.reply goals starts met → (fault : Fault I R) → IsStepFault G X cache.cx given goals fault → IsCaused G X same cache fault
   caused_at call fit h fault (NoMemoryLeft is) = OutOfMemory is
@@ -21,8 +21,8 @@ module _ {D C V P F I R A T : Type 0} (G : DelegateOf D C V P F I R A T) (X : Cx
   step_is_caused call fit h read is_cx fault failed = caused_at call fit h fault (subst (λ x. IsStepFault G X x given goals fault) is_cx failed)
 
 -- a step changes no node of the goals
-pub step_keeps_free : {D C V P F I R A T : Type 0} (G : DelegateOf D C V P F I R A T) (X : CxOf C I R A T) (cx : C) (same : I → I → Bool) (nodes : List (CacheNode I R)) (results : Store I (StoredResult C I R A T)) (given : Received R) (request : Request I R) (old new : List (StackEntry C I R A T × Run C F I R A T)) → HasStepped G X cx given request old new → AreFree (verdicts X) same nodes (runs_of old) results → AreFree (verdicts X) same nodes (runs_of new) results
+pub step_keeps_free : {D C V P F I R A T : Type 0} (G : DelegateOf D C V P F I R A T) (X : CxOf C I R A T) (cx : C) (same : I → I → Bool) (nodes : List (CacheNode I R)) (results : Store I (StoredResult C I R A T)) (given : Received R) (request : Request I R) (old new : List (OpenGoal C F I R A T)) → HasStepped G X cx given request old new → AreFree (verdicts X) same nodes (runs_of old) results → AreFree (verdicts X) same nodes (runs_of new) results
 step_keeps_free {C = C} {F = F} {I = I} {R = R} {A = A} {T = T} G X cx same nodes results given request old new s free =
-    let was : AreFree (verdicts X) same nodes (run_of (s.entry, s.run) ∷ runs_of s.below) results = subst (λ (l : List (StackEntry C I R A T × Run C F I R A T)). AreFree (verdicts X) same nodes (runs_of l) results) s.was free in
-    subst (λ (l : List (StackEntry C I R A T × Run C F I R A T)). AreFree (verdicts X) same nodes (runs_of l) results) (sym s.is)
+    let was : AreFree (verdicts X) same nodes (run_of (s.entry, s.run) ∷ runs_of s.below) results = subst (λ (l : List (OpenGoal C F I R A T)). AreFree (verdicts X) same nodes (runs_of l) results) s.was free in
+    subst (λ (l : List (OpenGoal C F I R A T)). AreFree (verdicts X) same nodes (runs_of l) results) (sym s.is)
     (all_free_above (verdicts X) same nodes (run_of (s.entry, s.run)) (run_of (s.entry, record s.run { frame = s.frame; progress = requested (received_by G X cx s.run given s.verdict) request })) (runs_of s.below) results refl refl refl refl was)

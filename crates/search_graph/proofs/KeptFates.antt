@@ -3,7 +3,7 @@ use Rattle.std.proofs.Common.{◌≡◌, Bool, false, List, ◌∷◌, [], refl,
 use Rattle.global_cache.specs.Store.{KeepsResults}
 use Rattle.open_goals.specs.declared.goals.Fate.{Fate}
 use Rattle.open_goals.specs.declared.goals.Fate.TheVariants as becomes
-use Rattle.search_graph.specs.Below.{ChangesNewest, fates_of, HasOldest, HaveExpected, IsFated, IsNewestToStore, MovesFates, NoneStored, Place, Reply, Request, Run, StackEntry, Store, stored_at, StoredResult}
+use Rattle.search_graph.specs.Below.{ChangesNewest, fates_of, HasOldest, HaveExpected, IsFated, IsNewestToStore, MovesFates, NoneStored, Place, Reply, Request, Store, OpenGoal, stored_at, StoredResult}
 use Rattle.search_graph.specs.Fates.{KeepsFates}
 use Rattle.search_rules.proofs.Fates.{expected_kept, expected_moves, none_stored_moves, oldest_moves, spared_stays, unstored_stay}
 
@@ -12,7 +12,7 @@ not_stored fate unstored stored = let clash : becomes.NotStored ≡ becomes.Stor
 
 module _ {C F I R A T : Type 0} (scopes : I → Bool) (scripts : I → List (Reply R) → Request I R) (same : I → I → Bool) (noop : Bool) (input : I) (fate : Fate R) (old : Store I (StoredResult C I R A T)) where
   -- the goal is the first one
-  pub first_fates : (depth : _) (none goals : List (StackEntry C I R A T × Run C F I R A T)) (new : Store I (StoredResult C I R A T)) → none ≡ [] → fates_of goals ≡ record { goal = input; depth = depth; fate = fate } ∷ fates_of none → IsFated scopes scripts same old noop (record { goal = input; depth = depth; fate = fate }) → new ≡ old → KeepsFates scopes scripts same noop input fate old goals new
+  pub first_fates : (depth : _) (none goals : List (OpenGoal C F I R A T)) (new : Store I (StoredResult C I R A T)) → none ≡ [] → fates_of goals ≡ record { goal = input; depth = depth; fate = fate } ∷ fates_of none → IsFated scopes scripts same old noop (record { goal = input; depth = depth; fate = fate }) → new ≡ old → KeepsFates scopes scripts same noop input fate old goals new
   first_fates depth none goals new empty is fated unchanged =
       let only : fates_of goals ≡ record { goal = input; depth = depth; fate = fate } ∷ [] = is ∙ ap (λ l. record { goal = input; depth = depth; fate = fate } ∷ fates_of l) empty in
       record {
@@ -24,10 +24,10 @@ module _ {C F I R A T : Type 0} (scopes : I → Bool) (scripts : I → List (Rep
       }
 
   -- the newest of the goals is the first one, if there is no other
-  pub only_stores : (goals : List (StackEntry C I R A T × Run C F I R A T)) (s : StackEntry C I R A T × Run C F I R A T) → goals ≡ s ∷ [] → fate ≡ becomes.Stored → HasOldest same input fate (fates_of goals) → IsNewestToStore (fates_of goals)
+  pub only_stores : (goals : List (OpenGoal C F I R A T)) (s : OpenGoal C F I R A T) → goals ≡ s ∷ [] → fate ≡ becomes.Stored → HasOldest same input fate (fates_of goals) → IsNewestToStore (fates_of goals)
   only_stores goals s is stores h = subst (λ l. IsNewestToStore (fates_of l)) (sym is) ((subst (λ l. HasOldest same input fate (fates_of l)) is h).1 ∙ stores)
 
-  module _ (goals : List (StackEntry C I R A T × Run C F I R A T)) (mid new : Store I (StoredResult C I R A T)) (h : KeepsFates scopes scripts same noop input fate old goals mid) (changes : ChangesNewest same (fates_of goals) mid new) where
+  module _ (goals : List (OpenGoal C F I R A T)) (mid new : Store I (StoredResult C I R A T)) (h : KeepsFates scopes scripts same noop input fate old goals mid) (changes : ChangesNewest same (fates_of goals) mid new) where
     -- no result changed that isn't to be stored,
     pub then_recorded : noop ≡ false → new ≡ old
     then_recorded records = unstored_stay same (fates_of goals) mid new changes (h.recording records) ∙ h.recorded records
@@ -36,7 +36,7 @@ module _ {C F I R A T : Type 0} (scopes : I → Bool) (scripts : I → List (Rep
     then_spared unstored place = spared_stays same (fates_of goals) mid new input fate unstored changes h.oldest place ∙ h.spared unstored place
 
     -- and the goals have their fates
-    pub then_fates : KeepsResults same mid new → (later : List (StackEntry C I R A T × Run C F I R A T)) → MovesFates same (IsFated scopes scripts same mid noop) (fates_of goals) (fates_of later) → KeepsFates scopes scripts same noop input fate old later new
+    pub then_fates : KeepsResults same mid new → (later : List (OpenGoal C F I R A T)) → MovesFates same (IsFated scopes scripts same mid noop) (fates_of goals) (fates_of later) → KeepsFates scopes scripts same noop input fate old later new
     then_fates kept later moves = record {
       recording = λ records. none_stored_moves same (IsFated scopes scripts same mid noop) (λ s suited. suited.recorded records) (fates_of goals) (fates_of later) moves (h.recording records);
       recorded = then_recorded;

@@ -5,7 +5,7 @@ use Rattle.std.proofs.lemmas.Bool.Decides.{nat_tests}
 use Rattle.std.proofs.lemmas.List.{get_or-set_same, get_or-set_other, length-map, length-set}
 use Rattle.std.proofs.lemmas.Option.{slice_get-get_or}
 use Rattle.open_goals.proofs.Pairs.{is_none}
-use Rattle.search_graph.specs.Below.{DelegateOf, CxOf, NodeId, Request, Evaluate, EnterCandidate, FinishCandidate, Ignore, Done, Noted, Verdict, Neither, StoredResult, EntryState, StackEntry, CacheNode, IsReplyTo, Store, UsagesByHead, Received, Run, enters, finishes, CanIgnore, CanNote, IgnoresNewest, Ignores, NotesCandidate, is_in_cycle, IsDefinite, change_newest, RunRecord, answered, counted_by, ignored_by, received, requested, HasStepped, Stood, Verdicts, verdicts, AreFree, AreJustified, bound, Call, CallGoesOn, HasAsked, IsCounted, IsDecided, IsFit, IsTallied, limits, OpenRun, run_of, runs_of, seen, Tally, tally_of}
+use Rattle.search_graph.specs.Below.{DelegateOf, CxOf, NodeId, Request, Evaluate, EnterCandidate, FinishCandidate, Ignore, Done, Noted, Verdict, Neither, StoredResult, EntryState, OpenGoal, StackEntry, CacheNode, IsReplyTo, Store, UsagesByHead, Received, Run, enters, finishes, CanIgnore, CanNote, IgnoresNewest, Ignores, NotesCandidate, is_in_cycle, IsDefinite, change_newest, RunRecord, answered, counted_by, ignored_by, received, requested, HasStepped, Stood, Verdicts, verdicts, AreFree, AreJustified, bound, Call, CallGoesOn, HasAsked, IsCounted, IsDecided, IsFit, IsTallied, limits, OpenRun, run_of, runs_of, seen, Tally, tally_of}
 use Rattle.evaluations.specs.Frames.{Frame}
 use Rattle.evaluations.proofs.Mirrors.{noted_waits}
 use Rattle.search_rules.proofs.moves.DecidedGoals.{changed_decided}
@@ -66,21 +66,21 @@ module _ {I R : Type 0} (p : RunRecord I R) (verdict : Verdict) (target : Option
 
 -- ---- the newest goal that ignores a candidate
 
-module _ {X F I R A T : Type 0} (entry : StackEntry X I R A T) (run : Run X F I R A T) (below : List (StackEntry X I R A T × Run X F I R A T)) where
+module _ {X F I R A T : Type 0} (entry : StackEntry X I R A T) (run : Run X F I R A T) (below : List (OpenGoal X F I R A T)) where
   -- a goal that ignores a candidate, as it was before
-  pub record IgnoresHere (number : ℕ) (after : List (StackEntry X I R A T × Run X F I R A T)) : Type 0 where
+  pub record IgnoresHere (number : ℕ) (after : List (OpenGoal X F I R A T)) : Type 0 where
     pub candidate : UsagesByHead
     pub state : EntryState X I R A T
     pub is_at : slice_get run.candidates number ≡ Some candidate
     pub is : after ≡ (record entry { state = state }, record run { candidates = slice_set run.candidates number [] }) ∷ below
     pub ignores : Ignores (record { 0 = length below }) candidate entry.state state
 
-  pub ignores_here : (number : ℕ) (mid after : List (StackEntry X I R A T × Run X F I R A T)) → mid ≡ (entry, run) ∷ below → IgnoresNewest number mid after → IgnoresHere number after
+  pub ignores_here : (number : ℕ) (mid after : List (OpenGoal X F I R A T)) → mid ≡ (entry, run) ∷ below → IgnoresNewest number mid after → IgnoresHere number after
   ignores_here number mid after mid_is n =
       let both : (n.entry, n.run) ∷ n.below ≡ (entry, run) ∷ below = sym n.was ∙ mid_is in
       let pair : (n.entry, n.run) ≡ (entry, run) = cc in
-      let same_entry : n.entry ≡ entry = ap (λ (x : StackEntry X I R A T × Run X F I R A T). x.0) pair in
-      let same_run : n.run ≡ run = ap (λ (x : StackEntry X I R A T × Run X F I R A T). x.1) pair in
+      let same_entry : n.entry ≡ entry = ap (λ (x : OpenGoal X F I R A T). x.0) pair in
+      let same_run : n.run ≡ run = ap (λ (x : OpenGoal X F I R A T). x.1) pair in
       let same_below : n.below ≡ below = cc in
       record {
         candidate = n.candidate;
@@ -89,7 +89,7 @@ module _ {X F I R A T : Type 0} (entry : StackEntry X I R A T) (run : Run X F I 
         is = n.is ∙ (λ i. (record (same_entry i) { state = n.state }, record (same_run i) { candidates = slice_set (same_run i).candidates number [] }) ∷ same_below i);
         ignores =
             subst (λ (e : StackEntry X I R A T). Ignores (record { 0 = length below }) n.candidate e.state n.state) same_entry
-            (subst (λ (l : List (StackEntry X I R A T × Run X F I R A T)). Ignores (record { 0 = length l }) n.candidate n.entry.state n.state) same_below n.ignores);
+            (subst (λ (l : List (OpenGoal X F I R A T)). Ignores (record { 0 = length l }) n.candidate n.entry.state n.state) same_below n.ignores);
       }
 
   -- but for what it counts, the goal's run is the same
@@ -98,7 +98,7 @@ module _ {X F I R A T : Type 0} (entry : StackEntry X I R A T) (run : Run X F I 
 
 module _ {D C V P F I R A T : Type 0} (G : DelegateOf D C V P F I R A T) (X : CxOf C I R A T) (cx : C) (nodes : List (CacheNode I R)) where
   abbrev Goals : Type 0
-  Goals = List (StackEntry C I R A T × Run C F I R A T)
+  Goals = List (OpenGoal C F I R A T)
 
   module _ (given : Received R) (request : Request I R) (old mid : Goals) (s : HasStepped G X cx given request old mid) (fit : IsFit (verdicts X) nodes (runs_of old) given.reply given.node) (h : AreJustified (verdicts X) nodes (runs_of old)) where
     -- the record with the reply, the run with the request, and the goal with the answer that it got
@@ -224,18 +224,18 @@ module _ {D C V P F I R A T : Type 0} (G : DelegateOf D C V P F I R A T) (X : Cx
 
 module _ {D C V P F I R A T : Type 0} (G : DelegateOf D C V P F I R A T) (X : CxOf C I R A T) (cx : C) (call : Call I) where
   -- the newest goal changed, but not what is seen of it
-  module _ (ahead : ℕ) (request : Request I R) (item later : StackEntry C I R A T × Run C F I R A T) (below : List (StackEntry C I R A T × Run C F I R A T)) (starts : ℕ) (met : Bool) (fits : IsReplyTo (λ _ _. ⊥) (Some request) Noted) (same : seen G X cx item ≡ seen G X cx later) (stood : (replies : List _) → Stood G X cx item replies → Stood G X cx later replies) (step : later.0.step_kind_from_parent ≡ item.0.step_kind_from_parent) (decided : IsDecided (verdicts X) item → IsDecided (verdicts X) later) where
+  module _ (ahead : ℕ) (request : Request I R) (item later : OpenGoal C F I R A T) (below : List (OpenGoal C F I R A T)) (starts : ℕ) (met : Bool) (fits : IsReplyTo (λ _ _. ⊥) (Some request) Noted) (same : seen G X cx item ≡ seen G X cx later) (stood : (replies : List _) → Stood G X cx item replies → Stood G X cx later replies) (step : later.0.step_kind_from_parent ≡ item.0.step_kind_from_parent) (decided : IsDecided (verdicts X) item → IsDecided (verdicts X) later) where
     changed_goes_on : HasAsked G X cx call ahead request (item ∷ below) starts met → CallGoesOn G X cx call ahead Noted (later ∷ below) starts met
     changed_goes_on h =
         let w = noted_waits (seen G X cx) (Stood G X cx) (G.script cx) (limits G X cx call) (IsCounted G X cx call) call.top (bound G X cx call) (some_runs G.FIXPOINT_STEP_LIMIT) ahead starts met item below request Noted later fits (record { same = λ replies. ap (λ (f : Frame I R). record f { replies = Noted ∷ replies }) same; stood = stood }) h.asked in
         record { waiting = record { waits = w.0; keeps = h.keeps; decided = λ decisive unmet. (changed_decided (verdicts X) item later below step decided (h.decided decisive unmet), tt) }; falls = w.1 }
 
-  ignoring_seen : (s : StackEntry C I R A T × Run C F I R A T) (state : EntryState C I R A T) (finished : List UsagesByHead) (parent : _) (candidate : UsagesByHead) → Ignores parent candidate s.0.state state → seen G X cx s ≡ seen G X cx (record s.0 { state = state }, record s.1 { candidates = finished })
+  ignoring_seen : (s : OpenGoal C F I R A T) (state : EntryState C I R A T) (finished : List UsagesByHead) (parent : _) (candidate : UsagesByHead) → Ignores parent candidate s.0.state state → seen G X cx s ≡ seen G X cx (record s.0 { state = state }, record s.1 { candidates = finished })
   ignoring_seen s state finished parent candidate i =
       (λ k. record (seen G X cx s) { in_cycle = sym i.in_cycle k })
       ∙ ap (λ (x : EntryState C I R A T). record (seen G X cx (record s.0 { state = x }, record s.1 { candidates = finished })) { in_cycle = is_in_cycle state }) (sym i.others)
 
-  pub noting_goes_on : (ahead : ℕ) (request : Request I R) (mid after : List (StackEntry C I R A T × Run C F I R A T)) (starts : ℕ) (met : Bool) → IsReplyTo (λ _ _. ⊥) (Some request) Noted → NotesCandidate request mid after → HasAsked G X cx call ahead request mid starts met → CallGoesOn G X cx call ahead Noted after starts met
+  pub noting_goes_on : (ahead : ℕ) (request : Request I R) (mid after : List (OpenGoal C F I R A T)) (starts : ℕ) (met : Bool) → IsReplyTo (λ _ _. ⊥) (Some request) Noted → NotesCandidate request mid after → HasAsked G X cx call ahead request mid starts met → CallGoesOn G X cx call ahead Noted after starts met
   noting_goes_on ahead request [] after starts met fits noted h = absurd h.asked.mirror
   noting_goes_on ahead EnterCandidate (s ∷ below) after starts met fits noted h =
       subst (λ v. CallGoesOn G X cx call ahead Noted v starts met) (sym noted)
@@ -254,7 +254,7 @@ module _ {D C V P F I R A T : Type 0} (G : DelegateOf D C V P F I R A T) (X : Cx
 
 -- stored results rest on none of them
 module _ {X F I R A T : Type 0} (says : Verdicts R) (same : I → I → Bool) (nodes : List (CacheNode I R)) (results : Store I (StoredResult X I R A T)) where
-  pub noting_keeps_free : (request : Request I R) (mid after : List (StackEntry X I R A T × Run X F I R A T)) → NotesCandidate request mid after → AreFree says same nodes (runs_of mid) results → AreFree says same nodes (runs_of after) results
+  pub noting_keeps_free : (request : Request I R) (mid after : List (OpenGoal X F I R A T)) → NotesCandidate request mid after → AreFree says same nodes (runs_of mid) results → AreFree says same nodes (runs_of after) results
   noting_keeps_free EnterCandidate (s ∷ below) after noted free =
       subst (λ l. AreFree says same nodes (runs_of l) results) (sym noted)
       (all_free_above says same nodes (run_of s) (run_of (enters s)) (runs_of below) results refl refl refl refl free)

@@ -7,7 +7,7 @@ use Rattle.std.proofs.lemmas.Bool.{or_from}
 use Rattle.std.proofs.lemmas.Bool.Decides.{nat_tests}
 use Rattle.open_goals.specs.declared.goals.Fate.{Fate}
 use Rattle.open_goals.specs.declared.goals.Fate.TheVariants as becomes
-use Rattle.search_graph.specs.Below.{AreSoundResults, AvailableDepth, Begin, Cache, CacheNode, Call, change_newest, counted_by, CxOf, DelegateOf, enters, EntryState, EnterCandidate, Evaluate, fates_of, finishes, FinishCandidate, first_accepted, HasStepped, Ignore, is_in_cycle, IsNew, ignored_by, Neither, NodeId, Noted, NotesCandidate, OpenRun, Outset, PathKind, Pushes, received, Received, Reply, Request, requested, Requests, Run, run_of, RunRecord, runs_of, StackEntry, Store, StoredResult, Tally, tally_of, usable, Verdict, Verdicts, verdicts}
+use Rattle.search_graph.specs.Below.{AreSoundResults, AvailableDepth, Begin, Cache, CacheNode, Call, change_newest, counted_by, CxOf, DelegateOf, enters, EntryState, EnterCandidate, Evaluate, fates_of, finishes, FinishCandidate, first_accepted, HasStepped, Ignore, is_in_cycle, IsNew, ignored_by, Neither, NodeId, Noted, NotesCandidate, OpenRun, Outset, PathKind, Pushes, received, Received, Reply, Request, requested, Requests, Run, run_of, RunRecord, runs_of, OpenGoal, StackEntry, Store, StoredResult, Tally, tally_of, usable, Verdict, Verdicts, verdicts}
 use Rattle.search_rules.specs.Below.{Answer, at_depth, DefiniteAnswer, edge_to, IsVerdict, KeepsAnswer, Lists, NestedPaths, No, open_number, paths_at, ProvisionalCacheEntry, stack_of, StackDepth, verdict_of, Yes}
 use Rattle.search_rules.specs.Justified.{cycles_node, frames_of, verdict_shape}
 use Rattle.search_moves.specs.Asked.{question_depth}
@@ -32,7 +32,7 @@ use Rattle.search_graph.proofs.Noted.{acted_same, counted_before, counted_longer
 
 -- ---- the reply is on record
 
-module _ {X F I R A T : Type 0} (says : Verdicts R) (same : I → I → Bool) (nodes : List (CacheNode I R)) (results : Store I (StoredResult X I R A T)) (entries : Lists I (ProvisionalCacheEntry X I R A T)) (entry : StackEntry X I R A T) (run : Run X F I R A T) (below : List (StackEntry X I R A T × Run X F I R A T)) where
+module _ {X F I R A T : Type 0} (says : Verdicts R) (same : I → I → Bool) (nodes : List (CacheNode I R)) (results : Store I (StoredResult X I R A T)) (entries : Lists I (ProvisionalCacheEntry X I R A T)) (entry : StackEntry X I R A T) (run : Run X F I R A T) (below : List (OpenGoal X F I R A T)) where
   abbrev pub WithAnswers : List (DefiniteAnswer I) → Type 0
   WithAnswers answers = StaysOff says same nodes results entries (record (run_of (entry, run)) { answers = answers }) entry.state.nested_goals (runs_of below)
 
@@ -62,7 +62,7 @@ module _ {X F I R A T : Type 0} (says : Verdicts R) (same : I → I → Bool) (n
 
 module _ {D C V P F I R A T : Type 0} (G : DelegateOf D C V P F I R A T) (X : CxOf C I R A T) (cx : C) (same : I → I → Bool) (nodes : List (CacheNode I R)) (results : Store I (StoredResult C I R A T)) (entries : Lists I (ProvisionalCacheEntry C I R A T)) where
   abbrev Goals : Type 0
-  Goals = List (StackEntry C I R A T × Run C F I R A T)
+  Goals = List (OpenGoal C F I R A T)
 
   module _ (given : Received R) (request : Request I R) (old mid : Goals) (s : HasStepped G X cx given request old mid) (off : AnswerStaysOff (verdicts X) same nodes results entries old given.reply given.node) (h : AreSettledGoals (verdicts X) same nodes results entries None old) where
     abbrev replied_record : RunRecord I R
@@ -86,7 +86,7 @@ module _ {D C V P F I R A T : Type 0} (G : DelegateOf D C V P F I R A T) (X : Cx
     counted_there c kept = ap (λ (p : RunRecord I R). counted_by p.ignored c) (sym (acted_same s.run.progress s.verdict given.node s.run.progress.request)) ∙ kept
 
     -- the goal that takes its place goes on with its answers
-    module _ (t : StackEntry C I R A T × Run C F I R A T) (goes : GoesOn replied_goal (run_of t)) (nested : t.0.state.nested_goals ≡ s.entry.state.nested_goals) (input : t.0.input ≡ s.entry.input) (in_cycle : is_in_cycle t.0.state ≡ is_in_cycle s.entry.state) (provisional : t.0.state.provisional_result ≡ s.entry.state.provisional_result) (finished : t.1.finished_runs ≡ s.run.finished_runs) (fate : t.1.fate ≡ s.run.fate) where
+    module _ (t : OpenGoal C F I R A T) (goes : GoesOn replied_goal (run_of t)) (nested : t.0.state.nested_goals ≡ s.entry.state.nested_goals) (input : t.0.input ≡ s.entry.input) (in_cycle : is_in_cycle t.0.state ≡ is_in_cycle s.entry.state) (provisional : t.0.state.provisional_result ≡ s.entry.state.provisional_result) (finished : t.1.finished_runs ≡ s.run.finished_runs) (fate : t.1.fate ≡ s.run.fate) where
       nested_stay : (goal : I) → IsSome (paths_at same s.entry.state.nested_goals goal) → IsSome (paths_at same t.0.state.nested_goals goal)
       nested_stay goal there = subst (λ (ns : NestedPaths I). IsSome (paths_at same ns goal)) (sym nested) there
 
@@ -171,11 +171,11 @@ module _ {D C V P F I R A T : Type 0} (G : DelegateOf D C V P F I R A T) (X : Cx
   }
 
 -- what is noted is no answer
-pub noted_stays_off : {X F I R A T : Type 0} (says : Verdicts R) (same : I → I → Bool) (by_value : (x y : I) → same x y ≡ true → x ≡ y) (nodes : List (CacheNode I R)) (results : Store I (StoredResult X I R A T)) (entries : Lists I (ProvisionalCacheEntry X I R A T)) (items : List (StackEntry X I R A T × Run X F I R A T)) → AnswerStaysOff says same nodes results entries items Noted None
+pub noted_stays_off : {X F I R A T : Type 0} (says : Verdicts R) (same : I → I → Bool) (by_value : (x y : I) → same x y ≡ true → x ≡ y) (nodes : List (CacheNode I R)) (results : Store I (StoredResult X I R A T)) (entries : Lists I (ProvisionalCacheEntry X I R A T)) (items : List (OpenGoal X F I R A T)) → AnswerStaysOff says same nodes results entries items Noted None
 noted_stays_off says same by_value nodes results entries items = begin_stays_off says same by_value nodes results entries items Noted None (λ r is. let clash : Noted ≡ Answer r = is in cc)
 
 -- the same of the entries, also where the context is named otherwise
-pub stepped_entries : {D C V P F I R A T : Type 0} (G : DelegateOf D C V P F I R A T) (X : CxOf C I R A T) (same : I → I → Bool) (cx there : C) → there ≡ cx → (call : Call I) (given : Received R) (request : Request I R) (results : Store I (StoredResult C I R A T)) (old mid after : List (StackEntry C I R A T × Run C F I R A T)) (entries : Lists I (ProvisionalCacheEntry C I R A T))
+pub stepped_entries : {D C V P F I R A T : Type 0} (G : DelegateOf D C V P F I R A T) (X : CxOf C I R A T) (same : I → I → Bool) (cx there : C) → there ≡ cx → (call : Call I) (given : Received R) (request : Request I R) (results : Store I (StoredResult C I R A T)) (old mid after : List (OpenGoal C F I R A T)) (entries : Lists I (ProvisionalCacheEntry C I R A T))
     → HasStepped G X there given request old mid → NotesCandidate request mid after → EntriesSuitCall G same cx call results old entries → EntriesSuitCall G same cx call results after entries
 stepped_entries G X same cx there is call given request results old mid after entries s noted =
     subst (λ c. HasStepped G X c given request old mid → NotesCandidate request mid after → EntriesSuitCall G same cx call results old entries → EntriesSuitCall G same cx call results after entries) (sym is)
@@ -220,7 +220,7 @@ begins_unscoped G X cx call noop goal root starts met needs at = subst (λ g. G.
 -- its goal is pushed
 pub begins_settles :
     {D C V P F I R A T : Type 0} (G : DelegateOf D C V P F I R A T) (X : CxOf C I R A T) (same : I → I → Bool) (by_value : (x y : I) → same x y ≡ true → x ≡ y) (own : (x : I) → same x x ≡ true) (cx : C) (kind : PathKind) (goal : I) (old : Cache C I R A T) (e : Evaluation D C V P F I R A T) (is_new : IsNew e)
-    (depth : AvailableDepth) (goals : List (StackEntry C I R A T × Run C F I R A T)) (nodes : List (CacheNode I R)) (pushes : Pushes G X cx goal kind depth old.nodes nodes e.goals goals) (fate : Fate R) → fates_of goals ≡ record { goal = goal; depth = depth.0; fate = fate } ∷ fates_of e.goals
+    (depth : AvailableDepth) (goals : List (OpenGoal C F I R A T)) (nodes : List (CacheNode I R)) (pushes : Pushes G X cx goal kind depth old.nodes nodes e.goals goals) (fate : Fate R) → fates_of goals ≡ record { goal = goal; depth = depth.0; fate = fate } ∷ fates_of e.goals
     → AreSoundResults same (verdicts X) (G.script cx) old.nodes old.results → fate ≡ becomes.Stored → (IsLone same old.results goal → ⊥) → (call : Call I) → e.limits_met ≡ false → IsSettledStore G X same cx call.goals old.nodes old.results
     → Settles G X same cx call (record { reply = Begin; node = None }) (record old { nodes = nodes }) (record e { goals = goals })
 begins_settles G X same by_value own cx kind goal old e is_new depth goals nodes pushes fate fates sound stored not_lone call unmet store = record {

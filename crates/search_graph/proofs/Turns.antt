@@ -12,7 +12,7 @@ use Rattle.open_graphs.proofs.Lists.{mapped_some}
 use Rattle.search_context.specs.declared.context.Answer.{Answer}
 use Rattle.search_context.specs.declared.context.Edge.{Edge}
 use Rattle.search_context.specs.Graph.{HasEdge}
-use Rattle.search_graph.specs.Below.{AreFrom, AreRuns, AreSoundResults, Awaits, Cache, CacheNode, Call, ChangesNewest, CxOf, DelegateOf, fates_of, Finished, HasEnded, HasGraph, HasStopped, IsRightFor, IsRightNext, KeepsCache, KeepsFinished, KeepsFirst, KeepsNodes, KeepsResults, LeadsTo, Memory, Next, NodeId, Place, Received, Reply, Request, Run, StackEntry, Step, StopsWith, stored_at, StoredResult, verdicts, Verdicts}
+use Rattle.search_graph.specs.Below.{AreFrom, AreRuns, AreSoundResults, Awaits, Cache, CacheNode, Call, ChangesNewest, CxOf, DelegateOf, fates_of, Finished, HasEnded, HasGraph, HasStopped, IsRightFor, IsRightNext, KeepsCache, KeepsFinished, KeepsFirst, KeepsNodes, KeepsResults, LeadsTo, Memory, Next, NodeId, Place, Received, Reply, Request, Step, OpenGoal, StopsWith, stored_at, StoredResult, verdicts, Verdicts}
 use Rattle.search_rules.proofs.records.EarlierNodes.{first_there}
 use Rattle.search_graph.specs.Turns.{HasDrafts, IsRightTurn, KeepsDrafts, TurnsCache}
 use Rattle.search_moves.specs.Drafts.{AreNotedNodes, HasNoDrafts, LeavesReached, LetsGo, LetsGoAtEnd}
@@ -102,7 +102,7 @@ module _ {C I R A T : Type 0} (X : CxOf C I R A T) (same : I → I → Bool) (sc
 -- ---- what a turn keeps of the cache
 
 -- what a call has kept so far and what a turn keeps, both keep together
-pub then_turns : {D C V P F I R A T : Type 0} (same : I → I → Bool) (goals : List (StackEntry C I R A T × Run C F I R A T)) (old mid new : Cache C I R A T) (e : Evaluation D C V P F I R A T) → e.drafts.first ≡ length old.nodes → KeepsCache same goals old mid → TurnsCache same e mid new → KeepsCache same goals old new
+pub then_turns : {D C V P F I R A T : Type 0} (same : I → I → Bool) (goals : List (OpenGoal C F I R A T)) (old mid new : Cache C I R A T) (e : Evaluation D C V P F I R A T) → e.drafts.first ≡ length old.nodes → KeepsCache same goals old mid → TurnsCache same e mid new → KeepsCache same goals old new
 then_turns same goals old mid new e first keeps turns = record {
   context = turns.context ∙ keeps.context;
   results = KeepsResults-then same old.results mid.results new.results keeps.results turns.results;
@@ -144,7 +144,7 @@ module _ {D C V P F I R A T : Type 0} (G : DelegateOf D C V P F I R A T) (X : Cx
   -- ---- the newest goal gets a reply
 
   module _ (given : Received R) (goes : LetsGo same e given.node mid new) (is_after : after ≡ record e { drafts = after.drafts }) where
-    pub turn_leads : (call : Call I) (ahead : ℕ) (goals : List (StackEntry C I R A T × Run C F I R A T)) (starts : ℕ) → LeadsTo G X same cx call ahead goals (Step given) mid e starts → LeadsTo G X same cx call ahead goals (Step given) new after starts
+    pub turn_leads : (call : Call I) (ahead : ℕ) (goals : List (OpenGoal C F I R A T)) (starts : ℕ) → LeadsTo G X same cx call ahead goals (Step given) mid e starts → LeadsTo G X same cx call ahead goals (Step given) new after starts
     turn_leads call ahead goals starts h =
         subst (λ a. LeadsTo G X same cx call ahead goals (Step given) new a starts) (sym is_after)
         (subst (λ c. LeadsTo G X same cx call ahead goals (Step given) c (record e { drafts = after.drafts }) starts) (sym goes.rest)
@@ -155,7 +155,7 @@ module _ {D C V P F I R A T : Type 0} (G : DelegateOf D C V P F I R A T) (X : Cx
         let s = settles_stay G X same cx e mid new given goes call h in
         subst (Settles G X same cx call given new) (sym is_after) (record { settling = s.settling; answer = s.answer; entries = s.entries })
 
-    pub turn_right : (goals : List (StackEntry C I R A T × Run C F I R A T)) → IsRightNext G X same cx goals (Step given) mid e → IsRightFor G X same cx given new after
+    pub turn_right : (goals : List (OpenGoal C F I R A T)) → IsRightNext G X same cx goals (Step given) mid e → IsRightFor G X same cx given new after
     turn_right goals h =
         let s = right_for_stays G X same cx e mid new given goes (record { right = record { justified = h.justified.0; free = h.free; ready = h.ready }; fits = h.justified.1 }) in
         subst (IsRightFor G X same cx given new) (sym is_after) (record { right = record { justified = s.right.justified; free = s.right.free; ready = s.right.ready }; fits = s.fits })
@@ -163,17 +163,17 @@ module _ {D C V P F I R A T : Type 0} (G : DelegateOf D C V P F I R A T) (X : Cx
   -- ---- the call has its answer
 
   module _ (answer : Answer R) where
-    pub end_leads : LetsGoAtEnd same e answer.node mid new → (call : Call I) (ahead : ℕ) (goals : List (StackEntry C I R A T × Run C F I R A T)) (starts : ℕ) → LeadsTo G X same cx call ahead goals (Finished answer) mid e starts → LeadsTo G X same cx call ahead goals (Finished answer) new e starts
+    pub end_leads : LetsGoAtEnd same e answer.node mid new → (call : Call I) (ahead : ℕ) (goals : List (OpenGoal C F I R A T)) (starts : ℕ) → LeadsTo G X same cx call ahead goals (Finished answer) mid e starts → LeadsTo G X same cx call ahead goals (Finished answer) new e starts
     end_leads goes call ahead goals starts h =
         subst (λ c. LeadsTo G X same cx call ahead goals (Finished answer) c e starts) (sym goes.rest)
         (record { leads = h.leads; answers = h.answers; remembered = h.remembered })
 
-    pub end_right : LetsGoAtEnd same e answer.node mid new → (goals : List (StackEntry C I R A T × Run C F I R A T)) → IsRightNext G X same cx goals (Finished answer) mid e → IsRightTurn G X same cx goals (Finished answer) new e
+    pub end_right : LetsGoAtEnd same e answer.node mid new → (goals : List (OpenGoal C F I R A T)) → IsRightNext G X same cx goals (Finished answer) mid e → IsRightTurn G X same cx goals (Finished answer) new e
     end_right goes [] h = h.justified
     end_right goes (s ∷ below) h = graph_stays_at_end G X same cx e mid new answer.node goes s.0.input answer.result h.justified
 
     -- where there was no memory to look for nodes that can go
-    pub end_stops : (call : Call I) (ahead : ℕ) (goals : List (StackEntry C I R A T × Run C F I R A T)) (starts : ℕ) → LeadsTo G X same cx call ahead goals (Finished answer) mid e starts → StopsWith G X same cx call Memory mid e starts
+    pub end_stops : (call : Call I) (ahead : ℕ) (goals : List (OpenGoal C F I R A T)) (starts : ℕ) → LeadsTo G X same cx call ahead goals (Finished answer) mid e starts → StopsWith G X same cx call Memory mid e starts
     end_stops call ahead goals starts h =
         let ended = h.leads.2 in
         record {

@@ -50,6 +50,7 @@ pub use Rattle.open_goals.specs.declared.goals.Next.{Next}
 pub use Rattle.open_goals.specs.declared.goals.Next.TheVariants.{Finished, Step}
 pub use Rattle.open_goals.specs.declared.goals.Received.{Received}
 pub use Rattle.open_goals.specs.declared.goals.Run.{Run}
+pub use Rattle.open_goals.specs.OpenGoal.{OpenGoal}
 pub use Rattle.search_moves.specs.Evaluations.{Awaits, ChangesCache, EndsWith, HasReply, HasRequest, IsNew, IsRight, IsRightFor}
 pub use Rattle.search_moves.specs.Evaluations.{IsRememberedWhere, IsRightNext, KeepsCache, LeadsTo, Requests, StopsWith}
 pub use Rattle.search_rules.specs.Calls.{bound, Call, CallIsEnclosed, HadNoOverflow, IsCounted, limits, Outset, runs}

@@ -1,6 +1,6 @@
 -- What a move, and the whole of an evaluation, comes to in whatever call it is made.
 use Rattle.std.specs.Prelude.{◌≡◌, ℕ, Bool, false, List, Result, IfOk, IfErr}
-use Rattle.search_graph.specs.Below.{Awaits, Begins, Cache, CacheNode, Call, CxOf, DelegateOf, EndsWith, Fated, Fault, fates_of, HasGraph, IsCaused, IsNew, KeepsFinished, KeepsNodes, KeepsResults, LeadsTo, MovesFates, Next, Place, Received, Run, StackEntry, StayFrom, Store, stored_at, StopsWith, verdicts, work_left}
+use Rattle.search_graph.specs.Below.{Awaits, Begins, Cache, CacheNode, Call, CxOf, DelegateOf, EndsWith, Fated, Fault, fates_of, HasGraph, IsCaused, IsNew, KeepsFinished, KeepsNodes, KeepsResults, LeadsTo, MovesFates, Next, Place, Received, StayFrom, OpenGoal, Store, stored_at, StopsWith, verdicts, work_left}
 use Rattle.open_goals.specs.declared.goals.Fate.{Fate}
 use Rattle.open_goals.specs.declared.goals.Fate.TheVariants as becomes
 use Rattle.search_context.specs.declared.context.Answer.{Answer}
@@ -21,7 +21,7 @@ pub record Spares {I S R : Type 0} (same : I → I → Bool) (noop : Bool) (fate
 
 -- What a move does with the goals under evaluation: their runs' nodes are no older than they were, and their results' fates stay as they
 -- were, but for a goal that is pushed or popped.
-pub record MovesGoals {C F I R A T : Type 0} (same : I → I → Bool) (suits : Fated I R → Type 0) (nodes : List (CacheNode I R)) (old new : List (StackEntry C I R A T × Run C F I R A T)) : Type 0 where
+pub record MovesGoals {C F I R A T : Type 0} (same : I → I → Bool) (suits : Fated I R → Type 0) (nodes : List (CacheNode I R)) (old new : List (OpenGoal C F I R A T)) : Type 0 where
   pub stays : StayFrom nodes old new
   pub fates : MovesFates same suits (fates_of old) (fates_of new)
 

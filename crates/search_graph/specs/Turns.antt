@@ -1,7 +1,7 @@
 -- What a turn of the loop comes to, which is a move after which nodes may be let go.
 use Rattle.std.specs.Prelude.{◌≡◌, ◌≤◌, ℕ, Bool, length, List, []}
 use Rattle.global_cache.specs.Collected.{StayBefore}
-use Rattle.search_graph.specs.Below.{AreFrom, Cache, ChangesNewest, CxOf, DelegateOf, fates_of, Finished, HasReply, IsJustifiedNext, IsRightFor, KeepsFirst, KeepsResults, Next, Received, Run, StackEntry, Step, verdicts}
+use Rattle.search_graph.specs.Below.{AreFrom, Cache, ChangesNewest, CxOf, DelegateOf, fates_of, Finished, HasReply, IsJustifiedNext, IsRightFor, KeepsFirst, KeepsResults, Next, Received, Step, OpenGoal, verdicts}
 use Rattle.search_moves.specs.Drafts.{AreNotedNodes, LeavesReached}
 use Rattle.search_moves.specs.declared.evaluation.Evaluation.{Evaluation}
 
@@ -37,6 +37,6 @@ pub record MayTurn {D C V P F I R A T : Type 0} (G : DelegateOf D C V P F I R A 
   pub drafts : HasDrafts same cache e
 
 -- what comes next is right: the reply for the goals, or the answer of the only goal
-abbrev pub IsRightTurn : {D C V P F I R A T : Type 0} → DelegateOf D C V P F I R A T → CxOf C I R A T → (I → I → Bool) → C → List (StackEntry C I R A T × Run C F I R A T) → Next R → Cache C I R A T → Evaluation D C V P F I R A T → Type 0
+abbrev pub IsRightTurn : {D C V P F I R A T : Type 0} → DelegateOf D C V P F I R A T → CxOf C I R A T → (I → I → Bool) → C → List (OpenGoal C F I R A T) → Next R → Cache C I R A T → Evaluation D C V P F I R A T → Type 0
 IsRightTurn G X same cx goals (Step given) cache e = IsRightFor G X same cx given cache e
 IsRightTurn G X same cx goals (Finished answer) cache e = IsJustifiedNext (verdicts X) cache.nodes goals [] (Finished answer)

@@ -3,7 +3,7 @@ use Rattle.std.proofs.Common.{◌≡◌, ◌<◌, ◌≤◌, ◌+◌, ℕ, Bool,
 use Rattle.std.specs.Option.{option_and_then}
 use Rattle.std.proofs.lemmas.List.{length-map, length-reverse}
 use Rattle.std.proofs.lemmas.Option.{get_or_from_slice_get, slice_get_within}
-use Rattle.search_moves.specs.Below.{DelegateOf, CxOf, Evaluate, Received, Answer, Begin, Cache, IsNeither, IsCycleResult, CacheNode, AvailableDepth, first_entry, open_node, PathKind, StackEntry, Run, Memory, path_kind_from, IsDefinite, verdicts, AreFree, AreJustified, AreReady, bound, Call, CallMeetsNone, depth_below, first_run, HasAsked, HasStopped, IsCounted, KeepsStore, IsFit, IsReady, limits, newest, NewestAsks, Pushes, runs_of, seen, Stood}
+use Rattle.search_moves.specs.Below.{DelegateOf, CxOf, Evaluate, Received, Answer, Begin, Cache, IsNeither, IsCycleResult, CacheNode, AvailableDepth, first_entry, open_node, PathKind, OpenGoal, StackEntry, Memory, path_kind_from, IsDefinite, verdicts, AreFree, AreJustified, AreReady, bound, Call, CallMeetsNone, depth_below, first_run, HasAsked, HasStopped, IsCounted, KeepsStore, IsFit, IsReady, limits, newest, NewestAsks, Pushes, runs_of, seen, Stood}
 use Rattle.search_moves.specs.declared.evaluation.Evaluation.{Evaluation}
 use Rattle.search_moves.specs.Words.{AskingLeadsTo, asking, ByEntry, ByStored, GoesOnWith, IsRight, IsRightFor, OverCycle, Pushed, question_depth, Refused, Requests, StopsWith}
 use Rattle.search_rules.proofs.justified.Finishing.{answered_newest_is_justified, begin_fits, neither_fits, neither_is, overflow_noted_is_justified, pushed_goal_is_justified, stored_taken_same}
@@ -69,7 +69,7 @@ module _ {D C V P F I R A T : Type 0} (G : DelegateOf D C V P F I R A T) (X : Cx
 
   -- a question that was refused ends the call where memory is out, and has met a limit all the same
   refused_stops_at :
-      (goals : List (StackEntry C I R A T × Run C F I R A T)) → None ≡ option_and_then (λ s. depth_below G.DIVIDE_AVAILABLE_DEPTH_ON_OVERFLOW s.0) (newest goals)
+      (goals : List (OpenGoal C F I R A T)) → None ≡ option_and_then (λ s. depth_below G.DIVIDE_AVAILABLE_DEPTH_ON_OVERFLOW s.0) (newest goals)
       → (call : Call I) (ahead : ℕ) → HasAsked G X cx call ahead (Evaluate kind goal) goals starts e.limits_met → HasStopped G X cx call Memory starts true
   refused_stops_at [] none call ahead h = absurd h.asked.mirror
   refused_stops_at (s ∷ below) none call ahead h =
@@ -82,7 +82,7 @@ module _ {D C V P F I R A T : Type 0} (G : DelegateOf D C V P F I R A T) (X : Cx
       }
 
   pub refused_stops :
-      (goals : List (StackEntry C I R A T × Run C F I R A T)) → None ≡ question_depth G e
+      (goals : List (OpenGoal C F I R A T)) → None ≡ question_depth G e
       → (call : Call I) (ahead : ℕ) → Requests G X same cx (Evaluate kind goal) call ahead old e starts → StopsWith G X same cx call Memory old (record e { goals = goals; limits_met = true }) starts
   refused_stops goals none call ahead h = record {
     stopped = refused_stops_at e.goals none call ahead h.asked;
@@ -103,14 +103,14 @@ module _ {D C V P F I R A T : Type 0} (G : DelegateOf D C V P F I R A T) (X : Cx
 
   -- what holds of the nodes and goals with a new one holds once it is pushed
   pub carried :
-      (depth : AvailableDepth) (goals : List (StackEntry C I R A T × Run C F I R A T)) (nodes : List (CacheNode I R)) (pushes : Pushes G X cx goal kind depth old.nodes nodes e.goals goals)
-      (P : List (CacheNode I R) → List (StackEntry C I R A T × Run C F I R A T) → Type 0)
+      (depth : AvailableDepth) (goals : List (OpenGoal C F I R A T)) (nodes : List (CacheNode I R)) (pushes : Pushes G X cx goal kind depth old.nodes nodes e.goals goals)
+      (P : List (CacheNode I R) → List (OpenGoal C F I R A T) → Type 0)
       → P (old.nodes ++ open_node goal ∷ []) ((first_entry goal kind depth pushes.own, first_run G X cx pushes.frame pushes.own pushes.becomes) ∷ e.goals) → P nodes goals
   carried depth goals nodes pushes P h = subst (λ cs. P cs goals) (sym pushes.opened) (subst (λ gs. P (old.nodes ++ open_node goal ∷ []) gs) (sym pushes.is) h)
 
   -- a goal that was pushed
   pub pushed_right :
-      (depth : AvailableDepth) (goals : List (StackEntry C I R A T × Run C F I R A T)) (nodes : List (CacheNode I R)) → Pushes G X cx goal kind depth old.nodes nodes e.goals goals
+      (depth : AvailableDepth) (goals : List (OpenGoal C F I R A T)) (nodes : List (CacheNode I R)) → Pushes G X cx goal kind depth old.nodes nodes e.goals goals
       → NewestAsks (runs_of e.goals) kind goal → IsRight G X same cx old e → IsRightFor G X same cx (record { reply = Begin; node = None }) (record old { nodes = nodes }) (record e { goals = goals })
   pushed_right depth goals nodes pushes asks h =
       record {

@@ -1,18 +1,18 @@
 -- What moves change of the goals and of what becomes of their results.
 use Rattle.std.proofs.Common.{◌≡◌, ◌<◌, ◌||◌, ◌∙◌, Bool, false, List, [], ◌∷◌, length, refl, ap, arith}
 use Rattle.std.specs.List.{list_any}
-use Rattle.search_moves.specs.Below.{Cache, CxOf, DelegateOf, Fated, fates_of, IsFated, MovesFates, Next, PathKind, Received, Run, StackEntry}
+use Rattle.search_moves.specs.Below.{Cache, CxOf, DelegateOf, Fated, fates_of, IsFated, MovesFates, Next, PathKind, Received, OpenGoal}
 use Rattle.search_moves.specs.declared.evaluation.Evaluation.{Evaluation}
 use Rattle.search_moves.specs.Words.{AskingLeadsTo, ByEntry, ByStored, HadMostRuns, IsDone, IsRunAgain, OverCycle, Pushed, Refused, RunLeads}
 use Rattle.search_rules.proofs.Fates.{fates_left, fates_noted, fates_rerun, fates_stored, fates_taken}
 use Rattle.search_rules.specs.Fates.{Pop, Push, Stay}
 
 -- a goal that isn't under evaluation is none of those
-among_fates : {X F I R A T : Type 0} (same : I → I → Bool) (goal : I) (goals : List (StackEntry X I R A T × Run X F I R A T)) → list_any (λ s. same goal s.goal) (fates_of goals) ≡ list_any (λ s. same goal s.0.input) goals
+among_fates : {X F I R A T : Type 0} (same : I → I → Bool) (goal : I) (goals : List (OpenGoal X F I R A T)) → list_any (λ s. same goal s.goal) (fates_of goals) ≡ list_any (λ s. same goal s.0.input) goals
 among_fates same goal [] = refl
 among_fates same goal (s ∷ below) = ap (λ b. same goal s.0.input || b) (among_fates same goal below)
 
-pushed_on : {X F I R A T : Type 0} (same : I → I → Bool) (suits : Fated I R → Type 0) (pushed : Fated I R) (old : List (StackEntry X I R A T × Run X F I R A T)) (new : List (Fated I R)) → 0 < length old → list_any (λ s. same pushed.goal s.0.input) old ≡ false → suits pushed → new ≡ pushed ∷ fates_of old → MovesFates same suits (fates_of old) new
+pushed_on : {X F I R A T : Type 0} (same : I → I → Bool) (suits : Fated I R → Type 0) (pushed : Fated I R) (old : List (OpenGoal X F I R A T)) (new : List (Fated I R)) → 0 < length old → list_any (λ s. same pushed.goal s.0.input) old ≡ false → suits pushed → new ≡ pushed ∷ fates_of old → MovesFates same suits (fates_of old) new
 pushed_on same suits pushed [] new some absent suited is = absurd (omega (arith, some))
 pushed_on same suits pushed (s ∷ below) new some absent suited is = Push pushed _ (fates_of below) refl (among_fates same pushed.goal (s ∷ below) ∙ absent) suited is
 

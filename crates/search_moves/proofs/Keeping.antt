@@ -3,12 +3,12 @@ use Rattle.std.proofs.Common.{◌≡◌, Bool, List, ◌∷◌, refl, sym, ap, s
 use Rattle.global_cache.proofs.Finished.{KeepsFinished-nodes, KeepsFinished-same}
 use Rattle.global_cache.proofs.Stores.{KeepsResults-same}
 use Rattle.search_rules.proofs.records.EarlierNodes.{earlier_but, earlier_of_nodes, earlier_over, earlier_same, stay_left, stay_noted, stay_pushed, stay_stored, stay_taken}
-use Rattle.search_moves.specs.Below.{Cache, CacheNode, CxOf, DelegateOf, KeepsBut, KeepsEarlier, KeepsFinished, KeepsNodes, KeepsResults, Next, PathKind, Received, Run, StackEntry, StayFrom}
+use Rattle.search_moves.specs.Below.{Cache, CacheNode, CxOf, DelegateOf, KeepsBut, KeepsEarlier, KeepsFinished, KeepsNodes, KeepsResults, Next, PathKind, Received, StayFrom, OpenGoal}
 use Rattle.search_moves.specs.declared.evaluation.Evaluation.{Evaluation}
 use Rattle.search_rules.specs.Fates.{Untouched}
 use Rattle.search_moves.specs.Words.{AskingLeadsTo, ByEntry, ByStored, ChangesCache, HadMostRuns, IsDone, IsRunAgain, KeepsCache, OverCycle, Pushed, Refused, RunLeads}
 
-module _ {C F I R A T : Type 0} (same : I → I → Bool) (goals : List (StackEntry C I R A T × Run C F I R A T)) where
+module _ {C F I R A T : Type 0} (same : I → I → Bool) (goals : List (OpenGoal C F I R A T)) where
   -- one that changes nothing
   pub cache_stays : (cache : Cache C I R A T) → KeepsCache same goals cache cache
   cache_stays cache = record {
@@ -28,7 +28,7 @@ module _ {C F I R A T : Type 0} (same : I → I → Bool) (goals : List (StackEn
   }
 
   -- and one that ends the newest goal's run
-  pub ending_keeps : (old new : Cache C I R A T) (s : StackEntry C I R A T × Run C F I R A T) (below : List (StackEntry C I R A T × Run C F I R A T)) → goals ≡ s ∷ below → new.cx ≡ old.cx → KeepsResults same old.results new.results → KeepsFinished old.nodes new.nodes → KeepsBut s.1.node.0 old.nodes new.nodes → KeepsCache same goals old new
+  pub ending_keeps : (old new : Cache C I R A T) (s : OpenGoal C F I R A T) (below : List (OpenGoal C F I R A T)) → goals ≡ s ∷ below → new.cx ≡ old.cx → KeepsResults same old.results new.results → KeepsFinished old.nodes new.nodes → KeepsBut s.1.node.0 old.nodes new.nodes → KeepsCache same goals old new
   ending_keeps old new s below was context results nodes but = record {
     context = context;
     results = results;
@@ -48,13 +48,13 @@ module _ {C F I R A T : Type 0} (same : I → I → Bool) (goals : List (StackEn
     changes = Untouched (ap (λ cache. cache.results) is);
   }
 
-module _ {X F I R A T : Type 0} (nodes : List (CacheNode I R)) (one two three : List (StackEntry X I R A T × Run X F I R A T)) where
+module _ {X F I R A T : Type 0} (nodes : List (CacheNode I R)) (one two three : List (OpenGoal X F I R A T)) where
   -- the nodes of the goals' runs after two changes
   pub stay_then : StayFrom nodes one two → StayFrom nodes two three → StayFrom nodes one three
   stay_then first second = λ place within from. second place within (first place within from)
 
 -- what is kept for later goals is kept for earlier ones
-pub later_keeps : {C F I R A T : Type 0} (same : I → I → Bool) (goals later : List (StackEntry C I R A T × Run C F I R A T)) (old new : Cache C I R A T) → StayFrom old.nodes goals later → KeepsCache same later old new → KeepsCache same goals old new
+pub later_keeps : {C F I R A T : Type 0} (same : I → I → Bool) (goals later : List (OpenGoal C F I R A T)) (old new : Cache C I R A T) → StayFrom old.nodes goals later → KeepsCache same later old new → KeepsCache same goals old new
 later_keeps same goals later old new stays keeps = record {
   context = keeps.context;
   results = keeps.results;

@@ -2,7 +2,7 @@
 -- reach each other ask by one kind.
 use Rattle.std.proofs.Common.{◌≡◌, ◌++◌, ◌-◌, ◌&&◌, if◌then◌else◌, Bool, true, false, not, filter, IsSome, List, [], ◌∷◌, length, map, reverse, Option, None, Some, inl, inr, refl, ap, ◌∙◌}
 use Rattle.open_goals.specs.declared.goals.Next.TheVariants.{Finished}
-use Rattle.search_moves.specs.Below.{AvailableDepth, Cache, Call, CxOf, DelegateOf, depends_on, entries_at, entries_for, Evaluate, final_answer, first_accepted, Hit, is_applicable, Lists, Next, node_given, Overflow, PathKind, ProvisionalCacheEntry, Pushes, RebaseReason, rebased_for, RebasesNewest, Received, Run, StackEntry, Step, Store, StoredResult, usable, runs_of, CacheNode}
+use Rattle.search_moves.specs.Below.{AvailableDepth, Cache, Call, CxOf, DelegateOf, depends_on, entries_at, entries_for, Evaluate, final_answer, first_accepted, Hit, is_applicable, Lists, Next, node_given, Overflow, PathKind, ProvisionalCacheEntry, Pushes, RebaseReason, rebased_for, RebasesNewest, Received, StackEntry, OpenGoal, Step, Store, StoredResult, usable, runs_of, CacheNode}
 use Rattle.search_moves.specs.declared.evaluation.Evaluation.{Evaluation}
 use Rattle.search_moves.specs.Evaluations.{IsNew}
 use Rattle.search_moves.specs.Settled.{EntriesSuitCall, NoneUsed, OneKind}
@@ -18,20 +18,20 @@ use Rattle.search_moves.proofs.OneKind.{HaveOneKindNext, asked_keeps, began_keep
 
 module _ {D C V P F I R A T : Type 0} (G : DelegateOf D C V P F I R A T) (same : I → I → Bool) (cx : C) (call : Call I) where
   -- the entries stand apart
-  pub entries_apart : (results : Store I (StoredResult C I R A T)) (goals : List (StackEntry C I R A T × Run C F I R A T)) (entries : Lists I (ProvisionalCacheEntry C I R A T)) → EntriesSuitCall G same cx call results goals entries → StandApart same results goals entries
+  pub entries_apart : (results : Store I (StoredResult C I R A T)) (goals : List (OpenGoal C F I R A T)) (entries : Lists I (ProvisionalCacheEntry C I R A T)) → EntriesSuitCall G same cx call results goals entries → StandApart same results goals entries
   entries_apart results goals entries (NoneUsed off none) = apart_none same results goals entries none
   entries_apart results goals entries (OneKind kept) = kept.apart
 
   -- what is kept of what comes next, which is the stored results alone once the call has its answer
-  abbrev pub EntriesSuitNext : Next R → Store I (StoredResult C I R A T) → List (StackEntry C I R A T × Run C F I R A T) → Lists I (ProvisionalCacheEntry C I R A T) → Type 0
+  abbrev pub EntriesSuitNext : Next R → Store I (StoredResult C I R A T) → List (OpenGoal C F I R A T) → Lists I (ProvisionalCacheEntry C I R A T) → Type 0
   EntriesSuitNext (Step given) results goals entries = EntriesSuitCall G same cx call results goals entries
   EntriesSuitNext (Finished answer) results goals entries = StoredSuit G.ENABLE_PROVISIONAL_CACHE (G.script cx) same call.goals results
 
-  of_one_kind : (next : Next R) (results : Store I (StoredResult C I R A T)) (goals : List (StackEntry C I R A T × Run C F I R A T)) (entries : Lists I (ProvisionalCacheEntry C I R A T)) → HaveOneKindNext G same cx call next results goals entries → EntriesSuitNext next results goals entries
+  of_one_kind : (next : Next R) (results : Store I (StoredResult C I R A T)) (goals : List (OpenGoal C F I R A T)) (entries : Lists I (ProvisionalCacheEntry C I R A T)) → HaveOneKindNext G same cx call next results goals entries → EntriesSuitNext next results goals entries
   of_one_kind (Step given) results goals entries kept = OneKind kept
   of_one_kind (Finished answer) results goals entries reached = inr reached
 
-  of_none : (next : Next R) (results : Store I (StoredResult C I R A T)) (goals : List (StackEntry C I R A T × Run C F I R A T)) (entries : Lists I (ProvisionalCacheEntry C I R A T)) → G.ENABLE_PROVISIONAL_CACHE ≡ false → ((goal : I) → entries_at same entries goal ≡ []) → EntriesSuitNext next results goals entries
+  of_none : (next : Next R) (results : Store I (StoredResult C I R A T)) (goals : List (OpenGoal C F I R A T)) (entries : Lists I (ProvisionalCacheEntry C I R A T)) → G.ENABLE_PROVISIONAL_CACHE ≡ false → ((goal : I) → entries_at same entries goal ≡ []) → EntriesSuitNext next results goals entries
   of_none (Step given) results goals entries off none = NoneUsed off none
   of_none (Finished answer) results goals entries off none = inl off
 
@@ -53,13 +53,13 @@ module _ {D C V P F I R A T : Type 0} (G : DelegateOf D C V P F I R A T) (X : Cx
   asked_keeps_entries (NoneUsed off none) noop received new after later (Pushed depth goals nodes now at no_entry not_stored absent pushes fates fated one counted) = NoneUsed off none
 
 -- a call begins with a goal that is pushed
-pub began_keeps_entries : {D C V P F I R A T : Type 0} (G : DelegateOf D C V P F I R A T) (X : CxOf C I R A T) (same : I → I → Bool) (cx : C) (kind : PathKind) (goal : I) (old : Cache C I R A T) (e : Evaluation D C V P F I R A T) (is_new : IsNew e) (depth : AvailableDepth) (goals : List (StackEntry C I R A T × Run C F I R A T)) (nodes : List (CacheNode I R))
+pub began_keeps_entries : {D C V P F I R A T : Type 0} (G : DelegateOf D C V P F I R A T) (X : CxOf C I R A T) (same : I → I → Bool) (cx : C) (kind : PathKind) (goal : I) (old : Cache C I R A T) (e : Evaluation D C V P F I R A T) (is_new : IsNew e) (depth : AvailableDepth) (goals : List (OpenGoal C F I R A T)) (nodes : List (CacheNode I R))
     → Pushes G X cx goal kind depth old.nodes nodes e.goals goals → (call : Call I) → StoredSuit G.ENABLE_PROVISIONAL_CACHE (G.script cx) same call.goals old.results → EntriesSuitCall G same cx call old.results goals e.provisional
 began_keeps_entries G X same cx kind goal old e is_new depth goals nodes pushes call (inr reached) = OneKind (began_keeps G X same cx kind goal old e is_new depth goals nodes pushes call reached)
 began_keeps_entries {C = C} {I = I} {R = R} {A = A} {T = T} G X same cx kind goal old e is_new depth goals nodes pushes call (inl off) = NoneUsed off (λ other. ap (λ (l : Lists I (ProvisionalCacheEntry C I R A T)). entries_at same l other) is_new.no_entries)
 
 -- the newest goal takes its step, and notes what it requested of candidates
-pub noted_keeps_entries : {D C V P F I R A T : Type 0} (G : DelegateOf D C V P F I R A T) (X : CxOf C I R A T) (same : I → I → Bool) (cx : C) (call : Call I) (given : Received R) (request : Request I R) (results : Store I (StoredResult C I R A T)) (old mid after : List (StackEntry C I R A T × Run C F I R A T)) (entries : Lists I (ProvisionalCacheEntry C I R A T))
+pub noted_keeps_entries : {D C V P F I R A T : Type 0} (G : DelegateOf D C V P F I R A T) (X : CxOf C I R A T) (same : I → I → Bool) (cx : C) (call : Call I) (given : Received R) (request : Request I R) (results : Store I (StoredResult C I R A T)) (old mid after : List (OpenGoal C F I R A T)) (entries : Lists I (ProvisionalCacheEntry C I R A T))
     → HasStepped G X cx given request old mid → NotesCandidate request mid after → EntriesSuitCall G same cx call results old entries → EntriesSuitCall G same cx call results after entries
 noted_keeps_entries G X same cx call given request results old mid after entries s noted (NoneUsed off none) = NoneUsed off none
 noted_keeps_entries G X same cx call given request results old mid after entries s noted (OneKind kept) = OneKind (noted_keeps G X same cx call given request results old mid after entries s noted kept)
@@ -67,13 +67,13 @@ noted_keeps_entries G X same cx call given request results old mid after entries
 -- ---- the end of a run
 
 module _ {D C V P F I R A T : Type 0} (G : DelegateOf D C V P F I R A T) (X : CxOf C I R A T) (same : I → I → Bool) (by_value : (x y : I) → same x y ≡ true → x ≡ y) (old : Cache C I R A T) (before : Evaluation D C V P F I R A T) (call : Call I) (outcome : R) (suits : EntriesSuit G.ENABLE_PROVISIONAL_CACHE (G.script old.cx)) (right : IsRight G X same old.cx old before)
-    (not_lone : (s : StackEntry C I R A T × Run C F I R A T) (below : List (StackEntry C I R A T × Run C F I R A T)) → before.goals ≡ s ∷ below → IsLone same old.results s.0.input → ⊥)
-    (off : (s : StackEntry C I R A T × Run C F I R A T) (below : List (StackEntry C I R A T × Run C F I R A T)) → before.goals ≡ s ∷ below → IsOff (runs_of below) s.0.input) where
+    (not_lone : (s : OpenGoal C F I R A T) (below : List (OpenGoal C F I R A T)) → before.goals ≡ s ∷ below → IsLone same old.results s.0.input → ⊥)
+    (off : (s : OpenGoal C F I R A T) (below : List (OpenGoal C F I R A T)) → before.goals ≡ s ∷ below → IsOff (runs_of below) s.0.input) where
   none_rebased : (propagated : A → R) (overflow : R) (reason : Option (RebaseReason C I R A T)) (stack : List (StackEntry C I R A T)) (done : StackEntry C I R A T) → rebased_for propagated overflow reason stack done [] ≡ []
   none_rebased propagated overflow None stack done = refl
   none_rebased propagated overflow (Some reason) stack done = refl
 
-  none_left : G.ENABLE_PROVISIONAL_CACHE ≡ false → (goals : List (StackEntry C I R A T × Run C F I R A T)) (reason : Option (RebaseReason C I R A T)) (r : R) (target : _) (entries more : Lists I (ProvisionalCacheEntry C I R A T)) → RebasesNewest same G.ENABLE_PROVISIONAL_CACHE (G.propagated old.cx) (G.fixpoint_overflow old.cx) reason r target goals entries more
+  none_left : G.ENABLE_PROVISIONAL_CACHE ≡ false → (goals : List (OpenGoal C F I R A T)) (reason : Option (RebaseReason C I R A T)) (r : R) (target : _) (entries more : Lists I (ProvisionalCacheEntry C I R A T)) → RebasesNewest same G.ENABLE_PROVISIONAL_CACHE (G.propagated old.cx) (G.fixpoint_overflow old.cx) reason r target goals entries more
       → ((goal : I) → entries_at same entries goal ≡ []) → (goal : I) → entries_at same more goal ≡ []
   none_left disabled [] reason r target entries more rebases none goal = absurd rebases
   none_left disabled (s ∷ below) reason r target entries more rebases none goal =

@@ -11,7 +11,7 @@ use Rattle.global_cache.specs.Collected.{AreLive, AreRooted, Collected}
 use Rattle.search_context.specs.Graph.{IsWalk}
 use Rattle.search_context.specs.declared.context.Edge.{Edge}
 use Rattle.search_moves.proofs.Noting.{noted_cases, of_stored_stays, still_noted, target_is_noted}
-use Rattle.search_moves.specs.Below.{AreFree, Cache, CacheNode, Call, CxOf, DelegateOf, entries_at, graph_nodes_of, HasEdge, HasGraph, IsReached, NodeId, ProvisionalCacheEntry, Received, Run, run_of, runs_of, StackEntry, Store, StoredResult, verdicts}
+use Rattle.search_moves.specs.Below.{AreFree, Cache, CacheNode, Call, CxOf, DelegateOf, entries_at, graph_nodes_of, HasEdge, HasGraph, IsReached, NodeId, ProvisionalCacheEntry, Received, run_of, runs_of, Store, OpenGoal, StoredResult, verdicts}
 use Rattle.search_moves.specs.Drafts.{AreNotedNodes, HasRoots, IsOfStored, LetsGo, LetsGoAtEnd, noted}
 use Rattle.search_moves.specs.Evaluations.{IsRight, IsRightFor}
 use Rattle.search_moves.specs.Settled.{IsSettledStore, Settles}
@@ -29,14 +29,14 @@ module _ (live : ℕ → Bool) where
   live_root roots are (Some n) h = are n h
 
   module _ {X F I R A T : Type 0} (roots : List NodeId) (are : (n : NodeId) → Contains roots n → IsTrue (live n.0)) where
-    live_run : (s : StackEntry X I R A T × Run X F I R A T) → HasNodes roots s → IsLiveRun live (run_of s)
+    live_run : (s : OpenGoal X F I R A T) → HasNodes roots s → IsLiveRun live (run_of s)
     live_run s has = record {
       own = are s.1.node has.own;
       cycles = live_root roots are s.0.state.node has.cycles;
       answers = λ i a at. are (record { 0 = a.edge.target }) (All-contains (λ a. Contains roots (record { 0 = a.edge.target })) s.1.progress.answers a has.answers (i, slice_get_within s.1.progress.answers i a at, get_or_from_slice_get s.1.progress.answers i a a at));
     }
 
-    live_runs : (goals : List (StackEntry X I R A T × Run X F I R A T)) → All (HasNodes roots) goals → AreLiveRuns live (runs_of goals)
+    live_runs : (goals : List (OpenGoal X F I R A T)) → All (HasNodes roots) goals → AreLiveRuns live (runs_of goals)
     live_runs [] has = tt
     live_runs (s ∷ below) has = (live_run s (All-head (HasNodes roots) s below has), live_runs below (All-tail (HasNodes roots) s below has))
 
@@ -77,7 +77,7 @@ module _ {D C V P F I R A T : Type 0} (same : I → I → Bool) (e : Evaluation 
   every_node None = tt
   every_node (Some n) = refl
 
-  every_run : (goals : List (StackEntry C I R A T × Run C F I R A T)) → AreLiveRuns every (runs_of goals)
+  every_run : (goals : List (OpenGoal C F I R A T)) → AreLiveRuns every (runs_of goals)
   unfolding every
   every_run [] = tt
   every_run (s ∷ below) = (record { own = refl; cycles = every_node s.0.state.node; answers = λ i a at. refl }, every_run below)
@@ -156,7 +156,7 @@ module _ {D C V P F I R A T : Type 0} (same : I → I → Bool) (e : Evaluation 
     goes_at_end_if (Err fault) ok exactly = tt
 
 -- roots that are there stay so with more
-pub has_more : {X F I R A T : Type 0} (roots more : List NodeId) → ((n : NodeId) → Contains roots n → Contains more n) → (goals : List (StackEntry X I R A T × Run X F I R A T)) → All (HasNodes roots) goals → All (HasNodes more) goals
+pub has_more : {X F I R A T : Type 0} (roots more : List NodeId) → ((n : NodeId) → Contains roots n → Contains more n) → (goals : List (OpenGoal X F I R A T)) → All (HasNodes roots) goals → All (HasNodes more) goals
 has_more {X} {F} {I} {R} {A} {T} roots more among goals has =
     All-weaker (HasNodes roots) (HasNodes more)
     (λ s nodes. record {

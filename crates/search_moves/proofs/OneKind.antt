@@ -3,7 +3,7 @@
 use Rattle.std.proofs.Common.{◌≡◌, ◌-◌, ◌||◌, ℕ, Bool, true, false, not, Contains, IsSome, List, [], ◌∷◌, length, Option, None, Some, option_map, Result, Ok, inr, refl, sym, ap, ◌∙◌, subst}
 use Rattle.open_goals.specs.declared.goals.Next.TheVariants.{Finished}
 use Rattle.global_cache.specs.Hits.{hit_at}
-use Rattle.search_moves.specs.Below.{AreJustified, AvailableDepth, Cache, CacheNode, Call, CxOf, DelegateOf, depends_on, entries_at, Evaluate, final_answer, first_accepted, first_entry, first_run, Hit, is_applicable, LeavesNested, Lists, newest, Next, node_given, Overflow, PathKind, ProvisionalCacheEntry, Pushes, RebaseReason, RebasesNewest, Received, Run, runs_of, StackEntry, Step, Store, stored_at, StoredResult, StoresNewest, Success, Unstable, usable, verdicts}
+use Rattle.search_moves.specs.Below.{AreJustified, AvailableDepth, Cache, CacheNode, Call, CxOf, DelegateOf, depends_on, entries_at, Evaluate, final_answer, first_accepted, first_entry, first_run, Hit, is_applicable, LeavesNested, Lists, newest, Next, node_given, Overflow, PathKind, ProvisionalCacheEntry, Pushes, RebaseReason, RebasesNewest, Received, runs_of, StackEntry, OpenGoal, Step, Store, stored_at, StoredResult, StoresNewest, Success, Unstable, usable, verdicts}
 use Rattle.search_moves.specs.declared.evaluation.Evaluation.{Evaluation}
 use Rattle.search_moves.specs.Evaluations.{IsNew}
 use Rattle.search_moves.specs.Settled.{HaveOneKind}
@@ -28,13 +28,13 @@ use Rattle.search_rules.proofs.moves.Moves.{enclosed_asks}
 
 module _ {D C V P F I R A T : Type 0} (G : DelegateOf D C V P F I R A T) (same : I → I → Bool) (cx : C) (call : Call I) where
   -- what is kept of what comes next, which is the stored results alone once the call has its answer
-  abbrev pub HaveOneKindNext : Next R → Store I (StoredResult C I R A T) → List (StackEntry C I R A T × Run C F I R A T) → Lists I (ProvisionalCacheEntry C I R A T) → Type 0
+  abbrev pub HaveOneKindNext : Next R → Store I (StoredResult C I R A T) → List (OpenGoal C F I R A T) → Lists I (ProvisionalCacheEntry C I R A T) → Type 0
   HaveOneKindNext (Step given) results goals entries = HaveOneKind G same cx call results goals entries
   HaveOneKindNext (Finished answer) results goals entries = StoredReachNested (G.script cx) same call.goals results
 
 -- ---- a goal is pushed that has no entry
 
-module _ {D C V P F I R A T : Type 0} (G : DelegateOf D C V P F I R A T) (X : CxOf C I R A T) (same : I → I → Bool) (cx : C) (call : Call I) (kind : PathKind) (goal : I) (depth : AvailableDepth) (nodes later : List (CacheNode I R)) (results : Store I (StoredResult C I R A T)) (old new : List (StackEntry C I R A T × Run C F I R A T)) (entries : Lists I (ProvisionalCacheEntry C I R A T)) where
+module _ {D C V P F I R A T : Type 0} (G : DelegateOf D C V P F I R A T) (X : CxOf C I R A T) (same : I → I → Bool) (cx : C) (call : Call I) (kind : PathKind) (goal : I) (depth : AvailableDepth) (nodes later : List (CacheNode I R)) (results : Store I (StoredResult C I R A T)) (old new : List (OpenGoal C F I R A T)) (entries : Lists I (ProvisionalCacheEntry C I R A T)) where
   pushed_keeps : AsksNewest (G.script cx) old kind goal → entries_at same entries goal ≡ [] → Pushes G X cx goal kind depth nodes later old new → HaveOneKind G same cx call results old entries → HaveOneKind G same cx call results new entries
   pushed_keeps asks none pushes h =
       subst (λ l. HaveOneKind G same cx call results l entries) (sym pushes.is)
@@ -99,7 +99,7 @@ module _ {D C V P F I R A T : Type 0} (G : DelegateOf D C V P F I R A T) (X : Cx
       pushed_keeps G X same cx call kind goal depth old.nodes nodes old.results e.goals goals e.provisional asks (asked_without_entries none) pushes h
 
 -- a call begins with a goal that is pushed
-pub began_keeps : {D C V P F I R A T : Type 0} (G : DelegateOf D C V P F I R A T) (X : CxOf C I R A T) (same : I → I → Bool) (cx : C) (kind : PathKind) (goal : I) (old : Cache C I R A T) (e : Evaluation D C V P F I R A T) (is_new : IsNew e) (depth : AvailableDepth) (goals : List (StackEntry C I R A T × Run C F I R A T)) (nodes : List (CacheNode I R))
+pub began_keeps : {D C V P F I R A T : Type 0} (G : DelegateOf D C V P F I R A T) (X : CxOf C I R A T) (same : I → I → Bool) (cx : C) (kind : PathKind) (goal : I) (old : Cache C I R A T) (e : Evaluation D C V P F I R A T) (is_new : IsNew e) (depth : AvailableDepth) (goals : List (OpenGoal C F I R A T)) (nodes : List (CacheNode I R))
     → Pushes G X cx goal kind depth old.nodes nodes e.goals goals → (call : Call I) → StoredReachNested (G.script cx) same call.goals old.results → HaveOneKind G same cx call old.results goals e.provisional
 began_keeps {C = C} {I = I} {R = R} {A = A} {T = T} G X same cx kind goal old e is_new depth goals nodes pushes call reached =
     let none : (other : I) → entries_at same e.provisional other ≡ [] = λ other. ap (λ (l : Lists I (ProvisionalCacheEntry C I R A T)). entries_at same l other) is_new.no_entries in
@@ -113,7 +113,7 @@ began_keeps {C = C} {I = I} {R = R} {A = A} {T = T} G X same cx kind goal old e 
     }))
 
 -- the newest goal takes its step, and notes what it requested of candidates
-pub noted_keeps : {D C V P F I R A T : Type 0} (G : DelegateOf D C V P F I R A T) (X : CxOf C I R A T) (same : I → I → Bool) (cx : C) (call : Call I) (given : Received R) (request : Request I R) (results : Store I (StoredResult C I R A T)) (old mid after : List (StackEntry C I R A T × Run C F I R A T)) (entries : Lists I (ProvisionalCacheEntry C I R A T))
+pub noted_keeps : {D C V P F I R A T : Type 0} (G : DelegateOf D C V P F I R A T) (X : CxOf C I R A T) (same : I → I → Bool) (cx : C) (call : Call I) (given : Received R) (request : Request I R) (results : Store I (StoredResult C I R A T)) (old mid after : List (OpenGoal C F I R A T)) (entries : Lists I (ProvisionalCacheEntry C I R A T))
     → HasStepped G X cx given request old mid → NotesCandidate request mid after → HaveOneKind G same cx call results old entries → HaveOneKind G same cx call results after entries
 noted_keeps G X same cx call given request results old mid after entries s noted h = record {
   kinds = noted_keeps_kinds (G.script cx) same G.ENABLE_PROVISIONAL_CACHE entries request mid after noted (stepped_keeps_kinds G X cx same G.ENABLE_PROVISIONAL_CACHE entries old mid given request s h.kinds);
@@ -131,10 +131,10 @@ unused_of same_result initial_kind ambiguity limit earlier usages finished_runs 
 unused_of same_result initial_kind ambiguity limit earlier usages finished_runs r end (Repeats used at never few) is = absurd cc
 
 module _ {D C V P F I R A T : Type 0} (G : DelegateOf D C V P F I R A T) (X : CxOf C I R A T) (same : I → I → Bool) (by_value : (x y : I) → same x y ≡ true → x ≡ y) (cx : C) (call : Call I) (suits : EntriesSuit G.ENABLE_PROVISIONAL_CACHE (G.script cx)) (nodes : List (CacheNode I R)) (results later : Store I (StoredResult C I R A T)) (reason : Option (RebaseReason C I R A T)) (r : R) (old new : Lists I (ProvisionalCacheEntry C I R A T)) where
-  pub popped_keeps : (goals left : List (StackEntry C I R A T × Run C F I R A T)) (next : Next R) → AreJustified (verdicts X) nodes (runs_of goals) → AreReady (verdicts X) same (G.script cx) nodes (runs_of goals) old
-      → ((s : StackEntry C I R A T × Run C F I R A T) (below : List (StackEntry C I R A T × Run C F I R A T)) → goals ≡ s ∷ below → reason ≡ None → s.0.state.usages ≡ None)
-      → ((s : StackEntry C I R A T × Run C F I R A T) (below : List (StackEntry C I R A T × Run C F I R A T)) → goals ≡ s ∷ below → IsLone same results s.0.input → ⊥)
-      → ((s : StackEntry C I R A T × Run C F I R A T) (below : List (StackEntry C I R A T × Run C F I R A T)) → goals ≡ s ∷ below → IsOff (runs_of below) s.0.input)
+  pub popped_keeps : (goals left : List (OpenGoal C F I R A T)) (next : Next R) → AreJustified (verdicts X) nodes (runs_of goals) → AreReady (verdicts X) same (G.script cx) nodes (runs_of goals) old
+      → ((s : OpenGoal C F I R A T) (below : List (OpenGoal C F I R A T)) → goals ≡ s ∷ below → reason ≡ None → s.0.state.usages ≡ None)
+      → ((s : OpenGoal C F I R A T) (below : List (OpenGoal C F I R A T)) → goals ≡ s ∷ below → IsLone same results s.0.input → ⊥)
+      → ((s : OpenGoal C F I R A T) (below : List (OpenGoal C F I R A T)) → goals ≡ s ∷ below → IsOff (runs_of below) s.0.input)
       → NewestLeaves r goals next left → LeavesNested same goals left → StoresNewest same goals r (node_given next) results later → RebasesNewest same G.ENABLE_PROVISIONAL_CACHE (G.propagated cx) (G.fixpoint_overflow cx) reason r (node_given next) goals old new
       → HaveOneKind G same cx call results goals old → HaveOneKindNext G same cx call next later left new
   popped_keeps [] left next justified ready unused not_lone off leaves nests puts rebases h = absurd leaves
@@ -153,8 +153,8 @@ module _ {D C V P F I R A T : Type 0} (G : DelegateOf D C V P F I R A T) (X : Cx
       })
 
 module _ {D C V P F I R A T : Type 0} (G : DelegateOf D C V P F I R A T) (X : CxOf C I R A T) (same : I → I → Bool) (by_value : (x y : I) → same x y ≡ true → x ≡ y) (old : Cache C I R A T) (before : Evaluation D C V P F I R A T) (call : Call I) (outcome : R) (suits : EntriesSuit G.ENABLE_PROVISIONAL_CACHE (G.script old.cx)) (right : IsRight G X same old.cx old before)
-    (not_lone : (s : StackEntry C I R A T × Run C F I R A T) (below : List (StackEntry C I R A T × Run C F I R A T)) → before.goals ≡ s ∷ below → IsLone same old.results s.0.input → ⊥)
-    (off : (s : StackEntry C I R A T × Run C F I R A T) (below : List (StackEntry C I R A T × Run C F I R A T)) → before.goals ≡ s ∷ below → IsOff (runs_of below) s.0.input) (h : HaveOneKind G same old.cx call old.results before.goals before.provisional) where
+    (not_lone : (s : OpenGoal C F I R A T) (below : List (OpenGoal C F I R A T)) → before.goals ≡ s ∷ below → IsLone same old.results s.0.input → ⊥)
+    (off : (s : OpenGoal C F I R A T) (below : List (OpenGoal C F I R A T)) → before.goals ≡ s ∷ below → IsOff (runs_of below) s.0.input) (h : HaveOneKind G same old.cx call old.results before.goals before.provisional) where
   -- the goal is run again
   pub rerun_keeps : (new : Cache C I R A T) (after : Evaluation D C V P F I R A T) → RunsAgain G X same outcome old before new after → HaveOneKind G same old.cx call new.results after.goals after.provisional
   rerun_keeps new after again =
@@ -174,7 +174,7 @@ module _ {D C V P F I R A T : Type 0} (G : DelegateOf D C V P F I R A T) (X : Cx
   led_keeps same_result next new after (IsDone entry run reason comes pops unmet) =
       popped_keeps G X same by_value old.cx call suits old.nodes old.results new.results reason outcome before.provisional after.provisional before.goals after.goals next right.justified right.ready
       (λ s below was none.
-      let found : Some s.0 ≡ Some entry = ap (λ l. option_map (λ (t : StackEntry C I R A T × Run C F I R A T). t.0) (newest l)) (sym was) ∙ comes.is_entry in
+      let found : Some s.0 ≡ Some entry = ap (λ l. option_map (λ (t : OpenGoal C F I R A T). t.0) (newest l)) (sym was) ∙ comes.is_entry in
       let one : s.0 ≡ entry = cc in
       subst (λ (d : StackEntry C I R A T). d.state.usages ≡ None) (sym one)
       (unused_of same_result G.initial_kind G.ambiguity G.FIXPOINT_STEP_LIMIT entry.state.provisional_result entry.state.usages run.finished_runs outcome (Ok reason) comes.ends (ap Ok none)))

@@ -9,7 +9,7 @@ use Rattle.global_cache.specs.declared.results.Place.TheVariants.{WithOverflow}
 use Rattle.open_goals.specs.declared.goals.Next.TheVariants.{Finished}
 use Rattle.open_goals.specs.declared.goals.Fate.TheVariants as becomes
 use Rattle.search_rules.specs.Moves.{NewestLeaves}
-use Rattle.search_moves.specs.Below.{Call, IsNewestToStore, CxOf, DelegateOf, Done, fates_of, first_accepted, final_answer, HasAsked, HaveTallies, IfFinished, CallMeetsNone, IsNewestStored, IsRemembered, Next, node_given, place_of, Run, runs_of, StackEntry, Store, stored_at, stored_from, StoredResult, Success}
+use Rattle.search_moves.specs.Below.{Call, IsNewestToStore, CxOf, DelegateOf, Done, fates_of, first_accepted, final_answer, HasAsked, HaveTallies, IfFinished, CallMeetsNone, IsNewestStored, IsRemembered, Next, node_given, place_of, runs_of, Store, OpenGoal, stored_at, stored_from, StoredResult, Success}
 use Rattle.search_rules.proofs.entries.Ready.{heads_on_stack, on_stack_many}
 use Rattle.search_rules.proofs.moves.DoneRuns.{calm_of}
 use Rattle.search_rules.proofs.moves.Moves.{only_fits}
@@ -31,7 +31,7 @@ module _ {X I R A T : Type 0} (depth : ℕ) (s : StoredResult X I R A T) where
       (used_at (nat_le s.required_depth depth) (le-leb s.required_depth depth within) (overflows depth (stored_at same results goal (WithOverflow depth))))
 
 module _ {D C V P F I R A T : Type 0} (G : DelegateOf D C V P F I R A T) (X : CxOf C I R A T) (cx : C) (call : Call I) (same : I → I → Bool) (token : I → T) (ahead : ℕ) (done r : R) (starts : ℕ) (met : Bool) (results : Store I (StoredResult C I R A T)) where
-  only_remembered : (s : StackEntry C I R A T × Run C F I R A T) → HaveTallies (runs_of (s ∷ [])) → HasAsked G X cx call ahead (Done done) (s ∷ []) starts met → (next : Next R) → IsNewestStored same token (s ∷ []) r (node_given next) results → s.1.fate ≡ becomes.Stored → CallMeetsNone G X cx call met → IsRemembered same results call.top call.root (record { result = r; node = node_given next })
+  only_remembered : (s : OpenGoal C F I R A T) → HaveTallies (runs_of (s ∷ [])) → HasAsked G X cx call ahead (Done done) (s ∷ []) starts met → (next : Next R) → IsNewestStored same token (s ∷ []) r (node_given next) results → s.1.fate ≡ becomes.Stored → CallMeetsNone G X cx call met → IsRemembered same results call.top call.root (record { result = r; node = node_given next })
   only_remembered s tallies h next stored kept meets =
       let no_heads = none_below s.0.state.heads (subst (λ n. All (λ head. head.0.0 < n) s.0.state.heads) (on_stack_many {X = C} {F = F} {I = I} {R = R} {A = A} {T = T} []) (heads_on_stack s [] tallies)) in
       let only = only_fits G X cx call ahead (Done done) s starts met h in
@@ -41,7 +41,7 @@ module _ {D C V P F I R A T : Type 0} (G : DelegateOf D C V P F I R A T) (X : Cx
       success_is_used call.root (stored_from (final_answer s r (node_given next)) (token s.0.input)) same results call.top at only.1
 
   -- the answer to a call is stored, also where a limit was met now
-  pub remembered : (after : Bool) → (CallMeetsNone G X cx call after → CallMeetsNone G X cx call met) → (old new : List (StackEntry C I R A T × Run C F I R A T)) (next : Next R) → HaveTallies (runs_of old) → HasAsked G X cx call ahead (Done done) old starts met → NewestLeaves r old next new → IsNewestStored same token old r (node_given next) results → IfFinished next (λ answer. IsNewestToStore (fates_of old) → CallMeetsNone G X cx call after → IsRemembered same results call.top call.root answer)
+  pub remembered : (after : Bool) → (CallMeetsNone G X cx call after → CallMeetsNone G X cx call met) → (old new : List (OpenGoal C F I R A T)) (next : Next R) → HaveTallies (runs_of old) → HasAsked G X cx call ahead (Done done) old starts met → NewestLeaves r old next new → IsNewestStored same token old r (node_given next) results → IfFinished next (λ answer. IsNewestToStore (fates_of old) → CallMeetsNone G X cx call after → IsRemembered same results call.top call.root answer)
   remembered after before [] new next tallies h l stored = absurd l
   remembered after before (s ∷ []) new next tallies h l stored =
       subst (λ n. IfFinished n (λ answer. IsNewestToStore (fates_of (s ∷ [])) → CallMeetsNone G X cx call after → IsRemembered same results call.top call.root answer)) (sym l.1)

@@ -3,7 +3,7 @@ use Rattle.std.proofs.Common.{◌≡◌, ℕ, ◌&&◌, ◌||◌, if◌then◌el
 use Rattle.std.specs.List.{filter}
 use Rattle.std.proofs.lemmas.List.Elements.{All-append, All-cons, All-filter, All-nil}
 use Rattle.search_rules.specs.Below.{NodeId}
-use Rattle.search_moves.specs.Below.{StackDepth, CycleHead, PathKind, HeadUsages, highest, has_usages, other_usages, DelegateOf, CxOf, Done, StoredResult, ProvisionalCacheEntry, RebaseReason, EvaluationResult, StackEntry, IsDefinite, IsNeither, Lists, entries_at, but_highest, rebased, changed_for, with_unused, with_used, Store, Run, Verdicts, verdicts, Unstable, Call, CallMeetsNone, HasAsked, KeepsAnswers, KeepsStore, final_answer, entries_for, entry_of, rebased_for, RebasesEntries, RebasesNewest, MayPutNewest, IsReason, IsEndOfRun, Ambiguous, Initial, Limited, Repeated, Repeats, Stable, WithoutUsages}
+use Rattle.search_moves.specs.Below.{StackDepth, CycleHead, PathKind, HeadUsages, highest, has_usages, other_usages, DelegateOf, CxOf, Done, StoredResult, ProvisionalCacheEntry, RebaseReason, EvaluationResult, OpenGoal, StackEntry, IsDefinite, IsNeither, Lists, entries_at, but_highest, rebased, changed_for, with_unused, with_used, Store, Verdicts, verdicts, Unstable, Call, CallMeetsNone, HasAsked, KeepsAnswers, KeepsStore, final_answer, entries_for, entry_of, rebased_for, RebasesEntries, RebasesNewest, MayPutNewest, IsReason, IsEndOfRun, Ambiguous, Initial, Limited, Repeated, Repeats, Stable, WithoutUsages}
 use Rattle.provisional_cache.specs.declared.RebaseReason.TheVariants as why
 use Rattle.provisional_cache.proofs.RebasedEntryLists.{All-filter_map}
 use Rattle.search_rules.specs.EndOfRun.{Unused}
@@ -87,7 +87,7 @@ module _ {X I R A T : Type 0} (P : Bool → R → Type 0) where
   cleared_said same left old new cleared all = λ goal. subst (All SaidOf) (sym (cleared goal)) (All-filter left SaidOf (entries_at same old goal) (all goal))
 
   -- the newest goal was popped, of whose answer it may be said
-  taken_said : {F : Type 0} (same : I → I → Bool) (enabled : Bool) (propagated : I → A → R) (overflow : I → R) (reason : Option (RebaseReason X I R A T)) (r : R) (s : StackEntry X I R A T × Run X F I R A T) (below : List (StackEntry X I R A T × Run X F I R A T)) (old new : Lists I (ProvisionalCacheEntry X I R A T))
+  taken_said : {F : Type 0} (same : I → I → Bool) (enabled : Bool) (propagated : I → A → R) (overflow : I → R) (reason : Option (RebaseReason X I R A T)) (r : R) (s : OpenGoal X F I R A T) (below : List (OpenGoal X F I R A T)) (old new : Lists I (ProvisionalCacheEntry X I R A T))
       → ((goal : I) (reasoned : RebaseReason X I R A T) → reason ≡ Some reasoned → KeepsSaid (changed_for (propagated goal) (overflow goal) reasoned))
       → P (s.0.state.encountered_overflow || s.1.met_overflow_before) r
       → RebasesEntries same enabled propagated overflow reason r s below old new → SaidOfAll same old → SaidOfAll same new
@@ -140,7 +140,7 @@ module _ {D C V P F I R A T : Type 0} (G : DelegateOf D C V P F I R A T) (X : Cx
   }
 
   -- entries that a goal leaves met no overflow as long as the call meets none, whatever its result
-  entries_met_none : (ahead : ℕ) (done r : R) (starts : ℕ) (met enabled : Bool) (reason : Option (RebaseReason C I R A T)) (s : StackEntry C I R A T × Run C F I R A T) (below : List (StackEntry C I R A T × Run C F I R A T)) (old new : Lists I (ProvisionalCacheEntry C I R A T)) → CallMeetsNone G X cx call met → HasAsked G X cx call ahead (Done done) (s ∷ below) starts met
+  entries_met_none : (ahead : ℕ) (done r : R) (starts : ℕ) (met enabled : Bool) (reason : Option (RebaseReason C I R A T)) (s : OpenGoal C F I R A T) (below : List (OpenGoal C F I R A T)) (old new : Lists I (ProvisionalCacheEntry C I R A T)) → CallMeetsNone G X cx call met → HasAsked G X cx call ahead (Done done) (s ∷ below) starts met
       → RebasesEntries same enabled (G.propagated cx) (G.fixpoint_overflow cx) reason r s below old new → SaidOfAll (λ met r. met ≡ false) same old → SaidOfAll (λ met r. met ≡ false) same new
   entries_met_none ahead done r starts met enabled reason s below old new meets h rebases =
       taken_said (λ met r. met ≡ false) same enabled (G.propagated cx) (G.fixpoint_overflow cx) reason r s below old new
@@ -148,7 +148,7 @@ module _ {D C V P F I R A T : Type 0} (G : DelegateOf D C V P F I R A T) (X : Cx
       (calm_of G X cx call ahead done starts met s below meets h) rebases
 
   -- a goal that had its most runs was popped, which meets a limit
-  pub limited_keeps_answers : (target : Option NodeId) (ahead : ℕ) (done r : R) (starts : ℕ) (met enabled : Bool) (reason : Option (RebaseReason C I R A T)) → ((x y : I) → same x y ≡ true → x ≡ y) → (before after : Store I (StoredResult C I R A T)) (goals : List (StackEntry C I R A T × Run C F I R A T)) (old new : Lists I (ProvisionalCacheEntry C I R A T)) → MayPutNewest same goals r before after → RebasesNewest same enabled (G.propagated cx) (G.fixpoint_overflow cx) reason r target goals old new → HasAsked G X cx call ahead (Done done) goals starts met → KeepsAnswers G X cx same call met before old → KeepsAnswers G X cx same call true after new
+  pub limited_keeps_answers : (target : Option NodeId) (ahead : ℕ) (done r : R) (starts : ℕ) (met enabled : Bool) (reason : Option (RebaseReason C I R A T)) → ((x y : I) → same x y ≡ true → x ≡ y) → (before after : Store I (StoredResult C I R A T)) (goals : List (OpenGoal C F I R A T)) (old new : Lists I (ProvisionalCacheEntry C I R A T)) → MayPutNewest same goals r before after → RebasesNewest same enabled (G.propagated cx) (G.fixpoint_overflow cx) reason r target goals old new → HasAsked G X cx call ahead (Done done) goals starts met → KeepsAnswers G X cx same call met before old → KeepsAnswers G X cx same call true after new
   limited_keeps_answers target ahead done r starts met enabled reason by_value before after [] old new put rebases h keeps = absurd put
   limited_keeps_answers target ahead done r starts met enabled reason by_value before after (s ∷ below) old new put rebases h keeps = record {
     store = limited_keeps G X cx call same by_value before after ahead done r (s ∷ below) starts met put h keeps.store;
@@ -163,7 +163,7 @@ module _ {D C V P F I R A T : Type 0} (G : DelegateOf D C V P F I R A T) (X : Cx
         (λ info ambiguous. absurd (subst LeavesResults ambiguous (leaves_results definite reasoned is)))
         (λ limited. absurd (subst LeavesResults limited (leaves_results definite reasoned is)))
 
-    entries_definite : (s : StackEntry C I R A T × Run C F I R A T) (below : List (StackEntry C I R A T × Run C F I R A T)) (old new : Lists I (ProvisionalCacheEntry C I R A T)) → IsDefinite (verdicts X) done
+    entries_definite : (s : OpenGoal C F I R A T) (below : List (OpenGoal C F I R A T)) (old new : Lists I (ProvisionalCacheEntry C I R A T)) → IsDefinite (verdicts X) done
         → RebasesEntries same enabled (G.propagated cx) (G.fixpoint_overflow cx) reason done s below old new → SaidOfAll (λ met r. IsDefinite (verdicts X) r) same old → SaidOfAll (λ met r. IsDefinite (verdicts X) r) same new
     entries_definite s below old new definite rebases =
         taken_said (λ met r. IsDefinite (verdicts X) r) same enabled (G.propagated cx) (G.fixpoint_overflow cx) reason done s below old new
@@ -171,7 +171,7 @@ module _ {D C V P F I R A T : Type 0} (G : DelegateOf D C V P F I R A T) (X : Cx
         definite rebases
 
     -- the newest goal was popped
-    pub done_keeps : (target : Option NodeId) → ((x y : I) → same x y ≡ true → x ≡ y) → (before after : Store I (StoredResult C I R A T)) (goals : List (StackEntry C I R A T × Run C F I R A T)) (old new : Lists I (ProvisionalCacheEntry C I R A T)) → MayPutNewest same goals done before after → RebasesNewest same enabled (G.propagated cx) (G.fixpoint_overflow cx) reason done target goals old new → HasAsked G X cx call ahead (Done done) goals starts met → KeepsAnswers G X cx same call met before old → KeepsAnswers G X cx same call met after new
+    pub done_keeps : (target : Option NodeId) → ((x y : I) → same x y ≡ true → x ≡ y) → (before after : Store I (StoredResult C I R A T)) (goals : List (OpenGoal C F I R A T)) (old new : Lists I (ProvisionalCacheEntry C I R A T)) → MayPutNewest same goals done before after → RebasesNewest same enabled (G.propagated cx) (G.fixpoint_overflow cx) reason done target goals old new → HasAsked G X cx call ahead (Done done) goals starts met → KeepsAnswers G X cx same call met before old → KeepsAnswers G X cx same call met after new
     done_keeps target by_value before after [] old new put rebases h keeps = absurd put
     done_keeps target by_value before after (s ∷ below) old new put rebases h keeps = record {
       store = put_keeps G X cx call same by_value before after ahead done (s ∷ below) starts met put h keeps.store;

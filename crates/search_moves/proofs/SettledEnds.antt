@@ -4,7 +4,7 @@ use Rattle.std.specs.Option.{IfSome, IsSomeAnd}
 use Rattle.std.proofs.lemmas.Bool.{false≢true, or_from}
 use Rattle.open_goals.specs.declared.goals.Next.TheVariants.{Finished}
 use Rattle.search_context.proofs.Rules.{KeepsRule}
-use Rattle.search_moves.specs.Below.{Again, AreFree, AreJustified, Answer, AtLimit, Begin, Cache, CacheNode, Call, CxOf, DelegateOf, Done, final_answer, HasAsked, HasNewestNode, depends_on, entries_at, IsDefinite, IsEndOfRun, IsNewestStored, LeavesNested, Lists, newest, Next, node_given, open_node, place_of, ProvisionalCacheEntry, RebaseReason, RebasesNewest, Run, runs_of, StackEntry, Step, Store, stored_at, stored_from, StoredResult, StoresNewest, Success, Unstable, verdict_of, Verdicts, verdicts, AreReady}
+use Rattle.search_moves.specs.Below.{Again, AreFree, AreJustified, Answer, AtLimit, Begin, Cache, CacheNode, Call, CxOf, DelegateOf, Done, final_answer, HasAsked, HasNewestNode, depends_on, entries_at, IsDefinite, IsEndOfRun, IsNewestStored, LeavesNested, Lists, newest, Next, node_given, open_node, place_of, ProvisionalCacheEntry, RebaseReason, RebasesNewest, Run, runs_of, OpenGoal, StackEntry, Step, Store, stored_at, stored_from, StoredResult, StoresNewest, Success, Unstable, verdict_of, Verdicts, verdicts, AreReady}
 use Rattle.search_moves.specs.declared.evaluation.Evaluation.{Evaluation}
 use Rattle.search_moves.specs.Settled.{EntriesSuitCall, SettlesNext}
 use Rattle.search_moves.proofs.KeptEntries.{entries_apart, EntriesSuitNext, led_keeps_entries}
@@ -33,7 +33,7 @@ use Rattle.search_rules.proofs.moves.EndOfRunLaws.{newest_unstable, unstable}
 use Rattle.search_rules.proofs.moves.Moves.{done_definite, ends_newest}
 
 -- the newest goal came to the verdict of its provisional result, if it has one
-abbrev NewestSaysAgain : {X F I R A T : Type 0} → Verdicts R → List (StackEntry X I R A T × Run X F I R A T) → R → Type 0
+abbrev NewestSaysAgain : {X F I R A T : Type 0} → Verdicts R → List (OpenGoal X F I R A T) → R → Type 0
 NewestSaysAgain says [] r = Unit {0}
 NewestSaysAgain {R = R} says (s ∷ below) r = (earlier : R) → s.0.state.provisional_result ≡ Some earlier → verdict_of says earlier ≡ verdict_of says r
 
@@ -42,7 +42,7 @@ module _ {D C V P F I R A T : Type 0} (G : DelegateOf D C V P F I R A T) (X : Cx
 
   module _ (nodes after : List (CacheNode I R)) (results later : Store I (StoredResult C I R A T)) (entries more : Lists I (ProvisionalCacheEntry C I R A T)) (token : I → T) (ahead : ℕ) (r : R) (starts : ℕ) (met : Bool) (definite : IsDefinite (verdicts X) r) (reason : Option (RebaseReason C I R A T)) where
     -- what is known as the newest goal is popped
-    record IsPopped (goals new : List (StackEntry C I R A T × Run C F I R A T)) (next : Next R) : Type 0 where
+    record IsPopped (goals new : List (OpenGoal C F I R A T)) (next : Next R) : Type 0 where
       asked : HasAsked G X cx call ahead (Done r) goals starts met
       justified : AreJustified (verdicts X) nodes (runs_of goals)
       free : AreFree (verdicts X) same nodes (runs_of goals) results
@@ -58,7 +58,7 @@ module _ {D C V P F I R A T : Type 0} (G : DelegateOf D C V P F I R A T) (X : Cx
       rebases : RebasesNewest same G.ENABLE_PROVISIONAL_CACHE (G.propagated cx) (G.fixpoint_overflow cx) reason r (node_given next) goals entries more
       ready_then : AreReady (verdicts X) same (G.script cx) after (runs_of new) more
 
-    module _ (s : StackEntry C I R A T × Run C F I R A T) (below new : List (StackEntry C I R A T × Run C F I R A T)) (next : Next R) (p : IsPopped (s ∷ below) new next) where
+    module _ (s : OpenGoal C F I R A T) (below new : List (OpenGoal C F I R A T)) (next : Next R) (p : IsPopped (s ∷ below) new next) where
       stay : (goal : I) → IsLone same results goal → IsLone same later goal
       stay = lone_after same by_value results later s.0.input (final_answer s r (node_given next)) p.settling.none_lone.0 p.puts
 
@@ -95,11 +95,11 @@ module _ {D C V P F I R A T : Type 0} (G : DelegateOf D C V P F I R A T) (X : Cx
           lone_then.0
 
     -- what it leaves: the goal below it with its answer, or the stored results
-    abbrev PopSettles : Next R → List (StackEntry C I R A T × Run C F I R A T) → Type 0
+    abbrev PopSettles : Next R → List (OpenGoal C F I R A T) → Type 0
     PopSettles (Step given) new = IsSettling (verdicts X) same after later more call new met × AnswerStaysOff (verdicts X) same after later more new given.reply given.node
     PopSettles (Finished answer) new = AreSettled (verdicts X) same after later call.goals
 
-    popped_settles : (goals new : List (StackEntry C I R A T × Run C F I R A T)) (next : Next R) → IsPopped goals new next → PopSettles next new
+    popped_settles : (goals new : List (OpenGoal C F I R A T)) (next : Next R) → IsPopped goals new next → PopSettles next new
     popped_settles [] new next p = absurd p.leaves
     popped_settles (s ∷ []) new next p = subst (λ n. PopSettles n new) (sym p.leaves.1) (settled_then s [] new next p)
     popped_settles (s ∷ q ∷ below) new next p =
@@ -124,12 +124,12 @@ module _ {D C V P F I R A T : Type 0} (G : DelegateOf D C V P F I R A T) (X : Cx
 
   -- ---- the goal is run again
 
-  module _ (nodes after : List (CacheNode I R)) (results : Store I (StoredResult C I R A T)) (entries more : Lists I (ProvisionalCacheEntry C I R A T)) (r : R) (met : Bool) (definite : IsDefinite (verdicts X) r) (goals new : List (StackEntry C I R A T × Run C F I R A T))
+  module _ (nodes after : List (CacheNode I R)) (results : Store I (StoredResult C I R A T)) (entries more : Lists I (ProvisionalCacheEntry C I R A T)) (r : R) (met : Bool) (definite : IsDefinite (verdicts X) r) (goals new : List (OpenGoal C F I R A T))
       (justified : AreJustified (verdicts X) nodes (runs_of goals)) (free : AreFree (verdicts X) same nodes (runs_of goals) results) (ready : AreReady (verdicts X) same (G.script cx) nodes (runs_of goals) entries) (apart : StandApart same results goals entries) (h : IsSettling (verdicts X) same nodes results entries call goals met)
       (again : NewestSaysAgain (verdicts X) goals r) (reran : Reruns G X cx r goals new)
-      (used : (s : StackEntry C I R A T × Run C F I R A T) (below : List (StackEntry C I R A T × Run C F I R A T)) → goals ≡ s ∷ below → is_in_cycle s.0.state ≡ true)
+      (used : (s : OpenGoal C F I R A T) (below : List (OpenGoal C F I R A T)) → goals ≡ s ∷ below → is_in_cycle s.0.state ≡ true)
       (cleared : (goal : I) → entries_at same more goal ≡ filter (λ entry. not (depends_on (record { 0 = length goals - 1 }) entry)) (entries_at same entries goal)) (w : RerunsWithNode (verdicts X) nodes after r goals new) where
-    abbrev old : List (StackEntry C I R A T × Run C F I R A T)
+    abbrev old : List (OpenGoal C F I R A T)
     old = w.item ∷ w.below
 
     justified_there : AreJustified (verdicts X) nodes (runs_of old)
@@ -151,7 +151,7 @@ module _ {D C V P F I R A T : Type 0} (G : DelegateOf D C V P F I R A T) (X : Cx
     again_there = subst (λ l. NewestSaysAgain (verdicts X) l r) w.was again
 
     cleared_there : (goal : I) → entries_at same more goal ≡ filter (λ entry. not (depends_on (record { 0 = length old - 1 }) entry)) (entries_at same entries goal)
-    cleared_there = subst (λ (l : List (StackEntry C I R A T × Run C F I R A T)). (goal : I) → entries_at same more goal ≡ filter (λ entry. not (depends_on (record { 0 = length l - 1 }) entry)) (entries_at same entries goal)) w.was cleared
+    cleared_there = subst (λ (l : List (OpenGoal C F I R A T)). (goal : I) → entries_at same more goal ≡ filter (λ entry. not (depends_on (record { 0 = length l - 1 }) entry)) (entries_at same entries goal)) w.was cleared
 
     in_cycle : is_in_cycle w.item.0.state ≡ true
     in_cycle = used w.item w.below w.was
@@ -191,7 +191,7 @@ module _ {D C V P F I R A T : Type 0} (G : DelegateOf D C V P F I R A T) (X : Cx
 
   -- ---- no goal has had its most runs
 
-  newest_decided : (s : StackEntry C I R A T × Run C F I R A T) (below : List (StackEntry C I R A T × Run C F I R A T)) → AllDecided (verdicts X) (s ∷ below) → IsDecided (verdicts X) s
+  newest_decided : (s : OpenGoal C F I R A T) (below : List (OpenGoal C F I R A T)) → AllDecided (verdicts X) (s ∷ below) → IsDecided (verdicts X) s
   newest_decided s [] d = d
   newest_decided s (p ∷ below) d = d.0
 
@@ -202,7 +202,7 @@ module _ {D C V P F I R A T : Type 0} (G : DelegateOf D C V P F I R A T) (X : Cx
       (clash : (goal : I) (held failed : List (Question I)) → X.proves cx goal held → X.refutes cx goal failed → Overlap held failed) (yes_is_proved : KeepsRule X.is_yes (G.script cx) (X.proves cx)) (no_is_refuted : KeepsRule X.is_no (G.script cx) (X.refutes cx))
       (nodes : List (CacheNode I R)) (are_runs : AreRuns (verdicts X) (G.script cx) nodes) (results : Store I (StoredResult C I R A T)) (entries : Lists I (ProvisionalCacheEntry C I R A T)) (ahead : ℕ) (r : R) (starts : ℕ) (met : Bool) where
     -- the newest goal's run says what the one before it said
-    newest_again : (goals : List (StackEntry C I R A T × Run C F I R A T))
+    newest_again : (goals : List (OpenGoal C F I R A T))
         → HasAsked G X cx call ahead (Done r) goals starts met → AreJustified (verdicts X) nodes (runs_of goals) → AreReady (verdicts X) same (G.script cx) nodes (runs_of goals) entries → StandApart same results goals entries → IsSettling (verdicts X) same nodes results entries call goals met
         → NewestSaysAgain (verdicts X) goals r
     newest_again [] asked justified ready apart h = tt
@@ -212,7 +212,7 @@ module _ {D C V P F I R A T : Type 0} (G : DelegateOf D C V P F I R A T) (X : Cx
         says_again (verdicts X) one_sort (G.script cx) nodes are_runs (X.proves cx) (X.refutes cx) clash yes_is_proved no_is_refuted same results s below entries justified ready apart h.goals_are r (ends_newest G X cx call ahead r (s ∷ below) starts met asked) definite
         earlier was (if_some_at (IsDefinite (verdicts X)) s.0.state.provisional_result earlier was decided.provisional)
 
-    never_limited : (goals : List (StackEntry C I R A T × Run C F I R A T)) (entry : StackEntry C I R A T) (run : Run C F I R A T) (end : Result (Option (RebaseReason C I R A T)) Unstable)
+    never_limited : (goals : List (OpenGoal C F I R A T)) (entry : StackEntry C I R A T) (run : Run C F I R A T) (end : Result (Option (RebaseReason C I R A T)) Unstable)
         → option_map (λ s. s.0) (newest goals) ≡ Some entry → option_map (λ s. s.1) (newest goals) ≡ Some run
         → HasAsked G X cx call ahead (Done r) goals starts met → AreJustified (verdicts X) nodes (runs_of goals) → AreReady (verdicts X) same (G.script cx) nodes (runs_of goals) entries → StandApart same results goals entries → IsSettling (verdicts X) same nodes results entries call goals met
         → IsEndOfRun same_result G.initial_kind G.ambiguity G.FIXPOINT_STEP_LIMIT entry.state.provisional_result entry.state.usages run.finished_runs r end → end ≡ Err AtLimit → ⊥
@@ -261,10 +261,10 @@ module _ {D C V P F I R A T : Type 0} (G : DelegateOf D C V P F I R A T) (X : Cx
   }
   next_settles reason (Finished answer) new after unmet p suit = record { settled = p; suit = suit }
 
-  not_lone_at : (goals : List (StackEntry C I R A T × Run C F I R A T)) → NoneIsLone same old.results call.goals goals → (s : StackEntry C I R A T × Run C F I R A T) (below : List (StackEntry C I R A T × Run C F I R A T)) → goals ≡ s ∷ below → IsLone same old.results s.0.input → ⊥
+  not_lone_at : (goals : List (OpenGoal C F I R A T)) → NoneIsLone same old.results call.goals goals → (s : OpenGoal C F I R A T) (below : List (OpenGoal C F I R A T)) → goals ≡ s ∷ below → IsLone same old.results s.0.input → ⊥
   not_lone_at goals none s below was = (subst (NoneIsLone same old.results call.goals) was none).0
 
-  off_at_newest : (goals : List (StackEntry C I R A T × Run C F I R A T)) → AreSettledGoals (verdicts X) same old.nodes old.results before.provisional None goals → (s : StackEntry C I R A T × Run C F I R A T) (below : List (StackEntry C I R A T × Run C F I R A T)) → goals ≡ s ∷ below → IsOff (runs_of below) s.0.input
+  off_at_newest : (goals : List (OpenGoal C F I R A T)) → AreSettledGoals (verdicts X) same old.nodes old.results before.provisional None goals → (s : OpenGoal C F I R A T) (below : List (OpenGoal C F I R A T)) → goals ≡ s ∷ below → IsOff (runs_of below) s.0.input
   off_at_newest goals settled s below was = (subst (AreSettledGoals (verdicts X) same old.nodes old.results before.provisional None) was settled).0.apart
 
   entries_next : (next : Next R) (new : Cache C I R A T) (after : Evaluation D C V P F I R A T) → RunLeads G X same same_result outcome old before next new after → EntriesSuitNext G same old.cx call next new.results after.goals after.provisional

@@ -1,6 +1,6 @@
 -- Where two runs of a goal are enough, a move that fails leaves the stored results settled.
 use Rattle.std.proofs.Common.{◌≡◌, Bool, List, sym, inl, inr, subst}
-use Rattle.search_moves.specs.Below.{AreFree, Cache, Call, CxOf, DelegateOf, KeepsFinished, Lists, ProvisionalCacheEntry, Received, Run, StackEntry, Store, StoredResult, verdicts}
+use Rattle.search_moves.specs.Below.{AreFree, Cache, Call, CxOf, DelegateOf, KeepsFinished, Lists, ProvisionalCacheEntry, Received, Store, OpenGoal, StoredResult, verdicts}
 use Rattle.search_moves.specs.Settled.{IsSettledStore, EntriesSuitCall, NoneUsed, OneKind, Settles}
 use Rattle.search_moves.specs.declared.evaluation.Evaluation.{Evaluation}
 use Rattle.search_rules.specs.Justified.{OpenRun}
@@ -8,7 +8,7 @@ use Rattle.search_rules.specs.Kinds.{StoredSuit}
 use Rattle.search_rules.proofs.answers.SettledResults.{settled_finished}
 
 module _ {D C V P F I R A T : Type 0} (G : DelegateOf D C V P F I R A T) (X : CxOf C I R A T) (same : I → I → Bool) (cx : C) where
-  entries_suit : (call : Call I) (results : Store I (StoredResult C I R A T)) (goals : List (StackEntry C I R A T × Run C F I R A T)) (entries : Lists I (ProvisionalCacheEntry C I R A T)) → EntriesSuitCall G same cx call results goals entries → StoredSuit G.ENABLE_PROVISIONAL_CACHE (G.script cx) same call.goals results
+  entries_suit : (call : Call I) (results : Store I (StoredResult C I R A T)) (goals : List (OpenGoal C F I R A T)) (entries : Lists I (ProvisionalCacheEntry C I R A T)) → EntriesSuitCall G same cx call results goals entries → StoredSuit G.ENABLE_PROVISIONAL_CACHE (G.script cx) same call.goals results
   entries_suit call results goals entries (NoneUsed off none) = inl off
   entries_suit call results goals entries (OneKind kept) = inr kept.reached
 

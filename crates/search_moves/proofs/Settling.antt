@@ -7,7 +7,7 @@ use Rattle.std.proofs.lemmas.Option.{get_or_from_slice_get, slice_get_within}
 use Rattle.open_goals.specs.declared.goals.Fate.{Fate}
 use Rattle.open_goals.specs.declared.goals.Fate.TheVariants as becomes
 use Rattle.global_cache.proofs.NodeLists.{Grown-appended, KeepsGoals-appended}
-use Rattle.search_moves.specs.Below.{Answer, AvailableDepth, Begin, Cache, CacheNode, Call, CxOf, DelegateOf, entries_at, Evaluate, fate_for, Fated, fates_of, first_accepted, Hit, is_applicable, open_node, PathKind, path_kind_from, ProvisionalCacheEntry, Pushes, Received, Run, runs_of, StackEntry, StackDepth, stored_at, StoredResult, Success, usable, verdicts}
+use Rattle.search_moves.specs.Below.{Answer, AvailableDepth, Begin, Cache, CacheNode, Call, CxOf, DelegateOf, entries_at, Evaluate, fate_for, Fated, fates_of, first_accepted, Hit, is_applicable, open_node, PathKind, path_kind_from, ProvisionalCacheEntry, Pushes, Received, runs_of, StackEntry, OpenGoal, StackDepth, stored_at, StoredResult, Success, usable, verdicts}
 use Rattle.search_moves.specs.declared.evaluation.Evaluation.{Evaluation}
 use Rattle.search_moves.specs.Settled.{EntriesSuitCall, Settles}
 use Rattle.search_moves.specs.Words.{AskingLeadsTo, asking, entry_for, ByEntry, ByStored, IsRight, OverCycle, Pushed, Refused, Requests}
@@ -42,7 +42,7 @@ to_store noop in_scope found unrecorded unscoped = ap₂ (λ noop scoped. fate_f
 
 module _ {D C V P F I R A T : Type 0} (G : DelegateOf D C V P F I R A T) (X : CxOf C I R A T) (same : I → I → Bool) (by_value : (x y : I) → same x y ≡ true → x ≡ y) (own : (x : I) → same x x ≡ true) (cx : C) (kind : PathKind) (goal : I) (old : Cache C I R A T) (e : Evaluation D C V P F I R A T) (starts : ℕ) (call : Call I) (right : IsRight G X same cx old e) (h : IsSettling (verdicts X) same old.nodes old.results e.provisional call e.goals e.limits_met) where
   -- the goal is pushed
-  module _ (depth : AvailableDepth) (goals : List (StackEntry C I R A T × Run C F I R A T)) (nodes : List (CacheNode I R)) (pushes : Pushes G X cx goal kind depth old.nodes nodes e.goals goals) (fate : Fate R) (fates : fates_of goals ≡ record { goal = goal; depth = depth.0; fate = fate } ∷ fates_of e.goals) where
+  module _ (depth : AvailableDepth) (goals : List (OpenGoal C F I R A T)) (nodes : List (CacheNode I R)) (pushes : Pushes G X cx goal kind depth old.nodes nodes e.goals goals) (fate : Fate R) (fates : fates_of goals ≡ record { goal = goal; depth = depth.0; fate = fate } ∷ fates_of e.goals) where
     fate_is : pushes.becomes ≡ fate
     fate_is =
         let pushed : fates_of goals ≡ record { goal = goal; depth = depth.0; fate = pushes.becomes } ∷ fates_of e.goals = ap fates_of pushes.is in

@@ -2,7 +2,7 @@
 use Rattle.std.specs.Prelude.{◌≡◌, ◌≤◌, ◌+◌, ℕ, Bool, true, false, List, ◌∷◌, map, reverse, Option, Some, None}
 use Rattle.std.specs.Option.{option_and_then}
 use Rattle.std.specs.List.{list_any}
-use Rattle.search_moves.specs.Below.{DelegateOf, CxOf, Received, ProvisionalCacheEntry, PathKind, StackEntry, StackDepth, AvailableDepth, Run, Cache, CacheNode, NestsItself, NotesOverflow, TakesStored, AnswersNewest, Hit, first_accepted, usable, depth_below, newest, CountsOne}
+use Rattle.search_moves.specs.Below.{DelegateOf, CxOf, Received, ProvisionalCacheEntry, PathKind, OpenGoal, StackDepth, AvailableDepth, Cache, CacheNode, NestsItself, NotesOverflow, TakesStored, AnswersNewest, Hit, first_accepted, usable, depth_below, newest, CountsOne}
 use Rattle.search_context.specs.declared.context.Reply.TheVariants as reply
 use Rattle.search_rules.specs.LookUp.{Asking, is_applicable, usable_entry, IsUsable}
 use Rattle.search_moves.specs.declared.evaluation.Evaluation.{Evaluation}
@@ -36,25 +36,25 @@ module _ {D C V P F I R A T : Type 0} (G : DelegateOf D C V P F I R A T) (X : Cx
   -- one that is stored.
   pub data AskingLeadsTo (noop : Bool) (old : Cache C I R A T) (e : Evaluation D C V P F I R A T) (starts : ℕ) : Received R → Cache C I R A T → Evaluation D C V P F I R A T → ℕ → Type 0 where
     Refused :
-        (goals : List (StackEntry C I R A T × Run C F I R A T))
+        (goals : List (OpenGoal C F I R A T))
         → None ≡ question_depth G e → NotesOverflow same e.goals goals
         → AskingLeadsTo noop old e starts (record { reply = reply.Answer (G.stack_overflow cx goal); node = None }) old (record e { goals = goals; limits_met = true }) starts
     ByEntry :
-        (depth : AvailableDepth) (entry : ProvisionalCacheEntry C I R A T) (goals : List (StackEntry C I R A T × Run C F I R A T))
+        (depth : AvailableDepth) (entry : ProvisionalCacheEntry C I R A T) (goals : List (OpenGoal C F I R A T))
         → Some depth.0 ≡ question_depth G e → entry_for e ≡ Some entry → AnswersNewest kind 0 entry.encountered_overflow entry.heads e.goals goals → NestsItself same e.goals goals
         → AskingLeadsTo noop old e starts (record { reply = reply.Answer entry.result; node = entry.node }) old (record e { goals = goals }) starts
     ByStored :
-        (depth : AvailableDepth) (hit : Hit I R T) (goals : List (StackEntry C I R A T × Run C F I R A T))
+        (depth : AvailableDepth) (hit : Hit I R T) (goals : List (OpenGoal C F I R A T))
         → Some depth.0 ≡ question_depth G e → entry_for e ≡ None → stored_for noop old e depth.0 ≡ Some hit → TakesStored same kind hit e.goals goals
         → IsUsable same (G.script cx) old.results goal depth.0 hit
         → AskingLeadsTo noop old e starts (record { reply = reply.Answer hit.result; node = hit.node }) old (record e { goals = goals }) starts
     OverCycle :
-        (depth : AvailableDepth) (head : StackDepth) (received : Received R) (goals : List (StackEntry C I R A T × Run C F I R A T))
+        (depth : AvailableDepth) (head : StackDepth) (received : Received R) (goals : List (OpenGoal C F I R A T))
         → Some depth.0 ≡ question_depth G e → entry_for e ≡ None → stored_for noop old e depth.0 ≡ None
         → list_any (λ s. same goal s.0.input) e.goals ≡ true → ClosesCycle G X cx same kind goal head received e.goals goals
         → AskingLeadsTo noop old e starts received old (record e { goals = goals }) starts
     Pushed :
-        (depth : AvailableDepth) (goals : List (StackEntry C I R A T × Run C F I R A T)) (nodes : List (CacheNode I R)) (later : ℕ)
+        (depth : AvailableDepth) (goals : List (OpenGoal C F I R A T)) (nodes : List (CacheNode I R)) (later : ℕ)
         → Some depth.0 ≡ question_depth G e → entry_for e ≡ None → stored_for noop old e depth.0 ≡ None
         → list_any (λ s. same goal s.0.input) e.goals ≡ false → Pushes G X cx goal kind depth old.nodes nodes e.goals goals
         → fates_of goals ≡ record { goal = goal; depth = depth.0; fate = fate_for noop (G.scoped cx goal) (found_for old e depth.0) } ∷ fates_of e.goals

@@ -45,6 +45,7 @@ pub use Rattle.open_goals.specs.declared.goals.Next.{Next}
 pub use Rattle.open_goals.specs.declared.goals.Next.TheVariants.{Step}
 pub use Rattle.open_goals.specs.declared.goals.Received.{Received}
 pub use Rattle.open_goals.specs.declared.goals.Run.{Run}
+pub use Rattle.open_goals.specs.OpenGoal.{OpenGoal}
 pub use Rattle.search_rules.specs.Calls.{bound, Call, CallMeetsNone, IsCounted, limits}
 pub use Rattle.search_rules.specs.Claims.{ComesTo, IsRemembered}
 pub use Rattle.search_rules.specs.EndOfRun.{Ambiguous, Initial, IsEndOfRun, IsReason, Limited, Repeated}

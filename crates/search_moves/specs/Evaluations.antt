@@ -1,6 +1,6 @@
 -- What holds of an evaluation between two of its moves, and what the moves lead to.
 use Rattle.std.specs.Prelude.{◌≡◌, ◌<◌, ◌≤◌, ◌+◌, ◌^◌, ℕ, Bool, true, List, [], length, Result, IfOk, IfErr}
-use Rattle.search_moves.specs.Below.{ChangesNewest, CountsOne, DelegateOf, CxOf, KeepsBuilder, Request, Fault, Evaluate, Next, Received, Cache, KeepsFinished, KeepsResults, PathKind, StackEntry, Run, verdicts}
+use Rattle.search_moves.specs.Below.{ChangesNewest, CountsOne, DelegateOf, CxOf, KeepsBuilder, Request, Fault, Evaluate, Next, Received, Cache, KeepsFinished, KeepsResults, PathKind, OpenGoal, verdicts}
 use Rattle.search_moves.specs.declared.evaluation.Evaluation.{Evaluation}
 use Rattle.search_context.specs.declared.context.Answer.{Answer}
 use Rattle.search_rules.specs.Calls.{Call, CallMeetsNone}
@@ -20,14 +20,14 @@ pub record IsNew {D C V P F I R A T : Type 0} (e : Evaluation D C V P F I R A T)
 
 -- What each move keeps of the cache: the context, stored results or equal ones, finished nodes, and all nodes that were there before
 -- those of the goals' runs.
-pub record KeepsCache {C F I R A T : Type 0} (same : I → I → Bool) (goals : List (StackEntry C I R A T × Run C F I R A T)) (old new : Cache C I R A T) : Type 0 where
+pub record KeepsCache {C F I R A T : Type 0} (same : I → I → Bool) (goals : List (OpenGoal C F I R A T)) (old new : Cache C I R A T) : Type 0 where
   pub context : new.cx ≡ old.cx
   pub results : KeepsResults same old.results new.results
   pub nodes : KeepsFinished old.nodes new.nodes
   pub earlier : KeepsEarlier goals old.nodes new.nodes
 
 -- Besides, a move changes no stored results but those of the newest goal, if its result is to be stored.
-pub record ChangesCache {C F I R A T : Type 0} (same : I → I → Bool) (goals : List (StackEntry C I R A T × Run C F I R A T)) (old new : Cache C I R A T) : Type 0 where
+pub record ChangesCache {C F I R A T : Type 0} (same : I → I → Bool) (goals : List (OpenGoal C F I R A T)) (old new : Cache C I R A T) : Type 0 where
   pub keeps : KeepsCache same goals old new
   pub changes : ChangesNewest same (fates_of goals) old.results new.results
 
@@ -55,7 +55,7 @@ module _ {D C V P F I R A T : Type 0} (G : DelegateOf D C V P F I R A T) (X : Cx
     pub fits : IsFit (verdicts X) cache.nodes (runs_of e.goals) received.reply received.node
 
   -- what comes after a move is right: the reply for the goals, or the answer of the only goal
-  pub record IsRightNext (goals : List (StackEntry C I R A T × Run C F I R A T)) (next : Next R) (cache : Cache C I R A T) (e : Evaluation D C V P F I R A T) : Type 0 where
+  pub record IsRightNext (goals : List (OpenGoal C F I R A T)) (next : Next R) (cache : Cache C I R A T) (e : Evaluation D C V P F I R A T) : Type 0 where
     pub justified : IsJustifiedNext (verdicts X) cache.nodes goals e.goals next
     pub free : AreFree (verdicts X) same cache.nodes (runs_of e.goals) cache.results
     pub ready : AreReady (verdicts X) same (G.script cx) cache.nodes (runs_of e.goals) e.provisional
@@ -93,7 +93,7 @@ module _ {D C V P F I R A T : Type 0} (G : DelegateOf D C V P F I R A T) (X : Cx
     pub answers : KeepsAnswers G X cx same call e.limits_met cache.results e.provisional
 
   -- what comes after a request of the old goals: less work is left, or the call ends
-  pub record LeadsTo (call : Call I) (ahead : ℕ) (old : List (StackEntry C I R A T × Run C F I R A T)) (next : Next R) (cache : Cache C I R A T) (e : Evaluation D C V P F I R A T) (starts : ℕ) : Type 0 where
+  pub record LeadsTo (call : Call I) (ahead : ℕ) (old : List (OpenGoal C F I R A T)) (next : Next R) (cache : Cache C I R A T) (e : Evaluation D C V P F I R A T) (starts : ℕ) : Type 0 where
     pub leads : Leads G X cx call ahead old next e.goals starts e.limits_met
     pub answers : KeepsAnswers G X cx same call e.limits_met cache.results e.provisional
     pub remembered : IfFinished next (λ answer. IsNewestToStore (fates_of old) → IsRememberedWhere G X cx same call cache e.limits_met answer)

@@ -1,6 +1,6 @@
 -- What holds of an evaluation where two runs of a goal are enough.
 use Rattle.std.specs.Prelude.{◌≡◌, Bool, false, List, []}
-use Rattle.search_moves.specs.Below.{Cache, CacheNode, Call, CxOf, DelegateOf, entries_at, Lists, Next, ProvisionalCacheEntry, Received, Run, StackEntry, Store, StoredResult, verdicts}
+use Rattle.search_moves.specs.Below.{Cache, CacheNode, Call, CxOf, DelegateOf, entries_at, Lists, Next, ProvisionalCacheEntry, Received, Store, OpenGoal, StoredResult, verdicts}
 use Rattle.open_goals.specs.declared.goals.Next.TheVariants.{Finished, Step}
 use Rattle.search_moves.specs.declared.evaluation.Evaluation.{Evaluation}
 use Rattle.search_rules.specs.Apart.{StandApart}
@@ -10,13 +10,13 @@ use Rattle.search_rules.specs.Settled.{AnswerStaysOff, AreSettled, IsSettling}
 module _ {D C V P F I R A T : Type 0} (G : DelegateOf D C V P F I R A T) (same : I → I → Bool) (cx : C) (call : Call I) where
   -- goals under evaluation and provisional entries are linked by one kind of questions, the entries stand apart, and goals that are nested in
   -- stored successes are reached by their paths
-  pub record HaveOneKind (results : Store I (StoredResult C I R A T)) (goals : List (StackEntry C I R A T × Run C F I R A T)) (entries : Lists I (ProvisionalCacheEntry C I R A T)) : Type 0 where
+  pub record HaveOneKind (results : Store I (StoredResult C I R A T)) (goals : List (OpenGoal C F I R A T)) (entries : Lists I (ProvisionalCacheEntry C I R A T)) : Type 0 where
     pub kinds : KeepsKinds (G.script cx) same G.ENABLE_PROVISIONAL_CACHE goals entries
     pub apart : StandApart same results goals entries
     pub reached : StoredReachNested (G.script cx) same call.goals results
 
   -- no provisional entry is used, and there are none, or they are of one kind
-  pub data EntriesSuitCall (results : Store I (StoredResult C I R A T)) (goals : List (StackEntry C I R A T × Run C F I R A T)) (entries : Lists I (ProvisionalCacheEntry C I R A T)) : Type 0 where
+  pub data EntriesSuitCall (results : Store I (StoredResult C I R A T)) (goals : List (OpenGoal C F I R A T)) (entries : Lists I (ProvisionalCacheEntry C I R A T)) : Type 0 where
     NoneUsed : G.ENABLE_PROVISIONAL_CACHE ≡ false → ((goal : I) → entries_at same entries goal ≡ []) → EntriesSuitCall results goals entries
     OneKind : HaveOneKind results goals entries → EntriesSuitCall results goals entries
 

@@ -4,7 +4,7 @@ use Rattle.std.specs.List.{list_any}
 use Rattle.std.specs.Option.{IsSomeAnd, option_map}
 use Rattle.open_goals.specs.declared.goals.Fate.{Fate}
 use Rattle.open_goals.specs.declared.goals.Fate.TheVariants as becomes
-use Rattle.search_rules.specs.Below.{AnswersNewest, Reply, CxOf, DelegateOf, Done, EnterCandidate, Evaluate, FinishCandidate, HasStepped, Heads, Hit, Ignore, Next, NotesCandidate, NotesOverflow, PathKind, Place, Received, Request, Run, StackEntry, Store, stored_at, TakesStored, change_newest, enters, finishes, EvaluationResult, StoredResult}
+use Rattle.search_rules.specs.Below.{AnswersNewest, Reply, CxOf, DelegateOf, Done, EnterCandidate, Evaluate, FinishCandidate, HasStepped, Heads, Hit, Ignore, Next, NotesCandidate, NotesOverflow, PathKind, Place, Received, Request, Store, OpenGoal, stored_at, TakesStored, change_newest, enters, finishes, EvaluationResult, StoredResult}
 use Rattle.global_cache.specs.Store.{KeepsResults}
 use Rattle.search_rules.specs.Fates.{Stay, Push, Pop, Untouched, OfNewest}
 use Rattle.search_rules.specs.Results.{NotStored}
@@ -13,10 +13,10 @@ use Rattle.search_rules.specs.Words.{ChangesNewest, Fated, fates_of, HasOldest, 
 -- ---- what moves change of the goals
 
 -- a goal under evaluation, with what becomes of its result
-abbrev fated : {X F I R A T : Type 0} → StackEntry X I R A T × Run X F I R A T → Fated I R
+abbrev fated : {X F I R A T : Type 0} → OpenGoal X F I R A T → Fated I R
 fated s = record { goal = s.0.input; depth = s.0.available_depth.0; fate = s.1.fate }
 
-module _ {X F I R A T : Type 0} (old new : List (StackEntry X I R A T × Run X F I R A T)) where
+module _ {X F I R A T : Type 0} (old new : List (OpenGoal X F I R A T)) where
   pub fates_taken : (step : PathKind) (required : ℕ) (overflow : Bool) (answer : Heads) → AnswersNewest step required overflow answer old new → fates_of new ≡ fates_of old
   fates_taken step required overflow answer a = ap (λ l. fates_of l) a.is ∙ sym (ap (λ l. fates_of l) a.was)
 
@@ -28,27 +28,27 @@ module _ {X F I R A T : Type 0} (old new : List (StackEntry X I R A T × Run X F
 
 module _ {X F I R A T : Type 0} where
   -- the newest goal is gone
-  pub fates_left : (r : R) (old new : List (StackEntry X I R A T × Run X F I R A T)) (next : Next R) → NewestLeaves r old next new → (s : Fated I R) × (fates_of old ≡ s ∷ fates_of new)
+  pub fates_left : (r : R) (old new : List (OpenGoal X F I R A T)) (next : Next R) → NewestLeaves r old next new → (s : Fated I R) × (fates_of old ≡ s ∷ fates_of new)
   fates_left r [] new next l = absurd l
   fates_left r (s ∷ []) new next l = (fated s, ap (λ fs. fated s ∷ fs) (sym (ap (λ gs. fates_of gs) l.2)))
   fates_left r (s ∷ p ∷ below) new next l = (fated s, ap (λ fs. fated s ∷ fs) (sym (fates_taken (p ∷ below) new _ _ _ _ l.2)))
 
-  entered : (old : List (StackEntry X I R A T × Run X F I R A T)) → fates_of (change_newest enters old) ≡ fates_of old
+  entered : (old : List (OpenGoal X F I R A T)) → fates_of (change_newest enters old) ≡ fates_of old
   entered [] = refl
   entered (s ∷ below) = refl
 
-  finished : (old : List (StackEntry X I R A T × Run X F I R A T)) → fates_of (change_newest finishes old) ≡ fates_of old
+  finished : (old : List (OpenGoal X F I R A T)) → fates_of (change_newest finishes old) ≡ fates_of old
   finished [] = refl
   finished (s ∷ below) = refl
 
-  pub fates_of_candidates : (request : Request I R) (old new : List (StackEntry X I R A T × Run X F I R A T)) → NotesCandidate request old new → fates_of new ≡ fates_of old
+  pub fates_of_candidates : (request : Request I R) (old new : List (OpenGoal X F I R A T)) → NotesCandidate request old new → fates_of new ≡ fates_of old
   fates_of_candidates EnterCandidate old new is = ap (λ l. fates_of l) is ∙ entered old
   fates_of_candidates FinishCandidate old new is = ap (λ l. fates_of l) is ∙ finished old
   fates_of_candidates (Ignore number) old new a = ap (λ l. fates_of l) a.is ∙ sym (ap (λ l. fates_of l) a.was)
   fates_of_candidates (Evaluate kind goal) old new is = ap (λ l. fates_of l) is
   fates_of_candidates (Done r) old new is = ap (λ l. fates_of l) is
 
-module _ {D C V P F I R A T : Type 0} (G : DelegateOf D C V P F I R A T) (X : CxOf C I R A T) (cx : C) (old new : List (StackEntry C I R A T × Run C F I R A T)) where
+module _ {D C V P F I R A T : Type 0} (G : DelegateOf D C V P F I R A T) (X : CxOf C I R A T) (cx : C) (old new : List (OpenGoal C F I R A T)) where
   pub fates_stepped : (given : Received R) (request : Request I R) → HasStepped G X cx given request old new → fates_of new ≡ fates_of old
   fates_stepped given request stepped = ap (λ l. fates_of l) stepped.is ∙ sym (ap (λ l. fates_of l) stepped.was)
 

@@ -2,7 +2,7 @@
 use Rattle.std.proofs.Common.{◌≡◌, ◌≢◌, suc, ◌+◌, ◌<◌, ◌^◌, ◌||◌, Bool, List, [], ◌∷◌, ◌++◌, length, Option, Some, option_map, refl, sym, ap, ◌∙◌, subst, arith}
 use Rattle.std.specs.Option.{IsSomeAnd, option_or}
 use Rattle.std.proofs.lemmas.List.{length-map}
-use Rattle.search_rules.specs.Below.{Answer, AnswersNewest, CacheNode, change_newest, CxOf, DelegateOf, Finished, HasGraph, IsDefinite, newest, NodeId, open_node, Reply, Request, rerun_with, Run, RunRecord, StackEntry, Step, Store, StoredResult, verdict_of, Verdicts, with_no_record}
+use Rattle.search_rules.specs.Below.{Answer, AnswersNewest, CacheNode, change_newest, CxOf, DelegateOf, Finished, HasGraph, IsDefinite, newest, NodeId, open_node, Reply, Request, rerun_with, Run, RunRecord, OpenGoal, StackEntry, Step, Store, StoredResult, verdict_of, Verdicts, with_no_record}
 use Rattle.search_rules.specs.Runs.{RerunsWithNode}
 use Rattle.search_rules.specs.Words.{AreFree, AreJustified, CanLeave, EndsNewest, EndsRun, HasResultNode, IsFit, IsFree, IsFresh, IsJustifiedNext, KeepsBut, KeepsEarlier, LieBelow, MayAnswer, NewestLeaves, OpenRun, Reruns, run_of, runs_of, tally_of}
 use Rattle.search_rules.proofs.justified.Justified.{below_is_justified, EndsWithNode, headless_has_graph, last_has_graph, may_answer_parent, rerun_is_justified}
@@ -16,18 +16,18 @@ use Rattle.search_rules.proofs.answers.Taken.{later_run, taken_fits, takes_in}
 
 module _ {X F I R A T : Type 0} where
   -- the newest goal, read once its record was handed out
-  pub record TakenFrom (old : List (StackEntry X I R A T × Run X F I R A T)) (e : StackEntry X I R A T) (y : Run X F I R A T) (p : RunRecord I R) : Type 0 where
+  pub record TakenFrom (old : List (OpenGoal X F I R A T)) (e : StackEntry X I R A T) (y : Run X F I R A T) (p : RunRecord I R) : Type 0 where
     pub run : Run X F I R A T
-    pub below : List (StackEntry X I R A T × Run X F I R A T)
+    pub below : List (OpenGoal X F I R A T)
     pub was : old ≡ (e, run) ∷ below
     pub same_node : y.node ≡ run.node
     pub progress_is : p ≡ run.progress
 
-  pub taken_from : (old taken : List (StackEntry X I R A T × Run X F I R A T)) (e : StackEntry X I R A T) (y : Run X F I R A T) (p : RunRecord I R) → taken ≡ change_newest with_no_record old → option_map (λ s. s.1.progress) (newest old) ≡ Some p → option_map (λ s. s.0) (newest taken) ≡ Some e → option_map (λ s. s.1) (newest taken) ≡ Some y → TakenFrom old e y p
+  pub taken_from : (old taken : List (OpenGoal X F I R A T)) (e : StackEntry X I R A T) (y : Run X F I R A T) (p : RunRecord I R) → taken ≡ change_newest with_no_record old → option_map (λ s. s.1.progress) (newest old) ≡ Some p → option_map (λ s. s.0) (newest taken) ≡ Some e → option_map (λ s. s.1) (newest taken) ≡ Some y → TakenFrom old e y p
   taken_from [] taken e y p is progress entry run = absurd cc
   taken_from (s ∷ below) taken e y p is progress entry run =
-      let first : Some s.0 ≡ Some e = ap (λ l. option_map (λ (t : StackEntry X I R A T × Run X F I R A T). t.0) (newest l)) (sym is) ∙ entry in
-      let second : Some (record s.1 { progress = (with_no_record s).1.progress }) ≡ Some y = ap (λ l. option_map (λ (t : StackEntry X I R A T × Run X F I R A T). t.1) (newest l)) (sym is) ∙ run in
+      let first : Some s.0 ≡ Some e = ap (λ l. option_map (λ (t : OpenGoal X F I R A T). t.0) (newest l)) (sym is) ∙ entry in
+      let second : Some (record s.1 { progress = (with_no_record s).1.progress }) ≡ Some y = ap (λ l. option_map (λ (t : OpenGoal X F I R A T). t.1) (newest l)) (sym is) ∙ run in
       let same : s.0 ≡ e = cc in
       let other : record s.1 { progress = (with_no_record s).1.progress } ≡ y = cc in
       record {
@@ -39,23 +39,23 @@ module _ {X F I R A T : Type 0} where
       }
 
   -- the run that has its node ended as the newest one
-  pub taken_ends : (says : Verdicts R) (scripts : I → List (Reply R) → Request I R) (nodes : List (CacheNode I R)) (old : List (StackEntry X I R A T × Run X F I R A T)) (e : StackEntry X I R A T) (y : Run X F I R A T) (p : RunRecord I R) (r : R) → TakenFrom old e y p → AreJustified says nodes (runs_of old) → EndsNewest says scripts old r → EndsRun says scripts nodes y.node p r
+  pub taken_ends : (says : Verdicts R) (scripts : I → List (Reply R) → Request I R) (nodes : List (CacheNode I R)) (old : List (OpenGoal X F I R A T)) (e : StackEntry X I R A T) (y : Run X F I R A T) (p : RunRecord I R) (r : R) → TakenFrom old e y p → AreJustified says nodes (runs_of old) → EndsNewest says scripts old r → EndsRun says scripts nodes y.node p r
   taken_ends says scripts nodes old e y p r t h ends =
       subst (λ n. EndsRun says scripts nodes n p r) (sym t.same_node)
       (subst (λ q. EndsRun says scripts nodes t.run.node q r) (sym t.progress_is)
       (ends_run says nodes nodes e t.run t.below (subst (λ l. AreJustified says nodes (runs_of l)) t.was h) scripts r (subst (λ l. EndsNewest says scripts l r) t.was ends)))
 
   -- so the nodes that were there before those of the goals' runs stay where that run ends
-  pub earlier_taken : (before after : List (CacheNode I R)) (old : List (StackEntry X I R A T × Run X F I R A T)) (e : StackEntry X I R A T) (y : Run X F I R A T) (p : RunRecord I R) → TakenFrom old e y p → KeepsBut y.node.0 before after → KeepsEarlier old before after
+  pub earlier_taken : (before after : List (CacheNode I R)) (old : List (OpenGoal X F I R A T)) (e : StackEntry X I R A T) (y : Run X F I R A T) (p : RunRecord I R) → TakenFrom old e y p → KeepsBut y.node.0 before after → KeepsEarlier old before after
   earlier_taken before after old e y p t but =
       subst (λ gs. KeepsEarlier gs before after) (sym t.was) (earlier_but (e, t.run) t.below before after (subst (λ n. KeepsBut n.0 before after) t.same_node but))
 
-  pub again_is : (old taken new : List (StackEntry X I R A T × Run X F I R A T)) (e : StackEntry X I R A T) (run : Run X F I R A T) (below : List (StackEntry X I R A T × Run X F I R A T)) (r : R) (lead : Option NodeId) (frame : F) (own : NodeId) → old ≡ (e, run) ∷ below → taken ≡ change_newest with_no_record old → new ≡ change_newest (rerun_with r lead frame own) taken → new ≡ rerun_with r lead frame own (with_no_record (e, run)) ∷ below
+  pub again_is : (old taken new : List (OpenGoal X F I R A T)) (e : StackEntry X I R A T) (run : Run X F I R A T) (below : List (OpenGoal X F I R A T)) (r : R) (lead : Option NodeId) (frame : F) (own : NodeId) → old ≡ (e, run) ∷ below → taken ≡ change_newest with_no_record old → new ≡ change_newest (rerun_with r lead frame own) taken → new ≡ rerun_with r lead frame own (with_no_record (e, run)) ∷ below
   again_is old taken new e run below r lead frame own was is then =
       then ∙ ap (change_newest (rerun_with r lead frame own)) is ∙ ap (λ l. change_newest (rerun_with r lead frame own) (change_newest with_no_record l)) was
 
   -- what follows of the newest goal, as its run was read, holds of the goals once it is run again
-  module _ (says : Verdicts R) (before after : List (CacheNode I R)) (old taken new : List (StackEntry X I R A T × Run X F I R A T)) (e : StackEntry X I R A T) (y : Run X F I R A T) (p : RunRecord I R) (r : R) (target : Option NodeId) (frame : F) (own : NodeId) (t : TakenFrom old e y p) (is : taken ≡ change_newest with_no_record old) (then : new ≡ change_newest (rerun_with r (option_or target e.state.node) frame own) taken) (ended : HasResultNode says before after e.state.provisional_result y.node e.state.node p r target) (at : own.0 ≡ length after) (h : AreJustified says before (runs_of old)) where
+  module _ (says : Verdicts R) (before after : List (CacheNode I R)) (old taken new : List (OpenGoal X F I R A T)) (e : StackEntry X I R A T) (y : Run X F I R A T) (p : RunRecord I R) (r : R) (target : Option NodeId) (frame : F) (own : NodeId) (t : TakenFrom old e y p) (is : taken ≡ change_newest with_no_record old) (then : new ≡ change_newest (rerun_with r (option_or target e.state.node) frame own) taken) (ended : HasResultNode says before after e.state.provisional_result y.node e.state.node p r target) (at : own.0 ≡ length after) (h : AreJustified says before (runs_of old)) where
     justified_here : AreJustified says before (runs_of ((e, t.run) ∷ t.below))
     justified_here = subst (λ l. AreJustified says before (runs_of l)) t.was h
 
@@ -74,7 +74,7 @@ module _ {X F I R A T : Type 0} where
         (keeps justified_here ends_here (subst (λ l. P (runs_of l)) t.was was))
 
   -- it is run again with the node of its result
-  pub reran_with_node : (says : Verdicts R) (before after opened : List (CacheNode I R)) (old taken new : List (StackEntry X I R A T × Run X F I R A T)) (e : StackEntry X I R A T) (y : Run X F I R A T) (p : RunRecord I R) (r : R) (target : Option NodeId) (frame : F) (own : NodeId) → TakenFrom old e y p → taken ≡ change_newest with_no_record old → new ≡ change_newest (rerun_with r (option_or target e.state.node) frame own) taken → HasResultNode says before after e.state.provisional_result y.node e.state.node p r target → own.0 ≡ length after → opened ≡ after ++ open_node e.input ∷ [] → RerunsWithNode says before opened r old new
+  pub reran_with_node : (says : Verdicts R) (before after opened : List (CacheNode I R)) (old taken new : List (OpenGoal X F I R A T)) (e : StackEntry X I R A T) (y : Run X F I R A T) (p : RunRecord I R) (r : R) (target : Option NodeId) (frame : F) (own : NodeId) → TakenFrom old e y p → taken ≡ change_newest with_no_record old → new ≡ change_newest (rerun_with r (option_or target e.state.node) frame own) taken → HasResultNode says before after e.state.provisional_result y.node e.state.node p r target → own.0 ≡ length after → opened ≡ after ++ open_node e.input ∷ [] → RerunsWithNode says before opened r old new
   reran_with_node says before after opened old taken new e y p r target frame own t is then ended at opens = record {
     item = (e, t.run);
     below = t.below;
@@ -91,19 +91,19 @@ module _ {X F I R A T : Type 0} where
   }
 
   -- the goals stay justified
-  pub rerun_justified : (says : Verdicts R) (before after : List (CacheNode I R)) (old taken new : List (StackEntry X I R A T × Run X F I R A T)) (e : StackEntry X I R A T) (y : Run X F I R A T) (p : RunRecord I R) (r : R) (target : Option NodeId) (frame : F) (own : NodeId) → TakenFrom old e y p → taken ≡ change_newest with_no_record old → new ≡ change_newest (rerun_with r (option_or target e.state.node) frame own) taken → HasResultNode says before after e.state.provisional_result y.node e.state.node p r target → own.0 ≡ length after → AreJustified says before (runs_of old) → AreJustified says (after ++ open_node e.input ∷ []) (runs_of new)
+  pub rerun_justified : (says : Verdicts R) (before after : List (CacheNode I R)) (old taken new : List (OpenGoal X F I R A T)) (e : StackEntry X I R A T) (y : Run X F I R A T) (p : RunRecord I R) (r : R) (target : Option NodeId) (frame : F) (own : NodeId) → TakenFrom old e y p → taken ≡ change_newest with_no_record old → new ≡ change_newest (rerun_with r (option_or target e.state.node) frame own) taken → HasResultNode says before after e.state.provisional_result y.node e.state.node p r target → own.0 ≡ length after → AreJustified says before (runs_of old) → AreJustified says (after ++ open_node e.input ∷ []) (runs_of new)
   rerun_justified says before after old taken new e y p r target frame own t is then ended at h =
       rerun_holds says before after old taken new e y p r target frame own t is then ended at h (AreJustified says before) (AreJustified says (after ++ open_node e.input ∷ []))
       (λ here s was. rerun_is_justified says before after (run_of (e, t.run)) (runs_of t.below) here r target s own at) h
 
   -- and stored results rest on none of them
-  pub rerun_free : (says : Verdicts R) (same : I → I → Bool) (results : Store I (StoredResult X I R A T)) (before after : List (CacheNode I R)) (old taken new : List (StackEntry X I R A T × Run X F I R A T)) (e : StackEntry X I R A T) (y : Run X F I R A T) (p : RunRecord I R) (r : R) (target : Option NodeId) (frame : F) (own : NodeId) → TakenFrom old e y p → taken ≡ change_newest with_no_record old → new ≡ change_newest (rerun_with r (option_or target e.state.node) frame own) taken → HasResultNode says before after e.state.provisional_result y.node e.state.node p r target → own.0 ≡ length after → AreJustified says before (runs_of old) → AreFree says same before (runs_of old) results → AreFree says same (after ++ open_node e.input ∷ []) (runs_of new) results
+  pub rerun_free : (says : Verdicts R) (same : I → I → Bool) (results : Store I (StoredResult X I R A T)) (before after : List (CacheNode I R)) (old taken new : List (OpenGoal X F I R A T)) (e : StackEntry X I R A T) (y : Run X F I R A T) (p : RunRecord I R) (r : R) (target : Option NodeId) (frame : F) (own : NodeId) → TakenFrom old e y p → taken ≡ change_newest with_no_record old → new ≡ change_newest (rerun_with r (option_or target e.state.node) frame own) taken → HasResultNode says before after e.state.provisional_result y.node e.state.node p r target → own.0 ≡ length after → AreJustified says before (runs_of old) → AreFree says same before (runs_of old) results → AreFree says same (after ++ open_node e.input ∷ []) (runs_of new) results
   rerun_free says same results before after old taken new e y p r target frame own t is then ended at h =
       rerun_holds says before after old taken new e y p r target frame own t is then ended at h (λ goals. AreFree says same before goals results) (λ goals. AreFree says same (after ++ open_node e.input ∷ []) goals results)
       (λ here s free. all_free_rerun says same before after (run_of (e, t.run)) (runs_of t.below) here r target s results free own at)
 
 -- and the newest is run again
-pub reran : {D C V P F I R A T : Type 0} (G : DelegateOf D C V P F I R A T) (X : CxOf C I R A T) (cx : C) (old taken new : List (StackEntry C I R A T × Run C F I R A T)) (e : StackEntry C I R A T) (y : Run C F I R A T) (p : RunRecord I R) (r : R) (lead : Option NodeId) (frame : F) (own : NodeId) → TakenFrom old e y p → taken ≡ change_newest with_no_record old → new ≡ change_newest (rerun_with r lead frame own) taken → IsFresh G X cx frame e.input → Reruns G X cx r old new
+pub reran : {D C V P F I R A T : Type 0} (G : DelegateOf D C V P F I R A T) (X : CxOf C I R A T) (cx : C) (old taken new : List (OpenGoal C F I R A T)) (e : StackEntry C I R A T) (y : Run C F I R A T) (p : RunRecord I R) (r : R) (lead : Option NodeId) (frame : F) (own : NodeId) → TakenFrom old e y p → taken ≡ change_newest with_no_record old → new ≡ change_newest (rerun_with r lead frame own) taken → IsFresh G X cx frame e.input → Reruns G X cx r old new
 reran G X cx old taken new e y p r lead frame own t is then fresh = record {
   item = (e, t.run);
   below = t.below;
@@ -117,7 +117,7 @@ reran G X cx old taken new e y p r lead frame own t is then fresh = record {
 
 -- ---- the goal is popped
 
-module _ {X F I R A T : Type 0} (says : Verdicts R) (before after : List (CacheNode I R)) (old : List (StackEntry X I R A T × Run X F I R A T)) (entry : StackEntry X I R A T) (run : Run X F I R A T) (rest : List (StackEntry X I R A T × Run X F I R A T)) (was : old ≡ (entry, run) ∷ rest) where
+module _ {X F I R A T : Type 0} (says : Verdicts R) (before after : List (CacheNode I R)) (old : List (OpenGoal X F I R A T)) (entry : StackEntry X I R A T) (run : Run X F I R A T) (rest : List (OpenGoal X F I R A T)) (was : old ≡ (entry, run) ∷ rest) where
   justified_then : AreJustified says before (runs_of old) → AreJustified says before (runs_of ((entry, run) ∷ rest))
   justified_then h = subst (λ l. AreJustified says before (runs_of l)) was h
 
@@ -130,12 +130,12 @@ module _ {X F I R A T : Type 0} (says : Verdicts R) (before after : List (CacheN
     so = rebases says before after entry run rest (justified_then h) r target ended
 
     -- no goal is left
-    pub finished_justified : (new : List (StackEntry X I R A T × Run X F I R A T)) → length rest ≡ 0 → IsJustifiedNext says after old new (Finished (record { result = r; node = target }))
+    pub finished_justified : (new : List (OpenGoal X F I R A T)) → length rest ≡ 0 → IsJustifiedNext says after old new (Finished (record { result = r; node = target }))
     finished_justified new none =
         subst (λ l. IsJustifiedNext says after l new (Finished (record { result = r; node = target }))) (sym was)
         (last_has_graph says before after (run_of (entry, run)) (runs_of rest) (justified_then h) r target so (nothing rest none))
       where
-        nothing : (l : List (StackEntry X I R A T × Run X F I R A T)) → length l ≡ 0 → runs_of l ≡ []
+        nothing : (l : List (OpenGoal X F I R A T)) → length l ≡ 0 → runs_of l ≡ []
         nothing [] e = refl
         nothing (x ∷ l) e = absurd (omega (arith, e))
 
@@ -152,7 +152,7 @@ module _ {X F I R A T : Type 0} (says : Verdicts R) (before after : List (CacheN
         all_free_popped says same before after (run_of (entry, run)) (runs_of rest) (justified_then h) r target so results (subst (λ l. AreFree says same before (runs_of l) results) was free)
 
     -- the goal below takes the answer over
-    module _ (new : List (StackEntry X I R A T × Run X F I R A T)) (a : AnswersNewest entry.step_kind_from_parent entry.state.required_depth (entry.state.encountered_overflow || run.met_overflow_before) entry.state.heads rest new) where
+    module _ (new : List (OpenGoal X F I R A T)) (a : AnswersNewest entry.step_kind_from_parent entry.state.required_depth (entry.state.encountered_overflow || run.met_overflow_before) entry.state.heads rest new) where
       below_justified : AreJustified says after (runs_of rest)
       below_justified = below_is_justified says before after (run_of (entry, run)) (runs_of rest) (justified_then h) r target so
 
@@ -171,7 +171,7 @@ module _ {X F I R A T : Type 0} (says : Verdicts R) (before after : List (CacheN
         taken_fits says after rest new entry.step_kind_from_parent entry.state.required_depth (entry.state.encountered_overflow || run.met_overflow_before) entry.state.heads a r entry.input target (justified_then h).asked.0 may_answer,
       )
 
-      leaves_at : (l : List (StackEntry X I R A T × Run X F I R A T)) → AnswersNewest entry.step_kind_from_parent entry.state.required_depth (entry.state.encountered_overflow || run.met_overflow_before) entry.state.heads l new → length l ≢ 0 → NewestLeaves r ((entry, run) ∷ l) (Step (record { reply = Answer r; node = target })) new
+      leaves_at : (l : List (OpenGoal X F I R A T)) → AnswersNewest entry.step_kind_from_parent entry.state.required_depth (entry.state.encountered_overflow || run.met_overflow_before) entry.state.heads l new → length l ≢ 0 → NewestLeaves r ((entry, run) ∷ l) (Step (record { reply = Answer r; node = target })) new
       leaves_at [] b some = absurd (some refl)
       leaves_at (p ∷ below) b some = (target, refl, b)
 
@@ -179,7 +179,7 @@ module _ {X F I R A T : Type 0} (says : Verdicts R) (before after : List (CacheN
       leaves_step some = subst (λ l. NewestLeaves r l (Step (record { reply = Answer r; node = target })) new) (sym was) (leaves_at rest a some)
 
   -- what the goal required fits the goal below it
-  fits_at : (l : List (StackEntry X I R A T × Run X F I R A T)) → CanLeave ((entry, run) ∷ l) → length l ≢ 0 → entry.state.required_depth + 1 < 2 ^ 64
+  fits_at : (l : List (OpenGoal X F I R A T)) → CanLeave ((entry, run) ∷ l) → length l ≢ 0 → entry.state.required_depth + 1 < 2 ^ 64
   fits_at [] can some = absurd (some refl)
   fits_at (p ∷ below) can some = can
 

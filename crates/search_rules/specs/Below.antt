@@ -101,3 +101,4 @@ pub use Rattle.open_goals.specs.declared.goals.Next.TheVariants.{Finished, Step}
 pub use Rattle.open_goals.specs.declared.goals.Received.{Received}
 pub use Rattle.open_goals.specs.declared.goals.Run.{Run}
 pub use Rattle.open_goals.specs.declared.progress.DefiniteAnswer.{DefiniteAnswer}
+pub use Rattle.open_goals.specs.OpenGoal.{OpenGoal}

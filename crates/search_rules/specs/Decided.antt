@@ -1,16 +1,16 @@
 -- Goals under evaluation whose answers are all yes or no so far.
 use Rattle.std.specs.Prelude.{◌≡◌, Bool, true, false, List, [], ◌∷◌, reverse}
 use Rattle.std.specs.Option.{IfSome}
-use Rattle.search_rules.specs.Below.{Request, Reply, StackEntry, IsDecidedKind, AreDecided, IsDecisive, IsDefinite, Run, Verdicts}
+use Rattle.search_rules.specs.Below.{Request, Reply, OpenGoal, IsDecidedKind, AreDecided, IsDecisive, IsDefinite, Verdicts}
 
 module _ {X F I R A T : Type 0} (says : Verdicts R) where
   -- the replies of the goal's run and its provisional result are decided
-  pub record IsDecided (s : StackEntry X I R A T × Run X F I R A T) : Type 0 where
+  pub record IsDecided (s : OpenGoal X F I R A T) : Type 0 where
     pub replies : AreDecided says (reverse s.1.progress.replies)
     pub provisional : IfSome s.0.state.provisional_result (IsDefinite says)
 
   -- the same of all goals, each of which but the first was asked for by a decided step
-  abbrev pub AllDecided : List (StackEntry X I R A T × Run X F I R A T) → Type 0
+  abbrev pub AllDecided : List (OpenGoal X F I R A T) → Type 0
   AllDecided [] = Unit {0}
   AllDecided (s ∷ []) = IsDecided s
   AllDecided (s ∷ p ∷ below) = IsDecided s × IsDecidedKind s.0.step_kind_from_parent × AllDecided (p ∷ below)

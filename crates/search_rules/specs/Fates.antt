@@ -2,7 +2,7 @@
 use Rattle.std.specs.Prelude.{◌≡◌, ℕ, ◌≤◌, Bool, true, false, List, [], ◌∷◌, map, Option, None, Some}
 use Rattle.std.specs.List.{list_any}
 use Rattle.std.specs.Option.{option_map}
-use Rattle.search_rules.specs.Below.{Hit, IsPlainTo, IsPlainValue, Place, Reply, Request, Run, StackEntry, Store, stored_at, StoredResult}
+use Rattle.search_rules.specs.Below.{Hit, IsPlainTo, IsPlainValue, Place, Reply, Request, Store, OpenGoal, stored_at, StoredResult}
 use Rattle.open_goals.specs.declared.goals.Fate.{Fate}
 use Rattle.open_goals.specs.declared.goals.Fate.TheVariants as becomes
 
@@ -42,7 +42,7 @@ pub record Fated (I R : Type 0) : Type 0 where
   pub fate : Fate R
 
 -- the goals under evaluation, the newest first
-abbrev pub fates_of : {X F I R A T : Type 0} → List (StackEntry X I R A T × Run X F I R A T) → List (Fated I R)
+abbrev pub fates_of : {X F I R A T : Type 0} → List (OpenGoal X F I R A T) → List (Fated I R)
 fates_of goals = map (λ s. record { goal = s.0.input; depth = s.0.available_depth.0; fate = s.1.fate }) goals
 
 -- no result is stored

@@ -2,7 +2,7 @@
 -- goal is answered by what is stored wherever it is asked, so it is never worked out again.
 use Rattle.std.specs.Prelude.{◌≡◌, ◌≢◌, ◌+◌, ℕ, Bool, All, Contains, List, [], ◌∷◌, length, Some}
 use Rattle.std.specs.Option.{IsSomeAnd}
-use Rattle.search_rules.specs.Below.{Success, StoredResult, StackEntry, Run, Store, stored_at}
+use Rattle.search_rules.specs.Below.{Success, StoredResult, OpenGoal, Store, stored_at}
 
 module _ {X I R A T : Type 0} (same : I → I → Bool) (results : Store I (StoredResult X I R A T)) where
   -- a success of the goal is stored that has no nested goals
@@ -25,6 +25,6 @@ module _ {X I R A T : Type 0} (same : I → I → Bool) (results : Store I (Stor
   LoneRequire goals = (goal : I) (s : StoredResult X I R A T) → Contains goals goal → stored_at same results goal Success ≡ Some s → s.nested_goals ≡ [] → HasLone goals (s.required_depth + 1)
 
   -- no goal under evaluation is lone; and one without nested goals requires no more depth than there are lone goals
-  abbrev pub NoneIsLone : {F : Type 0} → List I → List (StackEntry X I R A T × Run X F I R A T) → Type 0
+  abbrev pub NoneIsLone : {F : Type 0} → List I → List (OpenGoal X F I R A T) → Type 0
   NoneIsLone goals [] = Unit {0}
   NoneIsLone goals (s ∷ below) = (IsLone s.0.input → ⊥) × (s.0.state.nested_goals ≡ [] → HasLone goals s.0.state.required_depth) × NoneIsLone goals below

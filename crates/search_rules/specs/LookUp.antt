@@ -2,7 +2,7 @@
 use Rattle.std.specs.Prelude.{◌≡◌, ℕ, ◌<◌, ◌≤◌, Bool, true, false, not, ◌&&◌, if◌then◌else◌, List, length, All, Option, None, is_some, Some}
 use Rattle.std.specs.List.{find, list_all, list_any}
 use Rattle.std.specs.Option.{IfSome}
-use Rattle.search_rules.specs.Below.{highest, extended, has_kind, PathsToNested, path_kind_from, Lists, entries_at, highest_passes, may_be_used, ProvisionalCacheEntry, PathKind, Request, Reply, Answer, Place, WithOverflow, StoredResult, StackEntry, Hit, NestedPaths, paths_at, IsPlain, IsBelowRank, Store, stored_at, Received, Run, TakesStored}
+use Rattle.search_rules.specs.Below.{highest, extended, has_kind, PathsToNested, path_kind_from, Lists, entries_at, highest_passes, may_be_used, ProvisionalCacheEntry, PathKind, Request, Reply, Answer, Place, WithOverflow, StoredResult, OpenGoal, StackEntry, Hit, NestedPaths, paths_at, IsPlain, IsBelowRank, Store, stored_at, Received, TakesStored}
 
 -- where a question is asked: the stack, the provisional entries by goal, and the step
 pub record Asking (X I R A T : Type 0) : Type 0 where
@@ -50,7 +50,7 @@ module _ {X I R A T : Type 0} (same : I → I → Bool) where
     pub within : hit.required_depth ≤ depth
 
   -- the newest goal's question was answered so
-  pub record UsesStored {F : Type 0} (scripts : I → List (Reply R) → Request I R) (results : Store I (StoredResult X I R A T)) (step : PathKind) (goal : I) (depth : ℕ) (received : Received R) (old new : List (StackEntry X I R A T × Run X F I R A T)) : Type 0 where
+  pub record UsesStored {F : Type 0} (scripts : I → List (Reply R) → Request I R) (results : Store I (StoredResult X I R A T)) (step : PathKind) (goal : I) (depth : ℕ) (received : Received R) (old new : List (OpenGoal X F I R A T)) : Type 0 where
     pub hit : Hit I R T
     pub usable : IsUsable scripts results goal depth hit
     pub is : received ≡ record { reply = Answer hit.result; node = hit.node }

@@ -1,7 +1,7 @@
 -- The moves that push a goal, answer it over a cycle, run it again, and pop it.
 use Rattle.std.specs.Prelude.{◌≡◌, ◌+◌, ◌<◌, ◌≤◌, ◌^◌, ◌||◌, Bool, false, List, [], ◌∷◌, ◌++◌, length, map, reverse, Option, Some, slice_get, unwrap_or}
 use Rattle.open_goals.specs.declared.goals.Fate.{Fate}
-use Rattle.search_rules.specs.Below.{DelegateOf, CxOf, Received, CacheNode, open_node, Answer, NodeId, PathKind, AvailableDepth, StackDepth, EvaluationResult, StackEntry, path_kind_from, cycle_head, first_entry, AnswersNewest, NestedPaths, NestsAnswer, NestsHead, rerun_with, with_no_record, no_record, Item, Run, Next, Step, Finished}
+use Rattle.search_rules.specs.Below.{DelegateOf, CxOf, Received, CacheNode, open_node, Answer, NodeId, PathKind, AvailableDepth, StackDepth, EvaluationResult, OpenGoal, StackEntry, path_kind_from, cycle_head, first_entry, AnswersNewest, NestedPaths, NestsAnswer, NestsHead, rerun_with, with_no_record, no_record, Item, Run, Next, Step, Finished}
 
 module _ {D C V P F I R A T : Type 0} (G : DelegateOf D C V P F I R A T) (X : CxOf C I R A T) (cx : C) where
   -- a frame of the goal that has had no reply
@@ -46,31 +46,31 @@ module _ {D C V P F I R A T : Type 0} (G : DelegateOf D C V P F I R A T) (X : Cx
 
 module _ {X F I R A T : Type 0} where
   -- the newest goal may be popped: if a goal is below it, one more than the depth that it required is a number of a word
-  abbrev pub CanLeave : List (StackEntry X I R A T × Run X F I R A T) → Type 0
+  abbrev pub CanLeave : List (OpenGoal X F I R A T) → Type 0
   CanLeave [] = ⊥
   CanLeave (s ∷ []) = Unit {0}
   CanLeave (s ∷ p ∷ below) = s.0.state.required_depth + 1 < 2 ^ 64
 
   -- The answer was given to the newest goal, which asked by the step. Where there is none, it is the answer to the call.
-  abbrev pub GivesAnswer : PathKind → EvaluationResult X I R A T → List (StackEntry X I R A T × Run X F I R A T) → Next R → List (StackEntry X I R A T × Run X F I R A T) → Type 0
+  abbrev pub GivesAnswer : PathKind → EvaluationResult X I R A T → List (OpenGoal X F I R A T) → Next R → List (OpenGoal X F I R A T) → Type 0
   GivesAnswer step answer [] next new = (next ≡ Finished (record { result = answer.result; node = answer.node })) × (new ≡ [])
   GivesAnswer step answer (p ∷ below) next new =
       (next ≡ Step (record { reply = Answer answer.result; node = answer.node }))
       × AnswersNewest step answer.required_depth answer.encountered_overflow answer.heads (p ∷ below) new
 
   -- the goal that gets the answer takes over these nested goals of it, each after the step
-  abbrev pub GivesNested : (I → I → Bool) → PathKind → NestedPaths I → List (StackEntry X I R A T × Run X F I R A T) → List (StackEntry X I R A T × Run X F I R A T) → Type 0
+  abbrev pub GivesNested : (I → I → Bool) → PathKind → NestedPaths I → List (OpenGoal X F I R A T) → List (OpenGoal X F I R A T) → Type 0
   GivesNested same step nested [] new = Unit {0}
   GivesNested same step nested (p ∷ below) new = NestsAnswer same step nested (p ∷ below) new
 
   -- the goal below the newest one, which was popped, takes over the nested goals of this
-  abbrev pub LeavesNested : (I → I → Bool) → List (StackEntry X I R A T × Run X F I R A T) → List (StackEntry X I R A T × Run X F I R A T) → Type 0
+  abbrev pub LeavesNested : (I → I → Bool) → List (OpenGoal X F I R A T) → List (OpenGoal X F I R A T) → Type 0
   LeavesNested same [] new = ⊥
   LeavesNested same (s ∷ below) new = GivesNested same s.0.step_kind_from_parent s.0.state.nested_goals below new
 
   -- The newest goal was popped with this result, which is the answer to the goal below it, if there is one. Overflow that any of its
   -- runs met goes with it.
-  abbrev pub NewestLeaves : R → List (StackEntry X I R A T × Run X F I R A T) → Next R → List (StackEntry X I R A T × Run X F I R A T) → Type 0
+  abbrev pub NewestLeaves : R → List (OpenGoal X F I R A T) → Next R → List (OpenGoal X F I R A T) → Type 0
   NewestLeaves r [] next new = ⊥
   NewestLeaves r (s ∷ []) next new = (target : Option NodeId) × (next ≡ Finished (record { result = r; node = target })) × (new ≡ [])
   NewestLeaves r (s ∷ p ∷ below) next new =

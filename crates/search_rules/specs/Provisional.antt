@@ -1,7 +1,7 @@
 -- The provisional entries: why each of them may be used, and what becomes of them when the newest goal is popped.
 use Rattle.std.specs.Prelude.{◌≡◌, ◌≢◌, ◌⊎◌, ◌&&◌, ℕ, Bool, false, if◌then◌else◌, List, [], ◌∷◌, ◌++◌, length, map, reverse, All, IsSome, Option, None, Some}
 use Rattle.std.specs.List.{filter_map}
-use Rattle.search_rules.specs.Below.{CxOf, DelegateOf, verdicts, Heads, IsTrueReason, StackDepth, PathKind, at_depth, highest, IsRising, stack_of, NodeId, Request, Reply, EvaluationResult, StackEntry, ProvisionalCacheEntry, RebaseReason, CacheNode, HasNode, shapes_of, path_kind_from, IsDefinite, Lists, entries_at, HasNoRank, rebased, changed_for, verdict_of, Run, Verdicts}
+use Rattle.search_rules.specs.Below.{CxOf, DelegateOf, verdicts, Heads, IsTrueReason, StackDepth, PathKind, at_depth, highest, IsRising, stack_of, NodeId, Request, Reply, EvaluationResult, OpenGoal, StackEntry, ProvisionalCacheEntry, RebaseReason, CacheNode, HasNode, shapes_of, path_kind_from, IsDefinite, Lists, entries_at, HasNoRank, rebased, changed_for, verdict_of, Run, Verdicts}
 use Rattle.search_rules.specs.Justified.{AreJustified, OpenRun, frame_of, frames_of}
 use Rattle.search_rules.specs.EntryShapes.{entry_shape, HoldsOver, reason_shape}
 use Rattle.search_rules.specs.Results.{final_answer}
@@ -72,7 +72,7 @@ module _ {X I R A T : Type 0} where
   module _ {F : Type 0} where
     -- The newest goal was popped with this result: the entries that rest on it are rebased for the reason, and its own answer is an
     -- entry, if it rests on a goal below, and if the delegate lets such entries be used.
-    pub record RebasesEntries (same : I → I → Bool) (enabled : Bool) (propagated : I → A → R) (overflow : I → R) (reason : Option (RebaseReason X I R A T)) (r : R) (s : StackEntry X I R A T × Run X F I R A T) (below : List (StackEntry X I R A T × Run X F I R A T)) (old new : Lists I (ProvisionalCacheEntry X I R A T)) : Type 0 where
+    pub record RebasesEntries (same : I → I → Bool) (enabled : Bool) (propagated : I → A → R) (overflow : I → R) (reason : Option (RebaseReason X I R A T)) (r : R) (s : OpenGoal X F I R A T) (below : List (OpenGoal X F I R A T)) (old new : Lists I (ProvisionalCacheEntry X I R A T)) : Type 0 where
       pub node : Option NodeId
       pub entries :
           (goal : I)
@@ -81,23 +81,23 @@ module _ {X I R A T : Type 0} where
           ++ (if enabled && same s.0.input goal then entries_for (reverse (map (λ s. s.0) below)) s.0.step_kind_from_parent (final_answer s r node) else [])
 
     -- the same of the newest one of the goals, whose answer has this node
-    abbrev pub RebasesNewest : (I → I → Bool) → Bool → (I → A → R) → (I → R) → Option (RebaseReason X I R A T) → R → Option NodeId → List (StackEntry X I R A T × Run X F I R A T) → (old new : Lists I (ProvisionalCacheEntry X I R A T)) → Type 0
+    abbrev pub RebasesNewest : (I → I → Bool) → Bool → (I → A → R) → (I → R) → Option (RebaseReason X I R A T) → R → Option NodeId → List (OpenGoal X F I R A T) → (old new : Lists I (ProvisionalCacheEntry X I R A T)) → Type 0
     RebasesNewest same enabled propagated overflow reason r target [] old new = ⊥
     RebasesNewest same enabled propagated overflow reason r target (s ∷ below) old new = (rebases : RebasesEntries same enabled propagated overflow reason r s below old new) × (rebases.node ≡ target)
 
     -- The reason is true of the newest goal, which came to this result. Without one, the goal was not used as a head.
-    abbrev pub HasReason : (says : Verdicts R) → Option (RebaseReason X I R A T) → List (StackEntry X I R A T × Run X F I R A T) → R → Type 0
+    abbrev pub HasReason : (says : Verdicts R) → Option (RebaseReason X I R A T) → List (OpenGoal X F I R A T) → R → Type 0
     HasReason says reason [] r = ⊥
     HasReason says None (s ∷ below) r = s.0.state.usages ≡ None
     HasReason says (Some reason) (s ∷ below) r = IsTrueReason (reason_shape reason) (verdict_of says r) (frame_of says (run_of s)).entry
 
     -- the newest goal has no rank, if it rests on a goal below
-    abbrev pub IsNewestUnranked : (I → List (Reply R) → Request I R) → List (StackEntry X I R A T × Run X F I R A T) → Type 0
+    abbrev pub IsNewestUnranked : (I → List (Reply R) → Request I R) → List (OpenGoal X F I R A T) → Type 0
     IsNewestUnranked scripts [] = ⊥
     IsNewestUnranked scripts (s ∷ below) = s.0.state.heads ≢ [] → HasNoRank scripts s.0.input
 
     -- The newest goal is done with this result: all was justified while it was there, its result has its node, and the reason is true.
-    pub record IsWorkedOut (says : Verdicts R) (nodes after : List (CacheNode I R)) (reason : Option (RebaseReason X I R A T)) (r : R) (s : StackEntry X I R A T × Run X F I R A T) (below : List (StackEntry X I R A T × Run X F I R A T)) : Type 0 where
+    pub record IsWorkedOut (says : Verdicts R) (nodes after : List (CacheNode I R)) (reason : Option (RebaseReason X I R A T)) (r : R) (s : OpenGoal X F I R A T) (below : List (OpenGoal X F I R A T)) : Type 0 where
       pub justified : AreJustified says nodes (runs_of (s ∷ below))
       pub node : Option NodeId
       pub has_node : HasNewestNode says nodes after (s ∷ below) r node

@@ -1,6 +1,6 @@
 -- The stored results, as calls rely on them and change them.
 use Rattle.std.specs.Prelude.{◌≡◌, ◌≤◌, ◌⊎◌, ℕ, Bool, true, ◌||◌, if◌then◌else◌, List, [], ◌∷◌, Option, None, Some, IsSomeAnd}
-use Rattle.search_rules.specs.Below.{NodeId, Place, Success, WithOverflow, StoredResult, Request, Reply, EvaluationResult, StackEntry, IsDefinite, Store, stored_at, place_of, stored_from, Puts, IsPlainTo, IsPlainAt, Run, Verdicts}
+use Rattle.search_rules.specs.Below.{NodeId, Place, Success, WithOverflow, StoredResult, Request, Reply, EvaluationResult, OpenGoal, IsDefinite, Store, stored_at, place_of, stored_from, Puts, IsPlainTo, IsPlainAt, Verdicts}
 use Rattle.open_goals.specs.declared.goals.Fate.TheVariants as becomes
 use Rattle.search_rules.specs.Claims.{ComesTo}
 
@@ -48,11 +48,11 @@ pub data MayPut {X I R A T : Type 0} (same : I → I → Bool) (old new : Store 
 
 module _ {X F I R A T : Type 0} where
   -- where the result of a goal that is done belongs
-  abbrev pub place_of_item : StackEntry X I R A T × Run X F I R A T → Place
+  abbrev pub place_of_item : OpenGoal X F I R A T → Place
   place_of_item s = if s.0.state.encountered_overflow || s.1.met_overflow_before then WithOverflow s.0.state.required_depth else Success
 
   -- the answer of a goal that is done, with its result and the node of that
-  abbrev pub final_answer : StackEntry X I R A T × Run X F I R A T → R → Option NodeId → EvaluationResult X I R A T
+  abbrev pub final_answer : OpenGoal X F I R A T → R → Option NodeId → EvaluationResult X I R A T
   final_answer s r node = record {
     encountered_overflow = s.0.state.encountered_overflow || s.1.met_overflow_before;
     required_depth = s.0.state.required_depth;
@@ -63,31 +63,31 @@ module _ {X F I R A T : Type 0} where
   }
 
   -- the newest goal came to this result
-  abbrev pub NewestComesTo : (I → List (Reply R) → Request I R) → (I → R) → List (StackEntry X I R A T × Run X F I R A T) → R → Type 0
+  abbrev pub NewestComesTo : (I → List (Reply R) → Request I R) → (I → R) → List (OpenGoal X F I R A T) → R → Type 0
   NewestComesTo scripts limit_result [] r = ⊥
   NewestComesTo scripts limit_result (s ∷ below) r = ComesTo scripts limit_result s.0.input r
 
   -- the newest goal's result may be stored as far as ranks go
-  abbrev pub NewestIsPlain : (I → List (Reply R) → Request I R) → List (StackEntry X I R A T × Run X F I R A T) → R → Type 0
+  abbrev pub NewestIsPlain : (I → List (Reply R) → Request I R) → List (OpenGoal X F I R A T) → R → Type 0
   NewestIsPlain scripts [] r = ⊥
   NewestIsPlain scripts (s ∷ below) r = IsPlainAt scripts s.0.input (place_of_item s) r
 
   -- the newest goal has a rank, which fits its depth, and its result is a success
-  abbrev pub IsNewestPlainTo : (I → List (Reply R) → Request I R) → ℕ → List (StackEntry X I R A T × Run X F I R A T) → Type 0
+  abbrev pub IsNewestPlainTo : (I → List (Reply R) → Request I R) → ℕ → List (OpenGoal X F I R A T) → Type 0
   IsNewestPlainTo scripts n [] = ⊥
   IsNewestPlainTo scripts n (s ∷ below) = IsPlainTo scripts n s.0.input × (place_of_item s ≡ Success) × (n ≤ s.0.available_depth.0)
 
   -- the newest goal's answer, with this result and node, is stored, if it is to be and rests on no goal
-  abbrev pub IsNewestStored : (I → I → Bool) → (I → T) → List (StackEntry X I R A T × Run X F I R A T) → R → Option NodeId → Store I (StoredResult X I R A T) → Type 0
+  abbrev pub IsNewestStored : (I → I → Bool) → (I → T) → List (OpenGoal X F I R A T) → R → Option NodeId → Store I (StoredResult X I R A T) → Type 0
   IsNewestStored same token [] r target results = ⊥
   IsNewestStored same token (s ∷ below) r target results = s.1.fate ≡ becomes.Stored → s.0.state.heads ≡ [] → IsStored same token results s.0.input (final_answer s r target)
 
   -- the newest goal's answer, with this result and node, was stored, or nothing was
-  abbrev pub StoresNewest : (I → I → Bool) → List (StackEntry X I R A T × Run X F I R A T) → R → Option NodeId → (old new : Store I (StoredResult X I R A T)) → Type 0
+  abbrev pub StoresNewest : (I → I → Bool) → List (OpenGoal X F I R A T) → R → Option NodeId → (old new : Store I (StoredResult X I R A T)) → Type 0
   StoresNewest same [] r target old new = ⊥
   StoresNewest same (s ∷ below) r target old new = StoresAnswer same old new s.0.input (final_answer s r target)
 
   -- the newest goal's result was stored, or nothing was
-  abbrev pub MayPutNewest : (I → I → Bool) → List (StackEntry X I R A T × Run X F I R A T) → R → (old new : Store I (StoredResult X I R A T)) → Type 0
+  abbrev pub MayPutNewest : (I → I → Bool) → List (OpenGoal X F I R A T) → R → (old new : Store I (StoredResult X I R A T)) → Type 0
   MayPutNewest same [] r old new = ⊥
   MayPutNewest same (s ∷ below) r old new = MayPut same old new s.0.input (place_of_item s) s.0.state.required_depth r

@@ -3,7 +3,7 @@ use Rattle.std.specs.Prelude.{◌≡◌, ◌≢◌, ◌<◌, ◌≤◌, ℕ, Lis
 use Rattle.std.specs.Option.{option_map, option_or}
 use Rattle.open_graphs.specs.Graph as theory
 use Rattle.search_context.specs.declared.context.Answer.{Answer}
-use Rattle.search_rules.specs.Below.{NodeId, Request, Done, Reply, StackEntry, IsFitting, request_after, EndedRun, CacheNode, open_goal, open_node, rerun_with, with_no_record, with_run, verdict_of, Run, Next, Step, Finished, RunRecord, Records, acted, HasGraph, Verdicts}
+use Rattle.search_rules.specs.Below.{NodeId, Request, Done, Reply, OpenGoal, IsFitting, request_after, EndedRun, CacheNode, open_goal, open_node, rerun_with, with_no_record, with_run, verdict_of, Next, Step, Finished, RunRecord, Records, acted, HasGraph, Verdicts}
 use Rattle.search_rules.specs.Tallies.{tally_of}
 use Rattle.search_rules.specs.Justified.{OpenRun, AreJustified, IsFit, LeadToGoals, AreEdges}
 
@@ -27,21 +27,21 @@ KeepsBut but old new = (at : ℕ) → (at ≡ but → ⊥) → slice_get new at 
 
 module _ {X F I R A T : Type 0} where
   -- the nodes of the goals' runs stand at this place of the list or later
-  abbrev pub AreFrom : ℕ → List (StackEntry X I R A T × Run X F I R A T) → Type 0
+  abbrev pub AreFrom : ℕ → List (OpenGoal X F I R A T) → Type 0
   AreFrom first [] = Unit {0}
   AreFrom first (s ∷ below) = (first ≤ s.1.node.0) × AreFrom first below
 
   -- nodes that were there before those of the goals' runs are as they were
-  abbrev pub KeepsEarlier : List (StackEntry X I R A T × Run X F I R A T) → (old new : List (CacheNode I R)) → Type 0
+  abbrev pub KeepsEarlier : List (OpenGoal X F I R A T) → (old new : List (CacheNode I R)) → Type 0
   KeepsEarlier goals old new = (first : ℕ) → first ≤ length old → AreFrom first goals → KeepsFirst first old new
 
   -- no goal's run has a node from before those, nor from before the end of the list
-  abbrev pub StayFrom : List (CacheNode I R) → (old new : List (StackEntry X I R A T × Run X F I R A T)) → Type 0
+  abbrev pub StayFrom : List (CacheNode I R) → (old new : List (OpenGoal X F I R A T)) → Type 0
   StayFrom nodes old new = (first : ℕ) → first ≤ length nodes → AreFrom first old → AreFrom first new
 
 module _ {X F I R A T : Type 0} where
   -- an item as a run with its nodes
-  abbrev pub run_of : StackEntry X I R A T × Run X F I R A T → OpenRun I R
+  abbrev pub run_of : OpenGoal X F I R A T → OpenRun I R
   run_of s = record {
     goal = s.0.input;
     step = s.0.step_kind_from_parent;
@@ -56,11 +56,11 @@ module _ {X F I R A T : Type 0} where
   }
 
   -- the items as runs
-  abbrev pub runs_of : List (StackEntry X I R A T × Run X F I R A T) → List (OpenRun I R)
+  abbrev pub runs_of : List (OpenGoal X F I R A T) → List (OpenRun I R)
   runs_of goals = map run_of goals
 
   -- what comes next is justified
-  abbrev pub IsJustifiedNext : Verdicts R → List (CacheNode I R) → List (StackEntry X I R A T × Run X F I R A T) → List (StackEntry X I R A T × Run X F I R A T) → Next R → Type 0
+  abbrev pub IsJustifiedNext : Verdicts R → List (CacheNode I R) → List (OpenGoal X F I R A T) → List (OpenGoal X F I R A T) → Next R → Type 0
   IsJustifiedNext says nodes old goals (Step given) = AreJustified says nodes (runs_of goals) × IsFit says nodes (runs_of goals) given.reply given.node
   IsJustifiedNext says nodes [] goals (Finished answer) = ⊥
   IsJustifiedNext says nodes (s ∷ below) goals (Finished answer) = HasGraph says nodes s.0.input answer.result answer.node
@@ -73,7 +73,7 @@ pub record CameTo {I R : Type 0} (says : Verdicts R) (script : List (Reply R) �
   pub on_record : Records says script p replies
 
 -- the newest goal's run came to this result
-abbrev pub EndsNewest : {X F I R A T : Type 0} → Verdicts R → (I → List (Reply R) → Request I R) → List (StackEntry X I R A T × Run X F I R A T) → R → Type 0
+abbrev pub EndsNewest : {X F I R A T : Type 0} → Verdicts R → (I → List (Reply R) → Request I R) → List (OpenGoal X F I R A T) → R → Type 0
 EndsNewest says scripts [] r = ⊥
 EndsNewest says scripts (s ∷ below) r = CameTo says (scripts s.0.input) s.1.progress r
 
@@ -102,15 +102,15 @@ pub data HasResultNode {I R : Type 0} (says : Verdicts R) (before after : List (
 
 module _ {X F I R A T : Type 0} where
   -- the node of the newest goal's result
-  abbrev pub HasNewestNode : Verdicts R → (before after : List (CacheNode I R)) → List (StackEntry X I R A T × Run X F I R A T) → R → Option NodeId → Type 0
+  abbrev pub HasNewestNode : Verdicts R → (before after : List (CacheNode I R)) → List (OpenGoal X F I R A T) → R → Option NodeId → Type 0
   HasNewestNode says before after [] r target = ⊥
   HasNewestNode says before after (s ∷ below) r target = HasResultNode says before after s.0.state.provisional_result s.1.node s.0.state.node s.1.progress r target
 
 -- The newest goal is run again: its result has its node in the list as the run ended, the answers of its cycles lead there from then
 -- on, and the new run's own node comes next.
-pub record RerunsWithNode {X F I R A T : Type 0} (says : Verdicts R) (before after : List (CacheNode I R)) (r : R) (old new : List (StackEntry X I R A T × Run X F I R A T)) : Type 0 where
-  pub item : StackEntry X I R A T × Run X F I R A T
-  pub below : List (StackEntry X I R A T × Run X F I R A T)
+pub record RerunsWithNode {X F I R A T : Type 0} (says : Verdicts R) (before after : List (CacheNode I R)) (r : R) (old new : List (OpenGoal X F I R A T)) : Type 0 where
+  pub item : OpenGoal X F I R A T
+  pub below : List (OpenGoal X F I R A T)
   pub ended : List (CacheNode I R)
   pub target : Option NodeId
   pub frame : F

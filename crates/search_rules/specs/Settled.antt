@@ -5,7 +5,7 @@ use Rattle.open_goals.specs.declared.goals.Fate.TheVariants as becomes
 use Rattle.open_graphs.specs.Graph as theory
 use Rattle.open_graphs.specs.Stack.{IsLeaf}
 use Rattle.open_graphs.specs.Use as theory_use
-use Rattle.search_rules.specs.Below.{Answer, CacheNode, CxOf, DefiniteAnswer, DelegateOf, Entry, counted_by, is_in_cycle, IsDecisive, IsDefinite, IsEnclosed, IsNodeOf, Lists, NestedPaths, NodeId, paths_at, ProvisionalCacheEntry, Reply, Run, shapes_of, stack_of, StackEntry, Store, stored_at, StoredResult, Success, verdict_of, Verdicts, verdicts}
+use Rattle.search_rules.specs.Below.{Answer, CacheNode, CxOf, DefiniteAnswer, DelegateOf, Entry, counted_by, is_in_cycle, IsDecisive, IsDefinite, IsEnclosed, IsNodeOf, Lists, NestedPaths, NodeId, paths_at, ProvisionalCacheEntry, Reply, shapes_of, stack_of, Store, OpenGoal, stored_at, StoredResult, Success, verdict_of, Verdicts, verdicts}
 use Rattle.search_rules.specs.Calls.{Call}
 use Rattle.search_rules.specs.Justified.{cycles_node, frames_of, OpenRun, verdict_shape}
 use Rattle.search_rules.specs.Kinds.{EntriesSuit}
@@ -89,7 +89,7 @@ module _ {X I R A T : Type 0} (says : Verdicts R) (same : I → I → Bool) (nod
       -- The goal's answers stay off the goals under evaluation, and it is none of those below it; so do the entries that were made since it
       -- began, and before the goal above it did. It is nested in itself, or nothing is and it rests on no goal. Its first run is the one
       -- without a provisional result. Its result is to be stored.
-      pub record IsSettledGoal (above : Option ℕ) (s : StackEntry X I R A T × Run X F I R A T) (below : List (StackEntry X I R A T × Run X F I R A T)) : Type 0 where
+      pub record IsSettledGoal (above : Option ℕ) (s : OpenGoal X F I R A T) (below : List (OpenGoal X F I R A T)) : Type 0 where
         pub off : StaysOff (run_of s) s.0.state.nested_goals (runs_of below)
         pub made : (goal : I) (entry : ProvisionalCacheEntry X I R A T) (node : ℕ) → HasEntry same entries goal entry node → cycles_node (run_of s) ≤ node → IfSome above (λ first. node < first)
             → EntryStaysOff (run_of s) s.0.state.nested_goals (runs_of below) entry node
@@ -100,12 +100,12 @@ module _ {X I R A T : Type 0} (says : Verdicts R) (same : I → I → Bool) (nod
         pub stored : s.1.fate ≡ becomes.Stored
 
       -- this is so of all goals, of which the newest has one above it with this first node, or none
-      abbrev pub AreSettledGoals : Option ℕ → List (StackEntry X I R A T × Run X F I R A T) → Type 0
+      abbrev pub AreSettledGoals : Option ℕ → List (OpenGoal X F I R A T) → Type 0
       AreSettledGoals above [] = Unit {0}
       AreSettledGoals above (s ∷ below) = IsSettledGoal above s below × AreSettledGoals (Some (cycles_node (run_of s))) below
 
       -- what holds between two moves
-      pub record IsSettling (call : Call I) (goals : List (StackEntry X I R A T × Run X F I R A T)) (met : Bool) : Type 0 where
+      pub record IsSettling (call : Call I) (goals : List (OpenGoal X F I R A T)) (met : Bool) : Type 0 where
         pub unmet : met ≡ false
         pub settled : AreSettled call.goals
         pub goals_are : AreSettledGoals None goals
@@ -113,7 +113,7 @@ module _ {X I R A T : Type 0} (says : Verdicts R) (same : I → I → Bool) (nod
         pub older : RestOnOlder same entries (map cycles_node (runs_of goals))
 
       -- the answer that the newest goal gets stays off the goals under evaluation, too
-      abbrev pub AnswerStaysOff : List (StackEntry X I R A T × Run X F I R A T) → Reply R → Option NodeId → Type 0
+      abbrev pub AnswerStaysOff : List (OpenGoal X F I R A T) → Reply R → Option NodeId → Type 0
       AnswerStaysOff [] reply target = Unit {0}
       AnswerStaysOff (s ∷ below) reply target =
           (r : R) → reply ≡ Answer r → IsDefinite says r

@@ -8,7 +8,7 @@ use Rattle.std.proofs.lemmas.List.Quantifiers.{position-Some}
 use Rattle.std.proofs.lemmas.Option.{slice_get-map, slice_get-get_or, slice_get_within}
 use Rattle.std.proofs.lemmas.Bool.{cases_eq}
 use Rattle.open_graphs.specs.Graph as theory
-use Rattle.search_rules.specs.Below.{Entry, Accepts, greatest, path_kind, Recorded, IsAnsweredEdge, stack_of, PathKind, Inductive, Unknown, Coinductive, ForcedAmbiguity, NodeId, Answer, StackDepth, StackEntry, CacheNode, IsNodeOf, path_kind_from, IsCycleResult, heads_shape, CycleHead, at_depth, rank_of, greater_kind, greatest_kind, is_coinductive, is_inductive, has_kind, paths_of, verdict_of, shapes_of, count_of, no_usages, with_usage, Run, cycle_head, AnswersNewest, Verdicts}
+use Rattle.search_rules.specs.Below.{Entry, Accepts, greatest, path_kind, Recorded, IsAnsweredEdge, stack_of, PathKind, Inductive, Unknown, Coinductive, ForcedAmbiguity, NodeId, Answer, StackDepth, OpenGoal, StackEntry, CacheNode, IsNodeOf, path_kind_from, IsCycleResult, heads_shape, CycleHead, at_depth, rank_of, greater_kind, greatest_kind, is_coinductive, is_inductive, has_kind, paths_of, verdict_of, shapes_of, count_of, no_usages, with_usage, Run, cycle_head, AnswersNewest, Verdicts}
 use Rattle.open_graphs.specs.Stack.{IsLeaf}
 use Rattle.open_graphs.specs.Use.{Heads}
 use Rattle.open_graphs.proofs.Asked.{cycle_is_answered}
@@ -70,24 +70,24 @@ one_head_lower head used place within depth some = elim (cases_eq depth.0 head.0
     none_there (Some x) is some = cc
 
 -- a head that stands on the stack lies below the place above the newest goal
-pub cycle_head_lower : {X F I R A T : Type 0} (step : PathKind) (head : StackDepth) (used : CycleHead) (old new : List (StackEntry X I R A T × Run X F I R A T)) (a : AnswersNewest step 0 false ((head, used) ∷ []) old new) → head.0 < length old → LieBelow (suc (length a.below)) ((head, used) ∷ [])
+pub cycle_head_lower : {X F I R A T : Type 0} (step : PathKind) (head : StackDepth) (used : CycleHead) (old new : List (OpenGoal X F I R A T)) (a : AnswersNewest step 0 false ((head, used) ∷ []) old new) → head.0 < length old → LieBelow (suc (length a.below)) ((head, used) ∷ [])
 cycle_head_lower step head used old new a within = one_head_lower head used (suc (length a.below)) (omega (arith, within, ap length a.was))
 
 -- ---- the stack from below
 
 module _ {X F I R A T : Type 0} (says : Verdicts R) where
   -- an item as an entry of the theory
-  abbrev entry_of : StackEntry X I R A T × Run X F I R A T → Entry
+  abbrev entry_of : OpenGoal X F I R A T → Entry
   entry_of s = (frame_of says (run_of s)).entry
 
-  stack_is : (goals : List (StackEntry X I R A T × Run X F I R A T)) → stack_of (frames_of says (runs_of goals)) ≡ map entry_of (reverse goals)
+  stack_is : (goals : List (OpenGoal X F I R A T)) → stack_of (frames_of says (runs_of goals)) ≡ map entry_of (reverse goals)
   stack_is [] = refl
   stack_is (s ∷ below) =
       ap (λ l. l ++ entry_of s ∷ []) (stack_is below)
       ∙ sym (map-append entry_of (reverse below) (s ∷ []))
       ∙ ap (map entry_of) (sym (reverse_onto below s []))
 
-  entries_are : (goals : List (StackEntry X I R A T × Run X F I R A T)) → reverse (map (λ s. s.0) goals) ≡ map (λ s. s.0) (reverse goals)
+  entries_are : (goals : List (OpenGoal X F I R A T)) → reverse (map (λ s. s.0) goals) ≡ map (λ s. s.0) (reverse goals)
   entries_are [] = refl
   entries_are (s ∷ below) =
       reverse_onto (map (λ t. t.0) below) s.0 []
@@ -96,13 +96,13 @@ module _ {X F I R A T : Type 0} (says : Verdicts R) where
       ∙ ap (map (λ t. t.0)) (sym (reverse_onto below s []))
 
   -- the kind of a path over the last goals
-  kind_at : (step : PathKind) (items : List (StackEntry X I R A T × Run X F I R A T)) → rank_of (greatest_kind (step ∷ map (λ e. e.step_kind_from_parent) (map (λ s. s.0) items))) ≡ greatest (rank_of step) (map entry_of items)
+  kind_at : (step : PathKind) (items : List (OpenGoal X F I R A T)) → rank_of (greatest_kind (step ∷ map (λ e. e.step_kind_from_parent) (map (λ s. s.0) items))) ≡ greatest (rank_of step) (map entry_of items)
   kind_at step [] = omega (arith, greater_rank step Inductive)
   kind_at step (s ∷ items) =
-      let rest = greatest_kind (map (λ e. e.step_kind_from_parent) (map (λ (t : StackEntry X I R A T × Run X F I R A T). t.0) items)) in
+      let rest = greatest_kind (map (λ e. e.step_kind_from_parent) (map (λ (t : OpenGoal X F I R A T). t.0) items)) in
       omega (arith, kind_at step items, greater_rank step (greater_kind s.0.step_kind_from_parent rest), greater_rank s.0.step_kind_from_parent rest, greater_rank step rest)
 
-  pub path_kind_is : (step : PathKind) (head : ℕ) (goals : List (StackEntry X I R A T × Run X F I R A T)) → rank_of (path_kind_from (reverse (map (λ s. s.0) goals)) head step) ≡ path_kind (stack_of (frames_of says (runs_of goals))) (rank_of step) head
+  pub path_kind_is : (step : PathKind) (head : ℕ) (goals : List (OpenGoal X F I R A T)) → rank_of (path_kind_from (reverse (map (λ s. s.0) goals)) head step) ≡ path_kind (stack_of (frames_of says (runs_of goals))) (rank_of step) head
   path_kind_is step head goals =
       let next : head + 1 ≡ suc head = omega arith in
       ap (λ l. rank_of (path_kind_from l head step)) (entries_are goals)
@@ -111,33 +111,33 @@ module _ {X F I R A T : Type 0} (says : Verdicts R) where
       ∙ ap (greatest (rank_of step)) (sym (drop-map entry_of (suc head) (reverse goals)))
       ∙ ap (λ l. path_kind l (rank_of step) head) (sym (stack_is goals))
 
-  home_of : (nodes : List (CacheNode I R)) (goals : List (StackEntry X I R A T × Run X F I R A T)) → AreSupported says nodes (runs_of goals) → (j : ℕ) (s : StackEntry X I R A T × Run X F I R A T) → slice_get (reverse goals) j ≡ Some s → IsSomeAnd s.0.state.node (λ n. IsNodeOf nodes n.0 s.0.input)
+  home_of : (nodes : List (CacheNode I R)) (goals : List (OpenGoal X F I R A T)) → AreSupported says nodes (runs_of goals) → (j : ℕ) (s : OpenGoal X F I R A T) → slice_get (reverse goals) j ≡ Some s → IsSomeAnd s.0.state.node (λ n. IsNodeOf nodes n.0 s.0.input)
   home_of nodes [] h j s at = absurd cc
   home_of nodes (g ∷ below) h j s at = elim (get_cases (reverse below) g j s (ap (λ l. slice_get l j) (sym (reverse_onto below g [])) ∙ at)) [
     | inl lower ↦ home_of nodes below h.1 j s lower
-    | inr here ↦ subst (λ (t : StackEntry X I R A T × Run X F I R A T). IsSomeAnd t.0.state.node (λ n. IsNodeOf nodes n.0 t.0.input)) here.1 h.0.lead_home
+    | inr here ↦ subst (λ (t : OpenGoal X F I R A T). IsSomeAnd t.0.state.node (λ n. IsNodeOf nodes n.0 t.0.input)) here.1 h.0.lead_home
   ]
 
   -- the goal at a depth, of which the entry was read
-  pub record HeadIs (goals : List (StackEntry X I R A T × Run X F I R A T)) (head : ℕ) (e : StackEntry X I R A T) : Type 0 where
+  pub record HeadIs (goals : List (OpenGoal X F I R A T)) (head : ℕ) (e : StackEntry X I R A T) : Type 0 where
     pub run : Run X F I R A T
     pub at : slice_get (reverse goals) head ≡ Some (e, run)
 
-  item_at : (items : List (StackEntry X I R A T × Run X F I R A T)) (j : ℕ) (e : StackEntry X I R A T) → option_map (λ s. s.0) (slice_get items j) ≡ Some e → (run : Run X F I R A T) × (slice_get items j ≡ Some (e, run))
+  item_at : (items : List (OpenGoal X F I R A T)) (j : ℕ) (e : StackEntry X I R A T) → option_map (λ s. s.0) (slice_get items j) ≡ Some e → (run : Run X F I R A T) × (slice_get items j ≡ Some (e, run))
   item_at items j e is = some_at (slice_get items j) is
     where
-      some_at : (o : Option (StackEntry X I R A T × Run X F I R A T)) → option_map (λ s. s.0) o ≡ Some e → (run : Run X F I R A T) × (o ≡ Some (e, run))
+      some_at : (o : Option (OpenGoal X F I R A T)) → option_map (λ s. s.0) o ≡ Some e → (run : Run X F I R A T) × (o ≡ Some (e, run))
       some_at None is = absurd cc
       some_at (Some s) is = let same : s.0 ≡ e = cc in (s.1, ap (λ d. Some (d, s.1)) same)
 
-  pub head_is : (goals : List (StackEntry X I R A T × Run X F I R A T)) (head : ℕ) (e : StackEntry X I R A T) → head < length (reverse (map (λ s. s.0) goals)) → e ≡ get_or (reverse (map (λ s. s.0) goals)) head e → HeadIs goals head e
+  pub head_is : (goals : List (OpenGoal X F I R A T)) (head : ℕ) (e : StackEntry X I R A T) → head < length (reverse (map (λ s. s.0) goals)) → e ≡ get_or (reverse (map (λ s. s.0) goals)) head e → HeadIs goals head e
   head_is goals head e within e_is =
       let there : slice_get (reverse (map (λ s. s.0) goals)) head ≡ Some e = slice_get-get_or (reverse (map (λ s. s.0) goals)) head e within ∙ ap Some (sym e_is) in
-      let item = item_at (reverse goals) head e (sym (slice_get-map (λ (s : StackEntry X I R A T × Run X F I R A T). s.0) (reverse goals) head) ∙ ap (λ l. slice_get l head) (sym (entries_are goals)) ∙ there) in
+      let item = item_at (reverse goals) head e (sym (slice_get-map (λ (s : OpenGoal X F I R A T). s.0) (reverse goals) head) ∙ ap (λ l. slice_get l head) (sym (entries_are goals)) ∙ there) in
       record { run = item.0; at = item.1 }
 
   -- the node to which its cycles lead is one at which walks stop
-  pub head_leaf : (nodes : List (CacheNode I R)) (goals : List (StackEntry X I R A T × Run X F I R A T)) → AreSupported says nodes (runs_of goals) → (head : ℕ) (e : StackEntry X I R A T) → HeadIs goals head e → IsSomeAnd e.state.node (λ n. IsLeaf (stack_of (frames_of says (runs_of goals))) n.0)
+  pub head_leaf : (nodes : List (CacheNode I R)) (goals : List (OpenGoal X F I R A T)) → AreSupported says nodes (runs_of goals) → (head : ℕ) (e : StackEntry X I R A T) → HeadIs goals head e → IsSomeAnd e.state.node (λ n. IsLeaf (stack_of (frames_of says (runs_of goals))) n.0)
   head_leaf nodes goals supported head e there = by e.state.node refl (home_of nodes goals supported head (e, there.run) there.at)
     where
       place : slice_get (stack_of (frames_of says (runs_of goals))) head ≡ Some (entry_of (e, there.run))
@@ -149,7 +149,7 @@ module _ {X F I R A T : Type 0} (says : Verdicts R) where
 
 -- ---- the answer
 
-module _ {X F I R A T : Type 0} (says : Verdicts R) (nodes : List (CacheNode I R)) (old new : List (StackEntry X I R A T × Run X F I R A T)) (step kind : PathKind) (head : StackDepth) (input : I) (e : StackEntry X I R A T) (there : HeadIs says old head.0 e) (same_goal : e.input ≡ input) (kind_is : kind ≡ path_kind_from (reverse (map (λ s. s.0) old)) head.0 step) (initial : R) (sorted : IsCycleResult says.is_yes says.is_no kind initial) (asks : NewestAsks (runs_of old) step input) (a : AnswersNewest step 0 false ((head, cycle_head step kind) ∷ []) old new) (h : AreJustified says nodes (runs_of old)) where
+module _ {X F I R A T : Type 0} (says : Verdicts R) (nodes : List (CacheNode I R)) (old new : List (OpenGoal X F I R A T)) (step kind : PathKind) (head : StackDepth) (input : I) (e : StackEntry X I R A T) (there : HeadIs says old head.0 e) (same_goal : e.input ≡ input) (kind_is : kind ≡ path_kind_from (reverse (map (λ s. s.0) old)) head.0 step) (initial : R) (sorted : IsCycleResult says.is_yes says.is_no kind initial) (asks : NewestAsks (runs_of old) step input) (a : AnswersNewest step 0 false ((head, cycle_head step kind) ∷ []) old new) (h : AreJustified says nodes (runs_of old)) where
   abbrev result : R
   result = unwrap_or e.state.provisional_result initial
 

@@ -3,7 +3,7 @@ use Rattle.open_goals.specs.declared.goals.Fate.{Fate}
 use Rattle.std.proofs.Common.{◌≡◌, ℕ, Bool, true, false, List, [], ◌∷◌, ◌++◌, length, Option, None, Some, inl, inr, refl, sym, ap, ap₂, ◌∙◌, subst}
 use Rattle.std.specs.Option.{IsSomeAnd, option_or}
 use Rattle.open_graphs.specs.Graph as theory
-use Rattle.search_rules.specs.Below.{IsClosedGraph, Entry, path_kind, Use, UsesNo, Final, ProvisionalEntry, stack_of, no_heads, PathKind, NodeId, heads_shape, rank_of, CacheNode, open_node, IsNodeOf, KeepsGoals, HasGraph, IsDefinite, verdict_of, shapes_of, Verdicts, Request, Reply, StoredResult, EvaluationResult, Store, stored_at, place_of, stored_from, AreSoundResults, AvailableDepth, StackEntry, Run, first_entry, no_record}
+use Rattle.search_rules.specs.Below.{IsClosedGraph, Entry, path_kind, Use, UsesNo, Final, ProvisionalEntry, stack_of, no_heads, PathKind, NodeId, heads_shape, rank_of, CacheNode, open_node, IsNodeOf, KeepsGoals, HasGraph, IsDefinite, verdict_of, shapes_of, Verdicts, Request, Reply, StoredResult, EvaluationResult, Store, stored_at, place_of, stored_from, AreSoundResults, AvailableDepth, OpenGoal, first_entry, no_record}
 use Rattle.open_graphs.proofs.Runs.{closed_gives_use}
 use Rattle.open_graphs.proofs.Closed.{graph_is_use}
 use Rattle.open_graphs.proofs.Asked.{final_is_answered}
@@ -70,7 +70,7 @@ module _ {X I R A T : Type 0} (says : Verdicts R) (same : I → I → Bool) wher
   all_free_nothing scripts nodes results sound = λ goal place s at. free_nothing says nodes goal s.result.result s.node (sound goal place s at).graph
 
   -- a goal is pushed
-  pub all_free_pushed_goal : {F : Type 0} (nodes : List (CacheNode I R)) (input : I) (kind : PathKind) (depth : AvailableDepth) (own : NodeId) (frame : F) (becomes : Fate R) (goals : List (StackEntry X I R A T × Run X F I R A T)) (results : Store I (StoredResult X I R A T)) → own.0 ≡ length nodes → NewestAsks (runs_of goals) kind input → AreJustified says nodes (runs_of goals) → AreFree says same nodes (runs_of goals) results → AreFree says same (nodes ++ open_node input ∷ []) (runs_of ((first_entry input kind depth own, record { frame = frame; node = own; progress = no_record; finished_runs = 0; met_overflow_before = false; candidates = []; fate = becomes }) ∷ goals)) results
+  pub all_free_pushed_goal : {F : Type 0} (nodes : List (CacheNode I R)) (input : I) (kind : PathKind) (depth : AvailableDepth) (own : NodeId) (frame : F) (becomes : Fate R) (goals : List (OpenGoal X F I R A T)) (results : Store I (StoredResult X I R A T)) → own.0 ≡ length nodes → NewestAsks (runs_of goals) kind input → AreJustified says nodes (runs_of goals) → AreFree says same nodes (runs_of goals) results → AreFree says same (nodes ++ open_node input ∷ []) (runs_of ((first_entry input kind depth own, record { frame = frame; node = own; progress = no_record; finished_runs = 0; met_overflow_before = false; candidates = []; fate = becomes }) ∷ goals)) results
   all_free_pushed_goal nodes input kind depth own frame becomes goals results at asks h =
       all_free_kept nodes (nodes ++ open_node input ∷ []) (runs_of goals) (new_run input kind own (Some own) None no_tally ∷ runs_of goals) results (KeepsGoals-appended true nodes input)
       (pushed_hold says nodes input kind own (runs_of goals) at h [])

@@ -1,12 +1,12 @@
 -- Stored results rest on no goal under evaluation, whatever the newest goal notes; so each of them may answer its question.
 use Rattle.std.proofs.Common.{Bool, List, ◌∷◌, sym, subst}
-use Rattle.search_rules.specs.Below.{Request, Reply, Answer, PathKind, StackEntry, StoredResult, CacheNode, Heads, Hit, Store, Run, with_depth, with_nested_goals, AnswersNewest, TakesStored, NotesOverflow, Verdicts}
+use Rattle.search_rules.specs.Below.{Request, Reply, Answer, PathKind, OpenGoal, StoredResult, CacheNode, Heads, Hit, Store, with_depth, with_nested_goals, AnswersNewest, TakesStored, NotesOverflow, Verdicts}
 use Rattle.search_rules.specs.Words.{AreFree, IsFit, IsFree, IsUsable, NewestAsks, run_of, runs_of}
 use Rattle.search_rules.proofs.justified.Finishing.{answer_fits, overflow_noted_same, stored_taken_same}
 use Rattle.search_rules.proofs.answers.Free.{free_answers, uses_kept_free}
 use Rattle.search_rules.proofs.answers.Kept.{taken_keeps}
 
-module _ {X F I R A T : Type 0} (says : Verdicts R) (same : I → I → Bool) (nodes : List (CacheNode I R)) (results : Store I (StoredResult X I R A T)) (old new : List (StackEntry X I R A T × Run X F I R A T)) where
+module _ {X F I R A T : Type 0} (says : Verdicts R) (same : I → I → Bool) (nodes : List (CacheNode I R)) (results : Store I (StoredResult X I R A T)) (old new : List (OpenGoal X F I R A T)) where
   -- the newest goal takes an answer over
   pub answered_newest_free : (step : PathKind) (required : _) (overflow : Bool) (answer : Heads) → AnswersNewest step required overflow answer old new → AreFree says same nodes (runs_of old) results → AreFree says same nodes (runs_of new) results
   answered_newest_free step required overflow answer a =
@@ -23,7 +23,7 @@ module _ {X F I R A T : Type 0} (says : Verdicts R) (same : I → I → Bool) (n
   -- a stored result answers the newest goal's question
   pub stored_fits : (scripts : I → List (Reply R) → Request I R) (step : PathKind) (goal : I) (depth : _) (hit : Hit I R T) → IsUsable same scripts results goal depth hit → TakesStored same step hit old new → NewestAsks (runs_of old) step goal → AreFree says same nodes (runs_of old) results → IsFit says nodes (runs_of new) (Answer hit.result) hit.node
   stored_fits scripts step goal depth hit u t asks free =
-      let later : StackEntry X I R A T × Run X F I R A T = (record t.entry { state = with_nested_goals (with_depth t.entry.state hit.required_depth hit.encountered_overflow) t.nested }, t.run) in
+      let later : OpenGoal X F I R A T = (record t.entry { state = with_nested_goals (with_depth t.entry.state hit.required_depth hit.encountered_overflow) t.nested }, t.run) in
       let there : IsFree says nodes (run_of later ∷ runs_of t.below) goal hit.result hit.node =
       subst (λ r. IsFree says nodes (runs_of ((t.entry, t.run) ∷ t.below)) goal r hit.node) u.result_is
       (subst (λ n. IsFree says nodes (runs_of ((t.entry, t.run) ∷ t.below)) goal u.stored.result.result n) u.node_is

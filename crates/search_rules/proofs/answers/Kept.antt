@@ -2,7 +2,7 @@
 use Rattle.std.proofs.Common.{◌≡◌, ◌≢◌, ℕ, ◌==◌, Bool, true, false, if◌then◌else◌, List, [], ◌∷◌, ◌++◌, length, Option, None, Some, IsSome, inr, inl, refl, sym, subst, ap, ne_eqb, slice_set}
 use Rattle.std.specs.Option.{option_map}
 use Rattle.std.proofs.lemmas.Bool.{false≢true}
-use Rattle.search_rules.specs.Below.{StackDepth, CycleHead, PathKind, HeadUsages, UsagesByHead, Heads, at_depth, DelegateOf, CxOf, Final, ProvisionalEntry, KeepsGoals, NodeId, Request, Evaluate, EnterCandidate, FinishCandidate, Ignore, Done, EntryState, StackEntry, CacheNode, open_node, Received, Run, enters, finishes, less_head, less_usages, Ignores, NotesCandidate, joined_over, usages_over, AnswersNewest, requested, HasStepped, received_by, Verdicts, verdicts}
+use Rattle.search_rules.specs.Below.{StackDepth, CycleHead, PathKind, HeadUsages, UsagesByHead, Heads, at_depth, DelegateOf, CxOf, Final, ProvisionalEntry, KeepsGoals, NodeId, Request, Evaluate, EnterCandidate, FinishCandidate, Ignore, Done, EntryState, OpenGoal, CacheNode, open_node, Received, enters, finishes, less_head, less_usages, Ignores, NotesCandidate, joined_over, usages_over, AnswersNewest, requested, HasStepped, received_by, Verdicts, verdicts}
 use Rattle.global_cache.proofs.NodeLists.{KeepsGoals-appended}
 use Rattle.search_rules.specs.Words.{OpenRun, AreJustified, IsHead, run_of, runs_of, Tally, tally_of, counted}
 use Rattle.search_rules.proofs.answers.Moves.{HoldOver, above_hold, pushed_hold}
@@ -79,7 +79,7 @@ heads_grow : (step : PathKind) (own used : Option CycleHead) → IsSome own → 
 heads_grow step own None some = some
 heads_grow step own (Some head) some = refl
 
-module _ {X F I R A T : Type 0} (says : Verdicts R) (nodes : List (CacheNode I R)) (old new : List (StackEntry X I R A T × Run X F I R A T)) (step : PathKind) (required : ℕ) (overflow : Bool) (answer : Heads) (a : AnswersNewest step required overflow answer old new) where
+module _ {X F I R A T : Type 0} (says : Verdicts R) (nodes : List (CacheNode I R)) (old new : List (OpenGoal X F I R A T)) (step : PathKind) (required : ℕ) (overflow : Bool) (answer : Heads) (a : AnswersNewest step required overflow answer old new) where
   pub taken_counts : CountsAll (tally_of a.entry.state a.run.candidates) (tally_of a.state a.run.candidates)
   taken_counts = record {
     own = λ some. subst IsSome (sym a.takes.usages) (usages_grow a.entry.state.usages (at_depth answer (record { 0 = length a.below })) some);
@@ -113,11 +113,11 @@ module _ {X F I R A T : Type 0} (says : Verdicts R) (nodes : List (CacheNode I R
 -- ---- the newest goal's frame makes a request
 
 -- a step changes neither what the newest goal counts nor its nodes
-pub stepped_keeps : {D C V P F I R A T : Type 0} (G : DelegateOf D C V P F I R A T) (X : CxOf C I R A T) (cx : C) (nodes : List (CacheNode I R)) (given : Received R) (request : Request I R) (old new : List (StackEntry C I R A T × Run C F I R A T)) → HasStepped G X cx given request old new → KeepsUses (verdicts X) nodes nodes (runs_of old) (runs_of new)
+pub stepped_keeps : {D C V P F I R A T : Type 0} (G : DelegateOf D C V P F I R A T) (X : CxOf C I R A T) (cx : C) (nodes : List (CacheNode I R)) (given : Received R) (request : Request I R) (old new : List (OpenGoal C F I R A T)) → HasStepped G X cx given request old new → KeepsUses (verdicts X) nodes nodes (runs_of old) (runs_of new)
 stepped_keeps {C = C} {F = F} {I = I} {R = R} {A = A} {T = T} G X cx nodes given request old new s =
-    let later : StackEntry C I R A T × Run C F I R A T = (s.entry, record s.run { frame = s.frame; progress = requested (received_by G X cx s.run given s.verdict) request }) in
-    subst (λ (l : List (StackEntry C I R A T × Run C F I R A T)). KeepsUses (verdicts X) nodes nodes (runs_of l) (runs_of new)) (sym s.was)
-    (subst (λ (l : List (StackEntry C I R A T × Run C F I R A T)). KeepsUses (verdicts X) nodes nodes (runs_of ((s.entry, s.run) ∷ s.below)) (runs_of l)) (sym s.is)
+    let later : OpenGoal C F I R A T = (s.entry, record s.run { frame = s.frame; progress = requested (received_by G X cx s.run given s.verdict) request }) in
+    subst (λ (l : List (OpenGoal C F I R A T)). KeepsUses (verdicts X) nodes nodes (runs_of l) (runs_of new)) (sym s.was)
+    (subst (λ (l : List (OpenGoal C F I R A T)). KeepsUses (verdicts X) nodes nodes (runs_of ((s.entry, s.run) ∷ s.below)) (runs_of l)) (sym s.is)
     (above_keeps (verdicts X) nodes (run_of (s.entry, s.run)) (run_of later) (runs_of s.below) refl refl refl refl (same_counts (tally_of s.entry.state s.run.candidates))))
 
 mapped_some : {A B : Type 0} (f : A → B) (o : Option A) → IsSome o → IsSome (option_map f o)
@@ -138,7 +138,7 @@ ignored_counts parent candidate old new finished later i = record {
 
 -- nor does what is noted of candidates
 module _ {X F I R A T : Type 0} (says : Verdicts R) (nodes : List (CacheNode I R)) where
-  pub noted_keeps : (request : Request I R) (mid after : List (StackEntry X I R A T × Run X F I R A T)) → NotesCandidate request mid after → KeepsUses says nodes nodes (runs_of mid) (runs_of after)
+  pub noted_keeps : (request : Request I R) (mid after : List (OpenGoal X F I R A T)) → NotesCandidate request mid after → KeepsUses says nodes nodes (runs_of mid) (runs_of after)
   noted_keeps (Evaluate kind goal) mid after noted = same_keeps says nodes (runs_of mid) (runs_of after) (ap runs_of (sym noted))
   noted_keeps EnterCandidate [] after noted = same_keeps says nodes [] (runs_of after) (ap runs_of (sym noted))
   noted_keeps EnterCandidate (s ∷ below) after noted =

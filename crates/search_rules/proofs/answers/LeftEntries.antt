@@ -7,7 +7,7 @@ use Rattle.std.proofs.lemmas.Bool.Decides.{nat_tests}
 use Rattle.std.proofs.lemmas.List.{length-map}
 use Rattle.std.proofs.lemmas.List.Elements.{All-cons, All-contains, All-contains_itself, All-head, All-nil, All-tail, Contains-append_cases, Contains-append_left}
 use Rattle.open_graphs.proofs.Members.{Contains-filtered, contains_later, filtered_member, first_or_later}
-use Rattle.search_rules.specs.Below.{changed_for, CycleHead, depends_on, entries_at, has_usages, HeadUsages, highest, Lists, NodeId, other_usages, ProvisionalCacheEntry, rebased, rebased_at, RebaseReason, Run, StackDepth, StackEntry}
+use Rattle.search_rules.specs.Below.{changed_for, CycleHead, depends_on, entries_at, has_usages, HeadUsages, highest, Lists, NodeId, other_usages, ProvisionalCacheEntry, rebased, rebased_at, RebaseReason, StackDepth, StackEntry, OpenGoal}
 use Rattle.search_rules.specs.Below.{Ambiguity, NoCycleUsages, Overflow, ReachedFixpoint, IsRising}
 use Rattle.search_rules.specs.Justified.{cycles_node}
 use Rattle.search_rules.specs.Older.{HasEntry, RestOnOlder}
@@ -108,7 +108,7 @@ pub record LeavesEntries {X I R A T : Type 0} (same : I → I → Bool) (first :
   pub since : (goal : I) (entry : ProvisionalCacheEntry X I R A T) (node : ℕ) → HasEntry same new goal entry node → first ≤ node
       → ((before : ProvisionalCacheEntry X I R A T) × HasEntry same old goal before node × (before.result ≡ entry.result)) ⊎ ((goal ≡ own) × (node ≡ first) × (entry.result ≡ r))
 
-module _ {X F I R A T : Type 0} (same : I → I → Bool) (s : StackEntry X I R A T × Run X F I R A T) (below : List (StackEntry X I R A T × Run X F I R A T)) (old new : Lists I (ProvisionalCacheEntry X I R A T)) (older : RestOnOlder same old (map cycles_node (runs_of (s ∷ below))))
+module _ {X F I R A T : Type 0} (same : I → I → Bool) (s : OpenGoal X F I R A T) (below : List (OpenGoal X F I R A T)) (old new : Lists I (ProvisionalCacheEntry X I R A T)) (older : RestOnOlder same old (map cycles_node (runs_of (s ∷ below))))
     (rising : (goal : I) (entry : ProvisionalCacheEntry X I R A T) (node : ℕ) → HasEntry same old goal entry node → IsRising entry.heads) where
   -- an older entry doesn't rest on the newest goal
   older_other : (goal : I) (entry : ProvisionalCacheEntry X I R A T) (node : ℕ) → HasEntry same old goal entry node → node < cycles_node (run_of s) → (head : StackDepth × CycleHead) → highest entry.heads ≡ Some head → head.0.0 ≢ length below

@@ -6,7 +6,7 @@ use Rattle.std.proofs.lemmas.Bool.{cases_lt}
 use Rattle.std.proofs.lemmas.List.Elements.{All-cons, All-head, All-nil, All-tail}
 use Rattle.std.proofs.lemmas.Bool.Decides.{nat_tests}
 use Rattle.std.specs.Option.{IsSomeAnd}
-use Rattle.search_rules.specs.Below.{Success, WithOverflow, StoredResult, StackEntry, EvaluationResult, Run, Store, stored_at, place_of, stored_from, PathsToNested, NestedPaths, paths_at, PathKind, AvailableDepth, CacheNode, Heads, Hit, first_accepted, usable, Request, Evaluate, EnterCandidate, FinishCandidate, Ignore, Done, Next, NodeId, DelegateOf, CxOf, Stood, IsAllowed, AreSeen, AnswersNewest, NestsAnswer, NestsHead, TakesStored, NotesCandidate, HasStepped, Received, EntryState, with_depth, with_nested_goals, rerun_with, with_no_record, received_by, requested}
+use Rattle.search_rules.specs.Below.{Success, WithOverflow, StoredResult, OpenGoal, EvaluationResult, Store, stored_at, place_of, stored_from, PathsToNested, NestedPaths, paths_at, PathKind, AvailableDepth, CacheNode, Heads, Hit, first_accepted, usable, Request, Evaluate, EnterCandidate, FinishCandidate, Ignore, Done, Next, NodeId, DelegateOf, CxOf, Stood, IsAllowed, AreSeen, AnswersNewest, NestsAnswer, NestsHead, TakesStored, NotesCandidate, HasStepped, Received, EntryState, with_depth, with_nested_goals, rerun_with, with_no_record, received_by, requested}
 use Rattle.search_stack.specs.Nested.{joined_paths, JoinsPaths}
 use Rattle.global_cache.specs.Hits.{hit_at, successes, overflows}
 use Rattle.global_cache.proofs.Stores.{put_cases}
@@ -130,7 +130,7 @@ module _ {X I R A T : Type 0} (same : I → I → Bool) (by_value : (x y : I) �
           ]
 
       -- and of other goals under evaluation none is lone still
-      pub none_lone_stored : {F : Type 0} (items : List (StackEntry X I R A T × Run X F I R A T)) → All (λ s. s.0.input ≢ goal) items → NoneIsLone same old goals items → NoneIsLone same new goals items
+      pub none_lone_stored : {F : Type 0} (items : List (OpenGoal X F I R A T)) → All (λ s. s.0.input ≢ goal) items → NoneIsLone same old goals items → NoneIsLone same new goals items
       none_lone_stored [] differ h = tt
       none_lone_stored (s ∷ below) differ h = (
         λ lone. elim (lone_before stores s.0.input lone) [ inl is ↦ All-head (λ t. t.0.input ≢ goal) s below differ (sym is) | inr before ↦ h.0 before ],
@@ -142,7 +142,7 @@ module _ {X I R A T : Type 0} (same : I → I → Bool) (by_value : (x y : I) �
 
 module _ {X I R A T : Type 0} (same : I → I → Bool) (results : Store I (StoredResult X I R A T)) (goals : List I) where
   -- another newest goal of the same input, which may be in more need of lone goals
-  newest_kept : {F : Type 0} (s t : StackEntry X I R A T × Run X F I R A T) (below : List (StackEntry X I R A T × Run X F I R A T)) → t.0.input ≡ s.0.input → ((s.0.state.nested_goals ≡ [] → HasLone same results goals s.0.state.required_depth) → t.0.state.nested_goals ≡ [] → HasLone same results goals t.0.state.required_depth) → NoneIsLone same results goals (s ∷ below) → NoneIsLone same results goals (t ∷ below)
+  newest_kept : {F : Type 0} (s t : OpenGoal X F I R A T) (below : List (OpenGoal X F I R A T)) → t.0.input ≡ s.0.input → ((s.0.state.nested_goals ≡ [] → HasLone same results goals s.0.state.required_depth) → t.0.state.nested_goals ≡ [] → HasLone same results goals t.0.state.required_depth) → NoneIsLone same results goals (s ∷ below) → NoneIsLone same results goals (t ∷ below)
   newest_kept s t below is requires h = (λ lone. h.0 (subst (IsLone same results) is lone), requires h.1, h.2)
 
   -- what the newest goal needs once it has taken over the nested goals of an answer that required the depth
@@ -150,7 +150,7 @@ module _ {X I R A T : Type 0} (same : I → I → Bool) (results : Store I (Stor
   taken_needs own step answer was after a b (Nothing none is) needs before empty = most_needed same results goals a (b + 1) (before (sym is ∙ empty)) (needs none)
   taken_needs own step answer was after a b (Joined between some joined itself) needs before empty = absurd (joined_are_some same between after own _ itself empty)
 
-  module _ {F : Type 0} (old new : List (StackEntry X I R A T × Run X F I R A T)) where
+  module _ {F : Type 0} (old new : List (OpenGoal X F I R A T)) where
     -- it takes over an answer that has its own nested goals, and the depth that it required
     pub answered_none_lone : (step : PathKind) (required : ℕ) (overflow : Bool) (heads : Heads) (nested : NestedPaths I) → (nested ≡ [] → HasLone same results goals (required + 1)) → AnswersNewest step required overflow heads old new → NestsAnswer same step nested old new → NoneIsLone same results goals old → NoneIsLone same results goals new
     answered_none_lone step required overflow heads nested needs a nests h =
@@ -214,19 +214,19 @@ module _ {X I R A T : Type 0} (same : I → I → Bool) (results : Store I (Stor
 
 module _ {D C V P F I R A T : Type 0} (G : DelegateOf D C V P F I R A T) (X : CxOf C I R A T) (cx : C) (same : I → I → Bool) (results : Store I (StoredResult C I R A T)) (goals : List I) where
   -- the newest goal takes a step,
-  pub stepped_none_lone : (given : Received R) (request : Request I R) (old new : List (StackEntry C I R A T × Run C F I R A T)) → HasStepped G X cx given request old new → NoneIsLone same results goals old → NoneIsLone same results goals new
+  pub stepped_none_lone : (given : Received R) (request : Request I R) (old new : List (OpenGoal C F I R A T)) → HasStepped G X cx given request old new → NoneIsLone same results goals old → NoneIsLone same results goals new
   stepped_none_lone given request old new s h =
       subst (NoneIsLone same results goals) (sym s.is)
       (newest_kept same results goals (s.entry, s.run) (s.entry, record s.run { frame = s.frame; progress = requested (received_by G X cx s.run given s.verdict) request }) s.below refl (λ before. before)
       (subst (NoneIsLone same results goals) s.was h))
 
   -- or a goal that is not lone is pushed,
-  pub pushed_none_lone : (input : I) (kind : PathKind) (depth : AvailableDepth) (before after : List (CacheNode I R)) (old new : List (StackEntry C I R A T × Run C F I R A T)) → Pushes G X cx input kind depth before after old new → (IsLone same results input → ⊥) → NoneIsLone same results goals old → NoneIsLone same results goals new
+  pub pushed_none_lone : (input : I) (kind : PathKind) (depth : AvailableDepth) (before after : List (CacheNode I R)) (old new : List (OpenGoal C F I R A T)) → Pushes G X cx input kind depth before after old new → (IsLone same results input → ⊥) → NoneIsLone same results goals old → NoneIsLone same results goals new
   pushed_none_lone input kind depth before after old new p not_lone h =
       subst (NoneIsLone same results goals) (sym p.is) (not_lone, λ empty. none_needed same results goals, h)
 
   -- or the newest goal is run again
-  pub rerun_none_lone : (r : R) (old new : List (StackEntry C I R A T × Run C F I R A T)) → Reruns G X cx r old new → NoneIsLone same results goals old → NoneIsLone same results goals new
+  pub rerun_none_lone : (r : R) (old new : List (OpenGoal C F I R A T)) → Reruns G X cx r old new → NoneIsLone same results goals old → NoneIsLone same results goals new
   rerun_none_lone r old new a h =
       subst (NoneIsLone same results goals) (sym a.is)
       (newest_kept same results goals a.item (rerun_with r a.target a.frame a.own (with_no_record a.item)) a.below refl (λ before. before)
@@ -234,7 +234,7 @@ module _ {D C V P F I R A T : Type 0} (G : DelegateOf D C V P F I R A T) (X : Cx
 
 module _ {X F I R A T : Type 0} (same : I → I → Bool) (results : Store I (StoredResult X I R A T)) (goals : List I) where
   -- what it notes of candidates changes neither its nested goals nor the depth that it requires
-  pub noted_none_lone : (request : Request I R) (old new : List (StackEntry X I R A T × Run X F I R A T)) → NotesCandidate request old new → NoneIsLone same results goals old → NoneIsLone same results goals new
+  pub noted_none_lone : (request : Request I R) (old new : List (OpenGoal X F I R A T)) → NotesCandidate request old new → NoneIsLone same results goals old → NoneIsLone same results goals new
   noted_none_lone (Evaluate kind goal) old new noted h = subst (NoneIsLone same results goals) (sym noted) h
   noted_none_lone EnterCandidate [] new noted h = subst (NoneIsLone same results goals) (sym noted) h
   noted_none_lone EnterCandidate (s ∷ below) new noted h = subst (NoneIsLone same results goals) (sym noted) h
@@ -248,13 +248,13 @@ module _ {X F I R A T : Type 0} (same : I → I → Bool) (results : Store I (St
   noted_none_lone (Done r) old new noted h = subst (NoneIsLone same results goals) (sym noted) h
 
   -- the newest goal was popped, and the goal below it has its answer, if there is one
-  pub popped_none_lone : (r : R) (s : StackEntry X I R A T × Run X F I R A T) (below new : List (StackEntry X I R A T × Run X F I R A T)) (next : Next R) → (s.0.state.nested_goals ≡ [] → HasLone same results goals (s.0.state.required_depth + 1)) → NewestLeaves r (s ∷ below) next new → LeavesNested same (s ∷ below) new → NoneIsLone same results goals below → NoneIsLone same results goals new
+  pub popped_none_lone : (r : R) (s : OpenGoal X F I R A T) (below new : List (OpenGoal X F I R A T)) (next : Next R) → (s.0.state.nested_goals ≡ [] → HasLone same results goals (s.0.state.required_depth + 1)) → NewestLeaves r (s ∷ below) next new → LeavesNested same (s ∷ below) new → NoneIsLone same results goals below → NoneIsLone same results goals new
   popped_none_lone r s [] new next needs leaves nested h = subst (NoneIsLone same results goals) (sym leaves.2) tt
   popped_none_lone r s (p ∷ below) new next needs leaves nested h =
       answered_none_lone same results goals (p ∷ below) new s.0.step_kind_from_parent s.0.state.required_depth (s.0.state.encountered_overflow || s.1.met_overflow_before) s.0.state.heads s.0.state.nested_goals needs leaves.2 nested h
 
   -- and the popped goal is lone if it has no nested goals, met no overflow, and was stored
-  pub popped_needs : (token : I → T) (s : StackEntry X I R A T × Run X F I R A T) (below : List (StackEntry X I R A T × Run X F I R A T)) (r : R) (target : Option NodeId) → (s.0.state.encountered_overflow || s.1.met_overflow_before) ≡ false → s.1.fate ≡ becomes.Stored → (s.0.state.heads ≢ [] → s.0.state.nested_goals ≢ []) → IsNewestStored same token (s ∷ below) r target results → Contains goals s.0.input → LoneRequire same results goals → s.0.state.nested_goals ≡ [] → HasLone same results goals (s.0.state.required_depth + 1)
+  pub popped_needs : (token : I → T) (s : OpenGoal X F I R A T) (below : List (OpenGoal X F I R A T)) (r : R) (target : Option NodeId) → (s.0.state.encountered_overflow || s.1.met_overflow_before) ≡ false → s.1.fate ≡ becomes.Stored → (s.0.state.heads ≢ [] → s.0.state.nested_goals ≢ []) → IsNewestStored same token (s ∷ below) r target results → Contains goals s.0.input → LoneRequire same results goals → s.0.state.nested_goals ≡ [] → HasLone same results goals (s.0.state.required_depth + 1)
   popped_needs token s below r target calm stores heads stored within h empty =
       h s.0.input (stored_from (final_answer s r target) (token s.0.input)) within (subst (λ b. stored_at same results s.0.input (if b then WithOverflow s.0.state.required_depth else Success) ≡ Some (stored_from (final_answer s r target) (token s.0.input))) calm (stored stores (no_heads_if s.0.state.heads (λ some. heads some empty)))) empty
 
@@ -262,7 +262,7 @@ module _ {X F I R A T : Type 0} (same : I → I → Bool) (results : Store I (St
 
 module _ {D C V P F I R A T : Type 0} (G : DelegateOf D C V P F I R A T) (X : CxOf C I R A T) (cx : C) (same : I → I → Bool) (results : Store I (StoredResult C I R A T)) (goals : List I) where
   -- a lone goal is not under evaluation
-  lone_not_on_stack : (items : List (StackEntry C I R A T × Run C F I R A T)) (frames : List (Frame I R)) → AreSeen (seen G X cx) (Stood G X cx) items frames → NoneIsLone same results goals items → (goal : I) → IsLone same results goal → IsOnStack (G.script cx) goal frames → ⊥
+  lone_not_on_stack : (items : List (OpenGoal C F I R A T)) (frames : List (Frame I R)) → AreSeen (seen G X cx) (Stood G X cx) items frames → NoneIsLone same results goals items → (goal : I) → IsLone same results goal → IsOnStack (G.script cx) goal frames → ⊥
   lone_not_on_stack [] [] m h goal lone on = on
   lone_not_on_stack [] (f ∷ fs) m h goal lone on = absurd m
   lone_not_on_stack (s ∷ below) [] m h goal lone on = absurd m
@@ -311,7 +311,7 @@ hit_of_answered true true found hit is = absurd cc
 hit_of_answered false in_scope found hit is = absurd cc
 
 -- goals under evaluation are others than one that is not on the stack
-items_differ : {D C V P F I R A T : Type 0} (G : DelegateOf D C V P F I R A T) (X : CxOf C I R A T) (cx : C) (goal : I) (items : List (StackEntry C I R A T × Run C F I R A T)) (frames : List (Frame I R)) → AreSeen (seen G X cx) (Stood G X cx) items frames → (IsOnStack (G.script cx) goal frames → ⊥) → All (λ t. t.0.input ≢ goal) items
+items_differ : {D C V P F I R A T : Type 0} (G : DelegateOf D C V P F I R A T) (X : CxOf C I R A T) (cx : C) (goal : I) (items : List (OpenGoal C F I R A T)) (frames : List (Frame I R)) → AreSeen (seen G X cx) (Stood G X cx) items frames → (IsOnStack (G.script cx) goal frames → ⊥) → All (λ t. t.0.input ≢ goal) items
 items_differ G X cx goal [] frames m absent = All-nil (λ t. t.0.input ≢ goal)
 items_differ G X cx goal (s ∷ below) [] m absent = absurd m
 items_differ G X cx goal (s ∷ below) (f ∷ fs) m absent =
@@ -319,7 +319,7 @@ items_differ G X cx goal (s ∷ below) (f ∷ fs) m absent =
 
 module _ {D C V P F I R A T : Type 0} (G : DelegateOf D C V P F I R A T) (X : CxOf C I R A T) (cx : C) (call : Call I) (same : I → I → Bool) (results : Store I (StoredResult C I R A T)) (enclosed : CallIsEnclosed G X cx call) (require : LoneRequire same results call.goals) where
   -- a lone goal that the newest goal asks is answered by what is stored of it
-  pub lone_is_answered : (ahead : ℕ) (kind : PathKind) (goal : I) (items : List (StackEntry C I R A T × Run C F I R A T)) (starts : ℕ) (met : Bool) (depth : ℕ) → ((s : StackEntry C I R A T × Run C F I R A T) (below : List (StackEntry C I R A T × Run C F I R A T)) → items ≡ s ∷ below → IsAllowed (seen G X cx s) depth) → HasAsked G X cx call ahead (Evaluate kind goal) items starts met → NoneIsLone same results call.goals items → IsLone same results goal → (accepts : NestedPaths I → Bool) → ((nested : NestedPaths I) → nested ≡ [] → true ≡ accepts nested) → first_accepted accepts (usable same results goal depth) ≡ None → ⊥
+  pub lone_is_answered : (ahead : ℕ) (kind : PathKind) (goal : I) (items : List (OpenGoal C F I R A T)) (starts : ℕ) (met : Bool) (depth : ℕ) → ((s : OpenGoal C F I R A T) (below : List (OpenGoal C F I R A T)) → items ≡ s ∷ below → IsAllowed (seen G X cx s) depth) → HasAsked G X cx call ahead (Evaluate kind goal) items starts met → NoneIsLone same results call.goals items → IsLone same results goal → (accepts : NestedPaths I → Bool) → ((nested : NestedPaths I) → nested ≡ [] → true ≡ accepts nested) → first_accepted accepts (usable same results goal depth) ≡ None → ⊥
   lone_is_answered ahead kind goal [] starts met depth may h none lone accepts accepted absent = absurd h.asked.mirror
   lone_is_answered ahead kind goal (s ∷ below) starts met depth may h none lone accepts accepted absent =
       let w = some_and (stored_at same results goal Success) _ lone in
@@ -337,7 +337,7 @@ module _ {D C V P F I R A T : Type 0} (G : DelegateOf D C V P F I R A T) (X : Cx
       absurd cc
 
   -- so no lone goal is pushed: of a question that is answered neither by an entry nor by a stored result the goal is not lone
-  pub asked_not_lone : (ahead : ℕ) (kind : PathKind) (goal : I) (items : List (StackEntry C I R A T × Run C F I R A T)) (starts : ℕ) (met : Bool) (depth : ℕ) → ((s : StackEntry C I R A T × Run C F I R A T) (below : List (StackEntry C I R A T × Run C F I R A T)) → items ≡ s ∷ below → IsAllowed (seen G X cx s) depth) → HasAsked G X cx call ahead (Evaluate kind goal) items starts met → NoneIsLone same results call.goals items → (asking : Asking C I R A T) (noop in_scope : Bool) → noop ≡ true → in_scope ≡ false → answered_by noop in_scope (first_accepted (is_applicable same asking) (usable same results goal depth)) ≡ None → IsLone same results goal → ⊥
+  pub asked_not_lone : (ahead : ℕ) (kind : PathKind) (goal : I) (items : List (OpenGoal C F I R A T)) (starts : ℕ) (met : Bool) (depth : ℕ) → ((s : OpenGoal C F I R A T) (below : List (OpenGoal C F I R A T)) → items ≡ s ∷ below → IsAllowed (seen G X cx s) depth) → HasAsked G X cx call ahead (Evaluate kind goal) items starts met → NoneIsLone same results call.goals items → (asking : Asking C I R A T) (noop in_scope : Bool) → noop ≡ true → in_scope ≡ false → answered_by noop in_scope (first_accepted (is_applicable same asking) (usable same results goal depth)) ≡ None → IsLone same results goal → ⊥
   asked_not_lone ahead kind goal items starts met depth may h none asking noop in_scope records scoped unanswered lone =
       lone_is_answered ahead kind goal items starts met depth may h none lone (is_applicable same asking) (empty_is_applicable same asking)
       (found_of_answered noop in_scope (first_accepted (is_applicable same asking) (usable same results goal depth)) records scoped unanswered)
@@ -354,7 +354,7 @@ module _ {D C V P F I R A T : Type 0} (G : DelegateOf D C V P F I R A T) (X : Cx
       absurd cc
 
   -- a goal that is answered by what is stored requires as many lone goals as that, so none under evaluation is lone still
-  pub stored_none_lone : (ahead : ℕ) (kind : PathKind) (goal : I) (items new : List (StackEntry C I R A T × Run C F I R A T)) (starts : ℕ) (met : Bool) (depth : ℕ) → HasAsked G X cx call ahead (Evaluate kind goal) items starts met → KeepsStore G X cx same call met results → (accepts : NestedPaths I → Bool) (noop in_scope : Bool) (hit : Hit I R T) → answered_by noop in_scope (first_accepted accepts (usable same results goal depth)) ≡ Some hit → TakesStored same kind hit items new → NoneIsLone same results call.goals items → NoneIsLone same results call.goals new
+  pub stored_none_lone : (ahead : ℕ) (kind : PathKind) (goal : I) (items new : List (OpenGoal C F I R A T)) (starts : ℕ) (met : Bool) (depth : ℕ) → HasAsked G X cx call ahead (Evaluate kind goal) items starts met → KeepsStore G X cx same call met results → (accepts : NestedPaths I → Bool) (noop in_scope : Bool) (hit : Hit I R T) → answered_by noop in_scope (first_accepted accepts (usable same results goal depth)) ≡ Some hit → TakesStored same kind hit items new → NoneIsLone same results call.goals items → NoneIsLone same results call.goals new
   stored_none_lone ahead kind goal items new starts met depth h store accepts noop in_scope hit answered takes =
       let within : Contains call.goals goal = enclosed_asks G X cx call ahead kind goal items starts met enclosed h in
       taken_none_lone same results call.goals items new kind hit
@@ -363,7 +363,7 @@ module _ {D C V P F I R A T : Type 0} (G : DelegateOf D C V P F I R A T) (X : Cx
       takes
 
   -- the newest goal's answer was stored, and the goal popped
-  pub popped_lone : (by_value : (x y : I) → same x y ≡ true → x ≡ y) (token : I → T) (ahead : ℕ) (request : Request I R) (s : StackEntry C I R A T × Run C F I R A T) (below after : List (StackEntry C I R A T × Run C F I R A T)) (starts : ℕ) (met : Bool) (r : R) (target : Option NodeId) (next : Next R) (later : Store I (StoredResult C I R A T))
+  pub popped_lone : (by_value : (x y : I) → same x y ≡ true → x ≡ y) (token : I → T) (ahead : ℕ) (request : Request I R) (s : OpenGoal C F I R A T) (below after : List (OpenGoal C F I R A T)) (starts : ℕ) (met : Bool) (r : R) (target : Option NodeId) (next : Next R) (later : Store I (StoredResult C I R A T))
       → HasAsked G X cx call ahead request (s ∷ below) starts met → s.1.fate ≡ becomes.Stored → (s.0.state.heads ≢ [] → s.0.state.nested_goals ≢ [])
       → StoresAnswer same results later s.0.input (final_answer s r target) → IsNewestStored same token (s ∷ below) r target later
       → NewestLeaves r (s ∷ below) next after → LeavesNested same (s ∷ below) after
@@ -374,7 +374,7 @@ module _ {D C V P F I R A T : Type 0} (G : DelegateOf D C V P F I R A T) (X : Cx
       let within : Contains call.goals s.0.input = subst (Contains call.goals) is stays.distinct.0 in
       let calm : (s.0.state.encountered_overflow || s.1.met_overflow_before) ≡ false =
       sym (ap (λ (g : Frame I R). g.met_overflow || g.met_before) h.asked.mirror.0.is) ∙ left_calm I R call.root h.asked.f h.asked.below stays.depths in
-      let differ : All (λ (t : StackEntry C I R A T × Run C F I R A T). t.0.input ≢ s.0.input) below =
+      let differ : All (λ (t : OpenGoal C F I R A T). t.0.input ≢ s.0.input) below =
       items_differ G X cx s.0.input below h.asked.below h.asked.mirror.1 (subst (λ goal. IsOnStack (G.script cx) goal h.asked.below → ⊥) is stays.distinct.1) in
       let required : LoneRequire same later call.goals =
       lone_require_stored same by_value results later s.0.input (final_answer s r target) none.0 call.goals stores within none.1 require in (

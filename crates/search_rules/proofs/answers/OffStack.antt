@@ -3,7 +3,7 @@ use Rattle.std.proofs.Common.{◌≡◌, ◌<◌, ◌≤◌, ℕ, Bool, false, t
 use Rattle.std.specs.Option.{IfSome}
 use Rattle.open_graphs.specs.Graph as theory
 use Rattle.open_graphs.proofs.Lists.{get_cases, mapped_some}
-use Rattle.search_rules.specs.Below.{CacheNode, counted_by, DefiniteAnswer, is_in_cycle, IsDefinite, KeepsGoals, Lists, NestedPaths, NodeId, PathKind, paths_at, ProvisionalCacheEntry, Run, shapes_of, stack_of, StackEntry, Store, StoredResult, verdict_of, Verdicts}
+use Rattle.search_rules.specs.Below.{CacheNode, counted_by, DefiniteAnswer, is_in_cycle, IsDefinite, KeepsGoals, Lists, NestedPaths, NodeId, PathKind, paths_at, ProvisionalCacheEntry, shapes_of, stack_of, Store, OpenGoal, StoredResult, verdict_of, Verdicts}
 use Rattle.open_goals.specs.declared.goals.Fate.TheVariants as becomes
 use Rattle.search_rules.specs.Apart.{StandApart}
 use Rattle.search_rules.specs.Justified.{AreJustified, cycles_node, frame_of, frames_of, OpenRun, verdict_shape}
@@ -37,7 +37,7 @@ below_limit None first node began before = tt
 below_limit (Some limit) first node began before = omega (arith, began, before)
 
 -- the newest goal began before this node
-abbrev pub AreBefore : {X F I R A T : Type 0} → ℕ → List (StackEntry X I R A T × Run X F I R A T) → Type 0
+abbrev pub AreBefore : {X F I R A T : Type 0} → ℕ → List (OpenGoal X F I R A T) → Type 0
 AreBefore limit [] = Unit {0}
 AreBefore limit (s ∷ below) = cycles_node (run_of s) < limit
 
@@ -84,7 +84,7 @@ module _ {X I R A T : Type 0} (says : Verdicts R) (same : I → I → Bool) (nod
 
   -- all that holds of a goal
   module _ {F : Type 0} where
-    pub goal_kept : (s t : StackEntry X I R A T × Run X F I R A T) (g : GoesOn (run_of s) (run_of t)) → ((node : ℕ) → node < cycles_node (run_of s) → Within node) → ((goal : I) → IsSome (paths_at same s.0.state.nested_goals goal) → IsSome (paths_at same t.0.state.nested_goals goal)) → (below : List (StackEntry X I R A T × Run X F I R A T)) (above then : Option ℕ)
+    pub goal_kept : (s t : OpenGoal X F I R A T) (g : GoesOn (run_of s) (run_of t)) → ((node : ℕ) → node < cycles_node (run_of s) → Within node) → ((goal : I) → IsSome (paths_at same s.0.state.nested_goals goal) → IsSome (paths_at same t.0.state.nested_goals goal)) → (below : List (OpenGoal X F I R A T)) (above then : Option ℕ)
         → ((node : ℕ) → IfSome then (λ first. node < first) → Within node × IfSome above (λ first. node < first)) → IfSome then (λ first. cycles_node (run_of t) < first)
         → IsSome (paths_at same t.0.state.nested_goals t.0.input) ⊎ ((t.0.state.nested_goals ≡ []) × (is_in_cycle t.0.state ≡ false)) → (t.0.state.provisional_result ≡ None → t.1.finished_runs ≡ 0) → t.1.fate ≡ becomes.Stored
         → IsSettledGoal says same nodes results entries above s below → IsSettledGoal says same after later more then t below
@@ -102,7 +102,7 @@ module _ {X I R A T : Type 0} (says : Verdicts R) (same : I → I → Bool) (nod
     }
 
     -- the same of all goals
-    pub goals_kept : (goals : List (StackEntry X I R A T × Run X F I R A T)) (above : Option ℕ) → ((node : ℕ) → IfSome above (λ limit. node < limit) → Within node) → AreSettledGoals says same nodes results entries above goals → AreSettledGoals says same after later more above goals
+    pub goals_kept : (goals : List (OpenGoal X F I R A T)) (above : Option ℕ) → ((node : ℕ) → IfSome above (λ limit. node < limit) → Within node) → AreSettledGoals says same nodes results entries above goals → AreSettledGoals says same after later more above goals
     goals_kept [] above within h = tt
     goals_kept (s ∷ below) above within h =
         let lower = λ (node : ℕ) (before : node < cycles_node (run_of s)). within node (below_limit above (cycles_node (run_of s)) node h.0.began before) in (
@@ -111,7 +111,7 @@ module _ {X I R A T : Type 0} (says : Verdicts R) (same : I → I → Bool) (nod
         )
 
     -- a goal begins above them
-    pub narrowed : (goals : List (StackEntry X I R A T × Run X F I R A T)) (limit : ℕ) → ((node : ℕ) → Within node) → AreBefore limit goals → AreSettledGoals says same nodes results entries None goals → AreSettledGoals says same after later more (Some limit) goals
+    pub narrowed : (goals : List (OpenGoal X F I R A T)) (limit : ℕ) → ((node : ℕ) → Within node) → AreBefore limit goals → AreSettledGoals says same nodes results entries None goals → AreSettledGoals says same after later more (Some limit) goals
     narrowed [] limit within before h = tt
     narrowed (s ∷ below) limit within before h = (
       goal_kept s s (goes_on_itself (run_of s)) (λ node older. within node) (λ goal there. there) below None (Some limit) (λ node lower. (within node, tt)) before h.0.itself h.0.first h.0.stored h.0,
@@ -151,7 +151,7 @@ module _ {X I R A T : Type 0} (says : Verdicts R) (same : I → I → Bool) (nod
   off_new goal step own lead earlier tally nested below leads = record { answers = λ i a at counts. absurd (no_answers i a at); earlier = leads }
 
 -- a goal under evaluation has no entry
-pub own_no_older : {X F I R A T : Type 0} (same : I → I → Bool) (results : Store I (StoredResult X I R A T)) (entries : Lists I (ProvisionalCacheEntry X I R A T)) (s : StackEntry X I R A T × Run X F I R A T) (below : List (StackEntry X I R A T × Run X F I R A T)) → StandApart same results (s ∷ below) entries → HasNoOlder same entries (run_of s) s.0.input
+pub own_no_older : {X F I R A T : Type 0} (same : I → I → Bool) (results : Store I (StoredResult X I R A T)) (entries : Lists I (ProvisionalCacheEntry X I R A T)) (s : OpenGoal X F I R A T) (below : List (OpenGoal X F I R A T)) → StandApart same results (s ∷ below) entries → HasNoOlder same entries (run_of s) s.0.input
 own_no_older same results entries s below apart entry node has = absurd ((apart.off s.0.input entry has.there).0 refl)
 
 -- ---- the goal's run has ended

@@ -10,7 +10,7 @@ use Rattle.open_graphs.proofs.Keep.{leaf_cases, leaf_left}
 use Rattle.std.proofs.lemmas.Option.{slice_get_within}
 use Rattle.open_graphs.proofs.Lists.{get_end, mapped_some}
 use Rattle.search_rules.proofs.entries.Ready.{is_below}
-use Rattle.search_rules.specs.Below.{at_depth, CacheNode, entries_at, IsDefinite, IsNodeOf, IsRising, Lists, NodeId, ProvisionalCacheEntry, Reply, Request, Run, shapes_of, stack_of, StackDepth, StackEntry, Store, StoredResult, verdict_of, Verdicts}
+use Rattle.search_rules.specs.Below.{at_depth, CacheNode, entries_at, IsDefinite, IsNodeOf, IsRising, Lists, NodeId, ProvisionalCacheEntry, Reply, Request, shapes_of, stack_of, StackDepth, Store, OpenGoal, StoredResult, verdict_of, Verdicts}
 use Rattle.search_rules.specs.EntryShapes.{entry_shape, HoldsOver}
 use Rattle.search_rules.specs.Justified.{cycles_node, frame_of, frames_of, HaveTallies, OpenRun}
 use Rattle.search_rules.specs.Older.{BeganBefore, HasEntry, HasNoOlder, IsStop}
@@ -114,7 +114,7 @@ abbrev pub HasNone : {X I R A T : Type 0} → (I → I → Bool) → Lists I (Pr
 HasNone same entries goal = (entry : ProvisionalCacheEntry _ _ _ _ _) → Contains (entries_at same entries goal) entry → ⊥
 
 -- goals that began before a node did so, whatever the head is
-pub began_before : {X F I R A T : Type 0} (says : Verdicts R) (same : I → I → Bool) (nodes : List (CacheNode I R)) (results : Store I (StoredResult X I R A T)) (entries : Lists I (ProvisionalCacheEntry X I R A T)) (limit : ℕ) (goals : List (StackEntry X I R A T × Run X F I R A T)) → AreSettledGoals says same nodes results entries (Some limit) goals
+pub began_before : {X F I R A T : Type 0} (says : Verdicts R) (same : I → I → Bool) (nodes : List (CacheNode I R)) (results : Store I (StoredResult X I R A T)) (entries : Lists I (ProvisionalCacheEntry X I R A T)) (limit : ℕ) (goals : List (OpenGoal X F I R A T)) → AreSettledGoals says same nodes results entries (Some limit) goals
     → (node : ℕ) → limit ≤ node → (head : StackDepth) → BeganBefore (map cycles_node (runs_of goals)) head node
 began_before says same nodes results entries limit [] h node within head = tt
 began_before says same nodes results entries limit (s ∷ below) h node within head =

@@ -12,7 +12,7 @@ use Rattle.open_graphs.specs.Graph as theory
 use Rattle.open_graphs.specs.Stack.{IsLeaf}
 use Rattle.open_goals.specs.NestedGoals.{NestsItself, TakesHeadGoal, TakesNestedGoals}
 use Rattle.search_stack.specs.Nested.{JoinsPaths}
-use Rattle.search_rules.specs.Below.{Answer, AnswersNewest, at_depth, AvailableDepth, CacheNode, entries_at, EntryState, first_accepted, first_entry, Heads, Hit, is_in_cycle, IsDefinite, IsNodeOf, Lists, NestedPaths, NestsAnswer, NestsHead, no_heads, no_record, NodeId, path_of_no_step, PathKind, paths_at, ProvisionalCacheEntry, Reply, Request, Run, shapes_of, stack_of, StackDepth, StackEntry, Store, stored_at, StoredResult, Success, TakesStored, usable, Use, verdict_of, Verdicts, with_depth, with_nested_goals, WithOverflow}
+use Rattle.search_rules.specs.Below.{Answer, AnswersNewest, at_depth, AvailableDepth, CacheNode, entries_at, EntryState, first_accepted, first_entry, Heads, Hit, is_in_cycle, IsDefinite, IsNodeOf, Lists, NestedPaths, NestsAnswer, NestsHead, no_heads, no_record, NodeId, path_of_no_step, PathKind, paths_at, ProvisionalCacheEntry, Reply, Request, Run, shapes_of, stack_of, StackDepth, OpenGoal, StackEntry, Store, stored_at, StoredResult, Success, TakesStored, usable, Use, verdict_of, Verdicts, with_depth, with_nested_goals, WithOverflow}
 use Rattle.global_cache.specs.Hits.{hit_at, overflows, successes}
 use Rattle.search_rules.specs.Free.{IsFree}
 use Rattle.search_rules.specs.Justified.{AreSupported, cycles_node, frames_of, HaveTallies, OpenRun}
@@ -69,25 +69,25 @@ none_on_stack same asking nested may = not_is (list_any (λ e. is_some (paths_at
 
 module _ {X F I R A T : Type 0} where
   -- a goal that none of these is
-  pub off_absent : (same : I → I → Bool) → ((x : I) → same x x ≡ true) → (goal : I) (items : List (StackEntry X I R A T × Run X F I R A T)) → list_any (λ s. same goal s.0.input) items ≡ false → IsOff (runs_of items) goal
+  pub off_absent : (same : I → I → Bool) → ((x : I) → same x x ≡ true) → (goal : I) (items : List (OpenGoal X F I R A T)) → list_any (λ s. same goal s.0.input) items ≡ false → IsOff (runs_of items) goal
   off_absent same own goal [] absent = tt
   off_absent same own goal (s ∷ below) absent =
       let parts = or_parts (same goal s.0.input) (list_any (λ t. same goal t.0.input) below) absent in
       (λ is. false≢true (sym parts.0 ∙ (ap (same goal) (sym is) ∙ own goal)), off_absent same own goal below parts.1)
 
   -- no lone goal is
-  pub off_lone : (same : I → I → Bool) (results : Store I (StoredResult X I R A T)) (goals : List I) (items : List (StackEntry X I R A T × Run X F I R A T)) → NoneIsLone same results goals items → (goal : I) → IsLone same results goal → IsOff (runs_of items) goal
+  pub off_lone : (same : I → I → Bool) (results : Store I (StoredResult X I R A T)) (goals : List I) (items : List (OpenGoal X F I R A T)) → NoneIsLone same results goals items → (goal : I) → IsLone same results goal → IsOff (runs_of items) goal
   off_lone same results goals [] none goal lone = tt
   off_lone same results goals (s ∷ below) none goal lone = (λ is. none.0 (subst (IsLone same results) is lone), off_lone same results goals below none.2 goal lone)
 
   -- nor is one that is nested in a result, if that is used over them
-  off_nested_at : (same : I → I → Bool) (nested : NestedPaths I) (items : List (StackEntry X I R A T × Run X F I R A T)) → list_any (λ (e : StackEntry X I R A T). is_some (paths_at same nested e.input)) (map (λ s. s.0) items) ≡ false → (goal : I) → IsSome (paths_at same nested goal) → IsOff (runs_of items) goal
+  off_nested_at : (same : I → I → Bool) (nested : NestedPaths I) (items : List (OpenGoal X F I R A T)) → list_any (λ (e : StackEntry X I R A T). is_some (paths_at same nested e.input)) (map (λ s. s.0) items) ≡ false → (goal : I) → IsSome (paths_at same nested goal) → IsOff (runs_of items) goal
   off_nested_at same nested [] absent goal there = tt
   off_nested_at same nested (s ∷ below) absent goal there =
       let parts = or_parts (is_some (paths_at same nested s.0.input)) (list_any (λ (e : StackEntry X I R A T). is_some (paths_at same nested e.input)) (map (λ t. t.0) below)) absent in
       (λ is. false≢true (sym parts.0 ∙ subst (λ g. IsSome (paths_at same nested g)) is there), off_nested_at same nested below parts.1 goal there)
 
-  pub off_nested : (same : I → I → Bool) (nested : NestedPaths I) (items : List (StackEntry X I R A T × Run X F I R A T)) → list_any (λ (e : StackEntry X I R A T). is_some (paths_at same nested e.input)) (reverse (map (λ s. s.0) items)) ≡ false → (goal : I) → IsSome (paths_at same nested goal) → IsOff (runs_of items) goal
+  pub off_nested : (same : I → I → Bool) (nested : NestedPaths I) (items : List (OpenGoal X F I R A T)) → list_any (λ (e : StackEntry X I R A T). is_some (paths_at same nested e.input)) (reverse (map (λ s. s.0) items)) ≡ false → (goal : I) → IsSome (paths_at same nested goal) → IsOff (runs_of items) goal
   off_nested same nested items absent =
       off_nested_at same nested items
       (list_any-IsPermutation (λ (e : StackEntry X I R A T). is_some (paths_at same nested e.input)) (map (λ s. s.0) items) (reverse (map (λ s. s.0) items)) (IsPermutation-reverse (map (λ s. s.0) items)) ∙ absent)
@@ -96,9 +96,9 @@ module _ {X F I R A T : Type 0} where
 
 module _ {X F I R A T : Type 0} (says : Verdicts R) (same : I → I → Bool) (by_value : (x y : I) → same x y ≡ true → x ≡ y) (nodes : List (CacheNode I R)) (results : Store I (StoredResult X I R A T)) (entries : Lists I (ProvisionalCacheEntry X I R A T)) where
   -- what it counts, and what is nested in it
-  module _ (entry : StackEntry X I R A T) (run : Run X F I R A T) (state : EntryState X I R A T) (tally : Tally) (below : List (StackEntry X I R A T × Run X F I R A T)) (run_is : run_of (record entry { state = state }, run) ≡ record (run_of (entry, run)) { tally = tally })
+  module _ (entry : StackEntry X I R A T) (run : Run X F I R A T) (state : EntryState X I R A T) (tally : Tally) (below : List (OpenGoal X F I R A T)) (run_is : run_of (record entry { state = state }, run) ≡ record (run_of (entry, run)) { tally = tally })
       (heads : (head : StackDepth) → IsSome (at_depth entry.state.heads head) → IsSome (at_depth tally.heads head)) where
-    abbrev changed : StackEntry X I R A T × Run X F I R A T
+    abbrev changed : OpenGoal X F I R A T
     changed = (record entry { state = state }, run)
 
     goes_on : GoesOn (run_of (entry, run)) (run_of changed)
@@ -122,12 +122,12 @@ module _ {X F I R A T : Type 0} (says : Verdicts R) (same : I → I → Bool) (b
         aside_leads says same nodes nodes (λ place goal is. is) (λ a v edges is. is) results results (λ goal lone. lone) (λ node. Unit {0}) entries entries (all_stay same entries) (run_of (entry, run)) (run_of changed) goes_on.follows (λ node older. tt)
         entry.state.nested_goals state.nested_goals grown (runs_of below)
 
-  module _ (old new : List (StackEntry X I R A T × Run X F I R A T)) where
+  module _ (old new : List (OpenGoal X F I R A T)) where
     module _ (step : PathKind) (required : ℕ) (overflow : Bool) (heads : Heads) (a : AnswersNewest step required overflow heads old new) where
       provisional_stays : a.state.provisional_result ≡ a.entry.state.provisional_result
       provisional_stays = ap (λ (s : EntryState X I R A T). s.provisional_result) a.takes.others
 
-      carried : (P : List (StackEntry X I R A T × Run X F I R A T) → List (StackEntry X I R A T × Run X F I R A T) → Type 0) → P old new → P ((a.entry, a.run) ∷ a.below) ((record a.entry { state = a.state }, a.run) ∷ a.below)
+      carried : (P : List (OpenGoal X F I R A T) → List (OpenGoal X F I R A T) → Type 0) → P old new → P ((a.entry, a.run) ∷ a.below) ((record a.entry { state = a.state }, a.run) ∷ a.below)
       carried P h = subst (P ((a.entry, a.run) ∷ a.below)) a.is (subst (λ l. P l new) a.was h)
 
       -- the stack is the same
@@ -179,7 +179,7 @@ module _ {X F I R A T : Type 0} (says : Verdicts R) (same : I → I → Bool) (b
 
         -- which it doesn't see behind, if the entry is older, and else was made for it
         module _ (goal : I) (entry : ProvisionalCacheEntry X I R A T) (heads_are : entry.heads ≡ heads) (there : Contains (entries_at same entries goal) entry) (some : IsDefinite says entry.result → IsSome entry.node) (older : RestOnOlder same entries (map cycles_node (runs_of old))) (h : AreSettledGoals says same nodes results entries None old) where
-          abbrev later : StackEntry X I R A T × Run X F I R A T
+          abbrev later : OpenGoal X F I R A T
           later = (record a.entry { state = a.state }, a.run)
 
           later_goes_on : GoesOn (run_of (a.entry, a.run)) (run_of later)
@@ -236,7 +236,7 @@ module _ {X F I R A T : Type 0} (says : Verdicts R) (same : I → I → Bool) (b
       pub stored_firsts : map cycles_node (runs_of old) ≡ map cycles_node (runs_of new)
       stored_firsts = ap (λ l. map cycles_node (runs_of l)) t.was ∙ sym (ap (λ l. map cycles_node (runs_of l)) t.is)
 
-      abbrev with_result : StackEntry X I R A T × Run X F I R A T
+      abbrev with_result : OpenGoal X F I R A T
       with_result = (record t.entry { state = with_nested_goals (with_depth t.entry.state hit.required_depth hit.encountered_overflow) t.nested }, t.run)
 
       abbrev IsOffThen : I → Type 0
@@ -279,7 +279,7 @@ module _ {X F I R A T : Type 0} (says : Verdicts R) (same : I → I → Bool) (b
               (λ other is definite. let one : r ≡ other = cc in off_node node leads (graph (subst (IsDefinite says) (sym one) definite)) other one)
 
   -- a goal that is found under evaluation answers by a node at which walks stop
-  pub leaf_stays_off : (items : List (StackEntry X I R A T × Run X F I R A T)) (r : R) (node : Option NodeId) → (IsDefinite says r → IsSomeAnd node (λ n. IsLeaf (stack_of (frames_of says (runs_of items))) n.0)) → AnswerStaysOff says same nodes results entries items (Answer r) node
+  pub leaf_stays_off : (items : List (OpenGoal X F I R A T)) (r : R) (node : Option NodeId) → (IsDefinite says r → IsSomeAnd node (λ n. IsLeaf (stack_of (frames_of says (runs_of items))) n.0)) → AnswerStaysOff says same nodes results entries items (Answer r) node
   leaf_stays_off [] r node leaf = tt
   leaf_stays_off (s ∷ below) r node leaf = λ other is definite.
       let one : r ≡ other = cc in
@@ -291,14 +291,14 @@ module _ {X F I R A T : Type 0} (says : Verdicts R) (same : I → I → Bool) (b
       at (Some n) other h = stops_here (shapes_of says nodes) (verdict_of says other) (stack_of (frames_of says (runs_of (s ∷ below)))) (IsStop same entries (run_of s)) (HasSuchGoal nodes (IsAside same results entries (run_of s) s.0.state.nested_goals (runs_of below))) n.0 (inl h)
 
   -- a reply that is no answer
-  pub begin_stays_off : (items : List (StackEntry X I R A T × Run X F I R A T)) (reply : Reply R) (node : Option NodeId) → ((r : R) → reply ≡ Answer r → ⊥) → AnswerStaysOff says same nodes results entries items reply node
+  pub begin_stays_off : (items : List (OpenGoal X F I R A T)) (reply : Reply R) (node : Option NodeId) → ((r : R) → reply ≡ Answer r → ⊥) → AnswerStaysOff says same nodes results entries items reply node
   begin_stays_off [] reply node none = tt
   begin_stays_off (s ∷ below) reply node none = λ r is definite. absurd (none r is)
 
   -- ---- a goal is pushed
 
   pub pushed_goals :
-      (goal : I) (kind : PathKind) (depth : AvailableDepth) (own : NodeId) (frame : F) (fate : Fate R) (items : List (StackEntry X I R A T × Run X F I R A T)) → fate ≡ becomes.Stored → IsOff (runs_of items) goal → ((other : I) (entry : ProvisionalCacheEntry X I R A T) (node : ℕ) → HasEntry same entries other entry node → node < own.0) → AreSettledGoals says same nodes results entries (Some own.0) items
+      (goal : I) (kind : PathKind) (depth : AvailableDepth) (own : NodeId) (frame : F) (fate : Fate R) (items : List (OpenGoal X F I R A T)) → fate ≡ becomes.Stored → IsOff (runs_of items) goal → ((other : I) (entry : ProvisionalCacheEntry X I R A T) (node : ℕ) → HasEntry same entries other entry node → node < own.0) → AreSettledGoals says same nodes results entries (Some own.0) items
       → AreSettledGoals says same nodes results entries None ((first_entry goal kind depth own, record { frame = frame; node = own; progress = no_record; finished_runs = 0; met_overflow_before = false; candidates = []; fate = fate }) ∷ items)
   pushed_goals goal kind depth own frame fate items stored apart older h = (
     record {
@@ -314,14 +314,14 @@ module _ {X F I R A T : Type 0} (says : Verdicts R) (same : I → I → Bool) (b
   )
 
 -- the newest goal began before a node that is added
-pub newest_before : {X F I R A T : Type 0} (says : Verdicts R) (nodes : List (CacheNode I R)) (goals : List (StackEntry X I R A T × Run X F I R A T)) → AreSupported says nodes (runs_of goals) → (own : ℕ) → own ≡ length nodes → AreBefore own goals
+pub newest_before : {X F I R A T : Type 0} (says : Verdicts R) (nodes : List (CacheNode I R)) (goals : List (OpenGoal X F I R A T)) → AreSupported says nodes (runs_of goals) → (own : ℕ) → own ≡ length nodes → AreBefore own goals
 newest_before says nodes [] supported own at = tt
 newest_before says nodes (s ∷ below) supported own at =
     let within = node_within nodes (cycles_node (run_of s)) s.0.input (leads_home nodes (run_of s) s.0.state.node supported.0.lead_home) in
     omega (arith, within, at)
 
 -- entries rest on older goals, also where a goal is pushed
-module _ {X F I R A T : Type 0} (says : Verdicts R) (same : I → I → Bool) (scripts : I → List (Reply R) → Request I R) (nodes : List (CacheNode I R)) (goals : List (StackEntry X I R A T × Run X F I R A T)) (entries : Lists I (ProvisionalCacheEntry X I R A T)) (ready : AreReady says same scripts nodes (runs_of goals) entries) where
+module _ {X F I R A T : Type 0} (says : Verdicts R) (same : I → I → Bool) (scripts : I → List (Reply R) → Request I R) (nodes : List (CacheNode I R)) (goals : List (OpenGoal X F I R A T)) (entries : Lists I (ProvisionalCacheEntry X I R A T)) (ready : AreReady says same scripts nodes (runs_of goals) entries) where
   pub pushed_older : HaveTallies (runs_of goals) → (own : ℕ) → RestOnOlder same entries (map cycles_node (runs_of goals)) → RestOnOlder same entries (own ∷ map cycles_node (runs_of goals))
   pushed_older tallies own older goal entry node has head some = (
     (λ here.

@@ -11,7 +11,7 @@ use Rattle.open_graphs.specs.Use as theory_use
 use Rattle.open_graphs.proofs.Keep.{leaf_cases}
 use Rattle.open_goals.specs.NestedGoals.{TakesNestedGoals}
 use Rattle.search_rules.specs.Apart.{StandApart}
-use Rattle.search_rules.specs.Below.{Answer, AnswersNewest, at_depth, CacheNode, heads_shape, IsDefinite, IsNodeOf, Lists, NestsAnswer, NodeId, path_kind, PathKind, paths_at, ProvisionalCacheEntry, rank_of, Reply, Request, Run, shapes_of, stack_of, StackEntry, Store, StoredResult, Use, UsesNo, verdict_of, Verdicts}
+use Rattle.search_rules.specs.Below.{Answer, AnswersNewest, at_depth, CacheNode, heads_shape, IsDefinite, IsNodeOf, Lists, NestsAnswer, NodeId, path_kind, PathKind, paths_at, ProvisionalCacheEntry, rank_of, Reply, Request, shapes_of, stack_of, Store, OpenGoal, StoredResult, Use, UsesNo, verdict_of, Verdicts}
 use Rattle.search_rules.specs.Justified.{AreJustified, AreSupported, cycles_node, frame_of, frames_of, OpenRun}
 use Rattle.search_rules.specs.Leads.{HasSuchGoal, WalksToGoals, StepOn}
 use Rattle.search_rules.specs.Lone.{IsLone}
@@ -34,7 +34,7 @@ use Rattle.search_rules.proofs.entries.LeftOver.{first_head}
 use Rattle.search_rules.proofs.justified.Justified.{below_is_justified, popped, used_at}
 
 module _ {X F I R A T : Type 0} (says : Verdicts R) (same : I → I → Bool) (by_value : (x y : I) → same x y ≡ true → x ≡ y) (scripts : I → List (Reply R) → Request I R) (nodes after : List (CacheNode I R)) (results later : Store I (StoredResult X I R A T)) (stay : (goal : I) → IsLone same results goal → IsLone same later goal) (entries more : Lists I (ProvisionalCacheEntry X I R A T))
-    (s : StackEntry X I R A T × Run X F I R A T) (below : List (StackEntry X I R A T × Run X F I R A T)) (h : AreJustified says nodes (runs_of (s ∷ below))) (ready : AreReady says same scripts nodes (runs_of (s ∷ below)) entries) (r : R) (target : Option NodeId) (ended : HasResultNode says nodes after s.0.state.provisional_result s.1.node s.0.state.node s.1.progress r target) (definite : IsDefinite says r)
+    (s : OpenGoal X F I R A T) (below : List (OpenGoal X F I R A T)) (h : AreJustified says nodes (runs_of (s ∷ below))) (ready : AreReady says same scripts nodes (runs_of (s ∷ below)) entries) (r : R) (target : Option NodeId) (ended : HasResultNode says nodes after s.0.state.provisional_result s.1.node s.0.state.node s.1.progress r target) (definite : IsDefinite says r)
     (apart : StandApart same results (s ∷ below) entries) (goals : AreSettledGoals says same nodes results entries None (s ∷ below)) (older : RestOnOlder same entries (map cycles_node (runs_of (s ∷ below)))) (again : (earlier : R) → s.0.state.provisional_result ≡ Some earlier → verdict_of says earlier ≡ verdict_of says r)
     (left : LeavesEntries same (cycles_node (run_of s)) s.0.input r entries more) where
   abbrev Left : I → Type 0
@@ -106,17 +106,17 @@ module _ {X F I R A T : Type 0} (says : Verdicts R) (same : I → I → Bool) (b
 
     -- ---- the goal below it takes its answer over
 
-    module _ (new : List (StackEntry X I R A T × Run X F I R A T)) (step : PathKind) (required : ℕ) (overflow : Bool) (a : AnswersNewest step required overflow s.0.state.heads below new) (nests : NestsAnswer same step s.0.state.nested_goals below new) (ready_then : AreReady says same scripts after (runs_of new) more) where
+    module _ (new : List (OpenGoal X F I R A T)) (step : PathKind) (required : ℕ) (overflow : Bool) (a : AnswersNewest step required overflow s.0.state.heads below new) (nests : NestsAnswer same step s.0.state.nested_goals below new) (ready_then : AreReady says same scripts after (runs_of new) more) where
       none_nested : s.0.state.nested_goals ≡ [] → s.0.state.heads ≡ []
       none_nested empty = elim goals.0.itself [
         | inl there ↦ absurd (false≢true (subst (λ n. IsSome (paths_at same n s.0.input)) empty there))
         | inr w ↦ headless s.0 w.1
       ]
 
-      abbrev parent : StackEntry X I R A T × Run X F I R A T
+      abbrev parent : OpenGoal X F I R A T
       parent = (record a.entry { state = a.state }, a.run)
 
-      abbrev before : StackEntry X I R A T × Run X F I R A T
+      abbrev before : OpenGoal X F I R A T
       before = (a.entry, a.run)
 
       parent_settled : AreSettledGoals says same after later more (Some (cycles_node (run_of s))) (parent ∷ a.below)

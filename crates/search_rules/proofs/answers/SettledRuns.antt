@@ -7,7 +7,7 @@ use Rattle.open_graphs.specs.Graph as theory
 use Rattle.open_graphs.proofs.Runs.{answered_grows}
 use Rattle.global_cache.proofs.NodeLists.{Grown-appended, KeepsGoals-appended}
 use Rattle.search_rules.specs.Apart.{StandApart}
-use Rattle.search_rules.specs.Below.{CacheNode, Heads, IsDefinite, IsNodeOf, is_in_cycle, KeepsGoals, Lists, NodeId, open_node, ProvisionalCacheEntry, rerun_with, Run, RunRecord, shapes_of, some_heads, stack_of, StackEntry, Store, StoredResult, verdict_of, Verdicts, with_no_record}
+use Rattle.search_rules.specs.Below.{CacheNode, Heads, IsDefinite, IsNodeOf, is_in_cycle, KeepsGoals, Lists, NodeId, open_node, ProvisionalCacheEntry, rerun_with, RunRecord, shapes_of, some_heads, stack_of, StackEntry, OpenGoal, Store, StoredResult, verdict_of, Verdicts, with_no_record}
 use Rattle.search_rules.specs.Justified.{AreJustified, cycles_node, frame_of, frames_of}
 use Rattle.search_rules.specs.Leads.{WalksToGoals}
 use Rattle.search_rules.specs.Older.{HasEntry, IsStop, RestOnOlder}
@@ -48,7 +48,7 @@ there P None at = absurd at
 there P (Some x) at = refl
 
 module _ {X F I R A T : Type 0} (says : Verdicts R) (same : I → I → Bool) (nodes after : List (CacheNode I R)) (results : Store I (StoredResult X I R A T)) (entries : Lists I (ProvisionalCacheEntry X I R A T))
-    (s : StackEntry X I R A T × Run X F I R A T) (below : List (StackEntry X I R A T × Run X F I R A T)) (h : AreJustified says nodes (runs_of (s ∷ below))) (r : R) (target : Option NodeId) (ended : HasResultNode says nodes after s.0.state.provisional_result s.1.node s.0.state.node s.1.progress r target) (definite : IsDefinite says r)
+    (s : OpenGoal X F I R A T) (below : List (OpenGoal X F I R A T)) (h : AreJustified says nodes (runs_of (s ∷ below))) (r : R) (target : Option NodeId) (ended : HasResultNode says nodes after s.0.state.provisional_result s.1.node s.0.state.node s.1.progress r target) (definite : IsDefinite says r)
     (apart : StandApart same results (s ∷ below) entries) (goals : AreSettledGoals says same nodes results entries None (s ∷ below)) (again : (earlier : R) → s.0.state.provisional_result ≡ Some earlier → verdict_of says earlier ≡ verdict_of says r) where
   pub ends : EndsWithNode says nodes after (run_of s) (runs_of below) r target
   ends = rebases says nodes after s.0 s.1 below h r target ended
@@ -88,7 +88,7 @@ module _ {X F I R A T : Type 0} (says : Verdicts R) (same : I → I → Bool) (n
     abbrev opened : List (CacheNode I R)
     opened = after ++ open_node s.0.input ∷ []
 
-    abbrev rerun : StackEntry X I R A T × Run X F I R A T
+    abbrev rerun : OpenGoal X F I R A T
     rerun = rerun_with r lead frame own (with_no_record s)
 
     pub opened_kept : KeepsGoals nodes opened

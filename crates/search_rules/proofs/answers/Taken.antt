@@ -2,13 +2,13 @@
 use Rattle.std.proofs.Common.{ℕ, suc, Bool, List, ◌∷◌, length, Option, sym, ◌∙◌, subst}
 use Rattle.std.specs.Option.{IsSomeAnd}
 use Rattle.std.proofs.lemmas.List.{length-map}
-use Rattle.search_rules.specs.Below.{TakesIn, stack_of, PathKind, Heads, heads_shape, rank_of, NodeId, Answer, StackEntry, CacheNode, IsDefinite, verdict_of, Run, AnswersNewest, Verdicts}
+use Rattle.search_rules.specs.Below.{TakesIn, stack_of, PathKind, Heads, heads_shape, rank_of, NodeId, Answer, OpenGoal, CacheNode, IsDefinite, verdict_of, AnswersNewest, Verdicts}
 use Rattle.search_rules.specs.Words.{OpenRun, NewestAsks, AreJustified, IsFit, MayAnswer, asked_now, frames_of, run_of, runs_of, heads_of, tally_of, LieBelow}
 use Rattle.search_rules.proofs.justified.Finishing.{answer_fits, heads_come}
 use Rattle.search_rules.proofs.justified.Justified.{stack_length}
 use Rattle.search_rules.proofs.answers.Kept.{taken_run}
 
-module _ {X F I R A T : Type 0} (says : Verdicts R) (nodes : List (CacheNode I R)) (old new : List (StackEntry X I R A T × Run X F I R A T)) (step : PathKind) (required : ℕ) (overflow : Bool) (answer : Heads) (a : AnswersNewest step required overflow answer old new) where
+module _ {X F I R A T : Type 0} (says : Verdicts R) (nodes : List (CacheNode I R)) (old new : List (OpenGoal X F I R A T)) (step : PathKind) (required : ℕ) (overflow : Bool) (answer : Heads) (a : AnswersNewest step required overflow answer old new) where
   -- the newest goal then
   abbrev pub later_run : OpenRun I R
   later_run = record (run_of (a.entry, a.run)) { tally = tally_of a.state a.run.candidates }

@@ -7,7 +7,7 @@ use Rattle.open_graphs.proofs.Runs.{answered_grows}
 use Rattle.open_graphs.proofs.States.{verdict_cases}
 use Rattle.global_cache.proofs.NodeLists.{AreRuns-ended}
 use Rattle.search_context.proofs.Rules.{KeepsRule}
-use Rattle.search_rules.specs.Below.{AreRuns, CacheNode, edges_of, EndedRun, entries_at, HeadUsages, heads_shape, IsDefinite, IsNodeOf, Lists, Neither, No, NodeId, Overlap, path_kind, PathKind, ProvisionalCacheEntry, Question, rank_of, RebaseReason, Reply, Request, Run, shapes_of, stack_of, StackEntry, Store, StoredResult, Use, Verdict, verdict_of, Verdicts, with_run, Yes}
+use Rattle.search_rules.specs.Below.{AreRuns, CacheNode, edges_of, EndedRun, entries_at, HeadUsages, heads_shape, IsDefinite, IsNodeOf, Lists, Neither, No, NodeId, Overlap, path_kind, PathKind, ProvisionalCacheEntry, Question, rank_of, RebaseReason, Reply, Request, shapes_of, stack_of, Store, OpenGoal, StoredResult, Use, Verdict, verdict_of, Verdicts, with_run, Yes}
 use Rattle.search_rules.specs.EndOfRun.{IsEndOfRun, Limited, Repeats, Stable, Unused}
 use Rattle.search_rules.specs.Justified.{AreJustified, cycles_node, frame_of, frames_of, OpenRun, verdict_shape}
 use Rattle.search_rules.specs.Runs.{EndsNewest, EndsRun, HasResultNode, run_of, runs_of}
@@ -39,7 +39,7 @@ sorted false false one = record { verdict = Neither; yes = (λ is. absurd cc, λ
 
 module _ {X F I R A T : Type 0} (says : Verdicts R) (same : I → I → Bool) (nodes : List (CacheNode I R)) (results : Store I (StoredResult X I R A T)) (entries : Lists I (ProvisionalCacheEntry X I R A T)) where
   -- no two of the goals are the same
-  distinct_goals : (above : Option ℕ) (goals : List (StackEntry X I R A T × Run X F I R A T)) → AreSettledGoals says same nodes results entries above goals → HaveDistinctGoals (runs_of goals)
+  distinct_goals : (above : Option ℕ) (goals : List (OpenGoal X F I R A T)) → AreSettledGoals says same nodes results entries above goals → HaveDistinctGoals (runs_of goals)
   distinct_goals above [] h i j o p at at' is = absurd (no_answers i o at)
   distinct_goals above (s ∷ below) h zero zero o p at at' is = refl
   distinct_goals above (s ∷ below) h zero (suc j) o p at at' is = let one : run_of s ≡ o = cc in absurd (off_at (runs_of below) s.0.input h.0.apart j p at' (sym is ∙ ap (λ (x : OpenRun I R). x.goal) (sym one)))
@@ -50,7 +50,7 @@ module _ {X F I R A T : Type 0} (says : Verdicts R) (one_sort : (r : R) → says
     (proves refutes : I → List (Question I) → Type 0)
     (clash : (goal : I) (held failed : List (Question I)) → proves goal held → refutes goal failed → Overlap held failed)
     (yes_is_proved : KeepsRule says.is_yes scripts proves) (no_is_refuted : KeepsRule says.is_no scripts refutes)
-    (same : I → I → Bool) (results : Store I (StoredResult X I R A T)) (s : StackEntry X I R A T × Run X F I R A T) (below : List (StackEntry X I R A T × Run X F I R A T))
+    (same : I → I → Bool) (results : Store I (StoredResult X I R A T)) (s : OpenGoal X F I R A T) (below : List (OpenGoal X F I R A T))
     (entries : Lists I (ProvisionalCacheEntry X I R A T)) (h : AreJustified says nodes (runs_of (s ∷ below))) (ready : AreReady says same scripts nodes (runs_of (s ∷ below)) entries) (apart : StandApart same results (s ∷ below) entries) (goals : AreSettledGoals says same nodes results entries None (s ∷ below)) (r : R) (came : EndsNewest says scripts (s ∷ below) r) (definite : IsDefinite says r)
     (earlier : R) (was : s.0.state.provisional_result ≡ Some earlier) (definite_then : IsDefinite says earlier) where
   run_ended : EndsRun says scripts nodes s.1.node s.1.progress r

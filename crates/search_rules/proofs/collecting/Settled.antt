@@ -8,7 +8,7 @@ use Rattle.open_graphs.specs.Use as theory_use
 use Rattle.open_graphs.proofs.Collecting.{edge_back, finished_still, walk_is_live}
 use Rattle.open_graphs.proofs.Walks.{carried}
 use Rattle.global_cache.specs.Collected.{Collected}
-use Rattle.search_rules.specs.Below.{CacheNode, Entry, entries_at, Lists, NodeId, ProvisionalCacheEntry, Reply, Run, shapes_of, StackEntry, Store, StoredResult, Success, Verdicts}
+use Rattle.search_rules.specs.Below.{CacheNode, Entry, entries_at, Lists, NodeId, ProvisionalCacheEntry, Reply, shapes_of, Store, OpenGoal, StoredResult, Success, Verdicts}
 use Rattle.search_rules.specs.Calls.{Call}
 use Rattle.search_rules.specs.Justified.{cycles_node, OpenRun}
 use Rattle.search_rules.specs.Leads.{WalksToGoals, StepOn}
@@ -72,7 +72,7 @@ module _ {I R : Type 0} (says : Verdicts R) (live : ℕ → Bool) (old new : Lis
           at (Some n) is = is
 
       module _ {F : Type 0} where
-        goal_stays : (above : Option ℕ) (s : StackEntry X I R A T × Run X F I R A T) (below : List (StackEntry X I R A T × Run X F I R A T)) → IsLiveRun live (run_of s) → IsSettledGoal says same old results entries above s below → IsSettledGoal says same new results entries above s below
+        goal_stays : (above : Option ℕ) (s : OpenGoal X F I R A T) (below : List (OpenGoal X F I R A T)) → IsLiveRun live (run_of s) → IsSettledGoal says same old results entries above s below → IsSettledGoal says same new results entries above s below
         goal_stays above s below are h = record {
           off = record {
             answers = λ i a at counts. lead_stays _ _ _ _ a.edge.target (are.answers i a at) (h.off.answers i a at counts);
@@ -86,11 +86,11 @@ module _ {I R : Type 0} (says : Verdicts R) (live : ℕ → Bool) (old new : Lis
           stored = h.stored;
         }
 
-        goals_stay : (above : Option ℕ) (goals : List (StackEntry X I R A T × Run X F I R A T)) → AreLiveRuns live (runs_of goals) → AreSettledGoals says same old results entries above goals → AreSettledGoals says same new results entries above goals
+        goals_stay : (above : Option ℕ) (goals : List (OpenGoal X F I R A T)) → AreLiveRuns live (runs_of goals) → AreSettledGoals says same old results entries above goals → AreSettledGoals says same new results entries above goals
         goals_stay above [] are h = tt
         goals_stay above (s ∷ below) are h = (goal_stays above s below are.0 h.0, goals_stay (Some (cycles_node (run_of s))) below are.1 h.1)
 
-        pub settling_stay : (call : Call I) (goals : List (StackEntry X I R A T × Run X F I R A T)) (met : Bool) → AreLiveResults live same results → AreLiveRuns live (runs_of goals) → IsSettling says same old results entries call goals met → IsSettling says same new results entries call goals met
+        pub settling_stay : (call : Call I) (goals : List (OpenGoal X F I R A T)) (met : Bool) → AreLiveResults live same results → AreLiveRuns live (runs_of goals) → IsSettling says same old results entries call goals met → IsSettling says same new results entries call goals met
         settling_stay call goals met results_are runs_are h = record {
           unmet = h.unmet;
           settled = settled_stay call.goals results_are h.settled;
@@ -99,7 +99,7 @@ module _ {I R : Type 0} (says : Verdicts R) (live : ℕ → Bool) (old new : Lis
           older = h.older;
         }
 
-        pub answer_stays : (goals : List (StackEntry X I R A T × Run X F I R A T)) (reply : Reply R) (target : Option NodeId) → IsLiveNode live target → AnswerStaysOff says same old results entries goals reply target → AnswerStaysOff says same new results entries goals reply target
+        pub answer_stays : (goals : List (OpenGoal X F I R A T)) (reply : Reply R) (target : Option NodeId) → IsLiveNode live target → AnswerStaysOff says same old results entries goals reply target → AnswerStaysOff says same new results entries goals reply target
         answer_stays [] reply target is h = tt
         answer_stays (s ∷ below) reply target is h = λ r answers definite.
             some_stays says live old new collected _ _ (λ n at leads. lead_stays _ _ _ _ n.0 at leads) target is (h r answers definite)

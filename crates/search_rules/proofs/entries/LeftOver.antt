@@ -2,7 +2,7 @@
 -- below it takes over.
 use Rattle.std.proofs.Common.{◌≡◌, ◌≢◌, ℕ, Bool, List, [], ◌∷◌, length, IsSome, refl, sym, subst, ◌⊎◌, inl, inr, arith}
 use Rattle.std.proofs.lemmas.List.{length-map}
-use Rattle.search_rules.specs.Below.{StackDepth, PathKind, Heads, at_depth, Request, Reply, StackEntry, EvaluationResult, ProvisionalCacheEntry, CacheNode, Run, Next, with_depth, with_nested_goals, AnswersNewest, Verdicts}
+use Rattle.search_rules.specs.Below.{StackDepth, PathKind, Heads, at_depth, Request, Reply, OpenGoal, EvaluationResult, ProvisionalCacheEntry, CacheNode, Next, with_depth, with_nested_goals, AnswersNewest, Verdicts}
 use Rattle.search_rules.specs.Words.{OpenRun, HaveTallies, GivesAnswer, IsHead, IsLeftOver, IsReady, run_of, runs_of, LieBelow, counted, tally_of}
 use Rattle.search_rules.proofs.HeadOrder.{at_here}
 use Rattle.search_rules.proofs.counts.Tallies.{counted_other, counted_own}
@@ -25,7 +25,7 @@ module _ {I R : Type 0} (o : OpenRun I R) (below : List (OpenRun I R)) where
   own_head tallies head here (inr later) = let lower = is_below below tallies head later in absurd (omega (arith, here, lower))
 
 -- a goal that takes an answer over takes over its heads
-pub heads_taken : {X F I R A T : Type 0} (step : PathKind) (required : ℕ) (overflow : Bool) (answer : Heads) (old new : List (StackEntry X I R A T × Run X F I R A T)) → AnswersNewest step required overflow answer old new → (head : StackDepth) → IsHead (runs_of old) head ⊎ IsSome (at_depth answer head) → IsHead (runs_of new) head
+pub heads_taken : {X F I R A T : Type 0} (step : PathKind) (required : ℕ) (overflow : Bool) (answer : Heads) (old new : List (OpenGoal X F I R A T)) → AnswersNewest step required overflow answer old new → (head : StackDepth) → IsHead (runs_of old) head ⊎ IsSome (at_depth answer head) → IsHead (runs_of new) head
 heads_taken step required overflow answer old new a head there =
     subst (λ l. IsHead (runs_of l) head) (sym a.is) (at (subst (λ l. IsHead (runs_of l) head ⊎ IsSome (at_depth answer head)) a.was there))
   where
@@ -45,7 +45,7 @@ first_head (e ∷ es) some = (e.0, subst IsSome (sym (at_here e es e.0 refl)) re
 -- ---- entries that are left
 
 -- such an entry may be used once the answer with those heads was given
-pub left_over_ready : {X F I R A T : Type 0} (says : Verdicts R) (scripts : I → List (Reply R) → Request I R) (nodes : List (CacheNode I R)) (step : PathKind) (answer : EvaluationResult X I R A T) (below later : List (StackEntry X I R A T × Run X F I R A T)) (next : Next R) → LieBelow (length below) answer.heads → GivesAnswer step answer below next later → (goal : I) (entry : ProvisionalCacheEntry X I R A T) → IsLeftOver says scripts nodes (runs_of below) answer.heads goal entry → IsReady says scripts nodes (runs_of later) goal entry
+pub left_over_ready : {X F I R A T : Type 0} (says : Verdicts R) (scripts : I → List (Reply R) → Request I R) (nodes : List (CacheNode I R)) (step : PathKind) (answer : EvaluationResult X I R A T) (below later : List (OpenGoal X F I R A T)) (next : Next R) → LieBelow (length below) answer.heads → GivesAnswer step answer below next later → (goal : I) (entry : ProvisionalCacheEntry X I R A T) → IsLeftOver says scripts nodes (runs_of below) answer.heads goal entry → IsReady says scripts nodes (runs_of later) goal entry
 left_over_ready says scripts nodes step answer [] later next lower given goal entry left =
     let first = first_head entry.heads left.some in
     absurd (elim (left.are_heads first.0 first.1) [ inl none ↦ none | inr own ↦ (let limit = lower first.0 own in omega (arith, limit)) ])

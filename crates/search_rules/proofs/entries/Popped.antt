@@ -5,7 +5,7 @@ use Rattle.std.proofs.lemmas.Bool.{false≢true}
 use Rattle.std.proofs.lemmas.List.{length-map}
 use Rattle.std.proofs.lemmas.List.Elements.{All-cons, All-nil}
 use Rattle.open_graphs.specs.Graph as theory
-use Rattle.search_rules.specs.Below.{IsTrueReason, path_kind, AfterPop, Lower, stack_of, StackDepth, CycleHead, at_depth, highest, IsRising, heads_shape, rank_of, NodeId, Request, Reply, StackEntry, ProvisionalCacheEntry, RebaseReason, CacheNode, HasNoRank, rebased, changed_for, verdict_of, Run, Verdicts}
+use Rattle.search_rules.specs.Below.{IsTrueReason, path_kind, AfterPop, Lower, stack_of, StackDepth, CycleHead, at_depth, highest, IsRising, heads_shape, rank_of, NodeId, Request, Reply, OpenGoal, ProvisionalCacheEntry, RebaseReason, CacheNode, HasNoRank, rebased, changed_for, verdict_of, Verdicts}
 use Rattle.open_graphs.proofs.Rebased.{rebased_is_after_pop}
 use Rattle.search_rules.specs.Words.{AreJustified, frame_of, frames_of, depths_of, highest_depth, entry_shape, reason_shape, IsHead, IsLeftOver, IsReady, final_answer, entries_for, entry_of, run_of, runs_of, LieBelow}
 use Rattle.search_rules.proofs.answers.Cycles.{path_kind_is}
@@ -18,7 +18,7 @@ use Rattle.search_rules.proofs.rebasing.Rule.{are_depths, goal_rebased, highest_
 use Rattle.search_rules.proofs.rebasing.Left.{LeavesEntry, leaves_entry}
 use Rattle.search_rules.proofs.rebasing.Rising.{rebased_rising}
 
-module _ {X F I R A T : Type 0} (says : Verdicts R) (scripts : I → List (Reply R) → Request I R) (nodes after : List (CacheNode I R)) (s : StackEntry X I R A T × Run X F I R A T) (below : List (StackEntry X I R A T × Run X F I R A T)) (r : R) (target : Option NodeId) (h : AreJustified says nodes (runs_of (s ∷ below))) (rebases : EndsWithNode says nodes after (run_of s) (runs_of below) r target) where
+module _ {X F I R A T : Type 0} (says : Verdicts R) (scripts : I → List (Reply R) → Request I R) (nodes after : List (CacheNode I R)) (s : OpenGoal X F I R A T) (below : List (OpenGoal X F I R A T)) (r : R) (target : Option NodeId) (h : AreJustified says nodes (runs_of (s ∷ below))) (rebases : EndsWithNode says nodes after (run_of s) (runs_of below) r target) where
   many : length (runs_of below) ≡ length below
   many = length-map below run_of
 
@@ -77,7 +77,7 @@ module _ {X F I R A T : Type 0} (says : Verdicts R) (scripts : I → List (Reply
       after_pop definite n =
           rebased_is_after_pop (reason_shape reason) (stack_of (frames_of says (runs_of below))) (frame_of says (run_of s)).entry (depths_of entry.heads) (depths_of s.0.state.heads) (verdict_of says r) (heads_shape s.0.state.heads) (entry_shape says entry n) (entry_shape says later n)
           (rebasable says (reverse (map (λ s. s.0) below)) s.0 (stack_of (frames_of says (runs_of below))) (frame_of says (run_of s)).entry (on_stack_many below ∙ sym theory_many) lower_real reason (verdict_of says r) entry
-          (record { some = ready.some; within = all_at_depths (λ head. head.0 ≤ length (reverse (map (λ (t : StackEntry X I R A T × Run X F I R A T). t.0) below))) entry.heads within_real }) ready.rising is_true n)
+          (record { some = ready.some; within = all_at_depths (λ head. head.0 ≤ length (reverse (map (λ (t : OpenGoal X F I R A T). t.0) below))) entry.heads within_real }) ready.rising is_true n)
           definite
           (goal_rebased says s below lower propagated overflow unsure overflow_unsure reason entry later n ready.some ready.rising is)
 

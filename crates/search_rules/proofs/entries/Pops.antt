@@ -3,7 +3,7 @@ use Rattle.std.proofs.Common.{◌≡◌, Bool, ◌&&◌, if◌then◌else◌, tr
 use Rattle.std.specs.List.{cons_option, filter_map}
 use Rattle.std.proofs.lemmas.List.Elements.{All-append, All-cons, All-head, All-nil, All-tail, All-weaker}
 use Rattle.open_graphs.specs.Graph as theory
-use Rattle.search_rules.specs.Below.{CxOf, DelegateOf, IsNeither, verdicts, IsRising, NodeId, Request, Reply, StackEntry, ProvisionalCacheEntry, RebaseReason, CacheNode, Lists, entries_at, rebased, changed_for, verdict_of, Run, Next, Verdicts}
+use Rattle.search_rules.specs.Below.{CxOf, DelegateOf, IsNeither, verdicts, IsRising, NodeId, Request, Reply, OpenGoal, StackEntry, ProvisionalCacheEntry, RebaseReason, CacheNode, Lists, entries_at, rebased, changed_for, verdict_of, Next, Verdicts}
 use Rattle.search_rules.specs.Words.{AreJustified, GivesAnswer, AreReady, HasReason, IsLeftOver, IsNewestUnranked, IsReady, LeavesReady, final_answer, entries_for, rebased_for, run_of, runs_of}
 use Rattle.search_rules.proofs.justified.Finishing.{neither_is, rebases}
 use Rattle.search_rules.proofs.justified.Justified.{EndsWithNode}
@@ -19,7 +19,7 @@ all_given P Q f gives (x ∷ xs) all = at (f x) refl (all_given P Q f gives xs (
     at None none rest = subst (λ o. All Q (cons_option o (filter_map f xs))) (sym none) rest
     at (Some y) some rest = subst (λ o. All Q (cons_option o (filter_map f xs))) (sym some) (All-cons Q y (filter_map f xs) (gives x y (All-head P x xs all) some) rest)
 
-module _ {X F I R A T : Type 0} (says : Verdicts R) (same : I → I → Bool) (by_value : (x y : I) → same x y ≡ true → x ≡ y) (scripts : I → List (Reply R) → Request I R) (nodes after : List (CacheNode I R)) (s : StackEntry X I R A T × Run X F I R A T) (below : List (StackEntry X I R A T × Run X F I R A T)) (r : R) (target : Option NodeId) (h : AreJustified says nodes (runs_of (s ∷ below))) (rebases : EndsWithNode says nodes after (run_of s) (runs_of below) r target) (propagated : I → A → R) (overflow : I → R) (unsure : (goal : I) (info : A) → verdict_of says (propagated goal info) ≡ theory.Neither) (overflow_unsure : (goal : I) → verdict_of says (overflow goal) ≡ theory.Neither) (reason : Option (RebaseReason X I R A T)) (holds : HasReason says reason (s ∷ below) r) where
+module _ {X F I R A T : Type 0} (says : Verdicts R) (same : I → I → Bool) (by_value : (x y : I) → same x y ≡ true → x ≡ y) (scripts : I → List (Reply R) → Request I R) (nodes after : List (CacheNode I R)) (s : OpenGoal X F I R A T) (below : List (OpenGoal X F I R A T)) (r : R) (target : Option NodeId) (h : AreJustified says nodes (runs_of (s ∷ below))) (rebases : EndsWithNode says nodes after (run_of s) (runs_of below) r target) (propagated : I → A → R) (overflow : I → R) (unsure : (goal : I) (info : A) → verdict_of says (propagated goal info) ≡ theory.Neither) (overflow_unsure : (goal : I) → verdict_of says (overflow goal) ≡ theory.Neither) (reason : Option (RebaseReason X I R A T)) (holds : HasReason says reason (s ∷ below) r) where
   -- an entry of the goal that is left
   abbrev pub IsLeftOf : I → ProvisionalCacheEntry X I R A T → Type 0
   IsLeftOf = IsLeft says scripts nodes after s below r target h rebases
@@ -47,7 +47,7 @@ module _ {X F I R A T : Type 0} (says : Verdicts R) (same : I → I → Bool) (b
     pub rebased_ready :
         ((goal : I) → entries_at same new goal ≡ rebased_for (propagated goal) (overflow goal) reason (reverse (map (λ s. s.0) below)) s.0 (entries_at same old goal) ++ (if enabled && same s.0.input goal then entries_for (reverse (map (λ s. s.0) below)) s.0.step_kind_from_parent (final_answer s r target) else []))
         → AreReady says same scripts nodes (runs_of (s ∷ below)) old
-        → (next : Next R) (later : List (StackEntry X I R A T × Run X F I R A T)) → GivesAnswer s.0.step_kind_from_parent (final_answer s r target) below next later
+        → (next : Next R) (later : List (OpenGoal X F I R A T)) → GivesAnswer s.0.step_kind_from_parent (final_answer s r target) below next later
         → AreReady says same scripts after (runs_of later) new
     rebased_ready entries_are ready next later given = λ goal.
         let left = rebased_for (propagated goal) (overflow goal) reason (reverse (map (λ s. s.0) below)) s.0 (entries_at same old goal) in

@@ -5,7 +5,7 @@ use Rattle.std.specs.Option.{option_map, unwrap_or}
 use Rattle.std.proofs.lemmas.Bool.Decides.{nat_tests}
 use Rattle.std.proofs.lemmas.List.{length-map}
 use Rattle.std.proofs.lemmas.List.Elements.{All-head, All-tail}
-use Rattle.search_rules.specs.Below.{Answer, AnswersNewest, asking_heads, CacheNode, CycleHead, entries_at, has_head_up_to, highest, may_be_used, path_kind, path_kind_from, PathKind, ProvisionalCacheEntry, rank_of, Reply, Request, Run, stack_of, StackDepth, StackEntry, Verdicts}
+use Rattle.search_rules.specs.Below.{Answer, AnswersNewest, asking_heads, CacheNode, CycleHead, entries_at, has_head_up_to, highest, may_be_used, path_kind, path_kind_from, PathKind, ProvisionalCacheEntry, rank_of, Reply, Request, stack_of, StackDepth, Verdicts, OpenGoal}
 use Rattle.search_rules.specs.Words.{AreJustified, Asking, frames_of, highest_depth, IsFit, IsReady, IsReusable, LieBelow, NewestAsks, run_of, runs_of, usable_entry}
 use Rattle.search_rules.proofs.justified.Finishing.{answered_newest_is_justified}
 use Rattle.search_rules.proofs.answers.Cycles.{path_kind_is}
@@ -64,7 +64,7 @@ module _ {X I R A T : Type 0} (same : I → I → Bool) (asking : Asking X I R A
 
 -- ---- the newest goal takes the answer over
 
-module _ {X F I R A T : Type 0} (says : Verdicts R) (scripts : I → List (Reply R) → Request I R) (nodes : List (CacheNode I R)) (old new : List (StackEntry X I R A T × Run X F I R A T)) (step : PathKind) (goal : I) (entry : ProvisionalCacheEntry X I R A T) (a : AnswersNewest step 0 entry.encountered_overflow entry.heads old new) (h : AreJustified says nodes (runs_of old)) (ready : IsReady says scripts nodes (runs_of old) goal entry) where
+module _ {X F I R A T : Type 0} (says : Verdicts R) (scripts : I → List (Reply R) → Request I R) (nodes : List (CacheNode I R)) (old new : List (OpenGoal X F I R A T)) (step : PathKind) (goal : I) (entry : ProvisionalCacheEntry X I R A T) (a : AnswersNewest step 0 entry.encountered_overflow entry.heads old new) (h : AreJustified says nodes (runs_of old)) (ready : IsReady says scripts nodes (runs_of old) goal entry) where
   -- its heads are goals, so that they lie below the place above the newest goal
   heads_lower : LieBelow (suc (length a.below)) entry.heads
   heads_lower head some =

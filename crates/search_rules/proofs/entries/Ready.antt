@@ -4,7 +4,7 @@ use Rattle.std.specs.Option.{IfSome, option_map}
 use Rattle.std.proofs.lemmas.Bool.{cases_eq, false≢true}
 use Rattle.std.proofs.lemmas.List.{length-map, length-reverse}
 use Rattle.std.proofs.lemmas.List.Elements.{All-cons, All-nil, All-weaker}
-use Rattle.search_rules.specs.Below.{StackDepth, CycleHead, Heads, at_depth, highest, Request, Reply, StackEntry, ProvisionalCacheEntry, CacheNode, Lists, entries_at, Run, Verdicts}
+use Rattle.search_rules.specs.Below.{StackDepth, CycleHead, Heads, at_depth, highest, Request, Reply, OpenGoal, ProvisionalCacheEntry, CacheNode, Lists, entries_at, Verdicts}
 use Rattle.search_rules.specs.Words.{OpenRun, HaveTallies, IsReusable, AreOnStack, IsHead, IsReady, AreReady, RestsOn, runs_of, run_of, Tally, counted, LieBelow}
 use Rattle.search_rules.proofs.HeadOrder.{ascends, at_here, at_later, highest_there}
 use Rattle.search_rules.proofs.answers.Kept.{KeepsUses}
@@ -55,18 +55,18 @@ module _ {X I R A T : Type 0} (says : Verdicts R) (scripts : I → List (Reply R
 
 module _ {X F I R A T : Type 0} where
   -- as many goals are on the stack as there are items
-  pub on_stack_many : (items : List (StackEntry X I R A T × Run X F I R A T)) → length (reverse (map (λ s. s.0) items)) ≡ length items
+  pub on_stack_many : (items : List (OpenGoal X F I R A T)) → length (reverse (map (λ s. s.0) items)) ≡ length items
   on_stack_many items = length-reverse (map (λ s. s.0) items) ∙ length-map items (λ s. s.0)
 
   -- the heads of the newest goal are on the stack below it
-  pub heads_on_stack : (s : StackEntry X I R A T × Run X F I R A T) (below : List (StackEntry X I R A T × Run X F I R A T)) → HaveTallies (runs_of (s ∷ below)) → All (λ (head : StackDepth × CycleHead). head.0.0 < length (reverse (map (λ s. s.0) below))) s.0.state.heads
+  pub heads_on_stack : (s : OpenGoal X F I R A T) (below : List (OpenGoal X F I R A T)) → HaveTallies (runs_of (s ∷ below)) → All (λ (head : StackDepth × CycleHead). head.0.0 < length (reverse (map (λ s. s.0) below))) s.0.state.heads
   heads_on_stack s below tallies =
-      all_at_depths (λ head. head.0 < length (reverse (map (λ (s : StackEntry X I R A T × Run X F I R A T). s.0) below))) s.0.state.heads
+      all_at_depths (λ head. head.0 < length (reverse (map (λ (s : OpenGoal X F I R A T). s.0) below))) s.0.state.heads
       (λ head some. let less = tallies.0.tallied.lower head some in omega (arith, less, on_stack_many below, length-map below run_of))
 
   module _ (says : Verdicts R) (same : I → I → Bool) (scripts : I → List (Reply R) → Request I R) (nodes : List (CacheNode I R)) (lists : Lists I (ProvisionalCacheEntry X I R A T)) where
     -- the highest head of each entry is on the stack
-    pub are_on_stack : (items : List (StackEntry X I R A T × Run X F I R A T)) → HaveTallies (runs_of items) → AreReady says same scripts nodes (runs_of items) lists → AreOnStack same (reverse (map (λ s. s.0) items)) lists
+    pub are_on_stack : (items : List (OpenGoal X F I R A T)) → HaveTallies (runs_of items) → AreReady says same scripts nodes (runs_of items) lists → AreOnStack same (reverse (map (λ s. s.0) items)) lists
     are_on_stack items tallies ready = λ goal.
         All-weaker (IsReady says scripts nodes (runs_of items) goal) (λ (entry : ProvisionalCacheEntry X I R A T). IfSome (highest entry.heads) (λ head. head.0.0 < length (reverse (map (λ s. s.0) items))))
         (λ entry one. at goal entry one (highest entry.heads) refl) (entries_at same lists goal) (ready goal)
@@ -80,7 +80,7 @@ module _ {X F I R A T : Type 0} where
             omega (arith, less, on_stack_many items, length-map items run_of)
 
     -- each head of each entry is on the stack below the newest goal, or that goal
-    pub are_within : (s : StackEntry X I R A T × Run X F I R A T) (below : List (StackEntry X I R A T × Run X F I R A T)) → HaveTallies (runs_of (s ∷ below)) → AreReady says same scripts nodes (runs_of (s ∷ below)) lists → (goal : I) → All (λ (entry : ProvisionalCacheEntry X I R A T). All (λ (head : StackDepth × CycleHead). head.0.0 ≤ length (reverse (map (λ s. s.0) below))) entry.heads) (entries_at same lists goal)
+    pub are_within : (s : OpenGoal X F I R A T) (below : List (OpenGoal X F I R A T)) → HaveTallies (runs_of (s ∷ below)) → AreReady says same scripts nodes (runs_of (s ∷ below)) lists → (goal : I) → All (λ (entry : ProvisionalCacheEntry X I R A T). All (λ (head : StackDepth × CycleHead). head.0.0 ≤ length (reverse (map (λ s. s.0) below))) entry.heads) (entries_at same lists goal)
     are_within s below tallies ready = λ goal.
         All-weaker (IsReady says scripts nodes (runs_of (s ∷ below)) goal) (λ (entry : ProvisionalCacheEntry X I R A T). All (λ (head : StackDepth × CycleHead). head.0.0 ≤ length (reverse (map (λ s. s.0) below))) entry.heads)
         (λ entry one.

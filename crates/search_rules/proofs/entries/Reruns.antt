@@ -4,7 +4,7 @@ use Rattle.std.specs.List.{filter}
 use Rattle.std.specs.Option.{option_or}
 use Rattle.std.proofs.lemmas.List.{length-map}
 use Rattle.std.proofs.lemmas.List.Elements.{All-filter, filter_passes}
-use Rattle.search_rules.specs.Below.{UsesNo, StackDepth, CycleHead, Heads, at_depth, highest, head_shape, heads_shape, has_usages, no_usages, NodeId, Request, Reply, StackEntry, ProvisionalCacheEntry, CacheNode, open_node, Lists, entries_at, is_used_at, depends_on, Run, rerun_with, with_no_record, change_newest, RunRecord, Verdicts}
+use Rattle.search_rules.specs.Below.{UsesNo, StackDepth, CycleHead, Heads, at_depth, highest, head_shape, heads_shape, has_usages, no_usages, NodeId, Request, Reply, OpenGoal, StackEntry, ProvisionalCacheEntry, CacheNode, open_node, Lists, entries_at, is_used_at, depends_on, Run, rerun_with, with_no_record, change_newest, RunRecord, Verdicts}
 use Rattle.search_rules.specs.Words.{OpenRun, AreJustified, IsHead, IsReady, AreReady, run_of, runs_of, HasResultNode, Tally, counted}
 use Rattle.search_rules.proofs.HeadOrder.{Ascends, ascends, at_most_highest, highest_there, no_highest, same_depth}
 use Rattle.search_rules.proofs.justified.Justified.{EndsWithNode, new_run, stack_length, tally_again}
@@ -88,7 +88,7 @@ pub cleared_at : {X I R A T : Type 0} (same : I → I → Bool) (old new : Lists
 cleared_at same old new n m is left goal = subst (λ k. entries_at same new goal ≡ filter (λ entry. not (depends_on (record { 0 = k }) entry)) (entries_at same old goal)) is (left goal)
 
 -- the entries that are left may be used over the items, of which the newest is run again
-pub rerun_ready : {X F I R A T : Type 0} (says : Verdicts R) (same : I → I → Bool) (scripts : I → List (Reply R) → Request I R) (lists cleared : Lists I (ProvisionalCacheEntry X I R A T)) (before after : List (CacheNode I R)) (old taken new : List (StackEntry X I R A T × Run X F I R A T)) (e : StackEntry X I R A T) (y : Run X F I R A T) (p : RunRecord I R) (r : R) (target : Option NodeId) (frame : F) (own : NodeId) → TakenFrom old e y p → taken ≡ change_newest with_no_record old → new ≡ change_newest (rerun_with r (option_or target e.state.node) frame own) taken → HasResultNode says before after e.state.provisional_result y.node e.state.node p r target → own.0 ≡ length after → AreJustified says before (runs_of old) → ((goal : I) → entries_at same cleared goal ≡ filter (λ entry. not (depends_on (record { 0 = length old - 1 }) entry)) (entries_at same lists goal)) → AreReady says same scripts before (runs_of old) lists → AreReady says same scripts (after ++ open_node e.input ∷ []) (runs_of new) cleared
+pub rerun_ready : {X F I R A T : Type 0} (says : Verdicts R) (same : I → I → Bool) (scripts : I → List (Reply R) → Request I R) (lists cleared : Lists I (ProvisionalCacheEntry X I R A T)) (before after : List (CacheNode I R)) (old taken new : List (OpenGoal X F I R A T)) (e : StackEntry X I R A T) (y : Run X F I R A T) (p : RunRecord I R) (r : R) (target : Option NodeId) (frame : F) (own : NodeId) → TakenFrom old e y p → taken ≡ change_newest with_no_record old → new ≡ change_newest (rerun_with r (option_or target e.state.node) frame own) taken → HasResultNode says before after e.state.provisional_result y.node e.state.node p r target → own.0 ≡ length after → AreJustified says before (runs_of old) → ((goal : I) → entries_at same cleared goal ≡ filter (λ entry. not (depends_on (record { 0 = length old - 1 }) entry)) (entries_at same lists goal)) → AreReady says same scripts before (runs_of old) lists → AreReady says same scripts (after ++ open_node e.input ∷ []) (runs_of new) cleared
 rerun_ready says same scripts lists cleared before after old taken new e y p r target frame own t is again ended at h left =
     let place : length old - 1 ≡ length (runs_of t.below) = omega (arith, ap length t.was, length-map t.below run_of) in
     rerun_holds says before after old taken new e y p r target frame own t is again ended at h (λ goals. AreReady says same scripts before goals lists) (λ goals. AreReady says same scripts (after ++ open_node e.input ∷ []) goals cleared)

@@ -5,7 +5,7 @@ use Rattle.std.specs.Option.{IsSomeAnd}
 use Rattle.std.proofs.lemmas.List.{length-map}
 use Rattle.std.proofs.lemmas.Option.{slice_get_within, get_or_from_slice_get, slice_get-get_or}
 use Rattle.open_graphs.specs.Graph as theory
-use Rattle.search_rules.specs.Below.{PathKind, Verdict, Yes, No, Neither, Edge, NodeId, Request, Reply, Begin, Answer, Noted, AvailableDepth, StackEntry, IsNeither, question_of, EndsIn, progress_after, questions_answered, CacheNode, open_node, open_goal, with_run, IsNodeOf, IsRun, verdict_of, Run, DefiniteAnswer, NotesOverflow, TakesStored, Hit, first_entry, usages_over, with_depth, with_nested_goals, TakesAnswer, AnswersNewest, RunRecord, acted, answered, no_record, edges_of, counted_by, IsDefinite, Heads, at_depth, heads_shape, rank_of, UsagesByHead, StackDepth, EntryState, Evaluate, TakesIn, Verdicts}
+use Rattle.search_rules.specs.Below.{PathKind, Verdict, Yes, No, Neither, Edge, NodeId, Request, Reply, Begin, Answer, Noted, AvailableDepth, OpenGoal, StackEntry, IsNeither, question_of, EndsIn, progress_after, questions_answered, CacheNode, open_node, open_goal, with_run, IsNodeOf, IsRun, verdict_of, Run, DefiniteAnswer, NotesOverflow, TakesStored, Hit, first_entry, usages_over, with_depth, with_nested_goals, TakesAnswer, AnswersNewest, RunRecord, acted, answered, no_record, edges_of, counted_by, IsDefinite, Heads, at_depth, heads_shape, rank_of, UsagesByHead, StackDepth, EntryState, Evaluate, TakesIn, Verdicts}
 use Rattle.search_rules.specs.Words.{tally_of, heads_of, IsTallied, LieBelow, OpenRun, verdict_shape, AreEdges, NewestAsks, HasTally, AreJustified, MayAnswer, IsFit, asked_now, run_of, runs_of, EndsNewest, EndsRun, HasResultNode, Ended, LeftOpen}
 use Rattle.search_rules.proofs.counts.TakenTallies.{taken_tallied, taken_keeps, taken_comes_in}
 use Rattle.search_rules.specs.Runs.{Again}
@@ -24,19 +24,19 @@ place_of xs x has = (has.0, slice_get-get_or xs has.0 x has.1 ∙ ap Some has.2)
 
 -- ---- goals that are pushed, or only change their entries
 
-pub pushed_goal_is_justified : {X F I R A T : Type 0} (says : Verdicts R) (nodes : List (CacheNode I R)) (input : I) (kind : PathKind) (depth : AvailableDepth) (own : NodeId) (frame : F) (becomes : Fate R) (goals : List (StackEntry X I R A T × Run X F I R A T)) → own.0 ≡ length nodes → NewestAsks (runs_of goals) kind input → AreJustified says nodes (runs_of goals) → AreJustified says (nodes ++ open_node input ∷ []) (runs_of ((first_entry input kind depth own, record { frame = frame; node = own; progress = no_record; finished_runs = 0; met_overflow_before = false; candidates = []; fate = becomes }) ∷ goals))
+pub pushed_goal_is_justified : {X F I R A T : Type 0} (says : Verdicts R) (nodes : List (CacheNode I R)) (input : I) (kind : PathKind) (depth : AvailableDepth) (own : NodeId) (frame : F) (becomes : Fate R) (goals : List (OpenGoal X F I R A T)) → own.0 ≡ length nodes → NewestAsks (runs_of goals) kind input → AreJustified says nodes (runs_of goals) → AreJustified says (nodes ++ open_node input ∷ []) (runs_of ((first_entry input kind depth own, record { frame = frame; node = own; progress = no_record; finished_runs = 0; met_overflow_before = false; candidates = []; fate = becomes }) ∷ goals))
 pushed_goal_is_justified says nodes input kind depth own frame becomes goals at asks h = pushed_is_justified says nodes input kind own (runs_of goals) at asks h
 
 -- the newest goal changes, but not what stands in its run
-module _ {X F I R A T : Type 0} (says : Verdicts R) (nodes : List (CacheNode I R)) (same : I → I → Bool) (old new : List (StackEntry X I R A T × Run X F I R A T)) where
+module _ {X F I R A T : Type 0} (says : Verdicts R) (nodes : List (CacheNode I R)) (same : I → I → Bool) (old new : List (OpenGoal X F I R A T)) where
   pub overflow_noted_same : NotesOverflow same old new → runs_of old ≡ runs_of new
-  overflow_noted_same n = ap (λ (l : List (StackEntry X I R A T × Run X F I R A T)). runs_of l) n.was ∙ ap (λ (l : List (StackEntry X I R A T × Run X F I R A T)). runs_of l) (sym n.is)
+  overflow_noted_same n = ap (λ (l : List (OpenGoal X F I R A T)). runs_of l) n.was ∙ ap (λ (l : List (OpenGoal X F I R A T)). runs_of l) (sym n.is)
 
   pub overflow_noted_is_justified : NotesOverflow same old new → AreJustified says nodes (runs_of old) → AreJustified says nodes (runs_of new)
   overflow_noted_is_justified n h = subst (AreJustified says nodes) (overflow_noted_same n) h
 
   pub stored_taken_same : (step : PathKind) (hit : Hit I R T) → TakesStored same step hit old new → runs_of old ≡ runs_of new
-  stored_taken_same step hit t = ap (λ (l : List (StackEntry X I R A T × Run X F I R A T)). runs_of l) t.was ∙ ap (λ (l : List (StackEntry X I R A T × Run X F I R A T)). runs_of l) (sym t.is)
+  stored_taken_same step hit t = ap (λ (l : List (OpenGoal X F I R A T)). runs_of l) t.was ∙ ap (λ (l : List (OpenGoal X F I R A T)). runs_of l) (sym t.is)
 
 -- ---- heads that are taken over
 
@@ -57,7 +57,7 @@ module _ {X I R A T : Type 0} (parent : StackDepth) (step : PathKind) (required 
   open_stays = some_at new.candidate_usages old.candidate_usages (λ counts. at_depth counts (record { 0 = 0 })) (λ counts. usages_over (at_depth counts (record { 0 = 0 })) (at_depth answer (record { 0 = 0 }))) (t.in_candidate (record { 0 = 0 }))
 
 -- the newest goal that takes an answer over stays justified
-module _ {X F I R A T : Type 0} (says : Verdicts R) (nodes : List (CacheNode I R)) (step : PathKind) (required : ℕ) (overflow : Bool) (answer : Heads) (old new : List (StackEntry X I R A T × Run X F I R A T)) (a : AnswersNewest step required overflow answer old new) (lower : LieBelow (suc (length a.below)) answer) where
+module _ {X F I R A T : Type 0} (says : Verdicts R) (nodes : List (CacheNode I R)) (step : PathKind) (required : ℕ) (overflow : Bool) (answer : Heads) (old new : List (OpenGoal X F I R A T)) (a : AnswersNewest step required overflow answer old new) (lower : LieBelow (suc (length a.below)) answer) where
   was_justified : AreJustified says nodes (runs_of old) → AreJustified says nodes (run_of (a.entry, a.run) ∷ runs_of a.below)
   was_justified h = subst (λ l. AreJustified says nodes (runs_of l)) a.was h
 
@@ -176,7 +176,7 @@ module _ {I R : Type 0} (says : Verdicts R) (nodes : List (CacheNode I R)) (earl
 
 -- ---- the newest goal's run has ended
 
-module _ {X F I R A T : Type 0} (says : Verdicts R) (before after : List (CacheNode I R)) (entry : StackEntry X I R A T) (run : Run X F I R A T) (below : List (StackEntry X I R A T × Run X F I R A T)) (h : AreJustified says before (runs_of ((entry, run) ∷ below))) where
+module _ {X F I R A T : Type 0} (says : Verdicts R) (before after : List (CacheNode I R)) (entry : StackEntry X I R A T) (run : Run X F I R A T) (below : List (OpenGoal X F I R A T)) (h : AreJustified says before (runs_of ((entry, run) ∷ below))) where
   pub ends_run : (scripts : I → List (Reply R) → Request I R) (r : R) → EndsNewest says scripts ((entry, run) ∷ below) r → EndsRun says scripts before run.node run.progress r
   ends_run scripts r ends = record { goal = entry.input; is_open = h.are_open.0; ends = ends; placed = h.supported.0.placed }
 

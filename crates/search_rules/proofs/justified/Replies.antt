@@ -3,7 +3,7 @@ use Rattle.std.proofs.Common.{◌≡◌, ◌≢◌, ℕ, Bool, true, false, IsTr
 use Rattle.std.specs.Option.{IsSomeAnd}
 use Rattle.open_graphs.specs.Graph as theory
 use Rattle.global_cache.proofs.Definites.{no_verdict, yes_verdict}
-use Rattle.search_rules.specs.Below.{DelegateOf, CxOf, PathKind, Verdict, Yes, No, Neither, NodeId, Request, Evaluate, Reply, Answer, StackEntry, CacheNode, verdict_of, Fits, IsFitting, request_after, Run, Received, DefiniteAnswer, RunRecord, received, answered, IsReplySorted, KeepsAnswer, open_number, edge_to, IsVerdict, Verdicts, verdicts}
+use Rattle.search_rules.specs.Below.{DelegateOf, CxOf, PathKind, Verdict, Yes, No, Neither, NodeId, Request, Evaluate, Reply, Answer, OpenGoal, StackEntry, CacheNode, verdict_of, Fits, IsFitting, request_after, Run, Received, DefiniteAnswer, RunRecord, received, answered, IsReplySorted, KeepsAnswer, open_number, edge_to, IsVerdict, Verdicts, verdicts}
 use Rattle.search_rules.specs.Words.{verdict_shape, AreJustified, MayAnswer, IsFit, run_of, runs_of, Call, IsWaiting}
 use Rattle.search_rules.proofs.justified.Justified.{answered_is_justified}
 use Rattle.search_rules.proofs.moves.Moves.{can_step_record}
@@ -46,9 +46,9 @@ in_theory_definite Neither d e = d refl
 
 module _ {D C V P F I R A T : Type 0} (G : DelegateOf D C V P F I R A T) (X : CxOf C I R A T) (cx : C) (nodes : List (CacheNode I R)) where
   abbrev Goals : Type 0
-  Goals = List (StackEntry C I R A T × Run C F I R A T)
+  Goals = List (OpenGoal C F I R A T)
 
-  sorted_at : (s : StackEntry C I R A T × Run C F I R A T) (below : Goals) (earlier : List (Reply R)) (reply : Reply R) (node : Option NodeId) (v : Verdict) → s.1.progress.request ≡ request_after (G.script cx s.0.input) earlier → IsFitting (G.script cx s.0.input) (reply ∷ earlier) → IsFit (verdicts X) nodes (runs_of (s ∷ below)) reply node → IsVerdict (verdicts X) reply v → IsReplySorted (verdicts X) reply v node
+  sorted_at : (s : OpenGoal C F I R A T) (below : Goals) (earlier : List (Reply R)) (reply : Reply R) (node : Option NodeId) (v : Verdict) → s.1.progress.request ≡ request_after (G.script cx s.0.input) earlier → IsFitting (G.script cx s.0.input) (reply ∷ earlier) → IsFit (verdicts X) nodes (runs_of (s ∷ below)) reply node → IsVerdict (verdicts X) reply v → IsReplySorted (verdicts X) reply v node
   sorted_at s below earlier (Answer r) node v request fits fit verdict =
       let asked = question_of_answer (request_after (G.script cx s.0.input) earlier) r fits.0 in
       let asks : s.1.progress.request ≡ Some (Evaluate asked.0 asked.1) = request ∙ asked.2 in

@@ -8,7 +8,7 @@ use Rattle.open_graphs.proofs.Members.{contains_later}
 use Rattle.cycle_heads.proofs.HeadLists.{at_depth-rest}
 use Rattle.open_goals.specs.Candidates.{less_head}
 use Rattle.open_goals.specs.NestedGoals.{NestsItself}
-use Rattle.search_rules.specs.Below.{AnswersNewest, at_depth, CxOf, CycleHead, DelegateOf, EnterCandidate, entries_at, enters, EntryState, EvaluationResult, Evaluate, Done, finishes, FinishCandidate, HasStepped, Heads, Hit, Ignore, Lists, may_be_used, NestedPaths, NestsAnswer, NestsHead, NotesCandidate, paths_at, PathKind, place_of, ProvisionalCacheEntry, RebaseReason, Received, received_by, Reply, Request, requested, rerun_with, Run, StackDepth, StackEntry, Store, stored_at, stored_from, StoredResult, Success, TakesStored, with_no_record, HeadUsages}
+use Rattle.search_rules.specs.Below.{AnswersNewest, at_depth, CxOf, CycleHead, DelegateOf, EnterCandidate, entries_at, enters, EntryState, EvaluationResult, Evaluate, Done, finishes, FinishCandidate, HasStepped, Heads, Hit, Ignore, Lists, may_be_used, NestedPaths, NestsAnswer, NestsHead, NotesCandidate, paths_at, PathKind, place_of, ProvisionalCacheEntry, RebaseReason, Received, received_by, Reply, Request, requested, rerun_with, StackDepth, StackEntry, OpenGoal, Store, stored_at, stored_from, StoredResult, Success, TakesStored, with_no_record, HeadUsages}
 use Rattle.search_rules.specs.Kinds.{AreJoined, AsksNewest, EntriesSuit, EntryIsLinked, IsGoalAt, IsJoinedTo, KeepsKinds, ReachesNested, StoredReachNested}
 use Rattle.search_rules.specs.LookUp.{usable_entry}
 use Rattle.search_rules.specs.Moves.{Reruns}
@@ -43,7 +43,7 @@ module _ {X F I R A T : Type 0} (scripts : I → List (Reply R) → Request I R)
   -- ---- the newest goal changes
 
   -- it has no other heads, and the same nested goals
-  pub newest_keeps : (s t : StackEntry X I R A T × Run X F I R A T) (below : List (StackEntry X I R A T × Run X F I R A T)) (entries : Lists I (ProvisionalCacheEntry X I R A T)) → s.0.input ≡ t.0.input → s.0.step_kind_from_parent ≡ t.0.step_kind_from_parent → ((depth : StackDepth) → IsSome (at_depth t.0.state.heads depth) → IsSome (at_depth s.0.state.heads depth)) → s.0.state.nested_goals ≡ t.0.state.nested_goals
+  pub newest_keeps : (s t : OpenGoal X F I R A T) (below : List (OpenGoal X F I R A T)) (entries : Lists I (ProvisionalCacheEntry X I R A T)) → s.0.input ≡ t.0.input → s.0.step_kind_from_parent ≡ t.0.step_kind_from_parent → ((depth : StackDepth) → IsSome (at_depth t.0.state.heads depth) → IsSome (at_depth s.0.state.heads depth)) → s.0.state.nested_goals ≡ t.0.state.nested_goals
       → KeepsKinds scripts same enabled (s ∷ below) entries → KeepsKinds scripts same enabled (t ∷ below) entries
   newest_keeps s t below entries is same_step heads nested k = record {
     goals_are = newest_linked scripts same s t below is same_step
@@ -53,7 +53,7 @@ module _ {X F I R A T : Type 0} (scripts : I → List (Reply R) → Request I R)
     disabled = k.disabled;
   }
 
-  module _ (by_value : (x y : I) → same x y ≡ true → x ≡ y) (old new : List (StackEntry X I R A T × Run X F I R A T)) (step : PathKind) (goal : I) (asks : AsksNewest scripts old step goal) (entries : Lists I (ProvisionalCacheEntry X I R A T)) (k : KeepsKinds scripts same enabled old entries) where
+  module _ (by_value : (x y : I) → same x y ≡ true → x ≡ y) (old new : List (OpenGoal X F I R A T)) (step : PathKind) (goal : I) (asks : AsksNewest scripts old step goal) (entries : Lists I (ProvisionalCacheEntry X I R A T)) (k : KeepsKinds scripts same enabled old entries) where
     -- its question is answered by an entry,
     pub entry_keeps_kinds : (entry : ProvisionalCacheEntry X I R A T) (required : ℕ) (overflow : Bool) → usable_entry same enabled (record { stack = stack_of old; entries = entries; step = step }) goal ≡ Some entry → AnswersNewest step required overflow entry.heads old new → NestsItself same old new → KeepsKinds scripts same enabled new entries
     entry_keeps_kinds entry required overflow is a nests =
@@ -92,7 +92,7 @@ module _ {X F I R A T : Type 0} (scripts : I → List (Reply R) → Request I R)
   -- ---- goals and entries come and go
 
   -- a goal is pushed that has neither heads nor nested goals yet
-  pub pushed_keeps_kinds : (s : StackEntry X I R A T × Run X F I R A T) (below : List (StackEntry X I R A T × Run X F I R A T)) (entries : Lists I (ProvisionalCacheEntry X I R A T)) → AsksNewest scripts below s.0.step_kind_from_parent s.0.input → s.0.state.heads ≡ [] → s.0.state.nested_goals ≡ [] → KeepsKinds scripts same enabled below entries → KeepsKinds scripts same enabled (s ∷ below) entries
+  pub pushed_keeps_kinds : (s : OpenGoal X F I R A T) (below : List (OpenGoal X F I R A T)) (entries : Lists I (ProvisionalCacheEntry X I R A T)) → AsksNewest scripts below s.0.step_kind_from_parent s.0.input → s.0.state.heads ≡ [] → s.0.state.nested_goals ≡ [] → KeepsKinds scripts same enabled below entries → KeepsKinds scripts same enabled (s ∷ below) entries
   pushed_keeps_kinds s below entries asks no_heads none_nested k = record {
     goals_are = (
       record {
@@ -107,7 +107,7 @@ module _ {X F I R A T : Type 0} (scripts : I → List (Reply R) → Request I R)
   }
 
   -- entries are cleared
-  pub cleared_keeps_kinds : (goals : List (StackEntry X I R A T × Run X F I R A T)) (old new : Lists I (ProvisionalCacheEntry X I R A T)) (stays : ProvisionalCacheEntry X I R A T → Bool) → ((goal : I) → entries_at same new goal ≡ filter stays (entries_at same old goal)) → KeepsKinds scripts same enabled goals old → KeepsKinds scripts same enabled goals new
+  pub cleared_keeps_kinds : (goals : List (OpenGoal X F I R A T)) (old new : Lists I (ProvisionalCacheEntry X I R A T)) (stays : ProvisionalCacheEntry X I R A T → Bool) → ((goal : I) → entries_at same new goal ≡ filter stays (entries_at same old goal)) → KeepsKinds scripts same enabled goals old → KeepsKinds scripts same enabled goals new
   cleared_keeps_kinds goals old new stays cleared k = record {
     goals_are = k.goals_are;
     entries_are = λ goal. subst (All (EntryIsLinked scripts same goals goal)) (sym (cleared goal)) (All-filter stays (EntryIsLinked scripts same goals goal) (entries_at same old goal) (k.entries_are goal));
@@ -123,8 +123,8 @@ module _ {X F I R A T : Type 0} (scripts : I → List (Reply R) → Request I R)
   }
 
   -- the newest goal is popped, and the one below it takes its answer over
-  module _ (by_value : (x y : I) → same x y ≡ true → x ≡ y) (suits : EntriesSuit enabled scripts) (propagated : I → A → R) (overflow : I → R) (reason : Option (RebaseReason X I R A T)) (r : R) (s p : StackEntry X I R A T × Run X F I R A T) (below : List (StackEntry X I R A T × Run X F I R A T)) (old entries : Lists I (ProvisionalCacheEntry X I R A T)) (k : KeepsKinds scripts same enabled (s ∷ p ∷ below) old) (have : HaveHeads same old)
-      (apart : reason ≡ None → (goal : I) → All (λ entry. (depth : StackDepth) → IsSome (at_depth entry.heads depth) → depth.0 ≢ length (p ∷ below)) (entries_at same old goal)) (rebases : RebasesEntries same enabled propagated overflow reason r s (p ∷ below) old entries) (new : List (StackEntry X I R A T × Run X F I R A T)) (met : Bool) where
+  module _ (by_value : (x y : I) → same x y ≡ true → x ≡ y) (suits : EntriesSuit enabled scripts) (propagated : I → A → R) (overflow : I → R) (reason : Option (RebaseReason X I R A T)) (r : R) (s p : OpenGoal X F I R A T) (below : List (OpenGoal X F I R A T)) (old entries : Lists I (ProvisionalCacheEntry X I R A T)) (k : KeepsKinds scripts same enabled (s ∷ p ∷ below) old) (have : HaveHeads same old)
+      (apart : reason ≡ None → (goal : I) → All (λ entry. (depth : StackDepth) → IsSome (at_depth entry.heads depth) → depth.0 ≢ length (p ∷ below)) (entries_at same old goal)) (rebases : RebasesEntries same enabled propagated overflow reason r s (p ∷ below) old entries) (new : List (OpenGoal X F I R A T)) (met : Bool) where
     pub popped_keeps_kinds : AnswersNewest s.0.step_kind_from_parent s.0.state.required_depth met s.0.state.heads (p ∷ below) new → NestsAnswer same s.0.step_kind_from_parent s.0.state.nested_goals (p ∷ below) new → KeepsKinds scripts same enabled new entries
     popped_keeps_kinds a nests =
         let here_is = k.goals_are.0 in
@@ -155,7 +155,7 @@ left_head false usages None now is some = subst IsSome is some
 left_head false usages (Some head) now is some = refl
 
 module _ {X F I R A T : Type 0} (scripts : I → List (Reply R) → Request I R) (same : I → I → Bool) (enabled : Bool) (entries : Lists I (ProvisionalCacheEntry X I R A T)) where
-  pub noted_keeps_kinds : (request : Request I R) (old new : List (StackEntry X I R A T × Run X F I R A T)) → NotesCandidate request old new → KeepsKinds scripts same enabled old entries → KeepsKinds scripts same enabled new entries
+  pub noted_keeps_kinds : (request : Request I R) (old new : List (OpenGoal X F I R A T)) → NotesCandidate request old new → KeepsKinds scripts same enabled old entries → KeepsKinds scripts same enabled new entries
   noted_keeps_kinds (Evaluate kind goal) old new noted k = subst (λ l. KeepsKinds scripts same enabled l entries) (sym noted) k
   noted_keeps_kinds (Done r) old new noted k = subst (λ l. KeepsKinds scripts same enabled l entries) (sym noted) k
   noted_keeps_kinds EnterCandidate [] new noted k = subst (λ l. KeepsKinds scripts same enabled l entries) (sym noted) k
@@ -169,7 +169,7 @@ module _ {X F I R A T : Type 0} (scripts : I → List (Reply R) → Request I R)
       (ap (λ (x : EntryState X I R A T). x.nested_goals) (sym noted.ignores.others))
       (subst (λ l. KeepsKinds scripts same enabled l entries) noted.was k))
 
-module _ {D C V P F I R A T : Type 0} (G : DelegateOf D C V P F I R A T) (X : CxOf C I R A T) (cx : C) (same : I → I → Bool) (enabled : Bool) (entries : Lists I (ProvisionalCacheEntry C I R A T)) (old new : List (StackEntry C I R A T × Run C F I R A T)) where
+module _ {D C V P F I R A T : Type 0} (G : DelegateOf D C V P F I R A T) (X : CxOf C I R A T) (cx : C) (same : I → I → Bool) (enabled : Bool) (entries : Lists I (ProvisionalCacheEntry C I R A T)) (old new : List (OpenGoal C F I R A T)) where
   pub stepped_keeps_kinds : (given : Received R) (request : Request I R) → HasStepped G X cx given request old new → KeepsKinds (G.script cx) same enabled old entries → KeepsKinds (G.script cx) same enabled new entries
   stepped_keeps_kinds given request s k =
       subst (λ l. KeepsKinds (G.script cx) same enabled l entries) (sym s.is)

@@ -5,7 +5,7 @@ use Rattle.std.specs.List.{filter_map}
 use Rattle.std.proofs.lemmas.Bool.{cases_eq, false≢true}
 use Rattle.std.proofs.lemmas.List.Elements.{All-append, All-cons, All-nil}
 use Rattle.provisional_cache.proofs.RebasedEntryLists.{All-filter_map}
-use Rattle.search_rules.specs.Below.{at_depth, but_highest, changed_for, CycleHead, entries_at, extended_by_each, has_usages, Heads, HeadUsages, highest, IsLeftHead, IsRising, Lists, NodeId, no_usages, other_usages, path_kind_from, path_of_no_step, PathsToNested, ProvisionalCacheEntry, rebased, RebaseReason, Ambiguity, NoCycleUsages, Overflow, ReachedFixpoint, Reply, Request, Run, StackDepth, StackEntry, with_unused, with_used}
+use Rattle.search_rules.specs.Below.{at_depth, but_highest, changed_for, CycleHead, entries_at, extended_by_each, has_usages, Heads, HeadUsages, highest, IsLeftHead, IsRising, Lists, NodeId, no_usages, other_usages, path_kind_from, path_of_no_step, PathsToNested, ProvisionalCacheEntry, rebased, RebaseReason, Ambiguity, NoCycleUsages, Overflow, ReachedFixpoint, Reply, Request, StackDepth, with_unused, OpenGoal, with_used}
 use Rattle.search_rules.specs.Kinds.{AreJoined, AreLinked, AskedByKind, EntriesSuit, EntryIsLinked, IsGoalAt, IsJoinedTo, KeepsKinds}
 use Rattle.search_rules.specs.OneKind.{AsksByOneKind, here, MayLeadTo, MayReach}
 use Rattle.search_rules.specs.Words.{depths_of, entries_for, entry_of, final_answer, LieBelow, rebased_for, RebasesEntries}
@@ -40,7 +40,7 @@ changed_path_same propagated overflow (ReachedFixpoint (Some kind)) usages entry
     at true is = absurd cc
     at false is = cc
 
-module _ {X F I R A T : Type 0} (scripts : I → List (Reply R) → Request I R) (same : I → I → Bool) (s : StackEntry X I R A T × Run X F I R A T) (below : List (StackEntry X I R A T × Run X F I R A T)) (linked : AreLinked scripts same (s ∷ below)) where
+module _ {X F I R A T : Type 0} (scripts : I → List (Reply R) → Request I R) (same : I → I → Bool) (s : OpenGoal X F I R A T) (below : List (OpenGoal X F I R A T)) (linked : AreLinked scripts same (s ∷ below)) where
   -- a walk of questions leads from each goal below to the one that is done
   walk_to : (place : ℕ) (head : I) → IsGoalAt below place head → MayLeadTo scripts head (path_kind_from (stack_of below) place s.0.step_kind_from_parent) s.0.input
   walk_to place head at = stack_leads scripts same below place head s.0.step_kind_from_parent s.0.input linked.1 linked.0.asked at

@@ -8,7 +8,7 @@ use Rattle.global_cache.proofs.Stores.{put_cases}
 use Rattle.open_graphs.proofs.Members.{filtered_member}
 use Rattle.provisional_cache.proofs.RebasedEntryLists.{All-filter_map}
 use Rattle.search_rules.specs.Apart.{StandApart}
-use Rattle.search_rules.specs.Below.{changed_for, CycleHead, entries_at, highest, Lists, NodeId, place_of, ProvisionalCacheEntry, rebased, RebaseReason, Run, StackDepth, StackEntry, Store, stored_from, StoredResult, Success}
+use Rattle.search_rules.specs.Below.{changed_for, CycleHead, entries_at, highest, Lists, NodeId, place_of, ProvisionalCacheEntry, rebased, RebaseReason, StackDepth, Store, OpenGoal, stored_from, StoredResult, Success}
 use Rattle.search_rules.specs.Lone.{IsLone}
 use Rattle.search_rules.specs.Results.{NotStored, Put, StoresAnswer}
 use Rattle.search_rules.specs.Runs.{runs_of}
@@ -44,15 +44,15 @@ filtered_shorter p (x ∷ xs) = by (p x) (filtered_shorter p xs)
 
 module _ {X F I R A T : Type 0} (same : I → I → Bool) where
   -- the goals under evaluation are the same, or fewer
-  pub apart_over : (results : Store I (StoredResult X I R A T)) (old new : List (StackEntry X I R A T × Run X F I R A T)) (entries : Lists I (ProvisionalCacheEntry X I R A T)) → ((goal : I) → IsOff (runs_of old) goal → IsOff (runs_of new) goal) → StandApart same results old entries → StandApart same results new entries
+  pub apart_over : (results : Store I (StoredResult X I R A T)) (old new : List (OpenGoal X F I R A T)) (entries : Lists I (ProvisionalCacheEntry X I R A T)) → ((goal : I) → IsOff (runs_of old) goal → IsOff (runs_of new) goal) → StandApart same results old entries → StandApart same results new entries
   apart_over results old new entries stay h = record { one = h.one; off = λ goal entry there. stay goal (h.off goal entry there); not_lone = h.not_lone }
 
   -- another state of the newest goal
-  pub off_changed : (s t : StackEntry X I R A T × Run X F I R A T) (below : List (StackEntry X I R A T × Run X F I R A T)) → s.0.input ≡ t.0.input → (goal : I) → IsOff (runs_of (s ∷ below)) goal → IsOff (runs_of (t ∷ below)) goal
+  pub off_changed : (s t : OpenGoal X F I R A T) (below : List (OpenGoal X F I R A T)) → s.0.input ≡ t.0.input → (goal : I) → IsOff (runs_of (s ∷ below)) goal → IsOff (runs_of (t ∷ below)) goal
   off_changed s t below is goal off = (λ same_goal. off.0 (same_goal ∙ sym is), off.1)
 
   -- a goal without entries is pushed
-  pub apart_pushed : (results : Store I (StoredResult X I R A T)) (s : StackEntry X I R A T × Run X F I R A T) (below : List (StackEntry X I R A T × Run X F I R A T)) (entries : Lists I (ProvisionalCacheEntry X I R A T)) → entries_at same entries s.0.input ≡ [] → StandApart same results below entries → StandApart same results (s ∷ below) entries
+  pub apart_pushed : (results : Store I (StoredResult X I R A T)) (s : OpenGoal X F I R A T) (below : List (OpenGoal X F I R A T)) (entries : Lists I (ProvisionalCacheEntry X I R A T)) → entries_at same entries s.0.input ≡ [] → StandApart same results below entries → StandApart same results (s ∷ below) entries
   apart_pushed results s below entries none h = record {
     one = h.one;
     off = λ goal entry there. (λ is. none_among entry (subst (λ l. Contains l entry) none (subst (λ g. Contains (entries_at same entries g) entry) is there)), h.off goal entry there);
@@ -60,7 +60,7 @@ module _ {X F I R A T : Type 0} (same : I → I → Bool) where
   }
 
   -- entries are cleared
-  pub apart_cleared : (results : Store I (StoredResult X I R A T)) (goals : List (StackEntry X I R A T × Run X F I R A T)) (old new : Lists I (ProvisionalCacheEntry X I R A T)) (stays : ProvisionalCacheEntry X I R A T → Bool) → ((goal : I) → entries_at same new goal ≡ filter stays (entries_at same old goal)) → StandApart same results goals old → StandApart same results goals new
+  pub apart_cleared : (results : Store I (StoredResult X I R A T)) (goals : List (OpenGoal X F I R A T)) (old new : Lists I (ProvisionalCacheEntry X I R A T)) (stays : ProvisionalCacheEntry X I R A T → Bool) → ((goal : I) → entries_at same new goal ≡ filter stays (entries_at same old goal)) → StandApart same results goals old → StandApart same results goals new
   apart_cleared results goals old new stays cleared h = record {
     one = λ goal. (let less = filtered_shorter stays (entries_at same old goal) in let one = h.one goal in subst (λ l. length l ≤ 1) (sym (cleared goal)) (omega (arith, less, one)));
     off = λ goal entry there. h.off goal entry (before goal entry there);
@@ -71,7 +71,7 @@ module _ {X F I R A T : Type 0} (same : I → I → Bool) where
       before goal entry there = (filtered_member stays (entries_at same old goal) entry (subst (λ l. Contains l entry) (cleared goal) there)).0
 
   -- there are none
-  pub apart_none : (results : Store I (StoredResult X I R A T)) (goals : List (StackEntry X I R A T × Run X F I R A T)) (entries : Lists I (ProvisionalCacheEntry X I R A T)) → ((goal : I) → entries_at same entries goal ≡ []) → StandApart same results goals entries
+  pub apart_none : (results : Store I (StoredResult X I R A T)) (goals : List (OpenGoal X F I R A T)) (entries : Lists I (ProvisionalCacheEntry X I R A T)) → ((goal : I) → entries_at same entries goal ≡ []) → StandApart same results goals entries
   apart_none results goals entries none = record {
     one = λ goal. subst (λ l. length l ≤ 1) (sym (none goal)) (omega arith);
     off = λ goal entry there. absurd (none_among entry (subst (λ l. Contains l entry) (none goal) there));
@@ -80,7 +80,7 @@ module _ {X F I R A T : Type 0} (same : I → I → Bool) where
 
 -- ---- the newest goal is popped
 
-module _ {X F I R A T : Type 0} (same : I → I → Bool) (by_value : (x y : I) → same x y ≡ true → x ≡ y) (results later : Store I (StoredResult X I R A T)) (s : StackEntry X I R A T × Run X F I R A T) (below : List (StackEntry X I R A T × Run X F I R A T)) (enabled : Bool) (propagated : I → A → R) (overflow : I → R) (reason : Option (RebaseReason X I R A T)) (r : R) (target : Option NodeId) (old new : Lists I (ProvisionalCacheEntry X I R A T))
+module _ {X F I R A T : Type 0} (same : I → I → Bool) (by_value : (x y : I) → same x y ≡ true → x ≡ y) (results later : Store I (StoredResult X I R A T)) (s : OpenGoal X F I R A T) (below : List (OpenGoal X F I R A T)) (enabled : Bool) (propagated : I → A → R) (overflow : I → R) (reason : Option (RebaseReason X I R A T)) (r : R) (target : Option NodeId) (old new : Lists I (ProvisionalCacheEntry X I R A T))
     (h : StandApart same results (s ∷ below) old) (rebases : RebasesEntries same enabled propagated overflow reason r s below old new) (stores : StoresAnswer same results later s.0.input (final_answer s r target)) (not_lone : IsLone same results s.0.input → ⊥) (off : IsOff (runs_of below) s.0.input) where
   abbrev rebased_at : I → List (ProvisionalCacheEntry X I R A T) → List (ProvisionalCacheEntry X I R A T)
   rebased_at goal entries = rebased_for (propagated goal) (overflow goal) reason (stack_of below) s.0 entries

@@ -2,7 +2,7 @@
 use Rattle.std.proofs.Common.{◌≡◌, ℕ, ◌==◌, if◌then◌else◌, Bool, true, false, List, ◌∷◌, length, IsSome, Option, None, Some, All, refl, sym, ◌∙◌, subst, ◌⊎◌, inl, inr, eq-eqb}
 use Rattle.std.proofs.lemmas.Bool.{false≢true}
 use Rattle.std.proofs.lemmas.List.Elements.{All-weaker}
-use Rattle.search_rules.specs.Below.{AnswersNewest, at_depth, entries_at, EntryState, Heads, Hit, joined_over, Lists, NestedPaths, NestsAnswer, NestsHead, PathKind, ProvisionalCacheEntry, Reply, Request, Run, StackEntry, TakesStored, with_depth, with_nested_goals, CycleHead}
+use Rattle.search_rules.specs.Below.{AnswersNewest, at_depth, entries_at, EntryState, Heads, Hit, joined_over, Lists, NestedPaths, NestsAnswer, NestsHead, PathKind, ProvisionalCacheEntry, Reply, Request, TakesStored, OpenGoal, with_depth, with_nested_goals, CycleHead}
 use Rattle.open_goals.specs.Entries.{TakesHeads}
 use Rattle.open_goals.specs.NestedGoals.{NestsItself}
 use Rattle.search_rules.specs.Kinds.{AreJoined, AreLinked, AsksNewest, EntryIsLinked, IsGoalAt, IsJoinedTo, ReachesNested}
@@ -13,7 +13,7 @@ use Rattle.search_rules.proofs.kinds.Stack.{at_below, stack_reaches}
 
 -- ---- what depends on the goals on the stack alone
 
-module _ {X F I R A T : Type 0} (scripts : I → List (Reply R) → Request I R) (old new : List (StackEntry X I R A T × Run X F I R A T)) (stay : (place : ℕ) (goal : I) → IsGoalAt old place goal → IsGoalAt new place goal) where
+module _ {X F I R A T : Type 0} (scripts : I → List (Reply R) → Request I R) (old new : List (OpenGoal X F I R A T)) (stay : (place : ℕ) (goal : I) → IsGoalAt old place goal → IsGoalAt new place goal) where
   pub joined_kept : (goal : I) (place : ℕ) → IsJoinedTo scripts old goal place → IsJoinedTo scripts new goal place
   joined_kept goal place j = record { head = j.head; is_at = stay place j.head j.is_at; there = j.there; back = j.back }
 
@@ -24,7 +24,7 @@ module _ {X F I R A T : Type 0} (scripts : I → List (Reply R) → Request I R)
       (entries_at same entries goal) (h goal)
 
 -- the newest goal with another state stands where it stood
-pub at_changed : {X F I R A T : Type 0} (s t : StackEntry X I R A T × Run X F I R A T) (below : List (StackEntry X I R A T × Run X F I R A T)) → s.0.input ≡ t.0.input → (place : ℕ) (goal : I) → IsGoalAt (s ∷ below) place goal → IsGoalAt (t ∷ below) place goal
+pub at_changed : {X F I R A T : Type 0} (s t : OpenGoal X F I R A T) (below : List (OpenGoal X F I R A T)) → s.0.input ≡ t.0.input → (place : ℕ) (goal : I) → IsGoalAt (s ∷ below) place goal → IsGoalAt (t ∷ below) place goal
 at_changed s t below is place goal (inl at) = inl (at.0, at.1 ∙ is)
 at_changed s t below is place goal (inr at) = inr at
 
@@ -36,14 +36,14 @@ head_from false step own (Some head) now is some = inr (refl, refl)
 
 module _ {X F I R A T : Type 0} (scripts : I → List (Reply R) → Request I R) (same : I → I → Bool) where
   -- another state of the newest goal
-  pub newest_linked : (s t : StackEntry X I R A T × Run X F I R A T) (below : List (StackEntry X I R A T × Run X F I R A T)) → s.0.input ≡ t.0.input → s.0.step_kind_from_parent ≡ t.0.step_kind_from_parent → AreJoined scripts below t.0.input t.0.state.heads → ReachesNested scripts same t.0.input t.0.state.nested_goals → AreLinked scripts same (s ∷ below) → AreLinked scripts same (t ∷ below)
+  pub newest_linked : (s t : OpenGoal X F I R A T) (below : List (OpenGoal X F I R A T)) → s.0.input ≡ t.0.input → s.0.step_kind_from_parent ≡ t.0.step_kind_from_parent → AreJoined scripts below t.0.input t.0.state.heads → ReachesNested scripts same t.0.input t.0.state.nested_goals → AreLinked scripts same (s ∷ below) → AreLinked scripts same (t ∷ below)
   newest_linked s t below is same_step heads nested h = (
     record { asked = subst (λ g. AsksNewest scripts below t.0.step_kind_from_parent g) is (subst (λ k. AsksNewest scripts below k s.0.input) same_step h.0.asked); heads = heads; nested = nested },
     h.1,
   )
 
   -- the goal that asked is joined to the heads of the answer, and to those that it had
-  heads_joined : (s : StackEntry X I R A T × Run X F I R A T) (below : List (StackEntry X I R A T × Run X F I R A T)) (step : PathKind) (goal : I) (answer : Heads) (was now : EntryState X I R A T)
+  heads_joined : (s : OpenGoal X F I R A T) (below : List (OpenGoal X F I R A T)) (step : PathKind) (goal : I) (answer : Heads) (was now : EntryState X I R A T)
       → AreLinked scripts same (s ∷ below) → MayAsk scripts s.0.input step goal → AreJoined scripts (s ∷ below) goal answer → TakesHeads (record { 0 = length below }) step answer was now → AreJoined scripts below s.0.input was.heads → AreJoined scripts below s.0.input now.heads
   heads_joined s below step goal answer was now linked asks joined takes before depth there =
       elim (head_from (depth.0 == length below) step (at_depth was.heads depth) (at_depth answer depth) (at_depth now.heads depth) (takes.heads depth) there) [
@@ -63,7 +63,7 @@ module _ {X F I R A T : Type 0} (scripts : I → List (Reply R) → Request I R)
 
   -- ---- the newest goal takes an answer over
 
-  module _ (by_value : (x y : I) → same x y ≡ true → x ≡ y) (old new : List (StackEntry X I R A T × Run X F I R A T)) (step : PathKind) (goal : I) (h : AreLinked scripts same old) (asks : AsksNewest scripts old step goal) where
+  module _ (by_value : (x y : I) → same x y ≡ true → x ≡ y) (old new : List (OpenGoal X F I R A T)) (step : PathKind) (goal : I) (h : AreLinked scripts same old) (asks : AsksNewest scripts old step goal) where
     module _ (required : ℕ) (overflow : Bool) (heads : Heads) (a : AnswersNewest step required overflow heads old new) (joined : AreJoined scripts old goal heads) where
       was : AreLinked scripts same ((a.entry, a.run) ∷ a.below)
       was = subst (AreLinked scripts same) a.was h
@@ -83,7 +83,7 @@ module _ {X F I R A T : Type 0} (scripts : I → List (Reply R) → Request I R)
       pub taken_at : (place : ℕ) (other : I) → IsGoalAt old place other → IsGoalAt new place other
       taken_at place other at = subst (λ l. IsGoalAt l place other) (sym a.is) (at_changed (a.entry, a.run) (record a.entry { state = a.state }, a.run) a.below refl place other (subst (λ l. IsGoalAt l place other) a.was at))
 
-      carried : (P : List (StackEntry X I R A T × Run X F I R A T) → List (StackEntry X I R A T × Run X F I R A T) → Type 0) → P old new → P ((a.entry, a.run) ∷ a.below) ((record a.entry { state = a.state }, a.run) ∷ a.below)
+      carried : (P : List (OpenGoal X F I R A T) → List (OpenGoal X F I R A T) → Type 0) → P old new → P ((a.entry, a.run) ∷ a.below) ((record a.entry { state = a.state }, a.run) ∷ a.below)
       carried P p = subst (P ((a.entry, a.run) ∷ a.below)) a.is (subst (λ l. P l new) a.was p)
 
       -- with its nested goals,

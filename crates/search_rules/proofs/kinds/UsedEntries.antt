@@ -7,7 +7,7 @@ use Rattle.std.proofs.lemmas.List.Elements.{All-head}
 use Rattle.std.proofs.lemmas.Map.Views.{Contains-from_lookup}
 use Rattle.cycle_heads.proofs.PathLaws.{first_or_later}
 use Rattle.cycle_heads.proofs.PathMembers.{extended-has}
-use Rattle.search_rules.specs.Below.{CycleHead, entries_at, extended, has_kind, has_head_up_to, asking_heads, highest, IsRising, Lists, may_be_used, NestedPaths, path_kind_from, paths_at, PathKind, PathsToNested, ProvisionalCacheEntry, rank_of, Reply, Request, Run, StackDepth, StackEntry}
+use Rattle.search_rules.specs.Below.{CycleHead, entries_at, extended, has_kind, has_head_up_to, asking_heads, highest, IsRising, Lists, may_be_used, NestedPaths, path_kind_from, paths_at, PathKind, PathsToNested, ProvisionalCacheEntry, rank_of, Reply, Request, StackDepth, StackEntry, OpenGoal}
 use Rattle.search_rules.specs.Kinds.{AreLinked, AsksNewest, EntryIsLinked, IsJoinedTo, IsReachedBy, KeepsKinds, ReachesNested}
 use Rattle.search_rules.specs.LookUp.{Asking, could_be_used, is_applicable, meets_entry, usable_entry}
 use Rattle.search_rules.specs.OneKind.{here, MayLeadTo, MayReach}
@@ -55,7 +55,7 @@ same_ranks k l is = eq-eqb (rank_of k) (rank_of l) (ap rank_of (sym is))
 abbrev pub HaveHeads : {X I R A T : Type 0} → (I → I → Bool) → Lists I (ProvisionalCacheEntry X I R A T) → Type 0
 HaveHeads {I = I} same entries = (goal : I) → All (λ entry. (entry.heads ≢ []) × IsRising entry.heads) (entries_at same entries goal)
 
-module _ {X F I R A T : Type 0} (scripts : I → List (Reply R) → Request I R) (same : I → I → Bool) (goals : List (StackEntry X I R A T × Run X F I R A T)) (linked : AreLinked scripts same goals) (step : PathKind) (goal : I) (asks : AsksNewest scripts goals step goal) where
+module _ {X F I R A T : Type 0} (scripts : I → List (Reply R) → Request I R) (same : I → I → Bool) (goals : List (OpenGoal X F I R A T)) (linked : AreLinked scripts same goals) (step : PathKind) (goal : I) (asks : AsksNewest scripts goals step goal) where
   -- the highest head of an entry is on the stack, and a walk of questions leads from there to what is asked
   module _ (other : I) (entry : ProvisionalCacheEntry X I R A T) (e : EntryIsLinked scripts same goals other entry) (rising : IsRising entry.heads) (head : StackDepth × CycleHead) (top : highest entry.heads ≡ Some head) where
     joined : IsJoinedTo scripts goals other head.0.0

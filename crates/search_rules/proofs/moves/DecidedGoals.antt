@@ -5,7 +5,7 @@ use Rattle.std.proofs.lemmas.Grind.{reverse_onto}
 use Rattle.std.proofs.lemmas.List.{drop-map, map-append, reverse-append}
 use Rattle.open_graphs.specs.Graph as theory
 use Rattle.open_graphs.proofs.Lists.{get_cases}
-use Rattle.search_rules.specs.Below.{PathKind, Inductive, Unknown, Coinductive, ForcedAmbiguity, Reply, StackEntry, path_kind_from, IsDecidedKind, IsDecidedReply, AreDecided, IsDefinite, IsCycleResult, greater_kind, greatest_kind, is_coinductive, is_inductive, Run, Verdicts}
+use Rattle.search_rules.specs.Below.{PathKind, Inductive, Unknown, Coinductive, ForcedAmbiguity, Reply, OpenGoal, StackEntry, path_kind_from, IsDecidedKind, IsDecidedReply, AreDecided, IsDefinite, IsCycleResult, greater_kind, greatest_kind, is_coinductive, is_inductive, Verdicts}
 use Rattle.search_rules.specs.Words.{IsDecided, AllDecided}
 
 -- ---- kinds
@@ -47,43 +47,43 @@ cycle_at says (Some r) initial first h = first
 -- ---- goals
 
 module _ {X F I R A T : Type 0} (says : Verdicts R) where
-  pub newest_decided : (s : StackEntry X I R A T × Run X F I R A T) (below : List (StackEntry X I R A T × Run X F I R A T)) → AllDecided says (s ∷ below) → IsDecided says s
+  pub newest_decided : (s : OpenGoal X F I R A T) (below : List (OpenGoal X F I R A T)) → AllDecided says (s ∷ below) → IsDecided says s
   newest_decided s [] h = h
   newest_decided s (p ∷ below) h = h.0
 
-  pub below_decided : (s : StackEntry X I R A T × Run X F I R A T) (below : List (StackEntry X I R A T × Run X F I R A T)) → AllDecided says (s ∷ below) → AllDecided says below
+  pub below_decided : (s : OpenGoal X F I R A T) (below : List (OpenGoal X F I R A T)) → AllDecided says (s ∷ below) → AllDecided says below
   below_decided s [] h = tt
   below_decided s (p ∷ below) h = h.2
 
   -- the newest goal changes, but for its step
-  pub changed_decided : (s t : StackEntry X I R A T × Run X F I R A T) (below : List (StackEntry X I R A T × Run X F I R A T)) → t.0.step_kind_from_parent ≡ s.0.step_kind_from_parent → (IsDecided says s → IsDecided says t) → AllDecided says (s ∷ below) → AllDecided says (t ∷ below)
+  pub changed_decided : (s t : OpenGoal X F I R A T) (below : List (OpenGoal X F I R A T)) → t.0.step_kind_from_parent ≡ s.0.step_kind_from_parent → (IsDecided says s → IsDecided says t) → AllDecided says (s ∷ below) → AllDecided says (t ∷ below)
   changed_decided s t [] same change h = change h
   changed_decided s t (p ∷ below) same change h = (change h.0, subst IsDecidedKind (sym same) h.1, h.2)
 
-  pub pushed_decided : (s : StackEntry X I R A T × Run X F I R A T) (below : List (StackEntry X I R A T × Run X F I R A T)) → IsDecided says s → IsDecidedKind s.0.step_kind_from_parent → AllDecided says below → AllDecided says (s ∷ below)
+  pub pushed_decided : (s : OpenGoal X F I R A T) (below : List (OpenGoal X F I R A T)) → IsDecided says s → IsDecidedKind s.0.step_kind_from_parent → AllDecided says below → AllDecided says (s ∷ below)
   pushed_decided s [] here kind h = here
   pushed_decided s (p ∷ below) here kind h = (here, kind, h)
 
   -- the steps above a head
-  steps_decided : (goals : List (StackEntry X I R A T × Run X F I R A T)) → AllDecided says goals → (n : ℕ) → KindsDecided (drop (suc n) (map (λ e. e.step_kind_from_parent) (reverse (map (λ s. s.0) goals))))
+  steps_decided : (goals : List (OpenGoal X F I R A T)) → AllDecided says goals → (n : ℕ) → KindsDecided (drop (suc n) (map (λ e. e.step_kind_from_parent) (reverse (map (λ s. s.0) goals))))
   steps_decided [] h n = tt
   steps_decided (s ∷ []) h zero = tt
   steps_decided (s ∷ []) h (suc n) = tt
   steps_decided (s ∷ p ∷ below) h n =
-      let kinds = map (λ (e : StackEntry X I R A T). e.step_kind_from_parent) (reverse (map (λ (t : StackEntry X I R A T × Run X F I R A T). t.0) (p ∷ below))) in
+      let kinds = map (λ (e : StackEntry X I R A T). e.step_kind_from_parent) (reverse (map (λ (t : OpenGoal X F I R A T). t.0) (p ∷ below))) in
       subst (λ l. KindsDecided (drop (suc n) l))
-      (sym (map-append (λ (e : StackEntry X I R A T). e.step_kind_from_parent) (reverse (map (λ (t : StackEntry X I R A T × Run X F I R A T). t.0) (p ∷ below))) (s.0 ∷ []))
-      ∙ ap (map (λ (e : StackEntry X I R A T). e.step_kind_from_parent)) (sym (reverse_onto (map (λ (t : StackEntry X I R A T × Run X F I R A T). t.0) (p ∷ below)) s.0 [])))
-      (drop_last (suc n) (map (λ (e : StackEntry X I R A T). e.step_kind_from_parent) (reverse (map (λ (t : StackEntry X I R A T × Run X F I R A T). t.0) (p ∷ below)))) s.0.step_kind_from_parent (steps_decided (p ∷ below) h.2 n) h.1)
+      (sym (map-append (λ (e : StackEntry X I R A T). e.step_kind_from_parent) (reverse (map (λ (t : OpenGoal X F I R A T). t.0) (p ∷ below))) (s.0 ∷ []))
+      ∙ ap (map (λ (e : StackEntry X I R A T). e.step_kind_from_parent)) (sym (reverse_onto (map (λ (t : OpenGoal X F I R A T). t.0) (p ∷ below)) s.0 [])))
+      (drop_last (suc n) (map (λ (e : StackEntry X I R A T). e.step_kind_from_parent) (reverse (map (λ (t : OpenGoal X F I R A T). t.0) (p ∷ below)))) s.0.step_kind_from_parent (steps_decided (p ∷ below) h.2 n) h.1)
 
-  path_decided : (goals : List (StackEntry X I R A T × Run X F I R A T)) (head : ℕ) (step : PathKind) → AllDecided says goals → IsDecidedKind step → IsDecidedKind (path_kind_from (reverse (map (λ s. s.0) goals)) head step)
+  path_decided : (goals : List (OpenGoal X F I R A T)) (head : ℕ) (step : PathKind) → AllDecided says goals → IsDecidedKind step → IsDecidedKind (path_kind_from (reverse (map (λ s. s.0) goals)) head step)
   path_decided goals head step h decided =
       let next : head + 1 ≡ suc head = omega arith in
-      let above = subst KindsDecided (drop-map (λ (e : StackEntry X I R A T). e.step_kind_from_parent) (suc head) (reverse (map (λ (s : StackEntry X I R A T × Run X F I R A T). s.0) goals))) (steps_decided goals h head) in
+      let above = subst KindsDecided (drop-map (λ (e : StackEntry X I R A T). e.step_kind_from_parent) (suc head) (reverse (map (λ (s : OpenGoal X F I R A T). s.0) goals))) (steps_decided goals h head) in
       greatest_decided (step ∷ map (λ e. e.step_kind_from_parent) (drop (head + 1) (reverse (map (λ s. s.0) goals))))
-      (decided, subst (λ n. KindsDecided (map (λ (e : StackEntry X I R A T). e.step_kind_from_parent) (drop n (reverse (map (λ (s : StackEntry X I R A T × Run X F I R A T). s.0) goals))))) (sym next) above)
+      (decided, subst (λ n. KindsDecided (map (λ (e : StackEntry X I R A T). e.step_kind_from_parent) (drop n (reverse (map (λ (s : OpenGoal X F I R A T). s.0) goals))))) (sym next) above)
 
-  provisional_at : (goals : List (StackEntry X I R A T × Run X F I R A T)) → AllDecided says goals → (j : ℕ) (e : StackEntry X I R A T) → slice_get (reverse (map (λ s. s.0) goals)) j ≡ Some e → IfSome e.state.provisional_result (IsDefinite says)
+  provisional_at : (goals : List (OpenGoal X F I R A T)) → AllDecided says goals → (j : ℕ) (e : StackEntry X I R A T) → slice_get (reverse (map (λ s. s.0) goals)) j ≡ Some e → IfSome e.state.provisional_result (IsDefinite says)
   provisional_at [] h j e at = absurd cc
   provisional_at (s ∷ below) h j e at = elim (get_cases (reverse (map (λ t. t.0) below)) s.0 j e (ap (λ l. slice_get l j) (sym (reverse_onto (map (λ t. t.0) below) s.0 [])) ∙ at)) [
     | inl lower ↦ provisional_at below (below_decided s below h) j e lower
@@ -91,7 +91,7 @@ module _ {X F I R A T : Type 0} (says : Verdicts R) where
   ]
 
   -- the answer to a cycle
-  pub cycle_decided : (goals : List (StackEntry X I R A T × Run X F I R A T)) (head : ℕ) (step : PathKind) (e : StackEntry X I R A T) (initial : R) → AllDecided says goals → IsDecidedKind step → slice_get (reverse (map (λ s. s.0) goals)) head ≡ Some e → IsCycleResult says.is_yes says.is_no (path_kind_from (reverse (map (λ s. s.0) goals)) head step) initial → IsDefinite says (unwrap_or e.state.provisional_result initial)
+  pub cycle_decided : (goals : List (OpenGoal X F I R A T)) (head : ℕ) (step : PathKind) (e : StackEntry X I R A T) (initial : R) → AllDecided says goals → IsDecidedKind step → slice_get (reverse (map (λ s. s.0) goals)) head ≡ Some e → IsCycleResult says.is_yes says.is_no (path_kind_from (reverse (map (λ s. s.0) goals)) head step) initial → IsDefinite says (unwrap_or e.state.provisional_result initial)
   cycle_decided goals head step e initial h decided at sorted =
       cycle_at says e.state.provisional_result initial (provisional_at goals h head e at)
       (initial_definite (path_kind_from (reverse (map (λ s. s.0) goals)) head step) (says.is_yes initial) (says.is_no initial) (path_decided goals head step h decided) sorted.yes sorted.no)

@@ -1,6 +1,6 @@
 -- What a run that ended came to, and what storing that keeps of the cache.
 use Rattle.std.proofs.Common.{◌≡◌, ℕ, ◌<◌, ◌≤◌, ◌&&◌, ◌||◌, if◌then◌else◌, Bool, true, false, List, [], ◌∷◌, Some, Result, Ok, Err, IfErr, option_map, refl, sym, ap, ap₂, ◌∙◌, subst, inl, inr, arith}
-use Rattle.search_rules.specs.Below.{DelegateOf, CxOf, Fault, Request, Done, Reply, Place, Success, WithOverflow, StoredResult, StackEntry, IsDefinite, IsPlainTo, HasNoRank, IsPlain, IsBelowRank, Store, stored_at, same_key, IsPlainAt, IsSafeOutcome, Run, is_in_cycle, newest, Stood, Verdicts, verdicts}
+use Rattle.search_rules.specs.Below.{DelegateOf, CxOf, Fault, Request, Done, Reply, Place, Success, WithOverflow, StoredResult, OpenGoal, StackEntry, IsDefinite, IsPlainTo, HasNoRank, IsPlain, IsBelowRank, Store, stored_at, same_key, IsPlainAt, IsSafeOutcome, is_in_cycle, newest, Stood, Verdicts, verdicts}
 use Rattle.global_cache.proofs.Stores.{put_cases}
 use Rattle.evaluations.proofs.Mirrors.{leaves_calm, leaves_safe, requested_fits}
 use Rattle.search_rules.specs.Words.{Call, CallMeetsNone, Decidedly, IfDiffers, limits, bound, IsCounted, KeepsStore, seen, HasAsked, AreDefinite, HaveNoOverflowOf, HadNoOverflow, MayPut, RequireWithin, Same, WithResult, MayPutNewest, NewestComesTo, NewestIsPlain, IsNewestPlainTo, place_of_item}
@@ -21,7 +21,7 @@ success_at required true never = absurd (never refl)
 success_at required false never = refl
 
 -- what stands for a goal that had its most runs is what it came to
-pub limit_comes : {X F I R A T : Type 0} (scripts : I → List (Reply R) → Request I R) (limit_result : I → R) (goals : List (StackEntry X I R A T × Run X F I R A T)) (e : StackEntry X I R A T) (r : R) → option_map (λ s. s.0) (newest goals) ≡ Some e → r ≡ limit_result e.input → NewestComesTo scripts limit_result goals r
+pub limit_comes : {X F I R A T : Type 0} (scripts : I → List (Reply R) → Request I R) (limit_result : I → R) (goals : List (OpenGoal X F I R A T)) (e : StackEntry X I R A T) (r : R) → option_map (λ s. s.0) (newest goals) ≡ Some e → r ≡ limit_result e.input → NewestComesTo scripts limit_result goals r
 limit_comes scripts limit_result [] e r is result = absurd cc
 limit_comes scripts limit_result (s ∷ below) e r is result = let same : s.0 ≡ e = cc in inr (result ∙ ap (λ (d : StackEntry _ _ _ _ _). limit_result d.input) (sym same))
 
@@ -40,17 +40,17 @@ stopped_by_both (Err fault) P Q S stops h k = stops fault h k
 
 module _ {D C V P F I R A T : Type 0} (G : DelegateOf D C V P F I R A T) (X : CxOf C I R A T) (cx : C) (call : Call I) (ahead : ℕ) (done : R) (starts : ℕ) (met : Bool) where
   -- the run's result is the script's
-  pub newest_comes : (limit_result : I → R) (goals : List (StackEntry C I R A T × Run C F I R A T)) → HasAsked G X cx call ahead (Done done) goals starts met → NewestComesTo (G.script cx) limit_result goals done
+  pub newest_comes : (limit_result : I → R) (goals : List (OpenGoal C F I R A T)) → HasAsked G X cx call ahead (Done done) goals starts met → NewestComesTo (G.script cx) limit_result goals done
   newest_comes limit_result [] h = absurd h.asked.mirror
   newest_comes limit_result (s ∷ below) h =
       let e = ends_newest G X cx call ahead done (s ∷ below) starts met h in
       inl (e.replies, e.is_fitting, e.is_done)
 
-  safe_of : (s : StackEntry C I R A T × Run C F I R A T) (below : List (StackEntry C I R A T × Run C F I R A T)) → HasAsked G X cx call ahead (Done done) (s ∷ below) starts met → IsSafeOutcome (G.script cx) s.0.input s.0.available_depth.0 (outcome_of G X cx done s)
+  safe_of : (s : OpenGoal C F I R A T) (below : List (OpenGoal C F I R A T)) → HasAsked G X cx call ahead (Done done) (s ∷ below) starts met → IsSafeOutcome (G.script cx) s.0.input s.0.available_depth.0 (outcome_of G X cx done s)
   safe_of s below h = leaves_safe (seen G X cx) (Stood G X cx) (G.script cx) (limits G X cx call) (IsCounted G X cx call) call.top (bound G X cx call) ahead done (outcome_of G X cx done s) s below starts met h.asked (leaving G X cx done done s (inl refl))
 
   -- and may be stored as far as ranks go,
-  pub newest_plain : (goals : List (StackEntry C I R A T × Run C F I R A T)) → HasAsked G X cx call ahead (Done done) goals starts met → NewestIsPlain (G.script cx) goals done
+  pub newest_plain : (goals : List (OpenGoal C F I R A T)) → HasAsked G X cx call ahead (Done done) goals starts met → NewestIsPlain (G.script cx) goals done
   newest_plain [] h = absurd h.asked.mirror
   newest_plain (s ∷ below) h =
       let safe = safe_of s below h in
@@ -58,7 +58,7 @@ module _ {D C V P F I R A T : Type 0} (G : DelegateOf D C V P F I R A T) (X : Cx
       (λ over n p. let low : s.0.available_depth.0 < n = safe.overflow over n p in omega (arith, low, safe.within))
 
   -- as may any result of a goal in a cycle
-  pub limited_plain : (goals : List (StackEntry C I R A T × Run C F I R A T)) (r : R) → ((s : StackEntry C I R A T × Run C F I R A T) (below : List (StackEntry C I R A T × Run C F I R A T)) → goals ≡ s ∷ below → is_in_cycle s.0.state ≡ true) → HasAsked G X cx call ahead (Done done) goals starts met → NewestIsPlain (G.script cx) goals r
+  pub limited_plain : (goals : List (OpenGoal C F I R A T)) (r : R) → ((s : OpenGoal C F I R A T) (below : List (OpenGoal C F I R A T)) → goals ≡ s ∷ below → is_in_cycle s.0.state ≡ true) → HasAsked G X cx call ahead (Done done) goals starts met → NewestIsPlain (G.script cx) goals r
   limited_plain [] r cycle h = absurd h.asked.mirror
   limited_plain (s ∷ below) r cycle h =
       let in_cycle : is_in_cycle s.0.state ≡ true = cycle s below refl in
@@ -67,7 +67,7 @@ module _ {D C V P F I R A T : Type 0} (G : DelegateOf D C V P F I R A T) (X : Cx
       unranked_at (G.script cx) s.0.input r (place_of_item s) (safe.cycle refl)
 
   -- where the root's rank fits its depth, the newest goal has a rank and met no overflow
-  pub newest_ranked : (goals : List (StackEntry C I R A T × Run C F I R A T)) (n : ℕ) → IsPlainTo (G.script cx) n call.top → n ≤ call.root → HasAsked G X cx call ahead (Done done) goals starts met → (m : ℕ) × IsNewestPlainTo (G.script cx) m goals
+  pub newest_ranked : (goals : List (OpenGoal C F I R A T)) (n : ℕ) → IsPlainTo (G.script cx) n call.top → n ≤ call.root → HasAsked G X cx call ahead (Done done) goals starts met → (m : ℕ) × IsNewestPlainTo (G.script cx) m goals
   newest_ranked [] n p fits h = absurd h.asked.mirror
   newest_ranked (s ∷ below) n p fits h =
       let room = (requested_fits (seen G X cx) (Stood G X cx) (G.script cx) (limits G X cx call) (IsCounted G X cx call) call.top (bound G X cx call) ahead (Done done) s below starts met n p fits h.asked).0 in (
@@ -81,18 +81,18 @@ module _ {D C V P F I R A T : Type 0} (G : DelegateOf D C V P F I R A T) (X : Cx
       )
 
   -- so storing its result fails for want of memory alone
-  pub memory_alone : {V E : Type 0} (answer : Result V E) (memory : E) (goals : List (StackEntry C I R A T × Run C F I R A T)) → ((m : ℕ) → IsNewestPlainTo (G.script cx) m goals → IfErr answer (λ fault. fault ≡ memory)) → HasAsked G X cx call ahead (Done done) goals starts met → IfErr answer (λ fault. (n : ℕ) → IsPlainTo (G.script cx) n call.top → n ≤ call.root → fault ≡ memory)
+  pub memory_alone : {V E : Type 0} (answer : Result V E) (memory : E) (goals : List (OpenGoal C F I R A T)) → ((m : ℕ) → IsNewestPlainTo (G.script cx) m goals → IfErr answer (λ fault. fault ≡ memory)) → HasAsked G X cx call ahead (Done done) goals starts met → IfErr answer (λ fault. (n : ℕ) → IsPlainTo (G.script cx) n call.top → n ≤ call.root → fault ≡ memory)
   memory_alone (Ok v) memory goals plain h = tt
   memory_alone (Err fault) memory goals plain h = λ n p fits. let m = newest_ranked goals n p fits h in plain m.0 m.1
 
   -- a result that differs from a stored one is the run's, so it is yes or no where the delegate is decisive
-  pub differs_definite : {V : Type 0} (answer : Result V (Fault I R)) (goals : List (StackEntry C I R A T × Run C F I R A T)) → IfErr answer (λ fault. IfDiffers fault (λ found. found ≡ done)) → HasAsked G X cx call ahead (Done done) goals starts met → IfErr answer (λ fault. Decidedly G X cx call met (IfDiffers fault (IsDefinite (verdicts X))))
+  pub differs_definite : {V : Type 0} (answer : Result V (Fault I R)) (goals : List (OpenGoal C F I R A T)) → IfErr answer (λ fault. IfDiffers fault (λ found. found ≡ done)) → HasAsked G X cx call ahead (Done done) goals starts met → IfErr answer (λ fault. Decidedly G X cx call met (IfDiffers fault (IsDefinite (verdicts X))))
   differs_definite (Ok v) goals differs h = tt
   differs_definite (Err fault) goals differs h = λ decisive unmet.
       differs_then fault (λ found. found ≡ done) (IsDefinite (verdicts X)) (λ found is. subst (IsDefinite (verdicts X)) (sym is) (done_definite G X cx call ahead done goals starts met h decisive unmet)) differs
 
   -- as long as the call meets none, the newest goal met no overflow
-  pub calm_of : (s : StackEntry C I R A T × Run C F I R A T) (below : List (StackEntry C I R A T × Run C F I R A T)) → CallMeetsNone G X cx call met → HasAsked G X cx call ahead (Done done) (s ∷ below) starts met → (s.0.state.encountered_overflow || s.1.met_overflow_before) ≡ false
+  pub calm_of : (s : OpenGoal C F I R A T) (below : List (OpenGoal C F I R A T)) → CallMeetsNone G X cx call met → HasAsked G X cx call ahead (Done done) (s ∷ below) starts met → (s.0.state.encountered_overflow || s.1.met_overflow_before) ≡ false
   calm_of s below meets h = leaves_calm (seen G X cx) (Stood G X cx) (G.script cx) (limits G X cx call) (IsCounted G X cx call) call.top (bound G X cx call) ahead done (outcome_of G X cx done s) s below starts met h.asked (leaving G X cx done done s (inl refl)) meets
 
 -- a success is at no place of an overflow result
@@ -131,20 +131,20 @@ module _ {X I R A T : Type 0} (same : I → I → Bool) (by_value : (x y : I) �
 
 module _ {D C V P F I R A T : Type 0} (G : DelegateOf D C V P F I R A T) (X : CxOf C I R A T) (cx : C) (call : Call I) (same : I → I → Bool) where
   -- what is stored of the newest goal requires no more than the root depth
-  pub newest_within : ((x y : I) → same x y ≡ true → x ≡ y) → (before after : Store I (StoredResult C I R A T)) (ahead : ℕ) (done r : R) (goals : List (StackEntry C I R A T × Run C F I R A T)) (starts : ℕ) (met : Bool) → MayPutNewest same goals r before after → HasAsked G X cx call ahead (Done done) goals starts met → RequireWithin same call.root call.stood before → RequireWithin same call.root call.stood after
+  pub newest_within : ((x y : I) → same x y ≡ true → x ≡ y) → (before after : Store I (StoredResult C I R A T)) (ahead : ℕ) (done r : R) (goals : List (OpenGoal C F I R A T)) (starts : ℕ) (met : Bool) → MayPutNewest same goals r before after → HasAsked G X cx call ahead (Done done) goals starts met → RequireWithin same call.root call.stood before → RequireWithin same call.root call.stood after
   newest_within by_value before after ahead done r [] starts met put h all = absurd put
   newest_within by_value before after ahead done r (s ∷ below) starts met put h all =
       put_within same by_value before after s.0.input (place_of_item s) s.0.state.required_depth r call.root call.stood (asker_requires G X cx call ahead (Done done) s below starts met h) put all
 
   -- and as long as the call meets none, that is no overflow result
-  put_met_none : ((x y : I) → same x y ≡ true → x ≡ y) → (before after : Store I (StoredResult C I R A T)) (ahead : ℕ) (done r : R) (goals : List (StackEntry C I R A T × Run C F I R A T)) (starts : ℕ) (met : Bool) → CallMeetsNone G X cx call met → MayPutNewest same goals r before after → HasAsked G X cx call ahead (Done done) goals starts met → HaveNoOverflowOf (HadNoOverflow call) same before → HaveNoOverflowOf (HadNoOverflow call) same after
+  put_met_none : ((x y : I) → same x y ≡ true → x ≡ y) → (before after : Store I (StoredResult C I R A T)) (ahead : ℕ) (done r : R) (goals : List (OpenGoal C F I R A T)) (starts : ℕ) (met : Bool) → CallMeetsNone G X cx call met → MayPutNewest same goals r before after → HasAsked G X cx call ahead (Done done) goals starts met → HaveNoOverflowOf (HadNoOverflow call) same before → HaveNoOverflowOf (HadNoOverflow call) same after
   put_met_none by_value before after ahead done r [] starts met meets put h none = absurd put
   put_met_none by_value before after ahead done r (s ∷ below) starts met meets put h none =
       put_without_overflow same by_value before after s.0.input (place_of_item s) s.0.state.required_depth r (HadNoOverflow call)
       (ap (λ b. if b then WithOverflow s.0.state.required_depth else Success) (calm_of G X cx call ahead done starts met s below meets h)) put none
 
   -- the result of a run keeps what the call keeps of them,
-  pub put_keeps : ((x y : I) → same x y ≡ true → x ≡ y) → (before after : Store I (StoredResult C I R A T)) (ahead : ℕ) (done : R) (goals : List (StackEntry C I R A T × Run C F I R A T)) (starts : ℕ) (met : Bool) → MayPutNewest same goals done before after → HasAsked G X cx call ahead (Done done) goals starts met → KeepsStore G X cx same call met before → KeepsStore G X cx same call met after
+  pub put_keeps : ((x y : I) → same x y ≡ true → x ≡ y) → (before after : Store I (StoredResult C I R A T)) (ahead : ℕ) (done : R) (goals : List (OpenGoal C F I R A T)) (starts : ℕ) (met : Bool) → MayPutNewest same goals done before after → HasAsked G X cx call ahead (Done done) goals starts met → KeepsStore G X cx same call met before → KeepsStore G X cx same call met after
   put_keeps by_value before after ahead done [] starts met put h keeps = absurd put
   put_keeps by_value before after ahead done (s ∷ below) starts met put h keeps = record {
     overflow = λ meets. put_met_none by_value before after ahead done done (s ∷ below) starts met meets put h (keeps.overflow meets);
@@ -153,7 +153,7 @@ module _ {D C V P F I R A T : Type 0} (G : DelegateOf D C V P F I R A T) (X : Cx
   }
 
   -- and so does any result of a goal that had its most runs, which meets a limit
-  pub limited_keeps : ((x y : I) → same x y ≡ true → x ≡ y) → (before after : Store I (StoredResult C I R A T)) (ahead : ℕ) (done r : R) (goals : List (StackEntry C I R A T × Run C F I R A T)) (starts : ℕ) (met : Bool) → MayPutNewest same goals r before after → HasAsked G X cx call ahead (Done done) goals starts met → KeepsStore G X cx same call met before → KeepsStore G X cx same call true after
+  pub limited_keeps : ((x y : I) → same x y ≡ true → x ≡ y) → (before after : Store I (StoredResult C I R A T)) (ahead : ℕ) (done r : R) (goals : List (OpenGoal C F I R A T)) (starts : ℕ) (met : Bool) → MayPutNewest same goals r before after → HasAsked G X cx call ahead (Done done) goals starts met → KeepsStore G X cx same call met before → KeepsStore G X cx same call true after
   limited_keeps by_value before after ahead done r goals starts met put h keeps = record {
     overflow = λ meets. let was = met_none_before G X cx call met meets in put_met_none by_value before after ahead done r goals starts met was put h (keeps.overflow was);
     definite = λ decisive unmet. absurd cc;

@@ -1,7 +1,7 @@
 -- What is known of a goal by what becomes of it.
 use Rattle.std.proofs.Common.{◌≡◌, ℕ, ◌+◌, ◌<◌, ◌≤◌, max, Bool, true, is_some, IsSome, List, ◌∷◌, Option, None, Some, Result, Err, option_map, refl, sym, ap, ◌∙◌, subst, arith, inl, inr}
 use Rattle.std.proofs.lemmas.Bool.{cases_eq, or_left}
-use Rattle.search_rules.specs.Below.{PathKind, Inductive, Unknown, Coinductive, ForcedAmbiguity, HeadUsages, count_of, RebaseReason, StackEntry, Run, is_in_cycle, some_heads, newest}
+use Rattle.search_rules.specs.Below.{PathKind, Inductive, Unknown, Coinductive, ForcedAmbiguity, HeadUsages, count_of, RebaseReason, OpenGoal, StackEntry, Run, is_in_cycle, some_heads, newest}
 use Rattle.provisional_cache.specs.declared.RebaseReason.TheVariants as reason
 use Rattle.search_rules.specs.Words.{Unstable, AtLimit, IsReason, IsEndOfRun, IsUsed, Repeated, Initial, Stable, Limited, Repeats}
 use Rattle.search_rules.specs.declared.end_of_run.Unstable.TheVariants.{Again}
@@ -47,21 +47,21 @@ module _ {X I R A T : Type 0} (same : R → R → Bool) (initial_kind : R → Op
   unstable e (Repeats used is never few) at = (ap is_some is, few)
 
 -- what was read of the newest goal holds of it
-module _ {X F I R A T : Type 0} (goals : List (StackEntry X I R A T × Run X F I R A T)) (e : StackEntry X I R A T) (y : Run X F I R A T) (entry_is : option_map (λ s. s.0) (newest goals) ≡ Some e) (run_is : option_map (λ s. s.1) (newest goals) ≡ Some y) where
-  of_newest : (P : StackEntry X I R A T → Run X F I R A T → Type 0) → P e y → (s : StackEntry X I R A T × Run X F I R A T) (below : List (StackEntry X I R A T × Run X F I R A T)) → goals ≡ s ∷ below → P s.0 s.1
+module _ {X F I R A T : Type 0} (goals : List (OpenGoal X F I R A T)) (e : StackEntry X I R A T) (y : Run X F I R A T) (entry_is : option_map (λ s. s.0) (newest goals) ≡ Some e) (run_is : option_map (λ s. s.1) (newest goals) ≡ Some y) where
+  of_newest : (P : StackEntry X I R A T → Run X F I R A T → Type 0) → P e y → (s : OpenGoal X F I R A T) (below : List (OpenGoal X F I R A T)) → goals ≡ s ∷ below → P s.0 s.1
   of_newest P holds s below is =
-      let first : Some s.0 ≡ Some e = ap (λ l. option_map (λ (t : StackEntry X I R A T × Run X F I R A T). t.0) (newest l)) (sym is) ∙ entry_is in
-      let second : Some s.1 ≡ Some y = ap (λ l. option_map (λ (t : StackEntry X I R A T × Run X F I R A T). t.1) (newest l)) (sym is) ∙ run_is in
+      let first : Some s.0 ≡ Some e = ap (λ l. option_map (λ (t : OpenGoal X F I R A T). t.0) (newest l)) (sym is) ∙ entry_is in
+      let second : Some s.1 ≡ Some y = ap (λ l. option_map (λ (t : OpenGoal X F I R A T). t.1) (newest l)) (sym is) ∙ run_is in
       let same : s.0 ≡ e = cc in
       let other : s.1 ≡ y = cc in
       subst (λ d. P d s.1) (sym same) (subst (P e) (sym other) holds)
 
-  pub newest_limited : (limit : ℕ) → (is_some e.state.usages ≡ true) × (limit ≤ y.finished_runs + 1) → (s : StackEntry X I R A T × Run X F I R A T) (below : List (StackEntry X I R A T × Run X F I R A T)) → goals ≡ s ∷ below → (is_in_cycle s.0.state ≡ true) × (max 1 limit ≤ s.1.finished_runs + 1)
+  pub newest_limited : (limit : ℕ) → (is_some e.state.usages ≡ true) × (limit ≤ y.finished_runs + 1) → (s : OpenGoal X F I R A T) (below : List (OpenGoal X F I R A T)) → goals ≡ s ∷ below → (is_in_cycle s.0.state ≡ true) × (max 1 limit ≤ s.1.finished_runs + 1)
   newest_limited limit is =
       let many : max 1 limit ≤ y.finished_runs + 1 = omega (arith, is.1) in
       of_newest (λ d r. (is_in_cycle d.state ≡ true) × (max 1 limit ≤ r.finished_runs + 1)) (or_left (is_some e.state.usages) (some_heads e.state.heads) is.0, many)
 
-  pub newest_unstable : (limit : ℕ) → (is_some e.state.usages ≡ true) × (y.finished_runs + 1 < limit) → (s : StackEntry X I R A T × Run X F I R A T) (below : List (StackEntry X I R A T × Run X F I R A T)) → goals ≡ s ∷ below → (is_in_cycle s.0.state ≡ true) × (s.1.finished_runs + 1 < max 1 limit)
+  pub newest_unstable : (limit : ℕ) → (is_some e.state.usages ≡ true) × (y.finished_runs + 1 < limit) → (s : OpenGoal X F I R A T) (below : List (OpenGoal X F I R A T)) → goals ≡ s ∷ below → (is_in_cycle s.0.state ≡ true) × (s.1.finished_runs + 1 < max 1 limit)
   newest_unstable limit is =
       let few : y.finished_runs + 1 < max 1 limit = omega (arith, is.1) in
       of_newest (λ d r. (is_in_cycle d.state ≡ true) × (r.finished_runs + 1 < max 1 limit)) (or_left (is_some e.state.usages) (some_heads e.state.heads) is.0, few)

@@ -3,7 +3,7 @@ use Rattle.std.proofs.Common.{◌≡◌, ℕ, zero, suc, ◌+◌, ◌-◌, ◌*�
 use Rattle.std.specs.List.{list_any}
 use Rattle.std.proofs.lemmas.Bool.{or_right, true≢false}
 use Rattle.std.proofs.lemmas.Bool.Decides.{nat_tests}
-use Rattle.search_rules.specs.Below.{CacheNode, DelegateOf, CxOf, Request, Evaluate, Done, Reply, Begin, Answer, PathKind, NodeId, AvailableDepth, StackDepth, EntryState, Heads, NestedPaths, StackEntry, depth_below, frames_within, Verdict, Fault, Memory, Protocol, IsFitting, progress_after, order_fault, fault_after, CountsOne, Steps, IsCycleResult, Outcome, run_again, IsAllowed, HasNoRank, IsPlainTo, AreSafe, IsRooted, IsEvaluating, at, Ends, with_replies, TakesStep, TakesReply, ItemLeaves, IsAmong, AreSeen, Mirror, Waits, Run, Next, Step, Finished, Received, overflowed, first_entry, with_nested_goals, is_in_cycle, cycle_head, some_heads, TakesAnswer, requested, fault_of, IsReplySorted, Stood, CanStep, IsVerdict, received_by, HasStepped, IsStepFault, NoMemoryLeft, OutOfOrder, path_kind_from, IsDecidedKind, AreDecided, IsDecisive, IsDefinite, AnswersNewest, rerun_with, with_no_record, verdicts}
+use Rattle.search_rules.specs.Below.{CacheNode, DelegateOf, CxOf, Request, Evaluate, Done, Reply, Begin, Answer, PathKind, NodeId, AvailableDepth, StackDepth, EntryState, Heads, NestedPaths, OpenGoal, StackEntry, depth_below, frames_within, Verdict, Fault, Memory, Protocol, IsFitting, progress_after, order_fault, fault_after, CountsOne, Steps, IsCycleResult, Outcome, run_again, IsAllowed, HasNoRank, IsPlainTo, AreSafe, IsRooted, IsEvaluating, at, Ends, with_replies, TakesStep, TakesReply, ItemLeaves, IsAmong, AreSeen, Mirror, Waits, Run, Next, Step, Finished, Received, overflowed, first_entry, with_nested_goals, is_in_cycle, cycle_head, some_heads, TakesAnswer, requested, fault_of, IsReplySorted, Stood, CanStep, IsVerdict, received_by, HasStepped, IsStepFault, NoMemoryLeft, OutOfOrder, path_kind_from, IsDecidedKind, AreDecided, IsDecisive, IsDefinite, AnswersNewest, rerun_with, with_no_record, verdicts}
 use Rattle.evaluations.specs.Frames.{Frame, answered}
 use Rattle.evaluations.proofs.Mirrors.{step_requests, can_take, refused_waits, answered_waits, pushed_waits, rerun_waits, popped_waits, popped_at_limit_waits, last_item_ends, last_item_ends_at_limit, last_run_stops, failed_rerun_stops, WaitsWithLess, first_waits, waits_stops, requested_stops, failed_push_stops, cycle_found, requested_fits, requested_by, asked_among, none_refused}
 use Rattle.evaluations.proofs.Evaluations.{evaluation_stops, fitting_meets_no_limit}
@@ -43,16 +43,16 @@ some_frames runs width (suc depth) some = let more : runs * 1 ≤ runs * (1 + wi
 
 module _ {D C V P F I R A T : Type 0} (G : DelegateOf D C V P F I R A T) (X : CxOf C I R A T) (cx : C) where
   -- the outcome of a popped goal
-  abbrev pub outcome_of : R → StackEntry C I R A T × Run C F I R A T → Outcome R
+  abbrev pub outcome_of : R → OpenGoal C F I R A T → Outcome R
   outcome_of r s = record { result = r; required = s.0.state.required_depth; met_overflow = s.0.state.encountered_overflow || s.1.met_overflow_before; in_cycle = some_heads s.0.state.heads }
 
   -- what a popped goal leaves: its run's result, or, of a goal in a cycle, any result
-  pub leaving : (done r : R) (s : StackEntry C I R A T × Run C F I R A T) → (r ≡ done) ⊎ (is_in_cycle s.0.state ≡ true) → ItemLeaves done (seen G X cx s) (outcome_of r s)
+  pub leaving : (done r : R) (s : OpenGoal C F I R A T) → (r ≡ done) ⊎ (is_in_cycle s.0.state ≡ true) → ItemLeaves done (seen G X cx s) (outcome_of r s)
   leaving done r s result = record { result = result; required = refl; met_overflow = refl; in_cycle = or_right (is_some s.0.state.usages) (some_heads s.0.state.heads) }
 
 module _ {D C V P F I R A T : Type 0} (G : DelegateOf D C V P F I R A T) (X : CxOf C I R A T) (cx : C) (call : Call I) where
   abbrev Goal : Type 0
-  Goal = StackEntry C I R A T × Run C F I R A T
+  Goal = OpenGoal C F I R A T
 
   -- the newest frame can take its reply,
   pub can_step : (reply : Reply R) (goals : List Goal) (starts : ℕ) (met : Bool) → IsWaiting G X cx call reply goals starts met → CanStep G X cx reply goals

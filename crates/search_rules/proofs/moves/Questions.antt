@@ -4,7 +4,7 @@ use Rattle.std.specs.Result.{IsErrAnd}
 use Rattle.std.specs.List.{list_any}
 use Rattle.std.specs.Option.{option_and_then, option_map}
 use Rattle.std.proofs.lemmas.Bool.Decides.{nat_tests}
-use Rattle.search_rules.specs.Below.{CacheNode, DelegateOf, CxOf, Evaluate, Begin, Answer, Memory, PathKind, AvailableDepth, StackEntry, depth_below, CountsOne, IsCycleResult, IsAllowed, Run, newest, StackDepth, StoredResult, NestedPaths, Store, Received, Heads, IsDefinite, HasNoRank, AnswersNewest, overflowed, with_nested_goals, NotesOverflow, verdicts, IsAmong}
+use Rattle.search_rules.specs.Below.{CacheNode, DelegateOf, CxOf, Evaluate, Begin, Answer, Memory, PathKind, AvailableDepth, OpenGoal, depth_below, CountsOne, IsCycleResult, IsAllowed, newest, StackDepth, StoredResult, NestedPaths, Store, Received, Heads, IsDefinite, HasNoRank, AnswersNewest, overflowed, with_nested_goals, NotesOverflow, verdicts, IsAmong}
 use Rattle.search_rules.specs.Words.{UsesStored, Call, CallMeetsNone, CallIsEnclosed, seen, Decidedly, HasAsked, CallGoesOn, HasStopped, KeepsStore, ClosesCycle, Pushes}
 use Rattle.search_rules.proofs.moves.StoredAnswers.{stored_goes_on}
 use Rattle.search_rules.proofs.moves.Moves.{allowed, asker_fits, enclosed_asker, refused_goes_on, cycle_goes_on, provisional_goes_on, pushed_goes_on, failed_push_stopped}
@@ -42,9 +42,9 @@ no_depth a divisor false false at is = absurd cc
 
 module _ {D C V P F I R A T : Type 0} (G : DelegateOf D C V P F I R A T) (X : CxOf C I R A T) (cx : C) (call : Call I) (ahead : ℕ) (kind : PathKind) (goal : I) (starts : ℕ) (met : Bool) where
   abbrev Goals : Type 0
-  Goals = List (StackEntry C I R A T × Run C F I R A T)
+  Goals = List (OpenGoal C F I R A T)
 
-  pub refused_at : (r : R) (s : StackEntry C I R A T × Run C F I R A T) (below : Goals) (nested : NestedPaths I) → None ≡ depth_below G.DIVIDE_AVAILABLE_DEPTH_ON_OVERFLOW s.0 → HasAsked G X cx call ahead (Evaluate kind goal) (s ∷ below) starts met → CallGoesOn G X cx call ahead (Answer r) ((overflowed (record s.0 { state = with_nested_goals s.0.state nested }), s.1) ∷ below) starts true
+  pub refused_at : (r : R) (s : OpenGoal C F I R A T) (below : Goals) (nested : NestedPaths I) → None ≡ depth_below G.DIVIDE_AVAILABLE_DEPTH_ON_OVERFLOW s.0 → HasAsked G X cx call ahead (Evaluate kind goal) (s ∷ below) starts met → CallGoesOn G X cx call ahead (Answer r) ((overflowed (record s.0 { state = with_nested_goals s.0.state nested }), s.1) ∷ below) starts true
   refused_at r s below nested none h =
       let at : s.0.available_depth.0 ≡ 0 = no_depth s.0.available_depth.0 G.DIVIDE_AVAILABLE_DEPTH_ON_OVERFLOW (nat_eq s.0.available_depth.0 0) s.0.state.encountered_overflow refl (sym none) in
       refused_goes_on G X cx call ahead kind goal r s below nested starts met at h
@@ -58,15 +58,15 @@ module _ {D C V P F I R A T : Type 0} (G : DelegateOf D C V P F I R A T) (X : Cx
   pub ask_refused : (same : I → I → Bool) (r : R) (goals new : Goals) → None ≡ option_and_then (λ s. depth_below G.DIVIDE_AVAILABLE_DEPTH_ON_OVERFLOW s.0) (newest goals) → NotesOverflow same goals new → HasAsked G X cx call ahead (Evaluate kind goal) goals starts met → CallGoesOn G X cx call ahead (Answer r) new starts true
   ask_refused same r goals new none n h =
       subst (λ v. CallGoesOn G X cx call ahead (Answer r) v starts true) (sym n.is)
-      (refused_at r (n.entry, n.run) n.below n.nested (none ∙ ap (λ l. option_and_then (λ (t : StackEntry C I R A T × Run C F I R A T). depth_below G.DIVIDE_AVAILABLE_DEPTH_ON_OVERFLOW t.0) (newest l)) n.was)
+      (refused_at r (n.entry, n.run) n.below n.nested (none ∙ ap (λ l. option_and_then (λ (t : OpenGoal C F I R A T). depth_below G.DIVIDE_AVAILABLE_DEPTH_ON_OVERFLOW t.0) (newest l)) n.was)
       (subst (λ v. HasAsked G X cx call ahead (Evaluate kind goal) v starts met) n.was h))
 
   module _ (more : 2 ≤ G.DIVIDE_AVAILABLE_DEPTH_ON_OVERFLOW) (depth : AvailableDepth) where
-    may_ask : (s : StackEntry C I R A T × Run C F I R A T) → Some depth.0 ≡ depth_below G.DIVIDE_AVAILABLE_DEPTH_ON_OVERFLOW s.0 → IsAllowed (seen G X cx s) depth.0
+    may_ask : (s : OpenGoal C F I R A T) → Some depth.0 ≡ depth_below G.DIVIDE_AVAILABLE_DEPTH_ON_OVERFLOW s.0 → IsAllowed (seen G X cx s) depth.0
     may_ask s is = let a = allowed G.DIVIDE_AVAILABLE_DEPTH_ON_OVERFLOW depth.0 s.0 more is in record { is_less = a.0; is_next = a.1 }
 
-    pub may_ask_of : (goals : Goals) → Some depth.0 ≡ option_and_then (λ s. depth_below G.DIVIDE_AVAILABLE_DEPTH_ON_OVERFLOW s.0) (newest goals) → (s : StackEntry C I R A T × Run C F I R A T) (below : Goals) → goals ≡ s ∷ below → IsAllowed (seen G X cx s) depth.0
-    may_ask_of goals may s below is = may_ask s (may ∙ ap (λ l. option_and_then (λ (t : StackEntry C I R A T × Run C F I R A T). depth_below G.DIVIDE_AVAILABLE_DEPTH_ON_OVERFLOW t.0) (newest l)) is)
+    pub may_ask_of : (goals : Goals) → Some depth.0 ≡ option_and_then (λ s. depth_below G.DIVIDE_AVAILABLE_DEPTH_ON_OVERFLOW s.0) (newest goals) → (s : OpenGoal C F I R A T) (below : Goals) → goals ≡ s ∷ below → IsAllowed (seen G X cx s) depth.0
+    may_ask_of goals may s below is = may_ask s (may ∙ ap (λ l. option_and_then (λ (t : OpenGoal C F I R A T). depth_below G.DIVIDE_AVAILABLE_DEPTH_ON_OVERFLOW t.0) (newest l)) is)
 
     -- the depth of a question is less than any number of a word
     pub asked_depth_fits : (goals : Goals) → Some depth.0 ≡ option_and_then (λ s. depth_below G.DIVIDE_AVAILABLE_DEPTH_ON_OVERFLOW s.0) (newest goals) → HasAsked G X cx call ahead (Evaluate kind goal) goals starts met → depth.0 + 1 < 2 ^ 64

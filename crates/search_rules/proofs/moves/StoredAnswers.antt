@@ -1,7 +1,7 @@
 -- A stored result answers the newest goal's question, or the call.
 use Rattle.std.proofs.Common.{◌≡◌, ℕ, ◌<◌, ◌≤◌, Bool, true, false, List, ◌∷◌, Some, None, refl, sym, ap, ◌∙◌, subst, arith}
 use Rattle.std.proofs.Math.Bool.{or-false}
-use Rattle.search_rules.specs.Below.{DelegateOf, CxOf, Evaluate, Answer, PathKind, WithOverflow, StoredResult, StackEntry, IsDefinite, Hit, NestedPaths, IsPlainTo, Store, stored_at, Outcome, IsAllowed, IsSafeOutcome, with_replies, TakesReply, Received, Run, with_depth, with_nested_goals, is_in_cycle, Stood, verdicts}
+use Rattle.search_rules.specs.Below.{DelegateOf, CxOf, Evaluate, Answer, PathKind, WithOverflow, StoredResult, OpenGoal, StackEntry, IsDefinite, Hit, NestedPaths, IsPlainTo, Store, stored_at, Outcome, IsAllowed, IsSafeOutcome, with_replies, TakesReply, Received, Run, with_depth, with_nested_goals, is_in_cycle, Stood, verdicts}
 use Rattle.evaluations.specs.Frames.{answered}
 use Rattle.evaluations.proofs.Mirrors.{answered_waits}
 use Rattle.search_rules.specs.Words.{Call, runs, limits, bound, IsCounted, Begins, KeepsStore, seen, HasAsked, CallGoesOn, HasEnded, IsUsable, UsesStored, AreDefinite, HadNoOverflow, HaveNoOverflowOf}
@@ -10,7 +10,7 @@ use Rattle.search_rules.proofs.moves.Moves.{asks_known, some_frames, some_runs}
 
 module _ {D C V P F I R A T : Type 0} (G : DelegateOf D C V P F I R A T) (X : CxOf C I R A T) (cx : C) (call : Call I) (same : I → I → Bool) (results : Store I (StoredResult C I R A T)) where
   abbrev Goal : Type 0
-  Goal = StackEntry C I R A T × Run C F I R A T
+  Goal = OpenGoal C F I R A T
 
   -- what the theory is told of a used result
   abbrev outcome_of_hit : Hit I R T → Outcome R

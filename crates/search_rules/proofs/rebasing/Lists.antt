@@ -3,7 +3,7 @@ use Rattle.std.proofs.Common.{◌≡◌, ℕ, ◌+◌, ◌<◌, Bool, ◌&&◌, 
 use Rattle.std.specs.Option.{option_map, IfSome}
 use Rattle.std.proofs.lemmas.Grind.{reverse_onto}
 use Rattle.std.proofs.lemmas.List.{drop-map, map-append}
-use Rattle.search_rules.specs.Below.{StackDepth, CycleHead, PathKind, Heads, highest, greatest_kind, EvaluationResult, StackEntry, ProvisionalCacheEntry, path_kind_from, Lists, entries_at, NodeId, RebaseReason, Run, Next}
+use Rattle.search_rules.specs.Below.{StackDepth, CycleHead, PathKind, Heads, highest, greatest_kind, EvaluationResult, OpenGoal, StackEntry, ProvisionalCacheEntry, path_kind_from, Lists, entries_at, NodeId, RebaseReason, Next}
 use Rattle.provisional_cache.proofs.RebasedHeads.{highest_within}
 use Rattle.search_rules.specs.Words.{GivesAnswer, final_answer, entries_for, entry_of, rebased_for}
 use Rattle.search_rules.proofs.entries.Ready.{on_stack_many}
@@ -52,12 +52,12 @@ module _ {X I R A T : Type 0} where
 
 module _ {X F I R A T : Type 0} where
   -- the stack of the goals
-  abbrev stack_of : List (StackEntry X I R A T × Run X F I R A T) → List (StackEntry X I R A T)
+  abbrev stack_of : List (OpenGoal X F I R A T) → List (StackEntry X I R A T)
   stack_of goals = reverse (map (λ s. s.0) goals)
 
   module _ (step : PathKind) (answer : EvaluationResult X I R A T) where
     -- the goals that are left have the steps that they had
-    steps_stay : (below later : List (StackEntry X I R A T × Run X F I R A T)) (next : Next R) → GivesAnswer step answer below next later → steps_of (stack_of later) ≡ steps_of (stack_of below)
+    steps_stay : (below later : List (OpenGoal X F I R A T)) (next : Next R) → GivesAnswer step answer below next later → steps_of (stack_of later) ≡ steps_of (stack_of below)
     steps_stay [] later next given = ap (λ l. steps_of (stack_of l)) given.1
     steps_stay (p ∷ below) later next given =
         let a = given.1 in
@@ -66,18 +66,18 @@ module _ {X F I R A T : Type 0} where
         ∙ sym (ap (λ l. steps_of (stack_of l)) a.was)
 
     -- and are as many
-    as_many : (below later : List (StackEntry X I R A T × Run X F I R A T)) (next : Next R) → GivesAnswer step answer below next later → length later ≡ length below
+    as_many : (below later : List (OpenGoal X F I R A T)) (next : Next R) → GivesAnswer step answer below next later → length later ≡ length below
     as_many [] later next given = ap length given.1
     as_many (p ∷ below) later next given = let a = given.1 in ap length a.is ∙ sym (ap length a.was)
 
     -- the highest of heads that were on the stack is there still
-    pub highest_stays : (below later : List (StackEntry X I R A T × Run X F I R A T)) (next : Next R) → GivesAnswer step answer below next later → (heads : Heads) → All (λ (head : StackDepth × CycleHead). head.0.0 < length (reverse (map (λ s. s.0) below))) heads → IfSome (highest heads) (λ head. head.0.0 < length (reverse (map (λ s. s.0) later)))
+    pub highest_stays : (below later : List (OpenGoal X F I R A T)) (next : Next R) → GivesAnswer step answer below next later → (heads : Heads) → All (λ (head : StackDepth × CycleHead). head.0.0 < length (reverse (map (λ s. s.0) below))) heads → IfSome (highest heads) (λ head. head.0.0 < length (reverse (map (λ s. s.0) later)))
     highest_stays below later next given heads on_stack =
         subst (λ n. IfSome (highest heads) (λ head. head.0.0 < n)) (on_stack_many below ∙ sym (as_many below later next given) ∙ sym (on_stack_many later))
         (highest_within (length (stack_of below)) heads on_stack)
 
 -- The entries were rebased for the reason once the goal was popped, and the answer was put last once it was given.
-module _ {C X F I R A T : Type 0} (same : I → I → Bool) (enabled : Bool) (propagated : C → I → A → R) (overflow : C → I → R) (used cx : C) (same_context : used ≡ cx) (reason : Option (RebaseReason X I R A T)) (r : R) (target : Option NodeId) (s : StackEntry X I R A T × Run X F I R A T) (below later : List (StackEntry X I R A T × Run X F I R A T)) (next : Next R) (stack after : List (StackEntry X I R A T)) (stack_is : stack ≡ reverse (map (λ s. s.0) below)) (after_is : after ≡ reverse (map (λ s. s.0) later)) (step : PathKind) (step_is : step ≡ s.0.step_kind_from_parent) (input : I) (input_is : input ≡ s.0.input) (answer : EvaluationResult X I R A T) (answer_is : answer ≡ final_answer s r target) (given : GivesAnswer step answer below next later) (old middle new : Lists I (ProvisionalCacheEntry X I R A T)) (changed : (goal : I) → entries_at same middle goal ≡ rebased_for (propagated used goal) (overflow used goal) reason stack s.0 (entries_at same old goal)) (put : (goal : I) → entries_at same new goal ≡ entries_at same middle goal ++ (if enabled && same input goal then entries_for after step answer else [])) where
+module _ {C X F I R A T : Type 0} (same : I → I → Bool) (enabled : Bool) (propagated : C → I → A → R) (overflow : C → I → R) (used cx : C) (same_context : used ≡ cx) (reason : Option (RebaseReason X I R A T)) (r : R) (target : Option NodeId) (s : OpenGoal X F I R A T) (below later : List (OpenGoal X F I R A T)) (next : Next R) (stack after : List (StackEntry X I R A T)) (stack_is : stack ≡ reverse (map (λ s. s.0) below)) (after_is : after ≡ reverse (map (λ s. s.0) later)) (step : PathKind) (step_is : step ≡ s.0.step_kind_from_parent) (input : I) (input_is : input ≡ s.0.input) (answer : EvaluationResult X I R A T) (answer_is : answer ≡ final_answer s r target) (given : GivesAnswer step answer below next later) (old middle new : Lists I (ProvisionalCacheEntry X I R A T)) (changed : (goal : I) → entries_at same middle goal ≡ rebased_for (propagated used goal) (overflow used goal) reason stack s.0 (entries_at same old goal)) (put : (goal : I) → entries_at same new goal ≡ entries_at same middle goal ++ (if enabled && same input goal then entries_for after step answer else [])) where
   -- the old entries, rebased
   abbrev rebased_by : C → List (StackEntry X I R A T) → I → List (ProvisionalCacheEntry X I R A T)
   rebased_by x l goal = rebased_for (propagated x goal) (overflow x goal) reason l s.0 (entries_at same old goal)

@@ -4,7 +4,7 @@ use Rattle.std.proofs.lemmas.Bool.{cases_eq, false≢true}
 use Rattle.std.proofs.lemmas.List.{length-map, length-reverse}
 use Rattle.std.proofs.lemmas.List.Elements.{All-head, All-tail}
 use Rattle.open_graphs.specs.Graph as theory
-use Rattle.search_rules.specs.Below.{Entry, path_kind, stack_of, AreDepths, HasResult, InsertsEmpty, InsertsHeads, IsTakenOut, IsTrueReason, IsRebasable, IsLeftHead, RebasedBy, Stays, NotNeeded, Needed, StackDepth, PathsToNested, CycleHead, HeadUsages, Heads, at_depth, highest, IsRising, head_shape, heads_shape, rank_of, extended_by_each, path_of_no_step, has_usages, no_usages, StackEntry, ProvisionalCacheEntry, RebaseReason, CanBeRebased, but_highest, from_head, keeps_kinds, rebased, changed_for, with_used, with_unused, verdict_of, Run, Verdicts}
+use Rattle.search_rules.specs.Below.{Entry, path_kind, stack_of, AreDepths, HasResult, InsertsEmpty, InsertsHeads, IsTakenOut, IsTrueReason, IsRebasable, IsLeftHead, RebasedBy, Stays, NotNeeded, Needed, StackDepth, PathsToNested, CycleHead, HeadUsages, Heads, at_depth, highest, IsRising, head_shape, heads_shape, rank_of, extended_by_each, path_of_no_step, has_usages, no_usages, OpenGoal, StackEntry, ProvisionalCacheEntry, RebaseReason, CanBeRebased, but_highest, from_head, keeps_kinds, rebased, changed_for, with_used, with_unused, verdict_of, Verdicts}
 use Rattle.cycle_heads.proofs.PathRanks.{greater_rank}
 use Rattle.search_rules.specs.Words.{frame_of, frames_of, depths_of, highest_depth, entry_shape, reason_shape, run_of, runs_of, LieBelow}
 use Rattle.search_rules.proofs.answers.Cycles.{path_kind_is}
@@ -145,7 +145,7 @@ module _ {X I R A T : Type 0} (says : Verdicts R) (stack : List (StackEntry X I 
 -- ---- the goals under evaluation
 
 -- The rule for the goals of the search: what is left of an entry when the newest goal is done and the others stay on the stack.
-module _ {X F I R A T : Type 0} (says : Verdicts R) (goal : StackEntry X I R A T × Run X F I R A T) (goals : List (StackEntry X I R A T × Run X F I R A T)) where
+module _ {X F I R A T : Type 0} (says : Verdicts R) (goal : OpenGoal X F I R A T) (goals : List (OpenGoal X F I R A T)) where
   -- the goals below as the stack that the rule takes, and as the theory has them
   abbrev pub real_below : List (StackEntry X I R A T)
   real_below = reverse (map (λ s. s.0) goals)
