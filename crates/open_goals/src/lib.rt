@@ -4,7 +4,7 @@
 //!
 //! | File of `specs/` | Has |
 //! |---|---|
-//! | `Newest`, `Items` | the goals, the newest first, and what becomes of the newest one |
+//! | `OpenGoal`, `Newest`, `Items` | a goal with its run, the goals with the newest first, and what becomes of the newest one |
 //! | `Entries`, `NestedGoals` | what changes of its entry, and of the goals that are recorded below it |
 //! | `Steps`, `Progress` | the step of a frame, and what a run has done so far |
 //! | `Nodes` | the nodes to which a goal leads |
