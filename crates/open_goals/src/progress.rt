@@ -177,6 +177,11 @@ impl<I: Copy, R: Copy> Progress<I, R> {
         Ok(replies)
     }
 
+    /// How many replies there were.
+    pub(crate) fn count(&self) -> usize {
+        self.replies.len()
+    }
+
     /// Forgets what was done, and keeps the memory.
     pub fn clear(&mut self)
         ensures { self.new ≡ no_record }

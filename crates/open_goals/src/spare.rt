@@ -11,6 +11,9 @@ use std::marker::Model;
 /// Of each kind of list so many are kept at most.
 const MOST: usize = 32;
 
+/// A list that had more entries than this is let go, since few runs would fill it again.
+const LARGEST: usize = 256;
+
 /// The memory of runs that have ended, for later ones: lists that are empty again, but have their room. Most runs need as
 /// much as those before them, so that a new one seldom takes any. Clauses see nothing of it.
 #[derive(Drop)]
@@ -55,7 +58,8 @@ impl<I: Copy, R: Copy> SpareMemory<I, R> {
 
     /// Keeps the memory of the record.
     pub fn keep_progress(&mut self, progress: Progress<I, R>) {
-        keep(&mut self.progress, progress);
+        let count = progress.count();
+        keep(&mut self.progress, progress, count);
     }
 
     /// The candidates of a run that has finished none.
@@ -73,8 +77,9 @@ impl<I: Copy, R: Copy> SpareMemory<I, R> {
 
     /// Keeps the memory of the list of candidates, and of what each of them used.
     pub fn keep_candidates(&mut self, mut candidates: FinishedCandidates) {
+        let count = candidates.len();
         self.keep_usages(&mut candidates);
-        keep(&mut self.candidates, candidates);
+        keep(&mut self.candidates, candidates, count);
     }
 
     /// Forgets what the candidates used, and keeps the memory of that.
@@ -83,7 +88,8 @@ impl<I: Copy, R: Copy> SpareMemory<I, R> {
     {
         for _ in 0..candidates.len() {
             if let Some(usages) = candidates.pop() {
-                keep(&mut self.usages, usages);
+                let count = usages.as_slice().len();
+                keep(&mut self.usages, usages, count);
             }
         }
         candidates.clear();
@@ -103,9 +109,9 @@ impl<I: Copy, R: Copy> SpareMemory<I, R> {
     }
 }
 
-/// Keeps a list, if there are not too many of its kind. Where there is no memory to keep it, it is let go.
-fn keep<T: Drop>(lists: &mut Vec<T>, list: T) {
-    if lists.len() < MOST {
+/// Keeps a list that had so many entries, if that is not too much. Where there is no memory to keep it, it is let go.
+fn keep<T: Drop>(lists: &mut Vec<T>, list: T, count: usize) {
+    if lists.len() < MOST && count <= LARGEST {
         let _ = lists.push(list);
     }
 }
