@@ -26,6 +26,7 @@ mod found;
 pub mod get;
 mod graph;
 mod held;
+mod hints;
 mod marking;
 mod node_list;
 mod nodes;

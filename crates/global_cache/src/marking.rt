@@ -2,7 +2,7 @@
 ghost use Rattle.std.specs.Prelude.{◌≡◌, ◌∷◌, ◌++◌, [], ◌<◌, ◌≤◌, ℕ, drop, length, take, map, slice_get, IfOk, OnOk};
 ghost use Rattle.global_cache.specs.Words.{AreMarked, AreNone, IsQueued, IsRising, kept, Marks as Marking, targets_of};
 
-use crate::held::place_near;
+use crate::hints::Hints;
 use crate::node_list::{Held, Slot};
 use search_context::context::{Edge, NoMemory, NodeId};
 use std::alloc::Global;
@@ -14,6 +14,8 @@ struct Marks {
     marked: Vec<bool>,
     /// The places of these, in the order of finding: the queue of what is still to be followed.
     queue: Vec<usize>,
+    /// Where nodes were found.
+    hints: Hints,
 }
 
 impl Marks {
@@ -24,6 +26,7 @@ impl Marks {
         Ok(Marks {
             marked: Vec::from_elem(alloc, false, count)?,
             queue: Vec::new(alloc),
+            hints: Hints::new(alloc)?,
         })
     }
 
@@ -48,7 +51,7 @@ impl Marks {
         ensures marks { OnOk result (Marking held.now (number ∷ [])
             self.old.marked.items self.new.marked.items self.old.queue.items self.new.queue.items) }
     {
-        let Some(place) = place_near(held, near, number) else {
+        let Some(place) = self.hints.find(held, near, number) else {
             return Ok(());
         };
         if self.marked[place] {
@@ -135,7 +138,11 @@ pub(super) fn marked_from<I, R>(
         marks.mark_behind(held, place, &entry.slot)?;
         done += 1;
     }
-    let Marks { marked, queue: _ } = marks;
+    let Marks {
+        marked,
+        queue: _,
+        hints: _,
+    } = marks;
     Ok(marked)
 }
 
