@@ -1,5 +1,5 @@
 //! Where numbers stand among the nodes that are held.
-ghost use Rattle.std.specs.Prelude.{◌≡◌, MatchOption, None};
+ghost use Rattle.std.specs.Prelude.{◌≡◌, IsTrue, MatchOption, None};
 ghost use Rattle.global_cache.specs.Words.{HasNumber, IsRising, IsSplit, IsWindow, slot_at};
 
 use crate::node_list::Held;
@@ -32,9 +32,28 @@ pub(super) fn place_near<I, R>(held: &[Held<I, R>], near: usize, number: usize) 
         (λ place. HasNumber held.now place number) }
 {
     let (low, high) = window_near(held, near, number);
+    // It stands at an end of the window where no node was let go in between.
+    let last = high.saturating_sub(1);
+    if is_at(held, last, number) {
+        return Some(last);
+    }
+    if is_at(held, low, number) {
+        return Some(low);
+    }
     match held[low..high].binary_search_by_key(&number, |entry| entry.number) {
         Ok(behind) => Some(low + behind),
         Err(_) => None,
+    }
+}
+
+// Whether the node at the place has this number.
+fn is_at<I, R>(held: &[Held<I, R>], place: usize, number: usize) -> bool
+    requires { IsRising held.now }
+    ensures { IsTrue result → HasNumber held.now place number }
+{
+    match held.get(place) {
+        Some(entry) => entry.number == number,
+        None => false,
     }
 }
 

@@ -8,15 +8,15 @@ use search_context::context::NoMemory;
 use std::alloc::Global;
 use std::marker::Model;
 
-/// How many places are remembered.
-const COUNT: usize = 1024;
+/// So many places are remembered at most.
+const MOST: usize = 1024;
 
-/// The places at which nodes were found last, each under the last part of its number. Many edges lead to few nodes, those of
-/// heads and of provisional entries, and each of these is searched once. Clauses see nothing of it: where a place is
-/// forgotten, or is that of another node, the search only takes longer.
+/// The places at which nodes were found last, each with the node's number, under the last part of that. Many edges lead to
+/// few nodes, those of heads and of provisional entries, and each of these is searched once. Clauses see nothing of it:
+/// where a place is forgotten the search only takes longer.
 #[derive(Drop)]
 pub(super) struct Hints {
-    places: Vec<usize>,
+    places: Vec<(usize, usize)>,
 }
 
 impl Model for Hints {
@@ -28,14 +28,15 @@ impl Model for Hints {
 }
 
 impl Hints {
-    /// Nothing was found yet.
-    pub(super) fn new(alloc: Global) -> Result<Hints, NoMemory> {
-        let places = Vec::from_elem(alloc, 0, COUNT)?;
-        Ok(Hints { places })
+    /// Nothing was found yet of so many nodes. Where these are few, nothing will be remembered, which takes no memory.
+    pub(super) fn new(alloc: Global, count: usize) -> Result<Hints, NoMemory> {
+        let places = if count < MOST { 0 } else { MOST };
+        Ok(Hints {
+            places: Vec::from_elem(alloc, (0, 0), places)?,
+        })
     }
 
-    /// The place of the node with this number. Where it isn't the one that is remembered, it is looked for from the place
-    /// `near` on.
+    /// The place of the node with this number. Where it isn't remembered, it is looked for from the place `near` on.
     pub(super) fn find<I, R>(
         &mut self,
         held: &[Held<I, R>],
@@ -46,29 +47,21 @@ impl Hints {
         ensures { MatchOption result (slot_at held.now number ≡ None)
             (λ place. HasNumber held.now place number) }
     {
-        let remembered = self.remembered(number);
-        let place = place_near(held, nearer(held, remembered, near, number), number);
+        let place = place_near(held, self.remembered(number).unwrap_or(near), number);
         if let Some(place) = place {
             self.remember(number, place);
         }
         place
     }
 
-    fn remembered(&self, number: usize) -> usize {
-        self.places.get(number % COUNT).copied().unwrap_or(0)
+    fn remembered(&self, number: usize) -> Option<usize> {
+        let (known, place) = *self.places.get(number % MOST)?;
+        (known == number).then_some(place)
     }
 
     fn remember(&mut self, number: usize, place: usize) {
-        if let Some(known) = self.places.get_mut(number % COUNT) {
-            *known = place;
+        if let Some(known) = self.places.get_mut(number % MOST) {
+            *known = (number, place);
         }
-    }
-}
-
-/// The first of the two places if the node there has this number, and else the second.
-fn nearer<I, R>(held: &[Held<I, R>], remembered: usize, near: usize, number: usize) -> usize {
-    match held.get(remembered) {
-        Some(entry) if entry.number == number => remembered,
-        _ => near,
     }
 }

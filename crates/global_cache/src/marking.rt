@@ -25,8 +25,8 @@ impl Marks {
     {
         Ok(Marks {
             marked: Vec::from_elem(alloc, false, count)?,
-            queue: Vec::new(alloc),
-            hints: Hints::new(alloc)?,
+            queue: Vec::with_capacity(alloc, count)?,
+            hints: Hints::new(alloc, count)?,
         })
     }
 
