@@ -99,6 +99,19 @@ module _ {A : Type 0} (depth : StackDepth) where
       within_later e es (Ok i) gt within = omega (arith, within)
       within_later e es (Err i) gt within = omega (arith, within)
 
+  -- ---- whose place it is
+
+  abbrev HasDepth : Result ℕ ℕ → List (StackDepth × A) → Type 0
+  HasDepth (Ok i) entries = (e : StackDepth × A) → (get_or entries i e).0 ≡ depth
+  HasDepth (Err i) entries = Unit {0}
+
+  place_has_depth : (entries : List (StackDepth × A)) → HasDepth (place_of entries depth) entries
+  place_has_depth = by_place HasDepth tt (λ e es lt. tt) (λ e es eq other. λ i. record { 0 = sym eq i }) has_later
+    where
+      has_later : (e : StackDepth × A) (es : List (StackDepth × A)) (place : Result ℕ ℕ) → e.0.0 < depth.0 → HasDepth place es → HasDepth (one_later place) (e ∷ es)
+      has_later e es (Ok i) gt has = has
+      has_later e es (Err i) gt has = tt
+
   module _ (entries : List (StackDepth × A)) (i : ℕ) where
     pub found_within : place_of entries depth ≡ Ok i → i < length entries
     found_within found = subst (λ place. IsSearchInRange place (length entries)) found (place_is_within entries)
@@ -107,6 +120,9 @@ module _ {A : Type 0} (depth : StackDepth) where
     found_value e rising found = place_is_read entries rising
         ∙ ap (λ place. value_at place entries) found
         ∙ ap (option_map (λ e. e.1)) (slice_get-get_or entries i e (found_within found))
+
+    pub found_depth : (e : StackDepth × A) → place_of entries depth ≡ Ok i → (get_or entries i e).0 ≡ depth
+    found_depth e found = subst (λ place. HasDepth place entries) found (place_has_depth entries) e
 
     pub gap_within : place_of entries depth ≡ Err i → i ≤ length entries
     gap_within gap = subst (λ place. IsSearchInRange place (length entries)) gap (place_is_within entries)
@@ -214,9 +230,14 @@ module _ {A : Type 0} (depth : StackDepth) where
 
   -- ---- what a guess finds
 
+  -- the place before a guess is that of the depth
+  pub place_before : (entries : List (StackDepth × A)) → IsRising entries → (i : ℕ) (e : StackDepth × A) → i < length entries → (get_or entries i e).0.0 ≡ depth.0 → place_of entries depth ≡ Ok i
+  place_before entries rising i e within eq = place_here_is entries i rising within (λ other.
+      ap (λ x. x.0.0) (get_or_from_slice_get entries i (get_or entries i e) other (slice_get-get_or entries i e within)) ∙ eq)
+
   module _ (entries : List (StackDepth × A)) (rising : IsRising entries) (count : ℕ) where
     -- the entries up to one that is below the depth
-    pub below_from_last : (last : StackDepth × A) → 0 < count → slice_get entries (count - 1) ≡ Some last → last.0.0 < depth.0 → AreBelow entries count depth
+    below_from_last : (last : StackDepth × A) → 0 < count → slice_get entries (count - 1) ≡ Some last → last.0.0 < depth.0 → AreBelow entries count depth
     below_from_last last some at lt = record {
       within = omega (arith, some, slice_get_within entries (count - 1) last at);
       below = λ i e before. elim (cases_eq i (count - 1)) [
@@ -227,6 +248,11 @@ module _ {A : Type 0} (depth : StackDepth) where
       where
         here : (e : StackDepth × A) → (get_or entries (count - 1) e).0.0 < depth.0
         here e = subst (λ x. x.0.0 < depth.0) (sym (get_or_from_slice_get entries (count - 1) last e at)) lt
+
+    -- the entries before a guess, the last of which is below the depth
+    pub below_guess : (last : ℕ) (e : StackDepth × A) → last < length entries → count ≡ suc last → (get_or entries last e).0.0 < depth.0 → AreBelow entries count depth
+    below_guess last e within is lt = below_from_last (get_or entries last e) (omega (arith, is))
+        (subst (λ i. slice_get entries i ≡ Some (get_or entries last e)) (omega (arith, is)) (slice_get-get_or entries last e within)) lt
 
     module _ (below : AreBelow entries count depth) where
       pub none_is_gap : slice_get entries count ≡ None → place_of entries depth ≡ Err count

@@ -5,6 +5,7 @@ ghost use Rattle.cycle_heads.specs.Words.{at_depth, AreBelow, IsRising, place_of
 use crate::depth::StackDepth;
 
 // The place of the depth in the list, or as an error the place that it would have.
+#[inline(never)]
 pub(crate) fn place_of<T>(entries: &[(StackDepth, T)], depth: StackDepth) -> Result<usize, usize>
     requires { IsRising entries.now }
     ensures { result ≡ place_of entries.now depth }
@@ -28,8 +29,9 @@ pub(crate) fn at_place<T: Copy>(
     }
 }
 
-// The place of the depth in the list, or as an error the place that it would have. A good guess spares the search; a bad one
-// costs two comparisons.
+// The place of the depth in the list, or as an error the place that it would have. It is looked for at the guessed place
+// first, and right before it: a good guess spares the search.
+#[inline(always)]
 pub(crate) fn place_near<T>(
     entries: &[(StackDepth, T)],
     guess: usize,
@@ -38,27 +40,35 @@ pub(crate) fn place_near<T>(
     requires { IsRising entries.now }
     ensures { result ≡ place_of entries.now depth }
 {
-    if !are_below(entries, guess, depth) {
-        return place_of(entries, depth);
-    }
-    match entries.get(guess) {
-        None => Err(guess),
-        Some(next) if next.0 == depth => Ok(guess),
-        Some(next) if depth < next.0 => Err(guess),
-        Some(_) => place_of(entries, depth),
+    let guess = guess.min(entries.len());
+    let Some(before) = guess.checked_sub(1) else {
+        return place_from(entries, guess, depth);
+    };
+    let known = entries[before].0;
+    if known == depth {
+        Ok(before)
+    } else if depth < known {
+        place_of(entries, depth)
+    } else {
+        place_from(entries, guess, depth)
     }
 }
 
-// Whether the list has so many entries, and these are below the depth.
-fn are_below<T>(entries: &[(StackDepth, T)], count: usize, depth: StackDepth) -> bool
-    requires { IsRising entries.now }
-    ensures { IsTrue result → AreBelow entries.now count depth }
+// The same, where so many entries are known to be below the depth.
+#[inline(always)]
+fn place_from<T>(
+    entries: &[(StackDepth, T)],
+    count: usize,
+    depth: StackDepth,
+) -> Result<usize, usize>
+    requires rising { IsRising entries.now }
+    requires below { AreBelow entries.now count depth }
+    ensures { result ≡ place_of entries.now depth }
 {
-    let Some(last) = count.checked_sub(1) else {
-        return true;
-    };
-    match entries.get(last) {
-        Some(entry) => entry.0 < depth,
-        None => false,
+    match entries.get(count) {
+        None => Err(count),
+        Some(next) if next.0 == depth => Ok(count),
+        Some(next) if depth < next.0 => Err(count),
+        Some(_) => place_of(entries, depth),
     }
 }

@@ -1,5 +1,5 @@
 //! What a candidate used of the goals on the stack.
-ghost use Rattle.std.specs.Prelude.{◌≡◌, ◌↔◌, [], IsTrue, IsSome, IsOk, OnOk, OnErr};
+ghost use Rattle.std.specs.Prelude.{◌≡◌, ◌↔◌, [], IsTrue, IsSome, IsOk, Ok, OnOk, OnErr};
 ghost use Rattle.cycle_heads.specs.Words.{StackDepth, merged, with_added, with_noted, at_depth, depth_cmp, IsRising, place_of};
 ghost use Rattle.std.specs.BTreeMap.{insert_entry};
 
@@ -83,6 +83,7 @@ impl CandidateHeadUsages {
     /// Counts usages as `note_usages` does. The head is looked for at the guessed place of the list first; with a wrong
     /// guess all is the same, but takes a search. The answer is the guess for a next greater head, the place behind this
     /// one; no clause says so, since nothing but time depends on it.
+    #[inline(always)]
     pub fn note_usages_near(
         &mut self,
         guess: usize,
@@ -94,9 +95,26 @@ impl CandidateHeadUsages {
         ensures known { IsSome (at_depth self.old head) → IsOk result }
     {
         let place = place_near(self.as_slice(), guess, head);
-        let mut noted = at_place(self.as_slice(), head, place).unwrap_or_default();
+        match place {
+            Ok(index) => {
+                self.count_at(index, head, usages);
+                Ok(index.saturating_add(1))
+            }
+            Err(_) => {
+                let mut noted = HeadUsages::default();
+                noted.add_usages_from_nested(usages);
+                self.put(head, place, noted)
+            }
+        }
+    }
+
+    // Counts usages of the head at the place, which is this one.
+    fn count_at(&mut self, index: usize, head: StackDepth, usages: HeadUsages)
+        requires { place_of self.old head ≡ Ok index }
+        ensures { self.new ≡ with_noted self.old head usages }
+    {
+        let noted = &mut self.usages.get_mut(index).unwrap().1;
         noted.add_usages_from_nested(usages);
-        self.put(head, place, noted)
     }
 
     /// Adds the counts of `other`, head by head. Where one of the two is empty, that takes no memory.

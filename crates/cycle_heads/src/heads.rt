@@ -22,25 +22,6 @@ pub struct CycleHead {
     pub usages: HeadUsages,
 }
 
-impl CycleHead {
-    // The head with these paths and usages more, which may be a new one.
-    fn joined(known: Option<CycleHead>, paths: PathsToNested, usages: HeadUsages) -> CycleHead
-        ensures { result ≡ joined_head known paths usages }
-    {
-        match known {
-            Some(mut head) => {
-                head.paths_to_head.insert(paths);
-                head.usages.add_usages_from_nested(usages);
-                head
-            }
-            None => CycleHead {
-                paths_to_head: paths,
-                usages,
-            },
-        }
-    }
-}
-
 /// The goals on the stack that an answer rests on, by rising depth. Ports `CycleHeads`.
 ///
 /// Most answers rest on one goal at most, which takes no memory of its own. More stand in one list, which is
@@ -151,6 +132,7 @@ impl CycleHeads {
     /// Records a head as `insert` does. It is looked for at the guessed place of the list first; with a wrong guess all
     /// is the same, but takes a search. The answer is the guess for a next greater head, the place behind this one; no
     /// clause says so, since nothing but time depends on it.
+    #[inline(always)]
     pub fn insert_near(
         &mut self,
         guess: usize,
@@ -163,18 +145,30 @@ impl CycleHeads {
         ensures known { IsSome (at_depth self.old head) → IsOk result }
     {
         let place = place_near(self.as_slice(), guess, head);
-        let known = at_place(self.as_slice(), head, place);
-        let joined = CycleHead::joined(known, paths, usages);
         match place {
             Ok(index) => {
-                self.set(index, head, joined);
+                self.join(index, head, paths, usages);
                 Ok(index.saturating_add(1))
             }
             Err(index) => {
-                self.heads.insert(index, (head, joined))?;
+                let new = CycleHead {
+                    paths_to_head: paths,
+                    usages,
+                };
+                self.heads.insert(index, (head, new))?;
                 Ok(index.saturating_add(1))
             }
         }
+    }
+
+    // Joins paths and usages to the head at the place, which has this depth.
+    fn join(&mut self, index: usize, depth: StackDepth, paths: PathsToNested, usages: HeadUsages)
+        requires { place_of self.old depth ≡ Ok index }
+        ensures { self.new ≡ with_head self.old depth paths usages }
+    {
+        let known = &mut self.heads.get_mut(index).unwrap().1;
+        known.paths_to_head.insert(paths);
+        known.usages.add_usages_from_nested(usages);
     }
 
     // Makes the head at the place, which has this depth, another one.

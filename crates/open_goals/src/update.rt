@@ -63,7 +63,7 @@ pub fn note_head<X: Cx>(
 ) -> Result<(), NoMemory>
     ensures { OnOk result (state.new ≡ with_used_head parent step head used state.old) }
 {
-    let mut guesses = Guesses::at_the_lowest();
+    let mut guesses = Guesses::at_depth(head);
     note_head_near(state, &mut guesses, parent, step, head, used)
 }
 
@@ -80,6 +80,14 @@ impl Guesses {
         Guesses {
             head: 0,
             candidate: 0,
+        }
+    }
+
+    /// Where the head is if all goals below it are heads, too.
+    fn at_depth(head: StackDepth) -> Guesses {
+        Guesses {
+            head: head.index(),
+            candidate: head.index(),
         }
     }
 }

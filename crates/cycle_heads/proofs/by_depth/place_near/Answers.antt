@@ -1,14 +1,10 @@
-use Rattle.std.proofs.Common.{rules, ◌≡◌, ℕ, ◌<◌, Some, sym, ◌∙◌, arith}
+use Rattle.std.proofs.Common.{rules, ◌≡◌, ℕ, ◌<◌, sym, arith}
 use Rattle.std.proofs.lemmas.Bool.Decides.{nat_tests}
-use Rattle.std.proofs.lemmas.Option.{slice_get_past}
-use Rattle.cycle_heads.proofs.Places.{there, next_is_behind, next_is_place, none_is_gap}
+use Rattle.cycle_heads.proofs.Places.{below_guess, place_before}
 use Rattle.cycle_heads.proofs.by_depth.place_near.Goals as goal
 
-pub returns-in-None : goal.returns-in-None
-returns-in-None g c = sym (none_is_gap c.args.depth c.args.entries.now c.requires c.args.guess (search rules) (slice_get_past c.args.entries.now c.args.guess c.in-None.ensures.lookup.3))
+pub returns-then-eq : goal.returns-then-eq
+returns-then-eq g c = sym (place_before c.args.depth c.args.entries.now c.requires c.in-Some.before c.index-entries-before.result (search rules) (search rules))
 
-pub returns-in-Some : goal.returns-in-Some
-returns-in-Some g c = sym (next_is_place c.args.depth c.args.entries.now c.requires c.args.guess (search rules) c.in-Some.next.now (there c.args.entries.now c.args.guess c.in-Some.next.now c.in-Some.ensures.lookup.3) (search rules))
-
-pub returns-in-Some-2 : goal.returns-in-Some-2
-returns-in-Some-2 g c = sym (next_is_behind c.args.depth c.args.entries.now c.requires c.args.guess (search rules) c.in-Some.next.now (there c.args.entries.now c.args.guess c.in-Some.next.now c.in-Some.ensures.lookup.3) (search rules))
+pub place_from-requires-else-lt-clause-below : goal.place_from-requires-else-lt-clause-below
+place_from-requires-else-lt-clause-below g c = below_guess c.args.depth c.args.entries.now c.requires c.min-guess.result c.in-Some.before c.index-entries-before.result (search rules) (search rules) (search rules)
