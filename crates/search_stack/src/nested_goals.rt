@@ -92,7 +92,8 @@ impl<X: Cx> NestedGoals<X> {
         }
     }
 
-    /// Holds this goal alone, with these paths, instead of those so far.
+    /// Holds this goal alone, with these paths, instead of those so far. It stays out of `insert`, which seldom
+    /// makes a map and would be slower by the room that this takes.
     #[inline(never)]
     fn insert_first(&mut self, input: X::Input, paths: PathsToNested) -> Result<(), NoMemory>
         ensures ok { OnOk result (JoinsPaths X.Input.eq [] self.new input paths) }
