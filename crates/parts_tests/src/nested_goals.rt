@@ -24,6 +24,36 @@ fn paths_to_a_goal_are_joined(rt: HostRuntime) -> Result<(), Fail> {
 }
 
 #[test]
+fn a_goal_is_joined_to_itself_again(rt: HostRuntime) -> Result<(), Fail> {
+    let [own, other] = [PathKind::Unknown, PathKind::Inductive];
+    let mut child = NestedGoals::<LoopsContext>::new(rt.alloc());
+    child.insert(own, PathsToNested::EMPTY)?;
+    child.insert(own, PathsToNested::EMPTY)?;
+    assert_eq!(rt; child.get(own), Some(PathsToNested::EMPTY));
+    child.insert(own, PathsToNested::COINDUCTIVE)?;
+    child.insert(own, PathsToNested::EMPTY)?;
+    let joined = PathsToNested::EMPTY.union(PathsToNested::COINDUCTIVE);
+    assert_eq!(rt; child.get(own), Some(joined));
+
+    // The step extends the path of no step, which then is there no more.
+    let mut goals = NestedGoals::<LoopsContext>::new(rt.alloc());
+    goals.take_from_child(PathKind::Inductive, &mut child)?;
+    let extended = PathsToNested::INDUCTIVE.union(PathsToNested::COINDUCTIVE);
+    assert_eq!(rt; goals.get(own), Some(extended));
+    goals.insert(own, PathsToNested::EMPTY)?;
+    let joined = PathsToNested::EMPTY.union(extended);
+    assert_eq!(rt; goals.get(own), Some(joined));
+
+    // It is joined to another goal in between.
+    goals.insert(other, PathsToNested::EMPTY)?;
+    goals.insert(own, PathsToNested::EMPTY)?;
+    assert_eq!(rt; goals.get(other), Some(PathsToNested::EMPTY));
+    assert_eq!(rt; goals.get(own), Some(joined));
+    assert_eq!(rt; goals.iter().count(), 2);
+    Ok(())
+}
+
+#[test]
 fn a_child_adds_its_goals_after_the_step(rt: HostRuntime) -> Result<(), Fail> {
     let [both, childs, own] = [
         PathKind::Inductive,

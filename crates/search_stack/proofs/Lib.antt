@@ -5,3 +5,4 @@ pub mod NestedLists
 pub mod Cycles
 pub mod LastSteps
 pub mod RaisedPaths
+pub mod OwnGoal

@@ -77,6 +77,10 @@ pub record IsJoining {I : Type 0} (same : I → I → Bool) (f : PathsToNested �
   pub fits : length rest ≤ room
   pub distinct : IsDistinct same (keys_of rest)
 
+pub IsJoining-start : {I : Type 0} {same : I → I → Bool} (f : PathsToNested → PathsToNested) (start all : NestedPaths I) (room : ℕ)
+    → length all ≤ room → IsDistinct same (keys_of all) → IsJoining same f start start all all room
+IsJoining-start f start all room fits distinct = record { agrees = λ input. refl; fits = fits; distinct = distinct }
+
 pub IsJoining-more : {I : Type 0} {same : I → I → Bool} (laws : IsEquivalence same) (by_value : (x y : I) → same x y ≡ true → x ≡ y)
     (f : PathsToNested → PathsToNested) (start goals new all left rest : NestedPaths I) (input : I) (paths after : PathsToNested) (room more : ℕ)
     → left ≡ (input, paths) ∷ rest → after ≡ f paths → JoinsPaths same goals new input after → room ≤ more + 1

@@ -1,5 +1,5 @@
 -- Paths that are extended together.
-use Rattle.std.proofs.Common.{◌≡◌, ◌+◌, ◌≤◌, nat_lt, Bool, true, false, List, Option, Some, None, refl, sym, ap, ◌∙◌, inl, inr, arith}
+use Rattle.std.proofs.Common.{◌≡◌, ◌+◌, ◌≤◌, nat_lt, Bool, true, false, List, Option, Some, None, refl, sym, ap, subst, ◌∙◌, inl, inr, arith}
 use Rattle.std.proofs.lemmas.Bool.{cases_Bool}
 use Rattle.std.proofs.lemmas.Bool.Decides.{nat_tests}
 use Rattle.std.proofs.lemmas.Map.Made.{lookup-map_values}
@@ -47,6 +47,13 @@ module _ {I : Type 0} (same : I → I → Bool) where
   pub same_noted : (raises : Raises) (new old : List (I × NotedPaths)) → ((input : I) → lookup (same input) new ≡ lookup (same input) old) → (input : I)
       → paths_at same (paths_noted raises new) input ≡ paths_at same (paths_noted raises old) input
   same_noted raises new old kept input = paths_at-noted raises new input ∙ ap (option_map (paths_now raises)) (kept input) ∙ sym (paths_at-noted raises old input)
+
+  pub AreNoted-same : (raises : Raises) (new old : List (I × NotedPaths)) → ((input : I) → lookup (same input) new ≡ lookup (same input) old)
+      → AreNoted same raises old → AreNoted same raises new
+  AreNoted-same raises new old kept are = record {
+    none_past = are.none_past;
+    each = λ input. subst (λ noted. IfSome noted (λ paths. paths.raises ≤ raises.count)) (sym (kept input)) (are.each input);
+  }
 
   raised_at : (raises : Raises) (step : PathKind) (noted : Option NotedPaths) → kind_past raises.steps raises.count ≡ Inductive
       → IfSome noted (λ paths. paths.raises ≤ raises.count)

@@ -1,8 +1,8 @@
 -- The goals below a goal, with the paths to each.
-use Rattle.std.specs.Prelude.{◌≡◌, Bool, false, List, [], Option, Some, None}
+use Rattle.std.specs.Prelude.{◌≡◌, Bool, false, List, [], Option, Some, None, IfSome}
 use Rattle.std.specs.Map.{lookup}
 use Rattle.std.specs.Option.{option_map}
-use Rattle.search_stack.specs.Below.{PathKind, PathsToNested, extended, union}
+use Rattle.search_stack.specs.Below.{PathKind, PathsToNested, extended, path_of_no_step, union}
 
 -- goals with the paths to them, in some order
 abbrev pub NestedPaths : Type 0 → Type 0
@@ -31,6 +31,14 @@ pub record JoinsPaths {I : Type 0} (same : I → I → Bool) (old new : NestedPa
 -- the new goals have the paths to each goal that the old ones have, and besides those that `more` has, each as f changes them
 abbrev pub JoinsEach : {I : Type 0} → (I → I → Bool) → (PathsToNested → PathsToNested) → (old more new : NestedPaths I) → Type 0
 JoinsEach {I} same f old more new = (input : I) → paths_at same new input ≡ joined_paths (paths_at same old input) (option_map f (paths_at same more input))
+
+-- the path of no step is one of these paths: joined to them, it changes nothing
+abbrev pub HasNoStep : Option PathsToNested → Type 0
+HasNoStep paths = joined_paths paths (Some path_of_no_step) ≡ paths
+
+-- the own goal, if there is one, has the path of no step
+abbrev pub HasOwn : {I : Type 0} → (I → I → Bool) → NestedPaths I → Option I → Type 0
+HasOwn same goals own = IfSome own (λ input. HasNoStep (paths_at same goals input))
 
 -- paths after a step, if there is one
 abbrev pub after_step : Option PathKind → PathsToNested → PathsToNested

@@ -86,9 +86,19 @@ impl<X: Cx> NestedGoals<X> {
         ensures err { OnErr result (self.new ≡ self.old) }
         ensures known { IsSome (paths_at X.Input.eq self.old input) → IsOk result }
     {
-        if let Some(goals) = &mut self.goals {
-            return goals.insert(input, paths);
+        match &mut self.goals {
+            Some(goals) => goals.insert(input, paths),
+            None => self.insert_first(input, paths),
         }
+    }
+
+    /// Holds this goal alone, with these paths, instead of those so far. It stays out of `insert`, which seldom
+    /// makes a map and would be slower by the room that this takes.
+    #[inline(never)]
+    fn insert_first(&mut self, input: X::Input, paths: PathsToNested) -> Result<(), NoMemory>
+        ensures ok { OnOk result (JoinsPaths X.Input.eq [] self.new input paths) }
+        ensures err { OnErr result (self.new ≡ self.old) }
+    {
         let mut goals = NotedGoals::new(self.alloc);
         goals.insert(input, paths)?;
         self.hold(goals)

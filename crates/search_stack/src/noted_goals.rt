@@ -21,17 +21,21 @@ use std::marker::Model;
 pub(super) struct NotedGoals<X: Cx> {
     noted: HashMap<X::Input, NotedPaths>,
     raises: Raises,
+    /// The goal to which the path of no step was joined last, as long as that was not extended. It is most often
+    /// joined to the same goal again, which then needs no look-up.
+    own: Option<X::Input>,
 }
 
 impl<X: Cx> Model for NotedGoals<X> {
-    ghost use Rattle.search_stack.specs.Nested.{NestedPaths};
+    ghost use Rattle.search_stack.specs.Nested.{HasOwn, NestedPaths};
     ghost use Rattle.search_stack.specs.Raises.{paths_noted, AreNoted};
 
     ghost Value = { NestedPaths X.Input };
 
     ghost view = { λ g. paths_noted g.raises g.noted.entries };
 
-    ghost invariant = { λ g. AreNoted X.Input.eq g.raises g.noted.entries };
+    ghost invariant = { λ g. AreNoted X.Input.eq g.raises g.noted.entries
+        × HasOwn X.Input.eq (paths_noted g.raises g.noted.entries) g.own };
 }
 
 impl<X: Cx> NotedGoals<X> {
@@ -42,6 +46,7 @@ impl<X: Cx> NotedGoals<X> {
         NotedGoals {
             noted: HashMap::new(alloc),
             raises: Raises::new(),
+            own: None,
         }
     }
 
@@ -67,7 +72,14 @@ impl<X: Cx> NotedGoals<X> {
         ensures err { OnErr result (self.new ≡ self.old) }
         ensures known { IsSome (paths_at X.Input.eq self.old input) → IsOk result }
     {
-        join_paths(&mut self.noted, self.raises, input, paths)
+        if paths == PathsToNested::EMPTY && self.own == Some(input) {
+            return Ok(());
+        }
+        join_paths(&mut self.noted, &self.raises, input, paths)?;
+        if paths == PathsToNested::EMPTY {
+            self.own = Some(input);
+        }
+        Ok(())
     }
 
     /// Extends the paths to each goal by the step, in one go. It may say that it can't, and changes nothing then.
@@ -80,6 +92,7 @@ impl<X: Cx> NotedGoals<X> {
             return false;
         };
         self.raises = raises;
+        self.own = None;
         true
     }
 
@@ -97,7 +110,12 @@ impl<X: Cx> NotedGoals<X> {
         self.noted.reserve(more.noted.len())?;
         for (input, paths) in more.iter() {
             // There is room for each of them.
-            join_paths(&mut self.noted, self.raises, input, after_step(step, paths))?;
+            join_paths(
+                &mut self.noted,
+                &self.raises,
+                input,
+                after_step(step, paths),
+            )?;
         }
         Ok(())
     }
@@ -128,16 +146,16 @@ fn after_step(step: Option<PathKind>, paths: PathsToNested) -> PathsToNested
 /// Joins paths to a goal. Where there is room for one more, it isn't refused.
 fn join_paths<I: Eq + Hash + Copy>(
     goals: &mut HashMap<I, NotedPaths>,
-    raises: Raises,
+    raises: &Raises,
     input: I,
     paths: PathsToNested,
 ) -> Result<(), NoMemory>
-    requires { AreNoted I.eq raises goals.old.entries }
-    ensures ok { OnOk result (JoinsPaths I.eq (paths_noted raises goals.old.entries)
-        (paths_noted raises goals.new.entries) input paths) }
-    ensures noted { AreNoted I.eq raises goals.new.entries }
+    requires { AreNoted I.eq raises.now goals.old.entries }
+    ensures ok { OnOk result (JoinsPaths I.eq (paths_noted raises.now goals.old.entries)
+        (paths_noted raises.now goals.new.entries) input paths) }
+    ensures noted { AreNoted I.eq raises.now goals.new.entries }
     ensures err { OnErr result (goals.new.entries ≡ goals.old.entries) }
-    ensures known { IsSome (paths_at I.eq (paths_noted raises goals.old.entries) input) →
+    ensures known { IsSome (paths_at I.eq (paths_noted raises.now goals.old.entries) input) →
         IsOk result }
     ensures room { 0 < spare goals.old → IsOk result }
     ensures left { spare goals.old ≤ spare goals.new + 1 }

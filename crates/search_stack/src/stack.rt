@@ -19,20 +19,11 @@ use std::ops::Index;
 use std::slice;
 
 /// What changes of an entry while its goal is evaluated. Ports the fields of `StackEntry` that the search
-/// writes.
+/// writes. They lie in memory as they stand here, so the small ones come last.
 #[derive(Drop)]
 pub struct EntryState<X: Cx> {
-    /// How many goals are nested below this one so far.
-    pub required_depth: usize,
-    /// What a cycle to this goal is answered with: the result of its last run. `None` in the first run.
-    pub provisional_result: Option<X::Result>,
     /// The goals below on the stack that this one rests on so far.
     pub heads: CycleHeads,
-    /// Whether a question was refused below this goal in this run.
-    pub encountered_overflow: bool,
-    /// How often this goal was used as a head in this run. `None` until it is for the first time; in a
-    /// later run it is there, from zero.
-    pub usages: Option<HeadUsages>,
     /// What the candidate that is open used of the goals on the stack. `None` where none is open.
     pub candidate_usages: Option<CandidateHeadUsages>,
     /// The goals that were asked below this one.
@@ -40,6 +31,15 @@ pub struct EntryState<X: Cx> {
     /// The node that answers of cycles to this goal lead to: in the first run that run's own, and then that
     /// of the provisional result. `None` in a new entry, until its first frame starts.
     pub node: Option<NodeId>,
+    /// How many goals are nested below this one so far.
+    pub required_depth: usize,
+    /// How often this goal was used as a head in this run. `None` until it is for the first time; in a
+    /// later run it is there, from zero.
+    pub usages: Option<HeadUsages>,
+    /// What a cycle to this goal is answered with: the result of its last run. `None` in the first run.
+    pub provisional_result: Option<X::Result>,
+    /// Whether a question was refused below this goal in this run.
+    pub encountered_overflow: bool,
 }
 
 /// A goal under evaluation. Ports `StackEntry`.
@@ -68,14 +68,14 @@ impl<X: Cx> StackEntry<X> {
             step_kind_from_parent,
             available_depth,
             state: EntryState {
-                required_depth: 0,
-                provisional_result: None,
                 heads: CycleHeads::new(alloc),
-                encountered_overflow: false,
-                usages: None,
                 candidate_usages: None,
                 nested_goals: NestedGoals::new(alloc),
                 node: None,
+                required_depth: 0,
+                usages: None,
+                provisional_result: None,
+                encountered_overflow: false,
             },
         }
     }

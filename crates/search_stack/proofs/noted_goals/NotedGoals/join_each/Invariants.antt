@@ -1,6 +1,6 @@
 use Rattle.std.proofs.Common.{◌≡◌}
 use Rattle.std.specs.HashMap.{spare}
-use Rattle.search_stack.specs.Words.{after_step, AreNoted, paths_noted}
+use Rattle.search_stack.specs.Words.{after_step, AreNoted, HasOwn, paths_noted}
 use Rattle.search_stack.proofs.NestedLists.{IsJoining}
 use Rattle.search_stack.proofs.noted_goals.NotedGoals.join_each.Given as goal
 
@@ -10,3 +10,4 @@ invariant-loop-input g l =
     l.initial.input-iterator l.input-iterator (spare l.self-inside.noted)
     × AreNoted g.X.Input.PartialEq.eq l.self-inside.raises l.self-inside.noted.entries
     × (l.self-inside.raises ≡ l.initial.self-inside.raises)
+    × HasOwn g.X.Input.PartialEq.eq (paths_noted l.self-inside.raises l.self-inside.noted.entries) l.self-inside.own

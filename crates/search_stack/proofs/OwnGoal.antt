@@ -1,0 +1,83 @@
+-- The own goal, to which the path of no step leads already.
+use Rattle.std.proofs.Common.{◌≡◌, ◌==◌, ℕ, Bool, true, max, Option, Some, None, refl, sym, ap, ◌∙◌, subst, inl, inr, arith}
+use Rattle.std.proofs.lemmas.Bool.{cases_Bool, eqb-true}
+use Rattle.std.proofs.lemmas.Nat.Bits.{bit_at_or, same_from_bits}
+use Rattle.std.specs.Int.{bit_at}
+use Rattle.std.specs.Int.RustNames.{bit_or}
+use Rattle.std.specs.Option.{option_eq}
+use Rattle.search_stack.specs.Below.{PathsToNested, path_of_no_step}
+use Rattle.search_stack.specs.Words.{HasNoStep, HasOwn, joined_paths, JoinsPaths, NestedPaths, paths_at}
+
+max_swapped : (a b c : ℕ) → max (max a b) c ≡ max (max a c) b
+max_swapped a b c = omega arith
+
+max_twice : (a b : ℕ) → max (max a b) b ≡ max a b
+max_twice a b = omega arith
+
+-- of three sets of bits the last two may be joined in either order
+or_swapped : (a b c : ℕ) → bit_or (bit_or a b) c ≡ bit_or (bit_or a c) b
+or_swapped a b c = same_from_bits _ _ (λ i.
+    bit_at_or (bit_or a b) c i ∙ ap (λ n. max n (bit_at c i)) (bit_at_or a b i)
+    ∙ max_swapped (bit_at a i) (bit_at b i) (bit_at c i)
+    ∙ sym (bit_at_or (bit_or a c) b i ∙ ap (λ n. max n (bit_at b i)) (bit_at_or a c i)))
+
+-- more paths leave the path of no step there
+no_step-more : (paths more : Option PathsToNested) → HasNoStep paths → HasNoStep (joined_paths paths more)
+no_step-more None None there = there
+no_step-more None (Some more) there = absurd cc
+no_step-more (Some paths) None there = there
+no_step-more (Some paths) (Some more) there =
+    (λ i. Some (record { 0 = or_swapped paths.0 more.0 path_of_no_step.0 i })) ∙ ap (λ own. joined_paths own (Some more)) there
+
+or_twice : (a b : ℕ) → bit_or (bit_or a b) b ≡ bit_or a b
+or_twice a b = same_from_bits _ _ (λ i.
+    bit_at_or (bit_or a b) b i ∙ ap (λ n. max n (bit_at b i)) (bit_at_or a b i)
+    ∙ max_twice (bit_at a i) (bit_at b i)
+    ∙ sym (bit_at_or a b i))
+
+-- the path of no step is there once it is joined
+no_step-joined : (paths : Option PathsToNested) → HasNoStep (joined_paths paths (Some path_of_no_step))
+no_step-joined None = refl
+no_step-joined (Some paths) = λ i. Some (record { 0 = or_twice paths.0 1 i })
+
+-- the test of the path of no step
+pub is_no_step : (paths : PathsToNested) → (paths.0 == 1) ≡ true → paths ≡ path_of_no_step
+is_no_step paths is = λ i. record { 0 = eqb-true _ _ is i }
+
+module _ {I : Type 0} (same : I → I → Bool) where
+  -- the test of the own goal
+  pub is_own : (by_value : (x y : I) → same x y ≡ true → x ≡ y) (own : Option I) (input : I) → option_eq same own (Some input) ≡ true → own ≡ Some input
+  is_own by_value None input is = absurd cc
+  is_own by_value (Some own) input is = ap Some (by_value own input is)
+
+  -- it is there where the paths to each goal are the same
+  pub own-same : (new old : NestedPaths I) (own : Option I) → ((input : I) → paths_at same new input ≡ paths_at same old input) → HasOwn same old own → HasOwn same new own
+  own-same new old None kept there = tt
+  own-same new old (Some own) kept there = subst HasNoStep (sym (kept own)) there
+
+  -- the goal to which the path of no step was joined is the own one
+  pub own-new : (old new : NestedPaths I) (input : I) (paths : PathsToNested) (own : Option I)
+      → paths ≡ path_of_no_step → own ≡ Some input → JoinsPaths same old new input paths → HasOwn same new own
+  own-new old new input paths own is is_own joins =
+      subst (HasOwn same new) (sym is_own)
+      (subst HasNoStep (sym (joins.here ∙ ap (λ p. joined_paths (paths_at same old input) (Some p)) is)) (no_step-joined (paths_at same old input)))
+
+  -- the path of no step to the own goal is joined already
+  pub joins-own : (goals : NestedPaths I) (input : I) (paths : PathsToNested) (own : Option I)
+      → paths ≡ path_of_no_step → own ≡ Some input → HasOwn same goals own → JoinsPaths same goals goals input paths
+  joins-own goals input paths own is is_own there = record {
+    here = sym (ap (λ p. joined_paths (paths_at same goals input) (Some p)) is ∙ subst (HasOwn same goals) is_own there);
+    others = λ other apart. refl;
+  }
+
+  -- it is there after paths were joined to any goal
+  pub own-joined : (by_value : (x y : I) → same x y ≡ true → x ≡ y) (old new : NestedPaths I) (input : I) (paths : PathsToNested) (own : Option I)
+      → JoinsPaths same old new input paths → HasOwn same old own → HasOwn same new own
+  own-joined by_value old new input paths None joins there = tt
+  own-joined by_value old new input paths (Some own) joins there = elim (cases_Bool (same input own)) [
+    | inl here ↦
+        let is : input ≡ own = by_value input own here in
+        subst (λ o. HasNoStep (paths_at same new o)) is
+        (subst HasNoStep (sym joins.here) (no_step-more (paths_at same old input) (Some paths) (subst (λ o. HasNoStep (paths_at same old o)) (sym is) there)))
+    | inr apart ↦ subst HasNoStep (sym (joins.others own apart)) there
+  ]
