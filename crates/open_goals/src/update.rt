@@ -92,6 +92,7 @@ impl Guesses {
     }
 }
 
+#[inline(always)]
 fn note_head_near<X: Cx>(
     state: &mut EntryState<X>,
     guesses: &mut Guesses,

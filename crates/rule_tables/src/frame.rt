@@ -48,83 +48,82 @@ impl State {
     }
 
     /// The request that the state has made.
-    pub fn request(self) -> Request<Goal, Outcome>
-        ensures { result ≡ request_of self }
+    pub fn request(&self) -> Request<Goal, Outcome>
+        ensures { result ≡ request_of self.now }
     {
-        self.request.unwrap_or(Request::EnterCandidate)
+        match &self.request {
+            Some(request) => *request,
+            None => Request::EnterCandidate,
+        }
     }
 
-    /// The state after one more reply, which makes the next request.
-    pub fn after(self, candidates: &[Candidate], reply: Reply<Outcome>) -> State
-        ensures { result ≡ state_with candidates.now self self.request reply }
+    /// Takes one more reply, and makes the next request.
+    pub fn receive(&mut self, candidates: &[Candidate], reply: Reply<Outcome>)
+        ensures { self.new ≡ state_with candidates.now self.old self.old.request reply }
     {
-        match (self.request, reply) {
+        match (&self.request, reply) {
             (None, Reply::Begin) | (Some(Request::FinishCandidate), Reply::Noted) => {
-                self.entering(candidates)
+                self.enter(candidates);
             }
-            (Some(Request::EnterCandidate), Reply::Noted) => self.asking(candidates),
+            (Some(Request::EnterCandidate), Reply::Noted) => self.ask(candidates),
             (Some(Request::Evaluate(_, _)), Reply::Answer(outcome)) => {
-                self.with_answer(outcome).asking(candidates)
+                self.note_answer(outcome);
+                self.ask(candidates);
             }
-            (Some(Request::Ignore(_)), Reply::Noted) => self.ignoring(candidates),
-            _ => self,
+            (Some(Request::Ignore(_)), Reply::Noted) => self.ignore(candidates),
+            _ => {}
         }
     }
 
     // The next candidate begins, if there is one.
-    fn entering(self, candidates: &[Candidate]) -> State
-        ensures { result ≡ entering candidates.now self }
+    fn enter(&mut self, candidates: &[Candidate])
+        ensures { self.new ≡ entering candidates.now self.old }
     {
         if candidates.get(self.candidate).is_some() {
-            State {
-                request: Some(Request::EnterCandidate),
-                question: 0,
-                holds: true,
-                fails: false,
-                ..self
-            }
+            self.request = Some(Request::EnterCandidate);
+            self.question = 0;
+            self.holds = true;
+            self.fails = false;
         } else {
-            self.ignoring(candidates)
+            self.ignore(candidates);
         }
     }
 
     // The open candidate's next question is asked, if there is one.
-    fn asking(self, candidates: &[Candidate]) -> State
-        ensures { result ≡ asking candidates.now self }
+    fn ask(&mut self, candidates: &[Candidate])
+        ensures { self.new ≡ asking candidates.now self.old }
     {
         match candidates.get(self.candidate) {
-            None => self.ignoring(candidates),
+            None => self.ignore(candidates),
             Some(candidate) => match candidate.questions.get(self.question) {
-                None => State {
-                    request: Some(Request::FinishCandidate),
-                    candidate: self.candidate + 1,
-                    some_holds: self.some_holds || self.holds,
-                    unmarked_holds: self.unmarked_holds || (self.holds && !candidate.is_marked),
-                    each_fails: self.each_fails && self.fails,
-                    ..self
-                },
-                Some(asking) => State {
-                    request: Some(Request::Evaluate(asking.kind, asking.goal)),
-                    question: self.question + 1,
-                    ..self
-                },
+                None => self.finish(candidate.is_marked),
+                Some(asking) => {
+                    self.request = Some(Request::Evaluate(asking.kind, asking.goal));
+                    self.question += 1;
+                }
             },
         }
     }
 
-    fn with_answer(self, outcome: Outcome) -> State
-        ensures { result ≡ with_answer self outcome }
+    // The open candidate is finished.
+    fn finish(&mut self, is_marked: bool) {
+        self.request = Some(Request::FinishCandidate);
+        self.candidate += 1;
+        self.some_holds |= self.holds;
+        self.unmarked_holds |= self.holds && !is_marked;
+        self.each_fails &= self.fails;
+    }
+
+    fn note_answer(&mut self, outcome: Outcome)
+        ensures { self.new ≡ with_answer self.old outcome }
     {
-        State {
-            holds: self.holds && matches!(outcome, Outcome::Yes),
-            fails: self.fails || matches!(outcome, Outcome::No),
-            ..self
-        }
+        self.holds &= matches!(outcome, Outcome::Yes);
+        self.fails |= matches!(outcome, Outcome::No);
     }
 
     // All candidates are finished. Where an unmarked one holds, the next marked one is ignored.
-    fn ignoring(self, candidates: &[Candidate]) -> State
-        ensures { result ≡ ignoring candidates.now self }
+    fn ignore(&mut self, candidates: &[Candidate])
+        ensures { self.new ≡ ignoring candidates.now self.old }
     {
         let next = if self.unmarked_holds {
             next_marked(candidates, self.next_ignored)
@@ -132,20 +131,16 @@ impl State {
             None
         };
         match next {
-            Some(n) => State {
-                request: Some(Request::Ignore(n)),
-                next_ignored: n + 1,
-                ..self
-            },
-            None => State {
-                request: Some(Request::Done(self.outcome())),
-                ..self
-            },
+            Some(n) => {
+                self.request = Some(Request::Ignore(n));
+                self.next_ignored = n + 1;
+            }
+            None => self.request = Some(Request::Done(self.outcome())),
         }
     }
 
-    fn outcome(self) -> Outcome
-        ensures { result ≡ outcome_of self }
+    fn outcome(&self) -> Outcome
+        ensures { result ≡ outcome_of self.now }
     {
         if self.some_holds {
             Outcome::Yes
