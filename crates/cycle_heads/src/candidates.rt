@@ -113,8 +113,8 @@ impl CandidateHeadUsages {
         requires { place_of self.old head ≡ Ok index }
         ensures { self.new ≡ with_noted self.old head usages }
     {
-        let noted = &mut self.usages.get_mut(index).unwrap().1;
-        noted.add_usages_from_nested(usages);
+        let known = &mut self.usages.get_mut(index).unwrap().1;
+        known.add_usages_from_nested(usages);
     }
 
     /// Adds the counts of `other`, head by head. Where one of the two is empty, that takes no memory.
