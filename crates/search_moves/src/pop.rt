@@ -84,7 +84,7 @@ fn give_answer<X: Cx, F: Drop, S: Drop>(
     step: PathKind,
     answer: &mut EvaluationResult<X>,
 ) -> Result<Next<X::Result>, NoMemory>
-    requires { 0 < length goals.old → answer.old.required_depth + 1 < 2 ^ 64 }
+    requires fits { 0 < length goals.old → answer.old.required_depth + 1 < 2 ^ 64 }
     ensures given { IfOk result (λ next. GivesAnswer step answer.old goals.old next goals.new) }
     ensures nested { OnOk result (GivesNested X.Input.eq step answer.old.nested_goals goals.old
         goals.new) }

@@ -24,9 +24,11 @@ result_node-requires g c = λ definite.
     taken_run_ends (verdicts g.D.Cx.Cx) c.args.cache.now.nodes c.args.cache.now.nodes c.args.self.now.goals c.pop-entry.result.entry c.pop-entry.result.run c.pop-entry.new.self c.pop-entry.ensures (g.D.Delegate.script c.args.cache.now.cx) c.args.outcome c.requires.may.right.justified c.requires.may.ends definite
 
 pub give_answer-requires : goal.give_answer-requires
-give_answer-requires g c = λ some.
-    subst (λ (a : EvaluationResult _ _ _ _ _). a.required_depth + 1 < 2 ^ 64) (sym c.finalize-answer.ensures)
-    (required_fits (verdicts g.D.Cx.Cx) c.args.cache.now.nodes c.result_node.new.cache.nodes c.args.self.now.goals c.pop-entry.result.entry c.pop-entry.result.run c.pop-entry.new.self c.pop-entry.ensures c.requires.may.leaves (λ none. omega (arith, some, none)))
+give_answer-requires g c = record {
+  fits = λ some.
+      subst (λ (a : EvaluationResult _ _ _ _ _). a.required_depth + 1 < 2 ^ 64) (sym c.finalize-answer.ensures)
+      (required_fits (verdicts g.D.Cx.Cx) c.args.cache.now.nodes c.result_node.new.cache.nodes c.args.self.now.goals c.pop-entry.result.entry c.pop-entry.result.run c.pop-entry.new.self c.pop-entry.ensures c.requires.may.leaves (λ none. omega (arith, some, none)));
+}
 
 -- ---- the heads of the entry and of the entries are on the stack
 
