@@ -3,7 +3,6 @@ use Rattle.std.specs.Prelude.{Bool, Option}
 use Rattle.search_moves.specs.Below.{DelegateOf, CxOf, RebaseReason, Next, Cache, IsDefinite, verdicts}
 use Rattle.search_moves.specs.declared.evaluation.Evaluation.{Evaluation}
 use Rattle.search_moves.specs.Evaluations.{IsRight, IsRightNext}
-use Rattle.search_rules.specs.Fates.{fates_of, HaveExpected}
 use Rattle.search_rules.specs.Moves.{CanLeave, LeavesNested, NewestLeaves}
 use Rattle.search_rules.specs.Provisional.{HasReason, IsNewestUnranked, RebasesNewest}
 use Rattle.search_rules.specs.Results.{IsNewestStored, NewestComesTo, NewestIsPlain, StoresNewest}
@@ -20,7 +19,6 @@ module _ {D C V P F I R A T : Type 0} (G : DelegateOf D C V P F I R A T) (X : Cx
     pub is_reason : HasReason (verdicts X) reason before.goals outcome
     pub unranked : IsNewestUnranked (G.script old.cx) before.goals
     pub right : IsRight G X same old.cx old before
-    pub expected : HaveExpected (G.scoped old.cx) (G.script old.cx) same old.results (fates_of before.goals)
 
   -- It was popped: its result is the answer to the goal below it, with its nested goals, or to the call, and comes with its node; the
   -- answer is stored if it rests on no goal, and else becomes a provisional entry; entries that rested on the goal are rebased.

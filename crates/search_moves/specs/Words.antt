@@ -6,5 +6,5 @@ pub use Rattle.search_moves.specs.Asked.{AskingLeadsTo, asking, ByEntry, ByStore
 pub use Rattle.search_moves.specs.Asked.{question_depth, Refused}
 pub use Rattle.search_moves.specs.Popped.{MayPop, Pops}
 pub use Rattle.search_moves.specs.RunAgain.{MayRunAgain, RunsAgain}
-pub use Rattle.search_moves.specs.Storing.{ChangesResults, Fails, IsStorable, MayStore, PutsAnswer, Stores, StoresOrFails}
+pub use Rattle.search_moves.specs.Storing.{ChangesResults, Fails, IsStorable, PutsAnswer, Stores, StoresOrFails}
 pub use Rattle.search_moves.specs.RunEnded.{ComesToEnd, HadMostRuns, IsDone, IsRunAgain, MeetsLimitAtEnd, RunLeads}

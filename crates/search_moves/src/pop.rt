@@ -1,6 +1,6 @@
 //! A goal is popped, with its result.
 ghost use Rattle.std.specs.Prelude.{◌≡◌, ◌<◌, ◌+◌, ◌^◌, ℕ, length, IfOk, IfErr, OnOk};
-ghost use Rattle.search_moves.specs.Below.{Memory, IsNewestPlainTo, MayPutNewest, GivesAnswer, GivesNested, LeavesAnswer};
+ghost use Rattle.search_moves.specs.Below.{fates_of, HaveExpected, Memory, IsNewestPlainTo, MayPutNewest, GivesAnswer, GivesNested, LeavesAnswer};
 ghost use Rattle.search_moves.specs.Drafts.{KeepsNoted};
 ghost use Rattle.search_moves.specs.Words.{ChangesCache, Fails, MayPop, Pops};
 
@@ -22,7 +22,9 @@ impl<D: Delegate> Evaluation<D> {
         outcome: <D::Cx as Cx>::Result,
         reason: Option<RebaseReason<D::Cx>>,
     ) -> Result<Next<<D::Cx as Cx>::Result>, Fault<<D::Cx as Cx>::Input, <D::Cx as Cx>::Result>>
-        requires { MayPop D.Delegate D.Cx.Cx D.Cx.Input.eq outcome reason cache.old self.old }
+        requires may { MayPop D.Delegate D.Cx.Cx D.Cx.Input.eq outcome reason cache.old self.old }
+        requires expected { HaveExpected (D.scoped cache.old.cx) (D.script cache.old.cx) D.Cx.Input.eq
+            cache.old.results (fates_of self.old.goals) }
         ensures popped { IfOk result (λ next.
             Pops D.Delegate D.Cx.Cx D.Cx.Input.eq outcome reason cache.old self.old next cache.new
             self.new) }
@@ -82,7 +84,7 @@ fn give_answer<X: Cx, F: Drop, S: Drop>(
     step: PathKind,
     answer: &mut EvaluationResult<X>,
 ) -> Result<Next<X::Result>, NoMemory>
-    requires { 0 < length goals.old → answer.old.required_depth + 1 < 2 ^ 64 }
+    requires fits { 0 < length goals.old → answer.old.required_depth + 1 < 2 ^ 64 }
     ensures given { IfOk result (λ next. GivesAnswer step answer.old goals.old next goals.new) }
     ensures nested { OnOk result (GivesNested X.Input.eq step answer.old.nested_goals goals.old
         goals.new) }

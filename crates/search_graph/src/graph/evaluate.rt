@@ -1,11 +1,11 @@
 //! The evaluation of a goal: one loop over the goals under evaluation.
 ghost use Rattle.std.specs.Prelude.{◌≡◌, true, false, length, IfOk, IfErr, IfSome, OnOk, Ok};
 ghost use Rattle.open_goals.specs.declared.goals.Fate.TheVariants.{Stored};
-ghost use Rattle.search_graph.specs.Below.{ChangesCache, IsFated, first_accepted, usable, KeepsBuilder, KeepsCache, HasReply, IsRightNext};
-ghost use Rattle.search_graph.specs.Calls.{Advances, Evaluates, IsGrounded, IsNewCall, IsNewCallFor, MovesGoals, Spares};
+ghost use Rattle.search_graph.specs.Below.{ChangesCache, IsFated, first_accepted, usable, KeepsBuilder, KeepsCache, HasReply, IsNew, IsRightNext};
+ghost use Rattle.search_graph.specs.Calls.{Advances, Evaluates, IsGrounded, MovesGoals, Spares};
 ghost use Rattle.search_graph.specs.Settled.{EndsSettled, StaysSettled};
-ghost use Rattle.search_graph.specs.Turns.{IsRightTurn, KeepsDrafts, MayTurn, TurnsCache};
-ghost use Rattle.search_moves.specs.Drafts.{KeepsNoted};
+ghost use Rattle.search_graph.specs.Turns.{HasDrafts, IsRightTurn, KeepsDrafts, TurnsCache};
+ghost use Rattle.search_moves.specs.Drafts.{HasNoDrafts, KeepsNoted};
 ghost use Rattle.search_rules.specs.Lone.{IsLone};
 
 use open_goals::goals::{Fate, Next, Received, step};
@@ -24,7 +24,8 @@ pub(crate) fn evaluate<D: Delegate>(
     input: <D::Cx as Cx>::Input,
     inspect: &mut D::ProofTreeBuilder,
 ) -> Result<Answer<<D::Cx as Cx>::Result>, Fault<<D::Cx as Cx>::Input, <D::Cx as Cx>::Result>>
-    requires { IsNewCall cache.old evaluation.old }
+    requires new { IsNew evaluation.old }
+    requires drafts { HasNoDrafts cache.old.nodes evaluation.old.drafts }
     ensures evaluates { Evaluates D.Delegate D.Cx.Cx D.Cx.Input.eq cache.old.cx
         ((D.noop inspect.old ≡ true) × (D.scoped cache.old.cx input ≡ false)) input
         cache.old evaluation.old (D.starts inspect.old) result
@@ -77,8 +78,11 @@ pub(crate) fn work_out<D: Delegate>(
     fate: Fate<<D::Cx as Cx>::Result>,
     inspect: &mut D::ProofTreeBuilder,
 ) -> Result<Answer<<D::Cx as Cx>::Result>, Fault<<D::Cx as Cx>::Input, <D::Cx as Cx>::Result>>
-    requires { IsNewCallFor (IsFated (D.scoped cache.old.cx) (D.script cache.old.cx) D.Cx.Input.eq
-        cache.old.results (D.noop inspect.old)) input fate cache.old evaluation.old }
+    requires new { IsNew evaluation.old }
+    requires drafts { HasNoDrafts cache.old.nodes evaluation.old.drafts }
+    requires fated { IsFated (D.scoped cache.old.cx) (D.script cache.old.cx) D.Cx.Input.eq
+        cache.old.results (D.noop inspect.old)
+        (record { goal = input; depth = evaluation.old.root_depth.0; fate = fate }) }
     ensures evaluates { Evaluates D.Delegate D.Cx.Cx D.Cx.Input.eq cache.old.cx
         (fate ≡ Stored) input
         cache.old evaluation.old (D.starts inspect.old) result
@@ -115,8 +119,9 @@ fn take_turn<D: Delegate>(
     received: Received<<D::Cx as Cx>::Result>,
     inspect: &mut D::ProofTreeBuilder,
 ) -> Result<Next<<D::Cx as Cx>::Result>, Fault<<D::Cx as Cx>::Input, <D::Cx as Cx>::Result>>
-    requires { MayTurn D.Delegate D.Cx.Cx D.Cx.Input.eq cache.old.cx received
+    requires reply { HasReply D.Delegate D.Cx.Cx D.Cx.Input.eq cache.old.cx received
         cache.old evaluation.old (D.starts inspect.old) }
+    requires drafts { HasDrafts D.Cx.Input.eq cache.old evaluation.old }
     ensures advances { Advances D.Delegate D.Cx.Cx D.Cx.Input.eq cache.old.cx received
         cache.old evaluation.old (D.starts inspect.old) result
         cache.new evaluation.new (D.starts inspect.new) }

@@ -76,12 +76,14 @@ returns-clause-recorded g c = λ records. c.work_out.ensures.spares.recorded (c.
 pub returns-clause-builder : goal.returns-clause-builder
 returns-clause-builder g c = builder_goes_on g.D.Delegate.starts g.D.Delegate.noop c.args.inspect.now c.consult-stored.new.inspect c.work_out.new.inspect c.consult-stored.ensures.builder c.work_out.ensures.builder
 
-pub work_out-requires : goal.work_out-requires
-work_out-requires g c = record {
-  new = c.requires.new;
-  drafts = c.requires.drafts;
-  fated = subst (λ b. IsFated (g.D.Delegate.scoped c.args.cache.now.cx) (g.D.Delegate.script c.args.cache.now.cx) g.D.Cx.Input.PartialEq.eq c.args.cache.now.results b (record { goal = c.args.input; depth = c.args.evaluation.now.root_depth.0; fate = c.consult-stored.result.fate })) (sym c.consult-stored.ensures.builder.same_noop) c.consult-stored.ensures.fated;
-}
+pub work_out-requires-clause-new : goal.work_out-requires-clause-new
+work_out-requires-clause-new g c = c.requires.new
+
+pub work_out-requires-clause-drafts : goal.work_out-requires-clause-drafts
+work_out-requires-clause-drafts g c = c.requires.drafts
+
+pub work_out-requires-clause-fated : goal.work_out-requires-clause-fated
+work_out-requires-clause-fated g c = subst (λ b. IsFated (g.D.Delegate.scoped c.args.cache.now.cx) (g.D.Delegate.script c.args.cache.now.cx) g.D.Cx.Input.PartialEq.eq c.args.cache.now.results b (record { goal = c.args.input; depth = c.args.evaluation.now.root_depth.0; fate = c.consult-stored.result.fate })) (sym c.consult-stored.ensures.builder.same_noop) c.consult-stored.ensures.fated
 
 -- ---- where two runs of a goal are enough
 

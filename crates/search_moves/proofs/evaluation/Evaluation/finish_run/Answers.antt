@@ -19,8 +19,8 @@ use Rattle.search_moves.proofs.evaluation.Evaluation.finish_run.Goals as goal
 
 -- ---- its result stands
 
-pub pop_goal-requires : goal.pop_goal-requires
-pop_goal-requires g c = record {
+pub pop_goal-requires-clause-may : goal.pop_goal-requires-clause-may
+pop_goal-requires-clause-may g c = record {
   leaves = can_leave g.D.Delegate g.D.Cx.Cx c.args.cache.now.cx c.requires.call c.requires.ahead c.args.outcome c.args.self.now.goals _ _ c.requires.asked;
   ends = λ definite. ends_newest g.D.Delegate g.D.Cx.Cx c.args.cache.now.cx c.requires.call c.requires.ahead c.args.outcome c.args.self.now.goals _ _ c.requires.asked;
   comes = newest_comes g.D.Delegate g.D.Cx.Cx c.args.cache.now.cx c.requires.call c.requires.ahead c.args.outcome _ _ (g.D.Delegate.fixpoint_overflow c.args.cache.now.cx) c.args.self.now.goals c.requires.asked;
@@ -28,8 +28,10 @@ pop_goal-requires g c = record {
   is_reason = newest_reason (verdicts g.D.Cx.Cx) g.D.Cx.Result.PartialEq.eq g.met.D.Cx.Cx.same_result g.D.Delegate.initial_kind g.met.D.Delegate.recognised_sort g.D.Delegate.ambiguity g.D.Delegate.FIXPOINT_STEP_LIMIT c.last_run.result.now.finished_runs c.args.self.now.goals c.last_entry.result.now c.args.outcome c.end_of_run.result c.in-Ok.reason c.last_entry.ensures c.end_of_run.ensures.is_end c.in-Ok.is;
   unranked = newest_unranked g.D.Delegate g.D.Cx.Cx c.args.cache.now.cx c.requires.call c.requires.ahead c.args.outcome _ _ c.args.self.now.goals c.requires.asked;
   right = c.requires.right;
-  expected = c.requires.expected;
 }
+
+pub pop_goal-requires-clause-expected : goal.pop_goal-requires-clause-expected
+pop_goal-requires-clause-expected g c = c.requires.expected
 
 pub returns-in-Ok-clause-moves : goal.returns-in-Ok-clause-moves
 returns-in-Ok-clause-moves g c = record {
@@ -69,8 +71,8 @@ returns-in-Ok-clause-leads g c =
 
 -- ---- the goal had its most runs
 
-pub pop_goal-requires-in-Err-AtLimit : goal.pop_goal-requires-in-Err-AtLimit
-pop_goal-requires-in-Err-AtLimit g c = record {
+pub pop_goal-requires-in-Err-AtLimit-clause-may : goal.pop_goal-requires-in-Err-AtLimit-clause-may
+pop_goal-requires-in-Err-AtLimit-clause-may g c = record {
   leaves = can_leave g.D.Delegate g.D.Cx.Cx c.args.cache.now.cx c.requires.call c.requires.ahead c.args.outcome c.args.self.now.goals _ _ c.requires.asked;
   ends = λ definite.
       absurd (definite (ap (verdict_of (verdicts g.D.Cx.Cx)) c.fixpoint_overflow_result-overflow.ensures ∙ neither_is (verdicts g.D.Cx.Cx) (g.D.Delegate.fixpoint_overflow c.cx.result c.input-input.result) (g.met.D.Delegate.fixpoint_overflow_is_neither c.cx.result c.input-input.result)));
@@ -79,8 +81,10 @@ pop_goal-requires-in-Err-AtLimit g c = record {
   is_reason = search rules;
   unranked = newest_unranked g.D.Delegate g.D.Cx.Cx c.args.cache.now.cx c.requires.call c.requires.ahead c.args.outcome _ _ c.args.self.now.goals c.requires.asked;
   right = record { justified = c.requires.right.justified; free = c.requires.right.free; ready = c.requires.right.ready };
-  expected = c.requires.expected;
 }
+
+pub pop_goal-requires-in-Err-AtLimit-clause-expected : goal.pop_goal-requires-in-Err-AtLimit-clause-expected
+pop_goal-requires-in-Err-AtLimit-clause-expected g c = c.requires.expected
 
 pub returns-in-Err-AtLimit-clause-moves : goal.returns-in-Err-AtLimit-clause-moves
 returns-in-Err-AtLimit-clause-moves g c = record {

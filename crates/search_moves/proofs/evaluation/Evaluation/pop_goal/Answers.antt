@@ -21,61 +21,65 @@ use Rattle.search_moves.proofs.evaluation.Evaluation.pop_goal.Goals as goal
 
 pub result_node-requires : goal.result_node-requires
 result_node-requires g c = λ definite.
-    taken_run_ends (verdicts g.D.Cx.Cx) c.args.cache.now.nodes c.args.cache.now.nodes c.args.self.now.goals c.pop-entry.result.entry c.pop-entry.result.run c.pop-entry.new.self c.pop-entry.ensures (g.D.Delegate.script c.args.cache.now.cx) c.args.outcome c.requires.right.justified c.requires.ends definite
+    taken_run_ends (verdicts g.D.Cx.Cx) c.args.cache.now.nodes c.args.cache.now.nodes c.args.self.now.goals c.pop-entry.result.entry c.pop-entry.result.run c.pop-entry.new.self c.pop-entry.ensures (g.D.Delegate.script c.args.cache.now.cx) c.args.outcome c.requires.may.right.justified c.requires.may.ends definite
 
 pub give_answer-requires : goal.give_answer-requires
-give_answer-requires g c = λ some.
-    subst (λ (a : EvaluationResult _ _ _ _ _). a.required_depth + 1 < 2 ^ 64) (sym c.finalize-answer.ensures)
-    (required_fits (verdicts g.D.Cx.Cx) c.args.cache.now.nodes c.result_node.new.cache.nodes c.args.self.now.goals c.pop-entry.result.entry c.pop-entry.result.run c.pop-entry.new.self c.pop-entry.ensures c.requires.leaves (λ none. omega (arith, some, none)))
+give_answer-requires g c = record {
+  fits = λ some.
+      subst (λ (a : EvaluationResult _ _ _ _ _). a.required_depth + 1 < 2 ^ 64) (sym c.finalize-answer.ensures)
+      (required_fits (verdicts g.D.Cx.Cx) c.args.cache.now.nodes c.result_node.new.cache.nodes c.args.self.now.goals c.pop-entry.result.entry c.pop-entry.result.run c.pop-entry.new.self c.pop-entry.ensures c.requires.may.leaves (λ none. omega (arith, some, none)));
+}
 
 -- ---- the heads of the entry and of the entries are on the stack
 
 pub rebase_entries-requires-clause-on_stack : goal.rebase_entries-requires-clause-on_stack
 rebase_entries-requires-clause-on_stack g c = subst (λ (stack : List (StackEntry _ _ _ _ _)). All (λ head. head.0.0 < length stack) c.pop-entry.result.entry.state.heads) (sym c.stack-stack.ensures)
-    (heads_on_stack (c.pop-entry.result.entry, c.pop-entry.result.run) c.pop-entry.new.self (subst (λ l. HaveTallies (runs_of l)) c.pop-entry.ensures c.requires.right.justified.tallies))
+    (heads_on_stack (c.pop-entry.result.entry, c.pop-entry.result.run) c.pop-entry.new.self (subst (λ l. HaveTallies (runs_of l)) c.pop-entry.ensures c.requires.may.right.justified.tallies))
 
 pub rebase_entries-requires-clause-within : goal.rebase_entries-requires-clause-within
 rebase_entries-requires-clause-within g c = λ input.
     subst (λ (stack : List (StackEntry _ _ _ _ _)). All (λ (entry : ProvisionalCacheEntry _ _ _ _ _). All (λ head. head.0.0 ≤ length stack) entry.heads) (entries_at g.D.Cx.Input.PartialEq.eq c.args.self.now.provisional input)) (sym c.stack-stack.ensures)
     (are_within (verdicts g.D.Cx.Cx) g.D.Cx.Input.PartialEq.eq (g.D.Delegate.script c.args.cache.now.cx) c.args.cache.now.nodes c.args.self.now.provisional (c.pop-entry.result.entry, c.pop-entry.result.run) c.pop-entry.new.self
-    (subst (λ l. HaveTallies (runs_of l)) c.pop-entry.ensures c.requires.right.justified.tallies)
-    (subst (λ l. AreReady (verdicts g.D.Cx.Cx) g.D.Cx.Input.PartialEq.eq (g.D.Delegate.script c.args.cache.now.cx) c.args.cache.now.nodes (runs_of l) c.args.self.now.provisional) c.pop-entry.ensures c.requires.right.ready) input)
+    (subst (λ l. HaveTallies (runs_of l)) c.pop-entry.ensures c.requires.may.right.justified.tallies)
+    (subst (λ l. AreReady (verdicts g.D.Cx.Cx) g.D.Cx.Input.PartialEq.eq (g.D.Delegate.script c.args.cache.now.cx) c.args.cache.now.nodes (runs_of l) c.args.self.now.provisional) c.pop-entry.ensures c.requires.may.right.ready) input)
 
 -- ---- the answer may be stored, and what it is compared with is stored
 
-pub store_answer-requires : goal.store_answer-requires
-store_answer-requires g c = record {
-  storable =
-      storable_given g.D.Delegate g.D.Cx.Cx c.finalize-answer.result c.give_answer.new.answer c.give_answer.ensures.left c.result_node.new.cache c.input-input.result (record {
-        graph =
-            subst (λ (a : EvaluationResult _ _ _ _ _). a.heads ≡ [] → HasGraph (verdicts g.D.Cx.Cx) c.result_node.new.cache.nodes c.input-input.result a.result a.node) (sym c.finalize-answer.ensures)
-            (λ none. subst (λ i. HasGraph (verdicts g.D.Cx.Cx) c.result_node.new.cache.nodes i c.args.outcome c.in_ok-node.node) (sym c.input-input.ensures)
-            (headless_graph (verdicts g.D.Cx.Cx) c.args.cache.now.nodes c.result_node.new.cache.nodes c.args.self.now.goals c.pop-entry.result.entry c.pop-entry.result.run c.pop-entry.new.self c.pop-entry.ensures c.args.outcome c.in_ok-node.node c.requires.right.justified c.in_ok-node.ensures.has_node none));
-        plain =
-            subst (λ (a : EvaluationResult _ _ _ _ _). IsPlainAt (g.D.Delegate.script c.result_node.new.cache.cx) c.input-input.result (place_of a) a.result) (sym c.finalize-answer.ensures)
-            (subst (λ i. IsPlainAt (g.D.Delegate.script c.result_node.new.cache.cx) i (place_of (final_answer (c.pop-entry.result.entry, c.pop-entry.result.run) c.args.outcome c.in_ok-node.node)) c.args.outcome) (sym c.input-input.ensures)
-            (subst (λ x. IsPlainAt (g.D.Delegate.script x) c.pop-entry.result.entry.input (place_of (final_answer (c.pop-entry.result.entry, c.pop-entry.result.run) c.args.outcome c.in_ok-node.node)) c.args.outcome) (sym c.in_ok-node.ensures.same_context)
-            (subst (λ l. NewestIsPlain (g.D.Delegate.script c.args.cache.now.cx) l c.args.outcome) c.pop-entry.ensures c.requires.plain)));
-        comes =
-            subst (λ (a : EvaluationResult _ _ _ _ _). ComesTo (g.D.Delegate.script c.result_node.new.cache.cx) (g.D.Delegate.fixpoint_overflow c.result_node.new.cache.cx) c.input-input.result a.result) (sym c.finalize-answer.ensures)
-            (subst (λ i. ComesTo (g.D.Delegate.script c.result_node.new.cache.cx) (g.D.Delegate.fixpoint_overflow c.result_node.new.cache.cx) i c.args.outcome) (sym c.input-input.ensures)
-            (subst (λ x. ComesTo (g.D.Delegate.script x) (g.D.Delegate.fixpoint_overflow x) c.pop-entry.result.entry.input c.args.outcome) (sym c.in_ok-node.ensures.same_context)
-            (subst (λ l. NewestComesTo (g.D.Delegate.script c.args.cache.now.cx) (g.D.Delegate.fixpoint_overflow c.args.cache.now.cx) l c.args.outcome) c.pop-entry.ensures c.requires.comes)));
-      });
-  expected =
-      subst (λ x. IfCompared c.pop-entry.result.run.fate (IsExpected (g.D.Delegate.scoped x) g.D.Cx.Input.PartialEq.eq c.result_node.new.cache.results c.input-input.result)) (sym c.in_ok-node.ensures.same_context)
-      (subst (λ results. IfCompared c.pop-entry.result.run.fate (IsExpected (g.D.Delegate.scoped c.args.cache.now.cx) g.D.Cx.Input.PartialEq.eq results c.input-input.result)) (sym c.in_ok-node.ensures.same_results)
-      (subst (λ i. IfCompared c.pop-entry.result.run.fate (IsExpected (g.D.Delegate.scoped c.args.cache.now.cx) g.D.Cx.Input.PartialEq.eq c.args.cache.now.results i)) (sym c.input-input.ensures)
-      (subst (λ l. HaveExpected (g.D.Delegate.scoped c.args.cache.now.cx) (g.D.Delegate.script c.args.cache.now.cx) g.D.Cx.Input.PartialEq.eq c.args.cache.now.results (fates_of l)) c.pop-entry.ensures c.requires.expected).0.expected));
-  on_stack =
-      subst (λ n. IfSome (highest c.give_answer.new.answer.heads) (λ head. head.0.0 < n)) (on_stack_many c.give_answer.new.goals)
-      (subst (λ heads. IfSome (highest heads) (λ head. head.0.0 < length (reverse (map (λ s. s.0) c.give_answer.new.goals)))) (sym (heads_given c.finalize-answer.result c.give_answer.new.answer c.give_answer.ensures.left ∙ ap (λ (a : EvaluationResult _ _ _ _ _). a.heads) c.finalize-answer.ensures))
-      (highest_stays c.pop-entry.result.entry.step_kind_from_parent (final_answer (c.pop-entry.result.entry, c.pop-entry.result.run) c.args.outcome c.in_ok-node.node) c.pop-entry.new.self c.give_answer.new.goals c.in_ok-next.next
-      (subst (λ step. GivesAnswer step (final_answer (c.pop-entry.result.entry, c.pop-entry.result.run) c.args.outcome c.in_ok-node.node) c.pop-entry.new.self c.in_ok-next.next c.give_answer.new.goals) c.step_kind_from_parent-step.ensures
-      (subst (λ (a : EvaluationResult _ _ _ _ _). GivesAnswer c.step_kind_from_parent-step.result a c.pop-entry.new.self c.in_ok-next.next c.give_answer.new.goals) c.finalize-answer.ensures c.in_ok-next.ensures.given))
-      c.pop-entry.result.entry.state.heads
-      (heads_on_stack (c.pop-entry.result.entry, c.pop-entry.result.run) c.pop-entry.new.self (subst (λ l. HaveTallies (runs_of l)) c.pop-entry.ensures c.requires.right.justified.tallies))));
-}
+pub store_answer-requires-clause-storable : goal.store_answer-requires-clause-storable
+store_answer-requires-clause-storable g c =
+    storable_given g.D.Delegate g.D.Cx.Cx c.finalize-answer.result c.give_answer.new.answer c.give_answer.ensures.left c.result_node.new.cache c.input-input.result (record {
+      graph =
+          subst (λ (a : EvaluationResult _ _ _ _ _). a.heads ≡ [] → HasGraph (verdicts g.D.Cx.Cx) c.result_node.new.cache.nodes c.input-input.result a.result a.node) (sym c.finalize-answer.ensures)
+          (λ none. subst (λ i. HasGraph (verdicts g.D.Cx.Cx) c.result_node.new.cache.nodes i c.args.outcome c.in_ok-node.node) (sym c.input-input.ensures)
+          (headless_graph (verdicts g.D.Cx.Cx) c.args.cache.now.nodes c.result_node.new.cache.nodes c.args.self.now.goals c.pop-entry.result.entry c.pop-entry.result.run c.pop-entry.new.self c.pop-entry.ensures c.args.outcome c.in_ok-node.node c.requires.may.right.justified c.in_ok-node.ensures.has_node none));
+      plain =
+          subst (λ (a : EvaluationResult _ _ _ _ _). IsPlainAt (g.D.Delegate.script c.result_node.new.cache.cx) c.input-input.result (place_of a) a.result) (sym c.finalize-answer.ensures)
+          (subst (λ i. IsPlainAt (g.D.Delegate.script c.result_node.new.cache.cx) i (place_of (final_answer (c.pop-entry.result.entry, c.pop-entry.result.run) c.args.outcome c.in_ok-node.node)) c.args.outcome) (sym c.input-input.ensures)
+          (subst (λ x. IsPlainAt (g.D.Delegate.script x) c.pop-entry.result.entry.input (place_of (final_answer (c.pop-entry.result.entry, c.pop-entry.result.run) c.args.outcome c.in_ok-node.node)) c.args.outcome) (sym c.in_ok-node.ensures.same_context)
+          (subst (λ l. NewestIsPlain (g.D.Delegate.script c.args.cache.now.cx) l c.args.outcome) c.pop-entry.ensures c.requires.may.plain)));
+      comes =
+          subst (λ (a : EvaluationResult _ _ _ _ _). ComesTo (g.D.Delegate.script c.result_node.new.cache.cx) (g.D.Delegate.fixpoint_overflow c.result_node.new.cache.cx) c.input-input.result a.result) (sym c.finalize-answer.ensures)
+          (subst (λ i. ComesTo (g.D.Delegate.script c.result_node.new.cache.cx) (g.D.Delegate.fixpoint_overflow c.result_node.new.cache.cx) i c.args.outcome) (sym c.input-input.ensures)
+          (subst (λ x. ComesTo (g.D.Delegate.script x) (g.D.Delegate.fixpoint_overflow x) c.pop-entry.result.entry.input c.args.outcome) (sym c.in_ok-node.ensures.same_context)
+          (subst (λ l. NewestComesTo (g.D.Delegate.script c.args.cache.now.cx) (g.D.Delegate.fixpoint_overflow c.args.cache.now.cx) l c.args.outcome) c.pop-entry.ensures c.requires.may.comes)));
+    })
+
+pub store_answer-requires-clause-expected : goal.store_answer-requires-clause-expected
+store_answer-requires-clause-expected g c =
+    subst (λ x. IfCompared c.pop-entry.result.run.fate (IsExpected (g.D.Delegate.scoped x) g.D.Cx.Input.PartialEq.eq c.result_node.new.cache.results c.input-input.result)) (sym c.in_ok-node.ensures.same_context)
+    (subst (λ results. IfCompared c.pop-entry.result.run.fate (IsExpected (g.D.Delegate.scoped c.args.cache.now.cx) g.D.Cx.Input.PartialEq.eq results c.input-input.result)) (sym c.in_ok-node.ensures.same_results)
+    (subst (λ i. IfCompared c.pop-entry.result.run.fate (IsExpected (g.D.Delegate.scoped c.args.cache.now.cx) g.D.Cx.Input.PartialEq.eq c.args.cache.now.results i)) (sym c.input-input.ensures)
+    (subst (λ l. HaveExpected (g.D.Delegate.scoped c.args.cache.now.cx) (g.D.Delegate.script c.args.cache.now.cx) g.D.Cx.Input.PartialEq.eq c.args.cache.now.results (fates_of l)) c.pop-entry.ensures c.requires.expected).0.expected))
+
+pub store_answer-requires-clause-on_stack : goal.store_answer-requires-clause-on_stack
+store_answer-requires-clause-on_stack g c =
+    subst (λ n. IfSome (highest c.give_answer.new.answer.heads) (λ head. head.0.0 < n)) (on_stack_many c.give_answer.new.goals)
+    (subst (λ heads. IfSome (highest heads) (λ head. head.0.0 < length (reverse (map (λ s. s.0) c.give_answer.new.goals)))) (sym (heads_given c.finalize-answer.result c.give_answer.new.answer c.give_answer.ensures.left ∙ ap (λ (a : EvaluationResult _ _ _ _ _). a.heads) c.finalize-answer.ensures))
+    (highest_stays c.pop-entry.result.entry.step_kind_from_parent (final_answer (c.pop-entry.result.entry, c.pop-entry.result.run) c.args.outcome c.in_ok-node.node) c.pop-entry.new.self c.give_answer.new.goals c.in_ok-next.next
+    (subst (λ step. GivesAnswer step (final_answer (c.pop-entry.result.entry, c.pop-entry.result.run) c.args.outcome c.in_ok-node.node) c.pop-entry.new.self c.in_ok-next.next c.give_answer.new.goals) c.step_kind_from_parent-step.ensures
+    (subst (λ (a : EvaluationResult _ _ _ _ _). GivesAnswer c.step_kind_from_parent-step.result a c.pop-entry.new.self c.in_ok-next.next c.give_answer.new.goals) c.finalize-answer.ensures c.in_ok-next.ensures.given))
+    c.pop-entry.result.entry.state.heads
+    (heads_on_stack (c.pop-entry.result.entry, c.pop-entry.result.run) c.pop-entry.new.self (subst (λ l. HaveTallies (runs_of l)) c.pop-entry.ensures c.requires.may.right.justified.tallies))))
 
 -- ---- the answer could not be given or stored
 
@@ -100,7 +104,7 @@ returns-in_err-store_answer-clause-fails g c =
     (ap (λ (a : EvaluationResult _ _ _ _ _). a.result) c.give_answer.ensures.left.others ∙ ap (λ (a : EvaluationResult _ _ _ _ _). a.result) c.finalize-answer.ensures) c.result_node.ensures.same_results c.in_err-store_answer.ensures.fails))
 
 pub returns-in_err-store_answer-clause-stored : goal.returns-in_err-store_answer-clause-stored
-returns-in_err-store_answer-clause-stored g c = newest_stored (verdicts g.D.Cx.Cx) c.args.cache.now.nodes c.result_node.new.cache.nodes c.args.self.now.goals c.pop-entry.result.entry c.pop-entry.result.run c.pop-entry.new.self c.pop-entry.ensures c.args.outcome c.in_ok-node.node c.requires.right.justified c.in_ok-node.ensures.has_node g.D.Cx.Input.PartialEq.eq c.args.cache.now.results c.store_answer.new.cache.results
+returns-in_err-store_answer-clause-stored g c = newest_stored (verdicts g.D.Cx.Cx) c.args.cache.now.nodes c.result_node.new.cache.nodes c.args.self.now.goals c.pop-entry.result.entry c.pop-entry.result.run c.pop-entry.new.self c.pop-entry.ensures c.args.outcome c.in_ok-node.node c.requires.may.right.justified c.in_ok-node.ensures.has_node g.D.Cx.Input.PartialEq.eq c.args.cache.now.results c.store_answer.new.cache.results
     (subst (λ before. StoresAnswer g.D.Cx.Input.PartialEq.eq before c.store_answer.new.cache.results c.pop-entry.result.entry.input (final_answer (c.pop-entry.result.entry, c.pop-entry.result.run) c.args.outcome c.in_ok-node.node)) c.in_ok-node.ensures.same_results
     (subst (λ i. StoresAnswer g.D.Cx.Input.PartialEq.eq c.result_node.new.cache.results c.store_answer.new.cache.results i (final_answer (c.pop-entry.result.entry, c.pop-entry.result.run) c.args.outcome c.in_ok-node.node)) c.input-input.ensures
     (subst (λ (a : EvaluationResult _ _ _ _ _). StoresAnswer g.D.Cx.Input.PartialEq.eq c.result_node.new.cache.results c.store_answer.new.cache.results c.input-input.result a) c.finalize-answer.ensures (puts_given c.finalize-answer.result c.give_answer.new.answer c.give_answer.ensures.left g.D.Cx.Input.PartialEq.eq c.input-input.result c.pop-entry.result.run.fate c.result_node.new.cache c.store_answer.new.cache c.store_answer.ensures.puts).stored)))
@@ -172,7 +176,7 @@ returns-clause-cache g c = record {
 }
 
 pub returns-clause-stored : goal.returns-clause-stored
-returns-clause-stored g c = newest_stored (verdicts g.D.Cx.Cx) c.args.cache.now.nodes c.result_node.new.cache.nodes c.args.self.now.goals c.pop-entry.result.entry c.pop-entry.result.run c.pop-entry.new.self c.pop-entry.ensures c.args.outcome c.in_ok-node.node c.requires.right.justified c.in_ok-node.ensures.has_node g.D.Cx.Input.PartialEq.eq c.args.cache.now.results c.store_answer.new.cache.results
+returns-clause-stored g c = newest_stored (verdicts g.D.Cx.Cx) c.args.cache.now.nodes c.result_node.new.cache.nodes c.args.self.now.goals c.pop-entry.result.entry c.pop-entry.result.run c.pop-entry.new.self c.pop-entry.ensures c.args.outcome c.in_ok-node.node c.requires.may.right.justified c.in_ok-node.ensures.has_node g.D.Cx.Input.PartialEq.eq c.args.cache.now.results c.store_answer.new.cache.results
     (subst (λ before. StoresAnswer g.D.Cx.Input.PartialEq.eq before c.store_answer.new.cache.results c.pop-entry.result.entry.input (final_answer (c.pop-entry.result.entry, c.pop-entry.result.run) c.args.outcome c.in_ok-node.node)) c.in_ok-node.ensures.same_results
     (subst (λ i. StoresAnswer g.D.Cx.Input.PartialEq.eq c.result_node.new.cache.results c.store_answer.new.cache.results i (final_answer (c.pop-entry.result.entry, c.pop-entry.result.run) c.args.outcome c.in_ok-node.node)) c.input-input.ensures
     (subst (λ (a : EvaluationResult _ _ _ _ _). StoresAnswer g.D.Cx.Input.PartialEq.eq c.result_node.new.cache.results c.store_answer.new.cache.results c.input-input.result a) c.finalize-answer.ensures (puts_given c.finalize-answer.result c.give_answer.new.answer c.give_answer.ensures.left g.D.Cx.Input.PartialEq.eq c.input-input.result c.pop-entry.result.run.fate c.result_node.new.cache c.store_answer.new.cache c.store_answer.ensures.puts).stored)))
@@ -184,7 +188,7 @@ returns-clause-popped g c =
     subst (λ after. Pops g.D.Delegate g.D.Cx.Cx g.D.Cx.Input.PartialEq.eq c.args.outcome c.args.reason c.args.cache.now c.args.self.now c.in_ok-next.next c.store_answer.new.cache after) (sym c.store_answer.ensures.rest)
     (record {
       left =
-          given_leaves (verdicts g.D.Cx.Cx) c.args.cache.now.nodes c.result_node.new.cache.nodes c.args.self.now.goals c.pop-entry.result.entry c.pop-entry.result.run c.pop-entry.new.self c.pop-entry.ensures c.args.outcome c.in_ok-node.node c.requires.right.justified c.in_ok-node.ensures.has_node c.give_answer.new.goals c.in_ok-next.next
+          given_leaves (verdicts g.D.Cx.Cx) c.args.cache.now.nodes c.result_node.new.cache.nodes c.args.self.now.goals c.pop-entry.result.entry c.pop-entry.result.run c.pop-entry.new.self c.pop-entry.ensures c.args.outcome c.in_ok-node.node c.requires.may.right.justified c.in_ok-node.ensures.has_node c.give_answer.new.goals c.in_ok-next.next
           (subst (λ step. GivesAnswer step (final_answer (c.pop-entry.result.entry, c.pop-entry.result.run) c.args.outcome c.in_ok-node.node) c.pop-entry.new.self c.in_ok-next.next c.give_answer.new.goals) c.step_kind_from_parent-step.ensures
           (subst (λ (a : EvaluationResult _ _ _ _ _). GivesAnswer c.step_kind_from_parent-step.result a c.pop-entry.new.self c.in_ok-next.next c.give_answer.new.goals) c.finalize-answer.ensures c.in_ok-next.ensures.given));
       nested =
@@ -213,30 +217,30 @@ returns-clause-popped g c =
       right = record {
         justified =
             subst (λ nodes. IsJustifiedNext (verdicts g.D.Cx.Cx) nodes c.args.self.now.goals c.give_answer.new.goals c.in_ok-next.next) (sym (ap (λ cache. cache.nodes) c.store_answer.ensures.puts.cache.rest))
-            (given_justified (verdicts g.D.Cx.Cx) c.args.cache.now.nodes c.result_node.new.cache.nodes c.args.self.now.goals c.pop-entry.result.entry c.pop-entry.result.run c.pop-entry.new.self c.pop-entry.ensures c.args.outcome c.in_ok-node.node c.requires.right.justified c.in_ok-node.ensures.has_node c.give_answer.new.goals c.in_ok-next.next
+            (given_justified (verdicts g.D.Cx.Cx) c.args.cache.now.nodes c.result_node.new.cache.nodes c.args.self.now.goals c.pop-entry.result.entry c.pop-entry.result.run c.pop-entry.new.self c.pop-entry.ensures c.args.outcome c.in_ok-node.node c.requires.may.right.justified c.in_ok-node.ensures.has_node c.give_answer.new.goals c.in_ok-next.next
             (subst (λ step. GivesAnswer step (final_answer (c.pop-entry.result.entry, c.pop-entry.result.run) c.args.outcome c.in_ok-node.node) c.pop-entry.new.self c.in_ok-next.next c.give_answer.new.goals) c.step_kind_from_parent-step.ensures
             (subst (λ (a : EvaluationResult _ _ _ _ _). GivesAnswer c.step_kind_from_parent-step.result a c.pop-entry.new.self c.in_ok-next.next c.give_answer.new.goals) c.finalize-answer.ensures c.in_ok-next.ensures.given)));
         free =
             subst (λ nodes. AreFree (verdicts g.D.Cx.Cx) g.D.Cx.Input.PartialEq.eq nodes (runs_of c.give_answer.new.goals) c.store_answer.new.cache.results) (sym (ap (λ cache. cache.nodes) c.store_answer.ensures.puts.cache.rest))
-            (given_free (verdicts g.D.Cx.Cx) c.args.cache.now.nodes c.result_node.new.cache.nodes c.args.self.now.goals c.pop-entry.result.entry c.pop-entry.result.run c.pop-entry.new.self c.pop-entry.ensures c.args.outcome c.in_ok-node.node c.requires.right.justified c.in_ok-node.ensures.has_node g.D.Cx.Input.PartialEq.eq g.met.D.Cx.Cx.same_input c.args.cache.now.results c.store_answer.new.cache.results c.give_answer.new.goals c.in_ok-next.next
+            (given_free (verdicts g.D.Cx.Cx) c.args.cache.now.nodes c.result_node.new.cache.nodes c.args.self.now.goals c.pop-entry.result.entry c.pop-entry.result.run c.pop-entry.new.self c.pop-entry.ensures c.args.outcome c.in_ok-node.node c.requires.may.right.justified c.in_ok-node.ensures.has_node g.D.Cx.Input.PartialEq.eq g.met.D.Cx.Cx.same_input c.args.cache.now.results c.store_answer.new.cache.results c.give_answer.new.goals c.in_ok-next.next
             (subst (λ step. GivesAnswer step (final_answer (c.pop-entry.result.entry, c.pop-entry.result.run) c.args.outcome c.in_ok-node.node) c.pop-entry.new.self c.in_ok-next.next c.give_answer.new.goals) c.step_kind_from_parent-step.ensures
             (subst (λ (a : EvaluationResult _ _ _ _ _). GivesAnswer c.step_kind_from_parent-step.result a c.pop-entry.new.self c.in_ok-next.next c.give_answer.new.goals) c.finalize-answer.ensures c.in_ok-next.ensures.given))
             (subst (λ before. StoresAnswer g.D.Cx.Input.PartialEq.eq before c.store_answer.new.cache.results c.pop-entry.result.entry.input (final_answer (c.pop-entry.result.entry, c.pop-entry.result.run) c.args.outcome c.in_ok-node.node)) c.in_ok-node.ensures.same_results
             (subst (λ i. StoresAnswer g.D.Cx.Input.PartialEq.eq c.result_node.new.cache.results c.store_answer.new.cache.results i (final_answer (c.pop-entry.result.entry, c.pop-entry.result.run) c.args.outcome c.in_ok-node.node)) c.input-input.ensures
-            (subst (λ (a : EvaluationResult _ _ _ _ _). StoresAnswer g.D.Cx.Input.PartialEq.eq c.result_node.new.cache.results c.store_answer.new.cache.results c.input-input.result a) c.finalize-answer.ensures (puts_given c.finalize-answer.result c.give_answer.new.answer c.give_answer.ensures.left g.D.Cx.Input.PartialEq.eq c.input-input.result c.pop-entry.result.run.fate c.result_node.new.cache c.store_answer.new.cache c.store_answer.ensures.puts).stored))) c.requires.right.free);
+            (subst (λ (a : EvaluationResult _ _ _ _ _). StoresAnswer g.D.Cx.Input.PartialEq.eq c.result_node.new.cache.results c.store_answer.new.cache.results c.input-input.result a) c.finalize-answer.ensures (puts_given c.finalize-answer.result c.give_answer.new.answer c.give_answer.ensures.left g.D.Cx.Input.PartialEq.eq c.input-input.result c.pop-entry.result.run.fate c.result_node.new.cache c.store_answer.new.cache c.store_answer.ensures.puts).stored))) c.requires.may.right.free);
         ready =
             subst (λ nodes. AreReady (verdicts g.D.Cx.Cx) g.D.Cx.Input.PartialEq.eq (g.D.Delegate.script c.args.cache.now.cx) nodes (runs_of c.give_answer.new.goals) c.store_answer.new.self.provisional) (sym (ap (λ cache. cache.nodes) c.store_answer.ensures.puts.cache.rest))
             (rebased_ready (verdicts g.D.Cx.Cx) g.D.Cx.Input.PartialEq.eq g.met.D.Cx.Cx.same_input (g.D.Delegate.script c.args.cache.now.cx) c.args.cache.now.nodes c.result_node.new.cache.nodes (c.pop-entry.result.entry, c.pop-entry.result.run) c.pop-entry.new.self c.args.outcome c.in_ok-node.node
-            (subst (λ l. AreJustified (verdicts g.D.Cx.Cx) c.args.cache.now.nodes (runs_of l)) c.pop-entry.ensures c.requires.right.justified)
-            (rebases (verdicts g.D.Cx.Cx) c.args.cache.now.nodes c.result_node.new.cache.nodes c.pop-entry.result.entry c.pop-entry.result.run c.pop-entry.new.self (subst (λ l. AreJustified (verdicts g.D.Cx.Cx) c.args.cache.now.nodes (runs_of l)) c.pop-entry.ensures c.requires.right.justified) c.args.outcome c.in_ok-node.node c.in_ok-node.ensures.has_node)
+            (subst (λ l. AreJustified (verdicts g.D.Cx.Cx) c.args.cache.now.nodes (runs_of l)) c.pop-entry.ensures c.requires.may.right.justified)
+            (rebases (verdicts g.D.Cx.Cx) c.args.cache.now.nodes c.result_node.new.cache.nodes c.pop-entry.result.entry c.pop-entry.result.run c.pop-entry.new.self (subst (λ l. AreJustified (verdicts g.D.Cx.Cx) c.args.cache.now.nodes (runs_of l)) c.pop-entry.ensures c.requires.may.right.justified) c.args.outcome c.in_ok-node.node c.in_ok-node.ensures.has_node)
             (g.D.Delegate.propagated c.args.cache.now.cx) (g.D.Delegate.fixpoint_overflow c.args.cache.now.cx)
             (λ goal info. neither_is (verdicts g.D.Cx.Cx) (g.D.Delegate.propagated c.args.cache.now.cx goal info) (g.met.D.Delegate.propagated_is_neither c.args.cache.now.cx goal info))
             (λ goal. neither_is (verdicts g.D.Cx.Cx) (g.D.Delegate.fixpoint_overflow c.args.cache.now.cx goal) (g.met.D.Delegate.fixpoint_overflow_is_neither c.args.cache.now.cx goal))
-            c.args.reason (subst (λ l. HasReason (verdicts g.D.Cx.Cx) c.args.reason l c.args.outcome) c.pop-entry.ensures c.requires.is_reason)
-            c.are_rising.ensures (subst (IsNewestUnranked (g.D.Delegate.script c.args.cache.now.cx)) c.pop-entry.ensures c.requires.unranked)
+            c.args.reason (subst (λ l. HasReason (verdicts g.D.Cx.Cx) c.args.reason l c.args.outcome) c.pop-entry.ensures c.requires.may.is_reason)
+            c.are_rising.ensures (subst (IsNewestUnranked (g.D.Delegate.script c.args.cache.now.cx)) c.pop-entry.ensures c.requires.may.unranked)
             g.D.Delegate.ENABLE_PROVISIONAL_CACHE c.args.self.now.provisional c.store_answer.new.self.provisional
             (entries_rebased g.D.Cx.Input.PartialEq.eq g.D.Delegate.ENABLE_PROVISIONAL_CACHE g.D.Delegate.propagated g.D.Delegate.fixpoint_overflow c.cx.result c.args.cache.now.cx (c.cx.ensures ∙ c.in_ok-node.ensures.same_context) c.args.reason c.args.outcome c.in_ok-node.node (c.pop-entry.result.entry, c.pop-entry.result.run) c.pop-entry.new.self c.give_answer.new.goals c.in_ok-next.next c.stack-stack.result.now (reverse (map (λ s. s.0) c.give_answer.new.goals)) c.stack-stack.ensures refl c.step_kind_from_parent-step.result c.step_kind_from_parent-step.ensures c.input-input.result c.input-input.ensures c.finalize-answer.result c.finalize-answer.ensures c.in_ok-next.ensures.given c.args.self.now.provisional c.rebase_entries.new.provisional c.store_answer.new.self.provisional c.in_ok-rebase_entries.ensures.exact (stores_given g.D.Delegate g.D.Cx.Cx c.finalize-answer.result c.give_answer.new.answer c.give_answer.ensures.left g.D.Cx.Input.PartialEq.eq c.step_kind_from_parent-step.result c.input-input.result c.pop-entry.result.run.fate (record c.args.self.now { goals = c.give_answer.new.goals; provisional = c.rebase_entries.new.provisional }) c.store_answer.new.self c.store_answer.new.cache c.in_ok-store_answer.ensures.stores).entry)
-            (subst (λ l. AreReady (verdicts g.D.Cx.Cx) g.D.Cx.Input.PartialEq.eq (g.D.Delegate.script c.args.cache.now.cx) c.args.cache.now.nodes (runs_of l) c.args.self.now.provisional) c.pop-entry.ensures c.requires.right.ready)
+            (subst (λ l. AreReady (verdicts g.D.Cx.Cx) g.D.Cx.Input.PartialEq.eq (g.D.Delegate.script c.args.cache.now.cx) c.args.cache.now.nodes (runs_of l) c.args.self.now.provisional) c.pop-entry.ensures c.requires.may.right.ready)
             c.in_ok-next.next c.give_answer.new.goals
             (subst (λ step. GivesAnswer step (final_answer (c.pop-entry.result.entry, c.pop-entry.result.run) c.args.outcome c.in_ok-node.node) c.pop-entry.new.self c.in_ok-next.next c.give_answer.new.goals) c.step_kind_from_parent-step.ensures
             (subst (λ (a : EvaluationResult _ _ _ _ _). GivesAnswer c.step_kind_from_parent-step.result a c.pop-entry.new.self c.in_ok-next.next c.give_answer.new.goals) c.finalize-answer.ensures c.in_ok-next.ensures.given)));
