@@ -8,7 +8,7 @@ use Rattle.structural_types.specs.declared.delegate.Pair.{Pair}
 
 -- Each stored answer is yes or no, none met overflow, and the answers of all pairs that may be asked are settled, with nested pairs
 -- that are reached. So two runs of each pair are enough, and the next question is decided, too.
-pub record IsReady {C A T : Type 0} (same : Pair → Pair → Bool) (forms : List Form) (cache : Cache C Pair Outcome A T) : Type 0 where
+pub record KeepsDeciding {C A T : Type 0} (same : Pair → Pair → Bool) (forms : List Form) (cache : Cache C Pair Outcome A T) : Type 0 where
   pub definite : AreDefinite outcome_verdicts same cache.results
   pub no_overflow : HaveNoOverflowOf (Contains (askable forms)) same cache.results
   pub settled : AreSettled outcome_verdicts same cache.nodes cache.results (askable forms)
