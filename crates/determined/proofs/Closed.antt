@@ -1,18 +1,18 @@
--- Where no question is settled, a graph over settled questions is a graph. So each goal of a closed list has one of the
+-- Where no question is given, a graph over given questions is a graph. So each goal of a closed list has one of the
 -- two graphs, and a result that is yes with the one and no with the other says which.
 use Rattle.std.proofs.Common.{◌≡◌, ℕ, Bool, true, false, inl, inr, List, map, Contains, Option, None}
 use Rattle.search_context.proofs.Graphs.{never_both}
-use Rattle.determined.proofs.Determined.{has_one_over_settled}
+use Rattle.determined.proofs.Determined.{has_one_over_given}
 use Rattle.determined.proofs.Laws.{AreLawful}
 use Rattle.determined.specs.Below.{Coinductive, GraphNode, Inductive, IsDecisive, IsGraph, IsWithin, PathKind, Question, Reply, Request, Verdicts, question_of}
 use Rattle.determined.specs.Closed.{ExactlyOne, HasProof, HasRefutation, IsClosed, IsExact}
-use Rattle.determined.specs.Settled.{HasProofOver, HasRefutationOver, IsClosedButSettled, IsShownOver}
+use Rattle.determined.specs.Given.{HasProofOver, HasRefutationOver, IsClosedButGiven, IsShownOver}
 
--- no question is settled
-abbrev pub none_settled : {I : Type 0} → Question I → Option Bool
-none_settled q = None
+-- no question is given
+abbrev pub none_given : {I : Type 0} → Question I → Option Bool
+none_given q = None
 
-pub closed_but_none : {I R : Type 0} (scripts : I → List (Reply R) → Request I R) (goals : List I) (most : ℕ) → IsClosed scripts goals most → IsClosedButSettled none_settled scripts goals most
+pub closed_but_none : {I R : Type 0} (scripts : I → List (Reply R) → Request I R) (goals : List I) (most : ℕ) → IsClosed scripts goals most → IsClosedButGiven none_given scripts goals most
 closed_but_none scripts goals most closed = record {
   stays = λ goal has replies kind asked fits is follows. closed.stays goal has replies kind asked fits is;
   is_orderly = closed.is_orderly;
@@ -30,14 +30,14 @@ graph_by rule weaker kind nodes root goal weaken graph = record {
 }
 
 module _ {I : Type 0} (rule : I → List (Question I) → Type 0) (more : (goal : I) (some all : List (Question I)) → IsWithin some all → rule goal some → rule goal all) where
-  shown_alone : (settled : Bool) (goal : I) (questions : List (Question I)) → IsShownOver none_settled settled rule goal questions → rule goal questions
-  shown_alone settled goal questions s = more goal s.shown questions (λ q has. elim (s.are_given q has) [ inl h ↦ h | inr e ↦ absurd cc ]) s.by_rule
+  shown_alone : (given : Bool) (goal : I) (questions : List (Question I)) → IsShownOver none_given given rule goal questions → rule goal questions
+  shown_alone given goal questions s = more goal s.shown questions (λ q has. elim (s.are_covered q has) [ inl h ↦ h | inr e ↦ absurd cc ]) s.by_rule
 
-  pub proof_over_none : (goal : I) → HasProofOver none_settled rule goal → HasProof rule goal
-  proof_over_none goal (nodes, root, graph) = (nodes, root, graph_by (IsShownOver none_settled true rule) rule Coinductive nodes root goal (shown_alone true) graph)
+  pub proof_over_none : (goal : I) → HasProofOver none_given rule goal → HasProof rule goal
+  proof_over_none goal (nodes, root, graph) = (nodes, root, graph_by (IsShownOver none_given true rule) rule Coinductive nodes root goal (shown_alone true) graph)
 
-  pub refutation_over_none : (goal : I) → HasRefutationOver none_settled rule goal → HasRefutation rule goal
-  refutation_over_none goal (nodes, root, graph) = (nodes, root, graph_by (IsShownOver none_settled false rule) rule Inductive nodes root goal (shown_alone false) graph)
+  pub refutation_over_none : (goal : I) → HasRefutationOver none_given rule goal → HasRefutation rule goal
+  refutation_over_none goal (nodes, root, graph) = (nodes, root, graph_by (IsShownOver none_given false rule) rule Inductive nodes root goal (shown_alone false) graph)
 
 module _ {I R : Type 0} (says : Verdicts R) (scripts : I → List (Reply R) → Request I R) (cycle_result : PathKind → I → R) (proves refutes : I → List (Question I) → Type 0)
     (lawful : AreLawful says scripts cycle_result proves refutes) (decisive : IsDecisive says scripts)
@@ -47,7 +47,7 @@ module _ {I R : Type 0} (says : Verdicts R) (scripts : I → List (Reply R) → 
 
   pub has_one : ExactlyOne (HasProof proves goal) (HasRefutation refutes goal)
   has_one = (
-    elim (has_one_over_settled says scripts cycle_result proves refutes lawful decisive none_settled goals most (closed_but_none scripts goals most closed) goal has).0 [
+    elim (has_one_over_given says scripts cycle_result proves refutes lawful decisive none_given goals most (closed_but_none scripts goals most closed) goal has).0 [
       | inl proof ↦ inl (proof_over_none proves lawful.proves_more goal proof)
       | inr refutation ↦ inr (refutation_over_none refutes lawful.refutes_more goal refutation)
     ],

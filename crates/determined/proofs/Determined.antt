@@ -1,4 +1,4 @@
--- Each goal of a list that is closed but for settled questions has a proof graph or a refutation graph over these. By
+-- Each goal of a list that is closed but for given questions has a proof graph or a refutation graph over these. By
 -- rounds and stages each place of the list is won or lost, and what wins or loses it are the reasons of which its graph
 -- is made.
 use Rattle.std.proofs.Common.{◌≡◌, ℕ, ◌<◌, Bool, true, false, not, cond, ◌⊎◌, inl, inr, List, length, get_or, Contains, Option, None, Some, refl, sym, ◌∙◌, subst}
@@ -6,7 +6,7 @@ use Rattle.std.proofs.lemmas.Bool.{cases_lt}
 use Rattle.std.proofs.lemmas.List.{get_or_default, get_or_past}
 use Rattle.determined.specs.Below.{Coinductive, Evaluate, ForcedAmbiguity, Inductive, IsDecidedKind, IsDecisive, IsFitting, PathKind, Question, Reply, Request, Unknown, Verdicts, request_after}
 use Rattle.determined.specs.Closed.{ExactlyOne}
-use Rattle.determined.specs.Settled.{HasProofOver, HasRefutationOver, IsClosedButSettled}
+use Rattle.determined.specs.Given.{HasProofOver, HasRefutationOver, IsClosedButGiven}
 use Rattle.determined.proofs.Apart.{never_both_over}
 use Rattle.determined.proofs.Laws.{AreLawful}
 use Rattle.determined.proofs.Reasons.{HasReasons, graph_of}
@@ -27,17 +27,17 @@ counts inner outer Unknown y decided = absurd decided
 counts inner outer Coinductive y decided = (outer y, refl)
 counts inner outer ForcedAmbiguity y decided = absurd decided
 
-module _ {I : Type 0} (settled : Question I → Option Bool) (n : ℕ) (goal_at : ℕ → I) where
+module _ {I : Type 0} (given : Question I → Option Bool) (n : ℕ) (goal_at : ℕ → I) where
   -- a place of the question's goal counts this
   record IsAnswered (inner outer : ℕ → Bool) (q : Question I) (b : Bool) : Type 0 where
-    is_followed : settled q ≡ None
+    is_followed : given q ≡ None
     place : ℕ
     within : place < n
     has_goal : goal_at place ≡ q.goal
     counts_for : CountsFor inner outer q.kind place b
 
   abbrev HasTruth : (inner outer : ℕ → Bool) → Question I → Bool → Type 0
-  HasTruth inner outer q b = (settled q ≡ Some b) ⊎ IsAnswered inner outer q b
+  HasTruth inner outer q b = (given q ≡ Some b) ⊎ IsAnswered inner outer q b
 
   module _ (proves refutes : I → List (Question I) → Type 0) where
     abbrev IsProvedBy : (inner outer : ℕ → Bool) → ℕ → Type 0
@@ -53,7 +53,7 @@ module _ {I : Type 0} (settled : Question I → Option Bool) (n : ℕ) (goal_at 
       won_to x w Coinductive y l h = (w.by_outer y l h, inl refl)
       won_to x w ForcedAmbiguity y l h = absurd h
 
-      won_reasons : (x : ℕ) → s.won x ≡ true → HasReasons settled true proves Coinductive (WonSteps s.rank) (WonGoes s.rank) (won_steps s.rank) n goal_at s.won x
+      won_reasons : (x : ℕ) → s.won x ≡ true → HasReasons given true proves Coinductive (WonSteps s.rank) (WonGoes s.rank) (won_steps s.rank) n goal_at s.won x
       won_reasons x is =
           let w = s.won_at x is in
           record {
@@ -71,7 +71,7 @@ module _ {I : Type 0} (settled : Question I → Option Bool) (n : ℕ) (goal_at 
       lost_to x w Coinductive y h = let by = w.by_outer y h in (by.0, inr (refl, by.1))
       lost_to x w ForcedAmbiguity y h = absurd h
 
-      lost_reasons : (x : ℕ) → x < n → s.lost x ≡ true → HasReasons settled false refutes Inductive (LostSteps s.fall) (LostSteps s.fall) (lost_steps s.fall) n goal_at s.lost x
+      lost_reasons : (x : ℕ) → x < n → s.lost x ≡ true → HasReasons given false refutes Inductive (LostSteps s.fall) (LostSteps s.fall) (lost_steps s.fall) n goal_at s.lost x
       lost_reasons x l is =
           let w = s.lost_at x l is in
           record {
@@ -83,11 +83,11 @@ module _ {I : Type 0} (settled : Question I → Option Bool) (n : ℕ) (goal_at 
             ];
           }
 
-      has_either : (x : ℕ) → x < n → HasProofOver settled proves (goal_at x) ⊎ HasRefutationOver settled refutes (goal_at x)
+      has_either : (x : ℕ) → x < n → HasProofOver given proves (goal_at x) ⊎ HasRefutationOver given refutes (goal_at x)
       has_either x l =
           elim (s.either x l) [
-            | inl is ↦ inl (graph_of settled true proves Coinductive (WonSteps s.rank) (WonGoes s.rank) (won_steps s.rank) n goal_at s.won (λ y m. won_reasons y) x l is)
-            | inr is ↦ inr (graph_of settled false refutes Inductive (LostSteps s.fall) (LostSteps s.fall) (lost_steps s.fall) n goal_at s.lost lost_reasons x l is)
+            | inl is ↦ inl (graph_of given true proves Coinductive (WonSteps s.rank) (WonGoes s.rank) (won_steps s.rank) n goal_at s.won (λ y m. won_reasons y) x l is)
+            | inr is ↦ inr (graph_of given false refutes Inductive (LostSteps s.fall) (LostSteps s.fall) (lost_steps s.fall) n goal_at s.lost lost_reasons x l is)
           ]
 
 module _ {I R : Type 0} (says : Verdicts R) (scripts : I → List (Reply R) → Request I R) (cycle_result : PathKind → I → R) (proves refutes : I → List (Question I) → Type 0)
@@ -104,7 +104,7 @@ module _ {I R : Type 0} (says : Verdicts R) (scripts : I → List (Reply R) → 
   answers_no goal true = (lawful.cycles Coinductive goal).no
   answers_no goal false = (lawful.cycles Inductive goal).no
 
-  module _ (settled : Question I → Option Bool) (goals : List I) (most : ℕ) (closed : IsClosedButSettled settled scripts goals most) (first : I) (has_first : Contains goals first) where
+  module _ (given : Question I → Option Bool) (goals : List I) (most : ℕ) (closed : IsClosedButGiven given scripts goals most) (first : I) (has_first : Contains goals first) where
     -- the goal at a place, and past the list a goal of it too
     abbrev goal_at : ℕ → I
     goal_at x = get_or goals x first
@@ -121,27 +121,27 @@ module _ {I R : Type 0} (says : Verdicts R) (scripts : I → List (Reply R) → 
 
     module _ (inner outer : ℕ → Bool) (x : ℕ) where
       tell_by : (replies : List (Reply R)) (kind : PathKind) (goal : I) → IsFitting (scripts (goal_at x)) replies → request_after (scripts (goal_at x)) replies ≡ Some (Evaluate kind goal) →
-          (o : Option Bool) → settled (record { kind = kind; goal = goal }) ≡ o → (b : Bool) × HasTruth settled (length goals) goal_at inner outer (record { kind = kind; goal = goal }) b
+          (o : Option Bool) → given (record { kind = kind; goal = goal }) ≡ o → (b : Bool) × HasTruth given (length goals) goal_at inner outer (record { kind = kind; goal = goal }) b
       tell_by replies kind goal fits is (Some b) told = (b, inl told)
       tell_by replies kind goal fits is None follows =
           let p = place_of goal (closed.stays (goal_at x) (goal_in x) replies kind goal fits is follows) in
           let c = counts inner outer kind p.0 (decisive.asks (goal_at x) goal replies kind fits is) in
           (c.0, inr (record { is_followed = follows; place = p.0; within = p.1; has_goal = p.2; counts_for = c.1 }))
 
-      sides : IsProvedBy settled (length goals) goal_at proves refutes inner outer x ⊎ IsRefutedBy settled (length goals) goal_at proves refutes inner outer x
+      sides : IsProvedBy given (length goals) goal_at proves refutes inner outer x ⊎ IsRefutedBy given (length goals) goal_at proves refutes inner outer x
       sides =
-          comes_to says (HasTruth settled (length goals) goal_at inner outer) (scripts (goal_at x)) answer answers_yes answers_no
-          (λ replies kind goal fits is. tell_by replies kind goal fits is (settled (record { kind = kind; goal = goal })) refl)
+          comes_to says (HasTruth given (length goals) goal_at inner outer) (scripts (goal_at x)) answer answers_yes answers_no
+          (λ replies kind goal fits is. tell_by replies kind goal fits is (given (record { kind = kind; goal = goal })) refl)
           most (closed.is_done (goal_at x) (goal_in x)) (closed.is_orderly (goal_at x) (goal_in x)) (decisive.ends (goal_at x))
           (proves (goal_at x)) (refutes (goal_at x)) (lawful.yes_is_proved (goal_at x)) (lawful.no_is_refuted (goal_at x))
 
-    either : HasProofOver settled proves first ⊎ HasRefutationOver settled refutes first
+    either : HasProofOver given proves first ⊎ HasRefutationOver given refutes first
     either =
         let p = place_of first has_first in
-        let s = sorted (length goals) (IsProvedBy settled (length goals) goal_at proves refutes) (IsRefutedBy settled (length goals) goal_at proves refutes) sides in
-        subst (λ goal. HasProofOver settled proves goal ⊎ HasRefutationOver settled refutes goal) p.2
-        (has_either settled (length goals) goal_at proves refutes s p.0 p.1)
+        let s = sorted (length goals) (IsProvedBy given (length goals) goal_at proves refutes) (IsRefutedBy given (length goals) goal_at proves refutes) sides in
+        subst (λ goal. HasProofOver given proves goal ⊎ HasRefutationOver given refutes goal) p.2
+        (has_either given (length goals) goal_at proves refutes s p.0 p.1)
 
-    -- the goal has one of the two graphs over settled questions
-    pub has_one_over_settled : ExactlyOne (HasProofOver settled proves first) (HasRefutationOver settled refutes first)
-    has_one_over_settled = (either, never_both_over settled proves refutes lawful.clash first)
+    -- the goal has one of the two graphs over given questions
+    pub has_one_over_given : ExactlyOne (HasProofOver given proves first) (HasRefutationOver given refutes first)
+    has_one_over_given = (either, never_both_over given proves refutes lawful.clash first)

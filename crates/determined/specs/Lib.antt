@@ -1,3 +1,3 @@
 pub mod Below
 pub mod Closed
-pub mod Settled
+pub mod Given

@@ -2,7 +2,7 @@
 ghost use Rattle.std.specs.Prelude.{◌≡◌, ℕ, true, Bool, List, Option, Contains};
 ghost use Rattle.determined.specs.Below.{IsDecisive, Question, verdicts};
 ghost use Rattle.determined.specs.Closed.{ExactlyOne, HasProof, HasRefutation, IsClosed, IsExact};
-ghost use Rattle.determined.specs.Settled.{HasProofOver, HasRefutationOver, IsClosedButSettled};
+ghost use Rattle.determined.specs.Given.{HasProofOver, HasRefutationOver, IsClosedButGiven};
 
 use search_context::context::Delegate;
 
@@ -25,13 +25,13 @@ pub fn answer_is_exact<D: Delegate>()
         IsExact (verdicts D.Cx.Cx) (D.Cx.proves cx) (D.Cx.refutes cx) goal r }
 {}
 
-/// Where some questions are settled, the same holds of graphs that stop at these: a proof graph may rest on settled
+/// Where some questions are given, the same holds of graphs that stop at these: a proof graph may rest on given
 /// questions that are true, and a refutation graph on those that are false.
-pub fn has_one_over_settled<D: Delegate>()
-    ensures { (cx : D.Cx) (settled : Question D.Cx.Input → Option Bool) (goals : List D.Cx.Input)
+pub fn has_one_over_given<D: Delegate>()
+    ensures { (cx : D.Cx) (given : Question D.Cx.Input → Option Bool) (goals : List D.Cx.Input)
         (most : ℕ) →
-        IsDecisive (verdicts D.Cx.Cx) (D.script cx) → IsClosedButSettled settled (D.script cx) goals most →
+        IsDecisive (verdicts D.Cx.Cx) (D.script cx) → IsClosedButGiven given (D.script cx) goals most →
         (goal : D.Cx.Input) → Contains goals goal →
-        ExactlyOne (HasProofOver settled (D.Cx.proves cx) goal)
-        (HasRefutationOver settled (D.Cx.refutes cx) goal) }
+        ExactlyOne (HasProofOver given (D.Cx.proves cx) goal)
+        (HasRefutationOver given (D.Cx.refutes cx) goal) }
 {}

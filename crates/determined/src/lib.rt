@@ -6,7 +6,7 @@
 //! | File of `specs/` | Has |
 //! |---|---|
 //! | `Closed` | lists of goals that no question leads out of; goals that have a graph |
-//! | `Settled` | the same where it is told beforehand of some questions whether they are true |
+//! | `Given` | the same where the truth of some questions is given |
 //!
 //! How the graphs come about is said by the lemmas of `proofs/`: `Runs` for a script that is answered as its questions
 //! are true, `Growth` and `Rounds` for the places of the list that are won or lost, `Built`, `Steps` and `Reasons` for

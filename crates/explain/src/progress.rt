@@ -1,6 +1,6 @@
 //! Progress on standard error.
 
-use shown_graphs::Progress;
+use shown_graphs::Reporter;
 use std::io::{IsTerminal, Write};
 use std::time::Instant;
 
@@ -30,7 +30,7 @@ impl<'a> OnTerminal<'a> {
     }
 }
 
-impl Progress for OnTerminal<'_> {
+impl Reporter for OnTerminal<'_> {
     fn note(&mut self, done: usize, runs: u64) {
         let Some(start) = self.start else {
             return;

@@ -131,22 +131,22 @@ fn expect_counts(
 }
 
 #[test]
-fn tables_without_unknown_steps_are_settled(rt: HostRuntime) -> Result<(), Fail> {
+fn tables_without_unknown_steps_are_decided(rt: HostRuntime) -> Result<(), Fail> {
     for (first, second) in [
         (Body::Alternatives, Body::Alternatives),
         (Body::Alternatives, Body::Together),
         (Body::Together, Body::Alternatives),
         (Body::Together, Body::Together),
     ] {
-        assert_eq!(rt; settled_tables::<1>(rt.alloc(), first, second)?, 256);
-        assert_eq!(rt; settled_tables::<0>(rt.alloc(), first, second)?, 256);
+        assert_eq!(rt; decided_tables::<1>(rt.alloc(), first, second)?, 256);
+        assert_eq!(rt; decided_tables::<0>(rt.alloc(), first, second)?, 256);
     }
     Ok(())
 }
 
 /// Of how many tables of these bodies, all of whose steps are inductive or coinductive, both goals are answered yes
 /// or no within the limits, without the provisional cache where `PROVISIONAL` is 0.
-fn settled_tables<const PROVISIONAL: usize>(
+fn decided_tables<const PROVISIONAL: usize>(
     alloc: Global,
     first: Body,
     second: Body,
@@ -159,7 +159,7 @@ fn settled_tables<const PROVISIONAL: usize>(
         let text = text_of(alloc, first, second, table)?;
         let rules = Rules::read(alloc, text.as_slice())?;
         let cx = Table { lender: &rules };
-        if both_are_settled::<Table<&Rules>, TableDelegate<'_, 8, PROVISIONAL>>(
+        if both_are_decided::<Table<&Rules>, TableDelegate<'_, 8, PROVISIONAL>>(
             alloc, cx, &rules,
         )? {
             count = count.saturating_add(1);
@@ -276,7 +276,7 @@ where
 }
 
 /// Whether both goals are answered yes or no at depth 4, and no limit is met.
-fn both_are_settled<X, D>(alloc: Global, cx: X, rules: &Rules) -> Result<bool, Fail>
+fn both_are_decided<X, D>(alloc: Global, cx: X, rules: &Rules) -> Result<bool, Fail>
 where
     X: Cx<Input = Goal, Result = Outcome>,
     D: Delegate<Cx = X, ProofTreeBuilder = Builder>,

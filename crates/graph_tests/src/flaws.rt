@@ -11,12 +11,12 @@ use std::test::Fail;
 /// each with its place, its question and the place that it leads to; and what is wrong with that.
 const GRAPHS: &str = "\
 rule A = | yes A | nothing
-rule A = | no A | a goal is not settled by its edges
+rule A = | no A | a goal is not shown by its edges
 rule B =; rule A = | yes BA | the root is of another goal
-rule A = c:A | yes A | a goal is not settled by its edges
-rule A = c:A i:B; rule B = | yes A 0-c:A-0 | a goal is not settled by its edges
-rule A = i:A; rule A = c:B | no A 0-i:A-0 | a goal is not settled by its edges
-rule A = i:A | maybe A 0-i:A-0 | a goal is not settled by its edges
+rule A = c:A | yes A | a goal is not shown by its edges
+rule A = c:A i:B; rule B = | yes A 0-c:A-0 | a goal is not shown by its edges
+rule A = i:A; rule A = c:B | no A 0-i:A-0 | a goal is not shown by its edges
+rule A = i:A | maybe A 0-i:A-0 | a goal is not shown by its edges
 rule A = i:B; rule B = | yes AB 0-i:B-1 | nothing
 rule A = i:B; rule B = | yes AA 0-i:B-1 | an edge leads to another goal
 rule A = i:B; rule B = | yes AB 0-i:B-2 | an edge leads to another goal

@@ -1,4 +1,8 @@
 //! The graph that an answer names, read node by node, and a plain check of it by the table's rules alone.
+//!
+//! It looks at goals and edges, and never at replies: whatever a run was told, its edges have to show its goal. The plain
+//! check of `check_tests` plays each run again by its replies, as the checker does, and has to agree with it on any list of
+//! nodes. Only the search for closed walks is alike, and neither check has a part of the other, on purpose.
 
 use delegate_parts::Outcome;
 use rule_tables::{Goal, Rules};
@@ -105,8 +109,8 @@ impl ShownGraph {
         if !self.edges.iter().all(|edge| self.leads_to_its_goal(*edge)) {
             return Ok(Some("an edge leads to another goal"));
         }
-        if !self.nodes.iter().all(|node| self.is_settled(rules, *node)) {
-            return Ok(Some("a goal is not settled by its edges"));
+        if !self.nodes.iter().all(|node| self.is_shown(rules, *node)) {
+            return Ok(Some("a goal is not shown by its edges"));
         }
         if self.has_wrong_walk(outcome)? {
             return Ok(Some("a closed walk is of the wrong kind"));
@@ -122,7 +126,7 @@ impl ShownGraph {
 
     /// Whether the node's edges show its result: of a yes, they have all questions of some candidate, and of a
     /// no, one question of each.
-    fn is_settled(&self, rules: &Rules, node: ShownNode) -> bool {
+    fn is_shown(&self, rules: &Rules, node: ShownNode) -> bool {
         let candidates = rules.candidates(node.goal);
         match node.outcome {
             Outcome::Yes => candidates.iter().any(|candidate| {

@@ -2,3 +2,4 @@ pub mod FirstWords
 pub mod NameLemmas
 pub mod Bytes
 pub mod Written
+pub mod Questions

@@ -2,3 +2,4 @@ pub mod Lines
 pub mod LineWords
 pub mod Names
 pub mod Writing
+pub mod Questions

@@ -6,6 +6,7 @@
 //! | `Lines`, `LineWords` | the lines of a text, and their words |
 //! | `Names` | names and their numbers |
 //! | `Writing` | what was written before a failure |
+//! | `Questions` | that a text was read, and that its questions were told one after another |
 #![tactic(auto)]
 
 mod input;

@@ -6,7 +6,7 @@ use Rattle.question_lists.specs.Below.{Question, Request, Evaluate, Reply, Outco
 use Rattle.question_lists.specs.declared.needs.Needs.{Needs}
 use Rattle.question_lists.specs.declared.needs.Needs.TheVariants.{All, Any}
 use Rattle.question_lists.specs.Frame.{outcome_of, request_for, next_question, state_after, script_of}
-use Rattle.question_lists.specs.Told.{Contains-at, request-asks, next_question-is, IsEnd, Settled, Full, Unsettled, is_end}
+use Rattle.question_lists.specs.Told.{Contains-at, request-asks, next_question-is, IsEnd, Early, Full, Undecided, is_end}
 
 not_yes : (r : Outcome) → r ≡ No → is_yes r ≡ true → ⊥
 not_yes r e t = let g : is_yes r ≡ is_yes No = ap is_yes e in absurd cc
@@ -39,8 +39,8 @@ module _ {I : Type 0} (needs_of : I → Needs) (questions_of : I → List (Quest
   asked_of goal [] q e = absurd cc
   asked_of goal (x ∷ earlier) q e =
       let s = state_after (needs_of goal) (x ∷ earlier) in
-      let a = request-asks (outcome_of (needs_of goal) s) (next_question (questions_of goal) s.is_settled s.place) q e in
-      Contains-at (questions_of goal) s.place q (next_question-is (questions_of goal) s.is_settled s.place q a).1
+      let a = request-asks (outcome_of (needs_of goal) s) (next_question (questions_of goal) s.has_enough s.place) q e in
+      Contains-at (questions_of goal) s.place q (next_question-is (questions_of goal) s.has_enough s.place q a).1
 
   no_fault : (p : Progress I Outcome) (so_far : Outcome) (o : Option (Question I)) → order_fault p (Some (request_for so_far o)) ≡ None
   no_fault p so_far None = refl
@@ -50,7 +50,7 @@ module _ {I : Type 0} (needs_of : I → Needs) (questions_of : I → List (Quest
   orderly goal [] h = refl
   orderly goal (x ∷ earlier) h =
       let s = state_after (needs_of goal) (x ∷ earlier) in
-      no_fault (progress_after (scripts goal) (x ∷ earlier)) (outcome_of (needs_of goal) s) (next_question (questions_of goal) s.is_settled s.place)
+      no_fault (progress_after (scripts goal) (x ∷ earlier)) (outcome_of (needs_of goal) s) (next_question (questions_of goal) s.has_enough s.place)
 
   orderly_to : (n : ℕ) (goal : I) → IsOrderlyTo scripts n goal
   orderly_to zero goal = orderly goal
@@ -93,12 +93,12 @@ module _ {I : Type 0} (needs_of : I → Needs) (questions_of : I → List (Quest
 
     module _ (goal : I) (allowed : I → Outcome → Type 0) (said : (asked : I) (r : Outcome) → allowed asked r → Says asked r) (replies : List (Reply Outcome)) (r : Outcome) where
       says_at : (needs : Needs) → needs_of goal ≡ needs → IsEnd needs (questions_of goal) allowed (λ _ q a. Says q.goal a) (λ _ _ _ _ h. h) (λ _ q a _ h. said q.goal a h) replies r → Says goal r
-      says_at All is (Settled e q has w) = inr (e, is_solution.some_fails goal q is has (said_no q.goal w.0 w.1 w.2))
+      says_at All is (Early e q has w) = inr (e, is_solution.some_fails goal q is has (said_no q.goal w.0 w.1 w.2))
       says_at All is (Full e h) = inl (e, is_solution.all_hold goal is (λ q has. let w = h q has in said_yes q.goal w.0 w.1 w.2))
-      says_at All is (Unsettled e q has w) = absurd (said_neither q.goal w.0 w.1 w.2 w.3)
-      says_at Any is (Settled e q has w) = inl (e, is_solution.some_holds goal q is has (said_yes q.goal w.0 w.1 w.2))
+      says_at All is (Undecided e q has w) = absurd (said_neither q.goal w.0 w.1 w.2 w.3)
+      says_at Any is (Early e q has w) = inl (e, is_solution.some_holds goal q is has (said_yes q.goal w.0 w.1 w.2))
       says_at Any is (Full e h) = inr (e, is_solution.all_fail goal is (λ q has. let w = h q has in said_no q.goal w.0 w.1 w.2))
-      says_at Any is (Unsettled e q has w) = absurd (said_neither q.goal w.0 w.2 w.1 w.3)
+      says_at Any is (Undecided e q has w) = absurd (said_neither q.goal w.0 w.2 w.1 w.3)
 
     says_of : (allowed : I → Outcome → Type 0) → ((asked : I) (r : Outcome) → allowed asked r → Says asked r) → (goal : I) (r : Outcome) → IsResultOf allowed (scripts goal) r → Says goal r
     says_of allowed said goal r h =
@@ -116,12 +116,12 @@ module _ {I : Type 0} (needs_of : I → Needs) (questions_of : I → List (Quest
     Definite earlier q a = AreDecided outcome_verdicts earlier → IsDefinite outcome_verdicts a
 
     ends_at : (needs : Needs) (questions : List (Question I)) → IsEnd needs questions (λ _ _. ⊤) Definite (λ _ _ _ _ t d. t d.1) (λ _ _ _ _ _ d. d.0) replies r → IsDefinite outcome_verdicts r
-    ends_at All questions (Settled e q has w) = definite_no r e
+    ends_at All questions (Early e q has w) = definite_no r e
     ends_at All questions (Full e h) = definite_yes r e
-    ends_at All questions (Unsettled e q has w) = absurd (never_open w.0 (w.3 decided) w.1 w.2)
-    ends_at Any questions (Settled e q has w) = definite_yes r e
+    ends_at All questions (Undecided e q has w) = absurd (never_open w.0 (w.3 decided) w.1 w.2)
+    ends_at Any questions (Early e q has w) = definite_yes r e
     ends_at Any questions (Full e h) = definite_no r e
-    ends_at Any questions (Unsettled e q has w) = absurd (never_open w.0 (w.3 decided) w.2 w.1)
+    ends_at Any questions (Undecided e q has w) = absurd (never_open w.0 (w.3 decided) w.2 w.1)
 
   -- goals that ask by such kinds alone are decided where no limit is met
   pub decisive : ((goal : I) (q : Question I) → Contains (questions_of goal) q → IsDecidedKind q.kind) → IsDecisive outcome_verdicts scripts

@@ -13,21 +13,21 @@ module _ {I : Type 0} (needs : Needs) (questions : List (Question I)) where
   answer_within [] r h = absurd h.0
   answer_within (y ∷ earlier) r h =
       let s = state_after needs (y ∷ earlier) in
-      let a = answers_question (λ _ _. Unit {0}) (outcome_of needs s) (next_question questions s.is_settled s.place) (Answer r) h.0 in
-      slice_get_within questions s.place a.question (next_question-is questions s.is_settled s.place a.question a.is_asked).1
+      let a = answers_question (λ _ _. Unit {0}) (outcome_of needs s) (next_question questions s.has_enough s.place) (Answer r) h.0 in
+      slice_get_within questions s.place a.question (next_question-is questions s.has_enough s.place a.question a.is_asked).1
 
   never_noted : (replies : List (Reply Outcome)) → IsFitting (script_of needs questions) (Noted ∷ replies) → ⊥
   never_noted [] h = h.0
   never_noted (y ∷ earlier) h =
       let s = state_after needs (y ∷ earlier) in
-      let a = answers_question (λ _ _. Unit {0}) (outcome_of needs s) (next_question questions s.is_settled s.place) Noted h.0 in
+      let a = answers_question (λ _ _. Unit {0}) (outcome_of needs s) (next_question questions s.has_enough s.place) Noted h.0 in
       let e = a.is_reply in absurd cc
 
   begins_once : (replies : List (Reply Outcome)) → IsFitting (script_of needs questions) (Begin ∷ replies) → replies ≡ []
   begins_once [] h = refl
   begins_once (y ∷ earlier) h =
       let s = state_after needs (y ∷ earlier) in
-      let a = answers_question (λ _ _. Unit {0}) (outcome_of needs s) (next_question questions s.is_settled s.place) Begin h.0 in
+      let a = answers_question (λ _ _. Unit {0}) (outcome_of needs s) (next_question questions s.has_enough s.place) Begin h.0 in
       let e = a.is_reply in absurd cc
 
   pub falls : (replies : List (Reply Outcome)) (x : Reply Outcome) → IsFitting (script_of needs questions) (x ∷ replies) →

@@ -1,44 +1,44 @@
--- A frame asks a goal's questions in order, until one answer settles the goal or no question is left.
+-- A frame asks a goal's questions in order, until one answer is enough or no question is left.
 use Rattle.std.specs.Prelude.{ℕ, ◌+◌, ◌-◌, Bool, true, false, ◌&&◌, ◌||◌, if◌then◌else◌, List, [], ◌∷◌, slice_get, Option, Some, None}
 use Rattle.question_lists.specs.Below.{Question, Request, Evaluate, Done, Reply, Begin, Answer, Noted, Outcome, Maybe}
 use Rattle.question_lists.specs.declared.needs.Needs.{Needs}
 use Rattle.question_lists.specs.declared.frame.State.{State}
-use Rattle.question_lists.specs.Needs.{is_settling, is_filling, settled_outcome, full_outcome}
+use Rattle.question_lists.specs.Needs.{is_enough, is_filling, early_outcome, full_outcome}
 
 -- no reply has come
 abbrev pub fresh : State
-fresh = record { begun = false; place = 0; is_settled = false; is_full = true }
+fresh = record { begun = false; place = 0; has_enough = false; is_full = true }
 
 -- the state after one more reply
 abbrev pub with_reply : Needs → State → Reply Outcome → State
 with_reply needs s Begin = record s { begun = true }
 with_reply needs s (Answer r) = record s {
   place = s.place + 1;
-  is_settled = s.is_settled || is_settling needs r;
+  has_enough = s.has_enough || is_enough needs r;
   is_full = s.is_full && is_filling needs r;
 }
 with_reply needs s Noted = s
 
 -- the result by the answers so far
 abbrev pub outcome_of : Needs → State → Outcome
-outcome_of needs s = if s.is_settled then settled_outcome needs else (if s.is_full then full_outcome needs else Maybe)
+outcome_of needs s = if s.has_enough then early_outcome needs else (if s.is_full then full_outcome needs else Maybe)
 
--- the place of the next question, unless the goal is settled
+-- the place of the next question, unless some answer is enough
 abbrev pub next_place : State → Option ℕ
-next_place s = if s.is_settled then None else Some s.place
+next_place s = if s.has_enough then None else Some s.place
 
 -- the question is asked, if there is one
 abbrev pub request_for : {I : Type 0} → Outcome → Option (Question I) → Request I Outcome
 request_for so_far None = Done so_far
 request_for so_far (Some q) = Evaluate q.kind q.goal
 
--- the next question, unless the goal is settled
-abbrev pub next_question : {I : Type 0} → List (Question I) → (is_settled : Bool) (place : ℕ) → Option (Question I)
-next_question questions is_settled place = if is_settled then None else slice_get questions place
+-- the next question, unless some answer is enough
+abbrev pub next_question : {I : Type 0} → List (Question I) → (has_enough : Bool) (place : ℕ) → Option (Question I)
+next_question questions has_enough place = if has_enough then None else slice_get questions place
 
 -- the request of a frame in this state
 abbrev pub request_of : {I : Type 0} → Needs → List (Question I) → State → Request I Outcome
-request_of needs questions s = request_for (outcome_of needs s) (next_question questions s.is_settled s.place)
+request_of needs questions s = request_for (outcome_of needs s) (next_question questions s.has_enough s.place)
 
 -- the state after these replies, of which the newest stands first
 abbrev pub state_after : Needs → List (Reply Outcome) → State

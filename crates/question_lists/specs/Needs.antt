@@ -14,20 +14,20 @@ abbrev pub Refutes : {I : Type 0} → Needs → (questions failed : List (Questi
 Refutes All questions failed = Overlap questions failed
 Refutes Any questions failed = IsWithin questions failed
 
--- one answer of this verdict settles the goal
-abbrev pub is_settling : Needs → Outcome → Bool
-is_settling All = is_no
-is_settling Any = is_yes
+-- one answer of this verdict is enough for the goal's result
+abbrev pub is_enough : Needs → Outcome → Bool
+is_enough All = is_no
+is_enough Any = is_yes
 
 -- the goal needs all answers to be of the other one
 abbrev pub is_filling : Needs → Outcome → Bool
 is_filling All = is_yes
 is_filling Any = is_no
 
--- the result that one answer settles
-abbrev pub settled_outcome : Needs → Outcome
-settled_outcome All = No
-settled_outcome Any = Yes
+-- the result for which one answer is enough
+abbrev pub early_outcome : Needs → Outcome
+early_outcome All = No
+early_outcome Any = Yes
 
 -- the result that takes all answers
 abbrev pub full_outcome : Needs → Outcome

@@ -8,7 +8,7 @@ use Rattle.question_lists.specs.declared.needs.Needs.{Needs}
 use Rattle.question_lists.specs.declared.needs.Needs.TheVariants.{All, Any}
 use Rattle.question_lists.specs.Needs.{Proves, Refutes}
 use Rattle.question_lists.specs.Frame.{outcome_of, request_for, next_question, state_after, script_of}
-use Rattle.question_lists.specs.Told.{IsEnd, Settled, Full, Unsettled, is_end}
+use Rattle.question_lists.specs.Told.{IsEnd, Early, Full, Undecided, is_end}
 
 -- a question that was answered outside candidates
 abbrev pub answered : {I : Type 0} → Question I → Outcome → Asked I Outcome
@@ -61,7 +61,7 @@ module _ {I : Type 0} (needs : Needs) (questions : List (Question I)) where
       first_closed Noted = refl
   closed (x ∷ y ∷ earlier) =
       let s = state_after needs (y ∷ earlier) in
-      still_closed (progress (y ∷ earlier)) (outcome_of needs s) (next_question questions s.is_settled s.place) x (closed (y ∷ earlier))
+      still_closed (progress (y ∷ earlier)) (outcome_of needs s) (next_question questions s.has_enough s.place) x (closed (y ∷ earlier))
 
   abbrev WasAsked : List (Reply Outcome) → Question I → Outcome → Type 0
   WasAsked replies q r = Contains (progress replies).asked (answered q r)
@@ -73,7 +73,7 @@ module _ {I : Type 0} (needs : Needs) (questions : List (Question I)) where
       none h = absurd (omega (arith, h.1))
   keep (y ∷ earlier) reply q r h =
       let s = state_after needs (y ∷ earlier) in
-      still_asked (progress (y ∷ earlier)) (outcome_of needs s) (next_question questions s.is_settled s.place) reply (answered q r) h
+      still_asked (progress (y ∷ earlier)) (outcome_of needs s) (next_question questions s.has_enough s.place) reply (answered q r) h
 
   pub new : (earlier : List (Reply Outcome)) (q : Question I) (r : Outcome) → request_after (script_of needs questions) earlier ≡ Some (Evaluate q.kind q.goal) → ⊤ → WasAsked (Answer r ∷ earlier) q r
   new earlier q r e _ = asked_now (progress earlier) (request_after (script_of needs questions) earlier) q r (closed earlier) e
@@ -95,24 +95,24 @@ not_no r s e f t = let g : is_no r ≡ is_no s = ap is_no e in absurd cc
 
 module _ {I : Type 0} (questions : List (Question I)) (replies : List (Reply Outcome)) (r : Outcome) where
   all_yes : is_yes r ≡ true → IsEnd All questions (λ _ _. ⊤) (WasAsked All questions) (keep All questions) (new All questions) replies r → IsWithin questions (questions_answered is_yes (progress All questions replies))
-  all_yes is (Settled e q has w) = absurd (not_yes r No e refl is)
+  all_yes is (Early e q has w) = absurd (not_yes r No e refl is)
   all_yes is (Full e h) = all_of All questions is_yes replies h
-  all_yes is (Unsettled e q has w) = absurd (not_yes r Maybe e refl is)
+  all_yes is (Undecided e q has w) = absurd (not_yes r Maybe e refl is)
 
   any_yes : is_yes r ≡ true → IsEnd Any questions (λ _ _. ⊤) (WasAsked Any questions) (keep Any questions) (new Any questions) replies r → Overlap questions (questions_answered is_yes (progress Any questions replies))
-  any_yes is (Settled e q has w) = some_of Any questions is_yes replies q has w
+  any_yes is (Early e q has w) = some_of Any questions is_yes replies q has w
   any_yes is (Full e h) = absurd (not_yes r No e refl is)
-  any_yes is (Unsettled e q has w) = absurd (not_yes r Maybe e refl is)
+  any_yes is (Undecided e q has w) = absurd (not_yes r Maybe e refl is)
 
   all_no : is_no r ≡ true → IsEnd All questions (λ _ _. ⊤) (WasAsked All questions) (keep All questions) (new All questions) replies r → Overlap questions (questions_answered is_no (progress All questions replies))
-  all_no is (Settled e q has w) = some_of All questions is_no replies q has w
+  all_no is (Early e q has w) = some_of All questions is_no replies q has w
   all_no is (Full e h) = absurd (not_no r Yes e refl is)
-  all_no is (Unsettled e q has w) = absurd (not_no r Maybe e refl is)
+  all_no is (Undecided e q has w) = absurd (not_no r Maybe e refl is)
 
   any_no : is_no r ≡ true → IsEnd Any questions (λ _ _. ⊤) (WasAsked Any questions) (keep Any questions) (new Any questions) replies r → IsWithin questions (questions_answered is_no (progress Any questions replies))
-  any_no is (Settled e q has w) = absurd (not_no r Yes e refl is)
+  any_no is (Early e q has w) = absurd (not_no r Yes e refl is)
   any_no is (Full e h) = all_of Any questions is_no replies h
-  any_no is (Unsettled e q has w) = absurd (not_no r Maybe e refl is)
+  any_no is (Undecided e q has w) = absurd (not_no r Maybe e refl is)
 
 pub yes_is_proved : {I : Type 0} (needs : Needs) (questions : List (Question I)) (replies : List (Reply Outcome)) (r : Outcome) → EndsIn (script_of needs questions) replies r → is_yes r ≡ true →
     Proves needs questions (questions_answered is_yes (progress_after (script_of needs questions) replies))

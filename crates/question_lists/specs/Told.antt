@@ -6,7 +6,7 @@ use Rattle.std.proofs.lemmas.Option.{slice_get-get_or, slice_get_within, get_or_
 use Rattle.question_lists.specs.Below.{Question, Evaluate, Done, Reply, Begin, Answer, Noted, Outcome, Maybe, AreRepliesTo, IsReplyTo, request_after}
 use Rattle.question_lists.specs.declared.needs.Needs.{Needs}
 use Rattle.question_lists.specs.declared.frame.State.{State}
-use Rattle.question_lists.specs.Needs.{is_filling, is_settling, settled_outcome, full_outcome}
+use Rattle.question_lists.specs.Needs.{is_filling, is_enough, early_outcome, full_outcome}
 use Rattle.question_lists.specs.Frame.{with_reply, outcome_of, request_for, next_question, state_after, script_of}
 
 pub Contains-at : {A : Type 0} (xs : List A) (i : ℕ) (x : A) → slice_get xs i ≡ Some x → Contains xs x
@@ -59,7 +59,7 @@ module _ {I : Type 0} where
   answers_question allowed so_far (Some q) (Answer r) h = record { question = q; outcome = r; is_asked = refl; is_reply = refl; is_allowed = h }
   answers_question allowed so_far (Some q) Noted h = absurd h
 
-  pub next_question-is : (questions : List (Question I)) (is_settled : Bool) (place : ℕ) (q : Question I) → next_question questions is_settled place ≡ Some q → (is_settled ≡ false) × (slice_get questions place ≡ Some q)
+  pub next_question-is : (questions : List (Question I)) (has_enough : Bool) (place : ℕ) (q : Question I) → next_question questions has_enough place ≡ Some q → (has_enough ≡ false) × (slice_get questions place ≡ Some q)
   next_question-is questions true place q e = absurd cc
   next_question-is questions false place q e = (refl, e)
 
@@ -77,23 +77,23 @@ module _ {I : Type 0} (needs : Needs) (questions : List (Question I)) (allowed :
     (keep : (earlier : List (Reply Outcome)) (reply : Reply Outcome) (q : Question I) (r : Outcome) → Told earlier q r → Told (reply ∷ earlier) q r)
     (new : (earlier : List (Reply Outcome)) (q : Question I) (r : Outcome) → request_after (script_of needs questions) earlier ≡ Some (Evaluate q.kind q.goal) → allowed q.goal r → Told (Answer r ∷ earlier) q r) where
   -- the question has an answer that passes
-  abbrev pub HasAnswer : List (Reply Outcome) → (Outcome → Bool) → Question I → Type 0
-  HasAnswer replies test q = (r : Outcome) × (test r ≡ true) × Told replies q r
+  abbrev pub HasAnswerThat : List (Reply Outcome) → (Outcome → Bool) → Question I → Type 0
+  HasAnswerThat replies test q = (r : Outcome) × (test r ≡ true) × Told replies q r
 
-  -- the question has an answer that neither settles nor fills
-  abbrev pub HasOpenAnswer : List (Reply Outcome) → Question I → Type 0
-  HasOpenAnswer replies q = (r : Outcome) × (is_filling needs r ≡ false) × (is_settling needs r ≡ false) × Told replies q r
+  -- the question has an answer that is neither enough nor one that fills
+  abbrev pub HasOtherAnswer : List (Reply Outcome) → Question I → Type 0
+  HasOtherAnswer replies q = (r : Outcome) × (is_filling needs r ≡ false) × (is_enough needs r ≡ false) × Told replies q r
 
   pub record IsTold (replies : List (Reply Outcome)) (s : State) : Type 0 where
-    pub full : s.is_full ≡ true → (at : ℕ) (q : Question I) → at < s.place → slice_get questions at ≡ Some q → HasAnswer replies (is_filling needs) q
-    pub settled : s.is_settled ≡ true → (q : Question I) × Contains questions q × HasAnswer replies (is_settling needs) q
-    pub unsettled : s.is_full ≡ false → s.is_settled ≡ false → (q : Question I) × Contains questions q × HasOpenAnswer replies q
+    pub full : s.is_full ≡ true → (at : ℕ) (q : Question I) → at < s.place → slice_get questions at ≡ Some q → HasAnswerThat replies (is_filling needs) q
+    pub enough : s.has_enough ≡ true → (q : Question I) × Contains questions q × HasAnswerThat replies (is_enough needs) q
+    pub undecided : s.is_full ≡ false → s.has_enough ≡ false → (q : Question I) × Contains questions q × HasOtherAnswer replies q
 
-  keep_answer : (earlier : List (Reply Outcome)) (reply : Reply Outcome) (test : Outcome → Bool) (q : Question I) → HasAnswer earlier test q → HasAnswer (reply ∷ earlier) test q
+  keep_answer : (earlier : List (Reply Outcome)) (reply : Reply Outcome) (test : Outcome → Bool) (q : Question I) → HasAnswerThat earlier test q → HasAnswerThat (reply ∷ earlier) test q
   keep_answer earlier reply test q h = (h.0, h.1, keep earlier reply q h.0 h.2)
 
   full_with : (earlier : List (Reply Outcome)) (s : State) (q : Question I) (r : Outcome) → IsTold earlier s → slice_get questions s.place ≡ Some q → Told (Answer r ∷ earlier) q r →
-      is_filling needs r ≡ true → s.is_full ≡ true → (at : ℕ) (p : Question I) → at < s.place + 1 → slice_get questions at ≡ Some p → HasAnswer (Answer r ∷ earlier) (is_filling needs) p
+      is_filling needs r ≡ true → s.is_full ≡ true → (at : ℕ) (p : Question I) → at < s.place + 1 → slice_get questions at ≡ Some p → HasAnswerThat (Answer r ∷ earlier) (is_filling needs) p
   full_with earlier s q r old is_at told fills is_full at p l e =
       elim (eqb_tells at s.place) [
         | inl w ↦ (r, fills, subst (λ x. Told (Answer r ∷ earlier) x r) (same_at questions s.place at q p (sym w.1) is_at e) told)
@@ -104,21 +104,21 @@ module _ {I : Type 0} (needs : Needs) (questions : List (Question I)) (allowed :
       IsTold (Answer r ∷ earlier) (with_reply needs s (Answer r))
   answered earlier s q r old is_at told = record {
     full = λ e. let b = both_true s.is_full (is_filling needs r) e in full_with earlier s q r old is_at told b.1 b.0;
-    settled = λ e. elim (one_true s.is_settled (is_settling needs r) e) [
-      | inl h ↦ let w = old.settled h in (w.0, w.1, keep_answer earlier (Answer r) (is_settling needs) w.0 w.2)
+    enough = λ e. elim (one_true s.has_enough (is_enough needs r) e) [
+      | inl h ↦ let w = old.enough h in (w.0, w.1, keep_answer earlier (Answer r) (is_enough needs) w.0 w.2)
       | inr h ↦ (q, Contains-at questions s.place q is_at, (r, h, told))
     ];
-    unsettled = λ e f. let b = both_false s.is_settled (is_settling needs r) f in elim (one_false s.is_full (is_filling needs r) e) [
-      | inl h ↦ let w = old.unsettled h b.0 in (w.0, w.1, (w.2.0, w.2.1, w.2.2, keep earlier (Answer r) w.0 w.2.0 w.2.3))
+    undecided = λ e f. let b = both_false s.has_enough (is_enough needs r) f in elim (one_false s.is_full (is_filling needs r) e) [
+      | inl h ↦ let w = old.undecided h b.0 in (w.0, w.1, (w.2.0, w.2.1, w.2.2, keep earlier (Answer r) w.0 w.2.0 w.2.3))
       | inr h ↦ (q, Contains-at questions s.place q is_at, (r, h, b.1, told))
     ];
   }
 
-  begun : (replies : List (Reply Outcome)) (s : State) → s.is_full ≡ true → s.is_settled ≡ false → s.place ≡ 0 → IsTold replies s
-  begun replies s full settled place = record {
+  begun : (replies : List (Reply Outcome)) (s : State) → s.is_full ≡ true → s.has_enough ≡ false → s.place ≡ 0 → IsTold replies s
+  begun replies s full enough place = record {
     full = λ _ at q l e. absurd (omega arith);
-    settled = λ h. absurd cc;
-    unsettled = λ h _. absurd cc;
+    enough = λ h. absurd cc;
+    undecided = λ h _. absurd cc;
   }
 
   pub is_told : (replies : List (Reply Outcome)) → AreRepliesTo allowed (script_of needs questions) replies → IsTold replies (state_after needs replies)
@@ -128,28 +128,28 @@ module _ {I : Type 0} (needs : Needs) (questions : List (Question I)) (allowed :
   is_told (Noted ∷ []) h = absurd h.0
   is_told (x ∷ y ∷ earlier) h =
       let s = state_after needs (y ∷ earlier) in
-      let o = next_question questions s.is_settled s.place in
+      let o = next_question questions s.has_enough s.place in
       let a = answers_question allowed (outcome_of needs s) o x h.0 in
-      let at = next_question-is questions s.is_settled s.place a.question a.is_asked in
+      let at = next_question-is questions s.has_enough s.place a.question a.is_asked in
       let asks : request_after (script_of needs questions) (y ∷ earlier) ≡ Some (Evaluate a.question.kind a.question.goal) = ap (λ p. Some (request_for (outcome_of needs s) p)) a.is_asked in
       subst (λ z. IsTold (z ∷ y ∷ earlier) (with_reply needs s z)) (sym a.is_reply)
       (answered (y ∷ earlier) s a.question a.outcome (is_told (y ∷ earlier) h.1) at.1 (new (y ∷ earlier) a.question a.outcome asks a.is_allowed))
 
-  -- a run that has ended: one answer settled the goal, or all filled it, or some answer did neither
+  -- a run that has ended: one answer was enough, or all filled the goal, or some answer did neither
   pub data IsEnd (replies : List (Reply Outcome)) (r : Outcome) : Type 0 where
-    Settled : r ≡ settled_outcome needs → (q : Question I) → Contains questions q → HasAnswer replies (is_settling needs) q → IsEnd replies r
-    Full : r ≡ full_outcome needs → ((q : Question I) → Contains questions q → HasAnswer replies (is_filling needs) q) → IsEnd replies r
-    Unsettled : r ≡ Maybe → (q : Question I) → Contains questions q → HasOpenAnswer replies q → IsEnd replies r
+    Early : r ≡ early_outcome needs → (q : Question I) → Contains questions q → HasAnswerThat replies (is_enough needs) q → IsEnd replies r
+    Full : r ≡ full_outcome needs → ((q : Question I) → Contains questions q → HasAnswerThat replies (is_filling needs) q) → IsEnd replies r
+    Undecided : r ≡ Maybe → (q : Question I) → Contains questions q → HasOtherAnswer replies q → IsEnd replies r
 
-  end_with : (replies : List (Reply Outcome)) (s : State) (r : Outcome) (is_settled is_full : Bool) → s.is_settled ≡ is_settled → s.is_full ≡ is_full → IsTold replies s →
-      outcome_of needs (record s { is_settled = is_settled; is_full = is_full }) ≡ r → next_question questions is_settled s.place ≡ None → IsEnd replies r
-  end_with replies s r true is_full e f told is none = let w = told.settled e in Settled (sym is) w.0 w.1 w.2
+  end_with : (replies : List (Reply Outcome)) (s : State) (r : Outcome) (has_enough is_full : Bool) → s.has_enough ≡ has_enough → s.is_full ≡ is_full → IsTold replies s →
+      outcome_of needs (record s { has_enough = has_enough; is_full = is_full }) ≡ r → next_question questions has_enough s.place ≡ None → IsEnd replies r
+  end_with replies s r true is_full e f told is none = let w = told.enough e in Early (sym is) w.0 w.1 w.2
   end_with replies s r false true e f told is none = Full (sym is) (λ q has. told.full f has.0 q (before_end questions has.0 s.place q none (at-Contains questions q has)) (at-Contains questions q has))
-  end_with replies s r false false e f told is none = let w = told.unsettled f e in Unsettled (sym is) w.0 w.1 w.2
+  end_with replies s r false false e f told is none = let w = told.undecided f e in Undecided (sym is) w.0 w.1 w.2
 
   pub is_end : (replies : List (Reply Outcome)) (r : Outcome) → AreRepliesTo allowed (script_of needs questions) replies → request_after (script_of needs questions) replies ≡ Some (Done r) → IsEnd replies r
   is_end [] r h e = absurd cc
   is_end (x ∷ earlier) r h e =
       let s = state_after needs (x ∷ earlier) in
-      let d = request-done (outcome_of needs s) r (next_question questions s.is_settled s.place) e in
-      end_with (x ∷ earlier) s r s.is_settled s.is_full refl refl (is_told (x ∷ earlier) h) d.0 d.1
+      let d = request-done (outcome_of needs s) r (next_question questions s.has_enough s.place) e in
+      end_with (x ∷ earlier) s r s.has_enough s.is_full refl refl (is_told (x ∷ earlier) h) d.0 d.1

@@ -1,4 +1,4 @@
-//! The frame of a goal: it asks the goal's questions in order, until one answer settles the goal or none is left.
+//! The frame of a goal: it asks the goal's questions in order, until one answer is enough or none is left.
 ghost use Rattle.std.specs.Prelude.{◌≡◌, ◌<◌};
 ghost use Rattle.question_lists.specs.Below.{Answer, Outcome};
 ghost use Rattle.question_lists.specs.Frame.{fresh, next_place, outcome_of, with_reply};
@@ -14,8 +14,8 @@ pub struct State {
     begun: bool,
     /// The place of the next question, which is the number of answers so far.
     place: usize,
-    /// Whether some answer settles the goal: a no where it needs all, a yes where it needs any.
-    is_settled: bool,
+    /// Whether some answer is enough for the goal's result: a no where it needs all, a yes where it needs any.
+    has_enough: bool,
     /// Whether each answer is of the other verdict.
     is_full: bool,
 }
@@ -28,7 +28,7 @@ impl State {
         State {
             begun: false,
             place: 0,
-            is_settled: false,
+            has_enough: false,
             is_full: true,
         }
     }
@@ -45,7 +45,7 @@ impl State {
             },
             Reply::Answer(outcome) => State {
                 place: self.place + 1,
-                is_settled: self.is_settled || outcome == needs.settled_outcome(),
+                has_enough: self.has_enough || outcome == needs.early_outcome(),
                 is_full: self.is_full && outcome == needs.full_outcome(),
                 ..self
             },
@@ -57,8 +57,8 @@ impl State {
     pub(crate) fn outcome(self, needs: Needs) -> Outcome
         ensures { result ≡ outcome_of needs self }
     {
-        if self.is_settled {
-            needs.settled_outcome()
+        if self.has_enough {
+            needs.early_outcome()
         } else if self.is_full {
             needs.full_outcome()
         } else {
@@ -66,11 +66,11 @@ impl State {
         }
     }
 
-    /// The place of the next question, unless the goal is settled.
+    /// The place of the next question, unless some answer is enough.
     pub(crate) fn next_place(self) -> Option<usize>
         ensures { result ≡ next_place self }
     {
-        if self.is_settled {
+        if self.has_enough {
             None
         } else {
             Some(self.place)

@@ -1,6 +1,6 @@
 //! Which of its questions a goal needs.
 ghost use Rattle.std.specs.Prelude.{◌≡◌};
-ghost use Rattle.question_lists.specs.Needs.{full_outcome, settled_outcome};
+ghost use Rattle.question_lists.specs.Needs.{full_outcome, early_outcome};
 
 use delegate_parts::Outcome;
 
@@ -14,9 +14,9 @@ pub enum Needs {
 }
 
 impl Needs {
-    /// What a goal comes to that has an answer by which it is settled.
-    pub(crate) fn settled_outcome(self) -> Outcome
-        ensures { result ≡ settled_outcome self }
+    /// What a goal comes to that has an answer which is enough.
+    pub(crate) fn early_outcome(self) -> Outcome
+        ensures { result ≡ early_outcome self }
     {
         match self {
             Needs::All => Outcome::No,

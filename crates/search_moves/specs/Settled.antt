@@ -3,9 +3,7 @@ use Rattle.std.specs.Prelude.{◌≡◌, Bool, false, List, []}
 use Rattle.search_moves.specs.Below.{Cache, CacheNode, Call, CxOf, DelegateOf, entries_at, Lists, Next, ProvisionalCacheEntry, Received, Store, OpenGoal, StoredResult, verdicts}
 use Rattle.open_goals.specs.declared.goals.Next.TheVariants.{Finished, Step}
 use Rattle.search_moves.specs.declared.evaluation.Evaluation.{Evaluation}
-use Rattle.search_rules.specs.Apart.{StandApart}
-use Rattle.search_rules.specs.Kinds.{KeepsKinds, StoredReachNested, StoredSuit}
-use Rattle.search_rules.specs.Settled.{AnswerStaysOff, AreSettled, IsSettling}
+use Rattle.search_rules.specs.Words.{AnswerStaysOff, AreSettled, IsSettling, KeepsKinds, StandApart, StoredReachNested, StoredSuit}
 
 module _ {D C V P F I R A T : Type 0} (G : DelegateOf D C V P F I R A T) (same : I → I → Bool) (cx : C) (call : Call I) where
   -- goals under evaluation and provisional entries are linked by one kind of questions, the entries stand apart, and goals that are nested in

@@ -2,16 +2,9 @@ pub mod counts
 pub mod records
 pub mod justified
 pub mod moves
-pub mod Shown
-pub mod Storing
-pub mod Differing
-pub mod Fates
-pub mod FinishedRuns
-pub mod DoneGoals
 pub mod answers
+pub mod two_runs
 pub mod kinds
 pub mod collecting
 pub mod entries
 pub mod rebasing
-pub mod HeadOrder
-pub mod Reasons

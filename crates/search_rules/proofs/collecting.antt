@@ -1,2 +1,3 @@
+-- What holds between two moves holds still when nodes are let go.
 pub mod Kept
 pub mod Settled

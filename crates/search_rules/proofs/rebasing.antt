@@ -1,4 +1,5 @@
 -- The rule of rebasing, and what it leaves of an entry.
+pub mod HeadOrder
 pub mod Cases
 pub mod Shapes
 pub mod Paths

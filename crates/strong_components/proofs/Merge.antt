@@ -2,12 +2,12 @@
 use Rattle.std.proofs.Common.{◌≡◌, ℕ, ◌<◌, ◌≤◌, ◌-◌, List, length, slice_index, arith, sym, ◌∙◌, inl, inr, subst, refl}
 use Rattle.std.specs.List.{Contains}
 use Rattle.std.proofs.lemmas.Bool.{cases_eq, cases_lt}
-use Rattle.strong_components.specs.Words.{State, Open, HasStep, go, EndsWith, IsFromStart, IsOngoing, IsPath, IsRising, MayStep, PopsAbove, state_at}
+use Rattle.strong_components.specs.Words.{State, Open, HasStep, go, EndsWith, IsFromStart, IsOngoing, IsPath, IsIncreasing, MayStep, PopsAbove, state_at}
 use Rattle.strong_components.proofs.Walks.{reaches-trans}
 use Rattle.strong_components.proofs.Indexes.{rising_last}
 use Rattle.strong_components.proofs.States.{may-step-at, may-step-starts}
 
-module _ (starts fewer : List ℕ) (found : ℕ) (rises : IsRising starts) (pops : PopsAbove starts fewer found) where
+module _ (starts fewer : List ℕ) (found : ℕ) (rises : IsIncreasing starts) (pops : PopsAbove starts fewer found) where
   -- the starts that stay are not above the limit
   stays_low : (k : ℕ) → k < length fewer → slice_index fewer k ≤ found
   stays_low k inside =

@@ -4,14 +4,14 @@ use Rattle.std.specs.List.{Contains}
 use Rattle.std.proofs.lemmas.Bool.{cases_eq, cases_lt}
 use Rattle.std.proofs.lemmas.List.{get_or_append_left, get_or_push, length_push}
 use Rattle.std.proofs.lemmas.List.Elements.{Contains-append_left, Contains-push}
-use Rattle.strong_components.specs.Words.{State, New, Open, Closed, Search, HasStep, Reaches, stay, AreLeft, AreOpened, EndsWith, IsFromStart, IsOngoing, IsPath, IsRising, IsSearch, MayStep, Opens, is_new, state_at}
+use Rattle.strong_components.specs.Words.{State, New, Open, Closed, Search, HasStep, Reaches, stay, AreLeft, AreOpened, EndsWith, IsFromStart, IsOngoing, IsPath, IsIncreasing, IsSearch, MayStep, Opens, is_new, state_at}
 use Rattle.strong_components.proofs.Counts.{news-set}
 use Rattle.strong_components.proofs.Indexes.{at_index, rising_last}
 use Rattle.strong_components.proofs.States.{may-step-at, may-step-new, may-step-starts}
 use Rattle.strong_components.proofs.Walks.{reaches-trans, reaches-step}
 
 -- a number above all others at the end of a list
-push-rises : (xs : List ℕ) (n : ℕ) → IsRising xs → ((k : ℕ) → k < length xs → slice_index xs k < n) → IsRising (xs ++ n ∷ [])
+push-rises : (xs : List ℕ) (n : ℕ) → IsIncreasing xs → ((k : ℕ) → k < length xs → slice_index xs k < n) → IsIncreasing (xs ++ n ∷ [])
 push-rises xs n rises below j k lt inside =
     let long = length_push xs n in let at_j = get_or_append_left xs (n ∷ []) 0 j (omega arith) in
     elim (cases_eq k (length xs)) [

@@ -28,8 +28,8 @@ StaySeen old new = (a : ℕ) → state_at old a ≢ New → state_at new a ≢ N
 abbrev pub EndsWith : List ℕ → ℕ → Type 0
 EndsWith numbers last = (0 < length numbers) × (slice_index numbers (length numbers - 1) ≡ last)
 
-abbrev pub IsRising : List ℕ → Type 0
-IsRising numbers =
+abbrev pub IsIncreasing : List ℕ → Type 0
+IsIncreasing numbers =
     (j k : ℕ) → j < k → k < length numbers → slice_index numbers j < slice_index numbers k
 
 -- position `j` is not below the start of the component in which position `i` is
@@ -54,9 +54,9 @@ pub record AreOpened (states : List State) (opened : List ℕ) : Type 0 where
 
 -- the path and the starts are rising positions, each start is on the path, and the first open place is one
 pub record IsPath (path starts : List ℕ) (count : ℕ) : Type 0 where
-  pub path_rises : IsRising path
+  pub path_rises : IsIncreasing path
   pub path_inside : (k : ℕ) → k < length path → slice_index path k < count
-  pub starts_rise : IsRising starts
+  pub starts_rise : IsIncreasing starts
   pub starts_on_path : (k : ℕ) → k < length starts → Contains path (slice_index starts k)
   pub first : 0 < count → (0 < length starts) × (slice_index starts 0 ≡ 0)
 

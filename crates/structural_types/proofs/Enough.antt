@@ -9,7 +9,7 @@ use Rattle.question_lists.proofs.Ranked.{scripts}
 use Rattle.search_rules.specs.OneKind.{AsksByOneKind}
 use Rattle.structural_types.specs.Below.{AreDefinite, AreSettled, Cache, CxOf, DelegateOf, HasOneOfEach, IsDecisive, IsEnclosed, Outcome, outcome_verdicts, StoredReachNested, verdicts}
 use Rattle.structural_types.specs.Pairs.{askable}
-use Rattle.structural_types.specs.Ready.{IsReady}
+use Rattle.structural_types.specs.Deciding.{KeepsDeciding}
 use Rattle.structural_types.specs.Rule.{needs_of, pair, questions_of}
 use Rattle.structural_types.specs.Subtypes.{Form, forms_of}
 use Rattle.structural_types.specs.declared.delegate.Pair.{Pair}
@@ -29,7 +29,7 @@ module _ {D C V P F A T : Type 0} (G : DelegateOf D C V P F Pair Outcome A T) (X
       → verdicts X ≡ outcome_verdicts → G.script cache.cx ≡ scripts (needs_of (forms_of types)) (questions_of (forms_of types))
       → 2 ≤ G.FIXPOINT_STEP_LIMIT → ((asked : Pair) → G.scoped cache.cx asked ≡ false)
       → depth ≡ 18446744073709551615 → l ≤ length (forms_of types) → r ≤ length (forms_of types) → noop ≡ true
-      → IsReady same (forms_of types) cache → TwoRunsAreEnough G X same (askable (forms_of types)) cache depth (pair l r) noop
+      → KeepsDeciding same (forms_of types) cache → TwoRunsAreEnough G X same (askable (forms_of types)) cache depth (pair l r) noop
   enough depth l r noop says script some_runs unscoped deep left right unrecorded ready = record {
     needs = record {
       decisive =
@@ -51,8 +51,8 @@ module _ {D C V P F A T : Type 0} (G : DelegateOf D C V P F Pair Outcome A T) (X
   }
 
 -- the cache is ready for the same types in other words
-pub ready_for : {C A T : Type 0} (same : Pair → Pair → Bool) (forms others : List Form) (cache : Cache C Pair Outcome A T) → others ≡ forms → IsReady same forms cache → IsReady same others cache
-ready_for same forms others cache are ready = subst (λ fs. IsReady same fs cache) (sym are) ready
+pub ready_for : {C A T : Type 0} (same : Pair → Pair → Bool) (forms others : List Form) (cache : Cache C Pair Outcome A T) → others ≡ forms → KeepsDeciding same forms cache → KeepsDeciding same others cache
+ready_for same forms others cache are ready = subst (λ fs. KeepsDeciding same fs cache) (sym are) ready
 
 -- a pair came to another answer than the one that is stored of it
 abbrev pub IsConflict : Fault Pair Outcome → Type 0

@@ -5,5 +5,5 @@ pub mod Subtypes
 pub mod Order
 pub mod Rule
 pub mod Pairs
-pub mod Ready
+pub mod Deciding
 pub mod Asked

@@ -3,7 +3,7 @@ ghost use Rattle.std.specs.Prelude.{◌≡◌, ◌↔◌, true, IfErr, IfOk};
 ghost use Rattle.structural_types.specs.Subtypes.{IsBelow, forms_of};
 ghost use Rattle.structural_types.specs.Asked.{declared_in};
 ghost use Rattle.structural_types.specs.Below.{Memory};
-ghost use Rattle.structural_types.specs.Ready.{IsReady};
+ghost use Rattle.structural_types.specs.Deciding.{KeepsDeciding};
 
 use crate::delegate::{LendsTypes, Pair, PairsOf, TypesDelegate};
 use crate::subtyping::Subtyping;
@@ -19,7 +19,7 @@ use std::alloc::Global;
 // A cache that has no answers yet.
 fn empty_cache<T: LendsTypes>(alloc: Global, types: T) -> GlobalCache<TypesDelegate<T>>
     ensures same_types { result.cx.0.0.lender ≡ types }
-    ensures ready { IsReady ⟦<Pair as PartialEq>⟧.eq (forms_of (T.types_of types)) result }
+    ensures ready { KeepsDeciding ⟦<Pair as PartialEq>⟧.eq (forms_of (T.types_of types)) result }
 {
     nothing_is_settled::<TypesDelegate<T>>();
     GlobalCache::new(alloc, ContextOf(Listed(PairsOf { lender: types })))

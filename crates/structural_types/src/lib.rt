@@ -15,7 +15,7 @@
 //! | `Parts`, `Pairs` | the parts of types, and the pairs that may be asked |
 //! | `Fields` | the fields of records, found by their names |
 //! | `Asked` | the types that a subtyping is asked about |
-//! | `Ready` | what is kept true of the stored answers, so that the next question is decided, too |
+//! | `Deciding` | what is kept true of the stored answers, so that the next question is decided, too |
 #![tactic(auto)]
 
 mod ask;

@@ -1,5 +1,5 @@
 //! What is kept from one question about types to the next.
-ghost use Rattle.structural_types.specs.Ready.{IsReady};
+ghost use Rattle.structural_types.specs.Deciding.{KeepsDeciding};
 ghost use Rattle.structural_types.specs.Subtypes.{forms_of};
 
 use crate::delegate::{LendsTypes, Pair, TypesDelegate};
@@ -12,5 +12,5 @@ pub struct Subtyping<T: LendsTypes> {
     pub(crate) cache: GlobalCache<TypesDelegate<T>>,
     pub(crate) alloc: Global,
     // What is stored never keeps a question from being decided.
-    ghost ready: { ∥ IsReady ⟦<Pair as PartialEq>⟧.eq (forms_of (T.types_of cache.cx.0.0.lender)) cache ∥₁ },
+    ghost ready: { ∥ KeepsDeciding ⟦<Pair as PartialEq>⟧.eq (forms_of (T.types_of cache.cx.0.0.lender)) cache ∥₁ },
 }

@@ -1,9 +1,7 @@
 -- What the answers of questions are, one after another over one cache.
-use Rattle.std.specs.Prelude.{◌≡◌, ℕ, ◌≤◌, max, Bool, true, false, List, [], ◌∷◌, map, take, Option, IfSome, IfOk, IfErr}
-use Rattle.std.specs.Io.KnownBytes.{Appends}
-use Rattle.std.specs.List.{flat_map, list_all}
+use Rattle.std.specs.Prelude.{◌≡◌, ℕ, ◌≤◌, max, Bool, true, false, List, [], ◌∷◌, Option, IfSome, IfOk, IfErr}
 use Rattle.table_runs.specs.Below.{CxOf, DelegateOf, Builder, is_noop_of, started_in, Cache, NodeId, Memory, Outcome, verdicts, HasGraph, IsDefinite, IsPlainTo, IsPlainValue, IsDecisive, AreDefinite, HaveNoOverflow, IsPaid, IsCaused, first_accepted, usable, KeepsFinished, KeepsResults, frames_within, Goal, Rules, questions_of}
-use Rattle.line_texts.specs.Writing.{AppendsBeginning}
+use Rattle.line_texts.specs.Questions as asked
 use Rattle.table_runs.specs.Told.{Answered, IsChecked, is_fine, line_of}
 use Rattle.table_runs.specs.declared.program.questions.Checks.{Checks}
 
@@ -39,27 +37,17 @@ module _ {D C V P F A T : Type 0} (G : DelegateOf D C V P F Goal Outcome A T) (X
   InTurn before [] after = before ≡ after
   InTurn before (first ∷ others) after = (between : Cache C Goal Outcome A T) × IsAnswered before first between × InTurn between others after
 
-  -- The questions, all of them and in this order, were answered in turn, the first over an empty cache, and the last one left the
-  -- cache `after`. The lines are those of their answers, and `all_fine` says that none met a fault and no graph was refused.
-  pub record AreTold (cx : C) (rules : Rules) (questions : List (ℕ × Goal)) (after : Cache C Goal Outcome A T) (lines : List ℕ) (all_fine : Bool) : Type 0 where
-    pub answered : List Answered
-    pub are_questions : map (λ a. a.question) answered ≡ questions
-    pub in_turn : InTurn (record { cx = cx; nodes = []; results = [] }) answered after
-    pub are_lines : lines ≡ flat_map (line_of rules) answered
-    pub fine : all_fine ≡ list_all (λ a. is_fine a.came) answered
+  -- the first of them over an empty cache, and the last one left this cache
+  abbrev pub LeaveCache : C → Cache C Goal Outcome A T → List Answered → Type 0
+  LeaveCache cx after answered = InTurn (record { cx = cx; nodes = []; results = [] }) answered after
 
-  -- all questions were answered, and their lines were written
-  pub record AreAllTold (cx : C) (rules : Rules) (old new : Option (List ℕ)) (all_fine : Bool) : Type 0 where
-    pub after : Cache C Goal Outcome A T
-    pub lines : List ℕ
-    pub are_told : AreTold cx rules (questions_of rules) after lines all_fine
-    pub written : Appends old new lines
+  abbrev pub AreInTurn : C → List Answered → Type 0
+  AreInTurn cx answered = (after : Cache C Goal Outcome A T) × LeaveCache cx after answered
 
-  -- the first questions were answered, and a beginning of their lines was written
-  pub record AreFirstTold (cx : C) (rules : Rules) (old new : Option (List ℕ)) : Type 0 where
-    pub count : ℕ
-    pub after : Cache C Goal Outcome A T
-    pub lines : List ℕ
-    pub all_fine : Bool
-    pub are_told : AreTold cx rules (take count (questions_of rules)) after lines all_fine
-    pub written : AppendsBeginning old new lines
+  -- All questions were answered in turn, and their lines were written; `all_fine` says that none met a fault and no graph was refused.
+  abbrev pub AreAllTold : C → Rules → (old new : Option (List ℕ)) → (all_fine : Bool) → Type 0
+  AreAllTold cx rules = asked.AreAllTold (line_of rules) is_fine (AreInTurn cx) (questions_of rules)
+
+  -- the first questions were answered in turn, and a beginning of their lines was written
+  abbrev pub AreFirstTold : C → Rules → (old new : Option (List ℕ)) → Type 0
+  AreFirstTold cx rules = asked.AreFirstTold (line_of rules) is_fine (AreInTurn cx) (questions_of rules)

@@ -1,6 +1,7 @@
 -- What a question came to, and the line that tells it.
 use Rattle.std.specs.Prelude.{◌≡◌, ◌≢◌, ◌↔◌, ℕ, Bool, true, false, List, [], ◌++◌, Result, Ok, Err, codes, decimal}
 use Rattle.std.specs.Option.{unwrap_or}
+use Rattle.line_texts.specs.Questions as asked
 use Rattle.table_runs.specs.Below.{Fault, Memory, Conflict, Validation, Protocol, Outcome, word_of, IsDefinite, Verdicts, Goal, Rules, name_of}
 use Rattle.table_runs.specs.declared.program.questions.Told.{Told}
 use Rattle.table_runs.specs.declared.program.questions.Check.{Check}
@@ -9,9 +10,8 @@ use Rattle.table_runs.specs.declared.program.questions.Checks.{Checks}
 use Rattle.table_runs.specs.declared.program.questions.Checks.TheVariants.{EachGraph}
 
 -- a question, by its depth and its goal, and what it came to
-pub record Answered : Type 0 where
-  pub question : ℕ × Goal
-  pub came : Result Told (Fault Goal Outcome)
+abbrev pub Answered : Type 0
+Answered = asked.Answered (ℕ × Goal) (Result Told (Fault Goal Outcome))
 
 abbrev is_accepted : Check → Bool
 is_accepted None = true

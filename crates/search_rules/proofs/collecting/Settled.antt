@@ -11,11 +11,8 @@ use Rattle.global_cache.specs.Collected.{Collected}
 use Rattle.search_rules.specs.Below.{CacheNode, Entry, entries_at, Lists, NodeId, ProvisionalCacheEntry, Reply, shapes_of, Store, OpenGoal, StoredResult, Success, Verdicts}
 use Rattle.search_rules.specs.Calls.{Call}
 use Rattle.search_rules.specs.Justified.{cycles_node, OpenRun}
-use Rattle.search_rules.specs.Leads.{WalksToGoals, StepOn}
-use Rattle.search_rules.specs.Live.{AreLiveEntries, AreLiveResults, AreLiveRuns, IsLiveNode, IsLiveRun}
-use Rattle.search_rules.specs.Older.{HasEntry}
+use Rattle.search_rules.specs.Words.{AnswerStaysOff, AreLiveEntries, AreLiveResults, AreLiveRuns, AreSettled, AreSettledGoals, HasEntry, IsLiveNode, IsLiveRun, IsSettledGoal, IsSettling, LeadsOnly, StepOn, WalksToGoals}
 use Rattle.search_rules.specs.Runs.{run_of, runs_of}
-use Rattle.search_rules.specs.Settled.{AnswerStaysOff, AreSettled, AreSettledGoals, IsSettledGoal, IsSettling, LeadsOnly}
 use Rattle.search_rules.proofs.collecting.Kept.{node_was, shapes, some_stays}
 
 module _ {I R : Type 0} (says : Verdicts R) (live : ℕ → Bool) (old new : List (CacheNode I R)) (collected : Collected live old new) where

@@ -4,7 +4,7 @@ use Rattle.std.proofs.Common.{◌≡◌, ◌≢◌, ℕ, Bool, List, [], ◌∷�
 use Rattle.std.proofs.lemmas.List.{length-map}
 use Rattle.search_rules.specs.Below.{StackDepth, PathKind, Heads, at_depth, Request, Reply, OpenGoal, EvaluationResult, ProvisionalCacheEntry, CacheNode, Next, with_depth, with_nested_goals, AnswersNewest, Verdicts}
 use Rattle.search_rules.specs.Words.{OpenRun, HaveTallies, GivesAnswer, IsHead, IsLeftOver, IsReady, run_of, runs_of, LieBelow, counted, tally_of}
-use Rattle.search_rules.proofs.HeadOrder.{at_here}
+use Rattle.search_rules.proofs.rebasing.HeadOrder.{at_here}
 use Rattle.search_rules.proofs.counts.Tallies.{counted_other, counted_own}
 use Rattle.search_rules.proofs.counts.TakenTallies.{counted_has}
 use Rattle.search_rules.proofs.answers.Kept.{some_of_usages, taken_keeps}

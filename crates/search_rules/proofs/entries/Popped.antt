@@ -9,7 +9,7 @@ use Rattle.search_rules.specs.Below.{IsTrueReason, path_kind, AfterPop, Lower, s
 use Rattle.open_graphs.proofs.Rebased.{rebased_is_after_pop}
 use Rattle.search_rules.specs.Words.{AreJustified, frame_of, frames_of, depths_of, highest_depth, entry_shape, reason_shape, IsHead, IsLeftOver, IsReady, final_answer, entries_for, entry_of, run_of, runs_of, LieBelow}
 use Rattle.search_rules.proofs.answers.Cycles.{path_kind_is}
-use Rattle.search_rules.proofs.HeadOrder.{ascends, at_most_highest, highest_there, no_highest}
+use Rattle.search_rules.proofs.rebasing.HeadOrder.{ascends, at_most_highest, highest_there, no_highest}
 use Rattle.search_rules.proofs.justified.Justified.{EndsWithNode, stack_length}
 use Rattle.search_rules.proofs.entries.Reusable.{reusable_added, reusable_popped}
 use Rattle.search_rules.proofs.entries.LeftOver.{other_head, own_head}

@@ -6,7 +6,7 @@ use Rattle.std.proofs.lemmas.List.{length-map, length-reverse}
 use Rattle.std.proofs.lemmas.List.Elements.{All-cons, All-nil, All-weaker}
 use Rattle.search_rules.specs.Below.{StackDepth, CycleHead, Heads, at_depth, highest, Request, Reply, OpenGoal, ProvisionalCacheEntry, CacheNode, Lists, entries_at, Verdicts}
 use Rattle.search_rules.specs.Words.{OpenRun, HaveTallies, IsReusable, AreOnStack, IsHead, IsReady, AreReady, RestsOn, runs_of, run_of, Tally, counted, LieBelow}
-use Rattle.search_rules.proofs.HeadOrder.{ascends, at_here, at_later, highest_there}
+use Rattle.search_rules.proofs.rebasing.HeadOrder.{ascends, at_here, at_later, highest_there}
 use Rattle.search_rules.proofs.answers.Kept.{KeepsUses}
 use Rattle.search_rules.proofs.entries.Reusable.{reusable_kept}
 

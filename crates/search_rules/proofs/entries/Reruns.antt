@@ -6,9 +6,9 @@ use Rattle.std.proofs.lemmas.List.{length-map}
 use Rattle.std.proofs.lemmas.List.Elements.{All-filter, filter_passes}
 use Rattle.search_rules.specs.Below.{UsesNo, StackDepth, CycleHead, Heads, at_depth, highest, head_shape, heads_shape, has_usages, no_usages, NodeId, Request, Reply, OpenGoal, StackEntry, ProvisionalCacheEntry, CacheNode, open_node, Lists, entries_at, is_used_at, depends_on, Run, rerun_with, with_no_record, change_newest, RunRecord, Verdicts}
 use Rattle.search_rules.specs.Words.{OpenRun, AreJustified, IsHead, IsReady, AreReady, run_of, runs_of, HasResultNode, Tally, counted}
-use Rattle.search_rules.proofs.HeadOrder.{Ascends, ascends, at_most_highest, highest_there, no_highest, same_depth}
+use Rattle.search_rules.proofs.rebasing.HeadOrder.{Ascends, ascends, at_most_highest, highest_there, no_highest, same_depth}
 use Rattle.search_rules.proofs.justified.Justified.{EndsWithNode, new_run, stack_length, tally_again}
-use Rattle.search_rules.proofs.FinishedRuns.{rerun_holds, TakenFrom}
+use Rattle.search_rules.proofs.moves.FinishedRuns.{rerun_holds, TakenFrom}
 use Rattle.search_rules.proofs.entries.Reusable.{reusable_rerun}
 use Rattle.search_rules.proofs.entries.Ready.{is_below, RestsOn-kept}
 use Rattle.search_rules.proofs.rebasing.Rule.{are_depths}

@@ -19,8 +19,8 @@ use Rattle.search_rules.proofs.records.Verdicts.{fails_unless}
 pub contains_at : {A : Type 0} (xs : List A) (i : ℕ) (x : A) → slice_get xs i ≡ Some x → Contains xs x
 contains_at xs i x at = (i, slice_get_within xs i x at, get_or_from_slice_get xs i x x at)
 
-pub place_of : {A : Type 0} (xs : List A) (x : A) → Contains xs x → (j : ℕ) × (slice_get xs j ≡ Some x)
-place_of xs x has = (has.0, slice_get-get_or xs has.0 x has.1 ∙ ap Some has.2)
+pub place_among : {A : Type 0} (xs : List A) (x : A) → Contains xs x → (j : ℕ) × (slice_get xs j ≡ Some x)
+place_among xs x has = (has.0, slice_get-get_or xs has.0 x has.1 ∙ ap Some has.2)
 
 -- ---- goals that are pushed, or only change their entries
 
@@ -134,7 +134,7 @@ module _ {I R : Type 0} (says : Verdicts R) (scripts : I → List (Reply R) → 
   edge_placed : (i : ℕ) (e : Edge I) → slice_get (edges_of p v) i ≡ Some e → (j : ℕ) × (a : DefiniteAnswer I) × (slice_get p.answers j ≡ Some a) × (a.edge ≡ e) × (a.verdict ≡ v) × (counted_by p.ignored a.candidate ≡ true)
   edge_placed i e at =
       let from = edge_is_of_answer p v e (contains_at (edges_of p v) i e at) in
-      let place = place_of p.answers from.answer from.is_in in
+      let place = place_among p.answers from.answer from.is_in in
       (place.0, from.answer, place.1, from.edge_is, from.verdict_is, from.kept)
 
   pub is_run : IsRun says (scripts h.goal) nodes (record { replies = p.replies; edges = edges_of p v; outcome = r })

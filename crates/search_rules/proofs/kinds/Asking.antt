@@ -2,8 +2,7 @@
 use Rattle.std.proofs.Common.{ℕ, Bool, List, [], ◌∷◌}
 use Rattle.evaluations.proofs.Mirrors.{requested_by}
 use Rattle.search_rules.specs.Below.{CxOf, DelegateOf, Evaluate, PathKind, Stood, OpenGoal}
-use Rattle.search_rules.specs.Kinds.{AsksNewest}
-use Rattle.search_rules.specs.Words.{bound, Call, HasAsked, IsCounted, limits, seen}
+use Rattle.search_rules.specs.Words.{AsksNewest, bound, Call, HasAsked, IsCounted, limits, seen}
 
 pub asks_newest : {D C V P F I R A T : Type 0} (G : DelegateOf D C V P F I R A T) (X : CxOf C I R A T) (cx : C) (call : Call I) (ahead : ℕ) (kind : PathKind) (goal : I) (goals : List (OpenGoal C F I R A T)) (starts : ℕ) (met : Bool) → HasAsked G X cx call ahead (Evaluate kind goal) goals starts met → AsksNewest (G.script cx) goals kind goal
 asks_newest G X cx call ahead kind goal [] starts met h = absurd h.asked.mirror

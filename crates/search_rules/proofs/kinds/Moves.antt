@@ -9,12 +9,10 @@ use Rattle.cycle_heads.proofs.HeadLists.{at_depth-rest}
 use Rattle.open_goals.specs.Candidates.{less_head}
 use Rattle.open_goals.specs.NestedGoals.{NestsItself}
 use Rattle.search_rules.specs.Below.{AnswersNewest, at_depth, CxOf, CycleHead, DelegateOf, EnterCandidate, entries_at, enters, EntryState, EvaluationResult, Evaluate, Done, finishes, FinishCandidate, HasStepped, Heads, Hit, Ignore, Lists, may_be_used, NestedPaths, NestsAnswer, NestsHead, NotesCandidate, paths_at, PathKind, place_of, ProvisionalCacheEntry, RebaseReason, Received, received_by, Reply, Request, requested, rerun_with, StackDepth, StackEntry, OpenGoal, Store, stored_at, stored_from, StoredResult, Success, TakesStored, with_no_record, HeadUsages}
-use Rattle.search_rules.specs.Kinds.{AreJoined, AsksNewest, EntriesSuit, EntryIsLinked, IsGoalAt, IsJoinedTo, KeepsKinds, ReachesNested, StoredReachNested}
 use Rattle.search_rules.specs.LookUp.{usable_entry}
 use Rattle.search_rules.specs.Moves.{Reruns}
-use Rattle.search_rules.specs.OneKind.{here}
 use Rattle.search_rules.specs.Results.{NotStored, Put, StoresAnswer}
-use Rattle.search_rules.specs.Words.{RebasesEntries}
+use Rattle.search_rules.specs.Words.{AreJoined, AsksNewest, EntriesSuit, EntryIsLinked, here, IsGoalAt, IsJoinedTo, KeepsKinds, ReachesNested, RebasesEntries, StoredReachNested}
 use Rattle.search_rules.proofs.kinds.PoppedEntries.{disabled_popped, entries_popped}
 use Rattle.search_rules.proofs.kinds.Stack.{at_read, stack_of}
 use Rattle.search_rules.proofs.kinds.TakenAnswers.{answered_linked, at_changed, cycled_linked, entries_kept, newest_linked, provisional_linked, stored_at_places, stored_linked, taken_at}

@@ -9,8 +9,7 @@ use Rattle.cycle_heads.proofs.PathMembers.{extended-has}
 use Rattle.cycle_heads.proofs.PathRanks.{each_kind}
 use Rattle.open_goals.specs.NestedGoals.{Joined, Nothing, TakesHeadGoal, TakesNestedGoals}
 use Rattle.search_rules.specs.Below.{extended, greater_kind, has_kind, Inductive, kinds_in, NestedPaths, path_of_no_step, paths_at, paths_of, PathKind, PathsToNested, Reply, Request, union}
-use Rattle.search_rules.specs.Kinds.{IsReachedBy, ReachesNested}
-use Rattle.search_rules.specs.OneKind.{MayAsk, first, last, MayLeadTo}
+use Rattle.search_rules.specs.Words.{first, IsReachedBy, last, MayAsk, MayLeadTo, ReachesNested}
 use Rattle.search_stack.specs.Nested.{joined_paths, JoinsPaths}
 use Rattle.search_rules.proofs.kinds.Questions.{greater_least}
 

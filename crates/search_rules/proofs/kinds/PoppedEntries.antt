@@ -6,10 +6,8 @@ use Rattle.std.proofs.lemmas.Bool.{cases_eq, false≢true}
 use Rattle.std.proofs.lemmas.List.Elements.{All-append, All-cons, All-nil}
 use Rattle.provisional_cache.proofs.RebasedEntryLists.{All-filter_map}
 use Rattle.search_rules.specs.Below.{at_depth, but_highest, changed_for, CycleHead, entries_at, extended_by_each, has_usages, Heads, HeadUsages, highest, IsLeftHead, IsRising, Lists, NodeId, no_usages, other_usages, path_kind_from, path_of_no_step, PathsToNested, ProvisionalCacheEntry, rebased, RebaseReason, Ambiguity, NoCycleUsages, Overflow, ReachedFixpoint, Reply, Request, StackDepth, with_unused, OpenGoal, with_used}
-use Rattle.search_rules.specs.Kinds.{AreJoined, AreLinked, AskedByKind, EntriesSuit, EntryIsLinked, IsGoalAt, IsJoinedTo, KeepsKinds}
-use Rattle.search_rules.specs.OneKind.{AsksByOneKind, here, MayLeadTo, MayReach}
-use Rattle.search_rules.specs.Words.{depths_of, entries_for, entry_of, final_answer, LieBelow, rebased_for, RebasesEntries}
-use Rattle.search_rules.proofs.HeadOrder.{ascends, at_here, at_later, at_most_highest, highest_there, no_highest}
+use Rattle.search_rules.specs.Words.{AreJoined, AreLinked, AskedByKind, AsksByOneKind, depths_of, entries_for, EntriesSuit, entry_of, EntryIsLinked, final_answer, here, IsGoalAt, IsJoinedTo, KeepsKinds, LieBelow, MayLeadTo, MayReach, rebased_for, RebasesEntries}
+use Rattle.search_rules.proofs.rebasing.HeadOrder.{ascends, at_here, at_later, at_most_highest, highest_there, no_highest}
 use Rattle.search_rules.proofs.kinds.Questions.{asked_by_kind_of, greater_same, kind_of_goal, reaches_on}
 use Rattle.search_rules.proofs.kinds.Stack.{at_below, at_lies_below, at_newest, many, stack_leads, stack_of}
 use Rattle.search_rules.proofs.kinds.UsedEntries.{HaveHeads}

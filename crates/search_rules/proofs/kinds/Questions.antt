@@ -2,8 +2,7 @@
 use Rattle.std.proofs.Common.{◌≡◌, List, sym, ap₂, ◌∙◌, subst, arith}
 use Rattle.cycle_heads.proofs.PathRanks.{greater_rank, same_kind}
 use Rattle.search_rules.specs.Below.{greater_kind, Inductive, PathKind, Reply, Request}
-use Rattle.search_rules.specs.Kinds.{AskedByKind}
-use Rattle.search_rules.specs.OneKind.{MayAsk, AsksByOneKind, first, here, last, MayLeadTo, on, MayReach}
+use Rattle.search_rules.specs.Words.{AskedByKind, AsksByOneKind, first, here, last, MayAsk, MayLeadTo, MayReach, on}
 
 -- ---- the greater of kinds
 

@@ -7,13 +7,10 @@ use Rattle.std.proofs.lemmas.List.Elements.{All-contains, All-contains_itself, C
 use Rattle.global_cache.proofs.Stores.{put_cases}
 use Rattle.open_graphs.proofs.Members.{filtered_member}
 use Rattle.provisional_cache.proofs.RebasedEntryLists.{All-filter_map}
-use Rattle.search_rules.specs.Apart.{StandApart}
 use Rattle.search_rules.specs.Below.{changed_for, CycleHead, entries_at, highest, Lists, NodeId, place_of, ProvisionalCacheEntry, rebased, RebaseReason, StackDepth, Store, OpenGoal, stored_from, StoredResult, Success}
-use Rattle.search_rules.specs.Lone.{IsLone}
 use Rattle.search_rules.specs.Results.{NotStored, Put, StoresAnswer}
 use Rattle.search_rules.specs.Runs.{runs_of}
-use Rattle.search_rules.specs.Settled.{IsOff}
-use Rattle.search_rules.specs.Words.{entries_for, entry_of, final_answer, rebased_for, RebasesEntries}
+use Rattle.search_rules.specs.Words.{entries_for, entry_of, final_answer, IsLone, IsOff, rebased_for, RebasesEntries, StandApart}
 use Rattle.search_rules.proofs.kinds.Stack.{stack_of}
 
 -- ---- lists

@@ -5,8 +5,7 @@ use Rattle.std.proofs.lemmas.List.Elements.{All-weaker}
 use Rattle.search_rules.specs.Below.{AnswersNewest, at_depth, entries_at, EntryState, Heads, Hit, joined_over, Lists, NestedPaths, NestsAnswer, NestsHead, PathKind, ProvisionalCacheEntry, Reply, Request, TakesStored, OpenGoal, with_depth, with_nested_goals, CycleHead}
 use Rattle.open_goals.specs.Entries.{TakesHeads}
 use Rattle.open_goals.specs.NestedGoals.{NestsItself}
-use Rattle.search_rules.specs.Kinds.{AreJoined, AreLinked, AsksNewest, EntryIsLinked, IsGoalAt, IsJoinedTo, ReachesNested}
-use Rattle.search_rules.specs.OneKind.{MayAsk}
+use Rattle.search_rules.specs.Words.{AreJoined, AreLinked, AsksNewest, EntryIsLinked, IsGoalAt, IsJoinedTo, MayAsk, ReachesNested}
 use Rattle.search_rules.proofs.kinds.NestedPaths.{nested_head, nested_itself, nested_taken}
 use Rattle.search_rules.proofs.kinds.Questions.{asked_reached, reaches_on}
 use Rattle.search_rules.proofs.kinds.Stack.{at_below, stack_reaches}

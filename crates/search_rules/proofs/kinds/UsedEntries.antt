@@ -8,11 +8,10 @@ use Rattle.std.proofs.lemmas.Map.Views.{Contains-from_lookup}
 use Rattle.cycle_heads.proofs.PathLaws.{first_or_later}
 use Rattle.cycle_heads.proofs.PathMembers.{extended-has}
 use Rattle.search_rules.specs.Below.{CycleHead, entries_at, extended, has_kind, has_head_up_to, asking_heads, highest, IsRising, Lists, may_be_used, NestedPaths, path_kind_from, paths_at, PathKind, PathsToNested, ProvisionalCacheEntry, rank_of, Reply, Request, StackDepth, StackEntry, OpenGoal}
-use Rattle.search_rules.specs.Kinds.{AreLinked, AsksNewest, EntryIsLinked, IsJoinedTo, IsReachedBy, KeepsKinds, ReachesNested}
+use Rattle.search_rules.specs.Words.{AreLinked, AsksNewest, EntryIsLinked, here, IsJoinedTo, IsReachedBy, KeepsKinds, MayLeadTo, MayReach, ReachesNested}
 use Rattle.search_rules.specs.LookUp.{Asking, could_be_used, is_applicable, meets_entry, usable_entry}
-use Rattle.search_rules.specs.OneKind.{here, MayLeadTo, MayReach}
 use Rattle.search_rules.specs.Provisional.{EntriesMetNone}
-use Rattle.search_rules.proofs.HeadOrder.{ascends, highest_there, no_highest}
+use Rattle.search_rules.proofs.rebasing.HeadOrder.{ascends, highest_there, no_highest}
 use Rattle.search_rules.proofs.kinds.NestedPaths.{extended_empty}
 use Rattle.search_rules.proofs.kinds.Questions.{greater_same, kind_of_goal, leads_reaches, reaches_on}
 use Rattle.search_rules.proofs.kinds.Stack.{stack_leads, stack_of}

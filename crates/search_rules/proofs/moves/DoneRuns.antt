@@ -4,7 +4,7 @@ use Rattle.search_rules.specs.Below.{DelegateOf, CxOf, Fault, Request, Done, Rep
 use Rattle.global_cache.proofs.Stores.{put_cases}
 use Rattle.evaluations.proofs.Mirrors.{leaves_calm, leaves_safe, requested_fits}
 use Rattle.search_rules.specs.Words.{Call, CallMeetsNone, Decidedly, IfDiffers, limits, bound, IsCounted, KeepsStore, seen, HasAsked, AreDefinite, HaveNoOverflowOf, HadNoOverflow, MayPut, RequireWithin, Same, WithResult, MayPutNewest, NewestComesTo, NewestIsPlain, IsNewestPlainTo, place_of_item}
-use Rattle.search_rules.proofs.Differing.{differs_then}
+use Rattle.search_rules.proofs.answers.Differing.{differs_then}
 use Rattle.search_rules.proofs.moves.Moves.{asker_requires, done_definite, ends_newest, leaving, outcome_of, met_none_before}
 
 -- where a result belongs, by whether it met overflow

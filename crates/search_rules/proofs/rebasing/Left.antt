@@ -4,7 +4,7 @@ use Rattle.std.proofs.Common.{◌≡◌, ◌≢◌, ◌≤◌, Bool, true, false
 use Rattle.open_graphs.specs.Graph as theory
 use Rattle.search_rules.specs.Below.{IsLeftHead, StackDepth, PathsToNested, CycleHead, HeadUsages, at_depth, highest, IsRising, extended_by_each, path_of_no_step, has_usages, no_usages, other_usages, StackEntry, ProvisionalCacheEntry, RebaseReason, NoCycleUsages, Ambiguity, Overflow, ReachedFixpoint, but_highest, rebased, changed_for, with_unused, with_used, verdict_of, Verdicts}
 use Rattle.search_rules.specs.Words.{depths_of, LieBelow}
-use Rattle.search_rules.proofs.HeadOrder.{ascends, at_most_highest, highest_there, no_highest}
+use Rattle.search_rules.proofs.rebasing.HeadOrder.{ascends, at_most_highest, highest_there, no_highest}
 use Rattle.search_rules.proofs.rebasing.Cases.{HasNewHead, IsRebased, NotUsed, Still, Used, is_rebased}
 use Rattle.search_rules.proofs.rebasing.Rising.{changed_heads_same}
 use Rattle.search_rules.proofs.rebasing.Shapes.{left_there, with_all}

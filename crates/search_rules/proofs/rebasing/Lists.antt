@@ -7,7 +7,7 @@ use Rattle.search_rules.specs.Below.{StackDepth, CycleHead, PathKind, Heads, hig
 use Rattle.provisional_cache.proofs.RebasedHeads.{highest_within}
 use Rattle.search_rules.specs.Words.{GivesAnswer, final_answer, entries_for, entry_of, rebased_for}
 use Rattle.search_rules.proofs.entries.Ready.{on_stack_many}
-use Rattle.search_rules.proofs.HeadOrder.{no_highest}
+use Rattle.search_rules.proofs.rebasing.HeadOrder.{no_highest}
 
 -- without a highest head there is none
 pub headless : {X I R A T : Type 0} (answer : EvaluationResult X I R A T) (o : Option StackDepth) → o ≡ option_map (λ e. e.0) (highest answer.heads) → o ≡ None → answer.heads ≡ []

@@ -13,7 +13,7 @@ use Rattle.cycle_heads.proofs.PathLaws.{first_or_later}
 use Rattle.cycle_heads.proofs.PathMembers.{kinds_in-has}
 use Rattle.cycle_heads.proofs.PathRanks.{greater_rank}
 use Rattle.search_rules.specs.Words.{reason_shape}
-use Rattle.search_rules.proofs.HeadOrder.{at_here, at_later, same_depth}
+use Rattle.search_rules.proofs.rebasing.HeadOrder.{at_here, at_later, same_depth}
 
 -- ---- tests of all elements
 

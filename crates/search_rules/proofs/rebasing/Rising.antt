@@ -1,7 +1,7 @@
 -- The heads of a rebased entry rise where those of the entry did.
 use Rattle.std.proofs.Common.{◌≡◌, Bool, true, false, if◌then◌else◌, List, Some, None, sym, subst}
 use Rattle.search_rules.specs.Below.{PathsToNested, CycleHead, HeadUsages, Heads, IsRising, extended_by_each, path_of_no_step, has_usages, no_usages, other_usages, StackEntry, ProvisionalCacheEntry, RebaseReason, NoCycleUsages, Ambiguity, Overflow, ReachedFixpoint, but_highest, rebased, changed_for}
-use Rattle.search_rules.proofs.HeadOrder.{ascends, left_ascends, rises}
+use Rattle.search_rules.proofs.rebasing.HeadOrder.{ascends, left_ascends, rises}
 use Rattle.search_rules.proofs.rebasing.Cases.{IsRebased, NotUsed, Still, Used, is_rebased}
 use Rattle.search_rules.proofs.rebasing.Shapes.{all_ascends, with_all}
 

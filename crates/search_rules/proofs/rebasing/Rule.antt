@@ -8,7 +8,7 @@ use Rattle.search_rules.specs.Below.{Entry, path_kind, stack_of, AreDepths, HasR
 use Rattle.cycle_heads.proofs.PathRanks.{greater_rank}
 use Rattle.search_rules.specs.Words.{frame_of, frames_of, depths_of, highest_depth, entry_shape, reason_shape, run_of, runs_of, LieBelow}
 use Rattle.search_rules.proofs.answers.Cycles.{path_kind_is}
-use Rattle.search_rules.proofs.HeadOrder.{Ascends, ascends, at_later, at_most_highest, highest_there, no_highest}
+use Rattle.search_rules.proofs.rebasing.HeadOrder.{Ascends, ascends, at_later, at_most_highest, highest_there, no_highest}
 use Rattle.search_rules.proofs.justified.Justified.{stack_length}
 use Rattle.search_rules.proofs.rebasing.Cases.{HasNewHead, IsRebased, NotUsed, Still, Used, is_rebased}
 use Rattle.search_rules.proofs.rebasing.Paths.{is_changed, is_zero, not_zero, passes_path_test}

@@ -10,7 +10,7 @@ use Rattle.cycle_heads.proofs.PathLaws.{has_kind-union}
 use Rattle.cycle_heads.proofs.PathMembers.{extended-has, extended_by_each-kinds}
 use Rattle.cycle_heads.proofs.PathRanks.{greater_rank}
 use Rattle.search_rules.specs.Words.{depths_of, LieBelow}
-use Rattle.search_rules.proofs.HeadOrder.{Ascends, at_here, at_later, highest_gone, highest_there, insert_ascends, left_ascends, others_stay, same_depth}
+use Rattle.search_rules.proofs.rebasing.HeadOrder.{Ascends, at_here, at_later, highest_gone, highest_there, insert_ascends, left_ascends, others_stay, same_depth}
 
 -- ---- one head that is joined
 

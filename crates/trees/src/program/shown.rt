@@ -1,7 +1,7 @@
 //! How one question is answered.
 ghost use Rattle.std.specs.Prelude.{◌≡◌, IfOk, OnOk};
 ghost use Rattle.std.specs.Io.KnownBytes.{Appends};
-ghost use Rattle.trees.specs.Shown.{answer_words, fault_word_of, IsShown};
+ghost use Rattle.trees.specs.Shown.{answer_words, fault_word_of, IsTreeShown};
 
 use crate::words::TableWords;
 use delegate_parts::{Builder, Outcome};
@@ -24,7 +24,7 @@ pub(super) fn show(
     goal: Goal,
     text: &mut Vec<u8>,
 ) -> io::Result<bool>
-    ensures { IfOk result (λ all_fine. IsShown ⟦<Table<&'static Rules> as Cx>⟧
+    ensures { IfOk result (λ all_fine. IsTreeShown ⟦<Table<&'static Rules> as Cx>⟧
         (⟦<TableDelegate<'static, 8, 1> as Delegate>⟧.script (record { lender = rules.entry }))
         (record { lender = rules.entry }) rules.now depth goal all_fine text.old.items text.new.items) }
 {
@@ -44,7 +44,7 @@ fn show_with<X, D>(
 where
     X: Cx<Input = Goal, Result = Outcome>,
     D: Delegate<Cx = X, ProofTreeBuilder = Builder>,
-    ensures { IfOk result (λ all_fine. IsShown X.Cx (D.script cx) cx rules.now depth goal all_fine
+    ensures { IfOk result (λ all_fine. IsTreeShown X.Cx (D.script cx) cx rules.now depth goal all_fine
         text.old.items text.new.items) }
 {
     let mut cache = GlobalCache::<Recording<D>>::new(alloc, cx);

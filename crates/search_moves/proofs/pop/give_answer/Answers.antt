@@ -1,5 +1,5 @@
 use Rattle.std.proofs.Common.{◌∙◌, sym}
-use Rattle.search_rules.proofs.DoneGoals.{given_to_none, given_to_newest, nested_to_none, nested_to_newest}
+use Rattle.search_rules.proofs.moves.DoneGoals.{given_to_none, given_to_newest, nested_to_none, nested_to_newest}
 use Rattle.search_moves.proofs.pop.give_answer.Goals as goal
 
 pub returns-then-len-eq0-clause-given : goal.returns-then-len-eq0-clause-given

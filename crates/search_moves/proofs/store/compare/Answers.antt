@@ -1,5 +1,5 @@
 use Rattle.std.proofs.Common.{refl, sym, ◌∙◌}
-use Rattle.search_rules.proofs.Storing.{comparing_is_caused}
+use Rattle.search_rules.proofs.moves.Storing.{comparing_is_caused}
 use Rattle.search_moves.proofs.store.compare.Goals as goal
 
 pub returns-clause-fails : goal.returns-clause-fails

@@ -1,9 +1,9 @@
 use Rattle.std.proofs.Common.{◌≡◌, ◌∙◌, Some, OnOk, ap, refl, subst}
 use Rattle.search_moves.specs.Below.{stored_at, stored_from, place_of}
-use Rattle.search_moves.proofs.Failing.{storing_fails}
-use Rattle.search_rules.proofs.Differing.{storing_differs}
-use Rattle.search_rules.proofs.Storing.{caused_after, put_is_stored, same_results, stored_either, storing_is_caused}
-use Rattle.search_moves.proofs.Noting.{noted_storing}
+use Rattle.search_moves.proofs.results.Failing.{storing_fails}
+use Rattle.search_rules.proofs.answers.Differing.{storing_differs}
+use Rattle.search_rules.proofs.moves.Storing.{caused_after, put_is_stored, same_results, stored_either, storing_is_caused}
+use Rattle.search_moves.proofs.nodes.Noting.{noted_storing}
 use Rattle.search_moves.proofs.store.store_for_good.Goals as goal
 
 pub returns-clause-stored : goal.returns-clause-stored

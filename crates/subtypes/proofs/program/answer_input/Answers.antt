@@ -1,6 +1,7 @@
 use Rattle.std.proofs.Common.{Err, ap, subst}
 use Rattle.subtypes.specs.Program.{IsRefused}
-use Rattle.subtypes.proofs.OfText.{begun_of_text, known_refused, refused_text, told_of_text}
+use Rattle.line_texts.proofs.Questions.{begun_of_text, told_of_text}
+use Rattle.subtypes.proofs.Refused.{known_refused, refused_text}
 use Rattle.subtypes.proofs.program.answer_input.Goals as goal
 use Rattle.type_texts.specs.Text.{Reads}
 
@@ -13,9 +14,9 @@ returns-clause-refused g c = λ status.
 pub returns-in-Ok-clause-told : goal.returns-in-Ok-clause-told
 returns-in-Ok-clause-told g c =
     let reads = subst (λ text. Reads text c.in-Ok.table) c.as_slice.ensures.value c.in-Ok.ensures.read in
-    told_of_text _ _ _ _ c.in-Ok.table c.in_ok-text.ensures reads _ c.answer_questions.ensures.told
+    told_of_text Reads _ _ c.in-Ok.table c.in_ok-text.ensures reads _ _ c.answer_questions.ensures.told
 
 pub returns-in-Ok-clause-beginning : goal.returns-in-Ok-clause-beginning
 returns-in-Ok-clause-beginning g c =
     let reads = subst (λ text. Reads text c.in-Ok.table) c.as_slice.ensures.value c.in-Ok.ensures.read in
-    begun_of_text _ _ _ _ c.in-Ok.table c.in_ok-text.ensures reads _ c.answer_questions.ensures.beginning
+    begun_of_text Reads _ _ c.in-Ok.table c.in_ok-text.ensures reads _ _ _ c.answer_questions.ensures.beginning

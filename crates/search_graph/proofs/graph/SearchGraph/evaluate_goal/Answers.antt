@@ -1,11 +1,11 @@
 use Rattle.std.proofs.Common.{◌∙◌, ap, sym, Ok, true, false, inl, inr, refl, subst}
 use Rattle.global_cache.proofs.Definites.{definite_is_whole}
 use Rattle.global_cache.proofs.Whole.{whole_stays}
-use Rattle.search_graph.proofs.Loops.{call_among, call_deciding, call_of, call_over, call_among_begins, call_begins, call_deciding_begins, call_over_begins, some_call_begins}
-use Rattle.search_graph.proofs.StoredDepths.{stores_within}
-use Rattle.search_graph.proofs.Promises.{call_is_stored, definite_decides, ended_by_runs, ended_plain, ended_within, ended_paid, stopped_by_runs, stopped_within, stopped_paid}
-use Rattle.search_rules.proofs.Differing.{memory_or_order}
-use Rattle.search_rules.proofs.Shown.{yes_is_proved, no_is_refuted, neither_is_none}
+use Rattle.search_graph.proofs.turns.Loops.{call_among, call_deciding, call_of, call_over, call_among_begins, call_begins, call_deciding_begins, call_over_begins, some_call_begins}
+use Rattle.search_graph.proofs.promises.StoredDepths.{stores_within}
+use Rattle.search_graph.proofs.promises.Promises.{call_is_stored, definite_decides, ended_by_runs, ended_plain, ended_within, ended_paid, stopped_by_runs, stopped_within, stopped_paid}
+use Rattle.search_rules.proofs.answers.Differing.{memory_or_order}
+use Rattle.search_rules.proofs.answers.Shown.{yes_is_proved, no_is_refuted, neither_is_none}
 use Rattle.search_rules.proofs.moves.Questions.{if_err_and, same_err}
 use Rattle.search_graph.proofs.graph.SearchGraph.evaluate_goal.Goals as goal
 use Rattle.search_graph.specs.Below.{Decides, IsCaused, IsMemoryOrOrder, verdicts}

@@ -10,10 +10,10 @@ use Rattle.global_cache.proofs.Whole.{whole_stays}
 use Rattle.search_graph.specs.Words.{HasAnswer}
 use Rattle.search_graph.specs.Lists.{AppendsEach, HasLimits, IsAnsweredQuery}
 use Rattle.search_graph.specs.Settled.{TakesTwoRuns}
-use Rattle.search_graph.proofs.ListLimits.{limits_more, no_limits}
-use Rattle.search_graph.proofs.ListRuns.{no_runs, runs_more}
-use Rattle.search_graph.proofs.ListAnswers.{AppendsEach-more, AppendsEach-weaker, sum_by-more, HasAnswer-kept, answer_is_shown}
-use Rattle.search_graph.proofs.StoredDepths.{StoresWithin-same, StoresWithin-then}
+use Rattle.search_graph.proofs.lists.ListLimits.{limits_more, no_limits}
+use Rattle.search_graph.proofs.lists.ListRuns.{no_runs, runs_more}
+use Rattle.search_graph.proofs.lists.ListAnswers.{AppendsEach-more, AppendsEach-weaker, sum_by-more, HasAnswer-kept, answer_is_shown}
+use Rattle.search_graph.proofs.promises.StoredDepths.{StoresWithin-same, StoresWithin-then}
 use Rattle.search_graph.proofs.graph.SearchGraph.evaluate_list.Goals as goal
 
 pub loop-query-init : goal.loop-query-init

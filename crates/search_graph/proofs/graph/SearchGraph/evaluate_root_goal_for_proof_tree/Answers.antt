@@ -4,8 +4,8 @@ use Rattle.global_cache.proofs.Definites.{definite_is_whole}
 use Rattle.global_cache.proofs.Whole.{whole_stays}
 use Rattle.cycle_heads.specs.declared.path.PathKind.TheVariants.{Inductive}
 use Rattle.search_graph.specs.Below.{verdicts}
-use Rattle.search_graph.proofs.WorkedOut.{worked_depths, worked_limits, worked_out, worked_plain, worked_plain_faults, worked_within}
-use Rattle.search_rules.proofs.Shown.{yes_is_proved, no_is_refuted, neither_is_none}
+use Rattle.search_graph.proofs.promises.WorkedOut.{worked_depths, worked_limits, worked_out, worked_plain, worked_plain_faults, worked_within}
+use Rattle.search_rules.proofs.answers.Shown.{yes_is_proved, no_is_refuted, neither_is_none}
 use Rattle.search_rules.proofs.moves.Questions.{if_ok_then}
 use Rattle.search_rules.proofs.records.EarlierNodes.{nodes_of_earlier}
 use Rattle.search_graph.proofs.graph.SearchGraph.evaluate_root_goal_for_proof_tree.Goals as goal

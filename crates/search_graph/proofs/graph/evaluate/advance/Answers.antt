@@ -1,26 +1,26 @@
 use Rattle.std.proofs.Common.{◌∙◌, refl, sym, subst}
 use Rattle.search_graph.specs.Below.{ChangesNewest, fates_of, IfFinished, IsFated, IsNewestToStore, IsRememberedWhere, MovesFates, CanStep, Request, NotesCandidate, Evaluate, Done, verdicts, CallGoesOn, IsCaused, IsFit, OutOfMemory, StopsWith, runs_of, work_left}
-use Rattle.search_graph.proofs.Advancing.{has_request, requests, step_stops, stepped_right}
-use Rattle.search_moves.proofs.Asking.{asked_goes_on, asked_right}
-use Rattle.search_moves.proofs.Noting.{noted_same}
-use Rattle.search_moves.proofs.Keeping.{asked_drafts, asked_from, cache_stays, later_keeps, led_from, stay_then}
+use Rattle.search_graph.proofs.requests.Advancing.{has_request, requests, step_stops, stepped_right}
+use Rattle.search_moves.proofs.moves.Asking.{asked_goes_on, asked_right}
+use Rattle.search_moves.proofs.nodes.Noting.{noted_same}
+use Rattle.search_moves.proofs.results.Keeping.{asked_drafts, asked_from, cache_stays, later_keeps, led_from, stay_then}
 use Rattle.search_rules.proofs.records.EarlierNodes.{stay_candidates, stay_stepped}
-use Rattle.search_graph.proofs.Causes.{step_is_caused, step_keeps_free}
+use Rattle.search_graph.proofs.turns.Causes.{step_is_caused, step_keeps_free}
 use Rattle.search_rules.proofs.justified.Finishing.{noted_fits}
-use Rattle.search_graph.proofs.Loops.{done_leads, next_before, step_asks_for, stepped_some}
+use Rattle.search_graph.proofs.turns.Loops.{done_leads, next_before, step_asks_for, stepped_some}
 use Rattle.search_rules.proofs.moves.Moves.{asked_stopped, can_step}
-use Rattle.search_graph.proofs.Noted.{about_candidates, can_note, noted_is_justified, noting_goes_on, noting_keeps_free}
+use Rattle.search_graph.proofs.requests.Noted.{about_candidates, can_note, noted_is_justified, noting_goes_on, noting_keeps_free}
 use Rattle.search_rules.proofs.moves.Questions.{if_err_and, no_ok}
 use Rattle.search_rules.proofs.entries.Moves.{noted_ready, stepped_ready}
-use Rattle.search_moves.proofs.Fating.{asked_fates, led_fates}
-use Rattle.search_rules.proofs.Fates.{fates_of_candidates, fates_stepped}
+use Rattle.search_moves.proofs.results.Fating.{asked_fates, led_fates}
+use Rattle.search_rules.proofs.moves.Fates.{fates_of_candidates, fates_stepped}
 use Rattle.search_rules.specs.Fates.{Stay, Untouched}
 use Rattle.search_moves.specs.Settled.{Settles}
-use Rattle.search_moves.proofs.Failing.{if_err_then}
-use Rattle.search_moves.proofs.SettledEnds.{end_unmet, led_settles}
-use Rattle.search_moves.proofs.SettledFaults.{settled_stays, store_settled}
-use Rattle.search_moves.proofs.Settling.{asked_settles}
-use Rattle.search_graph.proofs.SettledSteps.{ask_unmet, needs_with, noted_settles, noted_stays_off, stepped_entries}
+use Rattle.search_moves.proofs.results.Failing.{if_err_then}
+use Rattle.search_moves.proofs.two_runs.SettledEnds.{end_unmet, led_settles}
+use Rattle.search_moves.proofs.two_runs.SettledFaults.{settled_stays, store_settled}
+use Rattle.search_moves.proofs.two_runs.Settling.{asked_settles}
+use Rattle.search_graph.proofs.requests.SettledSteps.{ask_unmet, needs_with, noted_settles, noted_stays_off, stepped_entries}
 use Rattle.search_graph.proofs.graph.evaluate.advance.Goals as goal
 
 pub step-requires : goal.step-requires

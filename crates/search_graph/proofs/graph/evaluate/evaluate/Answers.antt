@@ -3,14 +3,13 @@ use Rattle.std.specs.Option.{IfSome, IsSomeAnd}
 use Rattle.open_goals.specs.declared.goals.Fate.TheVariants as becomes
 use Rattle.search_context.proofs.Builders.{builder_goes_on}
 use Rattle.search_graph.specs.Below.{Begins, Call, EndsWith, Hit, hit_of, IsFated, IsRemembered, usable}
-use Rattle.search_rules.specs.Words.{answered_by, fate_for}
+use Rattle.search_rules.specs.Words.{answered_by, CallNeedsTwoRuns, fate_for}
 use Rattle.search_rules.proofs.moves.LookUps.{nothing_stored, something_stored, stored_over_none}
 use Rattle.search_rules.proofs.moves.Questions.{if_ok_then}
 use Rattle.search_rules.proofs.moves.StoredAnswers.{stored_ends}
 use Rattle.search_moves.specs.Settled.{IsSettledStore}
-use Rattle.search_rules.specs.Settled.{CallNeedsTwoRuns}
-use Rattle.search_graph.proofs.SettledSteps.{begins_unmet, begins_unscoped, needs_with, none_found, top_is_not_lone}
-use Rattle.search_graph.proofs.Turns.{leaves_nothing}
+use Rattle.search_graph.proofs.requests.SettledSteps.{begins_unmet, begins_unscoped, needs_with, none_found, top_is_not_lone}
+use Rattle.search_graph.proofs.turns.Turns.{leaves_nothing}
 use Rattle.search_graph.proofs.graph.evaluate.evaluate.Goals as goal
 
 -- with a builder that records nothing, and no scope, what is found answers the goal, and else its result is stored

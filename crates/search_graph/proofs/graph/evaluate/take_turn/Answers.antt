@@ -1,10 +1,10 @@
 use Rattle.std.proofs.Common.{refl, sym, subst, ap, ◌∙◌}
 use Rattle.search_rules.proofs.moves.Questions.{if_err_and, no_ok}
 use Rattle.search_rules.specs.Runs.{AreFrom, KeepsFirst}
-use Rattle.search_moves.proofs.LettingGo.{noted_stay, store_stays_at_end}
+use Rattle.search_moves.proofs.nodes.LettingGo.{noted_stay, store_stays_at_end}
 use Rattle.search_graph.specs.Below.{Memory, OutOfMemory, StopsWith}
 use Rattle.search_graph.specs.Turns.{TurnsCache}
-use Rattle.search_graph.proofs.Turns.{end_leads, end_right, end_stops, noted_of, turn_has, turn_keeps, turn_leads, turn_right, turn_settles}
+use Rattle.search_graph.proofs.turns.Turns.{end_leads, end_right, end_stops, noted_of, turn_has, turn_keeps, turn_leads, turn_right, turn_settles}
 use Rattle.search_graph.proofs.graph.evaluate.take_turn.Goals as goal
 
 pub advance-requires : goal.advance-requires

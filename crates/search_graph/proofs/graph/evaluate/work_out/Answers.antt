@@ -2,19 +2,19 @@ use Rattle.std.proofs.Common.{arith, [], ◌≡◌, ◌∙◌, length, false, No
 use Rattle.search_context.proofs.Builders.{builder_goes_on}
 use Rattle.search_graph.specs.Below.{fates_of, IsFated, MovesFates, stored_at, AreFrom, Begin, Finished, Step, Awaits, Call, HasReply, IsCaused, IsRightFor, LeadsTo, OutOfMemory, runs_of, StopsWith, work_left}
 use Rattle.search_rules.proofs.records.EarlierNodes.{first_there, stay_pushed}
-use Rattle.search_moves.proofs.Keeping.{appending_keeps}
-use Rattle.search_graph.proofs.Beginning.{begins_right, begins_waiting, never_pushed, new_right}
-use Rattle.search_graph.proofs.Turns.{begins_drafts, then_turns}
+use Rattle.search_moves.proofs.results.Keeping.{appending_keeps}
+use Rattle.search_graph.proofs.turns.Beginning.{begins_right, begins_waiting, never_pushed, new_right}
+use Rattle.search_graph.proofs.turns.Turns.{begins_drafts, then_turns}
 use Rattle.search_graph.specs.Turns.{IsRightTurn}
 use Rattle.search_moves.specs.Drafts.{LeavesReached}
 use Rattle.search_rules.proofs.moves.Questions.{if_err_and, no_ok}
-use Rattle.search_graph.proofs.KeptFates.{not_stored, first_fates, only_stores, then_fates, then_recorded, then_spared}
-use Rattle.search_graph.proofs.Loops.{call_of, only_one, some_call_begins, only_has_graph}
+use Rattle.search_graph.proofs.turns.KeptFates.{not_stored, first_fates, only_stores, then_fates, then_recorded, then_spared}
+use Rattle.search_graph.proofs.turns.Loops.{call_of, only_one, some_call_begins, only_has_graph}
 use Rattle.global_cache.proofs.Finished.{KeepsFinished-nodes}
-use Rattle.search_moves.proofs.SettledFaults.{settled_stays}
+use Rattle.search_moves.proofs.two_runs.SettledFaults.{settled_stays}
 use Rattle.search_moves.specs.Settled.{IsSettledStore, Settles, SettlesNext}
 use Rattle.search_rules.specs.Settled.{CallNeedsTwoRuns}
-use Rattle.search_graph.proofs.SettledSteps.{begins_settles, begins_unmet, needs_with}
+use Rattle.search_graph.proofs.requests.SettledSteps.{begins_settles, begins_unmet, needs_with}
 use Rattle.search_graph.proofs.graph.evaluate.work_out.Goals as goal
 
 -- ---- it is pushed

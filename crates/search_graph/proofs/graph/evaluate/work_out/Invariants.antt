@@ -1,8 +1,7 @@
 use Rattle.std.proofs.Common.{◌≡◌, length}
 use Rattle.open_goals.specs.declared.goals.Fate.TheVariants as becomes
 use Rattle.search_moves.specs.Settled.{IsSettledStore, Settles}
-use Rattle.search_rules.specs.Lone.{IsLone}
-use Rattle.search_rules.specs.Settled.{CallNeedsTwoRuns}
+use Rattle.search_rules.specs.Words.{CallNeedsTwoRuns, IsLone}
 use Rattle.search_graph.specs.Below.{AreFrom, Awaits, Begins, Call, IsRightFor, KeepsBuilder, KeepsCache, work_left}
 use Rattle.search_graph.specs.Fates.{KeepsFates}
 use Rattle.search_graph.specs.Turns.{HasDrafts}

@@ -6,9 +6,9 @@ use Rattle.search_graph.specs.Below.{IsDefinite, IsEnclosed, IsMemoryOrOrder, Is
 use Rattle.global_cache.proofs.Finished.{KeepsFinished-same}
 use Rattle.global_cache.proofs.Stores.{KeepsResults-same}
 use Rattle.search_graph.specs.Words.{HadCause}
-use Rattle.search_graph.proofs.ListAnswers.{IfErr-weaker}
-use Rattle.search_graph.proofs.ListLimits.{only_answer, only_fault, only_is}
-use Rattle.search_graph.proofs.ListRuns.{enough_later}
+use Rattle.search_graph.proofs.lists.ListAnswers.{IfErr-weaker}
+use Rattle.search_graph.proofs.lists.ListLimits.{only_answer, only_fault, only_is}
+use Rattle.search_graph.proofs.lists.ListRuns.{enough_later}
 use Rattle.search_graph.proofs.graph.list.evaluate_query.Goals as goal
 
 pub returns-clause-answered : goal.returns-clause-answered

@@ -2,8 +2,8 @@ use Rattle.std.proofs.Common.{arith, ◌≡◌, ◌≤◌, ◌+◌, ◌∷◌, O
 use Rattle.std.specs.Option.{IfSome, option_copied}
 use Rattle.search_moves.specs.Below.{Answer, Begin, CountsOne, fates_of, answered_by, fate_for, IsFated, first_accepted, usable, hit_of, verdicts, AreOnStack, is_applicable, usable_entry, ClosesCycle}
 use Rattle.search_moves.specs.Words.{AskingLeadsTo, Refused, ByEntry, ByStored, OverCycle, Pushed}
-use Rattle.search_moves.proofs.Asking.{push_stops, refused_stops}
-use Rattle.search_moves.proofs.Keeping.{appending_keeps}
+use Rattle.search_moves.proofs.moves.Asking.{push_stops, refused_stops}
+use Rattle.search_moves.proofs.results.Keeping.{appending_keeps}
 use Rattle.search_rules.proofs.moves.Questions.{asked_depth_fits, if_err, if_ok_then, none_of}
 use Rattle.search_rules.proofs.entries.Ready.{are_on_stack}
 use Rattle.search_moves.proofs.evaluation.Evaluation.ask.Goals as goal

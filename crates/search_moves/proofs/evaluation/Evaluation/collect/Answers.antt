@@ -1,6 +1,6 @@
 use Rattle.std.proofs.Common.{refl, subst, sym}
 use Rattle.std.specs.List.{Contains}
-use Rattle.search_moves.proofs.LettingGo.{goes_either, nothing_goes, rooted_among}
+use Rattle.search_moves.proofs.nodes.LettingGo.{goes_either, nothing_goes, rooted_among}
 use Rattle.search_moves.specs.Drafts.{HasRoots}
 use Rattle.search_moves.proofs.evaluation.Evaluation.collect.Goals as goal
 

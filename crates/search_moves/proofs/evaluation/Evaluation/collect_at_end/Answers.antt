@@ -1,6 +1,6 @@
 use Rattle.std.proofs.Common.{subst, sym, ◌∙◌}
 use Rattle.std.specs.List.{Contains}
-use Rattle.search_moves.proofs.LettingGo.{goes_at_end_if, rooted_among}
+use Rattle.search_moves.proofs.nodes.LettingGo.{goes_at_end_if, rooted_among}
 use Rattle.search_moves.proofs.evaluation.Evaluation.collect_at_end.Goals as goal
 
 pub collect-requires-clause-rooted : goal.collect-requires-clause-rooted

@@ -1,5 +1,5 @@
 use Rattle.std.proofs.Common.{refl}
-use Rattle.search_moves.proofs.LettingGo.{nothing_goes}
+use Rattle.search_moves.proofs.nodes.LettingGo.{nothing_goes}
 use Rattle.search_moves.proofs.evaluation.Evaluation.collect_drafts.Goals as goal
 
 pub returns-else-are_many-clause-lets_go : goal.returns-else-are_many-clause-lets_go

@@ -1,5 +1,5 @@
-use Rattle.search_moves.proofs.Remembering.{remembered}
-use Rattle.search_moves.proofs.Said.{done_keeps, end_leaves, limited_keeps_answers, rerun_keeps}
+use Rattle.search_moves.proofs.results.Remembering.{remembered}
+use Rattle.search_moves.proofs.moves.Said.{done_keeps, end_leaves, limited_keeps_answers, rerun_keeps}
 use Rattle.std.proofs.Common.{rules, Err, Ok, Some, ◌≡◌, true, refl, sym, ap, ap₂, subst, ◌∙◌}
 use Rattle.search_moves.specs.Below.{Again, AtLimit, IsEndOfRun, IsFit, Memory, Overflow, runs_of, Step, verdict_of, verdicts, CallGoesOn, KeepsAnswers, KeepsStore}
 use Rattle.search_moves.specs.Words.{HadMostRuns, IsDone, IsRunAgain, LeadsTo, Pops, StopsWith}
@@ -7,14 +7,14 @@ use Rattle.search_rules.proofs.justified.Finishing.{begin_fits, neither_is}
 use Rattle.search_rules.proofs.moves.Moves.{asked_stopped_by, can_leave, ends_newest, failed_rerun_stopped, leave_leads, limited_leads, limited_stopped, met_none_before, rerun_goes_on}
 use Rattle.search_rules.proofs.moves.Questions.{if_err_and, if_ok_then, no_ok}
 use Rattle.search_rules.proofs.moves.DoneRuns.{differs_definite, limit_comes, limited_keeps, limited_plain, memory_alone, newest_comes, newest_plain, put_keeps, stopped_by, stopped_by_both, stopped_each}
-use Rattle.search_rules.proofs.Reasons.{newest_reason, newest_unranked}
+use Rattle.search_rules.proofs.moves.Reasons.{newest_reason, newest_unranked}
 use Rattle.search_rules.proofs.moves.EndOfRunLaws.{limited, unstable, newest_limited, newest_unstable}
 use Rattle.search_context.proofs.Builders.{builder_stays}
-use Rattle.search_moves.proofs.Failing.{memory_stores}
-use Rattle.search_moves.proofs.Keeping.{leaves_results}
-use Rattle.search_moves.proofs.Noting.{noted_same, on_ok}
+use Rattle.search_moves.proofs.results.Failing.{memory_stores}
+use Rattle.search_moves.proofs.results.Keeping.{leaves_results}
+use Rattle.search_moves.proofs.nodes.Noting.{noted_same, on_ok}
 use Rattle.global_cache.proofs.Stores.{KeepsResults-same}
-use Rattle.search_moves.proofs.LimitsAtEnd.{meets_at_end, or_met, or_not}
+use Rattle.search_moves.proofs.moves.LimitsAtEnd.{meets_at_end, or_met, or_not}
 use Rattle.search_moves.proofs.evaluation.Evaluation.finish_run.Goals as goal
 
 -- ---- its result stands

@@ -3,19 +3,19 @@ use Rattle.std.specs.Option.{IfSome}
 use Rattle.search_moves.specs.Below.{ChangesNewest, fates_of, HaveExpected, IfCompared, IsExpected, IsPlainValue, highest, StackEntry, ProvisionalCacheEntry, entries_at, EvaluationResult, HasGraph, place_of, KeepsResults, IsPlainAt, KeepsFinished, IsPlainTo, verdicts, AreJustified, HaveTallies, AreReady, HasReason, IsNewestUnranked, RebasesNewest, final_answer, AreFree, ComesTo, IsNewestPlainTo, IsNewestStored, IsStored, NewestComesTo, NewestIsPlain, StoresAnswer, StoresNewest, GivesAnswer, GivesNested, LeavesNested, runs_of, IsJustifiedNext, HasNewestNode, HasResultNode, KeepsBut, node_given}
 use Rattle.search_moves.specs.Words.{Fails, Pops}
 use Rattle.global_cache.proofs.Stores.{KeepsResults-same}
-use Rattle.search_moves.proofs.Given.{heads_given, puts_given, storable_given, stores_given}
-use Rattle.search_moves.proofs.Failing.{fails_after, memory_fails}
-use Rattle.search_moves.proofs.Keeping.{ending_keeps}
-use Rattle.search_moves.proofs.Noting.{noted_same, noted_then}
+use Rattle.search_moves.proofs.results.Given.{heads_given, puts_given, storable_given, stores_given}
+use Rattle.search_moves.proofs.results.Failing.{fails_after, memory_fails}
+use Rattle.search_moves.proofs.results.Keeping.{ending_keeps}
+use Rattle.search_moves.proofs.nodes.Noting.{noted_same, noted_then}
 use Rattle.search_rules.proofs.entries.Ready.{are_within, heads_on_stack, on_stack_many}
 use Rattle.search_rules.proofs.entries.Pops.{rebased_ready}
 use Rattle.search_rules.proofs.rebasing.Lists.{entries_rebased, highest_stays}
-use Rattle.search_rules.proofs.DoneGoals.{given_free, given_justified, given_leaves, gives_node, newest_stored}
+use Rattle.search_rules.proofs.moves.DoneGoals.{given_free, given_justified, given_leaves, gives_node, newest_stored}
 use Rattle.search_rules.proofs.justified.Finishing.{neither_is, rebases}
 use Rattle.search_rules.proofs.moves.Questions.{if_err_and}
-use Rattle.search_rules.proofs.FinishedRuns.{headless_graph, required_fits, taken_run_ends}
+use Rattle.search_rules.proofs.moves.FinishedRuns.{headless_graph, required_fits, taken_run_ends}
 use Rattle.open_goals.specs.declared.goals.Fate.TheVariants as becomes
-use Rattle.search_rules.proofs.Fates.{newest_changes}
+use Rattle.search_rules.proofs.moves.Fates.{newest_changes}
 use Rattle.search_rules.specs.Fates.{Untouched}
 use Rattle.search_moves.proofs.evaluation.Evaluation.pop_goal.Goals as goal
 

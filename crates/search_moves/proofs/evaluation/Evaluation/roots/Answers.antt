@@ -1,6 +1,6 @@
 use Rattle.std.proofs.Common.{subst, sym}
 use Rattle.std.specs.List.{Contains}
-use Rattle.search_moves.proofs.LettingGo.{has_more}
+use Rattle.search_moves.proofs.nodes.LettingGo.{has_more}
 use Rattle.search_moves.proofs.evaluation.Evaluation.roots.Goals as goal
 
 pub returns : goal.returns

@@ -1,12 +1,12 @@
 use Rattle.search_rules.proofs.rebasing.Lists.{headless}
 use Rattle.std.proofs.Common.{◌∷◌, [], ◌∙◌, OnOk, refl, sym, ap, subst}
-use Rattle.search_moves.proofs.Noting.{noted_if_same}
+use Rattle.search_moves.proofs.nodes.Noting.{noted_if_same}
 use Rattle.search_moves.specs.Below.{ChangesNewest, highest, IfCompared, entry_of, IsPlainAt, IsPlainValue, IsStored, Memory}
 use Rattle.search_context.proofs.Ranks.{one_plain_value}
-use Rattle.search_moves.proofs.Storing.{equal_results, puts_nothing, stores_compared, stores_entry, stores_none, stores_result}
+use Rattle.search_moves.proofs.results.Storing.{equal_results, puts_nothing, stores_compared, stores_entry, stores_none, stores_result}
 use Rattle.search_moves.specs.Words.{Stores}
 use Rattle.provisional_cache.specs.Provisional.{AppendsEntry}
-use Rattle.search_rules.proofs.Fates.{storing_changes}
+use Rattle.search_rules.proofs.moves.Fates.{storing_changes}
 use Rattle.search_moves.proofs.evaluation.Evaluation.store_answer.Goals.{then-ENABLE_PROVISIONAL_CACHE+in_ok-insert_entry, else-ENABLE_PROVISIONAL_CACHE+in-None-1, else-ENABLE_PROVISIONAL_CACHE+in-Some-1}
 use Rattle.search_moves.proofs.evaluation.Evaluation.store_answer.Goals as goal
 

@@ -1,0 +1,4 @@
+-- A list of queries, one call each.
+pub mod ListAnswers
+pub mod ListLimits
+pub mod ListRuns

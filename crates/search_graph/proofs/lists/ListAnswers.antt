@@ -1,0 +1,93 @@
+-- Answers to a list of queries stay right while more queries are answered.
+use Rattle.std.proofs.Common.{◌≡◌, ℕ, ◌+◌, ◌<◌, ◌≤◌, Bool, true, false, List, [], ◌∷◌, ◌++◌, length, take, get_or, IfSome, Result, Ok, Err, IfOk, IfErr, None, refl, sym, ap, ◌∙◌, subst, arith}
+use Rattle.std.specs.List.{AllZip, sum_by}
+use Rattle.std.proofs.lemmas.List.{take_more}
+use Rattle.std.proofs.lemmas.List.Sums.{sum_by-append}
+use Rattle.std.proofs.lemmas.Result.{IfOk-weaker}
+use Rattle.search_graph.specs.Below.{CxOf, DelegateOf, Fault, Memory, PathKind, Cache, AreRuns, KeepsFinished, HasGraph, Question, Overlap, IsPlainTo, IsPlainValue, KeepsResults, IsWhole, verdicts, IsProved, IsRefuted}
+use Rattle.search_context.specs.declared.context.Answer.{Answer}
+use Rattle.search_context.proofs.Rules.{KeepsRule}
+use Rattle.global_cache.proofs.Definites.{HasGraph-finished, definite_is_whole}
+use Rattle.global_cache.proofs.Finished.{KeepsFinished-then}
+use Rattle.global_cache.proofs.Stores.{KeepsResults-then}
+use Rattle.search_graph.specs.Words.{HadCause, HasAnswer}
+use Rattle.search_graph.specs.Lists.{AppendsEach, IsAnsweredQuery}
+use Rattle.search_rules.proofs.answers.Shown.{yes_is_proved, no_is_refuted, neither_is_none}
+
+appended : {A : Type 0} (old more : List A) (a : A) → (old ++ more) ++ a ∷ [] ≡ old ++ (more ++ a ∷ [])
+appended [] more a = refl
+appended (b ∷ old) more a = ap (λ l. b ∷ l) (appended old more a)
+
+-- the first queries' sum, and one more
+pub sum_by-more : {Q : Type 0} (f : Q → ℕ) (queries : List Q) (i : ℕ) (query : Q) → i < length queries → query ≡ get_or queries i query → sum_by f (take (i + 1) queries) ≡ sum_by f (take i queries) + f query
+sum_by-more f queries i query below is =
+    ap (sum_by f) (take_more queries i query below ∙ ap (λ q. take i queries ++ q ∷ []) (sym is))
+    ∙ (sum_by-append f (take i queries) (query ∷ []) ∙ omega arith)
+
+module _ {Q A : Type 0} where
+  AllZip-more : (Holds : Q → A → Type 0) (queries : List Q) (more : List A) (query : Q) (a : A) → AllZip Holds queries more → Holds query a → AllZip Holds (queries ++ query ∷ []) (more ++ a ∷ [])
+  AllZip-more Holds [] [] query a h holds = (holds, tt)
+  AllZip-more Holds [] (b ∷ more) query a h holds = absurd h
+  AllZip-more Holds (q ∷ queries) [] query a h holds = absurd h
+  AllZip-more Holds (q ∷ queries) (b ∷ more) query a h holds = (h.0, AllZip-more Holds queries more query a h.1 holds)
+
+  AllZip-weaker : (Holds Also : Q → A → Type 0) → ((query : Q) (a : A) → Holds query a → Also query a) → (queries : List Q) (more : List A) → AllZip Holds queries more → AllZip Also queries more
+  AllZip-weaker Holds Also so [] [] h = tt
+  AllZip-weaker Holds Also so [] (b ∷ more) h = absurd h
+  AllZip-weaker Holds Also so (q ∷ queries) [] h = absurd h
+  AllZip-weaker Holds Also so (q ∷ queries) (b ∷ more) h = (so q b h.0, AllZip-weaker Holds Also so queries more h.1)
+
+  -- one query more
+  pub AppendsEach-more : (Holds : Q → A → Type 0) (queries : List Q) (i : ℕ) (query : Q) → i < length queries → query ≡ get_or queries i query → (old new newer : List A) (a : A)
+      → AppendsEach Holds (take i queries) old new → Holds query a → newer ≡ new ++ a ∷ [] → AppendsEach Holds (take (i + 1) queries) old newer
+  AppendsEach-more Holds queries i query below is old new newer a h holds grown = record {
+    more = h.more ++ a ∷ [];
+    is = grown ∙ (ap (λ l. l ++ a ∷ []) h.is ∙ appended old h.more a);
+    each = subst (λ qs. AllZip Holds qs (h.more ++ a ∷ [])) (ap (λ q. take i queries ++ q ∷ []) is ∙ sym (take_more queries i query below)) (AllZip-more Holds (take i queries) h.more query a h.each holds);
+  }
+
+  pub AppendsEach-weaker : (Holds Also : Q → A → Type 0) → ((query : Q) (a : A) → Holds query a → Also query a) → (queries : List Q) (old new : List A) → AppendsEach Holds queries old new → AppendsEach Also queries old new
+  AppendsEach-weaker Holds Also so queries old new h = record { more = h.more; is = h.is; each = AllZip-weaker Holds Also so queries h.more h.each }
+
+pub IfErr-weaker : {A E : Type 0} (r : Result A E) (P Q : E → Type 0) → ((e : E) → P e → Q e) → IfErr r P → IfErr r Q
+IfErr-weaker (Ok a) P Q so h = tt
+IfErr-weaker (Err e) P Q so h = so e h
+
+module _ {D C V P F I R A T : Type 0} (G : DelegateOf D C V P F I R A T) (X : CxOf C I R A T) (same : I → I → Bool) where
+  pub HadCause-kept : (old new : Cache C I R A T) → new.cx ≡ old.cx → KeepsResults same old.results new.results → KeepsFinished old.nodes new.nodes → (fault : Fault I R) → HadCause G X same old fault → HadCause G X same new fault
+  HadCause-kept old new context results nodes fault h = record {
+    before = h.before;
+    same_context = context ∙ h.same_context;
+    kept_results = KeepsResults-then same h.before.results old.results new.results h.kept_results results;
+    kept = KeepsFinished-then h.before.nodes old.nodes new.nodes h.kept nodes;
+    caused = h.caused;
+  }
+
+  pub HasAnswer-kept : (old new : Cache C I R A T) → new.cx ≡ old.cx → KeepsResults same old.results new.results → KeepsFinished old.nodes new.nodes → (query : ℕ × I × PathKind) (answer : Result (Answer R) (Fault I R))
+      → HasAnswer G X same old query answer → HasAnswer G X same new query answer
+  HasAnswer-kept old new context results nodes query answer h = record {
+    plain = subst (λ cx. (n : ℕ) → IsPlainTo (G.script cx) n query.1 → n ≤ query.0 → IfOk answer (λ a. IsPlainValue (G.script cx) n query.1 a.result)) (sym context) h.plain;
+    plain_faults = subst (λ cx. (n : ℕ) → IsPlainTo (G.script cx) n query.1 → n ≤ query.0 → IfErr answer (λ fault. fault ≡ Memory)) (sym context) h.plain_faults;
+    has_graph =
+        IfOk-weaker answer (λ a. HasGraph (verdicts X) old.nodes query.1 a.result a.node) (λ a. HasGraph (verdicts X) new.nodes query.1 a.result a.node)
+        (λ a. HasGraph-finished (verdicts X) old.nodes new.nodes nodes query.1 a.result a.node) h.has_graph;
+    faults = IfErr-weaker answer (HadCause G X same old) (HadCause G X same new) (HadCause-kept old new context results nodes) h.faults;
+  }
+
+  -- where the cache's nodes are runs, an answer's graph is one of its goal
+  module _ (cache : Cache C I R A T) (runs_are : AreRuns (verdicts X) (G.script cache.cx) cache.nodes)
+      (clash : (goal : I) (held failed : List (Question I)) → X.proves cache.cx goal held → X.refutes cache.cx goal failed → Overlap held failed)
+      (proved : KeepsRule X.is_yes (G.script cache.cx) (X.proves cache.cx)) (refuted : KeepsRule X.is_no (G.script cache.cx) (X.refutes cache.cx))
+      (one_sort : (r : R) → X.is_yes r ≡ true → X.is_no r ≡ false) where
+    pub answer_is_shown : (query : ℕ × I × PathKind) (answer : Result (Answer R) (Fault I R)) → HasAnswer G X same cache query answer → IsAnsweredQuery G X same cache query answer
+    answer_is_shown query answer h = record {
+      has = h;
+      yes = IfOk-weaker answer (λ a. HasGraph (verdicts X) cache.nodes query.1 a.result a.node) (λ a. X.is_yes a.result ≡ true → IsProved X cache query.1 a.node)
+          (λ a graph. yes_is_proved G X cache runs_are clash query.1 a.result a.node graph proved) h.has_graph;
+      no = IfOk-weaker answer (λ a. HasGraph (verdicts X) cache.nodes query.1 a.result a.node) (λ a. X.is_no a.result ≡ true → IsRefuted X cache query.1 a.node)
+          (λ a graph. no_is_refuted G X cache runs_are clash query.1 a.result a.node graph refuted (one_sort a.result)) h.has_graph;
+      neither = IfOk-weaker answer (λ a. HasGraph (verdicts X) cache.nodes query.1 a.result a.node) (λ a. X.is_yes a.result ≡ false → X.is_no a.result ≡ false → a.node ≡ None)
+          (λ a graph. neither_is_none G X cache runs_are clash query.1 a.result a.node graph) h.has_graph;
+      whole = IfOk-weaker answer (λ a. HasGraph (verdicts X) cache.nodes query.1 a.result a.node) (λ a. IfSome a.node (λ node. IsWhole cache.nodes node.0))
+          (λ a graph. definite_is_whole (verdicts X) cache.nodes query.1 a.result a.node graph) h.has_graph;
+    }

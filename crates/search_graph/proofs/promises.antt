@@ -1,0 +1,4 @@
+-- What a call promises as it ends or stops.
+pub mod Promises
+pub mod StoredDepths
+pub mod WorkedOut
