@@ -96,22 +96,20 @@ impl State {
         match candidates.get(self.candidate) {
             None => self.ignore(candidates),
             Some(candidate) => match candidate.questions.get(self.question) {
-                None => self.finish(candidate.is_marked),
+                None => {
+                    self.request = Some(Request::FinishCandidate);
+                    self.candidate += 1;
+                    self.some_holds = self.some_holds || self.holds;
+                    self.unmarked_holds =
+                        self.unmarked_holds || (self.holds && !candidate.is_marked);
+                    self.each_fails = self.each_fails && self.fails;
+                }
                 Some(asking) => {
                     self.request = Some(Request::Evaluate(asking.kind, asking.goal));
                     self.question += 1;
                 }
             },
         }
-    }
-
-    // The open candidate is finished.
-    fn finish(&mut self, is_marked: bool) {
-        self.request = Some(Request::FinishCandidate);
-        self.candidate += 1;
-        self.some_holds |= self.holds;
-        self.unmarked_holds |= self.holds && !is_marked;
-        self.each_fails &= self.fails;
     }
 
     fn note_answer(&mut self, outcome: Outcome)
