@@ -1,6 +1,6 @@
 -- The cache's list of nodes in the words of its clauses: what a call of the list makes of the cache.
 use Rattle.std.proofs.Common.{◌≡◌, ℕ, Bool, List, [], ◌∷◌, ◌++◌, Option, None, Some, Result, Ok, Err, is_ok, IsSome, slice_get, refl, sym, ◌∙◌, ap, subst}
-use Rattle.std.specs.Prelude.{IfOk, OnErr}
+use Rattle.std.specs.Prelude.{IfOk, IfSome, OnErr}
 use Rattle.std.specs.Option.{IsSomeAnd}
 use Rattle.global_cache.specs.Below.{Node, Request, Reply, Verdicts}
 use Rattle.global_cache.specs.Words.{Slot, Finished, StoredResult, EndedRun, CacheNode, Cache, finished_node, open_goal, open_node, with_run, IsGone, IsRun, AreRuns, Store, run_of, ended_node, node_of}
@@ -15,6 +15,14 @@ pub is_some_and : {A : Type 0} (P : A → Type 0) (o : Option A) → IsSomeAnd o
 is_some_and P None h = absurd h
 is_some_and P (Some x) h = refl
 
+pub if_some_and : {A : Type 0} (P : A → Type 0) (o : Option A) → IsSomeAnd o P → IfSome o P
+if_some_and P None h = tt
+if_some_and P (Some x) h = h
+
+pub some_and : {A : Type 0} (P : A → Type 0) (o : Option A) → IsSome o → IfSome o P → IsSomeAnd o P
+some_and P None some h = absurd cc
+some_and P (Some x) some h = h
+
 -- a cache whose context, nodes and results are these
 module _ {X I R A T : Type 0} (cx : X) (nodes : List (CacheNode I R)) (results : Store I (StoredResult X I R A T)) (cache : Cache X I R A T) (view : record { cx = cx; nodes = nodes; results = results } ≡ cache) where
   module _ (grew : Bool) (goal : I) (more : List (CacheNode I R)) (is : more ≡ appended grew nodes goal) where
@@ -26,8 +34,8 @@ module _ {X I R A T : Type 0} (cx : X) (nodes : List (CacheNode I R)) (results :
     cache_pushed = λ i. record { cx = (view i).cx; nodes = nodes_pushed i; results = (view i).results }
 
   module _ (k : ℕ) (run : EndedRun I R) where
-    pub open_there : (P : I → Type 0) → IsSomeAnd (open_goal cache.nodes k) P → IsSome (open_goal nodes k)
-    open_there P is_open = is_some_and P (open_goal nodes k) (subst (λ (c : Cache X I R A T). IsSomeAnd (open_goal c.nodes k) P) (sym view) is_open)
+    pub open_there : IsSome (open_goal cache.nodes k) → IsSome (open_goal nodes k)
+    open_there is_open = subst (λ (c : Cache X I R A T). IsSome (open_goal c.nodes k)) (sym view) is_open
 
     module _ (more : List (CacheNode I R)) (is : more ≡ with_run nodes k run) where
       pub nodes_ended : more ≡ with_run cache.nodes k run

@@ -1,7 +1,7 @@
 -- What a cache holds: its context, a list of nodes, and the results that are stored. A node stands for one run of a goal.
 -- It is open until that run has ended, and never changes from then on, but that it may be let go once nothing leads to it.
 use Rattle.std.specs.Prelude.{◌≡◌, ℕ, Bool, true, false, if◌then◌else◌, List, [], map, reverse, Option, None, Some, slice_get, slice_set}
-use Rattle.std.specs.Option.{option_map, IsSomeAnd}
+use Rattle.std.specs.Option.{option_map}
 use Rattle.search_context.specs.declared.context.Request.{Request}
 use Rattle.search_context.specs.declared.context.Reply.{Reply}
 use Rattle.search_context.specs.declared.context.Edge.{Edge}
@@ -83,11 +83,6 @@ pub record IsRun {I R : Type 0} (says : Verdicts R) (script : List (Reply R) →
   pub yes : says.is_yes run.outcome ≡ true → map question_of run.edges ≡ questions_answered says.is_yes (progress_after script (reverse run.replies))
   pub no : says.is_no run.outcome ≡ true → map question_of run.edges ≡ questions_answered says.is_no (progress_after script (reverse run.replies))
   pub targets : (i : ℕ) (e : Edge I) → slice_get run.edges i ≡ Some e → IsNodeOf nodes e.target e.input
-
--- the node is open, and the run is one of its goal
-abbrev pub CanFinish : {I R : Type 0} → Verdicts R → (I → List (Reply R) → Request I R) → List (CacheNode I R) → ℕ → EndedRun I R → Type 0
-CanFinish says scripts nodes at run =
-    IsSomeAnd (open_goal nodes at) (λ goal. IsRun says (scripts goal) nodes run)
 
 -- each run of the list that has ended is one of its goal
 abbrev pub AreRuns : {I R : Type 0} → Verdicts R → (I → List (Reply R) → Request I R) → List (CacheNode I R) → Type 0

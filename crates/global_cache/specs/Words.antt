@@ -1,5 +1,5 @@
 -- The words of this crate, from one place.
-pub use Rattle.global_cache.specs.Cache.{AreRuns, Cache, CacheNode, CanFinish, ended_run, EndedRun, finished_node, goal_if_open, gone_node}
+pub use Rattle.global_cache.specs.Cache.{AreRuns, Cache, CacheNode, ended_run, EndedRun, finished_node, goal_if_open, gone_node}
 pub use Rattle.global_cache.specs.Cache.{graph_node_of, graph_nodes_of, IsNodeOf, IsRun, KeepsFinished, KeepsGoals}
 pub use Rattle.global_cache.specs.Cache.{KeepsNodes, open_goal, open_node, with_run}
 pub use Rattle.global_cache.specs.Collected.{AreLive, AreRooted, Collected, StayBefore}

@@ -1,8 +1,8 @@
 //! The list of nodes: the runs of goals that have ended, which the graphs of answers are made of.
-ghost use Rattle.std.specs.Prelude.{◌≡◌, ◌∷◌, ◌++◌, [], count_by, length, IfOk, OnErr, IfSome};
+ghost use Rattle.std.specs.Prelude.{◌≡◌, ◌∷◌, ◌++◌, [], count_by, length, IfOk, OnErr, IfSome, IsSome};
 ghost use Rattle.std.specs.Option.{is_some, option_map};
 ghost use Rattle.global_cache.specs.Below.{verdicts};
-ghost use Rattle.global_cache.specs.Words.{open_node as new_node, open_goal, finished_node, with_run, IsRun, KeepsNodes, KeepsFinished, KeepsGoals, HasGrown, CanFinish, ended_run, node_of, run_of, ended_node, is_held};
+ghost use Rattle.global_cache.specs.Words.{open_node as new_node, open_goal, finished_node, with_run, IsRun, KeepsNodes, KeepsFinished, KeepsGoals, HasGrown, ended_run, node_of, run_of, ended_node, is_held};
 
 use crate::GlobalCache;
 use crate::node_list::Slot;
@@ -39,8 +39,10 @@ impl<D: Delegate> GlobalCache<D> {
         edges: Vec<Edge<<D::Cx as Cx>::Input>>,
         outcome: <D::Cx as Cx>::Result,
     )
-        requires { CanFinish (verdicts D.Cx.Cx) (D.script self.old.cx) self.old.nodes node.0
-            (ended_run replies.items edges.items outcome) }
+        requires is_open { IsSome (open_goal self.old.nodes node.0) }
+        requires is_run { IfSome (open_goal self.old.nodes node.0) (λ goal.
+            IsRun (verdicts D.Cx.Cx) (D.script self.old.cx goal) self.old.nodes
+            (ended_run replies.items edges.items outcome)) }
         ensures ended { self.new ≡ record self.old {
           nodes = with_run self.old.nodes node.0 (ended_run replies.items edges.items outcome);
         } }

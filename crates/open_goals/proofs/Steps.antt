@@ -6,14 +6,9 @@ use Rattle.open_goals.proofs.Pairs.{last_pair, length_of_view}
 use Rattle.open_goals.specs.OpenGoal.{OpenGoal}
 
 module _ {D C V P F I R A T : Type 0} (G : DelegateOf D C V P F I R A T) (X : CxOf C I R A T) (cx : C) (given : Received R) where
-  -- a frame that can take a reply is there
-  pub some_item : (view : List (OpenGoal C F I R A T)) → CanStep G X cx given.reply view → 0 < length view
-  some_item [] can = absurd can
-  some_item (s ∷ below) can = omega arith
-
-  module _ (es : List (StackEntry C I R A T)) (fs : List (Run C F I R A T)) (view : List (OpenGoal C F I R A T)) (same : length es ≡ length fs) (is : paired [] es fs ≡ view) (can : CanStep G X cx given.reply view) where
+  module _ (es : List (StackEntry C I R A T)) (fs : List (Run C F I R A T)) (view : List (OpenGoal C F I R A T)) (same : length es ≡ length fs) (is : paired [] es fs ≡ view) (some : 0 < length view) (can : CanStep G X cx given.reply view) where
     some_run : 0 < length fs
-    some_run = omega (arith, (length_of_view es fs view same is).1, some_item view can)
+    some_run = omega (arith, (length_of_view es fs view same is).1, some)
 
     -- the run at the last index can take the reply
     pub last_can_take : (n : ℕ) (run : Run C F I R A T) → n ≡ length fs - 1 → run ≡ get_or fs n run → CanTake G.stands G.script run.frame given.reply

@@ -100,9 +100,9 @@ module _ {X F I R A T : Type 0} where
     pub is : new ≡ (record entry { state = state }, record run { candidates = slice_set run.candidates number [] }) ∷ below
     pub ignores : Ignores (record { 0 = length below }) candidate entry.state state
 
-  -- what the newest goal's frame requested of its candidates can be done
+  -- what the newest goal's frame, if there is one, requested of its candidates can be done
   abbrev pub CanNote : Request I R → List (OpenGoal X F I R A T) → Type 0
-  CanNote request [] = ⊥
+  CanNote request [] = Unit {0}
   CanNote EnterCandidate (s ∷ below) = Unit {0}
   CanNote FinishCandidate (s ∷ below) = is_some s.0.state.candidate_usages ≡ true
   CanNote (Ignore number) (s ∷ below) = CanIgnoreNewest number (s ∷ below)

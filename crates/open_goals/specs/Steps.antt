@@ -21,9 +21,9 @@ module _ {D C V P F I R A T : Type 0} (G : DelegateOf D C V P F I R A T) (X : Cx
   abbrev pub Stood : Item → List (Reply R) → Type 0
   Stood s replies = G.stands s.1.frame cx s.0.input replies × Records (verdicts X) (G.script cx s.0.input) s.1.progress replies
 
-  -- the newest item's frame can take the reply
+  -- the newest item's frame, if there is one, can take the reply
   abbrev pub CanStep : Reply R → List Item → Type 0
-  CanStep reply [] = ⊥
+  CanStep reply [] = Unit {0}
   CanStep reply (s ∷ below) = (replies : List (Reply R)) × G.stands s.1.frame cx s.0.input replies × IsFitting (G.script cx s.0.input) (reply ∷ replies)
 
   -- the run with the reply on record

@@ -167,7 +167,7 @@ impl<X: Cx, F: Drop, S: Drop> OpenGoals<X, F, S> {
 
     /// Adds a goal that isn't under evaluation. A refusal leaves the goals as they were.
     pub fn push(&mut self, entry: StackEntry<X>, run: Run<X, F>) -> Result<(), NoMemory>
-        requires { list_any (λ s. X.Input.eq entry.input s.0.input) self.old ≡ false }
+        requires absent { list_any (λ s. X.Input.eq entry.input s.0.input) self.old ≡ false }
         ensures ok { OnOk result (self.new ≡ (entry, run) ∷ self.old) }
         ensures err { OnErr result (self.new ≡ self.old) }
     {
@@ -395,7 +395,8 @@ pub fn step<D: Delegate>(
     Request<<D::Cx as Cx>::Input, <D::Cx as Cx>::Result>,
     Fault<<D::Cx as Cx>::Input, <D::Cx as Cx>::Result>,
 >
-    requires { CanStep D.Delegate D.Cx.Cx cx received.reply goals.old }
+    requires some { 0 < length goals.old }
+    requires can_step { CanStep D.Delegate D.Cx.Cx cx received.reply goals.old }
     ensures stepped { IfOk result (λ request.
         HasStepped D.Delegate D.Cx.Cx cx received request goals.old goals.new) }
     ensures fault { IfErr result (λ fault.

@@ -1,10 +1,10 @@
 -- What a move, and the whole of an evaluation, comes to in whatever call it is made.
 use Rattle.std.specs.Prelude.{◌≡◌, ℕ, Bool, false, List, Result, IfOk, IfErr}
-use Rattle.search_graph.specs.Below.{Awaits, Begins, Cache, CacheNode, Call, CxOf, DelegateOf, EndsWith, Fated, Fault, fates_of, HasGraph, IsCaused, IsNew, KeepsFinished, KeepsNodes, KeepsResults, LeadsTo, MovesFates, Next, Place, Received, StayFrom, OpenGoal, Store, stored_at, StopsWith, verdicts, work_left}
+use Rattle.search_graph.specs.Below.{Awaits, Begins, Cache, CacheNode, Call, CxOf, DelegateOf, EndsWith, Fated, Fault, fates_of, HasGraph, IsCaused, KeepsFinished, KeepsNodes, KeepsResults, LeadsTo, MovesFates, Next, Place, Received, StayFrom, OpenGoal, Store, stored_at, StopsWith, verdicts, work_left}
 use Rattle.open_goals.specs.declared.goals.Fate.{Fate}
 use Rattle.open_goals.specs.declared.goals.Fate.TheVariants as becomes
 use Rattle.search_context.specs.declared.context.Answer.{Answer}
-use Rattle.search_moves.specs.Drafts.{HasNoDrafts, LeavesReached}
+use Rattle.search_moves.specs.Drafts.{LeavesReached}
 use Rattle.search_moves.specs.declared.evaluation.Evaluation.{Evaluation}
 
 -- What a call keeps of the cache: the context, stored results or equal ones, finished nodes, and each node's goal.
@@ -45,14 +45,3 @@ module _ {D C V P F I R A T : Type 0} (G : DelegateOf D C V P F I R A T) (X : Cx
         → IfOk result (λ answer. EndsWith G X same cx is_stored call answer new after to)
     pub stopped : (call : Call I) → Begins G X cx same call goal before.root_depth.0 from before.limits_met old.results
         → IfErr result (λ fault. StopsWith G X same cx call fault new after to)
-
--- a call begins: no goal is under evaluation, and it has written no node
-pub record IsNewCall {D C V P F I R A T : Type 0} (cache : Cache C I R A T) (e : Evaluation D C V P F I R A T) : Type 0 where
-  pub new : IsNew e
-  pub drafts : HasNoDrafts cache.nodes e.drafts
-
--- and it has a goal, whose result has this fate
-pub record IsNewCallFor {D C V P F I R A T : Type 0} (suits : Fated I R → Type 0) (goal : I) (fate : Fate R) (cache : Cache C I R A T) (e : Evaluation D C V P F I R A T) : Type 0 where
-  pub new : IsNew e
-  pub drafts : HasNoDrafts cache.nodes e.drafts
-  pub fated : suits (record { goal = goal; depth = e.root_depth.0; fate = fate })

@@ -1,7 +1,7 @@
 -- What a turn of the loop comes to, which is a move after which nodes may be let go.
 use Rattle.std.specs.Prelude.{◌≡◌, ◌≤◌, ℕ, Bool, length, List, []}
 use Rattle.global_cache.specs.Collected.{StayBefore}
-use Rattle.search_graph.specs.Below.{AreFrom, Cache, ChangesNewest, CxOf, DelegateOf, fates_of, Finished, HasReply, IsJustifiedNext, IsRightFor, KeepsFirst, KeepsResults, Next, Received, Step, OpenGoal, verdicts}
+use Rattle.search_graph.specs.Below.{AreFrom, Cache, ChangesNewest, CxOf, DelegateOf, fates_of, Finished, IsJustifiedNext, IsRightFor, KeepsFirst, KeepsResults, Next, Received, Step, OpenGoal, verdicts}
 use Rattle.search_moves.specs.Drafts.{AreNotedNodes, LeavesReached}
 use Rattle.search_moves.specs.declared.evaluation.Evaluation.{Evaluation}
 
@@ -30,11 +30,6 @@ module _ {D C V P F I R A T : Type 0} (same : I → I → Bool) where
     pub results : KeepsResults same old.results new.results
     pub nodes : KeepsFirst e.drafts.first old.nodes new.nodes
     pub changes : ChangesNewest same (fates_of e.goals) old.results new.results
-
--- the newest goal waits for the reply, and the call's drafts are in order
-pub record MayTurn {D C V P F I R A T : Type 0} (G : DelegateOf D C V P F I R A T) (X : CxOf C I R A T) (same : I → I → Bool) (cx : C) (received : Received R) (cache : Cache C I R A T) (e : Evaluation D C V P F I R A T) (starts : ℕ) : Type 0 where
-  pub reply : HasReply G X same cx received cache e starts
-  pub drafts : HasDrafts same cache e
 
 -- what comes next is right: the reply for the goals, or the answer of the only goal
 abbrev pub IsRightTurn : {D C V P F I R A T : Type 0} → DelegateOf D C V P F I R A T → CxOf C I R A T → (I → I → Bool) → C → List (OpenGoal C F I R A T) → Next R → Cache C I R A T → Evaluation D C V P F I R A T → Type 0

@@ -5,7 +5,7 @@ use Rattle.open_graphs.specs.Graph as theory
 use Rattle.search_context.specs.declared.context.Answer.{Answer}
 use Rattle.search_rules.specs.Below.{NodeId, Request, Done, Reply, OpenGoal, IsFitting, request_after, EndedRun, CacheNode, open_goal, open_node, rerun_with, with_no_record, with_run, verdict_of, Next, Step, Finished, RunRecord, Records, acted, HasGraph, Verdicts}
 use Rattle.search_rules.specs.Tallies.{tally_of}
-use Rattle.search_rules.specs.Justified.{OpenRun, AreJustified, IsFit, LeadToGoals, AreEdges}
+use Rattle.search_rules.specs.Justified.{OpenRun, AreJustified, IsFit, AreEdges}
 
 -- the node of what comes next, which is the reply for the goals, or the answer of the only goal
 abbrev pub node_given : {R : Type 0} → Next R → Option NodeId
@@ -82,7 +82,6 @@ pub record EndsRun {I R : Type 0} (says : Verdicts R) (scripts : I → List (Rep
   pub goal : I
   pub is_open : open_goal nodes node.0 ≡ Some goal
   pub ends : CameTo says (scripts goal) p r
-  pub placed : LeadToGoals nodes p.answers
 
 -- the result says what the provisional one says
 abbrev pub SaysAgain : {R : Type 0} → Verdicts R → Option R → R → Type 0

@@ -106,7 +106,7 @@ pub fn look_up_entry<'a, D: Delegate>(
     step: PathKind,
     input: <D::Cx as Cx>::Input,
 ) -> Option<&'a ProvisionalCacheEntry<D::Cx>>
-    requires { AreOnStack D.Cx.Input.eq stack.now provisional.now }
+    requires on_stack { AreOnStack D.Cx.Input.eq stack.now provisional.now }
     ensures { option_copied result ≡ usable_entry D.Cx.Input.eq D.ENABLE_PROVISIONAL_CACHE
         (record { stack = stack.now; entries = provisional.now; step = step }) input }
 {
@@ -126,7 +126,7 @@ pub fn look_up<'a, D: Delegate>(
     input: <D::Cx as Cx>::Input,
     depth: AvailableDepth,
 ) -> Option<CacheData<'a, D::Cx>>
-    requires { AreOnStack D.Cx.Input.eq stack.now provisional.now }
+    requires on_stack { AreOnStack D.Cx.Input.eq stack.now provisional.now }
     ensures exact { option_map hit_of result ≡ first_accepted
         (is_applicable D.Cx.Input.eq
         (record { stack = stack.now; entries = provisional.now; step = step }))
@@ -169,7 +169,7 @@ pub fn consult<'a, D: Delegate>(
     depth: AvailableDepth,
     inspect: &mut D::ProofTreeBuilder,
 ) -> Consulted<'a, D>
-    requires { AreOnStack D.Cx.Input.eq stack.now provisional.now }
+    requires on_stack { AreOnStack D.Cx.Input.eq stack.now provisional.now }
     ensures consults { Consults (D.noop inspect.old) (D.scoped cache.now.cx input) (first_accepted
         (is_applicable D.Cx.Input.eq
         (record { stack = stack.now; entries = provisional.now; step = step }))

@@ -2,7 +2,7 @@
 ghost use Rattle.std.specs.Prelude.{◌≡◌, ◌↔◌, IsTrue, IfOk, Some};
 ghost use Rattle.std.specs.Option.{option_map};
 ghost use Rattle.search_rules.specs.Below.{KeepsFinished, IsDefinite, verdict_of, verdicts};
-ghost use Rattle.search_rules.specs.Words.{verdict_shape, EndsRun, HasResultNode, KeepsBut};
+ghost use Rattle.search_rules.specs.Words.{verdict_shape, EndsRun, HasResultNode, KeepsBut, LeadToGoals};
 
 use open_goals::progress::Progress;
 use search_parts::context::{Cx, Delegate, NoMemory, NodeId, Verdict};
@@ -19,9 +19,11 @@ pub fn result_node<D: Delegate>(
     progress: &Progress<<D::Cx as Cx>::Input, <D::Cx as Cx>::Result>,
     outcome: <D::Cx as Cx>::Result,
 ) -> Result<Option<NodeId>, NoMemory>
-    requires { IsDefinite (verdicts D.Cx.Cx) outcome →
+    requires ends { IsDefinite (verdicts D.Cx.Cx) outcome →
         EndsRun (verdicts D.Cx.Cx)
         (D.script cache.old.cx) cache.old.nodes own_node progress.now outcome }
+    requires placed { IsDefinite (verdicts D.Cx.Cx) outcome →
+        LeadToGoals cache.old.nodes progress.now.answers }
     ensures has_node { IfOk result (λ answer.
         HasResultNode (verdicts D.Cx.Cx) cache.old.nodes cache.new.nodes
         state.now.provisional_result own_node state.now.node progress.now outcome answer) }

@@ -17,7 +17,8 @@ impl<X: Cx, F: Drop, S: Drop> OpenGoals<X, F, S> {
         request: Request<X::Input, X::Result>,
         spare: &mut SpareMemory<X::Input, X::Result>,
     ) -> Result<(), NoMemory>
-        requires { CanNote request self.old }
+        requires some { 0 < length self.old }
+        requires can_note { CanNote request self.old }
         ensures { OnOk result (NotesCandidate request self.old self.new) }
     {
         match request {

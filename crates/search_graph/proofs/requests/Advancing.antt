@@ -1,6 +1,6 @@
 -- The newest frame gets its reply and makes a request: what the moves after that may rest on.
 use Rattle.std.proofs.Common.{◌≡◌, ℕ, Bool, List, sym, ◌∙◌, subst}
-use Rattle.search_graph.specs.Below.{DelegateOf, CxOf, Request, Received, Cache, HasStepped, IsStepFault, NotesCandidate, OpenGoal, Fault, Awaits, Call, HasReply, HasRequest, HaveExpected, IsRight, IsRightFor, Requests, StopsWith, work_left}
+use Rattle.search_graph.specs.Below.{DelegateOf, CxOf, Request, Received, Cache, HasStepped, IsStepFault, NotesCandidate, OpenGoal, Fault, Awaits, Call, fates_of, HasReply, HasRequest, HaveExpected, IsRight, IsRightFor, Requests, StopsWith, work_left}
 use Rattle.search_moves.specs.declared.evaluation.Evaluation.{Evaluation}
 use Rattle.search_graph.proofs.turns.Causes.{step_keeps_free}
 use Rattle.search_graph.proofs.turns.Loops.{advance_asks, advance_justified, advance_stops, step_asks_for, stepped_some}
@@ -44,5 +44,10 @@ module _ {D C V P F I R A T : Type 0} (G : DelegateOf D C V P F I R A T) (X : Cx
       asked = advance_asks G X cx given request e.goals goals starts now e.limits_met read reads made is stepped same_starts cache.nodes h.right.fits h.call h.waiting;
       on_record = λ kind goal asks. step_asks_for G X cx given e.goals goals read made stepped kind goal (is ∙ asks);
       right = stepped_right (subst (λ (q : Request I R). NotesCandidate q goals goals) (sym is) none) h.right;
-      expected = subst (HaveExpected (G.scoped cx) (G.script cx) same cache.results) (sym (fates_stepped G X read e.goals goals given made stepped)) h.expected;
     }
+
+    -- and its step changed no result that is expected
+    pub has_expected :
+        HaveExpected (G.scoped cx) (G.script cx) same cache.results (fates_of e.goals)
+        → HaveExpected (G.scoped cx) (G.script cx) same cache.results (fates_of goals)
+    has_expected = subst (HaveExpected (G.scoped cx) (G.script cx) same cache.results) (sym (fates_stepped G X read e.goals goals given made stepped))

@@ -1,7 +1,7 @@
 //! The evaluation of a goal: one loop over the goals under evaluation.
 ghost use Rattle.std.specs.Prelude.{◌≡◌, true, false, length, IfOk, IfErr, IfSome, OnOk, Ok};
 ghost use Rattle.open_goals.specs.declared.goals.Fate.TheVariants.{Stored};
-ghost use Rattle.search_graph.specs.Below.{ChangesCache, IsFated, first_accepted, usable, KeepsBuilder, KeepsCache, HasReply, IsNew, IsRightNext};
+ghost use Rattle.search_graph.specs.Below.{ChangesCache, fates_of, HaveExpected, IsFated, first_accepted, usable, KeepsBuilder, KeepsCache, HasReply, IsNew, IsRightNext};
 ghost use Rattle.search_graph.specs.Calls.{Advances, Evaluates, IsGrounded, MovesGoals, Spares};
 ghost use Rattle.search_graph.specs.Settled.{EndsSettled, StaysSettled};
 ghost use Rattle.search_graph.specs.Turns.{HasDrafts, IsRightTurn, KeepsDrafts, TurnsCache};
@@ -121,6 +121,8 @@ fn take_turn<D: Delegate>(
 ) -> Result<Next<<D::Cx as Cx>::Result>, Fault<<D::Cx as Cx>::Input, <D::Cx as Cx>::Result>>
     requires reply { HasReply D.Delegate D.Cx.Cx D.Cx.Input.eq cache.old.cx received
         cache.old evaluation.old (D.starts inspect.old) }
+    requires expected { HaveExpected (D.scoped cache.old.cx) (D.script cache.old.cx) D.Cx.Input.eq
+        cache.old.results (fates_of evaluation.old.goals) }
     requires drafts { HasDrafts D.Cx.Input.eq cache.old evaluation.old }
     ensures advances { Advances D.Delegate D.Cx.Cx D.Cx.Input.eq cache.old.cx received
         cache.old evaluation.old (D.starts inspect.old) result
@@ -159,8 +161,10 @@ fn advance<D: Delegate>(
     received: Received<<D::Cx as Cx>::Result>,
     inspect: &mut D::ProofTreeBuilder,
 ) -> Result<Next<<D::Cx as Cx>::Result>, Fault<<D::Cx as Cx>::Input, <D::Cx as Cx>::Result>>
-    requires { HasReply D.Delegate D.Cx.Cx D.Cx.Input.eq cache.old.cx received
+    requires reply { HasReply D.Delegate D.Cx.Cx D.Cx.Input.eq cache.old.cx received
         cache.old evaluation.old (D.starts inspect.old) }
+    requires expected { HaveExpected (D.scoped cache.old.cx) (D.script cache.old.cx) D.Cx.Input.eq
+        cache.old.results (fates_of evaluation.old.goals) }
     ensures advances { Advances D.Delegate D.Cx.Cx D.Cx.Input.eq cache.old.cx received
         cache.old evaluation.old (D.starts inspect.old) result
         cache.new evaluation.new (D.starts inspect.new) }

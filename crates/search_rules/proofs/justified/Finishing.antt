@@ -6,7 +6,7 @@ use Rattle.std.proofs.lemmas.List.{length-map}
 use Rattle.std.proofs.lemmas.Option.{slice_get_within, get_or_from_slice_get, slice_get-get_or}
 use Rattle.open_graphs.specs.Graph as theory
 use Rattle.search_rules.specs.Below.{PathKind, Verdict, Yes, No, Neither, Edge, NodeId, Request, Reply, Begin, Answer, Noted, AvailableDepth, OpenGoal, StackEntry, IsNeither, question_of, EndsIn, progress_after, questions_answered, CacheNode, open_node, open_goal, with_run, IsNodeOf, IsRun, verdict_of, Run, DefiniteAnswer, NotesOverflow, TakesStored, Hit, first_entry, usages_over, with_depth, with_nested_goals, TakesAnswer, AnswersNewest, RunRecord, acted, answered, no_record, edges_of, counted_by, IsDefinite, Heads, at_depth, heads_shape, rank_of, UsagesByHead, StackDepth, EntryState, Evaluate, TakesIn, Verdicts}
-use Rattle.search_rules.specs.Words.{tally_of, heads_of, IsTallied, LieBelow, OpenRun, verdict_shape, AreEdges, NewestAsks, HasTally, AreJustified, MayAnswer, IsFit, asked_now, run_of, runs_of, EndsNewest, EndsRun, HasResultNode, Ended, LeftOpen}
+use Rattle.search_rules.specs.Words.{tally_of, heads_of, IsTallied, LieBelow, OpenRun, verdict_shape, AreEdges, NewestAsks, HasTally, AreJustified, LeadToGoals, MayAnswer, IsFit, asked_now, run_of, runs_of, EndsNewest, EndsRun, HasResultNode, Ended, LeftOpen}
 use Rattle.search_rules.proofs.counts.TakenTallies.{taken_tallied, taken_keeps, taken_comes_in}
 use Rattle.search_rules.specs.Runs.{Again}
 use Rattle.search_rules.proofs.justified.Justified.{EndsWithNode, pushed_is_justified, recounted_is_justified, again_ends, neither_ends, anew_ends}
@@ -130,7 +130,7 @@ answer_fits says nodes p below r step goal target asks may s kind asked is asks_
 
 -- ---- the run that a node is finished with
 
-module _ {I R : Type 0} (says : Verdicts R) (scripts : I → List (Reply R) → Request I R) (nodes : List (CacheNode I R)) (node : NodeId) (p : RunRecord I R) (r : R) (h : EndsRun says scripts nodes node p r) (v : Verdict) (holds : (v ≡ Yes) ↔ IsTrue (says.is_yes r)) (fails : (v ≡ No) ↔ IsTrue (says.is_no r)) where
+module _ {I R : Type 0} (says : Verdicts R) (scripts : I → List (Reply R) → Request I R) (nodes : List (CacheNode I R)) (node : NodeId) (p : RunRecord I R) (r : R) (h : EndsRun says scripts nodes node p r) (placed : LeadToGoals nodes p.answers) (v : Verdict) (holds : (v ≡ Yes) ↔ IsTrue (says.is_yes r)) (fails : (v ≡ No) ↔ IsTrue (says.is_no r)) where
   edge_placed : (i : ℕ) (e : Edge I) → slice_get (edges_of p v) i ≡ Some e → (j : ℕ) × (a : DefiniteAnswer I) × (slice_get p.answers j ≡ Some a) × (a.edge ≡ e) × (a.verdict ≡ v) × (counted_by p.ignored a.candidate ≡ true)
   edge_placed i e at =
       let from = edge_is_of_answer p v e (contains_at (edges_of p v) i e at) in
@@ -146,7 +146,7 @@ module _ {I R : Type 0} (says : Verdicts R) (scripts : I → List (Reply R) → 
             (subst (λ w. map question_of (edges_of p w) ≡ questions_answered says.is_yes (progress_after (scripts h.goal) h.ends.replies)) (sym (holds.1 is)) (yes_edges_are says (scripts h.goal) p h.ends.replies h.ends.on_record));
         no = λ is. subst (λ replies. map question_of (edges_of p v) ≡ questions_answered says.is_no (progress_after (scripts h.goal) replies)) (sym same)
             (subst (λ w. map question_of (edges_of p w) ≡ questions_answered says.is_no (progress_after (scripts h.goal) h.ends.replies)) (sym (fails.1 is)) (no_edges_are says (scripts h.goal) p h.ends.replies h.ends.on_record));
-        targets = λ i e at. let w = edge_placed i e at in subst (λ x. IsNodeOf nodes x.target x.input) w.3 (h.placed w.0 w.1 w.2);
+        targets = λ i e at. let w = edge_placed i e at in subst (λ x. IsNodeOf nodes x.target x.input) w.3 (placed w.0 w.1 w.2);
       }
 
   pub open_for_run : IsSomeAnd (open_goal nodes node.0) (λ goal. IsRun says (scripts goal) nodes (record { replies = p.replies; edges = edges_of p v; outcome = r }))
@@ -178,7 +178,11 @@ module _ {I R : Type 0} (says : Verdicts R) (nodes : List (CacheNode I R)) (earl
 
 module _ {X F I R A T : Type 0} (says : Verdicts R) (before after : List (CacheNode I R)) (entry : StackEntry X I R A T) (run : Run X F I R A T) (below : List (OpenGoal X F I R A T)) (h : AreJustified says before (runs_of ((entry, run) ∷ below))) where
   pub ends_run : (scripts : I → List (Reply R) → Request I R) (r : R) → EndsNewest says scripts ((entry, run) ∷ below) r → EndsRun says scripts before run.node run.progress r
-  ends_run scripts r ends = record { goal = entry.input; is_open = h.are_open.0; ends = ends; placed = h.supported.0.placed }
+  ends_run scripts r ends = record { goal = entry.input; is_open = h.are_open.0; ends = ends }
+
+  -- each answer on its record leads to a node of its goal
+  pub answers_placed : LeadToGoals before run.progress.answers
+  answers_placed = h.supported.0.placed
 
   pub rebases : (r : R) (target : Option NodeId) → HasResultNode says before after entry.state.provisional_result run.node entry.state.node run.progress r target → EndsWithNode says before after (run_of (entry, run)) (runs_of below) r target
   rebases r target (Again definite repeats is) =

@@ -54,7 +54,12 @@ module _ {D C V P F I R A T : Type 0} (G : DelegateOf D C V P F I R A T) (X : Cx
   abbrev Goal : Type 0
   Goal = OpenGoal C F I R A T
 
-  -- the newest frame can take its reply,
+  -- a frame that waits for a reply is there,
+  pub some_waits : (reply : Reply R) (goals : List Goal) (starts : ℕ) (met : Bool) → IsWaiting G X cx call reply goals starts met → 0 < length goals
+  some_waits reply [] starts met h = absurd h.waits.mirror
+  some_waits reply (s ∷ below) starts met h = omega arith
+
+  -- and can take it,
   pub can_step : (reply : Reply R) (goals : List Goal) (starts : ℕ) (met : Bool) → IsWaiting G X cx call reply goals starts met → CanStep G X cx reply goals
   can_step reply [] starts met h = absurd h.waits.mirror
   can_step reply (s ∷ below) starts met h =

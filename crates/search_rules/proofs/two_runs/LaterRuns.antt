@@ -9,7 +9,7 @@ use Rattle.global_cache.proofs.NodeLists.{AreRuns-ended}
 use Rattle.search_context.proofs.Rules.{KeepsRule}
 use Rattle.search_rules.specs.Below.{AreRuns, CacheNode, edges_of, EndedRun, entries_at, HeadUsages, heads_shape, IsDefinite, IsNodeOf, Lists, Neither, No, NodeId, Overlap, path_kind, PathKind, ProvisionalCacheEntry, Question, rank_of, RebaseReason, Reply, Request, shapes_of, stack_of, Store, OpenGoal, StoredResult, Use, Verdict, verdict_of, Verdicts, with_run, Yes}
 use Rattle.search_rules.specs.EndOfRun.{IsEndOfRun, Limited, Repeats, Stable, Unused}
-use Rattle.search_rules.specs.Justified.{AreJustified, cycles_node, frame_of, frames_of, OpenRun, verdict_shape}
+use Rattle.search_rules.specs.Justified.{AreJustified, cycles_node, frame_of, frames_of, LeadToGoals, OpenRun, verdict_shape}
 use Rattle.search_rules.specs.Runs.{EndsNewest, EndsRun, HasResultNode, run_of, runs_of}
 use Rattle.search_rules.specs.Words.{AreSettledGoals, HasEntry, HasOneOfEach, IsBehind, IsOff, IsStop, StandApart, WalksToGoals}
 use Rattle.search_rules.specs.Provisional.{AreReady}
@@ -18,7 +18,7 @@ use Rattle.search_rules.specs.declared.end_of_run.Unstable.TheVariants.{Again, A
 use Rattle.search_rules.proofs.two_runs.OffStack.{behind_leads, own_no_older, result_leads}
 use Rattle.search_rules.proofs.two_runs.OlderEntries.{all_stay, follows_itself, known_entry, same_entry, same_node}
 use Rattle.search_rules.proofs.two_runs.OneOfBoth.{HaveDistinctGoals, off_at, one_goal, one_of_both}
-use Rattle.search_rules.proofs.justified.Finishing.{ended_node, ends_run, neither_is, open_for_run, rebases}
+use Rattle.search_rules.proofs.justified.Finishing.{answers_placed, ended_node, ends_run, neither_is, open_for_run, rebases}
 use Rattle.search_rules.proofs.justified.Justified.{below_is_justified, EndsWithNode, no_answers, popped}
 use Rattle.search_rules.proofs.justified.Replies.{verdict_is}
 
@@ -53,6 +53,9 @@ module _ {X F I R A T : Type 0} (says : Verdicts R) (one_sort : (r : R) → says
   run_ended : EndsRun says scripts nodes s.1.node s.1.progress r
   run_ended = ends_run says nodes nodes s.0 s.1 below h scripts r came
 
+  run_placed : LeadToGoals nodes s.1.progress.answers
+  run_placed = answers_placed says nodes nodes s.0 s.1 below h
+
   sort : IsSorted (says.is_yes r) (says.is_no r)
   sort = sorted (says.is_yes r) (says.is_no r) (one_sort r)
 
@@ -77,7 +80,7 @@ module _ {X F I R A T : Type 0} (says : Verdicts R) (one_sort : (r : R) → says
   module _ (differ : verdict_of says earlier ≢ verdict_of says r) where
     has_node : HasResultNode says nodes after s.0.state.provisional_result s.1.node s.0.state.node s.1.progress r (Some s.1.node)
     has_node =
-        ended_node says scripts nodes s.1.node s.1.progress r run_ended sort.verdict sort.yes sort.no some_verdict s.0.state.provisional_result s.0.state.node
+        ended_node says scripts nodes s.1.node s.1.progress r run_ended run_placed sort.verdict sort.yes sort.no some_verdict s.0.state.provisional_result s.0.state.node
         (λ again. differ (let both : Some (verdict_of says earlier) ≡ Some (verdict_shape sort.verdict) = ap (option_map (verdict_of says)) (sym was) ∙ again in let one : verdict_of says earlier ≡ verdict_shape sort.verdict = cc in one ∙ shape_is))
         after refl
 
@@ -124,7 +127,7 @@ module _ {X F I R A T : Type 0} (says : Verdicts R) (one_sort : (r : R) → says
         at (Some n) there = run_ends.goals_kept n.0 s.0.input there
 
     runs_then : AreRuns says scripts after
-    runs_then = AreRuns-ended says scripts nodes s.1.node.0 ended_run (open_for_run says scripts nodes s.1.node s.1.progress r run_ended sort.verdict sort.yes sort.no) runs
+    runs_then = AreRuns-ended says scripts nodes s.1.node.0 ended_run (open_for_run says scripts nodes s.1.node s.1.progress r run_ended run_placed sort.verdict sort.yes sort.no) runs
 
     -- a node at which walks stop has the goal of its entry,
     stop_goal : (n : ℕ) (stop : Stops n) (goal : I) → IsNodeOf after n goal → stop.goal ≡ goal

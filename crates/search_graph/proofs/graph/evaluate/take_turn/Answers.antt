@@ -7,8 +7,11 @@ use Rattle.search_graph.specs.Turns.{TurnsCache}
 use Rattle.search_graph.proofs.turns.Turns.{end_leads, end_right, end_stops, noted_of, turn_has, turn_keeps, turn_leads, turn_right, turn_settles}
 use Rattle.search_graph.proofs.graph.evaluate.take_turn.Goals as goal
 
-pub advance-requires : goal.advance-requires
-advance-requires g c = c.requires.reply
+pub advance-requires-clause-reply : goal.advance-requires-clause-reply
+advance-requires-clause-reply g c = c.requires.reply
+
+pub advance-requires-clause-expected : goal.advance-requires-clause-expected
+advance-requires-clause-expected g c = c.requires.expected
 
 pub returns-in_err-given-clause-cache : goal.returns-in_err-given-clause-cache
 returns-in_err-given-clause-cache g c = turn_keeps g.D.Cx.Input.PartialEq.eq c.args.evaluation.now c.args.cache.now c.advance.new.cache c.advance.new.cache c.requires.drafts c.advance.ensures.cache.keeps c.advance.ensures.cache.changes (λ at lower. refl) refl

@@ -1,6 +1,6 @@
 use Rattle.std.proofs.Common.{arith, [], ◌≡◌, ◌∙◌, length, false, None, sym, subst, ap}
 use Rattle.search_context.proofs.Builders.{builder_goes_on}
-use Rattle.search_graph.specs.Below.{fates_of, IsFated, MovesFates, stored_at, AreFrom, Begin, Finished, Step, Awaits, Call, HasReply, IsCaused, IsRightFor, LeadsTo, OutOfMemory, runs_of, StopsWith, work_left}
+use Rattle.search_graph.specs.Below.{fates_of, HaveExpected, IsFated, MovesFates, stored_at, AreFrom, Begin, Finished, Step, Awaits, Call, HasReply, IsCaused, IsRightFor, LeadsTo, OutOfMemory, runs_of, StopsWith, work_left}
 use Rattle.search_rules.proofs.records.EarlierNodes.{first_there, stay_pushed}
 use Rattle.search_moves.proofs.results.Keeping.{appending_keeps}
 use Rattle.search_graph.proofs.turns.Beginning.{begins_right, begins_waiting, never_pushed, new_right}
@@ -62,7 +62,11 @@ pub take_turn-requires-clause-reply : goal.take_turn-requires-clause-reply
 take_turn-requires-clause-reply g c =
     let fits = c.requires.new.fits in
     subst (λ cx. HasReply g.D.Delegate g.D.Cx.Cx g.D.Cx.Input.PartialEq.eq cx c.loop-next.received c.loop-next.cache c.loop-next.evaluation (g.D.Delegate.starts c.loop-next.inspect)) (sym c.loop-next.invariant.keeps.context)
-    (record { call = (call_of c.args.input c.args.evaluation.now.root_depth.0 (g.D.Delegate.starts c.args.inspect.now) c.args.evaluation.now.limits_met false false fits); waiting = (c.loop-next.invariant.waiting _ (some_call_begins g.D.Delegate g.D.Cx.Cx c.args.cache.now.cx g.D.Cx.Input.PartialEq.eq c.args.input c.args.evaluation.now.root_depth.0 (g.D.Delegate.starts c.args.inspect.now) c.args.evaluation.now.limits_met fits c.args.cache.now.results)).waiting; right = c.loop-next.invariant.right; expected = c.loop-next.invariant.fates.expected })
+    (record { call = (call_of c.args.input c.args.evaluation.now.root_depth.0 (g.D.Delegate.starts c.args.inspect.now) c.args.evaluation.now.limits_met false false fits); waiting = (c.loop-next.invariant.waiting _ (some_call_begins g.D.Delegate g.D.Cx.Cx c.args.cache.now.cx g.D.Cx.Input.PartialEq.eq c.args.input c.args.evaluation.now.root_depth.0 (g.D.Delegate.starts c.args.inspect.now) c.args.evaluation.now.limits_met fits c.args.cache.now.results)).waiting; right = c.loop-next.invariant.right })
+
+pub take_turn-requires-clause-expected : goal.take_turn-requires-clause-expected
+take_turn-requires-clause-expected g c =
+    subst (λ cx. HaveExpected (g.D.Delegate.scoped cx) (g.D.Delegate.script cx) g.D.Cx.Input.PartialEq.eq c.loop-next.cache.results (fates_of c.loop-next.evaluation.goals)) (sym c.loop-next.invariant.keeps.context) c.loop-next.invariant.fates.expected
 
 pub take_turn-requires-clause-drafts : goal.take_turn-requires-clause-drafts
 take_turn-requires-clause-drafts g c = c.loop-next.invariant.drafts

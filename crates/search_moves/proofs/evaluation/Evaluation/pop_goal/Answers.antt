@@ -13,15 +13,19 @@ use Rattle.search_rules.proofs.rebasing.Lists.{entries_rebased, highest_stays}
 use Rattle.search_rules.proofs.moves.DoneGoals.{given_free, given_justified, given_leaves, gives_node, newest_stored}
 use Rattle.search_rules.proofs.justified.Finishing.{neither_is, rebases}
 use Rattle.search_rules.proofs.moves.Questions.{if_err_and}
-use Rattle.search_rules.proofs.moves.FinishedRuns.{headless_graph, required_fits, taken_run_ends}
+use Rattle.search_rules.proofs.moves.FinishedRuns.{headless_graph, required_fits, taken_run_ends, taken_run_placed}
 use Rattle.open_goals.specs.declared.goals.Fate.TheVariants as becomes
 use Rattle.search_rules.proofs.moves.Fates.{newest_changes}
 use Rattle.search_rules.specs.Fates.{Untouched}
 use Rattle.search_moves.proofs.evaluation.Evaluation.pop_goal.Goals as goal
 
-pub result_node-requires : goal.result_node-requires
-result_node-requires g c = λ definite.
+pub result_node-requires-clause-ends : goal.result_node-requires-clause-ends
+result_node-requires-clause-ends g c = λ definite.
     taken_run_ends (verdicts g.D.Cx.Cx) c.args.cache.now.nodes c.args.cache.now.nodes c.args.self.now.goals c.pop-entry.result.entry c.pop-entry.result.run c.pop-entry.new.self c.pop-entry.ensures (g.D.Delegate.script c.args.cache.now.cx) c.args.outcome c.requires.may.right.justified c.requires.may.ends definite
+
+pub result_node-requires-clause-placed : goal.result_node-requires-clause-placed
+result_node-requires-clause-placed g c = λ definite.
+    taken_run_placed (verdicts g.D.Cx.Cx) c.args.cache.now.nodes c.args.cache.now.nodes c.args.self.now.goals c.pop-entry.result.entry c.pop-entry.result.run c.pop-entry.new.self c.pop-entry.ensures c.requires.may.right.justified
 
 pub give_answer-requires : goal.give_answer-requires
 give_answer-requires g c = record {

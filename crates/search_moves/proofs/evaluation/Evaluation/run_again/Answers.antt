@@ -2,14 +2,19 @@ use Rattle.std.proofs.Common.{arith, ◌-◌, length, ◌++◌, ◌∷◌, [], �
 use Rattle.search_moves.specs.Below.{open_node, rerun_with, change_newest, verdicts, AreFree, AreJustified, runs_of, AreReady}
 use Rattle.global_cache.proofs.Finished.{KeepsFinished-nodes, KeepsFinished-then}
 use Rattle.search_rules.proofs.entries.Reruns.{cleared_at, rerun_ready}
-use Rattle.search_rules.proofs.moves.FinishedRuns.{earlier_taken, taken_from, taken_ends, reran, reran_with_node, rerun_free, rerun_justified}
+use Rattle.search_rules.proofs.moves.FinishedRuns.{earlier_taken, taken_from, taken_ends, taken_placed, reran, reran_with_node, rerun_free, rerun_justified}
 use Rattle.search_rules.proofs.records.EarlierNodes.{earlier_of_nodes, earlier_then, first_there, rerun_stays}
 use Rattle.search_moves.proofs.evaluation.Evaluation.run_again.Goals as goal
 
-pub result_node-requires : goal.result_node-requires
-result_node-requires g c = λ definite.
+pub result_node-requires-clause-ends : goal.result_node-requires-clause-ends
+result_node-requires-clause-ends g c = λ definite.
     taken_ends (verdicts g.D.Cx.Cx) (g.D.Delegate.script c.args.cache.now.cx) c.args.cache.now.nodes c.args.self.now.goals c.last_entry-entry.result.now c.last_run.result.now c.take_progress-progress.result c.args.outcome
     (taken_from c.args.self.now.goals c.take_progress-progress.new.self c.last_entry-entry.result.now c.last_run.result.now c.take_progress-progress.result c.take_progress-progress.ensures.left c.take_progress-progress.ensures.taken c.last_entry-entry.ensures c.last_run.ensures) c.requires.right.justified c.requires.ends
+
+pub result_node-requires-clause-placed : goal.result_node-requires-clause-placed
+result_node-requires-clause-placed g c = λ definite.
+    taken_placed (verdicts g.D.Cx.Cx) c.args.cache.now.nodes c.args.self.now.goals c.last_entry-entry.result.now c.last_run.result.now c.take_progress-progress.result
+    (taken_from c.args.self.now.goals c.take_progress-progress.new.self c.last_entry-entry.result.now c.last_run.result.now c.take_progress-progress.result c.take_progress-progress.ensures.left c.take_progress-progress.ensures.taken c.last_entry-entry.ensures c.last_run.ensures) c.requires.right.justified
 
 pub returns-in_err-own_node-clause-kept : goal.returns-in_err-own_node-clause-kept
 returns-in_err-own_node-clause-kept g c = KeepsFinished-then _ _ _ c.in_ok-result_node.ensures.kept (KeepsFinished-nodes _ _ c.open_node.ensures.kept)
