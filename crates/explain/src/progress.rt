@@ -1,6 +1,6 @@
 //! Progress on standard error.
 
-use shown_graphs::Reporter;
+use shown_graphs::Progress;
 use std::io::{IsTerminal, Write};
 use std::time::Instant;
 
@@ -30,7 +30,7 @@ impl<'a> OnTerminal<'a> {
     }
 }
 
-impl Reporter for OnTerminal<'_> {
+impl Progress for OnTerminal<'_> {
     fn note(&mut self, done: usize, runs: u64) {
         let Some(start) = self.start else {
             return;

@@ -19,7 +19,7 @@ use Rattle.search_context.specs.Run.{Asked, progress_after, progress_with, Progr
 use Rattle.search_context.specs.Valid.{goal_node_of, goal_nodes_of, IsRunOfSort, IsValid}
 use Rattle.search_context.specs.declared.context.Edge.{Edge}
 use Rattle.shown_graphs.proofs.Lists.{AllByRecursion-append}
-use Rattle.shown_graphs.specs.Checked.{AreReached, ShowsAnswer, IsShownGraph}
+use Rattle.shown_graphs.specs.Checked.{AreReached, IsChecked, IsShownGraph}
 use Rattle.cycle_heads.specs.declared.path.PathKind.{PathKind}
 use Rattle.cycle_heads.specs.declared.path.PathKind.TheVariants.{Coinductive, Inductive}
 use Rattle.shown_graphs.specs.Below.{candidates_of, Goal, Maybe, names_of, No, Node, number_of, Outcome, Overflow, questions_of, Reply, Request, Rules, Verdicts, Yes}
@@ -224,17 +224,17 @@ module _ (says : Verdicts Outcome) (scripts : Goal → List (Reply Outcome) → 
   shown_named goal Maybe nodes named shown = absurd shown.is_valid
   shown_named goal Overflow nodes named shown = absurd shown.is_valid
 
-  claim_named : (goal : Goal) (came : Came) → IsNamed (names_of rules) goal → ShowsAnswer says scripts goal came → AllByRecursion (IsClaim (names_of rules)) (claims_of goal came)
+  claim_named : (goal : Goal) (came : Came) → IsNamed (names_of rules) goal → IsChecked says scripts goal came → AllByRecursion (IsClaim (names_of rules)) (claims_of goal came)
   claim_named goal (Graph outcome nodes) named checked = ((named, shown_named goal outcome nodes.items named checked), tt)
   claim_named goal (NoGraph outcome reason) named checked = ((named, λ k d below. absurd (omega arith)), tt)
   claim_named goal (Unchecked outcome) named checked = tt
   claim_named goal (Fault fault) named checked = tt
 
-  all_claims_named : (asked : List (Goal × Came)) → AllByRecursion (IsNamed (names_of rules)) (map (λ a. a.0) asked) → All (λ a. ShowsAnswer says scripts a.0 a.1) asked → AllByRecursion (IsClaim (names_of rules)) (flat_map (λ a. claims_of a.0 a.1) asked)
+  all_claims_named : (asked : List (Goal × Came)) → AllByRecursion (IsNamed (names_of rules)) (map (λ a. a.0) asked) → All (λ a. IsChecked says scripts a.0 a.1) asked → AllByRecursion (IsClaim (names_of rules)) (flat_map (λ a. claims_of a.0 a.1) asked)
   all_claims_named [] named checked = tt
   all_claims_named (a ∷ asked) named checked =
-      AllByRecursion-append (IsClaim (names_of rules)) (claims_of a.0 a.1) (flat_map (λ b. claims_of b.0 b.1) asked) (claim_named a.0 a.1 named.0 (All-head (λ b. ShowsAnswer says scripts b.0 b.1) a asked checked))
-      (all_claims_named asked named.1 (All-tail (λ b. ShowsAnswer says scripts b.0 b.1) a asked checked))
+      AllByRecursion-append (IsClaim (names_of rules)) (claims_of a.0 a.1) (flat_map (λ b. claims_of b.0 b.1) asked) (claim_named a.0 a.1 named.0 (All-head (λ b. IsChecked says scripts b.0 b.1) a asked checked))
+      (all_claims_named asked named.1 (All-tail (λ b. IsChecked says scripts b.0 b.1) a asked checked))
 
   questions_named : (questions : List (ℕ × Goal)) (written : List (ℕ × List ℕ)) → AllZip (IsToBeAnswered (names_of rules)) questions written → AllByRecursion (IsNamed (names_of rules)) (map (λ q. q.1) questions)
   questions_named [] written h = tt

@@ -2,7 +2,7 @@
 use Rattle.std.proofs.Common.{◌≡◌, ◌∙◌, ℕ, zero, suc, ◌+◌, List, [], ◌∷◌, ◌++◌, length, map, fold, Option, Some, None, option_map, option_and_then, ap, sym, refl, arith, nat_eq, eq-eqb, ◌&&◌, if◌then◌else◌, subst}
 use Rattle.std.proofs.lemmas.List.{append-nil}
 use Rattle.std.proofs.lemmas.List.Sums.{fold-append}
-use Rattle.shown_graphs.specs.Plan.{all_read, AreWhole, Expects, IsReplayed, level_of, line_read, lines_read, next_line, opened, pending_of, node_place, unread}
+use Rattle.shown_graphs.specs.Plan.{all_read, AreWhole, Expects, IsReplayed, level_of, line_read, lines_read, next_line, opened, pending_of, place_of, unread}
 use Rattle.search_context.specs.declared.context.Edge.{Edge}
 use Rattle.shown_graphs.specs.Below.{Goal, Node, Outcome}
 use Rattle.shown_graphs.specs.declared.plan.Line.{Line}
@@ -30,14 +30,14 @@ module _ (nodes : List (Node Goal Outcome)) where
       [ None ↦ refl | Some left ↦ lines_read-push lines line left ]
 
   -- the line of the target that comes next is read
-  line_read-expected : (line : Line) (place : ℕ) (targets : List ℕ) (pending : List (List ℕ)) (count : ℕ) → node_place line ≡ place → level_of line ≡ length pending →
+  line_read-expected : (line : Line) (place : ℕ) (targets : List ℕ) (pending : List (List ℕ)) (count : ℕ) → place_of line ≡ place → level_of line ≡ length pending →
       line_read nodes line (all_read count ++ (place ∷ targets) ∷ pending) ≡ Some (opened nodes line ++ targets ∷ pending)
   line_read-expected line place targets pending count same level =
       ap (option_map (λ left. opened nodes line ++ left))
-      (next_line-all_read count (node_place line) (level_of line) ((place ∷ targets) ∷ pending)
-      ∙ ap (λ b. if b then Some (targets ∷ pending) else None) (ap (λ b. b && nat_eq (level_of line) (length pending)) (eq-eqb (node_place line) place same) ∙ eq-eqb (level_of line) (length pending) level))
+      (next_line-all_read count (place_of line) (level_of line) ((place ∷ targets) ∷ pending)
+      ∙ ap (λ b. if b then Some (targets ∷ pending) else None) (ap (λ b. b && nat_eq (level_of line) (length pending)) (eq-eqb (place_of line) place same) ∙ eq-eqb (level_of line) (length pending) level))
 
-  pub line_pushed : (lines : List Line) (line : Line) (place : ℕ) (pending : List (List ℕ)) → Expects nodes lines place pending → node_place line ≡ place → level_of line + 1 ≡ length pending →
+  pub line_pushed : (lines : List Line) (line : Line) (place : ℕ) (pending : List (List ℕ)) → Expects nodes lines place pending → place_of line ≡ place → level_of line + 1 ≡ length pending →
       IsReplayed nodes (lines ++ line ∷ []) (opened nodes line ++ pending)
   line_pushed lines line place [] expected same level = absurd (omega arith)
   line_pushed lines line place (targets ∷ pending) expected same level =
@@ -57,7 +57,7 @@ length-pending_of opens = length-fold opens ([] ∷ []) ∙ omega arith
 
 -- the line that is pushed is the expected one
 pub line_met : (nodes : List (Node Goal Outcome)) (lines new : List Line) (line : Line) (place : ℕ) (opens more : List Open) → Expects nodes lines place (pending_of opens) →
-    node_place line ≡ place → level_of line ≡ length opens → new ≡ lines ++ line ∷ [] → pending_of more ≡ opened nodes line ++ pending_of opens → IsReplayed nodes new (pending_of more)
+    place_of line ≡ place → level_of line ≡ length opens → new ≡ lines ++ line ∷ [] → pending_of more ≡ opened nodes line ++ pending_of opens → IsReplayed nodes new (pending_of more)
 line_met nodes lines new line place opens more expected same level pushed pending =
     subst (λ ls. IsReplayed nodes ls (pending_of more)) (sym pushed) (subst (λ ts. IsReplayed nodes (lines ++ line ∷ []) ts) (sym pending)
     (line_pushed nodes lines line place (pending_of opens) expected same (ap (λ n. n + 1) level ∙ sym (length-pending_of opens))))

@@ -26,10 +26,10 @@ AreShownOnce lines = IsDistinct nat_eq (places_shown lines)
 -- ---- lines that are read back
 
 -- the node that a line is about, and how deep the line stands
-abbrev pub node_place : Line → ℕ
-node_place (Shown place level number) = place
-node_place (Again place level number closes) = place
-node_place (Cut place level) = place
+abbrev pub place_of : Line → ℕ
+place_of (Shown place level number) = place
+place_of (Again place level number closes) = place
+place_of (Cut place level) = place
 
 abbrev pub level_of : Line → ℕ
 level_of (Shown place level number) = level
@@ -43,7 +43,7 @@ is_cut (Again place level number closes) = false
 is_cut (Cut place level) = true
 
 abbrev pub is_found : List ℕ → Line → Bool
-is_found shown line = is_cut line || list_any (nat_eq (node_place line)) shown
+is_found shown line = is_cut line || list_any (nat_eq (place_of line)) shown
 
 -- each line that does not leave its node out is about one that is shown
 abbrev pub AreFound : List Line → Type 0
@@ -68,7 +68,7 @@ module _ (nodes : List (Node Goal Outcome)) where
   opened (Cut place level) = []
 
   abbrev pub line_read : Line → List (List ℕ) → Option (List (List ℕ))
-  line_read line pending = option_map (λ left. opened line ++ left) (next_line (node_place line) (level_of line) pending)
+  line_read line pending = option_map (λ left. opened line ++ left) (next_line (place_of line) (level_of line) pending)
 
   abbrev pub lines_read : List Line → List (List ℕ) → Option (List (List ℕ))
   lines_read [] pending = Some pending
@@ -90,15 +90,15 @@ AreWhole nodes lines = (count : ℕ) × (lines_read nodes lines unread ≡ Some 
 -- ---- the walk
 
 -- the node was seen: its lines are begun, or at their end
-abbrev pub IsSeen : List Mark → ℕ → ℕ → Type 0
-IsSeen marks place number = (slice_get marks place ≡ Some (marked.Open number)) ⊎ (slice_get marks place ≡ Some (marked.Done number))
+abbrev pub IsMarked : List Mark → ℕ → ℕ → Type 0
+IsMarked marks place number = (slice_get marks place ≡ Some (marked.Open number)) ⊎ (slice_get marks place ≡ Some (marked.Done number))
 
 -- what holds of a walk between two lines: exactly the nodes that were seen are shown
-pub record IsListing (lines : List Line) (marks : List Mark) : Type 0 where
+pub record IsWalk (lines : List Line) (marks : List Mark) : Type 0 where
   pub once : AreShownOnce lines
   pub found : AreFound lines
   pub unseen : (place : ℕ) → slice_get marks place ≡ Some marked.Unseen → list_any (nat_eq place) (places_shown lines) ≡ false
-  pub seen : (place number : ℕ) → IsSeen marks place number → list_any (nat_eq place) (places_shown lines) ≡ true
+  pub seen : (place number : ℕ) → IsMarked marks place number → list_any (nat_eq place) (places_shown lines) ≡ true
 
 -- the targets that are to come below the open nodes
 abbrev pub pending_of : List Open → List (List ℕ)

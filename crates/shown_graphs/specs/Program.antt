@@ -38,7 +38,7 @@ module _ (known old new : Option (List ℕ)) where
 module _ {D V P F A T : Type 0} (G : DelegateOf D (Table (Bor Rules)) V P F Goal Outcome A T) (X : CxOf (Table (Bor Rules)) Goal Outcome A T) (known old new : Option (List ℕ)) where
   -- The text, which is the known one where one is known, makes a table, and all its questions were asked. As data a page is
   -- written that has the same rules and the claims of their answers, in order.
-  pub record IsPageShown (form : Form) (all_fine : Bool) : Type 0 where
+  pub record IsShown (form : Form) (all_fine : Bool) : Type 0 where
     pub text : List ℕ
     pub is_known : IfSome known (λ bytes. text ≡ bytes)
     pub table : Table (Bor Rules)
@@ -48,7 +48,7 @@ module _ {D V P F A T : Type 0} (G : DelegateOf D (Table (Bor Rules)) V P F Goal
     pub is_written : form ≡ Data → IsWrittenPage table.lender.now claims old new
 
   -- The text is a page of data, and all its claims were judged.
-  pub record IsPageChecked (none_refused : Bool) : Type 0 where
+  pub record IsChecked (none_refused : Bool) : Type 0 where
     pub text : List ℕ
     pub is_known : IfSome known (λ bytes. text ≡ bytes)
     pub table : Table (Bor Rules)
@@ -57,7 +57,7 @@ module _ {D V P F A T : Type 0} (G : DelegateOf D (Table (Bor Rules)) V P F Goal
     pub are_judged : AreJudged (verdicts X) (G.script table) table.lender.now claims none_refused old new
 
 -- What a check finds are these rules and these claims, none of which it refuses.
-pub record FindsSame (rules : Rules) (claims : List PlainClaim) (found : Rules) (read : List PlainClaim) (none_refused : Bool) : Type 0 where
+pub record Finds (rules : Rules) (claims : List PlainClaim) (found : Rules) (read : List PlainClaim) (none_refused : Bool) : Type 0 where
   pub same_rules : AreSameRules rules found
   pub same_claims : read ≡ claims
   pub accepted : none_refused ≡ true
@@ -66,5 +66,5 @@ module _ {D V P F A T : Type 0} (G : DelegateOf D (Table (Bor Rules)) V P F Goal
   -- The text is a page, so it is never bad data, and whatever checks it finds these rules and claims.
   pub record IsReadBack (rules : Rules) (claims : List PlainClaim) (text : List ℕ) : Type 0 where
     pub is_page : IsPageText text
-    pub finds : (old new : Option (List ℕ)) (none_refused : Bool) (checked : IsPageChecked G X (Some text) old new none_refused) →
-        FindsSame rules claims checked.table.lender.now (map plain_claim checked.claims) none_refused
+    pub finds : (old new : Option (List ℕ)) (none_refused : Bool) (checked : IsChecked G X (Some text) old new none_refused) →
+        Finds rules claims checked.table.lender.now (map plain_claim checked.claims) none_refused

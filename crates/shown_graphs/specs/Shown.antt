@@ -7,7 +7,7 @@ use Rattle.json.specs.Lex.{tokens}
 use Rattle.json.specs.Token.{Token}
 use Rattle.json.specs.Written.{Written}
 use Rattle.shown_graphs.specs.Below.{Goal, names_of, Outcome, questions_of, Reads, Reply, Request, Rules, Verdicts}
-use Rattle.shown_graphs.specs.Checked.{ShowsAnswer}
+use Rattle.shown_graphs.specs.Checked.{IsChecked}
 use Rattle.shown_graphs.specs.Data.{claim_tokens, IsClaim, list_tokens, plain_node, PlainClaim}
 use Rattle.shown_graphs.specs.Page.{begun_page, IsPage, text_of}
 use Rattle.shown_graphs.specs.declared.answer.Came.{Came}
@@ -33,7 +33,7 @@ claims_of goal (Fault fault) = []
 pub record AreAsked (says : Verdicts Outcome) (scripts : Goal → List (Reply Outcome) → Request Goal Outcome) (questions : List (ℕ × Goal)) (claims : List PlainClaim) (all_fine : Bool) : Type 0 where
   pub asked : List (Goal × Came)
   pub are_questions : map (λ a. a.0) asked ≡ map (λ q. q.1) questions
-  pub are_checked : All (λ a. ShowsAnswer says scripts a.0 a.1) asked
+  pub are_checked : All (λ a. IsChecked says scripts a.0 a.1) asked
   pub are_claims : claims ≡ flat_map (λ a. claims_of a.0 a.1) asked
   pub fine : all_fine ≡ list_all (λ a. is_fine a.1) asked
 

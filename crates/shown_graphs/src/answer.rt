@@ -1,9 +1,9 @@
 //! One question: it is asked, and the graph of a definite answer is checked before anything is shown of it.
 ghost use Rattle.std.specs.Prelude.{◌↔◌, IfOk, IsTrue};
 ghost use Rattle.shown_graphs.specs.Below.{IsValidFor, verdicts};
-ghost use Rattle.shown_graphs.specs.Checked.{ShowsAnswer, ShowsNoGraph, verdict_of};
+ghost use Rattle.shown_graphs.specs.Checked.{IsChecked, ShowsNoGraph, verdict_of};
 
-use crate::progress::Reporter;
+use crate::progress::Progress;
 use crate::watch::{Reason, Watcher};
 use crate::watching::Watching;
 use delegate_parts::Builder;
@@ -61,8 +61,8 @@ pub(crate) fn ask<X, D, P>(
 where
     X: Cx<Input = Goal, Result = Outcome>,
     D: Delegate<Cx = X, ProofTreeBuilder = Builder>,
-    P: Reporter,
-    ensures { ShowsAnswer (verdicts X.Cx) (D.script cx) goal result }
+    P: Progress,
+    ensures { IsChecked (verdicts X.Cx) (D.script cx) goal result }
 {
     let mut graph = SearchGraph::<Watching<X, D, P>>::new(alloc, depth);
     let came = match graph.evaluate_goal(cache, goal, PathKind::Inductive, watcher) {
@@ -87,8 +87,8 @@ fn checked<X, D, P>(
 where
     X: Cx<Input = Goal, Result = Outcome>,
     D: Delegate<Cx = X, ProofTreeBuilder = Builder>,
-    P: Reporter,
-    ensures { IfOk result (λ came. ShowsAnswer (verdicts X.Cx) (D.script cx) goal came) }
+    P: Progress,
+    ensures { IfOk result (λ came. IsChecked (verdicts X.Cx) (D.script cx) goal came) }
 {
     let outcome = answer.result;
     let Some(node) = answer.node else {
@@ -110,7 +110,7 @@ where
 }
 
 // What the question came to where no graph comes with its outcome.
-fn without_graph<P: Reporter>(watcher: &mut Watcher<P>, outcome: Outcome) -> Came
+fn without_graph<P: Progress>(watcher: &mut Watcher<P>, outcome: Outcome) -> Came
     ensures { ShowsNoGraph result }
 {
     match outcome {

@@ -35,4 +35,4 @@ mod words;
 
 pub use page::Form;
 pub use program::{check, explain};
-pub use progress::{NoReporter, Reporter};
+pub use progress::{NoProgress, Progress};

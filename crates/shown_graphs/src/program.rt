@@ -2,14 +2,14 @@
 ghost use Rattle.std.specs.Prelude.{◌≡◌, ◌≤◌, ◌==◌, ℕ, IfSome, IsSomeAnd};
 ghost use Rattle.std.specs.Io.KnownBytes.{Keeps};
 ghost use Rattle.shown_graphs.specs.Below.{IsFirstBadLine};
-ghost use Rattle.shown_graphs.specs.Program.{IsPageChecked, IsPageText, IsPageShown};
+ghost use Rattle.shown_graphs.specs.Program.{IsChecked, IsPageText, IsShown};
 ghost use Rattle.shown_graphs.specs.Stop.{status_after};
 
 mod checking;
 mod showing;
 
 use crate::page::Form;
-use crate::progress::Reporter;
+use crate::progress::Progress;
 use checking::check_input;
 use line_texts::InputFault;
 use rule_tables::delegate::Table;
@@ -122,7 +122,7 @@ impl From<ReadFault> for Stop {
 /// a malformed line: then nothing is shown. 3 where reading or writing failed, and 4 where there was no memory for the input,
 /// the table or what is shown: then the program ends there. For 2, 3 and 4 the reason stands on the second writer, and a
 /// failure to write it changes nothing.
-pub fn explain<R: Read + Drop, W: Write, E: Write + Drop, P: Reporter>(
+pub fn explain<R: Read + Drop, W: Write, E: Write + Drop, P: Progress>(
     alloc: Global,
     form: Form,
     mut input: R,
@@ -134,7 +134,7 @@ pub fn explain<R: Read + Drop, W: Write, E: Write + Drop, P: Reporter>(
 
     // All questions of the text were asked in turn, and as data a page with the same rules and their answers is what was
     // written; 0 says that none met a fault and no graph was refused.
-    ensures told { result ≤ 1 → IsPageShown ⟦<TableDelegate<'static, 8, 1> as Delegate>⟧
+    ensures told { result ≤ 1 → IsShown ⟦<TableDelegate<'static, 8, 1> as Delegate>⟧
         ⟦<Table<&'static Rules> as Cx>⟧ (R.remaining input)
         (W.contents out.old) (W.contents out.new) form (result == 0) }
 
@@ -153,7 +153,7 @@ pub fn explain<R: Read + Drop, W: Write, E: Write + Drop, P: Reporter>(
 ///
 /// The answer is the exit status: 0 where none was refused, and 1 where one was. 2 for data of another form: the place stands
 /// on the second writer, and nothing is told. 3 and 4 as for `explain`.
-pub fn check<R: Read + Drop, W: Write, E: Write + Drop, P: Reporter>(
+pub fn check<R: Read + Drop, W: Write, E: Write + Drop, P: Progress>(
     alloc: Global,
     mut input: R,
     out: &mut W,
@@ -164,7 +164,7 @@ pub fn check<R: Read + Drop, W: Write, E: Write + Drop, P: Reporter>(
 
     // All claims of the data were judged as is right, and their lines are what was written; 0 says that none was
     // refused.
-    ensures told { result ≤ 1 → IsPageChecked ⟦<TableDelegate<'static, 8, 1> as Delegate>⟧
+    ensures told { result ≤ 1 → IsChecked ⟦<TableDelegate<'static, 8, 1> as Delegate>⟧
         ⟦<Table<&'static Rules> as Cx>⟧ (R.remaining input)
         (W.contents out.old) (W.contents out.new) (result == 0) }
 

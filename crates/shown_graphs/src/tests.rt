@@ -2,7 +2,7 @@
 
 use crate::page::Form;
 use crate::program::{check, explain};
-use crate::progress::NoReporter;
+use crate::progress::NoProgress;
 use std::process::Abort;
 use std::test::Fail;
 
@@ -21,7 +21,7 @@ fn expect_shown(
         input.as_bytes(),
         &mut out,
         &mut err,
-        NoReporter,
+        NoProgress,
     );
     assert_eq!(rt; std::str::from_utf8(out.as_slice()), Ok(wanted));
     assert_eq!(rt; err.len(), 0);
@@ -44,7 +44,7 @@ fn expect_checked(
         data.as_bytes(),
         &mut written,
         &mut told,
-        NoReporter,
+        NoProgress,
     );
     assert_eq!(rt; std::str::from_utf8(written.as_slice()), Ok(out));
     assert_eq!(rt; std::str::from_utf8(told.as_slice()), Ok(err));

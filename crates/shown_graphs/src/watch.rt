@@ -6,7 +6,7 @@ ghost use Rattle.std.specs.Prelude.{◌≡◌};
 
 mod run;
 
-use crate::progress::Reporter;
+use crate::progress::Progress;
 use delegate_parts::{Builder, Outcome};
 use rule_tables::Goal;
 use run::Question;
@@ -79,7 +79,7 @@ pub(crate) struct Watcher<P> {
     before: u64,
 }
 
-impl<P: Reporter> Watcher<P> {
+impl<P: Progress> Watcher<P> {
     ghost use Rattle.shown_graphs.specs.Watch.{inner_of};
 
     /// A watcher that has seen nothing.

@@ -3,7 +3,7 @@ ghost use Rattle.std.specs.Prelude.{◌≡◌, ◌≤◌, ◌<◌, ◌+◌, ℕ,
 ghost use Rattle.search_context.specs.Delegate.{CanTake, CountsOne, Steps};
 ghost use Rattle.shown_graphs.specs.Watch.{inner_of};
 
-use crate::progress::Reporter;
+use crate::progress::Progress;
 use crate::watch::{RunWatch, Watcher};
 use delegate_parts::Builder;
 use rule_tables::{Goal, Outcome};
@@ -30,7 +30,7 @@ impl<X, D, P> Delegate for Watching<X, D, P>
 where
     X: Cx<Input = Goal, Result = Outcome>,
     D: Delegate<Cx = X, ProofTreeBuilder = Builder>,
-    P: Reporter,
+    P: Progress,
 {
     type Cx = X;
 

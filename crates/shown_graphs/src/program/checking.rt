@@ -2,12 +2,12 @@
 ghost use Rattle.std.specs.Prelude.{◌≡◌, ◌⊎◌, IfErr, IfOk, OnOk};
 ghost use Rattle.std.specs.Io.KnownBytes.{Appends};
 ghost use Rattle.shown_graphs.specs.Below.{verdicts};
-ghost use Rattle.shown_graphs.specs.Program.{EndsChecking, IsPageChecked};
+ghost use Rattle.shown_graphs.specs.Program.{EndsChecking, IsChecked};
 ghost use Rattle.shown_graphs.specs.Told.{AreJudged, IsJudged, line_said};
 
 use crate::answer::accepts;
 use crate::program::Stop;
-use crate::progress::Reporter;
+use crate::progress::Progress;
 use crate::reading::{Claim, Claims, Source, read_claims};
 use delegate_parts::Builder;
 use json::{Reader, Scratch};
@@ -20,13 +20,13 @@ use std::io::{Read, Write};
 use std::{fmt, io};
 
 /// Whether no graph was refused.
-pub(super) fn check_input<R: Read, W: Write, P: Reporter>(
+pub(super) fn check_input<R: Read, W: Write, P: Progress>(
     alloc: Global,
     input: &mut R,
     out: &mut W,
     progress: P,
 ) -> Result<bool, Stop>
-    ensures told { IfOk result (IsPageChecked ⟦<TableDelegate<'static, 8, 1> as Delegate>⟧
+    ensures told { IfOk result (IsChecked ⟦<TableDelegate<'static, 8, 1> as Delegate>⟧
         ⟦<Table<&'static Rules> as Cx>⟧ (R.remaining input.old) (W.contents out.old) (W.contents out.new)) }
     ensures ended { IfErr result (EndsChecking (R.remaining input.old)
         (W.contents out.old) (W.contents out.new)) }
@@ -61,7 +61,7 @@ where
     X: Cx<Input = Goal, Result = Outcome>,
     D: Delegate<Cx = X, ProofTreeBuilder = Builder>,
     W: Write,
-    P: Reporter,
+    P: Progress,
     ensures judged { IfOk result (λ none_refused. AreJudged (verdicts X.Cx) (D.script cx) rules.now
         claims.items none_refused (W.contents out.old) (W.contents out.new)) }
     ensures fault { IfErr result (λ stop. (stop ≡ Stop.InputOrOutput) ⊎ (stop ≡ Stop.Memory)) }

@@ -1,7 +1,7 @@
 //! How the questions of a text are shown.
 ghost use Rattle.std.specs.Prelude.{◌≡◌, ◌⊎◌, IfErr, IfOk};
 ghost use Rattle.shown_graphs.specs.Below.{verdicts};
-ghost use Rattle.shown_graphs.specs.Program.{EndsShowing, IsPageShown};
+ghost use Rattle.shown_graphs.specs.Program.{EndsShowing, IsShown};
 ghost use Rattle.shown_graphs.specs.Shown.{AreShown};
 
 #[cfg(test)]
@@ -10,7 +10,7 @@ mod tests;
 use crate::answer::ask;
 use crate::page::{Form, Page};
 use crate::program::Stop;
-use crate::progress::Reporter;
+use crate::progress::Progress;
 use crate::watch::Watcher;
 use crate::watching::Watching;
 use delegate_parts::Builder;
@@ -23,14 +23,14 @@ use std::alloc::Global;
 use std::io::{Read, Write};
 
 /// Whether each question was answered, and no graph refused.
-pub(super) fn show_input<R: Read, W: Write, P: Reporter>(
+pub(super) fn show_input<R: Read, W: Write, P: Progress>(
     alloc: Global,
     form: Form,
     input: &mut R,
     out: &mut W,
     progress: P,
 ) -> Result<bool, Stop>
-    ensures told { IfOk result (IsPageShown ⟦<TableDelegate<'static, 8, 1> as Delegate>⟧
+    ensures told { IfOk result (IsShown ⟦<TableDelegate<'static, 8, 1> as Delegate>⟧
         ⟦<Table<&'static Rules> as Cx>⟧ (R.remaining input.old)
         (W.contents out.old) (W.contents out.new) form) }
     ensures ended { IfErr result (EndsShowing (R.remaining input.old)
@@ -62,7 +62,7 @@ where
     X: Cx<Input = Goal, Result = Outcome>,
     D: Delegate<Cx = X, ProofTreeBuilder = Builder>,
     W: Write,
-    P: Reporter,
+    P: Progress,
     ensures shown { IfOk result (AreShown (verdicts X.Cx) (D.script cx) rules.now page
         (W.contents out.old) (W.contents out.new)) }
     ensures fault { IfErr result (λ stop. (stop ≡ Stop.InputOrOutput) ⊎ (stop ≡ Stop.Memory)) }

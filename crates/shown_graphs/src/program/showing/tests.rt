@@ -1,7 +1,7 @@
 //! Where answers that are neither yes nor no are said to come from.
 
 use super::*;
-use crate::progress::NoReporter;
+use crate::progress::NoProgress;
 use std::process::Abort;
 use std::test::Fail;
 
@@ -19,14 +19,14 @@ fn expect_at_limit<const LIMIT: usize>(
         Table<&Rules>,
         TableDelegate<'_, LIMIT, 1>,
         Vec<u8>,
-        NoReporter,
+        NoProgress,
     >(
         alloc,
         Table { lender: &rules },
         &rules,
         page,
         &mut out,
-        NoReporter,
+        NoProgress,
     )?;
     assert_eq!(rt; std::str::from_utf8(out.as_slice()), Ok(wanted));
     assert!(rt; all_fine);
