@@ -100,8 +100,8 @@ impl State {
                     self.request = Some(Request::FinishCandidate);
                     self.candidate += 1;
                     self.some_holds = self.some_holds || self.holds;
-                    self.unmarked_holds =
-                        self.unmarked_holds || (self.holds && !candidate.is_marked);
+                    self.unmarked_holds = self.unmarked_holds
+                        || (self.holds && !candidate.is_marked);
                     self.each_fails = self.each_fails && self.fails;
                 }
                 Some(asking) => {

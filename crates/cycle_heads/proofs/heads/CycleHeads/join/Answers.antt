@@ -18,7 +18,7 @@ module _ (c : goal.After-self-1) where
   joined = joined_head (Some c.unwrap.result.now.1) c.args.paths c.args.usages
 
   abbrev written : StackDepth × CycleHead
-  written = (c.unwrap.result.now.0, record {paths_to_head = c.insert.new.self; usages = c.add_usages_from_nested.new.self})
+  written = (c.unwrap.result.now.0, record { paths_to_head = c.insert.new.self; usages = c.add_usages_from_nested.new.self })
 
   read : c.unwrap.result.now ≡ get_or c.self.inside.heads.items c.args.index c.unwrap.result.now
   read = subst (λ r. IfSome r (λ x. x.now ≡ get_or c.self.inside.heads.items c.args.index x.now)) c.unwrap.ensures c.get_mut.ensures.value
