@@ -7,7 +7,7 @@ use Rattle.rule_tables.specs.Words.{number_of}
 use Rattle.decision_tests.specs.Below.{Reply, Begin, Answer, Noted, Outcome, Yes, No, Maybe, Overflow, IsFitting, Goal, Candidate, Rules, candidates_of}
 use Rattle.decision_tests.specs.declared.early.State.{State}
 use Rattle.decision_tests.specs.Early.{fresh, moved, with_reply, script_of, state_after, questions_in, steps_left, steps_within}
-use Rattle.decision_tests.specs.EarlyLaws.{IsAnswered, is_answered, moves}
+use Rattle.decision_tests.specs.EarlyLaws.{IsAnswerTo, is_answered, moves}
 
 rest_of : (cs : List Candidate) (i : ℕ) (c : Candidate) → slice_get cs i ≡ Some c → sum_by questions_in (drop i cs) ≡ length c.questions.items + sum_by questions_in (drop (i + 1) cs)
 rest_of cs i c e =
@@ -16,7 +16,7 @@ rest_of cs i c e =
     sum_by-drop_more questions_in cs i c l ∙ ap (λ d. length d.questions.items + sum_by questions_in (drop (i + 1) cs)) at
 
 module _ (cs : List Candidate) where
-  moves_on : (s : State) (x : Reply Outcome) (at : IsAnswered cs s x) (r : Outcome) → steps_left cs (moved s r) < steps_left cs s
+  moves_on : (s : State) (x : Reply Outcome) (at : IsAnswerTo cs s x) (r : Outcome) → steps_left cs (moved s r) < steps_left cs s
   moves_on s x at Yes = let h = rest_of cs s.candidate at.candidate at.is_at in let l = slice_get_within at.candidate.questions.items s.question at.asking at.is_asking in omega (arith, h, l)
   moves_on s x at No = let h = rest_of cs s.candidate at.candidate at.is_at in let l = slice_get_within at.candidate.questions.items s.question at.asking at.is_asking in omega (arith, h, l)
   moves_on s x at Maybe = let h = rest_of cs s.candidate at.candidate at.is_at in let l = slice_get_within at.candidate.questions.items s.question at.asking at.is_asking in omega (arith, h, l)

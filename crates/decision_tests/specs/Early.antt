@@ -73,7 +73,7 @@ abbrev pub early_script : {T : Type 0} → (T → Rules) → Table T → Goal �
 early_script rules_of cx goal = script_of (candidates_of (rules_of cx.lender) goal)
 
 -- where a frame stands
-pub record FrameStands {T : Type 0} (rules_of : T → Rules) (frame : EarlyFrame T) (cx : Table T) (goal : Goal) (replies : List (Reply Outcome)) : Type 0 where
+pub record EarlyFrameStands {T : Type 0} (rules_of : T → Rules) (frame : EarlyFrame T) (cx : Table T) (goal : Goal) (replies : List (Reply Outcome)) : Type 0 where
   pub same_rules : rules_of frame.lender ≡ rules_of cx.lender
   pub same_goal : frame.goal ≡ goal
   pub state : frame.state ≡ state_after (candidates_of (rules_of cx.lender) goal) replies

@@ -116,7 +116,7 @@ pub type EarlyDelegate<T, const LIMIT: usize, const PROVISIONAL: usize> = Delega
 
 impl<T: LendsRules> Frames for Early<T> {
     ghost use Rattle.std.specs.Prelude.{true};
-    ghost use Rattle.decision_tests.specs.Early.{FrameStands, early_script, frame_left, steps_within};
+    ghost use Rattle.decision_tests.specs.Early.{EarlyFrameStands, early_script, frame_left, steps_within};
     ghost use Rattle.decision_tests.specs.EarlyLaws as laws;
 
     type Cx = Table<T>;
@@ -129,7 +129,7 @@ impl<T: LendsRules> Frames for Early<T> {
 
     ghost script = { early_script T.rules_of };
 
-    ghost stands = { FrameStands T.rules_of };
+    ghost stands = { EarlyFrameStands T.rules_of };
 
     ghost left = { frame_left T.rules_of };
 

@@ -2,7 +2,7 @@
 use Rattle.std.proofs.Common.{◌≡◌, ℕ, ◌+◌, ◌≤◌, Bool, true, false, List, [], ◌∷◌, ◌++◌, map, length, reverse, take, drop, Some, None, refl, sym, subst, ap, ◌∙◌}
 use Rattle.std.proofs.lemmas.List.{take_all}
 use Rattle.graph_check.specs.Below.{Node, Request, Done, Reply, question_of, request_after, progress_after, order_fault, fault_after, Fits, IsFitting, IsInOrder, IsRunOfSort}
-use Rattle.graph_check.specs.Words.{Replayed, nothing_replayed, replied, requested, is_answer, is_orderly, questions_counted, Agrees, IsLegal, Replays}
+use Rattle.graph_check.specs.Words.{Replayed, nothing_replayed, replied, requested, is_answer, is_orderly, questions_counted, IsReplayOf, IsLegal, Replays}
 use Rattle.graph_check.proofs.Elements.{IsAt, taken_last, reversed_around}
 use Rattle.graph_check.proofs.RunRecords.{no_fault, some_fault, agrees_replied, counted_are_answered}
 
@@ -48,10 +48,10 @@ module _ {I R : Type 0} {test : R → Bool} {script : List (Reply R) → Request
     fitting_next = (fits_next, h.legal.is_fitting)
 
     module _ {q : Replayed I R} {request : Request I R} (after : q ≡ replied p p.request (is_answer test reply)) (request_is : request ≡ script (reply ∷ reverse (take i replies))) where
-      agrees_next : Agrees test q (progress_after script (reply ∷ reverse (take i replies)))
+      agrees_next : IsReplayOf test q (progress_after script (reply ∷ reverse (take i replies)))
       agrees_next =
           let before = agrees_replied test p (progress_after script (reverse (take i replies))) h.agrees (request_after script (reverse (take i replies))) reply (last_in_order script (reverse (take i replies)) h.legal.is_in_order) fits_next in
-          subst (λ x. Agrees test x (progress_after script (reply ∷ reverse (take i replies)))) (ap (λ request. replied p request (is_answer test reply)) (sym h.request_is) ∙ sym after) before
+          subst (λ x. IsReplayOf test x (progress_after script (reply ∷ reverse (take i replies)))) (ap (λ request. replied p request (is_answer test reply)) (sym h.request_is) ∙ sym after) before
 
       same_fault : order_fault (progress_after script (reply ∷ reverse (take i replies))) (Some request) ≡ fault_after script (reply ∷ reverse (take i replies))
       same_fault = ap (λ r. order_fault (progress_after script (reply ∷ reverse (take i replies))) (Some r)) request_is

@@ -5,7 +5,7 @@ use Rattle.std.proofs.lemmas.List.{append-nil, map-append, length-append, length
 use Rattle.std.proofs.lemmas.List.Elements.{filter_agree}
 use Rattle.std.proofs.lemmas.Bool.Decides.{nat_tests}
 use Rattle.graph_check.specs.Below.{PathKind, Request, Evaluate, EnterCandidate, FinishCandidate, Ignore, Done, Reply, Begin, Answer, Noted, Question, Progress, Asked, progress_with, order_fault, counted_by, ignored_by, is_ignored, is_counted, open_candidate, questions_answered, Fits}
-use Rattle.graph_check.specs.Words.{Replayed, replied, is_answer, is_orderly, open_number, asked_of, asked_in, questions_counted, Agrees}
+use Rattle.graph_check.specs.Words.{Replayed, replied, is_answer, is_orderly, open_number, asked_of, asked_in, questions_counted, IsReplayOf}
 use Rattle.search_context.proofs.Filtered.{filtered_more, filtered_twice, filtered_halves, ignored_after_finish, ignored_after_ignore}
 
 -- a candidate may begin or end, or else that is a fault
@@ -41,7 +41,7 @@ module _ (fault other : ℕ) where
   ignored_within : (m finished : ℕ) (ignored : Bool) → (if nat_lt m finished then (if ignored then Some fault else None) else Some other) ≡ None → m < finished
   ignored_within m finished ignored orderly = grind (arith, nat_tests)
 
-module _ {I R : Type 0} (test : R → Bool) (p : Replayed I R) (done : Progress I R) (h : Agrees test p done) where
+module _ {I R : Type 0} (test : R → Bool) (p : Replayed I R) (done : Progress I R) (h : IsReplayOf test p done) where
   same_number : open_number p ≡ open_candidate done
   same_number = ap₂ (λ b n. if b then Some n else None) h.open_is h.finished_are
 
@@ -65,7 +65,7 @@ module _ {I R : Type 0} (test : R → Bool) (p : Replayed I R) (done : Progress 
   some_fault (Done r) is none = cc
 
   -- a question counts where its answer passes the test
-  agrees_answered : (kind : PathKind) (goal : I) (r : R) (b : Bool) → test r ≡ b → Agrees test (replied p (Some (Evaluate kind goal)) b) (progress_with done (Some (Evaluate kind goal)) (Answer r))
+  agrees_answered : (kind : PathKind) (goal : I) (r : R) (b : Bool) → test r ≡ b → IsReplayOf test (replied p (Some (Evaluate kind goal)) b) (progress_with done (Some (Evaluate kind goal)) (Answer r))
   agrees_answered kind goal r true is = record {
     open_is = h.open_is;
     finished_are = h.finished_are;
@@ -86,7 +86,7 @@ module _ {I R : Type 0} (test : R → Bool) (p : Replayed I R) (done : Progress 
   }
 
   -- the record agrees with the run after each reply to a request that isn't out of order
-  pub agrees_replied : (request : Option (Request I R)) (reply : Reply R) → order_fault done request ≡ None → Fits request reply → Agrees test (replied p request (is_answer test reply)) (progress_with done request reply)
+  pub agrees_replied : (request : Option (Request I R)) (reply : Reply R) → order_fault done request ≡ None → Fits request reply → IsReplayOf test (replied p request (is_answer test reply)) (progress_with done request reply)
   agrees_replied None Begin orderly fits = h
   agrees_replied (Some (Evaluate kind goal)) (Answer r) orderly fits = agrees_answered kind goal r (test r) refl
   agrees_replied (Some EnterCandidate) Noted orderly fits =

@@ -69,7 +69,7 @@ abbrev pub asked_in : {I R : Type 0} → Asked I R → Question I × Option ℕ
 asked_in a = (a.question, a.candidate)
 
 -- the record says what the run did
-pub record Agrees {I R : Type 0} (test : R → Bool) (p : Replayed I R) (done : Progress I R) : Type 0 where
+pub record IsReplayOf {I R : Type 0} (test : R → Bool) (p : Replayed I R) (done : Progress I R) : Type 0 where
   pub open_is : p.is_open ≡ done.is_open
   pub finished_are : length p.ignored ≡ done.finished
   pub ignored_are : (n : ℕ) → is_ignored done.ignored n ≡ ignored_by p.ignored n
@@ -84,4 +84,4 @@ pub record IsLegal {I R : Type 0} (script : List (Reply R) → Request I R) (rep
 pub record Replays {I R : Type 0} (test : R → Bool) (script : List (Reply R) → Request I R) (p : Replayed I R) (replies : List (Reply R)) : Type 0 where
   pub legal : IsLegal script replies
   pub request_is : p.request ≡ request_after script replies
-  pub agrees : Agrees test p (progress_after script replies)
+  pub agrees : IsReplayOf test p (progress_after script replies)

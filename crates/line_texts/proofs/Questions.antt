@@ -7,7 +7,7 @@ use Rattle.std.proofs.lemmas.List.Folds.{list_all-append}
 use Rattle.std.specs.Prelude.{IfOk, IfSome, OnErr}
 use Rattle.std.specs.Io.KnownBytes.{Appends}
 use Rattle.std.specs.List.{list_all}
-use Rattle.line_texts.specs.Questions.{Answered, AreAllTold, AreFirstTold, AreTold, IsReadAs}
+use Rattle.line_texts.specs.Questions.{AnsweredQuestion, AreAllTold, AreFirstTold, AreTold, IsReadAs}
 use Rattle.line_texts.specs.Writing.{AppendsBeginning, Passes}
 use Rattle.line_texts.proofs.Written.{all_written, begins_more, passes_more, waits_more}
 
@@ -27,14 +27,14 @@ module _ {T : Type 0} (Reads : List ℕ → T → Type 0) (known : Option (List 
 
 -- ---- its questions
 
-module _ {Q C : Type 0} (line_of : Answered Q C → List ℕ) (is_fine : C → Bool) where
+module _ {Q C : Type 0} (line_of : AnsweredQuestion Q C → List ℕ) (is_fine : C → Bool) where
   -- The questions were told, and some of their lines wait to be written.
-  pub record AreToldTo (Hold : List (Answered Q C) → Type 0) (questions : List Q) (old new : Option (List ℕ)) (waits : List ℕ) (all_fine : Bool) : Type 0 where
+  pub record AreToldTo (Hold : List (AnsweredQuestion Q C) → Type 0) (questions : List Q) (old new : Option (List ℕ)) (waits : List ℕ) (all_fine : Bool) : Type 0 where
     pub lines : List ℕ
     pub are_told : AreTold line_of is_fine Hold questions lines all_fine
     pub passed : Passes old new lines waits
 
-  module _ (Hold : List (Answered Q C) → Type 0) (none : Hold []) where
+  module _ (Hold : List (AnsweredQuestion Q C) → Type 0) (none : Hold []) where
     -- no question was told
     none_told : AreTold line_of is_fine Hold [] [] true
     none_told = record { answered = []; are_questions = refl; hold = none; are_lines = refl; fine = refl }
@@ -45,7 +45,7 @@ module _ {Q C : Type 0} (line_of : Answered Q C → List ℕ) (is_fine : C → B
     pub none_waits : (known : Option (List ℕ)) (waits : List ℕ) → waits ≡ [] → AreToldTo Hold [] known known waits true
     none_waits known waits empty = record { lines = []; are_told = none_told; passed = record { bytes = []; written = Appends-nil known; others = sym empty } }
 
-  module _ (Hold Also : List (Answered Q C) → Type 0) (last : Answered Q C) (more : (all : List (Answered Q C)) → Hold all → Also (all ++ last ∷ [])) (questions : List Q) (n : ℕ) (d : Q) (within : n < length questions) (asked : last.question ≡ get_or questions n d) (fine all_fine : Bool) (both : all_fine ≡ (fine && is_fine last.came)) where
+  module _ (Hold Also : List (AnsweredQuestion Q C) → Type 0) (last : AnsweredQuestion Q C) (more : (all : List (AnsweredQuestion Q C)) → Hold all → Also (all ++ last ∷ [])) (questions : List Q) (n : ℕ) (d : Q) (within : n < length questions) (asked : last.question ≡ get_or questions n d) (fine all_fine : Bool) (both : all_fine ≡ (fine && is_fine last.came)) where
     -- one question more, after the first n
     told_more : (lines : List ℕ) → AreTold line_of is_fine Hold (take n questions) lines fine → AreTold line_of is_fine Also (take (n + 1) questions) (lines ++ line_of last) all_fine
     told_more lines so_far = record {
@@ -64,12 +64,12 @@ module _ {Q C : Type 0} (line_of : Answered Q C → List ℕ) (is_fine : C → B
       passed = subst (λ l. Passes old new (so_far.lines ++ line_of last) (waits ++ l)) (sym told) (waits_more old new so_far.lines waits (line_of last) so_far.passed);
     }
 
-  module _ (Hold : List (Answered Q C) → Type 0) (old mid new : Option (List ℕ)) (waits : List ℕ) (fine : Bool) where
+  module _ (Hold : List (AnsweredQuestion Q C) → Type 0) (old mid new : Option (List ℕ)) (waits : List ℕ) (fine : Bool) where
     -- some of what waited was written
     pub told_on : (questions : List Q) (left : List ℕ) → AreToldTo Hold questions old mid waits fine → Passes mid new waits left → AreToldTo Hold questions old new left fine
     told_on questions left so_far more = record { lines = so_far.lines; are_told = so_far.are_told; passed = passes_more old mid new so_far.lines waits so_far.passed left more }
 
-    module _ (Also : List (Answered Q C) → Type 0) (so : (all : List (Answered Q C)) → Hold all → Also all) (questions all : List Q) (n : ℕ) (whole : questions ≡ all) (so_far : AreToldTo Hold (take n questions) old mid waits fine) where
+    module _ (Also : List (AnsweredQuestion Q C) → Type 0) (so : (all : List (AnsweredQuestion Q C)) → Hold all → Also all) (questions all : List Q) (n : ℕ) (whole : questions ≡ all) (so_far : AreToldTo Hold (take n questions) old mid waits fine) where
       told_so : (asked : List Q) → take n questions ≡ asked → AreTold line_of is_fine Also asked so_far.lines fine
       told_so asked same = subst (λ qs. AreTold line_of is_fine Also qs so_far.lines fine) same (record {
         answered = so_far.are_told.answered;

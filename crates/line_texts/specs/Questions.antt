@@ -13,16 +13,16 @@ pub record IsReadAs {T : Type 0} (Reads : List ℕ → T → Type 0) (known : Op
   pub holds : P table
 
 -- a question, and what it came to
-pub record Answered (Q C : Type 0) : Type 0 where
+pub record AnsweredQuestion (Q C : Type 0) : Type 0 where
   pub question : Q
   pub came : C
 
 -- `line_of` is the line of a question that was answered, and `Hold` what is true of the answers so far.
-module _ {Q C : Type 0} (line_of : Answered Q C → List ℕ) (is_fine : C → Bool) (Hold : List (Answered Q C) → Type 0) where
+module _ {Q C : Type 0} (line_of : AnsweredQuestion Q C → List ℕ) (is_fine : C → Bool) (Hold : List (AnsweredQuestion Q C) → Type 0) where
   -- The questions, all of them and in this order, were answered, and this holds of the answers. The lines are theirs, and `all_fine`
   -- says that what each came to is fine.
   pub record AreTold (questions : List Q) (lines : List ℕ) (all_fine : Bool) : Type 0 where
-    pub answered : List (Answered Q C)
+    pub answered : List (AnsweredQuestion Q C)
     pub are_questions : map (λ a. a.question) answered ≡ questions
     pub hold : Hold answered
     pub are_lines : lines ≡ flat_map line_of answered

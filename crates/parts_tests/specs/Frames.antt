@@ -6,7 +6,7 @@ use Rattle.parts_tests.specs.Requests.{done, none_after_done}
 use Rattle.parts_tests.specs.declared.loops.Stage.{Stage}
 use Rattle.parts_tests.specs.declared.loops.Stage.TheVariants.{New, Asked, Done as Over}
 use Rattle.parts_tests.specs.declared.loops.Frame.{Frame}
-use Rattle.parts_tests.specs.Loops.{Asks}
+use Rattle.parts_tests.specs.Loops.{HasItsQuestion}
 
 abbrev pub answer_in : Reply Outcome → Outcome
 answer_in (Answer r) = r
@@ -53,22 +53,22 @@ ends_by_answer goal (Answer a ∷ y ∷ []) r h = absurd h.is_fitting.1.0
 ends_by_answer goal (x ∷ y ∷ []) r h = absurd h.is_fitting.0
 ends_by_answer goal (x ∷ y ∷ z ∷ earlier) r h = absurd (none_after_done PathKind (answer_in y) x h.is_fitting.0)
 
-yes_asks : (goal : PathKind) (r : Outcome) → is_yes r ≡ true → Asks goal (questions_answered is_yes (progress_after (loop_script goal) (Answer r ∷ Begin ∷ [])))
+yes_asks : (goal : PathKind) (r : Outcome) → is_yes r ≡ true → HasItsQuestion goal (questions_answered is_yes (progress_after (loop_script goal) (Answer r ∷ Begin ∷ [])))
 yes_asks goal Yes is = (0, omega arith, refl)
 yes_asks goal No is = absurd cc
 yes_asks goal Maybe is = absurd cc
 yes_asks goal Overflow is = absurd cc
 
-no_asks : (goal : PathKind) (r : Outcome) → is_no r ≡ true → Asks goal (questions_answered is_no (progress_after (loop_script goal) (Answer r ∷ Begin ∷ [])))
+no_asks : (goal : PathKind) (r : Outcome) → is_no r ≡ true → HasItsQuestion goal (questions_answered is_no (progress_after (loop_script goal) (Answer r ∷ Begin ∷ [])))
 no_asks goal Yes is = absurd cc
 no_asks goal No is = (0, omega arith, refl)
 no_asks goal Maybe is = absurd cc
 no_asks goal Overflow is = absurd cc
 
-pub yes_is_proved : (goal : PathKind) (replies : List (Reply Outcome)) (r : Outcome) → EndsIn (loop_script goal) replies r → is_yes r ≡ true → Asks goal (questions_answered is_yes (progress_after (loop_script goal) replies))
+pub yes_is_proved : (goal : PathKind) (replies : List (Reply Outcome)) (r : Outcome) → EndsIn (loop_script goal) replies r → is_yes r ≡ true → HasItsQuestion goal (questions_answered is_yes (progress_after (loop_script goal) replies))
 yes_is_proved goal replies r h is =
-    subst (λ all. Asks goal (questions_answered is_yes (progress_after (loop_script goal) all))) (sym (ends_by_answer goal replies r h)) (yes_asks goal r is)
+    subst (λ all. HasItsQuestion goal (questions_answered is_yes (progress_after (loop_script goal) all))) (sym (ends_by_answer goal replies r h)) (yes_asks goal r is)
 
-pub no_is_refuted : (goal : PathKind) (replies : List (Reply Outcome)) (r : Outcome) → EndsIn (loop_script goal) replies r → is_no r ≡ true → Asks goal (questions_answered is_no (progress_after (loop_script goal) replies))
+pub no_is_refuted : (goal : PathKind) (replies : List (Reply Outcome)) (r : Outcome) → EndsIn (loop_script goal) replies r → is_no r ≡ true → HasItsQuestion goal (questions_answered is_no (progress_after (loop_script goal) replies))
 no_is_refuted goal replies r h is =
-    subst (λ all. Asks goal (questions_answered is_no (progress_after (loop_script goal) all))) (sym (ends_by_answer goal replies r h)) (no_asks goal r is)
+    subst (λ all. HasItsQuestion goal (questions_answered is_no (progress_after (loop_script goal) all))) (sym (ends_by_answer goal replies r h)) (no_asks goal r is)

@@ -26,9 +26,9 @@ impl Goals for Loops {
 
     type Input = PathKind;
 
-    ghost proves = { λ goals. loops.Asks };
+    ghost proves = { λ goals. loops.HasItsQuestion };
 
-    ghost refutes = { λ goals. loops.Asks };
+    ghost refutes = { λ goals. loops.HasItsQuestion };
 
     ghost proves_more = { λ goals. loops.asks_more };
 

@@ -84,7 +84,7 @@ module _ {I : Type 0} (needs : Needs) (questions : List (Question I)) (allowed :
   abbrev pub HasOtherAnswer : List (Reply Outcome) → Question I → Type 0
   HasOtherAnswer replies q = (r : Outcome) × (is_filling needs r ≡ false) × (is_enough needs r ≡ false) × Told replies q r
 
-  pub record IsTold (replies : List (Reply Outcome)) (s : State) : Type 0 where
+  pub record KnowsReplies (replies : List (Reply Outcome)) (s : State) : Type 0 where
     pub full : s.is_full ≡ true → (at : ℕ) (q : Question I) → at < s.place → slice_get questions at ≡ Some q → HasAnswerThat replies (is_filling needs) q
     pub enough : s.has_enough ≡ true → (q : Question I) × Contains questions q × HasAnswerThat replies (is_enough needs) q
     pub undecided : s.is_full ≡ false → s.has_enough ≡ false → (q : Question I) × Contains questions q × HasOtherAnswer replies q
@@ -92,7 +92,7 @@ module _ {I : Type 0} (needs : Needs) (questions : List (Question I)) (allowed :
   keep_answer : (earlier : List (Reply Outcome)) (reply : Reply Outcome) (test : Outcome → Bool) (q : Question I) → HasAnswerThat earlier test q → HasAnswerThat (reply ∷ earlier) test q
   keep_answer earlier reply test q h = (h.0, h.1, keep earlier reply q h.0 h.2)
 
-  full_with : (earlier : List (Reply Outcome)) (s : State) (q : Question I) (r : Outcome) → IsTold earlier s → slice_get questions s.place ≡ Some q → Told (Answer r ∷ earlier) q r →
+  full_with : (earlier : List (Reply Outcome)) (s : State) (q : Question I) (r : Outcome) → KnowsReplies earlier s → slice_get questions s.place ≡ Some q → Told (Answer r ∷ earlier) q r →
       is_filling needs r ≡ true → s.is_full ≡ true → (at : ℕ) (p : Question I) → at < s.place + 1 → slice_get questions at ≡ Some p → HasAnswerThat (Answer r ∷ earlier) (is_filling needs) p
   full_with earlier s q r old is_at told fills is_full at p l e =
       elim (eqb_tells at s.place) [
@@ -100,8 +100,8 @@ module _ {I : Type 0} (needs : Needs) (questions : List (Question I)) (allowed :
         | inr w ↦ let ne : at ≢ s.place = w.1 in keep_answer earlier (Answer r) (is_filling needs) p (old.full is_full at p (omega arith) e)
       ]
 
-  answered : (earlier : List (Reply Outcome)) (s : State) (q : Question I) (r : Outcome) → IsTold earlier s → slice_get questions s.place ≡ Some q → Told (Answer r ∷ earlier) q r →
-      IsTold (Answer r ∷ earlier) (with_reply needs s (Answer r))
+  answered : (earlier : List (Reply Outcome)) (s : State) (q : Question I) (r : Outcome) → KnowsReplies earlier s → slice_get questions s.place ≡ Some q → Told (Answer r ∷ earlier) q r →
+      KnowsReplies (Answer r ∷ earlier) (with_reply needs s (Answer r))
   answered earlier s q r old is_at told = record {
     full = λ e. let b = both_true s.is_full (is_filling needs r) e in full_with earlier s q r old is_at told b.1 b.0;
     enough = λ e. elim (one_true s.has_enough (is_enough needs r) e) [
@@ -114,14 +114,14 @@ module _ {I : Type 0} (needs : Needs) (questions : List (Question I)) (allowed :
     ];
   }
 
-  begun : (replies : List (Reply Outcome)) (s : State) → s.is_full ≡ true → s.has_enough ≡ false → s.place ≡ 0 → IsTold replies s
+  begun : (replies : List (Reply Outcome)) (s : State) → s.is_full ≡ true → s.has_enough ≡ false → s.place ≡ 0 → KnowsReplies replies s
   begun replies s full enough place = record {
     full = λ _ at q l e. absurd (omega arith);
     enough = λ h. absurd cc;
     undecided = λ h _. absurd cc;
   }
 
-  pub is_told : (replies : List (Reply Outcome)) → AreRepliesTo allowed (script_of needs questions) replies → IsTold replies (state_after needs replies)
+  pub is_told : (replies : List (Reply Outcome)) → AreRepliesTo allowed (script_of needs questions) replies → KnowsReplies replies (state_after needs replies)
   is_told [] h = begun [] (state_after needs []) refl refl refl
   is_told (Begin ∷ []) h = begun (Begin ∷ []) (state_after needs (Begin ∷ [])) refl refl refl
   is_told (Answer r ∷ []) h = absurd h.0
@@ -132,7 +132,7 @@ module _ {I : Type 0} (needs : Needs) (questions : List (Question I)) (allowed :
       let a = answers_question allowed (outcome_of needs s) o x h.0 in
       let at = next_question-is questions s.has_enough s.place a.question a.is_asked in
       let asks : request_after (script_of needs questions) (y ∷ earlier) ≡ Some (Evaluate a.question.kind a.question.goal) = ap (λ p. Some (request_for (outcome_of needs s) p)) a.is_asked in
-      subst (λ z. IsTold (z ∷ y ∷ earlier) (with_reply needs s z)) (sym a.is_reply)
+      subst (λ z. KnowsReplies (z ∷ y ∷ earlier) (with_reply needs s z)) (sym a.is_reply)
       (answered (y ∷ earlier) s a.question a.outcome (is_told (y ∷ earlier) h.1) at.1 (new (y ∷ earlier) a.question a.outcome asks a.is_allowed))
 
   -- a run that has ended: one answer was enough, or all filled the goal, or some answer did neither
@@ -141,7 +141,7 @@ module _ {I : Type 0} (needs : Needs) (questions : List (Question I)) (allowed :
     Full : r ≡ full_outcome needs → ((q : Question I) → Contains questions q → HasAnswerThat replies (is_filling needs) q) → IsEnd replies r
     Undecided : r ≡ Maybe → (q : Question I) → Contains questions q → HasOtherAnswer replies q → IsEnd replies r
 
-  end_with : (replies : List (Reply Outcome)) (s : State) (r : Outcome) (has_enough is_full : Bool) → s.has_enough ≡ has_enough → s.is_full ≡ is_full → IsTold replies s →
+  end_with : (replies : List (Reply Outcome)) (s : State) (r : Outcome) (has_enough is_full : Bool) → s.has_enough ≡ has_enough → s.is_full ≡ is_full → KnowsReplies replies s →
       outcome_of needs (record s { has_enough = has_enough; is_full = is_full }) ≡ r → next_question questions has_enough s.place ≡ None → IsEnd replies r
   end_with replies s r true is_full e f told is none = let w = told.enough e in Early (sym is) w.0 w.1 w.2
   end_with replies s r false true e f told is none = Full (sym is) (λ q has. told.full f has.0 q (before_end questions has.0 s.place q none (at-Contains questions q has)) (at-Contains questions q has))

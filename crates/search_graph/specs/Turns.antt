@@ -1,8 +1,8 @@
 -- What a turn of the loop comes to, which is a move after which nodes may be let go.
-use Rattle.std.specs.Prelude.{◌≡◌, ◌≤◌, Bool, length, List, []}
+use Rattle.std.specs.Prelude.{◌≡◌, ◌≤◌, ℕ, Bool, length, List, []}
 use Rattle.global_cache.specs.Collected.{StayBefore}
-use Rattle.search_graph.specs.Below.{AreFrom, Cache, ChangesNewest, CxOf, DelegateOf, fates_of, Finished, IsJustifiedNext, IsRightFor, KeepsFirst, KeepsResults, Next, Step, OpenGoal, verdicts}
-use Rattle.search_moves.specs.Drafts.{AreNotedNodes, LeavesReached}
+use Rattle.search_graph.specs.Below.{AreFrom, Cache, ChangesNewest, CxOf, DelegateOf, fates_of, Finished, HasReply, HaveExpected, IsJustifiedNext, IsNew, IsRightFor, KeepsFirst, KeepsResults, Next, Received, Step, OpenGoal, verdicts}
+use Rattle.search_moves.specs.Drafts.{AreNotedNodes, HasNoDrafts, LeavesReached}
 use Rattle.search_moves.specs.declared.evaluation.Evaluation.{Evaluation}
 
 module _ {D C V P F I R A T : Type 0} (same : I → I → Bool) where
@@ -30,6 +30,22 @@ module _ {D C V P F I R A T : Type 0} (same : I → I → Bool) where
     pub results : KeepsResults same old.results new.results
     pub nodes : KeepsFirst e.drafts.first old.nodes new.nodes
     pub changes : ChangesNewest same (fates_of e.goals) old.results new.results
+
+-- Nothing was done yet: the evaluation is new, and the call has written no node.
+pub record IsAtOutset {D C V P F I R A T : Type 0} (cache : Cache C I R A T) (e : Evaluation D C V P F I R A T) : Type 0 where
+  pub new : IsNew e
+  pub no_drafts : HasNoDrafts cache.nodes e.drafts
+
+module _ {D C V P F I R A T : Type 0} (G : DelegateOf D C V P F I R A T) (X : CxOf C I R A T) (same : I → I → Bool) (received : Received R) (cache : Cache C I R A T) (e : Evaluation D C V P F I R A T) (starts : ℕ) where
+  -- The newest goal may be given the reply, and each result that a goal's is to be compared with is stored.
+  pub record MayAdvance : Type 0 where
+    pub reply : HasReply G X same cache.cx received cache e starts
+    pub expected : HaveExpected (G.scoped cache.cx) (G.script cache.cx) same cache.results (fates_of e.goals)
+
+  -- Besides, the call's nodes are told apart from those that were there before it.
+  pub record MayTakeTurn : Type 0 where
+    pub advance : MayAdvance
+    pub drafts : HasDrafts same cache e
 
 -- what comes next is right: the reply for the goals, or the answer of the only goal
 abbrev pub IsRightTurn : {D C V P F I R A T : Type 0} → DelegateOf D C V P F I R A T → CxOf C I R A T → (I → I → Bool) → C → List (OpenGoal C F I R A T) → Next R → Cache C I R A T → Evaluation D C V P F I R A T → Type 0

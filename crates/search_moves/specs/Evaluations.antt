@@ -6,7 +6,7 @@ use Rattle.search_context.specs.declared.context.Answer.{Answer}
 use Rattle.search_rules.specs.Calls.{Call, CallMeetsNone}
 use Rattle.search_rules.specs.Claims.{IsRemembered}
 use Rattle.search_rules.specs.Evaluating.{IsWaiting, HasAsked, CallGoesOn, HasEnded, HasStopped, Leads, KeepsStore, KeepsAnswers}
-use Rattle.search_rules.specs.Fates.{IsNewestToStore, fates_of}
+use Rattle.search_rules.specs.Fates.{fates_of, HaveExpected, IsNewestToStore}
 use Rattle.search_rules.specs.Free.{AreFree}
 use Rattle.search_rules.specs.Justified.{AreJustified, NewestAsks, IsFit}
 use Rattle.search_rules.specs.Provisional.{AreReady}
@@ -78,6 +78,11 @@ module _ {D C V P F I R A T : Type 0} (G : DelegateOf D C V P F I R A T) (X : Cx
     pub asked : HasAsked G X cx call ahead request e.goals starts e.limits_met
     pub on_record : (kind : PathKind) (goal : I) → request ≡ Evaluate kind goal → NewestAsks (runs_of e.goals) kind goal
     pub right : IsRight cache e
+
+  -- besides, each result that a goal's is to be compared with is stored
+  pub record MayMove (request : Request I R) (cache : Cache C I R A T) (e : Evaluation D C V P F I R A T) (starts : ℕ) : Type 0 where
+    pub made : HasRequest request cache e starts
+    pub expected : HaveExpected (G.scoped cx) (G.script cx) same cache.results (fates_of e.goals)
 
   -- the newest goal waits for the reply in some call, and all is right
   pub record HasReply (received : Received R) (cache : Cache C I R A T) (e : Evaluation D C V P F I R A T) (starts : ℕ) : Type 0 where

@@ -29,6 +29,11 @@ module _ {D C V P F I R A T : Type 0} (G : DelegateOf D C V P F I R A T) (X : Cx
     pub plain : IsPlainAt (G.script cache.cx) goal (place_of answer) answer.result
     pub comes : ComesTo (G.script cache.cx) (G.fixpoint_overflow cache.cx) goal answer.result
 
+  -- besides, a result that the goal's is to be compared with is stored
+  pub record MayStore (same : I → I → Bool) (cache : Cache C I R A T) (goal : I) (answer : EvaluationResult C I R A T) (fate : Fate R) : Type 0 where
+    pub storable : IsStorable cache goal answer
+    pub expected : IfCompared fate (IsExpected (G.scoped cache.cx) same cache.results goal)
+
   -- the fault has its cause, and nothing was stored
   pub record StoresNothing (same : I → I → Bool) (old new : Cache C I R A T) (fault : Fault I R) : Type 0 where
     pub caused : IsCaused G X same new fault

@@ -23,8 +23,8 @@ impl<D: Delegate> Evaluation<D> {
         reason: Option<RebaseReason<D::Cx>>,
     ) -> Result<Next<<D::Cx as Cx>::Result>, Fault<<D::Cx as Cx>::Input, <D::Cx as Cx>::Result>>
         requires may { MayPop D.Delegate D.Cx.Cx D.Cx.Input.eq outcome reason cache.old self.old }
-        requires expected { HaveExpected (D.scoped cache.old.cx) (D.script cache.old.cx) D.Cx.Input.eq
-            cache.old.results (fates_of self.old.goals) }
+        requires expected { HaveExpected (D.scoped cache.old.cx) (D.script cache.old.cx)
+            D.Cx.Input.eq cache.old.results (fates_of self.old.goals) }
         ensures popped { IfOk result (λ next.
             Pops D.Delegate D.Cx.Cx D.Cx.Input.eq outcome reason cache.old self.old next cache.new
             self.new) }

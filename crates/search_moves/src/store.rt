@@ -3,7 +3,7 @@ ghost use Rattle.std.specs.Prelude.{◌≡◌, ◌≢◌, ◌<◌, ℕ, [], leng
 ghost use Rattle.search_moves.specs.Below.{highest, IfCompared, IsExpected, IsPlainTo, IsPlainValue, place_of, Memory, Success, IsStored, StoresAnswer, entry_of};
 ghost use Rattle.provisional_cache.specs.Provisional.{AppendsEntry};
 ghost use Rattle.search_moves.specs.Drafts.{KeepsNoted};
-ghost use Rattle.search_moves.specs.Words.{ChangesResults, Fails, IsStorable, PutsAnswer, Stores};
+ghost use Rattle.search_moves.specs.Words.{ChangesResults, Fails, IsStorable, MayStore, PutsAnswer, Stores};
 
 use crate::drafts::Drafts;
 use crate::evaluation::Evaluation;
@@ -27,15 +27,14 @@ impl<D: Delegate> Evaluation<D> {
         answer: EvaluationResult<D::Cx>,
         fate: Fate<<D::Cx as Cx>::Result>,
     ) -> Result<(), Fault<<D::Cx as Cx>::Input, <D::Cx as Cx>::Result>>
-        requires storable { IsStorable D.Delegate D.Cx.Cx cache.old input answer }
-        requires expected { IfCompared fate (IsExpected (D.scoped cache.old.cx) D.Cx.Input.eq
-            cache.old.results input) }
-        requires on_stack { IfSome (highest answer.heads) (λ head. head.0.0 < length self.old.goals) }
+        requires may { MayStore D.Delegate D.Cx.Cx D.Cx.Input.eq cache.old input answer fate }
+        requires on_stack { IfSome (highest answer.heads) (λ head.
+            head.0.0 < length self.old.goals) }
         ensures puts { PutsAnswer D.Cx.Input.eq input answer fate cache.old cache.new }
         ensures noted { OnOk result (
             KeepsNoted D.Cx.Input.eq cache.old self.old.drafts cache.new self.new.drafts) }
-        ensures stores { OnOk result (
-            Stores D.Delegate D.Cx.Cx D.Cx.Input.eq step input answer fate self.old self.new cache.new) }
+        ensures stores { OnOk result (Stores D.Delegate D.Cx.Cx D.Cx.Input.eq step input
+            answer fate self.old self.new cache.new) }
         ensures rest { self.new
             ≡ record self.old { provisional = self.new.provisional; drafts = self.new.drafts } }
         ensures fails { IfErr result (Fails D.Delegate D.Cx.Cx D.Cx.Input.eq answer.result cache.old

@@ -2,7 +2,7 @@
 use Rattle.std.proofs.Common.{◌≡◌, ◌∙◌, All, ap, List, [], ◌∷◌, ◌++◌, refl, sym}
 use Rattle.std.proofs.lemmas.List.Elements.{All-head, All-tail}
 use Rattle.json.specs.Token.{Token, begin_array, end_array}
-use Rattle.shown_graphs.specs.Data.{array_tokens, Begins, list_tokens, Spells}
+use Rattle.shown_graphs.specs.Data.{array_tokens, StandsFirst, list_tokens, Spells}
 
 module _ {A : Type 0} (spelled : A → List Token → List Token) where
   -- where a value ends is told by its tokens, and they are not the end of an array
@@ -42,13 +42,13 @@ module _ {A : Type 0} (spelled : A → List Token → List Token) where
         ∙ ap (λ vs. y ∷ vs) (array_told P tells xs ys r s (All-tail P x xs p) (All-tail P y ys q) (parts.tail x y _ _ h))
 
     -- where the whole is an array, and more of it is left than its end, a value is left
-    list_left : (P : A → Type 0) (xs ys : List A) (left rest : List Token) → All P ys → (Begins end_array left → ⊥) → list_tokens spelled xs left ≡ list_tokens spelled ys (end_array ∷ rest) → Spells P spelled left
+    list_left : (P : A → Type 0) (xs ys : List A) (left rest : List Token) → All P ys → (StandsFirst end_array left → ⊥) → list_tokens spelled xs left ≡ list_tokens spelled ys (end_array ∷ rest) → Spells P spelled left
     list_left P [] [] left rest q no_end h = absurd (no_end (rest, h))
     list_left P [] (y ∷ ys) left rest q no_end h = record { value = y; is_right = All-head P y ys q; rest = _; are_its = h }
     list_left P (x ∷ xs) [] left rest q no_end h = absurd (parts.is_no_end x _ _ h)
     list_left P (x ∷ xs) (y ∷ ys) left rest q no_end h = list_left P xs ys left rest (All-tail P y ys q) no_end (parts.tail x y _ _ h)
 
-    pub array_left : (P : A → Type 0) (xs : List A) (whole left : List Token) → whole ≡ begin_array ∷ list_tokens spelled xs left → (Begins end_array left → ⊥) → Spells (All P) (array_tokens spelled) whole → Spells P spelled left
+    pub array_left : (P : A → Type 0) (xs : List A) (whole left : List Token) → whole ≡ begin_array ∷ list_tokens spelled xs left → (StandsFirst end_array left → ⊥) → Spells (All P) (array_tokens spelled) whole → Spells P spelled left
     array_left P xs whole left so_far no_end all =
         let same : begin_array ∷ list_tokens spelled xs left ≡ begin_array ∷ list_tokens spelled all.value (end_array ∷ all.rest) = sym so_far ∙ all.are_its in
         let same_rest : list_tokens spelled xs left ≡ list_tokens spelled all.value (end_array ∷ all.rest) = cc in

@@ -8,9 +8,9 @@ use Rattle.std.proofs.lemmas.List.Folds.{list_all-append}
 use Rattle.std.specs.Io.KnownBytes.{Appends, Keeps}
 use Rattle.std.specs.List.{list_all}
 use Rattle.shown_graphs.specs.Below.{Goal, Outcome, questions_of, Reply, Request, Rules, Verdicts}
-use Rattle.shown_graphs.specs.Checked.{IsChecked}
+use Rattle.shown_graphs.specs.Checked.{IsRightlyShown}
 use Rattle.shown_graphs.specs.Data.{PlainClaim}
-use Rattle.shown_graphs.specs.Shown.{AreAsked, AreShown, claims_of, HasClaims, is_fine, WritesPage}
+use Rattle.shown_graphs.specs.Shown.{WereAsked, AreShown, claims_of, HasClaims, is_fine, WritesPage}
 use Rattle.shown_graphs.specs.declared.answer.Came.{Came}
 use Rattle.shown_graphs.specs.declared.page.Page.{Page}
 
@@ -28,27 +28,27 @@ module _ (says : Verdicts Outcome) (scripts : Goal → List (Reply Outcome) → 
   -- the questions were asked, and the page waits with the claims of their answers
   pub record AreAskedTo (begun page : Page) (old new : Option (List ℕ)) (questions : List (ℕ × Goal)) (all_fine : Bool) : Type 0 where
     pub claims : List PlainClaim
-    pub are_asked : AreAsked says scripts questions claims all_fine
+    pub are_asked : WereAsked says scripts questions claims all_fine
     pub waits : HasClaims rules begun [] → HasClaims rules page claims × Keeps old new
 
   pub none_asked : (page : Page) (old : Option (List ℕ)) → AreAskedTo page page old old [] true
   none_asked page old = record { claims = []; are_asked = record { asked = []; are_questions = refl; are_checked = λ k d below. absurd (omega arith); are_claims = refl; fine = refl }; waits = λ begun. (begun, Keeps-refl old) }
 
-  question_more : (questions : List (ℕ × Goal)) (claims : List PlainClaim) (i : ℕ) (question d : ℕ × Goal) (came : Came) (before after : Bool) → i < length questions → AreAsked says scripts (take i questions) claims before →
-      question ≡ get_or questions i d → IsChecked says scripts question.1 came → after ≡ (before && is_fine came) → AreAsked says scripts (take (i + 1) questions) (claims ++ claims_of question.1 came) after
+  question_more : (questions : List (ℕ × Goal)) (claims : List PlainClaim) (i : ℕ) (question d : ℕ × Goal) (came : Came) (before after : Bool) → i < length questions → WereAsked says scripts (take i questions) claims before →
+      question ≡ get_or questions i d → IsRightlyShown says scripts question.1 came → after ≡ (before && is_fine came) → WereAsked says scripts (take (i + 1) questions) (claims ++ claims_of question.1 came) after
   question_more questions claims i question d came before after below so_far is right both = record {
     asked = so_far.asked ++ (question.1, came) ∷ [];
     are_questions =
         map-append (λ a. a.0) so_far.asked ((question.1, came) ∷ []) ∙ ap (λ goals. goals ++ question.1 ∷ []) so_far.are_questions
         ∙ sym (ap (map (λ q. q.1)) (take_more questions i d below) ∙ map-append (λ q. q.1) (take i questions) (get_or questions i d ∷ []) ∙ ap (λ q. map (λ q. q.1) (take i questions) ++ q.1 ∷ []) (sym is));
-    are_checked = All-push (λ a. IsChecked says scripts a.0 a.1) so_far.asked (question.1, came) so_far.are_checked right;
+    are_checked = All-push (λ a. IsRightlyShown says scripts a.0 a.1) so_far.asked (question.1, came) so_far.are_checked right;
     are_claims = ap (λ cs. cs ++ claims_of question.1 came) so_far.are_claims ∙ flat_map_more (λ a. claims_of a.0 a.1) [] so_far.asked (question.1, came);
     fine = both ∙ ap (λ b. b && is_fine came) so_far.fine ∙ sym (list_all-append (λ a. is_fine a.1) so_far.asked ((question.1, came) ∷ []) ∙ ap (λ b. list_all (λ a. is_fine a.1) so_far.asked && b) (and-true (is_fine came)));
   }
 
   -- one question more, whose answer is added to the page
   pub asked_more : (begun page added passed : Page) (old mid new : Option (List ℕ)) (questions : List (ℕ × Goal)) (i : ℕ) (question d : ℕ × Goal) (came : Came) (before after : Bool) → i < length questions →
-      AreAskedTo begun page old mid (take i questions) before → question ≡ get_or questions i d → IsChecked says scripts question.1 came → after ≡ (before && is_fine came) →
+      AreAskedTo begun page old mid (take i questions) before → question ≡ get_or questions i d → IsRightlyShown says scripts question.1 came → after ≡ (before && is_fine came) →
       ((claims : List PlainClaim) → HasClaims rules page claims → HasClaims rules added (claims ++ claims_of question.1 came)) →
       ((table : Rules) (claims : List PlainClaim) → HasClaims table added claims → HasClaims table passed claims × Keeps mid new) →
       AreAskedTo begun passed old new (take (i + 1) questions) after
@@ -66,6 +66,6 @@ module _ (says : Verdicts Outcome) (scripts : Goal → List (Reply Outcome) → 
       ((table : Rules) (claims : List PlainClaim) → HasClaims table page claims → WritesPage table claims mid new) → AreShown says scripts rules begun old new fine
   all_shown begun page old mid new questions i fine same end so_far writes = record {
     claims = so_far.claims;
-    are_asked = subst (λ qs. AreAsked says scripts qs so_far.claims fine) (take_all i questions end ∙ same) so_far.are_asked;
+    are_asked = subst (λ qs. WereAsked says scripts qs so_far.claims fine) (take_all i questions end ∙ same) so_far.are_asked;
     is_written = λ start. let kept = so_far.waits start in kept_page rules so_far.claims old mid new kept.1 (writes rules so_far.claims kept.0);
   }

@@ -10,7 +10,7 @@ use Rattle.shown_graphs.proofs.Named.{claims_named}
 use Rattle.shown_graphs.specs.Below.{candidates_of, CxOf, DelegateOf, Goal, IsFirstBadLine, Outcome, Reads, Rules, Table, verdicts}
 use Rattle.shown_graphs.specs.Data.{plain_claim}
 use Rattle.shown_graphs.specs.Page.{IsPage}
-use Rattle.shown_graphs.specs.Program.{EndsChecking, EndsShowing, IsChecked, IsPageText, IsShown}
+use Rattle.shown_graphs.specs.Program.{EndsChecking, EndsShowing, IsJudgedPage, IsPageText, ShowsAnswers}
 use Rattle.shown_graphs.specs.Shown.{AreShown, HasClaims}
 use Rattle.shown_graphs.specs.Stop.{status_after, status_of}
 use Rattle.shown_graphs.specs.Told.{AreJudged}
@@ -67,7 +67,7 @@ module _ (known old new : Option (List ℕ)) where
 
 module _ {D V P F A T : Type 0} (G : DelegateOf D (Table (Bor Rules)) V P F Goal Outcome A T) (X : CxOf (Table (Bor Rules)) Goal Outcome A T) (known old new : Option (List ℕ)) (text : List ℕ) (table : Table (Bor Rules)) (is_known : IfSome known (λ bytes. text ≡ bytes)) where
   pub shown_of_text : G.script table ≡ (λ goal. script_of (candidates_of table.lender.now goal)) → (wanted : Form) (page : Page) → Reads text table.lender.now → (wanted ≡ form.Data → (rules : Rules) → Reads text rules → HasClaims rules page []) → (r : Result Bool Stop) →
-      IfOk r (AreShown (verdicts X) (G.script table) table.lender.now page old new) → IfOk r (IsShown G X known old new wanted)
+      IfOk r (AreShown (verdicts X) (G.script table) table.lender.now page old new) → IfOk r (ShowsAnswers G X known old new wanted)
   shown_of_text scripts wanted page reads begun (Ok all_fine) shown = record {
     text = text;
     is_known = is_known;
@@ -82,7 +82,7 @@ module _ {D V P F A T : Type 0} (G : DelegateOf D (Table (Bor Rules)) V P F Goal
   shown_of_text scripts wanted page reads begun (Err stop) shown = tt
 
   pub checked_of_text : (claims : List Claim) (left : List Token) → left ≡ tokens text → IsPage left table.lender.now (map plain_claim claims) → (r : Result Bool Stop) →
-      IfOk r (λ fine. AreJudged (verdicts X) (G.script table) table.lender.now claims fine old new) → IfOk r (IsChecked G X known old new)
+      IfOk r (λ fine. AreJudged (verdicts X) (G.script table) table.lender.now claims fine old new) → IfOk r (IsJudgedPage G X known old new)
   checked_of_text claims left same page (Ok fine) judged =
       record { text = text; is_known = is_known; table = table; claims = claims; is_page = subst (λ ts. IsPage ts table.lender.now (map plain_claim claims)) same page; are_judged = judged }
   checked_of_text claims left same page (Err stop) judged = tt

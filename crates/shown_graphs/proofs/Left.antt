@@ -7,7 +7,7 @@ use Rattle.cycle_heads.specs.declared.path.PathKind.{PathKind}
 use Rattle.shown_graphs.proofs.Arrays.{array_tail}
 use Rattle.shown_graphs.proofs.Readback.{after_replies, edge_parts, node_parts, reply_parts}
 use Rattle.shown_graphs.specs.Below.{Goal, Outcome, Reply}
-use Rattle.shown_graphs.specs.Data.{array_tokens, Begins, claim_tokens, edge_tokens, goal_tokens, IsClaim, IsEdge, IsNode, kind_tokens, list_tokens, node_tokens, number_tokens, outcome_tokens, PlainNode, reply_tokens, Spells}
+use Rattle.shown_graphs.specs.Data.{array_tokens, StandsFirst, claim_tokens, edge_tokens, goal_tokens, IsClaim, IsEdge, IsNode, kind_tokens, list_tokens, node_tokens, number_tokens, outcome_tokens, PlainNode, reply_tokens, Spells}
 
 module _ (names : List (List ℕ)) (whole t₁ t₂ t₃ : List Token) where
   -- of an edge
@@ -40,7 +40,7 @@ module _ (names : List (List ℕ)) (whole t₁ t₂ t₃ : List Token) where
             pub array_of_edges_left : Spells (All (IsEdge names)) (array_tokens (edge_tokens names)) t₈
             array_of_edges_left = let left = edges_left in record { value = node.value.edges; is_right = node.is_right.1; rest = end_object ∷ node.rest; are_its = cc }
 
-            pub node_end : (t₉ : List Token) (edges : List (Edge Goal)) → t₈ ≡ array_tokens (edge_tokens names) edges t₉ → Begins end_object t₉
+            pub node_end : (t₉ : List Token) (edges : List (Edge Goal)) → t₈ ≡ array_tokens (edge_tokens names) edges t₉ → StandsFirst end_object t₉
             node_end t₉ edges has_edges =
                 let left = edges_left in
                 let same : list_tokens (edge_tokens names) edges (end_array ∷ t₉) ≡ list_tokens (edge_tokens names) node.value.edges (end_array ∷ end_object ∷ node.rest) = cc in
@@ -55,7 +55,7 @@ module _ (names : List (List ℕ)) (whole t₁ t₂ t₃ : List Token) where
       pub nodes_left : t₅ ≡ key (codes "nodes") ∷ array_tokens (node_tokens names) claim.value.nodes (end_object ∷ claim.rest)
       nodes_left = let left = verdict_left in cc
 
-      pub claim_end : (t₆ t₇ : List Token) (nodes : List PlainNode) → t₅ ≡ key (codes "nodes") ∷ t₆ → t₆ ≡ array_tokens (node_tokens names) nodes t₇ → Begins end_object t₇
+      pub claim_end : (t₆ t₇ : List Token) (nodes : List PlainNode) → t₅ ≡ key (codes "nodes") ∷ t₆ → t₆ ≡ array_tokens (node_tokens names) nodes t₇ → StandsFirst end_object t₇
       claim_end t₆ t₇ nodes nodes_key has_nodes =
           let left = nodes_left in
           let same : list_tokens (node_tokens names) nodes (end_array ∷ t₇) ≡ list_tokens (node_tokens names) claim.value.nodes (end_array ∷ end_object ∷ claim.rest) = cc in

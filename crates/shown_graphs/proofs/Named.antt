@@ -8,7 +8,7 @@ use Rattle.std.proofs.lemmas.Option.{slice_get-get_or, slice_get-map, slice_get_
 use Rattle.std.proofs.lemmas.List.{length-map}
 use Rattle.rule_tables.specs.Below.{Answer, Begin, Done, EnterCandidate, Evaluate, FinishCandidate, Ignore, Noted}
 use Rattle.rule_tables.specs.Frame.{asking_in, asking_next, entering_next, marked_from, script_of, state_after, state_with, with_answer, with_ignored}
-use Rattle.rule_tables.specs.Table.{AreAsked as AreAskings, IsCandidate, IsTableOf, IsToBeAnswered, NamedCandidate}
+use Rattle.rule_tables.specs.Table.{AreAsked, IsCandidate, IsTableOf, IsToBeAnswered, NamedCandidate}
 use Rattle.rule_tables.specs.Grammar.{NamedQuestion, Statement}
 use Rattle.rule_tables.specs.declared.frame.State.{State}
 use Rattle.rule_tables.specs.declared.rules.Asking.{Asking}
@@ -19,12 +19,12 @@ use Rattle.search_context.specs.Run.{Asked, progress_after, progress_with, Progr
 use Rattle.search_context.specs.Valid.{goal_node_of, goal_nodes_of, IsRunOfSort, IsValid}
 use Rattle.search_context.specs.declared.context.Edge.{Edge}
 use Rattle.shown_graphs.proofs.Lists.{AllByRecursion-append}
-use Rattle.shown_graphs.specs.Checked.{AreReached, IsChecked, IsShownGraph}
+use Rattle.shown_graphs.specs.Checked.{AreReached, IsRightlyShown, IsShownGraph}
 use Rattle.cycle_heads.specs.declared.path.PathKind.{PathKind}
 use Rattle.cycle_heads.specs.declared.path.PathKind.TheVariants.{Coinductive, Inductive}
 use Rattle.shown_graphs.specs.Below.{candidates_of, Goal, Maybe, names_of, No, Node, number_of, Outcome, Overflow, questions_of, Reply, Request, Rules, Verdicts, Yes}
 use Rattle.shown_graphs.specs.Data.{goal_text, IsClaim, IsNamed, IsNode, IsTarget, plain_node, PlainClaim}
-use Rattle.shown_graphs.specs.Shown.{AreAsked, claims_of}
+use Rattle.shown_graphs.specs.Shown.{WereAsked, claims_of}
 use Rattle.shown_graphs.specs.declared.answer.Came.{Came}
 use Rattle.shown_graphs.specs.declared.answer.Came.TheVariants.{Graph, NoGraph, Unchecked, Fault}
 
@@ -38,7 +38,7 @@ module _ (names : List (List ℕ)) where
   abbrev pub AskNamed : List Candidate → Type 0
   AskNamed = AllByRecursion (λ c. AllByRecursion (λ a. IsNamed names a.goal) c.questions.items)
 
-  asked_named : (askings : List Asking) (questions : List NamedQuestion) → AreAskings names askings questions → AllByRecursion (λ a. IsNamed names a.goal) askings
+  asked_named : (askings : List Asking) (questions : List NamedQuestion) → AreAsked names askings questions → AllByRecursion (λ a. IsNamed names a.goal) askings
   asked_named [] questions h = tt
   asked_named (a ∷ askings) [] h = absurd h
   asked_named (a ∷ askings) (q ∷ questions) h = (is_named names a.goal q.name h.0.goal, asked_named askings questions h.1)
@@ -224,17 +224,17 @@ module _ (says : Verdicts Outcome) (scripts : Goal → List (Reply Outcome) → 
   shown_named goal Maybe nodes named shown = absurd shown.is_valid
   shown_named goal Overflow nodes named shown = absurd shown.is_valid
 
-  claim_named : (goal : Goal) (came : Came) → IsNamed (names_of rules) goal → IsChecked says scripts goal came → AllByRecursion (IsClaim (names_of rules)) (claims_of goal came)
+  claim_named : (goal : Goal) (came : Came) → IsNamed (names_of rules) goal → IsRightlyShown says scripts goal came → AllByRecursion (IsClaim (names_of rules)) (claims_of goal came)
   claim_named goal (Graph outcome nodes) named checked = ((named, shown_named goal outcome nodes.items named checked), tt)
   claim_named goal (NoGraph outcome reason) named checked = ((named, λ k d below. absurd (omega arith)), tt)
   claim_named goal (Unchecked outcome) named checked = tt
   claim_named goal (Fault fault) named checked = tt
 
-  all_claims_named : (asked : List (Goal × Came)) → AllByRecursion (IsNamed (names_of rules)) (map (λ a. a.0) asked) → All (λ a. IsChecked says scripts a.0 a.1) asked → AllByRecursion (IsClaim (names_of rules)) (flat_map (λ a. claims_of a.0 a.1) asked)
+  all_claims_named : (asked : List (Goal × Came)) → AllByRecursion (IsNamed (names_of rules)) (map (λ a. a.0) asked) → All (λ a. IsRightlyShown says scripts a.0 a.1) asked → AllByRecursion (IsClaim (names_of rules)) (flat_map (λ a. claims_of a.0 a.1) asked)
   all_claims_named [] named checked = tt
   all_claims_named (a ∷ asked) named checked =
-      AllByRecursion-append (IsClaim (names_of rules)) (claims_of a.0 a.1) (flat_map (λ b. claims_of b.0 b.1) asked) (claim_named a.0 a.1 named.0 (All-head (λ b. IsChecked says scripts b.0 b.1) a asked checked))
-      (all_claims_named asked named.1 (All-tail (λ b. IsChecked says scripts b.0 b.1) a asked checked))
+      AllByRecursion-append (IsClaim (names_of rules)) (claims_of a.0 a.1) (flat_map (λ b. claims_of b.0 b.1) asked) (claim_named a.0 a.1 named.0 (All-head (λ b. IsRightlyShown says scripts b.0 b.1) a asked checked))
+      (all_claims_named asked named.1 (All-tail (λ b. IsRightlyShown says scripts b.0 b.1) a asked checked))
 
   questions_named : (questions : List (ℕ × Goal)) (written : List (ℕ × List ℕ)) → AllZip (IsToBeAnswered (names_of rules)) questions written → AllByRecursion (IsNamed (names_of rules)) (map (λ q. q.1) questions)
   questions_named [] written h = tt
@@ -242,7 +242,7 @@ module _ (says : Verdicts Outcome) (scripts : Goal → List (Reply Outcome) → 
   questions_named (q ∷ questions) (w ∷ written) h = (is_named (names_of rules) q.1 w.1 h.0.goal, questions_named questions written h.1)
 
   -- each goal in the claims of the answers has a name
-  pub claims_named : (claims : List PlainClaim) (all_fine : Bool) → AreAsked says scripts (questions_of rules) claims all_fine → All (IsClaim (names_of rules)) claims
+  pub claims_named : (claims : List PlainClaim) (all_fine : Bool) → WereAsked says scripts (questions_of rules) claims all_fine → All (IsClaim (names_of rules)) claims
   claims_named claims all_fine asked =
       let goals = subst (AllByRecursion (IsNamed (names_of rules))) (sym asked.are_questions) (questions_named (questions_of rules) _ table.questions) in
       All-from_recursion (IsClaim (names_of rules)) claims (subst (AllByRecursion (IsClaim (names_of rules))) (sym asked.are_claims) (all_claims_named asked.asked goals asked.are_checked))

@@ -8,7 +8,7 @@ use Rattle.std.proofs.lemmas.List.Folds.{list_all-append, list_any-append}
 use Rattle.std.proofs.lemmas.Map.Keys.{IsDistinct-push}
 use Rattle.std.specs.List.{IsDistinct, list_all, list_any}
 use Rattle.std.specs.Cmp.{IsEquivalence}
-use Rattle.shown_graphs.specs.Plan.{is_cut, is_found, IsMarked, IsWalk, place_of, place_shown, places_shown}
+use Rattle.shown_graphs.specs.Plan.{is_cut, is_found, WasSeen, ShowsSeen, place_of, place_shown, places_shown}
 use Rattle.shown_graphs.specs.declared.plan.Line.{Line}
 use Rattle.shown_graphs.specs.declared.plan.Line.TheVariants.{Again, Cut, Shown}
 use Rattle.shown_graphs.specs.declared.plan.Mark.{Mark}
@@ -43,7 +43,7 @@ found_push : (shown : List ℕ) (lines : List Line) (line : Line) → list_all (
 found_push shown lines line all one = list_all-append (is_found shown) lines (line ∷ []) ∙ and_both (list_all (is_found shown) lines) (is_found shown line && true) all (and_both (is_found shown line) true one refl)
 
 -- one more line that shows nothing
-walk_same : (lines : List Line) (line : Line) (marks : List Mark) → places_shown (lines ++ line ∷ []) ≡ places_shown lines → is_found (places_shown lines) line ≡ true → IsWalk lines marks → IsWalk (lines ++ line ∷ []) marks
+walk_same : (lines : List Line) (line : Line) (marks : List Mark) → places_shown (lines ++ line ∷ []) ≡ places_shown lines → is_found (places_shown lines) line ≡ true → ShowsSeen lines marks → ShowsSeen (lines ++ line ∷ []) marks
 walk_same lines line marks same here walk = record {
   once = subst (λ places. IsDistinct nat_eq places) (sym same) walk.once;
   found = ap (λ places. list_all (is_found places) (lines ++ line ∷ [])) same ∙ found_push (places_shown lines) lines line walk.found here;
@@ -51,11 +51,11 @@ walk_same lines line marks same here walk = record {
   seen = λ place number h. ap (λ places. list_any (nat_eq place) places) same ∙ walk.seen place number h;
 }
 
-pub walk_again : (lines : List Line) (marks : List Mark) (place level number : ℕ) (closes : Bool) → IsMarked marks place number → IsWalk lines marks → IsWalk (lines ++ Again place level number closes ∷ []) marks
+pub walk_again : (lines : List Line) (marks : List Mark) (place level number : ℕ) (closes : Bool) → WasSeen marks place number → ShowsSeen lines marks → ShowsSeen (lines ++ Again place level number closes ∷ []) marks
 walk_again lines marks place level number closes known walk =
     walk_same lines (Again place level number closes) marks (filter_map-append place_shown lines (Again place level number closes ∷ []) ∙ append-nil _) (walk.seen place number known) walk
 
-pub walk_cut : (lines : List Line) (marks : List Mark) (place level : ℕ) → IsWalk lines marks → IsWalk (lines ++ Cut place level ∷ []) marks
+pub walk_cut : (lines : List Line) (marks : List Mark) (place level : ℕ) → ShowsSeen lines marks → ShowsSeen (lines ++ Cut place level ∷ []) marks
 walk_cut lines marks place level walk = walk_same lines (Cut place level) marks (filter_map-append place_shown lines (Cut place level ∷ []) ∙ append-nil _) refl walk
 
 -- the mark of a node after one was marked anew
@@ -69,7 +69,7 @@ mark_after marks place q old new mark before h = ⊎_elim
 
 -- a node that was unseen is shown, and marked
 pub walk_shown : IsEquivalence nat_eq → (lines : List Line) (marks : List Mark) (place level number mark : ℕ) → slice_get marks place ≡ Some Unseen →
-    IsWalk lines marks → IsWalk (lines ++ Shown place level number ∷ []) (slice_set marks place (Open mark))
+    ShowsSeen lines marks → ShowsSeen (lines ++ Shown place level number ∷ []) (slice_set marks place (Open mark))
 walk_shown laws lines marks place level number mark unseen walk =
     let more : places_shown (lines ++ Shown place level number ∷ []) ≡ places_shown lines ++ place ∷ [] = filter_map-append place_shown lines (Shown place level number ∷ []) in
     let any : (q : ℕ) → list_any (nat_eq q) (places_shown (lines ++ Shown place level number ∷ [])) ≡ (list_any (nat_eq q) (places_shown lines) || (nat_eq q place || false)) =
@@ -93,7 +93,7 @@ walk_shown laws lines marks place level number mark unseen walk =
     }
 
 -- a node is left: it is shown as before
-pub walk_left : (lines : List Line) (marks : List Mark) (place number : ℕ) → slice_get marks place ≡ Some (Open number) → IsWalk lines marks → IsWalk lines (slice_set marks place (Done number))
+pub walk_left : (lines : List Line) (marks : List Mark) (place number : ℕ) → slice_get marks place ≡ Some (Open number) → ShowsSeen lines marks → ShowsSeen lines (slice_set marks place (Done number))
 walk_left lines marks place number before walk =
     let here : (q : ℕ) → nat_eq q place ≡ true → list_any (nat_eq q) (places_shown lines) ≡ true = λ q t. subst (λ p. list_any (nat_eq p) (places_shown lines) ≡ true) (sym (eqb-true q place t)) (walk.seen place number (inl before)) in
     record {
@@ -112,11 +112,11 @@ get-replicate (suc n) zero a b h = cc
 get-replicate (suc n) (suc i) a b h = get-replicate n i a b h
 
 -- nothing is shown yet
-pub walk_begins : (lines : List Line) (marks : List Mark) (count : ℕ) → lines ≡ [] → marks ≡ replicate count Unseen → IsWalk lines marks
+pub walk_begins : (lines : List Line) (marks : List Mark) (count : ℕ) → lines ≡ [] → marks ≡ replicate count Unseen → ShowsSeen lines marks
 unfolding IsDistinct
 walk_begins lines marks count none fresh =
     let all_unseen : (place : ℕ) (mark : Mark) → slice_get marks place ≡ Some mark → mark ≡ Unseen = λ place mark h. get-replicate count place Unseen mark (sym (ap (λ ms. slice_get ms place) fresh) ∙ h) in
-    subst (λ ls. IsWalk ls marks) (sym none) (record {
+    subst (λ ls. ShowsSeen ls marks) (sym none) (record {
       once = search rules;
       found = refl;
       unseen = λ place h. refl;

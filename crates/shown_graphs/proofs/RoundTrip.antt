@@ -23,10 +23,10 @@ use Rattle.shown_graphs.proofs.Newline.{newline_passed}
 use Rattle.shown_graphs.proofs.Pages.{page_told}
 use Rattle.shown_graphs.proofs.SameRules.{same_script}
 use Rattle.shown_graphs.specs.Below.{candidates_of, CxOf, DelegateOf, Goal, names_of, Node, Outcome, Reply, Request, Rules, Table, Verdict, verdicts, Verdicts}
-use Rattle.shown_graphs.specs.Checked.{IsChecked, verdict_of}
+use Rattle.shown_graphs.specs.Checked.{IsRightlyShown, verdict_of}
 use Rattle.shown_graphs.specs.Data.{IsClaim, IsNamed, IsNode, plain_claim, plain_node, PlainClaim, PlainNode}
 use Rattle.shown_graphs.specs.Page.{IsPage}
-use Rattle.shown_graphs.specs.Program.{Finds, IsChecked as IsCheckedText, IsReadBack, IsShown}
+use Rattle.shown_graphs.specs.Program.{ReadsBack, IsJudgedPage, IsReadBack, ShowsAnswers}
 use Rattle.shown_graphs.specs.Rules.{AreSameRules}
 use Rattle.shown_graphs.specs.Shown.{claims_of, IsWrittenPage}
 use Rattle.shown_graphs.specs.declared.page.Form.TheVariants.{Data}
@@ -92,16 +92,16 @@ module _ (says : Verdicts Outcome) (scripts others : Goal → List (Reply Outcom
       ((nodes : List (Node Goal Outcome)) × (claim.nodes ≡ map plain_node nodes) × IsValidFor says (verdict_of claim.outcome) scripts nodes claim.goal)
       ⊎ ((verdict_of claim.outcome ≡ verdict.Neither) × (claim.nodes ≡ []))
 
-  claim_good : (goal : Goal) (came : Came) → IsChecked says scripts goal came → AllByRecursion IsGood (claims_of goal came)
+  claim_good : (goal : Goal) (came : Came) → IsRightlyShown says scripts goal came → AllByRecursion IsGood (claims_of goal came)
   claim_good goal (Graph outcome nodes) checked = (inl (nodes.items, refl, checked.is_valid), tt)
   claim_good goal (NoGraph outcome reason) checked = (inr (checked, refl), tt)
   claim_good goal (Unchecked outcome) checked = tt
   claim_good goal (Fault fault) checked = tt
 
-  pub all_good : (asked : List (Goal × Came)) → All (λ a. IsChecked says scripts a.0 a.1) asked → AllByRecursion IsGood (flat_map (λ a. claims_of a.0 a.1) asked)
+  pub all_good : (asked : List (Goal × Came)) → All (λ a. IsRightlyShown says scripts a.0 a.1) asked → AllByRecursion IsGood (flat_map (λ a. claims_of a.0 a.1) asked)
   all_good [] checked = tt
   all_good (a ∷ asked) checked =
-      AllByRecursion-append IsGood (claims_of a.0 a.1) (flat_map (λ b. claims_of b.0 b.1) asked) (claim_good a.0 a.1 (All-head (λ b. IsChecked says scripts b.0 b.1) a asked checked)) (all_good asked (All-tail (λ b. IsChecked says scripts b.0 b.1) a asked checked))
+      AllByRecursion-append IsGood (claims_of a.0 a.1) (flat_map (λ b. claims_of b.0 b.1) asked) (claim_good a.0 a.1 (All-head (λ b. IsRightlyShown says scripts b.0 b.1) a asked checked)) (all_good asked (All-tail (λ b. IsRightlyShown says scripts b.0 b.1) a asked checked))
 
   no_nodes : (nodes : List (Node Goal Outcome)) → map plain_node nodes ≡ [] → nodes ≡ []
   no_nodes [] none = refl
@@ -132,7 +132,7 @@ module _ {D V P F A T : Type 0} (G : DelegateOf D (Table (Bor Rules)) V P F Goal
   scripts_of_same table other same goal named =
       ap (λ f. f goal) (scripts other) ∙ same_script (candidates_of table.lender.now goal) (candidates_of other.lender.now goal) (same.candidates goal _ named) ∙ sym (ap (λ f. f goal) (scripts table))
 
-  module _ (known old new : Option (List ℕ)) (all_fine : Bool) (shown : IsShown G X known old new Data all_fine) (page : IsWrittenPage shown.table.lender.now shown.claims old new) where
+  module _ (known old new : Option (List ℕ)) (all_fine : Bool) (shown : ShowsAnswers G X known old new Data all_fine) (page : IsWrittenPage shown.table.lender.now shown.claims old new) where
     abbrev rules : Rules
     rules = shown.table.lender.now
 
@@ -142,7 +142,7 @@ module _ {D V P F A T : Type 0} (G : DelegateOf D (Table (Bor Rules)) V P F Goal
     written_page : IsPage (tokens written) rules shown.claims
     written_page = subst (λ ts. IsPage ts rules shown.claims) (sym (newline_passed page.text)) page.is_page
 
-    found : (given told : Option (List ℕ)) (none_refused : Bool) (checked : IsCheckedText G X (Some written) given told none_refused) → Finds rules shown.claims checked.table.lender.now (map plain_claim checked.claims) none_refused
+    found : (given told : Option (List ℕ)) (none_refused : Bool) (checked : IsJudgedPage G X (Some written) given told none_refused) → ReadsBack rules shown.claims checked.table.lender.now (map plain_claim checked.claims) none_refused
     found given told none_refused checked =
         let read : List PlainClaim = map plain_claim checked.claims in
         let is_page : IsPage (tokens written) checked.table.lender.now read = subst (λ text. IsPage (tokens text) checked.table.lender.now read) checked.is_known checked.is_page in
@@ -159,7 +159,7 @@ module _ {D V P F A T : Type 0} (G : DelegateOf D (Table (Bor Rules)) V P F Goal
     read_back : IsReadBack G X rules shown.claims written
     read_back = record { is_page = (IsUtf8-append page.text (codes "\n") page.is_utf8 newline_is_utf8, record { rules = rules; claims = shown.claims; is_page = written_page }); finds = found }
 
-  pub shown_is_read_back : (known old new : Option (List ℕ)) (all_fine : Bool) (shown : IsShown G X known old new Data all_fine) → (text : List ℕ) × Appends old new text × IsReadBack G X shown.table.lender.now shown.claims text
+  pub shown_is_read_back : (known old new : Option (List ℕ)) (all_fine : Bool) (shown : ShowsAnswers G X known old new Data all_fine) → (text : List ℕ) × Appends old new text × IsReadBack G X shown.table.lender.now shown.claims text
   shown_is_read_back known old new all_fine shown =
       let page = shown.is_written refl in
       (page.text ++ codes "\n", page.written, read_back known old new all_fine shown page)

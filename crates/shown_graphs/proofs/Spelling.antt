@@ -9,32 +9,32 @@ use Rattle.shown_graphs.proofs.Arrays.{list_tokens-push}
 use Rattle.shown_graphs.proofs.Readback.{claim_told}
 use Rattle.shown_graphs.specs.declared.reading.Claim.{Claim}
 use Rattle.shown_graphs.specs.declared.reading.source.Source.{Source}
-use Rattle.shown_graphs.specs.Data.{claim_tokens, HaveOwnNames, IsClaim, left_in, list_tokens, plain_claim, PlainClaim, Puts}
+use Rattle.shown_graphs.specs.Data.{claim_tokens, HaveOwnNames, IsClaim, left_in, list_tokens, plain_claim, PlainClaim, PutsTokens}
 
 -- nothing is appended yet
-pub puts_none : (writer : Written) → Puts writer writer (λ rest. rest)
+pub puts_none : (writer : Written) → PutsTokens writer writer (λ rest. rest)
 puts_none writer = record { alone = refl; appended = λ rest. refl }
 
 -- and then one token
-pub puts_token : (old mid new : Written) (token : Token) (spelled : List Token → List Token) → Puts old mid spelled → new.tokens ≡ mid.tokens ++ token ∷ [] → new.before ≡ mid.before → Puts old new (λ rest. spelled (token ∷ rest))
+pub puts_token : (old mid new : Written) (token : Token) (spelled : List Token → List Token) → PutsTokens old mid spelled → new.tokens ≡ mid.tokens ++ token ∷ [] → new.before ≡ mid.before → PutsTokens old new (λ rest. spelled (token ∷ rest))
 puts_token old mid new token spelled so_far one alone = record { alone = alone ∙ so_far.alone; appended = λ rest. ap (λ ts. ts ++ rest) one ∙ append_assoc mid.tokens (token ∷ []) rest ∙ so_far.appended (token ∷ rest) }
 
 -- a string
-pub puts_string : (old mid new : Written) (text wanted : List ℕ) (spelled : List Token → List Token) → Puts old mid spelled → new.tokens ≡ mid.tokens ++ string text ∷ [] → new.before ≡ mid.before → text ≡ wanted →
-    Puts old new (λ rest. spelled (string wanted ∷ rest))
+pub puts_string : (old mid new : Written) (text wanted : List ℕ) (spelled : List Token → List Token) → PutsTokens old mid spelled → new.tokens ≡ mid.tokens ++ string text ∷ [] → new.before ≡ mid.before → text ≡ wanted →
+    PutsTokens old new (λ rest. spelled (string wanted ∷ rest))
 puts_string old mid new text wanted spelled so_far one alone same = puts_token old mid new (string wanted) spelled so_far (one ∙ ap (λ t. mid.tokens ++ string t ∷ []) same) alone
 
 -- or several
-pub puts_all : (old mid new : Written) (first second : List Token → List Token) → Puts old mid first → Puts mid new second → Puts old new (λ rest. first (second rest))
+pub puts_all : (old mid new : Written) (first second : List Token → List Token) → PutsTokens old mid first → PutsTokens mid new second → PutsTokens old new (λ rest. first (second rest))
 puts_all old mid new first second so_far more = record { alone = more.alone ∙ so_far.alone; appended = λ rest. more.appended rest ∙ so_far.appended (second rest) }
 
-pub puts_same : (old new : Written) (first second : List Token → List Token) → Puts old new first → ((rest : List Token) → first rest ≡ second rest) → Puts old new second
+pub puts_same : (old new : Written) (first second : List Token → List Token) → PutsTokens old new first → ((rest : List Token) → first rest ≡ second rest) → PutsTokens old new second
 puts_same old new first second so_far same = record { alone = so_far.alone; appended = λ rest. so_far.appended rest ∙ ap (λ ts. old.tokens ++ ts) (same rest) }
 
 -- one value more of a list
 pub list_more : {A : Type 0} (spelled : A → List Token → List Token) (old mid new : Written) (xs : List A) (i : ℕ) (x d : A) → i < length xs → x ≡ get_or xs i d →
-    Puts old mid (λ rest. begin_array ∷ list_tokens spelled (take i xs) rest) → Puts mid new (spelled x) →
-    Puts old new (λ rest. begin_array ∷ list_tokens spelled (take (i + 1) xs) rest)
+    PutsTokens old mid (λ rest. begin_array ∷ list_tokens spelled (take i xs) rest) → PutsTokens mid new (spelled x) →
+    PutsTokens old new (λ rest. begin_array ∷ list_tokens spelled (take (i + 1) xs) rest)
 list_more spelled old mid new xs i x d below is so_far more = record {
   alone = more.alone ∙ so_far.alone;
   appended = λ rest.
@@ -45,8 +45,8 @@ list_more spelled old mid new xs i x d below is so_far more = record {
 
 -- the same of what `view` sees of the list
 pub list_more_seen : {A B : Type 0} (view : A → B) (spelled : B → List Token → List Token) (old mid new : Written) (xs : List A) (i : ℕ) (x d : A) → i < length xs → x ≡ get_or xs i d →
-    Puts old mid (λ rest. begin_array ∷ list_tokens spelled (map view (take i xs)) rest) → Puts mid new (spelled (view x)) →
-    Puts old new (λ rest. begin_array ∷ list_tokens spelled (map view (take (i + 1) xs)) rest)
+    PutsTokens old mid (λ rest. begin_array ∷ list_tokens spelled (map view (take i xs)) rest) → PutsTokens mid new (spelled (view x)) →
+    PutsTokens old new (λ rest. begin_array ∷ list_tokens spelled (map view (take (i + 1) xs)) rest)
 list_more_seen view spelled old mid new xs i x d below is so_far more = record {
   alone = more.alone ∙ so_far.alone;
   appended = λ rest.

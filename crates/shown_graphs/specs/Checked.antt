@@ -23,12 +23,12 @@ pub record IsShownGraph (says : Verdicts Outcome) (scripts : Goal → List (Repl
   pub count : length nodes < 2 ^ 64
 
 -- what is shown of the goal is such a graph, or it came to neither yes nor no
-abbrev pub IsChecked : Verdicts Outcome → (Goal → List (Reply Outcome) → Request Goal Outcome) → Goal → Came → Type 0
-IsChecked says scripts goal (Graph outcome nodes) = IsShownGraph says scripts goal outcome nodes.items
-IsChecked says scripts goal (NoGraph outcome reason) = verdict_of outcome ≡ verdict.Neither
-IsChecked says scripts goal (Unchecked outcome) = ⊤
-IsChecked says scripts goal (Fault fault) = ⊤
+abbrev pub IsRightlyShown : Verdicts Outcome → (Goal → List (Reply Outcome) → Request Goal Outcome) → Goal → Came → Type 0
+IsRightlyShown says scripts goal (Graph outcome nodes) = IsShownGraph says scripts goal outcome nodes.items
+IsRightlyShown says scripts goal (NoGraph outcome reason) = verdict_of outcome ≡ verdict.Neither
+IsRightlyShown says scripts goal (Unchecked outcome) = ⊤
+IsRightlyShown says scripts goal (Fault fault) = ⊤
 
 -- it may be shown of any goal, since it shows no graph
 abbrev pub ShowsNoGraph : Came → Type 0
-ShowsNoGraph came = (says : Verdicts Outcome) (scripts : Goal → List (Reply Outcome) → Request Goal Outcome) (goal : Goal) → IsChecked says scripts goal came
+ShowsNoGraph came = (says : Verdicts Outcome) (scripts : Goal → List (Reply Outcome) → Request Goal Outcome) (goal : Goal) → IsRightlyShown says scripts goal came

@@ -93,7 +93,7 @@ module _ (names : List (List ℕ)) where
   HaveTexts = (goal : Goal) → IsUtf8 (goal_text goal)
 
 -- these tokens are appended, and nothing before them is changed
-pub record Puts (old new : Written) (spelled : List Token → List Token) : Type 0 where
+pub record PutsTokens (old new : Written) (spelled : List Token → List Token) : Type 0 where
   pub alone : new.before ≡ old.before
   pub appended : (rest : List Token) → new.tokens ++ rest ≡ old.tokens ++ spelled rest
 
@@ -104,8 +104,8 @@ abbrev pub left_in : Source → List Token
 left_in source = source.reader
 
 -- this token stands first
-abbrev pub Begins : Token → List Token → Type 0
-Begins token tokens = (rest : List Token) × (tokens ≡ token ∷ rest)
+abbrev pub StandsFirst : Token → List Token → Type 0
+StandsFirst token tokens = (rest : List Token) × (tokens ≡ token ∷ rest)
 
 -- The tokens of some value stand first, of which P holds.
 pub record Spells {A : Type 0} (P : A → Type 0) (spelled : A → List Token → List Token) (tokens : List Token) : Type 0 where

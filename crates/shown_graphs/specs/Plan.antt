@@ -90,15 +90,15 @@ AreWhole nodes lines = (count : ℕ) × (lines_read nodes lines unread ≡ Some 
 -- ---- the walk
 
 -- the node was seen: its lines are begun, or at their end
-abbrev pub IsMarked : List Mark → ℕ → ℕ → Type 0
-IsMarked marks place number = (slice_get marks place ≡ Some (marked.Open number)) ⊎ (slice_get marks place ≡ Some (marked.Done number))
+abbrev pub WasSeen : List Mark → ℕ → ℕ → Type 0
+WasSeen marks place number = (slice_get marks place ≡ Some (marked.Open number)) ⊎ (slice_get marks place ≡ Some (marked.Done number))
 
 -- what holds of a walk between two lines: exactly the nodes that were seen are shown
-pub record IsWalk (lines : List Line) (marks : List Mark) : Type 0 where
+pub record ShowsSeen (lines : List Line) (marks : List Mark) : Type 0 where
   pub once : AreShownOnce lines
   pub found : AreFound lines
   pub unseen : (place : ℕ) → slice_get marks place ≡ Some marked.Unseen → list_any (nat_eq place) (places_shown lines) ≡ false
-  pub seen : (place number : ℕ) → IsMarked marks place number → list_any (nat_eq place) (places_shown lines) ≡ true
+  pub seen : (place number : ℕ) → WasSeen marks place number → list_any (nat_eq place) (places_shown lines) ≡ true
 
 -- the targets that are to come below the open nodes
 abbrev pub pending_of : List Open → List (List ℕ)

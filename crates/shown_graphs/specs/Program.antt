@@ -8,7 +8,7 @@ use Rattle.shown_graphs.specs.Below.{CxOf, DelegateOf, Goal, IsFirstBadLine, Out
 use Rattle.shown_graphs.specs.Data.{plain_claim, PlainClaim}
 use Rattle.shown_graphs.specs.Page.{AreOfPage, IsPage}
 use Rattle.shown_graphs.specs.Rules.{AreSameRules}
-use Rattle.shown_graphs.specs.Shown.{AreAsked, IsWrittenPage}
+use Rattle.shown_graphs.specs.Shown.{WereAsked, IsWrittenPage}
 use Rattle.shown_graphs.specs.Told.{AreJudged}
 use Rattle.shown_graphs.specs.declared.page.Form.{Form}
 use Rattle.shown_graphs.specs.declared.page.Form.TheVariants.{Data}
@@ -38,17 +38,17 @@ module _ (known old new : Option (List ℕ)) where
 module _ {D V P F A T : Type 0} (G : DelegateOf D (Table (Bor Rules)) V P F Goal Outcome A T) (X : CxOf (Table (Bor Rules)) Goal Outcome A T) (known old new : Option (List ℕ)) where
   -- The text, which is the known one where one is known, makes a table, and all its questions were asked. As data a page is
   -- written that has the same rules and the claims of their answers, in order.
-  pub record IsShown (form : Form) (all_fine : Bool) : Type 0 where
+  pub record ShowsAnswers (form : Form) (all_fine : Bool) : Type 0 where
     pub text : List ℕ
     pub is_known : IfSome known (λ bytes. text ≡ bytes)
     pub table : Table (Bor Rules)
     pub reads : Reads text table.lender.now
     pub claims : List PlainClaim
-    pub are_asked : AreAsked (verdicts X) (G.script table) (questions_of table.lender.now) claims all_fine
+    pub are_asked : WereAsked (verdicts X) (G.script table) (questions_of table.lender.now) claims all_fine
     pub is_written : form ≡ Data → IsWrittenPage table.lender.now claims old new
 
   -- The text is a page of data, and all its claims were judged.
-  pub record IsChecked (none_refused : Bool) : Type 0 where
+  pub record IsJudgedPage (none_refused : Bool) : Type 0 where
     pub text : List ℕ
     pub is_known : IfSome known (λ bytes. text ≡ bytes)
     pub table : Table (Bor Rules)
@@ -57,7 +57,7 @@ module _ {D V P F A T : Type 0} (G : DelegateOf D (Table (Bor Rules)) V P F Goal
     pub are_judged : AreJudged (verdicts X) (G.script table) table.lender.now claims none_refused old new
 
 -- What a check finds are these rules and these claims, none of which it refuses.
-pub record Finds (rules : Rules) (claims : List PlainClaim) (found : Rules) (read : List PlainClaim) (none_refused : Bool) : Type 0 where
+pub record ReadsBack (rules : Rules) (claims : List PlainClaim) (found : Rules) (read : List PlainClaim) (none_refused : Bool) : Type 0 where
   pub same_rules : AreSameRules rules found
   pub same_claims : read ≡ claims
   pub accepted : none_refused ≡ true
@@ -66,5 +66,5 @@ module _ {D V P F A T : Type 0} (G : DelegateOf D (Table (Bor Rules)) V P F Goal
   -- The text is a page, so it is never bad data, and whatever checks it finds these rules and claims.
   pub record IsReadBack (rules : Rules) (claims : List PlainClaim) (text : List ℕ) : Type 0 where
     pub is_page : IsPageText text
-    pub finds : (old new : Option (List ℕ)) (none_refused : Bool) (checked : IsChecked G X (Some text) old new none_refused) →
-        Finds rules claims checked.table.lender.now (map plain_claim checked.claims) none_refused
+    pub finds : (old new : Option (List ℕ)) (none_refused : Bool) (checked : IsJudgedPage G X (Some text) old new none_refused) →
+        ReadsBack rules claims checked.table.lender.now (map plain_claim checked.claims) none_refused

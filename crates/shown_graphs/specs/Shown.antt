@@ -7,7 +7,7 @@ use Rattle.json.specs.Lex.{tokens}
 use Rattle.json.specs.Token.{Token}
 use Rattle.json.specs.Written.{Written}
 use Rattle.shown_graphs.specs.Below.{Goal, names_of, Outcome, questions_of, Reads, Reply, Request, Rules, Verdicts}
-use Rattle.shown_graphs.specs.Checked.{IsChecked}
+use Rattle.shown_graphs.specs.Checked.{IsRightlyShown}
 use Rattle.shown_graphs.specs.Data.{claim_tokens, IsClaim, list_tokens, plain_node, PlainClaim}
 use Rattle.shown_graphs.specs.Page.{begun_page, IsPage, text_of}
 use Rattle.shown_graphs.specs.declared.answer.Came.{Came}
@@ -30,10 +30,10 @@ claims_of goal (Unchecked outcome) = []
 claims_of goal (Fault fault) = []
 
 -- Each of these questions was asked, in order. A graph that is shown of it is valid for its goal and its outcome.
-pub record AreAsked (says : Verdicts Outcome) (scripts : Goal → List (Reply Outcome) → Request Goal Outcome) (questions : List (ℕ × Goal)) (claims : List PlainClaim) (all_fine : Bool) : Type 0 where
+pub record WereAsked (says : Verdicts Outcome) (scripts : Goal → List (Reply Outcome) → Request Goal Outcome) (questions : List (ℕ × Goal)) (claims : List PlainClaim) (all_fine : Bool) : Type 0 where
   pub asked : List (Goal × Came)
   pub are_questions : map (λ a. a.0) asked ≡ map (λ q. q.1) questions
-  pub are_checked : All (λ a. IsChecked says scripts a.0 a.1) asked
+  pub are_checked : All (λ a. IsRightlyShown says scripts a.0 a.1) asked
   pub are_claims : claims ≡ flat_map (λ a. claims_of a.0 a.1) asked
   pub fine : all_fine ≡ list_all (λ a. is_fine a.1) asked
 
@@ -65,5 +65,5 @@ WritesPage rules claims old new = All (IsClaim (names_of rules)) claims → IsWr
 -- their answers in order.
 pub record AreShown (says : Verdicts Outcome) (scripts : Goal → List (Reply Outcome) → Request Goal Outcome) (rules : Rules) (page : Page) (old new : Option (List ℕ)) (all_fine : Bool) : Type 0 where
   pub claims : List PlainClaim
-  pub are_asked : AreAsked says scripts (questions_of rules) claims all_fine
+  pub are_asked : WereAsked says scripts (questions_of rules) claims all_fine
   pub is_written : HasClaims rules page [] → WritesPage rules claims old new

@@ -1,7 +1,7 @@
 //! One question: it is asked, and the graph of a definite answer is checked before anything is shown of it.
 ghost use Rattle.std.specs.Prelude.{◌↔◌, IfOk, IsTrue};
 ghost use Rattle.shown_graphs.specs.Below.{IsValidFor, verdicts};
-ghost use Rattle.shown_graphs.specs.Checked.{IsChecked, ShowsNoGraph, verdict_of};
+ghost use Rattle.shown_graphs.specs.Checked.{IsRightlyShown, ShowsNoGraph, verdict_of};
 
 use crate::progress::Progress;
 use crate::watch::{Reason, Watcher};
@@ -62,7 +62,7 @@ where
     X: Cx<Input = Goal, Result = Outcome>,
     D: Delegate<Cx = X, ProofTreeBuilder = Builder>,
     P: Progress,
-    ensures { IsChecked (verdicts X.Cx) (D.script cx) goal result }
+    ensures { IsRightlyShown (verdicts X.Cx) (D.script cx) goal result }
 {
     let mut graph = SearchGraph::<Watching<X, D, P>>::new(alloc, depth);
     let came = match graph.evaluate_goal(cache, goal, PathKind::Inductive, watcher) {
@@ -88,7 +88,7 @@ where
     X: Cx<Input = Goal, Result = Outcome>,
     D: Delegate<Cx = X, ProofTreeBuilder = Builder>,
     P: Progress,
-    ensures { IfOk result (λ came. IsChecked (verdicts X.Cx) (D.script cx) goal came) }
+    ensures { IfOk result (λ came. IsRightlyShown (verdicts X.Cx) (D.script cx) goal came) }
 {
     let outcome = answer.result;
     let Some(node) = answer.node else {

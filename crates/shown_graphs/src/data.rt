@@ -5,7 +5,7 @@ ghost use Rattle.std.specs.Str.{IsUtf8};
 ghost use Rattle.json.specs.Token.{end_array, end_object};
 ghost use Rattle.rule_tables.specs.Grammar.{Nothing, Says};
 ghost use Rattle.shown_graphs.specs.Below.{names_of, word_of};
-ghost use Rattle.shown_graphs.specs.Data.{array_tokens, claim_tokens, edge_tokens, HaveTexts, list_tokens, node_tokens, plain_node, Puts, reply_tokens, reply_word, string_tokens};
+ghost use Rattle.shown_graphs.specs.Data.{array_tokens, claim_tokens, edge_tokens, HaveTexts, list_tokens, node_tokens, plain_node, PutsTokens, reply_tokens, reply_word, string_tokens};
 ghost use Rattle.shown_graphs.specs.Page.{begun_page, text_of};
 ghost use Rattle.shown_graphs.specs.Rules.{MakesTheSame, SayTheSame};
 
@@ -20,7 +20,7 @@ use std::alloc::{AllocError, Global};
 /// about.
 pub(crate) fn write_start(writer: &mut Writer<Global>, text: &[u8]) -> Result<(), AllocError>
     ensures { OnOk result ((lines : List (List ℕ)) × MakesTheSame text.now (text_of lines)
-        × Puts writer.old writer.new (begun_page lines)) }
+        × PutsTokens writer.old writer.new (begun_page lines)) }
 {
     writer.begin_object()?;
     writer.key("rules")?;
@@ -37,7 +37,7 @@ pub(crate) fn write_start(writer: &mut Writer<Global>, text: &[u8]) -> Result<()
 // Writes the line, if it says something.
 fn write_line(writer: &mut Writer<Global>, line: &[u8]) -> Result<(), AllocError>
     ensures { OnOk result ((lines : List (List ℕ)) × SayTheSame line.now lines
-        × Puts writer.old writer.new (list_tokens string_tokens lines)) }
+        × PutsTokens writer.old writer.new (list_tokens string_tokens lines)) }
 {
     if says_something(line) {
         writer.string(text_of_line(line))?;
@@ -64,7 +64,8 @@ fn text_of_line(line: &[u8]) -> &str
 
 /// Writes what follows the last answer.
 pub(crate) fn write_end(writer: &mut Writer<Global>) -> Result<(), AllocError>
-    ensures { OnOk result (Puts writer.old writer.new (λ rest. end_array ∷ end_object ∷ rest)) }
+    ensures { OnOk result (PutsTokens writer.old writer.new (λ rest.
+        end_array ∷ end_object ∷ rest)) }
 {
     writer.end_array()?;
     writer.end_object()?;
@@ -80,7 +81,7 @@ pub(crate) fn write_answer(
     nodes: &[Node<Goal, Outcome>],
 ) -> Result<(), AllocError>
     ensures { HaveTexts (names_of rules.now) →
-        OnOk result (Puts writer.old writer.new (claim_tokens (names_of rules.now)
+        OnOk result (PutsTokens writer.old writer.new (claim_tokens (names_of rules.now)
         (record { goal = goal; outcome = outcome; nodes = map plain_node nodes.now }))) }
 {
     writer.begin_object()?;
@@ -99,7 +100,7 @@ fn write_nodes(
     rules: &Rules,
     nodes: &[Node<Goal, Outcome>],
 ) -> Result<(), AllocError>
-    ensures { HaveTexts (names_of rules.now) → OnOk result (Puts writer.old writer.new
+    ensures { HaveTexts (names_of rules.now) → OnOk result (PutsTokens writer.old writer.new
         (array_tokens (node_tokens (names_of rules.now)) (map plain_node nodes.now))) }
 {
     writer.begin_array()?;
@@ -116,7 +117,7 @@ fn write_node(
     node: &Node<Goal, Outcome>,
 ) -> Result<(), AllocError>
     ensures { HaveTexts (names_of rules.now) → OnOk result
-        (Puts writer.old writer.new (node_tokens (names_of rules.now) (plain_node node.now))) }
+        (PutsTokens writer.old writer.new (node_tokens (names_of rules.now) (plain_node node.now))) }
 {
     writer.begin_object()?;
     writer.key("goal")?;
@@ -136,7 +137,7 @@ fn write_edges(
     rules: &Rules,
     edges: &[Edge<Goal>],
 ) -> Result<(), AllocError>
-    ensures { HaveTexts (names_of rules.now) → OnOk result (Puts writer.old writer.new
+    ensures { HaveTexts (names_of rules.now) → OnOk result (PutsTokens writer.old writer.new
         (array_tokens (edge_tokens (names_of rules.now)) edges.now)) }
 {
     writer.begin_array()?;
@@ -148,7 +149,7 @@ fn write_edges(
 }
 
 fn write_replies(writer: &mut Writer<Global>, replies: &[Reply<Outcome>]) -> Result<(), AllocError>
-    ensures { OnOk result (Puts writer.old writer.new
+    ensures { OnOk result (PutsTokens writer.old writer.new
         (array_tokens reply_tokens replies.now)) }
 {
     writer.begin_array()?;
@@ -175,7 +176,7 @@ fn write_edge(
     edge: Edge<Goal>,
 ) -> Result<(), AllocError>
     ensures { HaveTexts (names_of rules.now) → OnOk result
-        (Puts writer.old writer.new (edge_tokens (names_of rules.now) edge)) }
+        (PutsTokens writer.old writer.new (edge_tokens (names_of rules.now) edge)) }
 {
     writer.begin_object()?;
     writer.key("kind")?;

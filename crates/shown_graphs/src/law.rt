@@ -5,7 +5,7 @@ ghost use Rattle.json.specs.Token.{Token};
 ghost use Rattle.shown_graphs.specs.Below.{Rules as SpecRules};
 ghost use Rattle.shown_graphs.specs.Data.{claim_tokens, HaveOwnNames, IsClaim, PlainClaim};
 ghost use Rattle.shown_graphs.specs.Page.{IsPage};
-ghost use Rattle.shown_graphs.specs.Program.{IsReadBack, IsShown};
+ghost use Rattle.shown_graphs.specs.Program.{IsReadBack, ShowsAnswers};
 ghost use Rattle.shown_graphs.specs.Rules.{AreSameRules};
 ghost use Rattle.shown_graphs.specs.declared.page.Form.TheVariants.{Data};
 
@@ -34,7 +34,7 @@ pub fn page_tells_its_rules_and_claims()
 /// refused.
 pub fn what_is_shown_is_accepted()
     ensures { (known old new : Option (List ℕ)) (all_fine : Bool)
-        (shown : IsShown ⟦<TableDelegate<'static, 8, 1> as Delegate>⟧ ⟦<Table<&'static Rules> as Cx>⟧
+        (shown : ShowsAnswers ⟦<TableDelegate<'static, 8, 1> as Delegate>⟧ ⟦<Table<&'static Rules> as Cx>⟧
         known old new Data all_fine) →
         (text : List ℕ) × Appends old new text ×
         IsReadBack ⟦<TableDelegate<'static, 8, 1> as Delegate>⟧ ⟦<Table<&'static Rules> as Cx>⟧

@@ -1,7 +1,7 @@
 //! The plan of a graph's text: which lines it has, in order. Each goal is shown once, where the walk down from the root
 //! first meets it, and below it each of its edges has one line.
 ghost use Rattle.std.specs.Prelude.{◌≡◌, ◌∷◌, ◌++◌, ℕ, [], false, IfOk, OnOk, Some, map, slice_get};
-ghost use Rattle.shown_graphs.specs.Plan.{AreFound, AreShownOnce, AreWhole, Expects, IsMarked, IsReplayed, IsWalk, pending_of, targets_of};
+ghost use Rattle.shown_graphs.specs.Plan.{AreFound, AreShownOnce, AreWhole, Expects, WasSeen, IsReplayed, ShowsSeen, pending_of, targets_of};
 ghost use Rattle.shown_graphs.specs.declared.plan.Line.TheVariants.{Again, Shown};
 ghost use Rattle.shown_graphs.specs.declared.plan.Mark.TheVariants.{Unseen};
 
@@ -91,10 +91,10 @@ impl<'a> Walk<'a> {
     // Goes over the next edge of the newest open node, or leaves the node where it has none left. The answer is no where no
     // node is open.
     fn advance(&mut self, nodes: &'a [Node<Goal, Outcome>]) -> Result<bool, NoMemory>
-        requires walk { IsWalk self.old.lines.items self.old.marks.items }
+        requires walk { ShowsSeen self.old.lines.items self.old.marks.items }
         requires replayed { IsReplayed nodes.now self.old.lines.items
             (pending_of self.old.stack.items) }
-        ensures walk { IsWalk self.new.lines.items self.new.marks.items }
+        ensures walk { ShowsSeen self.new.lines.items self.new.marks.items }
         ensures replayed { OnOk result
             (IsReplayed nodes.now self.new.lines.items (pending_of self.new.stack.items)) }
         ensures end { result ≡ Ok false → self.new.stack.items ≡ [] }
@@ -122,8 +122,8 @@ impl<'a> Walk<'a> {
     }
 
     fn leave(&mut self, place: usize)
-        requires { IsWalk self.old.lines.items self.old.marks.items }
-        ensures walk { IsWalk self.new.lines.items self.new.marks.items }
+        requires { ShowsSeen self.old.lines.items self.old.marks.items }
+        ensures walk { ShowsSeen self.new.lines.items self.new.marks.items }
         ensures rest { (self.new.lines ≡ self.old.lines) × (self.new.stack ≡ self.old.stack) }
     {
         if let Some(Mark::Open(number)) = self.mark_of(place) {
@@ -133,10 +133,10 @@ impl<'a> Walk<'a> {
 
     // One more line, of the node at this place.
     fn meet(&mut self, nodes: &'a [Node<Goal, Outcome>], place: usize) -> Result<(), NoMemory>
-        requires walk { IsWalk self.old.lines.items self.old.marks.items }
+        requires walk { ShowsSeen self.old.lines.items self.old.marks.items }
         requires expected { Expects nodes.now self.old.lines.items place
             (pending_of self.old.stack.items) }
-        ensures walk { IsWalk self.new.lines.items self.new.marks.items }
+        ensures walk { ShowsSeen self.new.lines.items self.new.marks.items }
         ensures replayed { OnOk result
             (IsReplayed nodes.now self.new.lines.items (pending_of self.new.stack.items)) }
     {
@@ -159,9 +159,9 @@ impl<'a> Walk<'a> {
         number: usize,
         closes: bool,
     ) -> Result<(), NoMemory>
-        requires walk { IsWalk self.old.lines.items self.old.marks.items }
-        requires marked { IsMarked self.old.marks.items place number }
-        ensures walk { IsWalk self.new.lines.items self.new.marks.items }
+        requires walk { ShowsSeen self.old.lines.items self.old.marks.items }
+        requires marked { WasSeen self.old.marks.items place number }
+        ensures walk { ShowsSeen self.new.lines.items self.new.marks.items }
         ensures line { OnOk result (self.new.lines.items
             ≡ self.old.lines.items ++ Again place level number closes ∷ []) }
         ensures stack { self.new.stack ≡ self.old.stack }
@@ -182,8 +182,8 @@ impl<'a> Walk<'a> {
         level: usize,
     ) -> Result<(), NoMemory>
         requires unseen { slice_get self.old.marks.items place ≡ Some Unseen }
-        requires walk { IsWalk self.old.lines.items self.old.marks.items }
-        ensures walk { IsWalk self.new.lines.items self.new.marks.items }
+        requires walk { ShowsSeen self.old.lines.items self.old.marks.items }
+        ensures walk { ShowsSeen self.new.lines.items self.new.marks.items }
         ensures line { OnOk result ((number : ℕ) ×
             (self.new.lines.items ≡ self.old.lines.items ++ Shown place level number ∷ [])) }
         ensures stack { OnOk result (pending_of self.new.stack.items

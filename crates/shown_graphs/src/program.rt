@@ -2,7 +2,7 @@
 ghost use Rattle.std.specs.Prelude.{◌≡◌, ◌≤◌, ◌==◌, ℕ, IfSome, IsSomeAnd};
 ghost use Rattle.std.specs.Io.KnownBytes.{Keeps};
 ghost use Rattle.shown_graphs.specs.Below.{IsFirstBadLine};
-ghost use Rattle.shown_graphs.specs.Program.{IsChecked, IsPageText, IsShown};
+ghost use Rattle.shown_graphs.specs.Program.{IsJudgedPage, IsPageText, ShowsAnswers};
 ghost use Rattle.shown_graphs.specs.Stop.{status_after};
 
 mod checking;
@@ -134,7 +134,7 @@ pub fn explain<R: Read + Drop, W: Write, E: Write + Drop, P: Progress>(
 
     // All questions of the text were asked in turn, and as data a page with the same rules and their answers is what was
     // written; 0 says that none met a fault and no graph was refused.
-    ensures told { result ≤ 1 → IsShown ⟦<TableDelegate<'static, 8, 1> as Delegate>⟧
+    ensures told { result ≤ 1 → ShowsAnswers ⟦<TableDelegate<'static, 8, 1> as Delegate>⟧
         ⟦<Table<&'static Rules> as Cx>⟧ (R.remaining input)
         (W.contents out.old) (W.contents out.new) form (result == 0) }
 
@@ -164,7 +164,7 @@ pub fn check<R: Read + Drop, W: Write, E: Write + Drop, P: Progress>(
 
     // All claims of the data were judged as is right, and their lines are what was written; 0 says that none was
     // refused.
-    ensures told { result ≤ 1 → IsChecked ⟦<TableDelegate<'static, 8, 1> as Delegate>⟧
+    ensures told { result ≤ 1 → IsJudgedPage ⟦<TableDelegate<'static, 8, 1> as Delegate>⟧
         ⟦<Table<&'static Rules> as Cx>⟧ (R.remaining input)
         (W.contents out.old) (W.contents out.new) (result == 0) }
 

@@ -3,7 +3,7 @@ use Rattle.std.proofs.Common.{◌≡◌, ℕ, ◌<◌, ◌≤◌, ◌+◌, ◌-�
 use Rattle.std.specs.List.{Contains, count_by}
 use Rattle.std.proofs.lemmas.Bool.{cases_eq, cases_lt, lt-ltb, le-ltb}
 use Rattle.std.proofs.lemmas.List.{get_or-take, length-take-le}
-use Rattle.strong_components.specs.Words.{State, New, Open, Closed, Reaches, AreLeft, AreOpened, EndsWith, IsFromStart, IsOngoing, IsPath, MayStep, closed_from, is_new, state_at}
+use Rattle.strong_components.specs.Words.{State, New, Open, Closed, Reaches, AreLeft, AreOpened, HasLast, IsFromStart, IsOngoing, IsPath, MayStep, closed_from, is_new, state_at}
 use Rattle.strong_components.proofs.Indexes.{IsFront, at_index, contains_at, front-below, front-contains, front-rises, rising_last}
 use Rattle.strong_components.proofs.Leaving.{open_left}
 use Rattle.strong_components.proofs.Lowering.{top_inside}
@@ -60,8 +60,8 @@ may-step-closed starts front position number fewer last _ _ low h = absurd h
 
 module _ (graph : List (List ℕ)) (states after : List State) (left opened starts fewer path front : List ℕ) (closed position : ℕ)
     (h : IsOngoing graph states left opened starts path closed)
-    (ends : EndsWith path position) (pops : IsFront path front)
-    (starts_end : EndsWith starts position) (pops_start : IsFront starts fewer)
+    (ends : HasLast path position) (pops : IsFront path front)
+    (starts_end : HasLast starts position) (pops_start : IsFront starts fewer)
     (done : slice_index left (slice_index opened position) ≡ 0)
     (closes : (a : ℕ) → state_at after a ≡ closed_from position closed (state_at states a))
     (fit : length after ≡ length states) (news : count_by is_new after ≡ count_by is_new states) where

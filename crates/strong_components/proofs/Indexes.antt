@@ -3,7 +3,7 @@ use Rattle.std.proofs.Common.{◌≡◌, ℕ, ◌<◌, ◌≤◌, ◌+◌, ◌-�
 use Rattle.std.specs.List.{Contains}
 use Rattle.std.proofs.lemmas.Bool.{cases_eq}
 use Rattle.std.proofs.lemmas.List.{get_or_default, get_or-take, length-take-le}
-use Rattle.strong_components.specs.Words.{EndsWith, IsIncreasing}
+use Rattle.strong_components.specs.Words.{HasLast, IsIncreasing}
 
 pub at_index : (xs : List ℕ) (x : ℕ) → Contains xs x → (k : ℕ) × (k < length xs) × (slice_index xs k ≡ x)
 at_index xs x (k, inside, is) = (k, inside, get_or_default xs k 0 x inside ∙ is)
@@ -12,7 +12,7 @@ pub contains_at : (xs : List ℕ) (x k : ℕ) → k < length xs → slice_index 
 contains_at xs x k inside is = (k, inside, get_or_default xs k x 0 inside ∙ is)
 
 -- a member of a rising list is at most its last number
-pub rising_last : (xs : List ℕ) (last x : ℕ) → IsIncreasing xs → EndsWith xs last → Contains xs x → x ≤ last
+pub rising_last : (xs : List ℕ) (last x : ℕ) → IsIncreasing xs → HasLast xs last → Contains xs x → x ≤ last
 rising_last xs last x rises ends member =
     let (k, inside, is) = at_index xs x member in
     elim (cases_eq k (length xs - 1)) [
@@ -26,7 +26,7 @@ pub record IsFront (xs front : List ℕ) : Type 0 where
   pub kept : (k : ℕ) → k < length front → slice_index front k ≡ slice_index xs k
 
 -- a member other than the last number of the list is in its front
-pub front-contains : (xs front : List ℕ) (last x : ℕ) → IsFront xs front → EndsWith xs last → Contains xs x → (x ≡ last → ⊥) → Contains front x
+pub front-contains : (xs front : List ℕ) (last x : ℕ) → IsFront xs front → HasLast xs last → Contains xs x → (x ≡ last → ⊥) → Contains front x
 front-contains xs front last x pops ends member other =
     let (k, inside, is) = at_index xs x member in
     elim (cases_eq k (length front)) [
@@ -40,7 +40,7 @@ front-contains xs front last x pops ends member other =
     ]
 
 -- the numbers of the front of a rising list are below its last one
-pub front-below : (xs front : List ℕ) (last k : ℕ) → IsIncreasing xs → IsFront xs front → EndsWith xs last → k < length front → slice_index front k < last
+pub front-below : (xs front : List ℕ) (last k : ℕ) → IsIncreasing xs → IsFront xs front → HasLast xs last → k < length front → slice_index front k < last
 front-below xs front last k rises pops ends inside =
     let s = pops.shorter in let same = pops.kept k inside in
     let below = rises k (length xs - 1) (omega arith) (omega arith) in let end = ends.1 in omega arith

@@ -2,11 +2,11 @@
 use Rattle.std.proofs.Common.{◌≡◌, ℕ, ◌-◌, ◌⊎◌, List, length, slice_index, arith, ap, sym, ◌∙◌, inl, inr, subst}
 use Rattle.std.specs.List.{Contains}
 use Rattle.std.proofs.lemmas.Bool.{cases_eq}
-use Rattle.strong_components.specs.Words.{State, Open, EndsWith, IsOngoing, state_at}
+use Rattle.strong_components.specs.Words.{State, Open, HasLast, IsOngoing, state_at}
 use Rattle.strong_components.proofs.Indexes.{IsFront, front-contains, front-rises, rising_last}
 
 -- an open place is on the rest of the path, unless all its successors were looked at
-pub open_left : (graph : List (List ℕ)) (states : List State) (left opened starts path front : List ℕ) (closed position : ℕ) → IsOngoing graph states left opened starts path closed → EndsWith path position → IsFront path front → slice_index left (slice_index opened position) ≡ 0 → (a i : ℕ) → state_at states a ≡ Open i → Contains front i ⊎ (slice_index left a ≡ 0)
+pub open_left : (graph : List (List ℕ)) (states : List State) (left opened starts path front : List ℕ) (closed position : ℕ) → IsOngoing graph states left opened starts path closed → HasLast path position → IsFront path front → slice_index left (slice_index opened position) ≡ 0 → (a i : ℕ) → state_at states a ≡ Open i → Contains front i ⊎ (slice_index left a ≡ 0)
 open_left graph states left opened starts path front closed position h ends pops done a i is =
     elim (h.are_left.at_open a i is) [
       | inl on ↦ elim (cases_eq i position) [
@@ -16,7 +16,7 @@ open_left graph states left opened starts path front closed position h ends pops
       | inr none ↦ inr none
     ]
 
-pub leave_keeps : (graph : List (List ℕ)) (states : List State) (left opened starts path front : List ℕ) (closed position : ℕ) → IsOngoing graph states left opened starts path closed → EndsWith path position → IsFront path front → slice_index left (slice_index opened position) ≡ 0 → (EndsWith starts position → ⊥) → IsOngoing graph states left opened starts front closed
+pub leave_keeps : (graph : List (List ℕ)) (states : List State) (left opened starts path front : List ℕ) (closed position : ℕ) → IsOngoing graph states left opened starts path closed → HasLast path position → IsFront path front → slice_index left (slice_index opened position) ≡ 0 → (HasLast starts position → ⊥) → IsOngoing graph states left opened starts front closed
 leave_keeps graph states left opened starts path front closed position h ends pops done no_start = record {
   fit = h.fit;
   are_opened = h.are_opened;

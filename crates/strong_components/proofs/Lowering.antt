@@ -2,16 +2,16 @@
 use Rattle.std.proofs.Common.{◌≡◌, ◌≢◌, ℕ, ◌<◌, ◌≤◌, ◌+◌, ◌-◌, List, [], length, set, slice_index, slice_index_or, arith, ap, sym, ◌∙◌, inl, inr, subst, get_or-set_same, get_or-set_other, length-set}
 use Rattle.std.proofs.lemmas.Bool.{cases_eq}
 use Rattle.std.proofs.lemmas.List.{get_or_read}
-use Rattle.strong_components.specs.Words.{State, Open, AreLeft, EndsWith, IsOngoing, MayStep, state_at}
+use Rattle.strong_components.specs.Words.{State, Open, AreLeft, HasLast, IsOngoing, MayStep, state_at}
 use Rattle.strong_components.proofs.States.{may-step-at}
 
 -- the last place of the path
-pub top_inside : (graph : List (List ℕ)) (states : List State) (left opened starts path : List ℕ) (closed position : ℕ) → IsOngoing graph states left opened starts path closed → EndsWith path position → position < length opened
+pub top_inside : (graph : List (List ℕ)) (states : List State) (left opened starts path : List ℕ) (closed position : ℕ) → IsOngoing graph states left opened starts path closed → HasLast path position → position < length opened
 top_inside graph states left opened starts path closed position h ends =
     let some = ends.0 in let at = ends.1 in
     let below = h.is_path.path_inside (length path - 1) (omega arith) in omega arith
 
-pub top_open : (graph : List (List ℕ)) (states : List State) (left opened starts path : List ℕ) (closed place position : ℕ) → IsOngoing graph states left opened starts path closed → EndsWith path position → place ≡ slice_index_or opened position place → state_at states place ≡ Open position
+pub top_open : (graph : List (List ℕ)) (states : List State) (left opened starts path : List ℕ) (closed place position : ℕ) → IsOngoing graph states left opened starts path closed → HasLast path position → place ≡ slice_index_or opened position place → state_at states place ≡ Open position
 top_open graph states left opened starts path closed place position h ends read =
     let inside = top_inside graph states left opened starts path closed position h ends in
     subst (λ a. state_at states a ≡ Open position) (sym (get_or_read opened position place inside read 0)) (h.are_opened.placed position inside)

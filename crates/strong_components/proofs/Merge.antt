@@ -2,7 +2,7 @@
 use Rattle.std.proofs.Common.{◌≡◌, ℕ, ◌<◌, ◌≤◌, ◌-◌, List, length, slice_index, arith, sym, ◌∙◌, inl, inr, subst, refl}
 use Rattle.std.specs.List.{Contains}
 use Rattle.std.proofs.lemmas.Bool.{cases_eq, cases_lt}
-use Rattle.strong_components.specs.Words.{State, Open, HasStep, go, EndsWith, IsFromStart, IsOngoing, IsPath, IsIncreasing, MayStep, PopsAbove, state_at}
+use Rattle.strong_components.specs.Words.{State, Open, HasStep, go, HasLast, IsFromStart, IsOngoing, IsPath, IsIncreasing, MayStep, PopsAbove, state_at}
 use Rattle.strong_components.proofs.Walks.{reaches-trans}
 use Rattle.strong_components.proofs.Indexes.{rising_last}
 use Rattle.strong_components.proofs.States.{may-step-at, may-step-starts}
@@ -52,7 +52,7 @@ module _ (starts fewer : List ℕ) (found : ℕ) (rises : IsIncreasing starts) (
         (stays, pops.kept 0 stays ∙ zero);
   }
 
-pub merge_keeps : (graph : List (List ℕ)) (states : List State) (left opened starts path fewer : List ℕ) (closed from place position found : ℕ) → IsOngoing graph states left opened starts path closed → EndsWith path position → state_at states from ≡ Open position → state_at states place ≡ Open found → HasStep graph from place → PopsAbove starts fewer found → IsOngoing graph states left opened fewer path closed × MayStep fewer (Open position) (state_at states place)
+pub merge_keeps : (graph : List (List ℕ)) (states : List State) (left opened starts path fewer : List ℕ) (closed from place position found : ℕ) → IsOngoing graph states left opened starts path closed → HasLast path position → state_at states from ≡ Open position → state_at states place ≡ Open found → HasStep graph from place → PopsAbove starts fewer found → IsOngoing graph states left opened fewer path closed × MayStep fewer (Open position) (state_at states place)
 merge_keeps graph states left opened starts path fewer closed from place position found h ends is_from is_place s pops =
     let rises = h.is_path.starts_rise in
     let below_top : (i : ℕ) → IsFromStart starts i position = λ i k inside low. rising_last path position (slice_index starts k) h.is_path.path_rises ends (h.is_path.starts_on_path k inside) in (

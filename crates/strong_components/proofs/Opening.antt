@@ -4,7 +4,7 @@ use Rattle.std.specs.List.{Contains}
 use Rattle.std.proofs.lemmas.Bool.{cases_eq, cases_lt}
 use Rattle.std.proofs.lemmas.List.{get_or_append_left, get_or_push, length_push}
 use Rattle.std.proofs.lemmas.List.Elements.{Contains-append_left, Contains-push}
-use Rattle.strong_components.specs.Words.{State, New, Open, Closed, Search, HasStep, Reaches, stay, AreLeft, AreOpened, EndsWith, IsFromStart, IsOngoing, IsPath, IsIncreasing, IsSearch, MayStep, Opens, is_new, state_at}
+use Rattle.strong_components.specs.Words.{State, New, Open, Closed, Search, HasStep, Reaches, stay, AreLeft, AreOpened, HasLast, IsFromStart, IsOngoing, IsPath, IsIncreasing, IsSearch, MayStep, Opens, is_new, state_at}
 use Rattle.strong_components.proofs.Counts.{news-set}
 use Rattle.strong_components.proofs.Indexes.{at_index, rising_last}
 use Rattle.strong_components.proofs.States.{may-step-at, may-step-new, may-step-starts}
@@ -193,7 +193,7 @@ same_search graph e_states e_left e_opened e_starts e_path e_closed h =
     rw (e_states, e_left, e_opened, e_starts, e_path, e_closed) h
 
 -- a place is opened that is a successor of the last one on the path
-pub open_along : (graph : List (List ℕ)) (old new : Search) (from place position : ℕ) → IsSearch graph old → EndsWith old.path.items position → state_at old.states.items from ≡ Open position → state_at old.states.items place ≡ New → place < length old.states.items → HasStep graph from place → Opens old new place → IsSearch graph new × MayStep new.starts.items (Open position) (state_at new.states.items place) × (state_at new.states.items from ≡ Open position)
+pub open_along : (graph : List (List ℕ)) (old new : Search) (from place position : ℕ) → IsSearch graph old → HasLast old.path.items position → state_at old.states.items from ≡ Open position → state_at old.states.items place ≡ New → place < length old.states.items → HasStep graph from place → Opens old new place → IsSearch graph new × MayStep new.starts.items (Open position) (state_at new.states.items place) × (state_at new.states.items from ≡ Open position)
 open_along graph old new from place position h ends is_from was_new inside step opens =
     let starts = old.starts.items in let n = length old.opened.items in
     let reached : (a i : ℕ) → state_at old.states.items a ≡ Open i → Reaches graph a place = λ a i is.

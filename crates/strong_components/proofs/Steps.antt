@@ -3,7 +3,7 @@ use Rattle.std.proofs.Common.{◌≡◌, ℕ, ◌<◌, ◌≤◌, ◌+◌, ◌*�
 use Rattle.std.specs.Global.{Vec}
 use Rattle.std.proofs.lemmas.List.{get_or_read}
 use Rattle.std.proofs.lemmas.List.Sums.{sum_by-set}
-use Rattle.strong_components.specs.Words.{Open, Search, HasStep, StaysInside, successor_lists, EndsWith, IsOngoing, IsSearch, MayStep, state_at}
+use Rattle.strong_components.specs.Words.{Open, Search, HasStep, StaysInside, successor_lists, HasLast, IsOngoing, IsSearch, MayStep, state_at}
 use Rattle.strong_components.proofs.Indexes.{contains_at}
 use Rattle.strong_components.proofs.Lowering.{lower_keeps, top_open}
 use Rattle.strong_components.proofs.Rows.{length-successor_lists, row_is}
@@ -12,7 +12,7 @@ use Rattle.strong_components.proofs.Walks.{step_to_inside}
 
 module _ (graph : List (Vec ℕ)) (s : Search) (position place : ℕ)
     (h : IsSearch (successor_lists graph) s)
-    (ends : EndsWith s.path.items position)
+    (ends : HasLast s.path.items position)
     (read : place ≡ slice_index_or s.opened.items position place) where
   pub is_open : state_at s.states.items place ≡ Open position
   is_open = top_open (successor_lists graph) s.states.items s.left.items s.opened.items s.starts.items s.path.items s.closed place position h ends read

@@ -25,8 +25,8 @@ abbrev pub StaySeen : List State → List State → Type 0
 StaySeen old new = (a : ℕ) → state_at old a ≢ New → state_at new a ≢ New
 
 -- a list ends with the number
-abbrev pub EndsWith : List ℕ → ℕ → Type 0
-EndsWith numbers last = (0 < length numbers) × (slice_index numbers (length numbers - 1) ≡ last)
+abbrev pub HasLast : List ℕ → ℕ → Type 0
+HasLast numbers last = (0 < length numbers) × (slice_index numbers (length numbers - 1) ≡ last)
 
 abbrev pub IsIncreasing : List ℕ → Type 0
 IsIncreasing numbers =
@@ -110,7 +110,7 @@ pub record Opens (old new : Search) (place : ℕ) : Type 0 where
 abbrev pub LooksAt : Search → Search → ℕ → Type 0
 LooksAt old new place =
     (graph : List (List ℕ)) (from position : ℕ)
-    → IsSearch graph old → EndsWith old.path.items position → state_at old.states.items from ≡ Open position
+    → IsSearch graph old → HasLast old.path.items position → state_at old.states.items from ≡ Open position
     → HasStep graph from place
     → IsSearch graph new × MayStep new.starts.items (Open position) (state_at new.states.items place)
     × (state_at new.states.items from ≡ Open position)

@@ -1,6 +1,6 @@
 //! A depth-first search that keeps the places of unfinished components in the order of their discovery.
 ghost use Rattle.std.specs.Prelude.{◌≡◌, ◌≢◌, ◌<◌, ◌≤◌, ◌+◌, ◌↔◌, ℕ, IsTrue, length, map, IfOk, OnOk};
-ghost use Rattle.strong_components.specs.Words.{StaysInside, successor_lists, AreOpened, ClosesFrom, EndsWith, IsSearch, Leaves, LooksAt, Opens, PopsAbove, StaySeen, is_new, number_of, state_at, work_of, State};
+ghost use Rattle.strong_components.specs.Words.{StaysInside, successor_lists, AreOpened, ClosesFrom, HasLast, IsSearch, Leaves, LooksAt, Opens, PopsAbove, StaySeen, is_new, number_of, state_at, work_of, State};
 
 use std::alloc::{AllocError, Global};
 
@@ -107,7 +107,7 @@ impl Search {
     fn step(&mut self, graph: &[Vec<usize>], position: usize) -> Result<(), AllocError>
         requires inside { StaysInside (successor_lists graph.now) }
         requires ongoing { IsSearch (successor_lists graph.now) self.old }
-        requires last { EndsWith self.old.path.items position }
+        requires last { HasLast self.old.path.items position }
         ensures ongoing { OnOk result (IsSearch (successor_lists graph.now) self.new) }
         ensures less { OnOk result (work_of self.new < work_of self.old) }
         ensures seen { OnOk result (StaySeen self.old.states.items self.new.states.items) }
@@ -156,7 +156,7 @@ impl Search {
     fn leave(&mut self, position: usize)
         requires opened { AreOpened self.old.states.items self.old.opened.items }
         requires within { position < length self.old.opened.items }
-        requires last { EndsWith self.old.path.items position }
+        requires last { HasLast self.old.path.items position }
         requires room { self.old.closed < usize.MAX }
         ensures ongoing { Leaves self.old self.new position }
         ensures left { self.new.left.items ≡ self.old.left.items }
@@ -199,7 +199,7 @@ impl Search {
 
 // Whether the list ends with the number.
 fn ends_with(numbers: &[usize], last: usize) -> bool
-    ensures { IsTrue result ↔ EndsWith numbers.now last }
+    ensures { IsTrue result ↔ HasLast numbers.now last }
 {
     match numbers.last() {
         Some(&number) => number == last,

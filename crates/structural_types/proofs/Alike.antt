@@ -5,7 +5,7 @@ use Rattle.std.proofs.lemmas.List.Elements.{Contains-append_left, Contains-appen
 use Rattle.std.proofs.lemmas.Option.{slice_get_cases, slice_get_past}
 use Rattle.std.proofs.Math.Nat.{min-eq_left, min-eq_right}
 use Rattle.open_graphs.proofs.Members.{Contains-map, Contains-mapped}
-use Rattle.structural_types.specs.Subtypes.{Form, IsBelow, IsRecord, IsSimulation, IsSupported, IsUnion}
+use Rattle.structural_types.specs.Subtypes.{Form, IsBelow, IsRecord, IsSimulation, IsSupportedPair, IsUnion}
 use Rattle.structural_types.specs.Subtypes.IsSupported.{BottomLeft, TopRight, SameWord, Functions, Records, EachLeft, SomeRight}
 use Rattle.structural_types.proofs.Apart.{supported_more}
 
@@ -33,7 +33,7 @@ module _ (forms : List Form) (put : ℕ → ℕ) (alike : (x : ℕ) → slice_ge
     new_right x y h = Contains-append_right pairs (map (λ p. (p.0, put p.1)) pairs) (x, put y) (Contains-mapped (λ p. (p.0, put p.1)) pairs (x, y) h)
 
     -- what supports a pair supports it with the other number
-    left_supported : (x y : ℕ) → IsSupported forms pairs x y → IsSupported forms (lefts pairs) (put x) y
+    left_supported : (x y : ℕ) → IsSupportedPair forms pairs x y → IsSupportedPair forms (lefts pairs) (put x) y
     left_supported x y (BottomLeft e) = BottomLeft (sym (alike x) ∙ e)
     left_supported x y (TopRight e) = TopRight e
     left_supported x y (SameWord word e f) = SameWord word (sym (alike x) ∙ e) f
@@ -42,7 +42,7 @@ module _ (forms : List Form) (put : ℕ → ℕ) (alike : (x : ℕ) → slice_ge
     left_supported x y (EachLeft xs u p) = EachLeft xs (subst (λ o. IsUnion o xs) (alike x) u) (λ z k. old_left z y (p z k))
     left_supported x y (SomeRight ys u z k p) = SomeRight ys u z k (new_left x z p)
 
-    right_supported : (x y : ℕ) → IsSupported forms pairs x y → IsSupported forms (rights pairs) x (put y)
+    right_supported : (x y : ℕ) → IsSupportedPair forms pairs x y → IsSupportedPair forms (rights pairs) x (put y)
     right_supported x y (BottomLeft e) = BottomLeft e
     right_supported x y (TopRight e) = TopRight (sym (alike y) ∙ e)
     right_supported x y (SameWord word e f) = SameWord word e (sym (alike y) ∙ f)
@@ -56,7 +56,7 @@ module _ (forms : List Form) (put : ℕ → ℕ) (alike : (x : ℕ) → slice_ge
       | inl old ↦ supported_more forms pairs (lefts pairs) old_left l r (simulation l r old)
       | inr new ↦
           let m = Contains-map (λ p. (put p.0, p.1)) pairs (l, r) new in
-          subst (λ q. IsSupported forms (lefts pairs) q.0 q.1) m.2 (left_supported m.0.0 m.0.1 (simulation m.0.0 m.0.1 m.1))
+          subst (λ q. IsSupportedPair forms (lefts pairs) q.0 q.1) m.2 (left_supported m.0.0 m.0.1 (simulation m.0.0 m.0.1 m.1))
     ]
 
     right_simulation : IsSimulation forms pairs → IsSimulation forms (rights pairs)
@@ -64,7 +64,7 @@ module _ (forms : List Form) (put : ℕ → ℕ) (alike : (x : ℕ) → slice_ge
       | inl old ↦ supported_more forms pairs (rights pairs) old_right l r (simulation l r old)
       | inr new ↦
           let m = Contains-map (λ p. (p.0, put p.1)) pairs (l, r) new in
-          subst (λ q. IsSupported forms (rights pairs) q.0 q.1) m.2 (right_supported m.0.0 m.0.1 (simulation m.0.0 m.0.1 m.1))
+          subst (λ q. IsSupportedPair forms (rights pairs) q.0 q.1) m.2 (right_supported m.0.0 m.0.1 (simulation m.0.0 m.0.1 m.1))
     ]
 
   left_below : (l r : ℕ) → IsBelow forms l r → IsBelow forms (put l) r

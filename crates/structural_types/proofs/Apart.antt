@@ -5,7 +5,7 @@ use Rattle.std.proofs.lemmas.List.Concat.{flat_map-cons}
 use Rattle.std.proofs.lemmas.List.Elements.{Contains-append_left, Contains-append_right, Contains-append_cases}
 use Rattle.open_graphs.proofs.Members.{Contains-map, Contains-mapped, first_or_later}
 use Rattle.structural_types.specs.Fields.{Field}
-use Rattle.structural_types.specs.Subtypes.{Base, Bottom, Form, Function, IsBelow, IsRecord, IsSimulation, IsSupported, IsUnion, Record, Top, Union}
+use Rattle.structural_types.specs.Subtypes.{Base, Bottom, Form, Function, IsBelow, IsRecord, IsSimulation, IsSupportedPair, IsUnion, Record, Top, Union}
 use Rattle.structural_types.specs.Subtypes.IsSupported.{BottomLeft, TopRight, SameWord, Functions, Records, EachLeft, SomeRight}
 use Rattle.structural_types.specs.Rule.{alternatives_in}
 
@@ -54,7 +54,7 @@ not_record None xs fields u e = u
 
 module _ (forms : List Form) where
   -- more pairs support as much
-  pub supported_more : (some more : List (ℕ × ℕ)) → ((x y : ℕ) → Contains some (x, y) → Contains more (x, y)) → (l r : ℕ) → IsSupported forms some l r → IsSupported forms more l r
+  pub supported_more : (some more : List (ℕ × ℕ)) → ((x y : ℕ) → Contains some (x, y) → Contains more (x, y)) → (l r : ℕ) → IsSupportedPair forms some l r → IsSupportedPair forms more l r
   supported_more some more h l r (BottomLeft e) = BottomLeft e
   supported_more some more h l r (TopRight e) = TopRight e
   supported_more some more h l r (SameWord word e f) = SameWord word e f
@@ -101,11 +101,11 @@ module _ (forms : List Form) where
   ]
 
   module _ (pairs : List (ℕ × ℕ)) (simulation : IsSimulation forms pairs) where
-    old_supported : (l r : ℕ) → IsSupported forms pairs l r → IsSupported forms (apart pairs) l r
+    old_supported : (l r : ℕ) → IsSupportedPair forms pairs l r → IsSupportedPair forms (apart pairs) l r
     old_supported l r h = supported_more pairs (apart pairs) (apart_old pairs) l r h
 
     -- what supports the pair of a union supports that of its alternative
-    part_supported : (s x r : ℕ) → Contains pairs (s, r) → Contains (alternatives_in (slice_get forms s)) x → IsSupported forms pairs s r → IsSupported forms (apart pairs) x r
+    part_supported : (s x r : ℕ) → Contains pairs (s, r) → Contains (alternatives_in (slice_get forms s)) x → IsSupportedPair forms pairs s r → IsSupportedPair forms (apart pairs) x r
     part_supported s x r h k (BottomLeft e) = absurd (not_bottom (slice_get forms s) (alternatives_in (slice_get forms s)) (has_union (slice_get forms s) x k) e)
     part_supported s x r h k (TopRight e) = TopRight e
     part_supported s x r h k (SameWord word e f) = absurd (not_base (slice_get forms s) (alternatives_in (slice_get forms s)) word (has_union (slice_get forms s) x k) e)

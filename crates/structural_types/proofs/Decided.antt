@@ -9,7 +9,7 @@ use Rattle.search_context.specs.Verdicts.{IsDefinite}
 use Rattle.delegate_parts.specs.declared.outcome.Outcome.TheVariants.{Maybe, No, Overflow, Yes}
 use Rattle.structural_types.specs.Below.{HasOneOfEach, Outcome, is_no, is_yes, outcome_verdicts}
 use Rattle.question_lists.proofs.Ranked.{decisive, scripts}
-use Rattle.structural_types.specs.Subtypes.{Form, IsBelow, IsSimulation, IsSupported}
+use Rattle.structural_types.specs.Subtypes.{Form, IsBelow, IsSimulation, IsSupportedPair}
 use Rattle.structural_types.specs.Rule.{asks, needs_of, pair, pairs_of, questions_of}
 use Rattle.structural_types.specs.declared.delegate.Pair.{Pair}
 use Rattle.structural_types.proofs.Follows.{follows, Follows, supported}
@@ -48,7 +48,7 @@ module _ (forms : List Form) where
         let i : e.input ≡ pair l r = ap (λ q. q.goal) same in
         subst (Contains pairs) (goal_at e.target e.input g ∙ ap (λ p. (p.left, p.right)) i) (Contains-mapped at_place all.places e.target (all.stay at e here h))
 
-    supported_at : (at l r : ℕ) (n : GraphNode Pair) → Contains all.places at → slice_get nodes at ≡ Some n → (n.goal.left ≡ l) × (n.goal.right ≡ r) → IsSupported forms pairs l r
+    supported_at : (at l r : ℕ) (n : GraphNode Pair) → Contains all.places at → slice_get nodes at ≡ Some n → (n.goal.left ≡ l) × (n.goal.right ≡ r) → IsSupportedPair forms pairs l r
     supported_at at l r n here is same =
         let shown : proves n.goal (map question_of n.edges) = proof.is_shown at n (all.are_reached at here) is in
         let at_goal : proves (pair l r) (map question_of n.edges) = subst (λ p. proves p (map question_of n.edges)) (ap₂ {C = Pair} pair same.0 same.1) shown in

@@ -6,7 +6,7 @@ use Rattle.std.proofs.lemmas.Bool.{cases_Bool, eqb-true, eq-eqb}
 use Rattle.open_graphs.proofs.Members.{Contains-map, Contains-mapped, contains_later, first_or_later}
 use Rattle.structural_types.specs.Below.{Needs, All, Any, Question, IsWithin, Overlap, Proves}
 use Rattle.structural_types.specs.Fields.{Field, has_all, part_of}
-use Rattle.structural_types.specs.Subtypes.{Base, Bottom, Form, Function, IsBelow, IsRecord, IsSimulation, IsSupported, IsUnion, Record, Top, Union}
+use Rattle.structural_types.specs.Subtypes.{Base, Bottom, Form, Function, IsBelow, IsRecord, IsSimulation, IsSupportedPair, IsUnion, Record, Top, Union}
 use Rattle.structural_types.specs.Subtypes.IsSupported.{BottomLeft, TopRight, SameWord, Functions, Records, EachLeft, SomeRight}
 use Rattle.structural_types.specs.Rule.{alternatives_in, asks, Case, case_between, needs_in, pair, pairs_in, part_at, record_pairs, BetweenRecords, Fails, Holds}
 use Rattle.structural_types.specs.declared.delegate.Pair.{Pair}
@@ -172,7 +172,7 @@ module _ (forms : List Form) where
     here : (l r : ℕ) → Contains pairs (l, r) → IsBelow forms l r
     here l r h = record { pairs = pairs; is_simulation = simulation; has_pair = h }
 
-    follows_at : (l r : ℕ) → Contains pairs (l, r) → IsSupported forms pairs l r → FollowsIn l r (slice_get forms l) (slice_get forms r)
+    follows_at : (l r : ℕ) → Contains pairs (l, r) → IsSupportedPair forms pairs l r → FollowsIn l r (slice_get forms l) (slice_get forms r)
     follows_at l r h (BottomLeft e) = subst (λ o. FollowsIn l r o (slice_get forms r)) (sym e) (follows_bottom l r (slice_get forms r))
     follows_at l r h (TopRight f) = subst (λ p. FollowsIn l r (slice_get forms l) p) (sym f) (follows_top l r (slice_get forms l))
     follows_at l r h (SameWord word e f) =
@@ -200,24 +200,24 @@ module _ (forms : List Form) where
     nothing : Overlap (map asks []) held → ⊥
     nothing h = omega (arith, h.1.1)
 
-    left_supported : (xs : List ℕ) → IsUnion (slice_get forms l) xs → IsWithin (map asks (map (λ x. pair x r) xs)) held → IsSupported forms pairs l r
+    left_supported : (xs : List ℕ) → IsUnion (slice_get forms l) xs → IsWithin (map asks (map (λ x. pair x r) xs)) held → IsSupportedPair forms pairs l r
     left_supported xs u within = EachLeft xs u (λ x h. held_pair (map (λ z. pair z r) xs) within x r (Contains-mapped (λ z. pair z r) xs x h))
 
-    right_supported : (ys : List ℕ) → IsUnion (slice_get forms r) ys → Overlap (map asks (map (λ y. pair l y) ys)) held → IsSupported forms pairs l r
+    right_supported : (ys : List ℕ) → IsUnion (slice_get forms r) ys → Overlap (map asks (map (λ y. pair l y) ys)) held → IsSupportedPair forms pairs l r
     right_supported ys u some =
         let w = Contains-map asks (map (λ y. pair l y) ys) some.0 some.1 in
         let v = Contains-map (λ y. pair l y) ys w.0 w.1 in
         SomeRight ys u v.0 v.1 (into l v.0 (subst (Contains held) (sym (ap asks v.2 ∙ w.2)) some.2))
 
-    base_supported : (v w : ℕ) (b : Bool) → (v == w) ≡ b → slice_get forms l ≡ Some (Base v) → slice_get forms r ≡ Some (Base w) → ProvesBy (cond b Holds Fails) (Some (Base v)) (Some (Base w)) → IsSupported forms pairs l r
+    base_supported : (v w : ℕ) (b : Bool) → (v == w) ≡ b → slice_get forms l ≡ Some (Base v) → slice_get forms r ≡ Some (Base w) → ProvesBy (cond b Holds Fails) (Some (Base v)) (Some (Base w)) → IsSupportedPair forms pairs l r
     base_supported v w true is e f h = SameWord v e (f ∙ ap (λ x. Some (Base x)) (sym (eqb-true v w is)))
     base_supported v w false is e f h = absurd (nothing h)
 
-    function_supported : (a b c d : ℕ) → slice_get forms l ≡ Some (Function a b) → slice_get forms r ≡ Some (Function c d) → IsWithin (map asks (pair c a ∷ pair b d ∷ [])) held → IsSupported forms pairs l r
+    function_supported : (a b c d : ℕ) → slice_get forms l ≡ Some (Function a b) → slice_get forms r ≡ Some (Function c d) → IsWithin (map asks (pair c a ∷ pair b d ∷ [])) held → IsSupportedPair forms pairs l r
     function_supported a b c d e f within =
         Functions a b c d e f (held_pair (pair c a ∷ pair b d ∷ []) within c a (0, omega arith, refl)) (held_pair (pair c a ∷ pair b d ∷ []) within b d (1, omega arith, refl))
 
-    record_supported : (ls rs : List Field) → IsRecord (slice_get forms l) ls → IsRecord (slice_get forms r) rs → has_all ls rs ≡ true → IsWithin (map asks (record_pairs ls rs)) held → IsSupported forms pairs l r
+    record_supported : (ls rs : List Field) → IsRecord (slice_get forms l) ls → IsRecord (slice_get forms r) rs → has_all ls rs ≡ true → IsWithin (map asks (record_pairs ls rs)) held → IsSupportedPair forms pairs l r
     record_supported ls rs e f all within = Records ls rs e f (λ name y k.
         let m = part_member rs name y k in
         let g = found (part_of ls m.0.name) (all_found ls rs m.0 all m.1) in
@@ -226,7 +226,7 @@ module _ (forms : List Form) where
         let c = held_pair (record_pairs ls rs) within (part_at ls m.0.name) (part_at rs m.0.name) (Contains-mapped (λ field. pair (part_at ls field.name) (part_at rs field.name)) rs m.0 m.1) in
         (g.0, ap (part_of ls) (sym m.2) ∙ g.1, subst (λ a. Contains pairs (a, y)) left (subst (λ b. Contains pairs (part_at ls m.0.name, b)) right c)))
 
-    supported_by : (o p : Option Form) → slice_get forms l ≡ o → slice_get forms r ≡ p → ProvesBy (case_between o p) o p → IsSupported forms pairs l r
+    supported_by : (o p : Option Form) → slice_get forms l ≡ o → slice_get forms r ≡ p → ProvesBy (case_between o p) o p → IsSupportedPair forms pairs l r
     supported_by (Some Bottom) p e f h = BottomLeft e
     supported_by o (Some Top) e f h = TopRight f
     supported_by (Some (Union v)) (Some (Base w)) e f h = left_supported v.items (subst (λ t. IsUnion t v.items) (sym e) refl) h
@@ -244,12 +244,12 @@ module _ (forms : List Form) where
     supported_by (Some (Function a b)) (Some (Function c d)) e f h = function_supported a b c d e f h
     supported_by (Some (Record v)) (Some (Record w)) e f h = records_at (has_all v.items w.items) refl h
       where
-        records_at : (b : Bool) → has_all v.items w.items ≡ b → ProvesBy (cond b BetweenRecords Fails) (Some (Record v)) (Some (Record w)) → IsSupported forms pairs l r
+        records_at : (b : Bool) → has_all v.items w.items ≡ b → ProvesBy (cond b BetweenRecords Fails) (Some (Record v)) (Some (Record w)) → IsSupportedPair forms pairs l r
         records_at true is h = record_supported v.items w.items (subst (λ t. IsRecord t v.items) (sym e) refl) (subst (λ t. IsRecord t w.items) (sym f) refl) is h
         records_at false is h = absurd (nothing h)
     supported_by o p e f h = absurd (nothing h)
 
   -- what proves a pair supports it
   pub supported : (pairs : List (ℕ × ℕ)) (l r : ℕ) (held : List (Question Pair)) → ((x y : ℕ) → Contains held (asks (pair x y)) → Contains pairs (x, y)) →
-      Proves (needs_in (case_between (slice_get forms l) (slice_get forms r))) (map asks (pairs_in (case_between (slice_get forms l) (slice_get forms r)) (pair l r) (slice_get forms l) (slice_get forms r))) held → IsSupported forms pairs l r
+      Proves (needs_in (case_between (slice_get forms l) (slice_get forms r))) (map asks (pairs_in (case_between (slice_get forms l) (slice_get forms r)) (pair l r) (slice_get forms l) (slice_get forms r))) held → IsSupportedPair forms pairs l r
   supported pairs l r held into h = supported_by pairs l r held into (slice_get forms l) (slice_get forms r) refl refl h

@@ -7,7 +7,7 @@ use Rattle.std.proofs.lemmas.Bool.Decides.{eqb_tells}
 use Rattle.open_graphs.proofs.Members.{contains_later, first_or_later}
 use Rattle.structural_types.specs.Fields.{Field, part_of}
 use Rattle.structural_types.specs.Order.{AreDeclared}
-use Rattle.structural_types.specs.Subtypes.{Base, Bottom, Form, Function, IsBelow, IsRecord, IsSimulation, IsSupported, IsUnion, Record, Top, Union}
+use Rattle.structural_types.specs.Subtypes.{Base, Bottom, Form, Function, IsBelow, IsRecord, IsSimulation, IsSupportedPair, IsUnion, Record, Top, Union}
 use Rattle.structural_types.specs.Subtypes.IsSupported.{BottomLeft, TopRight, SameWord, Functions, Records, EachLeft, SomeRight}
 use Rattle.structural_types.specs.Rule.{alternatives_in}
 use Rattle.structural_types.proofs.Apart.{apart, apart_new, apart_of, apart_old, has_union}
@@ -54,7 +54,7 @@ module _ (forms : List Form) (declared : AreDeclared forms) where
   there : (m : ℕ) → m < length forms → Contains pairs (m, m)
   there m l = apart_old forms (same_pairs (length forms)) m m (in_same (length forms) m l)
 
-  same_supported : (a : ℕ) (form : Form) → a < length forms → slice_get forms a ≡ Some form → IsSupported forms pairs a a
+  same_supported : (a : ℕ) (form : Form) → a < length forms → slice_get forms a ≡ Some form → IsSupportedPair forms pairs a a
   same_supported a (Base w) l e = SameWord w e e
   same_supported a Top l e = TopRight e
   same_supported a Bottom l e = BottomLeft e
@@ -75,7 +75,7 @@ module _ (forms : List Form) (declared : AreDeclared forms) where
   alternative_declared s x (Some (Record v)) e h = absurd (omega (arith, h.1))
   alternative_declared s x None e h = absurd (omega (arith, h.1))
 
-  part_supported : (s x : ℕ) → Contains (alternatives_in (slice_get forms s)) x → IsSupported forms pairs x s
+  part_supported : (s x : ℕ) → Contains (alternatives_in (slice_get forms s)) x → IsSupportedPair forms pairs x s
   part_supported s x h =
       SomeRight (alternatives_in (slice_get forms s)) (has_union (slice_get forms s) x h) x h (there x (alternative_declared s x (slice_get forms s) refl h))
 
@@ -84,10 +84,10 @@ module _ (forms : List Form) (declared : AreDeclared forms) where
     | inl old ↦
         let w = same_of (length forms) l r old in
         let f = form_at forms l w.1 in
-        subst (λ t. IsSupported forms pairs l t) w.0 (same_supported l f.0 w.1 f.1)
+        subst (λ t. IsSupportedPair forms pairs l t) w.0 (same_supported l f.0 w.1 f.1)
     | inr w ↦
         let same = (same_of (length forms) w.whole r w.has_pair).0 in
-        subst (λ t. IsSupported forms pairs l t) same (part_supported w.whole l w.is_part)
+        subst (λ t. IsSupportedPair forms pairs l t) same (part_supported w.whole l w.is_part)
   ]
 
   pub below_itself : (n : ℕ) → n < length forms → IsBelow forms n n

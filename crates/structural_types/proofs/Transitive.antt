@@ -7,7 +7,7 @@ use Rattle.std.proofs.lemmas.List.Elements.{Contains-append_left, Contains-appen
 use Rattle.open_graphs.proofs.Members.{Contains-filtered, Contains-map, Contains-mapped, filtered_member}
 use Rattle.structural_types.specs.Fields.{Field, part_of}
 use Rattle.structural_types.specs.Order.{IsContractive}
-use Rattle.structural_types.specs.Subtypes.{Base, Bottom, Form, Function, IsBelow, IsRecord, IsSimulation, IsSupported, IsUnion, Record, Top, Union}
+use Rattle.structural_types.specs.Subtypes.{Base, Bottom, Form, Function, IsBelow, IsRecord, IsSimulation, IsSupportedPair, IsUnion, Record, Top, Union}
 use Rattle.structural_types.specs.Subtypes.IsSupported.{BottomLeft, TopRight, SameWord, Functions, Records, EachLeft, SomeRight}
 use Rattle.structural_types.proofs.Apart.{Contains-flat, flat-Contains, supported_more}
 
@@ -71,7 +71,7 @@ composed_of pairs a c h =
 
 module _ (forms : List Form) (contractive : IsContractive forms) (pairs : List (ℕ × ℕ)) (simulation : IsSimulation forms pairs) where
   abbrev Composed : ℕ → ℕ → Type 0
-  Composed a c = IsSupported forms (composed pairs) a c
+  Composed a c = IsSupportedPair forms (composed pairs) a c
 
   over_functions : (a b c x y z w x' y' z' w' : ℕ) → slice_get forms a ≡ Some (Function x y) → slice_get forms b ≡ Some (Function z w) → slice_get forms b ≡ Some (Function x' y') → slice_get forms c ≡ Some (Function z' w') →
       Contains pairs (z, x) → Contains pairs (y, w) → Contains pairs (z', x') → Contains pairs (y', w') → Composed a c
@@ -95,7 +95,7 @@ module _ (forms : List Form) (contractive : IsContractive forms) (pairs : List (
       (x.0, x.1, composed_in pairs x.0 y.0 z x.2 y.2))
 
   -- unions in the middle are gone through until one is not taken apart
-  through : (n a b c : ℕ) → contractive.rank b < n → Contains pairs (a, b) → Contains pairs (b, c) → IsSupported forms pairs a b → IsSupported forms pairs b c → Composed a c
+  through : (n a b c : ℕ) → contractive.rank b < n → Contains pairs (a, b) → Contains pairs (b, c) → IsSupportedPair forms pairs a b → IsSupportedPair forms pairs b c → Composed a c
   through zero a b c l h k first second = absurd (omega arith)
   through (suc n) a b c l h k (BottomLeft e) second = BottomLeft e
   through (suc n) a b c l h k (EachLeft xs u p) second = EachLeft xs u (λ x m. composed_in pairs x b c (p x m) k)

@@ -2,7 +2,7 @@
 use Rattle.std.proofs.Common.{◌≡◌, List, [], ◌∷◌, ◌++◌, arith, subst}
 use Rattle.std.proofs.lemmas.List.Elements.{All-push}
 use Rattle.std.specs.Prelude.{IfOk}
-use Rattle.line_texts.specs.Questions.{Answered}
+use Rattle.line_texts.specs.Questions.{AnsweredQuestion}
 use Rattle.structural_types.specs.declared.delegate.Pair.{Pair}
 use Rattle.structural_types.specs.declared.types.Form.{Form}
 use Rattle.subtypes.specs.Answers.{AreRight, Came, IsTold}
@@ -15,6 +15,6 @@ module _ (table : TypeTable) where
 
   -- one question more, where the types are told in other words
   pub one_more_right : (forms : List Form) (pair : Pair) (came : Came) → forms ≡ forms_in table → IfOk came (IsTold forms pair) →
-      (all : List (Answered Pair Came)) → AreRight table all → AreRight table (all ++ record { question = pair; came = came } ∷ [])
+      (all : List (AnsweredQuestion Pair Came)) → AreRight table all → AreRight table (all ++ record { question = pair; came = came } ∷ [])
   one_more_right forms pair came same is all right =
       All-push (λ a. IfOk a.came (IsTold (forms_in table) a.question)) all (record { question = pair; came = came }) right (subst (λ fs. IfOk came (IsTold fs pair)) same is)

@@ -26,11 +26,11 @@ abbrev pub name_of : TypeTable → ℕ → List ℕ
 name_of table number = unwrap_or (slice_get (names_of table) number) []
 
 -- the line of a question, which is asked by its pair
-abbrev pub line_of : TypeTable → asked.Answered Pair Came → List ℕ
+abbrev pub line_of : TypeTable → asked.AnsweredQuestion Pair Came → List ℕ
 line_of table answered = line_told (name_of table answered.question.left) (name_of table answered.question.right) answered.came
 
 -- the pairs were answered as is right, unless a fault was met
-abbrev pub AreRight : TypeTable → List (asked.Answered Pair Came) → Type 0
+abbrev pub AreRight : TypeTable → List (asked.AnsweredQuestion Pair Came) → Type 0
 AreRight table = All (λ a. IfOk a.came (IsTold (forms_in table) a.question))
 
 -- all questions were answered, and their lines were written; `all_fine` says that none met a fault

@@ -2,7 +2,7 @@
 use Rattle.std.specs.Prelude.{◌≡◌, ℕ, ◌≤◌, max, Bool, true, false, List, [], ◌∷◌, Option, IfSome, IfOk, IfErr}
 use Rattle.table_runs.specs.Below.{CxOf, DelegateOf, Builder, is_noop_of, started_in, Cache, NodeId, Memory, Outcome, verdicts, HasGraph, IsDefinite, IsPlainTo, IsPlainValue, IsDecisive, AreDefinite, HaveNoOverflow, IsPaid, IsCaused, first_accepted, usable, KeepsFinished, KeepsResults, frames_within, Goal, Rules, questions_of}
 use Rattle.line_texts.specs.Questions as asked
-use Rattle.table_runs.specs.Told.{Answered, IsChecked, is_fine, line_of}
+use Rattle.table_runs.specs.Told.{AnsweredQuestion, IsChecked, is_fine, line_of}
 use Rattle.table_runs.specs.declared.program.questions.Checks.{Checks}
 
 -- the starts of frames are those that the builder counts, and it is a no-op if it was made as one
@@ -12,7 +12,7 @@ AreCountedStarts starts noop = (builder : Builder) → (starts builder ≡ start
 module _ {D C V P F A T : Type 0} (G : DelegateOf D C V P F Goal Outcome A T) (X : CxOf C Goal Outcome A T) (same : Goal → Goal → Bool) (checks : Checks) where
   -- The question was asked with its depth on a new graph over the cache `before`, with a new builder, and left the cache `after`.
   -- What it came to is what the search promises of such a call.
-  pub record IsAnswered (before : Cache C Goal Outcome A T) (answered : Answered) (after : Cache C Goal Outcome A T) : Type 0 where
+  pub record IsAnswered (before : Cache C Goal Outcome A T) (answered : AnsweredQuestion) (after : Cache C Goal Outcome A T) : Type 0 where
     -- A goal whose questions go no deeper than the depth, and that is orderly with all goals below it, has its plain value.
     pub plain : (n : ℕ) → IsPlainTo (G.script before.cx) n answered.question.1 → n ≤ answered.question.0 → IfOk answered.came (λ told. IsPlainValue (G.script before.cx) n answered.question.1 told.outcome)
     pub plain_faults : (n : ℕ) → IsPlainTo (G.script before.cx) n answered.question.1 → n ≤ answered.question.0 → IfErr answered.came (λ fault. fault ≡ Memory)
@@ -33,15 +33,15 @@ module _ {D C V P F A T : Type 0} (G : DelegateOf D C V P F Goal Outcome A T) (X
     pub kept : KeepsFinished before.nodes after.nodes
 
   -- the questions were answered in this order, each over the cache that the one before it left
-  abbrev pub InTurn : Cache C Goal Outcome A T → List Answered → Cache C Goal Outcome A T → Type 0
+  abbrev pub InTurn : Cache C Goal Outcome A T → List AnsweredQuestion → Cache C Goal Outcome A T → Type 0
   InTurn before [] after = before ≡ after
   InTurn before (first ∷ others) after = (between : Cache C Goal Outcome A T) × IsAnswered before first between × InTurn between others after
 
   -- the first of them over an empty cache, and the last one left this cache
-  abbrev pub LeaveCache : C → Cache C Goal Outcome A T → List Answered → Type 0
+  abbrev pub LeaveCache : C → Cache C Goal Outcome A T → List AnsweredQuestion → Type 0
   LeaveCache cx after answered = InTurn (record { cx = cx; nodes = []; results = [] }) answered after
 
-  abbrev pub AreInTurn : C → List Answered → Type 0
+  abbrev pub AreInTurn : C → List AnsweredQuestion → Type 0
   AreInTurn cx answered = (after : Cache C Goal Outcome A T) × LeaveCache cx after answered
 
   -- All questions were answered in turn, and their lines were written; `all_fine` says that none met a fault and no graph was refused.

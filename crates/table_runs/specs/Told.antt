@@ -10,8 +10,8 @@ use Rattle.table_runs.specs.declared.program.questions.Checks.{Checks}
 use Rattle.table_runs.specs.declared.program.questions.Checks.TheVariants.{EachGraph}
 
 -- a question, by its depth and its goal, and what it came to
-abbrev pub Answered : Type 0
-Answered = asked.Answered (ℕ × Goal) (Result Told (Fault Goal Outcome))
+abbrev pub AnsweredQuestion : Type 0
+AnsweredQuestion = asked.AnsweredQuestion (ℕ × Goal) (Result Told (Fault Goal Outcome))
 
 abbrev is_accepted : Check → Bool
 is_accepted None = true
@@ -55,5 +55,5 @@ abbrev pub line_told : List ℕ → Result Told (Fault Goal Outcome) → List �
 line_told name came = name ++ words_of_answer came
 
 -- the line of a question that was asked of these rules
-abbrev pub line_of : Rules → Answered → List ℕ
+abbrev pub line_of : Rules → AnsweredQuestion → List ℕ
 line_of rules answered = line_told (unwrap_or (name_of rules answered.question.1) []) answered.came

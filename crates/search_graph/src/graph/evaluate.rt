@@ -1,11 +1,11 @@
 //! The evaluation of a goal: one loop over the goals under evaluation.
 ghost use Rattle.std.specs.Prelude.{◌≡◌, true, false, length, IfOk, IfErr, IfSome, OnOk, Ok};
 ghost use Rattle.open_goals.specs.declared.goals.Fate.TheVariants.{Stored};
-ghost use Rattle.search_graph.specs.Below.{ChangesCache, fates_of, HaveExpected, IsFated, first_accepted, usable, KeepsBuilder, KeepsCache, HasReply, IsNew, IsRightNext};
+ghost use Rattle.search_graph.specs.Below.{ChangesCache, IsFated, first_accepted, usable, KeepsBuilder, KeepsCache, IsRightNext};
 ghost use Rattle.search_graph.specs.Calls.{Advances, Evaluates, IsGrounded, MovesGoals, Spares};
 ghost use Rattle.search_graph.specs.Settled.{EndsSettled, StaysSettled};
-ghost use Rattle.search_graph.specs.Turns.{HasDrafts, IsRightTurn, KeepsDrafts, TurnsCache};
-ghost use Rattle.search_moves.specs.Drafts.{HasNoDrafts, KeepsNoted};
+ghost use Rattle.search_graph.specs.Turns.{IsAtOutset, IsRightTurn, KeepsDrafts, MayAdvance, MayTakeTurn, TurnsCache};
+ghost use Rattle.search_moves.specs.Drafts.{KeepsNoted};
 ghost use Rattle.search_rules.specs.Lone.{IsLone};
 
 use open_goals::goals::{Fate, Next, Received, step};
@@ -24,8 +24,7 @@ pub(crate) fn evaluate<D: Delegate>(
     input: <D::Cx as Cx>::Input,
     inspect: &mut D::ProofTreeBuilder,
 ) -> Result<Answer<<D::Cx as Cx>::Result>, Fault<<D::Cx as Cx>::Input, <D::Cx as Cx>::Result>>
-    requires new { IsNew evaluation.old }
-    requires drafts { HasNoDrafts cache.old.nodes evaluation.old.drafts }
+    requires outset { IsAtOutset cache.old evaluation.old }
     ensures evaluates { Evaluates D.Delegate D.Cx.Cx D.Cx.Input.eq cache.old.cx
         ((D.noop inspect.old ≡ true) × (D.scoped cache.old.cx input ≡ false)) input
         cache.old evaluation.old (D.starts inspect.old) result
@@ -78,8 +77,7 @@ pub(crate) fn work_out<D: Delegate>(
     fate: Fate<<D::Cx as Cx>::Result>,
     inspect: &mut D::ProofTreeBuilder,
 ) -> Result<Answer<<D::Cx as Cx>::Result>, Fault<<D::Cx as Cx>::Input, <D::Cx as Cx>::Result>>
-    requires new { IsNew evaluation.old }
-    requires drafts { HasNoDrafts cache.old.nodes evaluation.old.drafts }
+    requires outset { IsAtOutset cache.old evaluation.old }
     requires fated { IsFated (D.scoped cache.old.cx) (D.script cache.old.cx) D.Cx.Input.eq
         cache.old.results (D.noop inspect.old)
         (record { goal = input; depth = evaluation.old.root_depth.0; fate = fate }) }
@@ -119,11 +117,8 @@ fn take_turn<D: Delegate>(
     received: Received<<D::Cx as Cx>::Result>,
     inspect: &mut D::ProofTreeBuilder,
 ) -> Result<Next<<D::Cx as Cx>::Result>, Fault<<D::Cx as Cx>::Input, <D::Cx as Cx>::Result>>
-    requires reply { HasReply D.Delegate D.Cx.Cx D.Cx.Input.eq cache.old.cx received
+    requires may { MayTakeTurn D.Delegate D.Cx.Cx D.Cx.Input.eq received
         cache.old evaluation.old (D.starts inspect.old) }
-    requires expected { HaveExpected (D.scoped cache.old.cx) (D.script cache.old.cx) D.Cx.Input.eq
-        cache.old.results (fates_of evaluation.old.goals) }
-    requires drafts { HasDrafts D.Cx.Input.eq cache.old evaluation.old }
     ensures advances { Advances D.Delegate D.Cx.Cx D.Cx.Input.eq cache.old.cx received
         cache.old evaluation.old (D.starts inspect.old) result
         cache.new evaluation.new (D.starts inspect.new) }
@@ -161,10 +156,8 @@ fn advance<D: Delegate>(
     received: Received<<D::Cx as Cx>::Result>,
     inspect: &mut D::ProofTreeBuilder,
 ) -> Result<Next<<D::Cx as Cx>::Result>, Fault<<D::Cx as Cx>::Input, <D::Cx as Cx>::Result>>
-    requires reply { HasReply D.Delegate D.Cx.Cx D.Cx.Input.eq cache.old.cx received
+    requires may { MayAdvance D.Delegate D.Cx.Cx D.Cx.Input.eq received
         cache.old evaluation.old (D.starts inspect.old) }
-    requires expected { HaveExpected (D.scoped cache.old.cx) (D.script cache.old.cx) D.Cx.Input.eq
-        cache.old.results (fates_of evaluation.old.goals) }
     ensures advances { Advances D.Delegate D.Cx.Cx D.Cx.Input.eq cache.old.cx received
         cache.old evaluation.old (D.starts inspect.old) result
         cache.new evaluation.new (D.starts inspect.new) }

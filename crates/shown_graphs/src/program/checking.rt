@@ -2,7 +2,7 @@
 ghost use Rattle.std.specs.Prelude.{◌≡◌, ◌⊎◌, IfErr, IfOk, OnOk};
 ghost use Rattle.std.specs.Io.KnownBytes.{Appends};
 ghost use Rattle.shown_graphs.specs.Below.{verdicts};
-ghost use Rattle.shown_graphs.specs.Program.{EndsChecking, IsChecked};
+ghost use Rattle.shown_graphs.specs.Program.{EndsChecking, IsJudgedPage};
 ghost use Rattle.shown_graphs.specs.Told.{AreJudged, IsJudged, line_said};
 
 use crate::answer::accepts;
@@ -26,7 +26,7 @@ pub(super) fn check_input<R: Read, W: Write, P: Progress>(
     out: &mut W,
     progress: P,
 ) -> Result<bool, Stop>
-    ensures told { IfOk result (IsChecked ⟦<TableDelegate<'static, 8, 1> as Delegate>⟧
+    ensures told { IfOk result (IsJudgedPage ⟦<TableDelegate<'static, 8, 1> as Delegate>⟧
         ⟦<Table<&'static Rules> as Cx>⟧ (R.remaining input.old) (W.contents out.old) (W.contents out.new)) }
     ensures ended { IfErr result (EndsChecking (R.remaining input.old)
         (W.contents out.old) (W.contents out.new)) }

@@ -1,7 +1,7 @@
 //! How the questions of a text are shown.
 ghost use Rattle.std.specs.Prelude.{◌≡◌, ◌⊎◌, IfErr, IfOk};
 ghost use Rattle.shown_graphs.specs.Below.{verdicts};
-ghost use Rattle.shown_graphs.specs.Program.{EndsShowing, IsShown};
+ghost use Rattle.shown_graphs.specs.Program.{EndsShowing, ShowsAnswers};
 ghost use Rattle.shown_graphs.specs.Shown.{AreShown};
 
 #[cfg(test)]
@@ -30,7 +30,7 @@ pub(super) fn show_input<R: Read, W: Write, P: Progress>(
     out: &mut W,
     progress: P,
 ) -> Result<bool, Stop>
-    ensures told { IfOk result (IsShown ⟦<TableDelegate<'static, 8, 1> as Delegate>⟧
+    ensures told { IfOk result (ShowsAnswers ⟦<TableDelegate<'static, 8, 1> as Delegate>⟧
         ⟦<Table<&'static Rules> as Cx>⟧ (R.remaining input.old)
         (W.contents out.old) (W.contents out.new) form) }
     ensures ended { IfErr result (EndsShowing (R.remaining input.old)

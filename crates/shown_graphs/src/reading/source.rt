@@ -4,7 +4,7 @@ ghost use Rattle.std.specs.Prelude.{◌≡◌, ◌≢◌, ◌∷◌, ◌<◌, �
 ghost use Rattle.std.specs.Bool.{MatchBool};
 ghost use Rattle.json.specs.Print.{IsNumber};
 ghost use Rattle.json.specs.Token.{begin_array, begin_object, end_array, end_object, key, number};
-ghost use Rattle.shown_graphs.specs.Data.{Begins, IsTarget, left_in, number_tokens, Spells, string_tokens};
+ghost use Rattle.shown_graphs.specs.Data.{StandsFirst, IsTarget, left_in, number_tokens, Spells, string_tokens};
 ghost use Rattle.shown_graphs.specs.Stop.{IsBadData, StopsUnless};
 
 use crate::program::Stop;
@@ -32,7 +32,7 @@ impl<'a> Source<'a> {
 
     pub(crate) fn begin_object(&mut self) -> Result<(), Stop>
         ensures read { OnOk result (left_in self.old ≡ begin_object ∷ left_in self.new) }
-        ensures refused { IfErr result (StopsUnless (Begins begin_object (left_in self.old))) }
+        ensures refused { IfErr result (StopsUnless (StandsFirst begin_object (left_in self.old))) }
     {
         match self.reader.next() {
             Some(Token::BeginObject) => Ok(()),
@@ -42,7 +42,7 @@ impl<'a> Source<'a> {
 
     pub(crate) fn end_object(&mut self) -> Result<(), Stop>
         ensures read { OnOk result (left_in self.old ≡ end_object ∷ left_in self.new) }
-        ensures refused { IfErr result (StopsUnless (Begins end_object (left_in self.old))) }
+        ensures refused { IfErr result (StopsUnless (StandsFirst end_object (left_in self.old))) }
     {
         match self.reader.next() {
             Some(Token::EndObject) => Ok(()),
@@ -52,7 +52,7 @@ impl<'a> Source<'a> {
 
     pub(crate) fn begin_array(&mut self) -> Result<(), Stop>
         ensures read { OnOk result (left_in self.old ≡ begin_array ∷ left_in self.new) }
-        ensures refused { IfErr result (StopsUnless (Begins begin_array (left_in self.old))) }
+        ensures refused { IfErr result (StopsUnless (StandsFirst begin_array (left_in self.old))) }
     {
         match self.reader.next() {
             Some(Token::BeginArray) => Ok(()),
@@ -63,7 +63,7 @@ impl<'a> Source<'a> {
     /// Takes the end of an array, if it is next.
     pub(crate) fn is_end_of_array(&mut self) -> bool
         ensures { MatchBool result (left_in self.old ≡ end_array ∷ left_in self.new)
-            ((left_in self.new ≡ left_in self.old) × ¬ (Begins end_array (left_in self.old))) }
+            ((left_in self.new ≡ left_in self.old) × ¬ (StandsFirst end_array (left_in self.old))) }
     {
         self.reader.take_end_array()
     }
@@ -71,7 +71,8 @@ impl<'a> Source<'a> {
     /// The key has to be this one.
     pub(crate) fn key(&mut self, wanted: &str) -> Result<(), Stop>
         ensures read { OnOk result (left_in self.old ≡ key wanted.now ∷ left_in self.new) }
-        ensures refused { IfErr result (StopsUnless (Begins (key wanted.now) (left_in self.old))) }
+        ensures refused { IfErr result (StopsUnless (
+            StandsFirst (key wanted.now) (left_in self.old))) }
     {
         match self.reader.next() {
             Some(Token::Key(key)) if key == wanted => Ok(()),

@@ -44,8 +44,8 @@ fn show_with<X, D>(
 where
     X: Cx<Input = Goal, Result = Outcome>,
     D: Delegate<Cx = X, ProofTreeBuilder = Builder>,
-    ensures { IfOk result (λ all_fine. IsTreeShown X.Cx (D.script cx) cx rules.now depth goal all_fine
-        text.old.items text.new.items) }
+    ensures { IfOk result (λ all_fine. IsTreeShown X.Cx (D.script cx) cx rules.now depth goal
+        all_fine text.old.items text.new.items) }
 {
     let mut cache = GlobalCache::<Recording<D>>::new(alloc, cx);
     let mut recorder = Recorder::new(alloc, Builder::new(true), true);

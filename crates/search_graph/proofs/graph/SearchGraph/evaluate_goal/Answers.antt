@@ -12,11 +12,13 @@ use Rattle.search_graph.specs.Below.{Decides, IsCaused, IsMemoryOrOrder, verdict
 use Rattle.search_moves.specs.Drafts.{HasNoDrafts}
 use Rattle.search_rules.proofs.records.EarlierNodes.{nodes_of_earlier}
 
-pub evaluate-outcome-requires-clause-new : goal.evaluate-outcome-requires-clause-new
-evaluate-outcome-requires-clause-new g c = rw c.new-evaluation.ensures.begins (record { no_goals = refl; no_entries = refl; fits = c.new-evaluation.ensures.fits })
-
-pub evaluate-outcome-requires-clause-drafts : goal.evaluate-outcome-requires-clause-drafts
-evaluate-outcome-requires-clause-drafts g c = subst (λ e. HasNoDrafts c.args.cache.now.nodes e.drafts) (sym c.new-evaluation.ensures.begins) c.new-drafts.ensures
+pub evaluate-outcome-requires : goal.evaluate-outcome-requires
+evaluate-outcome-requires g c = record {
+  outset = record {
+    new = rw c.new-evaluation.ensures.begins (record { no_goals = refl; no_entries = refl; fits = c.new-evaluation.ensures.fits });
+    no_drafts = subst (λ e. HasNoDrafts c.args.cache.now.nodes e.drafts) (sym c.new-evaluation.ensures.begins) c.new-drafts.ensures;
+  };
+}
 
 -- ---- an answer
 

@@ -62,11 +62,11 @@ returns-clause-limits g c = worked_limits g.D.Delegate g.D.Cx.Cx g.D.Cx.Input.Pa
 pub returns-clause-spared : goal.returns-clause-spared
 returns-clause-spared g c = c.work_out-answer.ensures.spares.spared refl
 
-pub work_out-answer-requires-clause-new : goal.work_out-answer-requires-clause-new
-work_out-answer-requires-clause-new g c = rw c.new-evaluation.ensures.begins (record { no_goals = refl; no_entries = refl; fits = c.new-evaluation.ensures.fits })
-
-pub work_out-answer-requires-clause-drafts : goal.work_out-answer-requires-clause-drafts
-work_out-answer-requires-clause-drafts g c = subst (λ e. HasNoDrafts c.args.cache.now.nodes e.drafts) (sym c.new-evaluation.ensures.begins) c.new-drafts.ensures
+pub work_out-answer-requires-clause-outset : goal.work_out-answer-requires-clause-outset
+work_out-answer-requires-clause-outset g c = record {
+  new = rw c.new-evaluation.ensures.begins (record { no_goals = refl; no_entries = refl; fits = c.new-evaluation.ensures.fits });
+  no_drafts = subst (λ e. HasNoDrafts c.args.cache.now.nodes e.drafts) (sym c.new-evaluation.ensures.begins) c.new-drafts.ensures;
+}
 
 pub work_out-answer-requires-clause-fated : goal.work_out-answer-requires-clause-fated
 work_out-answer-requires-clause-fated g c = record { recorded = λ records. refl; expected = record { expected = tt; plain = λ n plain fits. tt } }

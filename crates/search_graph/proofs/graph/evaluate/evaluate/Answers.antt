@@ -36,14 +36,14 @@ returns-in-Some-clause-evaluates g c = record {
             let unscoped = plainly.1 in
             subst (λ goal. IsRemembered g.D.Cx.Input.PartialEq.eq c.args.cache.now.results goal call.root (record { result = c.in-Some.stored.result; node = c.in-Some.stored.node })) (sym at.outset.same_top)
             (subst (λ root. IsRemembered g.D.Cx.Input.PartialEq.eq c.args.cache.now.results c.args.input root (record { result = c.in-Some.stored.result; node = c.in-Some.stored.node })) (sym at.outset.same_root)
-            (subst (λ o. IsSomeAnd o (λ hit. (hit.result ≡ c.in-Some.stored.result) × (hit.node ≡ c.in-Some.stored.node))) (ap (option_map hit_of) (sym c.in-Some.is) ∙ (stored_over_none g.D.Cx.Input.PartialEq.eq c.args.evaluation.now.goals c.requires.new.no_goals c.consult-stored.result.stored c.stack-stack.result.now c.stack-stack.ensures c.args.evaluation.now.provisional c.requires.new.no_entries c.args.step_kind (usable g.D.Cx.Input.PartialEq.eq c.args.cache.now.results c.args.input c.args.evaluation.now.root_depth.0) (found_by _ _ hit_of c.consult-stored.result.stored _ is_noop unscoped c.consult-stored.ensures.consults.stored))) (refl, refl)));
+            (subst (λ o. IsSomeAnd o (λ hit. (hit.result ≡ c.in-Some.stored.result) × (hit.node ≡ c.in-Some.stored.node))) (ap (option_map hit_of) (sym c.in-Some.is) ∙ (stored_over_none g.D.Cx.Input.PartialEq.eq c.args.evaluation.now.goals c.requires.outset.new.no_goals c.consult-stored.result.stored c.stack-stack.result.now c.stack-stack.ensures c.args.evaluation.now.provisional c.requires.outset.new.no_entries c.args.step_kind (usable g.D.Cx.Input.PartialEq.eq c.args.cache.now.results c.args.input c.args.evaluation.now.root_depth.0) (found_by _ _ hit_of c.consult-stored.result.stored _ is_noop unscoped c.consult-stored.ensures.consults.stored))) (refl, refl)));
       });
   stopped = λ call at. tt;
 }
 
 pub returns-in-Some-clause-stored : goal.returns-in-Some-clause-stored
 returns-in-Some-clause-stored g c = λ is_noop unscoped.
-    something_stored c.consult-stored.result.stored _ _ c.in-Some.stored c.in-Some.is (stored_over_none g.D.Cx.Input.PartialEq.eq c.args.evaluation.now.goals c.requires.new.no_goals c.consult-stored.result.stored c.stack-stack.result.now c.stack-stack.ensures c.args.evaluation.now.provisional c.requires.new.no_entries c.args.step_kind (usable g.D.Cx.Input.PartialEq.eq c.args.cache.now.results c.args.input c.args.evaluation.now.root_depth.0) (found_by _ _ hit_of c.consult-stored.result.stored _ is_noop unscoped c.consult-stored.ensures.consults.stored)) (refl, c.consult-stored.ensures.same_starts, refl, refl)
+    something_stored c.consult-stored.result.stored _ _ c.in-Some.stored c.in-Some.is (stored_over_none g.D.Cx.Input.PartialEq.eq c.args.evaluation.now.goals c.requires.outset.new.no_goals c.consult-stored.result.stored c.stack-stack.result.now c.stack-stack.ensures c.args.evaluation.now.provisional c.requires.outset.new.no_entries c.args.step_kind (usable g.D.Cx.Input.PartialEq.eq c.args.cache.now.results c.args.input c.args.evaluation.now.root_depth.0) (found_by _ _ hit_of c.consult-stored.result.stored _ is_noop unscoped c.consult-stored.ensures.consults.stored)) (refl, c.consult-stored.ensures.same_starts, refl, refl)
 
 pub returns-in-Some-clause-grounded : goal.returns-in-Some-clause-grounded
 returns-in-Some-clause-grounded g c = record { has_graph = is_some_with _ c.consult-stored.result.stored c.in-Some.stored c.in-Some.is c.consult-stored.ensures.graph; leaves = leaves_nothing g.D.Cx.Input.PartialEq.eq c.args.cache.now c.in-Some.stored.node; caused = tt }
@@ -67,7 +67,7 @@ returns-clause-evaluates g c = record {
 }
 
 pub returns-clause-stored : goal.returns-clause-stored
-returns-clause-stored g c = λ is_noop unscoped. nothing_stored c.consult-stored.result.stored _ _ c.in_default.not-Some (stored_over_none g.D.Cx.Input.PartialEq.eq c.args.evaluation.now.goals c.requires.new.no_goals c.consult-stored.result.stored c.stack-stack.result.now c.stack-stack.ensures c.args.evaluation.now.provisional c.requires.new.no_entries c.args.step_kind (usable g.D.Cx.Input.PartialEq.eq c.args.cache.now.results c.args.input c.args.evaluation.now.root_depth.0) (found_by _ _ hit_of c.consult-stored.result.stored _ is_noop unscoped c.consult-stored.ensures.consults.stored))
+returns-clause-stored g c = λ is_noop unscoped. nothing_stored c.consult-stored.result.stored _ _ c.in_default.not-Some (stored_over_none g.D.Cx.Input.PartialEq.eq c.args.evaluation.now.goals c.requires.outset.new.no_goals c.consult-stored.result.stored c.stack-stack.result.now c.stack-stack.ensures c.args.evaluation.now.provisional c.requires.outset.new.no_entries c.args.step_kind (usable g.D.Cx.Input.PartialEq.eq c.args.cache.now.results c.args.input c.args.evaluation.now.root_depth.0) (found_by _ _ hit_of c.consult-stored.result.stored _ is_noop unscoped c.consult-stored.ensures.consults.stored))
 
 pub returns-clause-recorded : goal.returns-clause-recorded
 returns-clause-recorded g c = λ records. c.work_out.ensures.spares.recorded (c.consult-stored.ensures.builder.same_noop ∙ records)
@@ -75,11 +75,8 @@ returns-clause-recorded g c = λ records. c.work_out.ensures.spares.recorded (c.
 pub returns-clause-builder : goal.returns-clause-builder
 returns-clause-builder g c = builder_goes_on g.D.Delegate.starts g.D.Delegate.noop c.args.inspect.now c.consult-stored.new.inspect c.work_out.new.inspect c.consult-stored.ensures.builder c.work_out.ensures.builder
 
-pub work_out-requires-clause-new : goal.work_out-requires-clause-new
-work_out-requires-clause-new g c = c.requires.new
-
-pub work_out-requires-clause-drafts : goal.work_out-requires-clause-drafts
-work_out-requires-clause-drafts g c = c.requires.drafts
+pub work_out-requires-clause-outset : goal.work_out-requires-clause-outset
+work_out-requires-clause-outset g c = c.requires.outset
 
 pub work_out-requires-clause-fated : goal.work_out-requires-clause-fated
 work_out-requires-clause-fated g c = subst (λ b. IsFated (g.D.Delegate.scoped c.args.cache.now.cx) (g.D.Delegate.script c.args.cache.now.cx) g.D.Cx.Input.PartialEq.eq c.args.cache.now.results b (record { goal = c.args.input; depth = c.args.evaluation.now.root_depth.0; fate = c.consult-stored.result.fate })) (sym c.consult-stored.ensures.builder.same_noop) c.consult-stored.ensures.fated
@@ -99,7 +96,7 @@ returns-clause-settled g c =
     (c.consult-stored.ensures.consults.fate ∙ stored_unless _ _ _ needs.needs.unrecorded (begins_unscoped g.D.Delegate g.D.Cx.Cx c.args.cache.now.cx call _ _ _ _ _ needs at.outset))
     (top_is_not_lone g.D.Delegate g.D.Cx.Cx c.args.cache.now.cx g.D.Cx.Input.PartialEq.eq call _ c.args.cache.now.results c.args.input c.args.evaluation.now.root_depth.0 _ _ needs settled.settled.require at.outset
     (none_found hit_of c.consult-stored.result.stored _ c.in_default.not-Some
-    (stored_over_none g.D.Cx.Input.PartialEq.eq c.args.evaluation.now.goals c.requires.new.no_goals c.consult-stored.result.stored c.stack-stack.result.now c.stack-stack.ensures c.args.evaluation.now.provisional c.requires.new.no_entries c.args.step_kind (usable g.D.Cx.Input.PartialEq.eq c.args.cache.now.results c.args.input c.args.evaluation.now.root_depth.0) (found_by _ _ hit_of c.consult-stored.result.stored _ needs.needs.unrecorded (begins_unscoped g.D.Delegate g.D.Cx.Cx c.args.cache.now.cx call _ _ _ _ _ needs at.outset) c.consult-stored.ensures.consults.stored)))) in
+    (stored_over_none g.D.Cx.Input.PartialEq.eq c.args.evaluation.now.goals c.requires.outset.new.no_goals c.consult-stored.result.stored c.stack-stack.result.now c.stack-stack.ensures c.args.evaluation.now.provisional c.requires.outset.new.no_entries c.args.step_kind (usable g.D.Cx.Input.PartialEq.eq c.args.cache.now.results c.args.input c.args.evaluation.now.root_depth.0) (found_by _ _ hit_of c.consult-stored.result.stored _ needs.needs.unrecorded (begins_unscoped g.D.Delegate g.D.Cx.Cx c.args.cache.now.cx call _ _ _ _ _ needs at.outset) c.consult-stored.ensures.consults.stored)))) in
     record {
       unmet = λ call at needs settled.
           (over call at needs settled).unmet call (subst (λ n. Begins g.D.Delegate g.D.Cx.Cx c.args.cache.now.cx g.D.Cx.Input.PartialEq.eq call c.args.input c.args.evaluation.now.root_depth.0 n c.args.evaluation.now.limits_met c.args.cache.now.results) (sym c.consult-stored.ensures.same_starts) at)

@@ -7,19 +7,16 @@ use Rattle.search_graph.specs.Turns.{TurnsCache}
 use Rattle.search_graph.proofs.turns.Turns.{end_leads, end_right, end_stops, noted_of, turn_has, turn_keeps, turn_leads, turn_right, turn_settles}
 use Rattle.search_graph.proofs.graph.evaluate.take_turn.Goals as goal
 
-pub advance-requires-clause-reply : goal.advance-requires-clause-reply
-advance-requires-clause-reply g c = c.requires.reply
-
-pub advance-requires-clause-expected : goal.advance-requires-clause-expected
-advance-requires-clause-expected g c = c.requires.expected
+pub advance-requires : goal.advance-requires
+advance-requires g c = record { may = c.requires.may.advance }
 
 pub returns-in_err-given-clause-cache : goal.returns-in_err-given-clause-cache
-returns-in_err-given-clause-cache g c = turn_keeps g.D.Cx.Input.PartialEq.eq c.args.evaluation.now c.args.cache.now c.advance.new.cache c.advance.new.cache c.requires.drafts c.advance.ensures.cache.keeps c.advance.ensures.cache.changes (λ at lower. refl) refl
+returns-in_err-given-clause-cache g c = turn_keeps g.D.Cx.Input.PartialEq.eq c.args.evaluation.now c.args.cache.now c.advance.new.cache c.advance.new.cache c.requires.may.drafts c.advance.ensures.cache.keeps c.advance.ensures.cache.changes (λ at lower. refl) refl
 
 -- ---- nodes are let go before the next turn
 
 pub collect_drafts-requires-clause-before : goal.collect_drafts-requires-clause-before
-collect_drafts-requires-clause-before g c = (turn_has g.D.Cx.Input.PartialEq.eq c.args.evaluation.now c.args.cache.now c.advance.new.cache c.advance.new.cache c.requires.drafts c.advance.ensures.cache.keeps c.advance.ensures.cache.changes (λ at lower. refl) refl c.advance.new.evaluation c.in_ok-given.ensures.noted.first (c.in_ok-given.ensures.goals.stays c.args.evaluation.now.drafts.first c.requires.drafts.there c.requires.drafts.from) (c.in_ok-given.ensures.noted.noted_are c.requires.drafts.noted_are)).before
+collect_drafts-requires-clause-before g c = (turn_has g.D.Cx.Input.PartialEq.eq c.args.evaluation.now c.args.cache.now c.advance.new.cache c.advance.new.cache c.requires.may.drafts c.advance.ensures.cache.keeps c.advance.ensures.cache.changes (λ at lower. refl) refl c.advance.new.evaluation c.in_ok-given.ensures.noted.first (c.in_ok-given.ensures.goals.stays c.args.evaluation.now.drafts.first c.requires.may.drafts.there c.requires.may.drafts.from) (c.in_ok-given.ensures.noted.noted_are c.requires.may.drafts.noted_are)).before
 
 pub returns-in-Step-clause-advances : goal.returns-in-Step-clause-advances
 returns-in-Step-clause-advances g c = record {
@@ -40,25 +37,25 @@ returns-in-Step-clause-right g c = turn_right g.D.Delegate g.D.Cx.Cx g.D.Cx.Inpu
 
 pub returns-in-Step-clause-cache : goal.returns-in-Step-clause-cache
 returns-in-Step-clause-cache g c =
-    turn_keeps g.D.Cx.Input.PartialEq.eq c.args.evaluation.now c.args.cache.now c.advance.new.cache c.collect_drafts.new.cache c.requires.drafts c.advance.ensures.cache.keeps c.advance.ensures.cache.changes
+    turn_keeps g.D.Cx.Input.PartialEq.eq c.args.evaluation.now c.args.cache.now c.advance.new.cache c.collect_drafts.new.cache c.requires.may.drafts c.advance.ensures.cache.keeps c.advance.ensures.cache.changes
     (subst (λ n. KeepsFirst n c.advance.new.cache.nodes c.collect_drafts.new.cache.nodes) c.in_ok-given.ensures.noted.first c.collect_drafts.ensures.lets_go.earlier) c.collect_drafts.ensures.lets_go.rest
 
 pub returns-in-Step-clause-drafts : goal.returns-in-Step-clause-drafts
 returns-in-Step-clause-drafts g c = record {
   first = c.collect_drafts.ensures.first ∙ c.in_ok-given.ensures.noted.first;
   has =
-      turn_has g.D.Cx.Input.PartialEq.eq c.args.evaluation.now c.args.cache.now c.advance.new.cache c.collect_drafts.new.cache c.requires.drafts c.advance.ensures.cache.keeps c.advance.ensures.cache.changes
+      turn_has g.D.Cx.Input.PartialEq.eq c.args.evaluation.now c.args.cache.now c.advance.new.cache c.collect_drafts.new.cache c.requires.may.drafts c.advance.ensures.cache.keeps c.advance.ensures.cache.changes
       (subst (λ n. KeepsFirst n c.advance.new.cache.nodes c.collect_drafts.new.cache.nodes) c.in_ok-given.ensures.noted.first c.collect_drafts.ensures.lets_go.earlier) c.collect_drafts.ensures.lets_go.rest
       c.collect_drafts.new.self (c.collect_drafts.ensures.first ∙ c.in_ok-given.ensures.noted.first)
-      (subst (AreFrom c.args.evaluation.now.drafts.first) (sym (ap (λ e. e.goals) c.collect_drafts.ensures.rest)) (c.in_ok-given.ensures.goals.stays c.args.evaluation.now.drafts.first c.requires.drafts.there c.requires.drafts.from))
+      (subst (AreFrom c.args.evaluation.now.drafts.first) (sym (ap (λ e. e.goals) c.collect_drafts.ensures.rest)) (c.in_ok-given.ensures.goals.stays c.args.evaluation.now.drafts.first c.requires.may.drafts.there c.requires.may.drafts.from))
       (noted_of g.D.Cx.Input.PartialEq.eq c.collect_drafts.new.cache c.advance.new.evaluation.drafts c.collect_drafts.new.self.drafts c.collect_drafts.ensures.first c.collect_drafts.ensures.stored
-      (noted_stay g.D.Delegate g.D.Cx.Cx g.D.Cx.Input.PartialEq.eq c.args.cache.now.cx c.advance.new.evaluation c.advance.new.cache c.collect_drafts.new.cache c.in-Step.given.node c.collect_drafts.ensures.lets_go (c.in_ok-given.ensures.noted.noted_are c.requires.drafts.noted_are)));
+      (noted_stay g.D.Delegate g.D.Cx.Cx g.D.Cx.Input.PartialEq.eq c.args.cache.now.cx c.advance.new.evaluation c.advance.new.cache c.collect_drafts.new.cache c.in-Step.given.node c.collect_drafts.ensures.lets_go (c.in_ok-given.ensures.noted.noted_are c.requires.may.drafts.noted_are)));
 }
 
 -- ---- and once the call has its answer
 
 pub collect_at_end-requires-clause-before : goal.collect_at_end-requires-clause-before
-collect_at_end-requires-clause-before g c = (turn_has g.D.Cx.Input.PartialEq.eq c.args.evaluation.now c.args.cache.now c.advance.new.cache c.advance.new.cache c.requires.drafts c.advance.ensures.cache.keeps c.advance.ensures.cache.changes (λ at lower. refl) refl c.advance.new.evaluation c.in_ok-given.ensures.noted.first (c.in_ok-given.ensures.goals.stays c.args.evaluation.now.drafts.first c.requires.drafts.there c.requires.drafts.from) (c.in_ok-given.ensures.noted.noted_are c.requires.drafts.noted_are)).before
+collect_at_end-requires-clause-before g c = (turn_has g.D.Cx.Input.PartialEq.eq c.args.evaluation.now c.args.cache.now c.advance.new.cache c.advance.new.cache c.requires.may.drafts c.advance.ensures.cache.keeps c.advance.ensures.cache.changes (λ at lower. refl) refl c.advance.new.evaluation c.in_ok-given.ensures.noted.first (c.in_ok-given.ensures.goals.stays c.args.evaluation.now.drafts.first c.requires.may.drafts.there c.requires.may.drafts.from) (c.in_ok-given.ensures.noted.noted_are c.requires.may.drafts.noted_are)).before
 
 pub returns-in_ok-collect_at_end-in-Finished-clause-advances : goal.returns-in_ok-collect_at_end-in-Finished-clause-advances
 returns-in_ok-collect_at_end-in-Finished-clause-advances g c = record {
@@ -79,7 +76,7 @@ returns-in_ok-collect_at_end-in-Finished-clause-right g c = end_right g.D.Delega
 
 pub returns-in_ok-collect_at_end-in-Finished-clause-cache : goal.returns-in_ok-collect_at_end-in-Finished-clause-cache
 returns-in_ok-collect_at_end-in-Finished-clause-cache g c =
-    turn_keeps g.D.Cx.Input.PartialEq.eq c.args.evaluation.now c.args.cache.now c.advance.new.cache c.collect_at_end.new.cache c.requires.drafts c.advance.ensures.cache.keeps c.advance.ensures.cache.changes
+    turn_keeps g.D.Cx.Input.PartialEq.eq c.args.evaluation.now c.args.cache.now c.advance.new.cache c.collect_at_end.new.cache c.requires.may.drafts c.advance.ensures.cache.keeps c.advance.ensures.cache.changes
     (subst (λ n. KeepsFirst n c.advance.new.cache.nodes c.collect_at_end.new.cache.nodes) c.in_ok-given.ensures.noted.first c.in_ok-collect_at_end-in-Finished.ensures.settles.earlier) c.in_ok-collect_at_end-in-Finished.ensures.settles.rest
 
 -- ---- where there was no memory for that
@@ -98,4 +95,4 @@ returns-in_err-collect_at_end-in-Finished-clause-advances g c = record {
 pub returns-in_err-collect_at_end-in-Finished-clause-cache : goal.returns-in_err-collect_at_end-in-Finished-clause-cache
 returns-in_err-collect_at_end-in-Finished-clause-cache g c =
     subst (TurnsCache g.D.Cx.Input.PartialEq.eq c.args.evaluation.now c.args.cache.now) (sym c.in_err-collect_at_end-in-Finished.ensures.refused)
-    (turn_keeps g.D.Cx.Input.PartialEq.eq c.args.evaluation.now c.args.cache.now c.advance.new.cache c.advance.new.cache c.requires.drafts c.advance.ensures.cache.keeps c.advance.ensures.cache.changes (λ at lower. refl) refl)
+    (turn_keeps g.D.Cx.Input.PartialEq.eq c.args.evaluation.now c.args.cache.now c.advance.new.cache c.advance.new.cache c.requires.may.drafts c.advance.ensures.cache.keeps c.advance.ensures.cache.changes (λ at lower. refl) refl)

@@ -25,7 +25,7 @@ returns-in_err-push_goal-clause-evaluates g c = record {
   stopped = λ call at.
       if_err_and c.from_residual.result _ _ c.from_residual.ensures.1
       (λ e is. subst (λ fault. StopsWith g.D.Delegate g.D.Cx.Cx g.D.Cx.Input.PartialEq.eq c.args.cache.now.cx call fault c.push_goal.new.cache c.push_goal.new.self (g.D.Delegate.starts c.push_goal.new.inspect)) (sym is)
-      (never_pushed g.D.Delegate g.D.Cx.Cx g.D.Cx.Input.PartialEq.eq c.args.cache.now.cx c.args.step_kind c.args.input c.args.cache.now c.args.evaluation.now c.requires.new c.args.evaluation.now.root_depth c.push_goal.new.cache c.push_goal.new.self (g.D.Delegate.starts c.args.inspect.now) _ c.push_goal.ensures.cache c.push_goal.ensures.rest c.push_goal.ensures.starts.builder.at_least c.push_goal.ensures.starts.at_most call at));
+      (never_pushed g.D.Delegate g.D.Cx.Cx g.D.Cx.Input.PartialEq.eq c.args.cache.now.cx c.args.step_kind c.args.input c.args.cache.now c.args.evaluation.now c.requires.outset.new c.args.evaluation.now.root_depth c.push_goal.new.cache c.push_goal.new.self (g.D.Delegate.starts c.args.inspect.now) _ c.push_goal.ensures.cache c.push_goal.ensures.rest c.push_goal.ensures.starts.builder.at_least c.push_goal.ensures.starts.at_most call at));
 }
 
 pub loop-next-init : goal.loop-next-init
@@ -34,42 +34,44 @@ loop-next-init g c = record {
       subst (λ given. Awaits g.D.Delegate g.D.Cx.Cx g.D.Cx.Input.PartialEq.eq c.args.cache.now.cx call given c.push_goal.new.cache c.push_goal.new.self (g.D.Delegate.starts c.push_goal.new.inspect)) (sym c.without_node-received.ensures)
       (subst (λ cache. Awaits g.D.Delegate g.D.Cx.Cx g.D.Cx.Input.PartialEq.eq c.args.cache.now.cx call (record { reply = Begin; node = None }) cache c.push_goal.new.self (g.D.Delegate.starts c.push_goal.new.inspect)) (sym c.push_goal.ensures.cache)
       (subst (λ e. Awaits g.D.Delegate g.D.Cx.Cx g.D.Cx.Input.PartialEq.eq c.args.cache.now.cx call (record { reply = Begin; node = None }) (record c.args.cache.now { nodes = c.push_goal.new.cache.nodes }) e (g.D.Delegate.starts c.push_goal.new.inspect)) (sym c.push_goal.ensures.rest)
-      (begins_waiting g.D.Delegate g.D.Cx.Cx g.D.Cx.Input.PartialEq.eq c.args.cache.now.cx c.args.step_kind c.args.input c.args.cache.now c.args.evaluation.now c.requires.new c.args.evaluation.now.root_depth c.push_goal.new.self.goals c.push_goal.new.cache.nodes c.in_ok-push_goal.ensures.pushed (g.D.Delegate.starts c.args.inspect.now) _ c.push_goal.ensures.starts.at_most c.in_ok-push_goal.ensures.starts.counted call at)));
+      (begins_waiting g.D.Delegate g.D.Cx.Cx g.D.Cx.Input.PartialEq.eq c.args.cache.now.cx c.args.step_kind c.args.input c.args.cache.now c.args.evaluation.now c.requires.outset.new c.args.evaluation.now.root_depth c.push_goal.new.self.goals c.push_goal.new.cache.nodes c.in_ok-push_goal.ensures.pushed (g.D.Delegate.starts c.args.inspect.now) _ c.push_goal.ensures.starts.at_most c.in_ok-push_goal.ensures.starts.counted call at)));
   right =
       subst (λ given. IsRightFor g.D.Delegate g.D.Cx.Cx g.D.Cx.Input.PartialEq.eq c.args.cache.now.cx given c.push_goal.new.cache c.push_goal.new.self) (sym c.without_node-received.ensures)
       (subst (λ cache. IsRightFor g.D.Delegate g.D.Cx.Cx g.D.Cx.Input.PartialEq.eq c.args.cache.now.cx (record { reply = Begin; node = None }) cache c.push_goal.new.self) (sym c.push_goal.ensures.cache)
       (subst (λ e. IsRightFor g.D.Delegate g.D.Cx.Cx g.D.Cx.Input.PartialEq.eq c.args.cache.now.cx (record { reply = Begin; node = None }) (record c.args.cache.now { nodes = c.push_goal.new.cache.nodes }) e) (sym c.push_goal.ensures.rest)
-      (begins_right g.D.Delegate g.D.Cx.Cx g.D.Cx.Input.PartialEq.eq c.args.cache.now.cx c.args.step_kind c.args.input c.args.cache.now c.args.evaluation.now c.requires.new c.args.evaluation.now.root_depth c.push_goal.new.self.goals c.push_goal.new.cache.nodes c.in_ok-push_goal.ensures.pushed c.has_sound_results.ensures)));
+      (begins_right g.D.Delegate g.D.Cx.Cx g.D.Cx.Input.PartialEq.eq c.args.cache.now.cx c.args.step_kind c.args.input c.args.cache.now c.args.evaluation.now c.requires.outset.new c.args.evaluation.now.root_depth c.push_goal.new.self.goals c.push_goal.new.cache.nodes c.in_ok-push_goal.ensures.pushed c.has_sound_results.ensures)));
   keeps = appending_keeps g.D.Cx.Input.PartialEq.eq c.args.evaluation.now.goals c.args.cache.now c.push_goal.new.cache c.push_goal.ensures.cache c.push_goal.ensures.kept;
-  from = stay_pushed g.D.Delegate g.D.Cx.Cx c.args.cache.now.cx c.args.cache.now.nodes c.args.evaluation.now.goals c.push_goal.new.self.goals c.args.input c.args.step_kind c.args.evaluation.now.root_depth c.push_goal.new.cache.nodes c.in_ok-push_goal.ensures.pushed (length c.args.cache.now.nodes) (omega arith) (subst (AreFrom (length c.args.cache.now.nodes)) (sym c.requires.new.no_goals) tt);
+  from = stay_pushed g.D.Delegate g.D.Cx.Cx c.args.cache.now.cx c.args.cache.now.nodes c.args.evaluation.now.goals c.push_goal.new.self.goals c.args.input c.args.step_kind c.args.evaluation.now.root_depth c.push_goal.new.cache.nodes c.in_ok-push_goal.ensures.pushed (length c.args.cache.now.nodes) (omega arith) (subst (AreFrom (length c.args.cache.now.nodes)) (sym c.requires.outset.new.no_goals) tt);
   drafts =
-      begins_drafts g.D.Cx.Cx g.D.Cx.Input.PartialEq.eq (g.D.Delegate.script c.args.cache.now.cx) c.args.cache.now c.push_goal.new.cache c.args.evaluation.now c.push_goal.new.self c.requires.drafts c.has_runs.ensures c.has_sound_results.ensures c.push_goal.ensures.cache c.push_goal.ensures.kept (ap (λ e. e.drafts) c.push_goal.ensures.rest)
-      (stay_pushed g.D.Delegate g.D.Cx.Cx c.args.cache.now.cx c.args.cache.now.nodes c.args.evaluation.now.goals c.push_goal.new.self.goals c.args.input c.args.step_kind c.args.evaluation.now.root_depth c.push_goal.new.cache.nodes c.in_ok-push_goal.ensures.pushed (length c.args.cache.now.nodes) (omega arith) (subst (AreFrom (length c.args.cache.now.nodes)) (sym c.requires.new.no_goals) tt));
-  first = ap (λ e. e.drafts.first) c.push_goal.ensures.rest ∙ c.requires.drafts.first;
+      begins_drafts g.D.Cx.Cx g.D.Cx.Input.PartialEq.eq (g.D.Delegate.script c.args.cache.now.cx) c.args.cache.now c.push_goal.new.cache c.args.evaluation.now c.push_goal.new.self c.requires.outset.no_drafts c.has_runs.ensures c.has_sound_results.ensures c.push_goal.ensures.cache c.push_goal.ensures.kept (ap (λ e. e.drafts) c.push_goal.ensures.rest)
+      (stay_pushed g.D.Delegate g.D.Cx.Cx c.args.cache.now.cx c.args.cache.now.nodes c.args.evaluation.now.goals c.push_goal.new.self.goals c.args.input c.args.step_kind c.args.evaluation.now.root_depth c.push_goal.new.cache.nodes c.in_ok-push_goal.ensures.pushed (length c.args.cache.now.nodes) (omega arith) (subst (AreFrom (length c.args.cache.now.nodes)) (sym c.requires.outset.new.no_goals) tt));
+  first = ap (λ e. e.drafts.first) c.push_goal.ensures.rest ∙ c.requires.outset.no_drafts.first;
   builder = c.push_goal.ensures.starts.builder;
   settled = λ stored not_lone call at needs settled.
       subst (λ given. Settles g.D.Delegate g.D.Cx.Cx g.D.Cx.Input.PartialEq.eq c.args.cache.now.cx call given c.push_goal.new.cache c.push_goal.new.self) (sym c.without_node-received.ensures)
       (subst (λ cache. Settles g.D.Delegate g.D.Cx.Cx g.D.Cx.Input.PartialEq.eq c.args.cache.now.cx call (record { reply = Begin; node = None }) cache c.push_goal.new.self) (sym c.push_goal.ensures.cache)
       (subst (λ e. Settles g.D.Delegate g.D.Cx.Cx g.D.Cx.Input.PartialEq.eq c.args.cache.now.cx call (record { reply = Begin; node = None }) (record c.args.cache.now { nodes = c.push_goal.new.cache.nodes }) e) (sym c.push_goal.ensures.rest)
-      (begins_settles g.D.Delegate g.D.Cx.Cx g.D.Cx.Input.PartialEq.eq g.met.D.Cx.Cx.same_input g.met.D.Cx.Input.Eq.laws.refl c.args.cache.now.cx c.args.step_kind c.args.input c.args.cache.now c.args.evaluation.now c.requires.new c.args.evaluation.now.root_depth c.push_goal.new.self.goals c.push_goal.new.cache.nodes c.in_ok-push_goal.ensures.pushed c.args.fate c.in_ok-push_goal.ensures.fates c.has_sound_results.ensures stored not_lone call
+      (begins_settles g.D.Delegate g.D.Cx.Cx g.D.Cx.Input.PartialEq.eq g.met.D.Cx.Cx.same_input g.met.D.Cx.Input.Eq.laws.refl c.args.cache.now.cx c.args.step_kind c.args.input c.args.cache.now c.args.evaluation.now c.requires.outset.new c.args.evaluation.now.root_depth c.push_goal.new.self.goals c.push_goal.new.cache.nodes c.in_ok-push_goal.ensures.pushed c.args.fate c.in_ok-push_goal.ensures.fates c.has_sound_results.ensures stored not_lone call
       (begins_unmet g.D.Delegate g.D.Cx.Cx c.args.cache.now.cx call _ _ _ _ _ needs at.outset) settled)));
-  fates = first_fates (g.D.Delegate.scoped c.args.cache.now.cx) (g.D.Delegate.script c.args.cache.now.cx) g.D.Cx.Input.PartialEq.eq (g.D.Delegate.noop c.args.inspect.now) c.args.input c.args.fate c.args.cache.now.results c.args.evaluation.now.root_depth.0 c.args.evaluation.now.goals c.push_goal.new.self.goals c.push_goal.new.cache.results c.requires.new.no_goals c.in_ok-push_goal.ensures.fates c.requires.fated (ap (λ cache. cache.results) c.push_goal.ensures.cache);
+  fates = first_fates (g.D.Delegate.scoped c.args.cache.now.cx) (g.D.Delegate.script c.args.cache.now.cx) g.D.Cx.Input.PartialEq.eq (g.D.Delegate.noop c.args.inspect.now) c.args.input c.args.fate c.args.cache.now.results c.args.evaluation.now.root_depth.0 c.args.evaluation.now.goals c.push_goal.new.self.goals c.push_goal.new.cache.results c.requires.outset.new.no_goals c.in_ok-push_goal.ensures.fates c.requires.fated (ap (λ cache. cache.results) c.push_goal.ensures.cache);
 }
 
 -- ---- a move is made
 
-pub take_turn-requires-clause-reply : goal.take_turn-requires-clause-reply
-take_turn-requires-clause-reply g c =
-    let fits = c.requires.new.fits in
-    subst (λ cx. HasReply g.D.Delegate g.D.Cx.Cx g.D.Cx.Input.PartialEq.eq cx c.loop-next.received c.loop-next.cache c.loop-next.evaluation (g.D.Delegate.starts c.loop-next.inspect)) (sym c.loop-next.invariant.keeps.context)
-    (record { call = (call_of c.args.input c.args.evaluation.now.root_depth.0 (g.D.Delegate.starts c.args.inspect.now) c.args.evaluation.now.limits_met false false fits); waiting = (c.loop-next.invariant.waiting _ (some_call_begins g.D.Delegate g.D.Cx.Cx c.args.cache.now.cx g.D.Cx.Input.PartialEq.eq c.args.input c.args.evaluation.now.root_depth.0 (g.D.Delegate.starts c.args.inspect.now) c.args.evaluation.now.limits_met fits c.args.cache.now.results)).waiting; right = c.loop-next.invariant.right })
-
-pub take_turn-requires-clause-expected : goal.take_turn-requires-clause-expected
-take_turn-requires-clause-expected g c =
-    subst (λ cx. HaveExpected (g.D.Delegate.scoped cx) (g.D.Delegate.script cx) g.D.Cx.Input.PartialEq.eq c.loop-next.cache.results (fates_of c.loop-next.evaluation.goals)) (sym c.loop-next.invariant.keeps.context) c.loop-next.invariant.fates.expected
-
-pub take_turn-requires-clause-drafts : goal.take_turn-requires-clause-drafts
-take_turn-requires-clause-drafts g c = c.loop-next.invariant.drafts
+pub take_turn-requires : goal.take_turn-requires
+take_turn-requires g c =
+    let fits = c.requires.outset.new.fits in
+    record {
+      may = record {
+        advance = record {
+          reply =
+              subst (λ cx. HasReply g.D.Delegate g.D.Cx.Cx g.D.Cx.Input.PartialEq.eq cx c.loop-next.received c.loop-next.cache c.loop-next.evaluation (g.D.Delegate.starts c.loop-next.inspect)) (sym c.loop-next.invariant.keeps.context)
+              (record { call = (call_of c.args.input c.args.evaluation.now.root_depth.0 (g.D.Delegate.starts c.args.inspect.now) c.args.evaluation.now.limits_met false false fits); waiting = (c.loop-next.invariant.waiting _ (some_call_begins g.D.Delegate g.D.Cx.Cx c.args.cache.now.cx g.D.Cx.Input.PartialEq.eq c.args.input c.args.evaluation.now.root_depth.0 (g.D.Delegate.starts c.args.inspect.now) c.args.evaluation.now.limits_met fits c.args.cache.now.results)).waiting; right = c.loop-next.invariant.right });
+          expected = subst (λ cx. HaveExpected (g.D.Delegate.scoped cx) (g.D.Delegate.script cx) g.D.Cx.Input.PartialEq.eq c.loop-next.cache.results (fates_of c.loop-next.evaluation.goals)) (sym c.loop-next.invariant.keeps.context) c.loop-next.invariant.fates.expected;
+        };
+        drafts = c.loop-next.invariant.drafts;
+      };
+    }
 
 pub returns-in_err-next-clause-evaluates : goal.returns-in_err-next-clause-evaluates
 returns-in_err-next-clause-evaluates g c = record {
@@ -85,7 +87,7 @@ returns-in_err-next-clause-keeps g c = then_turns g.D.Cx.Input.PartialEq.eq c.ar
 
 pub loop-next-smaller : goal.loop-next-smaller
 loop-next-smaller g c =
-    let fits = c.requires.new.fits in
+    let fits = c.requires.outset.new.fits in
     ((subst (λ cx. (call : Call _) → Awaits g.D.Delegate g.D.Cx.Cx g.D.Cx.Input.PartialEq.eq cx call c.loop-next.received c.loop-next.cache c.loop-next.evaluation (g.D.Delegate.starts c.loop-next.inspect) → LeadsTo g.D.Delegate g.D.Cx.Cx g.D.Cx.Input.PartialEq.eq cx call (work_left g.D.Delegate g.D.Cx.Cx cx c.loop-next.evaluation.goals) c.loop-next.evaluation.goals (Step c.in-Step.next) c.take_turn.new.cache c.take_turn.new.evaluation (g.D.Delegate.starts c.take_turn.new.inspect)) c.loop-next.invariant.keeps.context (rw c.in-Step.is at c.in_ok-next.ensures.advances.leads)) (call_of c.args.input c.args.evaluation.now.root_depth.0 (g.D.Delegate.starts c.args.inspect.now) c.args.evaluation.now.limits_met false false fits) (c.loop-next.invariant.waiting _ (some_call_begins g.D.Delegate g.D.Cx.Cx c.args.cache.now.cx g.D.Cx.Input.PartialEq.eq c.args.input c.args.evaluation.now.root_depth.0 (g.D.Delegate.starts c.args.inspect.now) c.args.evaluation.now.limits_met fits c.args.cache.now.results))).leads.falls
 
 pub loop-next-preserved : goal.loop-next-preserved
@@ -100,7 +102,7 @@ loop-next-preserved g c =
       keeps = then_turns g.D.Cx.Input.PartialEq.eq c.args.evaluation.now.goals c.args.cache.now c.loop-next.cache c.take_turn.new.cache c.loop-next.evaluation c.loop-next.invariant.first c.loop-next.invariant.keeps c.take_turn.ensures.cache;
       from =
           let first = length c.args.cache.now.nodes in
-          let begun = subst (AreFrom first) (sym c.requires.new.no_goals) tt in
+          let begun = subst (AreFrom first) (sym c.requires.outset.new.no_goals) tt in
           c.in_ok-next.ensures.goals.stays first (first_there first c.args.cache.now.nodes c.loop-next.cache.nodes (omega arith) (c.loop-next.invariant.keeps.earlier first (omega arith) begun)) c.loop-next.invariant.from;
       builder = builder_goes_on g.D.Delegate.starts g.D.Delegate.noop c.args.inspect.now c.loop-next.inspect c.take_turn.new.inspect c.loop-next.invariant.builder c.take_turn.ensures.builder;
       settled = λ stored not_lone call at needs settled.
@@ -129,7 +131,7 @@ returns-in-Finished-clause-evaluates g c = record {
 pub returns-in-Finished-clause-grounded : goal.returns-in-Finished-clause-grounded
 returns-in-Finished-clause-grounded g c = record {
   has_graph =
-      let fits = c.requires.new.fits in
+      let fits = c.requires.outset.new.fits in
       let on = (subst (λ cx. (call : Call _) → Awaits g.D.Delegate g.D.Cx.Cx g.D.Cx.Input.PartialEq.eq cx call c.loop-next.received c.loop-next.cache c.loop-next.evaluation (g.D.Delegate.starts c.loop-next.inspect) → LeadsTo g.D.Delegate g.D.Cx.Cx g.D.Cx.Input.PartialEq.eq cx call (work_left g.D.Delegate g.D.Cx.Cx cx c.loop-next.evaluation.goals) c.loop-next.evaluation.goals (Finished c.in-Finished.answer) c.take_turn.new.cache c.take_turn.new.evaluation (g.D.Delegate.starts c.take_turn.new.inspect)) c.loop-next.invariant.keeps.context (rw c.in-Finished.is at c.in_ok-next.ensures.advances.leads)) (call_of c.args.input c.args.evaluation.now.root_depth.0 (g.D.Delegate.starts c.args.inspect.now) c.args.evaluation.now.limits_met false false fits) (c.loop-next.invariant.waiting _ (some_call_begins g.D.Delegate g.D.Cx.Cx c.args.cache.now.cx g.D.Cx.Input.PartialEq.eq c.args.input c.args.evaluation.now.root_depth.0 (g.D.Delegate.starts c.args.inspect.now) c.args.evaluation.now.limits_met fits c.args.cache.now.results)) in
       only_has_graph g.D.Delegate g.D.Cx.Cx c.args.cache.now.cx c.take_turn.new.cache.nodes c.loop-next.evaluation.goals [] c.args.input c.in-Finished.answer on.leads.1
       (rw c.in-Finished.is at c.in_ok-next.ensures.right);
@@ -200,7 +202,7 @@ returns-in_err-push_goal-clause-settled g c = λ stored not_lone. record {
   unmet = λ call at needs settled. ap (λ e. e.limits_met) c.push_goal.ensures.rest ∙ begins_unmet g.D.Delegate g.D.Cx.Cx c.args.cache.now.cx call _ _ _ _ _ needs at.outset;
   settles = λ call at needs settled.
       settled_stays g.D.Delegate g.D.Cx.Cx g.D.Cx.Input.PartialEq.eq c.args.cache.now.cx call.goals c.args.cache.now c.push_goal.new.cache (runs_of c.args.evaluation.now.goals)
-      (new_right g.D.Delegate g.D.Cx.Cx g.D.Cx.Input.PartialEq.eq c.args.cache.now.cx c.args.step_kind c.args.input c.args.cache.now c.args.evaluation.now c.requires.new c.has_sound_results.ensures).free
+      (new_right g.D.Delegate g.D.Cx.Cx g.D.Cx.Input.PartialEq.eq c.args.cache.now.cx c.args.step_kind c.args.input c.args.cache.now c.args.evaluation.now c.requires.outset.new c.has_sound_results.ensures).free
       (KeepsFinished-nodes c.args.cache.now.nodes c.push_goal.new.cache.nodes c.push_goal.ensures.kept) (ap (λ cache. cache.results) c.push_goal.ensures.cache) settled;
 }
 

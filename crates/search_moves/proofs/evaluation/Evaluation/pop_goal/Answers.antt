@@ -49,31 +49,31 @@ rebase_entries-requires-clause-within g c = λ input.
 
 -- ---- the answer may be stored, and what it is compared with is stored
 
-pub store_answer-requires-clause-storable : goal.store_answer-requires-clause-storable
-store_answer-requires-clause-storable g c =
-    storable_given g.D.Delegate g.D.Cx.Cx c.finalize-answer.result c.give_answer.new.answer c.give_answer.ensures.left c.result_node.new.cache c.input-input.result (record {
-      graph =
-          subst (λ (a : EvaluationResult _ _ _ _ _). a.heads ≡ [] → HasGraph (verdicts g.D.Cx.Cx) c.result_node.new.cache.nodes c.input-input.result a.result a.node) (sym c.finalize-answer.ensures)
-          (λ none. subst (λ i. HasGraph (verdicts g.D.Cx.Cx) c.result_node.new.cache.nodes i c.args.outcome c.in_ok-node.node) (sym c.input-input.ensures)
-          (headless_graph (verdicts g.D.Cx.Cx) c.args.cache.now.nodes c.result_node.new.cache.nodes c.args.self.now.goals c.pop-entry.result.entry c.pop-entry.result.run c.pop-entry.new.self c.pop-entry.ensures c.args.outcome c.in_ok-node.node c.requires.may.right.justified c.in_ok-node.ensures.has_node none));
-      plain =
-          subst (λ (a : EvaluationResult _ _ _ _ _). IsPlainAt (g.D.Delegate.script c.result_node.new.cache.cx) c.input-input.result (place_of a) a.result) (sym c.finalize-answer.ensures)
-          (subst (λ i. IsPlainAt (g.D.Delegate.script c.result_node.new.cache.cx) i (place_of (final_answer (c.pop-entry.result.entry, c.pop-entry.result.run) c.args.outcome c.in_ok-node.node)) c.args.outcome) (sym c.input-input.ensures)
-          (subst (λ x. IsPlainAt (g.D.Delegate.script x) c.pop-entry.result.entry.input (place_of (final_answer (c.pop-entry.result.entry, c.pop-entry.result.run) c.args.outcome c.in_ok-node.node)) c.args.outcome) (sym c.in_ok-node.ensures.same_context)
-          (subst (λ l. NewestIsPlain (g.D.Delegate.script c.args.cache.now.cx) l c.args.outcome) c.pop-entry.ensures c.requires.may.plain)));
-      comes =
-          subst (λ (a : EvaluationResult _ _ _ _ _). ComesTo (g.D.Delegate.script c.result_node.new.cache.cx) (g.D.Delegate.fixpoint_overflow c.result_node.new.cache.cx) c.input-input.result a.result) (sym c.finalize-answer.ensures)
-          (subst (λ i. ComesTo (g.D.Delegate.script c.result_node.new.cache.cx) (g.D.Delegate.fixpoint_overflow c.result_node.new.cache.cx) i c.args.outcome) (sym c.input-input.ensures)
-          (subst (λ x. ComesTo (g.D.Delegate.script x) (g.D.Delegate.fixpoint_overflow x) c.pop-entry.result.entry.input c.args.outcome) (sym c.in_ok-node.ensures.same_context)
-          (subst (λ l. NewestComesTo (g.D.Delegate.script c.args.cache.now.cx) (g.D.Delegate.fixpoint_overflow c.args.cache.now.cx) l c.args.outcome) c.pop-entry.ensures c.requires.may.comes)));
-    })
-
-pub store_answer-requires-clause-expected : goal.store_answer-requires-clause-expected
-store_answer-requires-clause-expected g c =
-    subst (λ x. IfCompared c.pop-entry.result.run.fate (IsExpected (g.D.Delegate.scoped x) g.D.Cx.Input.PartialEq.eq c.result_node.new.cache.results c.input-input.result)) (sym c.in_ok-node.ensures.same_context)
-    (subst (λ results. IfCompared c.pop-entry.result.run.fate (IsExpected (g.D.Delegate.scoped c.args.cache.now.cx) g.D.Cx.Input.PartialEq.eq results c.input-input.result)) (sym c.in_ok-node.ensures.same_results)
-    (subst (λ i. IfCompared c.pop-entry.result.run.fate (IsExpected (g.D.Delegate.scoped c.args.cache.now.cx) g.D.Cx.Input.PartialEq.eq c.args.cache.now.results i)) (sym c.input-input.ensures)
-    (subst (λ l. HaveExpected (g.D.Delegate.scoped c.args.cache.now.cx) (g.D.Delegate.script c.args.cache.now.cx) g.D.Cx.Input.PartialEq.eq c.args.cache.now.results (fates_of l)) c.pop-entry.ensures c.requires.expected).0.expected))
+pub store_answer-requires-clause-may : goal.store_answer-requires-clause-may
+store_answer-requires-clause-may g c = record {
+  storable =
+      storable_given g.D.Delegate g.D.Cx.Cx c.finalize-answer.result c.give_answer.new.answer c.give_answer.ensures.left c.result_node.new.cache c.input-input.result (record {
+        graph =
+            subst (λ (a : EvaluationResult _ _ _ _ _). a.heads ≡ [] → HasGraph (verdicts g.D.Cx.Cx) c.result_node.new.cache.nodes c.input-input.result a.result a.node) (sym c.finalize-answer.ensures)
+            (λ none. subst (λ i. HasGraph (verdicts g.D.Cx.Cx) c.result_node.new.cache.nodes i c.args.outcome c.in_ok-node.node) (sym c.input-input.ensures)
+            (headless_graph (verdicts g.D.Cx.Cx) c.args.cache.now.nodes c.result_node.new.cache.nodes c.args.self.now.goals c.pop-entry.result.entry c.pop-entry.result.run c.pop-entry.new.self c.pop-entry.ensures c.args.outcome c.in_ok-node.node c.requires.may.right.justified c.in_ok-node.ensures.has_node none));
+        plain =
+            subst (λ (a : EvaluationResult _ _ _ _ _). IsPlainAt (g.D.Delegate.script c.result_node.new.cache.cx) c.input-input.result (place_of a) a.result) (sym c.finalize-answer.ensures)
+            (subst (λ i. IsPlainAt (g.D.Delegate.script c.result_node.new.cache.cx) i (place_of (final_answer (c.pop-entry.result.entry, c.pop-entry.result.run) c.args.outcome c.in_ok-node.node)) c.args.outcome) (sym c.input-input.ensures)
+            (subst (λ x. IsPlainAt (g.D.Delegate.script x) c.pop-entry.result.entry.input (place_of (final_answer (c.pop-entry.result.entry, c.pop-entry.result.run) c.args.outcome c.in_ok-node.node)) c.args.outcome) (sym c.in_ok-node.ensures.same_context)
+            (subst (λ l. NewestIsPlain (g.D.Delegate.script c.args.cache.now.cx) l c.args.outcome) c.pop-entry.ensures c.requires.may.plain)));
+        comes =
+            subst (λ (a : EvaluationResult _ _ _ _ _). ComesTo (g.D.Delegate.script c.result_node.new.cache.cx) (g.D.Delegate.fixpoint_overflow c.result_node.new.cache.cx) c.input-input.result a.result) (sym c.finalize-answer.ensures)
+            (subst (λ i. ComesTo (g.D.Delegate.script c.result_node.new.cache.cx) (g.D.Delegate.fixpoint_overflow c.result_node.new.cache.cx) i c.args.outcome) (sym c.input-input.ensures)
+            (subst (λ x. ComesTo (g.D.Delegate.script x) (g.D.Delegate.fixpoint_overflow x) c.pop-entry.result.entry.input c.args.outcome) (sym c.in_ok-node.ensures.same_context)
+            (subst (λ l. NewestComesTo (g.D.Delegate.script c.args.cache.now.cx) (g.D.Delegate.fixpoint_overflow c.args.cache.now.cx) l c.args.outcome) c.pop-entry.ensures c.requires.may.comes)));
+      });
+  expected =
+      subst (λ x. IfCompared c.pop-entry.result.run.fate (IsExpected (g.D.Delegate.scoped x) g.D.Cx.Input.PartialEq.eq c.result_node.new.cache.results c.input-input.result)) (sym c.in_ok-node.ensures.same_context)
+      (subst (λ results. IfCompared c.pop-entry.result.run.fate (IsExpected (g.D.Delegate.scoped c.args.cache.now.cx) g.D.Cx.Input.PartialEq.eq results c.input-input.result)) (sym c.in_ok-node.ensures.same_results)
+      (subst (λ i. IfCompared c.pop-entry.result.run.fate (IsExpected (g.D.Delegate.scoped c.args.cache.now.cx) g.D.Cx.Input.PartialEq.eq c.args.cache.now.results i)) (sym c.input-input.ensures)
+      (subst (λ l. HaveExpected (g.D.Delegate.scoped c.args.cache.now.cx) (g.D.Delegate.script c.args.cache.now.cx) g.D.Cx.Input.PartialEq.eq c.args.cache.now.results (fates_of l)) c.pop-entry.ensures c.requires.expected).0.expected));
+}
 
 pub store_answer-requires-clause-on_stack : goal.store_answer-requires-clause-on_stack
 store_answer-requires-clause-on_stack g c =

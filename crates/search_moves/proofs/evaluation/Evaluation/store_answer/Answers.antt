@@ -41,7 +41,7 @@ pub returns-in-Compared-clause-plain : goal.returns-in-Compared-clause-plain
 returns-in-Compared-clause-plain g c = λ n plain success stored.
     equal_results c.compare.result Memory c.args.answer.result c.in-Compared.stored
     (one_plain_value (g.D.Delegate.script c.args.cache.now.cx) n c.args.input c.args.answer.result c.in-Compared.stored
-    (subst (λ place. IsPlainAt (g.D.Delegate.script c.args.cache.now.cx) c.args.input place c.args.answer.result) success c.requires.storable.plain n plain)
+    (subst (λ place. IsPlainAt (g.D.Delegate.script c.args.cache.now.cx) c.args.input place c.args.answer.result) success c.requires.may.storable.plain n plain)
     (subst (λ fate. IfCompared fate (IsPlainValue (g.D.Delegate.script c.args.cache.now.cx) n c.args.input)) c.in-Compared.is stored))
     c.compare.ensures.differs
 
