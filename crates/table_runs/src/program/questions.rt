@@ -1,10 +1,11 @@
 //! The questions of a table: each is asked, and told on a line.
-ghost use Rattle.std.specs.Prelude.{◌≡◌, ◌≢◌, ◌⊎◌, ◌++◌, IfErr, IfOk, OnErr, OnOk, Err};
+ghost use Rattle.std.specs.Prelude.{codes, ◌≡◌, ◌≢◌, ◌⊎◌, ◌++◌, IfErr, IfOk, OnErr, OnOk, Err};
 ghost use Rattle.std.specs.Io.KnownBytes.{Appends};
+ghost use Rattle.delegate_parts.specs.Outcome.{word_of};
 ghost use Rattle.table_runs.specs.Answers.{AreAllTold, AreCountedStarts, AreFirstTold, IsAnswered};
 ghost use Rattle.table_runs.specs.Below.{HasGraph, verdicts};
 ghost use Rattle.line_texts.specs.Writing.{AppendsBeginning, Passes};
-ghost use Rattle.table_runs.specs.Told.{fault_word_of, IsChecked, is_fine, line_told, told_words, words_of_answer};
+ghost use Rattle.table_runs.specs.Told.{check_words, fault_word_of, IsChecked, is_fine, line_told, told_words, words_of_answer};
 
 use crate::program::shown::ShownNodes;
 use delegate_parts::{Builder, Outcome};
@@ -140,38 +141,59 @@ fn tell<W: Write>(
     Ok(())
 }
 
-fn write_line<W: Write>(
-    out: &mut W,
+// Appends the line of a question. Its words go into the list of bytes in few pieces, since there is one for each question.
+fn write_line(
+    line: &mut Vec<u8>,
     name: &[u8],
     came: Result<Told, Fault<Goal, Outcome>>,
 ) -> io::Result<()>
-    ensures { OnOk result
-        (Appends (W.contents out.old) (W.contents out.new) (line_told name.now came)) }
+    ensures { OnOk result (line.new.items ≡ line.old.items ++ line_told name.now came) }
 {
-    out.write_all(name)?;
+    line.extend_from_slice(name)?;
     match came {
-        Ok(told) => write_told(out, told),
-        Err(fault) => write_fault(out, fault),
+        Ok(told) => write_told(line, told),
+        Err(fault) => write_fault(line, fault),
     }
 }
 
-fn write_told<W: Write>(out: &mut W, told: Told) -> io::Result<()>
-    ensures { OnOk result (Appends (W.contents out.old) (W.contents out.new) (told_words told)) }
+fn write_told(line: &mut Vec<u8>, told: Told) -> io::Result<()>
+    ensures { OnOk result (line.new.items ≡ line.old.items ++ told_words told) }
 {
-    let Told {
-        outcome,
-        started,
-        check,
-    } = told;
-    writeln!(out, " {outcome} {started}{check}")
+    line.extend_from_slice(outcome_words(told.outcome))?;
+    let started = told.started;
+    write!(line, "{started}")?;
+    line.extend_from_slice(end_words(told.check))?;
+    Ok(())
 }
 
-fn write_fault<W: Write>(out: &mut W, fault: Fault<Goal, Outcome>) -> io::Result<()>
-    ensures { OnOk result
-        (Appends (W.contents out.old) (W.contents out.new) (words_of_answer (Err fault))) }
+// The outcome's word, with a space on both sides.
+fn outcome_words(outcome: Outcome) -> &'static [u8]
+    ensures { result.now ≡ codes " " ++ word_of outcome ++ codes " " }
+{
+    match outcome {
+        Outcome::Yes => b" yes ",
+        Outcome::No => b" no ",
+        Outcome::Maybe => b" maybe ",
+        Outcome::Overflow => b" overflow ",
+    }
+}
+
+// What the check came to, and the end of the line.
+fn end_words(check: Check) -> &'static [u8]
+    ensures { result.now ≡ check_words check ++ codes "\n" }
+{
+    match check {
+        Check::None => b"\n",
+        Check::Accepted => b" checked\n",
+        Check::Refused => b" unchecked\n",
+    }
+}
+
+fn write_fault(line: &mut Vec<u8>, fault: Fault<Goal, Outcome>) -> io::Result<()>
+    ensures { OnOk result (line.new.items ≡ line.old.items ++ words_of_answer (Err fault)) }
 {
     let word = fault_word(fault);
-    writeln!(out, " fault {word}")
+    writeln!(line, " fault {word}")
 }
 
 /// Asks the goal at this depth, and checks the graph of a definite answer if that is wanted.
