@@ -6,7 +6,7 @@ use Rattle.std.proofs.lemmas.Option.{slice_get_cases, slice_get_past}
 use Rattle.std.proofs.Math.Nat.{min-eq_left, min-eq_right}
 use Rattle.open_graphs.proofs.Members.{Contains-map, Contains-mapped}
 use Rattle.structural_types.specs.Subtypes.{Form, IsBelow, IsRecord, IsSimulation, IsSupportedPair, IsUnion}
-use Rattle.structural_types.specs.Subtypes.IsSupported.{BottomLeft, TopRight, SameWord, Functions, Records, EachLeft, SomeRight}
+use Rattle.structural_types.specs.Subtypes.IsSupportedPair.{BottomLeft, TopRight, SameWord, Functions, Records, EachLeft, SomeRight}
 use Rattle.structural_types.proofs.Apart.{supported_more}
 
 -- `put` gives each number one of the same form

@@ -7,7 +7,7 @@ use Rattle.open_graphs.proofs.Members.{Contains-map, Contains-mapped, contains_l
 use Rattle.structural_types.specs.Below.{Needs, All, Any, Question, IsWithin, Overlap, Proves}
 use Rattle.structural_types.specs.Fields.{Field, has_all, part_of}
 use Rattle.structural_types.specs.Subtypes.{Base, Bottom, Form, Function, IsBelow, IsRecord, IsSimulation, IsSupportedPair, IsUnion, Record, Top, Union}
-use Rattle.structural_types.specs.Subtypes.IsSupported.{BottomLeft, TopRight, SameWord, Functions, Records, EachLeft, SomeRight}
+use Rattle.structural_types.specs.Subtypes.IsSupportedPair.{BottomLeft, TopRight, SameWord, Functions, Records, EachLeft, SomeRight}
 use Rattle.structural_types.specs.Rule.{alternatives_in, asks, Case, case_between, needs_in, pair, pairs_in, part_at, record_pairs, BetweenRecords, Fails, Holds}
 use Rattle.structural_types.specs.declared.delegate.Pair.{Pair}
 use Rattle.structural_types.proofs.Apart.{part_below}

@@ -8,7 +8,7 @@ use Rattle.open_graphs.proofs.Members.{contains_later, first_or_later}
 use Rattle.structural_types.specs.Fields.{Field, part_of}
 use Rattle.structural_types.specs.Order.{AreDeclared}
 use Rattle.structural_types.specs.Subtypes.{Base, Bottom, Form, Function, IsBelow, IsRecord, IsSimulation, IsSupportedPair, IsUnion, Record, Top, Union}
-use Rattle.structural_types.specs.Subtypes.IsSupported.{BottomLeft, TopRight, SameWord, Functions, Records, EachLeft, SomeRight}
+use Rattle.structural_types.specs.Subtypes.IsSupportedPair.{BottomLeft, TopRight, SameWord, Functions, Records, EachLeft, SomeRight}
 use Rattle.structural_types.specs.Rule.{alternatives_in}
 use Rattle.structural_types.proofs.Apart.{apart, apart_new, apart_of, apart_old, has_union}
 

@@ -8,7 +8,7 @@ use Rattle.open_graphs.proofs.Members.{Contains-filtered, Contains-map, Contains
 use Rattle.structural_types.specs.Fields.{Field, part_of}
 use Rattle.structural_types.specs.Order.{IsContractive}
 use Rattle.structural_types.specs.Subtypes.{Base, Bottom, Form, Function, IsBelow, IsRecord, IsSimulation, IsSupportedPair, IsUnion, Record, Top, Union}
-use Rattle.structural_types.specs.Subtypes.IsSupported.{BottomLeft, TopRight, SameWord, Functions, Records, EachLeft, SomeRight}
+use Rattle.structural_types.specs.Subtypes.IsSupportedPair.{BottomLeft, TopRight, SameWord, Functions, Records, EachLeft, SomeRight}
 use Rattle.structural_types.proofs.Apart.{Contains-flat, flat-Contains, supported_more}
 
 -- a record, by its form
