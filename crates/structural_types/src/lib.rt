@@ -22,13 +22,7 @@ mod ask;
 mod delegate;
 mod fields;
 mod order;
-#[cfg(test)]
-mod plain;
 mod subtyping;
-#[cfg(test)]
-mod tables;
-#[cfg(test)]
-mod tests;
 mod types;
 
 pub use delegate::{LendsTypes, Pair, PairsOf, TypesDelegate};

@@ -1,31 +1,10 @@
 //! Types that end, and types that do not.
 
-use crate::delegate::LendsTypes;
-use crate::fields::Field;
-use crate::subtyping::Subtyping;
-use crate::types::{Form, Types};
+use crate::forms::{record, union};
 use std::alloc::Global;
 use std::process::Abort;
 use std::test::Fail;
-
-/// A union of these types.
-fn union(alloc: Global, alternatives: &[usize]) -> Result<Form, Fail> {
-    let mut own = Vec::new(alloc);
-    own.extend_from_slice(alternatives)?;
-    Ok(Form::Union(own))
-}
-
-/// A record with these fields.
-fn record(alloc: Global, fields: &[(u32, usize)]) -> Result<Form, Fail> {
-    let mut own = Vec::new(alloc);
-    for (name, part) in fields {
-        own.push(Field {
-            name: *name,
-            part: *part,
-        })?;
-    }
-    Ok(Form::Record(own))
-}
+use structural_types::{Form, LendsTypes, Subtyping, Types};
 
 /// What the two come to.
 fn below<T: LendsTypes>(

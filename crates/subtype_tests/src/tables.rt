@@ -1,44 +1,24 @@
 //! The search beside the plain definition, on all tables of two small types and on random tables.
 
-use crate::delegate::LendsTypes;
-use crate::fields::Field;
-use crate::plain::pairs_below;
-use crate::subtyping::Subtyping;
-use crate::types::{Form, Types};
+use crate::forms::{record, union};
+use crate::plain::{Pairs, pairs_below};
+use chance::Chance;
 use std::alloc::Global;
 use std::test::Fail;
-
-/// A union of these types.
-fn union(alloc: Global, alternatives: &[usize]) -> Result<Form, Fail> {
-    let mut own = Vec::new(alloc);
-    own.extend_from_slice(alternatives)?;
-    Ok(Form::Union(own))
-}
-
-/// A record with these fields.
-fn record(alloc: Global, fields: &[(u32, usize)]) -> Result<Form, Fail> {
-    let mut own = Vec::new(alloc);
-    for (name, part) in fields {
-        own.push(Field {
-            name: *name,
-            part: *part,
-        })?;
-    }
-    Ok(Form::Record(own))
-}
+use structural_types::{Field, Form, LendsTypes, Subtyping, Types};
 
 /// Compares the search with the plain definition on each pair of the types, from the last one on, over one cache. How
 /// many were below?
 fn agreed(alloc: Global, types: &Types, size: usize) -> Result<usize, Fail> {
     let plain = pairs_below(alloc, types, size)?;
-    compare_all::<&Types>(alloc, types, plain.as_slice(), size)?;
-    Ok(plain.len())
+    compare_all::<&Types>(alloc, types, &plain, size)?;
+    Ok(plain.count())
 }
 
 fn compare_all<T: LendsTypes>(
     alloc: Global,
     types: T,
-    plain: &[(usize, usize)],
+    plain: &Pairs,
     size: usize,
 ) -> Result<(), Fail> {
     let mut subtyping = Subtyping::<T>::new(alloc, types);
@@ -50,12 +30,12 @@ fn compare_all<T: LendsTypes>(
 
 fn compare_row<T: LendsTypes>(
     subtyping: &mut Subtyping<T>,
-    plain: &[(usize, usize)],
+    plain: &Pairs,
     left: usize,
     size: usize,
 ) -> Result<(), Fail> {
     for right in 0..size {
-        if subtyping.is_below(left, right)? != plain.contains(&(left, right)) {
+        if subtyping.is_below(left, right)? != plain.has(left, right) {
             return Err("the search answers otherwise".into());
         }
     }
@@ -118,24 +98,6 @@ fn all_small_tables_are_answered_plainly(rt: HostRuntime) -> Result<(), Fail> {
     Ok(())
 }
 
-/// Numbers that look random, the same ones for each seed.
-#[derive(Drop)]
-struct Chance {
-    state: u64,
-}
-
-impl Chance {
-    /// A number below this one, which is not 0.
-    fn below(&mut self, end: usize) -> usize {
-        self.state = self
-            .state
-            .wrapping_mul(6364136223846793005)
-            .wrapping_add(1442695040888963407);
-        let word = (self.state >> 33) as usize;
-        word.checked_rem(end).unwrap_or(0)
-    }
-}
-
 /// A random form over so many types. Parts that lie ahead and behind are as likely.
 fn random_form(alloc: Global, chance: &mut Chance, size: usize) -> Result<Form, Fail> {
     match chance.below(9) {
@@ -182,8 +144,8 @@ fn random_types(alloc: Global, chance: &mut Chance, size: usize) -> Result<Types
 }
 
 /// Compares the search with the plain definition on so many random tables of so many types. Each type is below itself.
-fn random_tables(alloc: Global, state: u64, tables: usize, size: usize) -> Result<(), Fail> {
-    let mut chance = Chance { state };
+fn random_tables(alloc: Global, seed: u64, tables: usize, size: usize) -> Result<(), Fail> {
+    let mut chance = Chance::new(seed);
     for _ in 0..tables {
         let types = random_types(alloc, &mut chance, size)?;
         let below = agreed(alloc, &types, size)?;
