@@ -182,10 +182,11 @@ impl<X: Cx, F: Drop, S: Drop> OpenGoals<X, F, S> {
         requires { 0 < length self.old }
         ensures { self.old ≡ (result.entry, result.run) ∷ self.new }
     {
-        let scope = self.take_scope();
-        let entry = self.stack.pop();
-        let run = self.runs.pop().unwrap();
-        Popped { entry, run, scope }
+        Popped {
+            scope: self.take_scope(),
+            run: self.runs.pop().unwrap(),
+            entry: self.stack.pop(),
+        }
     }
 
     /// Holds the scope, if there is one, for the newest goal. Where that is refused, the scope is dropped at once.
@@ -372,6 +373,11 @@ impl<X: Cx, F: Drop, S: Drop> OpenGoals<X, F, S> {
     /// What the goals take their memory from.
     pub fn allocator(&self) -> Global {
         *self.runs.allocator()
+    }
+
+    /// For how many goals there is memory.
+    pub fn room(&self) -> usize {
+        self.runs.capacity()
     }
 
     /// Drops every goal with its run.

@@ -67,6 +67,9 @@ pub enum RebaseReason<X: Cx> {
 pub struct ProvisionalCache<D: Delegate> {
     alloc: Global,
     lists: HashMap<<D::Cx as Cx>::Input, Vec<ProvisionalCacheEntry<D::Cx>>>,
+    /// The map in which the lists stood before they were rebased the last time. The next time they go there again, so that
+    /// no memory is taken. Clauses see nothing of it.
+    earlier: HashMap<<D::Cx as Cx>::Input, Vec<ProvisionalCacheEntry<D::Cx>>>,
 }
 
 impl<D: Delegate> Model for ProvisionalCache<D> {
@@ -88,6 +91,7 @@ impl<D: Delegate> ProvisionalCache<D> {
         ProvisionalCache {
             alloc,
             lists: HashMap::new(alloc),
+            earlier: HashMap::new(alloc),
         }
     }
 
@@ -98,6 +102,11 @@ impl<D: Delegate> ProvisionalCache<D> {
             ↔ ((input : D.Cx.Input) → entries_at D.Cx.Input.eq self.now input ≡ []) }
     {
         self.lists.is_empty()
+    }
+
+    /// For the entries of how many goals there is memory.
+    pub fn room(&self) -> usize {
+        self.lists.capacity().max(self.earlier.capacity())
     }
 
     /// The entries of the goal, the oldest first; none where it has none.
@@ -160,9 +169,17 @@ impl<D: Delegate> ProvisionalCache<D> {
         if !concerned::concerns_lists(&self.lists, stack.next_index()) {
             return Ok(());
         }
-        let lists = mem::replace(&mut self.lists, HashMap::new(self.alloc));
-        self.lists = rebasing::rebase_lists::<D>(self.alloc, cx, lists, done, stack, &reason)?;
-        Ok(())
+        let (lists, left) = (&mut self.lists, &mut self.earlier);
+        match rebasing::rebase_lists::<D>(self.alloc, cx, lists, left, done, stack, &reason) {
+            Ok(()) => {
+                mem::swap(&mut self.lists, &mut self.earlier);
+                Ok(())
+            }
+            Err(refused) => {
+                self.lists.clear();
+                Err(refused)
+            }
+        }
     }
 
     /// Appends an entry, which rests on a head, to the list of the goal. A refusal leaves the cache as

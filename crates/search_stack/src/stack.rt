@@ -205,10 +205,10 @@ impl<X: Cx> Stack<X> {
         requires { 0 < length self.old }
         ensures { self.old ≡ self.new ++ result ∷ [] }
     {
-        let entry = self.entries.pop().unwrap();
-        let _ = self.depths.remove(&entry.input);
+        let input = self.last().input;
+        let _ = self.depths.remove(&input);
         let _ = self.steps.pop();
-        entry
+        self.entries.pop().unwrap()
     }
 
     /// Where the last steps of the stack are.
