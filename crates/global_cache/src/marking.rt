@@ -1,6 +1,6 @@
 //! Which nodes are reached from some roots, by their places among the nodes that are held.
 ghost use Rattle.std.specs.Prelude.{◌≡◌, ◌∷◌, ◌++◌, [], ◌<◌, ◌≤◌, ℕ, drop, length, take, map, slice_get, IfOk, OnOk};
-ghost use Rattle.global_cache.specs.Words.{AreMarked, AreNone, IsQueued, IsRising, kept, Marks as Marking, targets_of};
+ghost use Rattle.global_cache.specs.Words.{AreMarked, AreNone, AreWaiting, IsRising, kept, Marks as Marking, targets_of};
 
 use crate::hints::Hints;
 use crate::node_list::{Held, Slot};
@@ -12,8 +12,9 @@ use std::alloc::Global;
 struct Marks {
     /// Of each place, whether its node was found.
     marked: Vec<bool>,
-    /// The places of these, in the order of finding: the queue of what is still to be followed.
-    queue: Vec<usize>,
+    /// The places of those that are still to be followed. The one that was found last is followed first, since most of
+    /// what it leads to was written shortly before or after it.
+    waiting: Vec<usize>,
     /// Where nodes were found.
     hints: Hints,
 }
@@ -21,20 +22,13 @@ struct Marks {
 impl Marks {
     // No node is found yet.
     fn new(alloc: Global, count: usize) -> Result<Marks, NoMemory>
-        ensures { IfOk result (λ marks. AreNone count marks.marked.items marks.queue.items) }
+        ensures { IfOk result (λ marks. AreNone count marks.marked.items marks.waiting.items) }
     {
         Ok(Marks {
             marked: Vec::from_elem(alloc, false, count)?,
-            queue: Vec::with_capacity(alloc, count)?,
+            waiting: Vec::with_capacity(alloc, count)?,
             hints: Hints::new(alloc, count)?,
         })
-    }
-
-    // What stands at a place of the queue.
-    fn queued(&self, done: usize) -> Option<usize>
-        ensures { result ≡ slice_get self.now.queue.items done }
-    {
-        self.queue.get(done).copied()
     }
 
     // Marks the node with this number, if it is held. It is looked for from the place `near` on.
@@ -46,10 +40,10 @@ impl Marks {
     ) -> Result<(), NoMemory>
         requires rising { IsRising held.now }
         requires each { length self.old.marked.items ≡ length held.now }
-        requires queued { IsQueued self.old.marked.items self.old.queue.items }
-        ensures queued { OnOk result (IsQueued self.new.marked.items self.new.queue.items) }
+        requires waiting { AreWaiting self.old.marked.items self.old.waiting.items }
+        ensures waiting { OnOk result (AreWaiting self.new.marked.items self.new.waiting.items) }
         ensures marks { OnOk result (Marking held.now (number ∷ [])
-            self.old.marked.items self.new.marked.items self.old.queue.items self.new.queue.items) }
+            self.old.marked.items self.new.marked.items self.old.waiting.items self.new.waiting.items) }
     {
         let Some(place) = self.hints.find(held, near, number) else {
             return Ok(());
@@ -57,7 +51,7 @@ impl Marks {
         if self.marked[place] {
             return Ok(());
         }
-        self.queue.push(place)?;
+        self.waiting.push(place)?;
         self.marked[place] = true;
         Ok(())
     }
@@ -66,10 +60,10 @@ impl Marks {
     fn mark_roots<I, R>(&mut self, held: &[Held<I, R>], roots: &[NodeId]) -> Result<(), NoMemory>
         requires rising { IsRising held.now }
         requires each { length self.old.marked.items ≡ length held.now }
-        requires queued { IsQueued self.old.marked.items self.old.queue.items }
-        ensures queued { OnOk result (IsQueued self.new.marked.items self.new.queue.items) }
+        requires waiting { AreWaiting self.old.marked.items self.old.waiting.items }
+        ensures waiting { OnOk result (AreWaiting self.new.marked.items self.new.waiting.items) }
         ensures marks { OnOk result (Marking held.now (map (λ r. r.0) roots.now)
-            self.old.marked.items self.new.marked.items self.old.queue.items self.new.queue.items) }
+            self.old.marked.items self.new.marked.items self.old.waiting.items self.new.waiting.items) }
     {
         let last = held.len().saturating_sub(1);
         for root in roots {
@@ -88,10 +82,10 @@ impl Marks {
     ) -> Result<(), NoMemory>
         requires rising { IsRising held.now }
         requires each { length self.old.marked.items ≡ length held.now }
-        requires queued { IsQueued self.old.marked.items self.old.queue.items }
-        ensures queued { OnOk result (IsQueued self.new.marked.items self.new.queue.items) }
+        requires waiting { AreWaiting self.old.marked.items self.old.waiting.items }
+        ensures waiting { OnOk result (AreWaiting self.new.marked.items self.new.waiting.items) }
         ensures marks { OnOk result (Marking held.now (map (λ e. e.target) edges.now)
-            self.old.marked.items self.new.marked.items self.old.queue.items self.new.queue.items) }
+            self.old.marked.items self.new.marked.items self.old.waiting.items self.new.waiting.items) }
     {
         for edge in edges {
             self.mark(held, near, edge.target)?;
@@ -108,10 +102,10 @@ impl Marks {
     ) -> Result<(), NoMemory>
         requires rising { IsRising held.now }
         requires each { length self.old.marked.items ≡ length held.now }
-        requires queued { IsQueued self.old.marked.items self.old.queue.items }
-        ensures queued { OnOk result (IsQueued self.new.marked.items self.new.queue.items) }
+        requires waiting { AreWaiting self.old.marked.items self.old.waiting.items }
+        ensures waiting { OnOk result (AreWaiting self.new.marked.items self.new.waiting.items) }
         ensures marks { OnOk result (Marking held.now (targets_of slot.now)
-            self.old.marked.items self.new.marked.items self.old.queue.items self.new.queue.items) }
+            self.old.marked.items self.new.marked.items self.old.waiting.items self.new.waiting.items) }
     {
         match slot {
             Slot::Open(_) => Ok(()),
@@ -132,15 +126,13 @@ pub(super) fn marked_from<I, R>(
 {
     let mut marks = Marks::new(alloc, held.len())?;
     marks.mark_roots(held, roots)?;
-    let mut done = 0;
-    while let Some(place) = marks.queued(done) {
+    while let Some(place) = marks.waiting.pop() {
         let entry = &held[place];
         marks.mark_behind(held, place, &entry.slot)?;
-        done += 1;
     }
     let Marks {
         marked,
-        queue: _,
+        waiting: _,
         hints: _,
     } = marks;
     Ok(marked)
