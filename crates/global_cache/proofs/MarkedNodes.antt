@@ -4,9 +4,10 @@ use Rattle.std.proofs.Math.ListN.{length-set}
 use Rattle.std.proofs.lemmas.Bool.{cases_eq, cases_lt}
 use Rattle.std.proofs.lemmas.List.{map-append, take_more}
 use Rattle.std.proofs.lemmas.List.Elements.{Contains-append_cases, Contains-append_left, Contains-append_right}
-use Rattle.std.proofs.lemmas.Option.{slice_get_read, slice_get_within}
+use Rattle.std.proofs.lemmas.Option.{get_or_from_slice_get, slice_get-get_or, slice_get_read, slice_get_within}
 use Rattle.open_graphs.proofs.Lists.{get_set_other, get_set_same, mapped_some}
-use Rattle.global_cache.specs.Words.{Held, AreMarked, AreNone, AreWaiting, HasNumber, IsFound, IsMarked, IsRising, Marks, slot_at, targets_of, unmarked, root, next}
+use Rattle.open_graphs.proofs.Members.{Contains-mapped}
+use Rattle.global_cache.specs.Words.{Held, AreMarked, AreNone, AreWaiting, HasNumber, IsClosed, IsFound, IsMarked, IsRising, Marks, MarksFrom, slot_at, targets_of, unmarked, root, next}
 use Rattle.global_cache.proofs.FoundNodes.{only_number}
 use Rattle.global_cache.proofs.HeldNodes.{slot_of}
 
@@ -50,6 +51,7 @@ module _ {I R : Type 0} (held : List (Held I R)) (rising : IsRising held) where
       only = λ p m. inl m;
       waits = λ p m. inl m;
       still = λ p is. is;
+      only_waits = λ p is. inl is;
       fewer = omega arith;
     }
 
@@ -66,6 +68,7 @@ module _ {I R : Type 0} (held : List (Held I R)) (rising : IsRising held) where
         only = λ p m. inl m;
         waits = λ p m. inl m;
         still = λ p is. is;
+        only_waits = λ p is. inl is;
         fewer = omega arith;
       }
 
@@ -91,6 +94,10 @@ module _ {I R : Type 0} (held : List (Held I R)) (rising : IsRising held) where
             | inr ne ↦ inl (sym (get_set_other marked place true p ne) ∙ m)
           ];
           still = λ p is. Contains-append_left waiting (place ∷ []) p is;
+          only_waits = λ p is. elim (Contains-append_cases waiting (place ∷ []) p is) [
+            | inl old ↦ inl old
+            | inr new ↦ inr (number, (zero, omega arith, refl), subst (λ q. HasNumber held q number) (only_number place p new) has)
+          ];
           fewer = omega (arith, one_less marked place none, length-append waiting (place ∷ []));
         }
 
@@ -126,6 +133,7 @@ module _ {I R : Type 0} (held : List (Held I R)) where
     only = λ p m. inl m;
     waits = λ p m. inl m;
     still = λ p is. is;
+    only_waits = λ p is. inl is;
     fewer = omega arith;
   }
 
@@ -152,6 +160,13 @@ module _ {I R : Type 0} (held : List (Held I R)) where
       | inr waits ↦ inr waits
     ];
     still = λ p is. b.still p (a.still p is);
+    only_waits = λ p is. elim (b.only_waits p is) [
+      | inl before ↦ elim (a.only_waits p before) [
+        | inl old ↦ inl old
+        | inr w ↦ inr (w.0, Contains-append_left first second w.0 w.1, w.2)
+      ]
+      | inr w ↦ inr (w.0, Contains-append_right first second w.0 w.1, w.2)
+    ];
     fewer = omega (arith, a.fewer, b.fewer);
   }
 
@@ -168,7 +183,7 @@ module _ {I R : Type 0} (held : List (Held I R)) where
 pub none_of : (count : ℕ) → AreNone count (replicate count false) []
 none_of count = record {
   each = long count;
-  waiting_are = record { marked_there = λ p is. absurd (no_contains p is) };
+  none_waits = refl;
   none = nothing count;
 }
   where
@@ -183,87 +198,164 @@ none_of count = record {
 
 -- ---- the walk
 
--- what is known while nodes are followed: what each one leads to is marked, unless it still waits
-pub record IsFollowed {I R : Type 0} (held : List (Held I R)) (roots : List ℕ) (marked : List Bool) (waiting : List ℕ) : Type 0 where
+-- where nothing waits
+pub AreWaiting-none : (marked : List Bool) (waiting : List ℕ) → length waiting ≡ 0 → AreWaiting marked waiting
+AreWaiting-none marked waiting none = record { marked_there = λ p is. absurd (omega (arith, is.1, none)) }
+
+-- what is known while what is reached from a node is followed: what each marked node leads to is marked, unless it still waits
+pub record IsFollowed {I R : Type 0} (held : List (Held I R)) (number : ℕ) (old marked : List Bool) (waiting : List ℕ) : Type 0 where
   pub each : length marked ≡ length held
   pub waiting_are : AreWaiting marked waiting
-  pub rooted : (place n : ℕ) → Contains roots n → HasNumber held place n → IsMarked marked place
+  pub stays : (place : ℕ) → IsMarked old place → IsMarked marked place
+  pub here : (place : ℕ) → HasNumber held place number → IsMarked marked place
   pub behind : (place : ℕ) (h : Held I R) (other n : ℕ) → IsMarked marked place → slice_get held place ≡ Some h → Contains (targets_of h.slot) n → HasNumber held other n → Contains waiting place ⊎ IsMarked marked other
-  pub found : (place : ℕ) (h : Held I R) → IsMarked marked place → slice_get held place ≡ Some h → IsFound held roots h.number
+  pub found : (place : ℕ) (h : Held I R) → IsMarked marked place → slice_get held place ≡ Some h → IsMarked old place ⊎ IsFound held (number ∷ []) h.number
+  pub found_waiting : (place : ℕ) (h : Held I R) → Contains waiting place → slice_get held place ≡ Some h → IsFound held (number ∷ []) h.number
 
-module _ {I R : Type 0} (held : List (Held I R)) (roots : List ℕ) where
+module _ {I R : Type 0} (held : List (Held I R)) where
   number_there : (place n : ℕ) (h : Held I R) → HasNumber held place n → slice_get held place ≡ Some h → n ≡ h.number
   number_there place n h has is = let w = numbered held place n has in let both : Some w.0 ≡ Some h = sym w.1 ∙ is in let one : w.0 ≡ h = cc in sym w.2 ∙ ap (λ x. x.number) one
 
-  pub follow_roots : (none marked : List Bool) (empty waiting : List ℕ) → AreNone (length held) none empty → AreWaiting marked waiting → Marks held roots none marked empty waiting → IsFollowed held roots marked waiting
-  follow_roots none marked empty waiting start waiting_are marks = record {
-    each = marks.each ∙ start.each;
-    waiting_are = waiting_are;
-    rooted = marks.here;
-    behind = λ place h other n m is target has. elim (marks.waits place m) [
-      | inl before ↦ absurd (start.none place before)
-      | inr waits ↦ inl waits
+  module _ (number : ℕ) (old : List Bool) where
+    from_number : (p : ℕ) (h : Held I R) → slice_get held p ≡ Some h → (n : ℕ) × Contains (number ∷ []) n × HasNumber held p n → IsFound held (number ∷ []) h.number
+    from_number p h is w = subst (IsFound held (number ∷ [])) (number_there p w.0 h w.2 is) (root w.0 w.1)
+
+    -- the node is marked
+    pub follow_first : (empty : List ℕ) (marked : List Bool) (waiting : List ℕ) → length old ≡ length held → length empty ≡ 0 → IsClosed held old → AreWaiting marked waiting → Marks held (number ∷ []) old marked empty waiting → IsFollowed held number old marked waiting
+    follow_first empty marked waiting each none closed waiting_are marks = record {
+      each = marks.each ∙ each;
+      waiting_are = waiting_are;
+      stays = marks.stays;
+      here = λ p has. marks.here p number (zero, omega arith, refl) has;
+      behind = λ p h other n m is target has. elim (marks.waits p m) [
+        | inl before ↦ inr (marks.stays other (closed p h other n before is target has))
+        | inr waits ↦ inl waits
+      ];
+      found = λ p h m is. elim (marks.only p m) [
+        | inl before ↦ inl before
+        | inr w ↦ inr (from_number p h is w)
+      ];
+      found_waiting = λ p h waits is. elim (marks.only_waits p waits) [
+        | inl before ↦ absurd (omega (arith, before.1, none))
+        | inr w ↦ from_number p h is w
+      ];
+    }
+
+    module _ (marked : List Bool) (waiting : List ℕ) (f : IsFollowed held number old marked waiting) where
+      -- the last one that waits
+      module _ (left : List ℕ) (place : ℕ) (last : waiting ≡ left ++ place ∷ []) where
+        waits_left : (p : ℕ) → Contains (left ++ place ∷ []) p → Contains waiting p
+        waits_left p is = subst (λ l. Contains l p) (sym last) is
+
+        last_waits : Contains waiting place
+        last_waits = waits_left place (Contains-append_right left (place ∷ []) place (zero, omega arith, refl))
+
+        -- it is the place of a node
+        pub place_within : place < length held
+        place_within = omega (arith, slice_get_within marked place true (f.waiting_are.marked_there place last_waits), f.each)
+
+        -- the others wait
+        pub left_waiting : AreWaiting marked left
+        left_waiting = record { marked_there = λ p is. f.waiting_are.marked_there p (waits_left p (Contains-append_left left (place ∷ []) p is)) }
+
+        module _ (more : List Bool) (longer : List ℕ) (h : Held I R) (marks : Marks held (targets_of h.slot) marked more left longer) where
+          -- less is left to do
+          pub follow_less : unmarked more + length longer < unmarked marked + length waiting
+          follow_less = omega (arith, marks.fewer, ap length last, length-append left (place ∷ []))
+
+          module _ (is : slice_get held place ≡ Some h) where
+            from_target : (p : ℕ) (k : Held I R) → slice_get held p ≡ Some k → (n : ℕ) × Contains (targets_of h.slot) n × HasNumber held p n → IsFound held (number ∷ []) k.number
+            from_target p k node w = subst (IsFound held (number ∷ [])) (number_there p w.0 k w.2 node) (next w.0 place h (f.found_waiting place h last_waits is) is w.1)
+
+            pub follow_next : AreWaiting more longer → IsFollowed held number old more longer
+            follow_next waiting_are = record {
+              each = marks.each ∙ f.each;
+              waiting_are = waiting_are;
+              stays = λ p m. marks.stays p (f.stays p m);
+              here = λ p has. marks.stays p (f.here p has);
+              behind = λ p k other n m node target has. elim (marks.waits p m) [
+                | inl before ↦ elim (f.behind p k other n before node target has) [
+                  | inl waited ↦ elim (Contains-append_cases left (place ∷ []) p (subst (λ l. Contains l p) last waited)) [
+                    | inl still ↦ inl (marks.still p still)
+                    | inr now ↦
+                        let nodes : Some h ≡ Some k = sym is ∙ (ap (slice_get held) (only_number place p now) ∙ node) in
+                        let one : h ≡ k = cc in
+                        inr (marks.here other n (subst (λ x. Contains (targets_of x.slot) n) (sym one) target) has)
+                  ]
+                  | inr done ↦ inr (marks.stays other done)
+                ]
+                | inr waits ↦ inl waits
+              ];
+              found = λ p k m node. elim (marks.only p m) [
+                | inl before ↦ f.found p k before node
+                | inr w ↦ inr (from_target p k node w)
+              ];
+              found_waiting = λ p k waits node. elim (marks.only_waits p waits) [
+                | inl before ↦ f.found_waiting p k (waits_left p (Contains-append_left left (place ∷ []) p before)) node
+                | inr w ↦ from_target p k node w
+              ];
+            }
+
+      -- nothing waits any more
+      module _ (end : length waiting ≡ 0) where
+        pub followed_closed : IsClosed held marked
+        followed_closed p h other n m is target has = elim (f.behind p h other n m is target has) [
+          | inl waited ↦ absurd (omega (arith, waited.1, end))
+          | inr done ↦ done
+        ]
+
+        pub followed_marks : length old ≡ length held → MarksFrom held number old marked
+        followed_marks each = record { each = f.each ∙ sym each; stays = f.stays; here = f.here; found = f.found }
+
+-- ---- one root after the other
+
+-- what is found from one of the roots is found from all of them
+found_from : {I R : Type 0} (held : List (Held I R)) (roots : List ℕ) (number : ℕ) → Contains roots number → (n : ℕ) → IsFound held (number ∷ []) n → IsFound held roots n
+found_from held roots number has _ (root n is) = root n (subst (Contains roots) (only_number number n is) has)
+found_from held roots number has _ (next n place h before at target) = next n place h (found_from held roots number has h.number before) at target
+
+-- what is known once some of the roots were followed
+pub record AreFollowed {I R : Type 0} (held : List (Held I R)) (roots done : List ℕ) (marked : List Bool) : Type 0 where
+  pub each : length marked ≡ length held
+  pub closed : IsClosed held marked
+  pub rooted : (place n : ℕ) → Contains done n → HasNumber held place n → IsMarked marked place
+  pub found : (place : ℕ) (h : Held I R) → IsMarked marked place → slice_get held place ≡ Some h → IsFound held roots h.number
+
+module _ {I R : Type 0} (held : List (Held I R)) (roots : List ℕ) where
+  pub none_followed : (none : List Bool) (waiting : List ℕ) → AreNone (length held) none waiting → AreFollowed held roots [] none
+  none_followed none waiting start = record {
+    each = start.each;
+    closed = λ p h other n m. absurd (start.none p m);
+    rooted = λ p n is. absurd (no_contains n is);
+    found = λ p h m. absurd (start.none p m);
+  }
+
+  root_followed : (done : List ℕ) (number : ℕ) (marked more : List Bool) → Contains roots number → AreFollowed held roots done marked → IsClosed held more → MarksFrom held number marked more → AreFollowed held roots (done ++ number ∷ []) more
+  root_followed done number marked more has f closed marks = record {
+    each = marks.each ∙ f.each;
+    closed = closed;
+    rooted = λ p n is at. elim (Contains-append_cases done (number ∷ []) n is) [
+      | inl before ↦ marks.stays p (f.rooted p n before at)
+      | inr now ↦ marks.here p (subst (HasNumber held p) (sym (only_number number n now)) at)
     ];
-    found = λ place h m is. elim (marks.only place m) [
-      | inl before ↦ absurd (start.none place before)
-      | inr w ↦ subst (IsFound held roots) (number_there place w.0 h w.2 is) (root w.0 w.1)
+    found = λ p h m is. elim (marks.found p h m is) [
+      | inl before ↦ f.found p h before is
+      | inr from ↦ found_from held roots number has h.number from
     ];
   }
 
-  module _ (marked : List Bool) (waiting : List ℕ) (f : IsFollowed held roots marked waiting) where
-    -- the last one that waits
-    module _ (left : List ℕ) (place : ℕ) (last : waiting ≡ left ++ place ∷ []) where
-      waits : (p : ℕ) → Contains (left ++ place ∷ []) p → Contains waiting p
-      waits p is = subst (λ l. Contains l p) (sym last) is
+-- the roots are a list of nodes
+module _ {I R A : Type 0} (held : List (Held I R)) (f : A → ℕ) (xs : List A) (i : ℕ) where
+  pub next_followed : (x d : A) → i < length xs → x ≡ get_or xs i d → (marked more : List Bool) → AreFollowed held (map f xs) (map f (take i xs)) marked → IsClosed held more → MarksFrom held (f x) marked more → AreFollowed held (map f xs) (map f (take (i + 1) xs)) more
+  next_followed x d lt is marked more before closed marks =
+      subst (λ l. AreFollowed held (map f xs) l more)
+      (sym (map-append f (take i xs) (x ∷ [])) ∙ ap (map f) (ap (λ y. take i xs ++ y ∷ []) is ∙ sym (take_more xs i d lt)))
+      (root_followed held (map f xs) (map f (take i xs)) (f x) marked more (Contains-mapped f xs x (i, lt, get_or_from_slice_get xs i x x (slice_get-get_or xs i d lt ∙ ap Some (sym is)))) before closed marks)
 
-      pub is_marked : IsMarked marked place
-      is_marked = f.waiting_are.marked_there place (waits place (Contains-append_right left (place ∷ []) place (zero, omega arith, refl)))
-
-      -- it is the place of a node
-      pub place_within : place < length held
-      place_within = omega (arith, slice_get_within marked place true is_marked, f.each)
-
-      -- the others wait
-      pub left_waiting : AreWaiting marked left
-      left_waiting = record { marked_there = λ p is. f.waiting_are.marked_there p (waits p (Contains-append_left left (place ∷ []) p is)) }
-
-      module _ (more : List Bool) (longer : List ℕ) (h : Held I R) (marks : Marks held (targets_of h.slot) marked more left longer) where
-        -- less is left to do
-        pub follow_less : unmarked more + length longer < unmarked marked + length waiting
-        follow_less = omega (arith, marks.fewer, ap length last, length-append left (place ∷ []))
-
-        pub follow_next : slice_get held place ≡ Some h → AreWaiting more longer → IsFollowed held roots more longer
-        follow_next is waiting_are = record {
-          each = marks.each ∙ f.each;
-          waiting_are = waiting_are;
-          rooted = λ p n root_is has. marks.stays p (f.rooted p n root_is has);
-          behind = λ p k other n m node target has. elim (marks.waits p m) [
-            | inl before ↦ elim (f.behind p k other n before node target has) [
-              | inl waited ↦ elim (Contains-append_cases left (place ∷ []) p (subst (λ l. Contains l p) last waited)) [
-                | inl still ↦ inl (marks.still p still)
-                | inr now ↦
-                    let nodes : Some h ≡ Some k = sym is ∙ (ap (slice_get held) (only_number place p now) ∙ node) in
-                    let one : h ≡ k = cc in
-                    inr (marks.here other n (subst (λ x. Contains (targets_of x.slot) n) (sym one) target) has)
-              ]
-              | inr done ↦ inr (marks.stays other done)
-            ]
-            | inr waits_now ↦ inl waits_now
-          ];
-          found = λ p k m node. elim (marks.only p m) [
-            | inl before ↦ f.found p k before node
-            | inr w ↦ subst (IsFound held roots) (number_there p w.0 k w.2 node) (next w.0 place h (f.found place h is_marked is) is w.1)
-          ];
-        }
-
-    -- nothing waits any more
-    pub all_followed : length waiting ≡ 0 → AreMarked held roots marked
-    all_followed end = record {
-      each = f.each;
-      rooted = f.rooted;
-      closed = λ p h other n m is target has. elim (f.behind p h other n m is target has) [
-        | inl waited ↦ absurd (omega (arith, waited.1, end))
-        | inr done ↦ done
-      ];
-      found = f.found;
-    }
+  pub all_followed : length xs ≤ i → (marked : List Bool) → AreFollowed held (map f xs) (map f (take i xs)) marked → AreMarked held (map f xs) marked
+  all_followed le marked a = record {
+    each = a.each;
+    rooted = λ p n is. a.rooted p n (subst (λ l. Contains (map f l) n) (sym (take_all xs i le)) is);
+    closed = a.closed;
+    found = a.found;
+  }

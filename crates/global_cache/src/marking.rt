@@ -1,6 +1,6 @@
 //! Which nodes are reached from some roots, by their places among the nodes that are held.
 ghost use Rattle.std.specs.Prelude.{◌≡◌, ◌∷◌, ◌++◌, [], ◌<◌, ◌≤◌, ℕ, drop, length, take, map, slice_get, IfOk, OnOk};
-ghost use Rattle.global_cache.specs.Words.{AreMarked, AreNone, AreWaiting, IsRising, kept, Marks as Marking, targets_of};
+ghost use Rattle.global_cache.specs.Words.{AreMarked, AreNone, AreWaiting, IsClosed, IsRising, kept, Marks as Marking, MarksFrom, targets_of};
 
 use crate::hints::Hints;
 use crate::node_list::{Held, Slot};
@@ -12,8 +12,7 @@ use std::alloc::Global;
 struct Marks {
     /// Of each place, whether its node was found.
     marked: Vec<bool>,
-    /// The places of those that are still to be followed. The one that was found last is followed first, since most of
-    /// what it leads to was written shortly before or after it.
+    /// The places of those that are still to be followed, of which the one that was found last comes first.
     waiting: Vec<usize>,
     /// Where nodes were found.
     hints: Hints,
@@ -53,22 +52,6 @@ impl Marks {
         }
         self.waiting.push(place)?;
         self.marked[place] = true;
-        Ok(())
-    }
-
-    // Marks the roots that are held. They are looked for from the end on, since most of them are new.
-    fn mark_roots<I, R>(&mut self, held: &[Held<I, R>], roots: &[NodeId]) -> Result<(), NoMemory>
-        requires rising { IsRising held.now }
-        requires each { length self.old.marked.items ≡ length held.now }
-        requires waiting { AreWaiting self.old.marked.items self.old.waiting.items }
-        ensures waiting { OnOk result (AreWaiting self.new.marked.items self.new.waiting.items) }
-        ensures marks { OnOk result (Marking held.now (map (λ r. r.0) roots.now)
-            self.old.marked.items self.new.marked.items self.old.waiting.items self.new.waiting.items) }
-    {
-        let last = held.len().saturating_sub(1);
-        for root in roots {
-            self.mark(held, last, root.0)?;
-        }
         Ok(())
     }
 
@@ -112,6 +95,31 @@ impl Marks {
             Slot::Finished(node) => self.mark_targets(held, near, &node.edges),
         }
     }
+
+    // Marks the node with this number, if it is held, and all that is reached from it. It is looked for from
+    // the place `near` on.
+    fn mark_from<I, R>(
+        &mut self,
+        held: &[Held<I, R>],
+        near: usize,
+        number: usize,
+    ) -> Result<(), NoMemory>
+        requires rising { IsRising held.now }
+        requires each { length self.old.marked.items ≡ length held.now }
+        requires none_waits { length self.old.waiting.items ≡ 0 }
+        requires closed { IsClosed held.now self.old.marked.items }
+        ensures none_waits { OnOk result (length self.new.waiting.items ≡ 0) }
+        ensures closed { OnOk result (IsClosed held.now self.new.marked.items) }
+        ensures marks { OnOk result (MarksFrom held.now number
+            self.old.marked.items self.new.marked.items) }
+    {
+        self.mark(held, near, number)?;
+        while let Some(place) = self.waiting.pop() {
+            let entry = &held[place];
+            self.mark_behind(held, place, &entry.slot)?;
+        }
+        Ok(())
+    }
 }
 
 // Of each of these nodes, whether it is reached from the roots by their edges. Numbers that none of
@@ -125,10 +133,11 @@ pub(super) fn marked_from<I, R>(
     ensures { IfOk result (λ marked. AreMarked held.now (map (λ r. r.0) roots.now) marked.items) }
 {
     let mut marks = Marks::new(alloc, held.len())?;
-    marks.mark_roots(held, roots)?;
-    while let Some(place) = marks.waiting.pop() {
-        let entry = &held[place];
-        marks.mark_behind(held, place, &entry.slot)?;
+    // Roots are looked for from the end on, since most of them are new. Each is followed at once: what it leads to stands
+    // near it most of the time.
+    let last = held.len().saturating_sub(1);
+    for root in roots {
+        marks.mark_from(held, last, root.0)?;
     }
     let Marks {
         marked,
