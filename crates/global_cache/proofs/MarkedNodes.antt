@@ -1,17 +1,26 @@
 -- Marking what is reached: one number after the other, and then what the marked nodes lead to.
-use Rattle.std.proofs.Common.{◌≡◌, ℕ, zero, suc, ◌+◌, ◌<◌, ◌≤◌, Bool, true, false, List, [], ◌∷◌, ◌++◌, map, None, Some, length, get_or, replicate, take, slice_get, slice_set, Contains, refl, sym, ◌∙◌, ap, subst, inl, inr, arith, length-append}
+use Rattle.std.proofs.Common.{◌≡◌, ◌⊎◌, ℕ, zero, suc, ◌+◌, ◌<◌, ◌≤◌, Bool, true, false, List, [], ◌∷◌, ◌++◌, map, None, Some, length, get_or, replicate, take, slice_get, slice_set, Contains, refl, sym, ◌∙◌, ap, subst, inl, inr, arith, length-append}
 use Rattle.std.proofs.Math.ListN.{length-set}
 use Rattle.std.proofs.lemmas.Bool.{cases_eq, cases_lt}
 use Rattle.std.proofs.lemmas.List.{map-append, take_more}
 use Rattle.std.proofs.lemmas.List.Elements.{Contains-append_cases, Contains-append_left, Contains-append_right}
-use Rattle.std.proofs.lemmas.Option.{slice_get-get_or, slice_get_read, slice_get_within}
-use Rattle.open_graphs.proofs.Lists.{get_left, get_end, get_cases, get_set_other, get_set_same, mapped_some}
-use Rattle.global_cache.specs.Words.{Held, AreMarked, AreNone, HasNumber, IsFound, IsMarked, IsQueued, IsRising, Marks, slot_at, targets_of, unmarked, root, next}
+use Rattle.std.proofs.lemmas.Option.{get_or_from_slice_get, slice_get-get_or, slice_get_read, slice_get_within}
+use Rattle.open_graphs.proofs.Lists.{get_set_other, get_set_same, mapped_some}
+use Rattle.open_graphs.proofs.Members.{Contains-mapped}
+use Rattle.global_cache.specs.Words.{Held, AreMarked, AreNone, AreWaiting, HasNumber, IsClosed, IsFound, IsMarked, IsRising, Marks, MarksFrom, slot_at, targets_of, unmarked, root, next}
 use Rattle.global_cache.proofs.FoundNodes.{only_number}
 use Rattle.global_cache.proofs.HeldNodes.{slot_of}
 
 no_contains : {A : Type 0} (x : A) → Contains [] x → ⊥
 no_contains x (k, l, e) = absurd (omega arith)
+
+-- marking one place leaves one place less
+one_less : (marked : List Bool) (place : ℕ) → slice_get marked place ≡ Some false → unmarked (slice_set marked place true) + 1 ≡ unmarked marked
+one_less [] place none = absurd cc
+one_less (true ∷ marked) zero none = absurd cc
+one_less (false ∷ marked) zero none = omega arith
+one_less (true ∷ marked) (suc place) none = one_less marked place none
+one_less (false ∷ marked) (suc place) none = omega (arith, one_less marked place none)
 
 pub numbered : {I R : Type 0} (held : List (Held I R)) (place n : ℕ) → HasNumber held place n → (h : Held I R) × (slice_get held place ≡ Some h) × (h.number ≡ n)
 numbered held place n has = mapped_some (λ h. h.number) (slice_get held place) n has
@@ -29,9 +38,9 @@ module _ {I R : Type 0} (held : List (Held I R)) (rising : IsRising held) where
         ]
       ]
 
-  module _ (number : ℕ) (marked : List Bool) (queue : List ℕ) where
+  module _ (number : ℕ) (marked : List Bool) (waiting : List ℕ) where
     -- a number that isn't held
-    pub Marks-none : slot_at held number ≡ None → Marks held (number ∷ []) marked marked queue queue
+    pub Marks-none : slot_at held number ≡ None → Marks held (number ∷ []) marked marked waiting waiting
     Marks-none none = record {
       each = refl;
       stays = λ p m. m;
@@ -40,7 +49,10 @@ module _ {I R : Type 0} (held : List (Held I R)) (rising : IsRising held) where
           let found : Some h.0.slot ≡ None = sym (slot_of held rising p h.0 h.1) ∙ (ap (slot_at held) (h.2 ∙ sym (only_number number n has)) ∙ none) in
           absurd cc;
       only = λ p m. inl m;
-      comes_first = λ i p at. at;
+      waits = λ p m. inl m;
+      still = λ p is. is;
+      only_waits = λ p is. inl is;
+      fewer = omega arith;
     }
 
     module _ (place : ℕ) (has : HasNumber held place number) where
@@ -48,57 +60,57 @@ module _ {I R : Type 0} (held : List (Held I R)) (rising : IsRising held) where
       same_place p n is at = one_place p place number (subst (HasNumber held p) (sym (only_number number n is)) at) has
 
       -- a node that is marked
-      pub Marks-known : IsMarked marked place → Marks held (number ∷ []) marked marked queue queue
+      pub Marks-known : IsMarked marked place → Marks held (number ∷ []) marked marked waiting waiting
       Marks-known known = record {
         each = refl;
         stays = λ p m. m;
         here = λ p n is at. subst (IsMarked marked) (sym (same_place p n is at)) known;
         only = λ p m. inl m;
-        comes_first = λ i p at. at;
+        waits = λ p m. inl m;
+        still = λ p is. is;
+        only_waits = λ p is. inl is;
+        fewer = omega arith;
       }
 
-      still : slice_get marked place ≡ Some false → (p : ℕ) → IsMarked marked p → IsMarked (slice_set marked place true) p
-      still none p m = elim (cases_eq p place) [
+      still_marked : slice_get marked place ≡ Some false → (p : ℕ) → IsMarked marked p → IsMarked (slice_set marked place true) p
+      still_marked none p m = elim (cases_eq p place) [
         | inl e ↦ subst (IsMarked (slice_set marked place true)) (sym e) (get_set_same marked place false true none)
         | inr ne ↦ get_set_other marked place true p ne ∙ m
       ]
 
       -- a node that isn't
       module _ (none : slice_get marked place ≡ Some false) where
-        pub Marks-new : Marks held (number ∷ []) marked (slice_set marked place true) queue (queue ++ place ∷ [])
+        pub Marks-new : Marks held (number ∷ []) marked (slice_set marked place true) waiting (waiting ++ place ∷ [])
         Marks-new = record {
           each = length-set marked place true;
-          stays = still none;
+          stays = still_marked none;
           here = λ p n is at. subst (IsMarked (slice_set marked place true)) (sym (same_place p n is at)) (get_set_same marked place false true none);
           only = λ p m. elim (cases_eq p place) [
             | inl e ↦ inr (number, (zero, omega arith, refl), subst (λ q. HasNumber held q number) (sym e) has)
             | inr ne ↦ inl (sym (get_set_other marked place true p ne) ∙ m)
           ];
-          comes_first = λ i p at. get_left queue (place ∷ []) i p at;
+          waits = λ p m. elim (cases_eq p place) [
+            | inl e ↦ inr (Contains-append_right waiting (place ∷ []) p (zero, omega arith, sym e))
+            | inr ne ↦ inl (sym (get_set_other marked place true p ne) ∙ m)
+          ];
+          still = λ p is. Contains-append_left waiting (place ∷ []) p is;
+          only_waits = λ p is. elim (Contains-append_cases waiting (place ∷ []) p is) [
+            | inl old ↦ inl old
+            | inr new ↦ inr (number, (zero, omega arith, refl), subst (λ q. HasNumber held q number) (only_number place p new) has)
+          ];
+          fewer = omega (arith, one_less marked place none, length-append waiting (place ∷ []));
         }
 
-one_less : (marked : List Bool) (place : ℕ) → slice_get marked place ≡ Some false → unmarked (slice_set marked place true) + 1 ≡ unmarked marked
-one_less [] place none = absurd cc
-one_less (true ∷ marked) zero none = absurd cc
-one_less (false ∷ marked) zero none = omega arith
-one_less (true ∷ marked) (suc place) none = one_less marked place none
-one_less (false ∷ marked) (suc place) none = omega (arith, one_less marked place none)
-
--- what was not marked is queued
-pub IsQueued-new : (marked : List Bool) (queue : List ℕ) (place : ℕ) → slice_get marked place ≡ Some false → IsQueued marked queue → IsQueued (slice_set marked place true) (queue ++ place ∷ [])
-IsQueued-new marked queue place none q = record {
-  queued = λ p m. elim (cases_eq p place) [
-    | inl e ↦ (length queue, get_end queue place ∙ ap Some (sym e))
-    | inr ne ↦ let w = q.queued p (sym (get_set_other marked place true p ne) ∙ m) in (w.0, get_left queue (place ∷ []) w.0 p w.1)
-  ];
-  marked_there = λ i p at. elim (get_cases queue place i p at) [
-    | inl old ↦ elim (cases_eq p place) [
-      | inl e ↦ subst (IsMarked (slice_set marked place true)) (sym e) (get_set_same marked place false true none)
-      | inr ne ↦ get_set_other marked place true p ne ∙ q.marked_there i p old
+-- what was not marked waits
+pub AreWaiting-new : (marked : List Bool) (waiting : List ℕ) (place : ℕ) → slice_get marked place ≡ Some false → AreWaiting marked waiting → AreWaiting (slice_set marked place true) (waiting ++ place ∷ [])
+AreWaiting-new marked waiting place none w = record {
+  marked_there = λ p is. elim (cases_eq p place) [
+    | inl e ↦ subst (IsMarked (slice_set marked place true)) (sym e) (get_set_same marked place false true none)
+    | inr ne ↦ elim (Contains-append_cases waiting (place ∷ []) p is) [
+      | inl old ↦ get_set_other marked place true p ne ∙ w.marked_there p old
+      | inr new ↦ absurd (ne (sym (only_number place p new)))
     ]
-    | inr new ↦ subst (IsMarked (slice_set marked place true)) new.1 (get_set_same marked place false true none)
   ];
-  once = omega (arith, q.once, one_less marked place none, length-append queue (place ∷ []), length-set marked place true);
 }
 
 -- a mark that is read
@@ -113,13 +125,16 @@ take_all (x ∷ xs) (suc i) le = ap (λ l. x ∷ l) (take_all xs i (omega arith)
 
 -- no number, and numbers after others
 module _ {I R : Type 0} (held : List (Held I R)) where
-  pub Marks-nothing : (marked : List Bool) (queue : List ℕ) → Marks held [] marked marked queue queue
-  Marks-nothing marked queue = record {
+  pub Marks-nothing : (marked : List Bool) (waiting : List ℕ) → Marks held [] marked marked waiting waiting
+  Marks-nothing marked waiting = record {
     each = refl;
     stays = λ p m. m;
     here = λ p n is at. absurd (no_contains n is);
     only = λ p m. inl m;
-    comes_first = λ i p at. at;
+    waits = λ p m. inl m;
+    still = λ p is. is;
+    only_waits = λ p is. inl is;
+    fewer = omega arith;
   }
 
   pub Marks-then : (first second : List ℕ) (m m' m'' : List Bool) (q q' q'' : List ℕ) → Marks held first m m' q q' → Marks held second m' m'' q' q'' → Marks held (first ++ second) m m'' q q''
@@ -137,7 +152,22 @@ module _ {I R : Type 0} (held : List (Held I R)) where
       ]
       | inr w ↦ inr (w.0, Contains-append_right first second w.0 w.1, w.2)
     ];
-    comes_first = λ i p at. b.comes_first i p (a.comes_first i p at);
+    waits = λ p is. elim (b.waits p is) [
+      | inl before ↦ elim (a.waits p before) [
+        | inl old ↦ inl old
+        | inr waits ↦ inr (b.still p waits)
+      ]
+      | inr waits ↦ inr waits
+    ];
+    still = λ p is. b.still p (a.still p is);
+    only_waits = λ p is. elim (b.only_waits p is) [
+      | inl before ↦ elim (a.only_waits p before) [
+        | inl old ↦ inl old
+        | inr w ↦ inr (w.0, Contains-append_left first second w.0 w.1, w.2)
+      ]
+      | inr w ↦ inr (w.0, Contains-append_right first second w.0 w.1, w.2)
+    ];
+    fewer = omega (arith, a.fewer, b.fewer);
   }
 
   -- one more of a list
@@ -153,21 +183,13 @@ module _ {I R : Type 0} (held : List (Held I R)) where
 pub none_of : (count : ℕ) → AreNone count (replicate count false) []
 none_of count = record {
   each = long count;
-  queued = record {
-    queued = λ p m. absurd (nothing count p m);
-    marked_there = λ i p at. absurd cc;
-    once = omega (arith, all count, long count);
-  };
+  none_waits = refl;
   none = nothing count;
 }
   where
     long : (n : ℕ) → length (replicate n false) ≡ n
     long zero = refl
     long (suc n) = omega (arith, long n)
-
-    all : (n : ℕ) → unmarked (replicate n false) ≡ n
-    all zero = refl
-    all (suc n) = omega (arith, all n)
 
     nothing : (n p : ℕ) → IsMarked (replicate n false) p → ⊥
     nothing zero p m = absurd cc
@@ -176,78 +198,164 @@ none_of count = record {
 
 -- ---- the walk
 
--- what is known while the queue is followed: the nodes of its first places are done
-pub record IsFollowed {I R : Type 0} (held : List (Held I R)) (roots : List ℕ) (marked : List Bool) (queue : List ℕ) (done : ℕ) : Type 0 where
-  pub each : length marked ≡ length held
-  pub queued : IsQueued marked queue
-  pub rooted : (place n : ℕ) → Contains roots n → HasNumber held place n → IsMarked marked place
-  pub behind : (i place : ℕ) (h : Held I R) (other n : ℕ) → i < done → slice_get queue i ≡ Some place → slice_get held place ≡ Some h → Contains (targets_of h.slot) n → HasNumber held other n → IsMarked marked other
-  pub found : (place : ℕ) (h : Held I R) → IsMarked marked place → slice_get held place ≡ Some h → IsFound held roots h.number
+-- where nothing waits
+pub AreWaiting-none : (marked : List Bool) (waiting : List ℕ) → length waiting ≡ 0 → AreWaiting marked waiting
+AreWaiting-none marked waiting none = record { marked_there = λ p is. absurd (omega (arith, is.1, none)) }
 
-module _ {I R : Type 0} (held : List (Held I R)) (roots : List ℕ) where
+-- what is known while what is reached from a node is followed: what each marked node leads to is marked, unless it still waits
+pub record IsFollowed {I R : Type 0} (held : List (Held I R)) (number : ℕ) (old marked : List Bool) (waiting : List ℕ) : Type 0 where
+  pub each : length marked ≡ length held
+  pub waiting_are : AreWaiting marked waiting
+  pub stays : (place : ℕ) → IsMarked old place → IsMarked marked place
+  pub here : (place : ℕ) → HasNumber held place number → IsMarked marked place
+  pub behind : (place : ℕ) (h : Held I R) (other n : ℕ) → IsMarked marked place → slice_get held place ≡ Some h → Contains (targets_of h.slot) n → HasNumber held other n → Contains waiting place ⊎ IsMarked marked other
+  pub found : (place : ℕ) (h : Held I R) → IsMarked marked place → slice_get held place ≡ Some h → IsMarked old place ⊎ IsFound held (number ∷ []) h.number
+  pub found_waiting : (place : ℕ) (h : Held I R) → Contains waiting place → slice_get held place ≡ Some h → IsFound held (number ∷ []) h.number
+
+module _ {I R : Type 0} (held : List (Held I R)) where
   number_there : (place n : ℕ) (h : Held I R) → HasNumber held place n → slice_get held place ≡ Some h → n ≡ h.number
   number_there place n h has is = let w = numbered held place n has in let both : Some w.0 ≡ Some h = sym w.1 ∙ is in let one : w.0 ≡ h = cc in sym w.2 ∙ ap (λ x. x.number) one
 
-  pub follow_roots : (none marked : List Bool) (empty queue : List ℕ) → AreNone (length held) none empty → IsQueued marked queue → Marks held roots none marked empty queue → IsFollowed held roots marked queue zero
-  follow_roots none marked empty queue start queued marks = record {
-    each = marks.each ∙ start.each;
-    queued = queued;
-    rooted = marks.here;
-    behind = λ i place h other n lt. absurd (omega arith);
-    found = λ place h m is. elim (marks.only place m) [
-      | inl before ↦ absurd (start.none place before)
-      | inr w ↦ subst (IsFound held roots) (number_there place w.0 h w.2 is) (root w.0 w.1)
+  module _ (number : ℕ) (old : List Bool) where
+    from_number : (p : ℕ) (h : Held I R) → slice_get held p ≡ Some h → (n : ℕ) × Contains (number ∷ []) n × HasNumber held p n → IsFound held (number ∷ []) h.number
+    from_number p h is w = subst (IsFound held (number ∷ [])) (number_there p w.0 h w.2 is) (root w.0 w.1)
+
+    -- the node is marked
+    pub follow_first : (empty : List ℕ) (marked : List Bool) (waiting : List ℕ) → length old ≡ length held → length empty ≡ 0 → IsClosed held old → AreWaiting marked waiting → Marks held (number ∷ []) old marked empty waiting → IsFollowed held number old marked waiting
+    follow_first empty marked waiting each none closed waiting_are marks = record {
+      each = marks.each ∙ each;
+      waiting_are = waiting_are;
+      stays = marks.stays;
+      here = λ p has. marks.here p number (zero, omega arith, refl) has;
+      behind = λ p h other n m is target has. elim (marks.waits p m) [
+        | inl before ↦ inr (marks.stays other (closed p h other n before is target has))
+        | inr waits ↦ inl waits
+      ];
+      found = λ p h m is. elim (marks.only p m) [
+        | inl before ↦ inl before
+        | inr w ↦ inr (from_number p h is w)
+      ];
+      found_waiting = λ p h waits is. elim (marks.only_waits p waits) [
+        | inl before ↦ absurd (omega (arith, before.1, none))
+        | inr w ↦ from_number p h is w
+      ];
+    }
+
+    module _ (marked : List Bool) (waiting : List ℕ) (f : IsFollowed held number old marked waiting) where
+      -- the last one that waits
+      module _ (left : List ℕ) (place : ℕ) (last : waiting ≡ left ++ place ∷ []) where
+        waits_left : (p : ℕ) → Contains (left ++ place ∷ []) p → Contains waiting p
+        waits_left p is = subst (λ l. Contains l p) (sym last) is
+
+        last_waits : Contains waiting place
+        last_waits = waits_left place (Contains-append_right left (place ∷ []) place (zero, omega arith, refl))
+
+        -- it is the place of a node
+        pub place_within : place < length held
+        place_within = omega (arith, slice_get_within marked place true (f.waiting_are.marked_there place last_waits), f.each)
+
+        -- the others wait
+        pub left_waiting : AreWaiting marked left
+        left_waiting = record { marked_there = λ p is. f.waiting_are.marked_there p (waits_left p (Contains-append_left left (place ∷ []) p is)) }
+
+        module _ (more : List Bool) (longer : List ℕ) (h : Held I R) (marks : Marks held (targets_of h.slot) marked more left longer) where
+          -- less is left to do
+          pub follow_less : unmarked more + length longer < unmarked marked + length waiting
+          follow_less = omega (arith, marks.fewer, ap length last, length-append left (place ∷ []))
+
+          module _ (is : slice_get held place ≡ Some h) where
+            from_target : (p : ℕ) (k : Held I R) → slice_get held p ≡ Some k → (n : ℕ) × Contains (targets_of h.slot) n × HasNumber held p n → IsFound held (number ∷ []) k.number
+            from_target p k node w = subst (IsFound held (number ∷ [])) (number_there p w.0 k w.2 node) (next w.0 place h (f.found_waiting place h last_waits is) is w.1)
+
+            pub follow_next : AreWaiting more longer → IsFollowed held number old more longer
+            follow_next waiting_are = record {
+              each = marks.each ∙ f.each;
+              waiting_are = waiting_are;
+              stays = λ p m. marks.stays p (f.stays p m);
+              here = λ p has. marks.stays p (f.here p has);
+              behind = λ p k other n m node target has. elim (marks.waits p m) [
+                | inl before ↦ elim (f.behind p k other n before node target has) [
+                  | inl waited ↦ elim (Contains-append_cases left (place ∷ []) p (subst (λ l. Contains l p) last waited)) [
+                    | inl still ↦ inl (marks.still p still)
+                    | inr now ↦
+                        let nodes : Some h ≡ Some k = sym is ∙ (ap (slice_get held) (only_number place p now) ∙ node) in
+                        let one : h ≡ k = cc in
+                        inr (marks.here other n (subst (λ x. Contains (targets_of x.slot) n) (sym one) target) has)
+                  ]
+                  | inr done ↦ inr (marks.stays other done)
+                ]
+                | inr waits ↦ inl waits
+              ];
+              found = λ p k m node. elim (marks.only p m) [
+                | inl before ↦ f.found p k before node
+                | inr w ↦ inr (from_target p k node w)
+              ];
+              found_waiting = λ p k waits node. elim (marks.only_waits p waits) [
+                | inl before ↦ f.found_waiting p k (waits_left p (Contains-append_left left (place ∷ []) p before)) node
+                | inr w ↦ from_target p k node w
+              ];
+            }
+
+      -- nothing waits any more
+      module _ (end : length waiting ≡ 0) where
+        pub followed_closed : IsClosed held marked
+        followed_closed p h other n m is target has = elim (f.behind p h other n m is target has) [
+          | inl waited ↦ absurd (omega (arith, waited.1, end))
+          | inr done ↦ done
+        ]
+
+        pub followed_marks : length old ≡ length held → MarksFrom held number old marked
+        followed_marks each = record { each = f.each ∙ sym each; stays = f.stays; here = f.here; found = f.found }
+
+-- ---- one root after the other
+
+-- what is found from one of the roots is found from all of them
+found_from : {I R : Type 0} (held : List (Held I R)) (roots : List ℕ) (number : ℕ) → Contains roots number → (n : ℕ) → IsFound held (number ∷ []) n → IsFound held roots n
+found_from held roots number has _ (root n is) = root n (subst (Contains roots) (only_number number n is) has)
+found_from held roots number has _ (next n place h before at target) = next n place h (found_from held roots number has h.number before) at target
+
+-- what is known once some of the roots were followed
+pub record AreFollowed {I R : Type 0} (held : List (Held I R)) (roots done : List ℕ) (marked : List Bool) : Type 0 where
+  pub each : length marked ≡ length held
+  pub closed : IsClosed held marked
+  pub rooted : (place n : ℕ) → Contains done n → HasNumber held place n → IsMarked marked place
+  pub found : (place : ℕ) (h : Held I R) → IsMarked marked place → slice_get held place ≡ Some h → IsFound held roots h.number
+
+module _ {I R : Type 0} (held : List (Held I R)) (roots : List ℕ) where
+  pub none_followed : (none : List Bool) (waiting : List ℕ) → AreNone (length held) none waiting → AreFollowed held roots [] none
+  none_followed none waiting start = record {
+    each = start.each;
+    closed = λ p h other n m. absurd (start.none p m);
+    rooted = λ p n is. absurd (no_contains n is);
+    found = λ p h m. absurd (start.none p m);
+  }
+
+  root_followed : (done : List ℕ) (number : ℕ) (marked more : List Bool) → Contains roots number → AreFollowed held roots done marked → IsClosed held more → MarksFrom held number marked more → AreFollowed held roots (done ++ number ∷ []) more
+  root_followed done number marked more has f closed marks = record {
+    each = marks.each ∙ f.each;
+    closed = closed;
+    rooted = λ p n is at. elim (Contains-append_cases done (number ∷ []) n is) [
+      | inl before ↦ marks.stays p (f.rooted p n before at)
+      | inr now ↦ marks.here p (subst (HasNumber held p) (sym (only_number number n now)) at)
+    ];
+    found = λ p h m is. elim (marks.found p h m is) [
+      | inl before ↦ f.found p h before is
+      | inr from ↦ found_from held roots number has h.number from
     ];
   }
 
-  module _ (marked : List Bool) (queue : List ℕ) (done : ℕ) (f : IsFollowed held roots marked queue done) where
-    module _ (place : ℕ) (at : slice_get queue done ≡ Some place) where
-      -- a place of the queue is one of a node
-      pub place_within : place < length held
-      place_within = omega (arith, slice_get_within marked place true (f.queued.marked_there done place at), f.each)
+-- the roots are a list of nodes
+module _ {I R A : Type 0} (held : List (Held I R)) (f : A → ℕ) (xs : List A) (i : ℕ) where
+  pub next_followed : (x d : A) → i < length xs → x ≡ get_or xs i d → (marked more : List Bool) → AreFollowed held (map f xs) (map f (take i xs)) marked → IsClosed held more → MarksFrom held (f x) marked more → AreFollowed held (map f xs) (map f (take (i + 1) xs)) more
+  next_followed x d lt is marked more before closed marks =
+      subst (λ l. AreFollowed held (map f xs) l more)
+      (sym (map-append f (take i xs) (x ∷ [])) ∙ ap (map f) (ap (λ y. take i xs ++ y ∷ []) is ∙ sym (take_more xs i d lt)))
+      (root_followed held (map f xs) (map f (take i xs)) (f x) marked more (Contains-mapped f xs x (i, lt, get_or_from_slice_get xs i x x (slice_get-get_or xs i d lt ∙ ap Some (sym is)))) before closed marks)
 
-      -- there are no more places than nodes
-      pub done_within : done < length held
-      done_within = omega (arith, slice_get_within queue done place at, f.queued.once, f.each)
-
-      pub follow_next : (more : List Bool) (longer : List ℕ) (h : Held I R) → slice_get held place ≡ Some h → IsQueued more longer → Marks held (targets_of h.slot) marked more queue longer → IsFollowed held roots more longer (done + 1)
-      follow_next more longer h is queued marks = record {
-        each = marks.each ∙ f.each;
-        queued = queued;
-        rooted = λ p n root_is has. marks.stays p (f.rooted p n root_is has);
-        behind = λ i p k other n lt there node target has. elim (cases_lt i done) [
-          | inl less ↦
-              let before = slice_get-get_or queue i 0 (omega (arith, slice_get_within queue done place at)) in
-              let both : Some (get_or queue i 0) ≡ Some p = sym (marks.comes_first i (get_or queue i 0) before) ∙ there in
-              let same : get_or queue i 0 ≡ p = cc in
-              marks.stays other (f.behind i p k other n less (before ∙ ap Some same) node target has)
-          | inr ge ↦
-              let now : i ≡ done = omega arith in
-              let both : Some place ≡ Some p = sym (marks.comes_first done place at) ∙ (ap (slice_get longer) (sym now) ∙ there) in
-              let same : place ≡ p = cc in
-              let nodes : Some h ≡ Some k = sym is ∙ (ap (slice_get held) same ∙ node) in
-              let one : h ≡ k = cc in
-              marks.here other n (subst (λ x. Contains (targets_of x.slot) n) (sym one) target) has
-        ];
-        found = λ p k m node. elim (marks.only p m) [
-          | inl before ↦ f.found p k before node
-          | inr w ↦ subst (IsFound held roots) (number_there p w.0 k w.2 node) (next w.0 place h (f.found place h (f.queued.marked_there done place at) is) is w.1)
-        ];
-      }
-
-    -- all of the queue is done
-    pub all_followed : slice_get queue done ≡ None → AreMarked held roots marked
-    all_followed end = record {
-      each = f.each;
-      rooted = f.rooted;
-      closed = λ p h other n m is target has.
-          let w = f.queued.queued p m in
-          f.behind w.0 p h other n (before_end w.0 p w.1) w.1 is target has;
-      found = f.found;
-    }
-      where
-        before_end : (i p : ℕ) → slice_get queue i ≡ Some p → i < done
-        before_end i p is = elim (cases_lt done (length queue)) [
-          | inl lt ↦ let some : Some (get_or queue done 0) ≡ None = sym (slice_get-get_or queue done 0 lt) ∙ end in absurd cc
-          | inr ge ↦ omega (arith, slice_get_within queue i p is)
-        ]
+  pub all_followed : length xs ≤ i → (marked : List Bool) → AreFollowed held (map f xs) (map f (take i xs)) marked → AreMarked held (map f xs) marked
+  all_followed le marked a = record {
+    each = a.each;
+    rooted = λ p n is. a.rooted p n (subst (λ l. Contains (map f l) n) (sym (take_all xs i le)) is);
+    closed = a.closed;
+    found = a.found;
+  }

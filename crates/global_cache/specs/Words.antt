@@ -8,7 +8,7 @@ pub use Rattle.global_cache.specs.Found.{ArePlaced, Finds}
 pub use Rattle.global_cache.specs.HandedOut.{Copies, IsCopyFrom, IsWhole, KeepsWhole, original_node}
 pub use Rattle.global_cache.specs.Held.{AreHeld, HasNumber, is_held, IsGone, IsRising, IsSplit, IsWindow, node_if_held, nodes_below, nodes_of, slot_at}
 pub use Rattle.global_cache.specs.Hits.{first_accepted, Hit, hit_at, hit_of, overflows, successes, usable}
-pub use Rattle.global_cache.specs.Marked.{AreMarked, AreNone, edges_of, IsFound, IsMarked, IsQueued, kept, Marks, targets_of, unmarked}
+pub use Rattle.global_cache.specs.Marked.{AreMarked, AreNone, AreWaiting, edges_of, IsClosed, IsFound, IsMarked, kept, Marks, MarksFrom, targets_of, unmarked}
 pub use Rattle.global_cache.specs.Marked.IsFound.{root, next}
 pub use Rattle.global_cache.specs.Shapes.{edge_shape, HasGrown, run_shape, shape_of, shapes_of}
 pub use Rattle.global_cache.specs.Sound.{IsSoundCache}

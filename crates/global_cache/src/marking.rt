@@ -1,6 +1,6 @@
 //! Which nodes are reached from some roots, by their places among the nodes that are held.
 ghost use Rattle.std.specs.Prelude.{◌≡◌, ◌∷◌, ◌++◌, [], ◌<◌, ◌≤◌, ℕ, drop, length, take, map, slice_get, IfOk, OnOk};
-ghost use Rattle.global_cache.specs.Words.{AreMarked, AreNone, IsQueued, IsRising, kept, Marks as Marking, targets_of};
+ghost use Rattle.global_cache.specs.Words.{AreMarked, AreNone, AreWaiting, IsClosed, IsRising, kept, Marks as Marking, MarksFrom, targets_of};
 
 use crate::hints::Hints;
 use crate::node_list::{Held, Slot};
@@ -12,8 +12,8 @@ use std::alloc::Global;
 struct Marks {
     /// Of each place, whether its node was found.
     marked: Vec<bool>,
-    /// The places of these, in the order of finding: the queue of what is still to be followed.
-    queue: Vec<usize>,
+    /// The places of those that are still to be followed, of which the one that was found last comes first.
+    waiting: Vec<usize>,
     /// Where nodes were found.
     hints: Hints,
 }
@@ -21,20 +21,13 @@ struct Marks {
 impl Marks {
     // No node is found yet.
     fn new(alloc: Global, count: usize) -> Result<Marks, NoMemory>
-        ensures { IfOk result (λ marks. AreNone count marks.marked.items marks.queue.items) }
+        ensures { IfOk result (λ marks. AreNone count marks.marked.items marks.waiting.items) }
     {
         Ok(Marks {
             marked: Vec::from_elem(alloc, false, count)?,
-            queue: Vec::with_capacity(alloc, count)?,
+            waiting: Vec::with_capacity(alloc, count)?,
             hints: Hints::new(alloc, count)?,
         })
-    }
-
-    // What stands at a place of the queue.
-    fn queued(&self, done: usize) -> Option<usize>
-        ensures { result ≡ slice_get self.now.queue.items done }
-    {
-        self.queue.get(done).copied()
     }
 
     // Marks the node with this number, if it is held. It is looked for from the place `near` on.
@@ -46,10 +39,10 @@ impl Marks {
     ) -> Result<(), NoMemory>
         requires rising { IsRising held.now }
         requires each { length self.old.marked.items ≡ length held.now }
-        requires queued { IsQueued self.old.marked.items self.old.queue.items }
-        ensures queued { OnOk result (IsQueued self.new.marked.items self.new.queue.items) }
+        requires waiting { AreWaiting self.old.marked.items self.old.waiting.items }
+        ensures waiting { OnOk result (AreWaiting self.new.marked.items self.new.waiting.items) }
         ensures marks { OnOk result (Marking held.now (number ∷ [])
-            self.old.marked.items self.new.marked.items self.old.queue.items self.new.queue.items) }
+            self.old.marked.items self.new.marked.items self.old.waiting.items self.new.waiting.items) }
     {
         let Some(place) = self.hints.find(held, near, number) else {
             return Ok(());
@@ -57,24 +50,8 @@ impl Marks {
         if self.marked[place] {
             return Ok(());
         }
-        self.queue.push(place)?;
+        self.waiting.push(place)?;
         self.marked[place] = true;
-        Ok(())
-    }
-
-    // Marks the roots that are held. They are looked for from the end on, since most of them are new.
-    fn mark_roots<I, R>(&mut self, held: &[Held<I, R>], roots: &[NodeId]) -> Result<(), NoMemory>
-        requires rising { IsRising held.now }
-        requires each { length self.old.marked.items ≡ length held.now }
-        requires queued { IsQueued self.old.marked.items self.old.queue.items }
-        ensures queued { OnOk result (IsQueued self.new.marked.items self.new.queue.items) }
-        ensures marks { OnOk result (Marking held.now (map (λ r. r.0) roots.now)
-            self.old.marked.items self.new.marked.items self.old.queue.items self.new.queue.items) }
-    {
-        let last = held.len().saturating_sub(1);
-        for root in roots {
-            self.mark(held, last, root.0)?;
-        }
         Ok(())
     }
 
@@ -88,10 +65,10 @@ impl Marks {
     ) -> Result<(), NoMemory>
         requires rising { IsRising held.now }
         requires each { length self.old.marked.items ≡ length held.now }
-        requires queued { IsQueued self.old.marked.items self.old.queue.items }
-        ensures queued { OnOk result (IsQueued self.new.marked.items self.new.queue.items) }
+        requires waiting { AreWaiting self.old.marked.items self.old.waiting.items }
+        ensures waiting { OnOk result (AreWaiting self.new.marked.items self.new.waiting.items) }
         ensures marks { OnOk result (Marking held.now (map (λ e. e.target) edges.now)
-            self.old.marked.items self.new.marked.items self.old.queue.items self.new.queue.items) }
+            self.old.marked.items self.new.marked.items self.old.waiting.items self.new.waiting.items) }
     {
         for edge in edges {
             self.mark(held, near, edge.target)?;
@@ -108,15 +85,40 @@ impl Marks {
     ) -> Result<(), NoMemory>
         requires rising { IsRising held.now }
         requires each { length self.old.marked.items ≡ length held.now }
-        requires queued { IsQueued self.old.marked.items self.old.queue.items }
-        ensures queued { OnOk result (IsQueued self.new.marked.items self.new.queue.items) }
+        requires waiting { AreWaiting self.old.marked.items self.old.waiting.items }
+        ensures waiting { OnOk result (AreWaiting self.new.marked.items self.new.waiting.items) }
         ensures marks { OnOk result (Marking held.now (targets_of slot.now)
-            self.old.marked.items self.new.marked.items self.old.queue.items self.new.queue.items) }
+            self.old.marked.items self.new.marked.items self.old.waiting.items self.new.waiting.items) }
     {
         match slot {
             Slot::Open(_) => Ok(()),
             Slot::Finished(node) => self.mark_targets(held, near, &node.edges),
         }
+    }
+
+    // Marks the node with this number, if it is held, and all that is reached from it. It is looked for from
+    // the place `near` on.
+    fn mark_from<I, R>(
+        &mut self,
+        held: &[Held<I, R>],
+        near: usize,
+        number: usize,
+    ) -> Result<(), NoMemory>
+        requires rising { IsRising held.now }
+        requires each { length self.old.marked.items ≡ length held.now }
+        requires none_waits { length self.old.waiting.items ≡ 0 }
+        requires closed { IsClosed held.now self.old.marked.items }
+        ensures none_waits { OnOk result (length self.new.waiting.items ≡ 0) }
+        ensures closed { OnOk result (IsClosed held.now self.new.marked.items) }
+        ensures marks { OnOk result (MarksFrom held.now number
+            self.old.marked.items self.new.marked.items) }
+    {
+        self.mark(held, near, number)?;
+        while let Some(place) = self.waiting.pop() {
+            let entry = &held[place];
+            self.mark_behind(held, place, &entry.slot)?;
+        }
+        Ok(())
     }
 }
 
@@ -131,16 +133,15 @@ pub(super) fn marked_from<I, R>(
     ensures { IfOk result (λ marked. AreMarked held.now (map (λ r. r.0) roots.now) marked.items) }
 {
     let mut marks = Marks::new(alloc, held.len())?;
-    marks.mark_roots(held, roots)?;
-    let mut done = 0;
-    while let Some(place) = marks.queued(done) {
-        let entry = &held[place];
-        marks.mark_behind(held, place, &entry.slot)?;
-        done += 1;
+    // Roots are looked for from the end on, since most of them are new. Each is followed at once: what it leads to stands
+    // near it most of the time.
+    let last = held.len().saturating_sub(1);
+    for root in roots {
+        marks.mark_from(held, last, root.0)?;
     }
     let Marks {
         marked,
-        queue: _,
+        waiting: _,
         hints: _,
     } = marks;
     Ok(marked)

@@ -125,19 +125,27 @@ impl<I: Copy, R: Copy> Progress<I, R> {
     }
 
     /// The edges that a result of this verdict rests on: those of its answers outside ignored
-    /// candidates, in the order of asking.
+    /// candidates, in the order of asking. The list has no room to spare, since the node of the run has
+    /// it for good.
     pub fn edges(&self, verdict: Verdict) -> Result<Vec<Edge<I>>, NoMemory>
         ensures { IfOk result (λ edges. edges.items ≡ edges_of self.now verdict) }
     {
-        let mut edges = Vec::with_capacity(*self.answers.allocator(), self.answers.len())?;
+        let count = self.edge_count(verdict);
+        let mut edges = Vec::with_capacity(*self.answers.allocator(), count)?;
         for answer in &self.answers {
             if self.is_rested_on(answer, verdict) {
                 edges.push(answer.edge)?;
             }
         }
-        // The node of the run has them for good.
-        edges.shrink_to_fit();
         Ok(edges)
+    }
+
+    /// How many edges a result of this verdict rests on.
+    fn edge_count(&self, verdict: Verdict) -> usize {
+        self.answers
+            .iter()
+            .filter(|answer| self.is_rested_on(answer, verdict))
+            .count()
     }
 
     /// Whether a result of this verdict rests on the answer.

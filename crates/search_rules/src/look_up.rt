@@ -197,6 +197,14 @@ pub fn consult<'a, D: Delegate>(
     // The scope is entered first: what is looked up belongs to it.
     let scope = D::enter_validation_scope(cache.cx(), input);
     let stored = look_up::<D>(cache, provisional, stack, step, input, depth);
+    if stored.is_none() {
+        // Most questions end here. There is nothing to compare with, so the scope is dropped at once.
+        return Consulted {
+            stored: None,
+            fate: Fate::Stored,
+            scope: None,
+        };
+    }
     if scope.is_none() {
         return Consulted {
             stored,
@@ -204,17 +212,10 @@ pub fn consult<'a, D: Delegate>(
             scope: None,
         };
     }
-    match stored {
-        Some(expected) => Consulted {
-            stored: None,
-            fate: Fate::Compared(expected.result),
-            scope,
-        },
-        // There is nothing to compare with, so the scope is dropped at once.
-        None => Consulted {
-            stored: None,
-            fate: Fate::Stored,
-            scope: None,
-        },
+    let fate = stored.map_or(Fate::Stored, |expected| Fate::Compared(expected.result));
+    Consulted {
+        stored: None,
+        fate,
+        scope,
     }
 }
