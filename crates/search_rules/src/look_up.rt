@@ -17,7 +17,7 @@ use search_parts::path::{PathKind, PathsToNested};
 use std::marker::Model;
 
 /// How many goals a short stack has at most. About so many comparisons take as long as one look-up.
-const SHORT_STACK: usize = 16;
+const SHORT_STACK: usize = 32;
 
 /// The test of the goals below a stored result that a stack of goals makes, with the provisional entries, where
 /// the last goal asks over a step. Ports `SearchGraph::candidate_is_applicable`.

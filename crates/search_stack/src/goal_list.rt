@@ -1,7 +1,9 @@
 //! A list of goals with the paths to each.
-ghost use Rattle.std.specs.Prelude.{◌≡◌, ◌+◌, ◌-◌, ◌^◌, ◌<◌, ◌≤◌, [], length, vec_len, vec_capacity, IsSome, IsOk, IfOk, OnOk, OnErr};
+ghost use Rattle.std.specs.Prelude.{◌≡◌, ◌+◌, ◌-◌, ◌^◌, ◌<◌, ◌≤◌, [], length, map, vec_len, vec_capacity, IsSome, IsOk, IfOk, OnOk, OnErr};
 ghost use Rattle.std.specs.List.{IsDistinct, position};
 ghost use Rattle.std.specs.Map.{keys_of};
+ghost use Rattle.std.specs.Option.{option_map};
+ghost use Rattle.search_stack.specs.Below.{extended};
 ghost use Rattle.search_stack.specs.Words.{after_step, paths_at, JoinsEach, JoinsPaths};
 
 use crate::mapped_goals::after_step;
@@ -79,6 +81,14 @@ impl<X: Cx> GoalList<X> {
         join_listed(&mut self.goals, input, paths)
     }
 
+    /// Extends the paths to each goal by the step.
+    pub(super) fn raise(&mut self, step: PathKind)
+        ensures { (input : X.Input) → paths_at X.Input.eq self.new input
+            ≡ option_map (λ paths. extended paths step) (paths_at X.Input.eq self.old input) }
+    {
+        raise_each(self.goals.as_mut_slice(), step);
+    }
+
     /// Joins each goal of others by its paths after the step, if there is one.
     pub(super) fn join_each(
         &mut self,
@@ -106,6 +116,15 @@ impl<X: Cx> GoalList<X> {
         Iter {
             left: self.goals.as_slice(),
         }
+    }
+}
+
+/// Extends the paths to each goal by the step.
+fn raise_each<I>(goals: &mut [(I, PathsToNested)], step: PathKind)
+    ensures { goals.new ≡ map (λ goal. (goal.0, extended goal.1 step)) goals.old }
+{
+    for goal in goals.iter_mut() {
+        goal.1 = goal.1.extend_with(step);
     }
 }
 

@@ -119,8 +119,7 @@ impl<X: Cx> NotedGoals<X> {
         Ok(())
     }
 
-    /// Extends the paths to each goal by the step, in one go. It may say that it can't, and changes nothing then: the
-    /// goals of a list are soon walked.
+    /// Extends the paths to each goal by the step. It may say that it can't, and changes nothing then.
     pub(super) fn raise(&mut self, step: PathKind) -> bool
         ensures raised { IsTrue result → (input : X.Input) → paths_at X.Input.eq self.new input
             ≡ option_map (λ paths. extended paths step) (paths_at X.Input.eq self.old input) }
@@ -128,7 +127,10 @@ impl<X: Cx> NotedGoals<X> {
     {
         match &mut self.goals {
             Goals::Many(goals) => goals.raise(step),
-            Goals::Few(_) => false,
+            Goals::Few(goals) => {
+                goals.raise(step);
+                true
+            }
         }
     }
 
