@@ -6,3 +6,4 @@ pub mod Cycles
 pub mod LastSteps
 pub mod RaisedPaths
 pub mod OwnGoal
+pub mod ListedGoals

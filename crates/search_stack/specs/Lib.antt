@@ -5,5 +5,6 @@ pub mod Lent
 pub mod Cycle
 pub mod Steps
 pub mod Raises
+pub mod Kept
 pub mod Below
 pub mod Words

@@ -11,6 +11,8 @@
 #![tactic(auto)]
 
 pub mod depth;
+mod goal_list;
+mod mapped_goals;
 pub mod nested_goals;
 mod noted_goals;
 mod raises;

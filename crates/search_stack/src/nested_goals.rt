@@ -162,6 +162,7 @@ impl<X: Cx> NestedGoals<X> {
     }
 
     /// Joins each goal of another map by its paths after the step, if there is one.
+    #[inline(never)]
     fn join_each(&mut self, step: Option<PathKind>, more: &NestedGoals<X>) -> Result<(), NoMemory>
         ensures ok { OnOk result
             (JoinsEach X.Input.eq (after_step step) self.old more.now self.new) }
@@ -178,6 +179,15 @@ impl<X: Cx> NestedGoals<X> {
         let mut goals = NotedGoals::new(self.alloc);
         goals.join_each(step, more)?;
         self.hold(goals)
+    }
+
+    /// Gives back the memory that is needed only where goals are added.
+    pub(super) fn shrink(&mut self)
+        ensures { self.new ≡ self.old }
+    {
+        if let Some(goals) = &mut self.goals {
+            goals.shrink();
+        }
     }
 
     /// The goals with the paths to them, in an order that is left open. Ports `NestedGoals::iter`.

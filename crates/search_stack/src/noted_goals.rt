@@ -1,41 +1,43 @@
-//! A map of goals whose paths are extended together.
-ghost use Rattle.std.specs.Prelude.{◌≡◌, ◌+◌, ◌^◌, ◌<◌, ◌≤◌, [], length, false, IsTrue, IsSome, IsOk, OnOk, OnErr};
+//! Goals with the paths to each: in a list while they are few, and then in a map.
+ghost use Rattle.std.specs.Prelude.{◌≡◌, ◌^◌, ◌<◌, [], length, false, IsTrue, IsSome, IsOk, IfOk, OnOk, OnErr};
 ghost use Rattle.std.specs.Option.{option_map};
-ghost use Rattle.std.specs.HashMap.{spare};
 ghost use Rattle.std.specs.List.{IsDistinct};
 ghost use Rattle.std.specs.Map.{keys_of};
 ghost use Rattle.search_stack.specs.Below.{extended};
-ghost use Rattle.search_stack.specs.Words.{after_step, paths_at, paths_noted, AreNoted, JoinsEach, JoinsPaths};
+ghost use Rattle.search_stack.specs.Words.{after_step, paths_at, JoinsEach, JoinsPaths};
 
-use crate::raises::{NotedPaths, Raises};
-use bitflags::Flags;
+use crate::goal_list::{self, GoalList};
+use crate::mapped_goals::{self, MappedGoals};
 use cycle_heads::path::{PathKind, PathsToNested};
 use search_context::context::{Cx, NoMemory};
 use std::alloc::Global;
-use std::collections::{HashMap, hash_map};
-use std::hash::Hash;
 use std::marker::Model;
 
-/// Goals with the paths to each. All paths are extended by a step in one go, which is noted beside the map.
+/// How many goals may stand in a list that grows. So many are compared about as fast as one is found by its hash.
+const MOST_LISTED: usize = 16;
+
+/// Goals with the paths to each.
 #[derive(Drop)]
 pub(super) struct NotedGoals<X: Cx> {
-    noted: HashMap<X::Input, NotedPaths>,
-    raises: Raises,
-    /// The goal to which the path of no step was joined last, as long as that was not extended. It is most often
-    /// joined to the same goal again, which then needs no look-up.
-    own: Option<X::Input>,
+    goals: Goals<X>,
+    alloc: Global,
+}
+
+/// Where the goals are. What is read alone, as a stored result is, stands in a list however many they are.
+#[derive(Drop)]
+enum Goals<X: Cx> {
+    Few(GoalList<X>),
+    Many(Box<MappedGoals<X>>),
 }
 
 impl<X: Cx> Model for NotedGoals<X> {
-    ghost use Rattle.search_stack.specs.Nested.{HasOwn, NestedPaths};
-    ghost use Rattle.search_stack.specs.Raises.{paths_noted, AreNoted};
+    ghost use Rattle.search_stack.specs.Nested.{NestedPaths};
 
     ghost Value = { NestedPaths X.Input };
 
-    ghost view = { λ g. paths_noted g.raises g.noted.entries };
+    ghost use Rattle.search_stack.specs.Kept.{goals_of};
 
-    ghost invariant = { λ g. AreNoted X.Input.eq g.raises g.noted.entries
-        × HasOwn X.Input.eq (paths_noted g.raises g.noted.entries) g.own };
+    ghost view = { λ g. goals_of g.goals };
 }
 
 impl<X: Cx> NotedGoals<X> {
@@ -44,9 +46,8 @@ impl<X: Cx> NotedGoals<X> {
         ensures { result ≡ [] }
     {
         NotedGoals {
-            noted: HashMap::new(alloc),
-            raises: Raises::new(),
-            own: None,
+            goals: Goals::Few(GoalList::new(alloc)),
+            alloc,
         }
     }
 
@@ -54,15 +55,20 @@ impl<X: Cx> NotedGoals<X> {
     pub(super) fn len(&self) -> usize
         ensures { result ≡ length self.now }
     {
-        self.noted.len()
+        match &self.goals {
+            Goals::Few(goals) => goals.len(),
+            Goals::Many(goals) => goals.len(),
+        }
     }
 
     /// The paths to the goal, where it is there.
     pub(super) fn get(&self, input: X::Input) -> Option<PathsToNested>
         ensures { result ≡ paths_at X.Input.eq self.now input }
     {
-        let noted = self.noted.get(&input)?;
-        Some(self.raises.paths_now(*noted))
+        match &self.goals {
+            Goals::Few(goals) => goals.get(input),
+            Goals::Many(goals) => goals.get(input),
+        }
     }
 
     /// Joins paths to the goal, which becomes one of the goals. Only a new goal takes memory, and a
@@ -72,31 +78,63 @@ impl<X: Cx> NotedGoals<X> {
         ensures err { OnErr result (self.new ≡ self.old) }
         ensures known { IsSome (paths_at X.Input.eq self.old input) → IsOk result }
     {
-        if paths == PathsToNested::EMPTY && self.own == Some(input) {
-            return Ok(());
+        match &mut self.goals {
+            Goals::Many(goals) => goals.insert(input, paths),
+            Goals::Few(goals) => {
+                if goals.len() >= MOST_LISTED && goals.get(input).is_none() {
+                    return self.insert_past_list(input, paths);
+                }
+                goals.insert(input, paths)
+            }
         }
-        join_paths(&mut self.noted, &self.raises, input, paths)?;
-        if paths == PathsToNested::EMPTY {
-            self.own = Some(input);
-        }
+    }
+
+    /// Puts a goal that is new into a map with those so far.
+    #[inline(never)]
+    fn insert_past_list(&mut self, input: X::Input, paths: PathsToNested) -> Result<(), NoMemory>
+        ensures ok { OnOk result (JoinsPaths X.Input.eq self.old self.new input paths) }
+        ensures err { OnErr result (self.new ≡ self.old) }
+    {
+        let mut goals = self.mapped()?;
+        goals.insert(input, paths)?;
+        self.hold(goals)
+    }
+
+    /// A map of these goals.
+    fn mapped(&self) -> Result<MappedGoals<X>, NoMemory>
+        ensures { IfOk result (λ goals. (input : X.Input) → paths_at X.Input.eq goals input
+            ≡ paths_at X.Input.eq self.now input) }
+    {
+        let mut goals = MappedGoals::new(self.alloc);
+        goals.join_each(None, self)?;
+        Ok(goals)
+    }
+
+    /// Holds these goals instead of those so far.
+    fn hold(&mut self, goals: MappedGoals<X>) -> Result<(), NoMemory>
+        ensures ok { OnOk result (self.new ≡ goals) }
+        ensures err { OnErr result (self.new ≡ self.old) }
+    {
+        self.goals = Goals::Many(Box::new(self.alloc, goals)?);
         Ok(())
     }
 
-    /// Extends the paths to each goal by the step, in one go. It may say that it can't, and changes nothing then.
+    /// Extends the paths to each goal by the step. It may say that it can't, and changes nothing then.
     pub(super) fn raise(&mut self, step: PathKind) -> bool
         ensures raised { IsTrue result → (input : X.Input) → paths_at X.Input.eq self.new input
             ≡ option_map (λ paths. extended paths step) (paths_at X.Input.eq self.old input) }
         ensures not { result ≡ false → self.new ≡ self.old }
     {
-        let Some(raises) = self.raises.with_step(step) else {
-            return false;
-        };
-        self.raises = raises;
-        self.own = None;
-        true
+        match &mut self.goals {
+            Goals::Many(goals) => goals.raise(step),
+            Goals::Few(goals) => {
+                goals.raise(step);
+                true
+            }
+        }
     }
 
-    /// Joins each goal of another map by its paths after the step, if there is one.
+    /// Joins each goal of others by its paths after the step, if there is one.
     pub(super) fn join_each(
         &mut self,
         step: Option<PathKind>,
@@ -105,19 +143,43 @@ impl<X: Cx> NotedGoals<X> {
         ensures ok { OnOk result
             (JoinsEach X.Input.eq (after_step step) self.old more.now self.new) }
         ensures err { OnErr result (self.new ≡ self.old) }
-        ensures none { more.now ≡ [] → IsOk result }
     {
-        self.noted.reserve(more.noted.len())?;
-        for (input, paths) in more.iter() {
-            // There is room for each of them.
-            join_paths(
-                &mut self.noted,
-                &self.raises,
-                input,
-                after_step(step, paths),
-            )?;
+        match &mut self.goals {
+            Goals::Many(goals) => goals.join_each(step, more),
+            Goals::Few(goals) => {
+                if more.len() > MOST_LISTED.saturating_sub(goals.len()) {
+                    return self.join_past_list(step, more);
+                }
+                goals.join_each(step, more)
+            }
         }
-        Ok(())
+    }
+
+    /// The same into a map.
+    fn join_past_list(
+        &mut self,
+        step: Option<PathKind>,
+        more: &NotedGoals<X>,
+    ) -> Result<(), NoMemory>
+        ensures ok { OnOk result
+            (JoinsEach X.Input.eq (after_step step) self.old more.now self.new) }
+        ensures err { OnErr result (self.new ≡ self.old) }
+    {
+        let mut goals = self.mapped()?;
+        goals.join_each(step, more)?;
+        self.hold(goals)
+    }
+
+    /// Gives back the memory that is needed only where goals are added. Where a list can't be had, nothing changes.
+    pub(super) fn shrink(&mut self)
+        ensures { self.new ≡ self.old }
+    {
+        if let Goals::Few(_) = &self.goals {
+            return;
+        }
+        if let Ok(goals) = GoalList::without_room(self.alloc, self) {
+            self.goals = Goals::Few(goals);
+        }
     }
 
     /// The goals with the paths to them, in an order that is left open.
@@ -126,62 +188,35 @@ impl<X: Cx> NotedGoals<X> {
         ensures distinct { IsDistinct X.Input.eq (keys_of self.now) }
         ensures fits { length self.now < 2 ^ 63 }
     {
-        Iter {
-            noted: self.noted.iter(),
-            raises: self.raises,
-        }
+        let goals = match &self.goals {
+            Goals::Few(goals) => GoalsLeft::Few(goals.iter()),
+            Goals::Many(goals) => GoalsLeft::Many(goals.iter()),
+        };
+        Iter { goals }
     }
 }
 
-/// The paths after a step, if there is one.
-fn after_step(step: Option<PathKind>, paths: PathsToNested) -> PathsToNested
-    ensures { result ≡ after_step step paths }
-{
-    match step {
-        Some(step) => paths.extend_with(step),
-        None => paths,
-    }
-}
-
-/// Joins paths to a goal. Where there is room for one more, it isn't refused.
-fn join_paths<I: Eq + Hash + Copy>(
-    goals: &mut HashMap<I, NotedPaths>,
-    raises: &Raises,
-    input: I,
-    paths: PathsToNested,
-) -> Result<(), NoMemory>
-    requires { AreNoted I.eq raises.now goals.old.entries }
-    ensures ok { OnOk result (JoinsPaths I.eq (paths_noted raises.now goals.old.entries)
-        (paths_noted raises.now goals.new.entries) input paths) }
-    ensures noted { AreNoted I.eq raises.now goals.new.entries }
-    ensures err { OnErr result (goals.new.entries ≡ goals.old.entries) }
-    ensures known { IsSome (paths_at I.eq (paths_noted raises.now goals.old.entries) input) →
-        IsOk result }
-    ensures room { 0 < spare goals.old → IsOk result }
-    ensures left { spare goals.old ≤ spare goals.new + 1 }
-{
-    if let Some(known) = goals.get_mut(&input) {
-        *known = raises.note(raises.paths_now(*known).union(paths));
-        return Ok(());
-    }
-    goals.insert(input, raises.note(paths))?;
-    Ok(())
-}
-
-/// The goals of a map, with the paths to each.
+/// The goals with the paths to each.
 #[derive(Drop)]
 pub(super) struct Iter<'a, X: Cx> {
-    noted: hash_map::Iter<'a, X::Input, NotedPaths>,
-    raises: Raises,
+    goals: GoalsLeft<'a, X>,
+}
+
+/// Those that are still to come.
+#[derive(Drop)]
+enum GoalsLeft<'a, X: Cx> {
+    Few(goal_list::Iter<'a, X>),
+    Many(mapped_goals::Iter<'a, X>),
 }
 
 impl<'a, X: Cx> Model for Iter<'a, X> {
     ghost use Rattle.search_stack.specs.Nested.{NestedPaths};
-    ghost use Rattle.search_stack.specs.Raises.{paths_noted};
 
     ghost Value = { NestedPaths X.Input };
 
-    ghost view = { λ s. paths_noted s.raises s.noted };
+    ghost use Rattle.search_stack.specs.Kept.{goals_left};
+
+    ghost view = { λ s. goals_left s.goals };
 }
 
 impl<'a, X: Cx> Iterator for Iter<'a, X> {
@@ -194,7 +229,9 @@ impl<'a, X: Cx> Iterator for Iter<'a, X> {
     ghost remaining = { item_count (λ goals. goals) };
 
     fn next(&mut self) -> Option<(X::Input, PathsToNested)> {
-        let (input, noted) = self.noted.next()?;
-        Some((*input, self.raises.paths_now(*noted)))
+        match &mut self.goals {
+            GoalsLeft::Few(goals) => goals.next(),
+            GoalsLeft::Many(goals) => goals.next(),
+        }
     }
 }

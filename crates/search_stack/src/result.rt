@@ -27,7 +27,7 @@ impl<X: Cx> EvaluationResult<X> {
     /// The result of a goal that was popped from the stack. Required depth, heads and nested goals, which
     /// all its runs share, are those of its entry. Takes no memory. Ports `EvaluationResult::finalize`.
     pub fn finalize(
-        final_entry: StackEntry<X>,
+        mut final_entry: StackEntry<X>,
         encountered_overflow: bool,
         final_result: X::Result,
         node: Option<NodeId>,
@@ -41,6 +41,10 @@ impl<X: Cx> EvaluationResult<X> {
           node = node;
         } }
     {
+        if final_entry.state.heads.is_empty() {
+            // What rests on no goal is stored, and its nested goals are only read from now on.
+            final_entry.state.nested_goals.shrink();
+        }
         EvaluationResult {
             encountered_overflow,
             required_depth: final_entry.state.required_depth,

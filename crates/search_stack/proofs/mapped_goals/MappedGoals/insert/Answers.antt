@@ -1,7 +1,7 @@
 use Rattle.std.proofs.Common.{Some, refl, sym, subst, ◌∙◌}
 use Rattle.search_stack.specs.Words.{HasOwn, paths_noted}
 use Rattle.search_stack.proofs.OwnGoal.{is_no_step, is_own, joins-own, own-joined, own-new}
-use Rattle.search_stack.proofs.noted_goals.NotedGoals.insert.Goals as goal
+use Rattle.search_stack.proofs.mapped_goals.MappedGoals.insert.Goals as goal
 
 -- the path of no step is there already
 pub returns-then-eq-2-clause-ok : goal.returns-then-eq-2-clause-ok

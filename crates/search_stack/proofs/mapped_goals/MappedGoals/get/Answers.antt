@@ -3,7 +3,7 @@ use Rattle.std.specs.Map.{lookup}
 use Rattle.std.specs.Option.{option_copied, option_map}
 use Rattle.search_stack.specs.Words.{paths_now}
 use Rattle.search_stack.proofs.RaisedPaths.{told_at}
-use Rattle.search_stack.proofs.noted_goals.NotedGoals.get.Goals as goal
+use Rattle.search_stack.proofs.mapped_goals.MappedGoals.get.Goals as goal
 
 pub returns-in_err-noted : goal.returns-in_err-noted
 returns-in_err-noted g c =

@@ -3,7 +3,7 @@ use Rattle.std.specs.List.{IsDistinct}
 use Rattle.std.specs.Map.{keys_of}
 use Rattle.std.proofs.lemmas.Map.Made.{keys_of-map_values}
 use Rattle.search_stack.specs.Words.{paths_now}
-use Rattle.search_stack.proofs.noted_goals.NotedGoals.iter.Goals as goal
+use Rattle.search_stack.proofs.mapped_goals.MappedGoals.iter.Goals as goal
 
 pub returns-clause-distinct : goal.returns-clause-distinct
 returns-clause-distinct g c =

@@ -3,7 +3,7 @@ use Rattle.std.specs.Option.{option_map}
 use Rattle.search_stack.specs.Below.{extended}
 use Rattle.search_stack.specs.Words.{paths_at, paths_noted}
 use Rattle.search_stack.proofs.RaisedPaths.{paths_at-raised}
-use Rattle.search_stack.proofs.noted_goals.NotedGoals.raise.Goals as goal
+use Rattle.search_stack.proofs.mapped_goals.MappedGoals.raise.Goals as goal
 
 pub returns-clause-raised : goal.returns-clause-raised
 returns-clause-raised g c = λ done input.

@@ -5,7 +5,7 @@ use Rattle.std.specs.Option.{option_map, option_copied_mut}
 use Rattle.search_stack.specs.Below.{union}
 use Rattle.search_stack.specs.Words.{joined_paths, paths_now}
 use Rattle.search_stack.proofs.RaisedPaths.{joins_noted, paths_at-noted}
-use Rattle.search_stack.proofs.noted_goals.join_paths.Goals as goal
+use Rattle.search_stack.proofs.mapped_goals.join_paths.Goals as goal
 
 -- the paths of a known goal
 pub returns-in-Some-clause-ok : goal.returns-in-Some-clause-ok

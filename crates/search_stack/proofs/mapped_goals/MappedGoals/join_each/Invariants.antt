@@ -2,7 +2,7 @@ use Rattle.std.proofs.Common.{◌≡◌}
 use Rattle.std.specs.HashMap.{spare}
 use Rattle.search_stack.specs.Words.{after_step, AreNoted, HasOwn, paths_noted}
 use Rattle.search_stack.proofs.NestedLists.{IsJoining}
-use Rattle.search_stack.proofs.noted_goals.NotedGoals.join_each.Given as goal
+use Rattle.search_stack.proofs.mapped_goals.MappedGoals.join_each.Given as goal
 
 abbrev pub invariant-loop-input : goal.invariant-loop-input
 invariant-loop-input g l =

@@ -8,7 +8,7 @@ use Rattle.search_stack.specs.Words.{after_step, paths_at, paths_noted}
 use Rattle.search_stack.proofs.NestedLists.{IsJoining-start, IsJoining-more, IsJoining-end}
 use Rattle.search_stack.proofs.OwnGoal.{own-joined, own-same}
 use Rattle.search_stack.proofs.RaisedPaths.{AreNoted-same, same_noted}
-use Rattle.search_stack.proofs.noted_goals.NotedGoals.join_each.Goals as goal
+use Rattle.search_stack.proofs.mapped_goals.MappedGoals.join_each.Goals as goal
 
 -- room was made, and nothing has been joined
 pub loop-input-init : goal.loop-input-init

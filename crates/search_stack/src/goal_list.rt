@@ -1,0 +1,191 @@
+//! A list of goals with the paths to each.
+ghost use Rattle.std.specs.Prelude.{◌≡◌, ◌+◌, ◌-◌, ◌^◌, ◌<◌, ◌≤◌, [], length, map, vec_len, vec_capacity, IsSome, IsOk, IfOk, OnOk, OnErr};
+ghost use Rattle.std.specs.List.{IsDistinct, position};
+ghost use Rattle.std.specs.Map.{keys_of};
+ghost use Rattle.std.specs.Option.{option_map};
+ghost use Rattle.search_stack.specs.Below.{extended};
+ghost use Rattle.search_stack.specs.Words.{after_step, paths_at, JoinsEach, JoinsPaths};
+
+use crate::mapped_goals::after_step;
+use crate::noted_goals::NotedGoals;
+use bitflags::Flags;
+use cycle_heads::path::{PathKind, PathsToNested};
+use search_context::context::{Cx, NoMemory};
+use std::alloc::Global;
+use std::marker::Model;
+
+/// Goals with the paths to each, which are looked at one after the other.
+#[derive(Drop)]
+pub(super) struct GoalList<X: Cx> {
+    goals: Vec<(X::Input, PathsToNested)>,
+}
+
+impl<X: Cx> Model for GoalList<X> {
+    ghost use Rattle.std.specs.List.{IsDistinct};
+    ghost use Rattle.std.specs.Map.{keys_of};
+    ghost use Rattle.search_stack.specs.Nested.{NestedPaths};
+
+    ghost Value = { NestedPaths X.Input };
+
+    ghost view = { λ g. g.goals.items };
+
+    ghost invariant = { λ g. IsDistinct X.Input.eq (keys_of g.goals.items) };
+}
+
+impl<X: Cx> GoalList<X> {
+    /// No goals.
+    pub(super) fn new(alloc: Global) -> GoalList<X>
+        ensures { result ≡ [] }
+    {
+        GoalList {
+            goals: Vec::new(alloc),
+        }
+    }
+
+    /// The same goals, with no room for more.
+    pub(super) fn without_room(
+        alloc: Global,
+        goals: &NotedGoals<X>,
+    ) -> Result<GoalList<X>, NoMemory>
+        ensures { IfOk result (λ list. list ≡ goals.now) }
+    {
+        let mut list = Vec::with_capacity(alloc, goals.len())?;
+        for goal in goals.iter() {
+            list.push(goal)?;
+        }
+        Ok(GoalList { goals: list })
+    }
+
+    /// How many goals there are.
+    pub(super) fn len(&self) -> usize
+        ensures { result ≡ length self.now }
+    {
+        self.goals.len()
+    }
+
+    /// The paths to the goal, where it is there.
+    pub(super) fn get(&self, input: X::Input) -> Option<PathsToNested>
+        ensures { result ≡ paths_at X.Input.eq self.now input }
+    {
+        let place = place_of(self.goals.as_slice(), input)?;
+        Some(self.goals[place].1)
+    }
+
+    /// Joins paths to the goal, which becomes one of the goals. Only a new goal takes memory, and a
+    /// refusal changes nothing.
+    pub(super) fn insert(&mut self, input: X::Input, paths: PathsToNested) -> Result<(), NoMemory>
+        ensures ok { OnOk result (JoinsPaths X.Input.eq self.old self.new input paths) }
+        ensures err { OnErr result (self.new ≡ self.old) }
+        ensures known { IsSome (paths_at X.Input.eq self.old input) → IsOk result }
+    {
+        join_listed(&mut self.goals, input, paths)
+    }
+
+    /// Extends the paths to each goal by the step.
+    pub(super) fn raise(&mut self, step: PathKind)
+        ensures { (input : X.Input) → paths_at X.Input.eq self.new input
+            ≡ option_map (λ paths. extended paths step) (paths_at X.Input.eq self.old input) }
+    {
+        raise_each(self.goals.as_mut_slice(), step);
+    }
+
+    /// Joins each goal of others by its paths after the step, if there is one.
+    pub(super) fn join_each(
+        &mut self,
+        step: Option<PathKind>,
+        more: &NotedGoals<X>,
+    ) -> Result<(), NoMemory>
+        ensures ok { OnOk result
+            (JoinsEach X.Input.eq (after_step step) self.old more.now self.new) }
+        ensures err { OnErr result (self.new ≡ self.old) }
+    {
+        self.goals.reserve(more.len())?;
+        for (input, paths) in more.iter() {
+            // There is room for each of them.
+            join_listed(&mut self.goals, input, after_step(step, paths))?;
+        }
+        Ok(())
+    }
+
+    /// The goals with the paths to them, in an order that is left open.
+    pub(super) fn iter(&self) -> Iter<'_, X>
+        ensures goals { result ≡ self.now }
+        ensures distinct { IsDistinct X.Input.eq (keys_of self.now) }
+        ensures fits { length self.now < 2 ^ 63 }
+    {
+        Iter {
+            left: self.goals.as_slice(),
+        }
+    }
+}
+
+/// Extends the paths to each goal by the step.
+fn raise_each<I>(goals: &mut [(I, PathsToNested)], step: PathKind)
+    ensures { goals.new ≡ map (λ goal. (goal.0, extended goal.1 step)) goals.old }
+{
+    for goal in goals.iter_mut() {
+        goal.1 = goal.1.extend_with(step);
+    }
+}
+
+/// Where the goal stands, if it is there.
+fn place_of<I: Eq + Copy>(goals: &[(I, PathsToNested)], input: I) -> Option<usize>
+    ensures { result ≡ position (λ goal. I.eq input goal.0) goals.now }
+{
+    goals.iter().position(|goal| input == goal.0)
+}
+
+/// Joins paths to a goal. Where there is room for one more, it isn't refused.
+#[inline(never)]
+fn join_listed<I: Eq + Copy>(
+    goals: &mut Vec<(I, PathsToNested)>,
+    input: I,
+    paths: PathsToNested,
+) -> Result<(), NoMemory>
+    requires { IsDistinct I.eq (keys_of goals.old.items) }
+    ensures ok { OnOk result (JoinsPaths I.eq goals.old.items goals.new.items input paths) }
+    ensures distinct { IsDistinct I.eq (keys_of goals.new.items) }
+    ensures err { OnErr result (goals.new.items ≡ goals.old.items) }
+    ensures known { IsSome (paths_at I.eq goals.old.items input) → IsOk result }
+    ensures room { vec_len goals.old < vec_capacity goals.old → IsOk result }
+    ensures left { vec_capacity goals.old - vec_len goals.old
+        ≤ (vec_capacity goals.new - vec_len goals.new) + 1 }
+{
+    let Some(place) = place_of(goals.as_slice(), input) else {
+        goals.push((input, paths))?;
+        return Ok(());
+    };
+    let known = &mut goals[place];
+    known.1 = known.1.union(paths);
+    Ok(())
+}
+
+/// The goals of a list, with the paths to each.
+#[derive(Drop)]
+pub(super) struct Iter<'a, X: Cx> {
+    left: &'a [(X::Input, PathsToNested)],
+}
+
+impl<'a, X: Cx> Model for Iter<'a, X> {
+    ghost use Rattle.search_stack.specs.Nested.{NestedPaths};
+
+    ghost Value = { NestedPaths X.Input };
+
+    ghost view = { λ s. s.left.now };
+}
+
+impl<'a, X: Cx> Iterator for Iter<'a, X> {
+    ghost use Rattle.std.specs.Iterator.{YieldsFirst, item_count};
+
+    type Item = (X::Input, PathsToNested);
+
+    ghost next_gives = { YieldsFirst (λ goals. goals) };
+
+    ghost remaining = { item_count (λ goals. goals) };
+
+    fn next(&mut self) -> Option<(X::Input, PathsToNested)> {
+        let (first, left) = self.left.split_first()?;
+        self.left = left;
+        Some(*first)
+    }
+}

@@ -1,0 +1,201 @@
+//! A map of goals whose paths are extended together.
+ghost use Rattle.std.specs.Prelude.{◌≡◌, ◌+◌, ◌^◌, ◌<◌, ◌≤◌, [], length, false, IsTrue, IsSome, IsOk, OnOk, OnErr};
+ghost use Rattle.std.specs.Option.{option_map};
+ghost use Rattle.std.specs.HashMap.{spare};
+ghost use Rattle.std.specs.List.{IsDistinct};
+ghost use Rattle.std.specs.Map.{keys_of};
+ghost use Rattle.search_stack.specs.Below.{extended};
+ghost use Rattle.search_stack.specs.Words.{after_step, paths_at, paths_noted, AreNoted, JoinsEach, JoinsPaths};
+
+use crate::noted_goals::NotedGoals;
+use crate::raises::{NotedPaths, Raises};
+use bitflags::Flags;
+use cycle_heads::path::{PathKind, PathsToNested};
+use search_context::context::{Cx, NoMemory};
+use std::alloc::Global;
+use std::collections::{HashMap, hash_map};
+use std::hash::Hash;
+use std::marker::Model;
+
+/// Goals with the paths to each. All paths are extended by a step in one go, which is noted beside the map.
+#[derive(Drop)]
+pub(super) struct MappedGoals<X: Cx> {
+    noted: HashMap<X::Input, NotedPaths>,
+    raises: Raises,
+    /// The goal to which the path of no step was joined last, as long as that was not extended. It is most often
+    /// joined to the same goal again, which then needs no look-up.
+    own: Option<X::Input>,
+}
+
+impl<X: Cx> Model for MappedGoals<X> {
+    ghost use Rattle.search_stack.specs.Nested.{HasOwn, NestedPaths};
+    ghost use Rattle.search_stack.specs.Raises.{paths_noted, AreNoted};
+
+    ghost Value = { NestedPaths X.Input };
+
+    ghost view = { λ g. paths_noted g.raises g.noted.entries };
+
+    ghost invariant = { λ g. AreNoted X.Input.eq g.raises g.noted.entries
+        × HasOwn X.Input.eq (paths_noted g.raises g.noted.entries) g.own };
+}
+
+impl<X: Cx> MappedGoals<X> {
+    /// No goals.
+    pub(super) fn new(alloc: Global) -> MappedGoals<X>
+        ensures { result ≡ [] }
+    {
+        MappedGoals {
+            noted: HashMap::new(alloc),
+            raises: Raises::new(),
+            own: None,
+        }
+    }
+
+    /// How many goals there are.
+    pub(super) fn len(&self) -> usize
+        ensures { result ≡ length self.now }
+    {
+        self.noted.len()
+    }
+
+    /// The paths to the goal, where it is there.
+    pub(super) fn get(&self, input: X::Input) -> Option<PathsToNested>
+        ensures { result ≡ paths_at X.Input.eq self.now input }
+    {
+        let noted = self.noted.get(&input)?;
+        Some(self.raises.paths_now(*noted))
+    }
+
+    /// Joins paths to the goal, which becomes one of the goals. Only a new goal takes memory, and a
+    /// refusal changes nothing.
+    pub(super) fn insert(&mut self, input: X::Input, paths: PathsToNested) -> Result<(), NoMemory>
+        ensures ok { OnOk result (JoinsPaths X.Input.eq self.old self.new input paths) }
+        ensures err { OnErr result (self.new ≡ self.old) }
+        ensures known { IsSome (paths_at X.Input.eq self.old input) → IsOk result }
+    {
+        if paths == PathsToNested::EMPTY && self.own == Some(input) {
+            return Ok(());
+        }
+        join_paths(&mut self.noted, &self.raises, input, paths)?;
+        if paths == PathsToNested::EMPTY {
+            self.own = Some(input);
+        }
+        Ok(())
+    }
+
+    /// Extends the paths to each goal by the step, in one go. It may say that it can't, and changes nothing then.
+    pub(super) fn raise(&mut self, step: PathKind) -> bool
+        ensures raised { IsTrue result → (input : X.Input) → paths_at X.Input.eq self.new input
+            ≡ option_map (λ paths. extended paths step) (paths_at X.Input.eq self.old input) }
+        ensures not { result ≡ false → self.new ≡ self.old }
+    {
+        let Some(raises) = self.raises.with_step(step) else {
+            return false;
+        };
+        self.raises = raises;
+        self.own = None;
+        true
+    }
+
+    /// Joins each goal of another map by its paths after the step, if there is one.
+    pub(super) fn join_each(
+        &mut self,
+        step: Option<PathKind>,
+        more: &NotedGoals<X>,
+    ) -> Result<(), NoMemory>
+        ensures ok { OnOk result
+            (JoinsEach X.Input.eq (after_step step) self.old more.now self.new) }
+        ensures err { OnErr result (self.new ≡ self.old) }
+        ensures none { more.now ≡ [] → IsOk result }
+    {
+        self.noted.reserve(more.len())?;
+        for (input, paths) in more.iter() {
+            // There is room for each of them.
+            join_paths(
+                &mut self.noted,
+                &self.raises,
+                input,
+                after_step(step, paths),
+            )?;
+        }
+        Ok(())
+    }
+
+    /// The goals with the paths to them, in an order that is left open.
+    pub(super) fn iter(&self) -> Iter<'_, X>
+        ensures goals { result ≡ self.now }
+        ensures distinct { IsDistinct X.Input.eq (keys_of self.now) }
+        ensures fits { length self.now < 2 ^ 63 }
+    {
+        Iter {
+            noted: self.noted.iter(),
+            raises: self.raises,
+        }
+    }
+}
+
+/// The paths after a step, if there is one.
+pub(super) fn after_step(step: Option<PathKind>, paths: PathsToNested) -> PathsToNested
+    ensures { result ≡ after_step step paths }
+{
+    match step {
+        Some(step) => paths.extend_with(step),
+        None => paths,
+    }
+}
+
+/// Joins paths to a goal. Where there is room for one more, it isn't refused.
+fn join_paths<I: Eq + Hash + Copy>(
+    goals: &mut HashMap<I, NotedPaths>,
+    raises: &Raises,
+    input: I,
+    paths: PathsToNested,
+) -> Result<(), NoMemory>
+    requires { AreNoted I.eq raises.now goals.old.entries }
+    ensures ok { OnOk result (JoinsPaths I.eq (paths_noted raises.now goals.old.entries)
+        (paths_noted raises.now goals.new.entries) input paths) }
+    ensures noted { AreNoted I.eq raises.now goals.new.entries }
+    ensures err { OnErr result (goals.new.entries ≡ goals.old.entries) }
+    ensures known { IsSome (paths_at I.eq (paths_noted raises.now goals.old.entries) input) →
+        IsOk result }
+    ensures room { 0 < spare goals.old → IsOk result }
+    ensures left { spare goals.old ≤ spare goals.new + 1 }
+{
+    if let Some(known) = goals.get_mut(&input) {
+        *known = raises.note(raises.paths_now(*known).union(paths));
+        return Ok(());
+    }
+    goals.insert(input, raises.note(paths))?;
+    Ok(())
+}
+
+/// The goals of a map, with the paths to each.
+#[derive(Drop)]
+pub(super) struct Iter<'a, X: Cx> {
+    noted: hash_map::Iter<'a, X::Input, NotedPaths>,
+    raises: Raises,
+}
+
+impl<'a, X: Cx> Model for Iter<'a, X> {
+    ghost use Rattle.search_stack.specs.Nested.{NestedPaths};
+    ghost use Rattle.search_stack.specs.Raises.{paths_noted};
+
+    ghost Value = { NestedPaths X.Input };
+
+    ghost view = { λ s. paths_noted s.raises s.noted };
+}
+
+impl<'a, X: Cx> Iterator for Iter<'a, X> {
+    ghost use Rattle.std.specs.Iterator.{YieldsFirst, item_count};
+
+    type Item = (X::Input, PathsToNested);
+
+    ghost next_gives = { YieldsFirst (λ goals. goals) };
+
+    ghost remaining = { item_count (λ goals. goals) };
+
+    fn next(&mut self) -> Option<(X::Input, PathsToNested)> {
+        let (input, noted) = self.noted.next()?;
+        Some((*input, self.raises.paths_now(*noted)))
+    }
+}
