@@ -200,26 +200,25 @@ pub fn consult<'a, D: Delegate>(
     }
     // The scope is entered first: what is looked up belongs to it.
     let scope = D::enter_validation_scope(cache.cx(), input);
-    let stored = look_up::<D>(cache, provisional, stack, step, input, depth);
-    if stored.is_none() {
-        // Most questions end here. There is nothing to compare with, so the scope is dropped at once.
+    let Some(stored) = look_up::<D>(cache, provisional, stack, step, input, depth) else {
+        // Most questions end here: nothing is handed on, and so nothing copied. There is nothing to compare with,
+        // either, so the scope is dropped at once.
         return Consulted {
             stored: None,
             fate: Fate::Stored,
             scope: None,
         };
-    }
+    };
     if scope.is_none() {
         return Consulted {
-            stored,
+            stored: Some(stored),
             fate: Fate::Stored,
             scope: None,
         };
     }
-    let fate = stored.map_or(Fate::Stored, |expected| Fate::Compared(expected.result));
     Consulted {
         stored: None,
-        fate,
+        fate: Fate::Compared(stored.result),
         scope,
     }
 }
