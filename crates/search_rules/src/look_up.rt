@@ -17,7 +17,7 @@ use search_parts::path::{PathKind, PathsToNested};
 use std::marker::Model;
 
 /// How many goals a short stack has at most. About so many comparisons take as long as one look-up.
-const SHORT_STACK: usize = 32;
+const SHORT_STACK: usize = 16;
 
 /// The test of the goals below a stored result that a stack of goals makes, with the provisional entries, where
 /// the last goal asks over a step. Ports `SearchGraph::candidate_is_applicable`.
@@ -55,14 +55,15 @@ impl<'a, D: Delegate> NestedTest<D::Cx> for OverStack<'a, D> {
 }
 
 impl<'a, D: Delegate> OverStack<'a, D> {
-    /// Whether one of the goals is on the stack. The goals of a stored result stand in a list, in which one is looked for
-    /// as long as they are many. So only the goals of a short stack are looked for there; on a longer one each nested goal
-    /// is looked up.
+    /// Whether one of the goals is on the stack. The shorter of the two is walked. But the goals of a stored result stand
+    /// in a list, in which one is looked for as long as they are many: so only the goals of a short stack are looked for
+    /// there, and on a longer one each nested goal is looked up.
     fn is_above(&self, nested_goals: &NestedGoals<D::Cx>) -> bool
         ensures { result ≡ list_any (λ e. is_some (paths_at D.Cx.Input.eq nested_goals.now e.input))
             self.now.stack }
     {
-        if self.stack.len() > SHORT_STACK {
+        let most = nested_goals.len().min(SHORT_STACK);
+        if self.stack.len() > most {
             return nested_goals
                 .iter()
                 .any(|(goal, _)| self.stack.find(goal).is_some());

@@ -9,8 +9,8 @@ use Rattle.search_rules.proofs.moves.LookUps.{any-shared}
 use Rattle.search_rules.proofs.look_up.OverStack.is_above.Goals as goal
 
 -- the goals are walked
-pub returns-then-len-gt-SHORT_STACK : goal.returns-then-len-gt-SHORT_STACK
-returns-then-len-gt-SHORT_STACK g c =
+pub returns-then-len-most : goal.returns-then-len-most
+returns-then-len-most g c =
     let same = g.D.Cx.Input.PartialEq.eq in
     any_from_yields_List (λ goal. is_some (position_of same goal.0 c.self.inside.stack.now)) _ _ c.any.result c.any.ensures.ran
     (YieldsList-from_rest c.args.nested_goals.now c.iter.ensures.goals) (λ goal b next called. search rules)
