@@ -6,7 +6,8 @@
 //! | `Stack`, `StackIndex`, `Lent` | the goals under evaluation, how they are found and lent |
 //! | `Cycle` | kinds of the cycles through a goal under evaluation |
 //! | `Steps` | where the last step of each kind is, which tells these kinds |
-//! | `Nested` | the map of nested goals |
+//! | `Nested` | the nested goals of a goal |
+//! | `Kept` | whether they stand in a list or in a map |
 //! | `Raises` | paths to nested goals that are extended all together |
 #![tactic(auto)]
 
