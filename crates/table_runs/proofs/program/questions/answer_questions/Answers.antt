@@ -2,7 +2,6 @@ use Rattle.std.proofs.Common.{◌∙◌, ◌&&◌, [], ap, arith, refl, sym}
 use Rattle.std.proofs.KnownBytes.{Appends-kept}
 use Rattle.std.specs.Option.{unwrap_or}
 use Rattle.rule_tables.specs.contracts.rules.GoalPartialEq.TheImpl.{eq-value}
-use Rattle.search_rules.proofs.moves.Questions.{if_err_and}
 use Rattle.line_texts.proofs.Questions.{all_told, first_told, line_waits, none_begun, none_waits, told_on}
 use Rattle.line_texts.proofs.Written.{copied_or, on_err, whole_begins}
 use Rattle.table_runs.specs.Answers.{AreInTurn, LeaveCache}
@@ -23,10 +22,6 @@ returns-in_err-tell-clause-beginning g c = λ starts.
     on_err _ (first_told (line_of c.args.rules.now) is_fine _ _ _ _ _ _ (AreInTurn g.D.Delegate g.X.Cx eq-value.it c.args.checks c.args.cx) (λ all h. (_, h)) _ _ _ c.questions-questions.ensures
     (line_waits (line_of c.args.rules.now) is_fine _ (LeaveCache g.D.Delegate g.X.Cx eq-value.it c.args.checks c.args.cx _) _ (InTurn-more g.D.Delegate g.X.Cx eq-value.it c.args.checks _ _ _ _ (c.ask-came.ensures.answered starts)) _ _ _ c.loop-question-test.true refl _ _ fine _ _ _ _ (c.loop-question.invariant starts) line)
     c.in_err-tell.ensures.beginning)
-
--- the fault of a line that could not be written is that of the program
-pub returns-in_err-tell-clause-fault : goal.returns-in_err-tell-clause-fault
-returns-in_err-tell-clause-fault g c = if_err_and c.from_residual-in_err-tell.result _ _ c.from_residual-in_err-tell.ensures.1 (λ e is. rw is c.in_err-tell.ensures.fault)
 
 pub loop-question-preserved : goal.loop-question-preserved
 loop-question-preserved g c = λ starts.
