@@ -28,29 +28,13 @@ impl Drafts {
     pub fn new<D: Delegate>(alloc: Global, cache: &GlobalCache<D>) -> Drafts
         ensures { HasNoDrafts cache.now.nodes result }
     {
-        let mut drafts = Drafts::none(alloc);
-        drafts.begin(cache);
-        drafts
-    }
-
-    /// None, where no call has begun.
-    pub fn none(alloc: Global) -> Drafts {
+        let held_before = cache.held_nodes();
         Drafts {
-            first: 0,
+            first: cache.next_node(),
             stored: Vec::new(alloc),
-            held_before: 0,
-            limit: 0,
+            held_before,
+            limit: held_before.saturating_add(FEW),
         }
-    }
-
-    /// Forgets those of the last call: one over this cache begins now. The memory of the list stays.
-    pub(crate) fn begin<D: Delegate>(&mut self, cache: &GlobalCache<D>)
-        ensures { HasNoDrafts cache.now.nodes self.new }
-    {
-        self.first = cache.next_node();
-        self.stored.clear();
-        self.held_before = cache.held_nodes();
-        self.limit = self.held_before.saturating_add(FEW);
     }
 
     /// Notes the node of a result that is about to be stored. A refusal leaves the drafts as they were.

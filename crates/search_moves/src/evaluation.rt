@@ -1,17 +1,12 @@
 //! One evaluation: a goal is worked out, with the goals that it asks.
 ghost use Rattle.std.specs.Prelude.{◌≡◌, ◌<◌, ◌^◌, []};
-ghost use Rattle.search_moves.specs.Drafts.{HasNoDrafts};
 
 use crate::drafts::Drafts;
 use open_goals::goals::OpenGoals;
 use open_goals::spare::SpareMemory;
 use search_parts::context::{Cx, Delegate};
-use search_parts::global_cache::GlobalCache;
 use search_parts::parts::{AvailableDepth, ProvisionalCache};
 use std::alloc::Global;
-
-/// Memory for more goals than these is let go at the end of a call, since few calls would fill it again.
-const MOST: usize = 64;
 
 /// The goals that are under evaluation in one call, each on the stack with its run, and what else the call has
 /// until it ends. Its methods are the moves of the search: a goal asks (`question`), its run ends
@@ -52,44 +47,6 @@ impl<D: Delegate> Evaluation<D> {
             limits_met,
             drafts,
             spare: SpareMemory::new(alloc),
-        }
-    }
-
-    /// Begins anew over this cache, for goals that get this depth, with the memory that the last call left. It takes no
-    /// more yet.
-    pub fn begin(&mut self, root_depth: AvailableDepth, limits_met: bool, cache: &GlobalCache<D>)
-        ensures begins { self.new ≡ record {
-          goals = [];
-          provisional = [];
-          root_depth = root_depth;
-          limits_met = limits_met;
-          drafts = self.new.drafts;
-          spare = tt;
-        } }
-        ensures drafts { HasNoDrafts cache.now.nodes self.new.drafts }
-        ensures fits { root_depth.0 < 2 ^ 64 }
-    {
-        self.empty();
-        self.root_depth = root_depth;
-        self.limits_met = limits_met;
-        self.drafts.begin(cache);
-    }
-
-    /// Lets go of the goals and the entries that are left after a fault, and of much memory. What is left of that serves the
-    /// next call: most calls need as much as those before them.
-    pub fn empty(&mut self)
-        ensures { self.new
-            ≡ record self.old { goals = []; provisional = []; drafts = self.new.drafts } }
-    {
-        let alloc = self.goals.allocator();
-        if self.goals.len() > 0 || self.goals.room() > MOST {
-            self.goals = OpenGoals::new(alloc);
-        }
-        if !self.provisional.is_empty() || self.provisional.room() > MOST {
-            self.provisional = ProvisionalCache::new(alloc);
-        }
-        if self.drafts.stored.capacity() > MOST {
-            self.drafts.stored = Vec::new(alloc);
         }
     }
 }
