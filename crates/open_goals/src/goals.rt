@@ -375,11 +375,6 @@ impl<X: Cx, F: Drop, S: Drop> OpenGoals<X, F, S> {
         *self.runs.allocator()
     }
 
-    /// For how many goals there is memory.
-    pub fn room(&self) -> usize {
-        self.runs.capacity()
-    }
-
     /// Drops every goal with its run.
     pub fn clear(&mut self)
         ensures { self.new ≡ [] }

@@ -104,11 +104,6 @@ impl<D: Delegate> ProvisionalCache<D> {
         self.lists.is_empty()
     }
 
-    /// For the entries of how many goals there is memory.
-    pub fn room(&self) -> usize {
-        self.lists.capacity().max(self.earlier.capacity())
-    }
-
     /// The entries of the goal, the oldest first; none where it has none.
     pub fn entries_of(&self, input: <D::Cx as Cx>::Input) -> &[ProvisionalCacheEntry<D::Cx>]
         ensures entries { result.now ≡ entries_at D.Cx.Input.eq self.now input }
