@@ -1,5 +1,5 @@
 -- The provisional cache: each goal has a list of its entries, which rest on goals on the stack, the oldest first.
-use Rattle.std.specs.Prelude.{◌≡◌, ◌≢◌, Bool, true, false, cond, List, [], ◌∷◌, ◌++◌, map, All, None, Some}
+use Rattle.std.specs.Prelude.{◌≡◌, ◌≢◌, Bool, false, cond, List, [], ◌∷◌, ◌++◌, map, All, Some}
 use Rattle.std.specs.Global.{Vec}
 use Rattle.std.specs.Option.{unwrap_or, IfSome}
 use Rattle.std.specs.Map.{lookup}
@@ -21,12 +21,6 @@ entries_at same lists input = unwrap_or (lookup (same input) lists) []
 abbrev pub PutsLast : {I E : Type 0} → (I → I → Bool) → Lists I E → Lists I E → I → E → Type 0
 PutsLast same old new input entry = (other : _) → lookup (same other) new
     ≡ cond (same input other) (Some (entries_at same old input ++ entry ∷ [])) (lookup (same other) old)
-
--- the goal had this list and has none any more, and each other goal's list, if it has one, is the old one
-pub record TakesList {I E : Type 0} (same : I → I → Bool) (old : Lists I E) (goal : I) (list : List E) (new : Lists I E) : Type 0 where
-  pub here : lookup (same goal) old ≡ Some list
-  pub gone : (q : I) → same q goal ≡ true → lookup (same q) new ≡ None
-  pub others : (q : I) → same q goal ≡ false → lookup (same q) new ≡ lookup (same q) old
 
 -- the goal has one entry more, at the end, and each other goal those that it had
 pub record AppendsEntry {I E : Type 0} (same : I → I → Bool) (old new : Lists I E) (input : I) (entry : E) : Type 0 where

@@ -1,7 +1,7 @@
 -- The words of this crate, from one place.
 pub use Rattle.provisional_cache.specs.EntryChange.{changed_by}
 pub use Rattle.provisional_cache.specs.Nodes.{nodes_in, nodes_of}
-pub use Rattle.provisional_cache.specs.Provisional.{AppendsEntry, entries_at, Lists, lists_of, PutsLast, TakesList}
+pub use Rattle.provisional_cache.specs.Provisional.{AppendsEntry, entries_at, Lists, lists_of, PutsLast}
 pub use Rattle.provisional_cache.specs.Rebasing.{but_highest, CanBeRebased, changed_for, from_head, from_new_head}
 pub use Rattle.provisional_cache.specs.Rebasing.{keeps_kind, keeps_kinds, rebased, rebased_at, rebased_unused}
 pub use Rattle.provisional_cache.specs.Rebasing.{rebased_used, with_unused, with_used}

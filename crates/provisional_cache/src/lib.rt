@@ -67,9 +67,6 @@ pub enum RebaseReason<X: Cx> {
 pub struct ProvisionalCache<D: Delegate> {
     alloc: Global,
     lists: HashMap<<D::Cx as Cx>::Input, Vec<ProvisionalCacheEntry<D::Cx>>>,
-    /// The map in which the lists stood before they were rebased the last time. The next time they go there again, so that
-    /// no memory is taken. Clauses see nothing of it.
-    earlier: HashMap<<D::Cx as Cx>::Input, Vec<ProvisionalCacheEntry<D::Cx>>>,
 }
 
 impl<D: Delegate> Model for ProvisionalCache<D> {
@@ -91,7 +88,6 @@ impl<D: Delegate> ProvisionalCache<D> {
         ProvisionalCache {
             alloc,
             lists: HashMap::new(alloc),
-            earlier: HashMap::new(alloc),
         }
     }
 
@@ -164,17 +160,9 @@ impl<D: Delegate> ProvisionalCache<D> {
         if !concerned::concerns_lists(&self.lists, stack.next_index()) {
             return Ok(());
         }
-        let (lists, left) = (&mut self.lists, &mut self.earlier);
-        match rebasing::rebase_lists::<D>(self.alloc, cx, lists, left, done, stack, &reason) {
-            Ok(()) => {
-                mem::swap(&mut self.lists, &mut self.earlier);
-                Ok(())
-            }
-            Err(refused) => {
-                self.lists.clear();
-                Err(refused)
-            }
-        }
+        let lists = mem::replace(&mut self.lists, HashMap::new(self.alloc));
+        self.lists = rebasing::rebase_lists::<D>(self.alloc, cx, lists, done, stack, &reason)?;
+        Ok(())
     }
 
     /// Appends an entry, which rests on a head, to the list of the goal. A refusal leaves the cache as

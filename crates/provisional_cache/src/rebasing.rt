@@ -1,11 +1,10 @@
 //! What becomes of entries when a goal that they rest on is done.
-ghost use Rattle.std.specs.Prelude.{◌≡◌, ◌≢◌, ◌≤◌, ◌<◌, [], cond, length, All, IfOk, IfSome, OnOk, None, Some};
-ghost use Rattle.std.specs.HashMap.{hash_map_len};
+ghost use Rattle.std.specs.Prelude.{◌≡◌, ◌≢◌, ◌≤◌, ◌<◌, [], cond, length, All, IfOk, IfSome, OnOk, Some};
 ghost use Rattle.std.specs.List.{filter_map};
 ghost use Rattle.std.specs.Map.{lookup};
 ghost use Rattle.std.specs.Option.{option_map};
 ghost use Rattle.provisional_cache.specs.Below.{highest};
-ghost use Rattle.provisional_cache.specs.Words.{entries_at, lists_of, from_new_head, rebased, rebased_unused, rebased_used, changed_for, with_unused, with_used, CanBeRebased, changed_by, TakesList};
+ghost use Rattle.provisional_cache.specs.Words.{entries_at, lists_of, from_new_head, rebased, rebased_unused, rebased_used, changed_for, with_unused, with_used, CanBeRebased, changed_by};
 
 use crate::concerned::concerns_list;
 use crate::kinds::keeps_kinds;
@@ -80,54 +79,38 @@ pub(super) fn change_for<D: Delegate>(
     }
 }
 
-// Moves the lists into the other map, goal by goal, as they are after the pop. A list without a concerned entry is moved as it
-// is. What was in that map is let go. A refusal may leave a part of the lists in each map.
+// The lists after the pop, goal by goal, in a new map. A list without a concerned entry is moved into it.
 pub(super) fn rebase_lists<D: Delegate>(
     alloc: Global,
     cx: D::Cx,
-    lists: &mut HashMap<<D::Cx as Cx>::Input, Vec<ProvisionalCacheEntry<D::Cx>>>,
-    left: &mut HashMap<<D::Cx as Cx>::Input, Vec<ProvisionalCacheEntry<D::Cx>>>,
+    lists: HashMap<<D::Cx as Cx>::Input, Vec<ProvisionalCacheEntry<D::Cx>>>,
     done: &StackEntry<D::Cx>,
     stack: &Stack<D::Cx>,
     reason: &RebaseReason<D::Cx>,
-) -> Result<(), NoMemory>
+) -> Result<HashMap<<D::Cx as Cx>::Input, Vec<ProvisionalCacheEntry<D::Cx>>>, NoMemory>
     requires can { (input : D.Cx.Input)
         → All (CanBeRebased (length stack.now))
-        (entries_at D.Cx.Input.eq (lists_of lists.old.entries) input) }
+        (entries_at D.Cx.Input.eq (lists_of lists.entries) input) }
     requires on_stack { All (λ head. head.0.0 < length stack.now) done.now.state.heads }
-    ensures rebased { OnOk result ((input : D.Cx.Input)
-        → entries_at D.Cx.Input.eq (lists_of left.new.entries) input
+    ensures rebased { IfOk result (λ left. (input : D.Cx.Input)
+        → entries_at D.Cx.Input.eq (lists_of left.entries) input
         ≡ filter_map
         (rebased stack.now done.now
         (changed_for (D.propagated cx input) (D.fixpoint_overflow cx input) reason.now))
-        (entries_at D.Cx.Input.eq (lists_of lists.old.entries) input)) }
-    ensures left { OnOk result ((input : D.Cx.Input)
-        → IfSome (lookup (D.Cx.Input.eq input) (lists_of left.new.entries)) (λ entries. entries ≢ [])) }
+        (entries_at D.Cx.Input.eq (lists_of lists.entries) input)) }
+    ensures left { IfOk result (λ left. (input : D.Cx.Input)
+        → IfSome (lookup (D.Cx.Input.eq input) (lists_of left.entries)) (λ entries. entries ≢ [])) }
 {
-    left.clear();
+    let mut left = HashMap::new(alloc);
     left.reserve(lists.len())?;
-    while let Some(taken) = take_list(lists) {
-        let (input, entries) = taken;
+    for (input, entries) in lists {
         let entry_change = change_for::<D>(cx, input, reason);
         let entries = rebase_list(alloc, entries, done, stack, &entry_change)?;
         if !entries.is_empty() {
-            insert_list(left, input, entries)?;
+            insert_list(&mut left, input, entries)?;
         }
     }
-    Ok(())
-}
-
-// Takes out the list of some goal, with the goal. There is none where there are no lists.
-fn take_list<I: Eq + Hash + Copy, E: Drop>(lists: &mut HashMap<I, Vec<E>>) -> Option<(I, Vec<E>)>
-    ensures taken { IfSome result (λ taken. TakesList I.eq (lists_of lists.old.entries)
-        taken.0 taken.1.items (lists_of lists.new.entries)) }
-    ensures fewer { IfSome result (λ taken. hash_map_len lists.new < hash_map_len lists.old) }
-    ensures none { result ≡ None → lists_of lists.old.entries ≡ [] }
-{
-    let (input, _) = lists.iter().next()?;
-    let input = *input;
-    let entries = lists.remove(&input)?;
-    Some((input, entries))
+    Ok(left)
 }
 
 // Makes the list that of the input.

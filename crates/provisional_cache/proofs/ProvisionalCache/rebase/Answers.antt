@@ -9,16 +9,17 @@ rebase_lists-requires-clause-can g c =
     let same = g.D.Cx.Input.PartialEq.eq in
     let old = lists_of c.self.inside.lists.entries in
     let within = rw (← c.self.view_is) at c.requires.within in
-    can_be_rebased c.args.stack.now c.args.done.now same old old c.self.invariant within
+    rw c.replace-lists.ensures.value (can_be_rebased c.args.stack.now c.args.done.now same old old c.self.invariant within)
 
-pub invariant_of-self : goal.invariant_of-self
-invariant_of-self g c =
+pub invariant_of-self-2 : goal.invariant_of-self-2
+invariant_of-self-2 g c =
     let same = g.D.Cx.Input.PartialEq.eq in
     let old = lists_of c.self.inside.lists.entries in
-    rw c.swap.ensures.x_after
-    (lists_rebased c.args.stack.now c.args.done.now same old (lists_of c.rebase_lists.new.left.entries) c.self.invariant
+    let new = lists_of c.in_ok-self-inside.field-0.entries in
+    let leaves = rw c.replace-lists.ensures.value at c.in_ok-self-inside.ensures.rebased in
+    lists_rebased c.args.stack.now c.args.done.now same old new c.self.invariant
     (λ input. changed_for (g.D.Delegate.propagated c.args.cx input) (g.D.Delegate.fixpoint_overflow c.args.cx input) c.args.reason)
-    c.in-Ok.ensures.rebased c.in-Ok.ensures.left)
+    leaves c.in_ok-self-inside.ensures.left
 
 -- where no entry is concerned, all stay
 pub returns-then-not-concerns_lists-clause-ok : goal.returns-then-not-concerns_lists-clause-ok
