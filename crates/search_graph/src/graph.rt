@@ -20,15 +20,25 @@ use search_parts::parts::{AvailableDepth, CandidateHeadUsages};
 use search_parts::path::PathKind;
 pub use search_parts::{context, global_cache, parts, path};
 use std::alloc::Global;
-use std::marker::{Model, PhantomData};
+use std::marker::Model;
 
-/// Evaluates goals. Between its calls no goal is under evaluation. Ports `SearchGraph`.
-#[derive(Drop)]
+/// Evaluates goals. Between its calls no goal is under evaluation. A graph that is asked again takes over the memory of
+/// its last call, and keeps no more of that than a few goals need. Ports `SearchGraph`.
 pub struct SearchGraph<D: Delegate> {
     root_depth: AvailableDepth,
     limits_met: bool,
-    alloc: Global,
-    delegate: PhantomData<D>,
+    evaluation: Evaluation<D>,
+}
+
+/// Written out, so that a proof about a caller sees one step where the graph is dropped, and none of its parts.
+impl<D: Delegate> Drop for SearchGraph<D> {
+    fn drop(self) {
+        let SearchGraph {
+            root_depth: _,
+            limits_met: _,
+            evaluation: _,
+        } = self;
+    }
 }
 
 impl<D: Delegate> Model for SearchGraph<D> {
@@ -45,12 +55,22 @@ impl<D: Delegate> SearchGraph<D> {
     pub fn new(alloc: Global, root_depth: usize) -> SearchGraph<D>
         ensures { result ≡ record { root_depth = root_depth; limits_met = false } }
     {
+        let root_depth = AvailableDepth(root_depth);
         SearchGraph {
-            root_depth: AvailableDepth(root_depth),
+            root_depth,
             limits_met: false,
-            alloc,
-            delegate: PhantomData,
+            evaluation: Evaluation::new(alloc, root_depth, false, Drafts::none(alloc)),
         }
+    }
+
+    /// Makes the graph as good as a new one of this depth: it gives the goals that it is asked this depth, and no limit is
+    /// met. What questions of other depths need is a graph for each, or one that is renewed for each and takes memory
+    /// less often.
+    pub fn renew(&mut self, root_depth: usize)
+        ensures { self.new ≡ record { root_depth = root_depth; limits_met = false } }
+    {
+        self.root_depth = AvailableDepth(root_depth);
+        self.limits_met = false;
     }
 
     /// Whether no goal is under evaluation, which is so between calls. Ports `SearchGraph::is_empty`.
@@ -251,17 +271,11 @@ impl<D: Delegate> SearchGraph<D> {
         ensures leaves { IfOk result (λ answer.
             LeavesReached D.Cx.Input.eq (length cache.old.nodes) answer.node cache.new) }
     {
-        let drafts = Drafts::new(self.alloc, cache);
-        let limits_met = self.limits_met;
-        let mut evaluation = Evaluation::<D>::new(self.alloc, self.root_depth, limits_met, drafts);
-        let outcome = evaluate::<D>(
-            &mut evaluation,
-            cache,
-            step_kind_from_parent,
-            input,
-            inspect,
-        );
+        let evaluation = &mut self.evaluation;
+        evaluation.begin(self.root_depth, self.limits_met, cache);
+        let outcome = evaluate::<D>(evaluation, cache, step_kind_from_parent, input, inspect);
         self.limits_met = evaluation.limits_met;
+        evaluation.end(cache);
         let answer = outcome?;
         cache.has_runs();
         Ok(answer)

@@ -67,7 +67,9 @@ impl<D: Delegate> Evaluation<D> {
     fn last_roots(&self, target: Option<NodeId>) -> Result<Vec<NodeId>, NoMemory>
         ensures { IfOk result (λ roots. roots.items ≡ noted target self.now.drafts.stored.items) }
     {
-        let mut roots = Vec::from_slice(self.goals.allocator(), &self.drafts.stored)?;
+        let stored = self.drafts.stored.as_slice();
+        let mut roots = Vec::with_capacity(self.goals.allocator(), stored.len().saturating_add(1))?;
+        roots.extend_from_slice(stored)?;
         if let Some(node) = target {
             roots.push(node)?;
         }

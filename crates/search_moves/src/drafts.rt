@@ -28,13 +28,34 @@ impl Drafts {
     pub fn new<D: Delegate>(alloc: Global, cache: &GlobalCache<D>) -> Drafts
         ensures { HasNoDrafts cache.now.nodes result }
     {
-        let held_before = cache.held_nodes();
+        let mut drafts = Drafts::none(alloc);
+        drafts.begin(cache);
+        drafts
+    }
+
+    /// None, where no call has begun.
+    pub fn none(alloc: Global) -> Drafts {
         Drafts {
-            first: cache.next_node(),
+            first: 0,
             stored: Vec::new(alloc),
-            held_before,
-            limit: held_before.saturating_add(FEW),
+            held_before: 0,
+            limit: 0,
         }
+    }
+
+    /// Forgets those of the last call: one over this cache begins now. The memory of the list stays.
+    pub(crate) fn begin<D: Delegate>(&mut self, cache: &GlobalCache<D>)
+        ensures { HasNoDrafts cache.now.nodes self.new }
+    {
+        self.first = cache.next_node();
+        self.stored.clear();
+        self.held_before = cache.held_nodes();
+        self.limit = self.held_before.saturating_add(FEW);
+    }
+
+    /// How many nodes the call has written, one for each run.
+    pub(crate) fn written<D: Delegate>(&self, cache: &GlobalCache<D>) -> usize {
+        cache.next_node().saturating_sub(self.first)
     }
 
     /// Notes the node of a result that is about to be stored. A refusal leaves the drafts as they were.

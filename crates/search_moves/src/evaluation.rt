@@ -1,12 +1,18 @@
 //! One evaluation: a goal is worked out, with the goals that it asks.
 ghost use Rattle.std.specs.Prelude.{◌≡◌, ◌<◌, ◌^◌, []};
+ghost use Rattle.search_moves.specs.Drafts.{HasNoDrafts};
 
 use crate::drafts::Drafts;
 use open_goals::goals::OpenGoals;
 use open_goals::spare::SpareMemory;
 use search_parts::context::{Cx, Delegate};
+use search_parts::global_cache::GlobalCache;
 use search_parts::parts::{AvailableDepth, ProvisionalCache};
 use std::alloc::Global;
+
+/// Of a call with more runs than these no memory is kept. Each goal on the stack, each provisional entry and each stored
+/// result has a run, so what is kept is no more than these need.
+const MOST_RUNS: usize = 256;
 
 /// The goals that are under evaluation in one call, each on the stack with its run, and what else the call has
 /// until it ends. Its methods are the moves of the search: a goal asks (`question`), its run ends
@@ -47,6 +53,51 @@ impl<D: Delegate> Evaluation<D> {
             limits_met,
             drafts,
             spare: SpareMemory::new(alloc),
+        }
+    }
+
+    /// Begins anew over this cache, for goals that get this depth, with the memory that the last call left. It takes no
+    /// more yet.
+    pub fn begin(&mut self, root_depth: AvailableDepth, limits_met: bool, cache: &GlobalCache<D>)
+        ensures begins { self.new ≡ record {
+          goals = [];
+          provisional = [];
+          root_depth = root_depth;
+          limits_met = limits_met;
+          drafts = self.new.drafts;
+          spare = tt;
+        } }
+        ensures drafts { HasNoDrafts cache.now.nodes self.new.drafts }
+        ensures fits { root_depth.0 < 2 ^ 64 }
+    {
+        self.empty();
+        self.root_depth = root_depth;
+        self.limits_met = limits_met;
+        self.drafts.begin(cache);
+    }
+
+    /// Ends over this cache. What a fault has left is let go, and so is the memory of a call of many runs, which few calls
+    /// would fill again; that of a short one serves the next call.
+    pub fn end(&mut self, cache: &GlobalCache<D>)
+        ensures { self.new
+            ≡ record self.old { goals = []; provisional = []; drafts = self.new.drafts } }
+    {
+        if self.drafts.written(cache) > MOST_RUNS {
+            let alloc = self.goals.allocator();
+            self.goals = OpenGoals::new(alloc);
+            self.provisional = ProvisionalCache::new(alloc);
+            self.drafts.stored = Vec::new(alloc);
+        }
+        self.empty();
+    }
+
+    /// Lets go of the goals and the entries that are left, as they are after a fault.
+    fn empty(&mut self)
+        ensures { self.new ≡ record self.old { goals = []; provisional = [] } }
+    {
+        self.goals.clear();
+        if !self.provisional.is_empty() {
+            self.provisional = ProvisionalCache::new(self.goals.allocator());
         }
     }
 }

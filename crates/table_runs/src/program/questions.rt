@@ -95,12 +95,15 @@ where
 {
     let mut waiting = Vec::with_capacity(alloc, ROOM)?;
     let mut cache = GlobalCache::<D>::new(alloc, cx);
+    let mut graph = SearchGraph::<D>::new(alloc, 0);
     let mut shown = ShownNodes::new(alloc);
     let mut all_fine = true;
     let questions = rules.questions();
     for question in questions {
         let (depth, goal) = *question;
-        let came = ask(alloc, &mut cache, depth, goal, checks, &mut shown);
+        let came = ask(
+            alloc, &mut graph, &mut cache, depth, goal, checks, &mut shown,
+        );
         all_fine &= came_fine(came);
         tell(out, &mut waiting, rules.name(goal).unwrap_or(b""), came)?;
     }
@@ -196,9 +199,11 @@ fn write_fault(line: &mut Vec<u8>, fault: Fault<Goal, Outcome>) -> io::Result<()
     writeln!(line, " fault {word}")
 }
 
-/// Asks the goal at this depth, and checks the graph of a definite answer if that is wanted.
+/// Asks the goal at this depth, and checks the graph of a definite answer if that is wanted. The search graph may be any: it
+/// is as good as a new one, and has the memory of its last call.
 fn ask<X, D>(
     alloc: Global,
+    graph: &mut SearchGraph<D>,
     cache: &mut GlobalCache<D>,
     depth: usize,
     goal: Goal,
@@ -216,7 +221,7 @@ where
         IsAnswered D.Delegate X.Cx ⟦<Goal as PartialEq>⟧.eq
         checks cache.old (record { question = (depth, goal); came = result }) cache.new }
 {
-    let mut graph = SearchGraph::<D>::new(alloc, depth);
+    graph.renew(depth);
     let mut builder = Builder::new(true);
     let answer = graph.evaluate_goal(cache, goal, PathKind::Inductive, &mut builder)?;
     let outcome = answer.result;

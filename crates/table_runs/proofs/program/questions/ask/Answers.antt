@@ -5,8 +5,8 @@ use Rattle.table_runs.proofs.program.questions.ask.Goals as goal
 
 pub returns-clause-answered : goal.returns-clause-answered
 returns-clause-answered g c = λ starts.
-    let depth : c.new-graph.result.root_depth ≡ c.args.depth = ap (λ graph. graph.root_depth) c.new-graph.ensures in
-    let unmet : c.new-graph.result.limits_met ≡ false = ap (λ graph. graph.limits_met) c.new-graph.ensures in
+    let depth : c.renew.new.self.root_depth ≡ c.args.depth = ap (λ graph. graph.root_depth) c.renew.ensures in
+    let unmet : c.renew.new.self.limits_met ≡ false = ap (λ graph. graph.limits_met) c.renew.ensures in
     let counted : c.started.result ≡ g.D.Delegate.starts c.evaluate_goal.new.inspect = c.started.ensures ∙ sym (starts c.evaluate_goal.new.inspect).0 in
     let none : g.D.Delegate.starts c.new-builder.result ≡ 0 = (starts c.new-builder.result).0 ∙ c.new-builder.ensures.started in
     let is_noop : g.D.Delegate.noop c.new-builder.result ≡ true = (starts c.new-builder.result).1 ∙ c.new-builder.ensures.noop in
