@@ -26,13 +26,11 @@ mod progress;
 mod reading;
 mod reason;
 mod rule;
-#[cfg(test)]
-mod tests;
 mod text;
 mod watch;
 mod watching;
 mod words;
 
 pub use page::Form;
-pub use program::{check, explain};
+pub use program::{check, explain, explain_within};
 pub use progress::{NoProgress, Progress};

@@ -125,7 +125,7 @@ impl From<ReadFault> for Stop {
 pub fn explain<R: Read + Drop, W: Write, E: Write + Drop, P: Progress>(
     alloc: Global,
     form: Form,
-    mut input: R,
+    input: R,
     out: &mut W,
     err: E,
     progress: P,
@@ -144,7 +144,27 @@ pub fn explain<R: Read + Drop, W: Write, E: Write + Drop, P: Progress>(
         IfSome (R.remaining input) (λ text. (n : ℕ) × IsFirstBadLine text n) }
     ensures nothing_written { result ≡ 2 → Keeps (W.contents out.old) (W.contents out.new) }
 {
-    let came = show_input(alloc, form, &mut input, out, progress);
+    explain_within::<8, R, W, E, P>(alloc, form, input, out, err, progress)
+}
+
+/// The same where a goal has the greater of 1 and `LIMIT` runs at most; with `explain` it has 8.
+pub fn explain_within<const LIMIT: usize, R: Read + Drop, W: Write, E: Write + Drop, P: Progress>(
+    alloc: Global,
+    form: Form,
+    mut input: R,
+    out: &mut W,
+    err: E,
+    progress: P,
+) -> u8
+    ensures status { result ≤ 4 }
+    ensures told { result ≤ 1 → ShowsAnswers ⟦<TableDelegate<'static, LIMIT, 1> as Delegate>⟧
+        ⟦<Table<&'static Rules> as Cx>⟧ (R.remaining input)
+        (W.contents out.old) (W.contents out.new) form (result == 0) }
+    ensures bad_line { result ≡ 2 →
+        IfSome (R.remaining input) (λ text. (n : ℕ) × IsFirstBadLine text n) }
+    ensures nothing_written { result ≡ 2 → Keeps (W.contents out.old) (W.contents out.new) }
+{
+    let came = show_input::<LIMIT, R, W, P>(alloc, form, &mut input, out, progress);
     status_told(came, err)
 }
 

@@ -9,7 +9,7 @@
 
 mod program;
 
-pub use program::{answer, run};
+pub use program::{answer, fault_word, run};
 pub use rule_tables::{
     Builder, Candidate, Goal, Outcome, ReadFault, Rules, TableDelegate, delegate, rules,
 };

@@ -8,6 +8,7 @@ mod questions;
 mod shown;
 
 use line_texts::{Flush, read_input};
+pub use questions::fault_word;
 use questions::{Checks, answer_questions};
 use rule_tables::delegate::Table;
 use rule_tables::{Goal, Rules, Stop, TableDelegate};
@@ -137,6 +138,3 @@ fn answer_input<R: Read, W: Flush>(
         out,
     )
 }
-
-#[cfg(test)]
-mod tests;

@@ -4,9 +4,6 @@ ghost use Rattle.shown_graphs.specs.Below.{verdicts};
 ghost use Rattle.shown_graphs.specs.Program.{EndsShowing, ShowsAnswers};
 ghost use Rattle.shown_graphs.specs.Shown.{AreShown};
 
-#[cfg(test)]
-mod tests;
-
 use crate::answer::ask;
 use crate::page::{Form, Page};
 use crate::program::Stop;
@@ -23,14 +20,14 @@ use std::alloc::Global;
 use std::io::{Read, Write};
 
 /// Whether each question was answered, and no graph refused.
-pub(super) fn show_input<R: Read, W: Write, P: Progress>(
+pub(super) fn show_input<const LIMIT: usize, R: Read, W: Write, P: Progress>(
     alloc: Global,
     form: Form,
     input: &mut R,
     out: &mut W,
     progress: P,
 ) -> Result<bool, Stop>
-    ensures told { IfOk result (ShowsAnswers ⟦<TableDelegate<'static, 8, 1> as Delegate>⟧
+    ensures told { IfOk result (ShowsAnswers ⟦<TableDelegate<'static, LIMIT, 1> as Delegate>⟧
         ⟦<Table<&'static Rules> as Cx>⟧ (R.remaining input.old)
         (W.contents out.old) (W.contents out.new) form) }
     ensures ended { IfErr result (EndsShowing (R.remaining input.old)
@@ -39,7 +36,7 @@ pub(super) fn show_input<R: Read, W: Write, P: Progress>(
     let text = read_input(alloc, input)?;
     let rules = Rules::read(alloc, text.as_slice())?;
     let page = Page::new(alloc, form, text.as_slice())?;
-    show_questions::<Table<&Rules>, TableDelegate<'_, 8, 1>, W, P>(
+    show_questions::<Table<&Rules>, TableDelegate<'_, LIMIT, 1>, W, P>(
         alloc,
         Table { lender: &rules },
         &rules,

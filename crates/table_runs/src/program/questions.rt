@@ -259,7 +259,8 @@ where
     }
 }
 
-pub(super) fn fault_word(fault: Fault<Goal, Outcome>) -> &'static str
+/// The word that tells the fault.
+pub fn fault_word(fault: Fault<Goal, Outcome>) -> &'static str
     ensures { result.now ≡ fault_word_of fault }
 {
     match fault {

@@ -1,5 +1,5 @@
 use Rattle.shown_graphs.proofs.Ends.{bad_line_by_status, status_in_range, told_by_status}
-use Rattle.shown_graphs.proofs.program.explain.Goals as goal
+use Rattle.shown_graphs.proofs.program.explain_within.Goals as goal
 
 pub returns-clause-status : goal.returns-clause-status
 returns-clause-status g c = status_in_range c.show_input-came.result _ c.status_told.ensures

@@ -1,12 +1,8 @@
-//! Runs of the program over memory.
+//! Runs of `goals` and `answers` over memory.
 ghost use Rattle.std.specs.Prelude.{◌≤◌, length};
 
-mod malformed;
-
-use crate::program::questions::fault_word;
-use crate::program::{answer, run};
+use crate::malformed::MALFORMED;
 use delegate_parts::Outcome;
-use malformed::MALFORMED;
 use rule_tables::Rules;
 use search_parts::context::Fault;
 use std::alloc::Global;
@@ -14,6 +10,7 @@ use std::io;
 use std::io::{ErrorKind, Read, Write};
 use std::process::Abort;
 use std::test::Fail;
+use table_runs::{answer, fault_word, run};
 
 /// What both programs answer to an input, and what they write. `out` is what stands there where nothing is checked.
 fn expect_run(

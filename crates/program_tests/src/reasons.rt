@@ -1,7 +1,6 @@
 //! Where answers that are neither yes nor no are said to come from.
 
-use super::*;
-use crate::progress::NoProgress;
+use shown_graphs::{Form, NoProgress, explain_within};
 use std::process::Abort;
 use std::test::Fail;
 
@@ -11,25 +10,19 @@ fn expect_at_limit<const LIMIT: usize>(
     input: &str,
     wanted: &str,
 ) -> Result<(), Fail> {
-    let alloc = rt.alloc();
-    let rules = Rules::read(alloc, input.as_bytes())?;
-    let page = Page::new(alloc, Form::Text { depth: 100 }, input.as_bytes())?;
-    let mut out = Vec::new(alloc);
-    let all_fine = show_questions::<
-        Table<&Rules>,
-        TableDelegate<'_, LIMIT, 1>,
-        Vec<u8>,
-        NoProgress,
-    >(
-        alloc,
-        Table { lender: &rules },
-        &rules,
-        page,
+    let mut out = Vec::new(rt.alloc());
+    let mut err = Vec::new(rt.alloc());
+    let status = explain_within::<LIMIT, &[u8], Vec<u8>, &mut Vec<u8>, NoProgress>(
+        rt.alloc(),
+        Form::Text { depth: 100 },
+        input.as_bytes(),
         &mut out,
+        &mut err,
         NoProgress,
-    )?;
+    );
     assert_eq!(rt; std::str::from_utf8(out.as_slice()), Ok(wanted));
-    assert!(rt; all_fine);
+    assert_eq!(rt; err.len(), 0);
+    assert_eq!(rt; status, 0);
     Ok(())
 }
 

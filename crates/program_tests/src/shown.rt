@@ -1,8 +1,6 @@
 //! What small inputs are shown as.
 
-use crate::page::Form;
-use crate::program::{check, explain};
-use crate::progress::NoProgress;
+use shown_graphs::{Form, NoProgress, check, explain};
 use std::process::Abort;
 use std::test::Fail;
 
