@@ -95,7 +95,9 @@ impl<D: Delegate> Evaluation<D> {
     fn empty(&mut self)
         ensures { self.new ≡ record self.old { goals = []; provisional = [] } }
     {
-        self.goals.clear();
+        if self.goals.len() > 0 {
+            self.goals.clear();
+        }
         if !self.provisional.is_empty() {
             self.provisional = ProvisionalCache::new(self.goals.allocator());
         }
