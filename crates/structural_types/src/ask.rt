@@ -32,7 +32,7 @@ impl<T: LendsTypes> Subtyping<T> {
     {
         Subtyping {
             cache: empty_cache(alloc, types),
-            alloc,
+            graph: SearchGraph::new(alloc, usize::MAX),
         }
     }
 
@@ -54,9 +54,12 @@ impl<T: LendsTypes> Subtyping<T> {
             right: right.min(undeclared),
         };
         // no more pairs than this can be nested, and none is in itself
-        let mut graph = SearchGraph::<TypesDelegate<T>>::new(self.alloc, usize::MAX);
+        self.graph.renew(usize::MAX);
         let mut builder = Builder::new(true);
-        match graph.evaluate_goal(&mut self.cache, pair, PathKind::Coinductive, &mut builder) {
+        match self
+            .graph
+            .evaluate_goal(&mut self.cache, pair, PathKind::Coinductive, &mut builder)
+        {
             Ok(answer) => Ok(answer.result == Outcome::Yes),
             Err(fault) => Err(fault),
         }

@@ -3,14 +3,15 @@ ghost use Rattle.structural_types.specs.Deciding.{KeepsDeciding};
 ghost use Rattle.structural_types.specs.Subtypes.{forms_of};
 
 use crate::delegate::{LendsTypes, Pair, TypesDelegate};
+use search_graph::graph::SearchGraph;
 use search_parts::global_cache::GlobalCache;
-use std::alloc::Global;
 
 /// Decides which of the types that a `T` lends, as `&Types` does, are below which. What one question finds out is used in the next ones.
 #[derive(Drop)]
 pub struct Subtyping<T: LendsTypes> {
     pub(crate) cache: GlobalCache<TypesDelegate<T>>,
-    pub(crate) alloc: Global,
+    // Renewed for each question, which takes over the memory of the last one.
+    pub(crate) graph: SearchGraph<TypesDelegate<T>>,
     // What is stored never keeps a question from being decided.
     ghost ready: { ∥ KeepsDeciding ⟦<Pair as PartialEq>⟧.eq (forms_of (T.types_of cache.cx.0.0.lender)) cache ∥₁ },
 }

@@ -18,8 +18,8 @@ invariant_of-self g c =
     let forms = forms_of types in
     let left : c.min.result ≤ length forms = let e : c.min.result ≡ min c.args.left (length forms) = search rules in subst (λ n. n ≤ length forms) (sym e) (min-le_right c.args.left (length forms)) in
     let right : c.min-2.result ≤ length forms = let e : c.min-2.result ≡ min c.args.right (length forms) = search rules in subst (λ n. n ≤ length forms) (sym e) (min-le_right c.args.right (length forms)) in
-    let unmet : c.new-graph.result.limits_met ≡ false = ap (λ graph. graph.limits_met) c.new-graph.ensures in
-    let deep : c.new-graph.result.root_depth ≡ 18446744073709551615 = ap (λ graph. graph.root_depth) c.new-graph.ensures in
+    let unmet : c.renew.new.self.limits_met ≡ false = ap (λ graph. graph.limits_met) c.renew.ensures in
+    let deep : c.renew.new.self.root_depth ≡ 18446744073709551615 = ap (λ graph. graph.root_depth) c.renew.ensures in
     record {
       ready = ∥∥₁_map c.args.self.now.ready (λ ready.
           let never_met = c.evaluate_goal.ensures.two_runs (askable forms) (enough _ _ _ types _ _ _ _ _ refl refl (omega arith) (λ _. refl) deep left right c.new-builder.ensures.noop ready) unmet in
@@ -44,8 +44,8 @@ returns-in-Ok-clause-exact g c =
     let right : c.min-2.result ≤ length forms = subst (λ n. n ≤ length forms) (sym at_right) (min-le_right c.args.right (length forms)) in
     let left_alike : slice_get forms c.args.left ≡ slice_get forms c.min.result = none_beyond forms c.args.left ∙ sym (ap (slice_get forms) at_left) in
     let right_alike : slice_get forms c.args.right ≡ slice_get forms c.min-2.result = none_beyond forms c.args.right ∙ sym (ap (slice_get forms) at_right) in
-    let unmet : c.new-graph.result.limits_met ≡ false = ap (λ graph. graph.limits_met) c.new-graph.ensures in
-    let deep : c.new-graph.result.root_depth ≡ 18446744073709551615 = ap (λ graph. graph.root_depth) c.new-graph.ensures in (
+    let unmet : c.renew.new.self.limits_met ≡ false = ap (λ graph. graph.limits_met) c.renew.ensures in
+    let deep : c.renew.new.self.root_depth ≡ 18446744073709551615 = ap (λ graph. graph.root_depth) c.renew.ensures in (
       λ e.
           let is : is_yes c.in-Ok.answer.result ≡ true = search rules in
           below_alike forms c.min.result c.args.left c.min-2.result c.args.right (sym left_alike) (sym right_alike)
@@ -70,7 +70,7 @@ returns-in-Err-clause-faults g c =
     let at_right : c.min-2.result ≡ min c.args.right (length forms) = search rules in
     let left : c.min.result ≤ length forms = subst (λ n. n ≤ length forms) (sym at_left) (min-le_right c.args.left (length forms)) in
     let right : c.min-2.result ≤ length forms = subst (λ n. n ≤ length forms) (sym at_right) (min-le_right c.args.right (length forms)) in
-    let unmet : c.new-graph.result.limits_met ≡ false = ap (λ graph. graph.limits_met) c.new-graph.ensures in
-    let deep : c.new-graph.result.root_depth ≡ 18446744073709551615 = ap (λ graph. graph.root_depth) c.new-graph.ensures in
+    let unmet : c.renew.new.self.limits_met ≡ false = ap (λ graph. graph.limits_met) c.renew.ensures in
+    let deep : c.renew.new.self.root_depth ≡ 18446744073709551615 = ap (λ graph. graph.root_depth) c.renew.ensures in
     only_memory c.in-Err.fault (search rules)
     (∥∥₁_map c.args.self.now.ready (λ ready. c.in-Err.ensures.two_runs_faults (askable forms) (enough _ _ _ types _ _ _ _ _ refl refl (omega arith) (λ _. refl) deep left right c.new-builder.ensures.noop ready) unmet))
