@@ -18,7 +18,8 @@ use std::alloc::Global;
 #[derive(Drop)]
 pub struct Analysis<P: LendsProgram> {
     cache: GlobalCache<ReachDelegate<P>>,
-    alloc: Global,
+    // Renewed for each question, which takes over the memory of the last one.
+    graph: SearchGraph<ReachDelegate<P>>,
 }
 
 impl<P: LendsProgram> Analysis<P> {
@@ -28,7 +29,7 @@ impl<P: LendsProgram> Analysis<P> {
     {
         Analysis {
             cache: GlobalCache::new(alloc, ContextOf(Listed(PointsOf { lender: program }))),
-            alloc,
+            graph: SearchGraph::new(alloc, 0),
         }
     }
 
@@ -41,10 +42,12 @@ impl<P: LendsProgram> Analysis<P> {
             IsTrue answer ↔ IsWrittenBefore (analysed P.program_of self.old) block variable) }
         ensures same_program { analysed P.program_of self.new ≡ analysed P.program_of self.old }
     {
-        let mut graph = SearchGraph::<ReachDelegate<P>>::new(self.alloc, block);
+        self.graph.renew(block);
         let mut builder = Builder::new(true);
         let point = Point { block, variable };
-        let asked = graph.evaluate_goal(&mut self.cache, point, PathKind::Inductive, &mut builder);
+        let asked = self
+            .graph
+            .evaluate_goal(&mut self.cache, point, PathKind::Inductive, &mut builder);
         match asked {
             Ok(answer) => Ok(matches!(answer.result, Outcome::Yes)),
             Err(_) => Err(NoMemory), // no other fault comes

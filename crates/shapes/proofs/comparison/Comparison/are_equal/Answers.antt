@@ -44,3 +44,10 @@ returns-clause-neither g c = λ e.
           never_neither c.in_ok-answer.field-0.result c.verdict.result c.verdict.ensures.yes c.verdict.ensures.no is
           (c.in_ok-answer.ensures.decisive (are_decisive (equations_of (g.S.LendsShapes.shapes_of c.args.self.now.cache.cx.0.0.lender))) (c.args.self.now.decided old) met))
     ]
+
+pub returns-clause-limits_stay : goal.returns-clause-limits_stay
+returns-clause-limits_stay g c = λ old.
+    elim c.if-self.branch [
+      | then-self w ↦ let so = w.self-is in search rules
+      | else-self w ↦ let was = w.if-self in absurd cc
+    ]
