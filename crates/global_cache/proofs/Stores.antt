@@ -1,10 +1,11 @@
 -- A map by goal and place as a store, and that what is stored in it stays.
 use Rattle.std.proofs.Common.{◌≡◌, Bool, true, false, ◌&&◌, if◌then◌else◌, Option, None, Some, Result, Ok, Err, ◌⊎◌, inl, inr, refl, sym, ap, ap₂, ◌∙◌, subst}
-use Rattle.std.proofs.lemmas.Bool.{and_parts, cases_Bool, eqb-true}
+use Rattle.std.proofs.Math.Bool.{◌||◌}
+use Rattle.std.proofs.lemmas.Bool.{and_parts, cases_Bool, eqb-true, or_parts}
 use Rattle.std.specs.Map.{lookup}
 use Rattle.std.specs.Option.{IsSomeAnd, IfSome}
 use Rattle.global_cache.specs.Below.{Fault, Conflict}
-use Rattle.global_cache.specs.Words.{Place, Success, WithOverflow, StoredResult, same_place, same_key, Store, stored_at, Puts, AnswersStoring, KeepsResults}
+use Rattle.global_cache.specs.Words.{Place, Success, WithOverflow, StoredResult, is_of_overflow, same_place, same_key, Store, stored_at, Puts, AnswersStoring, KeepsResults, TellsOverflow}
 use Rattle.global_cache.specs.contracts.results.PlacePartialEq.TheImpl as derived
 
 -- derived equality of places
@@ -48,6 +49,16 @@ put_cases same by_value old new input place stored puts other at = elim (cases_B
       inl (by_value input other w.0, same_place_by_value place at w.1)
   | inr e ↦ inr (puts.others other at e)
 ]
+
+-- a put says that a result that met overflow is stored, where it is one
+pub TellsOverflow-put : {I S : Type 0} (same : I → I → Bool) (by_value : (x y : I) → same x y ≡ true → x ≡ y) (is_said : Bool) (old new : Store I S) (input : I) (place : Place) (stored : S)
+    → Puts same old new input place stored → TellsOverflow same is_said old → TellsOverflow same (is_said || is_of_overflow place) new
+TellsOverflow-put same by_value is_said old new input place stored put tells not_said other depth =
+    let unsaid = or_parts is_said (is_of_overflow place) not_said in
+    elim (put_cases same by_value old new input place stored put other (WithOverflow depth)) [
+      | inl w ↦ let yes : true ≡ false = sym (ap is_of_overflow w.1) ∙ unsaid.1 in absurd cc
+      | inr e ↦ e ∙ tells unsaid.0 other depth
+    ]
 
 agreed : {E : Type 0} (b : Bool) (fault : E) (answer : Result (Unit {0}) E) → answer ≡ Ok tt → answer ≡ (if b then Ok tt else Err fault) → b ≡ true
 agreed true fault answer ok h = refl

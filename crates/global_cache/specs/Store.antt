@@ -1,5 +1,5 @@
 -- The results that a cache stores: of each goal at most one success, and for each depth at most one overflow result.
-use Rattle.std.specs.Prelude.{◌≡◌, ◌==◌, ◌&&◌, Bool, true, false, if◌then◌else◌, List, Option, None, Some, Result, Ok, Err, IfErr}
+use Rattle.std.specs.Prelude.{◌≡◌, ℕ, ◌==◌, ◌&&◌, Bool, true, false, if◌then◌else◌, List, Option, None, Some, Result, Ok, Err, IfErr}
 use Rattle.std.specs.Map.{lookup}
 use Rattle.std.specs.Option.{IsSomeAnd}
 use Rattle.search_context.specs.declared.context.Fault.{Fault}
@@ -15,6 +15,11 @@ same_place Success Success = true
 same_place (WithOverflow depth) (WithOverflow other) = depth == other
 same_place _ _ = false
 
+-- whether results that met overflow have their place there
+abbrev pub is_of_overflow : Place → Bool
+is_of_overflow Success = false
+is_of_overflow (WithOverflow depth) = true
+
 -- both are the same place of the same goal
 abbrev pub same_key : {I : Type 0} → (I → I → Bool) → I × Place → I × Place → Bool
 same_key same key other = same key.0 other.0 && same_place key.1 other.1
@@ -26,6 +31,10 @@ Store I S = List ((I × Place) × S)
 -- what is stored of a goal at a place
 abbrev pub stored_at : {I S : Type 0} → (I → I → Bool) → Store I S → I → Place → Option S
 stored_at same store input place = lookup (same_key same (input, place)) store
+
+-- where it is not said that a result that met overflow was stored, there is none
+abbrev pub TellsOverflow : {I S : Type 0} → (I → I → Bool) → Bool → Store I S → Type 0
+TellsOverflow {I} same is_said store = is_said ≡ false → (input : I) (depth : ℕ) → stored_at same store input (WithOverflow depth) ≡ None
 
 -- the new store has this at the place of the goal, and everywhere else what the old one has
 pub record Puts {I S : Type 0} (same : I → I → Bool) (old new : Store I S) (input : I) (place : Place) (stored : S) : Type 0 where

@@ -12,8 +12,8 @@ pub use Rattle.global_cache.specs.Marked.{AreMarked, AreNone, AreWaiting, edges_
 pub use Rattle.global_cache.specs.Marked.IsFound.{root, next}
 pub use Rattle.global_cache.specs.Shapes.{edge_shape, HasGrown, run_shape, shape_of, shapes_of}
 pub use Rattle.global_cache.specs.Sound.{IsSoundCache}
-pub use Rattle.global_cache.specs.Store.{AnswersStoring, KeepsResults, place_of, Puts, same_key, same_place, Store}
-pub use Rattle.global_cache.specs.Store.{stored_at, stored_from}
+pub use Rattle.global_cache.specs.Store.{AnswersStoring, is_of_overflow, KeepsResults, place_of, Puts, same_key, same_place, Store}
+pub use Rattle.global_cache.specs.Store.{stored_at, stored_from, TellsOverflow}
 pub use Rattle.global_cache.specs.Stored.{AreSoundResults, IsPlainAt, IsSoundResult}
 pub use Rattle.global_cache.specs.View.{ended_node, node_of, run_of}
 pub use Rattle.global_cache.specs.declared.get.CacheData.{CacheData}

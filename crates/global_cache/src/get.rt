@@ -8,11 +8,11 @@ ghost use Rattle.search_context.specs.Rank.{IsBelowRank, IsPlain};
 ghost use Rattle.search_context.specs.Verdicts.{verdicts};
 
 use crate::GlobalCache;
+use crate::result_store::ResultStore;
 use crate::results::{Place, StoredResult};
 use search_context::context::{Cx, Delegate, NodeId};
 use search_stack::depth::AvailableDepth;
 use search_stack::nested_goals::NestedGoals;
-use std::collections::HashMap;
 
 /// A stored result that is used. Ports `CacheData`.
 #[derive(Drop)]
@@ -73,20 +73,20 @@ impl<D: Delegate> GlobalCache<D> {
 
 // The stored result of the goal that may be used at the available depth.
 fn usable_result<'a, X: Cx, T: NestedTest<X>>(
-    results: &'a HashMap<(X::Input, Place), StoredResult<X>>,
+    results: &'a ResultStore<X>,
     input: X::Input,
     available: AvailableDepth,
     test: &T,
 ) -> Option<CacheData<'a, X>>
     ensures { option_map hit_of result
         ≡ first_accepted (T.accepts test.now)
-        (usable X.Input.eq results.now.entries input available.0) }
+        (usable X.Input.eq results.now input available.0) }
 {
-    let success = results.get(&(input, Place::Success));
+    let success = results.at(input, Place::Success);
     if let Some(hit) = use_success(success, available, test) {
         return Some(hit);
     }
-    let overflow = results.get(&(input, Place::WithOverflow(available.0)));
+    let overflow = results.overflow_at(input, available.0);
     use_overflow(overflow, available, test)
 }
 

@@ -18,7 +18,6 @@ ghost use Rattle.global_cache.specs.Words.{AreRuns, AreSoundResults};
 
 use search_context::context::{Cx, Delegate};
 use std::alloc::Global;
-use std::collections::HashMap;
 use std::marker::Model;
 
 mod collect;
@@ -30,10 +29,12 @@ mod hints;
 mod marking;
 mod node_list;
 mod nodes;
+mod result_store;
 pub mod results;
 
 pub use get::{CacheData, NestedTest};
 use node_list::NodeList;
+use result_store::ResultStore;
 pub use results::{Place, StoredResult};
 
 /// The context of all searches over this cache, the nodes of their answers' graphs, and the results of
@@ -45,7 +46,7 @@ pub use results::{Place, StoredResult};
 pub struct GlobalCache<D: Delegate> {
     cx: D::Cx,
     nodes: NodeList<<D::Cx as Cx>::Input, <D::Cx as Cx>::Result>,
-    results: HashMap<(<D::Cx as Cx>::Input, Place), StoredResult<D::Cx>>,
+    results: ResultStore<D::Cx>,
 }
 
 impl<D: Delegate> Model for GlobalCache<D> {
@@ -55,9 +56,9 @@ impl<D: Delegate> Model for GlobalCache<D> {
 
     ghost Value = { Cache D.Cx D.Cx.Input D.Cx.Result D.Cx.AmbiguityInfo D.Cx.DepNodeIndex };
 
-    ghost view = { λ c. record { cx = c.cx; nodes = c.nodes; results = c.results.entries } };
+    ghost view = { λ c. record { cx = c.cx; nodes = c.nodes; results = c.results } };
 
-    ghost invariant = { λ c. IsSoundCache D.Cx.Input.eq (verdicts D.Cx.Cx) D.script (record { cx = c.cx; nodes = c.nodes; results = c.results.entries }) };
+    ghost invariant = { λ c. IsSoundCache D.Cx.Input.eq (verdicts D.Cx.Cx) D.script (record { cx = c.cx; nodes = c.nodes; results = c.results }) };
 }
 
 impl<D: Delegate> GlobalCache<D> {
@@ -68,7 +69,7 @@ impl<D: Delegate> GlobalCache<D> {
         GlobalCache {
             cx,
             nodes: NodeList::new(alloc),
-            results: HashMap::new(alloc),
+            results: ResultStore::new(alloc),
         }
     }
 

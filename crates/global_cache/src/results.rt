@@ -3,13 +3,12 @@
 ghost use Rattle.std.specs.Prelude.{◌≡◌, ℕ, false, [], IfErr, OnOk, OnErr};
 ghost use Rattle.std.specs.Option.{option_map};
 ghost use Rattle.global_cache.specs.Below.{IsPlainTo, Memory, verdicts};
-ghost use Rattle.global_cache.specs.Words.{HasGraph, IsPlainAt, Success, WithOverflow, place_of, stored_at, stored_from, AnswersStoring, KeepsResults, Puts};
+ghost use Rattle.global_cache.specs.Words.{HasGraph, IsPlainAt, Success, WithOverflow, is_of_overflow, place_of, stored_at, stored_from, AnswersStoring, KeepsResults, Puts};
 
 use crate::GlobalCache;
 use search_context::context::{Cx, Delegate, Fault, NodeId, Tracked};
 use search_stack::nested_goals::NestedGoals;
 use search_stack::result::EvaluationResult;
-use std::collections::HashMap;
 
 /// Where a result of a goal is stored.
 #[derive(Clone, Copy, PartialEq, Eq, Hash)]
@@ -30,6 +29,13 @@ impl Place {
         } else {
             Place::Success
         }
+    }
+
+    // Whether results that met overflow have their place there.
+    pub(super) fn is_of_overflow(self) -> bool
+        ensures { result ≡ is_of_overflow self }
+    {
+        matches!(self, Place::WithOverflow(_))
     }
 }
 
@@ -100,7 +106,7 @@ impl<D: Delegate> GlobalCache<D> {
     {
         let place = Place::of(&evaluation_result);
         let found = StoredResult::new(evaluation_result, token);
-        put(&mut self.results, input, place, found)
+        self.results.put(input, place, found)
     }
 
     /// The goal's success and the depth that it requires, if one is stored.
@@ -108,7 +114,7 @@ impl<D: Delegate> GlobalCache<D> {
         ensures { result ≡ option_map (λ s. (s.result.result, s.required_depth))
             (stored_at D.Cx.Input.eq self.now.results input Success) }
     {
-        let stored = self.results.get(&(input, Place::Success))?;
+        let stored = self.results.at(input, Place::Success)?;
         Some((stored.result.result, stored.required_depth))
     }
 
@@ -121,58 +127,7 @@ impl<D: Delegate> GlobalCache<D> {
         ensures { result ≡ option_map (λ s. s.result.result)
             (stored_at D.Cx.Input.eq self.now.results input (WithOverflow depth)) }
     {
-        let stored = self.results.get(&(input, Place::WithOverflow(depth)))?;
+        let stored = self.results.overflow_at(input, depth)?;
         Some(stored.result.result)
-    }
-}
-
-// `Conflict` where another result is stored at the place of the goal.
-fn agrees<X: Cx>(
-    results: &HashMap<(X::Input, Place), StoredResult<X>>,
-    input: X::Input,
-    place: Place,
-    found: &StoredResult<X>,
-) -> Result<(), Fault<X::Input, X::Result>>
-    ensures { AnswersStoring X.Result.eq input
-        (stored_at X.Input.eq results.now.entries input place) found.now.result.result result }
-{
-    match results.get(&(input, place)) {
-        Some(known) => {
-            let stored = known.result.result;
-            let found = found.result.result;
-            if stored == found {
-                return Ok(());
-            }
-            Err(Fault::Conflict {
-                input,
-                stored,
-                found,
-            })
-        }
-        None => Ok(()),
-    }
-}
-
-// Stores a result at a place of the goal, unless another result is there. A result that is there and
-// equals it takes no memory. What was stored stays equal.
-fn put<X: Cx>(
-    results: &mut HashMap<(X::Input, Place), StoredResult<X>>,
-    input: X::Input,
-    place: Place,
-    found: StoredResult<X>,
-) -> Result<(), Fault<X::Input, X::Result>>
-    ensures ok { OnOk result
-        (Puts X.Input.eq results.old.entries results.new.entries input place found) }
-    ensures err { OnErr result (results.new.entries ≡ results.old.entries) }
-    ensures answer { AnswersStoring X.Result.eq input
-        (stored_at X.Input.eq results.old.entries input place) found.result.result result }
-    ensures kept { KeepsResults X.Input.eq results.old.entries results.new.entries }
-{
-    if let Err(conflict) = agrees(results, input, place, &found) {
-        return Err(conflict);
-    }
-    match results.insert((input, place), found) {
-        Ok(_) => Ok(()),
-        Err(_) => Err(Fault::Memory),
     }
 }

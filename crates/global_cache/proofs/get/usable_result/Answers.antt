@@ -6,10 +6,10 @@ use Rattle.global_cache.proofs.get.usable_result.Goals as goal
 
 pub returns-in-Some : goal.returns-in-Some
 returns-in-Some g c =
-    finds_success (g.T.NestedTest.accepts c.args.test.now) g.X.Input.PartialEq.eq c.args.results.now.entries c.args.input c.args.available.0 (option_copied c.get-success.result) (hit_of c.in-Some.hit)
-    c.get-success.ensures.value c.in-Some.ensures
+    finds_success (g.T.NestedTest.accepts c.args.test.now) g.X.Input.PartialEq.eq c.args.results.now c.args.input c.args.available.0 (option_copied c.at-success.result) (hit_of c.in-Some.hit)
+    c.at-success.ensures c.in-Some.ensures
 
 pub returns : goal.returns
 returns g c =
-    looks_up (g.T.NestedTest.accepts c.args.test.now) g.X.Input.PartialEq.eq c.args.results.now.entries c.args.input c.args.available.0 (option_copied c.get-success.result) (option_copied c.get-overflow.result) None (option_map hit_of c.use_overflow.result)
-    c.get-success.ensures.value c.get-overflow.ensures.value (sym (ap (option_map hit_of) c.in_default.is) ∙ c.use_success.ensures) c.use_overflow.ensures
+    looks_up (g.T.NestedTest.accepts c.args.test.now) g.X.Input.PartialEq.eq c.args.results.now c.args.input c.args.available.0 (option_copied c.at-success.result) (option_copied c.overflow_at-overflow.result) None (option_map hit_of c.use_overflow.result)
+    c.at-success.ensures c.overflow_at-overflow.ensures (sym (ap (option_map hit_of) c.in_default.is) ∙ c.use_success.ensures) c.use_overflow.ensures

@@ -1,0 +1,112 @@
+//! The map of the stored results, by goal and place.
+ghost use Rattle.std.specs.Prelude.{◌≡◌, [], OnOk, OnErr};
+ghost use Rattle.std.specs.Option.{option_copied};
+ghost use Rattle.global_cache.specs.Words.{WithOverflow, stored_at, AnswersStoring, KeepsResults, Puts};
+
+use crate::results::{Place, StoredResult};
+use search_context::context::{Cx, Fault};
+use std::alloc::Global;
+use std::collections::HashMap;
+use std::marker::Model;
+
+/// The stored results, by goal and place.
+#[derive(Drop)]
+pub(super) struct ResultStore<X: Cx> {
+    results: HashMap<(X::Input, Place), StoredResult<X>>,
+    /// Whether a result that met overflow was ever stored. Where none was, which is so for most searches, a question
+    /// needs no second look-up.
+    has_overflow: bool,
+}
+
+impl<X: Cx> Model for ResultStore<X> {
+    ghost use Rattle.global_cache.specs.Store.{Store, TellsOverflow};
+    ghost use Rattle.global_cache.specs.declared.results.StoredResult.{StoredResult};
+
+    ghost Value = { Store X.Input (StoredResult X X.Input X.Result X.AmbiguityInfo X.DepNodeIndex) };
+
+    ghost view = { λ s. s.results.entries };
+
+    ghost invariant = { λ s. TellsOverflow X.Input.eq s.has_overflow s.results.entries };
+}
+
+impl<X: Cx> ResultStore<X> {
+    /// Nothing is stored. It takes no memory yet.
+    pub(super) fn new(alloc: Global) -> ResultStore<X>
+        ensures { result ≡ [] }
+    {
+        ResultStore {
+            results: HashMap::new(alloc),
+            has_overflow: false,
+        }
+    }
+
+    /// What is stored of the goal at the place.
+    pub(super) fn at(&self, input: X::Input, place: Place) -> Option<&StoredResult<X>>
+        ensures { option_copied result ≡ stored_at X.Input.eq self.now input place }
+    {
+        self.results.get(&(input, place))
+    }
+
+    /// The goal's result that met overflow and is stored under this depth.
+    pub(super) fn overflow_at(&self, input: X::Input, depth: usize) -> Option<&StoredResult<X>>
+        ensures { option_copied result ≡ stored_at X.Input.eq self.now input (WithOverflow depth) }
+    {
+        if !self.has_overflow {
+            return None;
+        }
+        self.at(input, Place::WithOverflow(depth))
+    }
+
+    /// Stores a result at a place of the goal, unless another result is there. A result that is there and
+    /// equals it takes no memory. What was stored stays equal.
+    pub(super) fn put(
+        &mut self,
+        input: X::Input,
+        place: Place,
+        found: StoredResult<X>,
+    ) -> Result<(), Fault<X::Input, X::Result>>
+        ensures ok { OnOk result (Puts X.Input.eq self.old self.new input place found) }
+        ensures err { OnErr result (self.new ≡ self.old) }
+        ensures answer { AnswersStoring X.Result.eq input
+            (stored_at X.Input.eq self.old input place) found.result.result result }
+        ensures kept { KeepsResults X.Input.eq self.old self.new }
+    {
+        if let Err(conflict) = self.agrees(input, place, &found) {
+            return Err(conflict);
+        }
+        match self.results.insert((input, place), found) {
+            Ok(_) => {
+                self.has_overflow |= place.is_of_overflow();
+                Ok(())
+            }
+            Err(_) => Err(Fault::Memory),
+        }
+    }
+
+    /// `Conflict` where another result is stored at the place of the goal.
+    fn agrees(
+        &self,
+        input: X::Input,
+        place: Place,
+        found: &StoredResult<X>,
+    ) -> Result<(), Fault<X::Input, X::Result>>
+        ensures { AnswersStoring X.Result.eq input
+            (stored_at X.Input.eq self.now input place) found.now.result.result result }
+    {
+        match self.at(input, place) {
+            Some(known) => {
+                let stored = known.result.result;
+                let found = found.result.result;
+                if stored == found {
+                    return Ok(());
+                }
+                Err(Fault::Conflict {
+                    input,
+                    stored,
+                    found,
+                })
+            }
+            None => Ok(()),
+        }
+    }
+}
