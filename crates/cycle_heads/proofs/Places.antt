@@ -1,9 +1,10 @@
 -- What a search by depth finds, and what an edit at that place does.
-use Rattle.std.proofs.Common.{◌≡◌, ℕ, zero, suc, ◌-◌, ◌<◌, ◌≤◌, List, [], ◌∷◌, length, get_or, set, true, Option, Some, None, IsSome, Result, Ok, Err, IsOk, refl, sym, ap, subst, ◌∙◌, inl, inr, arith, lt-ltb, le-ltb, eq-eqb, ne_eqb}
+use Rattle.std.proofs.Common.{◌≡◌, ℕ, zero, suc, ◌-◌, ◌<◌, ◌≤◌, List, [], ◌∷◌, ◌++◌, length, get_or, set, true, Option, Some, None, IsSome, Result, Ok, Err, IsOk, refl, sym, ap, subst, ◌∙◌, inl, inr, arith, lt-ltb, le-ltb, eq-eqb, ne_eqb}
 use Rattle.std.proofs.lemmas.Bool.{cases_lt, cases_eq, false≢true}
 use Rattle.std.proofs.lemmas.Bool.Decides.{nat_tests}
 use Rattle.std.proofs.lemmas.Cmp.{ranked}
 use Rattle.std.proofs.lemmas.List.{get_or-map, length-map}
+use Rattle.std.proofs.lemmas.List.Edits.{insert_end}
 use Rattle.std.proofs.lemmas.List.Elements.{All-from_recursion, recursion_from_All}
 use Rattle.std.proofs.lemmas.Map.Keys.{Less-from_sorted, sorted_head}
 use Rattle.std.proofs.lemmas.Map.Views.{All-keys-insert_entry}
@@ -192,6 +193,10 @@ module _ {A : Type 0} (depth : StackDepth) where
 
       pub inserted_in_gap : place_of entries depth ≡ Err i → insert entries i (depth, value) ≡ insert_entry depth_cmp entries depth value
       inserted_in_gap gap = ap (λ place. edit_at place entries) (sym gap) ∙ place_is_edited entries
+
+      -- the place is behind all entries
+      pub pushed_in_gap : place_of entries depth ≡ Err i → i ≡ length entries → entries ++ (depth, value) ∷ [] ≡ insert_entry depth_cmp entries depth value
+      pushed_in_gap gap last = sym (insert_end entries (depth, value)) ∙ ap (λ j. insert entries j (depth, value)) (sym last) ∙ inserted_in_gap gap
 
   -- ---- what a search by halves finds
 

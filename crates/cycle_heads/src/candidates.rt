@@ -1,5 +1,5 @@
 //! What a candidate used of the goals on the stack.
-ghost use Rattle.std.specs.Prelude.{◌≡◌, ◌↔◌, [], IsTrue, IsSome, IsOk, Ok, OnOk, OnErr};
+ghost use Rattle.std.specs.Prelude.{◌≡◌, ◌↔◌, [], IsTrue, IsSome, IsOk, Ok, Err, OnOk, OnErr};
 ghost use Rattle.cycle_heads.specs.Words.{StackDepth, merged, with_added, with_noted, at_depth, depth_cmp, IsRising, place_of};
 ghost use Rattle.std.specs.BTreeMap.{insert_entry};
 
@@ -100,12 +100,28 @@ impl CandidateHeadUsages {
                 self.count_at(index, head, usages);
                 Ok(index.saturating_add(1))
             }
-            Err(_) => {
-                let mut noted = HeadUsages::default();
-                noted.add_usages_from_nested(usages);
-                self.put(head, place, noted)
-            }
+            Err(index) => self.note_new(index, head, usages),
         }
+    }
+
+    // Counts the first usages of a head, at its place, and answers the place behind it. It stays out of
+    // `note_usages_near`, which would be slower by the room that this takes.
+    #[inline(never)]
+    fn note_new(
+        &mut self,
+        index: usize,
+        head: StackDepth,
+        usages: HeadUsages,
+    ) -> Result<usize, NoMemory>
+        requires rising { IsRising self.old }
+        requires place { place_of self.old head ≡ Err index }
+        ensures ok { OnOk result (self.new ≡ with_noted self.old head usages) }
+        ensures err { OnErr result (self.new ≡ self.old) }
+    {
+        let mut noted = HeadUsages::default();
+        noted.add_usages_from_nested(usages);
+        self.put(head, Err(index), noted)?;
+        Ok(index.saturating_add(1))
     }
 
     // Counts usages of the head at the place, which is this one.
@@ -151,32 +167,27 @@ impl CandidateHeadUsages {
         if let Some(known) = at_place(self.as_slice(), head, place) {
             sum.add_usages(known);
         }
-        self.put(head, place, sum)?;
-        Ok(())
+        self.put(head, place, sum)
     }
 
-    // Makes these the usages of the head, whose place is given. Answers the place behind it.
+    // Makes these the usages of the head, whose place is given. Most new heads come last, where none is moved.
     fn put(
         &mut self,
         head: StackDepth,
         place: Result<usize, usize>,
         usages: HeadUsages,
-    ) -> Result<usize, NoMemory>
+    ) -> Result<(), NoMemory>
         requires { place ≡ place_of self.old head }
         ensures ok { OnOk result (self.new ≡ insert_entry depth_cmp self.old head usages) }
         ensures err { OnErr result (self.new ≡ self.old) }
         ensures known { IsSome (at_depth self.old head) → IsOk result }
     {
         match place {
-            Ok(index) => {
-                *self.usages.get_mut(index).unwrap() = (head, usages);
-                Ok(index.saturating_add(1))
-            }
-            Err(index) => {
-                self.usages.insert(index, (head, usages))?;
-                Ok(index.saturating_add(1))
-            }
+            Ok(index) => *self.usages.get_mut(index).unwrap() = (head, usages),
+            Err(index) if index == self.usages.len() => self.usages.push((head, usages))?,
+            Err(index) => self.usages.insert(index, (head, usages))?,
         }
+        Ok(())
     }
 }
 

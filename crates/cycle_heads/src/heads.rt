@@ -1,5 +1,5 @@
 //! The goals on the stack that an answer rests on.
-ghost use Rattle.std.specs.Prelude.{◌≡◌, ◌≢◌, ◌<◌, ◌≤◌, ◌↔◌, [], ◌∷◌, ◌++◌, length, All, IsTrue, IsSome, IsSomeAnd, IsOk, IfSome, Ok, OnOk, OnErr, Some};
+ghost use Rattle.std.specs.Prelude.{◌≡◌, ◌≢◌, ◌<◌, ◌≤◌, ◌↔◌, [], ◌∷◌, ◌++◌, length, All, IsTrue, IsSome, IsSomeAnd, IsOk, IfSome, Ok, Err, OnOk, OnErr, Some};
 ghost use Rattle.std.specs.Option.{option_map};
 ghost use Rattle.cycle_heads.specs.Words.{StackDepth, CycleHead, HeadUsages, PathKind, PathsToNested, at_depth, highest, joined_head, lowest, place_of, replace_head, with_head, Heads, IsRising, count_of, without_usages};
 
@@ -150,15 +150,34 @@ impl CycleHeads {
                 self.join(index, head, paths, usages);
                 Ok(index.saturating_add(1))
             }
-            Err(index) => {
-                let new = CycleHead {
-                    paths_to_head: paths,
-                    usages,
-                };
-                self.heads.insert(index, (head, new))?;
-                Ok(index.saturating_add(1))
-            }
+            Err(index) => self.put_new(index, head, paths, usages),
         }
+    }
+
+    // Puts in a head of a depth that has none, at its place, and answers the place behind it. Most come last, where none
+    // is moved. It stays out of `insert_near`, which would be slower by the room that this takes.
+    #[inline(never)]
+    fn put_new(
+        &mut self,
+        index: usize,
+        depth: StackDepth,
+        paths: PathsToNested,
+        usages: HeadUsages,
+    ) -> Result<usize, NoMemory>
+        requires { place_of self.old depth ≡ Err index }
+        ensures ok { OnOk result (self.new ≡ with_head self.old depth paths usages) }
+        ensures err { OnErr result (self.new ≡ self.old) }
+    {
+        let new = CycleHead {
+            paths_to_head: paths,
+            usages,
+        };
+        if index == self.heads.len() {
+            self.heads.push((depth, new))?;
+        } else {
+            self.heads.insert(index, (depth, new))?;
+        }
+        Ok(index.saturating_add(1))
     }
 
     // Joins paths and usages to the head at the place, which has this depth.

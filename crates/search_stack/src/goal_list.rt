@@ -1,5 +1,5 @@
 //! A list of goals with the paths to each.
-ghost use Rattle.std.specs.Prelude.{◌≡◌, ◌+◌, ◌-◌, ◌^◌, ◌<◌, ◌≤◌, [], length, map, vec_len, vec_capacity, IsSome, IsOk, IfOk, OnOk, OnErr};
+ghost use Rattle.std.specs.Prelude.{◌≡◌, ◌+◌, ◌-◌, ◌^◌, ◌<◌, ◌≤◌, [], length, map, vec_len, vec_capacity, false, IsTrue, None, IsSome, IsOk, IfOk, OnOk, OnErr};
 ghost use Rattle.std.specs.List.{IsDistinct, position};
 ghost use Rattle.std.specs.Map.{keys_of};
 ghost use Rattle.std.specs.Option.{option_map};
@@ -71,14 +71,23 @@ impl<X: Cx> GoalList<X> {
         Some(self.goals[place].1)
     }
 
-    /// Joins paths to the goal, which becomes one of the goals. Only a new goal takes memory, and a
-    /// refusal changes nothing.
-    pub(super) fn insert(&mut self, input: X::Input, paths: PathsToNested) -> Result<(), NoMemory>
+    /// Joins paths to the goal, where it is there. The answer is whether it is.
+    pub(super) fn join_known(&mut self, input: X::Input, paths: PathsToNested) -> bool
+        ensures known { IsTrue result → JoinsPaths X.Input.eq self.old self.new input paths }
+        ensures not { result ≡ false → self.new ≡ self.old }
+        ensures absent { result ≡ false → paths_at X.Input.eq self.old input ≡ None }
+    {
+        join_known(&mut self.goals, input, paths)
+    }
+
+    /// Puts in a goal that isn't there, with the paths to it. A refusal changes nothing.
+    pub(super) fn push(&mut self, input: X::Input, paths: PathsToNested) -> Result<(), NoMemory>
+        requires { paths_at X.Input.eq self.old input ≡ None }
         ensures ok { OnOk result (JoinsPaths X.Input.eq self.old self.new input paths) }
         ensures err { OnErr result (self.new ≡ self.old) }
-        ensures known { IsSome (paths_at X.Input.eq self.old input) → IsOk result }
     {
-        join_listed(&mut self.goals, input, paths)
+        self.goals.push((input, paths))?;
+        Ok(())
     }
 
     /// Extends the paths to each goal by the step.
@@ -151,13 +160,31 @@ fn join_listed<I: Eq + Copy>(
     ensures left { vec_capacity goals.old - vec_len goals.old
         ≤ (vec_capacity goals.new - vec_len goals.new) + 1 }
 {
-    let Some(place) = place_of(goals.as_slice(), input) else {
+    if !join_known(goals, input, paths) {
         goals.push((input, paths))?;
-        return Ok(());
+    }
+    Ok(())
+}
+
+/// Joins paths to a goal, where it is there. The answer is whether it is.
+fn join_known<I: Eq + Copy>(
+    goals: &mut Vec<(I, PathsToNested)>,
+    input: I,
+    paths: PathsToNested,
+) -> bool
+    ensures known { IsTrue result → JoinsPaths I.eq goals.old.items goals.new.items input paths }
+    ensures keys { keys_of goals.new.items ≡ keys_of goals.old.items }
+    ensures not { result ≡ false → goals.new ≡ goals.old }
+    ensures absent { result ≡ false → paths_at I.eq goals.old.items input ≡ None }
+    ensures len { vec_len goals.new ≡ vec_len goals.old }
+    ensures capacity { vec_capacity goals.new ≡ vec_capacity goals.old }
+{
+    let Some(place) = place_of(goals.as_slice(), input) else {
+        return false;
     };
     let known = &mut goals[place];
     known.1 = known.1.union(paths);
-    Ok(())
+    true
 }
 
 /// The goals of a list, with the paths to each.

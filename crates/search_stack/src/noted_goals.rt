@@ -1,5 +1,5 @@
 //! Goals with the paths to each: in a list while they are few, and then in a map.
-ghost use Rattle.std.specs.Prelude.{◌≡◌, ◌^◌, ◌<◌, [], length, false, IsTrue, IsSome, IsOk, IfOk, OnOk, OnErr};
+ghost use Rattle.std.specs.Prelude.{◌≡◌, ◌^◌, ◌<◌, [], length, false, IsTrue, None, IsSome, IsOk, IfOk, OnOk, OnErr};
 ghost use Rattle.std.specs.Option.{option_map};
 ghost use Rattle.std.specs.List.{IsDistinct};
 ghost use Rattle.std.specs.Map.{keys_of};
@@ -81,11 +81,24 @@ impl<X: Cx> NotedGoals<X> {
         match &mut self.goals {
             Goals::Many(goals) => goals.insert(input, paths),
             Goals::Few(goals) => {
-                if goals.len() >= MOST_LISTED && goals.get(input).is_none() {
-                    return self.insert_past_list(input, paths);
+                if goals.join_known(input, paths) {
+                    return Ok(());
                 }
-                goals.insert(input, paths)
+                self.insert_new(input, paths)
             }
+        }
+    }
+
+    /// Puts in a goal that is new. It stays out of `insert`, which most often finds the goal in the list.
+    #[inline(never)]
+    fn insert_new(&mut self, input: X::Input, paths: PathsToNested) -> Result<(), NoMemory>
+        requires { paths_at X.Input.eq self.old input ≡ None }
+        ensures ok { OnOk result (JoinsPaths X.Input.eq self.old self.new input paths) }
+        ensures err { OnErr result (self.new ≡ self.old) }
+    {
+        match &mut self.goals {
+            Goals::Few(goals) if goals.len() < MOST_LISTED => goals.push(input, paths),
+            _ => self.insert_past_list(input, paths),
         }
     }
 
