@@ -1,5 +1,5 @@
 -- What a run has done so far, as its record has it. The replies stand with the oldest first.
-use Rattle.std.specs.Prelude.{◌≡◌, ◌↔◌, ℕ, nat_lt, IsTrue, IsSome, Bool, true, false, ◌&&◌, if◌then◌else◌, List, [], ◌∷◌, ◌++◌, map, filter, length, reverse, slice_set, Option, None, Some, Contains}
+use Rattle.std.specs.Prelude.{◌≡◌, ◌↔◌, ℕ, nat_lt, zero, suc, IsTrue, IsSome, Bool, true, false, ◌&&◌, if◌then◌else◌, List, [], ◌∷◌, ◌++◌, map, filter, length, reverse, slice_set, Option, None, Some, Contains}
 use Rattle.open_goals.specs.Below.{Request, Evaluate, EnterCandidate, FinishCandidate, Ignore, Reply, Answer, Verdict, Yes, No, Neither, NodeId, Edge, PathKind, Question, question_of, Asked, Progress, request_after, progress_after, counted_by, ignored_by, is_ignored, IsInOrder, Verdicts}
 use Rattle.open_goals.specs.declared.progress.DefiniteAnswer.{DefiniteAnswer}
 
@@ -10,6 +10,11 @@ pub record RunRecord (I R : Type 0) : Type 0 where
   pub answers : List (DefiniteAnswer I)
   pub is_open : Bool
   pub ignored : List Bool
+
+-- the number to which one was added, unless there is 0
+abbrev pub less_one : ℕ → Option ℕ
+less_one zero = None
+less_one (suc number) = Some number
 
 -- whether the two verdicts are the same
 abbrev pub is_same_verdict : Verdict → Verdict → Bool

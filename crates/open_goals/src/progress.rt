@@ -1,9 +1,11 @@
 //! What a run has done so far.
-ghost use Rattle.std.specs.Prelude.{◌≡◌, All, Contains, OnOk, IfOk};
+ghost use Rattle.std.specs.Prelude.{◌≡◌, ◌<◌, ◌^◌, All, Contains, OnOk, IfOk};
+ghost use Rattle.std.specs.Option.{IfSome};
 ghost use Rattle.open_goals.specs.Below.{NodeId, ignored_by};
 ghost use Rattle.open_goals.specs.Words.{HasTarget, no_record, received, requested, answers_with, fault_of, edges_of, rests_on};
 
 use search_parts::context::{Edge, NoMemory, NodeId, Reply, Request, Verdict};
+use search_parts::path::PathKind;
 use std::alloc::Global;
 use std::marker::Model;
 
@@ -17,13 +19,68 @@ pub struct DefiniteAnswer<I> {
     pub candidate: Option<usize>,
 }
 
+/// A definite answer in less room, since a large run has very many: its fields leave no gaps between them.
+#[derive(Drop)]
+struct PackedAnswer<I> {
+    target: usize,
+    /// One more than the number of the candidate, or 0 outside of candidates.
+    candidate: usize,
+    input: I,
+    kind: PathKind,
+    verdict: Verdict,
+}
+
+// Fields in another order could take more.
+const _: () = prove!(size_of::<PackedAnswer<u32>>() == 24);
+
+impl<I> Model for PackedAnswer<I> {
+    ghost use Rattle.open_goals.specs.declared.progress.DefiniteAnswer.{DefiniteAnswer};
+
+    ghost Value = { DefiniteAnswer I };
+
+    ghost use Rattle.open_goals.specs.Progress.{less_one};
+
+    ghost view = { λ a. record { edge = record { kind = a.kind; input = a.input; target = a.target }; verdict = a.verdict; candidate = less_one a.candidate } };
+}
+
+impl<I: Copy> PackedAnswer<I> {
+    /// Packs the answer.
+    fn new(answer: DefiniteAnswer<I>) -> Self
+        requires { IfSome answer.candidate (λ number. number < 2 ^ 63) }
+        ensures { result ≡ answer }
+    {
+        PackedAnswer {
+            target: answer.edge.target,
+            candidate: answer.candidate.map_or(0, |number| number + 1),
+            input: answer.edge.input,
+            kind: answer.edge.kind,
+            verdict: answer.verdict,
+        }
+    }
+
+    /// The answer.
+    fn unpacked(&self) -> DefiniteAnswer<I>
+        ensures { result ≡ self.now }
+    {
+        DefiniteAnswer {
+            edge: Edge {
+                kind: self.kind,
+                input: self.input,
+                target: self.target,
+            },
+            verdict: self.verdict,
+            candidate: self.candidate.checked_sub(1),
+        }
+    }
+}
+
 /// What a run has done so far: its replies, its last request, its definite answers with their nodes,
 /// and its candidates.
 #[derive(Drop)]
 pub struct Progress<I, R> {
     replies: Vec<Reply<R>>,
     request: Option<Request<I, R>>,
-    answers: Vec<DefiniteAnswer<I>>,
+    answers: Vec<PackedAnswer<I>>,
     is_open: bool,
     /// One for each finished candidate.
     ignored: Vec<bool>,
@@ -94,11 +151,12 @@ impl<I: Copy, R: Copy> Progress<I, R> {
             (self.new ≡ record self.old { answers = answers_with self.old edge verdict }) }
     {
         let candidate = self.is_open.then_some(self.ignored.len());
-        self.answers.push(DefiniteAnswer {
+        let answer = DefiniteAnswer {
             edge,
             verdict,
             candidate,
-        })?;
+        };
+        self.answers.push(PackedAnswer::new(answer))?;
         Ok(())
     }
 
@@ -132,8 +190,9 @@ impl<I: Copy, R: Copy> Progress<I, R> {
     {
         let count = self.edge_count(verdict);
         let mut edges = Vec::with_capacity(*self.answers.allocator(), count)?;
-        for answer in &self.answers {
-            if self.is_rested_on(answer, verdict) {
+        for packed in &self.answers {
+            let answer = packed.unpacked();
+            if self.is_rested_on(&answer, verdict) {
                 edges.push(answer.edge)?;
             }
         }
@@ -144,7 +203,7 @@ impl<I: Copy, R: Copy> Progress<I, R> {
     fn edge_count(&self, verdict: Verdict) -> usize {
         self.answers
             .iter()
-            .filter(|answer| self.is_rested_on(answer, verdict))
+            .filter(|packed| self.is_rested_on(&packed.unpacked(), verdict))
             .count()
     }
 
@@ -171,7 +230,8 @@ impl<I: Copy, R: Copy> Progress<I, R> {
         ensures kept { (n : NodeId) → Contains nodes.old.items n → Contains nodes.new.items n }
         ensures answers { OnOk result (All (HasTarget nodes.new.items) self.now.answers) }
     {
-        for answer in &self.answers {
+        for packed in &self.answers {
+            let answer = packed.unpacked();
             nodes.push(NodeId(answer.edge.target))?;
         }
         Ok(())

@@ -4,5 +4,5 @@ use Rattle.open_goals.specs.Words.{rests_on}
 use Rattle.open_goals.proofs.progress.Progress.edges.Given as goal
 
 -- the edges of the answers so far
-abbrev pub invariant-loop-answer : goal.invariant-loop-answer
-invariant-loop-answer g l = l.edges.items ≡ map (λ d. d.edge) (filter (rests_on l.self.ignored l.verdict) (take l.answer-index l.self.answers))
+abbrev pub invariant-loop-packed : goal.invariant-loop-packed
+invariant-loop-packed g l = l.edges.items ≡ map (λ d. d.edge) (filter (rests_on l.self.ignored l.verdict) (take l.packed-index l.self.answers))
