@@ -1,5 +1,7 @@
 //! Tests of the goals under evaluation.
+use crate::countdown::{Count, Countdown};
 use crate::loops::LoopsContext;
+use delegate_parts::ContextOf;
 use search_parts::parts::{AvailableDepth, Stack, StackDepth, StackEntry};
 use search_parts::path::PathKind;
 use std::test::Fail;
@@ -64,5 +66,35 @@ fn goals_are_found_at_their_places(rt: HostRuntime) -> Result<(), Fail> {
     }
     assert_eq!(rt; stack.find(second), None);
     assert_eq!(rt; stack.find(first), Some(StackDepth::new(0)));
+    Ok(())
+}
+
+/// Looks for forty goals, of which the first so many are on the stack in their order.
+fn finds_the_first(stack: &Stack<ContextOf<Countdown>>, count: usize) -> bool {
+    (0..40u8).all(|goal| {
+        let place = usize::from(goal);
+        let found = stack.find(Count(u32::from(goal)));
+        found == (place < count).then_some(StackDepth::new(place))
+    })
+}
+
+#[test]
+fn goals_of_a_deep_stack_are_found(rt: HostRuntime) -> Result<(), Fail> {
+    let mut stack = Stack::<ContextOf<Countdown>>::new(rt.alloc());
+    for place in 0..39u8 {
+        assert!(rt; finds_the_first(&stack, usize::from(place)), "{place}");
+        let goal = Count(u32::from(place));
+        if stack.find(goal).is_none() {
+            let entry = StackEntry::new(rt.alloc(), goal, PathKind::Unknown, AvailableDepth(4));
+            stack.push(entry)?;
+        }
+    }
+    for count in (10..39u8).rev() {
+        if !stack.is_empty() {
+            assert_eq!(rt; stack.pop().input(), Count(u32::from(count)));
+        }
+        assert!(rt; finds_the_first(&stack, usize::from(count)), "{count}");
+    }
+    assert_eq!(rt; stack.len(), 10);
     Ok(())
 }
