@@ -106,8 +106,10 @@ impl CycleHeads {
     pub fn make_room(&mut self, count: usize) -> Result<(), NoMemory>
         ensures { self.new ≡ self.old }
     {
-        let more = count.saturating_sub(self.heads.len());
-        self.heads.reserve(more)?;
+        // Most often there is room.
+        if let Some(more @ 1..) = count.checked_sub(self.heads.len()) {
+            self.heads.reserve(more)?;
+        }
         Ok(())
     }
 
