@@ -1,18 +1,15 @@
--- Where an input stands in a stack, and the map of a stack's inputs after one more input, and after one less.
-use Rattle.std.proofs.Common.{◌≡◌, ℕ, ◌<◌, List, [], ◌∷◌, ◌++◌, length, get_or, take, drop, map, min, is_some, ◌≢◌, not, eqb, ◌+◌, ◌≤◌, Bool, true, false, cond, Option, Some, None, refl, sym, ap, ◌∙◌, arith, subst}
-use Rattle.std.specs.List.{position, position_or_len, IsDistinct, list_any}
-use Rattle.std.specs.Option.{option_map}
+-- The map of a stack's inputs after one more input, and after one less.
+use Rattle.std.proofs.Common.{◌≡◌, ℕ, ◌<◌, List, [], ◌∷◌, ◌++◌, length, get_or, Bool, true, false, cond, Option, Some, None, refl, sym, ◌∙◌, arith, subst}
+use Rattle.std.specs.List.{position, IsDistinct, list_any}
 use Rattle.std.specs.Cmp.{IsEquivalence}
 use Rattle.std.proofs.lemmas.Grind.{common_steps}
 use Rattle.std.proofs.lemmas.Bool.Decides.{nat_tests}
-use Rattle.std.proofs.lemmas.List.Folds.{position_or_len_push, prefix_len-append}
-use Rattle.std.proofs.lemmas.List.{length-map, length-take, length-drop, take_all, take-append-drop, drop_all, drop-append-le, drop-map}
+use Rattle.std.proofs.lemmas.List.Folds.{position_or_len_push}
 use Rattle.std.proofs.lemmas.List.Sums.{prefix_len-le-length}
 use Rattle.std.proofs.lemmas.List.Quantifiers.{position-Some}
 use Rattle.std.proofs.lemmas.Map.Keys.{IsDistinct-push, IsDistinct-from_apart, apart_from_distinct}
 use Rattle.std.proofs.Math.ListN.{length-append}
-use Rattle.search_stack.specs.StackIndex.{IsIndex, past_compared}
-use Rattle.search_stack.specs.declared.stack.TheConstants.{MOST_COMPARED}
+use Rattle.search_stack.specs.Words.{IsIndex}
 
 -- the first place at which p passes, in a list with one more element
 pub position_push_new : {X : Type 0} (p : X → Bool) (xs : List X) (y : X) → position p xs ≡ None → p y ≡ true → position p (xs ++ y ∷ []) ≡ Some (length xs)
@@ -27,51 +24,6 @@ list_any-step p xs x none ih = grind (arith, nat_tests, prefix_len-le-length)
 pub list_any_from_position : {X : Type 0} (p : X → Bool) (xs : List X) → position p xs ≡ None → list_any p xs ≡ false
 list_any_from_position p [] none = refl
 list_any_from_position p (x ∷ xs) none = list_any-step p xs x none (list_any_from_position p xs)
-
--- where p passes first: among the first n, or past them
-module _ {X : Type 0} (p : X → Bool) (n : ℕ) (xs : List X) where
-  parts_position : position_or_len p xs ≡ cond (eqb (position_or_len p (take n xs)) (length (take n xs))) (length (take n xs) + position_or_len p (drop n xs)) (position_or_len p (take n xs))
-  parts_position = ap (position_or_len p) (sym (take-append-drop n xs)) ∙ prefix_len-append (λ x. not (p x)) (take n xs) (drop n xs)
-
-  parts_length : length xs ≡ length (take n xs) + length (drop n xs)
-  parts_length = ap length (sym (take-append-drop n xs)) ∙ length-append (take n xs) (drop n xs)
-
-  pub position_first : (o : Option ℕ) → o ≡ position p (take n xs) → is_some o ≡ true → o ≡ position p xs
-  position_first o found some = grind (arith, nat_tests, parts_position, parts_length, prefix_len-le-length)
-
-  pub position_past : None ≡ position p (take n xs) → length (take n xs) ≡ n → position p xs ≡ option_map (λ i. n + i) (position p (drop n xs))
-  position_past none long = grind (arith, nat_tests, parts_position, parts_length, prefix_len-le-length)
-
-  pub position_past_none : position p xs ≡ None → position p (drop n xs) ≡ None
-  position_past_none none = grind (arith, nat_tests, parts_position, parts_length, prefix_len-le-length)
-
--- the places of what f gives
-position_or_len-map : {X Y : Type 0} (p : Y → Bool) (f : X → Y) (xs : List X) → position_or_len p (map f xs) ≡ position_or_len (λ x. p (f x)) xs
-position_or_len-map p f [] = refl
-position_or_len-map p f (x ∷ xs) = ap (λ n. cond (not (p (f x))) (1 + n) 0) (position_or_len-map p f xs)
-
-pub position-map : {X Y : Type 0} (p : Y → Bool) (f : X → Y) (xs : List X) → position p (map f xs) ≡ position (λ x. p (f x)) xs
-position-map p f xs = rw (position_or_len-map p f xs, length-map xs f)
-
-none_from_test : {X : Type 0} (o : Option X) → is_some o ≡ false → None ≡ o
-none_from_test None none = refl
-none_from_test (Some x) none = cc
-
--- where q stands, which among the first n stands at o
-module _ {X I : Type 0} (eq : I → I → Bool) (q : I) (f : X → I) (xs : List X) (n : ℕ) (o : Option ℕ) (compared : o ≡ position (λ x. eq q (f x)) (take n xs)) where
-  pub place_compared : is_some o ≡ true → o ≡ position (eq q) (map f xs)
-  place_compared some = position_first (λ x. eq q (f x)) n xs o compared some ∙ sym (position-map (eq q) f xs)
-
-  pub place_in_all : n ≡ length xs → o ≡ position (eq q) (map f xs)
-  place_in_all all = compared ∙ ap (position (λ x. eq q (f x))) (take_all n xs (omega arith)) ∙ sym (position-map (eq q) f xs)
-
-  pub place_past : (depth : I → Option ℕ) (past : Option ℕ) → IsIndex eq depth (past_compared (map f xs)) → past ≡ depth q → is_some o ≡ false → n ≡ min (length xs) MOST_COMPARED → n ≢ length xs → option_map (λ i. MOST_COMPARED + i) past ≡ position (eq q) (map f xs)
-  unfolding past_compared
-  place_past depth past index is none least more =
-      let count : n ≡ MOST_COMPARED = omega arith in
-      let long : length (take MOST_COMPARED xs) ≡ MOST_COMPARED = length-take MOST_COMPARED xs ∙ omega arith in
-      let absent : None ≡ position (λ x. eq q (f x)) (take MOST_COMPARED xs) = none_from_test o none ∙ rw count at compared in
-      rw (is, index.agrees q, drop-map f MOST_COMPARED xs, position-map (eq q) f (drop MOST_COMPARED xs), position-map (eq q) f xs) (sym (position_past (λ x. eq q (f x)) MOST_COMPARED xs absent long))
 
 module _ {I : Type 0} (eq : I → I → Bool) (laws : IsEquivalence eq) (exact : (a b : I) → eq a b ≡ true → a ≡ b) where
   -- where an input stands, after one more that did not stand there
@@ -129,19 +81,3 @@ module _ {I : Type 0} (eq : I → I → Bool) (laws : IsEquivalence eq) (exact :
   pub IsIndex-empty : (depth : I → Option ℕ) → ((q : I) → depth q ≡ None) → IsIndex eq depth []
   unfolding IsDistinct
   IsIndex-empty depth none = record { agrees = none; distinct = tt }
-
-  -- past the compared inputs: where all are compared, and after one more input and one less
-  pub IsIndex-short : (depth : I → Option ℕ) (ks all : List I) → length ks ≤ MOST_COMPARED → length all ≤ MOST_COMPARED → IsIndex eq depth (past_compared ks) → IsIndex eq depth (past_compared all)
-  unfolding past_compared
-  IsIndex-short depth ks all few few' index = rw (drop_all MOST_COMPARED all) (rw (drop_all MOST_COMPARED ks) at index)
-
-  pub IsIndex-past_push : (depth depth' : I → Option ℕ) (ks all : List I) (k : I) (n : ℕ) → IsIndex eq depth (past_compared ks) → position (eq k) ks ≡ None → n + MOST_COMPARED ≡ length ks → all ≡ ks ++ k ∷ [] → ((q : I) → depth' q ≡ cond (eq k q) (Some n) (depth q)) → IsIndex eq depth' (past_compared all)
-  unfolding past_compared
-  IsIndex-past_push depth depth' ks all k n index new is_length is_all at =
-      IsIndex-push depth depth' (drop MOST_COMPARED ks) (drop MOST_COMPARED all) k n index (position_past_none (eq k) MOST_COMPARED ks new) (simp length-drop (omega arith))
-      (ap (drop MOST_COMPARED) is_all ∙ drop-append-le MOST_COMPARED ks (k ∷ []) (omega arith)) at
-
-  pub IsIndex-past_pop : (depth depth' : I → Option ℕ) (ks all : List I) (k : I) → IsIndex eq depth (past_compared all) → all ≡ ks ++ k ∷ [] → MOST_COMPARED ≤ length ks → ((q : I) → depth' q ≡ cond (eq k q) None (depth q)) → IsIndex eq depth' (past_compared ks)
-  unfolding past_compared
-  IsIndex-past_pop depth depth' ks all k was is_all many at =
-      IsIndex-pop depth depth' (drop MOST_COMPARED ks) (drop MOST_COMPARED all) k was (ap (drop MOST_COMPARED) is_all ∙ drop-append-le MOST_COMPARED ks (k ∷ []) many) at

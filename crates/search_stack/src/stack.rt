@@ -1,10 +1,8 @@
 //! The goals under evaluation, from the first one up.
-ghost use Rattle.std.specs.Prelude.{◌≡◌, ℕ, ◌+◌, ◌-◌, ◌^◌, ◌<◌, List, [], ◌∷◌, ◌++◌, length, IfOk, OnOk, OnErr, IfSome, is_some, IsTrue, ◌↔◌, None, false, slice_index_or, map};
-ghost use Rattle.std.specs.List.{position};
-ghost use Rattle.std.specs.HashMap as hash;
+ghost use Rattle.std.specs.Prelude.{◌≡◌, ℕ, ◌+◌, ◌-◌, ◌^◌, ◌<◌, List, [], ◌∷◌, ◌++◌, length, IfOk, OnErr, IfSome, is_some, IsTrue, ◌↔◌, None, false, slice_index_or, map};
 ghost use Rattle.std.specs.Option.{option_map};
 ghost use Rattle.std.specs.Slice.Iter.{iter_rest};
-ghost use Rattle.search_stack.specs.Words.{position_of, IsIndex, past_compared, TellsKinds};
+ghost use Rattle.search_stack.specs.Words.{position_of, TellsKinds};
 
 use crate::depth::{AvailableDepth, StackDepth};
 use crate::nested_goals::NestedGoals;
@@ -104,18 +102,12 @@ impl<X: Cx> StackEntry<X> {
     }
 }
 
-/// With how many entries at most a goal that is looked for is compared. About so many comparisons take as long
-/// as one look-up.
-const MOST_COMPARED: usize = 16;
-
 /// The goals under evaluation: a list of entries with distinct inputs, each of which is found by its
-/// input. The first ones are compared one by one, and the others are looked up, so a short stack, as most are,
-/// hashes nothing and takes no map. Ports `Stack`.
+/// input. Ports `Stack`.
 #[derive(Drop)]
 pub struct Stack<X: Cx> {
     entries: Vec<StackEntry<X>>,
-    /// For the input of each entry past those that are compared, its place among these.
-    deep: HashMap<X::Input, usize>,
+    depths: HashMap<X::Input, usize>,
     /// For each entry, where the last steps up to it are.
     steps: Vec<LastSteps>,
 }
@@ -124,15 +116,14 @@ impl<X: Cx> Model for Stack<X> {
     ghost use Rattle.std.specs.Prelude.{List, map};
     ghost use Rattle.std.specs.HashMap as hash;
     ghost use Rattle.search_stack.specs.declared.stack.StackEntry.{StackEntry};
-    ghost use Rattle.search_stack.specs.StackIndex.{IsIndex, past_compared};
+    ghost use Rattle.search_stack.specs.StackIndex.{IsIndex};
     ghost use Rattle.search_stack.specs.Steps.{AreLastSteps};
 
     ghost Value = { List (StackEntry X X.Input X.Result X.AmbiguityInfo X.DepNodeIndex) };
 
     ghost view = { λ s. s.entries.items };
 
-    ghost invariant = { λ s. IsIndex X.Input.eq (hash.get X.Input.eq s.deep)
-        (past_compared (map (λ e. e.input) s.entries.items))
+    ghost invariant = { λ s. IsIndex X.Input.eq (hash.get X.Input.eq s.depths) (map (λ e. e.input) s.entries.items)
         × AreLastSteps s.steps.items (map (λ e. e.step_kind_from_parent) s.entries.items) };
 }
 
@@ -143,7 +134,7 @@ impl<X: Cx> Stack<X> {
     {
         Stack {
             entries: Vec::new(alloc),
-            deep: HashMap::new(alloc),
+            depths: HashMap::new(alloc),
             steps: Vec::new(alloc),
         }
     }
@@ -175,23 +166,10 @@ impl<X: Cx> Stack<X> {
         ensures present { is_some result ≡ is_some (position_of X.Input.eq input self.now) }
         ensures on_stack { IfSome result (λ d. d.0 < length self.now) }
     {
-        match self.place_of(input) {
-            Some(place) => Some(StackDepth::new(place)),
+        match self.depths.get(&input) {
+            Some(depth) => Some(StackDepth::new(*depth)),
             None => None,
         }
-    }
-
-    /// The place of the entry with that input. Where all of them are compared, nothing is hashed.
-    fn place_of(&self, input: X::Input) -> Option<usize>
-        ensures { result ≡ position_of X.Input.eq input self.now }
-    {
-        let count = self.entries.len().min(MOST_COMPARED);
-        let compared = place_among::<X>(&self.entries[..count], input);
-        if compared.is_some() || count == self.entries.len() {
-            return compared;
-        }
-        let place = self.deep.get(&input)?;
-        Some(MOST_COMPARED + *place)
     }
 
     /// The last entry.
@@ -216,7 +194,7 @@ impl<X: Cx> Stack<X> {
         self.entries.reserve(1)?;
         self.steps.reserve(1)?;
         let depth = self.entries.len();
-        note_deep::<X>(&mut self.deep, entry.input, depth)?;
+        self.depths.insert(entry.input, depth)?;
         self.entries.push_reserved(entry);
         self.steps.push_reserved(steps);
         Ok(StackDepth::new(depth))
@@ -227,10 +205,10 @@ impl<X: Cx> Stack<X> {
         requires { 0 < length self.old }
         ensures { self.old ≡ self.new ++ result ∷ [] }
     {
+        let input = self.last().input;
+        let _ = self.depths.remove(&input);
         let _ = self.steps.pop();
-        let entry = self.entries.pop().unwrap();
-        forget_deep::<X>(&mut self.deep, entry.input, self.entries.len());
-        entry
+        self.entries.pop().unwrap()
     }
 
     /// Where the last steps of the stack are.
@@ -242,43 +220,6 @@ impl<X: Cx> Stack<X> {
             Some(steps) => *steps,
             None => LastSteps::new(),
         }
-    }
-}
-
-/// The place of the entry with that input, found by comparing it with each.
-fn place_among<X: Cx>(entries: &[StackEntry<X>], input: X::Input) -> Option<usize>
-    ensures { result ≡ position (λ e. X.Input.eq input e.input) entries.now }
-{
-    entries.iter().position(|entry| input == entry.input)
-}
-
-/// Puts in the input of a new entry at that depth, unless it is one of those that are compared. A refusal
-/// changes nothing.
-fn note_deep<X: Cx>(
-    deep: &mut HashMap<X::Input, usize>,
-    input: X::Input,
-    depth: usize,
-) -> Result<(), NoMemory>
-    ensures ok { OnOk result ((inputs : List X.Input) → depth ≡ length inputs
-        → position (X.Input.eq input) inputs ≡ None
-        → IsIndex X.Input.eq (hash.get X.Input.eq deep.old) (past_compared inputs)
-        → IsIndex X.Input.eq (hash.get X.Input.eq deep.new) (past_compared (inputs ++ input ∷ []))) }
-    ensures err { OnErr result (hash.get X.Input.eq deep.new ≡ hash.get X.Input.eq deep.old) }
-{
-    if depth >= MOST_COMPARED {
-        deep.insert(input, depth - MOST_COMPARED)?;
-    }
-    Ok(())
-}
-
-/// Takes out the input of the last entry, at that depth, unless it is one of those that are compared.
-fn forget_deep<X: Cx>(deep: &mut HashMap<X::Input, usize>, input: X::Input, depth: usize)
-    ensures { (inputs : List X.Input) → depth ≡ length inputs
-        → IsIndex X.Input.eq (hash.get X.Input.eq deep.old) (past_compared (inputs ++ input ∷ []))
-        → IsIndex X.Input.eq (hash.get X.Input.eq deep.new) (past_compared inputs) }
-{
-    if depth >= MOST_COMPARED {
-        let _ = deep.remove(&input);
     }
 }
 

@@ -1,11 +1,9 @@
 use Rattle.std.proofs.Common.{refl}
 use Rattle.search_stack.proofs.LastSteps.{AreLastSteps-empty}
 use Rattle.search_stack.proofs.StackIndex.{IsIndex-empty}
-use Rattle.search_stack.specs.StackIndex.{past_compared}
 use Rattle.search_stack.proofs.stack.Stack.new.Goals as goal
 
 pub invariant_of-result : goal.invariant_of-result
-unfolding past_compared
 invariant_of-result g c =
     rw (c.new.ensures.items, c.new-2.ensures.empty, c.new-3.ensures.items) (
       IsIndex-empty g.X.Input.PartialEq.eq g.met.X.Input.Eq.laws g.met.X.Cx.same_input _ (λ q. refl),

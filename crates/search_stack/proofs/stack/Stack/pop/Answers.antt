@@ -1,15 +1,27 @@
-use Rattle.std.proofs.Common.{◌≡◌, [], ◌∷◌, ◌++◌, map, arith}
+use Rattle.std.proofs.Common.{◌≡◌, ◌-◌, ◌+◌, List, [], ◌∷◌, ◌++◌, ◌∙◌, ap, arith, get_or, length, length-append, map}
+use Rattle.std.proofs.Math.Seq.{get_or-append_seam}
 use Rattle.std.proofs.lemmas.List.{map-append}
 use Rattle.std.proofs.lemmas.Grind.{common_steps}
 use Rattle.search_stack.proofs.LastSteps.{AreLastSteps-pop}
+use Rattle.search_stack.proofs.StackIndex.{IsIndex-pop}
 use Rattle.search_stack.proofs.stack.Stack.pop.Goals as goal
+
+-- what stands at the last place is the last one
+last_of : {A : Type 0} (all rest : List A) (x d : A) → all ≡ rest ++ x ∷ [] → d ≡ get_or all (length all - 1) d → d ≡ x
+last_of all rest x d parts is =
+    let count : length all ≡ length rest + 1 = ap length parts ∙ length-append rest (x ∷ []) in
+    let place : length all - 1 ≡ length rest = omega (arith, count) in
+    is ∙ ap (λ n. get_or all n d) place ∙ ap (λ l. get_or l (length rest) d) parts ∙ get_or-append_seam rest x [] d
 
 -- the last input is found no more, and each other one where it was; and the last steps up to the other entries are as before
 pub invariant_of-self : goal.invariant_of-self
 invariant_of-self g c =
-    let inputs = map (λ e. e.input) c.pop-2.new.self.items in
-    let parts : map (λ e. e.input) c.self.inside.entries.items ≡ inputs ++ c.unwrap-entry.result.input ∷ [] = grind (arith, common_steps, map-append) in (
-      c.forget_deep.ensures inputs (grind (arith, common_steps)) (rw parts at c.self.invariant.0),
-      AreLastSteps-pop _ (map (λ e. e.step_kind_from_parent) c.self.inside.entries.items) _ c.unwrap-entry.result.step_kind_from_parent _ _
+    let all = c.self.inside.entries.items in
+    let rest = c.pop-2.new.self.items in
+    let parts : all ≡ rest ++ c.unwrap.result ∷ [] = grind (arith, common_steps) in
+    let last : c.last.result.now ≡ c.unwrap.result = last_of all rest c.unwrap.result c.last.result.now parts (rw (← c.self.view_is) at c.last.ensures) in (
+      IsIndex-pop g.X.Input.PartialEq.eq g.met.X.Input.Eq.laws g.met.X.Cx.same_input _ _ _ (map (λ e. e.input) c.self.inside.entries.items) c.unwrap.result.input
+          c.self.invariant.0 (grind (arith, common_steps, map-append)) (λ q. rw (← last) (c.remove.ensures.updates.0 q)),
+      AreLastSteps-pop _ (map (λ e. e.step_kind_from_parent) c.self.inside.entries.items) _ c.unwrap.result.step_kind_from_parent _ _
           (grind (arith, common_steps, map-append)) (grind (arith, common_steps)) c.pop.ensures.rest c.self.invariant.1,
     )

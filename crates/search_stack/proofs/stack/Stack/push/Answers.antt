@@ -3,25 +3,25 @@ use Rattle.std.proofs.lemmas.List.{map-append}
 use Rattle.std.proofs.lemmas.Grind.{common_steps}
 use Rattle.search_stack.specs.Words.{AreLastSteps, TellsKinds}
 use Rattle.search_stack.proofs.LastSteps.{AreLastSteps-push, TellsKinds-step}
+use Rattle.search_stack.proofs.StackIndex.{IsIndex-push}
 use Rattle.search_stack.proofs.stack.Stack.push.Goals as goal
 
 -- the new input is found at the old length, and each other one where it was; and the new step is the last of its kind
 pub invariant_of-self-2 : goal.invariant_of-self-2
 invariant_of-self-2 g c =
     let kind = c.args.entry.step_kind_from_parent in
-    let inputs = map (λ e. e.input) c.self.inside.entries.items in
     let kinds = map (λ e. e.step_kind_from_parent) c.self.inside.entries.items in
     let told : TellsKinds c.last_steps.result kinds = rw c.self.view_is c.last_steps.ensures.tells in
     let size : c.len-below.result ≡ length kinds = grind (arith, common_steps, c.self.invariant.1.each) in
     let after : TellsKinds c.with_step-steps.result (kinds ++ kind ∷ []) = rw c.with_step-steps.ensures (TellsKinds-step c.last_steps.result kinds kind c.len-below.result size told) in
     let more : map (λ e. e.step_kind_from_parent) c.push_reserved.new.self.items ≡ kinds ++ kind ∷ [] = grind (arith, common_steps, map-append) in
-    let more_inputs : map (λ e. e.input) c.push_reserved.new.self.items ≡ inputs ++ c.args.entry.input ∷ [] = grind (arith, common_steps, map-append) in
     let last : AreLastSteps c.push_reserved-2.new.self.items (map (λ e. e.step_kind_from_parent) c.push_reserved.new.self.items) =
     rw (more, c.push_reserved-2.ensures.items, c.in_ok-reserve-2.ensures.items) (AreLastSteps-push c.self.inside.steps.items kinds c.with_step-steps.result kind after c.self.invariant.1) in (
-      rw more_inputs (c.in_ok-note_deep.ensures.ok inputs (grind (arith, common_steps)) (rw c.self.view_is c.requires) c.self.invariant.0),
+      IsIndex-push g.X.Input.PartialEq.eq g.met.X.Input.Eq.laws g.met.X.Cx.same_input _ _ (map (λ e. e.input) c.self.inside.entries.items) _ c.args.entry.input c.len-depth.result
+          c.self.invariant.0 (rw c.self.view_is c.requires) (grind (arith, common_steps)) (grind (arith, common_steps, map-append)) (λ q. c.in_ok-insert.ensures.updates.0 q),
       last,
     )
 
 -- nothing was put in
-pub invariant_of-self-in_err-note_deep : goal.invariant_of-self-in_err-note_deep
-invariant_of-self-in_err-note_deep g c = rw (c.in_err-note_deep.ensures.err, c.in_ok-reserve.ensures.items, c.in_ok-reserve-2.ensures.items) c.self.invariant
+pub invariant_of-self-in_err-insert : goal.invariant_of-self-in_err-insert
+invariant_of-self-in_err-insert g c = rw (c.in_err-insert.ensures.err, c.in_ok-reserve.ensures.items, c.in_ok-reserve-2.ensures.items) c.self.invariant
