@@ -13,4 +13,6 @@ mod large;
 #[cfg(test)]
 mod plain;
 #[cfg(test)]
+mod replayed;
+#[cfg(test)]
 mod rows;

@@ -217,4 +217,20 @@ impl<F: Frames, const LIMIT: usize, const PROVISIONAL: usize> Delegate
     {
         F::step(frame, reply)
     }
+
+    fn start_replay(cx: F::Cx, input: <F::Cx as Cx>::Input) -> Option<F::Frame> {
+        F::start(cx, input).ok()
+    }
+
+    fn step_replay(
+        frame: &mut F::Frame,
+        reply: Reply<Outcome>,
+    ) -> Result<Request<<F::Cx as Cx>::Input, Outcome>, NoMemory>
+        requires { CanTake F.stands F.script frame.old reply }
+        ensures request { IfOk result (λ request.
+            Steps F.stands F.script frame.old reply request frame.new) }
+        ensures falls { OnOk result (F.left frame.new < F.left frame.old) }
+    {
+        F::step(frame, reply)
+    }
 }

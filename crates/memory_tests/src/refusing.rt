@@ -167,4 +167,20 @@ impl<D: Delegate> Delegate for Refusing<D> {
         inspect.note_call()?;
         D::step(frame, reply, &mut inspect.builder)
     }
+
+    fn start_replay(cx: D::Cx, input: <D::Cx as Cx>::Input) -> Option<D::Frame> {
+        D::start_replay(cx, input)
+    }
+
+    fn step_replay(
+        frame: &mut D::Frame,
+        reply: Reply<<D::Cx as Cx>::Result>,
+    ) -> Result<Request<<D::Cx as Cx>::Input, <D::Cx as Cx>::Result>, NoMemory>
+        requires { CanTake D.stands D.script frame.old reply }
+        ensures request { IfOk result
+            (λ request. Steps D.stands D.script frame.old reply request frame.new) }
+        ensures falls { OnOk result (D.left frame.new < D.left frame.old) }
+    {
+        D::step_replay(frame, reply)
+    }
 }

@@ -419,7 +419,7 @@ pub fn step<D: Delegate>(
 }
 
 /// The verdict of an answer; any other reply says neither yes nor no.
-fn sort_of<X: Cx>(cx: X, reply: Reply<X::Result>) -> Verdict
+pub fn sort_of<X: Cx>(cx: X, reply: Reply<X::Result>) -> Verdict
     ensures { IsVerdict (verdicts X.Cx) reply result }
 {
     match reply {

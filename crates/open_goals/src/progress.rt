@@ -1,5 +1,5 @@
 //! What a run has done so far.
-ghost use Rattle.std.specs.Prelude.{◌≡◌, ◌<◌, ◌^◌, All, Contains, OnOk, IfOk};
+ghost use Rattle.std.specs.Prelude.{◌≡◌, ◌<◌, ◌^◌, All, Contains, OnOk, IfOk, slice_get};
 ghost use Rattle.std.specs.Option.{IfSome};
 ghost use Rattle.open_goals.specs.Below.{NodeId, ignored_by};
 ghost use Rattle.open_goals.specs.Words.{HasTarget, no_record, received, requested, answers_with, fault_of, edges_of, rests_on};
@@ -110,6 +110,7 @@ impl<I: Copy, R: Copy> Progress<I, R> {
 
     /// Takes the reply to the last request. `verdict` is that of an answer, `node` its node if it is
     /// definite. A refusal leaves anything.
+    #[inline(always)]
     pub fn receive(
         &mut self,
         reply: Reply<R>,
@@ -208,7 +209,7 @@ impl<I: Copy, R: Copy> Progress<I, R> {
     }
 
     /// Whether a result of this verdict rests on the answer.
-    fn is_rested_on(&self, answer: &DefiniteAnswer<I>, verdict: Verdict) -> bool
+    pub fn is_rested_on(&self, answer: &DefiniteAnswer<I>, verdict: Verdict) -> bool
         ensures { result ≡ rests_on self.now.ignored verdict answer.now }
     {
         answer.verdict == verdict
@@ -245,8 +246,36 @@ impl<I: Copy, R: Copy> Progress<I, R> {
         Ok(replies)
     }
 
+    /// The definite answer at this place, in the order of asking.
+    pub fn answer(&self, place: usize) -> Option<DefiniteAnswer<I>>
+        ensures { result ≡ slice_get self.now.answers place }
+    {
+        let packed = self.answers.get(place)?;
+        Some(packed.unpacked())
+    }
+
+    /// How many definite answers there were.
+    pub fn answer_count(&self) -> usize {
+        self.answers.len()
+    }
+
+    /// Whether there are answers of this verdict to questions of this kind, and to others, also in ignored candidates.
+    pub fn mixes_kinds(&self, kind: PathKind, verdict: Verdict) -> bool {
+        let mut of_verdict = self.answers.iter().filter(|it| it.verdict == verdict);
+        let Some(first) = of_verdict.next() else {
+            return false;
+        };
+        let first_is_of_kind = first.kind == kind;
+        of_verdict.any(|it| (it.kind == kind) != first_is_of_kind)
+    }
+
+    /// The reply at this place, the oldest at 0.
+    pub fn reply(&self, place: usize) -> Option<Reply<R>> {
+        self.replies.get(place).copied()
+    }
+
     /// How many replies there were.
-    pub(crate) fn count(&self) -> usize {
+    pub fn count(&self) -> usize {
         self.replies.len()
     }
 

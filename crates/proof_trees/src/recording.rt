@@ -176,6 +176,20 @@ impl<D: Delegate> Delegate for Recording<D> {
     {
         step_recorded::<D>(frame, reply, inspect)
     }
+
+    // No frame is one of a run that is replayed: each run is recorded.
+    fn step_replay(
+        _frame: &mut Self::Frame,
+        _reply: Reply<<D::Cx as Cx>::Result>,
+    ) -> Result<Request<<D::Cx as Cx>::Input, <D::Cx as Cx>::Result>, NoMemory>
+        requires { CanTake (λ recorded. D.stands recorded.frame) D.script _frame.old _reply }
+        ensures request { IfOk result (λ request.
+            Steps (λ recorded. D.stands recorded.frame) D.script _frame.old _reply request
+            _frame.new) }
+        ensures falls { OnOk result (D.left _frame.new.frame < D.left _frame.old.frame) }
+    {
+        Err(NoMemory)
+    }
 }
 
 /// A new frame of `D`, whose run is recorded. After a refusal the entries are those that there were.

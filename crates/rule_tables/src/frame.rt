@@ -58,6 +58,7 @@ impl State {
     }
 
     /// Takes one more reply, and makes the next request.
+    #[inline(always)]
     pub fn receive(&mut self, candidates: &[Candidate], reply: Reply<Outcome>)
         ensures { self.new ≡ state_with candidates.now self.old self.old.request reply }
     {

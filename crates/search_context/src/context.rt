@@ -1,5 +1,5 @@
 //! What a goal search is told of goals: the context, the delegate, requests and replies.
-ghost use Rattle.std.specs.Prelude.{◌≡◌, ◌↔◌, ◌≤◌, ◌<◌, ◌+◌, ℕ, true, false, Bool, List, [], ◌∷◌, IsTrue, IsSome, IfOk, OnOk, Some, None, Option};
+ghost use Rattle.std.specs.Prelude.{◌≡◌, ◌↔◌, ◌≤◌, ◌<◌, ◌+◌, ℕ, true, false, Bool, List, [], ◌∷◌, IsTrue, IsSome, IfSome, IfOk, OnOk, Some, None, Option};
 ghost use Rattle.search_context.specs.Question.{Question, IsWithin, Overlap};
 ghost use Rattle.search_context.specs.Run.{EndsIn, progress_after, questions_answered};
 ghost use Rattle.search_context.specs.Delegate.{IsNeither, IsCycleResult, CanTake, Steps, CountsOne};
@@ -331,6 +331,29 @@ pub trait Delegate: Sized {
         ensures falls { OnOk result (left frame.new < left frame.old) }
         ensures same_starts { starts inspect.new ≡ starts inspect.old }
         ensures same_noop { noop inspect.new ≡ noop inspect.old };
+
+    /// A frame of the goal for a run that is replayed beside the search: no builder sees it, and it counts as no run. A
+    /// search of many runs replays some of them, to find out on how few answers their results may rest, and so holds
+    /// far fewer nodes. `None` where there is no such frame, as by default: then each run rests on all its answers.
+    fn start_replay(_cx: Self::Cx, _input: <Self::Cx as Cx>::Input) -> Option<Self::Frame>
+        ensures frame { IfSome result (λ frame. stands frame _cx _input []) }
+        ensures within { IfSome result (λ frame. left frame ≤ width _cx) }
+    {
+        None
+    }
+
+    /// The next request of a frame that is replayed. After a refusal nothing is known of the frame.
+    fn step_replay(
+        _frame: &mut Self::Frame,
+        _reply: Reply<<Self::Cx as Cx>::Result>,
+    ) -> Result<Request<<Self::Cx as Cx>::Input, <Self::Cx as Cx>::Result>, NoMemory>
+        requires { CanTake stands script _frame.old _reply }
+        ensures request { IfOk result (λ request.
+            Steps stands script _frame.old _reply request _frame.new) }
+        ensures falls { OnOk result (left _frame.new < left _frame.old) }
+    {
+        Err(NoMemory)
+    }
 
     /// A result of yes rests on the questions that were answered yes.
     ghost yes_is_proved: { (cx : Self.Cx) (goal : Self.Cx.Input) (replies : List (Reply Self.Cx.Result)) (r : Self.Cx.Result) → EndsIn (script cx goal) replies r → Self.Cx.is_yes r ≡ true → Self.Cx.proves cx goal (questions_answered Self.Cx.is_yes (progress_after (script cx goal) replies)) };

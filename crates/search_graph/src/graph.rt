@@ -87,8 +87,8 @@ impl<D: Delegate> SearchGraph<D> {
         0
     }
 
-    /// Whether, since the graph was made, a goal without depth has asked a question, or a goal had its most
-    /// runs and its result wasn't stable. A fault does not reset it.
+    /// Whether, since the graph was made or renewed, a goal without depth has asked a question, or a goal had its
+    /// most runs and its result wasn't stable. A fault does not reset it.
     pub fn limits_met(&self) -> bool
         ensures { result ≡ self.now.limits_met }
     {

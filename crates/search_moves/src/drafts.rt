@@ -7,7 +7,7 @@ use search_parts::global_cache::GlobalCache;
 use std::alloc::Global;
 
 /// So many nodes a call writes at least before they are looked through for the first time.
-const FEW: usize = 512;
+const FEW: usize = 1024;
 
 /// What a call knows of the nodes that it writes. They stand behind those that were there when it began, and most of
 /// them are let go again, since its answers do not rest on them.

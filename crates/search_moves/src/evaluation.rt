@@ -8,10 +8,11 @@ use open_goals::spare::SpareMemory;
 use search_parts::context::{Cx, Delegate};
 use search_parts::global_cache::GlobalCache;
 use search_parts::parts::{AvailableDepth, ProvisionalCache};
+use search_rules::lean::LeanRuns;
 use std::alloc::Global;
 
-/// Of a call with more runs than these no memory is kept. Each goal on the stack, each provisional entry and each stored
-/// result has a run, so what is kept is no more than these need.
+/// Of a call with more runs than these no memory is kept but the `SpareMemory`, which has a bound of its own. Each goal on
+/// the stack, each provisional entry and each stored result has a run, so what is kept else is no more than these need.
 const MOST_RUNS: usize = 256;
 
 /// The goals that are under evaluation in one call, each on the stack with its run, and what else the call has
@@ -26,6 +27,7 @@ pub struct Evaluation<D: Delegate> {
     pub limits_met: bool,
     pub drafts: Drafts,
     pub spare: SpareMemory<<D::Cx as Cx>::Input, <D::Cx as Cx>::Result>,
+    pub lean: LeanRuns<<D::Cx as Cx>::Input, <D::Cx as Cx>::Result>,
 }
 
 impl<D: Delegate> Evaluation<D> {
@@ -43,6 +45,7 @@ impl<D: Delegate> Evaluation<D> {
           limits_met = limits_met;
           drafts = drafts;
           spare = tt;
+          lean = tt;
         } }
         ensures fits { root_depth.0 < 2 ^ 64 }
     {
@@ -51,6 +54,7 @@ impl<D: Delegate> Evaluation<D> {
             provisional: ProvisionalCache::new(alloc),
             root_depth,
             limits_met,
+            lean: LeanRuns::new(alloc, drafts.first),
             drafts,
             spare: SpareMemory::new(alloc),
         }
@@ -66,6 +70,7 @@ impl<D: Delegate> Evaluation<D> {
           limits_met = limits_met;
           drafts = self.new.drafts;
           spare = tt;
+          lean = tt;
         } }
         ensures drafts { HasNoDrafts cache.now.nodes self.new.drafts }
         ensures fits { root_depth.0 < 2 ^ 64 }
@@ -74,6 +79,7 @@ impl<D: Delegate> Evaluation<D> {
         self.root_depth = root_depth;
         self.limits_met = limits_met;
         self.drafts.begin(cache);
+        self.lean.begin(cache.next_node());
     }
 
     /// Ends over this cache. What a fault has left is let go, and so is the memory of a call of many runs, which few calls
@@ -87,6 +93,7 @@ impl<D: Delegate> Evaluation<D> {
             self.goals = OpenGoals::new(alloc);
             self.provisional = ProvisionalCache::new(alloc);
             self.drafts.stored = Vec::new(alloc);
+            self.lean = LeanRuns::new(alloc, self.drafts.first);
         }
         self.empty();
     }

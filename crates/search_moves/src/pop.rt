@@ -62,7 +62,15 @@ impl<D: Delegate> Evaluation<D> {
         let mut encountered_overflow = entry.state.encountered_overflow;
         encountered_overflow |= met_overflow_before;
         let input = entry.input();
-        let node = result_node::<D>(cache, &entry.state, own_node, &progress, outcome)?;
+        let node = result_node::<D>(
+            cache,
+            input,
+            &entry.state,
+            own_node,
+            &progress,
+            outcome,
+            &mut self.lean,
+        )?;
         self.spare.keep_progress(progress);
         self.spare.keep_candidates(candidates);
         entry.state.heads.are_rising();

@@ -38,9 +38,16 @@ impl<D: Delegate> Evaluation<D> {
         let own_node = self.goals.last_run().node;
         let entry = self.goals.last_entry();
         let input = entry.input();
-        let node = result_node::<D>(cache, &entry.state, own_node, &progress, outcome)?.or(
-            entry.state.node,
-        );
+        let node = result_node::<D>(
+            cache,
+            input,
+            &entry.state,
+            own_node,
+            &progress,
+            outcome,
+            &mut self.lean,
+        )?
+        .or(entry.state.node);
         self.spare.keep_progress(progress);
         let frame = D::start(cache.cx(), input, inspect)?;
         let own_node = cache.open_node(input)?;

@@ -2,4 +2,5 @@
 pub mod Verdicts
 pub mod ProgressLaws
 pub mod ProgressEdges
+pub mod LeanRuns
 pub mod EarlierNodes

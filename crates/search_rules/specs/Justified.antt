@@ -1,6 +1,6 @@
 -- Why each definite answer below the goals under evaluation is right: its node has an open graph, as the theory of open
 -- graphs has it, and each edge leads to a node of the goal that it asks.
-use Rattle.std.specs.Prelude.{◌≡◌, ◌≢◌, ℕ, Bool, true, if◌then◌else◌, List, [], ◌∷◌, length, map, is_some, Option, None, Some, slice_get}
+use Rattle.std.specs.Prelude.{◌≡◌, ◌≢◌, ◌<◌, ◌≤◌, ℕ, Bool, true, if◌then◌else◌, List, [], ◌∷◌, length, map, is_some, Option, None, Some, slice_get}
 use Rattle.std.specs.Option.{IsSomeAnd, option_map}
 use Rattle.open_graphs.specs.Graph as theory
 use Rattle.search_rules.specs.Below.{IsAnsweredEdge, RunningGoal, stack_of, IsSoundState, PathKind, Verdict, Yes, No, Neither, Request, Evaluate, Reply, Answer, NodeId, Edge, heads_shape, rank_of, CacheNode, open_goal, IsNodeOf, verdict_of, edge_shape, shapes_of, DefiniteAnswer, counted_by, Verdicts}
@@ -56,11 +56,35 @@ abbrev pub LeadToGoals : {I R : Type 0} → List (CacheNode I R) → List (Defin
 LeadToGoals nodes answers =
     (i : ℕ) (a : DefiniteAnswer _) → slice_get answers i ≡ Some a → IsNodeOf nodes a.edge.target a.edge.input
 
--- the edges are among those of the answers with this verdict outside ignored candidates
-abbrev pub AreEdges : {I : Type 0} → List (DefiniteAnswer I) → List Bool → theory.Verdict → List (Edge I) → Type 0
-AreEdges {I} answers ignored verdict edges =
-    (i : ℕ) (e : Edge I) → slice_get edges i ≡ Some e →
-    (j : ℕ) × (a : DefiniteAnswer I) × (slice_get answers j ≡ Some a) × (a.edge ≡ e) × (verdict_shape a.verdict ≡ verdict) × (counted_by ignored a.candidate ≡ true)
+-- The edge may stand in the node of a run that had these answers: it is that of one of them which has the verdict and is outside
+-- ignored candidates. Or it leads one step further than such a one, where both steps are of the kind of the verdict's cycles, from a
+-- node that was written after the run's own.
+pub data IsBacked {I R : Type 0} (says : Verdicts R) (nodes : List (CacheNode I R)) (own : ℕ) (answers : List (DefiniteAnswer I)) (ignored : List Bool) (verdict : theory.Verdict) (e : Edge I) : Type 0 where
+  OfAnswer :
+      (j : ℕ) (a : DefiniteAnswer I)
+      → slice_get answers j ≡ Some a → verdict_shape a.verdict ≡ verdict → counted_by ignored a.candidate ≡ true → a.edge ≡ e
+      → IsBacked says nodes own answers ignored verdict e
+  Beyond :
+      (j : ℕ) (a : DefiniteAnswer I)
+      → slice_get answers j ≡ Some a → verdict_shape a.verdict ≡ verdict → counted_by ignored a.candidate ≡ true
+      → own < a.edge.target → rank_of a.edge.kind ≡ theory.cycle_kind verdict → rank_of e.kind ≡ theory.cycle_kind verdict
+      → theory.HasShapeEdge (shapes_of says nodes) verdict a.edge.target (theory.cycle_kind verdict) e.target → IsNodeOf nodes e.target e.input
+      → IsBacked says nodes own answers ignored verdict e
+
+-- the same for all of these edges
+abbrev pub AreEdges : {I R : Type 0} → Verdicts R → List (CacheNode I R) → ℕ → List (DefiniteAnswer I) → List Bool → theory.Verdict → List (Edge I) → Type 0
+AreEdges {I} says nodes own answers ignored verdict edges =
+    (i : ℕ) (e : Edge I) → slice_get edges i ≡ Some e → IsBacked says nodes own answers ignored verdict e
+
+-- none of the goals' cycles leads past this place
+abbrev pub LeadUpTo : {I R : Type 0} → ℕ → List (OpenRun I R) → Type 0
+LeadUpTo place [] = Unit {0}
+LeadUpTo place (o ∷ below) = (cycles_node o ≤ place) × LeadUpTo place below
+
+-- the node of each goal's run was written last: its cycles lead to no later one, nor do those of the goals below it
+abbrev pub AreInOrder : {I R : Type 0} → List (OpenRun I R) → Type 0
+AreInOrder [] = Unit {0}
+AreInOrder (o ∷ below) = LeadUpTo o.own (o ∷ below) × AreInOrder below
 
 -- the newest goal asked for this goal by this step; an outer call asks for anything
 abbrev pub NewestAsks : {I R : Type 0} → List (OpenRun I R) → PathKind → I → Type 0
@@ -109,6 +133,7 @@ pub record AreJustified {I R : Type 0} (says : Verdicts R) (nodes : List (CacheN
   pub supported : AreSupported says nodes goals
   pub asked : AreAskedBelow goals
   pub tallies : HaveTallies goals
+  pub in_order : AreInOrder goals
 
 -- the candidate in which the goal asks now, if one is open
 abbrev pub asked_now : {I R : Type 0} → OpenRun I R → Option ℕ

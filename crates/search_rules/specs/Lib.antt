@@ -13,6 +13,7 @@ pub mod Tallies
 pub mod Justified
 pub mod Free
 pub mod Runs
+pub mod Lean
 pub mod EndOfRun
 pub mod EntryShapes
 pub mod Provisional

@@ -88,14 +88,14 @@ abbrev pub SaysAgain : {R : Type 0} → Verdicts R → Option R → R → Type 0
 SaysAgain says earlier r = option_map (verdict_of says) earlier ≡ Some (verdict_of says r)
 
 -- The node of a result: of a definite one that says what the provisional one said, the node of that; of any other definite one the
--- run's own, which was finished by edges of the answers that have its verdict; and none of a result that isn't definite.
+-- run's own, which was finished by edges that the run's answers back; and none of a result that isn't definite.
 pub data HasResultNode {I R : Type 0} (says : Verdicts R) (before after : List (CacheNode I R)) (earlier : Option R) (node : NodeId) (cycles_lead : Option NodeId) (p : RunRecord I R) (r : R) : Option NodeId → Type 0 where
   Again :
       verdict_of says r ≢ theory.Neither → SaysAgain says earlier r → after ≡ before
       → HasResultNode says before after earlier node cycles_lead p r cycles_lead
   Ended :
       (run : EndedRun I R)
-      → run.outcome ≡ r → p.request ≡ Some (Done r) → verdict_of says r ≢ theory.Neither → (SaysAgain says earlier r → ⊥) → after ≡ with_run before node.0 run → AreEdges p.answers p.ignored (verdict_of says r) run.edges
+      → run.outcome ≡ r → p.request ≡ Some (Done r) → verdict_of says r ≢ theory.Neither → (SaysAgain says earlier r → ⊥) → after ≡ with_run before node.0 run → AreEdges says before node.0 p.answers p.ignored (verdict_of says r) run.edges
       → HasResultNode says before after earlier node cycles_lead p r (Some node)
   LeftOpen : verdict_of says r ≡ theory.Neither → after ≡ before → HasResultNode says before after earlier node cycles_lead p r None
 

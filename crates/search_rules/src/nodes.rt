@@ -1,9 +1,11 @@
 //! The node of a run that has ended.
-ghost use Rattle.std.specs.Prelude.{◌≡◌, ◌↔◌, IsTrue, IfOk, Some};
+ghost use Rattle.std.specs.Prelude.{◌≡◌, ◌↔◌, IsTrue, IfOk, OnOk, Some};
 ghost use Rattle.std.specs.Option.{option_map};
-ghost use Rattle.search_rules.specs.Below.{KeepsFinished, IsDefinite, verdict_of, verdicts};
+ghost use Rattle.global_cache.specs.Cache.{ended_run};
+ghost use Rattle.search_rules.specs.Below.{KeepsFinished, IsDefinite, edges_of, open_goal, verdict_of, verdicts, with_run};
 ghost use Rattle.search_rules.specs.Words.{verdict_shape, EndsRun, HasResultNode, KeepsBut, LeadToGoals};
 
+use crate::lean::{LeanRuns, record_for_node};
 use open_goals::progress::Progress;
 use search_parts::context::{Cx, Delegate, NoMemory, NodeId, Verdict};
 use search_parts::global_cache::GlobalCache;
@@ -12,13 +14,18 @@ use search_parts::parts::EntryState;
 /// The node of a run's definite result. Where the result has the verdict of the provisional one, it is that one's
 /// node, and the run's own stays open, as does that of a run that came to no definite result. So the node of
 /// a goal is that of the first of its last runs that had the same verdict.
+///
+/// The node need not have the run as it was: in a long call it may have one that rests on fewer answers.
 pub fn result_node<D: Delegate>(
     cache: &mut GlobalCache<D>,
+    input: <D::Cx as Cx>::Input,
     state: &EntryState<D::Cx>,
     own_node: NodeId,
     progress: &Progress<<D::Cx as Cx>::Input, <D::Cx as Cx>::Result>,
     outcome: <D::Cx as Cx>::Result,
+    lean: &mut LeanRuns<<D::Cx as Cx>::Input, <D::Cx as Cx>::Result>,
 ) -> Result<Option<NodeId>, NoMemory>
+    requires of_goal { open_goal cache.old.nodes own_node.0 ≡ Some input }
     requires ends { IsDefinite (verdicts D.Cx.Cx) outcome →
         EndsRun (verdicts D.Cx.Cx)
         (D.script cache.old.cx) cache.old.nodes own_node progress.now outcome }
@@ -42,10 +49,46 @@ pub fn result_node<D: Delegate>(
     if says_again(cache.cx(), state.provisional_result, verdict) {
         return Ok(state.node);
     }
-    let edges = progress.edges(verdict)?;
-    let replies = progress.replies()?;
-    cache.finish_node(own_node, replies, edges, outcome);
+    let is_in_cycle = state.usages.is_some() || !state.heads.is_empty();
+    let by = record_for_node::<D>(
+        lean,
+        cache,
+        input,
+        own_node,
+        progress,
+        verdict,
+        outcome,
+        is_in_cycle,
+    );
+    finish_by(cache, own_node, by, verdict, outcome)?;
     Ok(Some(own_node))
+}
+
+/// Finishes the node by this record of a run of its goal, which came to the definite result. `NoMemory` leaves the cache
+/// as it was.
+fn finish_by<D: Delegate>(
+    cache: &mut GlobalCache<D>,
+    node: NodeId,
+    told: &Progress<<D::Cx as Cx>::Input, <D::Cx as Cx>::Result>,
+    verdict: Verdict,
+    outcome: <D::Cx as Cx>::Result,
+) -> Result<(), NoMemory>
+    requires ends { EndsRun (verdicts D.Cx.Cx) (D.script cache.old.cx) cache.old.nodes node
+        told.now outcome }
+    requires placed { LeadToGoals cache.old.nodes told.now.answers }
+    requires yes { (verdict ≡ Verdict.Yes) ↔ IsTrue (D.Cx.is_yes outcome) }
+    requires no { (verdict ≡ Verdict.No) ↔ IsTrue (D.Cx.is_no outcome) }
+    ensures ended { OnOk result (cache.new.nodes ≡ with_run cache.old.nodes node.0
+        (ended_run told.now.replies (edges_of told.now verdict) outcome)) }
+    ensures same_context { cache.new.cx ≡ cache.old.cx }
+    ensures same_results { cache.new.results ≡ cache.old.results }
+    ensures kept { KeepsFinished cache.old.nodes cache.new.nodes }
+    ensures others { KeepsBut node.0 cache.old.nodes cache.new.nodes }
+{
+    let edges = told.edges(verdict)?;
+    let replies = told.replies()?;
+    cache.finish_node(node, replies, edges, outcome);
+    Ok(())
 }
 
 /// Whether the provisional result, if there is one, has this verdict.

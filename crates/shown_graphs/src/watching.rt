@@ -163,4 +163,22 @@ where
         frame.run = inspect.note_request(run, request);
         Ok(request)
     }
+
+    fn start_replay(cx: X, input: Goal) -> Option<WatchedFrame<D::Frame>> {
+        let frame = D::start_replay(cx, input)?;
+        let run = RunWatch::new(input);
+        Some(WatchedFrame { frame, run })
+    }
+
+    fn step_replay(
+        frame: &mut WatchedFrame<D::Frame>,
+        reply: Reply<Outcome>,
+    ) -> Result<Request<Goal, Outcome>, NoMemory>
+        requires { CanTake (λ watched. D.stands watched.frame) D.script frame.old reply }
+        ensures request { IfOk result (λ request.
+            Steps (λ watched. D.stands watched.frame) D.script frame.old reply request frame.new) }
+        ensures falls { OnOk result (D.left frame.new.frame < D.left frame.old.frame) }
+    {
+        D::step_replay(&mut frame.frame, reply)
+    }
 }

@@ -75,6 +75,7 @@ module _ {I R : Type 0} (says : Verdicts R) (live : ℕ → Bool) (old new : Lis
     supported = all_supported goals are h.supported;
     asked = h.asked;
     tallies = h.tallies;
+    in_order = h.in_order;
   }
 
   -- the reply for the newest goal

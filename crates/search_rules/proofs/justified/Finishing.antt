@@ -152,13 +152,6 @@ module _ {I R : Type 0} (says : Verdicts R) (scripts : I → List (Reply R) → 
   pub open_for_run : IsSomeAnd (open_goal nodes node.0) (λ goal. IsRun says (scripts goal) nodes (record { replies = p.replies; edges = edges_of p v; outcome = r }))
   open_for_run = subst (λ o. IsSomeAnd o (λ goal. IsRun says (scripts goal) nodes (record { replies = p.replies; edges = edges_of p v; outcome = r }))) (sym h.is_open) is_run
 
-  -- a definite result decides what the node is
-  pub ended_node : v ≢ Neither → (earlier : Option R) (lead : Option NodeId) → (option_map (verdict_of says) earlier ≡ Some (verdict_shape v) → ⊥) → (after : List (CacheNode I R)) → after ≡ with_run nodes node.0 (record { replies = p.replies; edges = edges_of p v; outcome = r }) → HasResultNode says nodes after earlier node lead p r (Some node)
-  ended_node definite earlier lead anew after is =
-      let same : verdict_shape v ≡ verdict_of says r = verdict_is says r v holds fails definite in
-      Ended (record { replies = p.replies; edges = edges_of p v; outcome = r }) refl (h.ends.on_record.request_is ∙ h.ends.is_done) (λ e. in_theory_definite v definite (same ∙ e)) (λ repeats. anew (repeats ∙ ap Some (sym same))) is
-      (λ i e at. let w = edge_placed i e at in (w.0, w.1, w.2, w.3, ap verdict_shape w.4 ∙ same, w.5))
-
 module _ {I R : Type 0} (says : Verdicts R) (nodes : List (CacheNode I R)) (earlier : Option R) (node : NodeId) (lead : Option NodeId) (p : RunRecord I R) (r : R) (v : Verdict) (holds : (v ≡ Yes) ↔ IsTrue (says.is_yes r)) (fails : (v ≡ No) ↔ IsTrue (says.is_no r)) where
   -- one that says what the provisional result said has that one's node
   pub again : v ≢ Neither → option_map (verdict_of says) earlier ≡ Some (verdict_shape v) → HasResultNode says nodes nodes earlier node lead p r lead
@@ -194,8 +187,8 @@ module _ {X F I R A T : Type 0} (says : Verdicts R) (before after : List (CacheN
       (anew_ends says before (run_of (entry, run)) (runs_of below) h run.node refl ended
       (λ e. definite (ap (verdict_of says) (sym outcome) ∙ e))
       (λ repeats. anew (repeats ∙ ap (λ x. Some (verdict_of says x)) outcome))
-      (subst (λ x. AreEdges run.progress.answers (acted run.progress).ignored (verdict_of says x) ended.edges) (sym outcome)
-      (subst (λ ignored. AreEdges run.progress.answers ignored (verdict_of says r) ended.edges) (sym (ap (λ q. (answered run.progress q Neither None).ignored) done)) edges))))
+      (subst (λ x. AreEdges says before run.node.0 run.progress.answers (acted run.progress).ignored (verdict_of says x) ended.edges) (sym outcome)
+      (subst (λ ignored. AreEdges says before run.node.0 run.progress.answers ignored (verdict_of says r) ended.edges) (sym (ap (λ q. (answered run.progress q Neither None).ignored) done)) edges))))
   rebases r target (LeftOpen neither is) =
       subst (λ l. EndsWithNode says before l (run_of (entry, run)) (runs_of below) r None) (sym is)
       (neither_ends says before (run_of (entry, run)) (runs_of below) h r neither)

@@ -1,5 +1,5 @@
 -- Each move of the search keeps the goals under evaluation justified.
-use Rattle.std.proofs.Common.{◌≡◌, ◌≢◌, ℕ, zero, suc, Bool, true, false, cond, if◌then◌else◌, List, [], ◌∷◌, ◌++◌, map, length, length-append, arith, Option, None, Some, option_map, slice_get, slice_set, refl, sym, ap, ◌∙◌, subst, inl, inr}
+use Rattle.std.proofs.Common.{◌≡◌, ◌≢◌, ◌<◌, ◌≤◌, ◌⊎◌, ℕ, zero, suc, Bool, true, false, cond, if◌then◌else◌, List, [], ◌∷◌, ◌++◌, map, length, length-append, arith, Option, None, Some, option_map, slice_get, slice_set, refl, sym, ap, ◌∙◌, subst, inl, inr}
 use Rattle.std.specs.Option.{IsSomeAnd, option_or}
 use Rattle.std.proofs.lemmas.List.{map-append, map-set, length-map}
 use Rattle.open_graphs.specs.Graph as theory
@@ -11,7 +11,11 @@ use Rattle.open_graphs.proofs.States.{push_keeps_sound, answers_keep_sound, pop_
 use Rattle.open_graphs.proofs.Asked.{done_is_answered}
 use Rattle.open_graphs.proofs.Runs.{answered_grows, root_is_graph}
 use Rattle.open_graphs.proofs.Closed.{closed_is_graph}
-use Rattle.open_graphs.proofs.Keep.{append_grows, growth_keeps_use, heads_keep_use}
+use Rattle.open_graphs.proofs.Keep.{append_grows, growth_keeps_use, heads_keep_use, leaf_cases}
+use Rattle.open_graphs.specs.Stack.{IsLeaf}
+use Rattle.std.proofs.lemmas.Option.{slice_get_within}
+use Rattle.search_rules.specs.Justified.{Beyond, IsBacked, LeadUpTo, OfAnswer}
+use Rattle.search_rules.proofs.justified.Beyond.{answered_beyond}
 use Rattle.global_cache.proofs.Definites.{IsSomeAnd-weaker}
 use Rattle.global_cache.proofs.NodeLists.{KeepsNodes-appended, KeepsGoals-appended, before, with_run-is, KeepsGoals-ended}
 use Rattle.search_rules.specs.Words.{OpenRun, verdict_shape, cycles_node, frame_of, frames_of, AreOpen, AreEdges, NewestAsks, HasTally, AreCharged, AreSupported, AreJustified, asked_now, MayAnswer, Tally, IsTallied, heads_of, spare_heads, SaysAgain}
@@ -116,14 +120,36 @@ tally_again t = record t { own = Some no_usages; current = None; finished = [] }
 abbrev pub new_run : {I R : Type 0} → I → PathKind → NodeId → Option NodeId → Option R → Tally → OpenRun I R
 new_run goal step own lead earlier tally = record { goal = goal; step = step; own = own.0; cycles_lead = lead; provisional = earlier; tally = tally; is_open = false; ignored = []; request = None; answers = [] }
 
--- the edge is that of an answer of this verdict outside ignored candidates
-pub record IsEdgeFrom {I R : Type 0} (o : OpenRun I R) (verdict : theory.Verdict) (edge : theory.Edge) : Type 0 where
+-- the edge leads one step further than the answer, from a node that was written after the run's own
+pub record LeadsBeyond {I R : Type 0} (says : Verdicts R) (nodes : List (CacheNode I R)) (o : OpenRun I R) (verdict : theory.Verdict) (answer : DefiniteAnswer I) (edge : theory.Edge) : Type 0 where
+  pub after_own : o.own < answer.edge.target
+  pub step : theory.HasShapeEdge (shapes_of says nodes) verdict answer.edge.target (theory.cycle_kind verdict) edge.target
+
+-- the edge is that of an answer of this verdict outside ignored candidates, or leads one step further
+pub record IsEdgeFrom {I R : Type 0} (says : Verdicts R) (nodes : List (CacheNode I R)) (o : OpenRun I R) (verdict : theory.Verdict) (edge : theory.Edge) : Type 0 where
   pub place : ℕ
   pub answer : DefiniteAnswer I
   pub is_at : slice_get o.answers place ≡ Some answer
-  pub edge_is : edge_shape answer.edge ≡ edge
+  pub edge_is : (edge_shape answer.edge ≡ edge) ⊎ LeadsBeyond says nodes o verdict answer edge
   pub verdict_is : verdict_shape answer.verdict ≡ verdict
   pub counts : counted_by o.ignored answer.candidate ≡ true
+
+-- a node of a goal is in the list,
+node_at : {I R : Type 0} (nodes : List (CacheNode I R)) (at : ℕ) (goal : I) (n : Option (CacheNode I R)) → slice_get nodes at ≡ n → option_map (λ m. m.goal) n ≡ Some goal → at < length nodes
+node_at nodes at goal None is has = absurd cc
+node_at nodes at goal (Some n) is has = slice_get_within nodes at n is
+
+pub node_within : {I R : Type 0} (nodes : List (CacheNode I R)) (at : ℕ) (goal : I) → IsNodeOf nodes at goal → at < length nodes
+node_within nodes at goal is = node_at nodes at goal (slice_get nodes at) refl is
+
+-- so none of the goals' cycles leads past its end
+lead_at : {I R : Type 0} (nodes : List (CacheNode I R)) (own : ℕ) (goal : I) (lead : Option NodeId) → IsSomeAnd lead (λ n. IsNodeOf nodes n.0 goal) → elim lead [ None ↦ own | Some n ↦ n.0 ] ≤ length nodes
+lead_at nodes own goal None is = absurd is
+lead_at nodes own goal (Some n) is = let lower = node_within nodes n.0 goal is in omega (arith, lower)
+
+lead_within : {I R : Type 0} (says : Verdicts R) (nodes : List (CacheNode I R)) (goals : List (OpenRun I R)) → AreSupported says nodes goals → LeadUpTo (length nodes) goals
+lead_within says nodes [] supported = tt
+lead_within says nodes (o ∷ below) supported = (lead_at nodes o.own o.goal o.cycles_lead supported.0.lead_home, lead_within says nodes below supported.1)
 
 module _ {I R : Type 0} (says : Verdicts R) (nodes : List (CacheNode I R)) where
   -- nothing is under evaluation
@@ -134,6 +160,7 @@ module _ {I R : Type 0} (says : Verdicts R) (nodes : List (CacheNode I R)) where
     supported = tt;
     asked = tt;
     tallies = tt;
+    in_order = tt;
   }
 
   pub shapes_opened : (goal : I) → shapes_of says (nodes ++ open_node goal ∷ []) ≡ shapes_of says nodes ++ theory.Unfinished ∷ []
@@ -163,6 +190,7 @@ module _ {I R : Type 0} (says : Verdicts R) (nodes : List (CacheNode I R)) where
         );
         asked = (asks, h.asked);
         tallies = (record { tallied = fresh_tallied (length goals); open_is = refl; finished_are = refl }, h.tallies);
+        in_order = ((omega arith, subst (λ n. LeadUpTo n goals) (sym at) (lead_within says nodes goals h.supported)), h.in_order);
       }
 
   -- the newest goal gets a definite answer, in the candidate that is open
@@ -188,6 +216,7 @@ module _ {I R : Type 0} (says : Verdicts R) (nodes : List (CacheNode I R)) where
     );
     asked = h.asked;
     tallies = (record { tallied = h.tallies.0.tallied; open_is = h.tallies.0.open_is; finished_are = h.tallies.0.finished_are }, h.tallies.1);
+    in_order = h.in_order;
   }
 
   -- What it counts changes, and its candidates, and it makes another request: for each candidate that isn't ignored afterwards it
@@ -209,6 +238,7 @@ module _ {I R : Type 0} (says : Verdicts R) (nodes : List (CacheNode I R)) where
     );
     asked = h.asked;
     tallies = (record { tallied = has.tallied; open_is = has.open_is; finished_are = has.finished_are }, h.tallies.1);
+    in_order = h.in_order;
   }
 
   -- ---- the newest goal's run has ended
@@ -222,26 +252,49 @@ module _ {I R : Type 0} (says : Verdicts R) (nodes : List (CacheNode I R)) where
   edge_in (e ∷ es) zero edge at = (e, refl, cc)
   edge_in (e ∷ es) (suc i) edge at = edge_in es i edge at
 
-  -- each of them was answered, and what the answer rests on is counted by the goal
-  chosen_at : (b : Bool) (verdict other : theory.Verdict) (edges : List (Edge I)) (o : OpenRun I R) (below : List (OpenRun I R)) → theory.same_verdict verdict other ≡ b → AreEdges o.answers o.ignored verdict edges → IsTallied (length below) o.tally → AreCharged says nodes o below → AllAnswered (shapes_of says nodes) other (stack_of (frames_of says below)) (frame_of says o).entry (cond b (map edge_shape edges) []) (heads_shape o.tally.heads)
-  chosen_at false verdict other edges o below same are tallied charged = λ i edge at. absurd (no_answers i edge at)
-  chosen_at true verdict other edges o below same are tallied charged = λ i edge at.
-      let e = edge_in edges i edge at in
-      let from = are i e.0 e.1 in
-      subst (λ x. IsAnsweredEdge (shapes_of says nodes) other (stack_of (frames_of says below)) (frame_of says o).entry x (heads_shape o.tally.heads)) (ap edge_shape from.3 ∙ e.2)
-      (answered_more (shapes_of says nodes) other (stack_of (frames_of says below)) (frame_of says o).entry (edge_shape from.1.edge) (heads_of o.tally from.1.candidate) (heads_shape o.tally.heads)
-      (λ depth path cycle lower. charge_within (length below) o.tally tallied from.1.candidate depth path cycle)
-      (subst (λ v. IsAnsweredEdge (shapes_of says nodes) v (stack_of (frames_of says below)) (frame_of says o).entry (edge_shape from.1.edge) (heads_of o.tally from.1.candidate)) (from.4 ∙ sym (same_verdicts verdict other same))
-      (charged from.0 from.1 from.2 from.5)))
+  -- no goal's cycles lead to a node that was written after the newest goal's own
+  pub no_leaf_after : (own : ℕ) (goals : List (OpenRun I R)) → LeadUpTo own goals → (a : ℕ) → own < a → IsLeaf (stack_of (frames_of says goals)) a → ⊥
+  no_leaf_after own [] up a later leaf = absurd (no_answers leaf.0 leaf.1 leaf.2)
+  no_leaf_after own (o ∷ below) up a later leaf = elim (leaf_cases (stack_of (frames_of says below)) (frame_of says o).entry a leaf) [
+    | inl lower ↦ no_leaf_after own below up.1 a later lower
+    | inr is ↦ let least : cycles_node o ≤ own = up.0 in omega (arith, is, least, later)
+  ]
 
-  -- each of them is that of an answer
-  chosen_from : (b : Bool) (verdict other : theory.Verdict) (edges : List (Edge I)) (o : OpenRun I R) → theory.same_verdict verdict other ≡ b → AreEdges o.answers o.ignored verdict edges
-      → (i : ℕ) (edge : theory.Edge) → slice_get (cond b (map edge_shape edges) []) i ≡ Some edge → IsEdgeFrom o other edge
+  -- what an answer rests on is counted by the goal
+  answer_at : (other : theory.Verdict) (a : DefiniteAnswer I) (o : OpenRun I R) (below : List (OpenRun I R)) → verdict_shape a.verdict ≡ other → IsAnsweredEdge (shapes_of says nodes) (verdict_shape a.verdict) (stack_of (frames_of says below)) (frame_of says o).entry (edge_shape a.edge) (heads_of o.tally a.candidate) → IsTallied (length below) o.tally → IsAnsweredEdge (shapes_of says nodes) other (stack_of (frames_of says below)) (frame_of says o).entry (edge_shape a.edge) (heads_shape o.tally.heads)
+  answer_at other a o below verdict charged tallied =
+      answered_more (shapes_of says nodes) other (stack_of (frames_of says below)) (frame_of says o).entry (edge_shape a.edge) (heads_of o.tally a.candidate) (heads_shape o.tally.heads)
+      (λ depth path cycle lower. charge_within (length below) o.tally tallied a.candidate depth path cycle)
+      (subst (λ v. IsAnsweredEdge (shapes_of says nodes) v (stack_of (frames_of says below)) (frame_of says o).entry (edge_shape a.edge) (heads_of o.tally a.candidate)) verdict charged)
+
+  -- so each edge was answered
+  backed_at : (other : theory.Verdict) (e : Edge I) (o : OpenRun I R) (below : List (OpenRun I R)) → LeadUpTo o.own (o ∷ below) → IsBacked says nodes o.own o.answers o.ignored other e → IsTallied (length below) o.tally → AreCharged says nodes o below → IsAnsweredEdge (shapes_of says nodes) other (stack_of (frames_of says below)) (frame_of says o).entry (edge_shape e) (heads_shape o.tally.heads)
+  backed_at other e o below up (OfAnswer j a at verdict counts is) tallied charged =
+      subst (λ x. IsAnsweredEdge (shapes_of says nodes) other (stack_of (frames_of says below)) (frame_of says o).entry x (heads_shape o.tally.heads)) (ap edge_shape is)
+      (answer_at other a o below verdict (charged j a at counts) tallied)
+  backed_at other e o below up (Beyond j a at verdict counts later kind kind_too step of_goal) tallied charged =
+      answered_beyond (shapes_of says nodes) other (stack_of (frames_of says below)) (frame_of says o).entry (edge_shape a.edge) (edge_shape e) (heads_shape o.tally.heads) kind kind_too
+      (record { edge = step; inner = λ leaf. no_leaf_after o.own (o ∷ below) up a.edge.target later leaf })
+      (answer_at other a o below verdict (charged j a at counts) tallied)
+
+  chosen_at : (b : Bool) (verdict other : theory.Verdict) (edges : List (Edge I)) (o : OpenRun I R) (below : List (OpenRun I R)) → theory.same_verdict verdict other ≡ b → LeadUpTo o.own (o ∷ below) → AreEdges says nodes o.own o.answers o.ignored verdict edges → IsTallied (length below) o.tally → AreCharged says nodes o below → AllAnswered (shapes_of says nodes) other (stack_of (frames_of says below)) (frame_of says o).entry (cond b (map edge_shape edges) []) (heads_shape o.tally.heads)
+  chosen_at false verdict other edges o below same up are tallied charged = λ i edge at. absurd (no_answers i edge at)
+  chosen_at true verdict other edges o below same up are tallied charged = λ i edge at.
+      let e = edge_in edges i edge at in
+      subst (λ x. IsAnsweredEdge (shapes_of says nodes) other (stack_of (frames_of says below)) (frame_of says o).entry x (heads_shape o.tally.heads)) e.2
+      (backed_at other e.0 o below up (subst (λ v. IsBacked says nodes o.own o.answers o.ignored v e.0) (sym (same_verdicts verdict other same)) (are i e.0 e.1)) tallied charged)
+
+  -- each of them is that of an answer, or leads one step further
+  backed_from : (other : theory.Verdict) (e : Edge I) (o : OpenRun I R) → IsBacked says nodes o.own o.answers o.ignored other e → IsEdgeFrom says nodes o other (edge_shape e)
+  backed_from other e o (OfAnswer j a at verdict counts is) = record { place = j; answer = a; is_at = at; edge_is = inl (ap edge_shape is); verdict_is = verdict; counts = counts }
+  backed_from other e o (Beyond j a at verdict counts later kind kind_too step of_goal) = record { place = j; answer = a; is_at = at; edge_is = inr (record { after_own = later; step = step }); verdict_is = verdict; counts = counts }
+
+  chosen_from : (b : Bool) (verdict other : theory.Verdict) (edges : List (Edge I)) (o : OpenRun I R) → theory.same_verdict verdict other ≡ b → AreEdges says nodes o.own o.answers o.ignored verdict edges
+      → (i : ℕ) (edge : theory.Edge) → slice_get (cond b (map edge_shape edges) []) i ≡ Some edge → IsEdgeFrom says nodes o other edge
   chosen_from false verdict other edges o same are i edge at = absurd (no_answers i edge at)
   chosen_from true verdict other edges o same are i edge at =
       let e = edge_in edges i edge at in
-      let from = are i e.0 e.1 in
-      record { place = from.0; answer = from.1; is_at = from.2; edge_is = ap edge_shape from.3 ∙ e.2; verdict_is = from.4 ∙ sym (same_verdicts verdict other same); counts = from.5 }
+      subst (IsEdgeFrom says nodes o other) e.2 (backed_from other e.0 o (subst (λ v. IsBacked says nodes o.own o.answers o.ignored v e.0) (sym (same_verdicts verdict other same)) (are i e.0 e.1)))
 
   -- other goals' nodes are still open
   AreOpen-ended : (run : EndedRun I R) (k : ℕ) (goal : I) → open_goal nodes k ≡ Some goal → (goals : List (OpenRun I R)) → OwnsOther k (frames_of says goals) → AreOpen nodes goals → AreOpen (with_run nodes k run) goals
@@ -257,7 +310,7 @@ module _ {I R : Type 0} (says : Verdicts R) (nodes : List (CacheNode I R)) where
 -- answer's node.
 pub record EndsWithNode {I R : Type 0} (says : Verdicts R) (nodes after : List (CacheNode I R)) (o : OpenRun I R) (below : List (OpenRun I R)) (r : R) (target : Option NodeId) : Type 0 where
   pub edges : theory.Verdict → List theory.Edge
-  pub from : (verdict : theory.Verdict) (i : ℕ) (edge : theory.Edge) → slice_get (edges verdict) i ≡ Some edge → IsEdgeFrom o verdict edge
+  pub from : (verdict : theory.Verdict) (i : ℕ) (edge : theory.Edge) → slice_get (edges verdict) i ≡ Some edge → IsEdgeFrom says nodes o verdict edge
   pub place : ℕ
   pub sound : IsSoundState (shapes_of says nodes) (answering (frame_of says o) edges (heads_shape o.tally.heads) ∷ frames_of says below) [] []
   pub answered : Answered (shapes_of says nodes) (frame_of says o).entry o.own edges (verdict_of says r) (shapes_of says after) place
@@ -300,7 +353,7 @@ module _ {I R : Type 0} (says : Verdicts R) (nodes : List (CacheNode I R)) (o : 
   }
 
   -- its node is finished with the run
-  module _ (node : NodeId) (same_node : node.0 ≡ o.own) (run : EndedRun I R) (definite : verdict_of says run.outcome ≢ theory.Neither) (anew : SaysAgain says o.provisional run.outcome → ⊥) (edges : AreEdges o.answers o.ignored (verdict_of says run.outcome) run.edges) where
+  module _ (node : NodeId) (same_node : node.0 ≡ o.own) (run : EndedRun I R) (definite : verdict_of says run.outcome ≢ theory.Neither) (anew : SaysAgain says o.provisional run.outcome → ⊥) (edges : AreEdges says nodes o.own o.answers o.ignored (verdict_of says run.outcome) run.edges) where
     is_open : IsSomeAnd (open_goal nodes o.own) (λ goal. goal ≡ o.goal)
     is_open = subst (λ x. IsSomeAnd x (λ goal. goal ≡ o.goal)) (sym h.are_open.0) refl
 
@@ -327,7 +380,7 @@ module _ {I R : Type 0} (says : Verdicts R) (nodes : List (CacheNode I R)) (o : 
           from = λ u i edge at. chosen_from says nodes (theory.same_verdict v u) v u run.edges o refl edges i edge at;
           place = o.own;
           sound = answers_keep_sound (shapes_of says nodes) (frame_of says o) (frames_of says below) [] [] (chosen_edges says nodes v run.edges) (heads_shape o.tally.heads) (spare_within (length below) o.tally)
-              (λ u. chosen_at says nodes (theory.same_verdict v u) v u run.edges o below refl edges h.tallies.0.tallied h.supported.0.charged) h.sound;
+              (λ u. chosen_at says nodes (theory.same_verdict v u) v u run.edges o below refl h.in_order.0 edges h.tallies.0.tallied h.supported.0.charged) h.sound;
           answered = subst (λ more. Answered (shapes_of says nodes) (frame_of says o).entry o.own (chosen_edges says nodes v run.edges) v more o.own) later_same (Anew anew);
           goals_kept = KeepsGoals-ended nodes o.own run (λ goal. goal ≡ o.goal) is_open;
           open_below = AreOpen-ended says nodes run o.own o.goal h.are_open.0 below h.sound.apart.0 h.are_open.1;
@@ -353,6 +406,7 @@ module _ {I R : Type 0} (says : Verdicts R) (nodes after : List (CacheNode I R))
     supported = supported_kept says nodes after s.goals_kept grown below h.supported.1;
     asked = h.asked.1;
     tallies = h.tallies.1;
+    in_order = h.in_order.1;
   }
 
   pub used_at : (t : Option NodeId) → verdict_of says r ≢ theory.Neither → IsSomeAnd t (λ n. (n.0 ≡ s.place) × IsNodeOf after n.0 o.goal) → (P : ℕ → Type 0) → (IsNodeOf after s.place o.goal → P s.place) → IsSomeAnd t (λ n. P n.0)
@@ -411,6 +465,10 @@ module _ {I R : Type 0} (says : Verdicts R) (nodes after : List (CacheNode I R))
     leads_there None is = absurd is
     leads_there (Some n) is = is.0
 
+    lead_node_within : (lead : Option NodeId) → IsSomeAnd lead (λ n. (n.0 ≡ s.place) × IsNodeOf after n.0 o.goal) → elim lead [ None ↦ own.0 | Some n ↦ n.0 ] ≤ own.0
+    lead_node_within None is = absurd is
+    lead_node_within (Some n) is = let lower = node_within after n.0 o.goal is.1 in omega (arith, lower, at)
+
     pub rerun_is_justified : AreJustified says (after ++ open_node o.goal ∷ []) (new_run o.goal o.step own (option_or target o.cycles_lead) (Some r) (tally_again o.tally) ∷ below)
     rerun_is_justified =
         let v = verdict_of says r in
@@ -434,4 +492,8 @@ module _ {I R : Type 0} (says : Verdicts R) (nodes after : List (CacheNode I R))
           );
           asked = h.asked;
           tallies = (record { tallied = rerun_tallied (length below) o.tally h.tallies.0.tallied; open_is = refl; finished_are = refl }, h.tallies.1);
+          in_order = (
+            (lead_node_within (option_or target o.cycles_lead) lead_is, subst (λ n. LeadUpTo n below) (sym at) (lead_within says after below below_is_justified.supported)),
+            h.in_order.1,
+          );
         }

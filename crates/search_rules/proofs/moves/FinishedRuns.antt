@@ -2,7 +2,7 @@
 use Rattle.std.proofs.Common.{◌≡◌, ◌≢◌, suc, ◌+◌, ◌<◌, ◌^◌, ◌||◌, Bool, List, [], ◌∷◌, ◌++◌, length, Option, Some, option_map, refl, sym, ap, ◌∙◌, subst, arith}
 use Rattle.std.specs.Option.{IsSomeAnd, option_or}
 use Rattle.std.proofs.lemmas.List.{length-map}
-use Rattle.search_rules.specs.Below.{Answer, AnswersNewest, CacheNode, change_newest, CxOf, DelegateOf, Finished, HasGraph, IsDefinite, newest, NodeId, open_node, Reply, Request, rerun_with, Run, RunRecord, OpenGoal, StackEntry, Step, Store, StoredResult, verdict_of, Verdicts, with_no_record}
+use Rattle.search_rules.specs.Below.{Answer, AnswersNewest, CacheNode, change_newest, CxOf, DelegateOf, Finished, HasGraph, IsDefinite, newest, NodeId, open_node, Reply, Request, rerun_with, Run, RunRecord, open_goal, OpenGoal, StackEntry, Step, Store, StoredResult, verdict_of, Verdicts, with_no_record}
 use Rattle.search_rules.specs.Runs.{RerunsWithNode}
 use Rattle.search_rules.specs.Words.{AreFree, AreJustified, CanLeave, EndsNewest, EndsRun, HasResultNode, IsFit, IsFree, IsFresh, IsJustifiedNext, KeepsBut, KeepsEarlier, LeadToGoals, LieBelow, MayAnswer, NewestLeaves, OpenRun, Reruns, run_of, runs_of, tally_of}
 use Rattle.search_rules.proofs.justified.Justified.{below_is_justified, EndsWithNode, headless_has_graph, last_has_graph, may_answer_parent, rerun_is_justified}
@@ -44,6 +44,11 @@ module _ {X F I R A T : Type 0} where
       subst (λ n. EndsRun says scripts nodes n p r) (sym t.same_node)
       (subst (λ q. EndsRun says scripts nodes t.run.node q r) (sym t.progress_is)
       (ends_run says nodes nodes e t.run t.below (subst (λ l. AreJustified says nodes (runs_of l)) t.was h) scripts r (subst (λ l. EndsNewest says scripts l r) t.was ends)))
+
+  pub taken_open : (says : Verdicts R) (nodes : List (CacheNode I R)) (old : List (OpenGoal X F I R A T)) (e : StackEntry X I R A T) (y : Run X F I R A T) (p : RunRecord I R) → TakenFrom old e y p → AreJustified says nodes (runs_of old) → open_goal nodes y.node.0 ≡ Some e.input
+  taken_open says nodes old e y p t h =
+      subst (λ n. open_goal nodes n.0 ≡ Some e.input) (sym t.same_node)
+      (subst (λ l. AreJustified says nodes (runs_of l)) t.was h).are_open.0
 
   -- and each answer on its record leads to a node of its goal
   pub taken_placed : (says : Verdicts R) (nodes : List (CacheNode I R)) (old : List (OpenGoal X F I R A T)) (e : StackEntry X I R A T) (y : Run X F I R A T) (p : RunRecord I R) → TakenFrom old e y p → AreJustified says nodes (runs_of old) → LeadToGoals nodes p.answers
@@ -130,6 +135,9 @@ module _ {X F I R A T : Type 0} (says : Verdicts R) (before after : List (CacheN
   pub taken_run_ends : (scripts : I → List (Reply R) → Request I R) (r : R) → AreJustified says before (runs_of old) → (IsDefinite says r → EndsNewest says scripts old r) → IsDefinite says r → EndsRun says scripts before run.node run.progress r
   taken_run_ends scripts r h ends definite =
       ends_run says before before entry run rest (justified_then h) scripts r (subst (λ l. EndsNewest says scripts l r) was (ends definite))
+
+  pub taken_run_open : AreJustified says before (runs_of old) → open_goal before run.node.0 ≡ Some entry.input
+  taken_run_open h = (justified_then h).are_open.0
 
   pub taken_run_placed : AreJustified says before (runs_of old) → LeadToGoals before run.progress.answers
   taken_run_placed h = answers_placed says before before entry run rest (justified_then h)

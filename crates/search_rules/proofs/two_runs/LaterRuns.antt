@@ -18,7 +18,8 @@ use Rattle.search_rules.specs.declared.end_of_run.Unstable.TheVariants.{Again, A
 use Rattle.search_rules.proofs.two_runs.OffStack.{behind_leads, own_no_older, result_leads}
 use Rattle.search_rules.proofs.two_runs.OlderEntries.{all_stay, follows_itself, known_entry, same_entry, same_node}
 use Rattle.search_rules.proofs.two_runs.OneOfBoth.{HaveDistinctGoals, off_at, one_goal, one_of_both}
-use Rattle.search_rules.proofs.justified.Finishing.{answers_placed, ended_node, ends_run, neither_is, open_for_run, rebases}
+use Rattle.search_rules.proofs.records.LeanRuns.{node_by, told_for_itself}
+use Rattle.search_rules.proofs.justified.Finishing.{answers_placed, ends_run, neither_is, open_for_run, rebases}
 use Rattle.search_rules.proofs.justified.Justified.{below_is_justified, EndsWithNode, no_answers, popped}
 use Rattle.search_rules.proofs.justified.Replies.{verdict_is}
 
@@ -80,7 +81,7 @@ module _ {X F I R A T : Type 0} (says : Verdicts R) (one_sort : (r : R) → says
   module _ (differ : verdict_of says earlier ≢ verdict_of says r) where
     has_node : HasResultNode says nodes after s.0.state.provisional_result s.1.node s.0.state.node s.1.progress r (Some s.1.node)
     has_node =
-        ended_node says scripts nodes s.1.node s.1.progress r run_ended run_placed sort.verdict sort.yes sort.no some_verdict s.0.state.provisional_result s.0.state.node
+        node_by says scripts nodes s.1.node run_ended.goal run_ended.is_open s.1.progress r sort.verdict s.1.progress (told_for_itself says (scripts run_ended.goal) nodes s.1.node.0 s.1.progress sort.verdict r run_ended.ends) sort.yes sort.no some_verdict run_ended s.0.state.provisional_result s.0.state.node
         (λ again. differ (let both : Some (verdict_of says earlier) ≡ Some (verdict_shape sort.verdict) = ap (option_map (verdict_of says)) (sym was) ∙ again in let one : verdict_of says earlier ≡ verdict_shape sort.verdict = cc in one ∙ shape_is))
         after refl
 

@@ -1,9 +1,9 @@
 -- What the answers of a goal rest on stays off the goals under evaluation, and known to the goal, through each change of the goal.
-use Rattle.std.proofs.Common.{◌≡◌, ◌<◌, ◌≤◌, ℕ, Bool, false, true, List, [], ◌∷◌, ◌++◌, IsSome, Option, None, Some, option_map, slice_get, refl, sym, ap, ◌∙◌, subst, ◌⊎◌, inl, inr, arith}
+use Rattle.std.proofs.Common.{◌≡◌, ◌<◌, ◌≤◌, ℕ, Bool, false, true, List, [], ◌∷◌, ◌++◌, IsSome, Option, None, Some, option_map, slice_get, refl, sym, ap, ◌∙◌, subst, ◌⊎◌, inl, inr, max, arith}
 use Rattle.std.specs.Option.{IfSome}
 use Rattle.open_graphs.specs.Graph as theory
 use Rattle.open_graphs.proofs.Lists.{get_cases, mapped_some}
-use Rattle.search_rules.specs.Below.{CacheNode, counted_by, DefiniteAnswer, is_in_cycle, IsDefinite, KeepsGoals, Lists, NestedPaths, NodeId, PathKind, paths_at, ProvisionalCacheEntry, shapes_of, stack_of, Store, OpenGoal, StoredResult, verdict_of, Verdicts}
+use Rattle.search_rules.specs.Below.{CacheNode, counted_by, DefiniteAnswer, is_in_cycle, IsDefinite, KeepsGoals, Lists, NestedPaths, NodeId, PathKind, paths_at, ProvisionalCacheEntry, shapes_of, Entry, stack_of, Store, OpenGoal, StoredResult, verdict_of, Verdicts}
 use Rattle.open_goals.specs.declared.goals.Fate.TheVariants as becomes
 use Rattle.search_rules.specs.Words.{AreSettledGoals, HasNoOlder, HasSuchGoal, IsAside, IsBehind, IsKnown, IsLone, IsOff, IsSettledGoal, IsStop, StandApart, StaysOff, WalksTo, WalksToGoals}
 use Rattle.search_rules.specs.Justified.{AreJustified, cycles_node, frame_of, frames_of, OpenRun, verdict_shape}
@@ -12,7 +12,8 @@ use Rattle.search_rules.specs.Tallies.{Tally}
 use Rattle.search_rules.proofs.two_runs.Leading.{goals_later}
 use Rattle.search_rules.proofs.two_runs.OlderEntries.{all_stay, Follows, follows_itself, leaf_kept, no_older_kept, StaySame, stop_kept}
 use Rattle.search_rules.proofs.two_runs.StoppedWalks.{answered_walks, walks_kept}
-use Rattle.search_rules.proofs.justified.Justified.{EndsWithNode, goal_of_open, new_run, no_answers}
+use Rattle.search_rules.specs.Leads.{StepOn}
+use Rattle.search_rules.proofs.justified.Justified.{EndsWithNode, goal_of_open, IsEdgeFrom, new_run, no_answers, no_leaf_after}
 
 -- what is known stays known where more goals are nested
 pub known_more : {X I R A T : Type 0} (same : I → I → Bool) (results later : Store I (StoredResult X I R A T)) → ((goal : I) → IsLone same results goal → IsLone same later goal) → (nested more : NestedPaths I) → ((goal : I) → IsSome (paths_at same nested goal) → IsSome (paths_at same more goal)) → (goal : I) → IsKnown same results nested goal → IsKnown same later more goal
@@ -146,6 +147,10 @@ module _ {X I R A T : Type 0} (says : Verdicts R) (same : I → I → Bool) (nod
       → StaysOff says same nodes results entries (new_run goal step own lead earlier tally) nested below
   off_new goal step own lead earlier tally nested below leads = record { answers = λ i a at counts. absurd (no_answers i a at); earlier = leads }
 
+-- what is so of walks from a node is so of those from the next one
+walks_beyond : (nodes : List theory.Node) (verdict : theory.Verdict) (stack : List Entry) (Stops Inner : ℕ → Type 0) (a k b : ℕ) → StepOn nodes verdict stack Stops a k b → WalksTo nodes verdict stack Stops Inner a → WalksTo nodes verdict stack Stops Inner b
+walks_beyond nodes verdict stack Stops Inner a k b step walks c q w = walks c (max k q) (theory.go step w)
+
 -- a goal under evaluation has no entry
 pub own_no_older : {X F I R A T : Type 0} (same : I → I → Bool) (results : Store I (StoredResult X I R A T)) (entries : Lists I (ProvisionalCacheEntry X I R A T)) (s : OpenGoal X F I R A T) (below : List (OpenGoal X F I R A T)) → StandApart same results (s ∷ below) entries → HasNoOlder same entries (run_of s) s.0.input
 own_no_older same results entries s below apart entry node has = absurd ((apart.off s.0.input entry has.there).0 refl)
@@ -163,16 +168,35 @@ module _ {X I R A T : Type 0} (says : Verdicts R) (same : I → I → Bool) (nod
       let one : o.goal ≡ goal = cc in
       record { known = inl (sym one); off = subst (IsOff below) one apart; no_older = subst (HasNoOlder same entries o) one own_none }
 
-  behind : (i : ℕ) (edge : theory.Edge) → slice_get (s.edges (verdict_of says r)) i ≡ Some edge → WalksTo (shapes_of says nodes) (verdict_of says r) (stack_of (frames_of says (o ∷ below))) (IsStop same entries o) (HasSuchGoal after Left) edge.target
-  behind i edge at =
-      let from = s.from (verdict_of says r) i edge at in
-      let target_is : from.answer.edge.target ≡ edge.target = ap (λ (e : theory.Edge). e.target) from.edge_is in
-      subst (λ v. WalksTo (shapes_of says nodes) v (stack_of (frames_of says (o ∷ below))) (IsStop same entries o) (HasSuchGoal after Left) edge.target) from.verdict_is
-      (subst (WalksTo (shapes_of says nodes) (verdict_shape from.answer.verdict) (stack_of (frames_of says (o ∷ below))) (IsStop same entries o) (HasSuchGoal after Left)) target_is
-      (walks_kept (shapes_of says nodes) (shapes_of says nodes) (verdict_shape from.answer.verdict) (λ a v es is. is) (stack_of (frames_of says (o ∷ below))) (stack_of (frames_of says (o ∷ below))) (IsStop same entries o) (IsStop same entries o)
+  -- where the answer with this node was used
+  behind_answer : (verdict : theory.Verdict) (place : ℕ) (answer : DefiniteAnswer I) → slice_get o.answers place ≡ Some answer → counted_by o.ignored answer.candidate ≡ true → verdict_shape answer.verdict ≡ verdict → WalksTo (shapes_of says nodes) verdict (stack_of (frames_of says (o ∷ below))) (IsStop same entries o) (HasSuchGoal after Left) answer.edge.target
+  behind_answer verdict place answer at counts is =
+      subst (λ v. WalksTo (shapes_of says nodes) v (stack_of (frames_of says (o ∷ below))) (IsStop same entries o) (HasSuchGoal after Left) answer.edge.target) is
+      (walks_kept (shapes_of says nodes) (shapes_of says nodes) (verdict_shape answer.verdict) (λ a v es is. is) (stack_of (frames_of says (o ∷ below))) (stack_of (frames_of says (o ∷ below))) (IsStop same entries o) (IsStop same entries o)
       (HasSuchGoal nodes (IsAside same results entries o nested below)) (HasSuchGoal after Left)
-      (goals_later says nodes after s.goals_kept (IsAside same results entries o nested below) Left (λ goal p. record { known = inr p.known; off = p.off.1; no_older = p.no_older }) (verdict_shape from.answer.verdict))
-      from.answer.edge.target (off.answers from.place from.answer from.is_at from.counts) (λ b leaf. leaf) (λ b stop. stop)))
+      (goals_later says nodes after s.goals_kept (IsAside same results entries o nested below) Left (λ goal p. record { known = inr p.known; off = p.off.1; no_older = p.no_older }) (verdict_shape answer.verdict))
+      answer.edge.target (off.answers place answer at counts) (λ b leaf. leaf) (λ b stop. stop))
+
+  -- no walk stops at a node that was written after the run's own
+  goes_on : (a : ℕ) → o.own < a → IsStop same entries o a → ⊥
+  goes_on a later stop = let older = stop.older in let least : cycles_node o ≤ o.own = h.in_order.0.0 in omega (arith, later, older, least)
+
+  behind_edge : (edge : theory.Edge) (from : IsEdgeFrom says nodes o (verdict_of says r) edge) → WalksTo (shapes_of says nodes) (verdict_of says r) (stack_of (frames_of says (o ∷ below))) (IsStop same entries o) (HasSuchGoal after Left) edge.target
+  behind_edge edge from = elim from.edge_is [
+    | inl is ↦
+        subst (WalksTo (shapes_of says nodes) (verdict_of says r) (stack_of (frames_of says (o ∷ below))) (IsStop same entries o) (HasSuchGoal after Left)) (ap (λ (e : theory.Edge). e.target) is)
+        (behind_answer (verdict_of says r) from.place from.answer from.is_at from.counts from.verdict_is)
+    | inr beyond ↦
+        walks_beyond (shapes_of says nodes) (verdict_of says r) (stack_of (frames_of says (o ∷ below))) (IsStop same entries o) (HasSuchGoal after Left) from.answer.edge.target (theory.cycle_kind (verdict_of says r)) edge.target
+        (record {
+          step = record { edge = beyond.step; inner = λ leaf. no_leaf_after says nodes o.own (o ∷ below) h.in_order.0 from.answer.edge.target beyond.after_own leaf };
+          on = goes_on from.answer.edge.target beyond.after_own;
+        })
+        (behind_answer (verdict_of says r) from.place from.answer from.is_at from.counts from.verdict_is)
+  ]
+
+  behind : (i : ℕ) (edge : theory.Edge) → slice_get (s.edges (verdict_of says r)) i ≡ Some edge → WalksTo (shapes_of says nodes) (verdict_of says r) (stack_of (frames_of says (o ∷ below))) (IsStop same entries o) (HasSuchGoal after Left) edge.target
+  behind i edge at = behind_edge edge (s.from (verdict_of says r) i edge at)
 
   before : option_map (verdict_of says) o.provisional ≡ Some (verdict_of says r) → WalksTo (shapes_of says nodes) (verdict_of says r) (stack_of (frames_of says below)) (IsStop same entries o) (HasSuchGoal after Left) (cycles_node o)
   before again =

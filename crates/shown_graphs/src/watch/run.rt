@@ -28,7 +28,7 @@ pub(crate) struct RunWatch {
 }
 
 impl RunWatch {
-    pub(super) fn new(goal: Goal) -> RunWatch {
+    pub(crate) fn new(goal: Goal) -> RunWatch {
         RunWatch {
             goal,
             question: None,

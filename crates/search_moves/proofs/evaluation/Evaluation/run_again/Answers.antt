@@ -1,10 +1,16 @@
-use Rattle.std.proofs.Common.{arith, ◌-◌, length, ◌++◌, ◌∷◌, [], ◌≤◌, sym, ap, subst, ◌∙◌}
+use Rattle.std.proofs.Common.{arith, ◌-◌, length, ◌++◌, ◌∷◌, [], ◌≤◌, Some, sym, ap, subst, ◌∙◌}
 use Rattle.search_moves.specs.Below.{open_node, rerun_with, change_newest, verdicts, AreFree, AreJustified, runs_of, AreReady}
 use Rattle.global_cache.proofs.Finished.{KeepsFinished-nodes, KeepsFinished-then}
 use Rattle.search_rules.proofs.entries.Reruns.{cleared_at, rerun_ready}
-use Rattle.search_rules.proofs.moves.FinishedRuns.{earlier_taken, taken_from, taken_ends, taken_placed, reran, reran_with_node, rerun_free, rerun_justified}
+use Rattle.search_rules.proofs.moves.FinishedRuns.{earlier_taken, taken_from, taken_ends, taken_open, taken_placed, reran, reran_with_node, rerun_free, rerun_justified}
 use Rattle.search_rules.proofs.records.EarlierNodes.{earlier_of_nodes, earlier_then, first_there, rerun_stays}
 use Rattle.search_moves.proofs.evaluation.Evaluation.run_again.Goals as goal
+
+pub result_node-requires-clause-of_goal : goal.result_node-requires-clause-of_goal
+result_node-requires-clause-of_goal g c =
+    taken_open (verdicts g.D.Cx.Cx) c.args.cache.now.nodes c.args.self.now.goals c.last_entry-entry.result.now c.last_run.result.now c.take_progress-progress.result
+    (taken_from c.args.self.now.goals c.take_progress-progress.new.self c.last_entry-entry.result.now c.last_run.result.now c.take_progress-progress.result c.take_progress-progress.ensures.left c.take_progress-progress.ensures.taken c.last_entry-entry.ensures c.last_run.ensures) c.requires.right.justified
+    ∙ ap Some (sym c.input-input.ensures)
 
 pub result_node-requires-clause-ends : goal.result_node-requires-clause-ends
 result_node-requires-clause-ends g c = λ definite.
