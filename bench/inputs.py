@@ -213,7 +213,7 @@ def main():
     words.add_argument("folder")
     words.add_argument("--size", type=float, default=1)
     words.add_argument("names", nargs="*", choices=[[], *INPUTS], default=[])
-    given = words.parse_args()
+    given = words.parse_intermixed_args()
     for name in given.names or names_of(is_far=False):
         write(given.folder, name, given.size)
 
