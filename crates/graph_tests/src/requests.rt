@@ -18,25 +18,26 @@ const NAMES: [&str; 3] = ["A", "B", "C"];
 
 /// A row for each run: what it shows, the scripts of A, B and C, the goals that are asked one after the other on one graph,
 /// and what each comes to. That is its result or the number of its fault, the frames that it started, the nodes of its graph,
-/// and the successes that are stored then. A node has its goal, its replies, and its edges with the places that they lead to.
+/// or after a fault how many nodes are held, and the successes that are stored then. A node has its goal, its replies, and
+/// its edges with the places that they lead to.
 const RUNS: &str = "\
-a candidate begins while one is open | enter enter | A | A fault 1 after 1
-a candidate ends that is not open | enter finish finish | A | A fault 2 after 1
-a candidate is ignored that is not there | ignore | A | A fault 3 after 1
-a candidate is ignored that is not finished | enter ignore | A | A fault 3 after 1
-a candidate is ignored twice | enter finish ignore ignore | A | A fault 4 after 1
+a candidate begins while one is open | enter enter | A | A fault 1 after 1 holding 0
+a candidate ends that is not open | enter finish finish | A | A fault 2 after 1 holding 0
+a candidate is ignored that is not there | ignore | A | A fault 3 after 1 holding 0
+a candidate is ignored that is not finished | enter ignore | A | A fault 3 after 1 holding 0
+a candidate is ignored twice | enter finish ignore ignore | A | A fault 4 after 1 holding 0
 a goal may end within a candidate | enter | A | A yes after 1 [A begin noted] stores A yes 0
 a candidate may be ignored within another | enter finish enter ignore finish | A | A yes after 1 [A begin noted noted noted noted noted] stores A yes 0
 a goal may ask itself in a candidate that is ignored | enter c:A finish ignore | A | A yes after 1 [A begin noted yes noted noted] stores A yes 1
 a goal may ask itself in a candidate that is ignored | enter i:A finish ignore | A | A yes after 1 [A begin noted no noted noted] stores A yes 1
 a goal may ask itself in a candidate that counts | enter c:A finish | A | A yes after 1 [A begin noted yes noted c:0] stores A yes 1
 a goal may ask itself in a candidate that counts | enter i:A finish | A | A yes after 2 [A begin noted no noted] stores A yes 1
-a goal that is done before a fault stays stored | i:B i:C; ; finish | A B | A fault 2 after 3 stores B yes 0; B yes after 0 [B begin] stores B yes 0
-another goal is answered after a fault | finish | A B | A fault 2 after 1; B yes after 1 [B begin] stores B yes 0
-a goal that asks itself is a yes after each fault | enter enter; c:B | A B | A fault 1 after 1; B yes after 1 [B begin yes c:0] stores B yes 1
-a goal that asks itself is a yes after each fault | finish; c:B | A B | A fault 2 after 1; B yes after 1 [B begin yes c:0] stores B yes 1
-a goal that asks itself is a yes after each fault | ignore; c:B | A B | A fault 3 after 1; B yes after 1 [B begin yes c:0] stores B yes 1
-a goal that asks itself is a yes after each fault | enter finish ignore ignore; c:B | A B | A fault 4 after 1; B yes after 1 [B begin yes c:0] stores B yes 1";
+a goal that is done before a fault stays stored | i:B i:C; ; finish | A B | A fault 2 after 3 holding 1 stores B yes 0; B yes after 0 [B begin] stores B yes 0
+another goal is answered after a fault | finish | A B | A fault 2 after 1 holding 0; B yes after 1 [B begin] stores B yes 0
+a goal that asks itself is a yes after each fault | enter enter; c:B | A B | A fault 1 after 1 holding 0; B yes after 1 [B begin yes c:0] stores B yes 1
+a goal that asks itself is a yes after each fault | finish; c:B | A B | A fault 2 after 1 holding 0; B yes after 1 [B begin yes c:0] stores B yes 1
+a goal that asks itself is a yes after each fault | ignore; c:B | A B | A fault 3 after 1 holding 0; B yes after 1 [B begin yes c:0] stores B yes 1
+a goal that asks itself is a yes after each fault | enter finish ignore ignore; c:B | A B | A fault 4 after 1 holding 0; B yes after 1 [B begin yes c:0] stores B yes 1";
 
 #[test]
 fn requests_are_refused_or_lead_to_a_yes(rt: HostRuntime) -> Result<(), Fail> {
@@ -100,6 +101,10 @@ fn tell<const LIMIT: usize>(
         };
         let started = builder.started();
         write!(told, " after {started}")?;
+        if answer.is_none() {
+            let held = cache.held_nodes();
+            write!(told, " holding {held}")?;
+        }
         if !graph.is_empty() || graph.debug_current_depth() > 0 {
             write!(told, " open")?;
         }

@@ -1,6 +1,6 @@
 -- What a move, and the whole of an evaluation, comes to in whatever call it is made.
-use Rattle.std.specs.Prelude.{◌≡◌, ℕ, Bool, false, List, Result, IfOk, IfErr}
-use Rattle.search_graph.specs.Below.{Awaits, Begins, Cache, CacheNode, Call, CxOf, DelegateOf, EndsWith, Fated, Fault, fates_of, HasGraph, IsCaused, KeepsFinished, KeepsNodes, KeepsResults, LeadsTo, MovesFates, Next, Place, Received, StayFrom, OpenGoal, Store, stored_at, StopsWith, verdicts, work_left}
+use Rattle.std.specs.Prelude.{◌≡◌, ◌≢◌, ℕ, Bool, false, List, None, Result, IfOk, IfErr}
+use Rattle.search_graph.specs.Below.{Awaits, Begins, Cache, CacheNode, Call, CxOf, DelegateOf, EndsWith, Fated, Fault, fates_of, HasGraph, IsCaused, KeepsFinished, KeepsNodes, KeepsResults, LeadsTo, Memory, MovesFates, Next, Place, Received, StayFrom, OpenGoal, Store, stored_at, StopsWith, verdicts, work_left}
 use Rattle.open_goals.specs.declared.goals.Fate.{Fate}
 use Rattle.open_goals.specs.declared.goals.Fate.TheVariants as becomes
 use Rattle.search_context.specs.declared.context.Answer.{Answer}
@@ -25,11 +25,13 @@ pub record MovesGoals {C F I R A T : Type 0} (same : I → I → Bool) (suits : 
   pub stays : StayFrom nodes old new
   pub fates : MovesFates same suits (fates_of old) (fates_of new)
 
--- an answer has its graph, beside which nothing is left of the nodes from this place on but what is stored; and a fault has its cause
+-- An answer has its graph, beside which nothing is left of the nodes from this place on but what is stored. A fault has its cause, and
+-- nothing else is left of them either, if there was memory.
 pub record IsGrounded {D C V P F I R A T : Type 0} (G : DelegateOf D C V P F I R A T) (X : CxOf C I R A T) (same : I → I → Bool) (goal : I) (first : ℕ) (cache : Cache C I R A T) (result : Result (Answer R) (Fault I R)) : Type 0 where
   pub has_graph : IfOk result (λ answer. HasGraph (verdicts X) cache.nodes goal answer.result answer.node)
   pub leaves : IfOk result (λ answer. LeavesReached same first answer.node cache)
   pub caused : IfErr result (IsCaused G X same cache)
+  pub left : IfErr result (λ fault. fault ≢ Memory → LeavesReached same first None cache)
 
 module _ {D C V P F I R A T : Type 0} (G : DelegateOf D C V P F I R A T) (X : CxOf C I R A T) (same : I → I → Bool) (cx : C) where
   -- where the newest goal awaited the reply, what comes next leads on, or a fault with a cause stops the call

@@ -108,8 +108,9 @@ impl<D: Delegate> SearchGraph<D> {
     /// validated. Such a goal is worked out once more, its scope is held meanwhile, and its result is compared with
     /// the stored one instead of being stored; where it rests on a goal under evaluation nothing is compared.
     ///
-    /// After a fault the graph can be used again, the cache keeps every result that it had and those that were stored
-    /// since, and nodes that no answer reaches may stay in it. Ports `SearchGraph::evaluate_goal`.
+    /// After a fault the graph can be used again, and the cache keeps every result that it had and those that were stored
+    /// since. Nodes that nothing leads to are let go then, too; they stay where there is no memory even to look for
+    /// them. Ports `SearchGraph::evaluate_goal`.
     pub fn evaluate_goal(
         &mut self,
         cache: &mut GlobalCache<D>,
@@ -267,9 +268,11 @@ impl<D: Delegate> SearchGraph<D> {
         ensures kept_nodes { KeepsNodes cache.old.nodes cache.new.nodes }
 
         // Of the nodes that the call wrote those alone are left whose run has ended and that the answer or a goal of
-        // which a result is stored leads to.
+        // which a result is stored leads to. So it is after a fault, too, unless that is want of memory.
         ensures leaves { IfOk result (λ answer.
             LeavesReached D.Cx.Input.eq (length cache.old.nodes) answer.node cache.new) }
+        ensures leaves_at_fault { IfErr result (λ fault. fault ≢ Memory →
+            LeavesReached D.Cx.Input.eq (length cache.old.nodes) None cache.new) }
     {
         let evaluation = &mut self.evaluation;
         evaluation.begin(self.root_depth, self.limits_met, cache);

@@ -4,4 +4,5 @@ pub mod Fating
 pub mod Storing
 pub mod Given
 pub mod Remembering
+pub mod Causes
 pub mod Failing

@@ -62,11 +62,12 @@ module _ {D C V P F I R A T : Type 0} (same : I → I → Bool) where
     pub earlier : (at : ℕ) → at < e.drafts.first → slice_get new.nodes at ≡ slice_get old.nodes at
     pub rest : new ≡ record old { nodes = new.nodes }
 
-  -- nodes are let go at the end of a call, but none that was there before, and none to which the answer or stored results lead
+  -- nodes are let go at the end of a call, but none that was there before, and none to which the answer, stored results or noted nodes lead
   pub record LetsGoAtEnd (e : Evaluation D C V P F I R A T) (target : Option NodeId) (old new : Cache C I R A T) : Type 0 where
     pub live : ℕ → Bool
     pub collected : Collected live old.nodes new.nodes
     pub results : AreLiveResults live same old.results
+    pub noted_are : (node : NodeId) → Contains e.drafts.stored.items node → IsTrue (live node.0)
     pub answer : IsLiveNode live target
     pub earlier : (at : ℕ) → at < e.drafts.first → slice_get new.nodes at ≡ slice_get old.nodes at
     pub rest : new ≡ record old { nodes = new.nodes }

@@ -1,6 +1,7 @@
 -- What is stored of a goal that is done, and what is known where that fails.
-use Rattle.std.specs.Prelude.{◌≡◌, ◌<◌, ◌&&◌, ◌++◌, if◌then◌else◌, ℕ, Bool, [], ◌∷◌, IfErr, IfOk, IfSome, length, map, Result, reverse}
-use Rattle.search_moves.specs.Below.{DelegateOf, CxOf, Cache, EvaluationResult, Fault, HasGraph, highest, IfCompared, IsExpected, IsPlainAt, KeepsResults, PathKind, entries_at, place_of, verdicts}
+use Rattle.std.specs.Prelude.{◌≡◌, ◌&&◌, ◌++◌, if◌then◌else◌, ℕ, Bool, [], ◌∷◌, Contains, IfErr, IsTrue, List, map, Result, reverse}
+use Rattle.global_cache.specs.Collected.{Collected}
+use Rattle.search_moves.specs.Below.{DelegateOf, CxOf, Cache, CacheNode, EvaluationResult, Fault, HasGraph, IfCompared, IsExpected, IsPlainAt, KeepsResults, NodeId, PathKind, entries_at, place_of, verdicts}
 use Rattle.search_moves.specs.Drafts.{KeepsNoted}
 use Rattle.search_moves.specs.declared.drafts.Drafts.{Drafts}
 use Rattle.search_moves.specs.declared.evaluation.Evaluation.{Evaluation}
@@ -8,6 +9,7 @@ use Rattle.open_goals.specs.declared.goals.Fate.{Fate}
 use Rattle.open_goals.specs.declared.goals.Fate.TheVariants as becomes
 use Rattle.search_rules.specs.Claims.{ComesTo, IfDiffers, IsCaused}
 use Rattle.search_rules.specs.Fates.{ChangesNewest}
+use Rattle.search_rules.specs.Live.{AreLiveResults}
 use Rattle.search_rules.specs.Provisional.{entries_for}
 use Rattle.search_rules.specs.Results.{IsStored, StoresAnswer}
 
@@ -34,19 +36,25 @@ module _ {D C V P F I R A T : Type 0} (G : DelegateOf D C V P F I R A T) (X : Cx
     pub storable : IsStorable cache goal answer
     pub expected : IfCompared fate (IsExpected (G.scoped cache.cx) same cache.results goal)
 
+  -- the fault has its cause, and has it still when nodes are let go to which neither stored results nor noted nodes lead
+  pub record HasLastingCause (same : I → I → Bool) (cache : Cache C I R A T) (drafts : Drafts) (fault : Fault I R) : Type 0 where
+    pub caused : IsCaused G X same cache fault
+    pub lasts : (live : ℕ → Bool) (left : List (CacheNode I R)) → Collected live cache.nodes left → AreLiveResults live same cache.results
+        → ((node : NodeId) → Contains drafts.stored.items node → IsTrue (live node.0)) → IsCaused G X same (record cache { nodes = left }) fault
+
   -- the fault has its cause, and nothing was stored
-  pub record StoresNothing (same : I → I → Bool) (old new : Cache C I R A T) (fault : Fault I R) : Type 0 where
-    pub caused : IsCaused G X same new fault
+  pub record StoresNothing (same : I → I → Bool) (old new : Cache C I R A T) (after : Drafts) (fault : Fault I R) : Type 0 where
+    pub caused : HasLastingCause same new after fault
     pub unstored : new.results ≡ old.results
 
-  -- the nodes of stored results stay noted; or there is a fault, and nothing was stored
+  -- the nodes of stored results stay noted; where there is a fault, nothing was stored
   pub record StoresOrFails {B : Type 0} (same : I → I → Bool) (old : Cache C I R A T) (before : Drafts) (result : Result B (Fault I R)) (new : Cache C I R A T) (after : Drafts) : Type 0 where
-    pub noted : IfOk result (λ _. KeepsNoted same old before new after)
-    pub fails : IfErr result (StoresNothing same old new)
+    pub noted : KeepsNoted same old before new after
+    pub fails : IfErr result (StoresNothing same old new after)
 
   -- besides, if another result is stored than the goal came to, it came to this one
-  pub record Fails (same : I → I → Bool) (came_to : R) (old new : Cache C I R A T) (fault : Fault I R) : Type 0 where
-    pub stores : StoresNothing same old new fault
+  pub record Fails (same : I → I → Bool) (came_to : R) (old new : Cache C I R A T) (after : Drafts) (fault : Fault I R) : Type 0 where
+    pub stores : StoresNothing same old new after fault
     pub differs : IfDiffers fault (λ found. found ≡ came_to)
 
   -- The answer, which was asked over the step, is stored as it is, with the goal's token, if it rests on no goal and that is its fate; one that rests on goals is a

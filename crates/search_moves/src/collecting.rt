@@ -1,5 +1,5 @@
 //! Nodes that a call wrote are let go once nothing leads to them any more.
-ghost use Rattle.std.specs.Prelude.{◌≡◌, IfOk, OnErr, OnOk};
+ghost use Rattle.std.specs.Prelude.{◌≡◌, [], IfOk, None, OnErr, OnOk};
 ghost use Rattle.global_cache.specs.Collected.{StayBefore};
 ghost use Rattle.search_moves.specs.Drafts.{AreNotedNodes, HasRoots, LetsGo, LetsGoAtEnd, noted};
 
@@ -61,6 +61,21 @@ impl<D: Delegate> Evaluation<D> {
     {
         let roots = self.last_roots(target)?;
         cache.collect(self.drafts.first, &roots)
+    }
+
+    /// Gives up the goals under evaluation, after a fault, and lets go of the call's nodes to which no node leads that is
+    /// noted. The goals and the entries are let go first, so that there is room to find out which nodes these are.
+    /// `NoMemory` where there is none even so, and then all stay.
+    pub fn give_up(&mut self, cache: &mut GlobalCache<D>) -> Result<(), NoMemory>
+        requires before { StayBefore self.old.drafts.first cache.old.nodes }
+        requires noted { AreNotedNodes D.Cx.Input.eq cache.old self.old.drafts }
+        ensures settles { OnOk result
+            (LetsGoAtEnd D.Cx.Input.eq self.old None cache.old cache.new) }
+        ensures refused { OnErr result (cache.new ≡ cache.old) }
+        ensures rest { self.new ≡ record self.old { goals = []; provisional = [] } }
+    {
+        self.release();
+        self.collect_at_end(cache, None)
     }
 
     /// The nodes of the results that the call stored, and this one.

@@ -1,5 +1,5 @@
 //! The nodes that a call writes.
-ghost use Rattle.std.specs.Prelude.{◌≡◌, OnOk};
+ghost use Rattle.std.specs.Prelude.{◌≡◌, OnErr, OnOk};
 ghost use Rattle.search_moves.specs.Drafts.{HasNoDrafts, noted};
 
 use search_parts::context::{Delegate, NoMemory, NodeId};
@@ -62,6 +62,7 @@ impl Drafts {
     pub(crate) fn note_stored(&mut self, node: Option<NodeId>) -> Result<(), NoMemory>
         ensures first { self.new.first ≡ self.old.first }
         ensures noted { OnOk result (self.new.stored.items ≡ noted node self.old.stored.items) }
+        ensures refused { OnErr result (self.new.stored.items ≡ self.old.stored.items) }
     {
         if let Some(node) = node {
             self.stored.push(node)?;

@@ -89,13 +89,21 @@ impl<D: Delegate> Evaluation<D> {
             ≡ record self.old { goals = []; provisional = []; drafts = self.new.drafts } }
     {
         if self.drafts.written(cache) > MOST_RUNS {
+            self.release();
             let alloc = self.goals.allocator();
-            self.goals = OpenGoals::new(alloc);
-            self.provisional = ProvisionalCache::new(alloc);
             self.drafts.stored = Vec::new(alloc);
             self.lean = LeanRuns::new(alloc, self.drafts.first);
         }
         self.empty();
+    }
+
+    /// Lets go of the goals and the entries that are left, and of their memory.
+    pub(crate) fn release(&mut self)
+        ensures { self.new ≡ record self.old { goals = []; provisional = [] } }
+    {
+        let alloc = self.goals.allocator();
+        self.goals = OpenGoals::new(alloc);
+        self.provisional = ProvisionalCache::new(alloc);
     }
 
     /// Lets go of the goals and the entries that are left, as they are after a fault.

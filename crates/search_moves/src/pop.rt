@@ -31,15 +31,14 @@ impl<D: Delegate> Evaluation<D> {
         ensures stored { MayPutNewest D.Cx.Input.eq self.old.goals outcome cache.old.results
             cache.new.results }
         ensures cache { ChangesCache D.Cx.Input.eq self.old.goals cache.old cache.new }
-        ensures noted { OnOk result (
-            KeepsNoted D.Cx.Input.eq cache.old self.old.drafts cache.new self.new.drafts) }
+        ensures noted { KeepsNoted D.Cx.Input.eq cache.old self.old.drafts cache.new self.new.drafts }
         ensures rest { self.new ≡ record self.old {
           goals = self.new.goals;
           provisional = self.new.provisional;
           drafts = self.new.drafts;
         } }
         ensures fails { IfErr result (Fails D.Delegate D.Cx.Cx D.Cx.Input.eq outcome cache.old
-            cache.new) }
+            cache.new self.new.drafts) }
         ensures plain { (n : ℕ) → IsNewestPlainTo (D.script cache.old.cx) n self.old.goals →
             IfErr result (λ fault. fault ≡ Memory) }
     {

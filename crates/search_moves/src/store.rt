@@ -1,5 +1,5 @@
 //! What is stored of a goal that is done.
-ghost use Rattle.std.specs.Prelude.{◌≡◌, ◌≢◌, ◌<◌, ℕ, [], length, IfErr, IfSome, OnOk, OnErr};
+ghost use Rattle.std.specs.Prelude.{◌≡◌, ◌≢◌, ◌<◌, ℕ, [], Err, false, length, IfErr, IfSome, IsTrue, OnOk, OnErr};
 ghost use Rattle.search_moves.specs.Below.{highest, IfCompared, IsExpected, IsPlainTo, IsPlainValue, place_of, Memory, Success, IsStored, StoresAnswer, entry_of};
 ghost use Rattle.provisional_cache.specs.Provisional.{AppendsEntry};
 ghost use Rattle.search_moves.specs.Drafts.{KeepsNoted};
@@ -31,14 +31,13 @@ impl<D: Delegate> Evaluation<D> {
         requires on_stack { IfSome (highest answer.heads) (λ head.
             head.0.0 < length self.old.goals) }
         ensures puts { PutsAnswer D.Cx.Input.eq input answer fate cache.old cache.new }
-        ensures noted { OnOk result (
-            KeepsNoted D.Cx.Input.eq cache.old self.old.drafts cache.new self.new.drafts) }
+        ensures noted { KeepsNoted D.Cx.Input.eq cache.old self.old.drafts cache.new self.new.drafts }
         ensures stores { OnOk result (Stores D.Delegate D.Cx.Cx D.Cx.Input.eq step input
             answer fate self.old self.new cache.new) }
         ensures rest { self.new
             ≡ record self.old { provisional = self.new.provisional; drafts = self.new.drafts } }
         ensures fails { IfErr result (Fails D.Delegate D.Cx.Cx D.Cx.Input.eq answer.result cache.old
-            cache.new) }
+            cache.new self.new.drafts) }
         ensures plain { (n : ℕ) → IsPlainTo (D.script cache.old.cx) n input →
             place_of answer ≡ Success → IfCompared fate (IsPlainValue (D.script cache.old.cx) n input) →
             IfErr result (λ fault. fault ≡ Memory) }
@@ -48,7 +47,9 @@ impl<D: Delegate> Evaluation<D> {
             return match fate {
                 Fate::Stored => store_for_good::<D>(cache, &mut self.drafts, input, answer),
                 Fate::NotStored => Ok(()),
-                Fate::Compared(stored) => compare::<D>(cache, input, stored, &answer),
+                Fate::Compared(stored) => {
+                    compare::<D>(cache, &mut self.drafts, input, stored, &answer)
+                }
             };
         };
         if D::ENABLE_PROVISIONAL_CACHE {
@@ -101,26 +102,46 @@ fn store_for_good<D: Delegate>(
     ensures is_stored { OnOk result (
         IsStored D.Cx.Input.eq (D.Cx.token cache.old.cx) cache.new.results input answer) }
     ensures cache { ChangesResults D.Cx.Input.eq cache.old cache.new }
-    ensures noted { OnOk result
-        (KeepsNoted D.Cx.Input.eq cache.old drafts.old cache.new drafts.new) }
+    ensures noted { KeepsNoted D.Cx.Input.eq cache.old drafts.old cache.new drafts.new }
     ensures fails { IfErr result (Fails D.Delegate D.Cx.Cx D.Cx.Input.eq answer.result cache.old
-        cache.new) }
+        cache.new drafts.new) }
     ensures plain { (n : ℕ) → IsPlainTo (D.script cache.old.cx) n input →
         place_of answer ≡ Success →
         IfErr result (λ fault. fault ≡ Memory) }
 {
     let token = cache.cx().dep_node(input);
-    // It is noted first: a node that is noted and stored of nothing stays without need, and one that is not noted would
-    // be let go.
+    // It is noted first: a node that is stored and not noted would be let go. Where another result is stored, it stays
+    // noted, since the fault tells what it shows.
+    let known = drafts.stored.as_slice().len();
     drafts.note_stored(answer.node)?;
     cache.has_runs();
     cache.has_sound_results();
-    cache.insert(input, answer, token)
+    let stored = cache.insert(input, answer, token);
+    if wants_memory(&stored) {
+        drafts.stored.truncate(known);
+    }
+    stored
 }
 
-/// Compares the result of a goal in a scope with the one that is stored. `Fault::Validation` where they differ.
+/// Whether there was no memory for it.
+fn wants_memory<I, R>(done: &Result<(), Fault<I, R>>) -> bool
+    ensures memory { IsTrue result → done.now ≡ Err Memory }
+    ensures other { result ≡ false → IfErr done.now (λ fault. fault ≢ Memory) }
+{
+    match done {
+        Err(Fault::Memory) => true,
+        Ok(())
+        | Err(Fault::Protocol(_))
+        | Err(Fault::Conflict { .. })
+        | Err(Fault::Validation { .. }) => false,
+    }
+}
+
+/// Compares the result of a goal in a scope with the one that is stored. `Fault::Validation` where they differ; then
+/// its node is noted, since the fault tells what it shows.
 fn compare<D: Delegate>(
     cache: &GlobalCache<D>,
+    drafts: &mut Drafts,
     input: <D::Cx as Cx>::Input,
     stored: <D::Cx as Cx>::Result,
     answer: &EvaluationResult<D::Cx>,
@@ -130,8 +151,9 @@ fn compare<D: Delegate>(
     requires expected { IsExpected (D.scoped cache.now.cx) D.Cx.Input.eq cache.now.results input
         stored }
     ensures same { OnOk result (answer.now.result ≡ stored) }
+    ensures noted { KeepsNoted D.Cx.Input.eq cache.now drafts.old cache.now drafts.new }
     ensures fails { IfErr result (Fails D.Delegate D.Cx.Cx D.Cx.Input.eq answer.now.result cache.now
-        cache.now) }
+        cache.now drafts.new) }
     ensures differs { OnErr result (answer.now.result ≢ stored) }
 {
     cache.has_runs();
@@ -140,6 +162,7 @@ fn compare<D: Delegate>(
     if found == stored {
         return Ok(());
     }
+    drafts.note_stored(answer.node)?;
     Err(Fault::Validation {
         input,
         stored,

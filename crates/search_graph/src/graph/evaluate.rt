@@ -1,11 +1,12 @@
 //! The evaluation of a goal: one loop over the goals under evaluation.
-ghost use Rattle.std.specs.Prelude.{◌≡◌, true, false, length, IfOk, IfErr, IfSome, OnOk, Ok};
+ghost use Rattle.std.specs.Prelude.{◌≡◌, ◌≢◌, true, false, length, IfOk, IfErr, IfSome, None, OnOk, Ok};
 ghost use Rattle.open_goals.specs.declared.goals.Fate.TheVariants.{Stored};
-ghost use Rattle.search_graph.specs.Below.{ChangesCache, IsFated, first_accepted, usable, KeepsBuilder, KeepsCache, IsRightNext};
+ghost use Rattle.search_graph.specs.Below.{ChangesCache, IsFated, Memory, first_accepted, usable, KeepsBuilder, KeepsCache, IsRightNext};
 ghost use Rattle.search_graph.specs.Calls.{Advances, Evaluates, IsGrounded, MovesGoals, Spares};
 ghost use Rattle.search_graph.specs.Settled.{EndsSettled, StaysSettled};
 ghost use Rattle.search_graph.specs.Turns.{IsAtOutset, IsRightTurn, KeepsDrafts, MayAdvance, MayTakeTurn, TurnsCache};
-ghost use Rattle.search_moves.specs.Drafts.{KeepsNoted};
+ghost use Rattle.search_moves.specs.Drafts.{KeepsNoted, LeavesReached};
+ghost use Rattle.search_moves.specs.Storing.{HasLastingCause};
 ghost use Rattle.search_rules.specs.Lone.{IsLone};
 
 use open_goals::goals::{Fate, Next, Received, step};
@@ -109,8 +110,8 @@ pub(crate) fn work_out<D: Delegate>(
     }
 }
 
-/// One turn of the loop: a move, after which nodes are let go to which nothing leads any more. This is the only place
-/// where nodes are let go; a move only adds nodes.
+/// One turn of the loop: a move, after which nodes are let go to which nothing leads any more. After a fault these are all
+/// that no goal leads to of which a result is stored. This is the only place where nodes are let go; a move only adds nodes.
 fn take_turn<D: Delegate>(
     evaluation: &mut Evaluation<D>,
     cache: &mut GlobalCache<D>,
@@ -135,16 +136,22 @@ fn take_turn<D: Delegate>(
     ensures cache { TurnsCache D.Cx.Input.eq evaluation.old cache.old cache.new }
     ensures drafts { IfOk result (λ next.
         KeepsDrafts D.Cx.Input.eq evaluation.old next cache.new evaluation.new) }
+    ensures left { IfErr result (λ fault. fault ≢ Memory →
+        LeavesReached D.Cx.Input.eq evaluation.old.drafts.first None cache.new) }
     ensures builder { KeepsBuilder D.starts D.noop inspect.old inspect.new }
 {
-    match advance::<D>(evaluation, cache, received, inspect)? {
-        Next::Step(given) => {
+    match advance::<D>(evaluation, cache, received, inspect) {
+        Ok(Next::Step(given)) => {
             evaluation.collect_drafts(cache, given.node);
             Ok(Next::Step(given))
         }
-        Next::Finished(answer) => {
+        Ok(Next::Finished(answer)) => {
             evaluation.collect_at_end(cache, answer.node)?;
             Ok(Next::Finished(answer))
+        }
+        Err(fault) => {
+            evaluation.give_up(cache)?;
+            Err(fault)
         }
     }
 }
@@ -172,8 +179,10 @@ fn advance<D: Delegate>(
         (D.noop inspect.old))
         cache.old.nodes evaluation.old.goals evaluation.new.goals) }
     ensures cache { ChangesCache D.Cx.Input.eq evaluation.old.goals cache.old cache.new }
-    ensures noted { OnOk result (KeepsNoted D.Cx.Input.eq cache.old evaluation.old.drafts
-        cache.new evaluation.new.drafts) }
+    ensures noted { KeepsNoted D.Cx.Input.eq cache.old evaluation.old.drafts
+        cache.new evaluation.new.drafts }
+    ensures lasts { IfErr result (HasLastingCause D.Delegate D.Cx.Cx D.Cx.Input.eq cache.new
+        evaluation.new.drafts) }
     ensures builder { KeepsBuilder D.starts D.noop inspect.old inspect.new }
 {
     let cx = cache.cx();

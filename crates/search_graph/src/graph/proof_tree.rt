@@ -1,6 +1,6 @@
 //! A goal that is worked out whatever is stored of it, so that a builder sees all of it.
 ghost use Rattle.search_moves.specs.Drafts.{LeavesReached};
-ghost use Rattle.std.specs.Prelude.{◌≡◌, ◌≤◌, ◌+◌, length, ◌∷◌, ℕ, true, false, max, [], None, IfOk, IfErr, IfSome};
+ghost use Rattle.std.specs.Prelude.{◌≡◌, ◌≢◌, ◌≤◌, ◌+◌, length, ◌∷◌, ℕ, true, false, max, [], None, IfOk, IfErr, IfSome};
 ghost use Rattle.cycle_heads.specs.declared.path.PathKind.TheVariants.{Inductive};
 ghost use Rattle.search_graph.specs.Below.{frames_within, HasGraph, IsCaused, IsPlainTo, IsPlainValue, IsProved, IsRefuted, IsWhole, KeepsFinished, KeepsNodes, KeepsResults, KeepsWhole, Memory, Place, StoresWithin, stored_at, verdicts};
 ghost use Rattle.search_graph.specs.Lists.{HasLimits};
@@ -83,9 +83,11 @@ impl<D: Delegate> SearchGraph<D> {
         ensures kept_nodes { KeepsNodes cache.old.nodes cache.new.nodes }
 
         // Of the nodes that the call wrote those alone are left whose run has ended and that the answer or a goal of
-        // which a result is stored leads to.
+        // which a result is stored leads to. So it is after a fault, too, unless that is want of memory.
         ensures leaves { IfOk result (λ answer.
             LeavesReached D.Cx.Input.eq (length cache.old.nodes) answer.node cache.new) }
+        ensures leaves_at_fault { IfErr result (λ fault. fault ≢ Memory →
+            LeavesReached D.Cx.Input.eq (length cache.old.nodes) None cache.new) }
     {
         let depth = AvailableDepth(root_depth);
         let drafts = Drafts::new(cache.allocator(), cache);

@@ -11,11 +11,13 @@ use Rattle.global_cache.specs.Collected.{AreLive, AreRooted, Collected}
 use Rattle.search_context.specs.Graph.{IsWalk}
 use Rattle.search_context.specs.declared.context.Edge.{Edge}
 use Rattle.search_moves.proofs.nodes.Noting.{noted_cases, of_stored_stays, still_noted, target_is_noted}
-use Rattle.search_moves.specs.Below.{AreFree, Cache, CacheNode, Call, CxOf, DelegateOf, entries_at, graph_nodes_of, HasEdge, HasGraph, IsReached, NodeId, ProvisionalCacheEntry, Received, run_of, runs_of, Store, OpenGoal, StoredResult, verdicts}
+use Rattle.search_moves.specs.Below.{AreFree, Cache, CacheNode, Call, CxOf, DelegateOf, Fault, entries_at, graph_nodes_of, HasEdge, HasGraph, IsReached, NodeId, ProvisionalCacheEntry, Received, run_of, runs_of, Store, OpenGoal, StoredResult, verdicts}
 use Rattle.search_moves.specs.Drafts.{AreNotedNodes, HasRoots, IsOfStored, LetsGo, LetsGoAtEnd, noted}
 use Rattle.search_moves.specs.Evaluations.{IsRight, IsRightFor}
 use Rattle.search_moves.specs.Settled.{IsSettledStore, Settles}
+use Rattle.search_moves.specs.Storing.{HasLastingCause}
 use Rattle.search_moves.specs.declared.evaluation.Evaluation.{Evaluation}
+use Rattle.search_rules.specs.Claims.{IsCaused}
 use Rattle.search_rules.specs.Live.{AreLiveResults, AreLiveRuns, IsLiveNode, IsLiveRun}
 use Rattle.search_rules.proofs.collecting.Kept.{fit_stays, free_stay, graph_stays, justified_stay, ready_stay}
 use Rattle.search_rules.proofs.collecting.Settled.{answer_stays, settled_stay, settling_stay}
@@ -24,7 +26,7 @@ use Rattle.search_rules.proofs.collecting.Settled.{answer_stays, settled_stay, s
 
 module _ (live : ℕ → Bool) where
   -- a root that is there
-  live_root : (roots : List NodeId) → ((n : NodeId) → Contains roots n → IsTrue (live n.0)) → (node : Option NodeId) → IfSome node (Contains roots) → IsLiveNode live node
+  pub live_root : (roots : List NodeId) → ((n : NodeId) → Contains roots n → IsTrue (live n.0)) → (node : Option NodeId) → IfSome node (Contains roots) → IsLiveNode live node
   live_root roots are None h = tt
   live_root roots are (Some n) h = are n h
 
@@ -130,6 +132,7 @@ module _ {D C V P F I R A T : Type 0} (same : I → I → Bool) (e : Evaluation 
           live = live;
           collected = collected;
           results = live_results live roots are.rooted same e.drafts.first are.earlier old.results (rooted_among old roots noted_are among);
+          noted_are = λ n there. are.rooted n (among n (still_noted target e.drafts.stored.items n there));
           answer = live_root live roots are.rooted target (target_is_noted target e.drafts.stored.items roots among);
           earlier = earlier;
           rest = is;
@@ -154,6 +157,15 @@ module _ {D C V P F I R A T : Type 0} (same : I → I → Bool) (e : Evaluation 
     pub goes_at_end_if : {E : Type 0} (result : Result (Unit {0}) E) → OnOk result ((live : ℕ → Bool) × AreLive old.nodes e.drafts.first roots live × Collected live old.nodes new.nodes) → roots ≡ noted target e.drafts.stored.items → OnOk result (LetsGoAtEnd same e target old new)
     goes_at_end_if (Ok u) ok exactly = goes_at_end old new roots is earlier noted_are ok.0 ok.1 ok.2 exactly
     goes_at_end_if (Err fault) ok exactly = tt
+
+-- the same once the goals and the entries were let go
+pub gives_up :
+    {D C V P F I R A T E : Type 0} (same : I → I → Bool) (e after : Evaluation D C V P F I R A T) (target : Option NodeId) (old new : Cache C I R A T) (result : Result (Unit {0}) E) → after ≡ record e { goals = []; provisional = [] }
+    → OnOk result (LetsGoAtEnd same after target old new) → OnOk result (LetsGoAtEnd same e target old new)
+gives_up same e after target old new (Err fault) is h = tt
+gives_up same e after target old new (Ok u) is h =
+    let goes = subst (λ w. LetsGoAtEnd same w target old new) is h in
+    record { live = goes.live; collected = goes.collected; results = goes.results; noted_are = goes.noted_are; answer = goes.answer; earlier = goes.earlier; rest = goes.rest; leaves = goes.leaves }
 
 -- roots that are there stay so with more
 pub has_more : {X F I R A T : Type 0} (roots more : List NodeId) → ((n : NodeId) → Contains roots n → Contains more n) → (goals : List (OpenGoal X F I R A T)) → All (HasNodes roots) goals → All (HasNodes more) goals
@@ -217,3 +229,8 @@ module _ {D C V P F I R A T : Type 0} (G : DelegateOf D C V P F I R A T) (X : Cx
     store_stays_at_end goals h =
         subst (IsSettledStore G X same cx goals new.nodes) (sym (ap (λ cache. cache.results) goes.rest))
         (record { settled = settled_stay (verdicts X) goes.live old.nodes new.nodes goes.collected same old.results goals goes.results h.settled; suit = h.suit })
+
+    pub cause_stays_at_end : (fault : Fault I R) → HasLastingCause G X same old e.drafts fault → IsCaused G X same new fault
+    cause_stays_at_end fault h =
+        subst (λ cache. IsCaused G X same cache fault) (sym goes.rest)
+        (h.lasts goes.live new.nodes goes.collected goes.results goes.noted_are)

@@ -1,12 +1,13 @@
 -- The nodes of stored results stay noted.
 use Rattle.std.proofs.Common.{◌≡◌, ℕ, zero, suc, ◌<◌, arith, Bool, true, Contains, inl, inr, List, [], ◌∷◌, ◌⊎◌, None, Option, option_map, refl, slice_get, Some, subst, sym, ap, ap₂, ◌∙◌}
-use Rattle.std.specs.Prelude.{Err, IfOk, Ok, OnOk, Result}
+use Rattle.std.specs.Prelude.{◌≢◌, Err, IfErr, length, Ok, OnErr, OnOk, Result, take}
 use Rattle.std.specs.Option.{IfSome, IsSome, IsSomeAnd, is_some}
+use Rattle.std.proofs.Math.Seq.{take-append_seam, take-length}
 use Rattle.std.proofs.lemmas.List.Elements.{Contains-append_cases, Contains-append_left, Contains-append_right}
 use Rattle.global_cache.proofs.Bridge.{ended_at}
 use Rattle.global_cache.proofs.Stores.{put_cases}
-use Rattle.global_cache.specs.Store.{Puts}
-use Rattle.search_moves.specs.Below.{Cache, CxOf, finished_node, HasGraph, IsDefinite, KeepsFinished, KeepsResults, NodeId, Place, stored_at, StoredResult, verdict_of, verdicts}
+use Rattle.global_cache.specs.Store.{AnswersStoring, Puts}
+use Rattle.search_moves.specs.Below.{Cache, CxOf, Fault, Memory, finished_node, HasGraph, IsDefinite, KeepsFinished, KeepsResults, NodeId, Place, stored_at, StoredResult, verdict_of, verdicts}
 use Rattle.search_moves.specs.Drafts.{AreNotedNodes, IsOfStored, KeepsNoted, noted}
 use Rattle.search_moves.specs.declared.drafts.Drafts.{Drafts}
 
@@ -70,72 +71,115 @@ module _ {C I R A T : Type 0} (same : I → I → Bool) (old new : Cache C I R A
     of_stored = λ node has. of_stored_grows node.0 nodes kept (h.of_stored node has);
   }
 
-  -- a result is stored, whose node was noted
-  module _ (X : CxOf C I R A T) (by_value : (x y : I) → same x y ≡ true → x ≡ y) (input : I) (place : Place) (stored : StoredResult C I R A T) (rest : new ≡ record old { results = new.results }) (puts : Puts same old.results new.results input place stored) (kept : KeepsResults same old.results new.results) (graph : HasGraph (verdicts X) old.nodes input stored.result.result stored.node) where
-    same_nodes : new.nodes ≡ old.nodes
-    same_nodes = ap (λ cache. cache.nodes) rest
-
-    -- its own node
-    own_is_of_stored : (node : NodeId) → stored.node ≡ Some node → IsOfStored same new node.0
-    own_is_of_stored node is =
-        let definite : IsDefinite (verdicts X) stored.result.result = λ neither. let none = graph.neither neither in absurd cc in
-        let has = some_is _ stored.node node is (graph.definite definite) in
-        let n = ended_at (verdicts X) old.nodes (verdict_of (verdicts X) stored.result.result) node.0 has.1 in
-        let goal : Some n.node.goal ≡ Some input = sym (ap (option_map (λ m. m.goal)) n.is) ∙ has.0 in
-        let own : n.node.goal ≡ input = cc in
-        record {
-          run = n.node;
-          is_run =
-              ap (λ nodes. finished_node nodes node.0) same_nodes
-              ∙ (ap (λ o. elim o [ None ↦ None | Some m ↦ elim m.run [ None ↦ None | Some run ↦ Some m ] ]) n.is
-              ∙ ap (λ r. elim r [ None ↦ None | Some run ↦ Some n.node ]) n.ended);
-          place = place;
-          stored = subst (λ goal. IsSome (stored_at same new.results goal place)) (sym own) (ap is_some puts.here);
-        }
-
-    pub noted_put : (before after : Drafts) → after.first ≡ before.first → after.stored.items ≡ noted stored.node before.stored.items → AreNotedNodes same old before → AreNotedNodes same new after
-    noted_put before after first items h = record {
-      rooted = λ goal at s there. elim (put_cases same by_value old.results new.results input place stored puts goal at) [
-        | inl w ↦
-            let both : Some stored ≡ Some s = sym puts.here ∙ (ap₂ (stored_at same new.results) w.0 w.1 ∙ there) in
-            let own : stored ≡ s = cc in
-            subst (λ x. IfSome x.node (λ n. (n.0 < after.first) ⊎ Contains after.stored.items n)) own
-            (if_noted stored.node (target_is_noted stored.node before.stored.items after.stored.items (λ n has. subst (λ l. Contains l n) (sym items) has)))
-        | inr unchanged ↦ if_was s.node (h.rooted goal at s (sym unchanged ∙ there))
-      ];
-      of_stored = λ node has. elim (noted_cases stored.node before.stored.items node (subst (λ l. Contains l node) items has)) [
-        | inl own ↦ own_is_of_stored node own
-        | inr was ↦ of_stored_grows node.0 (λ at n is. ap (λ nodes. finished_node nodes at) same_nodes ∙ is) kept (h.of_stored node was)
-      ];
+-- a node that shows what a goal came to, of which this or another result is stored
+node_is_of_stored :
+    {C I R A T : Type 0} (same : I → I → Bool) (cache : Cache C I R A T) (X : CxOf C I R A T) (input : I) (place : Place) (r : R) (shown : Option NodeId) → HasGraph (verdicts X) cache.nodes input r shown → IsSome (stored_at same cache.results input place)
+    → (node : NodeId) → shown ≡ Some node → IsOfStored same cache node.0
+node_is_of_stored same cache X input place r shown graph there node is =
+    let definite : IsDefinite (verdicts X) r = λ neither. let none = graph.neither neither in absurd cc in
+    let has = some_is _ shown node is (graph.definite definite) in
+    let n = ended_at (verdicts X) cache.nodes (verdict_of (verdicts X) r) node.0 has.1 in
+    let goal : Some n.node.goal ≡ Some input = sym (ap (option_map (λ m. m.goal)) n.is) ∙ has.0 in
+    let own : n.node.goal ≡ input = cc in
+    record {
+      run = n.node;
+      is_run =
+          ap (λ o. elim o [ None ↦ None | Some m ↦ elim m.run [ None ↦ None | Some run ↦ Some m ] ]) n.is
+          ∙ ap (λ r. elim r [ None ↦ None | Some run ↦ Some n.node ]) n.ended;
+      place = place;
+      stored = subst (λ goal. IsSome (stored_at same cache.results goal place)) (sym own) there;
     }
-      where
-        if_noted : (node : Option NodeId) → IfSome node (Contains after.stored.items) → IfSome node (λ n. (n.0 < after.first) ⊎ Contains after.stored.items n)
-        if_noted None h = tt
-        if_noted (Some n) h = inr h
 
-        if_was : (node : Option NodeId) → IfSome node (λ n. (n.0 < before.first) ⊎ Contains before.stored.items n) → IfSome node (λ n. (n.0 < after.first) ⊎ Contains after.stored.items n)
-        if_was None h = tt
-        if_was (Some n) h = elim h [
-          | inl lower ↦ inl (omega (arith, lower, first))
-          | inr has ↦ inr (subst (λ l. Contains l n) (sym items) (still_noted stored.node before.stored.items n has))
-        ]
+-- what is noted or was there before the call is so with more nodes
+still_rooted : (before after : Drafts) (more : Option NodeId) → after.first ≡ before.first → after.stored.items ≡ noted more before.stored.items → (node : Option NodeId) → IfSome node (λ n. (n.0 < before.first) ⊎ Contains before.stored.items n) → IfSome node (λ n. (n.0 < after.first) ⊎ Contains after.stored.items n)
+still_rooted before after more first items None h = tt
+still_rooted before after more first items (Some n) h = elim h [
+  | inl lower ↦ inl (omega (arith, lower, first))
+  | inr has ↦ inr (subst (λ l. Contains l n) (sym items) (still_noted more before.stored.items n has))
+]
 
--- where there was memory for that
-pub noted_storing : {C I R A T U E : Type 0} (same : I → I → Bool) (old new : Cache C I R A T) (X : CxOf C I R A T) (by_value : (x y : I) → same x y ≡ true → x ≡ y) (input : I) (place : Place) (stored : StoredResult C I R A T) → new ≡ record old { results = new.results } → KeepsResults same old.results new.results → HasGraph (verdicts X) old.nodes input stored.result.result stored.node → (before after : Drafts) → after.first ≡ before.first → after.stored.items ≡ noted stored.node before.stored.items → (result : Result U E) → OnOk result (Puts same old.results new.results input place stored) → OnOk result (KeepsNoted same old before new after)
-noted_storing same old new X by_value input place stored rest kept graph before after first items (Ok u) puts = record { first = first; noted_are = noted_put same old new X by_value input place stored rest puts kept graph before after first items }
-noted_storing same old new X by_value input place stored rest kept graph before after first items (Err fault) puts = tt
+-- a result is stored, whose node was noted
+module _ {C I R A T : Type 0} (same : I → I → Bool) (old new : Cache C I R A T) (X : CxOf C I R A T) (by_value : (x y : I) → same x y ≡ true → x ≡ y) (input : I) (place : Place) (stored : StoredResult C I R A T) (rest : new ≡ record old { results = new.results }) (puts : Puts same old.results new.results input place stored) (kept : KeepsResults same old.results new.results) (graph : HasGraph (verdicts X) old.nodes input stored.result.result stored.node) where
+  same_nodes : new.nodes ≡ old.nodes
+  same_nodes = ap (λ cache. cache.nodes) rest
+
+  noted_put : (before after : Drafts) → after.first ≡ before.first → after.stored.items ≡ noted stored.node before.stored.items → AreNotedNodes same old before → AreNotedNodes same new after
+  noted_put before after first items h = record {
+    rooted = λ goal at s there. elim (put_cases same by_value old.results new.results input place stored puts goal at) [
+      | inl w ↦
+          let both : Some stored ≡ Some s = sym puts.here ∙ (ap₂ (stored_at same new.results) w.0 w.1 ∙ there) in
+          let own : stored ≡ s = cc in
+          subst (λ x. IfSome x.node (λ n. (n.0 < after.first) ⊎ Contains after.stored.items n)) own
+          (if_noted stored.node (target_is_noted stored.node before.stored.items after.stored.items (λ n has. subst (λ l. Contains l n) (sym items) has)))
+      | inr unchanged ↦ still_rooted before after stored.node first items s.node (h.rooted goal at s (sym unchanged ∙ there))
+    ];
+    of_stored = λ node has. elim (noted_cases stored.node before.stored.items node (subst (λ l. Contains l node) items has)) [
+      | inl own ↦
+          node_is_of_stored same new X input place stored.result.result stored.node
+          (subst (λ nodes. HasGraph (verdicts X) nodes input stored.result.result stored.node) (sym same_nodes) graph) (ap is_some puts.here) node own
+      | inr was ↦ of_stored_grows same old new node.0 (λ at n is. ap (λ nodes. finished_node nodes at) same_nodes ∙ is) kept (h.of_stored node was)
+    ];
+  }
+    where
+      if_noted : (node : Option NodeId) → IfSome node (Contains after.stored.items) → IfSome node (λ n. (n.0 < after.first) ⊎ Contains after.stored.items n)
+      if_noted None h = tt
+      if_noted (Some n) h = inr h
+
+-- nothing is stored
+module _ {C I R A T : Type 0} (same : I → I → Bool) (cache : Cache C I R A T) (before after : Drafts) (first : after.first ≡ before.first) where
+  -- and the nodes are those that were noted before
+  pub noted_as_before : after.stored.items ≡ before.stored.items → KeepsNoted same cache before cache after
+  noted_as_before items = record {
+    first = first;
+    noted_are = λ h. record {
+      rooted = λ goal at s there. still_rooted before after None first items s.node (h.rooted goal at s there);
+      of_stored = λ node has. h.of_stored node (subst (λ l. Contains l node) items has);
+    };
+  }
+
+  -- and a node is noted of a goal of which another result is stored
+  pub noted_more : (X : CxOf C I R A T) (input : I) (place : Place) (r : R) (shown : Option NodeId) → HasGraph (verdicts X) cache.nodes input r shown → IsSome (stored_at same cache.results input place) → after.stored.items ≡ noted shown before.stored.items → KeepsNoted same cache before cache after
+  noted_more X input place r shown graph there items = record {
+    first = first;
+    noted_are = λ h. record {
+      rooted = λ goal at s stored. still_rooted before after shown first items s.node (h.rooted goal at s stored);
+      of_stored = λ node has. elim (noted_cases shown before.stored.items node (subst (λ l. Contains l node) items has)) [
+        | inl own ↦ node_is_of_stored same cache X input place r shown graph there node own
+        | inr was ↦ h.of_stored node was
+      ];
+    };
+  }
+
+-- there is one, if there is one of it
+pub some_mapped : {A B : Type 0} (f : A → B) (o : Option A) (b : B) → option_map f o ≡ Some b → IsSome o
+some_mapped f None b is = absurd cc
+some_mapped f (Some a) b is = refl
+
+-- all nodes but the one that was noted last
+pub noted_forgotten : (node : Option NodeId) (nodes : List NodeId) → take (length nodes) (noted node nodes) ≡ nodes
+noted_forgotten None nodes = take-length nodes
+noted_forgotten (Some n) nodes = take-append_seam nodes (n ∷ [])
+
+-- memory was out, and the node is forgotten
+pub noted_unstored : {C I R A T : Type 0} (same : I → I → Bool) (old new : Cache C I R A T) (before after : Drafts) → after.first ≡ before.first → after.stored.items ≡ before.stored.items → (result : Result (Unit {0}) (Fault I R)) → result ≡ Err Memory → OnErr result (new ≡ old) → KeepsNoted same old before new after
+noted_unstored same old new before after first items (Ok u) is err = absurd cc
+noted_unstored same old new before after first items (Err fault) is err = subst (λ cache. KeepsNoted same old before cache after) (sym err) (noted_as_before same old before after first items)
+
+-- memory was not what was wanting
+pub noted_storing :
+    {C I R A T : Type 0} (same : I → I → Bool) (old new : Cache C I R A T) (X : CxOf C I R A T) (by_value : (x y : I) → same x y ≡ true → x ≡ y) (input : I) (place : Place) (stored : StoredResult C I R A T) → new ≡ record old { results = new.results } → KeepsResults same old.results new.results
+    → HasGraph (verdicts X) old.nodes input stored.result.result stored.node → (before after : Drafts) → after.first ≡ before.first → after.stored.items ≡ noted stored.node before.stored.items → (equal : R → R → Bool) (result : Result (Unit {0}) (Fault I R))
+    → OnOk result (Puts same old.results new.results input place stored) → OnErr result (new ≡ old) → (o : Option (StoredResult C I R A T)) → stored_at same old.results input place ≡ o → AnswersStoring equal input o stored.result.result result
+    → IfErr result (λ fault. fault ≢ Memory) → KeepsNoted same old before new after
+noted_storing same old new X by_value input place stored rest kept graph before after first items equal (Ok u) puts err o at answers other = record { first = first; noted_are = noted_put same old new X by_value input place stored rest puts kept graph before after first items }
+noted_storing same old new X by_value input place stored rest kept graph before after first items equal (Err fault) puts err None at answers other = absurd (other answers)
+noted_storing same old new X by_value input place stored rest kept graph before after first items equal (Err fault) puts err (Some s) at answers other =
+    subst (λ cache. KeepsNoted same old before cache after) (sym err)
+    (noted_more same old before after first X input place stored.result.result stored.node graph (ap is_some at) items)
 
 -- the stored results stay, and the drafts do
 pub noted_same : {C I R A T : Type 0} (same : I → I → Bool) (old new : Cache C I R A T) (before after : Drafts) → after ≡ before → KeepsFinished old.nodes new.nodes → new.results ≡ old.results → KeepsResults same old.results new.results → KeepsNoted same old before new after
 noted_same same old new before after is nodes results kept = record { first = ap (λ (d : Drafts). d.first) is; noted_are = λ h. noted_grows same old new after nodes results kept (subst (AreNotedNodes same old) (sym is) h) }
-
-pub noted_if_same : {C I R A T U E : Type 0} (same : I → I → Bool) (cache : Cache C I R A T) (drafts : Drafts) (result : Result U E) → OnOk result (KeepsNoted same cache drafts cache drafts)
-noted_if_same same cache drafts (Ok u) = record { first = refl; noted_are = λ h. h }
-noted_if_same same cache drafts (Err fault) = tt
-
-pub on_ok : {B E : Type 0} (Holds : Type 0) (result : Result B E) → OnOk result Holds → IfOk result (λ _. Holds)
-on_ok Holds (Ok b) h = h
-on_ok Holds (Err fault) h = tt
 
 -- one move after another
 pub noted_then : {C I R A T : Type 0} (same : I → I → Bool) (old more new : Cache C I R A T) (before drafts after : Drafts) → KeepsNoted same old before more drafts → KeepsNoted same more drafts new after → KeepsNoted same old before new after

@@ -61,13 +61,14 @@ module _ {D C V P F I R A T : Type 0} (G : DelegateOf D C V P F I R A T) (X : Cx
   no_entry stack none true is = is
   no_entry stack none false is = refl
 
-  pub stores_compared : {U E : Type 0} (result : Result U E) (stored : R) → fate ≡ becomes.Compared stored → highest answer.heads ≡ None → OnOk result (Stores G X same step goal answer fate evaluation evaluation cache)
-  stores_compared (Err e) stored is none = tt
-  stores_compared (Ok u) stored is none = record {
+  pub stores_compared : {U E : Type 0} (result : Result U E) (after : Evaluation D C V P F I R A T) → after.provisional ≡ evaluation.provisional → (stored : R) → fate ≡ becomes.Compared stored → highest answer.heads ≡ None → OnOk result (Stores G X same step goal answer fate evaluation after cache)
+  stores_compared (Err e) after entries stored is none = tt
+  stores_compared (Ok u) after entries stored is none = record {
     stored = λ stores rests. let clash : becomes.Compared stored ≡ becomes.Stored = sym is ∙ stores in absurd cc;
     entry = λ other.
         let stack = reverse (map (λ s. s.0) evaluation.goals) in
-        sym (ap (λ l. entries_at same evaluation.provisional other ++ l) (no_entry stack none (G.ENABLE_PROVISIONAL_CACHE && same goal other) (rw (none, entries_for) refl)) ∙ append-nil (entries_at same evaluation.provisional other));
+        ap (λ lists. entries_at same lists other) entries
+        ∙ sym (ap (λ l. entries_at same evaluation.provisional other ++ l) (no_entry stack none (G.ENABLE_PROVISIONAL_CACHE && same goal other) (rw (none, entries_for) refl)) ∙ append-nil (entries_at same evaluation.provisional other));
   }
 
   -- it is stored, and has no entry, either

@@ -12,7 +12,7 @@ use Rattle.search_rules.proofs.moves.EndOfRunLaws.{limited, unstable, newest_lim
 use Rattle.search_context.proofs.Builders.{builder_stays}
 use Rattle.search_moves.proofs.results.Failing.{memory_stores}
 use Rattle.search_moves.proofs.results.Keeping.{leaves_results}
-use Rattle.search_moves.proofs.nodes.Noting.{noted_same, on_ok}
+use Rattle.search_moves.proofs.nodes.Noting.{noted_same}
 use Rattle.global_cache.proofs.Stores.{KeepsResults-same}
 use Rattle.search_moves.proofs.moves.LimitsAtEnd.{meets_at_end, or_met, or_not}
 use Rattle.search_moves.proofs.evaluation.Evaluation.finish_run.Goals as goal
@@ -208,13 +208,18 @@ returns-in-Err-AtLimit-clause-builder g c = builder_stays g.D.Delegate.starts g.
 -- ---- where it could not be popped or run again
 
 pub returns-in-Ok-clause-stores : goal.returns-in-Ok-clause-stores
-returns-in-Ok-clause-stores g c = record { noted = on_ok _ c.pop_goal.result c.pop_goal.ensures.noted; fails = stopped_by c.pop_goal.result _ _ (λ fault fails. fails.stores) c.pop_goal.ensures.fails }
+returns-in-Ok-clause-stores g c = record { noted = c.pop_goal.ensures.noted; fails = stopped_by c.pop_goal.result _ _ (λ fault fails. fails.stores) c.pop_goal.ensures.fails }
 
 pub returns-in-Err-AtLimit-clause-stores : goal.returns-in-Err-AtLimit-clause-stores
-returns-in-Err-AtLimit-clause-stores g c = record { noted = on_ok _ c.pop_goal-in-Err-AtLimit.result c.pop_goal-in-Err-AtLimit.ensures.noted; fails = stopped_by c.pop_goal-in-Err-AtLimit.result _ _ (λ fault fails. fails.stores) c.pop_goal-in-Err-AtLimit.ensures.fails }
+returns-in-Err-AtLimit-clause-stores g c = record { noted = c.pop_goal-in-Err-AtLimit.ensures.noted; fails = stopped_by c.pop_goal-in-Err-AtLimit.result _ _ (λ fault fails. fails.stores) c.pop_goal-in-Err-AtLimit.ensures.fails }
 
 pub returns-in_err-run_again-in-Err-Again-clause-stores : goal.returns-in_err-run_again-in-Err-Again-clause-stores
-returns-in_err-run_again-in-Err-Again-clause-stores g c = record { noted = no_ok c.from_residual.result _ _ c.from_residual.ensures.1; fails = memory_stores g.D.Delegate g.D.Cx.Cx g.D.Cx.Input.PartialEq.eq c.args.cache.now c.run_again.new.cache c.from_residual.result c.from_residual.ensures.1 (ap (λ cache. cache.results) c.run_again.ensures.cache) }
+returns-in_err-run_again-in-Err-Again-clause-stores g c = record {
+  noted =
+      noted_same g.D.Cx.Input.PartialEq.eq c.args.cache.now c.run_again.new.cache c.args.self.now.drafts c.run_again.new.self.drafts (ap (λ e. e.drafts) c.run_again.ensures.rest) c.run_again.ensures.kept (ap (λ cache. cache.results) c.run_again.ensures.cache)
+      (KeepsResults-same g.D.Cx.Input.PartialEq.eq c.args.cache.now.results c.run_again.new.cache.results (ap (λ cache. cache.results) c.run_again.ensures.cache));
+  fails = memory_stores g.D.Delegate g.D.Cx.Cx g.D.Cx.Input.PartialEq.eq c.args.cache.now c.run_again.new.cache c.run_again.new.self.drafts c.from_residual.result c.from_residual.ensures.1 (ap (λ cache. cache.results) c.run_again.ensures.cache);
+}
 
 -- ---- the stored results
 

@@ -96,20 +96,20 @@ pub returns-in_err-next-clause-plain : goal.returns-in_err-next-clause-plain
 returns-in_err-next-clause-plain g c = λ n plain. if_err_and c.from_residual-in_err-next.result _ _ c.from_residual-in_err-next.ensures.1 (λ e is. is)
 
 pub returns-in_err-node-clause-fails : goal.returns-in_err-node-clause-fails
-returns-in_err-node-clause-fails g c = memory_fails g.D.Delegate g.D.Cx.Cx g.D.Cx.Input.PartialEq.eq c.args.outcome c.args.cache.now c.result_node.new.cache c.from_residual.result c.from_residual.ensures.1 c.result_node.ensures.same_results
+returns-in_err-node-clause-fails g c = memory_fails g.D.Delegate g.D.Cx.Cx g.D.Cx.Input.PartialEq.eq c.args.outcome c.args.cache.now c.result_node.new.cache c.args.self.now.drafts c.from_residual.result c.from_residual.ensures.1 c.result_node.ensures.same_results
 
 pub returns-in_err-rebase_entries-clause-fails : goal.returns-in_err-rebase_entries-clause-fails
-returns-in_err-rebase_entries-clause-fails g c = memory_fails g.D.Delegate g.D.Cx.Cx g.D.Cx.Input.PartialEq.eq c.args.outcome c.args.cache.now c.result_node.new.cache c.from_residual-in_err-rebase_entries.result c.from_residual-in_err-rebase_entries.ensures.1 c.result_node.ensures.same_results
+returns-in_err-rebase_entries-clause-fails g c = memory_fails g.D.Delegate g.D.Cx.Cx g.D.Cx.Input.PartialEq.eq c.args.outcome c.args.cache.now c.result_node.new.cache c.args.self.now.drafts c.from_residual-in_err-rebase_entries.result c.from_residual-in_err-rebase_entries.ensures.1 c.result_node.ensures.same_results
 
 pub returns-in_err-next-clause-fails : goal.returns-in_err-next-clause-fails
-returns-in_err-next-clause-fails g c = memory_fails g.D.Delegate g.D.Cx.Cx g.D.Cx.Input.PartialEq.eq c.args.outcome c.args.cache.now c.result_node.new.cache c.from_residual-in_err-next.result c.from_residual-in_err-next.ensures.1 c.result_node.ensures.same_results
+returns-in_err-next-clause-fails g c = memory_fails g.D.Delegate g.D.Cx.Cx g.D.Cx.Input.PartialEq.eq c.args.outcome c.args.cache.now c.result_node.new.cache c.args.self.now.drafts c.from_residual-in_err-next.result c.from_residual-in_err-next.ensures.1 c.result_node.ensures.same_results
 
 pub returns-in_err-store_answer-clause-fails : goal.returns-in_err-store_answer-clause-fails
 returns-in_err-store_answer-clause-fails g c =
     if_err_and c.from_residual-in_err-store_answer.result _ _ c.from_residual-in_err-store_answer.ensures.1
     (λ e is.
-    subst (Fails g.D.Delegate g.D.Cx.Cx g.D.Cx.Input.PartialEq.eq c.args.outcome c.args.cache.now c.store_answer.new.cache) (sym is)
-    (fails_after g.D.Delegate g.D.Cx.Cx g.D.Cx.Input.PartialEq.eq c.args.outcome c.args.cache.now c.store_answer.new.cache c.result_node.new.cache c.give_answer.new.answer.result _
+    subst (Fails g.D.Delegate g.D.Cx.Cx g.D.Cx.Input.PartialEq.eq c.args.outcome c.args.cache.now c.store_answer.new.cache c.store_answer.new.self.drafts) (sym is)
+    (fails_after g.D.Delegate g.D.Cx.Cx g.D.Cx.Input.PartialEq.eq c.args.outcome c.args.cache.now c.store_answer.new.cache c.store_answer.new.self.drafts c.result_node.new.cache c.give_answer.new.answer.result _
     (ap (λ (a : EvaluationResult _ _ _ _ _). a.result) c.give_answer.ensures.left.others ∙ ap (λ (a : EvaluationResult _ _ _ _ _). a.result) c.finalize-answer.ensures) c.result_node.ensures.same_results c.in_err-store_answer.ensures.fails))
 
 pub returns-in_err-store_answer-clause-stored : goal.returns-in_err-store_answer-clause-stored
@@ -256,8 +256,23 @@ returns-clause-popped g c =
       };
     })
 
+pub returns-in_err-node-clause-noted : goal.returns-in_err-node-clause-noted
+returns-in_err-node-clause-noted g c = noted_same g.D.Cx.Input.PartialEq.eq c.args.cache.now c.result_node.new.cache c.args.self.now.drafts c.args.self.now.drafts refl c.result_node.ensures.kept c.result_node.ensures.same_results (KeepsResults-same g.D.Cx.Input.PartialEq.eq c.args.cache.now.results c.result_node.new.cache.results c.result_node.ensures.same_results)
+
+pub returns-in_err-rebase_entries-clause-noted : goal.returns-in_err-rebase_entries-clause-noted
+returns-in_err-rebase_entries-clause-noted g c = noted_same g.D.Cx.Input.PartialEq.eq c.args.cache.now c.result_node.new.cache c.args.self.now.drafts c.args.self.now.drafts refl c.result_node.ensures.kept c.result_node.ensures.same_results (KeepsResults-same g.D.Cx.Input.PartialEq.eq c.args.cache.now.results c.result_node.new.cache.results c.result_node.ensures.same_results)
+
+pub returns-in_err-next-clause-noted : goal.returns-in_err-next-clause-noted
+returns-in_err-next-clause-noted g c = noted_same g.D.Cx.Input.PartialEq.eq c.args.cache.now c.result_node.new.cache c.args.self.now.drafts c.args.self.now.drafts refl c.result_node.ensures.kept c.result_node.ensures.same_results (KeepsResults-same g.D.Cx.Input.PartialEq.eq c.args.cache.now.results c.result_node.new.cache.results c.result_node.ensures.same_results)
+
+pub returns-in_err-store_answer-clause-noted : goal.returns-in_err-store_answer-clause-noted
+returns-in_err-store_answer-clause-noted g c =
+    noted_then g.D.Cx.Input.PartialEq.eq c.args.cache.now c.result_node.new.cache c.store_answer.new.cache c.args.self.now.drafts c.args.self.now.drafts c.store_answer.new.self.drafts
+    (noted_same g.D.Cx.Input.PartialEq.eq c.args.cache.now c.result_node.new.cache c.args.self.now.drafts c.args.self.now.drafts refl c.result_node.ensures.kept c.result_node.ensures.same_results (KeepsResults-same g.D.Cx.Input.PartialEq.eq c.args.cache.now.results c.result_node.new.cache.results c.result_node.ensures.same_results))
+    c.store_answer.ensures.noted
+
 pub returns-clause-noted : goal.returns-clause-noted
 returns-clause-noted g c =
     noted_then g.D.Cx.Input.PartialEq.eq c.args.cache.now c.result_node.new.cache c.store_answer.new.cache c.args.self.now.drafts c.args.self.now.drafts c.store_answer.new.self.drafts
-    (noted_same g.D.Cx.Input.PartialEq.eq c.args.cache.now c.result_node.new.cache c.args.self.now.drafts c.args.self.now.drafts refl c.in_ok-node.ensures.kept c.in_ok-node.ensures.same_results (KeepsResults-same g.D.Cx.Input.PartialEq.eq c.args.cache.now.results c.result_node.new.cache.results c.in_ok-node.ensures.same_results))
-    c.in_ok-store_answer.ensures.noted
+    (noted_same g.D.Cx.Input.PartialEq.eq c.args.cache.now c.result_node.new.cache c.args.self.now.drafts c.args.self.now.drafts refl c.result_node.ensures.kept c.result_node.ensures.same_results (KeepsResults-same g.D.Cx.Input.PartialEq.eq c.args.cache.now.results c.result_node.new.cache.results c.result_node.ensures.same_results))
+    c.store_answer.ensures.noted

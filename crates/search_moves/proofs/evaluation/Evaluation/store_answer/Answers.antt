@@ -1,6 +1,5 @@
 use Rattle.search_rules.proofs.rebasing.Lists.{headless}
 use Rattle.std.proofs.Common.{◌∷◌, [], ◌∙◌, OnOk, refl, sym, ap, subst}
-use Rattle.search_moves.proofs.nodes.Noting.{noted_if_same}
 use Rattle.search_moves.specs.Below.{ChangesNewest, highest, IfCompared, entry_of, IsPlainAt, IsPlainValue, IsStored, Memory}
 use Rattle.search_context.proofs.Ranks.{one_plain_value}
 use Rattle.search_moves.proofs.results.Storing.{equal_results, puts_nothing, stores_compared, stores_entry, stores_none, stores_result}
@@ -30,7 +29,7 @@ returns-in-Compared-clause-puts g c = puts_nothing g.D.Cx.Input.PartialEq.eq c.a
 
 pub returns-in-Compared-clause-stores : goal.returns-in-Compared-clause-stores
 returns-in-Compared-clause-stores g c =
-    stores_compared g.D.Delegate g.D.Cx.Cx g.D.Cx.Input.PartialEq.eq c.args.step c.args.input c.args.answer c.args.fate c.args.self.now c.args.cache.now c.compare.result c.in-Compared.stored c.in-Compared.is
+    stores_compared g.D.Delegate g.D.Cx.Cx g.D.Cx.Input.PartialEq.eq c.args.step c.args.input c.args.answer c.args.fate c.args.self.now c.args.cache.now c.compare.result _ refl c.in-Compared.stored c.in-Compared.is
     (ap highest (headless c.args.answer c.opt_highest_cycle_head_index.result c.opt_highest_cycle_head_index.ensures c.in_default.is))
 
 pub compare-requires-clause-no_heads : goal.compare-requires-clause-no_heads
@@ -61,6 +60,3 @@ returns-in-Stored-clause-stores g c =
     stores_result g.D.Delegate g.D.Cx.Cx g.D.Cx.Input.PartialEq.eq c.args.step c.args.input c.args.answer c.args.fate c.args.self.now c.store_for_good.new.cache c.store_for_good.result _ refl
     (ap highest (headless c.args.answer c.opt_highest_cycle_head_index.result c.opt_highest_cycle_head_index.ensures c.in_default.is))
     (subst (λ cx. OnOk c.store_for_good.result (IsStored g.D.Cx.Input.PartialEq.eq (g.D.Cx.Cx.token cx) c.store_for_good.new.cache.results c.args.input c.args.answer)) (sym (ap (λ cache. cache.cx) c.store_for_good.ensures.cache.rest)) c.store_for_good.ensures.is_stored)
-
-pub returns-in-Compared-clause-noted : goal.returns-in-Compared-clause-noted
-returns-in-Compared-clause-noted g c = noted_if_same g.D.Cx.Input.PartialEq.eq c.args.cache.now c.args.self.now.drafts c.compare.result
