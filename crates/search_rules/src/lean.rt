@@ -77,7 +77,7 @@ fn chances_after(chances: usize, succeeds: bool) -> usize {
 }
 
 /// How far a replay has come in the record of its run.
-#[derive(Clone, Copy)]
+#[derive(Drop)]
 struct Place {
     /// The place of the definite answer that comes next.
     answer: usize,
@@ -91,16 +91,19 @@ struct Place {
     passed: usize,
 }
 
-/// A run that came to a definite result, as a replay of it looks at it.
+/// A run that came to a definite result, and what a replay of it looks at.
 #[derive(Drop)]
 pub(crate) struct Replayed<'cache, 'run, D: Delegate> {
     pub(crate) cache: &'cache GlobalCache<D>,
     /// The goal of the run.
     pub(crate) input: <D::Cx as Cx>::Input,
+    /// The node of the run.
     pub(crate) own_node: NodeId,
-    /// What the run was told.
+    /// The record of the run.
     pub(crate) told: &'run Progress<<D::Cx as Cx>::Input, <D::Cx as Cx>::Result>,
+    /// The verdict of its result.
     pub(crate) verdict: Verdict,
+    /// Its result.
     pub(crate) outcome: <D::Cx as Cx>::Result,
 }
 
@@ -120,11 +123,10 @@ impl<'cache, 'run, D: Delegate> Replayed<'cache, 'run, D> {
             IsRecordFor (verdicts D.Cx.Cx) (D.script run.cache.now.cx run.input) run.cache.now.nodes
             run.own_node.0 run.told.now run.verdict run.outcome result.now }
     {
+        let kind = kind_of_cycles(self.verdict);
         let is_worth = is_in_cycle
             && lean.are_worth(self.told.count(), self.cache.next_node())
-            && self
-                .told
-                .mixes_kinds(kind_of_cycles(self.verdict), self.verdict);
+            && self.told.mixes_kinds(kind, self.verdict);
         if !is_worth {
             return self.told;
         }

@@ -3,4 +3,4 @@ use Rattle.search_rules.proofs.justified.Finishing.{contains_at}
 use Rattle.search_rules.proofs.lean.Replayed.next_answer.Goals as goal
 
 pub returns-then-asks-clause-on_record : goal.returns-then-asks-clause-on_record
-returns-then-asks-clause-on_record g c = contains_at c.args.self.now.told.now.answers c.loop-at.at c.in_ok-known.known (sym c.answer.ensures ∙ c.in_ok-known.was)
+returns-then-asks-clause-on_record g c = contains_at _ c.loop-at.at _ (sym c.answer.ensures ∙ c.in_ok-known.was)
