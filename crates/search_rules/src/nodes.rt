@@ -5,7 +5,7 @@ ghost use Rattle.global_cache.specs.Cache.{ended_run};
 ghost use Rattle.search_rules.specs.Below.{KeepsFinished, IsDefinite, edges_of, open_goal, verdict_of, verdicts, with_run};
 ghost use Rattle.search_rules.specs.Words.{verdict_shape, EndsRun, HasResultNode, KeepsBut, LeadToGoals};
 
-use crate::lean::{LeanRuns, record_for_node};
+use crate::lean::{LeanRuns, Replayed};
 use open_goals::progress::Progress;
 use search_parts::context::{Cx, Delegate, NoMemory, NodeId, Verdict};
 use search_parts::global_cache::GlobalCache;
@@ -50,16 +50,15 @@ pub fn result_node<D: Delegate>(
         return Ok(state.node);
     }
     let is_in_cycle = state.usages.is_some() || !state.heads.is_empty();
-    let by = record_for_node::<D>(
-        lean,
+    let run = Replayed {
         cache,
         input,
         own_node,
-        progress,
+        told: progress,
         verdict,
         outcome,
-        is_in_cycle,
-    );
+    };
+    let by = run.record_for_node(lean, is_in_cycle);
     finish_by(cache, own_node, by, verdict, outcome)?;
     Ok(Some(own_node))
 }

@@ -21,9 +21,9 @@ use Rattle.search_rules.proofs.records.ProgressLaws.{answers_received, fault_is,
 use Rattle.search_rules.proofs.records.Verdicts.{fails_at, fails_unless, same_verdict}
 
 -- an answer on record has its edge
-pub edge_on_record : {I : Type 0} (answers : List (DefiniteAnswer I)) (ignored : List Bool) (v : Verdict) (place : ℕ) (known : DefiniteAnswer I) (e : Edge I) → slice_get answers place ≡ Some known → known.edge ≡ e → rests_on ignored v known ≡ true → IsEdgeOfAnswer answers ignored v e
-edge_on_record answers ignored v place known e at is rests =
-    record { answer = known; is_in = contains_at answers place known at; verdict_is = same_verdict _ _ ((and_parts _ _ rests).0); edge_is = is; kept = (and_parts _ _ rests).1 }
+pub edge_on_record : {I : Type 0} (answers : List (DefiniteAnswer I)) (ignored : List Bool) (v : Verdict) (known : DefiniteAnswer I) (e : Edge I) → Contains answers known → known.edge ≡ e → rests_on ignored v known ≡ true → IsEdgeOfAnswer answers ignored v e
+edge_on_record answers ignored v known e there is rests =
+    record { answer = known; is_in = there; verdict_is = same_verdict _ _ ((and_parts _ _ rests).0); edge_is = is; kept = (and_parts _ _ rests).1 }
 
 one_at : {A : Type 0} (x y : A) (j : ℕ) → slice_get (x ∷ []) j ≡ Some y → x ≡ y
 one_at x y zero at = cc
