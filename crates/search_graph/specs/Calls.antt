@@ -34,12 +34,11 @@ pub record IsGrounded {D C V P F I R A T : Type 0} (G : DelegateOf D C V P F I R
   pub left : IfErr result (λ fault. fault ≢ Memory → LeavesReached same first None cache)
 
 module _ {D C V P F I R A T : Type 0} (G : DelegateOf D C V P F I R A T) (X : CxOf C I R A T) (same : I → I → Bool) (cx : C) where
-  -- where the newest goal awaited the reply, what comes next leads on, or a fault with a cause stops the call
+  -- where the newest goal awaited the reply, what comes next leads on, or a fault stops the call
   pub record Advances (received : Received R) (old : Cache C I R A T) (before : Evaluation D C V P F I R A T) (from : ℕ) (result : Result (Next R) (Fault I R)) (new : Cache C I R A T) (after : Evaluation D C V P F I R A T) (to : ℕ) : Type 0 where
     pub leads : (call : Call I) → Awaits G X same cx call received old before from
         → IfOk result (λ next. LeadsTo G X same cx call (work_left G X cx before.goals) before.goals next new after to)
     pub stops : (call : Call I) → Awaits G X same cx call received old before from → IfErr result (λ fault. StopsWith G X same cx call fault new after to)
-    pub caused : IfErr result (IsCaused G X same new)
 
   -- where the call began, an answer ended it, which is stored where this holds, or a fault stopped it
   pub record Evaluates (is_stored : Type 0) (goal : I) (old : Cache C I R A T) (before : Evaluation D C V P F I R A T) (from : ℕ) (result : Result (Answer R) (Fault I R)) (new : Cache C I R A T) (after : Evaluation D C V P F I R A T) (to : ℕ) : Type 0 where

@@ -39,6 +39,7 @@ impl<D: Delegate> Evaluation<D> {
             cache.new self.new (D.starts inspect.new)) }
         ensures keeps { KeepsCache D.Cx.Input.eq self.old.goals cache.old cache.new }
         ensures same_results { cache.new.results ≡ cache.old.results }
+        ensures same_drafts { self.new.drafts ≡ self.old.drafts }
         ensures builder { KeepsBuilder D.starts D.noop inspect.old inspect.new }
     {
         let cx = cache.cx();

@@ -1,5 +1,5 @@
 -- Where two runs of each goal are enough: for no queries, and for one more.
-use Rattle.std.proofs.Common.{◌≡◌, ◌≤◌, ◌++◌, ℕ, All, Bool, Contains, IfErr, IfOk, length, List, [], ◌∷◌, Result, slice_get, Some, ap, arith, inl, inr, subst, sym}
+use Rattle.std.proofs.Common.{◌≡◌, ◌++◌, ℕ, All, Bool, Contains, List, [], ◌∷◌, Result, Some, ap, arith, inl, inr, subst, sym}
 use Rattle.std.proofs.lemmas.List.Elements.{All-cons, All-nil}
 use Rattle.search_context.specs.declared.context.Answer.{Answer}
 use Rattle.search_graph.specs.Below.{AreDefinite, Cache, CxOf, DelegateOf, Fault, HaveNoOverflowOf, PathKind, verdicts}

@@ -1,24 +1,30 @@
 -- Why a step fails, and that stored results rest on no goal while steps are taken.
 use Rattle.std.proofs.Common.{◌≡◌, ℕ, Bool, List, ◌∷◌, refl, sym, subst}
-use Rattle.search_graph.specs.Below.{DelegateOf, CxOf, Request, Fault, StoredResult, OpenGoal, Cache, CacheNode, Store, Received, requested, HasStepped, IsStepFault, NoMemoryLeft, received_by, verdicts, Call, IsWaiting, AreFree, IsCaused, OutOfMemory, IsFit, run_of, runs_of}
+use Rattle.search_graph.specs.Below.{DelegateOf, CxOf, Request, Fault, StoredResult, OpenGoal, Cache, CacheNode, Store, Received, requested, HasStepped, IsStepFault, NoMemoryLeft, received_by, verdicts, Call, IsWaiting, AreFree, IsFit, run_of, runs_of}
+use Rattle.search_moves.specs.Storing.{HasLastingCause}
+use Rattle.search_moves.specs.declared.drafts.Drafts.{Drafts}
+use Rattle.search_moves.proofs.results.Causes.{memory_lasts}
 use Rattle.search_rules.specs.Claims.{OutOfOrder}
 use Rattle.open_goals.specs.Steps as steps
 use Rattle.search_rules.proofs.moves.Moves.{can_step_record, fault_after_step}
 use Rattle.search_rules.proofs.justified.Replies.{replies_sorted}
 use Rattle.search_rules.proofs.answers.Free.{all_free_above}
 
-module _ {D C V P F I R A T : Type 0} (G : DelegateOf D C V P F I R A T) (X : CxOf C I R A T) (same : I → I → Bool) (cache : Cache C I R A T) (given : Received R) (goals : List (OpenGoal C F I R A T)) (starts : ℕ) (met : Bool) where
+module _ {D C V P F I R A T : Type 0} (G : DelegateOf D C V P F I R A T) (X : CxOf C I R A T) (same : I → I → Bool) (cache : Cache C I R A T) (drafts : Drafts) (given : Received R) (goals : List (OpenGoal C F I R A T)) (starts : ℕ) (met : Bool) where
   -- a step failed for want of memory, or since the newest goal's request was out of order
-  caused_at : (call : Call I) → IsFit (verdicts X) cache.nodes (runs_of goals) given.reply given.node → IsWaiting G X cache.cx call given.reply goals starts met → (fault : Fault I R) → IsStepFault G X cache.cx given goals fault → IsCaused G X same cache fault
-  caused_at call fit h fault (NoMemoryLeft is) = OutOfMemory is
-  caused_at call fit h fault (steps.OutOfOrder entry run frame verdict below request number was is_verdict taken disorderly is) =
+  lasting_at : (call : Call I) → IsFit (verdicts X) cache.nodes (runs_of goals) given.reply given.node → IsWaiting G X cache.cx call given.reply goals starts met → (fault : Fault I R) → IsStepFault G X cache.cx given goals fault → HasLastingCause G X same cache drafts fault
+  lasting_at call fit h fault (NoMemoryLeft is) = memory_lasts G X same cache drafts fault is
+  lasting_at call fit h fault (steps.OutOfOrder entry run frame verdict below request number was is_verdict taken disorderly is) =
       let there : IsWaiting G X cache.cx call given.reply ((entry, run) ∷ below) starts met = subst (λ v. IsWaiting G X cache.cx call given.reply v starts met) was h in
       let stood = can_step_record G X cache.cx call given.reply (entry, run) below starts met there in
-      OutOfOrder entry.input (given.reply ∷ stood.0) number stood.2
-      (fault_after_step G X cache.cx call entry run frame verdict given request taken (replies_sorted G X cache.cx cache.nodes call given goals starts met h fit verdict is_verdict) number disorderly stood.0 stood.1 stood.2) is
+      let asked = fault_after_step G X cache.cx call entry run frame verdict given request taken (replies_sorted G X cache.cx cache.nodes call given goals starts met h fit verdict is_verdict) number disorderly stood.0 stood.1 stood.2 in
+      record {
+        caused = OutOfOrder entry.input (given.reply ∷ stood.0) number stood.2 asked is;
+        lasts = λ live left collected results noted. OutOfOrder entry.input (given.reply ∷ stood.0) number stood.2 asked is;
+      }
 
-  pub step_is_caused : (call : Call I) → IsFit (verdicts X) cache.nodes (runs_of goals) given.reply given.node → IsWaiting G X cache.cx call given.reply goals starts met → (read : C) → read ≡ cache.cx → (fault : Fault I R) → IsStepFault G X read given goals fault → IsCaused G X same cache fault
-  step_is_caused call fit h read is_cx fault failed = caused_at call fit h fault (subst (λ x. IsStepFault G X x given goals fault) is_cx failed)
+  pub step_has_cause : (call : Call I) → IsFit (verdicts X) cache.nodes (runs_of goals) given.reply given.node → IsWaiting G X cache.cx call given.reply goals starts met → (read : C) → read ≡ cache.cx → (fault : Fault I R) → IsStepFault G X read given goals fault → HasLastingCause G X same cache drafts fault
+  step_has_cause call fit h read is_cx fault failed = lasting_at call fit h fault (subst (λ x. IsStepFault G X x given goals fault) is_cx failed)
 
 -- a step changes no node of the goals
 pub step_keeps_free : {D C V P F I R A T : Type 0} (G : DelegateOf D C V P F I R A T) (X : CxOf C I R A T) (cx : C) (same : I → I → Bool) (nodes : List (CacheNode I R)) (results : Store I (StoredResult C I R A T)) (given : Received R) (request : Request I R) (old new : List (OpenGoal C F I R A T)) → HasStepped G X cx given request old new → AreFree (verdicts X) same nodes (runs_of old) results → AreFree (verdicts X) same nodes (runs_of new) results

@@ -1,10 +1,10 @@
 -- What a turn of the loop keeps, which is a move after which nodes may be let go.
 use Rattle.std.specs.Prelude.{Vec}
 use Rattle.std.specs.Global.{Global}
-use Rattle.std.proofs.Common.{◌≡◌, ◌≢◌, ℕ, ◌<◌, ◌≤◌, arith, Bool, Contains, false, inl, inr, length, List, [], ◌∷◌, None, Option, option_map, refl, slice_get, Some, subst, sym, ap, ◌∙◌, ◌⊎◌}
+use Rattle.std.proofs.Common.{◌≡◌, ℕ, ◌<◌, ◌≤◌, arith, Bool, Contains, inl, inr, length, List, [], ◌∷◌, None, Option, option_map, refl, slice_get, Some, subst, sym, ap, ◌∙◌, ◌⊎◌}
 use Rattle.std.specs.Option.{IfSome, IsSomeAnd}
 use Rattle.std.proofs.lemmas.Option.{slice_get-get_or, slice_get-map, slice_get_cases, slice_get_within}
-use Rattle.global_cache.specs.Cache.{EndedRun, finished_node, graph_node_of, graph_nodes_of, IsNodeOf}
+use Rattle.global_cache.specs.Cache.{EndedRun, graph_node_of, graph_nodes_of, IsNodeOf}
 use Rattle.global_cache.specs.Collected.{AreRooted, StayBefore}
 use Rattle.global_cache.proofs.Finished.{found_finished}
 use Rattle.global_cache.proofs.Stores.{KeepsResults-then}
@@ -12,14 +12,14 @@ use Rattle.open_graphs.proofs.Lists.{mapped_some}
 use Rattle.search_context.specs.declared.context.Answer.{Answer}
 use Rattle.search_context.specs.declared.context.Edge.{Edge}
 use Rattle.search_context.specs.Graph.{HasEdge}
-use Rattle.search_graph.specs.Below.{AreFrom, AreRuns, AreSoundResults, Awaits, Cache, CacheNode, Call, ChangesNewest, CxOf, DelegateOf, fates_of, Finished, HasEnded, HasGraph, HasStopped, IsRightFor, IsRightNext, KeepsCache, KeepsFinished, KeepsFirst, KeepsNodes, KeepsResults, LeadsTo, Memory, Next, NodeId, Place, Received, Reply, Request, Step, OpenGoal, StopsWith, stored_at, StoredResult, verdicts, Verdicts}
+use Rattle.search_graph.specs.Below.{AreFrom, AreRuns, AreSoundResults, Cache, CacheNode, Call, ChangesNewest, CxOf, DelegateOf, fates_of, Fault, Finished, IsRightFor, IsRightNext, KeepsCache, KeepsFirst, KeepsNodes, KeepsResults, LeadsTo, Memory, NodeId, Place, Received, Reply, Request, Step, OpenGoal, StopsWith, stored_at, StoredResult, verdicts, Verdicts}
 use Rattle.search_rules.proofs.records.EarlierNodes.{first_there}
-use Rattle.search_graph.specs.Turns.{HasDrafts, IsRightTurn, KeepsDrafts, TurnsCache}
+use Rattle.search_graph.specs.Turns.{HasDrafts, IsRightTurn, TurnsCache}
 use Rattle.search_moves.specs.Drafts.{AreNotedNodes, HasNoDrafts, LeavesReached, LetsGo, LetsGoAtEnd}
-use Rattle.search_moves.specs.Settled.{IsSettledStore, Settles, SettlesNext}
+use Rattle.search_moves.specs.Settled.{Settles}
 use Rattle.search_moves.specs.declared.drafts.Drafts.{Drafts}
 use Rattle.search_moves.specs.declared.evaluation.Evaluation.{Evaluation}
-use Rattle.search_moves.proofs.nodes.LettingGo.{graph_stays_at_end, noted_stay, right_for_stays, settles_stay, store_stays_at_end}
+use Rattle.search_moves.proofs.nodes.LettingGo.{graph_stays_at_end, right_for_stays, settles_stay}
 
 -- ---- nodes that were there before
 
@@ -124,11 +124,15 @@ module _ {D C V P F I R A T : Type 0} (same : I → I → Bool) (before : Evalua
     changes = subst (ChangesNewest same (fates_of before.goals) old.results) (sym (ap (λ cache. cache.results) rest)) changes;
   }
 
+  -- no node that was there before leads to one of the call's
+  pub turn_before : (after : Evaluation D C V P F I R A T) → after.drafts.first ≡ before.drafts.first → StayBefore after.drafts.first new.nodes
+  turn_before after first = subst (λ n. StayBefore n new.nodes) (sym first) (stay_before_kept old.nodes new.nodes before.drafts.first first_kept has.before)
+
   -- the drafts are in order still
   pub turn_has : (after : Evaluation D C V P F I R A T) → after.drafts.first ≡ before.drafts.first → AreFrom before.drafts.first after.goals → AreNotedNodes same new after.drafts → HasDrafts same new after
   turn_has after first from noted_are = record {
     there = subst (λ n. n ≤ length new.nodes) (sym first) (first_there before.drafts.first old.nodes new.nodes has.there first_kept);
-    before = subst (λ n. StayBefore n new.nodes) (sym first) (stay_before_kept old.nodes new.nodes before.drafts.first first_kept has.before);
+    before = turn_before after first;
     from = subst (λ n. AreFrom n after.goals) (sym first) from;
     noted_are = noted_are;
   }
@@ -185,6 +189,25 @@ module _ {D C V P F I R A T : Type 0} (G : DelegateOf D C V P F I R A T) (X : Cx
           };
           store = h.answers.store;
         }
+
+  -- ---- the call ends in a fault
+
+  module _ (call : Call I) (fault : Fault I R) (starts : ℕ) where
+    pub fault_stops : new ≡ record mid { nodes = new.nodes } → after ≡ record e { goals = []; provisional = [] } → StopsWith G X same cx call fault mid e starts → StopsWith G X same cx call fault new after starts
+    fault_stops rest is h =
+        subst (λ a. StopsWith G X same cx call fault new a starts) (sym is)
+        (subst (λ c. StopsWith G X same cx call fault c (record e { goals = []; provisional = [] }) starts) (sym rest)
+        (record { stopped = h.stopped; store = h.store }))
+
+    -- where there was no memory to look for nodes that can go
+    pub memory_stops : new ≡ mid → after ≡ record e { goals = []; provisional = [] } → StopsWith G X same cx call fault mid e starts → StopsWith G X same cx call Memory new after starts
+    memory_stops unchanged is h =
+        subst (λ a. StopsWith G X same cx call Memory new a starts) (sym is)
+        (subst (λ c. StopsWith G X same cx call Memory c (record e { goals = []; provisional = [] }) starts) (sym unchanged)
+        (record {
+          stopped = record { stops = h.stopped.stops; keeps = h.stopped.keeps; plain = λ n plain fits. refl; decided = λ decisive unmet. tt };
+          store = h.store;
+        }))
 
 -- a call that writes no node leaves none
 pub leaves_nothing : {C I R A T : Type 0} (same : I → I → Bool) (cache : Cache C I R A T) (target : Option NodeId) → LeavesReached same (length cache.nodes) target cache

@@ -1,7 +1,7 @@
 //! The evaluation of a goal: one loop over the goals under evaluation.
 ghost use Rattle.std.specs.Prelude.{◌≡◌, ◌≢◌, true, false, length, IfOk, IfErr, IfSome, None, OnOk, Ok};
 ghost use Rattle.open_goals.specs.declared.goals.Fate.TheVariants.{Stored};
-ghost use Rattle.search_graph.specs.Below.{ChangesCache, IsFated, Memory, first_accepted, usable, KeepsBuilder, KeepsCache, IsRightNext};
+ghost use Rattle.search_graph.specs.Below.{ChangesCache, IsCaused, IsFated, Memory, first_accepted, usable, KeepsBuilder, KeepsCache, IsRightNext};
 ghost use Rattle.search_graph.specs.Calls.{Advances, Evaluates, IsGrounded, MovesGoals, Spares};
 ghost use Rattle.search_graph.specs.Settled.{EndsSettled, StaysSettled};
 ghost use Rattle.search_graph.specs.Turns.{IsAtOutset, IsRightTurn, KeepsDrafts, MayAdvance, MayTakeTurn, TurnsCache};
@@ -123,6 +123,7 @@ fn take_turn<D: Delegate>(
     ensures advances { Advances D.Delegate D.Cx.Cx D.Cx.Input.eq cache.old.cx received
         cache.old evaluation.old (D.starts inspect.old) result
         cache.new evaluation.new (D.starts inspect.new) }
+    ensures caused { IfErr result (IsCaused D.Delegate D.Cx.Cx D.Cx.Input.eq cache.new) }
     ensures settled { StaysSettled D.Delegate D.Cx.Cx D.Cx.Input.eq cache.old.cx
         (D.noop inspect.old) received cache.old evaluation.old (D.starts inspect.old) result
         cache.new evaluation.new }

@@ -73,16 +73,6 @@ module _ {D C V P F I R A T : Type 0} (G : DelegateOf D C V P F I R A T) (X : Cx
   asked_from kind goal old e starts noop received new after later (OverCycle depth head given goals at none not_stored found closes) = stay_taken old.nodes e.goals goals kind 0 _ _ closes.takes
   asked_from kind goal old e starts noop received new after later (Pushed depth goals nodes now at none not_stored absent pushes fates fated one counted) = stay_pushed G X cx old.nodes e.goals goals goal kind depth nodes pushes
 
-  -- a question leaves the drafts as they are
-  pub asked_drafts :
-      (kind : PathKind) (goal : I) (old : Cache C I R A T) (e : Evaluation D C V P F I R A T) (starts : _) (noop : Bool) (received : Received R) (new : Cache C I R A T) (after : Evaluation D C V P F I R A T) (later : _)
-      → AskingLeadsTo G X same cx kind goal noop old e starts received new after later → after.drafts ≡ e.drafts
-  asked_drafts kind goal old e starts noop received new after later (Refused goals none noted) = refl
-  asked_drafts kind goal old e starts noop received new after later (ByEntry depth entry goals at is takes nested) = refl
-  asked_drafts kind goal old e starts noop received new after later (ByStored depth hit goals at none is takes usable) = refl
-  asked_drafts kind goal old e starts noop received new after later (OverCycle depth head given goals at none not_stored found closes) = refl
-  asked_drafts kind goal old e starts noop received new after later (Pushed depth goals nodes now at none not_stored absent pushes fates fated one counted) = refl
-
   -- the goals after the end of a run
   pub led_from :
       (same_result : R → R → Bool) (outcome : R) (old : Cache C I R A T) (before : Evaluation D C V P F I R A T) (next : Next R) (new : Cache C I R A T) (after : Evaluation D C V P F I R A T)

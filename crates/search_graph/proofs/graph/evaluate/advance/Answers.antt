@@ -1,11 +1,11 @@
 use Rattle.std.proofs.Common.{◌∙◌, refl, sym, subst}
-use Rattle.search_graph.specs.Below.{ChangesNewest, fates_of, IfFinished, IsFated, IsNewestToStore, IsRememberedWhere, MovesFates, CanStep, Request, NotesCandidate, Evaluate, Done, verdicts, CallGoesOn, IsCaused, IsFit, OutOfMemory, StopsWith, runs_of, work_left}
+use Rattle.search_graph.specs.Below.{ChangesNewest, fates_of, IfFinished, IsFated, IsNewestToStore, IsRememberedWhere, MovesFates, CanStep, Request, NotesCandidate, Evaluate, Done, verdicts, CallGoesOn, IsFit, StopsWith, runs_of, work_left}
 use Rattle.search_graph.proofs.requests.Advancing.{has_expected, has_request, requests, step_stops, stepped_right}
 use Rattle.search_moves.proofs.moves.Asking.{asked_goes_on, asked_right}
 use Rattle.search_moves.proofs.nodes.Noting.{noted_same}
-use Rattle.search_moves.proofs.results.Keeping.{asked_drafts, asked_from, cache_stays, later_keeps, led_from, stay_then}
+use Rattle.search_moves.proofs.results.Keeping.{asked_from, cache_stays, later_keeps, led_from, stay_then}
 use Rattle.search_rules.proofs.records.EarlierNodes.{stay_candidates, stay_stepped}
-use Rattle.search_graph.proofs.turns.Causes.{step_is_caused, step_keeps_free}
+use Rattle.search_graph.proofs.turns.Causes.{step_has_cause, step_keeps_free}
 use Rattle.search_rules.proofs.justified.Finishing.{noted_fits}
 use Rattle.search_graph.proofs.turns.Loops.{done_leads, next_before, step_asks_for, stepped_some}
 use Rattle.search_rules.proofs.moves.Moves.{asked_stopped, can_step, some_waits}
@@ -16,6 +16,8 @@ use Rattle.search_moves.proofs.results.Fating.{asked_fates, led_fates}
 use Rattle.search_rules.proofs.moves.Fates.{fates_of_candidates, fates_stepped}
 use Rattle.search_rules.specs.Fates.{Stay, Untouched}
 use Rattle.search_moves.specs.Settled.{Settles}
+use Rattle.search_moves.specs.Storing.{HasLastingCause}
+use Rattle.search_moves.proofs.results.Causes.{memory_lasts}
 use Rattle.search_moves.proofs.results.Failing.{if_err_then}
 use Rattle.search_moves.proofs.two_runs.SettledEnds.{end_unmet, led_settles}
 use Rattle.search_moves.proofs.two_runs.SettledFaults.{settled_stays, store_settled}
@@ -38,10 +40,6 @@ returns-in_err-request-clause-advances g c = record {
       if_err_and c.from_residual.result _ _ c.from_residual.ensures.1
       (λ e is. subst (λ fault. StopsWith g.D.Delegate g.D.Cx.Cx g.D.Cx.Input.PartialEq.eq c.args.cache.now.cx call fault c.args.cache.now (record c.args.evaluation.now { goals = c.step.new.goals }) (g.D.Delegate.starts c.step.new.inspect)) (sym is)
       (step_stops g.D.Delegate g.D.Cx.Cx g.D.Cx.Input.PartialEq.eq c.args.cache.now.cx c.args.cache.now c.args.evaluation.now c.args.received c.cx-cx.result c.cx-cx.ensures c.step.new.goals (g.D.Delegate.starts c.args.inspect.now) (g.D.Delegate.starts c.step.new.inspect) c.step.ensures.same_starts _ c.in_err-request.ensures.fault c.requires.may.reply.right call h));
-  caused =
-      if_err_and c.from_residual.result _ _ c.from_residual.ensures.1
-      (λ e is. subst (IsCaused g.D.Delegate g.D.Cx.Cx g.D.Cx.Input.PartialEq.eq c.args.cache.now) (sym is)
-      (step_is_caused g.D.Delegate g.D.Cx.Cx g.D.Cx.Input.PartialEq.eq c.args.cache.now c.args.received c.args.evaluation.now.goals _ c.args.evaluation.now.limits_met c.requires.may.reply.call c.requires.may.reply.right.fits c.requires.may.reply.waiting c.cx-cx.result c.cx-cx.ensures _ c.in_err-request.ensures.fault));
 }
 
 -- ---- a question
@@ -61,7 +59,6 @@ returns-in_err-next-in-Evaluate-clause-advances g c = record {
       if_err_and c.from_residual-in_err-next-in-Evaluate.result _ _ c.from_residual-in_err-next-in-Evaluate.ensures.1
       (λ e is. subst (λ fault. StopsWith g.D.Delegate g.D.Cx.Cx g.D.Cx.Input.PartialEq.eq c.args.cache.now.cx call fault c.ask.new.cache c.ask.new.self (g.D.Delegate.starts c.ask.new.inspect)) (sym is)
       (c.in_err-next-in-Evaluate.ensures.stops call _ (requests g.D.Delegate g.D.Cx.Cx g.D.Cx.Input.PartialEq.eq c.args.cache.now.cx c.args.cache.now c.args.evaluation.now c.args.received c.cx-cx.result c.cx-cx.ensures c.in_ok-request.request c.step.new.goals c.in_ok-request.ensures.stepped (g.D.Delegate.starts c.args.inspect.now) (g.D.Delegate.starts c.step.new.inspect) c.step.ensures.same_starts (Evaluate c.in-Evaluate.kind c.in-Evaluate.input) c.in-Evaluate.is c.requires.may.reply.right call h)));
-  caused = if_err_and c.from_residual-in_err-next-in-Evaluate.result _ _ c.from_residual-in_err-next-in-Evaluate.ensures.1 (λ e is. OutOfMemory is);
 }
 
 pub returns-in_ok-next-in-Evaluate-clause-advances : goal.returns-in_ok-next-in-Evaluate-clause-advances
@@ -72,7 +69,6 @@ returns-in_ok-next-in-Evaluate-clause-advances g c = record {
       (requests g.D.Delegate g.D.Cx.Cx g.D.Cx.Input.PartialEq.eq c.args.cache.now.cx c.args.cache.now c.args.evaluation.now c.args.received c.cx-cx.result c.cx-cx.ensures c.in_ok-request.request c.step.new.goals c.in_ok-request.ensures.stepped (g.D.Delegate.starts c.args.inspect.now) (g.D.Delegate.starts c.step.new.inspect) c.step.ensures.same_starts (Evaluate c.in-Evaluate.kind c.in-Evaluate.input) c.in-Evaluate.is c.requires.may.reply.right call h) in
       record { leads = on.goes_on; answers = on.answers; remembered = tt };
   stops = λ call h. tt;
-  caused = tt;
 }
 
 pub returns-in_ok-next-in-Evaluate-clause-right : goal.returns-in_ok-next-in-Evaluate-clause-right
@@ -99,9 +95,6 @@ returns-in_err-next-in-Done-clause-advances g c = record {
       if_err_and c.from_residual-in_err-next-in-Done.result _ _ c.from_residual-in_err-next-in-Done.ensures.1
       (λ e is. subst (λ fault. StopsWith g.D.Delegate g.D.Cx.Cx g.D.Cx.Input.PartialEq.eq c.args.cache.now.cx call fault c.finish_run.new.cache c.finish_run.new.self (g.D.Delegate.starts c.finish_run.new.inspect)) (sym is)
       (c.in_err-next-in-Done.ensures.moves.stops call _ (requests g.D.Delegate g.D.Cx.Cx g.D.Cx.Input.PartialEq.eq c.args.cache.now.cx c.args.cache.now c.args.evaluation.now c.args.received c.cx-cx.result c.cx-cx.ensures c.in_ok-request.request c.step.new.goals c.in_ok-request.ensures.stepped (g.D.Delegate.starts c.args.inspect.now) (g.D.Delegate.starts c.step.new.inspect) c.step.ensures.same_starts (Done c.in-Done.outcome) c.in-Done.is c.requires.may.reply.right call h)));
-  caused =
-      if_err_and c.from_residual-in_err-next-in-Done.result _ _ c.from_residual-in_err-next-in-Done.ensures.1
-      (λ e is. subst (IsCaused g.D.Delegate g.D.Cx.Cx g.D.Cx.Input.PartialEq.eq c.finish_run.new.cache) (sym is) c.in_err-next-in-Done.ensures.stores.fails.caused);
 }
 
 pub returns-in_ok-next-in-Done-clause-advances : goal.returns-in_ok-next-in-Done-clause-advances
@@ -114,7 +107,6 @@ returns-in_ok-next-in-Done-clause-advances g c = record {
         remembered = subst (λ fs. IfFinished c.in_ok-next-in-Done.next (λ answer. IsNewestToStore fs → IsRememberedWhere g.D.Delegate g.D.Cx.Cx c.args.cache.now.cx g.D.Cx.Input.PartialEq.eq call c.finish_run.new.cache c.finish_run.new.self.limits_met answer)) (fates_stepped g.D.Delegate g.D.Cx.Cx c.cx-cx.result c.args.evaluation.now.goals c.step.new.goals c.args.received c.in_ok-request.request c.in_ok-request.ensures.stepped) on.remembered;
       };
   stops = λ call h. tt;
-  caused = tt;
 }
 
 pub returns-in_ok-next-in-Done-clause-right : goal.returns-in_ok-next-in-Done-clause-right
@@ -142,8 +134,6 @@ returns-in_err-note_candidate-in_default-clause-advances g c = record {
         stopped = asked_stopped g.D.Delegate g.D.Cx.Cx c.args.cache.now.cx call _ c.in_ok-request.request c.step.new.goals _ _ (requests g.D.Delegate g.D.Cx.Cx g.D.Cx.Input.PartialEq.eq c.args.cache.now.cx c.args.cache.now c.args.evaluation.now c.args.received c.cx-cx.result c.cx-cx.ensures c.in_ok-request.request c.step.new.goals c.in_ok-request.ensures.stepped (g.D.Delegate.starts c.args.inspect.now) (g.D.Delegate.starts c.step.new.inspect) c.step.ensures.same_starts c.in_ok-request.request refl c.requires.may.reply.right call h).asked;
         store = h.answers.store;
       }));
-  caused =
-      if_err_and c.from_residual-in_err-note_candidate-in_default.result _ _ c.from_residual-in_err-note_candidate-in_default.ensures.1 (λ e is. OutOfMemory is);
 }
 
 pub returns-in_ok-note_candidate-in_default-clause-advances : goal.returns-in_ok-note_candidate-in_default-clause-advances
@@ -157,7 +147,6 @@ returns-in_ok-note_candidate-in_default-clause-advances g c = record {
     remembered = tt;
   };
   stops = λ call h. tt;
-  caused = tt;
 }
 
 pub returns-in_ok-note_candidate-in_default-clause-right : goal.returns-in_ok-note_candidate-in_default-clause-right
@@ -363,11 +352,35 @@ returns-in_ok-note_candidate-in_default-clause-settled g c = record {
 
 -- ---- the nodes of stored results
 
+pub returns-in_err-next-in-Evaluate-clause-noted : goal.returns-in_err-next-in-Evaluate-clause-noted
+returns-in_err-next-in-Evaluate-clause-noted g c = noted_same g.D.Cx.Input.PartialEq.eq c.args.cache.now c.ask.new.cache c.args.evaluation.now.drafts c.ask.new.self.drafts c.ask.ensures.same_drafts c.ask.ensures.keeps.nodes c.ask.ensures.same_results c.ask.ensures.keeps.results
+
 pub returns-in_ok-next-in-Evaluate-clause-noted : goal.returns-in_ok-next-in-Evaluate-clause-noted
-returns-in_ok-next-in-Evaluate-clause-noted g c =
-    noted_same g.D.Cx.Input.PartialEq.eq c.args.cache.now c.ask.new.cache c.args.evaluation.now.drafts c.ask.new.self.drafts
-    (asked_drafts g.D.Delegate g.D.Cx.Cx g.D.Cx.Input.PartialEq.eq _ c.in-Evaluate.kind c.in-Evaluate.input c.args.cache.now (record c.args.evaluation.now { goals = c.step.new.goals }) _ _ c.in_ok-next-in-Evaluate.next c.ask.new.cache c.ask.new.self _ c.in_ok-next-in-Evaluate.ensures.asked)
-    c.ask.ensures.keeps.nodes c.ask.ensures.same_results c.ask.ensures.keeps.results
+returns-in_ok-next-in-Evaluate-clause-noted g c = noted_same g.D.Cx.Input.PartialEq.eq c.args.cache.now c.ask.new.cache c.args.evaluation.now.drafts c.ask.new.self.drafts c.ask.ensures.same_drafts c.ask.ensures.keeps.nodes c.ask.ensures.same_results c.ask.ensures.keeps.results
+
+pub returns-in_err-next-in-Done-clause-noted : goal.returns-in_err-next-in-Done-clause-noted
+returns-in_err-next-in-Done-clause-noted g c = c.finish_run.ensures.stores.noted
 
 pub returns-in_ok-next-in-Done-clause-noted : goal.returns-in_ok-next-in-Done-clause-noted
-returns-in_ok-next-in-Done-clause-noted g c = c.in_ok-next-in-Done.ensures.stores.noted
+returns-in_ok-next-in-Done-clause-noted g c = c.finish_run.ensures.stores.noted
+
+-- ---- why it failed
+
+pub returns-in_err-request-clause-lasts : goal.returns-in_err-request-clause-lasts
+returns-in_err-request-clause-lasts g c =
+    if_err_and c.from_residual.result _ _ c.from_residual.ensures.1
+    (λ e is. subst (HasLastingCause g.D.Delegate g.D.Cx.Cx g.D.Cx.Input.PartialEq.eq c.args.cache.now c.args.evaluation.now.drafts) (sym is)
+    (step_has_cause g.D.Delegate g.D.Cx.Cx g.D.Cx.Input.PartialEq.eq c.args.cache.now c.args.evaluation.now.drafts c.args.received c.args.evaluation.now.goals _ c.args.evaluation.now.limits_met c.requires.may.reply.call c.requires.may.reply.right.fits c.requires.may.reply.waiting c.cx-cx.result c.cx-cx.ensures _ c.in_err-request.ensures.fault))
+
+pub returns-in_err-next-in-Evaluate-clause-lasts : goal.returns-in_err-next-in-Evaluate-clause-lasts
+returns-in_err-next-in-Evaluate-clause-lasts g c = if_err_and c.from_residual-in_err-next-in-Evaluate.result _ _ c.from_residual-in_err-next-in-Evaluate.ensures.1 (λ e is. memory_lasts g.D.Delegate g.D.Cx.Cx g.D.Cx.Input.PartialEq.eq c.ask.new.cache c.ask.new.self.drafts _ is)
+
+pub returns-in_err-next-in-Done-clause-lasts : goal.returns-in_err-next-in-Done-clause-lasts
+returns-in_err-next-in-Done-clause-lasts g c =
+    if_err_and c.from_residual-in_err-next-in-Done.result _ _ c.from_residual-in_err-next-in-Done.ensures.1
+    (λ e is. subst (HasLastingCause g.D.Delegate g.D.Cx.Cx g.D.Cx.Input.PartialEq.eq c.finish_run.new.cache c.finish_run.new.self.drafts) (sym is) c.in_err-next-in-Done.ensures.stores.fails.caused)
+
+pub returns-in_err-note_candidate-in_default-clause-lasts : goal.returns-in_err-note_candidate-in_default-clause-lasts
+returns-in_err-note_candidate-in_default-clause-lasts g c =
+    if_err_and c.from_residual-in_err-note_candidate-in_default.result _ _ c.from_residual-in_err-note_candidate-in_default.ensures.1
+    (λ e is. memory_lasts g.D.Delegate g.D.Cx.Cx g.D.Cx.Input.PartialEq.eq c.args.cache.now c.args.evaluation.now.drafts _ is)

@@ -46,7 +46,7 @@ returns-in-Some-clause-stored g c = λ is_noop unscoped.
     something_stored c.consult-stored.result.stored _ _ c.in-Some.stored c.in-Some.is (stored_over_none g.D.Cx.Input.PartialEq.eq c.args.evaluation.now.goals c.requires.outset.new.no_goals c.consult-stored.result.stored c.stack-stack.result.now c.stack-stack.ensures c.args.evaluation.now.provisional c.requires.outset.new.no_entries c.args.step_kind (usable g.D.Cx.Input.PartialEq.eq c.args.cache.now.results c.args.input c.args.evaluation.now.root_depth.0) (found_by _ _ hit_of c.consult-stored.result.stored _ is_noop unscoped c.consult-stored.ensures.consults.stored)) (refl, c.consult-stored.ensures.same_starts, refl, refl)
 
 pub returns-in-Some-clause-grounded : goal.returns-in-Some-clause-grounded
-returns-in-Some-clause-grounded g c = record { has_graph = is_some_with _ c.consult-stored.result.stored c.in-Some.stored c.in-Some.is c.consult-stored.ensures.graph; leaves = leaves_nothing g.D.Cx.Input.PartialEq.eq c.args.cache.now c.in-Some.stored.node; caused = tt }
+returns-in-Some-clause-grounded g c = record { has_graph = is_some_with _ c.consult-stored.result.stored c.in-Some.stored c.in-Some.is c.consult-stored.ensures.graph; leaves = leaves_nothing g.D.Cx.Input.PartialEq.eq c.args.cache.now c.in-Some.stored.node; caused = tt; left = tt }
 
 -- ---- it is worked out
 

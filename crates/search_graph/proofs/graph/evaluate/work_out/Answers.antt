@@ -139,6 +139,7 @@ returns-in-Finished-clause-grounded g c = record {
       subst (λ n. LeavesReached g.D.Cx.Input.PartialEq.eq n c.in-Finished.answer.node c.take_turn.new.cache) ((rw c.in-Finished.is at c.in_ok-next.ensures.drafts).first ∙ c.loop-next.invariant.first)
       (rw c.in-Finished.is at c.in_ok-next.ensures.drafts).has;
   caused = tt;
+  left = tt;
 }
 
 -- ---- it has none
@@ -148,6 +149,7 @@ returns-in_err-push_goal-clause-grounded g c = record {
   has_graph = no_ok c.from_residual.result _ _ c.from_residual.ensures.1;
   leaves = no_ok c.from_residual.result _ _ c.from_residual.ensures.1;
   caused = if_err_and c.from_residual.result _ _ c.from_residual.ensures.1 (λ e is. OutOfMemory is);
+  left = if_err_and c.from_residual.result _ _ c.from_residual.ensures.1 (λ e is other. absurd (other is));
 }
 
 pub returns-in_err-next-clause-grounded : goal.returns-in_err-next-clause-grounded
@@ -156,7 +158,10 @@ returns-in_err-next-clause-grounded g c = record {
   leaves = no_ok c.from_residual-in_err-next.result _ _ c.from_residual-in_err-next.ensures.1;
   caused =
       if_err_and c.from_residual-in_err-next.result _ _ c.from_residual-in_err-next.ensures.1
-      (λ e is. subst (IsCaused g.D.Delegate g.D.Cx.Cx g.D.Cx.Input.PartialEq.eq c.take_turn.new.cache) (sym is) c.in_err-next.ensures.advances.caused);
+      (λ e is. subst (IsCaused g.D.Delegate g.D.Cx.Cx g.D.Cx.Input.PartialEq.eq c.take_turn.new.cache) (sym is) c.in_err-next.ensures.caused);
+  left =
+      if_err_and c.from_residual-in_err-next.result _ _ c.from_residual-in_err-next.ensures.1
+      (λ e is other. subst (λ n. LeavesReached g.D.Cx.Input.PartialEq.eq n None c.take_turn.new.cache) c.loop-next.invariant.first (c.in_err-next.ensures.left (λ memory. other (is ∙ memory))));
 }
 
 pub returns-in-Finished-clause-keeps : goal.returns-in-Finished-clause-keeps
