@@ -8,7 +8,7 @@ ghost use Rattle.search_moves.specs.Words.{MayMove, Requests, IsRightFor, GoesOn
 
 use crate::evaluation::Evaluation;
 use open_goals::goals::{Fate, OpenGoals, Received, Run};
-use search_parts::context::{Cx, Delegate, NoMemory, Reply};
+use search_parts::context::{Cx, Delegate, NoMemory, NodeId, Reply};
 use search_parts::global_cache::GlobalCache;
 use search_parts::parts::{AvailableDepth, StackDepth, StackEntry};
 use search_parts::path::PathKind;
@@ -142,11 +142,12 @@ impl<D: Delegate> Evaluation<D> {
         ensures rest { self.new ≡ record self.old { goals = self.new.goals } }
         ensures cache { cache.new ≡ record cache.old { nodes = cache.new.nodes } }
         ensures kept { KeepsNodes cache.old.nodes cache.new.nodes }
+        ensures refused { OnErr result (cache.new ≡ cache.old) }
         ensures starts { StartsFrame D.Delegate (OnOk result) inspect.old inspect.new }
     {
-        let node = cache.open_node(input)?;
         let frame = D::start(cache.cx(), input, inspect)?;
         let alloc = self.goals.allocator();
+        let node = NodeId(cache.next_node());
         let mut entry = StackEntry::new(alloc, input, step_kind, depth);
         entry.state.node = Some(node);
         self.goals.push(
@@ -161,6 +162,8 @@ impl<D: Delegate> Evaluation<D> {
                 fate,
             },
         )?;
+        // The node is opened last: where memory is out, none is left without a goal.
+        cache.open_node(input)?;
         Ok(())
     }
 }

@@ -1,4 +1,4 @@
-use Rattle.std.proofs.Common.{◌≡◌, ◌∷◌, ◌∙◌, false, sym, ap, subst}
+use Rattle.std.proofs.Common.{rules, ◌≡◌, ◌∷◌, ◌∙◌, false, sym, ap, subst}
 use Rattle.search_moves.specs.Below.{fates_of}
 use Rattle.std.specs.List.{list_any}
 use Rattle.search_moves.proofs.evaluation.Evaluation.push_goal.Goals as goal
@@ -8,8 +8,16 @@ push-requires g c = record {
   absent = subst (λ e. list_any (λ s. g.D.Cx.Input.PartialEq.eq e.input s.0.input) c.args.self.now.goals ≡ false) (sym c.new-entry.ensures) c.requires;
 }
 
-pub returns-in_err-push-clause-kept : goal.returns-in_err-push-clause-kept
-returns-in_err-push-clause-kept g c = c.open_node.ensures.kept
+pub returns-clause-pushed : goal.returns-clause-pushed
+returns-clause-pushed g c = record {
+  frame = c.in_ok-frame.frame;
+  own = record { 0 = c.next_node.result };
+  becomes = c.args.fate;
+  place = c.next_node.ensures;
+  opened = ap (λ cache. cache.nodes) c.in_ok-open_node.ensures.opened;
+  is = rw (c.new-entry.ensures, c.new_progress.ensures, c.new_candidates.ensures) at c.in_ok-push.ensures.ok;
+  fresh = search rules;
+}
 
 pub returns-clause-kept : goal.returns-clause-kept
 returns-clause-kept g c = c.open_node.ensures.kept
