@@ -1,5 +1,6 @@
 pub mod Steps
 pub mod Marked
+pub mod Few
 pub mod Digits
 pub mod Questions
 pub mod TableLemmas

@@ -1,13 +1,27 @@
 -- A frame enters each candidate in order, asks all its questions, and finishes it. Where an unmarked candidate holds,
 -- each marked one is then ignored.
-use Rattle.std.specs.Prelude.{ℕ, ◌+◌, ◌-◌, nat_le, true, false, not, ◌&&◌, ◌||◌, if◌then◌else◌, List, [], ◌∷◌, length, drop, sum_by, slice_get, Option, Some, None}
+use Rattle.std.specs.Prelude.{ℕ, Bool, ◌+◌, ◌-◌, nat_le, true, false, not, ◌&&◌, ◌||◌, if◌then◌else◌, List, [], ◌∷◌, length, drop, sum_by, slice_get, Option, Some, None}
 use Rattle.std.specs.Option.{unwrap_or}
 use Rattle.rule_tables.specs.Below.{Request, Evaluate, EnterCandidate, FinishCandidate, Ignore, Done, Reply, Begin, Answer, Noted, Outcome, Yes, No, Maybe, is_yes, is_no}
 use Rattle.rule_tables.specs.declared.rules.Goal.{Goal}
 use Rattle.rule_tables.specs.declared.rules.Asking.{Asking}
 use Rattle.rule_tables.specs.declared.rules.Candidate.{Candidate}
-use Rattle.rule_tables.specs.declared.frame.State.{State}
 use Rattle.rule_tables.specs.declared.rules.Rules.{Rules}
+
+-- Where a frame stands between two steps: the request that the next reply is to, and none before the first one; the
+-- candidate that is open or comes next, and its question that comes next; whether all answers of that candidate so far
+-- are yes, and whether one of them is no; what the candidates before it say; and the one from which on none is ignored
+-- yet.
+pub record State : Type 0 where
+  pub request : Option (Request Goal Outcome)
+  pub candidate : ℕ
+  pub question : ℕ
+  pub holds : Bool
+  pub fails : Bool
+  pub some_holds : Bool
+  pub unmarked_holds : Bool
+  pub each_fails : Bool
+  pub next_ignored : ℕ
 
 -- no reply has come
 abbrev pub fresh : State
@@ -19,13 +33,16 @@ marked_from at [] from = None
 marked_from at (c ∷ cs) from = if nat_le from at && c.is_marked then Some at else marked_from (at + 1) cs from
 
 -- the result, once the last candidate is finished
+abbrev pub outcome_by : Bool → Bool → Outcome
+outcome_by some_holds each_fails = if some_holds then Yes else (if each_fails then No else Maybe)
+
 abbrev pub outcome_of : State → Outcome
-outcome_of s = if s.some_holds then Yes else (if s.each_fails then No else Maybe)
+outcome_of s = outcome_by s.some_holds s.each_fails
 
 -- the last candidate is finished, or one was ignored
 abbrev pub with_ignored : State → Option ℕ → State
-with_ignored s None = record s { request = Some (Done (outcome_of s)) }
-with_ignored s (Some n) = record s { request = Some (Ignore n); next_ignored = n + 1 }
+with_ignored s None = record s { request = Some (Done (outcome_of s)); question = 0 }
+with_ignored s (Some n) = record s { request = Some (Ignore n); question = 0; next_ignored = n + 1 }
 
 abbrev pub ignoring : List Candidate → State → State
 ignoring cs s = with_ignored s (if s.unmarked_holds then marked_from 0 cs s.next_ignored else None)

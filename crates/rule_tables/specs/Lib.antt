@@ -1,6 +1,8 @@
 pub mod Rules
 pub mod Table
 pub mod Frame
+pub mod Packed
+pub mod Few
 pub mod Standing
 pub mod Grammar
 pub mod Words

@@ -1,6 +1,6 @@
 -- The words of this crate, from one place.
 pub use Rattle.rule_tables.specs.Frame.{asking_in, asking_next, entering_next, ignoring, marked_from, questions_left}
-pub use Rattle.rule_tables.specs.Frame.{script_of, state_after, state_with, steps_left, steps_of, steps_within, with_answer}
+pub use Rattle.rule_tables.specs.Frame.{script_of, State, state_after, state_with, steps_left, steps_of, steps_within, with_answer}
 pub use Rattle.rule_tables.specs.Frame.{with_ignored}
 pub use Rattle.rule_tables.specs.Grammar.{Ask, IsDepth, IsMalformed, IsQuestion, letter_of, NamedQuestion}
 pub use Rattle.rule_tables.specs.Grammar.{Nothing, Rule, Say, Says, Statement}
@@ -14,7 +14,6 @@ pub use Rattle.rule_tables.specs.Rules.{candidates_of, name_of, names_of, number
 pub use Rattle.rule_tables.specs.Table.{Adds, AreAsked, candidate_in, first_mentions, IsAsked, IsCandidate, IsTableOf}
 pub use Rattle.rule_tables.specs.Table.{IsToBeAnswered, Mentions, NamedCandidate, names_in, question_in}
 pub use Rattle.rule_tables.specs.Text.{IsFirstBadLine, Reads}
-pub use Rattle.rule_tables.specs.declared.frame.State.{State}
 pub use Rattle.rule_tables.specs.declared.rules.Asking.{Asking}
 pub use Rattle.rule_tables.specs.declared.rules.Candidate.{Candidate}
 pub use Rattle.rule_tables.specs.declared.rules.Goal.{Goal}

@@ -84,7 +84,7 @@ impl<T: LendsRules> Outcomes for Table<T> {
 }
 
 /// A goal that is worked out.
-#[derive(Clone, Copy)]
+#[derive(Drop)]
 pub struct TableFrame<T> {
     lender: T,
     goal: Goal,

@@ -1,20 +1,38 @@
 //! How a goal's frame goes through its candidates.
 ghost use Rattle.std.specs.Prelude.{◌≡◌, ◌<◌, IfSome, length};
+ghost use Rattle.rule_tables.specs.Few.{AreFew};
 ghost use Rattle.rule_tables.specs.Words.{marked_from};
 
 use crate::rules::{Candidate, Goal};
 use delegate_parts::Outcome;
 use search_context::context::{Reply, Request};
+use search_context::path::PathKind;
+use std::marker::Model;
 
-/// Where a frame stands between two steps.
+/// The last request. What else it has stands in other fields of its state.
 #[derive(Clone, Copy, Debug)]
+enum Made {
+    /// None, before the first reply.
+    Nothing,
+    Enter,
+    Evaluate,
+    Finish,
+    Ignore,
+    Done,
+}
+
+/// Where a frame stands between two steps. A deep stack has very many frames, so the fields leave no gaps between them.
+#[derive(Debug, Drop)]
 pub struct State {
-    /// The request that the next reply is to, and none before the first one.
-    request: Option<Request<Goal, Outcome>>,
     /// The candidate that is open or comes next.
-    candidate: usize,
-    /// Its question that comes next.
-    question: usize,
+    candidate: u32,
+    /// Its question that comes next. Behind the last candidate, none from this one on is ignored yet.
+    next: u32,
+    /// The goal that was asked last.
+    asked: Goal,
+    /// The kind of the step to it.
+    kind: PathKind,
+    made: Made,
     /// All answers of the open candidate so far are yes.
     holds: bool,
     /// One of them is no.
@@ -22,8 +40,18 @@ pub struct State {
     some_holds: bool,
     unmarked_holds: bool,
     each_fails: bool,
-    /// No candidate from here on is ignored yet.
-    next_ignored: usize,
+}
+
+// Fields in another order could take more.
+const _: () = prove!(size_of::<State>() == 20);
+
+impl Model for State {
+    ghost use Rattle.rule_tables.specs.Frame as frame;
+    ghost use Rattle.rule_tables.specs.Packed.{request_made, question_next, ignored_next};
+
+    ghost Value = { frame.State };
+
+    ghost view = { λ s. record { request = request_made s.made s.kind s.asked s.next s.some_holds s.each_fails; candidate = s.candidate; question = question_next s.made s.next; holds = s.holds; fails = s.fails; some_holds = s.some_holds; unmarked_holds = s.unmarked_holds; each_fails = s.each_fails; next_ignored = ignored_next s.made s.next } };
 }
 
 impl State {
@@ -35,70 +63,80 @@ impl State {
         ensures { result ≡ fresh }
     {
         State {
-            request: None,
             candidate: 0,
-            question: 0,
+            next: 0,
+            asked: Goal::default(),
+            kind: PathKind::Inductive,
+            made: Made::Nothing,
             holds: true,
             fails: false,
             some_holds: false,
             unmarked_holds: false,
             each_fails: true,
-            next_ignored: 0,
         }
     }
 
     /// The request that the state has made.
+    #[inline(always)]
     pub fn request(&self) -> Request<Goal, Outcome>
         ensures { result ≡ request_of self.now }
     {
-        match &self.request {
-            Some(request) => *request,
-            None => Request::EnterCandidate,
+        match self.made {
+            Made::Nothing | Made::Enter => Request::EnterCandidate,
+            Made::Evaluate => Request::Evaluate(self.kind, self.asked),
+            Made::Finish => Request::FinishCandidate,
+            Made::Ignore => Request::Ignore(self.next.saturating_sub(1) as usize),
+            Made::Done => Request::Done(self.outcome()),
         }
     }
 
     /// Takes one more reply, and makes the next request.
     #[inline(always)]
     pub fn receive(&mut self, candidates: &[Candidate], reply: Reply<Outcome>)
+        requires { AreFew candidates.now }
         ensures { self.new ≡ state_with candidates.now self.old self.old.request reply }
     {
-        match (&self.request, reply) {
-            (None, Reply::Begin) | (Some(Request::FinishCandidate), Reply::Noted) => {
+        match (self.made, reply) {
+            (Made::Nothing, Reply::Begin) | (Made::Finish, Reply::Noted) => {
                 self.enter(candidates);
             }
-            (Some(Request::EnterCandidate), Reply::Noted) => self.ask(candidates),
-            (Some(Request::Evaluate(_, _)), Reply::Answer(outcome)) => {
+            (Made::Enter, Reply::Noted) => self.ask(candidates),
+            (Made::Evaluate, Reply::Answer(outcome)) => {
                 self.note_answer(outcome);
                 self.ask(candidates);
             }
-            (Some(Request::Ignore(_)), Reply::Noted) => self.ignore(candidates),
+            (Made::Ignore, Reply::Noted) => self.ignore(candidates, self.next),
             _ => {}
         }
     }
 
     // The next candidate begins, if there is one.
     fn enter(&mut self, candidates: &[Candidate])
+        requires few { AreFew candidates.now }
+        requires none_ignored { self.old.next_ignored ≡ 0 }
         ensures { self.new ≡ entering candidates.now self.old }
     {
-        if candidates.get(self.candidate).is_some() {
-            self.request = Some(Request::EnterCandidate);
-            self.question = 0;
+        if candidates.get(self.candidate as usize).is_some() {
+            self.made = Made::Enter;
+            self.next = 0;
             self.holds = true;
             self.fails = false;
         } else {
-            self.ignore(candidates);
+            self.ignore(candidates, 0);
         }
     }
 
     // The open candidate's next question is asked, if there is one.
     fn ask(&mut self, candidates: &[Candidate])
+        requires few { AreFew candidates.now }
+        requires none_ignored { self.old.next_ignored ≡ 0 }
         ensures { self.new ≡ asking candidates.now self.old }
     {
-        match candidates.get(self.candidate) {
-            None => self.ignore(candidates),
-            Some(candidate) => match candidate.questions.get(self.question) {
+        match candidates.get(self.candidate as usize) {
+            None => self.ignore(candidates, 0),
+            Some(candidate) => match candidate.questions.get(self.next as usize) {
                 None => {
-                    self.request = Some(Request::FinishCandidate);
+                    self.made = Made::Finish;
                     self.candidate += 1;
                     self.some_holds = self.some_holds || self.holds;
                     self.unmarked_holds = self.unmarked_holds
@@ -106,8 +144,10 @@ impl State {
                     self.each_fails = self.each_fails && self.fails;
                 }
                 Some(asking) => {
-                    self.request = Some(Request::Evaluate(asking.kind, asking.goal));
-                    self.question += 1;
+                    self.made = Made::Evaluate;
+                    self.kind = asking.kind;
+                    self.asked = asking.goal;
+                    self.next += 1;
                 }
             },
         }
@@ -121,20 +161,25 @@ impl State {
     }
 
     // All candidates are finished. Where an unmarked one holds, the next marked one is ignored.
-    fn ignore(&mut self, candidates: &[Candidate])
+    fn ignore(&mut self, candidates: &[Candidate], from: u32)
+        requires few { AreFew candidates.now }
+        requires from { self.old.next_ignored ≡ from }
         ensures { self.new ≡ ignoring candidates.now self.old }
     {
         let next = if self.unmarked_holds {
-            next_marked(candidates, self.next_ignored)
+            next_marked(candidates, from as usize)
         } else {
             None
         };
         match next {
             Some(n) => {
-                self.request = Some(Request::Ignore(n));
-                self.next_ignored = n + 1;
+                self.made = Made::Ignore;
+                self.next = n as u32 + 1;
             }
-            None => self.request = Some(Request::Done(self.outcome())),
+            None => {
+                self.made = Made::Done;
+                self.next = from;
+            }
         }
     }
 

@@ -1,5 +1,6 @@
 //! Goals and their rules.
-ghost use Rattle.std.specs.Prelude.{◌≡◌, ◌≤◌, ◌^◌, ◌++◌, ◌∷◌, [], length, OnOk};
+ghost use Rattle.std.specs.Prelude.{◌≡◌, ◌<◌, ◌≤◌, ◌^◌, ◌++◌, ◌∷◌, [], length, All, OnOk};
+ghost use Rattle.rule_tables.specs.Few.{AreFew, HasFewQuestions};
 
 use crate::reading::question::Question;
 use line_texts::Names;
@@ -12,7 +13,7 @@ use std::alloc::Global;
 pub(crate) const FEW: usize = 4;
 
 /// A goal, which is a name, by that name's number in the order of first mention.
-#[derive(Clone, Copy, Debug, PartialEq, Eq, Hash)]
+#[derive(Clone, Copy, Debug, Default, PartialEq, Eq, Hash)]
 pub struct Goal(u32);
 
 impl Goal {
@@ -69,6 +70,8 @@ pub struct Rules {
     ghost complete: { length candidates.items ≡ length names },
     // A goal has room for the number of each name.
     ghost countable: { length names ≤ 2 ^ 32 },
+    // A frame has room for the number of each candidate and of each question.
+    ghost few: { All (λ all. AreFew all.items) candidates.items },
 }
 
 impl Rules {
@@ -134,6 +137,10 @@ impl Rules {
         ensures { OnOk result
             (Adds (grammar.Rule is_marked name.now (map named questions.now)) self.old self.new) }
     {
+        // A frame counts questions in 32 bits.
+        if questions.len() > u32::MAX as usize {
+            return Err(NoMemory);
+        }
         let goal = self.goal_named(alloc, name)?;
         let questions = self.askings(alloc, questions)?;
         let candidates = &mut self.candidates[goal.place()];
@@ -202,8 +209,15 @@ impl Rules {
 
 // Most lists of candidates are short, and there are many: where each had room for a few more, it would be most of a table.
 fn push_last(candidates: &mut Vec<Candidate>, candidate: Candidate) -> Result<(), NoMemory>
-    ensures { OnOk result (candidates.new.items ≡ candidates.old.items ++ candidate ∷ []) }
+    requires few { AreFew candidates.old.items }
+    requires few_questions { HasFewQuestions candidate }
+    ensures few { AreFew candidates.new.items }
+    ensures items { OnOk result (candidates.new.items ≡ candidates.old.items ++ candidate ∷ []) }
 {
+    // A frame counts candidates in 32 bits.
+    if candidates.len() >= u32::MAX as usize {
+        return Err(NoMemory);
+    }
     if candidates.len() == candidates.capacity() {
         candidates.reserve_exact(candidates.len() / 4 + 1)?;
     }

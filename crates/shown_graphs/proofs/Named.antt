@@ -10,7 +10,7 @@ use Rattle.rule_tables.specs.Below.{Answer, Begin, Done, EnterCandidate, Evaluat
 use Rattle.rule_tables.specs.Frame.{asking_in, asking_next, entering_next, marked_from, script_of, state_after, state_with, with_answer, with_ignored}
 use Rattle.rule_tables.specs.Table.{AreAsked, IsCandidate, IsTableOf, IsToBeAnswered, NamedCandidate}
 use Rattle.rule_tables.specs.Grammar.{NamedQuestion, Statement}
-use Rattle.rule_tables.specs.declared.frame.State.{State}
+use Rattle.rule_tables.specs.Frame.{State}
 use Rattle.rule_tables.specs.declared.rules.Asking.{Asking}
 use Rattle.rule_tables.specs.declared.rules.Candidate.{Candidate}
 use Rattle.search_context.proofs.Graphs.{HasEdge-from, HasGoal-within}

@@ -7,7 +7,7 @@ use Rattle.rule_tables.specs.Frame.{asking, asking_next, asking_in, entering, en
 use Rattle.rule_tables.specs.Grammar.{NamedQuestion, Statement}
 use Rattle.rule_tables.specs.Rules.{candidates_of, names_of, number_of, questions_of}
 use Rattle.rule_tables.specs.Table.{candidate_in, IsAsked, IsCandidate, IsTableOf, IsToBeAnswered, NamedCandidate, question_in}
-use Rattle.rule_tables.specs.declared.frame.State.{State}
+use Rattle.rule_tables.specs.Frame.{State}
 use Rattle.rule_tables.specs.declared.rules.Asking.{Asking}
 use Rattle.rule_tables.specs.declared.rules.Candidate.{Candidate}
 use Rattle.rule_tables.specs.declared.rules.Goal.{Goal}

@@ -10,10 +10,9 @@ use Rattle.rule_tables.specs.Below.{PathKind, Request, Evaluate, EnterCandidate,
 use Rattle.rule_tables.specs.declared.rules.Goal.{Goal}
 use Rattle.rule_tables.specs.declared.rules.Asking.{Asking}
 use Rattle.rule_tables.specs.declared.rules.Candidate.{Candidate}
-use Rattle.rule_tables.specs.declared.frame.State.{State}
 use Rattle.rule_tables.specs.declared.rules.Rules.{Rules}
 use Rattle.rule_tables.specs.Rules.{candidates_of, question_of, Proves, Refutes}
-use Rattle.rule_tables.specs.Frame.{marked_from, with_ignored, ignoring, entering_next, asking_next, asking_in, asking, with_answer, outcome_of, script_of, state_after, state_with}
+use Rattle.rule_tables.specs.Frame.{marked_from, with_ignored, ignoring, entering_next, asking_next, asking_in, asking, with_answer, outcome_of, script_of, State, state_after, state_with}
 
 -- the state has made a request
 abbrev pub HasMade : State → Type 0
