@@ -233,6 +233,22 @@ impl<W: Watches<<D::Cx as Cx>::Input, <D::Cx as Cx>::Result>, D: Delegate> Deleg
         note_reply(watched.end.watch, watched.end.goal, reply);
         D::step(&mut watched.frame, reply, inspect)
     }
+
+    // No frame is one of a run that is replayed: the journal has each frame.
+    fn step_replay(
+        _watched: &mut WatchedFrame<W, D>,
+        _reply: Reply<<D::Cx as Cx>::Result>,
+    ) -> Result<Request<<D::Cx as Cx>::Input, <D::Cx as Cx>::Result>, NoMemory>
+        requires { CanTake (λ frame (within : Watched W D.Cx). D.stands frame.frame within.cx)
+            (λ (within : Watched W D.Cx). D.script within.cx) _watched.old _reply }
+        ensures request { IfOk result (λ request.
+            Steps (λ frame (within : Watched W D.Cx). D.stands frame.frame within.cx)
+            (λ (within : Watched W D.Cx). D.script within.cx) _watched.old _reply request
+            _watched.new) }
+        ensures falls { OnOk result (D.left _watched.new.frame < D.left _watched.old.frame) }
+    {
+        Err(NoMemory)
+    }
 }
 
 /// Writes a line if the goal's frame is answered.
