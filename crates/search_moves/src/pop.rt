@@ -31,7 +31,8 @@ impl<D: Delegate> Evaluation<D> {
         ensures stored { MayPutNewest D.Cx.Input.eq self.old.goals outcome cache.old.results
             cache.new.results }
         ensures cache { ChangesCache D.Cx.Input.eq self.old.goals cache.old cache.new }
-        ensures noted { KeepsNoted D.Cx.Input.eq cache.old self.old.drafts cache.new self.new.drafts }
+        ensures noted { KeepsNoted D.Cx.Input.eq cache.old self.old.drafts
+            cache.new self.new.drafts }
         ensures rest { self.new ≡ record self.old {
           goals = self.new.goals;
           provisional = self.new.provisional;

@@ -31,7 +31,8 @@ impl<D: Delegate> Evaluation<D> {
         requires on_stack { IfSome (highest answer.heads) (λ head.
             head.0.0 < length self.old.goals) }
         ensures puts { PutsAnswer D.Cx.Input.eq input answer fate cache.old cache.new }
-        ensures noted { KeepsNoted D.Cx.Input.eq cache.old self.old.drafts cache.new self.new.drafts }
+        ensures noted { KeepsNoted D.Cx.Input.eq cache.old self.old.drafts
+            cache.new self.new.drafts }
         ensures stores { OnOk result (Stores D.Delegate D.Cx.Cx D.Cx.Input.eq step input
             answer fate self.old self.new cache.new) }
         ensures rest { self.new
@@ -123,7 +124,7 @@ fn store_for_good<D: Delegate>(
     stored
 }
 
-/// Whether there was no memory for it.
+/// Whether a result could not be stored for want of memory.
 fn wants_memory<I, R>(done: &Result<(), Fault<I, R>>) -> bool
     ensures memory { IsTrue result → done.now ≡ Err Memory }
     ensures other { result ≡ false → IfErr done.now (λ fault. fault ≢ Memory) }
