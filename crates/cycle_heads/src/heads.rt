@@ -13,6 +13,9 @@ use smallvec::SmallVec;
 use std::alloc::Global;
 use std::marker::Model;
 
+/// So many more heads a list has room for at least once one does not suffice.
+const A_FEW: usize = 7;
+
 /// How an answer rests on a goal on the stack. Ports `CycleHead`.
 #[derive(Clone, Copy, Debug, Default)]
 pub struct CycleHead {
@@ -156,10 +159,26 @@ impl CycleHeads {
         }
     }
 
-    // Puts in a head of a depth that has none, at its place, and answers the place behind it. Most come last, where none
-    // is moved. It stays out of `insert_near`, which would be slower by the room that this takes.
+    // Puts in a head of a depth that has none, at its place, and answers the place behind it. It stays out of
+    // `insert_near`, which would be slower by the room that this takes.
     #[inline(never)]
     fn put_new(
+        &mut self,
+        index: usize,
+        depth: StackDepth,
+        paths: PathsToNested,
+        usages: HeadUsages,
+    ) -> Result<usize, NoMemory>
+        requires { place_of self.old depth ≡ Err index }
+        ensures ok { OnOk result (self.new ≡ with_head self.old depth paths usages) }
+        ensures err { OnErr result (self.new ≡ self.old) }
+    {
+        self.make_room_for_one()?;
+        self.put(index, depth, paths, usages)
+    }
+
+    // Puts it in. Most come last, where none is moved.
+    fn put(
         &mut self,
         index: usize,
         depth: StackDepth,
@@ -180,6 +199,17 @@ impl CycleHeads {
             self.heads.insert(index, (depth, new))?;
         }
         Ok(index.saturating_add(1))
+    }
+
+    // Makes room for one more head, and where there is none, for a few more with it: what rests on two goals soon rests on
+    // others, and a move of the list takes longer than most heads do.
+    fn make_room_for_one(&mut self) -> Result<(), NoMemory>
+        ensures { self.new ≡ self.old }
+    {
+        if self.heads.len() == self.heads.capacity() {
+            self.heads.reserve(A_FEW)?;
+        }
+        Ok(())
     }
 
     // Joins paths and usages to the head at the place, which has this depth.
