@@ -158,12 +158,13 @@ pub struct Edge<I> {
     pub target: usize,
 }
 
-/// One run of a goal: its replies, its result, and the questions that the result rests on.
+/// One run of a goal: its replies, its result, and the questions that the result rests on. There are very many, so the
+/// small fields stand together, which leaves no gap between them.
 #[derive(Debug, Drop)]
 pub struct Node<I, R> {
-    pub input: I,
     pub replies: Vec<Reply<R>>,
     pub edges: Vec<Edge<I>>,
+    pub input: I,
     pub result: R,
 }
 

@@ -18,5 +18,6 @@ pub mod nested_goals;
 mod noted_goals;
 mod raises;
 pub mod result;
+pub mod room;
 pub mod stack;
 mod steps;

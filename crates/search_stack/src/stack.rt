@@ -6,6 +6,7 @@ ghost use Rattle.search_stack.specs.Words.{position_of, TellsKinds};
 
 use crate::depth::{AvailableDepth, StackDepth};
 use crate::nested_goals::NestedGoals;
+use crate::room::give_room_back;
 use crate::steps::LastSteps;
 use cycle_heads::candidates::CandidateHeadUsages;
 use cycle_heads::heads::CycleHeads;
@@ -200,8 +201,17 @@ impl<X: Cx> Stack<X> {
         Ok(StackDepth::new(depth))
     }
 
-    /// Pops the last entry. It takes no memory.
+    /// Pops the last entry. It takes no memory, and a large stack that empties gives some back.
     pub fn pop(&mut self) -> StackEntry<X>
+        requires { 0 < length self.old }
+        ensures { self.old ≡ self.new ++ result ∷ [] }
+    {
+        let last = self.take_last();
+        self.give_room_back();
+        last
+    }
+
+    fn take_last(&mut self) -> StackEntry<X>
         requires { 0 < length self.old }
         ensures { self.old ≡ self.new ++ result ∷ [] }
     {
@@ -209,6 +219,14 @@ impl<X: Cx> Stack<X> {
         let _ = self.depths.remove(&input);
         let _ = self.steps.pop();
         self.entries.pop().unwrap()
+    }
+
+    /// Gives back the memory of many goals that were popped.
+    fn give_room_back(&mut self)
+        ensures { self.new ≡ self.old }
+    {
+        give_room_back(&mut self.entries);
+        give_room_back(&mut self.steps);
     }
 
     /// Where the last steps of the stack are.
