@@ -22,6 +22,7 @@ use search_parts::parts::{
     EvaluationResult, HeadUsages, ProvisionalCacheEntry, Stack, StackDepth, StackEntry,
 };
 use search_parts::path::{PathKind, PathsToNested};
+use search_stack::room::give_room_back;
 use std::alloc::Global;
 use std::marker::Model;
 use std::mem;
@@ -62,7 +63,8 @@ pub enum Fate<R> {
     Compared(R),
 }
 
-/// One run of a goal: the frame that works it out, the node that stands for it, and what it has done.
+/// One run of a goal: the frame that works it out, the node that stands for it, and what it has done. A deep stack has very
+/// many, so the small fields stand together.
 #[derive(Drop)]
 pub struct Run<X: Cx, F: Drop> {
     pub frame: F,
@@ -70,10 +72,10 @@ pub struct Run<X: Cx, F: Drop> {
     pub progress: Progress<X::Input, X::Result>,
     /// How many runs of the goal have ended before this one.
     pub finished_runs: usize,
-    /// Whether a question was refused below the goal in one of those.
-    pub met_overflow_before: bool,
     /// What its finished candidates used of the goals on the stack.
     pub candidates: FinishedCandidates,
+    /// Whether a question was refused below the goal in a run before this one.
+    pub met_overflow_before: bool,
     /// What becomes of the goal's result. All its runs have the same one.
     pub fate: Fate<X::Result>,
 }
@@ -177,8 +179,17 @@ impl<X: Cx, F: Drop, S: Drop> OpenGoals<X, F, S> {
         Ok(())
     }
 
-    /// Pops the newest goal.
+    /// Pops the newest goal. Where there were very many, memory is given back.
     pub fn pop(&mut self) -> Popped<X, F, S>
+        requires { 0 < length self.old }
+        ensures { self.old ≡ (result.entry, result.run) ∷ self.new }
+    {
+        let newest = self.take_newest();
+        self.give_room_back();
+        newest
+    }
+
+    fn take_newest(&mut self) -> Popped<X, F, S>
         requires { 0 < length self.old }
         ensures { self.old ≡ (result.entry, result.run) ∷ self.new }
     {
@@ -187,6 +198,12 @@ impl<X: Cx, F: Drop, S: Drop> OpenGoals<X, F, S> {
             run: self.runs.pop().unwrap(),
             entry: self.stack.pop(),
         }
+    }
+
+    fn give_room_back(&mut self)
+        ensures { self.new ≡ self.old }
+    {
+        give_room_back(&mut self.runs);
     }
 
     /// Holds the scope, if there is one, for the newest goal. Where that is refused, the scope is dropped at once.

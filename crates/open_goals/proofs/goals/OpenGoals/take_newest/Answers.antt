@@ -1,7 +1,7 @@
 use Rattle.std.proofs.Common.{◌<◌, ◌∙◌, length, sym, subst, arith}
 use Rattle.std.proofs.lemmas.Grind.{common_steps}
 use Rattle.open_goals.proofs.Pairs.{length_of_view, popped_paired}
-use Rattle.open_goals.proofs.goals.OpenGoals.pop.Goals as goal
+use Rattle.open_goals.proofs.goals.OpenGoals.take_newest.Goals as goal
 
 pub unwrap-requires : goal.unwrap-requires
 unwrap-requires g c =
