@@ -4,6 +4,7 @@ use crate::loops::LoopsContext;
 use delegate_parts::ContextOf;
 use search_parts::parts::{AvailableDepth, Stack, StackDepth, StackEntry};
 use search_parts::path::PathKind;
+use search_stack::room::give_room_back;
 use std::test::Fail;
 
 #[test]
@@ -96,5 +97,21 @@ fn goals_of_a_deep_stack_are_found(rt: HostRuntime) -> Result<(), Fail> {
         assert!(rt; finds_the_first(&stack, usize::from(count)), "{count}");
     }
     assert_eq!(rt; stack.len(), 10);
+    Ok(())
+}
+
+#[test]
+fn a_list_that_empties_gives_memory_back(rt: HostRuntime) -> Result<(), Fail> {
+    let mut list = Vec::with_capacity(rt.alloc(), 20000)?;
+    for number in 0..9000u32 {
+        list.push(number)?;
+    }
+    give_room_back(&mut list);
+    assert!(rt; list.capacity() < 20000);
+    assert_eq!(rt; list.len(), 9000);
+    assert_eq!(rt; list.last(), Some(&8999));
+    let room = list.capacity();
+    give_room_back(&mut list);
+    assert_eq!(rt; list.capacity(), room);
     Ok(())
 }
