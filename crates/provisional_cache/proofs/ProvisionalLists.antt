@@ -1,7 +1,7 @@
 -- Lists of entries by goal: what is read of a map of lists, and how one of them grows.
 use Rattle.std.proofs.Common.{arith, ◌≡◌, ◌≢◌, Bool, true, false, cond, List, [], ◌∷◌, ◌++◌, length, All, Option, Some, None, Result, Ok, Err, OnOk, OnErr, refl, sym, ap, ◌∙◌, subst}
 use Rattle.std.proofs.lemmas.Map.Made.{lookup-map_values}
-use Rattle.std.proofs.lemmas.List.Elements.{All-nil, All-push, All-filter}
+use Rattle.std.proofs.lemmas.List.Elements.{All-nil, All-push, All-filter, All-weaker}
 use Rattle.std.specs.Cmp.{IsEquivalence}
 use Rattle.std.specs.Global.{Vec}
 use Rattle.std.specs.List.{filter}
@@ -18,6 +18,13 @@ module _ {I E : Type 0} where
   -- the list that is found is that of the vector that is found
   pub list_found : (test : I → Bool) (entries : List (I × Vec E)) → lookup test (lists_of entries) ≡ option_map (λ v. v.items) (lookup test entries)
   list_found test entries = lookup-map_values (λ v. v.items) test entries
+
+  -- what holds of the entries of each goal holds of each list
+  pub each_list : (same : I → I → Bool) (P : E → Type 0) (entries : List (I × Vec E)) → All (λ e. lookup (same e.0) entries ≡ Some e.1) entries
+      → ((input : I) → All P (entries_at same (lists_of entries) input)) → All (λ e. All P e.1.items) entries
+  each_list same P entries found each =
+      All-weaker (λ e. lookup (same e.0) entries ≡ Some e.1) (λ e. All P e.1.items)
+      (λ e here. subst (All P) (ap (λ o. unwrap_or o []) (list_found (same e.0) entries ∙ ap (option_map (λ v. v.items)) here)) (each e.0)) entries found
 
   -- a vector in the place of one with the same items leaves the lists as they are
   pub lists-set_same : (test : I → Bool) (entries : List (I × Vec E)) (v w : Vec E)

@@ -1,18 +1,43 @@
--- What an entry becomes, case by case.
-use Rattle.std.proofs.Common.{◌≡◌, Bool, true, false, if◌then◌else◌, length, List, Option, Some, None, refl, eq-eqb}
-use Rattle.provisional_cache.specs.Below.{StackDepth, CycleHead, HeadUsages, highest, has_usages, other_usages, StackEntry}
-use Rattle.provisional_cache.specs.Words.{ProvisionalCacheEntry, EntryChange, Dropped, Replaced, Unchanged, UnchangedIfSingle, rebased, rebased_unused, changed_by}
+-- What an entry becomes, case by case, and which entries are left.
+use Rattle.std.proofs.Common.{arith, ◌≡◌, ◌-◌, ◌<◌, ◌↔◌, ℕ, zero, suc, Bool, true, false, not, cond, if◌then◌else◌, IsTrue, length, List, [], ◌∷◌, Option, Some, None, refl, sym, ap, ◌∙◌, subst, eq-eqb}
+use Rattle.std.specs.List.{cons_option, filter, filter_map, slice_get}
+use Rattle.std.specs.Option.{is_some, option_map}
+use Rattle.provisional_cache.specs.Below.{StackDepth, CycleHead, HeadUsages, Heads, highest, has_usages, other_usages, StackEntry}
+use Rattle.provisional_cache.specs.Words.{ProvisionalCacheEntry, left_of, rebased, rebased_unused}
+
+some_at : (heads : Heads) (i : ℕ) → i < length heads → is_some (slice_get heads i) ≡ true
+some_at [] i within = absurd (omega arith)
+some_at (h ∷ hs) zero within = refl
+some_at (h ∷ hs) (suc i) within = some_at hs i (omega arith)
+
+-- there is a highest head where there is one
+has_highest : (heads : Heads) (none : Bool) → (IsTrue none ↔ (heads ≡ [])) → not none ≡ is_some (highest heads)
+has_highest [] none is = ap not (is.1 refl)
+has_highest (h ∷ hs) true is = absurd (let none : h ∷ hs ≡ [] = is.0 refl in cc)
+has_highest (h ∷ hs) false is = sym (some_at (h ∷ hs) (length (h ∷ hs) - 1) (omega arith))
 
 module _ {X I R A T : Type 0} where
   module _ (stack : List (StackEntry X I R A T)) (done : StackEntry X I R A T) (change_entry : HeadUsages → ProvisionalCacheEntry X I R A T → Option (ProvisionalCacheEntry X I R A T)) (entry : ProvisionalCacheEntry X I R A T) (head : StackDepth × CycleHead) (top : highest entry.heads ≡ Some head) (at : head.0.0 ≡ length stack) where
     pub is_unused : has_usages head.1.usages ≡ false → rebased stack done change_entry entry ≡ rebased_unused stack done entry
     is_unused none = rw (top, eq-eqb head.0.0 (length stack) at, none) refl
 
-  -- the change of an entry for a reason leaves its heads
-  pub changed_same_heads : (entry_change : EntryChange X I R A T) (usages : HeadUsages) (entry after : ProvisionalCacheEntry X I R A T) → changed_by entry_change usages entry ≡ Some after → after.heads ≡ entry.heads
-  changed_same_heads Dropped usages entry after is = absurd cc
-  changed_same_heads (Replaced outcome) usages entry after is = cc
-  changed_same_heads Unchanged usages entry after is = cc
-  changed_same_heads (UnchangedIfSingle kind) usages entry after is =
-      let P : Bool → Type 0 = λ b. (if b then None else Some entry) ≡ Some after → after.heads ≡ entry.heads in
-      (elim (has_usages (other_usages usages kind)) as P [ true ↦ λ is. absurd cc | false ↦ λ is. cc ]) is
+  -- the entries that are left of a list
+  pub only_left : (entries : List (ProvisionalCacheEntry X I R A T)) → filter (λ entry. is_some (left_of entry)) entries ≡ filter_map left_of entries
+  only_left [] = refl
+  only_left (e ∷ es) =
+      let P : Option (StackDepth × CycleHead) → Type 0 = λ o.
+      cond (is_some (option_map (λ _. e) o)) (e ∷ filter (λ entry. is_some (left_of entry)) es) (filter (λ entry. is_some (left_of entry)) es) ≡ cons_option (option_map (λ _. e) o) (filter_map left_of es) in
+      elim (highest e.heads) as P [ None ↦ only_left es | Some _ ↦ ap (λ l. e ∷ l) (only_left es) ]
+
+  -- one is left exactly if it has heads
+  pub left_by_heads : (entry : ProvisionalCacheEntry X I R A T) (none : Bool) → (IsTrue none ↔ (entry.heads ≡ [])) → not none ≡ is_some (left_of entry)
+  left_by_heads entry none is = has_highest entry.heads none is ∙ sym (some_mapped (highest entry.heads))
+    where
+      some_mapped : (o : Option (StackDepth × CycleHead)) → is_some (option_map (λ _. entry) o) ≡ is_some o
+      some_mapped None = refl
+      some_mapped (Some _) = refl
+
+-- where the usages are of one kind alone, the entry is left
+pub left_if_single : {E : Type 0} (single others : Bool) (e : E) → not single ≡ others → cond single (Some e) None ≡ (if others then None else Some e)
+left_if_single true others e is = subst (λ o. Some e ≡ (if o then None else Some e)) is refl
+left_if_single {E} false others e is = let P : Bool → Type 0 = λ o. cond false (Some e) None ≡ (if o then None else Some e) in subst P is refl

@@ -1,5 +1,5 @@
 -- What rebasing leaves of lists of entries are such lists: each entry rests on a head.
-use Rattle.std.proofs.Common.{◌≡◌, ◌≢◌, ◌≤◌, Bool, true, false, nat_eq, if◌then◌else◌, length, List, [], ◌∷◌, All, Option, Some, None, refl, sym, ap, ◌∙◌, subst}
+use Rattle.std.proofs.Common.{◌≡◌, ◌≢◌, ◌≤◌, Bool, true, false, nat_eq, if◌then◌else◌, length, List, [], ◌∷◌, All, Option, Some, None, Result, Ok, Err, OnOk, OnErr, refl, sym, ap, ◌∙◌, subst}
 use Rattle.std.proofs.lemmas.List.Elements.{All-nil, All-cons, All-head, All-tail}
 use Rattle.std.specs.List.{cons_option, filter_map}
 use Rattle.std.specs.Map.{lookup}
@@ -65,3 +65,11 @@ module _ {X I R A T : Type 0} (stack : List (StackEntry X I R A T)) (done : Stac
         (λ input. subst (All (λ e. e.heads ≢ [])) (sym (leaves input))
         (All-filter_map (λ e. e.heads ≢ []) (λ e. e.heads ≢ []) (rebased stack done (change_entry input)) (λ entry after rests is. rebased-some (change_entry input) entry after rests is) (entries_at same old input) (heads_at same old input kept)))
         some
+
+    -- and so where a refusal leaves none
+    pub rebased_or_none : {E : Type 0} (change_entry : I → HeadUsages → ProvisionalCacheEntry X I R A T → Option (ProvisionalCacheEntry X I R A T)) (r : Result (Unit {0}) E)
+        → OnOk r ((input : I) → entries_at same new input ≡ filter_map (rebased stack done (change_entry input)) (entries_at same old input))
+        → OnOk r ((input : I) → IfSome (lookup (same input) new) (λ es. es ≢ []))
+        → OnErr r (new ≡ []) → AreEntryLists same new
+    rebased_or_none change_entry (Ok _) leaves some none = lists_rebased change_entry leaves some
+    rebased_or_none change_entry (Err _) leaves some none = subst (AreEntryLists same) (sym none) (λ input. tt)

@@ -1,6 +1,6 @@
 -- The rule by which provisional entries are rebased when a goal is done and is popped. It is a function on one entry, which gives
 -- what the entry becomes, or `None` where it is dropped. The goal that is done was at the place right above the stack that is left.
-use Rattle.std.specs.Prelude.{◌≢◌, ◌≤◌, ◌-◌, ℕ, Bool, nat_eq, if◌then◌else◌, List, [], length, take, fold, All, Option, Some, None}
+use Rattle.std.specs.Prelude.{◌≡◌, ◌≢◌, ◌≤◌, ◌-◌, ℕ, Bool, true, false, nat_eq, if◌then◌else◌, List, [], length, take, fold, All, Option, Some, None}
 use Rattle.std.specs.List.{list_all}
 use Rattle.std.specs.Option.{option_map, option_and_then}
 use Rattle.provisional_cache.specs.Below.{PathKind, PathsToNested, StackDepth, CycleHead, HeadUsages, Heads, highest, with_head, rank_of, greater_kind, kinds_in, extended_by_each, path_of_no_step, has_usages, no_usages}
@@ -71,7 +71,17 @@ module _ {X I R A T : Type 0} where
     abbrev pub rebased : (HeadUsages → ProvisionalCacheEntry X I R A T → Option (ProvisionalCacheEntry X I R A T)) → ProvisionalCacheEntry X I R A T → Option (ProvisionalCacheEntry X I R A T)
     rebased change_entry entry = rebased_at change_entry entry (highest entry.heads)
 
+  -- what is left of an entry: one without heads is dropped
+  abbrev pub left_of : ProvisionalCacheEntry X I R A T → Option (ProvisionalCacheEntry X I R A T)
+  left_of entry = option_map (λ _. entry) (highest entry.heads)
+
   -- the entry rests on a head, and its heads are on a stack of this length or at the place above it
   pub record CanBeRebased (size : ℕ) (entry : ProvisionalCacheEntry X I R A T) : Type 0 where
     pub some : entry.heads ≢ []
     pub within : All (λ head. head.0.0 ≤ size) entry.heads
+
+-- what a list was left as, of which so much should be left: it may be given up where nothing should be left, and where it stays and has
+-- an element, it is what should be left
+pub record IsLeft {E : Type 0} (stays : Bool) (new becomes : List E) : Type 0 where
+  pub gone : stays ≡ false → becomes ≡ []
+  pub left : stays ≡ true → new ≢ [] → new ≡ becomes

@@ -14,6 +14,7 @@ ghost use Rattle.std.specs.Option.{option_copied};
 ghost use Rattle.provisional_cache.specs.Below.{highest};
 ghost use Rattle.provisional_cache.specs.Words.{entries_at, lists_of, AppendsEntry, PutsLast, rebased, changed_for, may_be_used, depends_on};
 
+mod changed_lists;
 mod clearing;
 mod concerned;
 mod kinds;
@@ -30,7 +31,6 @@ use std::alloc::Global;
 use std::collections::HashMap;
 use std::hash::Hash;
 use std::marker::Model;
-use std::mem;
 
 /// An answer that rests on goals on the stack. Ports `ProvisionalCacheEntry`.
 #[derive(Drop)]
@@ -160,9 +160,7 @@ impl<D: Delegate> ProvisionalCache<D> {
         if !concerned::concerns_lists(&self.lists, stack.next_index()) {
             return Ok(());
         }
-        let lists = mem::replace(&mut self.lists, HashMap::new(self.alloc));
-        self.lists = rebasing::rebase_lists::<D>(self.alloc, cx, lists, done, stack, &reason)?;
-        Ok(())
+        rebasing::rebase_lists::<D>(self.alloc, cx, &mut self.lists, done, stack, &reason)
     }
 
     /// Appends an entry, which rests on a head, to the list of the goal. A refusal leaves the cache as

@@ -1,11 +1,12 @@
 //! What becomes of entries when a goal that they rest on is done.
-ghost use Rattle.std.specs.Prelude.{◌≡◌, ◌≢◌, ◌≤◌, ◌<◌, [], cond, length, All, IfOk, IfSome, OnOk, Some};
+ghost use Rattle.std.specs.Prelude.{◌≡◌, ◌≢◌, ◌≤◌, ◌<◌, [], cond, length, All, IfSome, is_some, None, OnErr, OnOk, Some};
 ghost use Rattle.std.specs.List.{filter_map};
 ghost use Rattle.std.specs.Map.{lookup};
 ghost use Rattle.std.specs.Option.{option_map};
 ghost use Rattle.provisional_cache.specs.Below.{highest};
-ghost use Rattle.provisional_cache.specs.Words.{entries_at, lists_of, from_new_head, rebased, rebased_unused, rebased_used, changed_for, with_unused, with_used, CanBeRebased, changed_by};
+ghost use Rattle.provisional_cache.specs.Words.{entries_at, lists_of, from_new_head, left_of, rebased, rebased_unused, rebased_used, changed_for, with_unused, with_used, CanBeRebased, changed_by};
 
+use crate::changed_lists::{ListRule, change_lists};
 use crate::concerned::concerns_list;
 use crate::kinds::keeps_kinds;
 use crate::{ProvisionalCacheEntry, RebaseReason};
@@ -16,7 +17,6 @@ use search_context::context::{Cx, Delegate, NoMemory};
 use search_stack::stack::{Stack, StackEntry};
 use std::alloc::Global;
 use std::collections::HashMap;
-use std::hash::Hash;
 
 /// What becomes of an entry that used the goal that is done.
 #[derive(Drop)]
@@ -32,29 +32,20 @@ pub(super) enum EntryChange<X: Cx> {
 }
 
 impl<X: Cx> EntryChange<X> {
-    // What becomes of the entry, which used the goal that is done so often.
-    fn change_entry(
-        &self,
-        usages: HeadUsages,
-        entry: ProvisionalCacheEntry<X>,
-    ) -> Option<ProvisionalCacheEntry<X>>
-        ensures { result ≡ changed_by self.now usages entry }
+    // Changes the entry, which used the goal that is done so often. Answers whether it is left.
+    fn change_entry(&self, usages: HeadUsages, entry: &mut ProvisionalCacheEntry<X>) -> bool
+        ensures changed { cond result (Some entry.new) None ≡ changed_by self.now usages entry.old }
+        ensures heads { entry.new.heads ≡ entry.old.heads }
     {
         match self {
-            EntryChange::Dropped => None,
-            EntryChange::Replaced(result) => Some(ProvisionalCacheEntry {
-                result: *result,
-                node: None,
-                ..entry
-            }),
-            EntryChange::Unchanged => Some(entry),
-            EntryChange::UnchangedIfSingle(kind) => {
-                if usages.is_single(*kind) {
-                    Some(entry)
-                } else {
-                    None
-                }
+            EntryChange::Dropped => false,
+            EntryChange::Replaced(result) => {
+                entry.result = *result;
+                entry.node = None;
+                true
             }
+            EntryChange::Unchanged => true,
+            EntryChange::UnchangedIfSingle(kind) => usages.is_single(*kind),
         }
     }
 }
@@ -79,145 +70,190 @@ pub(super) fn change_for<D: Delegate>(
     }
 }
 
-// The lists after the pop, goal by goal, in a new map. A list without a concerned entry is moved into it.
+// A goal that is done, and by what entries that rest on it are rebased.
+#[derive(Drop)]
+struct Rebasing<'a, D: Delegate> {
+    alloc: Global,
+    cx: D::Cx,
+    done: &'a StackEntry<D::Cx>,
+    stack: &'a Stack<D::Cx>,
+    reason: &'a RebaseReason<D::Cx>,
+}
+
+impl<'a, D: Delegate> ListRule<<D::Cx as Cx>::Input, ProvisionalCacheEntry<D::Cx>>
+    for Rebasing<'a, D> {
+    ghost accepts = { λ r entries. All (CanBeRebased (length r.stack.now)) entries
+        × All (λ head. head.0.0 < length r.stack.now) r.done.now.state.heads };
+
+    ghost becomes = { λ r input. rebased r.stack.now r.done.now
+        (changed_for (D.propagated r.cx input) (D.fixpoint_overflow r.cx input) r.reason.now) };
+
+    fn change_list(
+        &self,
+        input: <D::Cx as Cx>::Input,
+        entries: &mut Vec<ProvisionalCacheEntry<D::Cx>>,
+    ) -> bool {
+        if !concerns_list(entries.as_slice(), self.stack.next_index()) {
+            return true;
+        }
+        let entry_change = change_for::<D>(self.cx, input, self.reason);
+        match rebase_list(self.alloc, entries, self.done, self.stack, &entry_change) {
+            Ok(()) => !entries.is_empty(),
+            Err(NoMemory) => {
+                entries.clear();
+                true
+            }
+        }
+    }
+}
+
+// Rebases the entries where they stand, goal by goal. On a refusal no list is left.
 pub(super) fn rebase_lists<D: Delegate>(
     alloc: Global,
     cx: D::Cx,
-    lists: HashMap<<D::Cx as Cx>::Input, Vec<ProvisionalCacheEntry<D::Cx>>>,
+    lists: &mut HashMap<<D::Cx as Cx>::Input, Vec<ProvisionalCacheEntry<D::Cx>>>,
     done: &StackEntry<D::Cx>,
     stack: &Stack<D::Cx>,
     reason: &RebaseReason<D::Cx>,
-) -> Result<HashMap<<D::Cx as Cx>::Input, Vec<ProvisionalCacheEntry<D::Cx>>>, NoMemory>
-    requires can { (input : D.Cx.Input)
-        → All (CanBeRebased (length stack.now))
-        (entries_at D.Cx.Input.eq (lists_of lists.entries) input) }
+) -> Result<(), NoMemory>
+    requires can { All (λ e. All (CanBeRebased (length stack.now)) e.1.items) lists.old.entries }
     requires on_stack { All (λ head. head.0.0 < length stack.now) done.now.state.heads }
-    ensures rebased { IfOk result (λ left. (input : D.Cx.Input)
-        → entries_at D.Cx.Input.eq (lists_of left.entries) input
+    ensures rebased { OnOk result ((input : D.Cx.Input)
+        → entries_at D.Cx.Input.eq (lists_of lists.new.entries) input
         ≡ filter_map
         (rebased stack.now done.now
         (changed_for (D.propagated cx input) (D.fixpoint_overflow cx input) reason.now))
-        (entries_at D.Cx.Input.eq (lists_of lists.entries) input)) }
-    ensures left { IfOk result (λ left. (input : D.Cx.Input)
-        → IfSome (lookup (D.Cx.Input.eq input) (lists_of left.entries)) (λ entries. entries ≢ [])) }
+        (entries_at D.Cx.Input.eq (lists_of lists.old.entries) input)) }
+    ensures left { OnOk result ((input : D.Cx.Input)
+        → IfSome (lookup (D.Cx.Input.eq input) (lists_of lists.new.entries)) (λ entries. entries ≢ [])) }
+    ensures err { OnErr result (lists_of lists.new.entries ≡ []) }
 {
-    let mut left = HashMap::new(alloc);
-    left.reserve(lists.len())?;
-    for (input, entries) in lists {
-        let entry_change = change_for::<D>(cx, input, reason);
-        let entries = rebase_list(alloc, entries, done, stack, &entry_change)?;
-        if !entries.is_empty() {
-            insert_list(&mut left, input, entries)?;
-        }
-    }
-    Ok(left)
+    let rule = Rebasing::<D> {
+        alloc,
+        cx,
+        done,
+        stack,
+        reason,
+    };
+    change_lists(lists, &rule)
 }
 
-// Makes the list that of the input.
-fn insert_list<I: Eq + Hash + Copy, E: Drop>(
-    lists: &mut HashMap<I, Vec<E>>,
-    input: I,
-    entries: Vec<E>,
+// Rebases the entries of one goal. Those that are left stay in order.
+fn rebase_list<X: Cx>(
+    alloc: Global,
+    entries: &mut Vec<ProvisionalCacheEntry<X>>,
+    done: &StackEntry<X>,
+    stack: &Stack<X>,
+    entry_change: &EntryChange<X>,
 ) -> Result<(), NoMemory>
-    ensures { OnOk result ((other : I) → lookup (I.eq other) (lists_of lists.new.entries)
-        ≡ cond (I.eq input other) (Some entries.items) (lookup (I.eq other) (lists_of lists.old.entries))) }
+    requires can { All (CanBeRebased (length stack.now)) entries.old.items }
+    requires on_stack { All (λ head. head.0.0 < length stack.now) done.now.state.heads }
+    ensures { OnOk result (entries.new.items
+        ≡ filter_map (rebased stack.now done.now (changed_by entry_change.now)) entries.old.items) }
 {
-    lists.insert(input, entries)?;
+    rebase_each(alloc, entries.as_mut_slice(), done, stack, entry_change)?;
+    entries.retain(|entry| is_left(entry));
     Ok(())
 }
 
-// The entries of one goal after the pop, in order.
-pub(super) fn rebase_list<X: Cx>(
-    alloc: Global,
-    entries: Vec<ProvisionalCacheEntry<X>>,
-    done: &StackEntry<X>,
-    stack: &Stack<X>,
-    entry_change: &EntryChange<X>,
-) -> Result<Vec<ProvisionalCacheEntry<X>>, NoMemory>
-    requires can { All (CanBeRebased (length stack.now)) entries.items }
-    requires on_stack { All (λ head. head.0.0 < length stack.now) done.now.state.heads }
-    ensures { IfOk result (λ left.
-        left.items ≡ filter_map (rebased stack.now done.now (changed_by entry_change.now)) entries.items) }
+// Whether the entry is left: it has heads.
+fn is_left<X: Cx>(entry: &ProvisionalCacheEntry<X>) -> bool
+    ensures { result ≡ is_some (left_of entry.now) }
 {
-    if !concerns_list(entries.as_slice(), stack.next_index()) {
-        return Ok(entries);
-    }
-    let mut left = Vec::new(alloc);
-    for entry in entries {
-        if let Some(entry) = rebase_entry(entry, done, stack, entry_change)? {
-            left.push(entry)?;
-        }
-    }
-    Ok(left)
+    !entry.heads.is_empty()
 }
 
-// The entry after the pop, where it is left.
-fn rebase_entry<X: Cx>(
-    entry: ProvisionalCacheEntry<X>,
+// Rebases each of the entries. One that isn't left has no heads afterwards.
+fn rebase_each<X: Cx>(
+    alloc: Global,
+    entries: &mut [ProvisionalCacheEntry<X>],
     done: &StackEntry<X>,
     stack: &Stack<X>,
     entry_change: &EntryChange<X>,
-) -> Result<Option<ProvisionalCacheEntry<X>>, NoMemory>
-    requires can { CanBeRebased (length stack.now) entry }
+) -> Result<(), NoMemory>
+    requires can { All (CanBeRebased (length stack.now)) entries.old }
     requires on_stack { All (λ head. head.0.0 < length stack.now) done.now.state.heads }
-    ensures { IfOk result (λ after.
-        after ≡ rebased stack.now done.now (changed_by entry_change.now) entry) }
+    ensures { OnOk result (filter_map left_of entries.new
+        ≡ filter_map (rebased stack.now done.now (changed_by entry_change.now)) entries.old) }
+{
+    for entry in entries.iter_mut() {
+        rebase_entry(alloc, entry, done, stack, entry_change)?;
+    }
+    Ok(())
+}
+
+// Makes of the entry what is left of it after the pop. One that isn't left has no heads afterwards.
+fn rebase_entry<X: Cx>(
+    alloc: Global,
+    entry: &mut ProvisionalCacheEntry<X>,
+    done: &StackEntry<X>,
+    stack: &Stack<X>,
+    entry_change: &EntryChange<X>,
+) -> Result<(), NoMemory>
+    requires can { CanBeRebased (length stack.now) entry.old }
+    requires on_stack { All (λ head. head.0.0 < length stack.now) done.now.state.heads }
+    ensures { OnOk result
+        (left_of entry.new ≡ rebased stack.now done.now (changed_by entry_change.now) entry.old) }
 {
     let (depth, head) = entry.heads.highest_cycle_head();
     if depth != stack.next_index() {
-        return Ok(Some(entry));
+        return Ok(());
     }
     if head.usages.is_empty() {
         return rebase_unused(entry, done, stack);
     }
-    rebase_used(entry, head, done, stack, entry_change)
+    rebase_used(alloc, entry, head, done, stack, entry_change)
 }
 
-// The entry without its highest head, which it didn't use.
+// Takes its highest head, which it didn't use, from the entry.
 //
 // Its result is the same whatever that goal came to. Still that goal's heads take its place, without usages: a
 // goal that uses the entry must not be stored while they are under evaluation.
 fn rebase_unused<X: Cx>(
-    entry: ProvisionalCacheEntry<X>,
+    entry: &mut ProvisionalCacheEntry<X>,
     done: &StackEntry<X>,
     stack: &Stack<X>,
-) -> Result<Option<ProvisionalCacheEntry<X>>, NoMemory>
-    requires can { CanBeRebased (length stack.now) entry }
+) -> Result<(), NoMemory>
+    requires can { CanBeRebased (length stack.now) entry.old }
     requires on_stack { All (λ head. head.0.0 < length stack.now) done.now.state.heads }
-    ensures { IfOk result (λ after. after ≡ rebased_unused stack.now done.now entry) }
+    ensures { OnOk result (left_of entry.new ≡ rebased_unused stack.now done.now entry.old) }
 {
-    let mut entry = entry;
     let _ = entry.heads.remove_highest_cycle_head();
     insert_unused(&mut entry.heads, &done.state.heads)?;
-    Ok(from_new_head(entry, done, stack))
+    lead_from_new_head(entry, done, stack);
+    Ok(())
 }
 
-// The entry without its highest head, which it used, and which is given.
+// Takes its highest head, which it used, and which is given, from the entry.
 //
 // It is as if the goal that is done were worked out anew below the entry. So each cycle that goes from one of
 // its heads through it and back has to be of the same kind when it goes through the entry, too; and the heads
 // get the paths from the entry through it, so that the next pop compares these as well.
 fn rebase_used<X: Cx>(
-    entry: ProvisionalCacheEntry<X>,
+    alloc: Global,
+    entry: &mut ProvisionalCacheEntry<X>,
     head: CycleHead,
     done: &StackEntry<X>,
     stack: &Stack<X>,
     entry_change: &EntryChange<X>,
-) -> Result<Option<ProvisionalCacheEntry<X>>, NoMemory>
-    requires can { CanBeRebased (length stack.now) entry }
+) -> Result<(), NoMemory>
+    requires can { CanBeRebased (length stack.now) entry.old }
     requires on_stack { All (λ head. head.0.0 < length stack.now) done.now.state.heads }
-    ensures { IfOk result (λ after.
-        after ≡ rebased_used stack.now done.now (changed_by entry_change.now) entry head) }
+    ensures { OnOk result
+        (left_of entry.new ≡ rebased_used stack.now done.now (changed_by entry_change.now) entry.old head) }
 {
     if !keeps_kinds(entry.path_from_head, head.paths_to_head, done, stack) {
-        return Ok(None);
+        entry.heads = CycleHeads::new(alloc);
+        return Ok(());
     }
-    let Some(mut entry) = entry_change.change_entry(head.usages, entry) else {
-        return Ok(None);
-    };
+    if !entry_change.change_entry(head.usages, entry) {
+        entry.heads = CycleHeads::new(alloc);
+        return Ok(());
+    }
     let _ = entry.heads.remove_highest_cycle_head();
     insert_used(&mut entry.heads, head.paths_to_head, &done.state.heads)?;
-    Ok(from_new_head(entry, done, stack))
+    lead_from_new_head(entry, done, stack);
+    Ok(())
 }
 
 // Records the heads of the goal that is done, over the path of no step and without usages.
@@ -247,21 +283,18 @@ fn insert_used(
     Ok(())
 }
 
-// The entry with the path from its new highest head, if there is one.
-fn from_new_head<X: Cx>(
-    entry: ProvisionalCacheEntry<X>,
+// Makes the path of the entry that from its new highest head, if it has one.
+fn lead_from_new_head<X: Cx>(
+    entry: &mut ProvisionalCacheEntry<X>,
     done: &StackEntry<X>,
     stack: &Stack<X>,
-) -> Option<ProvisionalCacheEntry<X>>
-    requires { IfSome (highest entry.heads) (λ head. head.0.0 < length stack.now) }
-    ensures { result ≡ from_new_head stack.now done.now entry }
+)
+    requires { IfSome (highest entry.old.heads) (λ head. head.0.0 < length stack.now) }
+    ensures { left_of entry.new ≡ from_new_head stack.now done.now entry.old }
 {
     let Some(head) = entry.heads.opt_highest_cycle_head_index() else {
-        return None;
+        return;
     };
     let from_head = stack.path_kind(done.step_kind_from_parent(), head);
-    Some(ProvisionalCacheEntry {
-        path_from_head: entry.path_from_head.extend(from_head),
-        ..entry
-    })
+    entry.path_from_head = entry.path_from_head.extend(from_head);
 }
