@@ -184,15 +184,7 @@ impl<X: Cx, F: Drop, S: Drop> OpenGoals<X, F, S> {
         requires { 0 < length self.old }
         ensures { self.old ≡ (result.entry, result.run) ∷ self.new }
     {
-        let newest = self.take_newest();
         self.give_room_back();
-        newest
-    }
-
-    fn take_newest(&mut self) -> Popped<X, F, S>
-        requires { 0 < length self.old }
-        ensures { self.old ≡ (result.entry, result.run) ∷ self.new }
-    {
         Popped {
             scope: self.take_scope(),
             run: self.runs.pop().unwrap(),

@@ -206,15 +206,7 @@ impl<X: Cx> Stack<X> {
         requires { 0 < length self.old }
         ensures { self.old ≡ self.new ++ result ∷ [] }
     {
-        let last = self.take_last();
         self.give_room_back();
-        last
-    }
-
-    fn take_last(&mut self) -> StackEntry<X>
-        requires { 0 < length self.old }
-        ensures { self.old ≡ self.new ++ result ∷ [] }
-    {
         let input = self.last().input;
         let _ = self.depths.remove(&input);
         let _ = self.steps.pop();

@@ -4,7 +4,7 @@ use Rattle.std.proofs.lemmas.List.{map-append}
 use Rattle.std.proofs.lemmas.Grind.{common_steps}
 use Rattle.search_stack.proofs.LastSteps.{AreLastSteps-pop}
 use Rattle.search_stack.proofs.StackIndex.{IsIndex-pop}
-use Rattle.search_stack.proofs.stack.Stack.take_last.Goals as goal
+use Rattle.search_stack.proofs.stack.Stack.pop.Goals as goal
 
 -- what stands at the last place is the last one
 last_of : {A : Type 0} (all rest : List A) (x d : A) → all ≡ rest ++ x ∷ [] → d ≡ get_or all (length all - 1) d → d ≡ x
