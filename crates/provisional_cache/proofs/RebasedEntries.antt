@@ -2,7 +2,7 @@
 use Rattle.std.proofs.Common.{arith, ◌≡◌, ◌-◌, ◌<◌, ◌↔◌, ℕ, zero, suc, Bool, true, false, not, cond, if◌then◌else◌, IsTrue, length, List, [], ◌∷◌, Option, Some, None, refl, sym, ap, ◌∙◌, subst, eq-eqb}
 use Rattle.std.specs.List.{cons_option, filter, filter_map, slice_get}
 use Rattle.std.specs.Option.{is_some, option_map}
-use Rattle.provisional_cache.specs.Below.{StackDepth, CycleHead, HeadUsages, Heads, highest, has_usages, other_usages, StackEntry}
+use Rattle.provisional_cache.specs.Below.{StackDepth, CycleHead, HeadUsages, Heads, highest, has_usages, StackEntry}
 use Rattle.provisional_cache.specs.Words.{ProvisionalCacheEntry, left_of, rebased, rebased_unused}
 
 some_at : (heads : Heads) (i : ℕ) → i < length heads → is_some (slice_get heads i) ≡ true

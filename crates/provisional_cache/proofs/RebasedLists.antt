@@ -9,7 +9,7 @@ use Rattle.std.specs.Cmp.{IsEquivalence}
 use Rattle.std.specs.Global.{Vec}
 use Rattle.std.specs.List.{cons_option, filter_map, FoldsTo, IsDistinct}
 use Rattle.std.specs.Map.{lookup, keys_of}
-use Rattle.std.specs.Map.Calls.{RetainsPairs, SomeCallAtPair}
+use Rattle.std.specs.Map.Calls.{RetainsPairs}
 use Rattle.std.specs.Option.{option_map, unwrap_or, IfSome}
 use Rattle.provisional_cache.specs.Words.{entries_at, IsLeft, lists_of}
 use Rattle.provisional_cache.proofs.ProvisionalLists.{list_found}

@@ -1,4 +1,4 @@
-use Rattle.std.proofs.Common.{arith, ◌≡◌, ◌+◌, ◌<◌, All, drop, get_or, length, subst}
+use Rattle.std.proofs.Common.{arith, ◌+◌, ◌<◌, All, drop, get_or, length, subst}
 use Rattle.std.proofs.lemmas.List.{drop_more}
 use Rattle.std.proofs.lemmas.List.Elements.{All-head}
 use Rattle.provisional_cache.specs.Words.{left_of, rebased, CanBeRebased, changed_by}

@@ -1,4 +1,4 @@
-use Rattle.std.proofs.Common.{◌≡◌, ◌≤◌, All, length, sym, subst}
+use Rattle.std.proofs.Common.{◌≤◌, All, length, sym, subst}
 use Rattle.provisional_cache.proofs.RebasedHeads.{all_with_used, below_highest, highest_within}
 use Rattle.provisional_cache.proofs.rebasing.rebase_used.Goals as goal
 
