@@ -70,7 +70,12 @@ fn leads_on(nodes: &[Node<Goal, Outcome>], node: &Node<Goal, Outcome>) -> bool {
 
 /// Whether the replies are those of a run that comes to the node's result and rests on its edges.
 fn is_run(alloc: Global, rules: &Rules, node: &Node<Goal, Outcome>) -> Result<bool, Fail> {
-    let Some(tried) = tried_by(alloc, &rules.candidates(node.input), node.replies.as_slice())? else {
+    let Some(tried) = tried_by(
+        alloc,
+        &rules.candidates(node.input),
+        node.replies.as_slice(),
+    )?
+    else {
         return Ok(false);
     };
     let some_holds = tried.iter().any(|candidate| candidate.holds());
@@ -125,7 +130,11 @@ impl Replies<'_> {
     }
 
     /// The answers to a candidate's questions, if these replies come next: to its begin, its questions and its end.
-    fn answers_to(&mut self, alloc: Global, candidate: &Candidate<'_>) -> Result<Option<Tried>, Fail> {
+    fn answers_to(
+        &mut self,
+        alloc: Global,
+        candidate: &Candidate<'_>,
+    ) -> Result<Option<Tried>, Fail> {
         if self.next() != Some(Reply::Noted) {
             return Ok(None);
         }

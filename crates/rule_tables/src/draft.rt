@@ -98,13 +98,7 @@ impl Draft {
         ensures { IfOk result (IsMadeOf self) }
     {
         let (rows, starts) = groups::grouped(alloc, self.rules.as_slice(), self.names.count())?;
-        Ok(Rules::new(
-            self.names,
-            rows,
-            starts,
-            self.askings,
-            self.questions,
-        ))
+        Ok(Rules::new(self.names, rows, starts, self.askings, self.questions))
     }
 
     // The questions of one more rule.
