@@ -124,7 +124,8 @@ impl State {
         }
     }
 
-    // The open candidate's next question is asked, if there is one.
+    // The open candidate's next question is asked, if there is one. It is called in two places, and so not inlined unasked.
+    #[inline(always)]
     fn ask(&mut self, candidates: &Candidates<'_>)
         requires { self.old.next_ignored ≡ 0 }
         ensures { self.new ≡ asking candidates.now self.old }
