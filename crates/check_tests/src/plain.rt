@@ -171,7 +171,10 @@ fn tried_by(
         return Ok(None);
     }
     let mut tried = Vec::new(alloc);
-    while let Some(candidate) = candidates.get(tried.len()) {
+    for place in 0..candidates.count() {
+        let Some(candidate) = candidates.get(place) else {
+            return Ok(None);
+        };
         let Some(answered) = replies.answers_to(alloc, &candidate)? else {
             return Ok(None);
         };

@@ -141,8 +141,10 @@ fn write_refutation<W: Write>(
     }
     out.write_all(b"\n")?;
     let mut start = FIRST_ANSWER;
-    let mut place = 0;
-    while let Some(candidate) = candidates.get(place) {
+    for place in 0..candidates.count() {
+        let Some(candidate) = candidates.get(place) else {
+            break;
+        };
         let end = end_of(start, &candidate);
         write_indentation(out, level.saturating_add(1))?;
         out.write_all(b"rule ")?;
@@ -154,7 +156,6 @@ fn write_refutation<W: Write>(
             node.replies.get(start..end).unwrap_or(&[]),
         )?;
         start = next_start(end);
-        place += 1;
     }
     Ok(())
 }
