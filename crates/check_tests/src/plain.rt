@@ -4,7 +4,7 @@
 //! `graph_tests` never looks at replies: there the edges alone have to show the goal. Only the search for closed walks is
 //! alike, and neither check has a part of the other, on purpose.
 
-use rule_tables::{Candidate, Goal, Outcome, Rules};
+use rule_tables::{Candidate, Candidates, Goal, Outcome, Rules};
 use search_parts::context::{Edge, Node, Reply};
 use search_parts::path::PathKind;
 use std::alloc::Global;
@@ -70,7 +70,12 @@ fn leads_on(nodes: &[Node<Goal, Outcome>], node: &Node<Goal, Outcome>) -> bool {
 
 /// Whether the replies are those of a run that comes to the node's result and rests on its edges.
 fn is_run(alloc: Global, rules: &Rules, node: &Node<Goal, Outcome>) -> Result<bool, Fail> {
-    let Some(tried) = tried_by(alloc, rules.candidates(node.input), node.replies.as_slice())? else {
+    let Some(tried) = tried_by(
+        alloc,
+        &rules.candidates(node.input),
+        node.replies.as_slice(),
+    )?
+    else {
         return Ok(false);
     };
     let some_holds = tried.iter().any(|candidate| candidate.holds());
@@ -125,12 +130,16 @@ impl Replies<'_> {
     }
 
     /// The answers to a candidate's questions, if these replies come next: to its begin, its questions and its end.
-    fn answers_to(&mut self, alloc: Global, candidate: &Candidate) -> Result<Option<Tried>, Fail> {
+    fn answers_to(
+        &mut self,
+        alloc: Global,
+        candidate: &Candidate<'_>,
+    ) -> Result<Option<Tried>, Fail> {
         if self.next() != Some(Reply::Noted) {
             return Ok(None);
         }
         let mut answers = Vec::new(alloc);
-        for question in &candidate.questions {
+        for question in candidate.questions() {
             let Some(Reply::Answer(outcome)) = self.next() else {
                 return Ok(None);
             };
@@ -144,7 +153,7 @@ impl Replies<'_> {
             return Ok(None);
         }
         Ok(Some(Tried {
-            is_marked: candidate.is_marked,
+            is_marked: candidate.is_marked(),
             answers,
         }))
     }
@@ -154,7 +163,7 @@ impl Replies<'_> {
 /// to the begin, to each candidate, and to each one that is ignored.
 fn tried_by(
     alloc: Global,
-    candidates: &[Candidate],
+    candidates: &Candidates<'_>,
     replies: &[Reply<Outcome>],
 ) -> Result<Option<Vec<Tried>>, Fail> {
     let mut replies = Replies { left: replies };
@@ -162,8 +171,11 @@ fn tried_by(
         return Ok(None);
     }
     let mut tried = Vec::new(alloc);
-    for candidate in candidates {
-        let Some(answered) = replies.answers_to(alloc, candidate)? else {
+    for place in 0..candidates.count() {
+        let Some(candidate) = candidates.get(place) else {
+            return Ok(None);
+        };
+        let Some(answered) = replies.answers_to(alloc, &candidate)? else {
             return Ok(None);
         };
         tried.push(answered)?;

@@ -1,26 +1,25 @@
 -- Each step of a frame leaves fewer, and a fresh frame has no more than any goal's frame may have.
-use Rattle.std.proofs.Common.{◌≡◌, ℕ, ◌+◌, ◌<◌, ◌≤◌, List, [], ◌∷◌, length, drop, sum_by, Vec, Global, slice_get, get_or, Option, Some, None, refl, ap, sym, subst, ◌∙◌, arith}
-use Rattle.std.specs.Option.{option_map_or}
+use Rattle.std.proofs.Common.{◌≡◌, ℕ, ◌+◌, ◌<◌, ◌≤◌, List, [], ◌∷◌, length, drop, sum_by, slice_get, get_or, Some, ap, sym, subst, ◌∙◌, arith}
 use Rattle.std.proofs.lemmas.Option.{slice_get_within, get_or_from_slice_get}
-use Rattle.std.proofs.lemmas.List.Sums.{sum_by-drop_more, get_or-le-sum_by}
-use Rattle.rule_tables.specs.Words.{number_of}
+use Rattle.std.proofs.lemmas.List.Sums.{sum_by-drop_more}
+use Rattle.rule_tables.proofs.Steps.{sum_within}
 use Rattle.decision_tests.specs.Below.{Reply, Begin, Answer, Noted, Outcome, Yes, No, Maybe, Overflow, IsFitting, Goal, Candidate, Rules, candidates_of}
 use Rattle.decision_tests.specs.declared.early.State.{State}
 use Rattle.decision_tests.specs.Early.{fresh, moved, with_reply, script_of, state_after, questions_in, steps_left, steps_within}
 use Rattle.decision_tests.specs.EarlyLaws.{IsAnswerTo, is_answered, moves}
 
-rest_of : (cs : List Candidate) (i : ℕ) (c : Candidate) → slice_get cs i ≡ Some c → sum_by questions_in (drop i cs) ≡ length c.questions.items + sum_by questions_in (drop (i + 1) cs)
+rest_of : (cs : List Candidate) (i : ℕ) (c : Candidate) → slice_get cs i ≡ Some c → sum_by questions_in (drop i cs) ≡ length c.questions + sum_by questions_in (drop (i + 1) cs)
 rest_of cs i c e =
     let l = slice_get_within cs i c e in
     let at : get_or cs i c ≡ c = get_or_from_slice_get cs i c c e in
-    sum_by-drop_more questions_in cs i c l ∙ ap (λ d. length d.questions.items + sum_by questions_in (drop (i + 1) cs)) at
+    sum_by-drop_more questions_in cs i c l ∙ ap (λ d. length d.questions + sum_by questions_in (drop (i + 1) cs)) at
 
 module _ (cs : List Candidate) where
   moves_on : (s : State) (x : Reply Outcome) (at : IsAnswerTo cs s x) (r : Outcome) → steps_left cs (moved s r) < steps_left cs s
-  moves_on s x at Yes = let h = rest_of cs s.candidate at.candidate at.is_at in let l = slice_get_within at.candidate.questions.items s.question at.asking at.is_asking in omega (arith, h, l)
-  moves_on s x at No = let h = rest_of cs s.candidate at.candidate at.is_at in let l = slice_get_within at.candidate.questions.items s.question at.asking at.is_asking in omega (arith, h, l)
-  moves_on s x at Maybe = let h = rest_of cs s.candidate at.candidate at.is_at in let l = slice_get_within at.candidate.questions.items s.question at.asking at.is_asking in omega (arith, h, l)
-  moves_on s x at Overflow = let h = rest_of cs s.candidate at.candidate at.is_at in let l = slice_get_within at.candidate.questions.items s.question at.asking at.is_asking in omega (arith, h, l)
+  moves_on s x at Yes = let h = rest_of cs s.candidate at.candidate at.is_at in let l = slice_get_within at.candidate.questions s.question at.asking at.is_asking in omega (arith, h, l)
+  moves_on s x at No = let h = rest_of cs s.candidate at.candidate at.is_at in let l = slice_get_within at.candidate.questions s.question at.asking at.is_asking in omega (arith, h, l)
+  moves_on s x at Maybe = let h = rest_of cs s.candidate at.candidate at.is_at in let l = slice_get_within at.candidate.questions s.question at.asking at.is_asking in omega (arith, h, l)
+  moves_on s x at Overflow = let h = rest_of cs s.candidate at.candidate at.is_at in let l = slice_get_within at.candidate.questions s.question at.asking at.is_asking in omega (arith, h, l)
 
   falls : (replies : List (Reply Outcome)) (x : Reply Outcome) → IsFitting (script_of cs) (x ∷ replies) → steps_left cs (with_reply cs (state_after cs replies) x) < steps_left cs (state_after cs replies)
   falls [] Begin h = omega arith
@@ -36,15 +35,6 @@ pub falls_at : (cs xs ys : List Candidate) (s t : State) (replies : List (Reply 
     steps_left xs t < steps_left xs s
 falls_at cs xs ys s t replies x same other stood is h = rw (is, other, same, stood) (falls cs replies x h)
 
-within_found : (rules : Rules) (goal : Goal) (o : Option (Vec Candidate Global)) → slice_get rules.candidates.items (number_of goal) ≡ o →
-    1 + sum_by questions_in (option_map_or (λ all. all.items) o []) ≤ steps_within rules
-within_found rules goal None e = omega arith
-within_found rules goal (Some all) e =
-    let l = slice_get_within rules.candidates.items (number_of goal) all e in
-    let at : get_or rules.candidates.items (number_of goal) all ≡ all = get_or_from_slice_get rules.candidates.items (number_of goal) all all e in
-    let h = get_or-le-sum_by (λ v. sum_by questions_in v.items) rules.candidates.items (number_of goal) all l in
-    let k = rw at at h in omega arith
-
 -- no goal's frame has more
 pub fresh_within : (rules : Rules) (goal : Goal) → steps_left (candidates_of rules goal) fresh ≤ steps_within rules
-fresh_within rules goal = let h = within_found rules goal (slice_get rules.candidates.items (number_of goal)) refl in omega arith
+fresh_within rules goal = let h = sum_within questions_in rules goal in omega arith

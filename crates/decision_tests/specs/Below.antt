@@ -5,7 +5,7 @@ pub use Rattle.delegate_parts.specs.declared.outcome.Outcome.TheVariants.{Maybe,
 pub use Rattle.rule_tables.specs.Rules.{candidates_of, Proves, question_of, Refutes}
 pub use Rattle.rule_tables.specs.declared.delegate.Table.{Table}
 pub use Rattle.rule_tables.specs.declared.rules.Asking.{Asking}
-pub use Rattle.rule_tables.specs.declared.rules.Candidate.{Candidate}
+pub use Rattle.rule_tables.specs.Candidate.{Candidate}
 pub use Rattle.rule_tables.specs.declared.rules.Goal.{Goal}
 pub use Rattle.rule_tables.specs.declared.rules.Rules.{Rules}
 pub use Rattle.search_context.specs.Run.{Asked, EndsIn, Fits, is_counted, IsFitting, no_progress, Progress}

@@ -2,6 +2,7 @@
 -- and the goal at its first candidate that holds.
 use Rattle.std.specs.Prelude.{◌≡◌, ℕ, ◌+◌, ◌-◌, Bool, true, false, if◌then◌else◌, List, [], ◌∷◌, length, drop, sum_by, slice_get, Option, Some, None}
 use Rattle.decision_tests.specs.Below.{Request, Evaluate, Done, Reply, Begin, Answer, Noted, Outcome, Yes, No, Maybe, Overflow, Goal, Asking, Candidate, Rules, Table, candidates_of}
+use Rattle.rule_tables.specs.Candidate.{candidates_with}
 use Rattle.decision_tests.specs.declared.early.State.{State}
 use Rattle.decision_tests.specs.declared.early.EarlyFrame.{EarlyFrame}
 
@@ -22,7 +23,7 @@ moved_from s (Some a) r = moved s r
 
 abbrev pub moved_in : State → Option Candidate → Outcome → State
 moved_in s None r = s
-moved_in s (Some c) r = moved_from s (slice_get c.questions.items s.question) r
+moved_in s (Some c) r = moved_from s (slice_get c.questions s.question) r
 
 -- the state after an answer, if one was awaited
 abbrev pub with_answer : List Candidate → State → Outcome → State
@@ -42,7 +43,7 @@ request_in (Some a) = Evaluate a.kind a.goal
 -- without a candidate no one holds
 abbrev pub request_at : (each_fails : Bool) → Option Candidate → ℕ → Request Goal Outcome
 request_at each_fails None question = Done (if each_fails then No else Maybe)
-request_at each_fails (Some c) question = request_in (slice_get c.questions.items question)
+request_at each_fails (Some c) question = request_in (slice_get c.questions question)
 
 -- the request of a frame in this state
 abbrev pub request_of : List Candidate → State → Request Goal Outcome
@@ -58,7 +59,7 @@ abbrev pub script_of : List Candidate → List (Reply Outcome) → Request Goal 
 script_of cs replies = request_of cs (state_after cs replies)
 
 abbrev pub questions_in : Candidate → ℕ
-questions_in c = length c.questions.items
+questions_in c = length c.questions
 
 -- how many steps a frame has left at most
 abbrev pub steps_left : List Candidate → State → ℕ
@@ -66,7 +67,7 @@ steps_left cs s = (if s.begun then 0 else 1) + (sum_by questions_in (drop s.cand
 
 -- how many steps a frame of any goal has at most
 abbrev pub steps_within : Rules → ℕ
-steps_within rules = 1 + sum_by (λ all. sum_by questions_in all.items) rules.candidates.items
+steps_within rules = 1 + sum_by questions_in (candidates_with rules.askings.items rules.rows.items)
 
 -- `rules_of` gives the rules that a lender lends.
 abbrev pub early_script : {T : Type 0} → (T → Rules) → Table T → Goal → List (Reply Outcome) → Request Goal Outcome

@@ -14,7 +14,7 @@ pub record IsAnswerTo (cs : List Candidate) (s : State) (x : Reply Outcome) : Ty
   pub candidate : Candidate
   pub is_at : slice_get cs s.candidate ≡ Some candidate
   pub asking : Asking
-  pub is_asking : slice_get candidate.questions.items s.question ≡ Some asking
+  pub is_asking : slice_get candidate.questions s.question ≡ Some asking
   pub outcome : Outcome
   pub is_reply : x ≡ Answer outcome
 
@@ -23,7 +23,7 @@ none_to_done r Begin h = absurd h
 none_to_done r (Answer s) h = absurd h
 none_to_done r Noted h = absurd h
 
-answered_from : (cs : List Candidate) (s : State) (x : Reply Outcome) (c : Candidate) → slice_get cs s.candidate ≡ Some c → (o : Option Asking) → slice_get c.questions.items s.question ≡ o → Fits (Some (request_in o)) x → IsAnswerTo cs s x
+answered_from : (cs : List Candidate) (s : State) (x : Reply Outcome) (c : Candidate) → slice_get cs s.candidate ≡ Some c → (o : Option Asking) → slice_get c.questions s.question ≡ o → Fits (Some (request_in o)) x → IsAnswerTo cs s x
 answered_from cs s x c e None f h = none_to_done Yes x h
 answered_from cs s Begin c e (Some a) f h = absurd h
 answered_from cs s (Answer r) c e (Some a) f h = record { candidate = c; is_at = e; asking = a; is_asking = f; outcome = r; is_reply = refl }
@@ -31,7 +31,7 @@ answered_from cs s Noted c e (Some a) f h = absurd h
 
 answered_in : (cs : List Candidate) (s : State) (x : Reply Outcome) (o : Option Candidate) → slice_get cs s.candidate ≡ o → Fits (Some (request_at s.each_fails o s.question)) x → IsAnswerTo cs s x
 answered_in cs s x None e h = none_to_done (if s.each_fails then No else Maybe) x h
-answered_in cs s x (Some c) e h = answered_from cs s x c e (slice_get c.questions.items s.question) refl h
+answered_in cs s x (Some c) e h = answered_from cs s x c e (slice_get c.questions s.question) refl h
 
 -- a reply that fits answers a question
 pub is_answered : (cs : List Candidate) (s : State) (x : Reply Outcome) → Fits (Some (request_of cs s)) x → IsAnswerTo cs s x
@@ -52,13 +52,13 @@ answered a r = record { question = question_of a; answer = r; candidate = None }
 pub record HasSomeNo (asked : List (Asked Goal Outcome)) (c : Candidate) : Type 0 where
   pub at : ℕ
   pub asking : Asking
-  pub is_at : slice_get c.questions.items at ≡ Some asking
+  pub is_at : slice_get c.questions at ≡ Some asking
   pub is_asked : Contains asked (answered asking No)
 
 -- what is known of a frame in this state
 pub record KnowsAnswers (cs : List Candidate) (p : Progress Goal Outcome) (s : State) : Type 0 where
   pub closed : p.is_open ≡ false
-  pub yes_so_far : (c : Candidate) → slice_get cs s.candidate ≡ Some c → (j : ℕ) (a : Asking) → j < s.question → slice_get c.questions.items j ≡ Some a → Contains p.asked (answered a Yes)
+  pub yes_so_far : (c : Candidate) → slice_get cs s.candidate ≡ Some c → (j : ℕ) (a : Asking) → j < s.question → slice_get c.questions j ≡ Some a → Contains p.asked (answered a Yes)
   pub failing : s.each_fails ≡ true → (k : ℕ) (c : Candidate) → k < s.candidate → slice_get cs k ≡ Some c → HasSomeNo p.asked c
 
 -- one more question was answered
@@ -78,13 +78,13 @@ still_no p a r c n = record { at = n.at; asking = n.asking; is_at = n.is_at; is_
 same_at : {A : Type 0} (xs : List A) (i j : ℕ) (x y : A) → i ≡ j → slice_get xs i ≡ Some x → slice_get xs j ≡ Some y → x ≡ y
 same_at xs i j x y e h k = let g : slice_get xs i ≡ slice_get xs j = ap (slice_get xs) e in cc
 
-module _ (cs : List Candidate) (p : Progress Goal Outcome) (s : State) (c : Candidate) (is_at : slice_get cs s.candidate ≡ Some c) (a : Asking) (is_asking : slice_get c.questions.items s.question ≡ Some a) (old : KnowsAnswers cs p s) where
-  with_yes : (d : Candidate) → slice_get cs s.candidate ≡ Some d → (j : ℕ) (b : Asking) → j < s.question + 1 → slice_get d.questions.items j ≡ Some b → Contains (with_asked p a Yes).asked (answered b Yes)
+module _ (cs : List Candidate) (p : Progress Goal Outcome) (s : State) (c : Candidate) (is_at : slice_get cs s.candidate ≡ Some c) (a : Asking) (is_asking : slice_get c.questions s.question ≡ Some a) (old : KnowsAnswers cs p s) where
+  with_yes : (d : Candidate) → slice_get cs s.candidate ≡ Some d → (j : ℕ) (b : Asking) → j < s.question + 1 → slice_get d.questions j ≡ Some b → Contains (with_asked p a Yes).asked (answered b Yes)
   with_yes d e j b l f =
       elim (eqb_tells j s.question) [
         | inl w ↦
             let same : d ≡ c = same_at cs s.candidate s.candidate d c refl e is_at in
-            let is : b ≡ a = same_at c.questions.items j s.question b a w.1 (ap (λ z. slice_get z.questions.items j) (sym same) ∙ f) is_asking in
+            let is : b ≡ a = same_at c.questions j s.question b a w.1 (ap (λ z. slice_get z.questions j) (sym same) ∙ f) is_asking in
             subst (λ z. Contains (with_asked p a Yes).asked (answered z Yes)) (sym is) (asked_now p a Yes old.closed)
         | inr w ↦ let ne : j ≢ s.question = w.1 in still_asked p a Yes (answered b Yes) (old.yes_so_far d e j b (omega arith) f)
       ]
@@ -138,16 +138,16 @@ module _ (cs : List Candidate) where
 
   -- a frame that is done: its candidate holds, or none is left
   data IsEarlyEnd (s : State) (r : Outcome) : Type 0 where
-    Holds : r ≡ Yes → (c : Candidate) → slice_get cs s.candidate ≡ Some c → slice_get c.questions.items s.question ≡ None → IsEarlyEnd s r
+    Holds : r ≡ Yes → (c : Candidate) → slice_get cs s.candidate ≡ Some c → slice_get c.questions s.question ≡ None → IsEarlyEnd s r
     NoneLeft : r ≡ (if s.each_fails then No else Maybe) → slice_get cs s.candidate ≡ None → IsEarlyEnd s r
 
-  end_from : (s : State) (r : Outcome) (c : Candidate) → slice_get cs s.candidate ≡ Some c → (o : Option Asking) → slice_get c.questions.items s.question ≡ o → Some (request_in o) ≡ Some (Done r) → IsEarlyEnd s r
+  end_from : (s : State) (r : Outcome) (c : Candidate) → slice_get cs s.candidate ≡ Some c → (o : Option Asking) → slice_get c.questions s.question ≡ o → Some (request_in o) ≡ Some (Done r) → IsEarlyEnd s r
   end_from s r c e None f d = let same : r ≡ Yes = cc in Holds same c e f
   end_from s r c e (Some a) f d = absurd cc
 
   end_in : (s : State) (r : Outcome) (o : Option Candidate) → slice_get cs s.candidate ≡ o → Some (request_at s.each_fails o s.question) ≡ Some (Done r) → IsEarlyEnd s r
   end_in s r None e d = let same : r ≡ (if s.each_fails then No else Maybe) = cc in NoneLeft same e
-  end_in s r (Some c) e d = end_from s r c e (slice_get c.questions.items s.question) refl d
+  end_in s r (Some c) e d = end_from s r c e (slice_get c.questions s.question) refl d
 
   end_of : (replies : List (Reply Outcome)) (r : Outcome) → request_after (script_of cs) replies ≡ Some (Done r) → IsEarlyEnd (state_after cs replies) r
   end_of [] r d = absurd cc
@@ -170,10 +170,10 @@ module _ (rules : Rules) (goal : Goal) where
     candidate = c;
     is_candidate = Contains-from_slice_get own s.candidate c is_at;
     within = λ q has.
-        let a = Contains-map question_of c.questions.items q has in
-        let at = slice_get-from_Contains c.questions.items a.0 a.1 in
+        let a = Contains-map question_of c.questions q has in
+        let at = slice_get-from_Contains c.questions a.0 a.1 in
         subst (Contains (questions_answered is_yes p)) a.2
-        (counts own is_yes p a.0 Yes refl (t.yes_so_far c is_at a.1.0 a.0 (before_end c.questions.items a.1.0 s.question none a.1.1) at));
+        (counts own is_yes p a.0 Yes refl (t.yes_so_far c is_at a.1.0 a.0 (before_end c.questions a.1.0 s.question none a.1.1) at));
   }
   proved_at p s r t (NoneLeft e none) is = no_yes own s.each_fails (ap is_yes (sym e) ∙ is)
 
@@ -182,7 +182,7 @@ module _ (rules : Rules) (goal : Goal) where
   refuted_at p s r t (NoneLeft e none) is = λ c has.
       let at = slice_get-from_Contains own c has in
       let n = t.failing (each own s.each_fails (ap is_no (sym e) ∙ is)) has.0 c (before_end own has.0 s.candidate none has.1) at in
-      (question_of n.asking, Contains-mapped question_of c.questions.items n.asking (Contains-from_slice_get c.questions.items n.at n.asking n.is_at), counts own is_no p n.asking No refl n.is_asked)
+      (question_of n.asking, Contains-mapped question_of c.questions n.asking (Contains-from_slice_get c.questions n.at n.asking n.is_at), counts own is_no p n.asking No refl n.is_asked)
 
   -- a result of yes rests on the questions that were answered yes
   pub yes_is_proved : (replies : List (Reply Outcome)) (r : Outcome) → EndsIn (script_of own) replies r → is_yes r ≡ true → Proves rules goal (questions_answered is_yes (progress_after (script_of own) replies))

@@ -5,7 +5,7 @@ ghost use Rattle.decision_tests.specs.Early.{fresh, request_of, with_answer, wit
 
 use delegate_parts::{DelegateOf, Frames, Outcome};
 use rule_tables::delegate::{LendsRules, Table};
-use rule_tables::{Candidate, Goal};
+use rule_tables::{Candidates, Goal};
 use search_context::context::{NoMemory, Reply, Request};
 use std::marker::PhantomData;
 
@@ -36,7 +36,7 @@ impl State {
     }
 
     /// The state after one more reply.
-    fn after(self, candidates: &[Candidate], reply: Reply<Outcome>) -> State
+    fn after(self, candidates: &Candidates<'_>, reply: Reply<Outcome>) -> State
         ensures { result ≡ with_reply candidates.now self reply }
     {
         match reply {
@@ -50,12 +50,12 @@ impl State {
     }
 
     // A yes leads to the candidate's next question, and another answer to the next candidate.
-    fn with_answer(self, candidates: &[Candidate], outcome: Outcome) -> State
+    fn with_answer(self, candidates: &Candidates<'_>, outcome: Outcome) -> State
         ensures { result ≡ with_answer candidates.now self outcome }
     {
         match candidates.get(self.candidate) {
             None => self,
-            Some(candidate) => match candidate.questions.get(self.question) {
+            Some(candidate) => match candidate.question(self.question) {
                 None => self,
                 Some(_) => match outcome {
                     Outcome::Yes => State {
@@ -79,13 +79,13 @@ impl State {
     }
 
     /// The request of a frame in this state.
-    fn request(self, candidates: &[Candidate]) -> Request<Goal, Outcome>
+    fn request(self, candidates: &Candidates<'_>) -> Request<Goal, Outcome>
         ensures { result ≡ request_of candidates.now self }
     {
         match candidates.get(self.candidate) {
             None if self.each_fails => Request::Done(Outcome::No),
             None => Request::Done(Outcome::Maybe),
-            Some(candidate) => match candidate.questions.get(self.question) {
+            Some(candidate) => match candidate.question(self.question) {
                 None => Request::Done(Outcome::Yes),
                 Some(asking) => Request::Evaluate(asking.kind, asking.goal),
             },
@@ -152,7 +152,7 @@ impl<T: LendsRules> Frames for Early<T> {
         reply: Reply<Outcome>,
     ) -> Result<Request<Goal, Outcome>, NoMemory> {
         let candidates = frame.lender.rules().candidates(frame.goal);
-        frame.state = frame.state.after(candidates, reply);
-        Ok(frame.state.request(candidates))
+        frame.state = frame.state.after(&candidates, reply);
+        Ok(frame.state.request(&candidates))
     }
 }

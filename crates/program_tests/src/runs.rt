@@ -430,8 +430,9 @@ fn reads_a_table(rt: HostRuntime) -> Result<(), Fail> {
     );
     let candidates = rules.candidates(rules.goal(b"A").ok_or("no goal")?);
     let mut marks = Vec::new(rt.alloc());
-    for candidate in candidates {
-        marks.push((candidate.is_marked, candidate.questions.len()))?;
+    for place in 0..candidates.count() {
+        let candidate = candidates.get(place).ok_or("no candidate")?;
+        marks.push((candidate.is_marked(), candidate.questions().len()))?;
     }
     assert_eq!(rt; marks.as_slice(), [(false, 2), (true, 0)].as_slice());
     Ok(())

@@ -1,9 +1,9 @@
 pub mod Steps
 pub mod Marked
-pub mod Few
 pub mod Digits
 pub mod Questions
 pub mod TableLemmas
 pub mod Adding
 pub mod Lines
 pub mod Stops
+pub mod Groups

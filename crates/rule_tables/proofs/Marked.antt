@@ -1,6 +1,8 @@
 -- The first marked candidate from a place on.
-use Rattle.std.proofs.Common.{ℕ, ◌≡◌, ◌+◌, ◌≤◌, ◌<◌, nat_le, zero, suc, false, refl, sym, subst, ap, ◌∙◌, arith, List, [], ◌∷◌, length, drop, None}
-use Rattle.std.proofs.lemmas.List.{drop_all}
+use Rattle.std.proofs.Common.{ℕ, ◌≡◌, ◌+◌, ◌≤◌, nat_le, zero, suc, Bool, true, false, cond, ◌&&◌, refl, subst, ap, ◌∙◌, arith, List, [], ◌∷◌, length, drop, Some, None}
+use Rattle.std.specs.Prelude.{slice_get}
+use Rattle.std.proofs.lemmas.List.{drop_all, drop_more}
+use Rattle.std.proofs.lemmas.Option.{get_or_from_slice_get, slice_get_within}
 use Rattle.std.proofs.lemmas.Bool.Decides.{nat_tests}
 use Rattle.rule_tables.specs.Words.{Candidate, marked_from}
 
@@ -15,7 +17,28 @@ dropped (suc n) at (c ∷ cs) from le =
 pub marked_from-drop : (cs : List Candidate) (from : ℕ) → marked_from from (drop from cs) from ≡ marked_from 0 cs from
 marked_from-drop cs from = ap (λ m. marked_from m (drop from cs) from) (omega arith) ∙ dropped from 0 cs from (omega arith)
 
--- past the end there is none
-pub marked_from-past : (cs : List Candidate) (from : ℕ) → length cs < from → marked_from 0 cs from ≡ None
-marked_from-past cs from past =
-    sym (marked_from-drop cs from) ∙ ap (λ rest. marked_from from rest from) (drop_all from cs (omega (arith, past)))
+none_past : {A : Type 0} (xs : List A) (n : ℕ) → slice_get xs n ≡ None → length xs ≤ n
+none_past [] n e = omega arith
+none_past (x ∷ xs) zero e = absurd cc
+none_past (x ∷ xs) (suc n) e = let h = none_past xs n e in omega arith
+
+drop_here : (cs : List Candidate) (place : ℕ) (c : Candidate) → slice_get cs place ≡ Some c → drop place cs ≡ c ∷ drop (place + 1) cs
+drop_here cs place c e = drop_more cs place c (slice_get_within cs place c e) ∙ ap (λ x. x ∷ drop (place + 1) cs) (get_or_from_slice_get cs place c c e)
+
+next_by : (b : Bool) (place : ℕ) (c : Candidate) (rest : List Candidate) (from : ℕ) → c.is_marked ≡ false → cond (b && c.is_marked) (Some place) (marked_from (place + 1) rest from) ≡ marked_from (place + 1) rest from
+next_by true place c rest from e = rw e refl
+next_by false place c rest from e = refl
+
+-- none is marked from a place on that is behind the last one
+pub marked_from-end : (cs : List Candidate) (place from : ℕ) → slice_get cs place ≡ None → marked_from place (drop place cs) from ≡ None
+marked_from-end cs place from e = ap (λ rest. marked_from place rest from) (drop_all place cs (none_past cs place e))
+
+-- the candidate at a place that is looked at
+pub marked_from-here : (cs : List Candidate) (place from : ℕ) (c : Candidate) → from ≤ place → slice_get cs place ≡ Some c → c.is_marked ≡ true → marked_from place (drop place cs) from ≡ Some place
+marked_from-here cs place from c le e marked =
+    let at : nat_le from place ≡ true = grind (arith, nat_tests, le) in
+    ap (λ rest. marked_from place rest from) (drop_here cs place c e) ∙ rw (at, marked) refl
+
+pub marked_from-next : (cs : List Candidate) (place from : ℕ) (c : Candidate) → slice_get cs place ≡ Some c → c.is_marked ≡ false → marked_from place (drop place cs) from ≡ marked_from (place + 1) (drop (place + 1) cs) from
+marked_from-next cs place from c e unmarked =
+    ap (λ rest. marked_from place rest from) (drop_here cs place c e) ∙ next_by (nat_le from place) place c (drop (place + 1) cs) from unmarked

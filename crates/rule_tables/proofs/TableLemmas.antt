@@ -1,39 +1,28 @@
 -- A table that grows, statement by statement.
-use Rattle.std.proofs.Common.{◌≡◌, ◌≢◌, ℕ, zero, suc, ◌+◌, ◌<◌, Bool, true, false, cond, ◌||◌, ◌≤◌, List, [], ◌∷◌, ◌++◌, length, map, take, get_or, Option, Some, None, Vec, refl, ap, sym, ◌∙◌, subst, arith, inl, inr}
-use Rattle.std.specs.declared.alloc.Global.{Global}
-use Rattle.std.specs.Prelude.{slice_get, slice_set, fold}
+use Rattle.std.proofs.Common.{◌≡◌, ℕ, zero, suc, ◌+◌, ◌-◌, ◌<◌, Bool, true, false, cond, ◌||◌, ◌≤◌, List, [], ◌∷◌, ◌++◌, length, map, take, drop, get_or, Option, Some, None, refl, ap, ap₂, sym, ◌∙◌, subst, arith, append_assoc, inl, inr, Result, Ok, Err, OnOk, OnErr}
+use Rattle.std.specs.Prelude.{slice_get, fold, All}
 use Rattle.std.specs.List.{list_any, AllZip, filter_map, flat_map}
-use Rattle.std.specs.Option.{option_map_or}
 use Rattle.std.specs.Str.{bytes_eq}
-use Rattle.std.proofs.lemmas.Option.{slice_get_past, slice_get_within}
-use Rattle.std.proofs.lemmas.List.{length-append, take_more, map-append}
+use Rattle.std.proofs.lemmas.List.{append-nil, drop-append-le, length-append, length-drop, take-append-le, take_more, map-append}
+use Rattle.std.proofs.lemmas.List.Elements.{All-head, All-tail}
 use Rattle.std.proofs.lemmas.List.Sums.{fold-append}
 use Rattle.std.proofs.lemmas.List.Folds.{list_any-append}
 use Rattle.std.proofs.lemmas.Bool.{cases_Bool}
+use Rattle.std.proofs.lemmas.Bool.Decides.{eqb_tells}
 use Rattle.std.proofs.lemmas.Slice.Eq.{bytes_eq-Decides}
 use Rattle.rule_tables.specs.declared.reading.question.Question.{Question}
-use Rattle.rule_tables.specs.Words.{Goal, Asking, Candidate, Rules, NamedQuestion, Statement, Nothing, Rule, Ask, with_name, named, number_of, names_of, name_of, candidates_of, questions_of, names_in, first_mentions, NamedCandidate, candidate_in, question_in, IsAsked, AreAsked, IsCandidate, IsToBeAnswered, IsTableOf, Mentions}
+use Rattle.rule_tables.specs.Candidate.{candidate_with}
+use Rattle.rule_tables.specs.Draft.{candidates_of, name_of, names_of, questions_of}
+use Rattle.rule_tables.specs.Words.{Goal, Asking, Candidate, Row, Draft, DraftRule, EndsWithin, IsKnown, is_of, rules_of, HasAsked, NamedQuestion, Statement, Nothing, Rule, Ask, with_name, named, number_of, names_in, first_mentions, NamedCandidate, candidate_in, question_in, IsAsked, AreAsked, IsCandidate, IsToBeAnswered, IsDraftOf, Mentions}
 use Rattle.rule_tables.proofs.Questions.{AllZip-append_one}
-use Rattle.line_texts.proofs.NameLemmas.{is_among, has_place, at_end, some_same, place_in_longer, slice_get-append_left}
+use Rattle.line_texts.proofs.NameLemmas.{is_among, has_place, some_same, place_in_longer, slice_get-append_left, at_end}
 
--- a name whose number is not the next one was there
-same_by : (names : List (List ℕ)) (name : List ℕ) (n : ℕ) (b : Bool) → list_any (bytes_eq name) names ≡ b → slice_get (cond b names (names ++ name ∷ [])) n ≡ Some name → n ≢ length names →
-    cond b names (names ++ name ∷ []) ≡ names
-same_by names name n true e at other = refl
-same_by names name n false e at other = elim (place_in_longer names name n name at) [
-  | inl w ↦ absurd (let f = is_among names name n w in cc)
-  | inr w ↦ absurd (other w.0)
-]
+-- no name is lost, and one more is there at most
+length_by : (names : List (List ℕ)) (name : List ℕ) (b : Bool) → (length names ≤ length (cond b names (names ++ name ∷ []))) × (length (cond b names (names ++ name ∷ [])) ≤ length names + 1)
+length_by names name true = (omega arith, omega arith)
+length_by names name false = (omega (arith, length-append names (name ∷ [])), omega (arith, length-append names (name ∷ [])))
 
-pub same_names : (names : List (List ℕ)) (name : List ℕ) (n : ℕ) → slice_get (with_name names name) n ≡ Some name → n ≢ length names → with_name names name ≡ names
-same_names names name n at other = same_by names name n (list_any (bytes_eq name) names) refl at other
-
--- one name more at most
-length_by : (names : List (List ℕ)) (name : List ℕ) (b : Bool) → length (cond b names (names ++ name ∷ [])) ≤ length names + 1
-length_by names name true = omega arith
-length_by names name false = omega (arith, length-append names (name ∷ []))
-
-pub with_name-length : (names : List (List ℕ)) (name : List ℕ) → length (with_name names name) ≤ length names + 1
+pub with_name-length : (names : List (List ℕ)) (name : List ℕ) → (length names ≤ length (with_name names name)) × (length (with_name names name) ≤ length names + 1)
 with_name-length names name = length_by names name (list_any (bytes_eq name) names)
 
 AllZip-weaken : {A B : Type 0} {R S : A → B → Type 0} → ((x : A) (y : B) → R x y → S x y) → (xs : List A) (ys : List B) → AllZip R xs ys → AllZip S xs ys
@@ -42,30 +31,14 @@ AllZip-weaken f [] (y ∷ ys) h = absurd h
 AllZip-weaken f (x ∷ xs) [] h = absurd h
 AllZip-weaken f (x ∷ xs) (y ∷ ys) h = (f x y h.0, AllZip-weaken f xs ys h.1)
 
--- one more goal without rules changes no goal's candidates
-pub candidates_pushed : {A : Type 0} (all : List (Vec A Global)) (new : Vec A Global) (n : ℕ) → new.items ≡ [] →
-    option_map_or (λ v. v.items) (slice_get (all ++ new ∷ []) n) [] ≡ option_map_or (λ v. v.items) (slice_get all n) []
-candidates_pushed [] new zero e = e
-candidates_pushed [] new (suc n) e = refl
-candidates_pushed (v ∷ all) new zero e = refl
-candidates_pushed (v ∷ all) new (suc n) e = candidates_pushed all new n e
+-- as a name is added, or the set of names is left as it is
+pub names_grown : {E : Type 0} (result : Result ℕ E) (old new : List (List ℕ)) (name : List ℕ) → OnOk result (new ≡ with_name old name) → OnErr result (new ≡ old) → (length old ≤ length new) × (length new ≤ length old + 1)
+names_grown (Ok n) old new name ok err = let e = ap length ok in let w = with_name-length old name in (omega (arith, w.0), omega (arith, w.1))
+names_grown (Err x) old new name ok err = let e = ap length err in (omega arith, omega arith)
 
--- one more candidate of a goal
-pub candidates_at : {A : Type 0} (all : List (Vec A Global)) (n m : ℕ) (old new : Vec A Global) (x : A) → m ≡ n → n < length all → old ≡ get_or all n old → new.items ≡ old.items ++ x ∷ [] →
-    option_map_or (λ v. v.items) (slice_get (slice_set all n new) m) [] ≡ option_map_or (λ v. v.items) (slice_get all m) [] ++ x ∷ []
-candidates_at [] n m old new x same l at pushed = absurd (omega arith)
-candidates_at (v ∷ all) zero zero old new x same l at pushed = pushed ∙ ap (λ w. w.items ++ x ∷ []) at
-candidates_at (v ∷ all) zero (suc m) old new x same l at pushed = absurd (omega arith)
-candidates_at (v ∷ all) (suc n) zero old new x same l at pushed = absurd (omega arith)
-candidates_at (v ∷ all) (suc n) (suc m) old new x same l at pushed = candidates_at all n m old new x (omega arith) (omega arith) at pushed
-
--- the candidates of another goal
-pub candidates_off : {A : Type 0} (all : List (Vec A Global)) (n m : ℕ) (new : Vec A Global) → m ≢ n → slice_get (slice_set all n new) m ≡ slice_get all m
-candidates_off [] n m new apart = refl
-candidates_off (v ∷ all) zero zero new apart = absurd (apart refl)
-candidates_off (v ∷ all) zero (suc m) new apart = refl
-candidates_off (v ∷ all) (suc n) zero new apart = refl
-candidates_off (v ∷ all) (suc n) (suc m) new apart = candidates_off all n m new (λ e. apart (ap suc e))
+-- the rules are among the goals where there are more of them
+pub known_more : (rules : List DraftRule) (count more : ℕ) → count ≤ more → All (IsKnown count) rules → All (IsKnown more) rules
+known_more rules count more le h = λ k d l. let known = h k d l in omega arith
 
 -- Names stay where they are
 
@@ -85,7 +58,7 @@ module _ (old new : List (List ℕ)) (kept : NamesKept old new) where
   asked_kept = AllZip-weaken (λ a q h. record { kind = h.kind; goal = kept (number_of a.goal) q.name h.goal })
 
   candidates_kept : (cs : List Candidate) (ws : List NamedCandidate) → AllZip (IsCandidate old) cs ws → AllZip (IsCandidate new) cs ws
-  candidates_kept = AllZip-weaken (λ c w h. record { is_marked = h.is_marked; questions = asked_kept c.questions.items w.questions h.questions })
+  candidates_kept = AllZip-weaken (λ c w h. record { is_marked = h.is_marked; questions = asked_kept c.questions w.questions h.questions })
 
   questions_kept : (qs : List (ℕ × Goal)) (ws : List (ℕ × List ℕ)) → AllZip (IsToBeAnswered old) qs ws → AllZip (IsToBeAnswered new) qs ws
   questions_kept = AllZip-weaken (λ q w h. record { depth = h.depth; goal = kept (number_of q.1) w.1 h.goal })
@@ -137,10 +110,10 @@ mentioned (x ∷ more) names name (suc n) e = mentioned more (with_name names x)
 
 -- Several names in turn
 
-pub mentions_none : (rules : Rules) → Mentions rules rules []
+pub mentions_none : (rules : Draft) → Mentions rules rules []
 mentions_none rules = record { names = refl; candidates = λ goal. refl; questions = refl }
 
-pub mentions_more : (old mid new : Rules) (some more : List (List ℕ)) → Mentions old mid some → Mentions mid new more → Mentions old new (some ++ more)
+pub mentions_more : (old mid new : Draft) (some more : List (List ℕ)) → Mentions old mid some → Mentions mid new more → Mentions old new (some ++ more)
 mentions_more old mid new some more h g = record {
   names = g.names ∙ ap (λ names. fold with_name names more) h.names ∙ sym (fold-append with_name (names_of old) some more);
   candidates = λ goal. g.candidates goal ∙ h.candidates goal;
@@ -148,29 +121,57 @@ mentions_more old mid new some more h g = record {
 }
 
 -- a goal keeps its name
-pub name_kept : (old new : Rules) (more : List (List ℕ)) (goal : Goal) (x : List ℕ) → Mentions old new more → name_of old goal ≡ Some x → name_of new goal ≡ Some x
+pub name_kept : (old new : Draft) (more : List (List ℕ)) (goal : Goal) (x : List ℕ) → Mentions old new more → name_of old goal ≡ Some x → name_of new goal ≡ Some x
 name_kept old new more goal x h e = subst (λ names. slice_get names (number_of goal) ≡ Some x) (sym h.names) (names_kept more (names_of old) (number_of goal) x e)
 
--- a goal with a name has a list of candidates
-pub goal_within : (rules : Rules) (goal : Goal) (x : List ℕ) → name_of rules goal ≡ Some x → number_of goal < length rules.candidates.items
-goal_within rules goal x e = let l = slice_get_within (names_of rules) (number_of goal) x e in omega (arith, rules.complete)
+-- Askings are only added
 
--- the questions so far have their goals
-pub record AreAskedTo (old new : Rules) (askings : List Asking) (questions : List Question) : Type 0 where
-  pub mentions : Mentions old new (map (λ q. q.name.now) questions)
-  pub asked : AreAsked (names_of new) askings (map named questions)
+asked_before : (askings more : List Asking) (row : Row) → row.first + row.count ≤ length askings → candidate_with (askings ++ more) row ≡ candidate_with askings row
+asked_before askings more row l =
+    let shorter : length (drop row.first askings) ≡ length askings - row.first = length-drop row.first askings in
+    ap (λ qs. record { is_marked = row.is_marked; questions = qs })
+    (ap (take row.count) (drop-append-le row.first askings more (omega arith)) ∙ take-append-le row.count (drop row.first askings) more (omega (arith, shorter)))
 
--- one more has its goal
-pub asked_more : (old mid new : Rules) (askings all : List Asking) (asking : Asking) (questions : List Question) (i : ℕ) (d : Question) → i < length questions →
-    AreAskedTo old mid askings (take i questions) → Mentions mid new ((get_or questions i d).name.now ∷ []) → IsAsked (names_of new) asking (named (get_or questions i d)) →
-    all ≡ askings ++ asking ∷ [] → AreAskedTo old new all (take (i + 1) questions)
-asked_more old mid new askings all asking questions i d l so_far more asked pushed =
+-- more askings change no candidate
+asked_both : (askings more : List Asking) (rule : DraftRule) (rules : List DraftRule) (b : Bool) → rule.row.first + rule.row.count ≤ length askings →
+    map (λ r. candidate_with (askings ++ more) r.row) rules ≡ map (λ r. candidate_with askings r.row) rules →
+    map (λ r. candidate_with (askings ++ more) r.row) (cond b (rule ∷ rules) rules) ≡ map (λ r. candidate_with askings r.row) (cond b (rule ∷ rules) rules)
+asked_both askings more rule rules true l e = ap₂ (λ c cs. c ∷ cs) (asked_before askings more rule.row l) e
+asked_both askings more rule rules false l e = e
+
+pub candidates_asked : (askings more : List Asking) (n : ℕ) (rules : List DraftRule) → All (EndsWithin (length askings)) rules →
+    map (λ r. candidate_with (askings ++ more) r.row) (rules_of n rules) ≡ map (λ r. candidate_with askings r.row) (rules_of n rules)
+candidates_asked askings more n [] h = refl
+candidates_asked askings more n (rule ∷ rules) h =
+    asked_both askings more rule (rules_of n rules) (is_of n rule) (All-head (EndsWithin (length askings)) rule rules h) (candidates_asked askings more n rules (All-tail (EndsWithin (length askings)) rule rules h))
+
+-- a draft with one more asking has the same names, candidates and questions
+pub mentions_asked : (mid new : Draft) (asking : Asking) → new.names ≡ mid.names → new.rules ≡ mid.rules → new.questions ≡ mid.questions → new.askings.items ≡ mid.askings.items ++ asking ∷ [] → Mentions mid new []
+mentions_asked mid new asking names rules questions pushed = record {
+  names = names;
+  candidates = λ goal. ap₂ (λ askings all. map (λ r. candidate_with askings r.row) (rules_of (number_of goal) all.items)) pushed rules ∙ candidates_asked mid.askings.items (asking ∷ []) (number_of goal) mid.rules.items mid.within;
+  questions = ap (λ all. all.items) questions;
+}
+
+-- no question so far
+pub asked_none : (draft : Draft) → HasAsked draft draft []
+asked_none draft = record { mentions = mentions_none draft; more = []; askings = sym (append-nil draft.askings.items); asked = tt }
+
+-- one question more
+pub asked_more : (old mid named_in new : Draft) (asking : Asking) (questions : List Question) (i : ℕ) (d : Question) → i < length questions →
+    HasAsked old mid (take i questions) → Mentions mid named_in ((get_or questions i d).name.now ∷ []) → named_in.askings ≡ mid.askings → Mentions named_in new [] → new.names ≡ named_in.names →
+    IsAsked (names_of named_in) asking (named (get_or questions i d)) →
+    new.askings.items ≡ named_in.askings.items ++ asking ∷ [] → HasAsked old new (take (i + 1) questions)
+asked_more old mid named_in new asking questions i d l so_far more same unchanged names asked pushed =
     let longer = take_more questions i d l in
-    let kept : NamesKept (names_of mid) (names_of new) = subst (NamesKept (names_of mid)) (sym more.names) (names_kept ((get_or questions i d).name.now ∷ []) (names_of mid)) in
+    let kept : NamesKept (names_of mid) (names_of named_in) = subst (NamesKept (names_of mid)) (sym more.names) (names_kept ((get_or questions i d).name.now ∷ []) (names_of mid)) in
+    let all : AreAsked (names_of named_in) (so_far.more ++ asking ∷ []) (map named (take i questions) ++ named (get_or questions i d) ∷ []) =
+    AllZip-append_one (IsAsked (names_of named_in)) so_far.more (map named (take i questions)) asking (named (get_or questions i d)) (asked_kept (names_of mid) (names_of named_in) kept _ _ so_far.asked) asked in
     record {
-      mentions = rw (longer, map-append) (mentions_more old mid new _ _ so_far.mentions more);
-      asked = rw (longer, map-append, pushed)
-          (AllZip-append_one (IsAsked (names_of new)) askings (map named (take i questions)) asking (named (get_or questions i d)) (asked_kept (names_of mid) (names_of new) kept _ _ so_far.asked) asked);
+      mentions = rw (longer, map-append) (mentions_more old mid new _ _ so_far.mentions (mentions_more mid named_in new _ _ more unchanged));
+      more = so_far.more ++ asking ∷ [];
+      askings = pushed ∙ ap (λ all. all.items ++ asking ∷ []) same ∙ ap (λ askings. askings ++ asking ∷ []) so_far.askings ∙ append_assoc old.askings.items so_far.more (asking ∷ []);
+      asked = rw (longer, map-append, names) all;
     }
 
 -- A name that no statement mentions has no rules
@@ -201,7 +202,7 @@ no_rules (Ask depth asked ∷ ss) name h = no_rules ss name (or_false _ _ (sym (
 -- A table whose names grew
 
 -- the statements make the table, but for names that are to be mentioned next
-pub record IsGrown (ss : List Statement) (more : List (List ℕ)) (rules : Rules) : Type 0 where
+pub record IsGrown (ss : List Statement) (more : List (List ℕ)) (rules : Draft) : Type 0 where
   pub names : names_of rules ≡ first_mentions (flat_map names_in ss ++ more)
   pub distinct : AreDistinct (names_of rules)
   pub candidates : (goal : Goal) (name : List ℕ) → name_of rules goal ≡ Some name → AllZip (IsCandidate (names_of rules)) (candidates_of rules goal) (filter_map (candidate_in name) ss)
@@ -212,11 +213,24 @@ none_past [] n e = omega arith
 none_past (x ∷ xs) zero e = absurd cc
 none_past (x ∷ xs) (suc n) e = let h = none_past xs n e in omega arith
 
--- a goal that the table doesn't know has no candidates
-unknown : (rules : Rules) (goal : Goal) → name_of rules goal ≡ None → candidates_of rules goal ≡ []
+-- a goal that is not among those of the rules has none
+none_both : (rule : DraftRule) (rules : List DraftRule) (n : ℕ) → number_of rule.goal < n → rules ≡ [] → cond (is_of n rule) (rule ∷ rules) rules ≡ []
+none_both rule rules n l e = elim (eqb_tells (number_of rule.goal) n) [
+  | inl w ↦ absurd (let same = w.1 in omega arith)
+  | inr w ↦ rw w.0 e
+]
+
+rules_none : (count n : ℕ) (rules : List DraftRule) → count ≤ n → All (IsKnown count) rules → rules_of n rules ≡ []
+rules_none count n [] l h = refl
+rules_none count n (rule ∷ rules) l h =
+    let known = All-head (IsKnown count) rule rules h in
+    none_both rule (rules_of n rules) n (omega arith) (rules_none count n rules l (All-tail (IsKnown count) rule rules h))
+
+-- a goal that the draft doesn't know has no candidates
+unknown : (rules : Draft) (goal : Goal) → name_of rules goal ≡ None → candidates_of rules goal ≡ []
 unknown rules goal e =
     let l = none_past (names_of rules) (number_of goal) e in
-    ap (λ o. option_map_or (λ v. v.items) o []) (slice_get_past rules.candidates.items (number_of goal) (omega (arith, rules.complete)))
+    ap (map (λ r. candidate_with rules.askings.items r.row)) (rules_none (length (names_of rules)) (number_of goal) rules.rules.items l rules.known)
 
 not_known : (old new : List (List ℕ)) (n : ℕ) (name : List ℕ) → NamesKept old new → AreDistinct new → slice_get old n ≡ None → slice_get new n ≡ Some name → is_in name old ≡ false
 not_known old new n name kept distinct none e = elim (cases_Bool (is_in name old)) [
@@ -224,7 +238,7 @@ not_known old new n name kept distinct none e = elim (cases_Bool (is_in name old
   | inr w ↦ w
 ]
 
-grown_candidates : (ss : List Statement) (old mid : Rules) (goal : Goal) (name : List ℕ) (o : Option (List ℕ)) → IsTableOf ss old → NamesKept (names_of old) (names_of mid) → AreDistinct (names_of mid) →
+grown_candidates : (ss : List Statement) (old mid : Draft) (goal : Goal) (name : List ℕ) (o : Option (List ℕ)) → IsDraftOf ss old → NamesKept (names_of old) (names_of mid) → AreDistinct (names_of mid) →
     candidates_of mid goal ≡ candidates_of old goal → name_of old goal ≡ o → name_of mid goal ≡ Some name → AllZip (IsCandidate (names_of mid)) (candidates_of mid goal) (filter_map (candidate_in name) ss)
 grown_candidates ss old mid goal name (Some x) table kept distinct same was e =
     let is : x ≡ name = some_same x name (sym (kept (number_of goal) x was) ∙ e) in
@@ -234,7 +248,7 @@ grown_candidates ss old mid goal name None table kept distinct same was e =
     let none = no_rules ss name (unmentioned (flat_map names_in ss) name (subst (λ ns. is_in name ns ≡ false) table.names (not_known (names_of old) (names_of mid) (number_of goal) name kept distinct was e))) in
     rw (same ∙ unknown old goal was, none) tt
 
-pub grown : (ss : List Statement) (old mid : Rules) (more : List (List ℕ)) → IsTableOf ss old → Mentions old mid more → IsGrown ss more mid
+pub grown : (ss : List Statement) (old mid : Draft) (more : List (List ℕ)) → IsDraftOf ss old → Mentions old mid more → IsGrown ss more mid
 grown ss old mid more table mentions =
     let kept : NamesKept (names_of old) (names_of mid) = subst (NamesKept (names_of old)) (sym mentions.names) (names_kept more (names_of old)) in
     let names : names_of mid ≡ first_mentions (flat_map names_in ss ++ more) =

@@ -5,7 +5,7 @@ use Rattle.std.specs.Option.{unwrap_or}
 use Rattle.rule_tables.specs.Below.{Request, Evaluate, EnterCandidate, FinishCandidate, Ignore, Done, Reply, Begin, Answer, Noted, Outcome, Yes, No, Maybe, is_yes, is_no}
 use Rattle.rule_tables.specs.declared.rules.Goal.{Goal}
 use Rattle.rule_tables.specs.declared.rules.Asking.{Asking}
-use Rattle.rule_tables.specs.declared.rules.Candidate.{Candidate}
+use Rattle.rule_tables.specs.Candidate.{Candidate, candidates_with}
 use Rattle.rule_tables.specs.declared.rules.Rules.{Rules}
 
 -- Where a frame stands between two steps: the request that the next reply is to, and none before the first one; the
@@ -68,7 +68,7 @@ asking_next c s None = record s {
 
 abbrev pub asking_in : List Candidate → State → Option Candidate → State
 asking_in cs s None = ignoring cs s
-asking_in cs s (Some c) = asking_next c s (slice_get c.questions.items s.question)
+asking_in cs s (Some c) = asking_next c s (slice_get c.questions s.question)
 
 abbrev pub asking : List Candidate → State → State
 asking cs s = asking_in cs s (slice_get cs s.candidate)
@@ -101,11 +101,11 @@ script_of cs replies = request_of (state_after cs replies)
 
 -- the steps that a candidate takes at most
 abbrev pub steps_of : Candidate → ℕ
-steps_of c = length c.questions.items + 3
+steps_of c = length c.questions + 3
 
 abbrev pub questions_left : Option Candidate → ℕ → ℕ
 questions_left None question = 0
-questions_left (Some c) question = length c.questions.items - question
+questions_left (Some c) question = length c.questions - question
 
 -- how many steps a frame has left at most
 abbrev pub steps_left : List Candidate → State → Option (Request Goal Outcome) → ℕ
@@ -120,4 +120,4 @@ steps_left cs s (Some (Done r)) = 0
 
 -- how many steps a frame of any goal has at most
 abbrev pub steps_within : Rules → ℕ
-steps_within rules = sum_by (λ all. sum_by steps_of all.items + length all.items) rules.candidates.items + 2
+steps_within rules = sum_by steps_of (candidates_with rules.askings.items rules.rows.items) + length rules.rows.items + 2

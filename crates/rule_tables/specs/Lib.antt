@@ -2,7 +2,11 @@ pub mod Rules
 pub mod Table
 pub mod Frame
 pub mod Packed
-pub mod Few
+pub mod Candidate
+pub mod Starts
+pub mod DraftRule
+pub mod Draft
+pub mod Groups
 pub mod Standing
 pub mod Grammar
 pub mod Words

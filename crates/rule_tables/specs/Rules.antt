@@ -1,11 +1,11 @@
 -- What a table of rules says of goals.
-use Rattle.std.specs.Prelude.{ℕ, List, [], map, Option, slice_get, Contains}
-use Rattle.std.specs.Option.{option_map_or}
+use Rattle.std.specs.Prelude.{ℕ, List, map, Option, slice_get, Contains}
 use Rattle.rule_tables.specs.Below.{Question, IsWithin, Overlap}
 use Rattle.rule_tables.specs.declared.rules.Goal.{Goal}
 use Rattle.rule_tables.specs.declared.rules.Asking.{Asking}
-use Rattle.rule_tables.specs.declared.rules.Candidate.{Candidate}
 use Rattle.rule_tables.specs.declared.rules.Rules.{Rules}
+use Rattle.rule_tables.specs.Candidate.{Candidate, candidates_with}
+use Rattle.rule_tables.specs.Starts.{rows_at}
 
 -- the number of the goal's name
 abbrev pub number_of : Goal → ℕ
@@ -16,7 +16,7 @@ abbrev pub question_of : Asking → Question Goal
 question_of a = record { kind = a.kind; goal = a.goal }
 
 abbrev pub asked_by : Candidate → List (Question Goal)
-asked_by c = map question_of c.questions.items
+asked_by c = map question_of c.questions
 
 -- the names that the table knows, in the order of their numbers
 abbrev pub names_of : Rules → List (List ℕ)
@@ -32,7 +32,7 @@ questions_of rules = rules.questions.items
 
 -- a goal without rules has no candidates
 abbrev pub candidates_of : Rules → Goal → List Candidate
-candidates_of rules goal = option_map_or (λ all. all.items) (slice_get rules.candidates.items (number_of goal)) []
+candidates_of rules goal = candidates_with rules.askings.items (rows_at rules.starts.items rules.rows.items (number_of goal))
 
 -- some candidate has all its questions among these
 pub record Proves (rules : Rules) (goal : Goal) (held : List (Question Goal)) : Type 0 where

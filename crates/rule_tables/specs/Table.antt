@@ -1,10 +1,10 @@
 -- The table that a text's statements make.
-use Rattle.std.specs.Prelude.{◌≡◌, ℕ, Bool, if◌then◌else◌, List, [], ◌∷◌, ◌++◌, map, fold, Option, Some, None, slice_get}
+use Rattle.std.specs.Prelude.{◌≡◌, ℕ, Bool, if◌then◌else◌, List, [], ◌∷◌, map, fold, Option, Some, None, slice_get}
 use Rattle.std.specs.List.{AllZip, filter_map, flat_map}
 use Rattle.std.specs.Str.{bytes_eq}
 use Rattle.rule_tables.specs.declared.rules.Goal.{Goal}
 use Rattle.rule_tables.specs.declared.rules.Asking.{Asking}
-use Rattle.rule_tables.specs.declared.rules.Candidate.{Candidate}
+use Rattle.rule_tables.specs.Candidate.{Candidate}
 use Rattle.rule_tables.specs.declared.rules.Rules.{Rules}
 use Rattle.rule_tables.specs.Grammar.{NamedQuestion, Statement, Nothing, Rule, Ask}
 use Rattle.line_texts.specs.Names.{with_name}
@@ -49,7 +49,7 @@ AreAsked names = AllZip (IsAsked names)
 -- the same candidate
 pub record IsCandidate (names : List (List ℕ)) (candidate : Candidate) (written : NamedCandidate) : Type 0 where
   pub is_marked : candidate.is_marked ≡ written.is_marked
-  pub questions : AreAsked names candidate.questions.items written.questions
+  pub questions : AreAsked names candidate.questions written.questions
 
 -- the same question to be answered
 pub record IsToBeAnswered (names : List (List ℕ)) (question : ℕ × Goal) (written : ℕ × List ℕ) : Type 0 where
@@ -62,13 +62,3 @@ pub record IsTableOf (statements : List Statement) (rules : Rules) : Type 0 wher
   pub names : names_of rules ≡ first_mentions (flat_map names_in statements)
   pub candidates : (goal : Goal) (name : List ℕ) → name_of rules goal ≡ Some name → AllZip (IsCandidate (names_of rules)) (candidates_of rules goal) (filter_map (candidate_in name) statements)
   pub questions : AllZip (IsToBeAnswered (names_of rules)) (questions_of rules) (filter_map question_in statements)
-
--- the new table has one more statement than the old one
-abbrev pub Adds : Statement → Rules → Rules → Type 0
-Adds statement old new = (statements : List Statement) → IsTableOf statements old → IsTableOf (statements ++ statement ∷ []) new
-
--- the new table has these names too, and is the same in all else
-pub record Mentions (old new : Rules) (more : List (List ℕ)) : Type 0 where
-  pub names : names_of new ≡ fold with_name (names_of old) more
-  pub candidates : (goal : Goal) → candidates_of new goal ≡ candidates_of old goal
-  pub questions : questions_of new ≡ questions_of old

@@ -148,7 +148,7 @@ impl<T: LendsRules> Frames for Table<T> {
         reply: Reply<Outcome>,
     ) -> Result<Request<Goal, Outcome>, NoMemory> {
         let candidates = frame.lender.rules().candidates(frame.goal);
-        frame.state.receive(candidates, reply);
+        frame.state.receive(&candidates, reply);
         Ok(frame.state.request())
     }
 }

@@ -1,9 +1,9 @@
 //! How a goal's frame goes through its candidates.
-ghost use Rattle.std.specs.Prelude.{◌≡◌, ◌<◌, IfSome, length};
-ghost use Rattle.rule_tables.specs.Few.{AreFew};
+ghost use Rattle.std.specs.Prelude.{◌≡◌, ◌<◌, ◌+◌, ◌^◌, IfSome};
 ghost use Rattle.rule_tables.specs.Words.{marked_from};
 
-use crate::rules::{Candidate, Goal};
+use crate::candidates::Candidates;
+use crate::rules::Goal;
 use delegate_parts::Outcome;
 use search_context::context::{Reply, Request};
 use search_context::path::PathKind;
@@ -92,8 +92,7 @@ impl State {
 
     /// Takes one more reply, and makes the next request.
     #[inline(always)]
-    pub fn receive(&mut self, candidates: &[Candidate], reply: Reply<Outcome>)
-        requires { AreFew candidates.now }
+    pub fn receive(&mut self, candidates: &Candidates<'_>, reply: Reply<Outcome>)
         ensures { self.new ≡ state_with candidates.now self.old self.old.request reply }
     {
         match (self.made, reply) {
@@ -111,9 +110,8 @@ impl State {
     }
 
     // The next candidate begins, if there is one.
-    fn enter(&mut self, candidates: &[Candidate])
-        requires few { AreFew candidates.now }
-        requires none_ignored { self.old.next_ignored ≡ 0 }
+    fn enter(&mut self, candidates: &Candidates<'_>)
+        requires { self.old.next_ignored ≡ 0 }
         ensures { self.new ≡ entering candidates.now self.old }
     {
         if candidates.get(self.candidate as usize).is_some() {
@@ -126,21 +124,21 @@ impl State {
         }
     }
 
-    // The open candidate's next question is asked, if there is one.
-    fn ask(&mut self, candidates: &[Candidate])
-        requires few { AreFew candidates.now }
-        requires none_ignored { self.old.next_ignored ≡ 0 }
+    // The open candidate's next question is asked, if there is one. It is called in two places, and so not inlined unasked.
+    #[inline(always)]
+    fn ask(&mut self, candidates: &Candidates<'_>)
+        requires { self.old.next_ignored ≡ 0 }
         ensures { self.new ≡ asking candidates.now self.old }
     {
         match candidates.get(self.candidate as usize) {
             None => self.ignore(candidates, 0),
-            Some(candidate) => match candidate.questions.get(self.next as usize) {
+            Some(candidate) => match candidate.question(self.next as usize) {
                 None => {
                     self.made = Made::Finish;
                     self.candidate += 1;
                     self.some_holds = self.some_holds || self.holds;
                     self.unmarked_holds = self.unmarked_holds
-                        || (self.holds && !candidate.is_marked);
+                        || (self.holds && !candidate.is_marked());
                     self.each_fails = self.each_fails && self.fails;
                 }
                 Some(asking) => {
@@ -161,9 +159,8 @@ impl State {
     }
 
     // All candidates are finished. Where an unmarked one holds, the next marked one is ignored.
-    fn ignore(&mut self, candidates: &[Candidate], from: u32)
-        requires few { AreFew candidates.now }
-        requires from { self.old.next_ignored ≡ from }
+    fn ignore(&mut self, candidates: &Candidates<'_>, from: u32)
+        requires { self.old.next_ignored ≡ from }
         ensures { self.new ≡ ignoring candidates.now self.old }
     {
         let next = if self.unmarked_holds {
@@ -197,15 +194,16 @@ impl State {
 }
 
 // The first marked candidate at or after a place.
-fn next_marked(candidates: &[Candidate], from: usize) -> Option<usize>
+fn next_marked(candidates: &Candidates<'_>, from: usize) -> Option<usize>
     ensures value { result ≡ marked_from 0 candidates.now from }
-    ensures within { IfSome result (λ n. n < length candidates.now) }
+    ensures few { IfSome result (λ n. n + 1 < 2 ^ 32) }
 {
-    let rest = candidates.get(from..)?;
-    for (ahead, candidate) in rest.iter().enumerate() {
-        if candidate.is_marked {
-            return Some(from + ahead);
+    let mut place = from;
+    while let Some(candidate) = candidates.get(place) {
+        if candidate.is_marked() {
+            return Some(place);
         }
+        place += 1;
     }
     None
 }

@@ -7,18 +7,24 @@
 //! | `Question`, `Line` | questions and lines as the reading has them |
 //! | `Stop` | why a program over a table ends early |
 //! | `Table`, `Rules` | the table that a text makes, and what it says of goals |
+//! | `Candidate`, `Starts` | candidates, and how a table keeps them |
+//! | `Draft`, `DraftRule` | a table that is being read |
+//! | `Groups` | how the rows of its rules are put goal by goal |
 //! | `Frame`, `Standing` | the frame of a goal, and where it stands |
 //! | `Laws` | the laws of the delegate, with their proofs |
 #![tactic(auto)]
 
+mod candidates;
 pub mod delegate;
+mod draft;
 mod frame;
 mod reading;
 pub mod rules;
 mod stop;
 
+pub use candidates::{Candidate, Candidates};
 pub use delegate::TableDelegate;
 pub use delegate_parts::{Builder, Outcome};
 pub use reading::ReadFault;
-pub use rules::{Candidate, Goal, Rules};
+pub use rules::{Goal, Rules};
 pub use stop::Stop;

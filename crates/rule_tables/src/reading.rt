@@ -6,8 +6,10 @@ mod depth;
 mod line;
 pub(super) mod question;
 
+use crate::draft::Draft;
 use crate::rules::Rules;
 use line::{Line, LineFault, line_of};
+use search_context::context::NoMemory;
 use std::alloc::Global;
 use thiserror::Error;
 
@@ -40,20 +42,23 @@ impl Rules {
         ensures bad_line { (n : ℕ) → result ≡ Err (ReadFault.BadLine n) →
             IsFirstBadLine text.now n }
     {
-        let mut rules = Rules::new(alloc);
+        let mut draft = Draft::new(alloc);
         for (before, line) in text.split(|byte| *byte == b'\n').enumerate() {
-            match read_line(alloc, line, &mut rules) {
+            match read_line(alloc, line, &mut draft) {
                 Ok(()) => {}
                 Err(LineFault::Malformed) => return Err(ReadFault::BadLine(before + 1)),
                 Err(LineFault::Memory) => return Err(ReadFault::Memory),
             }
         }
-        Ok(rules)
+        match draft.finish(alloc) {
+            Ok(rules) => Ok(rules),
+            Err(NoMemory) => Err(ReadFault::Memory),
+        }
     }
 }
 
-fn read_line(alloc: Global, line: &[u8], rules: &mut Rules) -> Result<(), LineFault>
-    ensures ok { OnOk result ((s : Statement) × Says line.now s × Adds s rules.old rules.new) }
+fn read_line(alloc: Global, line: &[u8], draft: &mut Draft) -> Result<(), LineFault>
+    ensures ok { OnOk result ((s : Statement) × Says line.now s × Adds s draft.old draft.new) }
     ensures malformed { result ≡ Err LineFault.Malformed → IsMalformed line.now }
 {
     match line_of(alloc, line)? {
@@ -62,8 +67,8 @@ fn read_line(alloc: Global, line: &[u8], rules: &mut Rules) -> Result<(), LineFa
             is_marked,
             name,
             questions,
-        } => rules.add_rule(alloc, is_marked, name, questions.as_slice())?,
-        Line::Ask { depth, name } => rules.add_question(alloc, depth, name)?,
+        } => draft.add_rule(alloc, is_marked, name, questions.as_slice())?,
+        Line::Ask { depth, name } => draft.add_question(alloc, depth, name)?,
     }
     Ok(())
 }

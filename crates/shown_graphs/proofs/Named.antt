@@ -12,7 +12,7 @@ use Rattle.rule_tables.specs.Table.{AreAsked, IsCandidate, IsTableOf, IsToBeAnsw
 use Rattle.rule_tables.specs.Grammar.{NamedQuestion, Statement}
 use Rattle.rule_tables.specs.Frame.{State}
 use Rattle.rule_tables.specs.declared.rules.Asking.{Asking}
-use Rattle.rule_tables.specs.declared.rules.Candidate.{Candidate}
+use Rattle.rule_tables.specs.Candidate.{Candidate}
 use Rattle.search_context.proofs.Graphs.{HasEdge-from, HasGoal-within}
 use Rattle.search_context.specs.Graph.{HasEdge, HasGoal, IsWalk, question_of}
 use Rattle.search_context.specs.Run.{Asked, progress_after, progress_with, Progress, open_candidate, request_after}
@@ -36,7 +36,7 @@ module _ (names : List (List ℕ)) where
   -- ---- what a script asks
 
   abbrev pub AskNamed : List Candidate → Type 0
-  AskNamed = AllByRecursion (λ c. AllByRecursion (λ a. IsNamed names a.goal) c.questions.items)
+  AskNamed = AllByRecursion (λ c. AllByRecursion (λ a. IsNamed names a.goal) c.questions)
 
   asked_named : (askings : List Asking) (questions : List NamedQuestion) → AreAsked names askings questions → AllByRecursion (λ a. IsNamed names a.goal) askings
   asked_named [] questions h = tt
@@ -46,7 +46,7 @@ module _ (names : List (List ℕ)) where
   pub candidates_named : (cs : List Candidate) (written : List NamedCandidate) → AllZip (IsCandidate names) cs written → AskNamed cs
   candidates_named [] written h = tt
   candidates_named (c ∷ cs) [] h = absurd h
-  candidates_named (c ∷ cs) (w ∷ written) h = (asked_named c.questions.items w.questions h.0.questions, candidates_named cs written h.1)
+  candidates_named (c ∷ cs) (w ∷ written) h = (asked_named c.questions w.questions h.0.questions, candidates_named cs written h.1)
 
   -- where this is a question, its goal has a name
   abbrev Named : Option (Request Goal Outcome) → Type 0
@@ -71,13 +71,13 @@ module _ (names : List (List ℕ)) where
     entering_named s None = ignoring_named s (cond s.unmarked_holds (marked_from 0 cs s.next_ignored) None)
     entering_named s (Some c) = tt
 
-    question_named : (s : State) (c : Candidate) (o : Option Asking) → slice_get c.questions.items s.question ≡ o → AllByRecursion (λ a. IsNamed names a.goal) c.questions.items → Named (asking_next c s o).request
+    question_named : (s : State) (c : Candidate) (o : Option Asking) → slice_get c.questions s.question ≡ o → AllByRecursion (λ a. IsNamed names a.goal) c.questions → Named (asking_next c s o).request
     question_named s c None is named = tt
-    question_named s c (Some a) is named = named_at (λ x. IsNamed names x.goal) c.questions.items s.question a named is
+    question_named s c (Some a) is named = named_at (λ x. IsNamed names x.goal) c.questions s.question a named is
 
     asking_named : (s : State) (o : Option Candidate) → slice_get cs s.candidate ≡ o → Named (asking_in cs s o).request
     asking_named s None is = ignoring_named s (cond s.unmarked_holds (marked_from 0 cs s.next_ignored) None)
-    asking_named s (Some c) is = question_named s c (slice_get c.questions.items s.question) refl (named_at (λ d. AllByRecursion (λ a. IsNamed names a.goal) d.questions.items) cs s.candidate c all is)
+    asking_named s (Some c) is = question_named s c (slice_get c.questions s.question) refl (named_at (λ d. AllByRecursion (λ a. IsNamed names a.goal) d.questions) cs s.candidate c all is)
 
     with_named : (s : State) (o : Option (Request Goal Outcome)) (r : Reply Outcome) → Named s.request → Named (state_with cs s o r).request
     with_named s None Begin h = entering_named s (slice_get cs s.candidate)

@@ -9,7 +9,7 @@ use Rattle.rule_tables.specs.Rules.{candidates_of, names_of, number_of, question
 use Rattle.rule_tables.specs.Table.{candidate_in, IsAsked, IsCandidate, IsTableOf, IsToBeAnswered, NamedCandidate, question_in}
 use Rattle.rule_tables.specs.Frame.{State}
 use Rattle.rule_tables.specs.declared.rules.Asking.{Asking}
-use Rattle.rule_tables.specs.declared.rules.Candidate.{Candidate}
+use Rattle.rule_tables.specs.Candidate.{Candidate}
 use Rattle.rule_tables.specs.declared.rules.Goal.{Goal}
 use Rattle.rule_tables.specs.declared.rules.Rules.{Rules}
 use Rattle.shown_graphs.proofs.Lists.{zip_over}
@@ -28,7 +28,7 @@ module _ (names : List (List ℕ)) (own : HaveOwnNames names) where
   same_candidate : (a b : Candidate) (c : NamedCandidate) → IsCandidate names a c → IsCandidate names b c → IsSameCandidate a b
   same_candidate a b c p r = record {
     is_marked = r.is_marked ∙ sym p.is_marked;
-    questions = each_same a.questions.items b.questions.items (zip_over (IsAsked names) (IsAsked names) (λ x y. y ≡ x) same_asked a.questions.items b.questions.items c.questions p.questions r.questions);
+    questions = each_same a.questions b.questions (zip_over (IsAsked names) (IsAsked names) (λ x y. y ≡ x) same_asked a.questions b.questions c.questions p.questions r.questions);
   }
 
   same_question : (a b : ℕ × Goal) (q : ℕ × List ℕ) → IsToBeAnswered names a q → IsToBeAnswered names b q → b ≡ a
@@ -91,7 +91,7 @@ module _ (cs ds : List Candidate) (h : AllZip IsSameCandidate cs ds) where
   same_asking_in s None None one = same_ignoring s
   same_asking_in s None (Some d) one = absurd one
   same_asking_in s (Some c) None one = absurd one
-  same_asking_in s (Some c) (Some d) one = ap (λ qs. asking_next d s (slice_get qs s.question)) one.questions ∙ same_asking_next s c d one (slice_get c.questions.items s.question)
+  same_asking_in s (Some c) (Some d) one = ap (λ qs. asking_next d s (slice_get qs s.question)) one.questions ∙ same_asking_next s c d one (slice_get c.questions s.question)
 
   same_asking : (s : State) → asking ds s ≡ asking cs s
   same_asking s = same_asking_in s (slice_get cs s.candidate) (slice_get ds s.candidate) (same_at cs ds s.candidate h)

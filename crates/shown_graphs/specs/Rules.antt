@@ -2,7 +2,7 @@
 use Rattle.std.specs.Prelude.{◌≡◌, ℕ, List, [], ◌∷◌, Some}
 use Rattle.std.specs.List.{AllZip}
 use Rattle.rule_tables.specs.Grammar.{Ask, Nothing, Rule, Says, Statement}
-use Rattle.rule_tables.specs.declared.rules.Candidate.{Candidate}
+use Rattle.rule_tables.specs.Candidate.{Candidate}
 use Rattle.shown_graphs.specs.Below.{candidates_of, Goal, name_of, names_of, questions_of, Reads, Rules}
 
 -- a statement that says something, alone
@@ -22,7 +22,7 @@ MakesTheSame text other = (rules : Rules) → Reads text rules → Reads other r
 -- a rule that asks the same questions, in order, and is marked where the other is
 pub record IsSameCandidate (one other : Candidate) : Type 0 where
   pub is_marked : other.is_marked ≡ one.is_marked
-  pub questions : other.questions.items ≡ one.questions.items
+  pub questions : other.questions ≡ one.questions
 
 -- The same table: the same names and the same questions to be answered, and each goal has the same rules, all in order.
 pub record AreSameRules (rules others : Rules) : Type 0 where

@@ -1,20 +1,21 @@
 //! Which rule a yes rests on, and at which question a rule fails, as the replies of a goal's run tell.
 
-use rule_tables::{Candidate, Outcome};
+use rule_tables::{Candidate, Candidates, Outcome};
 use search_context::context::Reply;
 
 /// The rule by which a run comes to yes: the first one without a mark all of whose questions were answered yes, and where
 /// there is none, the first marked one.
 pub(crate) fn holding<'a>(
-    candidates: &'a [Candidate],
+    candidates: &Candidates<'a>,
     replies: &[Reply<Outcome>],
-) -> Option<&'a Candidate> {
+) -> Option<Candidate<'a>> {
     let mut marked = None;
     let mut start = FIRST_ANSWER;
-    for candidate in candidates {
-        let end = end_of(start, candidate);
+    for place in 0..candidates.count() {
+        let candidate = candidates.get(place)?;
+        let end = end_of(start, &candidate);
         if holds(replies.get(start..end).unwrap_or(&[])) {
-            if !candidate.is_marked {
+            if !candidate.is_marked() {
                 return Some(candidate);
             }
             if marked.is_none() {
@@ -30,8 +31,8 @@ pub(crate) fn holding<'a>(
 pub(crate) const FIRST_ANSWER: usize = 2;
 
 /// Where the answers of the rule end which begin here.
-pub(crate) fn end_of(start: usize, candidate: &Candidate) -> usize {
-    start.saturating_add(candidate.questions.len())
+pub(crate) fn end_of(start: usize, candidate: &Candidate<'_>) -> usize {
+    start.saturating_add(candidate.questions().len())
 }
 
 /// Where the next rule's answers begin: the end of this one and the beginning of the next one are replied to.

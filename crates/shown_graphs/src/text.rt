@@ -3,7 +3,7 @@
 use crate::plan::{Line, plan};
 use crate::rule::{FIRST_ANSWER, end_of, failing, holding, next_start};
 use crate::words::{letter, name_of, write_rule};
-use rule_tables::{Candidate, Goal, Outcome, Rules};
+use rule_tables::{Candidate, Candidates, Goal, Outcome, Rules};
 use search_context::context::{Node, Reply};
 use std::alloc::Global;
 use std::io;
@@ -108,9 +108,9 @@ fn write_node<W: Write>(
     write!(out, "{name} {said}")?;
     let candidates = rules.candidates(node.input);
     if node.result == Outcome::Yes {
-        write_proof(out, rules, node, candidates)
+        write_proof(out, rules, node, &candidates)
     } else {
-        write_refutation(out, rules, node, candidates, level)
+        write_refutation(out, rules, node, &candidates, level)
     }
 }
 
@@ -119,11 +119,11 @@ fn write_proof<W: Write>(
     out: &mut W,
     rules: &Rules,
     node: &Node<Goal, Outcome>,
-    candidates: &[Candidate],
+    candidates: &Candidates<'_>,
 ) -> io::Result<()> {
     if let Some(candidate) = holding(candidates, &node.replies) {
         out.write_all(b", by rule ")?;
-        write_rule(out, rules, node.input, candidate)?;
+        write_rule(out, rules, node.input, &candidate)?;
     }
     out.write_all(b"\n")
 }
@@ -133,23 +133,26 @@ fn write_refutation<W: Write>(
     out: &mut W,
     rules: &Rules,
     node: &Node<Goal, Outcome>,
-    candidates: &[Candidate],
+    candidates: &Candidates<'_>,
     level: usize,
 ) -> io::Result<()> {
-    if candidates.is_empty() {
+    if candidates.count() == 0 {
         return out.write_all(b", for it has no rule\n");
     }
     out.write_all(b"\n")?;
     let mut start = FIRST_ANSWER;
-    for candidate in candidates {
-        let end = end_of(start, candidate);
+    for place in 0..candidates.count() {
+        let Some(candidate) = candidates.get(place) else {
+            break;
+        };
+        let end = end_of(start, &candidate);
         write_indentation(out, level.saturating_add(1))?;
         out.write_all(b"rule ")?;
-        write_rule(out, rules, node.input, candidate)?;
+        write_rule(out, rules, node.input, &candidate)?;
         write_failure(
             out,
             rules,
-            candidate,
+            &candidate,
             node.replies.get(start..end).unwrap_or(&[]),
         )?;
         start = next_start(end);
@@ -160,10 +163,10 @@ fn write_refutation<W: Write>(
 fn write_failure<W: Write>(
     out: &mut W,
     rules: &Rules,
-    candidate: &Candidate,
+    candidate: &Candidate<'_>,
     replies: &[Reply<Outcome>],
 ) -> io::Result<()> {
-    let asking = failing(replies).and_then(|place| candidate.questions.get(place));
+    let asking = failing(replies).and_then(|place| candidate.question(place));
     match asking {
         Some(asking) => {
             let letter = letter(asking.kind);

@@ -52,12 +52,12 @@ pub(crate) fn write_rule<W: Write>(
     out: &mut W,
     rules: &Rules,
     goal: Goal,
-    candidate: &Candidate,
+    candidate: &Candidate<'_>,
 ) -> io::Result<()> {
-    let mark = if candidate.is_marked { "~" } else { "" };
+    let mark = if candidate.is_marked() { "~" } else { "" };
     let name = name_of(rules, goal);
     write!(out, "{mark}{name} =")?;
-    for asking in &candidate.questions {
+    for asking in candidate.questions() {
         let letter = letter(asking.kind);
         let asked = name_of(rules, asking.goal);
         write!(out, " {letter}:{asked}")?;

@@ -11,5 +11,5 @@ mod program;
 
 pub use program::{answer, fault_word, run};
 pub use rule_tables::{
-    Builder, Candidate, Goal, Outcome, ReadFault, Rules, TableDelegate, delegate, rules,
+    Builder, Candidate, Candidates, Goal, Outcome, ReadFault, Rules, TableDelegate, delegate, rules,
 };

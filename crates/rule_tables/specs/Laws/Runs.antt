@@ -9,7 +9,7 @@ use Rattle.search_context.proofs.Graphs.{Contains-map}
 use Rattle.rule_tables.specs.Below.{PathKind, Request, Evaluate, EnterCandidate, FinishCandidate, Ignore, Done, Reply, Begin, Answer, Noted, Question, EndsIn, Asked, Progress, progress_with, progress_after, request_after, IsFitting, Fits, questions_answered, is_counted, is_ignored, open_candidate, Outcome, Yes, No, Maybe, Overflow, is_yes, is_no}
 use Rattle.rule_tables.specs.declared.rules.Goal.{Goal}
 use Rattle.rule_tables.specs.declared.rules.Asking.{Asking}
-use Rattle.rule_tables.specs.declared.rules.Candidate.{Candidate}
+use Rattle.rule_tables.specs.Candidate.{Candidate}
 use Rattle.rule_tables.specs.declared.rules.Rules.{Rules}
 use Rattle.rule_tables.specs.Rules.{candidates_of, question_of, Proves, Refutes}
 use Rattle.rule_tables.specs.Frame.{marked_from, with_ignored, ignoring, entering_next, asking_next, asking_in, asking, with_answer, outcome_of, script_of, State, state_after, state_with}
@@ -35,7 +35,7 @@ asking_next-made c s (Some a) = refl
 
 asking-made : (cs : List Candidate) (s : State) (o : Option Candidate) → HasMade (asking_in cs s o)
 asking-made cs s None = ignoring-made cs s
-asking-made cs s (Some c) = asking_next-made c s (slice_get c.questions.items s.question)
+asking-made cs s (Some c) = asking_next-made c s (slice_get c.questions s.question)
 
 step-made : (cs : List Candidate) (s : State) (q : Option (Request Goal Outcome)) (r : Reply Outcome) → Fits q r → HasMade (state_with cs s q r)
 step-made cs s None Begin h = entering-made cs s (slice_get cs s.candidate)
@@ -57,13 +57,13 @@ answered a r place = record { question = question_of a; answer = r; candidate = 
 
 -- the candidate's first questions were answered yes
 abbrev pub AllYes : List (Asked Goal Outcome) → ℕ → Candidate → ℕ → Type 0
-AllYes asked place c n = (j : ℕ) (a : Asking) → j < n → slice_get c.questions.items j ≡ Some a → Contains asked (answered a Yes place)
+AllYes asked place c n = (j : ℕ) (a : Asking) → j < n → slice_get c.questions j ≡ Some a → Contains asked (answered a Yes place)
 
 -- one of the candidate's questions was answered no
 pub record SomeNo (asked : List (Asked Goal Outcome)) (place : ℕ) (c : Candidate) : Type 0 where
   pub at : ℕ
   pub asking : Asking
-  pub is_at : slice_get c.questions.items at ≡ Some asking
+  pub is_at : slice_get c.questions at ≡ Some asking
   pub is_asked : Contains asked (answered asking No place)
 
 -- a candidate holds, and an unmarked one if some unmarked one does
@@ -71,7 +71,7 @@ pub record Holder (cs : List Candidate) (asked : List (Asked Goal Outcome)) (unm
   pub place : ℕ
   pub candidate : Candidate
   pub is_at : slice_get cs place ≡ Some candidate
-  pub all_yes : AllYes asked place candidate (length candidate.questions.items)
+  pub all_yes : AllYes asked place candidate (length candidate.questions)
   pub is_unmarked : unmarked_holds ≡ true → candidate.is_marked ≡ false
 
 pub record IsMarkedAt (cs : List Candidate) (place : ℕ) : Type 0 where
@@ -99,7 +99,7 @@ pub record AtQuestion (cs : List Candidate) (asked : List (Asked Goal Outcome)) 
   pub count : earlier + 1 ≡ n
   pub inside : InCandidate cs asked place earlier holds fails
   pub asking : Asking
-  pub is_asking : slice_get inside.candidate.questions.items earlier ≡ Some asking
+  pub is_asking : slice_get inside.candidate.questions earlier ≡ Some asking
   pub same : q ≡ question_of asking
 
 abbrev pub Mode : List Candidate → State → Progress Goal Outcome → Option (Request Goal Outcome) → Type 0
@@ -168,7 +168,7 @@ both_true false b e = absurd cc
 
 holder_after : (cs : List Candidate) (asked : List (Asked Goal Outcome)) (place : ℕ) (c : Candidate) (some_holds unmarked_holds holds marked : Bool) →
     (some_holds ≡ true → Holder cs asked unmarked_holds) → (unmarked_holds ≡ true → some_holds ≡ true) → slice_get cs place ≡ Some c →
-    (holds ≡ true → AllYes asked place c (length c.questions.items)) → c.is_marked ≡ marked →
+    (holds ≡ true → AllYes asked place c (length c.questions)) → c.is_marked ≡ marked →
     (some_holds || holds) ≡ true → Holder cs asked (unmarked_holds || (holds && not marked))
 holder_after cs asked place c some_holds true holds marked old some is_at all is h = old (some refl)
 holder_after cs asked place c some_holds false true false old some is_at all is h = record { place = place; candidate = c; is_at = is_at; all_yes = all refl; is_unmarked = λ _. is }
@@ -199,11 +199,11 @@ failing_after cs asked place c is_at here below k d l e =
     ]
 
 pub finished_past : (cs : List Candidate) (asked : List (Asked Goal Outcome)) (ignored : List ℕ) (place n : ℕ) (some_holds unmarked_holds each_fails holds fails : Bool) →
-    PastCandidates cs asked ignored place some_holds unmarked_holds each_fails → (inside : InCandidate cs asked place n holds fails) → slice_get inside.candidate.questions.items n ≡ None →
+    PastCandidates cs asked ignored place some_holds unmarked_holds each_fails → (inside : InCandidate cs asked place n holds fails) → slice_get inside.candidate.questions n ≡ None →
     PastCandidates cs asked ignored (place + 1) (some_holds || holds) (unmarked_holds || (holds && not inside.candidate.is_marked)) (each_fails && fails)
 finished_past cs asked ignored place n some_holds unmarked_holds each_fails holds fails old inside past = record {
   holder = holder_after cs asked place inside.candidate some_holds unmarked_holds holds inside.candidate.is_marked old.holder old.some inside.is_at
-      (λ h j a l e. inside.yes_so_far h j a (before_end inside.candidate.questions.items j n past l) e) refl;
+      (λ h j a l e. inside.yes_so_far h j a (before_end inside.candidate.questions j n past l) e) refl;
   some = some_after some_holds unmarked_holds holds inside.candidate.is_marked old.some;
   failing = λ h k d l e. let b = both_true each_fails fails h in
       failing_after cs asked place inside.candidate inside.is_at (inside.no_so_far b.1) (old.failing b.0) k d l e;
@@ -214,7 +214,7 @@ finished_past cs asked ignored place n some_holds unmarked_holds each_fails hold
 
 asking_next-good : (cs : List Candidate) (s : State) (p : Progress Goal Outcome) → PastCandidates cs p.asked p.ignored s.candidate s.some_holds s.unmarked_holds s.each_fails →
     p.is_open ≡ true → p.finished ≡ s.candidate → (inside : InCandidate cs p.asked s.candidate s.question s.holds s.fails) →
-    (o : Option Asking) → slice_get inside.candidate.questions.items s.question ≡ o → Good cs (asking_next inside.candidate s o) p (asking_next inside.candidate s o).request
+    (o : Option Asking) → slice_get inside.candidate.questions s.question ≡ o → Good cs (asking_next inside.candidate s o) p (asking_next inside.candidate s o).request
 asking_next-good cs s p past_candidates is_open finished inside None e = record {
   past_candidates = finished_past cs p.asked p.ignored s.candidate s.question s.some_holds s.unmarked_holds s.each_fails s.holds s.fails past_candidates inside e;
   mode = ap (λ n. n + 1) finished;
@@ -228,7 +228,7 @@ pub asking-good : (cs : List Candidate) (s : State) (p : Progress Goal Outcome) 
     p.is_open ≡ true → p.finished ≡ s.candidate → (inside : InCandidate cs p.asked s.candidate s.question s.holds s.fails) → Good cs (asking cs s) p (asking cs s).request
 asking-good cs s p past_candidates is_open finished inside =
     subst (λ o. Good cs (asking_in cs s o) p (asking_in cs s o).request) (sym inside.is_at)
-    (asking_next-good cs s p past_candidates is_open finished inside (slice_get inside.candidate.questions.items s.question) refl)
+    (asking_next-good cs s p past_candidates is_open finished inside (slice_get inside.candidate.questions s.question) refl)
 
 -- Answers
 
@@ -262,7 +262,7 @@ PastCandidates-more cs asked next ignored place some_holds unmarked_holds each_f
     place = w.place;
     candidate = w.candidate;
     is_at = w.is_at;
-    all_yes = AllYes-more cs asked w.place next w.candidate (length w.candidate.questions.items) w.all_yes;
+    all_yes = AllYes-more cs asked w.place next w.candidate (length w.candidate.questions) w.all_yes;
     is_unmarked = w.is_unmarked;
   };
   some = old.some;
@@ -287,18 +287,18 @@ answered_is p place q a r is_open finished same =
     let o : open_candidate p ≡ Some place = open_candidate-is p.is_open p.finished place is_open finished in
     ap₂ (λ x y. record { question = x; answer = r; candidate = y }) same o
 
-yes_with : (asked : List (Asked Goal Outcome)) (place n : ℕ) (c : Candidate) (asking : Asking) (r : Outcome) → slice_get c.questions.items n ≡ Some asking → AllYes asked place c n → r ≡ Yes →
+yes_with : (asked : List (Asked Goal Outcome)) (place n : ℕ) (c : Candidate) (asking : Asking) (r : Outcome) → slice_get c.questions n ≡ Some asking → AllYes asked place c n → r ≡ Yes →
     AllYes (asked ++ answered asking r place ∷ []) place c (n + 1)
 yes_with asked place n c asking r is_at old is j a l e =
     elim (eqb_tells j n) [
       | inl w ↦
-          let same : asking ≡ a = asking_at c.questions.items n j asking a is_at e w.1 in
+          let same : asking ≡ a = asking_at c.questions n j asking a is_at e w.1 in
           subst (λ x. Contains (asked ++ answered asking r place ∷ []) x) (ap₂ (λ x y. answered x y place) same is) (Contains-push asked (answered asking r place))
       | inr w ↦ let ne : j ≢ n = w.1 in Contains-append_left asked (answered asking r place ∷ []) (answered a Yes place) (old j a (omega arith) e)
     ]
 
 inside_with : (cs : List Candidate) (asked : List (Asked Goal Outcome)) (place n : ℕ) (holds fails : Bool) (asking : Asking) (r : Outcome) →
-    (inside : InCandidate cs asked place n holds fails) → slice_get inside.candidate.questions.items n ≡ Some asking →
+    (inside : InCandidate cs asked place n holds fails) → slice_get inside.candidate.questions n ≡ Some asking →
     InCandidate cs (asked ++ answered asking r place ∷ []) place (n + 1) (holds && is_yes r) (fails || is_no r)
 inside_with cs asked place n holds fails asking r inside is_asking = record {
   candidate = inside.candidate;
@@ -410,8 +410,8 @@ yes_is_proved rules goal replies r ends is =
       candidate = w.candidate;
       is_candidate = Contains-from_slice_get cs w.place w.candidate w.is_at;
       within = λ q has.
-          let a = Contains-map question_of w.candidate.questions.items q has in
-          let at = slice_get-from_Contains w.candidate.questions.items a.0 a.1 in
+          let a = Contains-map question_of w.candidate.questions q has in
+          let at = slice_get-from_Contains w.candidate.questions a.0 a.1 in
           subst (Contains (questions_answered is_yes p)) a.2
           (counts_kept is_yes p a.0 Yes w.place refl
           (λ e. let m = good.past_candidates.only_marked w.place e in marked_apart cs w.place w.candidate w.is_at (w.is_unmarked m.0) m.1)
@@ -431,7 +431,7 @@ no_is_refuted rules goal replies r ends is =
     let at = slice_get-from_Contains cs c has in
     let w = good.past_candidates.failing flags.1 has.0 c (before_end cs has.0 s.candidate good.mode.0 has.1) at in (
       question_of w.asking,
-      Contains-mapped question_of c.questions.items w.asking (Contains-from_slice_get c.questions.items w.at w.asking w.is_at),
+      Contains-mapped question_of c.questions w.asking (Contains-from_slice_get c.questions w.at w.asking w.is_at),
       counts_kept is_no p w.asking No has.0 refl
           (λ e. let m = good.past_candidates.only_marked has.0 e in let t : s.some_holds ≡ true = good.past_candidates.some m.0 in let f = flags.0 in cc)
           w.is_asked,

@@ -5,11 +5,13 @@ ghost use Rattle.rule_tables.specs.Words.{NamedQuestion, Statement, IsQuestion, 
 
 use crate::reading::depth::depth_of;
 use crate::reading::question::{Question, question_of};
-use crate::rules::FEW;
 use line_texts::{Words, is_name};
 use search_context::context::NoMemory;
 use smallvec::SmallVec;
 use std::alloc::{AllocError, AllocFailed, Global};
+
+/// So many questions of a rule take no memory of their own.
+const FEW: usize = 4;
 
 /// What a line says.
 #[derive(Drop)]

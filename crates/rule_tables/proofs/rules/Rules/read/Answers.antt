@@ -25,10 +25,10 @@ returns-in-Err-Malformed-clause-bad_line c = λ n e.
     let number : n ≡ c.in-Some.before + 1 = cc in
     bad_line _ _ n _ _ c.loop-before.invariant at.1 (c.in-Err-Malformed.ensures.malformed (ap Err c.in-Err-Malformed.field-0-is)) (number ∙ ap (λ m. m + 1) at.0)
 
-pub returns-clause-ok : goal.returns-clause-ok
-returns-clause-ok c =
+pub returns-in-Ok-finish-clause-ok : goal.returns-in-Ok-finish-clause-ok
+returns-in-Ok-finish-clause-ok c =
     let end = YieldsList-end
     (YieldsList-at c.into_iter-before-iterator.ensures.into_iter_gives (YieldsList-from_enumerate (YieldsList-at c.enumerate-before-items.ensures.source
     (YieldsList-from_slice_split _ (λ byte. byte == 10) c.args.text.now c.split.ensures.rest c.split.ensures.done c.split.ensures.closure (λ x b q k. search (rules, tests)))) c.enumerate-before-items.ensures.count))
     c.loop-before.yielded _ c.loop-before.yielded_by _ _ c.in-None.is c.next.ensures.steps in
-    all_read _ _ _ c.loop-before.invariant end.1
+    all_read _ _ _ _ c.loop-before.invariant end.1 c.in-Ok-finish.ensures

@@ -1,0 +1,130 @@
+//! A table that is being read. Its rules stand in the order of the text.
+ghost use Rattle.std.specs.Prelude.{◌≡◌, ◌<◌, ◌≤◌, ◌^◌, length, All};
+ghost use Rattle.rule_tables.specs.DraftRule.{EndsWithin, IsKnown};
+
+use crate::candidates::Row;
+use crate::reading::question::Question;
+use crate::rules::{Asking, Goal, Rules};
+use line_texts::Names;
+use search_context::context::NoMemory;
+use std::alloc::Global;
+
+mod groups;
+
+/// A rule, with its goal.
+#[derive(Clone, Copy, Debug)]
+pub(crate) struct DraftRule {
+    goal: Goal,
+    row: Row,
+}
+
+/// What was read so far of a table.
+#[derive(Drop)]
+pub(crate) struct Draft {
+    names: Names,
+    rules: Vec<DraftRule>,
+    // The questions of all rules.
+    askings: Vec<Asking>,
+    questions: Vec<(usize, Goal)>,
+    // A goal has room for the number of each name.
+    ghost countable: { length names ≤ 2 ^ 32 },
+    // A row has room for the number of each rule.
+    ghost few: { length rules.items < 2 ^ 32 },
+    ghost known: { All (IsKnown (length names)) rules.items },
+    ghost within: { All (EndsWithin (length askings.items)) rules.items },
+}
+
+impl Draft {
+    ghost use Rattle.std.specs.Prelude.{◌≡◌, [], ◌∷◌, map, Some, IfOk, OnOk};
+    ghost use Rattle.rule_tables.specs.Grammar as grammar;
+    ghost use Rattle.rule_tables.specs.Question.{named};
+    ghost use Rattle.rule_tables.specs.Draft.{Adds, HasAsked, IsDraftOf, IsMadeOf, Mentions, name_of};
+
+    /// A draft with no name in it.
+    pub(crate) fn new(alloc: Global) -> Draft
+        ensures { IsDraftOf [] result }
+    {
+        Draft {
+            names: Names::new(alloc),
+            rules: Vec::new(alloc),
+            askings: Vec::new(alloc),
+            questions: Vec::new(alloc),
+        }
+    }
+
+    /// One more candidate of the name.
+    pub(crate) fn add_rule(
+        &mut self,
+        alloc: Global,
+        is_marked: bool,
+        name: &[u8],
+        questions: &[Question<'_>],
+    ) -> Result<(), NoMemory>
+        ensures { OnOk result
+            (Adds (grammar.Rule is_marked name.now (map named questions.now)) self.old self.new) }
+    {
+        let goal = self.goal_named(alloc, name)?;
+        let first = self.askings.len();
+        self.ask(alloc, questions)?;
+        // A row counts in 32 bits, and so does what says where a goal's rows start.
+        if self.askings.len() > u32::MAX as usize || self.rules.len() >= u32::MAX as usize {
+            return Err(NoMemory);
+        }
+        let row = Row {
+            first: first as u32,
+            count: questions.len() as u32,
+            is_marked,
+        };
+        self.rules.push(DraftRule { goal, row })?;
+        Ok(())
+    }
+
+    /// One more question to be answered.
+    pub(crate) fn add_question(
+        &mut self,
+        alloc: Global,
+        depth: usize,
+        name: &[u8],
+    ) -> Result<(), NoMemory>
+        ensures { OnOk result (Adds (grammar.Ask depth name.now) self.old self.new) }
+    {
+        let goal = self.goal_named(alloc, name)?;
+        self.questions.push((depth, goal))?;
+        Ok(())
+    }
+
+    /// The table. Its rows are put goal by goal.
+    pub(crate) fn finish(self, alloc: Global) -> Result<Rules, NoMemory>
+        ensures { IfOk result (IsMadeOf self) }
+    {
+        let (rows, starts) = groups::grouped(alloc, self.rules.as_slice(), self.names.count())?;
+        Ok(Rules::new(self.names, rows, starts, self.askings, self.questions))
+    }
+
+    // The questions of one more rule.
+    fn ask(&mut self, alloc: Global, questions: &[Question<'_>]) -> Result<(), NoMemory>
+        ensures { OnOk result (HasAsked self.old self.new questions.now) }
+    {
+        for question in questions {
+            let goal = self.goal_named(alloc, question.name)?;
+            self.askings.push(Asking {
+                kind: question.kind,
+                goal,
+            })?;
+        }
+        Ok(())
+    }
+
+    // The goal of this name, which may be new.
+    fn goal_named(&mut self, alloc: Global, name: &[u8]) -> Result<Goal, NoMemory>
+        ensures mentions { OnOk result (Mentions self.old self.new (name.now ∷ [])) }
+        ensures goal { IfOk result (λ goal. name_of self.new goal ≡ Some name.now) }
+        ensures askings { self.new.askings ≡ self.old.askings }
+    {
+        if self.names.count() > u32::MAX as usize {
+            return Err(NoMemory);
+        }
+        let number = self.names.intern(alloc, name)?;
+        Ok(Goal(number as u32))
+    }
+}
