@@ -1,5 +1,5 @@
 -- Names and their numbers.
-use Rattle.std.specs.Prelude.{ℕ, Bool, List, [], ◌∷◌, ◌++◌, map, if◌then◌else◌}
+use Rattle.std.specs.Prelude.{ℕ, Bool, List, [], ◌∷◌, ◌++◌, map, take, if◌then◌else◌}
 use Rattle.std.specs.List.{list_any}
 use Rattle.std.specs.Str.{bytes_eq}
 use Rattle.std.specs.HashSet.{HashSet}
@@ -9,7 +9,7 @@ use Rattle.line_texts.specs.declared.names.name.Name.{Name}
 
 -- the bytes of a name
 abbrev pub text_of : Name → List ℕ
-text_of name = name.0.items
+text_of name = take name.length name.bytes
 
 -- two names are the same
 abbrev pub same_name : Name → Name → Bool

@@ -61,8 +61,9 @@ impl Names {
         self.names.get_index(number).map(|name| name.text())
     }
 
-    /// The name's number, which is the next one where the name is new. A failure changes nothing.
-    pub fn intern(&mut self, alloc: Global, name: &[u8]) -> Result<usize, AllocError>
+    /// The name's number, which is the next one where the name is new. A failure changes nothing. A new name
+    /// of more than 16 bytes, which no grammar of these texts allows, is refused as if no memory were left.
+    pub fn intern(&mut self, name: &[u8]) -> Result<usize, AllocError>
         ensures number { IfOk result (λ number. slice_get self.new number ≡ Some name.now) }
         ensures names { OnOk result (self.new ≡ with_name self.old name.now) }
         ensures err { OnErr result (self.new ≡ self.old) }
@@ -70,7 +71,7 @@ impl Names {
         if let Some(number) = self.number(name) {
             return Ok(number);
         }
-        let (number, _) = self.names.insert_full(Name::new(alloc, name)?)?;
+        let (number, _) = self.names.insert_full(Name::new(name)?)?;
         Ok(number)
     }
 }

@@ -55,7 +55,6 @@ impl Draft {
     /// One more candidate of the name.
     pub(crate) fn add_rule(
         &mut self,
-        alloc: Global,
         is_marked: bool,
         name: &[u8],
         questions: &[Question<'_>],
@@ -63,9 +62,9 @@ impl Draft {
         ensures { OnOk result
             (Adds (grammar.Rule is_marked name.now (map named questions.now)) self.old self.new) }
     {
-        let goal = self.goal_named(alloc, name)?;
+        let goal = self.goal_named(name)?;
         let first = self.askings.len();
-        self.ask(alloc, questions)?;
+        self.ask(questions)?;
         // A row counts in 32 bits, and so does what says where a goal's rows start.
         if self.askings.len() > u32::MAX as usize || self.rules.len() >= u32::MAX as usize {
             return Err(NoMemory);
@@ -80,15 +79,10 @@ impl Draft {
     }
 
     /// One more question to be answered.
-    pub(crate) fn add_question(
-        &mut self,
-        alloc: Global,
-        depth: usize,
-        name: &[u8],
-    ) -> Result<(), NoMemory>
+    pub(crate) fn add_question(&mut self, depth: usize, name: &[u8]) -> Result<(), NoMemory>
         ensures { OnOk result (Adds (grammar.Ask depth name.now) self.old self.new) }
     {
-        let goal = self.goal_named(alloc, name)?;
+        let goal = self.goal_named(name)?;
         self.questions.push((depth, goal))?;
         Ok(())
     }
@@ -102,11 +96,11 @@ impl Draft {
     }
 
     // The questions of one more rule.
-    fn ask(&mut self, alloc: Global, questions: &[Question<'_>]) -> Result<(), NoMemory>
+    fn ask(&mut self, questions: &[Question<'_>]) -> Result<(), NoMemory>
         ensures { OnOk result (HasAsked self.old self.new questions.now) }
     {
         for question in questions {
-            let goal = self.goal_named(alloc, question.name)?;
+            let goal = self.goal_named(question.name)?;
             self.askings.push(Asking {
                 kind: question.kind,
                 goal,
@@ -116,7 +110,7 @@ impl Draft {
     }
 
     // The goal of this name, which may be new.
-    fn goal_named(&mut self, alloc: Global, name: &[u8]) -> Result<Goal, NoMemory>
+    fn goal_named(&mut self, name: &[u8]) -> Result<Goal, NoMemory>
         ensures mentions { OnOk result (Mentions self.old self.new (name.now ∷ [])) }
         ensures goal { IfOk result (λ goal. name_of self.new goal ≡ Some name.now) }
         ensures askings { self.new.askings ≡ self.old.askings }
@@ -124,7 +118,7 @@ impl Draft {
         if self.names.count() > u32::MAX as usize {
             return Err(NoMemory);
         }
-        let number = self.names.intern(alloc, name)?;
+        let number = self.names.intern(name)?;
         Ok(Goal(number as u32))
     }
 }

@@ -67,8 +67,8 @@ fn read_line(alloc: Global, line: &[u8], draft: &mut Draft) -> Result<(), LineFa
             is_marked,
             name,
             questions,
-        } => draft.add_rule(alloc, is_marked, name, questions.as_slice())?,
-        Line::Ask { depth, name } => draft.add_question(alloc, depth, name)?,
+        } => draft.add_rule(is_marked, name, questions.as_slice())?,
+        Line::Ask { depth, name } => draft.add_question(depth, name)?,
     }
     Ok(())
 }

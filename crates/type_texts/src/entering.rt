@@ -83,13 +83,13 @@ impl TypeTable {
     }
 
     // The number of a word, which may be new.
-    fn word_of(&mut self, alloc: Global, word: &[u8]) -> Result<u32, EntryFault>
+    fn word_of(&mut self, word: &[u8]) -> Result<u32, EntryFault>
         ensures number { IfOk result
             (λ number. slice_get (labels_of self.new) number ≡ Some word.now) }
         ensures grows { OnOk result (GrowsLabels self.old self.new) }
         ensures refused { IfErr result (λ fault. fault ≡ EntryFault.Memory) }
     {
-        let number = self.words.intern(alloc, word)?;
+        let number = self.words.intern(word)?;
         u32::try_from(number).map_err(|_| EntryFault::Memory)
     }
 
@@ -102,7 +102,7 @@ impl TypeTable {
             HasUndeclared (names_of self.old) (parts_in (meaning_of written.now)) }
     {
         Ok(match written {
-            Written::Base(word) => Form::Base(self.word_of(alloc, word)?),
+            Written::Base(word) => Form::Base(self.word_of(word)?),
             Written::Top => Form::Top,
             Written::Bottom => Form::Bottom,
             Written::Function(argument, result) => {
@@ -127,7 +127,7 @@ impl TypeTable {
         let mut fields = Vec::with_capacity(alloc, written.len())?;
         for field in written {
             let part = self.number_of(field.part)?;
-            let name = self.word_of(alloc, field.name)?;
+            let name = self.word_of(field.name)?;
             fields.push(Field { name, part })?;
         }
         Ok(fields)

@@ -129,7 +129,7 @@ fn names_in(alloc: Global, lines: &[Line<'_>]) -> Result<Names, ReadFault>
             if names.number(name).is_some() {
                 return Err(ReadFault::Twice(before + 1));
             }
-            names.intern(alloc, name)?;
+            names.intern(name)?;
         }
     }
     Ok(names)

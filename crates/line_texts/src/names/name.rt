@@ -1,40 +1,54 @@
 //! A name that is kept, and one that is looked for. Their bytes are hashed at once.
-ghost use Rattle.std.specs.Prelude.{◌≡◌, ℕ, ⊤, [], ◌∷◌, IfOk};
+ghost use Rattle.std.specs.Prelude.{◌≡◌, ◌≤◌, ℕ, ⊤, [], ◌∷◌, take, IfOk};
 ghost use Rattle.std.specs.Cmp.{on_equiv, on_per, partial_equiv_from_equiv};
 ghost use Rattle.std.specs.Cmp.Lexicographic.{bytes_decides, lists_equiv, nat_list_eq_equiv};
 ghost use Rattle.std.specs.Str.{bytes_eq};
 ghost use Rattle.std.proofs.Common.{ap};
 
 use indexmap::Equivalent;
-use smallvec::SmallVec;
-use std::alloc::{AllocError, Global};
+use std::alloc::AllocError;
 use std::hash::{Hash, Hasher};
 
-/// A name of so many bytes takes no memory of its own.
-const SHORT: usize = 16;
+/// So many bytes has the longest name.
+const MOST: usize = 16;
 
-/// A name that is kept.
+/// A name that is kept. There are many, so their bytes lie within them.
 #[derive(Drop)]
-pub(super) struct Name(SmallVec<u8, SHORT>);
+pub(super) struct Name {
+    bytes: [u8; MOST],
+    length: u8,
+    ghost is_short: { length ≤ 16 },
+}
+
+const _: () = prove!(size_of::<Name>() == 17);
 
 impl Name {
-    pub(super) fn new(alloc: Global, text: &[u8]) -> Result<Name, AllocError>
-        ensures { IfOk result (λ name. name.0.items ≡ text.now) }
+    /// A longer text is refused, as one for which no memory is left.
+    pub(super) fn new(text: &[u8]) -> Result<Name, AllocError>
+        ensures { IfOk result (λ name. take name.length name.bytes ≡ text.now) }
     {
-        Ok(Name(SmallVec::from_slice(alloc, text)?))
+        if text.len() > MOST {
+            return Err(AllocError);
+        }
+        let mut bytes = [0; MOST];
+        bytes[..text.len()].copy_from_slice(text);
+        Ok(Name {
+            bytes,
+            length: text.len() as u8,
+        })
     }
 
     pub(super) fn text(&self) -> &[u8]
-        ensures { result.now ≡ self.now.0.items }
+        ensures { result.now ≡ take self.now.length self.now.bytes }
     {
-        self.0.as_slice()
+        &self.bytes[..self.length as usize]
     }
 }
 
 impl Hash for Name {
-    ghost hash_input = { λ name. name.0.items ∷ [] };
+    ghost hash_input = { λ name. take name.length name.bytes ∷ [] };
 
-    ghost respects_eq = { λ x y same. ap (λ bytes. bytes ∷ []) ((bytes_decides x.0.items y.0.items).0 same) };
+    ghost respects_eq = { λ x y same. ap (λ bytes. bytes ∷ []) ((bytes_decides (take x.length x.bytes) (take y.length y.bytes)).0 same) };
 
     fn hash<H: Hasher>(&self, state: &mut H) {
         state.write(self.text());
@@ -42,9 +56,9 @@ impl Hash for Name {
 }
 
 impl PartialEq for Name {
-    ghost eq = { λ x y. bytes_eq x.0.items y.0.items };
+    ghost eq = { λ x y. bytes_eq (take x.length x.bytes) (take y.length y.bytes) };
 
-    ghost laws = { on_per (λ x. x.0.items) (partial_equiv_from_equiv nat_list_eq_equiv) };
+    ghost laws = { on_per (λ x. take x.length x.bytes) (partial_equiv_from_equiv nat_list_eq_equiv) };
 
     fn eq(&self, other: &Name) -> bool {
         self.text() == other.text()
@@ -52,7 +66,7 @@ impl PartialEq for Name {
 }
 
 impl Eq for Name {
-    ghost laws = { on_equiv (λ x. x.0.items) nat_list_eq_equiv };
+    ghost laws = { on_equiv (λ x. take x.length x.bytes) nat_list_eq_equiv };
 }
 
 /// A name that is looked for.
@@ -84,11 +98,11 @@ impl Eq for Asked<'_> {
 }
 
 impl Equivalent<Name> for Asked<'_> {
-    ghost equivalent = { λ asked name. bytes_eq asked.0.now name.0.items };
+    ghost equivalent = { λ asked name. bytes_eq asked.0.now (take name.length name.bytes) };
 
-    ghost respects_hash = { λ asked name same. ap (λ bytes. bytes ∷ []) ((bytes_decides asked.0.now name.0.items).0 same) };
+    ghost respects_hash = { λ asked name same. ap (λ bytes. bytes ∷ []) ((bytes_decides asked.0.now (take name.length name.bytes)).0 same) };
 
-    ghost respects_eq = { λ asked x y. nat_list_eq_equiv.congr asked.0.now x.0.items y.0.items };
+    ghost respects_eq = { λ asked x y. nat_list_eq_equiv.congr asked.0.now (take x.length x.bytes) (take y.length y.bytes) };
 
     fn equivalent(&self, name: &Name) -> bool {
         self.0 == name.text()
