@@ -1,5 +1,5 @@
 //! Names and their numbers.
-ghost use Rattle.std.specs.Prelude.{◌≡◌, ◌↔◌, ℕ, List, [], length, Some, IfOk, OnOk, OnErr, slice_get};
+ghost use Rattle.std.specs.Prelude.{◌≡◌, ◌↔◌, ◌≤◌, ℕ, List, [], length, Some, IfOk, OnOk, OnErr, slice_get};
 ghost use Rattle.std.specs.Option.{option_copied};
 ghost use Rattle.line_texts.specs.Names.{with_name};
 
@@ -61,9 +61,9 @@ impl Names {
         self.names.get_index(number).map(|name| name.text())
     }
 
-    /// The name's number, which is the next one where the name is new. A failure changes nothing. A new name
-    /// of more than 16 bytes, which no grammar of these texts allows, is refused as if no memory were left.
+    /// The name's number, which is the next one where the name is new. A failure changes nothing.
     pub fn intern(&mut self, name: &[u8]) -> Result<usize, AllocError>
+        requires { length name.now ≤ 16 }
         ensures number { IfOk result (λ number. slice_get self.new number ≡ Some name.now) }
         ensures names { OnOk result (self.new ≡ with_name self.old name.now) }
         ensures err { OnErr result (self.new ≡ self.old) }
@@ -71,7 +71,7 @@ impl Names {
         if let Some(number) = self.number(name) {
             return Ok(number);
         }
-        let (number, _) = self.names.insert_full(Name::new(name)?)?;
+        let (number, _) = self.names.insert_full(Name::new(name))?;
         Ok(number)
     }
 }

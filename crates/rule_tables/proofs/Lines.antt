@@ -1,11 +1,14 @@
 -- Reading a text, one line after another.
 use Rattle.std.proofs.Common.{◌≡◌, ℕ, ◌+◌, ◌<◌, List, [], ◌∷◌, ◌++◌, length, take, get_or, Some, ap, sym, subst, ◌∙◌, arith}
-use Rattle.std.specs.Prelude.{slice_get}
+use Rattle.std.specs.Prelude.{slice_get, All, map}
 use Rattle.std.specs.List.{AllZip, AllByRecursion, enumerate_from, filter_map}
 use Rattle.std.proofs.lemmas.List.{take_more, take_all}
 use Rattle.std.proofs.lemmas.List.Elements.{All-from_recursion}
 use Rattle.std.proofs.lemmas.List.FromFn.{length-enumerate_from, get_or-enumerate_from}
 use Rattle.std.proofs.lemmas.Option.{slice_get_within, get_or_from_slice_get, slice_get-get_or}
+use Rattle.rule_tables.specs.declared.reading.question.Question.{Question}
+use Rattle.rule_tables.specs.Question.{HasShortName, named}
+use Rattle.rule_tables.specs.Grammar.{IsQuestion}
 use Rattle.rule_tables.specs.Words.{Draft, Rules, Statement, Says, IsMalformed, lines_of, IsDraftOf, IsMadeOf, IsTableOf, IsCandidate, IsToBeAnswered, Adds, Reads, IsFirstBadLine, number_of, candidates_of, questions_of, candidate_in, question_in}
 use Rattle.rule_tables.proofs.Questions.{AllZip-append_one}
 
@@ -68,3 +71,12 @@ all_read text n draft rules so_far end made = record {
   lines = rw (← take_all n (lines_of text) (omega (arith, length-enumerate_from 0 (lines_of text)))) so_far.lines;
   table = table_of so_far.statements draft rules so_far.table made;
 }
+
+-- the names of a rule's questions are names
+short_from : (words : List (List ℕ)) (questions : List Question) → AllZip IsQuestion words (map named questions) → AllByRecursion HasShortName questions
+short_from words [] h = tt
+short_from [] (q ∷ questions) h = absurd h
+short_from (word ∷ words) (q ∷ questions) h = (h.0.is_name.is_short, short_from words questions h.1)
+
+pub short_names : (words : List (List ℕ)) (questions : List Question) → AllZip IsQuestion words (map named questions) → All HasShortName questions
+short_names words questions h = All-from_recursion HasShortName questions (short_from words questions h)

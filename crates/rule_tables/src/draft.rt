@@ -37,7 +37,7 @@ pub(crate) struct Draft {
 impl Draft {
     ghost use Rattle.std.specs.Prelude.{◌≡◌, [], ◌∷◌, map, Some, IfOk, OnOk};
     ghost use Rattle.rule_tables.specs.Grammar as grammar;
-    ghost use Rattle.rule_tables.specs.Question.{named};
+    ghost use Rattle.rule_tables.specs.Question.{HasShortName, named};
     ghost use Rattle.rule_tables.specs.Draft.{Adds, HasAsked, IsDraftOf, IsMadeOf, Mentions, name_of};
 
     /// A draft with no name in it.
@@ -59,6 +59,8 @@ impl Draft {
         name: &[u8],
         questions: &[Question<'_>],
     ) -> Result<(), NoMemory>
+        requires name { length name.now ≤ 16 }
+        requires questions { All HasShortName questions.now }
         ensures { OnOk result
             (Adds (grammar.Rule is_marked name.now (map named questions.now)) self.old self.new) }
     {
@@ -80,6 +82,7 @@ impl Draft {
 
     /// One more question to be answered.
     pub(crate) fn add_question(&mut self, depth: usize, name: &[u8]) -> Result<(), NoMemory>
+        requires { length name.now ≤ 16 }
         ensures { OnOk result (Adds (grammar.Ask depth name.now) self.old self.new) }
     {
         let goal = self.goal_named(name)?;
@@ -97,6 +100,7 @@ impl Draft {
 
     // The questions of one more rule.
     fn ask(&mut self, questions: &[Question<'_>]) -> Result<(), NoMemory>
+        requires { All HasShortName questions.now }
         ensures { OnOk result (HasAsked self.old self.new questions.now) }
     {
         for question in questions {
@@ -111,6 +115,7 @@ impl Draft {
 
     // The goal of this name, which may be new.
     fn goal_named(&mut self, name: &[u8]) -> Result<Goal, NoMemory>
+        requires { length name.now ≤ 16 }
         ensures mentions { OnOk result (Mentions self.old self.new (name.now ∷ [])) }
         ensures goal { IfOk result (λ goal. name_of self.new goal ≡ Some name.now) }
         ensures askings { self.new.askings ≡ self.old.askings }

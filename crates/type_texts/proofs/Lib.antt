@@ -6,3 +6,4 @@ pub mod Adding
 pub mod Lines
 pub mod Spelling
 pub mod Refusing
+pub mod Short

@@ -1,7 +1,7 @@
 //! What a line says is entered into a table of which the names are known.
-ghost use Rattle.std.specs.Prelude.{◌≡◌, ◌∷◌, [], Some, IfOk, IfErr, OnOk, map, slice_get};
+ghost use Rattle.std.specs.Prelude.{◌≡◌, ◌≤◌, ◌∷◌, [], All, length, Some, IfOk, IfErr, OnOk, map, slice_get};
 ghost use Rattle.std.specs.List.{AllZip};
-ghost use Rattle.type_texts.specs.Words.{Adds, GrowsLabels, HasUndeclared, IsForm, IsNumberOf, IsSameField, labels_of, meaning_of, named, named_in, names_of, parts_in, statement_of};
+ghost use Rattle.type_texts.specs.Words.{Adds, GrowsLabels, HasShortName, HasShortParts, HasShortWords, HasUndeclared, IsForm, IsNumberOf, IsSameField, labels_of, meaning_of, named, named_in, names_of, parts_in, statement_of};
 
 use crate::line::Line;
 use crate::table::TypeTable;
@@ -51,6 +51,7 @@ impl<T: Drop> From<AllocFailed<T>> for EntryFault {
 impl TypeTable {
     /// Enters what the line says.
     pub(crate) fn enter(&mut self, alloc: Global, line: &Line<'_>) -> Result<(), EntryFault>
+        requires { HasShortWords (statement_of line.now) }
         ensures added { OnOk result (Adds (statement_of line.now) self.old self.new) }
         ensures undeclared { result ≡ Err EntryFault.Undeclared →
             HasUndeclared (names_of self.old) (named_in (statement_of line.now)) }
@@ -84,6 +85,7 @@ impl TypeTable {
 
     // The number of a word, which may be new.
     fn word_of(&mut self, word: &[u8]) -> Result<u32, EntryFault>
+        requires { length word.now ≤ 16 }
         ensures number { IfOk result
             (λ number. slice_get (labels_of self.new) number ≡ Some word.now) }
         ensures grows { OnOk result (GrowsLabels self.old self.new) }
@@ -95,6 +97,7 @@ impl TypeTable {
 
     // What is written, by the numbers of its parts.
     fn form_of(&mut self, alloc: Global, written: &Written<'_>) -> Result<Form, EntryFault>
+        requires { HasShortParts (meaning_of written.now) }
         ensures form { IfOk result (λ form.
             IsForm (names_of self.new) (labels_of self.new) form (meaning_of written.now)) }
         ensures grows { OnOk result (GrowsLabels self.old self.new) }
@@ -118,6 +121,7 @@ impl TypeTable {
         alloc: Global,
         written: &[WrittenField<'_>],
     ) -> Result<Vec<Field>, EntryFault>
+        requires { All HasShortName (map named written.now) }
         ensures fields { IfOk result (λ fields. AllZip
             (IsSameField (names_of self.new) (labels_of self.new)) fields.items (map named written.now)) }
         ensures grows { OnOk result (GrowsLabels self.old self.new) }

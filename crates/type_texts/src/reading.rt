@@ -1,8 +1,8 @@
 //! Reading a text.
-ghost use Rattle.std.specs.Prelude.{◌≡◌, ℕ, IfOk, IfErr, map};
+ghost use Rattle.std.specs.Prelude.{◌≡◌, ℕ, All, IfOk, IfErr, map};
 ghost use Rattle.std.specs.List.{AllZip};
 ghost use Rattle.std.specs.Option.{option_copied};
-ghost use Rattle.type_texts.specs.Words.{AreDistinct, declared_by, IsDeclaredTwice, IsFirstBadLine, IsTableOf, IsUndeclared, IsUnguarded, lines_of, name_in, names_of, Reads, Says, statement_of};
+ghost use Rattle.type_texts.specs.Words.{AreDistinct, declared_by, HasShortWords, IsDeclaredTwice, IsFirstBadLine, IsTableOf, IsUndeclared, IsUnguarded, lines_of, name_in, names_of, Reads, Says, statement_of};
 ghost use Rattle.type_texts.specs.Faults.{IsOfLines, IsOfNames, IsOfTable};
 
 use crate::entering::EntryFault;
@@ -119,6 +119,7 @@ fn lines_in<'a>(alloc: Global, text: &'a [u8]) -> Result<Vec<Line<'a>>, ReadFaul
 
 // The names that are declared, in order.
 fn names_in(alloc: Global, lines: &[Line<'_>]) -> Result<Names, ReadFault>
+    requires { All HasShortWords (map statement_of lines.now) }
     ensures names { IfOk result (λ names. names ≡ declared_by (map statement_of lines.now)) }
     ensures distinct { IfOk result (λ names. AreDistinct names) }
     ensures fault { IfErr result (λ fault. IsOfNames (map statement_of lines.now) fault) }
@@ -147,6 +148,7 @@ fn declared_name<'a>(line: &Line<'a>) -> Option<&'a [u8]>
 
 // The table of what the lines say.
 fn table_of(alloc: Global, names: Names, lines: &[Line<'_>]) -> Result<TypeTable, ReadFault>
+    requires { All HasShortWords (map statement_of lines.now) }
     ensures names { IfOk result (λ table. names_of table ≡ names) }
     ensures table { IfOk result (λ table. IsTableOf (map statement_of lines.now) table) }
     ensures fault { IfErr result (λ fault. IsOfTable names (map statement_of lines.now) fault) }

@@ -1,12 +1,11 @@
 //! A name that is kept, and one that is looked for. Their bytes are hashed at once.
-ghost use Rattle.std.specs.Prelude.{◌≡◌, ◌≤◌, ℕ, ⊤, [], ◌∷◌, take, IfOk};
+ghost use Rattle.std.specs.Prelude.{◌≡◌, ◌≤◌, ℕ, ⊤, [], ◌∷◌, length, take};
 ghost use Rattle.std.specs.Cmp.{on_equiv, on_per, partial_equiv_from_equiv};
 ghost use Rattle.std.specs.Cmp.Lexicographic.{bytes_decides, lists_equiv, nat_list_eq_equiv};
 ghost use Rattle.std.specs.Str.{bytes_eq};
 ghost use Rattle.std.proofs.Common.{ap};
 
 use indexmap::Equivalent;
-use std::alloc::AllocError;
 use std::hash::{Hash, Hasher};
 
 /// So many bytes has the longest name.
@@ -23,19 +22,16 @@ pub(super) struct Name {
 const _: () = prove!(size_of::<Name>() == 17);
 
 impl Name {
-    /// A longer text is refused, as one for which no memory is left.
-    pub(super) fn new(text: &[u8]) -> Result<Name, AllocError>
-        ensures { IfOk result (λ name. take name.length name.bytes ≡ text.now) }
+    pub(super) fn new(text: &[u8]) -> Name
+        requires { length text.now ≤ 16 }
+        ensures { take result.length result.bytes ≡ text.now }
     {
-        if text.len() > MOST {
-            return Err(AllocError);
-        }
         let mut bytes = [0; MOST];
         bytes[..text.len()].copy_from_slice(text);
-        Ok(Name {
+        Name {
             bytes,
             length: text.len() as u8,
-        })
+        }
     }
 
     pub(super) fn text(&self) -> &[u8]

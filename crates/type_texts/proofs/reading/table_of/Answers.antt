@@ -2,6 +2,7 @@ use Rattle.std.proofs.Common.{refl, ap, sym, ◌∙◌, ◌+◌, subst}
 use Rattle.std.proofs.lemmas.Option.{slice_get_read}
 use Rattle.type_texts.specs.Words.{HasUndeclared, named_in, statement_of}
 use Rattle.type_texts.proofs.Lists.{map_take_more}
+use Rattle.type_texts.proofs.Short.{short_at}
 use Rattle.type_texts.proofs.Texts.{statement_at}
 use Rattle.type_texts.proofs.reading.table_of.Goals as goal
 
@@ -19,3 +20,6 @@ loop-before-preserved c = record {
   names = c.in-Ok.ensures.added.names ∙ c.loop-before.invariant.names;
   table = c.in-Ok.ensures.added.more _ c.loop-before.invariant.table _ (map_take_more statement_of c.args.lines.now c.loop-before.before c.index-lines-before.result c.loop-before-test.true c.index-lines-before.is);
 }
+
+pub enter-requires : goal.enter-requires
+enter-requires c = short_at c.args.lines.now c.loop-before.before c.index-lines-before.result c.requires c.loop-before-test.true c.index-lines-before.is

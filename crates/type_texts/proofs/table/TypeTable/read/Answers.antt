@@ -1,5 +1,6 @@
 use Rattle.std.proofs.Common.{Ok, ap, map, subst, sym, ◌∙◌}
 use Rattle.type_texts.specs.Words.{AreDistinct, statement_of}
+use Rattle.type_texts.proofs.Short.{all_short}
 use Rattle.type_texts.proofs.Texts.{all_declared, as_many_forms}
 use Rattle.type_texts.proofs.table.TypeTable.read.Goals as goal
 
@@ -36,3 +37,9 @@ returns-clause-read c =
       declared = all_declared (map statement_of c.in_ok-lines.lines.items) c.in_ok-table.table is_table names;
       contractive = c.in_ok-number.ensures.none (ap Ok c.in-None.is);
     }
+
+pub names_in-requires : goal.names_in-requires
+names_in-requires c = rw c.as_slice.ensures.value (all_short _ (map statement_of c.in_ok-lines.lines.items) c.in_ok-lines.ensures.lines)
+
+pub table_of-requires : goal.table_of-requires
+table_of-requires c = rw c.as_slice-2.ensures.value (all_short _ (map statement_of c.in_ok-lines.lines.items) c.in_ok-lines.ensures.lines)
