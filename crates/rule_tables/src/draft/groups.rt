@@ -46,7 +46,8 @@ pub(crate) fn grouped(
 // Goes through the rules from the last one to the first, so that each comes before those of its goal that are linked.
 fn linked(alloc: Global, rules: &[DraftRule], goals: usize) -> Result<Links, NoMemory>
     requires known { All (IsKnown goals) rules.now }
-    ensures { IfOk result (λ links. AreLinked rules.now (length rules.now) goals links.firsts.items links.nexts.items) }
+    ensures { IfOk result (λ links.
+        AreLinked rules.now (length rules.now) goals links.firsts.items links.nexts.items) }
 {
     if rules.len() > u32::MAX as usize {
         return Err(NoMemory);
