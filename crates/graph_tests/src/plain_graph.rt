@@ -5,7 +5,7 @@
 //! nodes. Only the search for closed walks is alike, and neither check has a part of the other, on purpose.
 
 use delegate_parts::Outcome;
-use rule_tables::{Goal, Rules};
+use rule_tables::{Candidates, Goal, Rules};
 use search_parts::context::{Cx, Delegate, Node, NodeId};
 use search_parts::global_cache::GlobalCache;
 use search_parts::path::PathKind;
@@ -129,22 +129,36 @@ impl ShownGraph {
     fn is_shown(&self, rules: &Rules, node: ShownNode) -> bool {
         let candidates = rules.candidates(node.goal);
         match node.outcome {
-            Outcome::Yes => candidates.iter().any(|candidate| {
-                candidate.questions.iter().all(|question| self.has_edge(
-                    node,
-                    question.kind,
-                    question.goal,
-                ))
-            }),
-            Outcome::No => candidates.iter().all(|candidate| {
-                candidate.questions.iter().any(|question| self.has_edge(
-                    node,
-                    question.kind,
-                    question.goal,
-                ))
-            }),
+            Outcome::Yes => self.has_all_of_one(&candidates, node),
+            Outcome::No => self.has_one_of_each(&candidates, node),
             Outcome::Maybe | Outcome::Overflow => false,
         }
+    }
+
+    /// Whether the node's edges have all questions of some candidate.
+    fn has_all_of_one(&self, candidates: &Candidates<'_>, node: ShownNode) -> bool {
+        for place in 0..candidates.count() {
+            if let Some(candidate) = candidates.get(place) {
+                let mut questions = candidate.questions().iter();
+                if questions.all(|it| self.has_edge(node, it.kind, it.goal)) {
+                    return true;
+                }
+            }
+        }
+        false
+    }
+
+    /// Whether the node's edges have a question of each candidate.
+    fn has_one_of_each(&self, candidates: &Candidates<'_>, node: ShownNode) -> bool {
+        for place in 0..candidates.count() {
+            if let Some(candidate) = candidates.get(place) {
+                let mut questions = candidate.questions().iter();
+                if !questions.any(|it| self.has_edge(node, it.kind, it.goal)) {
+                    return false;
+                }
+            }
+        }
+        true
     }
 
     fn has_edge(&self, node: ShownNode, kind: PathKind, goal: Goal) -> bool {

@@ -80,13 +80,22 @@ fn goals_of(alloc: Global, rules: &Rules) -> Result<Vec<Goal>, AllocError> {
         let Some(goal) = goals.get(place).copied() else {
             break;
         };
-        for candidate in rules.candidates(goal) {
-            for asking in &candidate.questions {
-                add(&mut goals, asking.goal)?;
+        add_asked(&mut goals, rules, goal)?;
+    }
+    Ok(goals)
+}
+
+/// Adds the goals that the goal's candidates ask.
+fn add_asked(goals: &mut Vec<Goal>, rules: &Rules, goal: Goal) -> Result<(), AllocError> {
+    let candidates = rules.candidates(goal);
+    for place in 0..candidates.count() {
+        if let Some(candidate) = candidates.get(place) {
+            for asking in candidate.questions() {
+                add(goals, asking.goal)?;
             }
         }
     }
-    Ok(goals)
+    Ok(())
 }
 
 fn add(goals: &mut Vec<Goal>, goal: Goal) -> Result<(), AllocError> {
