@@ -1,13 +1,16 @@
 -- Marking what is reached: one number after the other, and then what the marked nodes lead to.
-use Rattle.std.proofs.Common.{◌≡◌, ◌⊎◌, ℕ, zero, suc, ◌+◌, ◌<◌, ◌≤◌, Bool, true, false, List, [], ◌∷◌, ◌++◌, map, None, Some, length, get_or, replicate, take, slice_get, slice_set, Contains, refl, sym, ◌∙◌, ap, subst, inl, inr, arith, length-append}
+use Rattle.std.proofs.Common.{◌≡◌, ◌⊎◌, ℕ, zero, suc, ◌+◌, ◌<◌, ◌≤◌, Bool, true, false, List, [], ◌∷◌, ◌++◌, map, None, Option, Some, drop, length, get_or, replicate, take, slice_get, slice_set, Contains, refl, sym, ◌∙◌, ap, subst, inl, inr, arith, length-append}
+use Rattle.std.specs.List.{refill}
 use Rattle.std.proofs.Math.ListN.{length-set}
+use Rattle.std.proofs.Math.Seq.{take-append_seam}
 use Rattle.std.proofs.lemmas.Bool.{cases_eq, cases_lt}
 use Rattle.std.proofs.lemmas.List.{map-append, take_more}
 use Rattle.std.proofs.lemmas.List.Elements.{Contains-append_cases, Contains-append_left, Contains-append_right}
 use Rattle.std.proofs.lemmas.Option.{get_or_from_slice_get, slice_get-get_or, slice_get_read, slice_get_within}
 use Rattle.open_graphs.proofs.Lists.{get_set_other, get_set_same, mapped_some}
 use Rattle.open_graphs.proofs.Members.{Contains-mapped}
-use Rattle.global_cache.specs.Words.{Held, AreMarked, AreNone, AreWaiting, HasNumber, IsClosed, IsFound, IsMarked, IsRising, Marks, MarksFrom, slot_at, targets_of, unmarked, root, next}
+use Rattle.global_cache.specs.Words.{Held, AreMarked, AreNone, AreWaiting, HasNumber, IsClosed, IsFound, IsMarked, IsRising, Marks, MarksFrom, slot_at, targets_of, unmarked, with_root, root, next}
+use Rattle.search_context.specs.declared.context.NodeId.{NodeId}
 use Rattle.global_cache.proofs.FoundNodes.{only_number}
 use Rattle.global_cache.proofs.HeldNodes.{slot_of}
 
@@ -21,6 +24,18 @@ one_less (true ∷ marked) zero none = absurd cc
 one_less (false ∷ marked) zero none = omega arith
 one_less (true ∷ marked) (suc place) none = one_less marked place none
 one_less (false ∷ marked) (suc place) none = omega (arith, one_less marked place none)
+
+-- what gives nothing has nothing
+pub nothing_left : (n : ℕ) → (0 < n → false ≡ true) → n ≡ 0
+nothing_left zero gives = refl
+nothing_left (suc n) gives = let never : false ≡ true = gives (omega arith) in absurd cc
+
+-- what is written to the list that was lent stands in the list
+pub marked_there : (marked lent : List Bool) (place : ℕ) → lent ≡ marked → refill (length marked) marked (slice_set lent place true) ≡ slice_set marked place true
+marked_there marked lent place is =
+    let set = slice_set lent place true in
+    ap (λ n. take n (set ++ drop (length set) marked)) (sym (length-set lent place true ∙ ap length is))
+    ∙ (take-append_seam set (drop (length set) marked) ∙ ap (λ l. slice_set l place true) is)
 
 pub numbered : {I R : Type 0} (held : List (Held I R)) (place n : ℕ) → HasNumber held place n → (h : Held I R) × (slice_get held place ≡ Some h) × (h.number ≡ n)
 numbered held place n has = mapped_some (λ h. h.number) (slice_get held place) n has
@@ -344,18 +359,39 @@ module _ {I R : Type 0} (held : List (Held I R)) (roots : List ℕ) where
     ];
   }
 
--- the roots are a list of nodes
-module _ {I R A : Type 0} (held : List (Held I R)) (f : A → ℕ) (xs : List A) (i : ℕ) where
-  pub next_followed : (x d : A) → i < length xs → x ≡ get_or xs i d → (marked more : List Bool) → AreFollowed held (map f xs) (map f (take i xs)) marked → IsClosed held more → MarksFrom held (f x) marked more → AreFollowed held (map f xs) (map f (take (i + 1) xs)) more
-  next_followed x d lt is marked more before closed marks =
-      subst (λ l. AreFollowed held (map f xs) l more)
-      (sym (map-append f (take i xs) (x ∷ [])) ∙ ap (map f) (ap (λ y. take i xs ++ y ∷ []) is ∙ sym (take_more xs i d lt)))
-      (root_followed held (map f xs) (map f (take i xs)) (f x) marked more (Contains-mapped f xs x (i, lt, get_or_from_slice_get xs i x x (slice_get-get_or xs i d lt ∙ ap Some (sym is)))) before closed marks)
+-- the roots are a list of nodes, and the last one, if there is one
+abbrev pub numbers_of : List NodeId → List ℕ
+numbers_of nodes = map (λ n. n.0) nodes
 
-  pub all_followed : length xs ≤ i → (marked : List Bool) → AreFollowed held (map f xs) (map f (take i xs)) marked → AreMarked held (map f xs) marked
-  all_followed le marked a = record {
+module _ {I R : Type 0} (held : List (Held I R)) (last : Option NodeId) (roots : List NodeId) (i : ℕ) where
+  is_root : (o : Option NodeId) (n : ℕ) → Contains (numbers_of roots) n → Contains (numbers_of (with_root o roots)) n
+  is_root None n has = has
+  is_root (Some r) n has = subst (λ l. Contains l n) (sym (map-append (λ n. n.0) roots (r ∷ []))) (Contains-append_left (numbers_of roots) (r.0 ∷ []) n has)
+
+  pub next_followed : (x d : NodeId) → i < length roots → x ≡ get_or roots i d → (marked more : List Bool) → AreFollowed held (numbers_of (with_root last roots)) (numbers_of (take i roots)) marked → IsClosed held more → MarksFrom held x.0 marked more → AreFollowed held (numbers_of (with_root last roots)) (numbers_of (take (i + 1) roots)) more
+  next_followed x d lt is marked more before closed marks =
+      let has = Contains-mapped (λ n. n.0) roots x (i, lt, get_or_from_slice_get roots i x x (slice_get-get_or roots i d lt ∙ ap Some (sym is))) in
+      subst (λ l. AreFollowed held (numbers_of (with_root last roots)) l more)
+      (sym (map-append (λ n. n.0) (take i roots) (x ∷ [])) ∙ ap numbers_of (ap (λ y. take i roots ++ y ∷ []) is ∙ sym (take_more roots i d lt)))
+      (root_followed held (numbers_of (with_root last roots)) (numbers_of (take i roots)) x.0 marked more (is_root last x.0 has) before closed marks)
+
+-- all were followed, and then the last one
+module _ {I R : Type 0} (held : List (Held I R)) (roots : List NodeId) (i : ℕ) (end : length roots ≤ i) (marked : List Bool) where
+  pub all_followed : (last : Option NodeId) → last ≡ None → AreFollowed held (numbers_of (with_root last roots)) (numbers_of (take i roots)) marked → AreMarked held (numbers_of (with_root last roots)) marked
+  all_followed None none a = record {
     each = a.each;
-    rooted = λ p n is. a.rooted p n (subst (λ l. Contains (map f l) n) (sym (take_all xs i le)) is);
+    rooted = λ p n is. a.rooted p n (subst (λ l. Contains (numbers_of l) n) (sym (take_all roots i end)) is);
     closed = a.closed;
     found = a.found;
   }
+  all_followed (Some r) none a = absurd cc
+
+  pub last_followed : (last : Option NodeId) (node : NodeId) → last ≡ Some node → AreFollowed held (numbers_of (with_root last roots)) (numbers_of (take i roots)) marked → (more : List Bool) → IsClosed held more → MarksFrom held node.0 marked more → AreMarked held (numbers_of (with_root last roots)) more
+  last_followed None node is a more closed marks = absurd cc
+  last_followed (Some r) node is a more closed marks =
+      let all = numbers_of (roots ++ r ∷ []) in
+      let one : node.0 ≡ r.0 = cc in
+      let whole : numbers_of (take i roots) ++ r.0 ∷ [] ≡ all = ap (λ l. numbers_of l ++ r.0 ∷ []) (take_all roots i end) ∙ sym (map-append (λ n. n.0) roots (r ∷ [])) in
+      let has : Contains all r.0 = subst (λ l. Contains l r.0) whole (Contains-append_right (numbers_of (take i roots)) (r.0 ∷ []) r.0 (zero, omega arith, refl)) in
+      let f = root_followed held all (numbers_of (take i roots)) r.0 marked more has a closed (subst (λ n. MarksFrom held n marked more) one marks) in
+      record { each = f.each; rooted = λ p n is. f.rooted p n (subst (λ l. Contains l n) (sym whole) is); closed = f.closed; found = f.found }

@@ -1,5 +1,5 @@
 -- The list of nodes once those were let go to which nothing leads any more.
-use Rattle.std.specs.Prelude.{◌≡◌, ◌⊎◌, ◌<◌, ℕ, Bool, Contains, IsTrue, List, slice_get, Some}
+use Rattle.std.specs.Prelude.{◌≡◌, ◌⊎◌, ◌<◌, ◌++◌, ◌∷◌, [], ℕ, Bool, Contains, IsTrue, List, None, Option, slice_get, Some}
 use Rattle.std.specs.Option.{IfSome}
 use Rattle.search_context.specs.declared.context.Edge.{Edge}
 use Rattle.search_context.specs.declared.context.NodeId.{NodeId}
@@ -12,6 +12,11 @@ use Rattle.global_cache.specs.Store.{Store, stored_at}
 -- no edge leads from a node before this place to one that is not before it
 abbrev pub StayBefore : {I R : Type 0} → ℕ → List (CacheNode I R) → Type 0
 StayBefore {I} first nodes = (at : ℕ) (e : Edge I) → at < first → HasEdge (graph_nodes_of nodes) at e → e.target < first
+
+-- the roots with another one, if there is one
+abbrev pub with_root : Option NodeId → List NodeId → List NodeId
+with_root None roots = roots
+with_root (Some root) roots = roots ++ root ∷ []
 
 -- the node of each stored result is before this place, or is one of the roots
 abbrev pub AreRooted : {X I R A T : Type 0} → (I → I → Bool) → ℕ → List NodeId → Store I (StoredResult X I R A T) → Type 0

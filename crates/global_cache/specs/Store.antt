@@ -1,5 +1,6 @@
 -- The results that a cache stores: of each goal at most one success, and for each depth at most one overflow result.
-use Rattle.std.specs.Prelude.{◌≡◌, ℕ, ◌==◌, ◌&&◌, Bool, true, false, if◌then◌else◌, List, Option, None, Some, Result, Ok, Err, IfErr}
+use Rattle.std.specs.Prelude.{◌≡◌, ℕ, ◌==◌, ◌&&◌, Bool, true, false, if◌then◌else◌, List, Option, None, Some, Result, Ok, Err, IfErr, []}
+use Rattle.std.specs.Hash.{HashWrites, usize}
 use Rattle.std.specs.Map.{lookup}
 use Rattle.std.specs.Option.{IsSomeAnd}
 use Rattle.search_context.specs.declared.context.Fault.{Fault}
@@ -19,6 +20,11 @@ same_place _ _ = false
 abbrev pub is_of_overflow : Place → Bool
 is_of_overflow Success = false
 is_of_overflow (WithOverflow depth) = true
+
+-- what the hash of a place is made of
+abbrev pub hashed_of : Place → HashWrites
+hashed_of Success = []
+hashed_of (WithOverflow depth) = usize depth
 
 -- both are the same place of the same goal
 abbrev pub same_key : {I : Type 0} → (I → I → Bool) → I × Place → I × Place → Bool

@@ -2,7 +2,7 @@
 pub use Rattle.global_cache.specs.Cache.{AreRuns, Cache, CacheNode, ended_run, EndedRun, finished_node, goal_if_open, gone_node}
 pub use Rattle.global_cache.specs.Cache.{graph_node_of, graph_nodes_of, IsNodeOf, IsRun, KeepsFinished, KeepsGoals}
 pub use Rattle.global_cache.specs.Cache.{KeepsNodes, open_goal, open_node, with_run}
-pub use Rattle.global_cache.specs.Collected.{AreLive, AreRooted, Collected, StayBefore}
+pub use Rattle.global_cache.specs.Collected.{AreLive, AreRooted, Collected, StayBefore, with_root}
 pub use Rattle.global_cache.specs.Definite.{HasGraph, HasNode}
 pub use Rattle.global_cache.specs.Found.{ArePlaced, Finds}
 pub use Rattle.global_cache.specs.HandedOut.{Copies, IsCopyFrom, IsWhole, KeepsWhole, original_node}

@@ -1,19 +1,23 @@
 //! Which nodes are reached from some roots, by their places among the nodes that are held.
 ghost use Rattle.std.specs.Prelude.{◌≡◌, ◌∷◌, ◌++◌, [], ◌<◌, ◌≤◌, ℕ, drop, length, take, map, slice_get, IfOk, OnOk};
-ghost use Rattle.global_cache.specs.Words.{AreMarked, AreNone, AreWaiting, IsClosed, IsRising, kept, Marks as Marking, MarksFrom, targets_of};
+ghost use Rattle.global_cache.specs.Words.{AreMarked, AreNone, AreWaiting, IsClosed, IsRising, kept, Marks as Marking, MarksFrom, targets_of, with_root};
 
 use crate::hints::Hints;
 use crate::node_list::{Held, Slot};
 use search_context::context::{Edge, NoMemory, NodeId};
+use smallvec::SmallVec;
 use std::alloc::Global;
+
+/// Of so many nodes it is found out without memory of the heap. Most calls write no more.
+const FEW: usize = 16;
 
 /// The nodes that were found so far.
 #[derive(Drop)]
 struct Marks {
     /// Of each place, whether its node was found.
-    marked: Vec<bool>,
+    marked: SmallVec<bool, FEW>,
     /// The places of those that are still to be followed, of which the one that was found last comes first.
-    waiting: Vec<usize>,
+    waiting: SmallVec<usize, FEW>,
     /// Where nodes were found.
     hints: Hints,
 }
@@ -24,8 +28,8 @@ impl Marks {
         ensures { IfOk result (λ marks. AreNone count marks.marked.items marks.waiting.items) }
     {
         Ok(Marks {
-            marked: Vec::from_elem(alloc, false, count)?,
-            waiting: Vec::with_capacity(alloc, count)?,
+            marked: SmallVec::from_elem(alloc, false, count)?,
+            waiting: SmallVec::with_capacity(alloc, count)?,
             hints: Hints::new(alloc, count)?,
         })
     }
@@ -47,11 +51,11 @@ impl Marks {
         let Some(place) = self.hints.find(held, near, number) else {
             return Ok(());
         };
-        if self.marked[place] {
+        if self.marked.as_slice()[place] {
             return Ok(());
         }
         self.waiting.push(place)?;
-        self.marked[place] = true;
+        self.marked.as_mut_slice()[place] = true;
         Ok(())
     }
 
@@ -122,22 +126,27 @@ impl Marks {
     }
 }
 
-// Of each of these nodes, whether it is reached from the roots by their edges. Numbers that none of
-// them has are passed over.
+// Of each of these nodes, whether it is reached by their edges from one of the roots, or from the last one, if there is
+// one. Numbers that none of them has are passed over.
 pub(super) fn marked_from<I, R>(
     alloc: Global,
     held: &[Held<I, R>],
     roots: &[NodeId],
-) -> Result<Vec<bool>, NoMemory>
+    last: Option<NodeId>,
+) -> Result<SmallVec<bool, FEW>, NoMemory>
     requires { IsRising held.now }
-    ensures { IfOk result (λ marked. AreMarked held.now (map (λ r. r.0) roots.now) marked.items) }
+    ensures { IfOk result (λ marked.
+        AreMarked held.now (map (λ r. r.0) (with_root last roots.now)) marked.items) }
 {
     let mut marks = Marks::new(alloc, held.len())?;
     // Roots are looked for from the end on, since most of them are new. Each is followed at once: what it leads to stands
     // near it most of the time.
-    let last = held.len().saturating_sub(1);
+    let end = held.len().saturating_sub(1);
     for root in roots {
-        marks.mark_from(held, last, root.0)?;
+        marks.mark_from(held, end, root.0)?;
+    }
+    if let Some(root) = last {
+        marks.mark_from(held, end, root.0)?;
     }
     let Marks {
         marked,

@@ -1,6 +1,6 @@
 //! The list of numbered nodes, of which only those are held that were not let go.
 ghost use Rattle.std.specs.Prelude.{◌≡◌, ◌∷◌, ◌++◌, ◌<◌, ℕ, Bool, [], length, count_by, slice_get, Some, IfOk, IsSome, MatchOption, OnOk, OnErr};
-ghost use Rattle.global_cache.specs.Words.{open_node as new_node, open_goal, with_run, ended_run, node_of, is_held, AreLive, Collected, IsGone, StayBefore};
+ghost use Rattle.global_cache.specs.Words.{open_node as new_node, open_goal, with_run, ended_run, node_of, is_held, with_root, AreLive, Collected, IsGone, StayBefore};
 
 use crate::held::{place_from, place_of};
 use crate::marking::{keep_from, marked_from};
@@ -144,12 +144,18 @@ impl<I: Copy, R: Drop> NodeList<I, R> {
         self.held[place] = Held { number, slot };
     }
 
-    /// Lets go of the nodes from the number `first` on that are not reached from a root. `NoMemory` where
-    /// there was none to find out which these are, which leaves the list as it was.
-    pub(super) fn collect(&mut self, first: usize, roots: &[NodeId]) -> Result<(), NoMemory>
+    /// Lets go of the nodes from the number `first` on that are not reached from a root, or from the last one, if there is
+    /// one. `NoMemory` where there was none to find out which these are, which leaves the list as it was.
+    pub(super) fn collect(
+        &mut self,
+        first: usize,
+        roots: &[NodeId],
+        last: Option<NodeId>,
+    ) -> Result<(), NoMemory>
         requires { StayBefore first self.old }
         ensures collected { OnOk result ((live : ℕ → Bool) ×
-            AreLive self.old first roots.now live × Collected live self.old self.new) }
+            AreLive self.old first (with_root last roots.now) live
+            × Collected live self.old self.new) }
         ensures earlier { (at : ℕ) → at < first →
             slice_get self.new at ≡ slice_get self.old at }
         ensures as_many { length self.new ≡ length self.old }
@@ -157,8 +163,8 @@ impl<I: Copy, R: Drop> NodeList<I, R> {
     {
         let alloc = *self.held.allocator();
         let split = place_from(&self.held, first);
-        let marked = marked_from(alloc, &self.held[split..], roots)?;
-        keep_from(&mut self.held, split, &marked);
+        let marked = marked_from(alloc, &self.held[split..], roots, last)?;
+        keep_from(&mut self.held, split, marked.as_slice());
         Ok(())
     }
 }

@@ -9,14 +9,32 @@ use crate::GlobalCache;
 use search_context::context::{Cx, Delegate, Fault, NodeId, Tracked};
 use search_stack::nested_goals::NestedGoals;
 use search_stack::result::EvaluationResult;
+use std::hash::{Hash, Hasher};
 
 /// Where a result of a goal is stored.
-#[derive(Clone, Copy, PartialEq, Eq, Hash)]
+#[derive(Clone, Copy, PartialEq, Eq)]
 pub enum Place {
     /// Where its result is that met no overflow.
     Success,
     /// Where its result is that met overflow and required this depth.
     WithOverflow(usize),
+}
+
+// A success is looked for at each question, so its place adds nothing to the hash of its goal.
+impl Hash for Place {
+    ghost use Rattle.global_cache.specs.Store.{hashed_of};
+    ghost use Rattle.std.proofs.Common.{rules};
+    ghost use Rattle.std.specs.Cmp.Rules.{hashing};
+
+    ghost hash_input = { hashed_of };
+
+    ghost respects_eq = { Prim.search (hashing, rules) };
+
+    fn hash<H: Hasher>(&self, state: &mut H) {
+        if let Place::WithOverflow(depth) = self {
+            depth.hash(state);
+        }
+    }
 }
 
 impl Place {

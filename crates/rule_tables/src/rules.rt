@@ -118,10 +118,10 @@ impl Rules {
     fn rows_of(&self, goal: Goal) -> &[Row]
         ensures { result.now ≡ rows_at self.now.starts.items self.now.rows.items (number_of goal) }
     {
-        let place = goal.0 as usize;
-        match (self.starts.get(place), self.starts.get(place + 1)) {
-            (Some(start), Some(end)) => &self.rows[*start as usize..*end as usize],
-            _ => &[],
-        }
+        let place = goal.place();
+        let Some(end) = self.starts.get(place + 1) else {
+            return &[];
+        };
+        &self.rows[self.starts[place] as usize..*end as usize]
     }
 }

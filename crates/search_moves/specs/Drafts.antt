@@ -3,6 +3,7 @@ use Rattle.std.specs.Prelude.{◌≡◌, ◌<◌, ◌≤◌, ◌⊎◌, ◌++◌
 use Rattle.std.specs.Option.{IfSome}
 use Rattle.open_goals.specs.Nodes.{HasNodes}
 use Rattle.global_cache.specs.Collected.{AreRooted, Collected}
+pub use Rattle.global_cache.specs.Collected.{with_root as noted}
 use Rattle.search_moves.specs.Below.{Cache, CacheNode, entries_at, finished_node, graph_nodes_of, IsReached, NodeId, Place, runs_of, stored_at}
 use Rattle.search_moves.specs.declared.drafts.Drafts.{Drafts}
 use Rattle.search_moves.specs.declared.evaluation.Evaluation.{Evaluation}
@@ -12,11 +13,6 @@ use Rattle.search_rules.specs.Live.{AreLiveEntries, AreLiveResults, AreLiveRuns,
 pub record HasNoDrafts {I R : Type 0} (nodes : List (CacheNode I R)) (drafts : Drafts) : Type 0 where
   pub first : drafts.first ≡ length nodes
   pub none : drafts.stored.items ≡ []
-
--- the nodes of stored results with another one, if there is one
-abbrev pub noted : Option NodeId → List NodeId → List NodeId
-noted None nodes = nodes
-noted (Some node) nodes = nodes ++ node ∷ []
 
 module _ {C I R A T : Type 0} (same : I → I → Bool) where
   -- the node is that of a run of a goal of which a result is stored

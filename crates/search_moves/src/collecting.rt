@@ -1,7 +1,7 @@
 //! Nodes that a call wrote are let go once nothing leads to them any more.
 ghost use Rattle.std.specs.Prelude.{◌≡◌, [], IfOk, None, OnErr, OnOk};
 ghost use Rattle.global_cache.specs.Collected.{StayBefore};
-ghost use Rattle.search_moves.specs.Drafts.{AreNotedNodes, HasRoots, LetsGo, LetsGoAtEnd, noted};
+ghost use Rattle.search_moves.specs.Drafts.{AreNotedNodes, HasRoots, LetsGo, LetsGoAtEnd};
 
 use crate::evaluation::Evaluation;
 use search_parts::context::{Delegate, NoMemory, NodeId};
@@ -31,16 +31,18 @@ impl<D: Delegate> Evaluation<D> {
         requires noted { AreNotedNodes D.Cx.Input.eq cache.old self.now.drafts }
         ensures lets_go { LetsGo D.Cx.Input.eq self.now target cache.old cache.new }
     {
-        let roots = self.roots(target)?;
-        cache.collect(self.drafts.first, &roots)
+        let roots = self.roots()?;
+        cache.collect(self.drafts.first, &roots, target)
     }
 
-    /// The nodes that stay with all that they lead to: those of stored results, this one, and those of goals under evaluation
-    /// and of provisional entries.
-    fn roots(&self, target: Option<NodeId>) -> Result<Vec<NodeId>, NoMemory>
-        ensures { IfOk result (λ roots. HasRoots D.Cx.Input.eq self.now target roots.items) }
+    /// The nodes that stay with all that they lead to: those of stored results, of goals under evaluation and of
+    /// provisional entries.
+    fn roots(&self) -> Result<Vec<NodeId>, NoMemory>
+        ensures { IfOk result (λ roots. HasRoots D.Cx.Input.eq self.now None roots.items) }
     {
-        let mut roots = self.last_roots(target)?;
+        let stored = self.drafts.stored.as_slice();
+        let mut roots = Vec::with_capacity(self.goals.allocator(), stored.len())?;
+        roots.extend_from_slice(stored)?;
         self.goals.push_nodes(&mut roots)?;
         self.provisional.push_nodes(&mut roots)?;
         Ok(roots)
@@ -59,8 +61,7 @@ impl<D: Delegate> Evaluation<D> {
             (LetsGoAtEnd D.Cx.Input.eq self.now target cache.old cache.new) }
         ensures refused { OnErr result (cache.new ≡ cache.old) }
     {
-        let roots = self.last_roots(target)?;
-        cache.collect(self.drafts.first, &roots)
+        cache.collect(self.drafts.first, self.drafts.stored.as_slice(), target)
     }
 
     /// Gives up the goals under evaluation, after a fault, and lets go of the call's nodes to which no node leads that is
@@ -76,18 +77,5 @@ impl<D: Delegate> Evaluation<D> {
     {
         self.release();
         self.collect_at_end(cache, None)
-    }
-
-    /// The nodes of the results that the call stored, and this one.
-    fn last_roots(&self, target: Option<NodeId>) -> Result<Vec<NodeId>, NoMemory>
-        ensures { IfOk result (λ roots. roots.items ≡ noted target self.now.drafts.stored.items) }
-    {
-        let stored = self.drafts.stored.as_slice();
-        let mut roots = Vec::with_capacity(self.goals.allocator(), stored.len().saturating_add(1))?;
-        roots.extend_from_slice(stored)?;
-        if let Some(node) = target {
-            roots.push(node)?;
-        }
-        Ok(roots)
     }
 }

@@ -22,6 +22,24 @@ use Rattle.search_rules.specs.Live.{AreLiveResults, AreLiveRuns, IsLiveNode, IsL
 use Rattle.search_rules.proofs.collecting.Kept.{fit_stays, free_stay, graph_stays, justified_stay, ready_stay}
 use Rattle.search_rules.proofs.collecting.Settled.{answer_stays, settled_stay, settling_stay}
 
+-- roots that are there stay so with more
+module _ (roots more : List NodeId) (among : (n : NodeId) → Contains roots n → Contains more n) where
+  still_root : (node : Option NodeId) → IfSome node (Contains roots) → IfSome node (Contains more)
+  still_root None h = tt
+  still_root (Some n) h = among n h
+
+  pub has_more : {X F I R A T : Type 0} (goals : List (OpenGoal X F I R A T)) → All (HasNodes roots) goals → All (HasNodes more) goals
+  has_more goals has =
+      All-weaker (HasNodes roots) (HasNodes more)
+      (λ s nodes. record {
+        own = among s.1.node nodes.own;
+        cycles = still_root s.0.state.node nodes.cycles;
+        answers = All-weaker (λ a. Contains roots (record { 0 = a.edge.target })) (λ a. Contains more (record { 0 = a.edge.target })) (λ a there. among (record { 0 = a.edge.target }) there) s.1.progress.answers nodes.answers;
+      }) goals has
+
+  pub entries_more : {X I R A T : Type 0} (entries : List (ProvisionalCacheEntry X I R A T)) → All (λ entry. IfSome entry.node (Contains roots)) entries → All (λ entry. IfSome entry.node (Contains more)) entries
+  entries_more entries has = All-weaker (λ entry. IfSome entry.node (Contains roots)) (λ entry. IfSome entry.node (Contains more)) (λ entry there. still_root entry.node there) entries has
+
 -- ---- what is live
 
 module _ (live : ℕ → Bool) where
@@ -103,6 +121,17 @@ module _ {D C V P F I R A T : Type 0} (same : I → I → Bool) (e : Evaluation 
 
   -- ---- what the collecting of roots leaves
 
+  -- the node of a reply is one more root
+  pub with_target : (roots : List NodeId) → HasRoots same e None roots → HasRoots same e target (noted target roots)
+  with_target roots has = record {
+    noted_are = λ n is. elim (noted_cases target e.drafts.stored.items n is) [
+      | inl answer ↦ subst (λ o. IfSome o (Contains (noted target roots))) answer (target_is_noted target roots (noted target roots) (λ m there. there))
+      | inr stored ↦ still_noted target roots n (has.noted_are n stored)
+    ];
+    goals = has_more roots (noted target roots) (still_noted target roots) e.goals has.goals;
+    entries = λ goal. entries_more roots (noted target roots) (still_noted target roots) (entries_at same e.provisional goal) (has.entries goal);
+  }
+
   module _ (old : Cache C I R A T) (roots : List NodeId) (noted_are : AreNotedNodes same old e.drafts) where
     pub rooted_among : ((n : NodeId) → Contains (noted target e.drafts.stored.items) n → Contains roots n) → AreRooted same e.drafts.first roots old.results
     rooted_among among goal place s at = at_node s.node (noted_are.rooted goal place s at)
@@ -166,20 +195,6 @@ gives_up same e after target old new (Err fault) is h = tt
 gives_up same e after target old new (Ok u) is h =
     let goes = subst (λ w. LetsGoAtEnd same w target old new) is h in
     record { live = goes.live; collected = goes.collected; results = goes.results; noted_are = goes.noted_are; answer = goes.answer; earlier = goes.earlier; rest = goes.rest; leaves = goes.leaves }
-
--- roots that are there stay so with more
-pub has_more : {X F I R A T : Type 0} (roots more : List NodeId) → ((n : NodeId) → Contains roots n → Contains more n) → (goals : List (OpenGoal X F I R A T)) → All (HasNodes roots) goals → All (HasNodes more) goals
-has_more {X} {F} {I} {R} {A} {T} roots more among goals has =
-    All-weaker (HasNodes roots) (HasNodes more)
-    (λ s nodes. record {
-      own = among s.1.node nodes.own;
-      cycles = if_more s.0.state.node nodes.cycles;
-      answers = All-weaker (λ a. Contains roots (record { 0 = a.edge.target })) (λ a. Contains more (record { 0 = a.edge.target })) (λ a there. among (record { 0 = a.edge.target }) there) s.1.progress.answers nodes.answers;
-    }) goals has
-  where
-    if_more : (node : Option NodeId) → IfSome node (Contains roots) → IfSome node (Contains more)
-    if_more None h = tt
-    if_more (Some n) h = among n h
 
 -- ---- what holds still
 

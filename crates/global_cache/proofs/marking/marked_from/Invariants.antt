@@ -1,9 +1,10 @@
-use Rattle.std.proofs.Common.{◌≡◌, length, map, take}
-use Rattle.global_cache.proofs.MarkedNodes.{AreFollowed}
+use Rattle.std.proofs.Common.{◌≡◌, length, take}
+use Rattle.global_cache.specs.Words.{with_root}
+use Rattle.global_cache.proofs.MarkedNodes.{AreFollowed, numbers_of}
 use Rattle.global_cache.proofs.marking.marked_from.Given as goal
 
 abbrev pub invariant-loop-root : goal.invariant-loop-root
 invariant-loop-root g l = record {
-  followed : AreFollowed l.held (map (λ r. r.0) l.roots) (map (λ r. r.0) (take l.root-index l.roots)) l.marks.marked.items;
+  followed : AreFollowed l.held (numbers_of (with_root l.last l.roots)) (numbers_of (take l.root-index l.roots)) l.marks.marked.items;
   none_waits : length l.marks.waiting.items ≡ 0;
 }

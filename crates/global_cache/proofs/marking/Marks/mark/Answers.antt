@@ -1,28 +1,34 @@
-use Rattle.std.proofs.Common.{arith, true, false, [], ◌∷◌, slice_set, subst, sym}
+use Rattle.std.proofs.Common.{arith, Some, [], ◌∷◌, ap, length, slice_get, sym, subst₂, ◌∙◌}
+use Rattle.std.proofs.lemmas.Option.{slice_get-get_or}
 use Rattle.global_cache.specs.Words.{AreWaiting, Marks}
 use Rattle.global_cache.proofs.HeldNodes.{numbered_within}
-use Rattle.global_cache.proofs.MarkedNodes.{AreWaiting-new, Marks-known, Marks-new, Marks-none, read_mark}
+use Rattle.global_cache.proofs.MarkedNodes.{AreWaiting-new, marked_there, Marks-known, Marks-new, Marks-none}
 use Rattle.global_cache.proofs.marking.Marks.mark.Goals as goal
 
 pub returns-in_default-clause-marks : goal.returns-in_default-clause-marks
 returns-in_default-clause-marks g c = Marks-none c.args.held.now c.requires.rising c.args.number c.args.self.now.marked.items c.args.self.now.waiting.items c.in_default.ensures
 
-pub index-requires : goal.index-requires
-index-requires g c = omega (arith, numbered_within c.args.held.now c.in-Some.place c.args.number c.in-Some.ensures, c.requires.each)
+pub bounds-as_slice-place : goal.bounds-as_slice-place
+bounds-as_slice-place g c = omega (arith, numbered_within c.args.held.now c.in-Some.place c.args.number c.in-Some.ensures, c.requires.each, ap length c.as_slice.ensures)
 
-pub index_mut-requires : goal.index_mut-requires
-index_mut-requires g c = omega (arith, numbered_within c.args.held.now c.in-Some.place c.args.number c.in-Some.ensures, c.requires.each)
+pub returns-then-as_slice-place-clause-marks : goal.returns-then-as_slice-place-clause-marks
+returns-then-as_slice-place-clause-marks g c = Marks-known c.args.held.now c.requires.rising c.args.number c.args.self.now.marked.items c.args.self.now.waiting.items c.in-Some.place c.in-Some.ensures
+    (ap (λ l. slice_get l c.in-Some.place) (sym c.as_slice.ensures) ∙ (slice_get-get_or c.as_slice.result.now c.in-Some.place _ (omega (arith, numbered_within c.args.held.now c.in-Some.place c.args.number c.in-Some.ensures, c.requires.each, ap length c.as_slice.ensures)) ∙ ap Some c.if-as_slice-place.true))
 
-pub returns-then-index-clause-marks : goal.returns-then-index-clause-marks
-returns-then-index-clause-marks g c = Marks-known c.args.held.now c.requires.rising c.args.number c.args.self.now.marked.items c.args.self.now.waiting.items c.in-Some.place c.in-Some.ensures
-    (read_mark c.args.self.now.marked.items c.in-Some.place c.index.result.now true (omega (arith, numbered_within c.args.held.now c.in-Some.place c.args.number c.in-Some.ensures, c.requires.each)) c.index.ensures c.if-index.true)
+pub bounds-as_mut_slice-place : goal.bounds-as_mut_slice-place
+bounds-as_mut_slice-place g c = omega (arith, numbered_within c.args.held.now c.in-Some.place c.args.number c.in-Some.ensures, c.requires.each, ap length c.as_mut_slice.ensures.value)
 
 pub returns-clause-waiting : goal.returns-clause-waiting
 returns-clause-waiting g c =
-    subst (AreWaiting (slice_set c.args.self.now.marked.items c.in-Some.place true)) (sym c.in_ok-push.ensures.items)
-    (AreWaiting-new c.args.self.now.marked.items c.args.self.now.waiting.items c.in-Some.place (read_mark c.args.self.now.marked.items c.in-Some.place c.index.result.now false (omega (arith, numbered_within c.args.held.now c.in-Some.place c.args.number c.in-Some.ensures, c.requires.each)) c.index.ensures c.if-index.false) c.requires.waiting)
+    let place = c.in-Some.place in
+    let unread = ap (λ l. slice_get l place) (sym c.as_slice.ensures) ∙ (slice_get-get_or c.as_slice.result.now place _ (omega (arith, numbered_within c.args.held.now place c.args.number c.in-Some.ensures, c.requires.each, ap length c.as_slice.ensures)) ∙ ap Some c.if-as_slice-place.false) in
+    subst₂ AreWaiting (sym (marked_there c.args.self.now.marked.items c.as_mut_slice.result.now place c.as_mut_slice.ensures.value)) (sym c.in_ok-push.ensures.ok)
+    (AreWaiting-new c.args.self.now.marked.items c.args.self.now.waiting.items place unread c.requires.waiting)
 
 pub returns-clause-marks : goal.returns-clause-marks
 returns-clause-marks g c =
-    subst (Marks c.args.held.now (c.args.number ∷ []) c.args.self.now.marked.items (slice_set c.args.self.now.marked.items c.in-Some.place true) c.args.self.now.waiting.items) (sym c.in_ok-push.ensures.items)
-    (Marks-new c.args.held.now c.requires.rising c.args.number c.args.self.now.marked.items c.args.self.now.waiting.items c.in-Some.place c.in-Some.ensures (read_mark c.args.self.now.marked.items c.in-Some.place c.index.result.now false (omega (arith, numbered_within c.args.held.now c.in-Some.place c.args.number c.in-Some.ensures, c.requires.each)) c.index.ensures c.if-index.false))
+    let place = c.in-Some.place in
+    let unread = ap (λ l. slice_get l place) (sym c.as_slice.ensures) ∙ (slice_get-get_or c.as_slice.result.now place _ (omega (arith, numbered_within c.args.held.now place c.args.number c.in-Some.ensures, c.requires.each, ap length c.as_slice.ensures)) ∙ ap Some c.if-as_slice-place.false) in
+    subst₂ (λ marked waiting. Marks c.args.held.now (c.args.number ∷ []) c.args.self.now.marked.items marked c.args.self.now.waiting.items waiting)
+    (sym (marked_there c.args.self.now.marked.items c.as_mut_slice.result.now place c.as_mut_slice.ensures.value)) (sym c.in_ok-push.ensures.ok)
+    (Marks-new c.args.held.now c.requires.rising c.args.number c.args.self.now.marked.items c.args.self.now.waiting.items place c.in-Some.ensures unread)

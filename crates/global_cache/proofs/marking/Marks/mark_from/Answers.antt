@@ -1,6 +1,6 @@
 use Rattle.std.proofs.Common.{arith, length, refl}
 use Rattle.std.proofs.lemmas.Option.{slice_get_read}
-use Rattle.global_cache.proofs.MarkedNodes.{follow_first, follow_next, followed_closed, followed_marks, left_waiting, place_within}
+use Rattle.global_cache.proofs.MarkedNodes.{follow_first, follow_next, followed_closed, followed_marks, left_waiting, nothing_left, place_within}
 use Rattle.global_cache.proofs.marking.Marks.mark_from.Goals as goal
 
 pub loop-place-init : goal.loop-place-init
@@ -26,7 +26,7 @@ loop-place-preserved g c =
     c.in_ok-mark_behind.ensures.waiting
 
 pub returns-clause-closed : goal.returns-clause-closed
-returns-clause-closed g c = followed_closed c.args.held.now c.args.number c.args.self.now.marked.items c.loop-place.self.marked.items c.loop-place.self.waiting.items c.loop-place.invariant (omega (arith, c.in_default.ensures.cases.0))
+returns-clause-closed g c = followed_closed c.args.held.now c.args.number c.args.self.now.marked.items c.loop-place.self.marked.items c.loop-place.self.waiting.items c.loop-place.invariant (nothing_left (length c.loop-place.self.waiting.items) c.in_default.ensures.variant.1)
 
 pub returns-clause-marks : goal.returns-clause-marks
-returns-clause-marks g c = followed_marks c.args.held.now c.args.number c.args.self.now.marked.items c.loop-place.self.marked.items c.loop-place.self.waiting.items c.loop-place.invariant (omega (arith, c.in_default.ensures.cases.0)) c.requires.each
+returns-clause-marks g c = followed_marks c.args.held.now c.args.number c.args.self.now.marked.items c.loop-place.self.marked.items c.loop-place.self.waiting.items c.loop-place.invariant (nothing_left (length c.loop-place.self.waiting.items) c.in_default.ensures.variant.1) c.requires.each
