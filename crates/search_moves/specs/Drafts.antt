@@ -1,5 +1,5 @@
 -- The nodes that a call writes, and which of them are let go.
-use Rattle.std.specs.Prelude.{◌≡◌, ◌<◌, ◌≤◌, ◌⊎◌, ◌++◌, ◌∷◌, [], ℕ, All, Bool, Contains, IsSome, IsTrue, length, List, Option, None, slice_get, Some}
+use Rattle.std.specs.Prelude.{◌≡◌, ◌<◌, ◌≤◌, ◌⊎◌, [], ℕ, All, Bool, Contains, IsSome, IsTrue, length, List, Option, slice_get, Some}
 use Rattle.std.specs.Option.{IfSome}
 use Rattle.open_goals.specs.Nodes.{HasNodes}
 use Rattle.global_cache.specs.Collected.{AreRooted, Collected}
