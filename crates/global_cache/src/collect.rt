@@ -7,10 +7,9 @@ use search_context::context::{Delegate, NoMemory, NodeId};
 
 impl<D: Delegate> GlobalCache<D> {
     /// Lets go of nodes to which nothing leads any more: of those from the place `first` on, all that are
-    /// not reached from one of the roots, nor from the last one, if there is one. What is left keeps its number, and no
-    /// number is given again.
-    /// `NoMemory` where there was none to find out which nodes these are, which leaves the cache as it
-    /// was.
+    /// reached neither from one of the roots nor from the last one, if there is one. What is left keeps its
+    /// number, and no number is given again. `NoMemory` where there was none to find out which nodes these
+    /// are, which leaves the cache as it was.
     ///
     /// No edge may lead from an earlier node to one from `first` on, and each of these that a stored
     /// result comes with has to be among the roots. The time is linear in the nodes that are held from

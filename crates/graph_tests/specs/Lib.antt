@@ -1,3 +1,1 @@
-pub mod Asks
-pub mod Below
 pub mod Letters

@@ -8,8 +8,6 @@
 //! small tables of rules.
 #![tactic(auto)]
 
-#[cfg(test)]
-mod acts;
 mod answers;
 #[cfg(test)]
 mod dense;
@@ -19,11 +17,7 @@ mod drawn;
 #[cfg(test)]
 mod flaws;
 #[cfg(test)]
-mod journal;
-#[cfg(test)]
 mod plain_graph;
-#[cfg(test)]
-mod put;
 #[cfg(test)]
 mod recorded;
 #[cfg(test)]
@@ -31,12 +25,6 @@ mod requests;
 #[cfg(test)]
 mod root_goals;
 mod runs;
-#[cfg(test)]
-mod validating;
-#[cfg(test)]
-mod validation;
-#[cfg(test)]
-mod watch;
 
 use runs::is_answered;
 use std::io;

@@ -20,7 +20,8 @@ pub(super) trait ListRule<I, E> {
     // elements, where memory was refused.
     fn change_list(&self, input: I, items: &mut Vec<E>) -> bool
         requires { accepts self.now items.old.items }
-        ensures { IsLeft result items.new.items (filter_map (becomes self.now input) items.old.items) };
+        ensures { IsLeft result items.new.items
+            (filter_map (becomes self.now input) items.old.items) };
 }
 
 // Changes each list by the rule. On a refusal no list is left.

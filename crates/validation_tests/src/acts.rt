@@ -1,12 +1,12 @@
 //! What is done with a cache over a table of rules, where stored results of some goals are validated, and what comes of it.
 
-use crate::answers::{Table, TableDelegate};
 use crate::journal::{Event, Journal};
 use crate::put::put_neither;
 use crate::validating::{Validating, Watched};
 use crate::watch::{Watch, Watches};
 use delegate_parts::{Builder, Outcome};
-use rule_tables::{Goal, Rules};
+use rule_tables::delegate::Table;
+use rule_tables::{Goal, Rules, TableDelegate};
 use search_graph::graph::SearchGraph;
 use search_parts::context::{Answer, Cx, Delegate, Fault};
 use search_parts::global_cache::GlobalCache;
