@@ -16,16 +16,6 @@ pub there : {A : Type 0} (xs : List A) (i : ℕ) (x : A) → (i < length xs) × 
 there xs i x read = slice_get_read xs (length xs) i x refl read.0 (read.1 x)
 
 module _ {I R : Type 0} (held : List (Held I R)) (rising : IsRising held) (number : ℕ) where
-  -- a number before the first one isn't held
-  pub before_first : (first : Held I R) → slice_get held 0 ≡ Some first → number < first.number → slot_at held number ≡ None
-  before_first first is lt = not_held held number (λ i h at e. elim (cases_eq 0 i) [
-    | inl same ↦
-        let both : Some first ≡ Some h = sym is ∙ (ap (slice_get held) same ∙ at) in
-        let one : first ≡ h = cc in
-        absurd (omega (arith, ap (λ x. x.number) one))
-    | inr other ↦ let less : first.number < h.number = rising.rises 0 i first h (omega arith) is at in absurd (omega arith)
-  ])
-
   pub has_number : (i : ℕ) (h : Held I R) → slice_get held i ≡ Some h → h.number ≡ number → HasNumber held i number
   has_number i h is e = ap (option_map (λ x. x.number)) is ∙ ap Some e
 

@@ -1,27 +1,30 @@
 //! Where numbers stand among the nodes that are held.
-ghost use Rattle.std.specs.Prelude.{◌≡◌, IsTrue, MatchOption, None};
+ghost use Rattle.std.specs.Prelude.{◌≡◌, IsTrue, IfSome, MatchOption, None};
 ghost use Rattle.global_cache.specs.Words.{HasNumber, IsRising, IsSplit, IsWindow, slot_at};
 
 use crate::node_list::Held;
 
-// The place of the node with this number. Where nothing was let go since the first of these nodes, it is
-// as far behind that one's place as the number is behind that one's; otherwise it is looked for from the
-// end on, since most look-ups are of the newest nodes.
+// The place of the node with this number. Where it has another one than `place_by_first` says, it is looked for from
+// the end on, since most look-ups are of the newest nodes.
 pub(super) fn place_of<I, R>(held: &[Held<I, R>], number: usize) -> Option<usize>
     requires { IsRising held.now }
     ensures { MatchOption result (slot_at held.now number ≡ None)
         (λ place. HasNumber held.now place number) }
 {
-    let first = held.first()?;
-    let Some(guess) = number.checked_sub(first.number) else {
-        return None;
-    };
-    if let Some(guessed) = held.get(guess) {
-        if guessed.number == number {
-            return Some(guess);
-        }
+    match place_by_first(held, number) {
+        Some(place) => Some(place),
+        None => place_near(held, held.len().saturating_sub(1), number),
     }
-    place_near(held, held.len().saturating_sub(1), number)
+}
+
+// The place of the node with this number where nothing was let go since the first of these nodes: as far behind that
+// one's place as the number is behind that one's.
+pub(super) fn place_by_first<I, R>(held: &[Held<I, R>], number: usize) -> Option<usize>
+    requires { IsRising held.now }
+    ensures { IfSome result (λ place. HasNumber held.now place number) }
+{
+    let place = number.checked_sub(held.first()?.number)?;
+    is_at(held, place, number).then_some(place)
 }
 
 // The place of the node with this number, which is looked for from the place `near` on: it is no farther

@@ -2,7 +2,7 @@
 ghost use Rattle.std.specs.Prelude.{◌≡◌, MatchOption, None};
 ghost use Rattle.global_cache.specs.Words.{HasNumber, IsRising, slot_at};
 
-use crate::held::place_near;
+use crate::held::{place_by_first, place_near};
 use crate::node_list::Held;
 use search_context::context::NoMemory;
 use std::alloc::Global;
@@ -47,6 +47,9 @@ impl Hints {
         ensures { MatchOption result (slot_at held.now number ≡ None)
             (λ place. HasNumber held.now place number) }
     {
+        if let Some(place) = place_by_first(held, number) {
+            return Some(place);
+        }
         let place = place_near(held, self.remembered(number).unwrap_or(near), number);
         if let Some(place) = place {
             self.remember(number, place);

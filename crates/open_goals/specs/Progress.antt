@@ -1,7 +1,9 @@
 -- What a run has done so far, as its record has it. The replies stand with the oldest first.
 use Rattle.std.specs.Prelude.{◌≡◌, ◌↔◌, ℕ, nat_lt, zero, suc, IsTrue, IsSome, Bool, true, false, ◌&&◌, if◌then◌else◌, List, [], ◌∷◌, ◌++◌, map, filter, length, reverse, slice_set, Option, None, Some, Contains}
-use Rattle.open_goals.specs.Below.{Request, Evaluate, EnterCandidate, FinishCandidate, Ignore, Reply, Answer, Verdict, Yes, No, Neither, NodeId, Edge, PathKind, Question, question_of, Asked, Progress, request_after, progress_after, counted_by, ignored_by, is_ignored, IsInOrder, Verdicts}
+use Rattle.open_goals.specs.Below.{Request, Evaluate, EnterCandidate, FinishCandidate, Ignore, Reply, Begin, Answer, Noted, Verdict, Yes, No, Neither, NodeId, Edge, PathKind, Question, question_of, Asked, Progress, request_after, progress_after, counted_by, ignored_by, is_ignored, IsInOrder, Verdicts}
 use Rattle.open_goals.specs.declared.progress.DefiniteAnswer.{DefiniteAnswer}
+use Rattle.open_goals.specs.declared.progress.Beginning.{Beginning}
+use Rattle.open_goals.specs.declared.progress.Beginning.TheVariants.{Nothing, Begun, InCandidate}
 
 -- the replies, the last request, the definite answers, whether a candidate is open, and for each finished candidate whether it is ignored
 pub record RunRecord (I R : Type 0) : Type 0 where
@@ -39,10 +41,30 @@ asked_in a = (a.question, a.candidate)
 abbrev pub edge_to : {I : Type 0} → PathKind → I → NodeId → Edge I
 edge_to kind input node = record { kind = kind; input = input; target = node.0 }
 
+-- the replies of a run that has only begun
+abbrev pub replies_of : {R : Type 0} → Beginning → List (Reply R)
+replies_of Nothing = []
+replies_of Begun = Begin ∷ []
+replies_of InCandidate = Begin ∷ Noted ∷ []
+
+-- whether a candidate is open then
+abbrev pub begins_open : Beginning → Bool
+begins_open InCandidate = true
+begins_open _ = false
+
 module _ {I R : Type 0} where
   -- nothing was done yet
   abbrev pub no_record : RunRecord I R
   no_record = record { replies = []; request = None; answers = []; is_open = false; ignored = [] }
+
+  -- what was done by a run that has only begun
+  abbrev pub begun : Beginning → Option (Request I R) → RunRecord I R
+  begun beginning request = record { replies = replies_of beginning; request = request; answers = []; is_open = begins_open beginning; ignored = [] }
+
+  -- what was done by a run that has this record, or has only begun
+  abbrev pub done_in : Option (RunRecord I R) → Beginning → Option (Request I R) → RunRecord I R
+  done_in (Some p) _ _ = p
+  done_in None beginning request = begun beginning request
 
   -- an open candidate has the number that it gets once it is finished
   abbrev pub open_number : RunRecord I R → Option ℕ

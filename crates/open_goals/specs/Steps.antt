@@ -1,5 +1,5 @@
 -- The goals under evaluation with their runs, and the step of the newest one's frame.
-use Rattle.std.specs.Prelude.{◌≡◌, ℕ, ◌<◌, ◌↔◌, Bool, IsTrue, List, [], ◌∷◌, None, Some}
+use Rattle.std.specs.Prelude.{◌≡◌, ℕ, ◌<◌, ◌↔◌, IsTrue, List, [], ◌∷◌, None, Some}
 use Rattle.open_goals.specs.Below.{DelegateOf, CxOf, Request, Reply, Begin, Answer, Noted, Fault, Memory, Protocol, Verdict, Yes, No, Neither, StackEntry, IsFitting, Steps, Verdicts, verdicts}
 use Rattle.open_goals.specs.Progress.{RunRecord, received, requested, fault_of, Records}
 use Rattle.open_goals.specs.declared.goals.Received.{Received}

@@ -51,6 +51,21 @@ impl FinishedCandidates {
         mem::replace(&mut self.usages[number], nothing)
     }
 
+    /// Whether a list was made for them.
+    pub(crate) fn has_room(&self) -> bool {
+        self.usages.capacity() > 0
+    }
+
+    /// Takes the memory of other candidates, if there are none.
+    pub(crate) fn take_room(&mut self, mut other: FinishedCandidates)
+        ensures { self.new ≡ self.old }
+    {
+        if self.usages.is_empty() {
+            other.usages.clear();
+            self.usages = other.usages;
+        }
+    }
+
     /// How many there are.
     pub(crate) fn len(&self) -> usize {
         self.usages.len()

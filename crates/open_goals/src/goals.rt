@@ -400,6 +400,7 @@ pub fn step<D: Delegate>(
     goals: &mut OpenGoals<D::Cx, D::Frame, D::ValidationScope>,
     cx: D::Cx,
     received: Received<<D::Cx as Cx>::Result>,
+    spare: &mut SpareMemory<<D::Cx as Cx>::Input, <D::Cx as Cx>::Result>,
     inspect: &mut D::ProofTreeBuilder,
 ) -> Result<
     Request<<D::Cx as Cx>::Input, <D::Cx as Cx>::Result>,
@@ -417,6 +418,7 @@ pub fn step<D: Delegate>(
     let verdict = sort_of(cx, received.reply);
     let last = goals.runs.len() - 1;
     let run = &mut goals.runs[last];
+    spare.lend_record(&mut run.progress, received.reply);
     run.progress
         .receive(received.reply, verdict, received.node)?;
     let request = D::step(&mut run.frame, received.reply, inspect)?;

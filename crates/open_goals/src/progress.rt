@@ -1,9 +1,12 @@
 //! What a run has done so far.
-ghost use Rattle.std.specs.Prelude.{◌≡◌, ◌<◌, ◌^◌, All, Contains, OnOk, IfOk, slice_get};
+ghost use Rattle.std.specs.Prelude.{◌≡◌, All, Contains, OnOk, IfOk, Option, slice_get};
 ghost use Rattle.std.specs.Option.{IfSome};
-ghost use Rattle.open_goals.specs.Below.{NodeId, ignored_by};
-ghost use Rattle.open_goals.specs.Words.{HasTarget, no_record, received, requested, answers_with, fault_of, edges_of, rests_on};
+ghost use Rattle.open_goals.specs.Below.{NodeId};
+ghost use Rattle.open_goals.specs.Words.{HasTarget, begun, no_record, received, replies_of, requested, fault_of, edges_of, rests_on};
 
+mod record;
+
+pub(crate) use record::Record;
 use search_parts::context::{Edge, NoMemory, NodeId, Reply, Request, Verdict};
 use search_parts::path::PathKind;
 use std::alloc::Global;
@@ -19,79 +22,38 @@ pub struct DefiniteAnswer<I> {
     pub candidate: Option<usize>,
 }
 
-/// A definite answer in less room, since a large run has very many: its fields leave no gaps between them.
-#[derive(Drop)]
-struct PackedAnswer<I> {
-    target: usize,
-    /// One more than the number of the candidate, or 0 outside of candidates.
-    candidate: usize,
-    input: I,
-    kind: PathKind,
-    verdict: Verdict,
-}
-
-// Fields in another order could take more.
-const _: () = prove!(size_of::<PackedAnswer<u32>>() == 24);
-
-impl<I> Model for PackedAnswer<I> {
-    ghost use Rattle.open_goals.specs.declared.progress.DefiniteAnswer.{DefiniteAnswer};
-
-    ghost Value = { DefiniteAnswer I };
-
-    ghost use Rattle.open_goals.specs.Progress.{less_one};
-
-    ghost view = { λ a. record { edge = record { kind = a.kind; input = a.input; target = a.target }; verdict = a.verdict; candidate = less_one a.candidate } };
-}
-
-impl<I: Copy> PackedAnswer<I> {
-    /// Packs the answer.
-    fn new(answer: DefiniteAnswer<I>) -> Self
-        requires { IfSome answer.candidate (λ number. number < 2 ^ 63) }
-        ensures { result ≡ answer }
-    {
-        PackedAnswer {
-            target: answer.edge.target,
-            candidate: answer.candidate.map_or(0, |number| number + 1),
-            input: answer.edge.input,
-            kind: answer.edge.kind,
-            verdict: answer.verdict,
-        }
-    }
-
-    /// The answer.
-    fn unpacked(&self) -> DefiniteAnswer<I>
-        ensures { result ≡ self.now }
-    {
-        DefiniteAnswer {
-            edge: Edge {
-                kind: self.kind,
-                input: self.input,
-                target: self.target,
-            },
-            verdict: self.verdict,
-            candidate: self.candidate.checked_sub(1),
-        }
-    }
+/// How a run begins. Most runs ask their first question in their first candidate.
+#[derive(Clone, Copy)]
+pub(crate) enum Beginning {
+    /// It had no reply.
+    Nothing,
+    /// It had `Begin`.
+    Begun,
+    /// It had `Begin` and then `Noted`, for a candidate, which is open.
+    InCandidate,
 }
 
 /// What a run has done so far: its replies, its last request, its definite answers with their nodes,
 /// and its candidates.
+///
+/// On a deep stack very many runs wait for their first answer, so a run has its record, with the lists that this takes,
+/// only once there is more to tell than how it began.
 #[derive(Drop)]
 pub struct Progress<I, R> {
-    replies: Vec<Reply<R>>,
+    record: Option<Box<Record<I, R>>>,
+    // The last request of a run that has no record, and how it began.
     request: Option<Request<I, R>>,
-    answers: Vec<PackedAnswer<I>>,
-    is_open: bool,
-    /// One for each finished candidate.
-    ignored: Vec<bool>,
+    beginning: Beginning,
+    alloc: Global,
 }
 
 impl<I, R> Model for Progress<I, R> {
-    ghost use Rattle.open_goals.specs.Progress.{RunRecord};
+    ghost use Rattle.std.specs.Option.{option_map};
+    ghost use Rattle.open_goals.specs.Progress.{RunRecord, done_in};
 
     ghost Value = { RunRecord I R };
 
-    ghost view = { λ t. record { replies = t.replies.items; request = t.request; answers = t.answers.items; is_open = t.is_open; ignored = t.ignored.items } };
+    ghost view = { λ t. done_in (option_map (λ b. b.value) t.record) t.beginning t.request };
 }
 
 impl<I: Copy, R: Copy> Progress<I, R> {
@@ -100,11 +62,10 @@ impl<I: Copy, R: Copy> Progress<I, R> {
         ensures { result ≡ no_record }
     {
         Progress {
-            replies: Vec::new(alloc),
+            record: None,
             request: None,
-            answers: Vec::new(alloc),
-            is_open: false,
-            ignored: Vec::new(alloc),
+            beginning: Beginning::Nothing,
+            alloc,
         }
     }
 
@@ -119,67 +80,59 @@ impl<I: Copy, R: Copy> Progress<I, R> {
     ) -> Result<(), NoMemory>
         ensures { OnOk result (self.new ≡ received self.old reply verdict node) }
     {
-        match self.request {
-            Some(Request::Evaluate(kind, input)) => {
-                if let (Verdict::Yes | Verdict::No, Some(node)) = (verdict, node) {
-                    let edge = Edge {
-                        kind,
-                        input,
-                        target: node.0,
-                    };
-                    self.keep(edge, verdict)?;
-                }
-            }
-            Some(Request::EnterCandidate) => self.is_open = true,
-            Some(Request::FinishCandidate) => {
-                self.is_open = false;
-                self.ignored.push(false)?;
-            }
-            Some(Request::Ignore(number)) => {
-                if let Some(ignored) = self.ignored.get_mut(number) {
-                    *ignored = true;
-                }
-            }
-            Some(Request::Done(_)) | None => {}
+        if let Some(record) = &mut self.record {
+            return record.receive(reply, verdict, node);
         }
-        self.replies.push(reply)?;
+        if let Some(beginning) = beginning_after(self.beginning, self.request, reply) {
+            self.beginning = beginning;
+            return Ok(());
+        }
+        let mut record = new_record(self.alloc, self.beginning, self.request)?;
+        record.receive(reply, verdict, node)?;
+        self.record = Some(record);
         Ok(())
     }
 
-    /// Records an answer with this edge, asked in the open candidate if there is one.
-    fn keep(&mut self, edge: Edge<I>, verdict: Verdict) -> Result<(), NoMemory>
-        ensures { OnOk result
-            (self.new ≡ record self.old { answers = answers_with self.old edge verdict }) }
+    /// Whether the run has no record, and needs one for the reply that comes now.
+    pub(crate) fn needs_record(&self, reply: Reply<R>) -> bool {
+        self.record.is_none() && beginning_after(self.beginning, self.request, reply).is_none()
+    }
+
+    /// Takes the memory of another run's record, if there is none yet.
+    pub(crate) fn take_record(&mut self, mut other: Box<Record<I, R>>)
+        ensures { self.new ≡ self.old }
     {
-        let candidate = self.is_open.then_some(self.ignored.len());
-        let answer = DefiniteAnswer {
-            edge,
-            verdict,
-            candidate,
-        };
-        self.answers.push(PackedAnswer::new(answer))?;
-        Ok(())
+        if self.record.is_none() && other.restart(self.beginning, self.request).is_ok() {
+            self.record = Some(other);
+        }
+    }
+
+    /// The record, if there is one: its memory may serve another run.
+    pub(crate) fn into_record(self) -> Option<Box<Record<I, R>>> {
+        self.record
     }
 
     /// Notes the request that followed.
+    #[inline(always)]
     pub fn note_request(&mut self, request: Request<I, R>)
         ensures { self.new ≡ requested self.old request }
     {
-        self.request = Some(request);
+        match &mut self.record {
+            Some(record) => record.note_request(request),
+            None => self.request = Some(request),
+        }
     }
 
     /// The number of the fault that the request is, if it comes out of order now: 1, a candidate
     /// begins while one is open; 2, none is open that could end; 3, the candidate to be ignored isn't
     /// finished; 4, it is ignored already.
+    #[inline(always)]
     pub fn order_fault(&self, request: Request<I, R>) -> Option<u8>
         ensures { result ≡ fault_of self.now request }
     {
-        match request {
-            Request::EnterCandidate if self.is_open => Some(1),
-            Request::FinishCandidate if !self.is_open => Some(2),
-            Request::Ignore(number) if number >= self.ignored.len() => Some(3),
-            Request::Ignore(number) if self.ignored[number] => Some(4),
-            _ => None,
+        match &self.record {
+            Some(record) => record.order_fault(request),
+            None => first_order_fault(self.beginning, request),
         }
     }
 
@@ -189,40 +142,20 @@ impl<I: Copy, R: Copy> Progress<I, R> {
     pub fn edges(&self, verdict: Verdict) -> Result<Vec<Edge<I>>, NoMemory>
         ensures { IfOk result (λ edges. edges.items ≡ edges_of self.now verdict) }
     {
-        let count = self.edge_count(verdict);
-        let mut edges = Vec::with_capacity(*self.answers.allocator(), count)?;
-        for packed in &self.answers {
-            let answer = packed.unpacked();
-            if self.is_rested_on(&answer, verdict) {
-                edges.push(answer.edge)?;
-            }
+        match &self.record {
+            Some(record) => record.edges(verdict),
+            None => Ok(Vec::new(self.alloc)),
         }
-        Ok(edges)
-    }
-
-    /// How many edges a result of this verdict rests on.
-    fn edge_count(&self, verdict: Verdict) -> usize {
-        self.answers
-            .iter()
-            .filter(|packed| self.is_rested_on(&packed.unpacked(), verdict))
-            .count()
     }
 
     /// Whether a result of this verdict rests on the answer.
     pub fn is_rested_on(&self, answer: &DefiniteAnswer<I>, verdict: Verdict) -> bool
         ensures { result ≡ rests_on self.now.ignored verdict answer.now }
     {
-        answer.verdict == verdict
-            && answer
-                .candidate
-                .is_none_or(|number| !self.is_ignored(number))
-    }
-
-    /// Whether the finished candidate of this number is ignored.
-    fn is_ignored(&self, number: usize) -> bool
-        ensures { result ≡ ignored_by self.now.ignored number }
-    {
-        self.ignored.get(number) == Some(&true)
+        match &self.record {
+            Some(record) => record.is_rested_on(answer, verdict),
+            None => answer.verdict == verdict,
+        }
     }
 
     /// Appends the nodes of the definite answers, also of those in ignored candidates. A refusal may leave a part
@@ -231,62 +164,137 @@ impl<I: Copy, R: Copy> Progress<I, R> {
         ensures kept { (n : NodeId) → Contains nodes.old.items n → Contains nodes.new.items n }
         ensures answers { OnOk result (All (HasTarget nodes.new.items) self.now.answers) }
     {
-        for packed in &self.answers {
-            let answer = packed.unpacked();
-            nodes.push(NodeId(answer.edge.target))?;
+        match &self.record {
+            Some(record) => record.push_targets(nodes),
+            None => Ok(()),
         }
-        Ok(())
     }
 
     /// The replies, the oldest first, in a list that has no room to spare: the node of the run has it for good.
     pub fn replies(&self) -> Result<Vec<Reply<R>>, NoMemory>
         ensures { IfOk result (λ replies. replies.items ≡ self.now.replies) }
     {
-        let replies = Vec::from_slice(*self.replies.allocator(), &self.replies)?;
-        Ok(replies)
+        match &self.record {
+            Some(record) => record.replies(),
+            None => first_replies(self.alloc, self.beginning),
+        }
     }
 
     /// The definite answer at this place, in the order of asking.
     pub fn answer(&self, place: usize) -> Option<DefiniteAnswer<I>>
         ensures { result ≡ slice_get self.now.answers place }
     {
-        let packed = self.answers.get(place)?;
-        Some(packed.unpacked())
+        match &self.record {
+            Some(record) => record.answer(place),
+            None => None,
+        }
     }
 
     /// How many definite answers there were.
     pub fn answer_count(&self) -> usize {
-        self.answers.len()
+        match &self.record {
+            Some(record) => record.answer_count(),
+            None => 0,
+        }
     }
 
     /// Whether there are answers of this verdict to questions of this kind, and to others, also in ignored candidates.
     pub fn mixes_kinds(&self, kind: PathKind, verdict: Verdict) -> bool {
-        let mut of_verdict = self.answers.iter().filter(|it| it.verdict == verdict);
-        let Some(first) = of_verdict.next() else {
-            return false;
-        };
-        let first_is_of_kind = first.kind == kind;
-        of_verdict.any(|it| (it.kind == kind) != first_is_of_kind)
+        match &self.record {
+            Some(record) => record.mixes_kinds(kind, verdict),
+            None => false,
+        }
     }
 
-    /// The reply at this place, the oldest at 0.
+    /// The reply at this place, the oldest at 0, of a run that had an answer.
     pub fn reply(&self, place: usize) -> Option<Reply<R>> {
-        self.replies.get(place).copied()
+        match &self.record {
+            Some(record) => record.reply(place),
+            None => None,
+        }
     }
 
-    /// How many replies there were.
+    /// How many replies a run had that had an answer.
     pub fn count(&self) -> usize {
-        self.replies.len()
+        match &self.record {
+            Some(record) => record.count(),
+            None => 0,
+        }
     }
 
     /// Forgets what was done, and keeps the memory.
     pub fn clear(&mut self)
         ensures { self.new ≡ no_record }
     {
-        self.replies.clear();
         self.request = None;
-        self.answers.clear();
-        self.is_open = false;
-        self.ignored.clear();
+        self.beginning = Beginning::Nothing;
+        if let Some(record) = &mut self.record {
+            record.clear();
+        }
     }
+}
+
+/// The record of a run that has only begun. It stays out of `receive`, which seldom makes one.
+#[inline(never)]
+fn new_record<I: Copy, R: Copy>(
+    alloc: Global,
+    beginning: Beginning,
+    request: Option<Request<I, R>>,
+) -> Result<Box<Record<I, R>>, NoMemory>
+    ensures { IfOk result (λ made. made.value ≡ begun beginning request) }
+{
+    let mut record = Record::new(alloc);
+    record.restart(beginning, request)?;
+    Ok(Box::new(alloc, record)?)
+}
+
+/// How the run has begun once it has this reply, if that is still how most runs begin.
+fn beginning_after<I: Copy, R: Copy>(
+    beginning: Beginning,
+    request: Option<Request<I, R>>,
+    reply: Reply<R>,
+) -> Option<Beginning>
+    ensures { IfSome result (λ after. (verdict : Verdict) (node : Option NodeId) →
+        begun after request ≡ received (begun beginning request) reply verdict node) }
+{
+    match (beginning, request, reply) {
+        (Beginning::Nothing, None, Reply::Begin) => Some(Beginning::Begun),
+        (Beginning::Begun, Some(Request::EnterCandidate), Reply::Noted) => {
+            Some(Beginning::InCandidate)
+        }
+        _ => None,
+    }
+}
+
+/// The number of the fault that the request is after such a beginning.
+fn first_order_fault<I: Copy, R: Copy>(beginning: Beginning, request: Request<I, R>) -> Option<u8>
+    ensures { (last : Option (Request I R)) → result ≡ fault_of (begun beginning last) request }
+{
+    let is_open = matches!(beginning, Beginning::InCandidate);
+    match request {
+        Request::EnterCandidate if is_open => Some(1),
+        Request::FinishCandidate if !is_open => Some(2),
+        Request::Ignore(_) => Some(3),
+        _ => None,
+    }
+}
+
+/// The replies of such a beginning.
+fn first_replies<R: Copy>(alloc: Global, beginning: Beginning) -> Result<Vec<Reply<R>>, NoMemory>
+    ensures { IfOk result (λ replies. replies.items ≡ replies_of beginning) }
+{
+    let mut replies = Vec::new(alloc);
+    match beginning {
+        Beginning::Nothing => {}
+        Beginning::Begun => {
+            replies.reserve_exact(1)?;
+            replies.push(Reply::Begin)?;
+        }
+        Beginning::InCandidate => {
+            replies.reserve_exact(2)?;
+            replies.push(Reply::Begin)?;
+            replies.push(Reply::Noted)?;
+        }
+    }
+    Ok(replies)
 }

@@ -3,7 +3,8 @@ ghost use Rattle.std.specs.Prelude.{◌≡◌, []};
 ghost use Rattle.open_goals.specs.Words.{no_record};
 
 use crate::candidates::FinishedCandidates;
-use crate::progress::Progress;
+use crate::progress::{Progress, Record};
+use search_parts::context::Reply;
 use search_parts::parts::CandidateHeadUsages;
 use std::alloc::Global;
 use std::marker::Model;
@@ -14,12 +15,13 @@ const MOST: usize = 32;
 /// A list that had more entries than this is let go, since few runs would fill it again.
 const LARGEST: usize = 256;
 
-/// The memory of runs that have ended, for later ones: lists that are empty again, but have their room. Most runs need as
-/// much as those before them, so that a new one seldom takes any. Clauses see nothing of it.
+/// The memory of runs that have ended, for others: lists that are empty again, but have their room. Most runs need as
+/// much as those before them, so that one seldom takes any. It is lent where it is needed, and not to a run that begins,
+/// since very many may wait for their first answer. Clauses see nothing of it.
 #[derive(Drop)]
 pub struct SpareMemory<I, R> {
     alloc: Global,
-    progress: Vec<Progress<I, R>>,
+    records: Vec<Box<Record<I, R>>>,
     candidates: Vec<FinishedCandidates>,
     usages: Vec<CandidateHeadUsages>,
 }
@@ -37,41 +39,41 @@ impl<I: Copy, R: Copy> SpareMemory<I, R> {
     pub fn new(alloc: Global) -> Self {
         SpareMemory {
             alloc,
-            progress: Vec::new(alloc),
+            records: Vec::new(alloc),
             candidates: Vec::new(alloc),
             usages: Vec::new(alloc),
         }
     }
 
-    /// The record of a run that has done nothing.
-    pub fn new_progress(&mut self) -> Progress<I, R>
-        ensures { result ≡ no_record }
+    /// Lends the run a record, if it needs one for the reply that comes now.
+    #[inline(always)]
+    pub fn lend_record(&mut self, progress: &mut Progress<I, R>, reply: Reply<R>)
+        ensures { progress.new ≡ progress.old }
     {
-        match self.progress.pop() {
-            Some(mut progress) => {
-                progress.clear();
-                progress
+        if progress.needs_record(reply) {
+            if let Some(record) = self.records.pop() {
+                progress.take_record(record);
             }
-            None => Progress::new(self.alloc),
         }
     }
 
-    /// Keeps the memory of the record.
+    /// Keeps the memory of the run's record.
     pub fn keep_progress(&mut self, progress: Progress<I, R>) {
         let count = progress.count();
-        keep(&mut self.progress, progress, count);
+        if let Some(record) = progress.into_record() {
+            keep(&mut self.records, record, count);
+        }
     }
 
-    /// The candidates of a run that has finished none.
-    pub fn new_candidates(&mut self) -> FinishedCandidates
-        ensures { result ≡ [] }
+    /// Lends a list of candidates, if there is no room for any.
+    pub fn lend_candidates(&mut self, candidates: &mut FinishedCandidates)
+        ensures { candidates.new ≡ candidates.old }
     {
-        match self.candidates.pop() {
-            Some(mut emptied) => {
-                emptied.clear();
-                emptied
-            }
-            None => FinishedCandidates::new(self.alloc),
+        if candidates.has_room() {
+            return;
+        }
+        if let Some(emptied) = self.candidates.pop() {
+            candidates.take_room(emptied);
         }
     }
 

@@ -7,7 +7,9 @@ ghost use Rattle.search_moves.specs.Below.{depth_below, KeepsBuilder, CacheNode,
 ghost use Rattle.search_moves.specs.Words.{MayMove, Requests, IsRightFor, GoesOnWith, StopsWith, KeepsCache, StartsFrame, AskingLeadsTo, question_depth};
 
 use crate::evaluation::Evaluation;
+use open_goals::candidates::FinishedCandidates;
 use open_goals::goals::{Fate, OpenGoals, Received, Run};
+use open_goals::progress::Progress;
 use search_parts::context::{Cx, Delegate, NoMemory, NodeId, Reply};
 use search_parts::global_cache::GlobalCache;
 use search_parts::parts::{AvailableDepth, StackDepth, StackEntry};
@@ -155,10 +157,10 @@ impl<D: Delegate> Evaluation<D> {
             Run {
                 frame,
                 node,
-                progress: self.spare.new_progress(),
+                progress: Progress::new(alloc),
                 finished_runs: 0,
                 met_overflow_before: false,
-                candidates: self.spare.new_candidates(),
+                candidates: FinishedCandidates::new(alloc),
                 fate,
             },
         )?;

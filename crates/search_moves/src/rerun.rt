@@ -4,6 +4,7 @@ ghost use Rattle.search_moves.specs.Below.{KeepsEarlier, KeepsFinished};
 ghost use Rattle.search_moves.specs.Words.{MayRunAgain, RunsAgain, StartsFrame};
 
 use crate::evaluation::Evaluation;
+use open_goals::progress::Progress;
 use search_parts::context::{Cx, Delegate, NoMemory};
 use search_parts::global_cache::GlobalCache;
 use search_parts::parts::StackDepth;
@@ -33,7 +34,7 @@ impl<D: Delegate> Evaluation<D> {
         // goal as a head stay: they are rebased when it is popped.
         self.provisional
             .clear_for_rerun(StackDepth::new(self.goals.len() - 1));
-        let nothing = self.spare.new_progress();
+        let nothing = Progress::new(self.goals.allocator());
         let progress = self.goals.take_progress(nothing);
         let own_node = self.goals.last_run().node;
         let entry = self.goals.last_entry();

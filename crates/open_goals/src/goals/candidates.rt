@@ -25,7 +25,7 @@ impl<X: Cx, F: Drop, S: Drop> OpenGoals<X, F, S> {
             Request::EnterCandidate => self.enter_candidate(spare.new_usages()),
             Request::FinishCandidate => {
                 let candidate = self.finish_candidate();
-                self.record_candidate(candidate)?;
+                self.record_candidate(candidate, spare)?;
             }
             Request::Ignore(number) => self.ignore_candidate(number),
             Request::Evaluate(_, _) | Request::Done(_) => {}
@@ -54,12 +54,18 @@ impl<X: Cx, F: Drop, S: Drop> OpenGoals<X, F, S> {
     }
 
     /// Records what a finished candidate of the newest goal used.
-    fn record_candidate(&mut self, candidate: CandidateHeadUsages) -> Result<(), NoMemory>
+    fn record_candidate(
+        &mut self,
+        candidate: CandidateHeadUsages,
+        spare: &mut SpareMemory<X::Input, X::Result>,
+    ) -> Result<(), NoMemory>
         requires { 0 < length self.old }
         ensures { OnOk result (self.new ≡ change_newest (records_candidate candidate) self.old) }
     {
         let last = self.runs.len() - 1;
-        self.runs[last].candidates.push(candidate)?;
+        let candidates = &mut self.runs[last].candidates;
+        spare.lend_candidates(candidates);
+        candidates.push(candidate)?;
         Ok(())
     }
 

@@ -188,7 +188,14 @@ fn advance<D: Delegate>(
 {
     let cx = cache.cx();
     cache.has_runs();
-    match step::<D>(&mut evaluation.goals, cx, received, inspect)? {
+    let request = step::<D>(
+        &mut evaluation.goals,
+        cx,
+        received,
+        &mut evaluation.spare,
+        inspect,
+    )?;
+    match request {
         Request::Evaluate(kind, input) => {
             let next = evaluation.ask(cache, kind, input, inspect)?;
             Ok(Next::Step(next))

@@ -1,6 +1,6 @@
 use Rattle.std.proofs.Common.{arith, ◌-◌, ◌∙◌, refl, sym, ap}
 use Rattle.std.proofs.lemmas.Grind.{common_steps}
-use Rattle.open_goals.specs.Words.{requested, fault_of}
+use Rattle.open_goals.specs.Words.{received, requested, fault_of}
 use Rattle.open_goals.proofs.Steps.{last_can_take, last_stepped, last_out_of_order, none_is}
 use Rattle.open_goals.proofs.goals.step.Goals as goal
 
@@ -11,15 +11,17 @@ step-requires g c =
 
 pub returns-in-Some-clause-fault : goal.returns-in-Some-clause-fault
 returns-in-Some-clause-fault g c =
+    let after = c.in_ok-receive.ensures ∙ ap (λ p. received p c.args.received.reply c.sort_of-verdict.result c.args.received.node) c.lend_record.ensures in
     last_out_of_order g.D.Delegate g.D.Cx.Cx c.args.cx c.args.received c.goals.inside.stack c.goals.inside.runs.items _ c.goals.invariant c.goals.view_is c.requires.some c.requires.can_step (c.len-last.result - 1) c.index_mut-run.result.now
     (grind (arith, common_steps)) c.index_mut-run.ensures.value c.sort_of-verdict.result c.sort_of-verdict.ensures c.in_ok-request.request c.step.new.frame c.in_ok-request.ensures.request c.in-Some.number _
-    (sym (ap (λ p. fault_of p c.in_ok-request.request) c.in_ok-receive.ensures) ∙ sym c.order_fault.ensures ∙ c.in-Some.is) refl
+    (sym (ap (λ p. fault_of p c.in_ok-request.request) after) ∙ sym c.order_fault.ensures ∙ c.in-Some.is) refl
 
 pub returns-clause-stepped : goal.returns-clause-stepped
 returns-clause-stepped g c =
+    let after = c.in_ok-receive.ensures ∙ ap (λ p. received p c.args.received.reply c.sort_of-verdict.result c.args.received.node) c.lend_record.ensures in
     last_stepped g.D.Delegate g.D.Cx.Cx c.args.cx c.args.received c.goals.inside.stack c.goals.inside.runs.items _ c.goals.invariant c.goals.view_is c.requires.some c.requires.can_step (c.len-last.result - 1) c.index_mut-run.result.now
     (grind (arith, common_steps)) c.index_mut-run.ensures.value c.sort_of-verdict.result c.sort_of-verdict.ensures c.in_ok-request.request c.step.new.frame c.in_ok-request.ensures.request
     (record c.index_mut-run.result.now { frame = c.step.new.frame; progress = c.note_request.new.self })
-    (ap (λ p. record c.index_mut-run.result.now { frame = c.step.new.frame; progress = p }) (c.note_request.ensures ∙ ap (λ p. requested p c.in_ok-request.request) c.in_ok-receive.ensures))
-    (sym (ap (λ p. fault_of p c.in_ok-request.request) c.in_ok-receive.ensures) ∙ sym c.order_fault.ensures ∙ none_is c.order_fault.result c.in_default.not-Some)
+    (ap (λ p. record c.index_mut-run.result.now { frame = c.step.new.frame; progress = p }) (c.note_request.ensures ∙ ap (λ p. requested p c.in_ok-request.request) after))
+    (sym (ap (λ p. fault_of p c.in_ok-request.request) after) ∙ sym c.order_fault.ensures ∙ none_is c.order_fault.result c.in_default.not-Some)
     c.in_ok-request.ensures.falls

@@ -1,0 +1,305 @@
+//! The record of a run.
+ghost use Rattle.std.specs.Prelude.{◌≡◌, ◌<◌, ◌^◌, All, Contains, OnOk, IfOk, slice_get};
+ghost use Rattle.std.specs.Option.{IfSome};
+ghost use Rattle.open_goals.specs.Below.{NodeId, ignored_by};
+ghost use Rattle.open_goals.specs.Words.{HasTarget, begun, no_record, received, requested, answers_with, fault_of, edges_of, rests_on};
+
+use crate::progress::{Beginning, DefiniteAnswer};
+use search_parts::context::{Edge, NoMemory, NodeId, Reply, Request, Verdict};
+use search_parts::path::PathKind;
+use std::alloc::Global;
+use std::marker::Model;
+
+/// A definite answer in less room, since a large run has very many: its fields leave no gaps between them.
+#[derive(Drop)]
+struct PackedAnswer<I> {
+    target: usize,
+    /// One more than the number of the candidate, or 0 outside of candidates.
+    candidate: usize,
+    input: I,
+    kind: PathKind,
+    verdict: Verdict,
+}
+
+// Fields in another order could take more.
+const _: () = prove!(size_of::<PackedAnswer<u32>>() == 24);
+
+impl<I> Model for PackedAnswer<I> {
+    ghost use Rattle.open_goals.specs.declared.progress.DefiniteAnswer.{DefiniteAnswer};
+
+    ghost Value = { DefiniteAnswer I };
+
+    ghost use Rattle.open_goals.specs.Progress.{less_one};
+
+    ghost view = { λ a. record { edge = record { kind = a.kind; input = a.input; target = a.target }; verdict = a.verdict; candidate = less_one a.candidate } };
+}
+
+impl<I: Copy> PackedAnswer<I> {
+    /// Packs the answer.
+    fn new(answer: DefiniteAnswer<I>) -> Self
+        requires { IfSome answer.candidate (λ number. number < 2 ^ 63) }
+        ensures { result ≡ answer }
+    {
+        PackedAnswer {
+            target: answer.edge.target,
+            candidate: answer.candidate.map_or(0, |number| number + 1),
+            input: answer.edge.input,
+            kind: answer.edge.kind,
+            verdict: answer.verdict,
+        }
+    }
+
+    /// The answer.
+    fn unpacked(&self) -> DefiniteAnswer<I>
+        ensures { result ≡ self.now }
+    {
+        DefiniteAnswer {
+            edge: Edge {
+                kind: self.kind,
+                input: self.input,
+                target: self.target,
+            },
+            verdict: self.verdict,
+            candidate: self.candidate.checked_sub(1),
+        }
+    }
+}
+
+/// What a run has done since it began.
+#[derive(Drop)]
+pub(crate) struct Record<I, R> {
+    replies: Vec<Reply<R>>,
+    request: Option<Request<I, R>>,
+    answers: Vec<PackedAnswer<I>>,
+    is_open: bool,
+    /// One for each finished candidate.
+    ignored: Vec<bool>,
+}
+
+impl<I, R> Model for Record<I, R> {
+    ghost use Rattle.open_goals.specs.Progress.{RunRecord};
+
+    ghost Value = { RunRecord I R };
+
+    ghost view = { λ t. record { replies = t.replies.items; request = t.request; answers = t.answers.items; is_open = t.is_open; ignored = t.ignored.items } };
+}
+
+impl<I: Copy, R: Copy> Record<I, R> {
+    /// Nothing was done yet.
+    pub(super) fn new(alloc: Global) -> Self
+        ensures { result ≡ no_record }
+    {
+        Record {
+            replies: Vec::new(alloc),
+            request: None,
+            answers: Vec::new(alloc),
+            is_open: false,
+            ignored: Vec::new(alloc),
+        }
+    }
+
+    /// Forgets what was done, and keeps the memory: the run began like this, and its last request was this one. A
+    /// refusal leaves anything.
+    pub(super) fn restart(
+        &mut self,
+        beginning: Beginning,
+        request: Option<Request<I, R>>,
+    ) -> Result<(), NoMemory>
+        ensures { OnOk result (self.new ≡ begun beginning request) }
+    {
+        self.clear();
+        self.request = request;
+        match beginning {
+            Beginning::Nothing => {}
+            Beginning::Begun => self.replies.push(Reply::Begin)?,
+            Beginning::InCandidate => {
+                self.replies.push(Reply::Begin)?;
+                self.replies.push(Reply::Noted)?;
+                self.is_open = true;
+            }
+        }
+        Ok(())
+    }
+
+    /// Takes the reply to the last request. `verdict` is that of an answer, `node` its node if it is
+    /// definite. A refusal leaves anything.
+    #[inline(always)]
+    pub(super) fn receive(
+        &mut self,
+        reply: Reply<R>,
+        verdict: Verdict,
+        node: Option<NodeId>,
+    ) -> Result<(), NoMemory>
+        ensures { OnOk result (self.new ≡ received self.old reply verdict node) }
+    {
+        match self.request {
+            Some(Request::Evaluate(kind, input)) => {
+                if let (Verdict::Yes | Verdict::No, Some(node)) = (verdict, node) {
+                    let edge = Edge {
+                        kind,
+                        input,
+                        target: node.0,
+                    };
+                    self.keep(edge, verdict)?;
+                }
+            }
+            Some(Request::EnterCandidate) => self.is_open = true,
+            Some(Request::FinishCandidate) => {
+                self.is_open = false;
+                self.ignored.push(false)?;
+            }
+            Some(Request::Ignore(number)) => {
+                if let Some(ignored) = self.ignored.get_mut(number) {
+                    *ignored = true;
+                }
+            }
+            Some(Request::Done(_)) | None => {}
+        }
+        self.replies.push(reply)?;
+        Ok(())
+    }
+
+    /// Records an answer with this edge, asked in the open candidate if there is one.
+    fn keep(&mut self, edge: Edge<I>, verdict: Verdict) -> Result<(), NoMemory>
+        ensures { OnOk result
+            (self.new ≡ record self.old { answers = answers_with self.old edge verdict }) }
+    {
+        let candidate = self.is_open.then_some(self.ignored.len());
+        let answer = DefiniteAnswer {
+            edge,
+            verdict,
+            candidate,
+        };
+        self.answers.push(PackedAnswer::new(answer))?;
+        Ok(())
+    }
+
+    /// Notes the request that followed.
+    pub(super) fn note_request(&mut self, request: Request<I, R>)
+        ensures { self.new ≡ requested self.old request }
+    {
+        self.request = Some(request);
+    }
+
+    /// The number of the fault that the request is, if it comes out of order now: 1, a candidate
+    /// begins while one is open; 2, none is open that could end; 3, the candidate to be ignored isn't
+    /// finished; 4, it is ignored already.
+    pub(super) fn order_fault(&self, request: Request<I, R>) -> Option<u8>
+        ensures { result ≡ fault_of self.now request }
+    {
+        match request {
+            Request::EnterCandidate if self.is_open => Some(1),
+            Request::FinishCandidate if !self.is_open => Some(2),
+            Request::Ignore(number) if number >= self.ignored.len() => Some(3),
+            Request::Ignore(number) if self.ignored[number] => Some(4),
+            _ => None,
+        }
+    }
+
+    /// The edges that a result of this verdict rests on: those of its answers outside ignored
+    /// candidates, in the order of asking. The list has no room to spare, since the node of the run has
+    /// it for good.
+    pub(super) fn edges(&self, verdict: Verdict) -> Result<Vec<Edge<I>>, NoMemory>
+        ensures { IfOk result (λ edges. edges.items ≡ edges_of self.now verdict) }
+    {
+        let count = self.edge_count(verdict);
+        let mut edges = Vec::with_capacity(*self.answers.allocator(), count)?;
+        for packed in &self.answers {
+            let answer = packed.unpacked();
+            if self.is_rested_on(&answer, verdict) {
+                edges.push(answer.edge)?;
+            }
+        }
+        Ok(edges)
+    }
+
+    /// How many edges a result of this verdict rests on.
+    fn edge_count(&self, verdict: Verdict) -> usize {
+        self.answers
+            .iter()
+            .filter(|packed| self.is_rested_on(&packed.unpacked(), verdict))
+            .count()
+    }
+
+    /// Whether a result of this verdict rests on the answer.
+    pub(super) fn is_rested_on(&self, answer: &DefiniteAnswer<I>, verdict: Verdict) -> bool
+        ensures { result ≡ rests_on self.now.ignored verdict answer.now }
+    {
+        answer.verdict == verdict
+            && answer
+                .candidate
+                .is_none_or(|number| !self.is_ignored(number))
+    }
+
+    /// Whether the finished candidate of this number is ignored.
+    fn is_ignored(&self, number: usize) -> bool
+        ensures { result ≡ ignored_by self.now.ignored number }
+    {
+        self.ignored.get(number) == Some(&true)
+    }
+
+    /// Appends the nodes of the definite answers, also of those in ignored candidates. A refusal may leave a part
+    /// of them appended.
+    pub(super) fn push_targets(&self, nodes: &mut Vec<NodeId>) -> Result<(), NoMemory>
+        ensures kept { (n : NodeId) → Contains nodes.old.items n → Contains nodes.new.items n }
+        ensures answers { OnOk result (All (HasTarget nodes.new.items) self.now.answers) }
+    {
+        for packed in &self.answers {
+            let answer = packed.unpacked();
+            nodes.push(NodeId(answer.edge.target))?;
+        }
+        Ok(())
+    }
+
+    /// The replies, the oldest first, in a list that has no room to spare: the node of the run has it for good.
+    pub(super) fn replies(&self) -> Result<Vec<Reply<R>>, NoMemory>
+        ensures { IfOk result (λ replies. replies.items ≡ self.now.replies) }
+    {
+        let replies = Vec::from_slice(*self.replies.allocator(), &self.replies)?;
+        Ok(replies)
+    }
+
+    /// The definite answer at this place, in the order of asking.
+    pub(super) fn answer(&self, place: usize) -> Option<DefiniteAnswer<I>>
+        ensures { result ≡ slice_get self.now.answers place }
+    {
+        let packed = self.answers.get(place)?;
+        Some(packed.unpacked())
+    }
+
+    /// How many definite answers there were.
+    pub(super) fn answer_count(&self) -> usize {
+        self.answers.len()
+    }
+
+    /// Whether there are answers of this verdict to questions of this kind, and to others, also in ignored candidates.
+    pub(super) fn mixes_kinds(&self, kind: PathKind, verdict: Verdict) -> bool {
+        let mut of_verdict = self.answers.iter().filter(|it| it.verdict == verdict);
+        let Some(first) = of_verdict.next() else {
+            return false;
+        };
+        let first_is_of_kind = first.kind == kind;
+        of_verdict.any(|it| (it.kind == kind) != first_is_of_kind)
+    }
+
+    /// The reply at this place, the oldest at 0.
+    pub(super) fn reply(&self, place: usize) -> Option<Reply<R>> {
+        self.replies.get(place).copied()
+    }
+
+    /// How many replies there were.
+    pub(super) fn count(&self) -> usize {
+        self.replies.len()
+    }
+
+    /// Forgets what was done, and keeps the memory.
+    pub(super) fn clear(&mut self)
+        ensures { self.new ≡ no_record }
+    {
+        self.replies.clear();
+        self.request = None;
+        self.answers.clear();
+        self.is_open = false;
+        self.ignored.clear();
+    }
+}
