@@ -47,24 +47,28 @@ replies_of Nothing = []
 replies_of Begun = Begin ∷ []
 replies_of InCandidate = Begin ∷ Noted ∷ []
 
--- whether a candidate is open then
-abbrev pub begins_open : Beginning → Bool
-begins_open InCandidate = true
-begins_open _ = false
+-- whether it has begun a candidate
+abbrev pub is_in_candidate : Beginning → Bool
+is_in_candidate InCandidate = true
+is_in_candidate _ = false
 
 module _ {I R : Type 0} where
   -- nothing was done yet
   abbrev pub no_record : RunRecord I R
   no_record = record { replies = []; request = None; answers = []; is_open = false; ignored = [] }
 
-  -- what was done by a run that has only begun
-  abbrev pub begun : Beginning → Option (Request I R) → RunRecord I R
-  begun beginning request = record { replies = replies_of beginning; request = request; answers = []; is_open = begins_open beginning; ignored = [] }
+  -- what was done by a run that has only begun, its last request aside
+  abbrev pub begun : Beginning → RunRecord I R
+  begun beginning = record no_record { replies = replies_of beginning }
 
-  -- what was done by a run that has this record, or has only begun
-  abbrev pub done_in : Option (RunRecord I R) → Beginning → Option (Request I R) → RunRecord I R
-  done_in (Some p) _ _ = p
-  done_in None beginning request = begun beginning request
+  -- the same of a run that has these lists, or has only begun
+  abbrev pub done_in : Option (RunRecord I R) → Beginning → RunRecord I R
+  done_in (Some p) _ = p
+  done_in None beginning = begun beginning
+
+  -- the record with this last request, with an open candidate or not
+  abbrev pub going_on : RunRecord I R → Option (Request I R) → Bool → RunRecord I R
+  going_on p request is_open = record p { request = request; is_open = is_open }
 
   -- an open candidate has the number that it gets once it is finished
   abbrev pub open_number : RunRecord I R → Option ℕ

@@ -9,7 +9,7 @@ pub use Rattle.open_goals.specs.NestedGoals.{ChangesNested, Joined, LeavesAnswer
 pub use Rattle.open_goals.specs.Newest.{change_newest, newest, paired}
 pub use Rattle.open_goals.specs.OpenGoal.{OpenGoal}
 pub use Rattle.open_goals.specs.Nodes.{HasCycleNode, HasNodes, HasRunNodes, HasTarget}
-pub use Rattle.open_goals.specs.Progress.{answers_with, begun, done_in, edges_of, fault_of, no_record, received, replies_of, requested}
+pub use Rattle.open_goals.specs.Progress.{answers_with, begun, done_in, edges_of, fault_of, going_on, is_in_candidate, no_record, received, replies_of, requested}
 pub use Rattle.open_goals.specs.Progress.{rests_on}
 pub use Rattle.open_goals.specs.Steps.{CanStep, HasStepped, IsStepFault, IsVerdict, OutOfOrder}
 pub use Rattle.open_goals.specs.declared.goals.Received.{Received}

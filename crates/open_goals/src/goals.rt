@@ -418,7 +418,7 @@ pub fn step<D: Delegate>(
     let verdict = sort_of(cx, received.reply);
     let last = goals.runs.len() - 1;
     let run = &mut goals.runs[last];
-    spare.lend_record(&mut run.progress, received.reply);
+    spare.lend_lists(&mut run.progress, received.reply);
     run.progress
         .receive(received.reply, verdict, received.node)?;
     let request = D::step(&mut run.frame, received.reply, inspect)?;

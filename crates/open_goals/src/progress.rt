@@ -1,12 +1,12 @@
 //! What a run has done so far.
-ghost use Rattle.std.specs.Prelude.{◌≡◌, All, Contains, OnOk, IfOk, Option, slice_get};
+ghost use Rattle.std.specs.Prelude.{◌≡◌, ◌||◌, All, Bool, Contains, OnOk, IfOk, Option, slice_get};
 ghost use Rattle.std.specs.Option.{IfSome};
 ghost use Rattle.open_goals.specs.Below.{NodeId};
-ghost use Rattle.open_goals.specs.Words.{HasTarget, begun, no_record, received, replies_of, requested, fault_of, edges_of, rests_on};
+ghost use Rattle.open_goals.specs.Words.{HasTarget, begun, edges_of, fault_of, going_on, is_in_candidate, no_record, received, replies_of, requested, rests_on};
 
-mod record;
+mod lists;
 
-pub(crate) use record::Record;
+pub(crate) use lists::Lists;
 use search_parts::context::{Edge, NoMemory, NodeId, Reply, Request, Verdict};
 use search_parts::path::PathKind;
 use std::alloc::Global;
@@ -29,31 +29,34 @@ pub(crate) enum Beginning {
     Nothing,
     /// It had `Begin`.
     Begun,
-    /// It had `Begin` and then `Noted`, for a candidate, which is open.
+    /// It had `Begin` and then `Noted`, for a candidate.
     InCandidate,
 }
 
 /// What a run has done so far: its replies, its last request, its definite answers with their nodes,
 /// and its candidates.
 ///
-/// On a deep stack very many runs wait for their first answer, so a run has its record, with the lists that this takes,
-/// only once there is more to tell than how it began.
+/// On a deep stack very many runs wait for their first answer. So a run has lists only once there is more to tell than
+/// how it began.
 #[derive(Drop)]
 pub struct Progress<I, R> {
-    record: Option<Box<Record<I, R>>>,
-    // The last request of a run that has no record, and how it began.
+    lists: Option<Box<Lists<I, R>>>,
+    /// The last request.
     request: Option<Request<I, R>>,
+    /// How a run that has no lists began.
     beginning: Beginning,
+    /// Whether a candidate is open.
+    is_open: bool,
     alloc: Global,
 }
 
 impl<I, R> Model for Progress<I, R> {
     ghost use Rattle.std.specs.Option.{option_map};
-    ghost use Rattle.open_goals.specs.Progress.{RunRecord, done_in};
+    ghost use Rattle.open_goals.specs.Progress.{RunRecord, done_in, going_on};
 
     ghost Value = { RunRecord I R };
 
-    ghost view = { λ t. done_in (option_map (λ b. b.value) t.record) t.beginning t.request };
+    ghost view = { λ t. going_on (done_in (option_map (λ b. b.value) t.lists) t.beginning) t.request t.is_open };
 }
 
 impl<I: Copy, R: Copy> Progress<I, R> {
@@ -62,9 +65,10 @@ impl<I: Copy, R: Copy> Progress<I, R> {
         ensures { result ≡ no_record }
     {
         Progress {
-            record: None,
+            lists: None,
             request: None,
             beginning: Beginning::Nothing,
+            is_open: false,
             alloc,
         }
     }
@@ -80,59 +84,69 @@ impl<I: Copy, R: Copy> Progress<I, R> {
     ) -> Result<(), NoMemory>
         ensures { OnOk result (self.new ≡ received self.old reply verdict node) }
     {
-        if let Some(record) = &mut self.record {
-            return record.receive(reply, verdict, node);
+        if let Some(lists) = &mut self.lists {
+            return lists.receive(self.request, &mut self.is_open, reply, verdict, node);
         }
         if let Some(beginning) = beginning_after(self.beginning, self.request, reply) {
             self.beginning = beginning;
+            self.is_open |= matches!(beginning, Beginning::InCandidate);
             return Ok(());
         }
-        let mut record = new_record(self.alloc, self.beginning, self.request)?;
-        record.receive(reply, verdict, node)?;
-        self.record = Some(record);
+        let mut lists = new_lists(self.alloc, self.beginning)?;
+        lists.receive(self.request, &mut self.is_open, reply, verdict, node)?;
+        self.lists = Some(lists);
         Ok(())
     }
 
-    /// Whether the run has no record, and needs one for the reply that comes now.
-    pub(crate) fn needs_record(&self, reply: Reply<R>) -> bool {
-        self.record.is_none() && beginning_after(self.beginning, self.request, reply).is_none()
+    /// Whether the run has no lists, and needs them for the reply that comes now.
+    #[inline(always)]
+    pub(crate) fn needs_lists(&self, reply: Reply<R>) -> bool {
+        self.lists.is_none() && beginning_after(self.beginning, self.request, reply).is_none()
     }
 
-    /// Takes the memory of another run's record, if there is none yet.
-    pub(crate) fn take_record(&mut self, mut other: Box<Record<I, R>>)
+    /// Takes the lists of another run, for their memory, if there are none yet.
+    pub(crate) fn take_lists(&mut self, mut lists: Box<Lists<I, R>>)
         ensures { self.new ≡ self.old }
     {
-        if self.record.is_none() && other.restart(self.beginning, self.request).is_ok() {
-            self.record = Some(other);
+        if self.lists.is_none() && lists.restart(self.beginning).is_ok() {
+            self.lists = Some(lists);
         }
     }
 
-    /// The record, if there is one: its memory may serve another run.
-    pub(crate) fn into_record(self) -> Option<Box<Record<I, R>>> {
-        self.record
+    /// The lists, if there are any: their memory may serve another run.
+    pub(crate) fn into_lists(self) -> Option<Box<Lists<I, R>>> {
+        self.lists
     }
 
     /// Notes the request that followed.
-    #[inline(always)]
     pub fn note_request(&mut self, request: Request<I, R>)
         ensures { self.new ≡ requested self.old request }
     {
-        match &mut self.record {
-            Some(record) => record.note_request(request),
-            None => self.request = Some(request),
-        }
+        self.request = Some(request);
     }
 
     /// The number of the fault that the request is, if it comes out of order now: 1, a candidate
     /// begins while one is open; 2, none is open that could end; 3, the candidate to be ignored isn't
     /// finished; 4, it is ignored already.
-    #[inline(always)]
     pub fn order_fault(&self, request: Request<I, R>) -> Option<u8>
         ensures { result ≡ fault_of self.now request }
     {
-        match &self.record {
-            Some(record) => record.order_fault(request),
-            None => first_order_fault(self.beginning, request),
+        match request {
+            Request::EnterCandidate if self.is_open => Some(1),
+            Request::FinishCandidate if !self.is_open => Some(2),
+            Request::Ignore(number) if number >= self.ignored().len() => Some(3),
+            Request::Ignore(number) if self.ignored()[number] => Some(4),
+            _ => None,
+        }
+    }
+
+    /// Of each finished candidate, whether it is ignored.
+    fn ignored(&self) -> &[bool]
+        ensures { result.now ≡ self.now.ignored }
+    {
+        match &self.lists {
+            Some(lists) => lists.ignored(),
+            None => &[],
         }
     }
 
@@ -142,8 +156,8 @@ impl<I: Copy, R: Copy> Progress<I, R> {
     pub fn edges(&self, verdict: Verdict) -> Result<Vec<Edge<I>>, NoMemory>
         ensures { IfOk result (λ edges. edges.items ≡ edges_of self.now verdict) }
     {
-        match &self.record {
-            Some(record) => record.edges(verdict),
+        match &self.lists {
+            Some(lists) => lists.edges(verdict),
             None => Ok(Vec::new(self.alloc)),
         }
     }
@@ -152,8 +166,8 @@ impl<I: Copy, R: Copy> Progress<I, R> {
     pub fn is_rested_on(&self, answer: &DefiniteAnswer<I>, verdict: Verdict) -> bool
         ensures { result ≡ rests_on self.now.ignored verdict answer.now }
     {
-        match &self.record {
-            Some(record) => record.is_rested_on(answer, verdict),
+        match &self.lists {
+            Some(lists) => lists.is_rested_on(answer, verdict),
             None => answer.verdict == verdict,
         }
     }
@@ -164,8 +178,8 @@ impl<I: Copy, R: Copy> Progress<I, R> {
         ensures kept { (n : NodeId) → Contains nodes.old.items n → Contains nodes.new.items n }
         ensures answers { OnOk result (All (HasTarget nodes.new.items) self.now.answers) }
     {
-        match &self.record {
-            Some(record) => record.push_targets(nodes),
+        match &self.lists {
+            Some(lists) => lists.push_targets(nodes),
             None => Ok(()),
         }
     }
@@ -174,52 +188,50 @@ impl<I: Copy, R: Copy> Progress<I, R> {
     pub fn replies(&self) -> Result<Vec<Reply<R>>, NoMemory>
         ensures { IfOk result (λ replies. replies.items ≡ self.now.replies) }
     {
-        match &self.record {
-            Some(record) => record.replies(),
+        match &self.lists {
+            Some(lists) => lists.replies(),
             None => first_replies(self.alloc, self.beginning),
         }
     }
 
     /// The definite answer at this place, in the order of asking.
+    #[inline(always)]
     pub fn answer(&self, place: usize) -> Option<DefiniteAnswer<I>>
         ensures { result ≡ slice_get self.now.answers place }
     {
-        match &self.record {
-            Some(record) => record.answer(place),
+        match &self.lists {
+            Some(lists) => lists.answer(place),
             None => None,
         }
     }
 
     /// How many definite answers there were.
     pub fn answer_count(&self) -> usize {
-        match &self.record {
-            Some(record) => record.answer_count(),
+        match &self.lists {
+            Some(lists) => lists.answer_count(),
             None => 0,
         }
     }
 
     /// Whether there are answers of this verdict to questions of this kind, and to others, also in ignored candidates.
     pub fn mixes_kinds(&self, kind: PathKind, verdict: Verdict) -> bool {
-        match &self.record {
-            Some(record) => record.mixes_kinds(kind, verdict),
+        match &self.lists {
+            Some(lists) => lists.mixes_kinds(kind, verdict),
             None => false,
         }
     }
 
-    /// The reply at this place, the oldest at 0, of a run that had an answer.
-    pub fn reply(&self, place: usize) -> Option<Reply<R>> {
-        match &self.record {
-            Some(record) => record.reply(place),
-            None => None,
+    /// The replies, the oldest first, of a run that has had an answer.
+    pub fn listed_replies(&self) -> &[Reply<R>] {
+        match &self.lists {
+            Some(lists) => lists.replies_so_far(),
+            None => &[],
         }
     }
 
-    /// How many replies a run had that had an answer.
+    /// How many these are.
     pub fn count(&self) -> usize {
-        match &self.record {
-            Some(record) => record.count(),
-            None => 0,
-        }
+        self.listed_replies().len()
     }
 
     /// Forgets what was done, and keeps the memory.
@@ -228,53 +240,42 @@ impl<I: Copy, R: Copy> Progress<I, R> {
     {
         self.request = None;
         self.beginning = Beginning::Nothing;
-        if let Some(record) = &mut self.record {
-            record.clear();
+        self.is_open = false;
+        if let Some(lists) = &mut self.lists {
+            lists.clear();
         }
     }
 }
 
-/// The record of a run that has only begun. It stays out of `receive`, which seldom makes one.
+/// The lists of a run that has only begun. It stays out of `receive`, which seldom makes any.
 #[inline(never)]
-fn new_record<I: Copy, R: Copy>(
+fn new_lists<I: Copy, R: Copy>(
     alloc: Global,
     beginning: Beginning,
-    request: Option<Request<I, R>>,
-) -> Result<Box<Record<I, R>>, NoMemory>
-    ensures { IfOk result (λ made. made.value ≡ begun beginning request) }
+) -> Result<Box<Lists<I, R>>, NoMemory>
+    ensures { IfOk result (λ made. made.value ≡ begun beginning) }
 {
-    let mut record = Record::new(alloc);
-    record.restart(beginning, request)?;
-    Ok(Box::new(alloc, record)?)
+    let mut lists = Lists::new(alloc);
+    lists.restart(beginning)?;
+    Ok(Box::new(alloc, lists)?)
 }
 
 /// How the run has begun once it has this reply, if that is still how most runs begin.
+#[inline(always)]
 fn beginning_after<I: Copy, R: Copy>(
     beginning: Beginning,
     request: Option<Request<I, R>>,
     reply: Reply<R>,
 ) -> Option<Beginning>
-    ensures { IfSome result (λ after. (verdict : Verdict) (node : Option NodeId) →
-        begun after request ≡ received (begun beginning request) reply verdict node) }
+    ensures { IfSome result (λ after. (is_open : Bool) (verdict : Verdict) (node : Option NodeId) →
+        going_on (begun after) request (is_open || is_in_candidate after)
+        ≡ received (going_on (begun beginning) request is_open) reply verdict node) }
 {
     match (beginning, request, reply) {
         (Beginning::Nothing, None, Reply::Begin) => Some(Beginning::Begun),
         (Beginning::Begun, Some(Request::EnterCandidate), Reply::Noted) => {
             Some(Beginning::InCandidate)
         }
-        _ => None,
-    }
-}
-
-/// The number of the fault that the request is after such a beginning.
-fn first_order_fault<I: Copy, R: Copy>(beginning: Beginning, request: Request<I, R>) -> Option<u8>
-    ensures { (last : Option (Request I R)) → result ≡ fault_of (begun beginning last) request }
-{
-    let is_open = matches!(beginning, Beginning::InCandidate);
-    match request {
-        Request::EnterCandidate if is_open => Some(1),
-        Request::FinishCandidate if !is_open => Some(2),
-        Request::Ignore(_) => Some(3),
         _ => None,
     }
 }

@@ -3,7 +3,7 @@ ghost use Rattle.std.specs.Prelude.{◌≡◌, []};
 ghost use Rattle.open_goals.specs.Words.{no_record};
 
 use crate::candidates::FinishedCandidates;
-use crate::progress::{Progress, Record};
+use crate::progress::{Lists, Progress};
 use search_parts::context::Reply;
 use search_parts::parts::CandidateHeadUsages;
 use std::alloc::Global;
@@ -21,7 +21,7 @@ const LARGEST: usize = 256;
 #[derive(Drop)]
 pub struct SpareMemory<I, R> {
     alloc: Global,
-    records: Vec<Box<Record<I, R>>>,
+    lists: Vec<Box<Lists<I, R>>>,
     candidates: Vec<FinishedCandidates>,
     usages: Vec<CandidateHeadUsages>,
 }
@@ -39,29 +39,29 @@ impl<I: Copy, R: Copy> SpareMemory<I, R> {
     pub fn new(alloc: Global) -> Self {
         SpareMemory {
             alloc,
-            records: Vec::new(alloc),
+            lists: Vec::new(alloc),
             candidates: Vec::new(alloc),
             usages: Vec::new(alloc),
         }
     }
 
-    /// Lends the run a record, if it needs one for the reply that comes now.
+    /// Lends the run lists of what it does, if it needs them for the reply that comes now.
     #[inline(always)]
-    pub fn lend_record(&mut self, progress: &mut Progress<I, R>, reply: Reply<R>)
+    pub fn lend_lists(&mut self, progress: &mut Progress<I, R>, reply: Reply<R>)
         ensures { progress.new ≡ progress.old }
     {
-        if progress.needs_record(reply) {
-            if let Some(record) = self.records.pop() {
-                progress.take_record(record);
+        if progress.needs_lists(reply) {
+            if let Some(lists) = self.lists.pop() {
+                progress.take_lists(lists);
             }
         }
     }
 
-    /// Keeps the memory of the run's record.
+    /// Keeps the memory of the lists of what the run did.
     pub fn keep_progress(&mut self, progress: Progress<I, R>) {
         let count = progress.count();
-        if let Some(record) = progress.into_record() {
-            keep(&mut self.records, record, count);
+        if let Some(lists) = progress.into_lists() {
+            keep(&mut self.lists, lists, count);
         }
     }
 

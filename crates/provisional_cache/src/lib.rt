@@ -101,6 +101,7 @@ impl<D: Delegate> ProvisionalCache<D> {
     }
 
     /// The entries of the goal, the oldest first; none where it has none.
+    #[inline(always)]
     pub fn entries_of(&self, input: <D::Cx as Cx>::Input) -> &[ProvisionalCacheEntry<D::Cx>]
         ensures entries { result.now ≡ entries_at D.Cx.Input.eq self.now input }
         ensures heads { All (λ entry. entry.heads ≢ []) result.now }

@@ -273,8 +273,9 @@ impl<'cache, 'run, D: Delegate> Replayed<'cache, 'run, D> {
     /// The next definite result among the replies from this place on, which is then the one behind it.
     fn next_result(&self, place: &mut usize) -> Option<<D::Cx as Cx>::Result> {
         let cx = self.cache.cx();
-        for at in *place..self.told.count() {
-            if let Some(Reply::Answer(result)) = self.told.reply(at) {
+        let replies = self.told.listed_replies();
+        for at in *place..replies.len() {
+            if let Reply::Answer(result) = replies[at] {
                 if cx.sort(result) != Verdict::Neither {
                     *place = at + 1;
                     return Some(result);

@@ -11,14 +11,14 @@ step-requires g c =
 
 pub returns-in-Some-clause-fault : goal.returns-in-Some-clause-fault
 returns-in-Some-clause-fault g c =
-    let after = c.in_ok-receive.ensures ∙ ap (λ p. received p c.args.received.reply c.sort_of-verdict.result c.args.received.node) c.lend_record.ensures in
+    let after = c.in_ok-receive.ensures ∙ ap (λ p. received p c.args.received.reply c.sort_of-verdict.result c.args.received.node) c.lend_lists.ensures in
     last_out_of_order g.D.Delegate g.D.Cx.Cx c.args.cx c.args.received c.goals.inside.stack c.goals.inside.runs.items _ c.goals.invariant c.goals.view_is c.requires.some c.requires.can_step (c.len-last.result - 1) c.index_mut-run.result.now
     (grind (arith, common_steps)) c.index_mut-run.ensures.value c.sort_of-verdict.result c.sort_of-verdict.ensures c.in_ok-request.request c.step.new.frame c.in_ok-request.ensures.request c.in-Some.number _
     (sym (ap (λ p. fault_of p c.in_ok-request.request) after) ∙ sym c.order_fault.ensures ∙ c.in-Some.is) refl
 
 pub returns-clause-stepped : goal.returns-clause-stepped
 returns-clause-stepped g c =
-    let after = c.in_ok-receive.ensures ∙ ap (λ p. received p c.args.received.reply c.sort_of-verdict.result c.args.received.node) c.lend_record.ensures in
+    let after = c.in_ok-receive.ensures ∙ ap (λ p. received p c.args.received.reply c.sort_of-verdict.result c.args.received.node) c.lend_lists.ensures in
     last_stepped g.D.Delegate g.D.Cx.Cx c.args.cx c.args.received c.goals.inside.stack c.goals.inside.runs.items _ c.goals.invariant c.goals.view_is c.requires.some c.requires.can_step (c.len-last.result - 1) c.index_mut-run.result.now
     (grind (arith, common_steps)) c.index_mut-run.ensures.value c.sort_of-verdict.result c.sort_of-verdict.ensures c.in_ok-request.request c.step.new.frame c.in_ok-request.ensures.request
     (record c.index_mut-run.result.now { frame = c.step.new.frame; progress = c.note_request.new.self })

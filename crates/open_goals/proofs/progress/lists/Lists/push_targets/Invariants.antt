@@ -1,7 +1,7 @@
 use Rattle.std.proofs.Common.{All, take}
 use Rattle.open_goals.specs.Words.{HasTarget}
 use Rattle.open_goals.proofs.Nodes.{Kept}
-use Rattle.open_goals.proofs.progress.record.Record.push_targets.Given as goal
+use Rattle.open_goals.proofs.progress.lists.Lists.push_targets.Given as goal
 
 -- what was there is kept, and the nodes of the answers so far are there
 abbrev pub invariant-loop-packed : goal.invariant-loop-packed

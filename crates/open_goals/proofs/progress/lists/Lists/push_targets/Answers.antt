@@ -2,7 +2,7 @@ use Rattle.std.proofs.Common.{◌<◌, ◌≤◌, ◌∙◌, ap, get_or, length,
 use Rattle.open_goals.specs.Below.{NodeId}
 use Rattle.open_goals.specs.Words.{HasTarget}
 use Rattle.open_goals.proofs.Nodes.{all_more_kept, all_passed, has_pushed, keeps_target, kept_by_push, kept_by_same, kept_through}
-use Rattle.open_goals.proofs.progress.record.Record.push_targets.Goals as goal
+use Rattle.open_goals.proofs.progress.lists.Lists.push_targets.Goals as goal
 
 pub returns-in_err-push-clause-kept : goal.returns-in_err-push-clause-kept
 returns-in_err-push-clause-kept g c = kept_by_same c.args.nodes.now.items c.loop-packed.nodes.items c.push.new.self.items c.loop-packed.invariant.kept c.in_err-push.ensures.items

@@ -1,7 +1,7 @@
 use Rattle.std.proofs.Common.{◌≡◌, map, take}
 use Rattle.std.specs.List.{filter}
 use Rattle.open_goals.specs.Words.{rests_on}
-use Rattle.open_goals.proofs.progress.record.Record.edges.Given as goal
+use Rattle.open_goals.proofs.progress.lists.Lists.edges.Given as goal
 
 -- the edges of the answers so far
 abbrev pub invariant-loop-packed : goal.invariant-loop-packed

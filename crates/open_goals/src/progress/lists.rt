@@ -1,8 +1,8 @@
-//! The record of a run.
+//! The lists of what a run has done.
 ghost use Rattle.std.specs.Prelude.{◌≡◌, ◌<◌, ◌^◌, All, Contains, OnOk, IfOk, slice_get};
 ghost use Rattle.std.specs.Option.{IfSome};
 ghost use Rattle.open_goals.specs.Below.{NodeId, ignored_by};
-ghost use Rattle.open_goals.specs.Words.{HasTarget, begun, no_record, received, requested, answers_with, fault_of, edges_of, rests_on};
+ghost use Rattle.open_goals.specs.Words.{HasTarget, begun, edges_of, going_on, no_record, received, rests_on};
 
 use crate::progress::{Beginning, DefiniteAnswer};
 use search_parts::context::{Edge, NoMemory, NodeId, Reply, Request, Verdict};
@@ -65,74 +65,68 @@ impl<I: Copy> PackedAnswer<I> {
     }
 }
 
-/// What a run has done since it began.
+/// The lists of what a run has done. Clauses see them as what was done by a run that made no request and has no open
+/// candidate.
 #[derive(Drop)]
-pub(crate) struct Record<I, R> {
+pub(crate) struct Lists<I, R> {
     replies: Vec<Reply<R>>,
-    request: Option<Request<I, R>>,
     answers: Vec<PackedAnswer<I>>,
-    is_open: bool,
     /// One for each finished candidate.
     ignored: Vec<bool>,
 }
 
-impl<I, R> Model for Record<I, R> {
+impl<I, R> Model for Lists<I, R> {
+    ghost use Rattle.std.specs.Prelude.{None, false};
     ghost use Rattle.open_goals.specs.Progress.{RunRecord};
 
     ghost Value = { RunRecord I R };
 
-    ghost view = { λ t. record { replies = t.replies.items; request = t.request; answers = t.answers.items; is_open = t.is_open; ignored = t.ignored.items } };
+    ghost view = { λ t. record { replies = t.replies.items; request = None; answers = t.answers.items; is_open = false; ignored = t.ignored.items } };
 }
 
-impl<I: Copy, R: Copy> Record<I, R> {
+impl<I: Copy, R: Copy> Lists<I, R> {
     /// Nothing was done yet.
     pub(super) fn new(alloc: Global) -> Self
         ensures { result ≡ no_record }
     {
-        Record {
+        Lists {
             replies: Vec::new(alloc),
-            request: None,
             answers: Vec::new(alloc),
-            is_open: false,
             ignored: Vec::new(alloc),
         }
     }
 
-    /// Forgets what was done, and keeps the memory: the run began like this, and its last request was this one. A
-    /// refusal leaves anything.
-    pub(super) fn restart(
-        &mut self,
-        beginning: Beginning,
-        request: Option<Request<I, R>>,
-    ) -> Result<(), NoMemory>
-        ensures { OnOk result (self.new ≡ begun beginning request) }
+    /// Forgets what was done, and keeps the memory: the run only began like this. A refusal leaves anything.
+    pub(super) fn restart(&mut self, beginning: Beginning) -> Result<(), NoMemory>
+        ensures { OnOk result (self.new ≡ begun beginning) }
     {
         self.clear();
-        self.request = request;
         match beginning {
             Beginning::Nothing => {}
             Beginning::Begun => self.replies.push(Reply::Begin)?,
             Beginning::InCandidate => {
                 self.replies.push(Reply::Begin)?;
                 self.replies.push(Reply::Noted)?;
-                self.is_open = true;
             }
         }
         Ok(())
     }
 
-    /// Takes the reply to the last request. `verdict` is that of an answer, `node` its node if it is
-    /// definite. A refusal leaves anything.
+    /// Takes the reply to this request, and notes whether a candidate is open. `verdict` is that of an answer, `node` its
+    /// node if it is definite. A refusal leaves anything.
     #[inline(always)]
     pub(super) fn receive(
         &mut self,
+        request: Option<Request<I, R>>,
+        is_open: &mut bool,
         reply: Reply<R>,
         verdict: Verdict,
         node: Option<NodeId>,
     ) -> Result<(), NoMemory>
-        ensures { OnOk result (self.new ≡ received self.old reply verdict node) }
+        ensures { OnOk result (going_on self.new request is_open.new
+            ≡ received (going_on self.old request is_open.old) reply verdict node) }
     {
-        match self.request {
+        match request {
             Some(Request::Evaluate(kind, input)) => {
                 if let (Verdict::Yes | Verdict::No, Some(node)) = (verdict, node) {
                     let edge = Edge {
@@ -140,12 +134,18 @@ impl<I: Copy, R: Copy> Record<I, R> {
                         input,
                         target: node.0,
                     };
-                    self.keep(edge, verdict)?;
+                    let candidate = (*is_open).then_some(self.ignored.len());
+                    let answer = DefiniteAnswer {
+                        edge,
+                        verdict,
+                        candidate,
+                    };
+                    self.answers.push(PackedAnswer::new(answer))?;
                 }
             }
-            Some(Request::EnterCandidate) => self.is_open = true,
+            Some(Request::EnterCandidate) => *is_open = true,
             Some(Request::FinishCandidate) => {
-                self.is_open = false;
+                *is_open = false;
                 self.ignored.push(false)?;
             }
             Some(Request::Ignore(number)) => {
@@ -159,41 +159,11 @@ impl<I: Copy, R: Copy> Record<I, R> {
         Ok(())
     }
 
-    /// Records an answer with this edge, asked in the open candidate if there is one.
-    fn keep(&mut self, edge: Edge<I>, verdict: Verdict) -> Result<(), NoMemory>
-        ensures { OnOk result
-            (self.new ≡ record self.old { answers = answers_with self.old edge verdict }) }
+    /// Of each finished candidate, whether it is ignored.
+    pub(super) fn ignored(&self) -> &[bool]
+        ensures { result.now ≡ self.now.ignored }
     {
-        let candidate = self.is_open.then_some(self.ignored.len());
-        let answer = DefiniteAnswer {
-            edge,
-            verdict,
-            candidate,
-        };
-        self.answers.push(PackedAnswer::new(answer))?;
-        Ok(())
-    }
-
-    /// Notes the request that followed.
-    pub(super) fn note_request(&mut self, request: Request<I, R>)
-        ensures { self.new ≡ requested self.old request }
-    {
-        self.request = Some(request);
-    }
-
-    /// The number of the fault that the request is, if it comes out of order now: 1, a candidate
-    /// begins while one is open; 2, none is open that could end; 3, the candidate to be ignored isn't
-    /// finished; 4, it is ignored already.
-    pub(super) fn order_fault(&self, request: Request<I, R>) -> Option<u8>
-        ensures { result ≡ fault_of self.now request }
-    {
-        match request {
-            Request::EnterCandidate if self.is_open => Some(1),
-            Request::FinishCandidate if !self.is_open => Some(2),
-            Request::Ignore(number) if number >= self.ignored.len() => Some(3),
-            Request::Ignore(number) if self.ignored[number] => Some(4),
-            _ => None,
-        }
+        self.ignored.as_slice()
     }
 
     /// The edges that a result of this verdict rests on: those of its answers outside ignored
@@ -282,14 +252,9 @@ impl<I: Copy, R: Copy> Record<I, R> {
         of_verdict.any(|it| (it.kind == kind) != first_is_of_kind)
     }
 
-    /// The reply at this place, the oldest at 0.
-    pub(super) fn reply(&self, place: usize) -> Option<Reply<R>> {
-        self.replies.get(place).copied()
-    }
-
-    /// How many replies there were.
-    pub(super) fn count(&self) -> usize {
-        self.replies.len()
+    /// The replies so far, the oldest first.
+    pub(super) fn replies_so_far(&self) -> &[Reply<R>] {
+        self.replies.as_slice()
     }
 
     /// Forgets what was done, and keeps the memory.
@@ -297,9 +262,7 @@ impl<I: Copy, R: Copy> Record<I, R> {
         ensures { self.new ≡ no_record }
     {
         self.replies.clear();
-        self.request = None;
         self.answers.clear();
-        self.is_open = false;
         self.ignored.clear();
     }
 }
