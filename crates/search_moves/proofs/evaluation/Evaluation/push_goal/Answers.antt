@@ -15,7 +15,7 @@ returns-clause-pushed g c = record {
   becomes = c.args.fate;
   place = c.next_node.ensures;
   opened = ap (λ cache. cache.nodes) c.in_ok-open_node.ensures.opened;
-  is = rw (c.new-entry.ensures, c.new_progress.ensures, c.new_candidates.ensures) at c.in_ok-push.ensures.ok;
+  is = rw (c.new-entry.ensures, c.new.ensures, c.new-2.ensures) at c.in_ok-push.ensures.ok;
   fresh = search rules;
 }
 
