@@ -8,14 +8,8 @@ use Rattle.open_graphs.specs.Collected as shape
 use Rattle.open_graphs.proofs.Collecting.{collecting_keeps_graph}
 use Rattle.open_graphs.proofs.Lists.{mapped_some}
 use Rattle.global_cache.specs.Below.{Edge, NodeId, Request, Reply, verdict_of, Verdicts}
-use Rattle.global_cache.specs.Words.{StoredResult, EndedRun, CacheNode, AreLive, AreRooted, AreRuns, AreSoundResults, Collected, edge_shape, graph_node_of, graph_nodes_of, HasGraph, IsNodeOf, shape_of, shapes_of, Store}
+use Rattle.global_cache.specs.Words.{StoredResult, EndedRun, CacheNode, AreLive, AreRooted, AreRuns, AreSoundResults, Collected, edge_shape, graph_node_of, graph_nodes_of, HasGraph, IsGone, IsNodeOf, shape_of, shapes_of, Store}
 use Rattle.global_cache.proofs.Bridge.{ended_finished}
-
-finished_from : {I R : Type 0} (o : Option (CacheNode I R)) (n : CacheNode I R) (run : EndedRun I R) → o ≡ Some n → n.run ≡ Some run
-    → elim o [ None ↦ None | Some m ↦ elim m.run [ None ↦ None | Some r ↦ Some m ] ] ≡ Some n
-finished_from o n run is ended =
-    ap (λ x. elim x [ None ↦ None | Some m ↦ elim m.run [ None ↦ None | Some r ↦ Some m ] ]) is
-    ∙ ap (λ r. elim r [ None ↦ None | Some e ↦ Some n ]) ended
 
 module _ {I R : Type 0} (live : ℕ → Bool) (old new : List (CacheNode I R)) (collected : Collected live old new) where
   -- a live node keeps its goal
@@ -24,7 +18,7 @@ module _ {I R : Type 0} (live : ℕ → Bool) (old new : List (CacheNode I R)) (
 
   -- each run that is left was there before
   pub run_is_live : (at : ℕ) (n : CacheNode I R) (run : EndedRun I R) → slice_get new at ≡ Some n → n.run ≡ Some run → IsTrue (live at)
-  run_is_live at n run is ended = collected.left at n (finished_from (slice_get new at) n run is ended)
+  run_is_live at n run is ended = collected.left at (λ gone. let none : n.run ≡ None = (subst IsGone is gone).0 in cc)
 
   -- an edge of a node that is live
   pub edge_is_live : (at : ℕ) (n : CacheNode I R) (run : EndedRun I R) (e : Edge I) → IsTrue (live at) → slice_get old at ≡ Some n → n.run ≡ Some run → Contains run.edges e → IsTrue (live e.target)

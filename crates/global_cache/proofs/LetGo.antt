@@ -15,10 +15,9 @@ use Rattle.open_graphs.proofs.Lists.{get_left}
 use Rattle.open_graphs.proofs.Members.{Contains-map, Contains-mapped}
 use Rattle.search_context.proofs.Graphs.{IsReached-step}
 use Rattle.global_cache.specs.Below.{Edge, HasEdge, IsReached, NodeId}
-use Rattle.global_cache.specs.Words.{AreHeld, AreLive, AreMarked, CacheNode, Collected, edges_of, finished_node, graph_node_of, graph_nodes_of, HasNumber, Held, IsFound, IsGone, IsMarked, IsRising, IsSplit, kept, node_if_held, node_of, nodes_of, slot_at, Slot, Open, Finished, StayBefore, targets_of, root, next}
+use Rattle.global_cache.specs.Words.{AreHeld, AreLive, AreMarked, CacheNode, Collected, edges_of, graph_node_of, graph_nodes_of, HasNumber, Held, IsFound, IsGone, IsMarked, IsRising, IsSplit, kept, node_if_held, node_of, nodes_of, slot_at, Slot, Open, Finished, StayBefore, targets_of, root, next}
 use Rattle.global_cache.proofs.HeldNodes.{get_below, get_past, held_is_there, held_of, length-nodes_of, not_held_is_gone, slot_of}
 use Rattle.global_cache.proofs.KeptNodes.{whole_end}
-use Rattle.global_cache.proofs.Slots.{gone_is_not_finished}
 
 module _ {A : Type 0} where
   get_right : (xs ys : List A) (i : ℕ) → slice_get (xs ++ ys) (length xs + i) ≡ slice_get ys i
@@ -247,9 +246,9 @@ module _ {I R : Type 0} (first_goal : Option I) (front later : List (Held I R)) 
     | inr w ↦ let k = kept_from marked later w.0 h w.2 in live_asked h.number (found_live h.number (m.found k.0 h k.2 k.1))
   ]
 
-  finished_is_live : (at : ℕ) (n : CacheNode I R) → finished_node new at ≡ Some n → IsTrue (live at)
-  finished_is_live at n is = elim (slot_cases (slot_at held_now at)) [
-    | inl none ↦ let both : None ≡ Some n = sym (gone_is_not_finished new at (not_held_is_gone first_goal held_now next_number at none)) ∙ is in absurd cc
+  left_is_live : (at : ℕ) → ¬ IsGone (slice_get new at) → IsTrue (live at)
+  left_is_live at left = elim (slot_cases (slot_at held_now at)) [
+    | inl none ↦ absurd (left (not_held_is_gone first_goal held_now next_number at none))
     | inr s ↦ let w = held_of held_now at s.0 s.1 in subst (λ k. IsTrue (live k)) w.3 (held_is_live w.0 w.1 w.2)
   ]
 
@@ -316,7 +315,7 @@ module _ {I R : Type 0} (first_goal : Option I) (front later : List (Held I R)) 
     record {
       same = λ at is. same_node first_goal at (same_slot at (live_cases at is));
       closed = λ at e is has. edge_is_live stay at e is has;
-      left = finished_is_live;
+      left = left_is_live;
     },
   )
 

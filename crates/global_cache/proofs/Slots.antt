@@ -3,7 +3,7 @@ use Rattle.std.proofs.Common.{◌≡◌, ℕ, Bool, List, [], ◌∷◌, ◌++�
 use Rattle.std.specs.Prelude.{IfOk, IfSome, OnErr}
 use Rattle.std.specs.Option.{IsSomeAnd}
 use Rattle.global_cache.specs.Below.{Node, Request, Reply, Verdicts}
-use Rattle.global_cache.specs.Words.{Slot, Finished, StoredResult, EndedRun, CacheNode, Cache, finished_node, open_goal, open_node, with_run, IsGone, IsRun, AreRuns, Store, run_of, ended_node, node_of}
+use Rattle.global_cache.specs.Words.{Slot, Finished, StoredResult, EndedRun, CacheNode, Cache, open_goal, open_node, with_run, IsRun, AreRuns, Store, run_of, ended_node, node_of}
 use Rattle.global_cache.proofs.NodeLists.{appended}
 
 -- an open node is appended, or none is
@@ -50,12 +50,3 @@ module _ {X I R A T : Type 0} (cx : X) (nodes : List (CacheNode I R)) (results :
   finished_is_run says scripts at n slot runs there is =
       subst (λ c. IsRun says (scripts c.cx n.input) c.nodes (run_of n)) view
       (runs at (ended_node n) (run_of n) (there ∙ ap (λ s. Some (node_of s)) is) refl)
-
-module _ {I R : Type 0} where
-  none_finished : (o : Option (CacheNode I R)) → IsGone o → ◌≡◌ {A = Option (CacheNode I R)} (elim o [ None ↦ None | Some n ↦ elim n.run [ None ↦ None | Some run ↦ Some n ] ]) None
-  none_finished None gone = refl
-  none_finished (Some n) gone = ap (λ run. elim run [ None ↦ None | Some r ↦ Some n ]) gone.0
-
-  -- a node that is gone is neither finished nor open
-  pub gone_is_not_finished : (nodes : List (CacheNode I R)) (at : ℕ) → IsGone (slice_get nodes at) → finished_node nodes at ≡ None
-  gone_is_not_finished nodes at gone = none_finished (slice_get nodes at) gone

@@ -6,7 +6,8 @@ use Rattle.search_context.specs.declared.context.NodeId.{NodeId}
 use Rattle.search_context.specs.Graph.{HasEdge, IsReached}
 use Rattle.global_cache.specs.declared.results.Place.{Place}
 use Rattle.global_cache.specs.declared.results.StoredResult.{StoredResult}
-use Rattle.global_cache.specs.Cache.{CacheNode, finished_node, graph_nodes_of}
+use Rattle.global_cache.specs.Cache.{CacheNode, graph_nodes_of}
+use Rattle.global_cache.specs.Held.{IsGone}
 use Rattle.global_cache.specs.Store.{Store, stored_at}
 
 -- no edge leads from a node before this place to one that is not before it
@@ -30,8 +31,8 @@ pub record AreLive {I R : Type 0} (nodes : List (CacheNode I R)) (first : ℕ) (
   pub rooted : (root : NodeId) → Contains roots root → IsTrue (live root.0)
   pub reached : (at : ℕ) → IsTrue (live at) → (at < first) ⊎ ((root : NodeId) × Contains roots root × IsReached (graph_nodes_of nodes) root.0 at)
 
--- Live nodes are as they were, and lead to live ones alone. No other node is finished.
+-- Live nodes are as they were, and lead to live ones alone. Each other number is gone.
 pub record Collected {I R : Type 0} (live : ℕ → Bool) (old new : List (CacheNode I R)) : Type 0 where
   pub same : (at : ℕ) → IsTrue (live at) → slice_get new at ≡ slice_get old at
   pub closed : (at : ℕ) (e : Edge I) → IsTrue (live at) → HasEdge (graph_nodes_of old) at e → IsTrue (live e.target)
-  pub left : (at : ℕ) (n : CacheNode I R) → finished_node new at ≡ Some n → IsTrue (live at)
+  pub left : (at : ℕ) → ¬ IsGone (slice_get new at) → IsTrue (live at)

@@ -1,7 +1,6 @@
 //! How deep a search may go, and how many frames it starts: goals that count down.
 
 use delegate_parts::{Builder, ContextOf, Outcome};
-use parts_tests::countdown::{Count, Countdown, CountdownDelegate};
 use search_graph::graph::SearchGraph;
 use search_parts::context::Fault;
 use search_parts::global_cache::GlobalCache;
@@ -9,6 +8,7 @@ use search_parts::parts::{CandidateHeadUsages, HeadUsages, StackDepth};
 use search_parts::path::PathKind;
 use std::alloc::Global;
 use std::test::Fail;
+use test_delegates::countdown::{Count, Countdown, CountdownDelegate};
 
 /// What a goal came to.
 #[derive(Clone, Copy, Debug, PartialEq, Eq)]

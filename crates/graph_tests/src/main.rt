@@ -4,7 +4,7 @@
 //! those of a random generator, and each is answered otherwise at another of these limits, or at the other setting of the
 //! provisional cache.
 //!
-//! The tests beside it have delegates of `parts_tests`, for how deep a search may go and for requests in any order, or many
+//! The tests beside it have delegates of `test_delegates`, for how deep a search may go and for requests in any order, or many
 //! small tables of rules.
 #![tactic(auto)]
 

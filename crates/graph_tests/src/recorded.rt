@@ -5,7 +5,6 @@ ghost use Rattle.graph_tests.specs.Letters.{letter_of};
 
 use crate::answers::{Table, TableDelegate};
 use delegate_parts::{Builder, ContextOf, Outcome};
-use parts_tests::countdown::{Count, Countdown, CountdownDelegate};
 use proof_trees::{Entry, Part, Recorder, Recording, Words, write_entries};
 use rule_tables::{Goal, Rules};
 use search_graph::graph::SearchGraph;
@@ -16,6 +15,7 @@ use std::alloc::Global;
 use std::io;
 use std::io::Write;
 use std::test::Fail;
+use test_delegates::countdown::{Count, Countdown, CountdownDelegate};
 
 /// Goals of a table, by their names.
 #[derive(Drop)]

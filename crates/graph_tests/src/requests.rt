@@ -4,7 +4,6 @@
 use crate::drawn::{draw_replies, kind_of, letter_of};
 use delegate_parts::{Builder, ContextOf, Outcome};
 use graph_check::check_graph;
-use parts_tests::scripts::{Goal, Line, Scripts, ScriptsDelegate};
 use search_graph::graph::SearchGraph;
 use search_parts::context::{Answer, Fault, Node, Verdict};
 use search_parts::global_cache::GlobalCache;
@@ -12,6 +11,7 @@ use search_parts::path::PathKind;
 use std::alloc::Global;
 use std::io::Write;
 use std::test::Fail;
+use test_delegates::scripts::{Goal, Line, Scripts, ScriptsDelegate};
 
 /// The goals' names.
 const NAMES: [&str; 3] = ["A", "B", "C"];

@@ -2,7 +2,6 @@
 
 use crate::answers::{Table, TableDelegate};
 use delegate_parts::{Builder, ContextOf, Outcome};
-use parts_tests::countdown::{Count, Countdown, CountdownDelegate};
 use rule_tables::{Goal, Rules};
 use search_graph::graph::SearchGraph;
 use search_parts::context::{Cx, Delegate, Fault};
@@ -10,6 +9,7 @@ use search_parts::global_cache::GlobalCache;
 use search_parts::path::PathKind;
 use std::alloc::Global;
 use std::test::Fail;
+use test_delegates::countdown::{Count, Countdown, CountdownDelegate};
 
 /// What a goal came to, and how many frames were started for it.
 #[derive(Clone, Copy, Debug, PartialEq, Eq)]

@@ -2,18 +2,11 @@
 //! between that at another depth, and says what they come to. Any one of its requests for memory may be refused: then a
 //! question may meet a fault, but it leaves all as it was, and is answered as ever when it is asked again. `tests/memory`
 //! refuses the requests one after the other.
-//!
-//! The tests beside it have frames that are refused memory, and what needs none.
 #![tactic(auto)]
 
 mod alike;
 mod asked;
 mod failed;
-#[cfg(test)]
-mod frames;
-#[cfg(test)]
-mod nothing;
-mod refusing;
 mod soak;
 mod stored;
 mod told;

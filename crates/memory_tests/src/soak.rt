@@ -2,7 +2,6 @@
 
 use crate::asked::shows;
 use crate::failed::{Failed, ensure};
-use crate::refusing::{Refusals, Refusing};
 use chance::Chance;
 use delegate_parts::{Builder, Outcome};
 use rule_tables::delegate::Table;
@@ -13,6 +12,7 @@ use search_parts::global_cache::GlobalCache;
 use search_parts::path::PathKind;
 use std::alloc::Global;
 use std::fmt::Write;
+use test_delegates::refusing::{Refusals, Refusing};
 
 /// How many questions are asked of one table, over one cache.
 const QUESTIONS: usize = 2000;

@@ -1,8 +1,8 @@
 //! Tests of the depth that a question gets, and of the depth that a stored result needs.
-use crate::loops::{LoopsContext, LoopsDelegate};
 use search_parts::parts::{AvailableDepth, Stack, StackEntry};
 use search_parts::path::PathKind;
 use std::test::Fail;
+use test_delegates::loops::{LoopsContext, LoopsDelegate};
 
 #[test]
 fn the_first_goal_gets_the_root_depth(rt: HostRuntime) {

@@ -1,34 +1,16 @@
-//! Delegates for tests, and tests with them: of the cache, and of the parts of a search. A goal that asks
-//! itself has a node with an edge to itself, which is why a node is opened before its run begins. Goals that
-//! count down go as deep as one likes. Goals with scripts make requests in any order.
+//! Tests of the parts of a search below its caches: of the stack with its depths and nested goals, of heads and
+//! candidates, of answers, and of the texts of faults.
 #![tactic(auto)]
 
-pub mod countdown;
 #[cfg(test)]
 mod depth;
 #[cfg(test)]
-mod entries;
-#[cfg(test)]
 mod faults;
 #[cfg(test)]
-mod handed_out;
-pub mod loops;
-#[cfg(test)]
 mod nested_goals;
-#[cfg(test)]
-mod provisional_lists;
-#[cfg(test)]
-mod rebasing;
 #[cfg(test)]
 mod refused;
 #[cfg(test)]
 mod result;
 #[cfg(test)]
-mod reuse;
-pub mod scripts;
-#[cfg(test)]
 mod stack;
-#[cfg(test)]
-mod stored_results;
-#[cfg(test)]
-mod tests;

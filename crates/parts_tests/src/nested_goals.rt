@@ -1,9 +1,9 @@
 //! Tests of the goals below a goal.
-use crate::loops::LoopsContext;
 use bitflags::Flags;
 use search_parts::parts::NestedGoals;
 use search_parts::path::{PathKind, PathsToNested};
 use std::test::Fail;
+use test_delegates::loops::LoopsContext;
 
 #[test]
 fn paths_to_a_goal_are_joined(rt: HostRuntime) -> Result<(), Fail> {

@@ -1,7 +1,6 @@
 //! Tests of calls that are refused memory: they leave their values as they were, and succeed when they are called again.
 //! In a plain run nothing is refused, and each call succeeds at once; `tests/memory` refuses the requests in turn. A call
 //! that needs no memory then is one that has to succeed.
-use crate::loops::LoopsContext;
 use bitflags::Flags;
 use search_parts::context::NoMemory;
 use search_parts::parts::{
@@ -11,6 +10,7 @@ use search_parts::parts::{
 use search_parts::path::{PathKind, PathsToNested};
 use std::alloc::Global;
 use std::test::Fail;
+use test_delegates::loops::LoopsContext;
 
 /// The goals.
 const GOALS: [PathKind; 4] = [

@@ -1,11 +1,11 @@
 //! Tests of what is known of a goal once its evaluation has ended.
-use crate::loops::LoopsContext;
 use delegate_parts::Outcome;
 use search_parts::parts::{
     AvailableDepth, EvaluationResult, HeadUsages, Stack, StackDepth, StackEntry,
 };
 use search_parts::path::{PathKind, PathsToNested};
 use std::test::Fail;
+use test_delegates::loops::LoopsContext;
 
 #[test]
 fn a_result_takes_over_what_all_runs_share(rt: HostRuntime) -> Result<(), Fail> {

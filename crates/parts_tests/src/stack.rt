@@ -1,11 +1,11 @@
 //! Tests of the goals under evaluation.
-use crate::countdown::{Count, Countdown};
-use crate::loops::LoopsContext;
 use delegate_parts::ContextOf;
 use search_parts::parts::{AvailableDepth, Stack, StackDepth, StackEntry};
 use search_parts::path::PathKind;
 use search_stack::room::give_room_back;
 use std::test::Fail;
+use test_delegates::countdown::{Count, Countdown};
+use test_delegates::loops::LoopsContext;
 
 #[test]
 fn the_greatest_step_above_the_head_is_the_kind(rt: HostRuntime) -> Result<(), Fail> {

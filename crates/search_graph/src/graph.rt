@@ -267,8 +267,8 @@ impl<D: Delegate> SearchGraph<D> {
         // An open node stays open, too.
         ensures kept_nodes { KeepsNodes cache.old.nodes cache.new.nodes }
 
-        // Of the nodes that the call wrote those alone are left whose run has ended and that the answer or a goal of
-        // which a result is stored leads to. So it is after a fault, too, unless that is want of memory.
+        // Of the nodes that the call wrote those alone are left to which the answer leads, or the node of a goal of
+        // which a result is stored. So it is after a fault, too, unless that is want of memory.
         ensures leaves { IfOk result (λ answer.
             LeavesReached D.Cx.Input.eq (length cache.old.nodes) answer.node cache.new) }
         ensures leaves_at_fault { IfErr result (λ fault. fault ≢ Memory →

@@ -3,6 +3,7 @@ use Rattle.std.specs.Prelude.{◌≡◌, ◌<◌, ◌≤◌, ◌⊎◌, [], ℕ,
 use Rattle.std.specs.Option.{IfSome}
 use Rattle.open_goals.specs.Nodes.{HasNodes}
 use Rattle.global_cache.specs.Collected.{AreRooted, Collected}
+use Rattle.global_cache.specs.Held.{IsGone}
 pub use Rattle.global_cache.specs.Collected.{with_root as noted}
 use Rattle.search_moves.specs.Below.{Cache, CacheNode, entries_at, finished_node, graph_nodes_of, IsReached, NodeId, Place, runs_of, stored_at}
 use Rattle.search_moves.specs.declared.drafts.Drafts.{Drafts}
@@ -32,10 +33,10 @@ module _ {C I R A T : Type 0} (same : I → I → Bool) where
     pub first : after.first ≡ before.first
     pub noted_are : AreNotedNodes old before → AreNotedNodes new after
 
-  -- Each node from this place on whose run has ended is reached from the answer's node, or from one of a goal of which a result is stored.
+  -- Each node from this place on that is not gone is reached from the answer's node, or from one of a goal of which a result is stored.
   abbrev pub LeavesReached : ℕ → Option NodeId → Cache C I R A T → Type 0
   LeavesReached first target cache =
-      (at : ℕ) (n : CacheNode I R) → first ≤ at → finished_node cache.nodes at ≡ Some n
+      (at : ℕ) → first ≤ at → ¬ IsGone (slice_get cache.nodes at)
       → (root : NodeId) × ((target ≡ Some root) ⊎ IsOfStored cache root.0) × IsReached (graph_nodes_of cache.nodes) root.0 at
 
 module _ {D C V P F I R A T : Type 0} (same : I → I → Bool) where

@@ -6,12 +6,12 @@ use crate::journal::{Event, Journal};
 use crate::validating::{Validating, Watched};
 use crate::watch::{Watch, Watches};
 use delegate_parts::{Builder, ContextOf, Outcome};
-use parts_tests::scripts::{Goal, Line, Scripts, ScriptsDelegate};
 use search_parts::context::{Answer, Fault};
 use search_parts::global_cache::GlobalCache;
 use search_parts::path::PathKind;
 use std::alloc::Global;
 use std::test::Fail;
+use test_delegates::scripts::{Goal, Line, Scripts, ScriptsDelegate};
 
 /// Two goals that ask each other: their cycle is coinductive, and both hold.
 const CIRCLE: &str = "rule A = i:B\nrule B = c:A\n";

@@ -3,9 +3,10 @@ use Rattle.std.specs.Prelude.{Vec}
 use Rattle.std.specs.Global.{Global}
 use Rattle.std.proofs.Common.{◌≡◌, ℕ, ◌<◌, ◌≤◌, arith, Bool, Contains, inl, inr, length, List, [], ◌∷◌, None, Option, option_map, refl, slice_get, Some, subst, sym, ap, ◌∙◌, ◌⊎◌}
 use Rattle.std.specs.Option.{IfSome, IsSomeAnd}
-use Rattle.std.proofs.lemmas.Option.{slice_get-get_or, slice_get-map, slice_get_cases, slice_get_within}
+use Rattle.std.proofs.lemmas.Option.{slice_get-get_or, slice_get-map, slice_get_cases, slice_get_past, slice_get_within}
 use Rattle.global_cache.specs.Cache.{EndedRun, graph_node_of, graph_nodes_of, IsNodeOf}
 use Rattle.global_cache.specs.Collected.{AreRooted, StayBefore}
+use Rattle.global_cache.specs.Held.{IsGone}
 use Rattle.global_cache.proofs.Finished.{found_finished}
 use Rattle.global_cache.proofs.Stores.{KeepsResults-then}
 use Rattle.open_graphs.proofs.Lists.{mapped_some}
@@ -211,4 +212,4 @@ module _ {D C V P F I R A T : Type 0} (G : DelegateOf D C V P F I R A T) (X : Cx
 
 -- a call that writes no node leaves none
 pub leaves_nothing : {C I R A T : Type 0} (same : I → I → Bool) (cache : Cache C I R A T) (target : Option NodeId) → LeavesReached same (length cache.nodes) target cache
-leaves_nothing same cache target at n late ended = absurd (omega (arith, late, slice_get_within cache.nodes at n (found_finished (slice_get cache.nodes at) n ended)))
+leaves_nothing same cache target at late left = absurd (left (subst IsGone (sym (slice_get_past cache.nodes at late)) tt))

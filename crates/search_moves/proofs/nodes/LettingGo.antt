@@ -109,7 +109,7 @@ module _ {D C V P F I R A T : Type 0} (same : I → I → Bool) (e : Evaluation 
   unfolding every
   nothing_goes old new is = record {
     live = every;
-    collected = record { same = λ at live. ap (λ cache. slice_get cache.nodes at) is; closed = λ at edge live h. refl; left = λ at n h. refl };
+    collected = record { same = λ at live. ap (λ cache. slice_get cache.nodes at) is; closed = λ at edge live h. refl; left = λ at h. refl };
     goals = every_run e.goals;
     entries = λ goal. every_list (entries_at same e.provisional goal);
     results = λ goal place s at. every_node s.node;
@@ -165,7 +165,7 @@ module _ {D C V P F I R A T : Type 0} (same : I → I → Bool) (e : Evaluation 
           answer = live_root live roots are.rooted target (target_is_noted target e.drafts.stored.items roots among);
           earlier = earlier;
           rest = is;
-          leaves = λ at n late ended. elim (are.reached at (collected.left at n ended)) [
+          leaves = λ at late left. elim (are.reached at (collected.left at left)) [
             | inl lower ↦ absurd (omega arith)
             | inr from ↦ (from.0, root_is from.0 from.1, walks_still live old.nodes new.nodes collected from.0.0 at (are.rooted from.0 from.1) from.2)
           ];

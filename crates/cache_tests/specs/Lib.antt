@@ -1,0 +1,2 @@
+pub mod NestedTests
+pub mod Below

@@ -1,0 +1,14 @@
+-- What the crates below have, from one place.
+pub use Rattle.cycle_heads.specs.declared.path.PathKind.{PathKind}
+pub use Rattle.cycle_heads.specs.declared.path.PathKind.TheVariants.{Inductive}
+pub use Rattle.delegate_parts.specs.Outcome.{is_no, is_yes}
+pub use Rattle.delegate_parts.specs.declared.outcome.Outcome.{Outcome}
+pub use Rattle.delegate_parts.specs.declared.outcome.Outcome.TheVariants.{Maybe, No, Overflow, Yes}
+pub use Rattle.search_context.specs.Question.{IsWithin, Overlap, Question}
+pub use Rattle.search_context.specs.Run.{EndsIn, Fits, progress_after, questions_answered}
+pub use Rattle.search_context.specs.declared.context.Reply.{Reply}
+pub use Rattle.search_context.specs.declared.context.Reply.TheVariants.{Answer, Begin, Noted}
+pub use Rattle.search_context.specs.declared.context.Request.{Request}
+pub use Rattle.search_context.specs.declared.context.Request.TheVariants.{Done, EnterCandidate, Evaluate, FinishCandidate}
+pub use Rattle.search_context.specs.declared.context.Request.TheVariants.{Ignore}
+pub use Rattle.global_cache.specs.Cache.{EndedRun, IsNodeOf, open_goal, with_run}

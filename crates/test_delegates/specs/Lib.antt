@@ -1,0 +1,9 @@
+pub mod Requests
+pub mod Loops
+pub mod Frames
+pub mod Countdown
+pub mod CountFrames
+pub mod CountLaws
+pub mod Scripts
+pub mod Below
+pub mod Words
