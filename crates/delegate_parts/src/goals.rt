@@ -5,7 +5,6 @@ ghost use Rattle.delegate_parts.specs.Laws.{AreVerdicts};
 
 use crate::outcome::Outcome;
 use search_context::context::{Cx, Verdict};
-use std::fmt::Debug;
 use std::hash::Hash;
 
 /// Goals, and what they mean.
@@ -14,7 +13,7 @@ use std::hash::Hash;
 /// a goal and what refutes it share a question; and `==` of goals is equality.
 pub trait Goals: Copy {
     /// A goal.
-    type Input: Debug + Eq + Hash + Copy;
+    type Input: Eq + Hash + Copy;
 
     /// The goal holds where each of these questions does.
     ghost proves: { Self → Self.Input → List (Question Self.Input) → Type 0 };

@@ -8,7 +8,6 @@ use crate::needs::Needs;
 use delegate_parts::{ContextOf, DelegateOf, Frames, Goals, Outcome};
 use search_context::context::{NoMemory, Reply, Request};
 use search_context::path::PathKind;
-use std::fmt::Debug;
 use std::hash::Hash;
 
 /// Goals, the questions that each has, and whether it needs all of them or any one. A reference to what has the rules
@@ -19,7 +18,7 @@ pub trait QuestionLists: Copy {
     ghost use Rattle.question_lists.specs.declared.needs.Needs.{Needs};
 
     /// A goal.
-    type Input: Debug + Eq + Hash + Copy;
+    type Input: Eq + Hash + Copy;
 
     /// Which of its questions a goal needs.
     ghost needs_of: { Self → Self.Input → Needs };

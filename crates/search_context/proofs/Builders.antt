@@ -1,5 +1,5 @@
 -- What calls keep of a builder.
-use Rattle.std.proofs.Common.{◌≡◌, ℕ, ◌≤◌, Bool, refl, sym, ◌∙◌, arith}
+use Rattle.std.proofs.Common.{ℕ, Bool, refl, ◌∙◌, arith}
 use Rattle.search_context.specs.Delegate.{KeepsBuilder}
 
 module _ {P : Type 0} (starts : P → ℕ) (noop : P → Bool) where

@@ -6,7 +6,6 @@ ghost use Rattle.search_context.specs.Delegate.{IsNeither, IsCycleResult, CanTak
 
 use crate::path::PathKind;
 pub use cycle_heads::memory::NoMemory;
-use std::fmt::Debug;
 use std::hash::Hash;
 use thiserror::Error;
 
@@ -17,13 +16,13 @@ use thiserror::Error;
 /// question; no result is both yes and no; and `==` of goals and of results is equality.
 pub trait Cx: Copy {
     /// A goal.
-    type Input: Debug + Eq + Hash + Copy;
+    type Input: Eq + Hash + Copy;
 
     /// What a goal is answered with.
-    type Result: Debug + Eq + Hash + Copy;
+    type Result: Eq + Copy;
 
     /// Why a result is ambiguous, to be handed on to other goals.
-    type AmbiguityInfo: Debug + Eq + Hash + Copy;
+    type AmbiguityInfo: Copy;
 
     /// What a result's user may track it by.
     type DepNodeIndex: Copy;

@@ -237,16 +237,14 @@ impl<X: Cx> Stack<X> {
     ghost use Rattle.std.specs.Prelude.{◌≡◌, ◌<◌, ◌+◌, length};
     ghost use Rattle.std.specs.Borrow.{sem};
     ghost use Rattle.search_stack.specs.Stack.{IsLastState};
-    ghost use Rattle.search_stack.specs.Lent.{LendsLastState, traits};
+    ghost use Rattle.search_stack.specs.Lent.{LendsLastState};
 
     /// What may change of the last entry. Its input is not lent, so that it is found as before.
     pub fn last_mut(&mut self) -> &mut EntryState<X>
         requires { 0 < length self.old }
         ensures* writes_back { sem 𝓛 (LendsLastState
             X.row X.Input.row X.Result.row X.AmbiguityInfo.row X.DepNodeIndex.row X.Cx
-            (traits X.Input.Debug X.Input.PartialEq X.Input.Hash.own)
-            (traits X.Result.Debug X.Result.PartialEq X.Result.Hash.own)
-            (traits X.AmbiguityInfo.Debug X.AmbiguityInfo.PartialEq X.AmbiguityInfo.Hash.own)
+            X.Input.PartialEq X.Input.Hash.own X.Result.PartialEq
             self.entry result) }
         ensures value { IsLastState self.old result.now }
     {
@@ -260,9 +258,7 @@ impl<X: Cx> Stack<X> {
         requires { 0 < length self.old }
         ensures* writes_back { sem 𝓛 (LendsLastState
             X.row X.Input.row X.Result.row X.AmbiguityInfo.row X.DepNodeIndex.row X.Cx
-            (traits X.Input.Debug X.Input.PartialEq X.Input.Hash.own)
-            (traits X.Result.Debug X.Result.PartialEq X.Result.Hash.own)
-            (traits X.AmbiguityInfo.Debug X.AmbiguityInfo.PartialEq X.AmbiguityInfo.Hash.own)
+            X.Input.PartialEq X.Input.Hash.own X.Result.PartialEq
             self.entry result.1) }
         ensures value { IsLastState self.old result.1.now }
         ensures place { result.0.0 + 1 ≡ length self.old }
