@@ -1,34 +1,13 @@
 -- What a look-up in the store gives: the first result that may be used and whose nested goals a test accepts.
 use Rattle.std.specs.Prelude.{ℕ, nat_le, Bool, true, false, if◌then◌else◌, List, [], ◌∷◌, ◌++◌, Option, None, Some}
 use Rattle.std.specs.List.{find}
-use Rattle.search_context.specs.declared.context.NodeId.{NodeId}
-use Rattle.global_cache.specs.declared.get.CacheData.{CacheData}
 use Rattle.global_cache.specs.declared.results.Place.TheVariants.{Success, WithOverflow}
 use Rattle.global_cache.specs.declared.results.StoredResult.{StoredResult}
+use Rattle.search_stack.specs.Hit.{Hit}
 use Rattle.search_stack.specs.Nested.{NestedPaths}
 use Rattle.global_cache.specs.Store.{Store, stored_at}
 
--- a result with what is known of it
-pub record Hit (I R T : Type 0) : Type 0 where
-  pub result : R
-  pub token : T
-  pub required_depth : ℕ
-  pub encountered_overflow : Bool
-  pub nested_goals : NestedPaths I
-  pub node : Option NodeId
-
 module _ {X I R A T : Type 0} where
-  -- what a look-up lends
-  abbrev pub hit_of : CacheData X I R A T → Hit I R T
-  hit_of lent = record {
-    result = lent.result;
-    token = lent.token;
-    required_depth = lent.required_depth;
-    encountered_overflow = lent.encountered_overflow;
-    nested_goals = lent.nested_goals.now;
-    node = lent.node;
-  }
-
   -- a stored result that is used at this required depth
   abbrev pub hit_at : ℕ → Bool → StoredResult X I R A T → Hit I R T
   hit_at depth overflow s = record {

@@ -7,7 +7,8 @@ pub use Rattle.global_cache.specs.Definite.{HasGraph, HasNode}
 pub use Rattle.global_cache.specs.Found.{ArePlaced, Finds}
 pub use Rattle.global_cache.specs.HandedOut.{Copies, IsCopyFrom, IsWhole, KeepsWhole, original_node}
 pub use Rattle.global_cache.specs.Held.{AreHeld, HasNumber, is_held, IsGone, IsRising, IsSplit, IsWindow, node_if_held, nodes_below, nodes_of, slot_at}
-pub use Rattle.global_cache.specs.Hits.{first_accepted, Hit, hit_at, hit_of, overflows, successes, usable}
+pub use Rattle.global_cache.specs.Hits.{first_accepted, hit_at, overflows, successes, usable}
+pub use Rattle.search_stack.specs.Hit.{Hit, hit_of}
 pub use Rattle.global_cache.specs.Marked.{AreMarked, AreNone, AreWaiting, edges_of, IsClosed, IsFound, IsMarked, kept, Marks, MarksFrom, targets_of, unmarked}
 pub use Rattle.global_cache.specs.Marked.IsFound.{root, next}
 pub use Rattle.global_cache.specs.Shapes.{edge_shape, HasGrown, run_shape, shape_of, shapes_of}
@@ -16,7 +17,7 @@ pub use Rattle.global_cache.specs.Store.{AnswersStoring, is_of_overflow, KeepsRe
 pub use Rattle.global_cache.specs.Store.{stored_at, stored_from, TellsOverflow}
 pub use Rattle.global_cache.specs.Stored.{AreSoundResults, IsPlainAt, IsSoundResult}
 pub use Rattle.global_cache.specs.View.{ended_node, node_of, run_of}
-pub use Rattle.global_cache.specs.declared.get.CacheData.{CacheData}
+pub use Rattle.search_stack.specs.declared.result.CacheData.{CacheData}
 pub use Rattle.global_cache.specs.declared.node_list.Held.{Held}
 pub use Rattle.global_cache.specs.declared.node_list.Slot.{Slot}
 pub use Rattle.global_cache.specs.declared.node_list.Slot.TheVariants.{Finished, Open}

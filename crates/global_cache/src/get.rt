@@ -2,7 +2,8 @@
 ghost use Rattle.std.specs.Prelude.{◌≡◌, ◌≤◌, Bool, true, false, ◌∷◌, [], IfSome};
 ghost use Rattle.std.specs.Option.{option_copied, option_map};
 ghost use Rattle.global_cache.specs.Definite.{HasGraph};
-ghost use Rattle.global_cache.specs.Hits.{first_accepted, hit_at, hit_of, overflows, successes, usable};
+ghost use Rattle.global_cache.specs.Hits.{first_accepted, hit_at, overflows, successes, usable};
+ghost use Rattle.search_stack.specs.Hit.{hit_of};
 ghost use Rattle.search_stack.specs.Nested.{NestedPaths};
 ghost use Rattle.search_context.specs.Rank.{IsBelowRank, IsPlain};
 ghost use Rattle.search_context.specs.Verdicts.{verdicts};
@@ -10,26 +11,10 @@ ghost use Rattle.search_context.specs.Verdicts.{verdicts};
 use crate::GlobalCache;
 use crate::result_store::ResultStore;
 use crate::results::{Place, StoredResult};
-use search_context::context::{Cx, Delegate, NodeId};
+use search_context::context::{Cx, Delegate};
 use search_stack::depth::AvailableDepth;
 use search_stack::nested_goals::NestedGoals;
-
-/// A stored result that is used. Ports `CacheData`.
-#[derive(Drop)]
-pub struct CacheData<'a, X: Cx> {
-    /// The result.
-    pub result: X::Result,
-    /// What the result is tracked by.
-    pub token: X::DepNodeIndex,
-    /// How many goals have to be nested below the goal.
-    pub required_depth: usize,
-    /// Whether the result met overflow.
-    pub encountered_overflow: bool,
-    /// The goals that were asked below the goal.
-    pub nested_goals: &'a NestedGoals<X>,
-    /// The node of a definite result.
-    pub node: Option<NodeId>,
-}
+use search_stack::result::CacheData;
 
 /// A test of the goals below a stored result, by which a look-up finds out whether the result may be used.
 /// Stands for the closure that `GlobalCache::get` takes in the original.

@@ -32,10 +32,11 @@ mod nodes;
 mod result_store;
 pub mod results;
 
-pub use get::{CacheData, NestedTest};
+pub use get::NestedTest;
 use node_list::NodeList;
 use result_store::ResultStore;
 pub use results::{Place, StoredResult};
+pub use search_stack::result::CacheData;
 
 /// The context of all searches over this cache, the nodes of their answers' graphs, and the results of
 /// goals. The list of nodes never gets shorter, and a node that is finished never changes, but that

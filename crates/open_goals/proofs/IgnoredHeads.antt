@@ -2,7 +2,6 @@
 use Rattle.std.proofs.Common.{◌≡◌, ◌≢◌, ◌==◌, if◌then◌else◌, Bool, true, false, ◌||◌, is_some, [], ◌∷◌, Option, Some, None, option_map, refl, sym, ap, ◌∙◌, subst, inl, inr, ne_eqb, eq-eqb}
 use Rattle.std.specs.Option.{IsSomeAnd}
 use Rattle.std.proofs.lemmas.Bool.{cases_eq}
-use Rattle.global_cache.proofs.HandedOut.{is_some_at}
 use Rattle.open_goals.specs.Below.{StackDepth, CycleHead, HeadUsages, EntryState, UsagesByHead, Heads, at_depth, without_usages}
 use Rattle.cycle_heads.proofs.HeadLists.{at_depth-first, at_depth-rest, at_depth-set_same, at_depth-set_other}
 use Rattle.open_goals.specs.Words.{some_heads, is_in_cycle, less_usages, less_head, with_replaced, usages_at, without_head, CanIgnore, Covers}
@@ -10,7 +9,7 @@ use Rattle.open_goals.specs.Words.{some_heads, is_in_cycle, less_usages, less_he
 -- a head that may be replaced is found at its depth, and other depths keep what they have
 replaced_same : (heads : Heads) (depth : StackDepth) (f : CycleHead → CycleHead) (o : Option CycleHead) → at_depth heads depth ≡ o → at_depth (with_replaced heads depth (option_map f o)) depth ≡ option_map f o
 replaced_same heads depth f None is = is
-replaced_same heads depth f (Some known) is = at_depth-set_same depth (f known) heads (is_some_at (at_depth heads depth) known is)
+replaced_same heads depth f (Some known) is = at_depth-set_same depth (f known) heads (ap is_some is)
 
 replaced_other : (heads : Heads) (depth : StackDepth) (o : Option CycleHead) (other : StackDepth) → other.0 ≢ depth.0 → at_depth (with_replaced heads depth o) other ≡ at_depth heads other
 replaced_other heads depth None other ne = refl

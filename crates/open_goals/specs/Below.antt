@@ -33,5 +33,5 @@ pub use Rattle.search_stack.specs.Stack.{allowed_depth, depth_below, fresh_entry
 pub use Rattle.search_stack.specs.declared.depth.AvailableDepth.{AvailableDepth}
 pub use Rattle.search_stack.specs.declared.stack.EntryState.{EntryState}
 pub use Rattle.search_stack.specs.declared.stack.StackEntry.{StackEntry}
-pub use Rattle.global_cache.specs.Hits.{Hit, hit_of}
+pub use Rattle.search_stack.specs.Hit.{Hit, hit_of}
 pub use Rattle.search_stack.specs.declared.result.EvaluationResult.{EvaluationResult}

@@ -1,8 +1,8 @@
 //! What the finished candidates of a run used.
 ghost use Rattle.std.specs.Prelude.{◌≡◌, ◌<◌, ◌++◌, ◌∷◌, [], length, slice_set, slice_get, OnOk, Some};
 
-use search_parts::context::NoMemory;
-use search_parts::parts::CandidateHeadUsages;
+use cycle_heads::candidates::CandidateHeadUsages;
+use search_context::context::NoMemory;
 use std::alloc::Global;
 use std::marker::Model;
 use std::mem;

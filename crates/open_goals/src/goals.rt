@@ -14,15 +14,16 @@ use crate::spare::SpareMemory;
 use crate::update::{
     cycle_head, note_depth, note_head, note_heads, note_nested_goals, take_nested_goals,
 };
-use search_parts::context::{
+use cycle_heads::heads::CycleHeads;
+use cycle_heads::path::{PathKind, PathsToNested};
+use cycle_heads::usages::HeadUsages;
+use search_context::context::{
     Answer, Cx, Delegate, Fault, NoMemory, NodeId, Reply, Request, Verdict,
 };
-use search_parts::global_cache::CacheData;
-use search_parts::parts::{
-    EvaluationResult, HeadUsages, ProvisionalCacheEntry, Stack, StackDepth, StackEntry,
-};
-use search_parts::path::{PathKind, PathsToNested};
+use search_stack::depth::StackDepth;
+use search_stack::result::{CacheData, EvaluationResult};
 use search_stack::room::give_room_back;
+use search_stack::stack::{Stack, StackEntry};
 use std::alloc::Global;
 use std::marker::Model;
 use std::mem;
@@ -249,24 +250,24 @@ impl<X: Cx, F: Drop, S: Drop> OpenGoals<X, F, S> {
         note_nested_goals(state, input, step, stored.nested_goals)
     }
 
-    /// The newest goal was answered over a step of this kind by a provisional entry. A refusal
+    /// The newest goal was answered over a step of this kind by a provisional entry with these heads. A refusal
     /// may leave a part of that noted.
     pub fn note_provisional(
         &mut self,
         step: PathKind,
-        provisional: &ProvisionalCacheEntry<X>,
+        heads: &CycleHeads,
+        encountered_overflow: bool,
     ) -> Result<(), NoMemory>
-        requires { 0 < length self.old }
-        ensures answered { OnOk result (AnswersNewest step 0 provisional.now.encountered_overflow
-            provisional.now.heads
+        requires some { 0 < length self.old }
+        ensures answered { OnOk result (AnswersNewest step 0 encountered_overflow heads.now
             self.old self.new) }
         ensures nested { OnOk result (NestsItself X.Input.eq self.old self.new) }
     {
         let parent = StackDepth::new(self.stack.len() - 1);
         let own = self.stack.last().input();
         let state = self.stack.last_mut();
-        note_depth(state, 0, provisional.encountered_overflow);
-        note_heads(state, parent, step, &provisional.heads)?;
+        note_depth(state, 0, encountered_overflow);
+        note_heads(state, parent, step, heads)?;
         state.nested_goals.insert(own, PathsToNested::EMPTY)
     }
 

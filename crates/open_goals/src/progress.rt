@@ -6,9 +6,9 @@ ghost use Rattle.open_goals.specs.Words.{HasTarget, begun, edges_of, fault_of, g
 
 mod lists;
 
+use cycle_heads::path::PathKind;
 pub(crate) use lists::Lists;
-use search_parts::context::{Edge, NoMemory, NodeId, Reply, Request, Verdict};
-use search_parts::path::PathKind;
+use search_context::context::{Edge, NoMemory, NodeId, Reply, Request, Verdict};
 use std::alloc::Global;
 use std::marker::Model;
 

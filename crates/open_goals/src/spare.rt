@@ -4,8 +4,8 @@ ghost use Rattle.open_goals.specs.Words.{no_record};
 
 use crate::candidates::FinishedCandidates;
 use crate::progress::{Lists, Progress};
-use search_parts::context::Reply;
-use search_parts::parts::CandidateHeadUsages;
+use cycle_heads::candidates::CandidateHeadUsages;
+use search_context::context::Reply;
 use std::alloc::Global;
 use std::marker::Model;
 

@@ -3,12 +3,15 @@ ghost use Rattle.std.specs.Prelude.{◌≡◌, ◌<◌, ◌+◌, ◌^◌, OnOk, 
 ghost use Rattle.open_goals.specs.Words.{cycle_head, with_depth, with_nested_goals, with_used_head, TakesHeads, usages_at, without_head, CanIgnore, Covers, Ignores, LeavesAnswer, TakesNestedGoals};
 ghost use Rattle.std.specs.Option.{IsSomeAnd};
 
-use search_parts::context::{Cx, NoMemory};
-use search_parts::parts::{
-    CandidateHeadUsages, CycleHead, CycleHeads, EntryState, EvaluationResult, HeadUsages,
-    NestedGoals, StackDepth,
-};
-use search_parts::path::{PathKind, PathsToNested};
+use cycle_heads::candidates::CandidateHeadUsages;
+use cycle_heads::heads::{CycleHead, CycleHeads};
+use cycle_heads::path::{PathKind, PathsToNested};
+use cycle_heads::usages::HeadUsages;
+use search_context::context::{Cx, NoMemory};
+use search_stack::depth::StackDepth;
+use search_stack::nested_goals::NestedGoals;
+use search_stack::result::EvaluationResult;
+use search_stack::stack::EntryState;
 
 /// Notes how deep the goals below an answer went, and whether one of their questions was refused.
 pub fn note_depth<X: Cx>(

@@ -32,7 +32,8 @@ pub use Rattle.search_stack.specs.declared.stack.StackEntry.{StackEntry}
 pub use Rattle.global_cache.specs.Cache.{AreRuns, Cache, CacheNode, KeepsFinished, KeepsNodes}
 pub use Rattle.global_cache.specs.Definite.{HasGraph}
 pub use Rattle.global_cache.specs.HandedOut.{IsWhole, KeepsWhole}
-pub use Rattle.global_cache.specs.Hits.{first_accepted, Hit, hit_of, usable}
+pub use Rattle.global_cache.specs.Hits.{first_accepted, usable}
+pub use Rattle.search_stack.specs.Hit.{Hit, hit_of}
 pub use Rattle.global_cache.specs.declared.results.Place.{Place}
 pub use Rattle.global_cache.specs.Store.{KeepsResults, Store, stored_at}
 pub use Rattle.global_cache.specs.Stored.{AreSoundResults}

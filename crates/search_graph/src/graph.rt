@@ -11,14 +11,15 @@ mod evaluate;
 mod list;
 mod proof_tree;
 
+use cycle_heads::candidates::CandidateHeadUsages;
+use cycle_heads::path::PathKind;
 use evaluate::evaluate;
+use global_cache::GlobalCache;
+use search_context::context::{Answer, Cx, Delegate, Fault};
 use search_moves::drafts::Drafts;
 use search_moves::evaluation::Evaluation;
-use search_parts::context::{Answer, Cx, Delegate, Fault};
-use search_parts::global_cache::GlobalCache;
-use search_parts::parts::{AvailableDepth, CandidateHeadUsages};
-use search_parts::path::PathKind;
 pub use search_parts::{context, global_cache, parts, path};
+use search_stack::depth::AvailableDepth;
 use std::alloc::Global;
 use std::marker::Model;
 

@@ -3,7 +3,7 @@ ghost use Rattle.std.specs.Prelude.{◌≡◌, List, []};
 ghost use Rattle.search_graph.specs.Below.{CacheNode, Store, StoredResult};
 ghost use Rattle.search_moves.specs.Settled.{IsSettledStore};
 
-use search_parts::context::Delegate;
+use search_context::context::Delegate;
 
 /// Where nothing is stored, as in a new cache, the stored results are settled, whatever the goals are.
 pub fn nothing_is_settled<D: Delegate>()

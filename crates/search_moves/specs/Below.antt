@@ -30,7 +30,8 @@ pub use Rattle.provisional_cache.specs.declared.RebaseReason.{RebaseReason}
 pub use Rattle.provisional_cache.specs.declared.RebaseReason.TheVariants.{Overflow}
 pub use Rattle.global_cache.specs.Cache.{Cache, CacheNode, finished_node, graph_nodes_of, KeepsFinished, KeepsNodes, open_node}
 pub use Rattle.global_cache.specs.Definite.{HasGraph}
-pub use Rattle.global_cache.specs.Hits.{first_accepted, Hit, hit_of, usable}
+pub use Rattle.global_cache.specs.Hits.{first_accepted, usable}
+pub use Rattle.search_stack.specs.Hit.{Hit, hit_of}
 pub use Rattle.global_cache.specs.Store.{KeepsResults, place_of, Store, stored_at, stored_from}
 pub use Rattle.global_cache.specs.Stored.{IsPlainAt}
 pub use Rattle.global_cache.specs.declared.results.Place.{Place}

@@ -4,8 +4,8 @@ ghost use Rattle.global_cache.specs.Collected.{StayBefore};
 ghost use Rattle.search_moves.specs.Drafts.{AreNotedNodes, HasRoots, LetsGo, LetsGoAtEnd};
 
 use crate::evaluation::Evaluation;
-use search_parts::context::{Delegate, NoMemory, NodeId};
-use search_parts::global_cache::GlobalCache;
+use global_cache::GlobalCache;
+use search_context::context::{Delegate, NoMemory, NodeId};
 
 impl<D: Delegate> Evaluation<D> {
     /// Lets go of the call's nodes to which nothing leads any more, if it wrote so many since it did that the last time

@@ -2,8 +2,8 @@
 ghost use Rattle.std.specs.Prelude.{◌≡◌, OnErr, OnOk};
 ghost use Rattle.search_moves.specs.Drafts.{HasNoDrafts, noted};
 
-use search_parts::context::{Delegate, NoMemory, NodeId};
-use search_parts::global_cache::GlobalCache;
+use global_cache::GlobalCache;
+use search_context::context::{Delegate, NoMemory, NodeId};
 use std::alloc::Global;
 
 /// So many nodes a call writes at least before they are looked through for the first time.

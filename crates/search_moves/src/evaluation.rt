@@ -3,12 +3,13 @@ ghost use Rattle.std.specs.Prelude.{◌≡◌, ◌<◌, ◌^◌, []};
 ghost use Rattle.search_moves.specs.Drafts.{HasNoDrafts};
 
 use crate::drafts::Drafts;
+use global_cache::GlobalCache;
 use open_goals::goals::OpenGoals;
 use open_goals::spare::SpareMemory;
-use search_parts::context::{Cx, Delegate};
-use search_parts::global_cache::GlobalCache;
-use search_parts::parts::{AvailableDepth, ProvisionalCache};
+use provisional_cache::ProvisionalCache;
+use search_context::context::{Cx, Delegate};
 use search_rules::lean::LeanRuns;
+use search_stack::depth::AvailableDepth;
 use std::alloc::Global;
 
 /// Of a call with more runs than these no memory is kept but the `SpareMemory`, which has a bound of its own. Each goal on

@@ -5,13 +5,14 @@ ghost use Rattle.search_moves.specs.Drafts.{KeepsNoted};
 ghost use Rattle.search_moves.specs.Words.{ChangesCache, Fails, MayPop, Pops};
 
 use crate::evaluation::Evaluation;
+use cycle_heads::path::PathKind;
+use global_cache::GlobalCache;
 use open_goals::goals::{Next, OpenGoals, Popped, Received, Run};
-use search_parts::context::{Answer, Cx, Delegate, Fault, NoMemory, Reply};
-use search_parts::global_cache::GlobalCache;
-use search_parts::parts::{EvaluationResult, RebaseReason};
-use search_parts::path::PathKind;
+use provisional_cache::RebaseReason;
+use search_context::context::{Answer, Cx, Delegate, Fault, NoMemory, Reply};
 use search_rules::nodes::result_node;
 use search_rules::rebase::rebase_entries;
+use search_stack::result::EvaluationResult;
 
 impl<D: Delegate> Evaluation<D> {
     /// Pops the newest goal with this result, and gives that to the goal below it. Provisional entries that rest

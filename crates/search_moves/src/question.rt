@@ -7,14 +7,15 @@ ghost use Rattle.search_moves.specs.Below.{depth_below, KeepsBuilder, CacheNode,
 ghost use Rattle.search_moves.specs.Words.{MayMove, Requests, IsRightFor, GoesOnWith, StopsWith, KeepsCache, StartsFrame, AskingLeadsTo, question_depth};
 
 use crate::evaluation::Evaluation;
+use cycle_heads::path::PathKind;
+use global_cache::GlobalCache;
 use open_goals::candidates::FinishedCandidates;
 use open_goals::goals::{Fate, OpenGoals, Received, Run};
 use open_goals::progress::Progress;
-use search_parts::context::{Cx, Delegate, NoMemory, NodeId, Reply};
-use search_parts::global_cache::GlobalCache;
-use search_parts::parts::{AvailableDepth, StackDepth, StackEntry};
-use search_parts::path::PathKind;
+use search_context::context::{Cx, Delegate, NoMemory, NodeId, Reply};
 use search_rules::look_up::{Consulted, consult, look_up_entry};
+use search_stack::depth::{AvailableDepth, StackDepth};
+use search_stack::stack::StackEntry;
 
 impl<D: Delegate> Evaluation<D> {
     /// Answers the newest goal's question, or pushes the asked goal, whose frame then begins. A question
@@ -58,7 +59,8 @@ impl<D: Delegate> Evaluation<D> {
         // Entries come before stored results, so that the test of a stored result's nested goals need not think
         // of a goal that has both.
         if let Some(entry) = look_up_entry::<D>(&self.provisional, stack, kind, input) {
-            self.goals.note_provisional(kind, entry)?;
+            let overflow = entry.encountered_overflow;
+            self.goals.note_provisional(kind, &entry.heads, overflow)?;
             return Ok(Received {
                 reply: Reply::Answer(entry.result),
                 node: entry.node,

@@ -4,11 +4,11 @@ ghost use Rattle.search_moves.specs.Below.{KeepsEarlier, KeepsFinished};
 ghost use Rattle.search_moves.specs.Words.{MayRunAgain, RunsAgain, StartsFrame};
 
 use crate::evaluation::Evaluation;
+use global_cache::GlobalCache;
 use open_goals::progress::Progress;
-use search_parts::context::{Cx, Delegate, NoMemory};
-use search_parts::global_cache::GlobalCache;
-use search_parts::parts::StackDepth;
+use search_context::context::{Cx, Delegate, NoMemory};
 use search_rules::nodes::result_node;
+use search_stack::depth::StackDepth;
 
 impl<D: Delegate> Evaluation<D> {
     /// Runs the newest goal again, whose run came to this result. Provisional entries that used the goal's

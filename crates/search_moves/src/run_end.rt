@@ -4,10 +4,10 @@ ghost use Rattle.search_moves.specs.Below.{Done, KeepsBuilder};
 ghost use Rattle.search_moves.specs.Words.{ChangesCache, MayMove, Moves, IsRightNext, RunLeads, MeetsLimitAtEnd, StoresOrFails};
 
 use crate::evaluation::Evaluation;
+use global_cache::GlobalCache;
 use open_goals::goals::{Next, Received};
-use search_parts::context::{Cx, Delegate, Fault, Reply};
-use search_parts::global_cache::GlobalCache;
-use search_parts::parts::RebaseReason;
+use provisional_cache::RebaseReason;
+use search_context::context::{Cx, Delegate, Fault, Reply};
 use search_rules::end_of_run::{Unstable, end_of_run};
 
 impl<D: Delegate> Evaluation<D> {

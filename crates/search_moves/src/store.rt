@@ -7,13 +7,14 @@ ghost use Rattle.search_moves.specs.Words.{ChangesResults, Fails, IsStorable, Ma
 
 use crate::drafts::Drafts;
 use crate::evaluation::Evaluation;
+use cycle_heads::path::PathKind;
+use global_cache::GlobalCache;
 use open_goals::goals::Fate;
-use search_parts::context::{Cx, Delegate, Fault, NoMemory};
-use search_parts::global_cache::GlobalCache;
-use search_parts::parts::{
-    EvaluationResult, ProvisionalCache, ProvisionalCacheEntry, Stack, StackDepth,
-};
-use search_parts::path::PathKind;
+use provisional_cache::{ProvisionalCache, ProvisionalCacheEntry};
+use search_context::context::{Cx, Delegate, Fault, NoMemory};
+use search_stack::depth::StackDepth;
+use search_stack::result::EvaluationResult;
+use search_stack::stack::Stack;
 
 impl<D: Delegate> Evaluation<D> {
     /// Stores the result of a goal that is done, which was asked over the step, in the global cache, or compares it

@@ -69,11 +69,12 @@ pub use Rattle.provisional_cache.specs.declared.RebaseReason.TheVariants.{Overfl
 pub use Rattle.global_cache.specs.Cache.{AreRuns, Cache, CacheNode, EndedRun, graph_nodes_of, IsNodeOf, IsRun}
 pub use Rattle.global_cache.specs.Cache.{KeepsFinished, KeepsGoals, KeepsNodes, goal_if_open, open_goal, open_node, with_run}
 pub use Rattle.global_cache.specs.Definite.{HasGraph, HasNode}
-pub use Rattle.global_cache.specs.Hits.{first_accepted, Hit, hit_of, usable}
+pub use Rattle.global_cache.specs.Hits.{first_accepted, usable}
+pub use Rattle.search_stack.specs.Hit.{Hit, hit_of}
 pub use Rattle.global_cache.specs.Shapes.{edge_shape, shape_of, shapes_of}
 pub use Rattle.global_cache.specs.Store.{AnswersStoring, place_of, Puts, same_key, Store, stored_at, stored_from}
 pub use Rattle.global_cache.specs.Stored.{AreSoundResults, IsPlainAt}
-pub use Rattle.global_cache.specs.declared.get.CacheData.{CacheData}
+pub use Rattle.search_stack.specs.declared.result.CacheData.{CacheData}
 pub use Rattle.global_cache.specs.declared.results.Place.{Place}
 pub use Rattle.global_cache.specs.declared.results.Place.TheVariants.{Success, WithOverflow}
 pub use Rattle.global_cache.specs.declared.results.StoredResult.{StoredResult}

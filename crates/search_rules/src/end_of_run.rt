@@ -4,9 +4,11 @@ ghost use Rattle.search_rules.specs.declared.end_of_run.Unstable.TheVariants.{Ag
 ghost use Rattle.search_rules.specs.EndOfRun.{ReachedFixpoint};
 ghost use Rattle.search_rules.specs.Words.{IsReason, IsEndOfRun, IsStable};
 
-use search_parts::context::{Cx, Delegate};
-use search_parts::parts::{EntryState, HeadUsages, RebaseReason};
-use search_parts::path::PathKind;
+use cycle_heads::path::PathKind;
+use cycle_heads::usages::HeadUsages;
+use provisional_cache::RebaseReason;
+use search_context::context::{Cx, Delegate};
+use search_stack::stack::EntryState;
 
 /// What becomes of a goal whose run has ended with a result that isn't stable.
 #[derive(Clone, Copy)]

@@ -7,13 +7,15 @@ ghost use Rattle.search_context.specs.Delegate.{KeepsBuilder};
 ghost use Rattle.search_rules.specs.Words.{usable_entry, could_be_used, Consults, is_applicable, is_compared, meets_entry, AreOnStack, IsFated, IsUsable};
 
 use bitflags::Flags;
+use cycle_heads::path::{PathKind, PathsToNested};
+use global_cache::{GlobalCache, NestedTest};
 use open_goals::goals::Fate;
-use search_parts::context::{Cx, Delegate};
-use search_parts::global_cache::{CacheData, GlobalCache, NestedTest};
-use search_parts::parts::{
-    AvailableDepth, NestedGoals, ProvisionalCache, ProvisionalCacheEntry, Stack,
-};
-use search_parts::path::{PathKind, PathsToNested};
+use provisional_cache::{ProvisionalCache, ProvisionalCacheEntry};
+use search_context::context::{Cx, Delegate};
+use search_stack::depth::AvailableDepth;
+use search_stack::nested_goals::NestedGoals;
+use search_stack::result::CacheData;
+use search_stack::stack::Stack;
 use std::marker::Model;
 
 /// How many goals a short stack has at most. About so many comparisons take as long as one look-up.

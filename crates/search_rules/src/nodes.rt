@@ -6,10 +6,10 @@ ghost use Rattle.search_rules.specs.Below.{KeepsFinished, IsDefinite, edges_of, 
 ghost use Rattle.search_rules.specs.Words.{verdict_shape, EndsRun, HasResultNode, KeepsBut, LeadToGoals};
 
 use crate::lean::{LeanRuns, Replayed};
+use global_cache::GlobalCache;
 use open_goals::progress::Progress;
-use search_parts::context::{Cx, Delegate, NoMemory, NodeId, Verdict};
-use search_parts::global_cache::GlobalCache;
-use search_parts::parts::EntryState;
+use search_context::context::{Cx, Delegate, NoMemory, NodeId, Verdict};
+use search_stack::stack::EntryState;
 
 /// The node of a run's definite result. Where the result has the verdict of the provisional one, it is that one's
 /// node, and the run's own stays open, as does that of a run that came to no definite result. So the node of

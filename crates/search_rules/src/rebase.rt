@@ -3,8 +3,9 @@ ghost use Rattle.std.specs.Prelude.{◌≡◌, ◌≤◌, ◌<◌, length, All, 
 ghost use Rattle.search_rules.specs.Below.{entries_at};
 ghost use Rattle.search_rules.specs.Words.{rebased_for, LeavesReady};
 
-use search_parts::context::{Cx, Delegate, NoMemory};
-use search_parts::parts::{ProvisionalCache, RebaseReason, Stack, StackEntry};
+use provisional_cache::{ProvisionalCache, RebaseReason};
+use search_context::context::{Cx, Delegate, NoMemory};
+use search_stack::stack::{Stack, StackEntry};
 
 /// Rebases the entries that rest on the goal `done`, which was popped from above the stack: for the reason, if it
 /// was used as a head. Else there are none. Where each entry could be used while the goal was on the stack, its

@@ -1,6 +1,7 @@
 pub mod Nested
 pub mod StackIndex
 pub mod Stack
+pub mod Hit
 pub mod Lent
 pub mod Cycle
 pub mod Steps

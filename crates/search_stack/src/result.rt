@@ -55,3 +55,20 @@ impl<X: Cx> EvaluationResult<X> {
         }
     }
 }
+
+/// A stored result that is used. Ports `CacheData`.
+#[derive(Drop)]
+pub struct CacheData<'a, X: Cx> {
+    /// The result.
+    pub result: X::Result,
+    /// What the result is tracked by.
+    pub token: X::DepNodeIndex,
+    /// How many goals have to be nested below the goal.
+    pub required_depth: usize,
+    /// Whether the result met overflow.
+    pub encountered_overflow: bool,
+    /// The goals that were asked below the goal.
+    pub nested_goals: &'a NestedGoals<X>,
+    /// The node of a definite result.
+    pub node: Option<NodeId>,
+}

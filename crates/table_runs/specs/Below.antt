@@ -24,7 +24,8 @@ pub use Rattle.search_context.specs.declared.context.Reply.{Reply}
 pub use Rattle.search_context.specs.declared.context.Request.{Request}
 pub use Rattle.search_context.specs.declared.context.Verdict.{Verdict}
 pub use Rattle.global_cache.specs.Cache.{Cache, KeepsFinished}
-pub use Rattle.global_cache.specs.Hits.{first_accepted, Hit, usable}
+pub use Rattle.global_cache.specs.Hits.{first_accepted, usable}
+pub use Rattle.search_stack.specs.Hit.{Hit}
 pub use Rattle.global_cache.specs.Store.{KeepsResults}
 pub use Rattle.rule_tables.specs.Rules.{name_of, questions_of}
 pub use Rattle.rule_tables.specs.Text.{IsFirstBadLine, Reads}

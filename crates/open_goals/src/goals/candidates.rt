@@ -6,8 +6,9 @@ ghost use Rattle.open_goals.specs.Words.{enters, records_candidate, leaves, CanI
 use crate::goals::OpenGoals;
 use crate::spare::SpareMemory;
 use crate::update;
-use search_parts::context::{Cx, NoMemory, Request};
-use search_parts::parts::{CandidateHeadUsages, StackDepth};
+use cycle_heads::candidates::CandidateHeadUsages;
+use search_context::context::{Cx, NoMemory, Request};
+use search_stack::depth::StackDepth;
 
 impl<X: Cx, F: Drop, S: Drop> OpenGoals<X, F, S> {
     /// Does what the newest goal's frame requested of its candidates; other requests change nothing. After a

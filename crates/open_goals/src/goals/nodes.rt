@@ -4,8 +4,9 @@ ghost use Rattle.open_goals.specs.Below.{NodeId};
 ghost use Rattle.open_goals.specs.Words.{HasCycleNode, HasNodes, HasRunNodes};
 
 use crate::goals::{OpenGoals, Run};
-use search_parts::context::{Cx, NoMemory, NodeId};
-use search_parts::parts::{Stack, StackDepth};
+use search_context::context::{Cx, NoMemory, NodeId};
+use search_stack::depth::StackDepth;
+use search_stack::stack::Stack;
 
 impl<X: Cx, F: Drop, S: Drop> OpenGoals<X, F, S> {
     /// Appends the nodes that the goals lead to: those of their runs, those to which the answers of their cycles

@@ -5,8 +5,8 @@ ghost use Rattle.open_goals.specs.Below.{NodeId, ignored_by};
 ghost use Rattle.open_goals.specs.Words.{HasTarget, begun, edges_of, going_on, no_record, received, rests_on};
 
 use crate::progress::{Beginning, DefiniteAnswer};
-use search_parts::context::{Edge, NoMemory, NodeId, Reply, Request, Verdict};
-use search_parts::path::PathKind;
+use cycle_heads::path::PathKind;
+use search_context::context::{Edge, NoMemory, NodeId, Reply, Request, Verdict};
 use std::alloc::Global;
 use std::marker::Model;
 

@@ -9,11 +9,11 @@ ghost use Rattle.search_moves.specs.Drafts.{KeepsNoted, LeavesReached};
 ghost use Rattle.search_moves.specs.Storing.{HasLastingCause};
 ghost use Rattle.search_rules.specs.Lone.{IsLone};
 
+use cycle_heads::path::PathKind;
+use global_cache::GlobalCache;
 use open_goals::goals::{Fate, Next, Received, step};
+use search_context::context::{Answer, Cx, Delegate, Fault, Reply, Request};
 use search_moves::evaluation::Evaluation;
-use search_parts::context::{Answer, Cx, Delegate, Fault, Reply, Request};
-use search_parts::global_cache::GlobalCache;
-use search_parts::path::PathKind;
 use search_rules::look_up::{Consulted, consult};
 
 /// The answer to the goal: a stored result, if the builder lets one be used and it is not to be validated, or else

@@ -7,9 +7,9 @@ ghost use Rattle.search_graph.specs.Lists.{AppendsEach, HasLimits, IsAnsweredQue
 ghost use Rattle.search_graph.specs.Settled.{TakesTwoRuns};
 
 use super::SearchGraph;
-use search_parts::context::{Answer, Cx, Delegate, Fault, NoMemory};
-use search_parts::global_cache::GlobalCache;
-use search_parts::path::PathKind;
+use cycle_heads::path::PathKind;
+use global_cache::GlobalCache;
+use search_context::context::{Answer, Cx, Delegate, Fault, NoMemory};
 use std::alloc::Global;
 
 impl<D: Delegate> SearchGraph<D> {

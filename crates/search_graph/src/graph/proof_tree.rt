@@ -7,13 +7,13 @@ ghost use Rattle.search_graph.specs.Lists.{HasLimits};
 
 use super::SearchGraph;
 use super::evaluate::work_out;
+use cycle_heads::path::PathKind;
+use global_cache::GlobalCache;
 use open_goals::goals::Fate;
+use search_context::context::{Answer, Cx, Delegate, Fault};
 use search_moves::drafts::Drafts;
 use search_moves::evaluation::Evaluation;
-use search_parts::context::{Answer, Cx, Delegate, Fault};
-use search_parts::global_cache::GlobalCache;
-use search_parts::parts::AvailableDepth;
-use search_parts::path::PathKind;
+use search_stack::depth::AvailableDepth;
 
 impl<D: Delegate> SearchGraph<D> {
     /// The answer to a goal that is worked out at once, on a new graph of this depth: no stored result of the goal is

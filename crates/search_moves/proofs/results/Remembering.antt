@@ -4,7 +4,8 @@ use Rattle.std.specs.Option.{IsSomeAnd}
 use Rattle.std.proofs.lemmas.Bool.{le-leb}
 use Rattle.std.proofs.lemmas.List.Elements.{All-head}
 use Rattle.cycle_heads.specs.Heads.{Heads}
-use Rattle.global_cache.specs.Hits.{Hit, hit_at, overflows, successes}
+use Rattle.global_cache.specs.Hits.{hit_at, overflows, successes}
+use Rattle.search_stack.specs.Hit.{Hit}
 use Rattle.global_cache.specs.declared.results.Place.TheVariants.{WithOverflow}
 use Rattle.open_goals.specs.declared.goals.Next.TheVariants.{Finished}
 use Rattle.open_goals.specs.declared.goals.Fate.TheVariants as becomes
