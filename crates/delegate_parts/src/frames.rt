@@ -54,7 +54,7 @@ pub trait Frames: Sized {
         frame: &mut Self::Frame,
         reply: Reply<Outcome>,
     ) -> Result<Request<<Self::Cx as Cx>::Input, Outcome>, NoMemory>
-        requires { CanTake stands script frame.old reply }
+        requires can { CanTake stands script frame.old reply }
         ensures request { IfOk result (λ request.
             Steps stands script frame.old reply request frame.new) }
         ensures falls { OnOk result (left frame.new < left frame.old) };
@@ -208,7 +208,7 @@ impl<F: Frames, const LIMIT: usize, const PROVISIONAL: usize> Delegate
         reply: Reply<Outcome>,
         inspect: &mut Builder,
     ) -> Result<Request<<F::Cx as Cx>::Input, Outcome>, NoMemory>
-        requires { CanTake F.stands F.script frame.old reply }
+        requires can { CanTake F.stands F.script frame.old reply }
         ensures request { IfOk result (λ request.
             Steps F.stands F.script frame.old reply request frame.new) }
         ensures falls { OnOk result (F.left frame.new < F.left frame.old) }
@@ -226,7 +226,7 @@ impl<F: Frames, const LIMIT: usize, const PROVISIONAL: usize> Delegate
         frame: &mut F::Frame,
         reply: Reply<Outcome>,
     ) -> Result<Request<<F::Cx as Cx>::Input, Outcome>, NoMemory>
-        requires { CanTake F.stands F.script frame.old reply }
+        requires can { CanTake F.stands F.script frame.old reply }
         ensures request { IfOk result (λ request.
             Steps F.stands F.script frame.old reply request frame.new) }
         ensures falls { OnOk result (F.left frame.new < F.left frame.old) }

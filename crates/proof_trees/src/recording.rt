@@ -166,7 +166,7 @@ impl<D: Delegate> Delegate for Recording<D> {
         reply: Reply<<D::Cx as Cx>::Result>,
         inspect: &mut Self::ProofTreeBuilder,
     ) -> Result<Request<<D::Cx as Cx>::Input, <D::Cx as Cx>::Result>, NoMemory>
-        requires { CanTake (λ recorded. D.stands recorded.frame) D.script frame.old reply }
+        requires can { CanTake (λ recorded. D.stands recorded.frame) D.script frame.old reply }
         ensures request { IfOk result (λ request.
             Steps (λ recorded. D.stands recorded.frame) D.script frame.old reply request frame.new) }
         ensures falls { OnOk result (D.left frame.new.frame < D.left frame.old.frame) }
@@ -182,7 +182,7 @@ impl<D: Delegate> Delegate for Recording<D> {
         _frame: &mut Self::Frame,
         _reply: Reply<<D::Cx as Cx>::Result>,
     ) -> Result<Request<<D::Cx as Cx>::Input, <D::Cx as Cx>::Result>, NoMemory>
-        requires { CanTake (λ recorded. D.stands recorded.frame) D.script _frame.old _reply }
+        requires can { CanTake (λ recorded. D.stands recorded.frame) D.script _frame.old _reply }
         ensures request { IfOk result (λ request.
             Steps (λ recorded. D.stands recorded.frame) D.script _frame.old _reply request
             _frame.new) }
@@ -226,7 +226,7 @@ pub fn step_recorded<D: Delegate>(
     reply: Reply<<D::Cx as Cx>::Result>,
     inspect: &mut RecorderOf<D>,
 ) -> Result<Request<<D::Cx as Cx>::Input, <D::Cx as Cx>::Result>, NoMemory>
-    requires { CanTake D.stands D.script frame.old.frame reply }
+    requires can { CanTake D.stands D.script frame.old.frame reply }
 
     // The request and the builder are those of `D`.
     ensures request { IfOk result (λ request.

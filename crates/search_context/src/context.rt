@@ -325,7 +325,7 @@ pub trait Delegate: Sized {
         reply: Reply<<Self::Cx as Cx>::Result>,
         inspect: &mut Self::ProofTreeBuilder,
     ) -> Result<Request<<Self::Cx as Cx>::Input, <Self::Cx as Cx>::Result>, NoMemory>
-        requires { CanTake stands script frame.old reply }
+        requires can { CanTake stands script frame.old reply }
         ensures request { IfOk result (λ request.
             Steps stands script frame.old reply request frame.new) }
         ensures falls { OnOk result (left frame.new < left frame.old) }
@@ -347,7 +347,7 @@ pub trait Delegate: Sized {
         _frame: &mut Self::Frame,
         _reply: Reply<<Self::Cx as Cx>::Result>,
     ) -> Result<Request<<Self::Cx as Cx>::Input, <Self::Cx as Cx>::Result>, NoMemory>
-        requires { CanTake stands script _frame.old _reply }
+        requires can { CanTake stands script _frame.old _reply }
         ensures request { IfOk result (λ request.
             Steps stands script _frame.old _reply request _frame.new) }
         ensures falls { OnOk result (left _frame.new < left _frame.old) }

@@ -151,7 +151,7 @@ where
         reply: Reply<Outcome>,
         inspect: &mut Watcher<P>,
     ) -> Result<Request<Goal, Outcome>, NoMemory>
-        requires { CanTake (λ watched. D.stands watched.frame) D.script frame.old reply }
+        requires can { CanTake (λ watched. D.stands watched.frame) D.script frame.old reply }
         ensures request { IfOk result (λ request.
             Steps (λ watched. D.stands watched.frame) D.script frame.old reply request frame.new) }
         ensures falls { OnOk result (D.left frame.new.frame < D.left frame.old.frame) }
@@ -174,7 +174,7 @@ where
         frame: &mut WatchedFrame<D::Frame>,
         reply: Reply<Outcome>,
     ) -> Result<Request<Goal, Outcome>, NoMemory>
-        requires { CanTake (λ watched. D.stands watched.frame) D.script frame.old reply }
+        requires can { CanTake (λ watched. D.stands watched.frame) D.script frame.old reply }
         ensures request { IfOk result (λ request.
             Steps (λ watched. D.stands watched.frame) D.script frame.old reply request frame.new) }
         ensures falls { OnOk result (D.left frame.new.frame < D.left frame.old.frame) }

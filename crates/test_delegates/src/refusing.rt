@@ -157,7 +157,7 @@ impl<D: Delegate> Delegate for Refusing<D> {
         reply: Reply<<D::Cx as Cx>::Result>,
         inspect: &mut Refusals<D::ProofTreeBuilder>,
     ) -> Result<Request<<D::Cx as Cx>::Input, <D::Cx as Cx>::Result>, NoMemory>
-        requires { CanTake D.stands D.script frame.old reply }
+        requires can { CanTake D.stands D.script frame.old reply }
         ensures request { IfOk result
             (λ request. Steps D.stands D.script frame.old reply request frame.new) }
         ensures falls { OnOk result (D.left frame.new < D.left frame.old) }
@@ -176,7 +176,7 @@ impl<D: Delegate> Delegate for Refusing<D> {
         frame: &mut D::Frame,
         reply: Reply<<D::Cx as Cx>::Result>,
     ) -> Result<Request<<D::Cx as Cx>::Input, <D::Cx as Cx>::Result>, NoMemory>
-        requires { CanTake D.stands D.script frame.old reply }
+        requires can { CanTake D.stands D.script frame.old reply }
         ensures request { IfOk result
             (λ request. Steps D.stands D.script frame.old reply request frame.new) }
         ensures falls { OnOk result (D.left frame.new < D.left frame.old) }

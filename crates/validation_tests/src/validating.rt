@@ -220,7 +220,7 @@ impl<W: Watches<<D::Cx as Cx>::Input, <D::Cx as Cx>::Result>, D: Delegate> Deleg
         reply: Reply<<D::Cx as Cx>::Result>,
         inspect: &mut D::ProofTreeBuilder,
     ) -> Result<Request<<D::Cx as Cx>::Input, <D::Cx as Cx>::Result>, NoMemory>
-        requires { CanTake (λ frame (within : Watched W D.Cx). D.stands frame.frame within.cx)
+        requires can { CanTake (λ frame (within : Watched W D.Cx). D.stands frame.frame within.cx)
             (λ (within : Watched W D.Cx). D.script within.cx) watched.old reply }
         ensures request { IfOk result (λ request.
             Steps (λ frame (within : Watched W D.Cx). D.stands frame.frame within.cx)
@@ -239,7 +239,7 @@ impl<W: Watches<<D::Cx as Cx>::Input, <D::Cx as Cx>::Result>, D: Delegate> Deleg
         _watched: &mut WatchedFrame<W, D>,
         _reply: Reply<<D::Cx as Cx>::Result>,
     ) -> Result<Request<<D::Cx as Cx>::Input, <D::Cx as Cx>::Result>, NoMemory>
-        requires { CanTake (λ frame (within : Watched W D.Cx). D.stands frame.frame within.cx)
+        requires can { CanTake (λ frame (within : Watched W D.Cx). D.stands frame.frame within.cx)
             (λ (within : Watched W D.Cx). D.script within.cx) _watched.old _reply }
         ensures request { IfOk result (λ request.
             Steps (λ frame (within : Watched W D.Cx). D.stands frame.frame within.cx)

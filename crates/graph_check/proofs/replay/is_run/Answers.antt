@@ -18,11 +18,13 @@ pub step-requires : goal.step-requires
 step-requires g c =
     let at = read_at c.deref-reply-items.ensures.value c.loop-reply-test.true c.reply-item.is in
     record {
-      cx = c.args.cx;
-      goal = c.args.node.now.input;
-      replies = reverse (take c.loop-reply.reply-index c.args.node.now.replies.items);
-      stood = c.loop-reply.invariant.stands;
-      is_fitting = fitting_next at c.loop-reply.invariant.replays (c.fits.ensures.0 c.if-not-fits.false);
+      can = record {
+        cx = c.args.cx;
+        goal = c.args.node.now.input;
+        replies = reverse (take c.loop-reply.reply-index c.args.node.now.replies.items);
+        stood = c.loop-reply.invariant.stands;
+        is_fitting = fitting_next at c.loop-reply.invariant.replays (c.fits.ensures.0 c.if-not-fits.false);
+      };
     }
 
 pub loop-reply-preserved : goal.loop-reply-preserved

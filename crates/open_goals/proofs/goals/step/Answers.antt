@@ -5,9 +5,11 @@ use Rattle.open_goals.proofs.Steps.{last_can_take, last_stepped, last_out_of_ord
 use Rattle.open_goals.proofs.goals.step.Goals as goal
 
 pub step-requires : goal.step-requires
-step-requires g c =
-    last_can_take g.D.Delegate g.D.Cx.Cx c.args.cx c.args.received c.goals.inside.stack c.goals.inside.runs.items _ c.goals.invariant c.goals.view_is c.requires.some c.requires.can_step (c.len-last.result - 1) c.index_mut-run.result.now
-    (grind (arith, common_steps)) c.index_mut-run.ensures.value
+step-requires g c = record {
+  can =
+      last_can_take g.D.Delegate g.D.Cx.Cx c.args.cx c.args.received c.goals.inside.stack c.goals.inside.runs.items _ c.goals.invariant c.goals.view_is c.requires.some c.requires.can_step (c.len-last.result - 1) c.index_mut-run.result.now
+      (grind (arith, common_steps)) c.index_mut-run.ensures.value;
+}
 
 pub returns-in-Some-clause-fault : goal.returns-in-Some-clause-fault
 returns-in-Some-clause-fault g c =

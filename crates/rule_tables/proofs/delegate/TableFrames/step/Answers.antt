@@ -12,7 +12,7 @@ pub returns-clause-falls : goal.returns-clause-falls
 returns-clause-falls g c =
     let rules_of = g.T.LendsRules.rules_of in
     let frame = c.args.frame.now in
-    let q = c.requires in
+    let q = c.requires.can in
     let fits = fits_state (candidates_of (rules_of q.cx.lender) q.goal) q.replies c.args.reply frame.state q.stood.state q.is_fitting in
     falls_at (candidates_of (rules_of frame.lender) frame.goal) _ frame.state _ c.args.reply
     (c.candidates-candidates.ensures ∙ ap (λ x. candidates_of x frame.goal) c.rules.ensures) c.receive.ensures fits
