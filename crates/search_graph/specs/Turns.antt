@@ -36,17 +36,6 @@ pub record IsAtOutset {D C V P F I R A T : Type 0} (cache : Cache C I R A T) (e 
   pub new : IsNew e
   pub no_drafts : HasNoDrafts cache.nodes e.drafts
 
-module _ {D C V P F I R A T : Type 0} (G : DelegateOf D C V P F I R A T) (X : CxOf C I R A T) (same : I → I → Bool) (received : Received R) (cache : Cache C I R A T) (e : Evaluation D C V P F I R A T) (starts : ℕ) where
-  -- The newest goal may be given the reply, and each result that a goal's is to be compared with is stored.
-  pub record MayAdvance : Type 0 where
-    pub reply : HasReply G X same cache.cx received cache e starts
-    pub expected : HaveExpected (G.scoped cache.cx) (G.script cache.cx) same cache.results (fates_of e.goals)
-
-  -- Besides, the call's nodes are told apart from those that were there before it.
-  pub record MayTakeTurn : Type 0 where
-    pub advance : MayAdvance
-    pub drafts : HasDrafts same cache e
-
 -- what comes next is right: the reply for the goals, or the answer of the only goal
 abbrev pub IsRightTurn : {D C V P F I R A T : Type 0} → DelegateOf D C V P F I R A T → CxOf C I R A T → (I → I → Bool) → C → List (OpenGoal C F I R A T) → Next R → Cache C I R A T → Evaluation D C V P F I R A T → Type 0
 IsRightTurn G X same cx goals (Step given) cache e = IsRightFor G X same cx given cache e

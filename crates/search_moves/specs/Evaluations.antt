@@ -79,11 +79,6 @@ module _ {D C V P F I R A T : Type 0} (G : DelegateOf D C V P F I R A T) (X : Cx
     pub on_record : (kind : PathKind) (goal : I) → request ≡ Evaluate kind goal → NewestAsks (runs_of e.goals) kind goal
     pub right : IsRight cache e
 
-  -- besides, each result that a goal's is to be compared with is stored
-  pub record MayMove (request : Request I R) (cache : Cache C I R A T) (e : Evaluation D C V P F I R A T) (starts : ℕ) : Type 0 where
-    pub made : HasRequest request cache e starts
-    pub expected : HaveExpected (G.scoped cx) (G.script cx) same cache.results (fates_of e.goals)
-
   -- the newest goal waits for the reply in some call, and all is right
   pub record HasReply (received : Received R) (cache : Cache C I R A T) (e : Evaluation D C V P F I R A T) (starts : ℕ) : Type 0 where
     pub call : Call I

@@ -1,6 +1,6 @@
 -- The words of this crate, from one place.
 pub use Rattle.search_moves.specs.Evaluations.{ChangesCache, GoesOnWith, HasRequest, IsRight}
-pub use Rattle.search_moves.specs.Evaluations.{IsRightFor, IsRightNext, KeepsCache, LeadsTo, MayMove, Moves}
+pub use Rattle.search_moves.specs.Evaluations.{IsRightFor, IsRightNext, KeepsCache, LeadsTo, Moves}
 pub use Rattle.search_moves.specs.Evaluations.{Requests, StartsFrame, StopsWith}
 pub use Rattle.search_moves.specs.Asked.{AskingLeadsTo, asking, ByEntry, ByStored, entry_for, OverCycle, Pushed}
 pub use Rattle.search_moves.specs.Asked.{question_depth, Refused}

@@ -3,8 +3,8 @@
 ghost use Rattle.std.specs.Prelude.{◌≡◌, ◌<◌, ◌||◌, ◌∷◌, ℕ, false, List, length, map, reverse, unwrap_or, IfOk, OnOk, OnErr, Some};
 ghost use Rattle.std.specs.List.{list_any, position};
 ghost use Rattle.std.specs.Option.{is_none, option_map, option_and_then};
-ghost use Rattle.search_moves.specs.Below.{depth_below, KeepsBuilder, CacheNode, KeepsNodes, Lists, Store, ProvisionalCacheEntry, Evaluate, StoredResult, Memory, newest, Call, AreFree, ClosesCycle, Pushes, NewestAsks, AreJustified, IsFit, AreReady, runs_of, fates_of};
-ghost use Rattle.search_moves.specs.Words.{MayMove, Requests, IsRightFor, GoesOnWith, StopsWith, KeepsCache, StartsFrame, AskingLeadsTo, question_depth};
+ghost use Rattle.search_moves.specs.Below.{depth_below, KeepsBuilder, CacheNode, KeepsNodes, Lists, Store, ProvisionalCacheEntry, Evaluate, StoredResult, Memory, newest, Call, AreFree, ClosesCycle, Pushes, NewestAsks, AreJustified, IsFit, AreReady, runs_of, fates_of, HaveExpected};
+ghost use Rattle.search_moves.specs.Words.{HasRequest, Requests, IsRightFor, GoesOnWith, StopsWith, KeepsCache, StartsFrame, AskingLeadsTo, question_depth};
 
 use crate::evaluation::Evaluation;
 use cycle_heads::path::PathKind;
@@ -27,8 +27,10 @@ impl<D: Delegate> Evaluation<D> {
         input: <D::Cx as Cx>::Input,
         inspect: &mut D::ProofTreeBuilder,
     ) -> Result<Received<<D::Cx as Cx>::Result>, NoMemory>
-        requires may { MayMove D.Delegate D.Cx.Cx D.Cx.Input.eq cache.old.cx
+        requires made { HasRequest D.Delegate D.Cx.Cx D.Cx.Input.eq cache.old.cx
             (Evaluate kind input) cache.old self.old (D.starts inspect.old) }
+        requires expected { HaveExpected (D.scoped cache.old.cx) (D.script cache.old.cx)
+            D.Cx.Input.eq cache.old.results (fates_of self.old.goals) }
         ensures asked { IfOk result (λ received.
             AskingLeadsTo D.Delegate D.Cx.Cx D.Cx.Input.eq cache.old.cx kind input (D.noop inspect.old)
             cache.old self.old (D.starts inspect.old) received

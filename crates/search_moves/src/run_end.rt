@@ -1,7 +1,7 @@
 //! The newest goal's run ends.
 ghost use Rattle.std.specs.Prelude.{IfOk, Some};
-ghost use Rattle.search_moves.specs.Below.{Done, KeepsBuilder};
-ghost use Rattle.search_moves.specs.Words.{ChangesCache, MayMove, Moves, IsRightNext, RunLeads, MeetsLimitAtEnd, StoresOrFails};
+ghost use Rattle.search_moves.specs.Below.{Done, fates_of, HaveExpected, KeepsBuilder};
+ghost use Rattle.search_moves.specs.Words.{ChangesCache, HasRequest, Moves, IsRightNext, RunLeads, MeetsLimitAtEnd, StoresOrFails};
 
 use crate::evaluation::Evaluation;
 use global_cache::GlobalCache;
@@ -19,8 +19,10 @@ impl<D: Delegate> Evaluation<D> {
         outcome: <D::Cx as Cx>::Result,
         inspect: &mut D::ProofTreeBuilder,
     ) -> Result<Next<<D::Cx as Cx>::Result>, Fault<<D::Cx as Cx>::Input, <D::Cx as Cx>::Result>>
-        requires may { MayMove D.Delegate D.Cx.Cx D.Cx.Input.eq cache.old.cx (Done outcome)
+        requires made { HasRequest D.Delegate D.Cx.Cx D.Cx.Input.eq cache.old.cx (Done outcome)
             cache.old self.old (D.starts inspect.old) }
+        requires expected { HaveExpected (D.scoped cache.old.cx) (D.script cache.old.cx)
+            D.Cx.Input.eq cache.old.results (fates_of self.old.goals) }
         ensures moves { Moves D.Delegate D.Cx.Cx D.Cx.Input.eq cache.old.cx (Done outcome)
             cache.old self.old (D.starts inspect.old) result
             cache.new self.new (D.starts inspect.new) }

@@ -1,10 +1,10 @@
 //! The evaluation of a goal: one loop over the goals under evaluation.
 ghost use Rattle.std.specs.Prelude.{◌≡◌, ◌≢◌, true, false, length, IfOk, IfErr, IfSome, None, OnOk, Ok};
 ghost use Rattle.open_goals.specs.declared.goals.Fate.TheVariants.{Stored};
-ghost use Rattle.search_graph.specs.Below.{ChangesCache, IsCaused, IsFated, Memory, first_accepted, usable, KeepsBuilder, KeepsCache, IsRightNext};
+ghost use Rattle.search_graph.specs.Below.{ChangesCache, IsCaused, IsFated, Memory, first_accepted, usable, KeepsBuilder, KeepsCache, IsRightNext, HasReply, HaveExpected, fates_of};
 ghost use Rattle.search_graph.specs.Calls.{Advances, Evaluates, IsGrounded, MovesGoals, Spares};
 ghost use Rattle.search_graph.specs.Settled.{EndsSettled, StaysSettled};
-ghost use Rattle.search_graph.specs.Turns.{IsAtOutset, IsRightTurn, KeepsDrafts, MayAdvance, MayTakeTurn, TurnsCache};
+ghost use Rattle.search_graph.specs.Turns.{HasDrafts, IsAtOutset, IsRightTurn, KeepsDrafts, TurnsCache};
 ghost use Rattle.search_moves.specs.Drafts.{KeepsNoted, LeavesReached};
 ghost use Rattle.search_moves.specs.Storing.{HasLastingCause};
 ghost use Rattle.search_rules.specs.Lone.{IsLone};
@@ -118,8 +118,11 @@ fn take_turn<D: Delegate>(
     received: Received<<D::Cx as Cx>::Result>,
     inspect: &mut D::ProofTreeBuilder,
 ) -> Result<Next<<D::Cx as Cx>::Result>, Fault<<D::Cx as Cx>::Input, <D::Cx as Cx>::Result>>
-    requires may { MayTakeTurn D.Delegate D.Cx.Cx D.Cx.Input.eq received
+    requires reply { HasReply D.Delegate D.Cx.Cx D.Cx.Input.eq cache.old.cx received
         cache.old evaluation.old (D.starts inspect.old) }
+    requires expected { HaveExpected (D.scoped cache.old.cx) (D.script cache.old.cx)
+        D.Cx.Input.eq cache.old.results (fates_of evaluation.old.goals) }
+    requires drafts { HasDrafts D.Cx.Input.eq cache.old evaluation.old }
     ensures advances { Advances D.Delegate D.Cx.Cx D.Cx.Input.eq cache.old.cx received
         cache.old evaluation.old (D.starts inspect.old) result
         cache.new evaluation.new (D.starts inspect.new) }
@@ -164,8 +167,10 @@ fn advance<D: Delegate>(
     received: Received<<D::Cx as Cx>::Result>,
     inspect: &mut D::ProofTreeBuilder,
 ) -> Result<Next<<D::Cx as Cx>::Result>, Fault<<D::Cx as Cx>::Input, <D::Cx as Cx>::Result>>
-    requires may { MayAdvance D.Delegate D.Cx.Cx D.Cx.Input.eq received
+    requires reply { HasReply D.Delegate D.Cx.Cx D.Cx.Input.eq cache.old.cx received
         cache.old evaluation.old (D.starts inspect.old) }
+    requires expected { HaveExpected (D.scoped cache.old.cx) (D.script cache.old.cx)
+        D.Cx.Input.eq cache.old.results (fates_of evaluation.old.goals) }
     ensures advances { Advances D.Delegate D.Cx.Cx D.Cx.Input.eq cache.old.cx received
         cache.old evaluation.old (D.starts inspect.old) result
         cache.new evaluation.new (D.starts inspect.new) }

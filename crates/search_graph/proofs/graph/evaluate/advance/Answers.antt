@@ -26,12 +26,12 @@ use Rattle.search_graph.proofs.requests.SettledSteps.{ask_unmet, needs_with, not
 use Rattle.search_graph.proofs.graph.evaluate.advance.Goals as goal
 
 pub step-requires-clause-some : goal.step-requires-clause-some
-step-requires-clause-some g c = some_waits g.D.Delegate g.D.Cx.Cx c.args.cache.now.cx c.requires.may.reply.call c.args.received.reply c.args.evaluation.now.goals _ _ c.requires.may.reply.waiting
+step-requires-clause-some g c = some_waits g.D.Delegate g.D.Cx.Cx c.args.cache.now.cx c.requires.reply.call c.args.received.reply c.args.evaluation.now.goals _ _ c.requires.reply.waiting
 
 pub step-requires-clause-can_step : goal.step-requires-clause-can_step
 step-requires-clause-can_step g c =
     subst (λ x. CanStep g.D.Delegate g.D.Cx.Cx x c.args.received.reply c.args.evaluation.now.goals) (sym c.cx-cx.ensures)
-    (can_step g.D.Delegate g.D.Cx.Cx c.args.cache.now.cx c.requires.may.reply.call c.args.received.reply c.args.evaluation.now.goals _ _ c.requires.may.reply.waiting)
+    (can_step g.D.Delegate g.D.Cx.Cx c.args.cache.now.cx c.requires.reply.call c.args.received.reply c.args.evaluation.now.goals _ _ c.requires.reply.waiting)
 
 pub returns-in_err-request-clause-advances : goal.returns-in_err-request-clause-advances
 returns-in_err-request-clause-advances g c = record {
@@ -39,18 +39,16 @@ returns-in_err-request-clause-advances g c = record {
   stops = λ call h.
       if_err_and c.from_residual.result _ _ c.from_residual.ensures.1
       (λ e is. subst (λ fault. StopsWith g.D.Delegate g.D.Cx.Cx g.D.Cx.Input.PartialEq.eq c.args.cache.now.cx call fault c.args.cache.now (record c.args.evaluation.now { goals = c.step.new.goals }) (g.D.Delegate.starts c.step.new.inspect)) (sym is)
-      (step_stops g.D.Delegate g.D.Cx.Cx g.D.Cx.Input.PartialEq.eq c.args.cache.now.cx c.args.cache.now c.args.evaluation.now c.args.received c.cx-cx.result c.cx-cx.ensures c.step.new.goals (g.D.Delegate.starts c.args.inspect.now) (g.D.Delegate.starts c.step.new.inspect) c.step.ensures.same_starts _ c.in_err-request.ensures.fault c.requires.may.reply.right call h));
+      (step_stops g.D.Delegate g.D.Cx.Cx g.D.Cx.Input.PartialEq.eq c.args.cache.now.cx c.args.cache.now c.args.evaluation.now c.args.received c.cx-cx.result c.cx-cx.ensures c.step.new.goals (g.D.Delegate.starts c.args.inspect.now) (g.D.Delegate.starts c.step.new.inspect) c.step.ensures.same_starts _ c.in_err-request.ensures.fault c.requires.reply.right call h));
 }
 
 -- ---- a question
 
-pub ask-requires : goal.ask-requires
-ask-requires g c = record {
-  may = record {
-    made = has_request g.D.Delegate g.D.Cx.Cx g.D.Cx.Input.PartialEq.eq c.args.cache.now.cx c.args.cache.now c.args.evaluation.now c.args.received c.cx-cx.result c.cx-cx.ensures c.in_ok-request.request c.step.new.goals c.in_ok-request.ensures.stepped (g.D.Delegate.starts c.args.inspect.now) (g.D.Delegate.starts c.step.new.inspect) c.step.ensures.same_starts (Evaluate c.in-Evaluate.kind c.in-Evaluate.input) c.in-Evaluate.is refl c.requires.may.reply;
-    expected = has_expected g.D.Delegate g.D.Cx.Cx g.D.Cx.Input.PartialEq.eq c.args.cache.now.cx c.args.cache.now c.args.evaluation.now c.args.received c.cx-cx.result c.cx-cx.ensures c.in_ok-request.request c.step.new.goals c.in_ok-request.ensures.stepped c.requires.may.expected;
-  };
-}
+pub ask-requires-clause-made : goal.ask-requires-clause-made
+ask-requires-clause-made g c = has_request g.D.Delegate g.D.Cx.Cx g.D.Cx.Input.PartialEq.eq c.args.cache.now.cx c.args.cache.now c.args.evaluation.now c.args.received c.cx-cx.result c.cx-cx.ensures c.in_ok-request.request c.step.new.goals c.in_ok-request.ensures.stepped (g.D.Delegate.starts c.args.inspect.now) (g.D.Delegate.starts c.step.new.inspect) c.step.ensures.same_starts (Evaluate c.in-Evaluate.kind c.in-Evaluate.input) c.in-Evaluate.is refl c.requires.reply
+
+pub ask-requires-clause-expected : goal.ask-requires-clause-expected
+ask-requires-clause-expected g c = has_expected g.D.Delegate g.D.Cx.Cx g.D.Cx.Input.PartialEq.eq c.args.cache.now.cx c.args.cache.now c.args.evaluation.now c.args.received c.cx-cx.result c.cx-cx.ensures c.in_ok-request.request c.step.new.goals c.in_ok-request.ensures.stepped c.requires.expected
 
 pub returns-in_err-next-in-Evaluate-clause-advances : goal.returns-in_err-next-in-Evaluate-clause-advances
 returns-in_err-next-in-Evaluate-clause-advances g c = record {
@@ -58,15 +56,15 @@ returns-in_err-next-in-Evaluate-clause-advances g c = record {
   stops = λ call h.
       if_err_and c.from_residual-in_err-next-in-Evaluate.result _ _ c.from_residual-in_err-next-in-Evaluate.ensures.1
       (λ e is. subst (λ fault. StopsWith g.D.Delegate g.D.Cx.Cx g.D.Cx.Input.PartialEq.eq c.args.cache.now.cx call fault c.ask.new.cache c.ask.new.self (g.D.Delegate.starts c.ask.new.inspect)) (sym is)
-      (c.in_err-next-in-Evaluate.ensures.stops call _ (requests g.D.Delegate g.D.Cx.Cx g.D.Cx.Input.PartialEq.eq c.args.cache.now.cx c.args.cache.now c.args.evaluation.now c.args.received c.cx-cx.result c.cx-cx.ensures c.in_ok-request.request c.step.new.goals c.in_ok-request.ensures.stepped (g.D.Delegate.starts c.args.inspect.now) (g.D.Delegate.starts c.step.new.inspect) c.step.ensures.same_starts (Evaluate c.in-Evaluate.kind c.in-Evaluate.input) c.in-Evaluate.is c.requires.may.reply.right call h)));
+      (c.in_err-next-in-Evaluate.ensures.stops call _ (requests g.D.Delegate g.D.Cx.Cx g.D.Cx.Input.PartialEq.eq c.args.cache.now.cx c.args.cache.now c.args.evaluation.now c.args.received c.cx-cx.result c.cx-cx.ensures c.in_ok-request.request c.step.new.goals c.in_ok-request.ensures.stepped (g.D.Delegate.starts c.args.inspect.now) (g.D.Delegate.starts c.step.new.inspect) c.step.ensures.same_starts (Evaluate c.in-Evaluate.kind c.in-Evaluate.input) c.in-Evaluate.is c.requires.reply.right call h)));
 }
 
 pub returns-in_ok-next-in-Evaluate-clause-advances : goal.returns-in_ok-next-in-Evaluate-clause-advances
 returns-in_ok-next-in-Evaluate-clause-advances g c = record {
   leads = λ call h.
-      let ready = stepped_ready g.D.Delegate g.D.Cx.Cx c.cx-cx.result g.D.Cx.Input.PartialEq.eq (g.D.Delegate.script c.args.cache.now.cx) c.args.cache.now.nodes c.args.evaluation.now.provisional c.args.received c.in_ok-request.request c.args.evaluation.now.goals c.step.new.goals c.in_ok-request.ensures.stepped c.requires.may.reply.right.right.ready in
+      let ready = stepped_ready g.D.Delegate g.D.Cx.Cx c.cx-cx.result g.D.Cx.Input.PartialEq.eq (g.D.Delegate.script c.args.cache.now.cx) c.args.cache.now.nodes c.args.evaluation.now.provisional c.args.received c.in_ok-request.request c.args.evaluation.now.goals c.step.new.goals c.in_ok-request.ensures.stepped c.requires.reply.right.right.ready in
       let on = asked_goes_on g.D.Delegate g.D.Cx.Cx g.D.Cx.Input.PartialEq.eq c.args.cache.now.cx c.in-Evaluate.kind c.in-Evaluate.input c.args.cache.now (record c.args.evaluation.now { goals = c.step.new.goals }) (g.D.Delegate.starts c.step.new.inspect) g.met.D.Delegate.divides g.met.D.Cx.Cx.same_input g.met.D.Cx.Input.Eq.laws.refl (g.met.D.Delegate.initial_sort c.args.cache.now.cx) (g.D.Delegate.noop c.step.new.inspect) c.in_ok-next-in-Evaluate.next c.ask.new.cache c.ask.new.self (g.D.Delegate.starts c.ask.new.inspect) c.in_ok-next-in-Evaluate.ensures.asked ready call _
-      (requests g.D.Delegate g.D.Cx.Cx g.D.Cx.Input.PartialEq.eq c.args.cache.now.cx c.args.cache.now c.args.evaluation.now c.args.received c.cx-cx.result c.cx-cx.ensures c.in_ok-request.request c.step.new.goals c.in_ok-request.ensures.stepped (g.D.Delegate.starts c.args.inspect.now) (g.D.Delegate.starts c.step.new.inspect) c.step.ensures.same_starts (Evaluate c.in-Evaluate.kind c.in-Evaluate.input) c.in-Evaluate.is c.requires.may.reply.right call h) in
+      (requests g.D.Delegate g.D.Cx.Cx g.D.Cx.Input.PartialEq.eq c.args.cache.now.cx c.args.cache.now c.args.evaluation.now c.args.received c.cx-cx.result c.cx-cx.ensures c.in_ok-request.request c.step.new.goals c.in_ok-request.ensures.stepped (g.D.Delegate.starts c.args.inspect.now) (g.D.Delegate.starts c.step.new.inspect) c.step.ensures.same_starts (Evaluate c.in-Evaluate.kind c.in-Evaluate.input) c.in-Evaluate.is c.requires.reply.right call h) in
       record { leads = on.goes_on; answers = on.answers; remembered = tt };
   stops = λ call h. tt;
 }
@@ -75,18 +73,16 @@ pub returns-in_ok-next-in-Evaluate-clause-right : goal.returns-in_ok-next-in-Eva
 returns-in_ok-next-in-Evaluate-clause-right g c =
     let right = asked_right g.D.Delegate g.D.Cx.Cx g.D.Cx.Input.PartialEq.eq c.args.cache.now.cx c.in-Evaluate.kind c.in-Evaluate.input c.args.cache.now (record c.args.evaluation.now { goals = c.step.new.goals }) (g.D.Delegate.starts c.step.new.inspect) g.met.D.Delegate.stack_overflow_is_neither (g.met.D.Delegate.initial_sort c.args.cache.now.cx) (g.D.Delegate.noop c.step.new.inspect) c.in_ok-next-in-Evaluate.next c.ask.new.cache c.ask.new.self (g.D.Delegate.starts c.ask.new.inspect) c.in_ok-next-in-Evaluate.ensures.asked
     (step_asks_for g.D.Delegate g.D.Cx.Cx c.args.cache.now.cx c.args.received c.args.evaluation.now.goals c.step.new.goals c.cx-cx.result c.in_ok-request.request c.in_ok-request.ensures.stepped c.in-Evaluate.kind c.in-Evaluate.input c.in-Evaluate.is)
-    (stepped_right g.D.Delegate g.D.Cx.Cx g.D.Cx.Input.PartialEq.eq c.args.cache.now.cx c.args.cache.now c.args.evaluation.now c.args.received c.cx-cx.result c.cx-cx.ensures c.in_ok-request.request c.step.new.goals c.in_ok-request.ensures.stepped (subst (λ (q : Request _ _). NotesCandidate q c.step.new.goals c.step.new.goals) (sym c.in-Evaluate.is) refl) c.requires.may.reply.right) in
+    (stepped_right g.D.Delegate g.D.Cx.Cx g.D.Cx.Input.PartialEq.eq c.args.cache.now.cx c.args.cache.now c.args.evaluation.now c.args.received c.cx-cx.result c.cx-cx.ensures c.in_ok-request.request c.step.new.goals c.in_ok-request.ensures.stepped (subst (λ (q : Request _ _). NotesCandidate q c.step.new.goals c.step.new.goals) (sym c.in-Evaluate.is) refl) c.requires.reply.right) in
     record { justified = (right.right.justified, right.fits); free = right.right.free; ready = right.right.ready }
 
 -- ---- the end of a run
 
-pub finish_run-requires : goal.finish_run-requires
-finish_run-requires g c = record {
-  may = record {
-    made = has_request g.D.Delegate g.D.Cx.Cx g.D.Cx.Input.PartialEq.eq c.args.cache.now.cx c.args.cache.now c.args.evaluation.now c.args.received c.cx-cx.result c.cx-cx.ensures c.in_ok-request.request c.step.new.goals c.in_ok-request.ensures.stepped (g.D.Delegate.starts c.args.inspect.now) (g.D.Delegate.starts c.step.new.inspect) c.step.ensures.same_starts (Done c.in-Done.outcome) c.in-Done.is refl c.requires.may.reply;
-    expected = has_expected g.D.Delegate g.D.Cx.Cx g.D.Cx.Input.PartialEq.eq c.args.cache.now.cx c.args.cache.now c.args.evaluation.now c.args.received c.cx-cx.result c.cx-cx.ensures c.in_ok-request.request c.step.new.goals c.in_ok-request.ensures.stepped c.requires.may.expected;
-  };
-}
+pub finish_run-requires-clause-made : goal.finish_run-requires-clause-made
+finish_run-requires-clause-made g c = has_request g.D.Delegate g.D.Cx.Cx g.D.Cx.Input.PartialEq.eq c.args.cache.now.cx c.args.cache.now c.args.evaluation.now c.args.received c.cx-cx.result c.cx-cx.ensures c.in_ok-request.request c.step.new.goals c.in_ok-request.ensures.stepped (g.D.Delegate.starts c.args.inspect.now) (g.D.Delegate.starts c.step.new.inspect) c.step.ensures.same_starts (Done c.in-Done.outcome) c.in-Done.is refl c.requires.reply
+
+pub finish_run-requires-clause-expected : goal.finish_run-requires-clause-expected
+finish_run-requires-clause-expected g c = has_expected g.D.Delegate g.D.Cx.Cx g.D.Cx.Input.PartialEq.eq c.args.cache.now.cx c.args.cache.now c.args.evaluation.now c.args.received c.cx-cx.result c.cx-cx.ensures c.in_ok-request.request c.step.new.goals c.in_ok-request.ensures.stepped c.requires.expected
 
 pub returns-in_err-next-in-Done-clause-advances : goal.returns-in_err-next-in-Done-clause-advances
 returns-in_err-next-in-Done-clause-advances g c = record {
@@ -94,13 +90,13 @@ returns-in_err-next-in-Done-clause-advances g c = record {
   stops = λ call h.
       if_err_and c.from_residual-in_err-next-in-Done.result _ _ c.from_residual-in_err-next-in-Done.ensures.1
       (λ e is. subst (λ fault. StopsWith g.D.Delegate g.D.Cx.Cx g.D.Cx.Input.PartialEq.eq c.args.cache.now.cx call fault c.finish_run.new.cache c.finish_run.new.self (g.D.Delegate.starts c.finish_run.new.inspect)) (sym is)
-      (c.in_err-next-in-Done.ensures.moves.stops call _ (requests g.D.Delegate g.D.Cx.Cx g.D.Cx.Input.PartialEq.eq c.args.cache.now.cx c.args.cache.now c.args.evaluation.now c.args.received c.cx-cx.result c.cx-cx.ensures c.in_ok-request.request c.step.new.goals c.in_ok-request.ensures.stepped (g.D.Delegate.starts c.args.inspect.now) (g.D.Delegate.starts c.step.new.inspect) c.step.ensures.same_starts (Done c.in-Done.outcome) c.in-Done.is c.requires.may.reply.right call h)));
+      (c.in_err-next-in-Done.ensures.moves.stops call _ (requests g.D.Delegate g.D.Cx.Cx g.D.Cx.Input.PartialEq.eq c.args.cache.now.cx c.args.cache.now c.args.evaluation.now c.args.received c.cx-cx.result c.cx-cx.ensures c.in_ok-request.request c.step.new.goals c.in_ok-request.ensures.stepped (g.D.Delegate.starts c.args.inspect.now) (g.D.Delegate.starts c.step.new.inspect) c.step.ensures.same_starts (Done c.in-Done.outcome) c.in-Done.is c.requires.reply.right call h)));
 }
 
 pub returns-in_ok-next-in-Done-clause-advances : goal.returns-in_ok-next-in-Done-clause-advances
 returns-in_ok-next-in-Done-clause-advances g c = record {
   leads = λ call h.
-      let on = c.in_ok-next-in-Done.ensures.moves.leads call _ (requests g.D.Delegate g.D.Cx.Cx g.D.Cx.Input.PartialEq.eq c.args.cache.now.cx c.args.cache.now c.args.evaluation.now c.args.received c.cx-cx.result c.cx-cx.ensures c.in_ok-request.request c.step.new.goals c.in_ok-request.ensures.stepped (g.D.Delegate.starts c.args.inspect.now) (g.D.Delegate.starts c.step.new.inspect) c.step.ensures.same_starts (Done c.in-Done.outcome) c.in-Done.is c.requires.may.reply.right call h) in
+      let on = c.in_ok-next-in-Done.ensures.moves.leads call _ (requests g.D.Delegate g.D.Cx.Cx g.D.Cx.Input.PartialEq.eq c.args.cache.now.cx c.args.cache.now c.args.evaluation.now c.args.received c.cx-cx.result c.cx-cx.ensures c.in_ok-request.request c.step.new.goals c.in_ok-request.ensures.stepped (g.D.Delegate.starts c.args.inspect.now) (g.D.Delegate.starts c.step.new.inspect) c.step.ensures.same_starts (Done c.in-Done.outcome) c.in-Done.is c.requires.reply.right call h) in
       record {
         leads = done_leads g.D.Delegate g.D.Cx.Cx c.args.cache.now.cx c.args.received c.args.evaluation.now.goals c.step.new.goals c.cx-cx.result c.in_ok-request.request c.in_ok-request.ensures.stepped call c.in_ok-next-in-Done.next c.finish_run.new.self.goals _ _ on.leads;
         answers = on.answers;
@@ -122,7 +118,7 @@ pub note_candidate-requires-clause-some : goal.note_candidate-requires-clause-so
 note_candidate-requires-clause-some g c = stepped_some g.D.Delegate g.D.Cx.Cx c.cx-cx.result c.args.received c.in_ok-request.request c.args.evaluation.now.goals c.step.new.goals c.in_ok-request.ensures.stepped
 
 pub note_candidate-requires-clause-can_note : goal.note_candidate-requires-clause-can_note
-note_candidate-requires-clause-can_note g c = can_note g.D.Delegate g.D.Cx.Cx c.cx-cx.result c.args.cache.now.nodes c.args.received c.in_ok-request.request c.args.evaluation.now.goals c.step.new.goals c.in_ok-request.ensures.stepped c.requires.may.reply.right.fits c.requires.may.reply.right.right.justified
+note_candidate-requires-clause-can_note g c = can_note g.D.Delegate g.D.Cx.Cx c.cx-cx.result c.args.cache.now.nodes c.args.received c.in_ok-request.request c.args.evaluation.now.goals c.step.new.goals c.in_ok-request.ensures.stepped c.requires.reply.right.fits c.requires.reply.right.right.justified
 
 pub returns-in_err-note_candidate-in_default-clause-advances : goal.returns-in_err-note_candidate-in_default-clause-advances
 returns-in_err-note_candidate-in_default-clause-advances g c = record {
@@ -131,7 +127,7 @@ returns-in_err-note_candidate-in_default-clause-advances g c = record {
       if_err_and c.from_residual-in_err-note_candidate-in_default.result _ _ c.from_residual-in_err-note_candidate-in_default.ensures.1
       (λ e is. subst (λ fault. StopsWith g.D.Delegate g.D.Cx.Cx g.D.Cx.Input.PartialEq.eq c.args.cache.now.cx call fault c.args.cache.now (record c.args.evaluation.now { goals = c.note_candidate.new.self }) (g.D.Delegate.starts c.step.new.inspect)) (sym is)
       (record {
-        stopped = asked_stopped g.D.Delegate g.D.Cx.Cx c.args.cache.now.cx call _ c.in_ok-request.request c.step.new.goals _ _ (requests g.D.Delegate g.D.Cx.Cx g.D.Cx.Input.PartialEq.eq c.args.cache.now.cx c.args.cache.now c.args.evaluation.now c.args.received c.cx-cx.result c.cx-cx.ensures c.in_ok-request.request c.step.new.goals c.in_ok-request.ensures.stepped (g.D.Delegate.starts c.args.inspect.now) (g.D.Delegate.starts c.step.new.inspect) c.step.ensures.same_starts c.in_ok-request.request refl c.requires.may.reply.right call h).asked;
+        stopped = asked_stopped g.D.Delegate g.D.Cx.Cx c.args.cache.now.cx call _ c.in_ok-request.request c.step.new.goals _ _ (requests g.D.Delegate g.D.Cx.Cx g.D.Cx.Input.PartialEq.eq c.args.cache.now.cx c.args.cache.now c.args.evaluation.now c.args.received c.cx-cx.result c.cx-cx.ensures c.in_ok-request.request c.step.new.goals c.in_ok-request.ensures.stepped (g.D.Delegate.starts c.args.inspect.now) (g.D.Delegate.starts c.step.new.inspect) c.step.ensures.same_starts c.in_ok-request.request refl c.requires.reply.right call h).asked;
         store = h.answers.store;
       }));
 }
@@ -142,7 +138,7 @@ returns-in_ok-note_candidate-in_default-clause-advances g c = record {
     leads =
         subst (λ given. CallGoesOn g.D.Delegate g.D.Cx.Cx c.args.cache.now.cx call (work_left g.D.Delegate g.D.Cx.Cx c.args.cache.now.cx c.args.evaluation.now.goals) given.reply c.note_candidate.new.self (g.D.Delegate.starts c.step.new.inspect) c.args.evaluation.now.limits_met) (sym c.without_node.ensures)
         (noting_goes_on g.D.Delegate g.D.Cx.Cx c.args.cache.now.cx call _ c.in_ok-request.request c.step.new.goals c.note_candidate.new.self _ _ (about_candidates c.in_ok-request.request c.in_default.not-Evaluate c.in_default.not-Done) c.in_ok-note_candidate-in_default.ensures
-        (requests g.D.Delegate g.D.Cx.Cx g.D.Cx.Input.PartialEq.eq c.args.cache.now.cx c.args.cache.now c.args.evaluation.now c.args.received c.cx-cx.result c.cx-cx.ensures c.in_ok-request.request c.step.new.goals c.in_ok-request.ensures.stepped (g.D.Delegate.starts c.args.inspect.now) (g.D.Delegate.starts c.step.new.inspect) c.step.ensures.same_starts c.in_ok-request.request refl c.requires.may.reply.right call h).asked);
+        (requests g.D.Delegate g.D.Cx.Cx g.D.Cx.Input.PartialEq.eq c.args.cache.now.cx c.args.cache.now c.args.evaluation.now c.args.received c.cx-cx.result c.cx-cx.ensures c.in_ok-request.request c.step.new.goals c.in_ok-request.ensures.stepped (g.D.Delegate.starts c.args.inspect.now) (g.D.Delegate.starts c.step.new.inspect) c.step.ensures.same_starts c.in_ok-request.request refl c.requires.reply.right call h).asked);
     answers = h.answers;
     remembered = tt;
   };
@@ -152,15 +148,15 @@ returns-in_ok-note_candidate-in_default-clause-advances g c = record {
 pub returns-in_ok-note_candidate-in_default-clause-right : goal.returns-in_ok-note_candidate-in_default-clause-right
 returns-in_ok-note_candidate-in_default-clause-right g c = record {
   justified = (
-    noted_is_justified g.D.Delegate g.D.Cx.Cx c.cx-cx.result c.args.cache.now.nodes c.args.received c.in_ok-request.request c.args.evaluation.now.goals c.step.new.goals c.note_candidate.new.self c.in_ok-request.ensures.stepped c.requires.may.reply.right.fits c.requires.may.reply.right.right.justified c.in_ok-note_candidate-in_default.ensures,
+    noted_is_justified g.D.Delegate g.D.Cx.Cx c.cx-cx.result c.args.cache.now.nodes c.args.received c.in_ok-request.request c.args.evaluation.now.goals c.step.new.goals c.note_candidate.new.self c.in_ok-request.ensures.stepped c.requires.reply.right.fits c.requires.reply.right.right.justified c.in_ok-note_candidate-in_default.ensures,
     subst (λ given. IsFit (verdicts g.D.Cx.Cx) c.args.cache.now.nodes (runs_of c.note_candidate.new.self) given.reply given.node) (sym c.without_node.ensures) (noted_fits (verdicts g.D.Cx.Cx) c.args.cache.now.nodes (runs_of c.note_candidate.new.self)),
   );
   free =
       noting_keeps_free (verdicts g.D.Cx.Cx) g.D.Cx.Input.PartialEq.eq c.args.cache.now.nodes c.args.cache.now.results c.in_ok-request.request c.step.new.goals c.note_candidate.new.self c.in_ok-note_candidate-in_default.ensures
-      (step_keeps_free g.D.Delegate g.D.Cx.Cx c.cx-cx.result g.D.Cx.Input.PartialEq.eq c.args.cache.now.nodes c.args.cache.now.results c.args.received c.in_ok-request.request c.args.evaluation.now.goals c.step.new.goals c.in_ok-request.ensures.stepped c.requires.may.reply.right.right.free);
+      (step_keeps_free g.D.Delegate g.D.Cx.Cx c.cx-cx.result g.D.Cx.Input.PartialEq.eq c.args.cache.now.nodes c.args.cache.now.results c.args.received c.in_ok-request.request c.args.evaluation.now.goals c.step.new.goals c.in_ok-request.ensures.stepped c.requires.reply.right.right.free);
   ready =
       noted_ready (verdicts g.D.Cx.Cx) g.D.Cx.Input.PartialEq.eq (g.D.Delegate.script c.args.cache.now.cx) c.args.cache.now.nodes c.args.evaluation.now.provisional c.in_ok-request.request c.step.new.goals c.note_candidate.new.self c.in_ok-note_candidate-in_default.ensures
-      (stepped_ready g.D.Delegate g.D.Cx.Cx c.cx-cx.result g.D.Cx.Input.PartialEq.eq (g.D.Delegate.script c.args.cache.now.cx) c.args.cache.now.nodes c.args.evaluation.now.provisional c.args.received c.in_ok-request.request c.args.evaluation.now.goals c.step.new.goals c.in_ok-request.ensures.stepped c.requires.may.reply.right.right.ready);
+      (stepped_ready g.D.Delegate g.D.Cx.Cx c.cx-cx.result g.D.Cx.Input.PartialEq.eq (g.D.Delegate.script c.args.cache.now.cx) c.args.cache.now.nodes c.args.evaluation.now.provisional c.args.received c.in_ok-request.request c.args.evaluation.now.goals c.step.new.goals c.in_ok-request.ensures.stepped c.requires.reply.right.right.ready);
 }
 
 -- ---- nodes that were there, and those of the goals' runs
@@ -261,12 +257,12 @@ returns-in_err-next-in-Evaluate-clause-settled g c = record {
   unmet = λ call w needs s.
       ask_unmet g.D.Delegate g.D.Cx.Cx g.D.Cx.Input.PartialEq.eq c.args.cache.now.cx c.in-Evaluate.kind c.in-Evaluate.input c.args.cache.now (record c.args.evaluation.now { goals = c.step.new.goals }) (g.D.Delegate.starts c.step.new.inspect) call _ (g.D.Delegate.noop c.step.new.inspect)
       (needs_with g.D.Delegate g.D.Cx.Cx c.args.cache.now.cx call (g.D.Delegate.noop c.args.inspect.now) (g.D.Delegate.noop c.step.new.inspect) c.step.ensures.same_noop needs)
-      (requests g.D.Delegate g.D.Cx.Cx g.D.Cx.Input.PartialEq.eq c.args.cache.now.cx c.args.cache.now c.args.evaluation.now c.args.received c.cx-cx.result c.cx-cx.ensures c.in_ok-request.request c.step.new.goals c.in_ok-request.ensures.stepped (g.D.Delegate.starts c.args.inspect.now) (g.D.Delegate.starts c.step.new.inspect) c.step.ensures.same_starts (Evaluate c.in-Evaluate.kind c.in-Evaluate.input) c.in-Evaluate.is c.requires.may.reply.right call w)
+      (requests g.D.Delegate g.D.Cx.Cx g.D.Cx.Input.PartialEq.eq c.args.cache.now.cx c.args.cache.now c.args.evaluation.now c.args.received c.cx-cx.result c.cx-cx.ensures c.in_ok-request.request c.step.new.goals c.in_ok-request.ensures.stepped (g.D.Delegate.starts c.args.inspect.now) (g.D.Delegate.starts c.step.new.inspect) c.step.ensures.same_starts (Evaluate c.in-Evaluate.kind c.in-Evaluate.input) c.in-Evaluate.is c.requires.reply.right call w)
       c.ask.new.self.limits_met s.settling.unmet c.ask.ensures.meets;
   settles = λ call w needs s. no_ok c.from_residual-in_err-next-in-Evaluate.result _ _ c.from_residual-in_err-next-in-Evaluate.ensures.1;
   leaves = λ call w needs s.
       if_err_then c.from_residual-in_err-next-in-Evaluate.result
-      (settled_stays g.D.Delegate g.D.Cx.Cx g.D.Cx.Input.PartialEq.eq c.args.cache.now.cx call.goals c.args.cache.now c.ask.new.cache (runs_of c.args.evaluation.now.goals) c.requires.may.reply.right.right.free c.ask.ensures.keeps.nodes c.ask.ensures.same_results
+      (settled_stays g.D.Delegate g.D.Cx.Cx g.D.Cx.Input.PartialEq.eq c.args.cache.now.cx call.goals c.args.cache.now c.ask.new.cache (runs_of c.args.evaluation.now.goals) c.requires.reply.right.right.free c.ask.ensures.keeps.nodes c.ask.ensures.same_results
       (store_settled g.D.Delegate g.D.Cx.Cx g.D.Cx.Input.PartialEq.eq c.args.cache.now.cx call c.args.received c.args.cache.now c.args.evaluation.now s));
 }
 
@@ -275,13 +271,13 @@ returns-in_ok-next-in-Evaluate-clause-settled g c = record {
   unmet = λ call w needs s.
       ask_unmet g.D.Delegate g.D.Cx.Cx g.D.Cx.Input.PartialEq.eq c.args.cache.now.cx c.in-Evaluate.kind c.in-Evaluate.input c.args.cache.now (record c.args.evaluation.now { goals = c.step.new.goals }) (g.D.Delegate.starts c.step.new.inspect) call _ (g.D.Delegate.noop c.step.new.inspect)
       (needs_with g.D.Delegate g.D.Cx.Cx c.args.cache.now.cx call (g.D.Delegate.noop c.args.inspect.now) (g.D.Delegate.noop c.step.new.inspect) c.step.ensures.same_noop needs)
-      (requests g.D.Delegate g.D.Cx.Cx g.D.Cx.Input.PartialEq.eq c.args.cache.now.cx c.args.cache.now c.args.evaluation.now c.args.received c.cx-cx.result c.cx-cx.ensures c.in_ok-request.request c.step.new.goals c.in_ok-request.ensures.stepped (g.D.Delegate.starts c.args.inspect.now) (g.D.Delegate.starts c.step.new.inspect) c.step.ensures.same_starts (Evaluate c.in-Evaluate.kind c.in-Evaluate.input) c.in-Evaluate.is c.requires.may.reply.right call w)
+      (requests g.D.Delegate g.D.Cx.Cx g.D.Cx.Input.PartialEq.eq c.args.cache.now.cx c.args.cache.now c.args.evaluation.now c.args.received c.cx-cx.result c.cx-cx.ensures c.in_ok-request.request c.step.new.goals c.in_ok-request.ensures.stepped (g.D.Delegate.starts c.args.inspect.now) (g.D.Delegate.starts c.step.new.inspect) c.step.ensures.same_starts (Evaluate c.in-Evaluate.kind c.in-Evaluate.input) c.in-Evaluate.is c.requires.reply.right call w)
       c.ask.new.self.limits_met s.settling.unmet c.ask.ensures.meets;
   settles = λ call w needs s.
       asked_settles g.D.Delegate g.D.Cx.Cx g.D.Cx.Input.PartialEq.eq g.met.D.Cx.Cx.same_input g.met.D.Cx.Input.Eq.laws.refl g.met.D.Delegate.divides c.args.cache.now.cx c.in-Evaluate.kind c.in-Evaluate.input c.args.cache.now (record c.args.evaluation.now { goals = c.step.new.goals }) (g.D.Delegate.starts c.step.new.inspect) call _ (g.D.Delegate.noop c.step.new.inspect)
       (needs_with g.D.Delegate g.D.Cx.Cx c.args.cache.now.cx call (g.D.Delegate.noop c.args.inspect.now) (g.D.Delegate.noop c.step.new.inspect) c.step.ensures.same_noop needs)
-      (requests g.D.Delegate g.D.Cx.Cx g.D.Cx.Input.PartialEq.eq c.args.cache.now.cx c.args.cache.now c.args.evaluation.now c.args.received c.cx-cx.result c.cx-cx.ensures c.in_ok-request.request c.step.new.goals c.in_ok-request.ensures.stepped (g.D.Delegate.starts c.args.inspect.now) (g.D.Delegate.starts c.step.new.inspect) c.step.ensures.same_starts (Evaluate c.in-Evaluate.kind c.in-Evaluate.input) c.in-Evaluate.is c.requires.may.reply.right call w)
-      (stepped_right g.D.Delegate g.D.Cx.Cx g.D.Cx.Input.PartialEq.eq c.args.cache.now.cx c.args.cache.now c.args.evaluation.now c.args.received c.cx-cx.result c.cx-cx.ensures c.in_ok-request.request c.step.new.goals c.in_ok-request.ensures.stepped (subst (λ (q : Request _ _). NotesCandidate q c.step.new.goals c.step.new.goals) (sym c.in-Evaluate.is) refl) c.requires.may.reply.right)
+      (requests g.D.Delegate g.D.Cx.Cx g.D.Cx.Input.PartialEq.eq c.args.cache.now.cx c.args.cache.now c.args.evaluation.now c.args.received c.cx-cx.result c.cx-cx.ensures c.in_ok-request.request c.step.new.goals c.in_ok-request.ensures.stepped (g.D.Delegate.starts c.args.inspect.now) (g.D.Delegate.starts c.step.new.inspect) c.step.ensures.same_starts (Evaluate c.in-Evaluate.kind c.in-Evaluate.input) c.in-Evaluate.is c.requires.reply.right call w)
+      (stepped_right g.D.Delegate g.D.Cx.Cx g.D.Cx.Input.PartialEq.eq c.args.cache.now.cx c.args.cache.now c.args.evaluation.now c.args.received c.cx-cx.result c.cx-cx.ensures c.in_ok-request.request c.step.new.goals c.in_ok-request.ensures.stepped (subst (λ (q : Request _ _). NotesCandidate q c.step.new.goals c.step.new.goals) (sym c.in-Evaluate.is) refl) c.requires.reply.right)
       (noted_settles g.D.Delegate g.D.Cx.Cx c.cx-cx.result g.D.Cx.Input.PartialEq.eq c.args.cache.now.nodes c.args.cache.now.results c.args.evaluation.now.provisional call c.args.evaluation.now.limits_met c.args.received c.in_ok-request.request c.args.evaluation.now.goals c.step.new.goals c.step.new.goals c.in_ok-request.ensures.stepped s.answer (subst (λ (q : Request _ _). NotesCandidate q c.step.new.goals c.step.new.goals) (sym c.in-Evaluate.is) refl) s.settling)
       (stepped_entries g.D.Delegate g.D.Cx.Cx g.D.Cx.Input.PartialEq.eq c.args.cache.now.cx c.cx-cx.result c.cx-cx.ensures call c.args.received c.in_ok-request.request c.args.cache.now.results c.args.evaluation.now.goals c.step.new.goals c.step.new.goals c.args.evaluation.now.provisional c.in_ok-request.ensures.stepped (subst (λ (q : Request _ _). NotesCandidate q c.step.new.goals c.step.new.goals) (sym c.in-Evaluate.is) refl) s.entries)
       c.in_ok-next-in-Evaluate.next c.ask.new.cache c.ask.new.self (g.D.Delegate.starts c.ask.new.inspect) c.in_ok-next-in-Evaluate.ensures.asked;
@@ -293,8 +289,8 @@ returns-in_err-next-in-Done-clause-settled g c = record {
   unmet = λ call w needs s.
       end_unmet g.D.Delegate g.D.Cx.Cx g.D.Cx.Input.PartialEq.eq g.met.D.Cx.Cx.same_input c.args.cache.now (record c.args.evaluation.now { goals = c.step.new.goals }) (g.D.Delegate.starts c.step.new.inspect) call _ (g.D.Delegate.noop c.step.new.inspect) c.in-Done.outcome
       (needs_with g.D.Delegate g.D.Cx.Cx c.args.cache.now.cx call (g.D.Delegate.noop c.args.inspect.now) (g.D.Delegate.noop c.step.new.inspect) c.step.ensures.same_noop needs)
-      (requests g.D.Delegate g.D.Cx.Cx g.D.Cx.Input.PartialEq.eq c.args.cache.now.cx c.args.cache.now c.args.evaluation.now c.args.received c.cx-cx.result c.cx-cx.ensures c.in_ok-request.request c.step.new.goals c.in_ok-request.ensures.stepped (g.D.Delegate.starts c.args.inspect.now) (g.D.Delegate.starts c.step.new.inspect) c.step.ensures.same_starts (Done c.in-Done.outcome) c.in-Done.is c.requires.may.reply.right call w)
-      (stepped_right g.D.Delegate g.D.Cx.Cx g.D.Cx.Input.PartialEq.eq c.args.cache.now.cx c.args.cache.now c.args.evaluation.now c.args.received c.cx-cx.result c.cx-cx.ensures c.in_ok-request.request c.step.new.goals c.in_ok-request.ensures.stepped (subst (λ (q : Request _ _). NotesCandidate q c.step.new.goals c.step.new.goals) (sym c.in-Done.is) refl) c.requires.may.reply.right)
+      (requests g.D.Delegate g.D.Cx.Cx g.D.Cx.Input.PartialEq.eq c.args.cache.now.cx c.args.cache.now c.args.evaluation.now c.args.received c.cx-cx.result c.cx-cx.ensures c.in_ok-request.request c.step.new.goals c.in_ok-request.ensures.stepped (g.D.Delegate.starts c.args.inspect.now) (g.D.Delegate.starts c.step.new.inspect) c.step.ensures.same_starts (Done c.in-Done.outcome) c.in-Done.is c.requires.reply.right call w)
+      (stepped_right g.D.Delegate g.D.Cx.Cx g.D.Cx.Input.PartialEq.eq c.args.cache.now.cx c.args.cache.now c.args.evaluation.now c.args.received c.cx-cx.result c.cx-cx.ensures c.in_ok-request.request c.step.new.goals c.in_ok-request.ensures.stepped (subst (λ (q : Request _ _). NotesCandidate q c.step.new.goals c.step.new.goals) (sym c.in-Done.is) refl) c.requires.reply.right)
       (noted_settles g.D.Delegate g.D.Cx.Cx c.cx-cx.result g.D.Cx.Input.PartialEq.eq c.args.cache.now.nodes c.args.cache.now.results c.args.evaluation.now.provisional call c.args.evaluation.now.limits_met c.args.received c.in_ok-request.request c.args.evaluation.now.goals c.step.new.goals c.step.new.goals c.in_ok-request.ensures.stepped s.answer (subst (λ (q : Request _ _). NotesCandidate q c.step.new.goals c.step.new.goals) (sym c.in-Done.is) refl) s.settling)
       (stepped_entries g.D.Delegate g.D.Cx.Cx g.D.Cx.Input.PartialEq.eq c.args.cache.now.cx c.cx-cx.result c.cx-cx.ensures call c.args.received c.in_ok-request.request c.args.cache.now.results c.args.evaluation.now.goals c.step.new.goals c.step.new.goals c.args.evaluation.now.provisional c.in_ok-request.ensures.stepped (subst (λ (q : Request _ _). NotesCandidate q c.step.new.goals c.step.new.goals) (sym c.in-Done.is) refl) s.entries)
       g.D.Cx.Result.PartialEq.eq g.met.D.Cx.Result.Eq.laws.refl g.met.D.Cx.Cx.one_sort (g.met.D.Cx.Cx.clash c.args.cache.now.cx) (g.met.D.Delegate.yes_is_proved c.args.cache.now.cx) (g.met.D.Delegate.no_is_refuted c.args.cache.now.cx) c.has_runs.ensures
@@ -302,7 +298,7 @@ returns-in_err-next-in-Done-clause-settled g c = record {
   settles = λ call w needs s. no_ok c.from_residual-in_err-next-in-Done.result _ _ c.from_residual-in_err-next-in-Done.ensures.1;
   leaves = λ call w needs s.
       if_err_then c.from_residual-in_err-next-in-Done.result
-      (settled_stays g.D.Delegate g.D.Cx.Cx g.D.Cx.Input.PartialEq.eq c.args.cache.now.cx call.goals c.args.cache.now c.finish_run.new.cache (runs_of c.args.evaluation.now.goals) c.requires.may.reply.right.right.free c.finish_run.ensures.cache.keeps.nodes c.in_err-next-in-Done.ensures.stores.fails.unstored
+      (settled_stays g.D.Delegate g.D.Cx.Cx g.D.Cx.Input.PartialEq.eq c.args.cache.now.cx call.goals c.args.cache.now c.finish_run.new.cache (runs_of c.args.evaluation.now.goals) c.requires.reply.right.right.free c.finish_run.ensures.cache.keeps.nodes c.in_err-next-in-Done.ensures.stores.fails.unstored
       (store_settled g.D.Delegate g.D.Cx.Cx g.D.Cx.Input.PartialEq.eq c.args.cache.now.cx call c.args.received c.args.cache.now c.args.evaluation.now s));
 }
 
@@ -311,8 +307,8 @@ returns-in_ok-next-in-Done-clause-settled g c = record {
   unmet = λ call w needs s.
       end_unmet g.D.Delegate g.D.Cx.Cx g.D.Cx.Input.PartialEq.eq g.met.D.Cx.Cx.same_input c.args.cache.now (record c.args.evaluation.now { goals = c.step.new.goals }) (g.D.Delegate.starts c.step.new.inspect) call _ (g.D.Delegate.noop c.step.new.inspect) c.in-Done.outcome
       (needs_with g.D.Delegate g.D.Cx.Cx c.args.cache.now.cx call (g.D.Delegate.noop c.args.inspect.now) (g.D.Delegate.noop c.step.new.inspect) c.step.ensures.same_noop needs)
-      (requests g.D.Delegate g.D.Cx.Cx g.D.Cx.Input.PartialEq.eq c.args.cache.now.cx c.args.cache.now c.args.evaluation.now c.args.received c.cx-cx.result c.cx-cx.ensures c.in_ok-request.request c.step.new.goals c.in_ok-request.ensures.stepped (g.D.Delegate.starts c.args.inspect.now) (g.D.Delegate.starts c.step.new.inspect) c.step.ensures.same_starts (Done c.in-Done.outcome) c.in-Done.is c.requires.may.reply.right call w)
-      (stepped_right g.D.Delegate g.D.Cx.Cx g.D.Cx.Input.PartialEq.eq c.args.cache.now.cx c.args.cache.now c.args.evaluation.now c.args.received c.cx-cx.result c.cx-cx.ensures c.in_ok-request.request c.step.new.goals c.in_ok-request.ensures.stepped (subst (λ (q : Request _ _). NotesCandidate q c.step.new.goals c.step.new.goals) (sym c.in-Done.is) refl) c.requires.may.reply.right)
+      (requests g.D.Delegate g.D.Cx.Cx g.D.Cx.Input.PartialEq.eq c.args.cache.now.cx c.args.cache.now c.args.evaluation.now c.args.received c.cx-cx.result c.cx-cx.ensures c.in_ok-request.request c.step.new.goals c.in_ok-request.ensures.stepped (g.D.Delegate.starts c.args.inspect.now) (g.D.Delegate.starts c.step.new.inspect) c.step.ensures.same_starts (Done c.in-Done.outcome) c.in-Done.is c.requires.reply.right call w)
+      (stepped_right g.D.Delegate g.D.Cx.Cx g.D.Cx.Input.PartialEq.eq c.args.cache.now.cx c.args.cache.now c.args.evaluation.now c.args.received c.cx-cx.result c.cx-cx.ensures c.in_ok-request.request c.step.new.goals c.in_ok-request.ensures.stepped (subst (λ (q : Request _ _). NotesCandidate q c.step.new.goals c.step.new.goals) (sym c.in-Done.is) refl) c.requires.reply.right)
       (noted_settles g.D.Delegate g.D.Cx.Cx c.cx-cx.result g.D.Cx.Input.PartialEq.eq c.args.cache.now.nodes c.args.cache.now.results c.args.evaluation.now.provisional call c.args.evaluation.now.limits_met c.args.received c.in_ok-request.request c.args.evaluation.now.goals c.step.new.goals c.step.new.goals c.in_ok-request.ensures.stepped s.answer (subst (λ (q : Request _ _). NotesCandidate q c.step.new.goals c.step.new.goals) (sym c.in-Done.is) refl) s.settling)
       (stepped_entries g.D.Delegate g.D.Cx.Cx g.D.Cx.Input.PartialEq.eq c.args.cache.now.cx c.cx-cx.result c.cx-cx.ensures call c.args.received c.in_ok-request.request c.args.cache.now.results c.args.evaluation.now.goals c.step.new.goals c.step.new.goals c.args.evaluation.now.provisional c.in_ok-request.ensures.stepped (subst (λ (q : Request _ _). NotesCandidate q c.step.new.goals c.step.new.goals) (sym c.in-Done.is) refl) s.entries)
       g.D.Cx.Result.PartialEq.eq g.met.D.Cx.Result.Eq.laws.refl g.met.D.Cx.Cx.one_sort (g.met.D.Cx.Cx.clash c.args.cache.now.cx) (g.met.D.Delegate.yes_is_proved c.args.cache.now.cx) (g.met.D.Delegate.no_is_refuted c.args.cache.now.cx) c.has_runs.ensures
@@ -320,8 +316,8 @@ returns-in_ok-next-in-Done-clause-settled g c = record {
   settles = λ call w needs s.
       led_settles g.D.Delegate g.D.Cx.Cx g.D.Cx.Input.PartialEq.eq g.met.D.Cx.Cx.same_input c.args.cache.now (record c.args.evaluation.now { goals = c.step.new.goals }) (g.D.Delegate.starts c.step.new.inspect) call _ (g.D.Delegate.noop c.step.new.inspect) c.in-Done.outcome
       (needs_with g.D.Delegate g.D.Cx.Cx c.args.cache.now.cx call (g.D.Delegate.noop c.args.inspect.now) (g.D.Delegate.noop c.step.new.inspect) c.step.ensures.same_noop needs)
-      (requests g.D.Delegate g.D.Cx.Cx g.D.Cx.Input.PartialEq.eq c.args.cache.now.cx c.args.cache.now c.args.evaluation.now c.args.received c.cx-cx.result c.cx-cx.ensures c.in_ok-request.request c.step.new.goals c.in_ok-request.ensures.stepped (g.D.Delegate.starts c.args.inspect.now) (g.D.Delegate.starts c.step.new.inspect) c.step.ensures.same_starts (Done c.in-Done.outcome) c.in-Done.is c.requires.may.reply.right call w)
-      (stepped_right g.D.Delegate g.D.Cx.Cx g.D.Cx.Input.PartialEq.eq c.args.cache.now.cx c.args.cache.now c.args.evaluation.now c.args.received c.cx-cx.result c.cx-cx.ensures c.in_ok-request.request c.step.new.goals c.in_ok-request.ensures.stepped (subst (λ (q : Request _ _). NotesCandidate q c.step.new.goals c.step.new.goals) (sym c.in-Done.is) refl) c.requires.may.reply.right)
+      (requests g.D.Delegate g.D.Cx.Cx g.D.Cx.Input.PartialEq.eq c.args.cache.now.cx c.args.cache.now c.args.evaluation.now c.args.received c.cx-cx.result c.cx-cx.ensures c.in_ok-request.request c.step.new.goals c.in_ok-request.ensures.stepped (g.D.Delegate.starts c.args.inspect.now) (g.D.Delegate.starts c.step.new.inspect) c.step.ensures.same_starts (Done c.in-Done.outcome) c.in-Done.is c.requires.reply.right call w)
+      (stepped_right g.D.Delegate g.D.Cx.Cx g.D.Cx.Input.PartialEq.eq c.args.cache.now.cx c.args.cache.now c.args.evaluation.now c.args.received c.cx-cx.result c.cx-cx.ensures c.in_ok-request.request c.step.new.goals c.in_ok-request.ensures.stepped (subst (λ (q : Request _ _). NotesCandidate q c.step.new.goals c.step.new.goals) (sym c.in-Done.is) refl) c.requires.reply.right)
       (noted_settles g.D.Delegate g.D.Cx.Cx c.cx-cx.result g.D.Cx.Input.PartialEq.eq c.args.cache.now.nodes c.args.cache.now.results c.args.evaluation.now.provisional call c.args.evaluation.now.limits_met c.args.received c.in_ok-request.request c.args.evaluation.now.goals c.step.new.goals c.step.new.goals c.in_ok-request.ensures.stepped s.answer (subst (λ (q : Request _ _). NotesCandidate q c.step.new.goals c.step.new.goals) (sym c.in-Done.is) refl) s.settling)
       (stepped_entries g.D.Delegate g.D.Cx.Cx g.D.Cx.Input.PartialEq.eq c.args.cache.now.cx c.cx-cx.result c.cx-cx.ensures call c.args.received c.in_ok-request.request c.args.cache.now.results c.args.evaluation.now.goals c.step.new.goals c.step.new.goals c.args.evaluation.now.provisional c.in_ok-request.ensures.stepped (subst (λ (q : Request _ _). NotesCandidate q c.step.new.goals c.step.new.goals) (sym c.in-Done.is) refl) s.entries)
       g.D.Cx.Result.PartialEq.eq g.met.D.Cx.Result.Eq.laws.refl g.met.D.Cx.Cx.one_sort (g.met.D.Cx.Cx.clash c.args.cache.now.cx) (g.met.D.Delegate.yes_is_proved c.args.cache.now.cx) (g.met.D.Delegate.no_is_refuted c.args.cache.now.cx) c.has_runs.ensures
@@ -370,7 +366,7 @@ pub returns-in_err-request-clause-lasts : goal.returns-in_err-request-clause-las
 returns-in_err-request-clause-lasts g c =
     if_err_and c.from_residual.result _ _ c.from_residual.ensures.1
     (λ e is. subst (HasLastingCause g.D.Delegate g.D.Cx.Cx g.D.Cx.Input.PartialEq.eq c.args.cache.now c.args.evaluation.now.drafts) (sym is)
-    (step_has_cause g.D.Delegate g.D.Cx.Cx g.D.Cx.Input.PartialEq.eq c.args.cache.now c.args.evaluation.now.drafts c.args.received c.args.evaluation.now.goals _ c.args.evaluation.now.limits_met c.requires.may.reply.call c.requires.may.reply.right.fits c.requires.may.reply.waiting c.cx-cx.result c.cx-cx.ensures _ c.in_err-request.ensures.fault))
+    (step_has_cause g.D.Delegate g.D.Cx.Cx g.D.Cx.Input.PartialEq.eq c.args.cache.now c.args.evaluation.now.drafts c.args.received c.args.evaluation.now.goals _ c.args.evaluation.now.limits_met c.requires.reply.call c.requires.reply.right.fits c.requires.reply.waiting c.cx-cx.result c.cx-cx.ensures _ c.in_err-request.ensures.fault))
 
 pub returns-in_err-next-in-Evaluate-clause-lasts : goal.returns-in_err-next-in-Evaluate-clause-lasts
 returns-in_err-next-in-Evaluate-clause-lasts g c = if_err_and c.from_residual-in_err-next-in-Evaluate.result _ _ c.from_residual-in_err-next-in-Evaluate.ensures.1 (λ e is. memory_lasts g.D.Delegate g.D.Cx.Cx g.D.Cx.Input.PartialEq.eq c.ask.new.cache c.ask.new.self.drafts _ is)

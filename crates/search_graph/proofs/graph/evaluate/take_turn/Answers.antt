@@ -10,13 +10,16 @@ use Rattle.search_graph.specs.Turns.{TurnsCache}
 use Rattle.search_graph.proofs.turns.Turns.{end_leads, end_right, end_stops, fault_stops, memory_stops, noted_of, turn_before, turn_has, turn_keeps, turn_leads, turn_right, turn_settles}
 use Rattle.search_graph.proofs.graph.evaluate.take_turn.Goals as goal
 
-pub advance-requires : goal.advance-requires
-advance-requires g c = record { may = c.requires.may.advance }
+pub advance-requires-clause-reply : goal.advance-requires-clause-reply
+advance-requires-clause-reply g c = c.requires.reply
+
+pub advance-requires-clause-expected : goal.advance-requires-clause-expected
+advance-requires-clause-expected g c = c.requires.expected
 
 -- ---- nodes are let go before the next turn
 
 pub collect_drafts-requires-clause-before : goal.collect_drafts-requires-clause-before
-collect_drafts-requires-clause-before g c = turn_before g.D.Cx.Input.PartialEq.eq c.args.evaluation.now c.args.cache.now c.advance.new.cache c.advance.new.cache c.requires.may.drafts c.advance.ensures.cache.keeps c.advance.ensures.cache.changes (λ at lower. refl) refl c.advance.new.evaluation c.advance.ensures.noted.first
+collect_drafts-requires-clause-before g c = turn_before g.D.Cx.Input.PartialEq.eq c.args.evaluation.now c.args.cache.now c.advance.new.cache c.advance.new.cache c.requires.drafts c.advance.ensures.cache.keeps c.advance.ensures.cache.changes (λ at lower. refl) refl c.advance.new.evaluation c.advance.ensures.noted.first
 
 pub returns-in-Ok-Step-clause-advances : goal.returns-in-Ok-Step-clause-advances
 returns-in-Ok-Step-clause-advances g c = record {
@@ -36,25 +39,25 @@ returns-in-Ok-Step-clause-right g c = turn_right g.D.Delegate g.D.Cx.Cx g.D.Cx.I
 
 pub returns-in-Ok-Step-clause-cache : goal.returns-in-Ok-Step-clause-cache
 returns-in-Ok-Step-clause-cache g c =
-    turn_keeps g.D.Cx.Input.PartialEq.eq c.args.evaluation.now c.args.cache.now c.advance.new.cache c.collect_drafts.new.cache c.requires.may.drafts c.advance.ensures.cache.keeps c.advance.ensures.cache.changes
+    turn_keeps g.D.Cx.Input.PartialEq.eq c.args.evaluation.now c.args.cache.now c.advance.new.cache c.collect_drafts.new.cache c.requires.drafts c.advance.ensures.cache.keeps c.advance.ensures.cache.changes
     (subst (λ n. KeepsFirst n c.advance.new.cache.nodes c.collect_drafts.new.cache.nodes) c.advance.ensures.noted.first c.collect_drafts.ensures.lets_go.earlier) c.collect_drafts.ensures.lets_go.rest
 
 pub returns-in-Ok-Step-clause-drafts : goal.returns-in-Ok-Step-clause-drafts
 returns-in-Ok-Step-clause-drafts g c = record {
   first = c.collect_drafts.ensures.first ∙ c.advance.ensures.noted.first;
   has =
-      turn_has g.D.Cx.Input.PartialEq.eq c.args.evaluation.now c.args.cache.now c.advance.new.cache c.collect_drafts.new.cache c.requires.may.drafts c.advance.ensures.cache.keeps c.advance.ensures.cache.changes
+      turn_has g.D.Cx.Input.PartialEq.eq c.args.evaluation.now c.args.cache.now c.advance.new.cache c.collect_drafts.new.cache c.requires.drafts c.advance.ensures.cache.keeps c.advance.ensures.cache.changes
       (subst (λ n. KeepsFirst n c.advance.new.cache.nodes c.collect_drafts.new.cache.nodes) c.advance.ensures.noted.first c.collect_drafts.ensures.lets_go.earlier) c.collect_drafts.ensures.lets_go.rest
       c.collect_drafts.new.self (c.collect_drafts.ensures.first ∙ c.advance.ensures.noted.first)
-      (subst (AreFrom c.args.evaluation.now.drafts.first) (sym (ap (λ e. e.goals) c.collect_drafts.ensures.rest)) ((rw c.in-Ok-Step.is at c.advance.ensures.goals).stays c.args.evaluation.now.drafts.first c.requires.may.drafts.there c.requires.may.drafts.from))
+      (subst (AreFrom c.args.evaluation.now.drafts.first) (sym (ap (λ e. e.goals) c.collect_drafts.ensures.rest)) ((rw c.in-Ok-Step.is at c.advance.ensures.goals).stays c.args.evaluation.now.drafts.first c.requires.drafts.there c.requires.drafts.from))
       (noted_of g.D.Cx.Input.PartialEq.eq c.collect_drafts.new.cache c.advance.new.evaluation.drafts c.collect_drafts.new.self.drafts c.collect_drafts.ensures.first c.collect_drafts.ensures.stored
-      (noted_stay g.D.Delegate g.D.Cx.Cx g.D.Cx.Input.PartialEq.eq c.args.cache.now.cx c.advance.new.evaluation c.advance.new.cache c.collect_drafts.new.cache c.in-Ok-Step.given.node c.collect_drafts.ensures.lets_go (c.advance.ensures.noted.noted_are c.requires.may.drafts.noted_are)));
+      (noted_stay g.D.Delegate g.D.Cx.Cx g.D.Cx.Input.PartialEq.eq c.args.cache.now.cx c.advance.new.evaluation c.advance.new.cache c.collect_drafts.new.cache c.in-Ok-Step.given.node c.collect_drafts.ensures.lets_go (c.advance.ensures.noted.noted_are c.requires.drafts.noted_are)));
 }
 
 -- ---- and once the call has its answer
 
 pub collect_at_end-requires-clause-before : goal.collect_at_end-requires-clause-before
-collect_at_end-requires-clause-before g c = turn_before g.D.Cx.Input.PartialEq.eq c.args.evaluation.now c.args.cache.now c.advance.new.cache c.advance.new.cache c.requires.may.drafts c.advance.ensures.cache.keeps c.advance.ensures.cache.changes (λ at lower. refl) refl c.advance.new.evaluation c.advance.ensures.noted.first
+collect_at_end-requires-clause-before g c = turn_before g.D.Cx.Input.PartialEq.eq c.args.evaluation.now c.args.cache.now c.advance.new.cache c.advance.new.cache c.requires.drafts c.advance.ensures.cache.keeps c.advance.ensures.cache.changes (λ at lower. refl) refl c.advance.new.evaluation c.advance.ensures.noted.first
 
 pub returns-in_ok-collect_at_end-in-Ok-Finished-clause-advances : goal.returns-in_ok-collect_at_end-in-Ok-Finished-clause-advances
 returns-in_ok-collect_at_end-in-Ok-Finished-clause-advances g c = record {
@@ -74,7 +77,7 @@ returns-in_ok-collect_at_end-in-Ok-Finished-clause-right g c = end_right g.D.Del
 
 pub returns-in_ok-collect_at_end-in-Ok-Finished-clause-cache : goal.returns-in_ok-collect_at_end-in-Ok-Finished-clause-cache
 returns-in_ok-collect_at_end-in-Ok-Finished-clause-cache g c =
-    turn_keeps g.D.Cx.Input.PartialEq.eq c.args.evaluation.now c.args.cache.now c.advance.new.cache c.collect_at_end.new.cache c.requires.may.drafts c.advance.ensures.cache.keeps c.advance.ensures.cache.changes
+    turn_keeps g.D.Cx.Input.PartialEq.eq c.args.evaluation.now c.args.cache.now c.advance.new.cache c.collect_at_end.new.cache c.requires.drafts c.advance.ensures.cache.keeps c.advance.ensures.cache.changes
     (subst (λ n. KeepsFirst n c.advance.new.cache.nodes c.collect_at_end.new.cache.nodes) c.advance.ensures.noted.first c.in_ok-collect_at_end-in-Ok-Finished.ensures.settles.earlier) c.in_ok-collect_at_end-in-Ok-Finished.ensures.settles.rest
 
 -- ---- where there was no memory for that
@@ -92,7 +95,7 @@ returns-in_err-collect_at_end-in-Ok-Finished-clause-advances g c = record {
 pub returns-in_err-collect_at_end-in-Ok-Finished-clause-cache : goal.returns-in_err-collect_at_end-in-Ok-Finished-clause-cache
 returns-in_err-collect_at_end-in-Ok-Finished-clause-cache g c =
     subst (TurnsCache g.D.Cx.Input.PartialEq.eq c.args.evaluation.now c.args.cache.now) (sym c.in_err-collect_at_end-in-Ok-Finished.ensures.refused)
-    (turn_keeps g.D.Cx.Input.PartialEq.eq c.args.evaluation.now c.args.cache.now c.advance.new.cache c.advance.new.cache c.requires.may.drafts c.advance.ensures.cache.keeps c.advance.ensures.cache.changes (λ at lower. refl) refl)
+    (turn_keeps g.D.Cx.Input.PartialEq.eq c.args.evaluation.now c.args.cache.now c.advance.new.cache c.advance.new.cache c.requires.drafts c.advance.ensures.cache.keeps c.advance.ensures.cache.changes (λ at lower. refl) refl)
 
 pub returns-in_err-collect_at_end-in-Ok-Finished-clause-left : goal.returns-in_err-collect_at_end-in-Ok-Finished-clause-left
 returns-in_err-collect_at_end-in-Ok-Finished-clause-left g c = if_err_and c.from_residual.result _ _ c.from_residual.ensures.1 (λ e is other. absurd (other is))
@@ -100,7 +103,7 @@ returns-in_err-collect_at_end-in-Ok-Finished-clause-left g c = if_err_and c.from
 -- ---- and after a fault
 
 pub give_up-requires-clause-before : goal.give_up-requires-clause-before
-give_up-requires-clause-before g c = turn_before g.D.Cx.Input.PartialEq.eq c.args.evaluation.now c.args.cache.now c.advance.new.cache c.advance.new.cache c.requires.may.drafts c.advance.ensures.cache.keeps c.advance.ensures.cache.changes (λ at lower. refl) refl c.advance.new.evaluation c.advance.ensures.noted.first
+give_up-requires-clause-before g c = turn_before g.D.Cx.Input.PartialEq.eq c.args.evaluation.now c.args.cache.now c.advance.new.cache c.advance.new.cache c.requires.drafts c.advance.ensures.cache.keeps c.advance.ensures.cache.changes (λ at lower. refl) refl c.advance.new.evaluation c.advance.ensures.noted.first
 
 pub returns-in_ok-give_up-in-Err-clause-advances : goal.returns-in_ok-give_up-in-Err-clause-advances
 returns-in_ok-give_up-in-Err-clause-advances g c = record {
@@ -120,7 +123,7 @@ returns-in_ok-give_up-in-Err-clause-settled g c = record {
 
 pub returns-in_ok-give_up-in-Err-clause-cache : goal.returns-in_ok-give_up-in-Err-clause-cache
 returns-in_ok-give_up-in-Err-clause-cache g c =
-    turn_keeps g.D.Cx.Input.PartialEq.eq c.args.evaluation.now c.args.cache.now c.advance.new.cache c.give_up.new.cache c.requires.may.drafts c.advance.ensures.cache.keeps c.advance.ensures.cache.changes
+    turn_keeps g.D.Cx.Input.PartialEq.eq c.args.evaluation.now c.args.cache.now c.advance.new.cache c.give_up.new.cache c.requires.drafts c.advance.ensures.cache.keeps c.advance.ensures.cache.changes
     (subst (λ n. KeepsFirst n c.advance.new.cache.nodes c.give_up.new.cache.nodes) c.advance.ensures.noted.first c.in_ok-give_up-in-Err.ensures.settles.earlier) c.in_ok-give_up-in-Err.ensures.settles.rest
 
 pub returns-in_ok-give_up-in-Err-clause-left : goal.returns-in_ok-give_up-in-Err-clause-left
@@ -150,7 +153,7 @@ returns-in_err-give_up-in-Err-clause-settled g c = record {
 pub returns-in_err-give_up-in-Err-clause-cache : goal.returns-in_err-give_up-in-Err-clause-cache
 returns-in_err-give_up-in-Err-clause-cache g c =
     subst (TurnsCache g.D.Cx.Input.PartialEq.eq c.args.evaluation.now c.args.cache.now) (sym c.in_err-give_up-in-Err.ensures.refused)
-    (turn_keeps g.D.Cx.Input.PartialEq.eq c.args.evaluation.now c.args.cache.now c.advance.new.cache c.advance.new.cache c.requires.may.drafts c.advance.ensures.cache.keeps c.advance.ensures.cache.changes (λ at lower. refl) refl)
+    (turn_keeps g.D.Cx.Input.PartialEq.eq c.args.evaluation.now c.args.cache.now c.advance.new.cache c.advance.new.cache c.requires.drafts c.advance.ensures.cache.keeps c.advance.ensures.cache.changes (λ at lower. refl) refl)
 
 pub returns-in_err-give_up-in-Err-clause-left : goal.returns-in_err-give_up-in-Err-clause-left
 returns-in_err-give_up-in-Err-clause-left g c = if_err_and c.from_residual-in_err-give_up-in-Err.result _ _ c.from_residual-in_err-give_up-in-Err.ensures.1 (λ e is other. absurd (other is))

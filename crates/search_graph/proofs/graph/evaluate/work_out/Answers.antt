@@ -58,20 +58,17 @@ loop-next-init g c = record {
 
 -- ---- a move is made
 
-pub take_turn-requires : goal.take_turn-requires
-take_turn-requires g c =
+pub take_turn-requires-clause-reply : goal.take_turn-requires-clause-reply
+take_turn-requires-clause-reply g c =
     let fits = c.requires.outset.new.fits in
-    record {
-      may = record {
-        advance = record {
-          reply =
-              subst (λ cx. HasReply g.D.Delegate g.D.Cx.Cx g.D.Cx.Input.PartialEq.eq cx c.loop-next.received c.loop-next.cache c.loop-next.evaluation (g.D.Delegate.starts c.loop-next.inspect)) (sym c.loop-next.invariant.keeps.context)
-              (record { call = (call_of c.args.input c.args.evaluation.now.root_depth.0 (g.D.Delegate.starts c.args.inspect.now) c.args.evaluation.now.limits_met false false fits); waiting = (c.loop-next.invariant.waiting _ (some_call_begins g.D.Delegate g.D.Cx.Cx c.args.cache.now.cx g.D.Cx.Input.PartialEq.eq c.args.input c.args.evaluation.now.root_depth.0 (g.D.Delegate.starts c.args.inspect.now) c.args.evaluation.now.limits_met fits c.args.cache.now.results)).waiting; right = c.loop-next.invariant.right });
-          expected = subst (λ cx. HaveExpected (g.D.Delegate.scoped cx) (g.D.Delegate.script cx) g.D.Cx.Input.PartialEq.eq c.loop-next.cache.results (fates_of c.loop-next.evaluation.goals)) (sym c.loop-next.invariant.keeps.context) c.loop-next.invariant.fates.expected;
-        };
-        drafts = c.loop-next.invariant.drafts;
-      };
-    }
+    subst (λ cx. HasReply g.D.Delegate g.D.Cx.Cx g.D.Cx.Input.PartialEq.eq cx c.loop-next.received c.loop-next.cache c.loop-next.evaluation (g.D.Delegate.starts c.loop-next.inspect)) (sym c.loop-next.invariant.keeps.context)
+    (record { call = (call_of c.args.input c.args.evaluation.now.root_depth.0 (g.D.Delegate.starts c.args.inspect.now) c.args.evaluation.now.limits_met false false fits); waiting = (c.loop-next.invariant.waiting _ (some_call_begins g.D.Delegate g.D.Cx.Cx c.args.cache.now.cx g.D.Cx.Input.PartialEq.eq c.args.input c.args.evaluation.now.root_depth.0 (g.D.Delegate.starts c.args.inspect.now) c.args.evaluation.now.limits_met fits c.args.cache.now.results)).waiting; right = c.loop-next.invariant.right })
+
+pub take_turn-requires-clause-expected : goal.take_turn-requires-clause-expected
+take_turn-requires-clause-expected g c = subst (λ cx. HaveExpected (g.D.Delegate.scoped cx) (g.D.Delegate.script cx) g.D.Cx.Input.PartialEq.eq c.loop-next.cache.results (fates_of c.loop-next.evaluation.goals)) (sym c.loop-next.invariant.keeps.context) c.loop-next.invariant.fates.expected
+
+pub take_turn-requires-clause-drafts : goal.take_turn-requires-clause-drafts
+take_turn-requires-clause-drafts g c = c.loop-next.invariant.drafts
 
 pub returns-in_err-next-clause-evaluates : goal.returns-in_err-next-clause-evaluates
 returns-in_err-next-clause-evaluates g c = record {

@@ -30,7 +30,7 @@ pub look_up_entry-requires : goal.look_up_entry-requires
 look_up_entry-requires g c = record {
   on_stack =
       subst (λ stack. AreOnStack g.D.Cx.Input.PartialEq.eq stack c.args.self.now.provisional) (sym c.stack-stack.ensures)
-      (are_on_stack (verdicts g.D.Cx.Cx) g.D.Cx.Input.PartialEq.eq (g.D.Delegate.script c.args.cache.now.cx) c.args.cache.now.nodes c.args.self.now.provisional c.args.self.now.goals c.requires.may.made.right.justified.tallies c.requires.may.made.right.ready);
+      (are_on_stack (verdicts g.D.Cx.Cx) g.D.Cx.Input.PartialEq.eq (g.D.Delegate.script c.args.cache.now.cx) c.args.cache.now.nodes c.args.self.now.provisional c.args.self.now.goals c.requires.made.right.justified.tallies c.requires.made.right.ready);
 }
 
 pub returns-in-Some-look_up_entry-clause-asked : goal.returns-in-Some-look_up_entry-clause-asked
@@ -57,12 +57,12 @@ pub consult-stored-requires : goal.consult-stored-requires
 consult-stored-requires g c = record {
   on_stack =
       subst (λ stack. AreOnStack g.D.Cx.Input.PartialEq.eq stack c.args.self.now.provisional) (sym c.stack-stack-2.ensures)
-      (are_on_stack (verdicts g.D.Cx.Cx) g.D.Cx.Input.PartialEq.eq (g.D.Delegate.script c.args.cache.now.cx) c.args.cache.now.nodes c.args.self.now.provisional c.args.self.now.goals c.requires.may.made.right.justified.tallies c.requires.may.made.right.ready);
+      (are_on_stack (verdicts g.D.Cx.Cx) g.D.Cx.Input.PartialEq.eq (g.D.Delegate.script c.args.cache.now.cx) c.args.cache.now.nodes c.args.self.now.provisional c.args.self.now.goals c.requires.made.right.justified.tallies c.requires.made.right.ready);
 }
 
 pub note_stored-requires-clause-fits : goal.note_stored-requires-clause-fits
 note_stored-requires-clause-fits g c =
-    let fits = asked_depth_fits g.D.Delegate g.D.Cx.Cx c.args.cache.now.cx c.requires.may.made.call c.requires.may.made.ahead c.args.kind c.args.input _ c.args.self.now.limits_met g.met.D.Delegate.divides c.in-Some.depth c.args.self.now.goals c.in-Some.ensures c.requires.may.made.asked in
+    let fits = asked_depth_fits g.D.Delegate g.D.Cx.Cx c.args.cache.now.cx c.requires.made.call c.requires.made.ahead c.args.kind c.args.input _ c.args.self.now.limits_met g.met.D.Delegate.divides c.in-Some.depth c.args.self.now.goals c.in-Some.ensures c.requires.made.asked in
     let usable = is_some_with _ c.consult-stored.result.stored c.in-Some-stored.stored c.in-Some-stored.is c.consult-stored.ensures.usable in
     omega (arith, fits, usable.within)
 

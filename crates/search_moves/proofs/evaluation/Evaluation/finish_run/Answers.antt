@@ -21,17 +21,17 @@ use Rattle.search_moves.proofs.evaluation.Evaluation.finish_run.Goals as goal
 
 pub pop_goal-requires-clause-may : goal.pop_goal-requires-clause-may
 pop_goal-requires-clause-may g c = record {
-  leaves = can_leave g.D.Delegate g.D.Cx.Cx c.args.cache.now.cx c.requires.may.made.call c.requires.may.made.ahead c.args.outcome c.args.self.now.goals _ _ c.requires.may.made.asked;
-  ends = λ definite. ends_newest g.D.Delegate g.D.Cx.Cx c.args.cache.now.cx c.requires.may.made.call c.requires.may.made.ahead c.args.outcome c.args.self.now.goals _ _ c.requires.may.made.asked;
-  comes = newest_comes g.D.Delegate g.D.Cx.Cx c.args.cache.now.cx c.requires.may.made.call c.requires.may.made.ahead c.args.outcome _ _ (g.D.Delegate.fixpoint_overflow c.args.cache.now.cx) c.args.self.now.goals c.requires.may.made.asked;
-  plain = newest_plain g.D.Delegate g.D.Cx.Cx c.args.cache.now.cx c.requires.may.made.call c.requires.may.made.ahead c.args.outcome _ _ c.args.self.now.goals c.requires.may.made.asked;
+  leaves = can_leave g.D.Delegate g.D.Cx.Cx c.args.cache.now.cx c.requires.made.call c.requires.made.ahead c.args.outcome c.args.self.now.goals _ _ c.requires.made.asked;
+  ends = λ definite. ends_newest g.D.Delegate g.D.Cx.Cx c.args.cache.now.cx c.requires.made.call c.requires.made.ahead c.args.outcome c.args.self.now.goals _ _ c.requires.made.asked;
+  comes = newest_comes g.D.Delegate g.D.Cx.Cx c.args.cache.now.cx c.requires.made.call c.requires.made.ahead c.args.outcome _ _ (g.D.Delegate.fixpoint_overflow c.args.cache.now.cx) c.args.self.now.goals c.requires.made.asked;
+  plain = newest_plain g.D.Delegate g.D.Cx.Cx c.args.cache.now.cx c.requires.made.call c.requires.made.ahead c.args.outcome _ _ c.args.self.now.goals c.requires.made.asked;
   is_reason = newest_reason (verdicts g.D.Cx.Cx) g.D.Cx.Result.PartialEq.eq g.met.D.Cx.Cx.same_result g.D.Delegate.initial_kind g.met.D.Delegate.recognised_sort g.D.Delegate.ambiguity g.D.Delegate.FIXPOINT_STEP_LIMIT c.last_run.result.now.finished_runs c.args.self.now.goals c.last_entry.result.now c.args.outcome c.end_of_run.result c.in-Ok.reason c.last_entry.ensures c.end_of_run.ensures.is_end c.in-Ok.is;
-  unranked = newest_unranked g.D.Delegate g.D.Cx.Cx c.args.cache.now.cx c.requires.may.made.call c.requires.may.made.ahead c.args.outcome _ _ c.args.self.now.goals c.requires.may.made.asked;
-  right = c.requires.may.made.right;
+  unranked = newest_unranked g.D.Delegate g.D.Cx.Cx c.args.cache.now.cx c.requires.made.call c.requires.made.ahead c.args.outcome _ _ c.args.self.now.goals c.requires.made.asked;
+  right = c.requires.made.right;
 }
 
 pub pop_goal-requires-clause-expected : goal.pop_goal-requires-clause-expected
-pop_goal-requires-clause-expected g c = c.requires.may.expected
+pop_goal-requires-clause-expected g c = c.requires.expected
 
 pub returns-in-Ok-clause-moves : goal.returns-in-Ok-clause-moves
 returns-in-Ok-clause-moves g c = record {
@@ -45,7 +45,7 @@ returns-in-Ok-clause-moves g c = record {
             done_keeps g.D.Delegate g.D.Cx.Cx c.args.cache.now.cx call g.D.Cx.Input.PartialEq.eq ahead c.args.outcome _ _ _ c.in-Ok.reason
             (end_leaves (verdicts g.D.Cx.Cx) g.D.Cx.Result.PartialEq.eq g.D.Delegate.initial_kind g.D.Delegate.ambiguity g.met.D.Delegate.ambiguous_is_neither g.D.Delegate.FIXPOINT_STEP_LIMIT c.last_entry.result.now.state.provisional_result c.last_entry.result.now.state.usages c.last_run.result.now.finished_runs c.args.outcome c.end_of_run.result c.in-Ok.reason c.end_of_run.ensures.is_end c.in-Ok.is)
             _ g.met.D.Cx.Cx.same_input c.args.cache.now.results c.pop_goal.new.cache.results c.args.self.now.goals c.args.self.now.provisional c.pop_goal.new.self.provisional c.pop_goal.ensures.stored p.rebased h.asked h.answers;
-        remembered = remembered g.D.Delegate g.D.Cx.Cx c.args.cache.now.cx call g.D.Cx.Input.PartialEq.eq (g.D.Cx.Cx.token c.args.cache.now.cx) ahead c.args.outcome c.args.outcome _ _ c.pop_goal.new.cache.results _ (λ meets. meets) c.args.self.now.goals c.pop_goal.new.self.goals next c.requires.may.made.right.justified.tallies h.asked p.left p.stored;
+        remembered = remembered g.D.Delegate g.D.Cx.Cx c.args.cache.now.cx call g.D.Cx.Input.PartialEq.eq (g.D.Cx.Cx.token c.args.cache.now.cx) ahead c.args.outcome c.args.outcome _ _ c.pop_goal.new.cache.results _ (λ meets. meets) c.args.self.now.goals c.pop_goal.new.self.goals next c.requires.made.right.justified.tallies h.asked p.left p.stored;
       }));
   stops = λ call ahead h.
       stopped_by_both c.pop_goal.result _ _ _
@@ -73,18 +73,18 @@ returns-in-Ok-clause-leads g c =
 
 pub pop_goal-requires-in-Err-AtLimit-clause-may : goal.pop_goal-requires-in-Err-AtLimit-clause-may
 pop_goal-requires-in-Err-AtLimit-clause-may g c = record {
-  leaves = can_leave g.D.Delegate g.D.Cx.Cx c.args.cache.now.cx c.requires.may.made.call c.requires.may.made.ahead c.args.outcome c.args.self.now.goals _ _ c.requires.may.made.asked;
+  leaves = can_leave g.D.Delegate g.D.Cx.Cx c.args.cache.now.cx c.requires.made.call c.requires.made.ahead c.args.outcome c.args.self.now.goals _ _ c.requires.made.asked;
   ends = λ definite.
       absurd (definite (ap (verdict_of (verdicts g.D.Cx.Cx)) c.fixpoint_overflow_result-overflow.ensures ∙ neither_is (verdicts g.D.Cx.Cx) (g.D.Delegate.fixpoint_overflow c.cx.result c.input-input.result) (g.met.D.Delegate.fixpoint_overflow_is_neither c.cx.result c.input-input.result)));
   comes = limit_comes (g.D.Delegate.script c.args.cache.now.cx) (g.D.Delegate.fixpoint_overflow c.args.cache.now.cx) c.args.self.now.goals c.last_entry-in-Err-AtLimit.result.now c.fixpoint_overflow_result-overflow.result c.last_entry-in-Err-AtLimit.ensures (c.fixpoint_overflow_result-overflow.ensures ∙ ap₂ g.D.Delegate.fixpoint_overflow c.cx.ensures c.input-input.ensures);
-  plain = limited_plain g.D.Delegate g.D.Cx.Cx c.args.cache.now.cx c.requires.may.made.call c.requires.may.made.ahead c.args.outcome _ _ c.args.self.now.goals c.fixpoint_overflow_result-overflow.result (λ s below is. ((newest_limited c.args.self.now.goals c.last_entry.result.now c.last_run.result.now c.last_entry.ensures c.last_run.ensures g.D.Delegate.FIXPOINT_STEP_LIMIT (limited g.D.Cx.Result.PartialEq.eq g.D.Delegate.initial_kind g.D.Delegate.ambiguity g.D.Delegate.FIXPOINT_STEP_LIMIT c.last_entry.result.now.state.provisional_result c.last_entry.result.now.state.usages c.last_run.result.now.finished_runs c.args.outcome c.end_of_run.result c.end_of_run.ensures.is_end (c.in-Err-AtLimit.is ∙ ap Err c.in-Err-AtLimit.field-0-is))) s below is).0) c.requires.may.made.asked;
+  plain = limited_plain g.D.Delegate g.D.Cx.Cx c.args.cache.now.cx c.requires.made.call c.requires.made.ahead c.args.outcome _ _ c.args.self.now.goals c.fixpoint_overflow_result-overflow.result (λ s below is. ((newest_limited c.args.self.now.goals c.last_entry.result.now c.last_run.result.now c.last_entry.ensures c.last_run.ensures g.D.Delegate.FIXPOINT_STEP_LIMIT (limited g.D.Cx.Result.PartialEq.eq g.D.Delegate.initial_kind g.D.Delegate.ambiguity g.D.Delegate.FIXPOINT_STEP_LIMIT c.last_entry.result.now.state.provisional_result c.last_entry.result.now.state.usages c.last_run.result.now.finished_runs c.args.outcome c.end_of_run.result c.end_of_run.ensures.is_end (c.in-Err-AtLimit.is ∙ ap Err c.in-Err-AtLimit.field-0-is))) s below is).0) c.requires.made.asked;
   is_reason = search rules;
-  unranked = newest_unranked g.D.Delegate g.D.Cx.Cx c.args.cache.now.cx c.requires.may.made.call c.requires.may.made.ahead c.args.outcome _ _ c.args.self.now.goals c.requires.may.made.asked;
-  right = record { justified = c.requires.may.made.right.justified; free = c.requires.may.made.right.free; ready = c.requires.may.made.right.ready };
+  unranked = newest_unranked g.D.Delegate g.D.Cx.Cx c.args.cache.now.cx c.requires.made.call c.requires.made.ahead c.args.outcome _ _ c.args.self.now.goals c.requires.made.asked;
+  right = record { justified = c.requires.made.right.justified; free = c.requires.made.right.free; ready = c.requires.made.right.ready };
 }
 
 pub pop_goal-requires-in-Err-AtLimit-clause-expected : goal.pop_goal-requires-in-Err-AtLimit-clause-expected
-pop_goal-requires-in-Err-AtLimit-clause-expected g c = c.requires.may.expected
+pop_goal-requires-in-Err-AtLimit-clause-expected g c = c.requires.expected
 
 pub returns-in-Err-AtLimit-clause-moves : goal.returns-in-Err-AtLimit-clause-moves
 returns-in-Err-AtLimit-clause-moves g c = record {
@@ -95,7 +95,7 @@ returns-in-Err-AtLimit-clause-moves g c = record {
       (record {
         leads = limited_leads g.D.Delegate g.D.Cx.Cx c.args.cache.now.cx call ahead c.args.outcome c.fixpoint_overflow_result-overflow.result next c.args.self.now.goals c.pop_goal-in-Err-AtLimit.new.self.goals _ _ (newest_limited c.args.self.now.goals c.last_entry.result.now c.last_run.result.now c.last_entry.ensures c.last_run.ensures g.D.Delegate.FIXPOINT_STEP_LIMIT (limited g.D.Cx.Result.PartialEq.eq g.D.Delegate.initial_kind g.D.Delegate.ambiguity g.D.Delegate.FIXPOINT_STEP_LIMIT c.last_entry.result.now.state.provisional_result c.last_entry.result.now.state.usages c.last_run.result.now.finished_runs c.args.outcome c.end_of_run.result c.end_of_run.ensures.is_end (c.in-Err-AtLimit.is ∙ ap Err c.in-Err-AtLimit.field-0-is))) p.left h.asked;
         answers = limited_keeps_answers g.D.Delegate g.D.Cx.Cx c.args.cache.now.cx call g.D.Cx.Input.PartialEq.eq _ ahead c.args.outcome c.fixpoint_overflow_result-overflow.result _ _ _ _ g.met.D.Cx.Cx.same_input c.args.cache.now.results c.pop_goal-in-Err-AtLimit.new.cache.results c.args.self.now.goals c.args.self.now.provisional c.pop_goal-in-Err-AtLimit.new.self.provisional c.pop_goal-in-Err-AtLimit.ensures.stored p.rebased h.asked h.answers;
-        remembered = remembered g.D.Delegate g.D.Cx.Cx c.args.cache.now.cx call g.D.Cx.Input.PartialEq.eq (g.D.Cx.Cx.token c.args.cache.now.cx) ahead c.args.outcome c.fixpoint_overflow_result-overflow.result _ c.args.self.now.limits_met c.pop_goal-in-Err-AtLimit.new.cache.results true (met_none_before g.D.Delegate g.D.Cx.Cx c.args.cache.now.cx call c.args.self.now.limits_met) c.args.self.now.goals c.pop_goal-in-Err-AtLimit.new.self.goals next c.requires.may.made.right.justified.tallies h.asked p.left p.stored;
+        remembered = remembered g.D.Delegate g.D.Cx.Cx c.args.cache.now.cx call g.D.Cx.Input.PartialEq.eq (g.D.Cx.Cx.token c.args.cache.now.cx) ahead c.args.outcome c.fixpoint_overflow_result-overflow.result _ c.args.self.now.limits_met c.pop_goal-in-Err-AtLimit.new.cache.results true (met_none_before g.D.Delegate g.D.Cx.Cx c.args.cache.now.cx call c.args.self.now.limits_met) c.args.self.now.goals c.pop_goal-in-Err-AtLimit.new.self.goals next c.requires.made.right.justified.tallies h.asked p.left p.stored;
       }));
   stops = λ call ahead h.
       stopped_each c.pop_goal-in-Err-AtLimit.result _
