@@ -47,7 +47,9 @@ fn ask_table(alloc: Global, chance: &mut Chance, tally: &mut Tally) -> Result<()
     let text = random_table(alloc, chance, goals)?;
     let rules = Rules::read(alloc, text.as_bytes())?;
     let cx = Table { lender: &rules };
-    ask_at_random::<Table<&Rules>, TableDelegate<'_, 8, 1>>(alloc, cx, &rules, chance, tally)
+    ask_at_random::<Table<&Rules>, Refusing<TableDelegate<'_, 8, 1>>>(
+        alloc, cx, &rules, chance, tally,
+    )
 }
 
 /// A table of as many goals, with up to two rules each.
@@ -85,9 +87,9 @@ fn ask_at_random<X, D>(
 ) -> Result<(), Failed>
 where
     X: Cx<Input = Goal, Result = Outcome>,
-    D: Delegate<Cx = X, ProofTreeBuilder = Builder>,
+    D: Delegate<Cx = X, ProofTreeBuilder = Refusals<Builder>>,
 {
-    let mut cache = GlobalCache::<Refusing<D>>::new(alloc, cx);
+    let mut cache = GlobalCache::<D>::new(alloc, cx);
     let mut known = Vec::new(alloc);
     for (_, goal) in rules.questions() {
         known.push((*goal, Outcome::Maybe))?;
@@ -118,7 +120,7 @@ where
 /// What the goal comes to; maybe where a call of its frames is refused memory.
 fn ask<X, D>(
     alloc: Global,
-    cache: &mut GlobalCache<Refusing<D>>,
+    cache: &mut GlobalCache<D>,
     depth: usize,
     goal: Goal,
     call: usize,
@@ -126,9 +128,9 @@ fn ask<X, D>(
 ) -> Result<Outcome, Failed>
 where
     X: Cx<Input = Goal, Result = Outcome>,
-    D: Delegate<Cx = X, ProofTreeBuilder = Builder>,
+    D: Delegate<Cx = X, ProofTreeBuilder = Refusals<Builder>>,
 {
-    let mut graph = SearchGraph::<Refusing<D>>::new(alloc, depth);
+    let mut graph = SearchGraph::<D>::new(alloc, depth);
     let mut refusals = Refusals {
         builder: Builder::new(true),
         call: call as u64,
@@ -139,7 +141,7 @@ where
     match answer {
         Ok(answer) => {
             refusals.call = 0;
-            check_answer::<X, Refusing<D>>(alloc, cache, goal, answer, &mut refusals, tally)?;
+            check_answer::<X, D>(alloc, cache, goal, answer, &mut refusals, tally)?;
             Ok(answer.result)
         }
         Err(fault) => {
