@@ -1,12 +1,13 @@
 //! Tests of the programs over tables of rules, of what no text that they are given shows: where their streams fail, where a
-//! goal has fewer runs than theirs, and what they hand on. What they write of texts is compared outside, by `tests/texts`.
+//! goal has fewer runs than theirs, and how faults are called that no rule has. What they write of texts is compared outside,
+//! by `tests/texts`.
 #![tactic(auto)]
 
 #[cfg(test)]
 mod failing;
 #[cfg(test)]
+mod faults;
+#[cfg(test)]
 mod limit;
 #[cfg(test)]
 mod streams;
-#[cfg(test)]
-mod tables;

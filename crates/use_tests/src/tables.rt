@@ -13,10 +13,10 @@ use structural_types::{Field, Form, Types};
 fn count_below(alloc: Global, types: &Types, size: usize) -> Result<usize, Fail> {
     let plain = agreed(alloc, types, size)?;
     let asked = plain.asked(alloc)?;
-    match answered_otherwise::<&Types>(alloc, types, asked.as_slice())? {
-        Some(_) => Err("the search answers otherwise")?,
-        None => Ok(plain.count()),
+    if answered_otherwise::<&Types>(alloc, types, asked.as_slice())?.is_some() {
+        return Err("the search answers otherwise")?;
     }
+    Ok(plain.count())
 }
 
 /// The small types over two types.
