@@ -5,7 +5,7 @@ use std::test::Fail;
 use structural_types::{Field, Form, Types};
 
 /// What a type is, as in `Form`.
-#[derive(Clone, Copy, Debug)]
+#[derive(Clone, Copy)]
 pub enum Side {
     Base(u32),
     Top,
