@@ -15,8 +15,6 @@
 mod delegate;
 mod game;
 mod solver;
-#[cfg(test)]
-mod tests;
 mod wins;
 
 pub use delegate::{GamesDelegate, LendsGame, PositionsOf};

@@ -1,12 +1,13 @@
-//! Tests of the programs over memory: what `goals` and `answers` write of small inputs, and where reading or writing fails,
-//! what `explain` shows, and what is said of data that is read back.
+//! Tests of the programs over tables of rules, of what no text that they are given shows: where their streams fail, where a
+//! goal has fewer runs than theirs, and how faults are called that no rule has. What they write of texts is compared outside,
+//! by `tests/texts`.
 #![tactic(auto)]
 
 #[cfg(test)]
-mod malformed;
+mod failing;
 #[cfg(test)]
-mod reasons;
+mod faults;
 #[cfg(test)]
-mod runs;
+mod limit;
 #[cfg(test)]
-mod shown;
+mod streams;

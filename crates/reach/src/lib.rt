@@ -15,8 +15,6 @@ mod analysis;
 mod building;
 mod delegate;
 mod program;
-#[cfg(test)]
-mod tests;
 
 pub use analysis::Analysis;
 pub use building::AddFault;

@@ -17,8 +17,6 @@ mod compare;
 mod comparison;
 mod delegate;
 mod equations;
-#[cfg(test)]
-mod tests;
 
 pub use comparison::Comparison;
 pub use delegate::{LendsShapes, Pair, PairsOf, ShapesDelegate};

@@ -135,6 +135,3 @@ fn answer_input<R: Read, W: Flush>(alloc: Global, input: &mut R, out: &mut W) ->
         Err(fault) => Err(Stop::Text(fault)),
     }
 }
-
-#[cfg(test)]
-mod tests;

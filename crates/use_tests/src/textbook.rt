@@ -1,6 +1,6 @@
 //! Cases of the textbook, worked out by hand.
 
-use crate::searched::agreed;
+use crate::agreed::agreed;
 use std::process::Abort;
 use std::test::Fail;
 use type_texts::TypeTable;
@@ -12,8 +12,8 @@ const FIRST: &str =
 /// Declarations, and pairs of their types, each with whether the left one is below the right one.
 type Case = (&'static str, &'static [(&'static str, &'static str, bool)]);
 
-/// Types that end.
-const FINITE: [Case; 6] = [
+const CASES: [Case; 16] = [
+    // Types that end.
     // base types, the top and the bottom
     (
         "",
@@ -80,10 +80,7 @@ const FINITE: [Case; 6] = [
         "type U = Int | Text\ntype P = { x: U }\ntype A = { x: Int }\ntype B = { x: Text }\ntype AB = A | B\n",
         &[("AB", "P", true), ("P", "AB", false)],
     ),
-];
-
-/// Types that do not end.
-const RECURSIVE: [Case; 10] = [
+    // Types that do not end.
     // streams of what is less are less
     (
         "type Ints = { head: Int tail: Ints }\ntype Things = { head: Any tail: Things }\ntype Words = { head: Text tail: Words }\n",
@@ -192,16 +189,8 @@ const RECURSIVE: [Case; 10] = [
 ];
 
 #[test]
-fn finite_types_are_answered_as_in_the_textbook(rt: HostRuntime) -> Result<(), Fail> {
-    for case in FINITE {
-        expect_case(&rt, case)?;
-    }
-    Ok(())
-}
-
-#[test]
-fn recursive_types_are_answered_as_in_the_textbook(rt: HostRuntime) -> Result<(), Fail> {
-    for case in RECURSIVE {
+fn types_are_answered_as_in_the_textbook(rt: HostRuntime) -> Result<(), Fail> {
+    for case in CASES {
         expect_case(&rt, case)?;
     }
     Ok(())

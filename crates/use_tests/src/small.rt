@@ -1,6 +1,6 @@
 //! All texts of two types with small right sides.
 
-use crate::searched::pairs_of_text;
+use crate::agreed::agreed;
 use std::alloc::Global;
 use std::io::Write;
 use std::test::Fail;
@@ -80,8 +80,8 @@ fn try_text(alloc: Global, first: &str, second: &str, tally: &mut Tally) -> Resu
         Err(ReadFault::Unguarded(_)) if leads_back => {
             tally.unguarded = tally.unguarded.saturating_add(1);
         }
-        Ok(_) if !leads_back => {
-            let below = pairs_of_text(alloc, text.as_slice())?.count();
+        Ok(table) if !leads_back => {
+            let below = agreed(alloc, table.types(), table.count())?.count();
             tally.below = tally.below.saturating_add(below);
             tally.answered = tally.answered.saturating_add(1);
         }

@@ -1,5 +1,6 @@
 //! Subtypes without a search: all pairs are taken, and those that are not supported are struck out until nothing changes.
 
+use crate::agreed::Asked;
 use std::alloc::Global;
 use std::test::Fail;
 use structural_types::{Field, Form, Types};
@@ -17,6 +18,17 @@ impl Pairs {
     pub fn has(&self, left: usize, right: usize) -> bool {
         let place = left.saturating_mul(self.size).saturating_add(right);
         self.is_in.get(place).copied().unwrap_or(false)
+    }
+
+    /// All pairs of the types, each with whether it is one of them, from the last left type on.
+    pub fn asked(&self, alloc: Global) -> Result<Vec<Asked>, Fail> {
+        let mut asked = Vec::new(alloc);
+        for left in (0..self.size).rev() {
+            for right in 0..self.size {
+                asked.push((left, right, self.has(left, right)))?;
+            }
+        }
+        Ok(asked)
     }
 
     /// How many there are.

@@ -1,6 +1,6 @@
 //! Texts drawn at random.
 
-use crate::searched::agreed;
+use crate::agreed::agreed;
 use chance::Chance;
 use std::alloc::Global;
 use std::io::Write;

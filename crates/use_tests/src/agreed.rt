@@ -1,0 +1,89 @@
+//! The search beside the plain fixpoint, and the checker beside both.
+
+use crate::plain::{Pairs, pairs_below};
+use delegate_parts::{Builder, Outcome};
+use graph_check::check_graph;
+use question_lists::{ContextOf, Listed, ListsContext};
+use search_graph::graph::SearchGraph;
+use search_parts::context::{Cx, Delegate, Verdict};
+use search_parts::global_cache::GlobalCache;
+use search_parts::path::PathKind;
+use std::alloc::Global;
+use std::test::Fail;
+use structural_types::{LendsTypes, Pair, PairsOf, Subtyping, Types, TypesDelegate};
+
+/// Two types, by their numbers, and whether the left one is below the right one.
+pub type Asked = (usize, usize, bool);
+
+/// The pairs of the first so many types of which the left one is below the right one, if the search says so, too, and the
+/// checker accepts the graph of each answer.
+pub fn agreed(alloc: Global, types: &Types, size: usize) -> Result<Pairs, Fail> {
+    let pairs = pairs_below(alloc, types, size)?;
+    let asked = pairs.asked(alloc)?;
+    let context = ContextOf(Listed(PairsOf { lender: types }));
+    expect_shown::<ListsContext<PairsOf<&Types>>, TypesDelegate<&Types>>(
+        alloc,
+        context,
+        asked.as_slice(),
+    )?;
+    Ok(pairs)
+}
+
+/// Asks about all pairs over one cache.
+fn expect_shown<X, D>(alloc: Global, cx: X, asked: &[Asked]) -> Result<(), Fail>
+where
+    X: Cx<Input = Pair, Result = Outcome>,
+    D: Delegate<Cx = X, ProofTreeBuilder = Builder>,
+{
+    let mut cache = GlobalCache::<D>::new(alloc, cx);
+    for (left, right, is_below) in asked {
+        let pair = Pair {
+            left: *left,
+            right: *right,
+        };
+        let wanted = if *is_below { Verdict::Yes } else { Verdict::No };
+        if shown_verdict::<X, D>(alloc, &mut cache, pair)? != wanted {
+            return Err("the search answers otherwise")?;
+        }
+    }
+    Ok(())
+}
+
+/// What the pair is answered, if the checker accepts the graph that is handed out for it.
+fn shown_verdict<X, D>(
+    alloc: Global,
+    cache: &mut GlobalCache<D>,
+    pair: Pair,
+) -> Result<Verdict, Fail>
+where
+    X: Cx<Input = Pair, Result = Outcome>,
+    D: Delegate<Cx = X, ProofTreeBuilder = Builder>,
+{
+    let mut graph = SearchGraph::<D>::new(alloc, 1000);
+    let mut builder = Builder::new(true);
+    let answer = graph.evaluate_goal(cache, pair, PathKind::Coinductive, &mut builder)?;
+    let verdict = answer.result.verdict();
+    let root = answer.node.ok_or("no node of a definite answer")?;
+    let shown = cache
+        .graph_of(root)?
+        .ok_or("no graph of a definite answer")?;
+    if !check_graph::<D>(alloc, cache.cx(), &shown, pair, verdict, &mut builder)? {
+        return Err("the checker refuses the graph")?;
+    }
+    Ok(verdict)
+}
+
+/// The first of these pairs that is answered otherwise, where all are asked in turn.
+pub fn answered_otherwise<T: LendsTypes>(
+    alloc: Global,
+    types: T,
+    asked: &[Asked],
+) -> Result<Option<Asked>, Fail> {
+    let mut subtyping = Subtyping::<T>::new(alloc, types);
+    for (left, right, is_below) in asked {
+        if subtyping.is_below(*left, *right)? != *is_below {
+            return Ok(Some((*left, *right, *is_below)));
+        }
+    }
+    Ok(None)
+}
