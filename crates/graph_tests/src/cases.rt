@@ -19,10 +19,10 @@ const MOST_DEPTH: usize = 8;
 
 /// A table, the ways in which its questions are asked, none of them for plain questions, and what is wanted of it.
 #[derive(Clone, Copy)]
-struct Case<'a> {
-    rules: &'a Rules,
-    ways: &'a str,
-    wanted: &'a str,
+pub struct Case<'a> {
+    pub rules: &'a Rules,
+    pub ways: &'a str,
+    pub wanted: &'a str,
 }
 
 /// What the table's questions come to, with the sections that are wanted.
@@ -90,7 +90,7 @@ fn tell_with<const LIMIT: usize, const PROVISIONAL: usize>(
 }
 
 /// What the questions come to over one cache. Plain questions have to come to the same as lists, and a flaw is told instead.
-fn lines_of<X, D>(alloc: Global, cx: X, case: Case<'_>) -> Result<Vec<u8>, Fail>
+pub fn lines_of<X, D>(alloc: Global, cx: X, case: Case<'_>) -> Result<Vec<u8>, Fail>
 where
     X: Cx<Input = Goal, Result = Outcome>,
     D: Delegate<Cx = X, ProofTreeBuilder = Builder>,

@@ -69,7 +69,7 @@ fn draw_graph(
         above.truncate(depth);
         let node = nodes.get(edge.target).ok_or("no node")?;
         draw_node(drawn, rules, depth, edge, node)?;
-        match above.iter().position(|place| *place == edge.target) {
+        match place_of(above.as_slice(), edge.target) {
             Some(at) => {
                 let up = depth.saturating_sub(at);
                 write!(drawn, " {up} up")?;
@@ -84,6 +84,16 @@ fn draw_graph(
         }
     }
     Err("more nodes than expected")?
+}
+
+/// Where the list has this element.
+fn place_of(list: &[usize], wanted: usize) -> Option<usize> {
+    for (place, element) in list.iter().enumerate() {
+        if *element == wanted {
+            return Some(place);
+        }
+    }
+    None
 }
 
 /// The start of the line for the node that the edge leads to.
@@ -145,12 +155,11 @@ pub fn letter_of(kind: PathKind) -> &'static str {
 
 /// The kind of this letter.
 pub fn kind_of(letter: &str) -> Result<PathKind, Fail> {
-    let kinds = [
-        PathKind::Inductive,
-        PathKind::Unknown,
-        PathKind::Coinductive,
-        PathKind::ForcedAmbiguity,
-    ];
-    let found = kinds.iter().find(|kind| letter_of(**kind) == letter);
-    Ok(*found.ok_or("no kind")?)
+    Ok(match letter {
+        "i" => PathKind::Inductive,
+        "u" => PathKind::Unknown,
+        "c" => PathKind::Coinductive,
+        "f" => PathKind::ForcedAmbiguity,
+        _ => Err("no kind")?,
+    })
 }

@@ -10,17 +10,24 @@
 //! | `scripts` | requests in any order (`scripts`) |
 //! | `pairs` | all tables of two goals that ask two questions each (`pairs`) |
 //! | `graph` | a graph made by hand, for the plain check of those (`flaws`) |
+//! | `drawn` | tables drawn at random, beside a solver that works out from the definition alone which goals have a proof graph (`decided`) |
+//! | `switches` | a table in which one goal needs as many runs as one likes, by rules whose scripts stop early (`switches`) |
 #![tactic(auto)]
 
 mod asked;
 mod cases;
+mod decided;
 mod drawn;
+mod early;
 mod flaws;
 mod idle;
 mod lists;
 mod pairs;
 mod plain_graph;
+mod random_tables;
 mod scripts;
+mod solved;
+mod switches;
 mod trees;
 
 use std::alloc::Global;
@@ -72,6 +79,8 @@ fn tell(
         "scripts" => scripts::tell(alloc, options, input),
         "pairs" => pairs::tell(alloc, options),
         "graph" => flaws::tell(alloc, input),
+        "drawn" => decided::tell(alloc, options),
+        "switches" => switches::tell(alloc, options),
         _ => Err("a run of another sort")?,
     }
 }

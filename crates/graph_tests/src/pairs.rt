@@ -69,12 +69,13 @@ impl Said {
         if !is_definite(outcome) {
             return Ok(false);
         }
-        let contradicts = self
-            .definite
-            .iter()
-            .any(|(other, said)| *other == goal && *said != outcome);
+        for (other, said) in &self.definite {
+            if *other == goal && *said != outcome {
+                return Ok(true);
+            }
+        }
         self.definite.push((goal, outcome))?;
-        Ok(contradicts)
+        Ok(false)
     }
 }
 

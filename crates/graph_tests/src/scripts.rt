@@ -172,6 +172,10 @@ fn line_of(word: &str) -> Result<Line, Fail> {
 }
 
 fn goal_of(name: &str) -> Result<Goal, Fail> {
-    let place = NAMES.iter().position(|known| *known == name);
-    Ok(Goal(place.ok_or("no goal")?))
+    Ok(Goal(match name {
+        "A" => 0,
+        "B" => 1,
+        "C" => 2,
+        _ => Err("no goal")?,
+    }))
 }
