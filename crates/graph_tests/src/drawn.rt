@@ -4,7 +4,6 @@
 //! its edges lead to follow in the edges' order, each with one more space in front. Where an edge leads back to a node
 //! above, its line says how many edges up that stands. An answer without a node is its result alone.
 
-use crate::runs::start_line;
 use delegate_parts::{Builder, Outcome};
 use rule_tables::{Goal, Rules};
 use search_parts::context::{Answer, Cx, Delegate, Edge, Node, Reply};
@@ -15,6 +14,14 @@ use std::test::Fail;
 
 /// More nodes than any graph that is drawn has, each counted as often as an edge leads to it.
 const MOST_NODES: usize = 32;
+
+/// Ends the line before, if there is one.
+pub fn start_line(lines: &mut Vec<u8>) -> Result<(), Fail> {
+    if !lines.is_empty() {
+        lines.push(b'\n')?;
+    }
+    Ok(())
+}
 
 /// The graph of the goal's answer.
 pub fn write_graph<X, D>(
@@ -28,6 +35,7 @@ where
     X: Cx<Input = Goal, Result = Outcome>,
     D: Delegate<Cx = X, ProofTreeBuilder = Builder>,
 {
+    write!(drawn, "\ngraph")?;
     match answer.node {
         Some(root) => {
             let handed = cache.graph_of(root)?.ok_or("no graph")?;
@@ -61,7 +69,7 @@ fn draw_graph(
         above.truncate(depth);
         let node = nodes.get(edge.target).ok_or("no node")?;
         draw_node(drawn, rules, depth, edge, node)?;
-        match above.iter().position(|place| *place == edge.target) {
+        match place_of(above.as_slice(), edge.target) {
             Some(at) => {
                 let up = depth.saturating_sub(at);
                 write!(drawn, " {up} up")?;
@@ -76,6 +84,16 @@ fn draw_graph(
         }
     }
     Err("more nodes than expected")?
+}
+
+/// Where the list has this element.
+fn place_of(list: &[usize], wanted: usize) -> Option<usize> {
+    for (place, element) in list.iter().enumerate() {
+        if *element == wanted {
+            return Some(place);
+        }
+    }
+    None
 }
 
 /// The start of the line for the node that the edge leads to.
@@ -136,14 +154,12 @@ pub fn letter_of(kind: PathKind) -> &'static str {
 }
 
 /// The kind of this letter.
-#[cfg(test)]
 pub fn kind_of(letter: &str) -> Result<PathKind, Fail> {
-    let kinds = [
-        PathKind::Inductive,
-        PathKind::Unknown,
-        PathKind::Coinductive,
-        PathKind::ForcedAmbiguity,
-    ];
-    let found = kinds.iter().find(|kind| letter_of(**kind) == letter);
-    Ok(*found.ok_or("no kind")?)
+    Ok(match letter {
+        "i" => PathKind::Inductive,
+        "u" => PathKind::Unknown,
+        "c" => PathKind::Coinductive,
+        "f" => PathKind::ForcedAmbiguity,
+        _ => Err("no kind")?,
+    })
 }

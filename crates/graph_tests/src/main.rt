@@ -1,32 +1,36 @@
-//! Tests of the search. The program reads runs over tables of rules, with the options of the search, and says of how many
-//! the search answers what stands in them. The first are worked out by hand, each named for what it shows. The others are
-//! runs of rustc's own search graph at other limits of runs, with the provisional cache and without it: their tables are
-//! those of a random generator, and each is answered otherwise at another of these limits, or at the other setting of the
-//! provisional cache.
+//! Tests of the search. The program reads runs, and says of how many the search answers what stands in them.
 //!
-//! The tests beside it have delegates of `test_delegates`, for how deep a search may go and for requests in any order, or many
-//! small tables of rules.
+//! A run ends with an empty line. It begins with a line that has its sort, its name and its options, and its answers follow a
+//! line `expect 0`. The sorts are:
+//!
+//! | Sort | The run |
+//! |---|---|
+//! | `case` | a table of rules, with the options of the search (`cases`). The first are worked out by hand, each named for what it shows. The others are runs of rustc's own search graph at other limits of runs, with the provisional cache and without it: their tables are those of a random generator, and each is answered otherwise at another of these limits, or at the other setting of the provisional cache |
+//! | `chain` | the same of a chain of many goals, of which the run has the length, and the depth at which the first is asked |
+//! | `scripts` | requests in any order (`scripts`) |
+//! | `pairs` | all tables of two goals that ask two questions each (`pairs`) |
+//! | `graph` | a graph made by hand, for the plain check of those (`flaws`) |
+//! | `drawn` | tables drawn at random, beside a solver that works out from the definition alone which goals have a proof graph (`decided`) |
+//! | `switches` | a table in which one goal needs as many runs as one likes, by rules whose scripts stop early (`switches`) |
 #![tactic(auto)]
 
-mod answers;
-#[cfg(test)]
-mod dense;
-#[cfg(test)]
-mod depth;
+mod asked;
+mod cases;
+mod decided;
 mod drawn;
-#[cfg(test)]
+mod early;
 mod flaws;
-#[cfg(test)]
+mod idle;
+mod lists;
+mod pairs;
 mod plain_graph;
-#[cfg(test)]
-mod recorded;
-#[cfg(test)]
-mod requests;
-#[cfg(test)]
-mod root_goals;
-mod runs;
+mod random_tables;
+mod scripts;
+mod solved;
+mod switches;
+mod trees;
 
-use runs::is_answered;
+use std::alloc::Global;
 use std::io;
 use std::test::Fail;
 
@@ -47,4 +51,36 @@ fn main(rt: HostRuntime) -> Result<(), Fail> {
         return Err("a run is answered otherwise")?;
     }
     Ok(())
+}
+
+/// Whether the run comes to what stands in it.
+fn is_answered(alloc: Global, run: &str) -> Result<bool, Fail> {
+    let (asked, wanted) = run
+        .split_once("\nexpect 0\n")
+        .ok_or("a run without answers")?;
+    let (head, input) = asked.split_once('\n').unwrap_or((asked, ""));
+    let (sort, named) = head.split_once(' ').ok_or("a run without a name")?;
+    let (_, options) = named.split_once(' ').unwrap_or((named, ""));
+    let told = tell(alloc, sort, options, input, wanted)?;
+    Ok(told.as_slice() == wanted.as_bytes())
+}
+
+/// What a run of this sort comes to.
+fn tell(
+    alloc: Global,
+    sort: &str,
+    options: &str,
+    input: &str,
+    wanted: &str,
+) -> Result<Vec<u8>, Fail> {
+    match sort {
+        "case" => cases::tell(alloc, options, input.as_bytes(), wanted),
+        "chain" => cases::tell_chain(alloc, options, input, wanted),
+        "scripts" => scripts::tell(alloc, options, input),
+        "pairs" => pairs::tell(alloc, options),
+        "graph" => flaws::tell(alloc, input),
+        "drawn" => decided::tell(alloc, options),
+        "switches" => switches::tell(alloc, options),
+        _ => Err("a run of another sort")?,
+    }
 }

@@ -5,6 +5,7 @@
 //! nodes. Only the search for closed walks is alike, and neither check has a part of the other, on purpose.
 
 use delegate_parts::Outcome;
+use rule_tables::rules::Asking;
 use rule_tables::{Candidates, Goal, Rules};
 use search_parts::context::{Cx, Delegate, Node, NodeId};
 use search_parts::global_cache::GlobalCache;
@@ -100,16 +101,16 @@ impl ShownGraph {
         goal: Goal,
         outcome: Outcome,
     ) -> Result<Option<&'static str>, Fail> {
-        if self.nodes.first().is_none_or(|root| root.goal != goal) {
+        if !self.is_rooted(goal) {
             return Ok(Some("the root is of another goal"));
         }
-        if self.nodes.iter().any(|node| node.outcome != outcome) {
+        if self.has_other_result(outcome) {
             return Ok(Some("a node has another result"));
         }
-        if !self.edges.iter().all(|edge| self.leads_to_its_goal(*edge)) {
+        if self.has_stray_edge() {
             return Ok(Some("an edge leads to another goal"));
         }
-        if !self.nodes.iter().all(|node| self.is_shown(rules, *node)) {
+        if self.has_unshown_goal(rules) {
             return Ok(Some("a goal is not shown by its edges"));
         }
         if self.has_wrong_walk(outcome)? {
@@ -118,10 +119,47 @@ impl ShownGraph {
         Ok(None)
     }
 
-    fn leads_to_its_goal(&self, edge: ShownEdge) -> bool {
-        self.nodes
-            .iter()
-            .any(|node| node.place == edge.target && node.goal == edge.goal)
+    fn is_rooted(&self, goal: Goal) -> bool {
+        match self.nodes.first() {
+            Some(root) => root.goal == goal,
+            None => false,
+        }
+    }
+
+    fn has_other_result(&self, outcome: Outcome) -> bool {
+        for node in &self.nodes {
+            if node.outcome != outcome {
+                return true;
+            }
+        }
+        false
+    }
+
+    fn has_stray_edge(&self) -> bool {
+        for edge in &self.edges {
+            if !self.has_node(edge.target, edge.goal) {
+                return true;
+            }
+        }
+        false
+    }
+
+    fn has_node(&self, place: usize, goal: Goal) -> bool {
+        for node in &self.nodes {
+            if node.place == place && node.goal == goal {
+                return true;
+            }
+        }
+        false
+    }
+
+    fn has_unshown_goal(&self, rules: &Rules) -> bool {
+        for node in &self.nodes {
+            if !self.is_shown(rules, *node) {
+                return true;
+            }
+        }
+        false
     }
 
     /// Whether the node's edges show its result: of a yes, they have all questions of some candidate, and of a
@@ -129,18 +167,18 @@ impl ShownGraph {
     fn is_shown(&self, rules: &Rules, node: ShownNode) -> bool {
         let candidates = rules.candidates(node.goal);
         match node.outcome {
-            Outcome::Yes => self.has_all_of_one(&candidates, node),
-            Outcome::No => self.has_one_of_each(&candidates, node),
+            Outcome::Yes => self.has_all_of_one(&candidates, node.place),
+            Outcome::No => self.has_one_of_each(&candidates, node.place),
             Outcome::Maybe | Outcome::Overflow => false,
         }
     }
 
-    /// Whether the node's edges have all questions of some candidate.
-    fn has_all_of_one(&self, candidates: &Candidates<'_>, node: ShownNode) -> bool {
+    /// Whether edges from here have all questions of some candidate.
+    fn has_all_of_one(&self, candidates: &Candidates<'_>, source: usize) -> bool {
         for place in 0..candidates.count() {
             if let Some(candidate) = candidates.get(place) {
-                let mut questions = candidate.questions().iter();
-                if questions.all(|it| self.has_edge(node, it.kind, it.goal)) {
+                let asked = candidate.questions();
+                if self.count_edges(source, asked) == asked.len() {
                     return true;
                 }
             }
@@ -148,23 +186,36 @@ impl ShownGraph {
         false
     }
 
-    /// Whether the node's edges have a question of each candidate.
-    fn has_one_of_each(&self, candidates: &Candidates<'_>, node: ShownNode) -> bool {
+    /// Whether edges from here have a question of each candidate.
+    fn has_one_of_each(&self, candidates: &Candidates<'_>, source: usize) -> bool {
         for place in 0..candidates.count() {
-            if let Some(candidate) = candidates.get(place) {
-                let mut questions = candidate.questions().iter();
-                if !questions.any(|it| self.has_edge(node, it.kind, it.goal)) {
-                    return false;
-                }
+            if let Some(candidate) = candidates.get(place)
+                && self.count_edges(source, candidate.questions()) == 0
+            {
+                return false;
             }
         }
         true
     }
 
-    fn has_edge(&self, node: ShownNode, kind: PathKind, goal: Goal) -> bool {
-        self.edges.iter().any(|edge| edge.source == node.place
-            && edge.kind == kind
-            && edge.goal == goal)
+    /// Of how many of the questions there is an edge from here.
+    fn count_edges(&self, source: usize, questions: &[Asking]) -> usize {
+        let mut count = 0usize;
+        for asking in questions {
+            if self.has_edge(source, *asking) {
+                count = count.saturating_add(1);
+            }
+        }
+        count
+    }
+
+    fn has_edge(&self, source: usize, asking: Asking) -> bool {
+        for edge in &self.edges {
+            if edge.source == source && edge.kind == asking.kind && edge.goal == asking.goal {
+                return true;
+            }
+        }
+        false
     }
 
     /// Whether the greatest kind of some closed walk is another one than the outcome's: coinductive for yes, and

@@ -1,14 +1,19 @@
 //! All tables of two goals that ask two questions each: what is answered, and the graphs of the answers.
+//!
+//! A run names what the two goals make of their questions. It says how many of the questions at depth 4 come to yes, no and
+//! neither, with the provisional cache and without it, and how many of the tables without unknown steps are decided, each
+//! counted once with that cache and once without it. Nothing is wrong with any answer, and no goal is both yes and no.
 
-use crate::answers::{Table, TableDelegate, answers_to, ask, is_definite};
+use crate::asked::{Way, ask, is_definite};
+use crate::lists::{answers_to, lists_have};
 use crate::plain_graph::ShownGraph;
 use delegate_parts::{Builder, Outcome};
-use rule_tables::{Goal, Rules};
-use search_parts::context::{Cx, Delegate};
+use rule_tables::delegate::Table;
+use rule_tables::{Goal, Rules, TableDelegate};
+use search_parts::context::{Answer, Cx, Delegate};
 use search_parts::global_cache::GlobalCache;
 use std::alloc::Global;
 use std::io::Write;
-use std::process::Abort;
 use std::test::Fail;
 
 /// All questions of the two goals.
@@ -32,12 +37,13 @@ const ASKED: [(usize, &[u8]); 5] = [(0, b"A"), (4, b"A"), (4, b"B"), (1, b"B"), 
 /// What is asked of it over another cache.
 const ASKED_ANEW: [(usize, &[u8]); 2] = [(4, b"B"), (4, b"A")];
 
-/// How many questions came to each result.
-#[derive(Clone, Copy, Debug, PartialEq, Eq)]
+/// How many questions came to each result, and how many tables were decided.
+#[derive(Clone, Copy, Debug, Default)]
 struct Counts {
     yes: u32,
     no: u32,
     neither: u32,
+    decided: u32,
 }
 
 impl Counts {
@@ -63,109 +69,74 @@ impl Said {
         if !is_definite(outcome) {
             return Ok(false);
         }
-        let contradicts = self
-            .definite
-            .iter()
-            .any(|(other, said)| *other == goal && *said != outcome);
+        for (other, said) in &self.definite {
+            if *other == goal && *said != outcome {
+                return Ok(true);
+            }
+        }
         self.definite.push((goal, outcome))?;
-        Ok(contradicts)
+        Ok(false)
     }
 }
 
-// The original, run on the same tables, comes to as many of each result, with its provisional cache and without it.
-#[test]
-fn tables_of_alternatives_are_answered_with_graphs(rt: HostRuntime) -> Result<(), Fail> {
-    expect_counts(
-        &rt,
-        Body::Alternatives,
-        Body::Alternatives,
-        [17992, 776, 14000],
-    )
-}
-
-#[test]
-fn tables_whose_first_goal_has_alternatives_are_answered_with_graphs(
-    rt: HostRuntime,
-) -> Result<(), Fail> {
-    expect_counts(&rt, Body::Alternatives, Body::Together, [7736, 6008, 19024])
-}
-
-#[test]
-fn tables_whose_second_goal_has_alternatives_are_answered_with_graphs(
-    rt: HostRuntime,
-) -> Result<(), Fail> {
-    expect_counts(&rt, Body::Together, Body::Alternatives, [7736, 6008, 19024])
-}
-
-#[test]
-fn tables_of_pairs_are_answered_with_graphs(rt: HostRuntime) -> Result<(), Fail> {
-    expect_counts(&rt, Body::Together, Body::Together, [1352, 13832, 17584])
-}
-
-/// The questions of all tables of these bodies come to so many yes, no and neither at depth 4, with the provisional cache
-/// and without it. Nothing is wrong with any answer, and no goal is both yes and no.
-fn expect_counts(
-    rt: &(impl Abort + AllocGlobal),
-    first: Body,
-    second: Body,
-    [yes, no, neither]: [u32; 3],
-) -> Result<(), Fail> {
-    let mut counts = Counts {
-        yes: 0,
-        no: 0,
-        neither: 0,
-    };
+/// What all tables of these bodies come to.
+pub fn tell(alloc: Global, bodies: &str) -> Result<Vec<u8>, Fail> {
+    let (first, second) = bodies.split_once(' ').ok_or("no second body")?;
+    let (first, second) = (body_of(first)?, body_of(second)?);
+    let mut told = Vec::new(alloc);
+    let mut counts = Counts::default();
     for table in 0..PAIRS * PAIRS {
-        let text = text_of(rt.alloc(), first, second, table)?;
-        let rules = Rules::read(rt.alloc(), text.as_slice())?;
-        let mut said = Said {
-            definite: Vec::new(rt.alloc()),
-        };
-        let flaw = flaw_of_rules::<1>(rt.alloc(), &rules, &mut said, &mut counts)?;
-        assert_eq!(rt; flaw, None, "table {table}");
-        let flaw = flaw_of_rules::<0>(rt.alloc(), &rules, &mut said, &mut counts)?;
-        assert_eq!(rt; flaw, None, "table {table} without the provisional cache");
+        if let Some(flaw) = flaw_of(alloc, first, second, table, &mut counts)? {
+            write!(told, "table {table}: {flaw}\n")?;
+        }
     }
-    assert_eq!(rt; counts, Counts { yes, no, neither });
-    Ok(())
+    let Counts {
+        yes,
+        no,
+        neither,
+        decided,
+    } = counts;
+    write!(
+        told,
+        "{yes} yes {no} no {neither} neither {decided} decided"
+    )?;
+    Ok(told)
 }
 
-#[test]
-fn tables_without_unknown_steps_are_decided(rt: HostRuntime) -> Result<(), Fail> {
-    for (first, second) in [
-        (Body::Alternatives, Body::Alternatives),
-        (Body::Alternatives, Body::Together),
-        (Body::Together, Body::Alternatives),
-        (Body::Together, Body::Together),
-    ] {
-        assert_eq!(rt; decided_tables::<1>(rt.alloc(), first, second)?, 256);
-        assert_eq!(rt; decided_tables::<0>(rt.alloc(), first, second)?, 256);
-    }
-    Ok(())
+fn body_of(word: &str) -> Result<Body, Fail> {
+    Ok(match word {
+        "alternatives" => Body::Alternatives,
+        "together" => Body::Together,
+        _ => Err("no body")?,
+    })
 }
 
-/// Of how many tables of these bodies, all of whose steps are inductive or coinductive, both goals are answered yes
-/// or no within the limits, without the provisional cache where `PROVISIONAL` is 0.
-fn decided_tables<const PROVISIONAL: usize>(
+/// What is wrong with the answers to the table of this number.
+fn flaw_of(
     alloc: Global,
     first: Body,
     second: Body,
-) -> Result<u32, Fail> {
-    let mut count = 0u32;
-    for table in 0..PAIRS * PAIRS {
-        if has_unknown_step(table / PAIRS) || has_unknown_step(table % PAIRS) {
-            continue;
-        }
-        let text = text_of(alloc, first, second, table)?;
-        let rules = Rules::read(alloc, text.as_slice())?;
-        let cx = Table { lender: &rules };
-        if both_are_decided::<Table<&Rules>, TableDelegate<'_, 8, PROVISIONAL>>(
-            alloc, cx, &rules,
-        )? {
-            count = count.saturating_add(1);
-        }
+    table: usize,
+    counts: &mut Counts,
+) -> Result<Option<&'static str>, Fail> {
+    let text = text_of(alloc, first, second, table)?;
+    let rules = &Rules::read(alloc, text.as_slice())?;
+    let mut said = Said {
+        definite: Vec::new(alloc),
+    };
+    let flaw = flaw_with::<1>(alloc, rules, &mut said, counts)?;
+    if flaw.is_some() {
+        return Ok(flaw);
     }
-    Ok(count)
+    let flaw = flaw_with::<0>(alloc, rules, &mut said, counts)?;
+    if flaw.is_some() {
+        return Ok(flaw);
+    }
+    if !has_unknown_step(table / PAIRS) && !has_unknown_step(table % PAIRS) {
+        note_decided::<1>(alloc, rules, counts)?;
+        note_decided::<0>(alloc, rules, counts)?;
+    }
+    Ok(None)
 }
 
 /// The two questions of a pair.
@@ -200,7 +171,7 @@ fn write_body(text: &mut Vec<u8>, name: &str, body: Body, pair: usize) -> Result
 }
 
 /// What is wrong with the answers of a search over these rules, without the provisional cache where `PROVISIONAL` is 0.
-fn flaw_of_rules<const PROVISIONAL: usize>(
+fn flaw_with<const PROVISIONAL: usize>(
     alloc: Global,
     rules: &Rules,
     said: &mut Said,
@@ -212,8 +183,7 @@ fn flaw_of_rules<const PROVISIONAL: usize>(
     )
 }
 
-/// What is wrong with the answers to the table's questions over two caches, if anything is. The results at depth 4 are
-/// counted.
+/// The same of the questions over two caches. The results at depth 4 are counted.
 fn flaw_of_table<X, D>(
     alloc: Global,
     cx: X,
@@ -225,18 +195,17 @@ where
     X: Cx<Input = Goal, Result = Outcome>,
     D: Delegate<Cx = X, ProofTreeBuilder = Builder>,
 {
-    let mut cache = GlobalCache::<D>::new(alloc, cx);
-    if let Some(flaw) = flaw_of_questions::<X, D>(alloc, &mut cache, rules, &ASKED, said, counts)? {
-        return Ok(Some(flaw));
+    let flaw = flaw_of_questions::<X, D>(alloc, cx, rules, &ASKED, said, counts)?;
+    if flaw.is_some() {
+        return Ok(flaw);
     }
-    let mut cache = GlobalCache::<D>::new(alloc, cx);
-    flaw_of_questions::<X, D>(alloc, &mut cache, rules, &ASKED_ANEW, said, counts)
+    flaw_of_questions::<X, D>(alloc, cx, rules, &ASKED_ANEW, said, counts)
 }
 
-/// The same of these questions over one cache.
+/// The same of these questions over one cache, and as a list over another.
 fn flaw_of_questions<X, D>(
     alloc: Global,
-    cache: &mut GlobalCache<D>,
+    cx: X,
     rules: &Rules,
     asked: &[(usize, &[u8])],
     said: &mut Said,
@@ -246,14 +215,18 @@ where
     X: Cx<Input = Goal, Result = Outcome>,
     D: Delegate<Cx = X, ProofTreeBuilder = Builder>,
 {
+    let mut cache = GlobalCache::<D>::new(alloc, cx);
     let mut questions = Vec::new(alloc);
     for (depth, name) in asked {
         questions.push((*depth, rules.goal(name).ok_or("no goal")?))?;
     }
-    let answers = match answers_to::<X, D>(alloc, cache, questions.as_slice(), &[0])? {
+    let answers = match answers_to::<X, D>(alloc, &mut cache, questions.as_slice(), "")? {
         Ok(answers) => answers,
         Err(flaw) => return Ok(Some(flaw)),
     };
+    if !lists_have::<X, D>(alloc, cx, questions.as_slice(), 0, answers.as_slice())? {
+        return Ok(Some("another answer in a list"));
+    }
     for ((depth, goal), answered) in questions.iter().zip(answers.iter()) {
         let outcome = answered.answer.result;
         if *depth == 4 {
@@ -262,21 +235,51 @@ where
         if said.contradicts(*goal, outcome)? {
             return Ok(Some("yes and no"));
         }
-        let Some(root) = answered.answer.node else {
-            continue;
-        };
-        let Some(shown) = ShownGraph::read::<X, D>(alloc, cache, root)? else {
-            return Ok(Some("an open node"));
-        };
-        if let Some(flaw) = shown.flaw(rules, *goal, outcome)? {
-            return Ok(Some(flaw));
+        let flaw = flaw_of_graph::<X, D>(alloc, &cache, rules, *goal, answered.answer)?;
+        if flaw.is_some() {
+            return Ok(flaw);
         }
     }
     Ok(None)
 }
 
+/// What is wrong with the graph that the answer names, if it names one.
+fn flaw_of_graph<X, D>(
+    alloc: Global,
+    cache: &GlobalCache<D>,
+    rules: &Rules,
+    goal: Goal,
+    answer: Answer<Outcome>,
+) -> Result<Option<&'static str>, Fail>
+where
+    X: Cx<Input = Goal, Result = Outcome>,
+    D: Delegate<Cx = X, ProofTreeBuilder = Builder>,
+{
+    let Some(root) = answer.node else {
+        return Ok(None);
+    };
+    match ShownGraph::read::<X, D>(alloc, cache, root)? {
+        Some(shown) => shown.flaw(rules, goal, answer.result),
+        None => Ok(Some("an open node")),
+    }
+}
+
+/// Counts the table if both goals are answered yes or no within the limits, without the provisional cache where `PROVISIONAL`
+/// is 0.
+fn note_decided<const PROVISIONAL: usize>(
+    alloc: Global,
+    rules: &Rules,
+    counts: &mut Counts,
+) -> Result<(), Fail> {
+    let cx = Table { lender: rules };
+    if are_decided::<Table<&Rules>, TableDelegate<'_, 8, PROVISIONAL>>(alloc, cx, rules)? {
+        counts.decided = counts.decided.saturating_add(1);
+    }
+    Ok(())
+}
+
 /// Whether both goals are answered yes or no at depth 4, and no limit is met.
-fn both_are_decided<X, D>(alloc: Global, cx: X, rules: &Rules) -> Result<bool, Fail>
+fn are_decided<X, D>(alloc: Global, cx: X, rules: &Rules) -> Result<bool, Fail>
 where
     X: Cx<Input = Goal, Result = Outcome>,
     D: Delegate<Cx = X, ProofTreeBuilder = Builder>,
@@ -284,7 +287,7 @@ where
     let mut cache = GlobalCache::<D>::new(alloc, cx);
     for name in [b"A", b"B"] {
         let goal = rules.goal(name).ok_or("no goal")?;
-        let answered = ask::<X, D>(alloc, &mut cache, 4, goal)?;
+        let answered = ask::<X, D>(alloc, &mut cache, Way::Question, 4, goal)?;
         if !is_definite(answered.answer.result) || answered.limits_met {
             return Ok(false);
         }

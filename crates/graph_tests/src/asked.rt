@@ -1,0 +1,168 @@
+//! Goals that are asked, whatever they are. What a search promises of an answer is not handed on, so that the code above is
+//! proved without it.
+
+use delegate_parts::{Builder, Outcome};
+use graph_check::check_graph;
+use search_graph::graph::SearchGraph;
+use search_parts::context::{Answer, Cx, Delegate, Fault, NoMemory, NodeId, ProofGraph};
+use search_parts::global_cache::GlobalCache;
+use search_parts::path::PathKind;
+use std::alloc::Global;
+use std::test::Fail;
+
+/// How a goal is asked.
+#[derive(Clone, Copy)]
+pub enum Way {
+    /// On a graph, as any question.
+    Question,
+    /// The same with a builder that records.
+    Recorded,
+    /// For a proof tree.
+    Tree,
+    /// The same with a builder that records.
+    RecordedTree,
+}
+
+impl Way {
+    /// The way of this name. Where there is none, it is a question.
+    pub fn of(name: &str) -> Result<Way, Fail> {
+        Ok(match name {
+            "" | "question" => Way::Question,
+            "recorded" => Way::Recorded,
+            "tree" => Way::Tree,
+            "recorded_tree" => Way::RecordedTree,
+            _ => Err("no way to ask")?,
+        })
+    }
+
+    fn builder(self) -> Builder {
+        Builder::new(matches!(self, Way::Question | Way::Tree))
+    }
+}
+
+/// What a question came to.
+#[derive(Clone, Copy, Debug)]
+pub struct Answered {
+    pub answer: Answer<Outcome>,
+    /// How many frames it started.
+    pub started: u64,
+    /// Whether the depth or the number of runs was too small.
+    pub limits_met: bool,
+}
+
+/// Asks the goal at this depth, on a graph of its own.
+pub fn ask<X, D>(
+    alloc: Global,
+    cache: &mut GlobalCache<D>,
+    way: Way,
+    depth: usize,
+    goal: X::Input,
+) -> Result<Answered, Fault<X::Input, Outcome>>
+where
+    X: Cx<Result = Outcome>,
+    D: Delegate<Cx = X, ProofTreeBuilder = Builder>,
+{
+    let mut graph = SearchGraph::<D>::new(alloc, depth);
+    let mut builder = way.builder();
+    let answer = match way {
+        Way::Question | Way::Recorded => {
+            evaluate::<X, D>(&mut graph, cache, goal, &mut builder)?
+        }
+        Way::Tree | Way::RecordedTree => work_out::<X, D>(cache, depth, goal, &mut builder)?,
+    };
+    Ok(Answered {
+        answer,
+        started: builder.started(),
+        limits_met: graph.limits_met(),
+    })
+}
+
+/// Asks the goal on a graph.
+pub fn evaluate<X, D>(
+    graph: &mut SearchGraph<D>,
+    cache: &mut GlobalCache<D>,
+    goal: X::Input,
+    builder: &mut Builder,
+) -> Result<Answer<Outcome>, Fault<X::Input, Outcome>>
+where
+    X: Cx<Result = Outcome>,
+    D: Delegate<Cx = X, ProofTreeBuilder = Builder>,
+{
+    graph.evaluate_goal(cache, goal, PathKind::Inductive, builder)
+}
+
+/// Works the goal out for a proof tree.
+pub fn work_out<X, D>(
+    cache: &mut GlobalCache<D>,
+    depth: usize,
+    goal: X::Input,
+    builder: &mut D::ProofTreeBuilder,
+) -> Result<Answer<Outcome>, Fault<X::Input, Outcome>>
+where
+    X: Cx<Result = Outcome>,
+    D: Delegate<Cx = X>,
+{
+    SearchGraph::<D>::evaluate_root_goal_for_proof_tree(cache, depth, goal, builder)
+}
+
+/// The graph of the node, if one is handed out that the checker accepts for the goal and the outcome.
+pub fn shown_graph<X, D>(
+    alloc: Global,
+    cache: &GlobalCache<D>,
+    goal: X::Input,
+    outcome: Outcome,
+    node: NodeId,
+) -> Result<Option<ProofGraph<X>>, NoMemory>
+where
+    X: Cx<Result = Outcome>,
+    D: Delegate<Cx = X, ProofTreeBuilder = Builder>,
+{
+    let Some(graph) = cache.graph_of(node)? else {
+        return Ok(None);
+    };
+    if accepts::<X, D>(alloc, cache.cx(), &graph, goal, outcome)? {
+        Ok(Some(graph))
+    } else {
+        Ok(None)
+    }
+}
+
+/// Whether the checker accepts the graph for the goal and the outcome.
+fn accepts<X, D>(
+    alloc: Global,
+    cx: X,
+    graph: &ProofGraph<X>,
+    goal: X::Input,
+    outcome: Outcome,
+) -> Result<bool, NoMemory>
+where
+    X: Cx<Result = Outcome>,
+    D: Delegate<Cx = X, ProofTreeBuilder = Builder>,
+{
+    let mut builder = Builder::new(true);
+    check_graph::<D>(alloc, cx, graph, goal, outcome.verdict(), &mut builder)
+}
+
+/// Whether the answer is shown: a definite one has to name a node whose graph the checker accepts, and any other none.
+pub fn is_shown<X, D>(
+    alloc: Global,
+    cache: &GlobalCache<D>,
+    goal: X::Input,
+    answer: Answer<Outcome>,
+) -> Result<bool, NoMemory>
+where
+    X: Cx<Result = Outcome>,
+    D: Delegate<Cx = X, ProofTreeBuilder = Builder>,
+{
+    let outcome = answer.result;
+    let Some(node) = answer.node else {
+        return Ok(!is_definite(outcome));
+    };
+    let shown = shown_graph::<X, D>(alloc, cache, goal, outcome, node)?;
+    Ok(is_definite(outcome) && shown.is_some())
+}
+
+/// Whether the outcome is yes or no.
+pub fn is_definite(outcome: Outcome) -> bool {
+    matches!(outcome, Outcome::Yes | Outcome::No)
+}
