@@ -1,7 +1,7 @@
 use Rattle.std.proofs.Common.{◌≡◌, ◌+◌, Some, length, ◌∙◌, ap, arith, length-append}
-use Rattle.cache_tests.specs.Below.{Coinductive, open_goal}
-use Rattle.cache_tests.proofs.OpenNodes.{opened_is_node, opened_stays, other_stays_open, node_stays}
-use Rattle.cache_tests.proofs.handed_out.a_cycle_of_two_runs_of_one_goal_is_handed_out.Goals as goal
+use Rattle.parts_tests.specs.Below.{Coinductive, open_goal}
+use Rattle.parts_tests.proofs.OpenNodes.{opened_is_node, opened_stays, other_stays_open, node_stays}
+use Rattle.parts_tests.proofs.nodes.cycle_of_two.Goals as goal
 
 pub finish_towards-requires-clause-is_open : goal.finish_towards-requires-clause-is_open
 finish_towards-requires-clause-is_open g c =
