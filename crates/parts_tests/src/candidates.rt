@@ -1,6 +1,6 @@
 //! Tests of what candidates used of the goals on the stack.
 
-use crate::told::{Counts, say, say_number, tell_usages, usages_of};
+use crate::told::{Counts, Told, usages_of};
 use cycle_heads::candidates::CandidateHeadUsages;
 use cycle_heads::depth::StackDepth;
 use cycle_heads::memory::NoMemory;
@@ -13,7 +13,7 @@ enum Act {
     /// Usages of the head are noted.
     Note(usize, Counts),
     /// The usages of another candidate are added, which used each of these heads so often.
-    Merge(&'static [(usize, u32)]),
+    Merge([(usize, u32); 2]),
     /// All is forgotten.
     Clear,
 }
@@ -27,17 +27,17 @@ const ROWS: [(&str, &[Act], &str); 4] = [
             Act::Note(1, [7, 0, 0, 0]),
             Act::Note(0, [0, 0, 0, 0]),
         ],
-        "1 1i; 1 2i; 0 -, 1 2i",
+        "1 1i ; 1 2i ; 0 - 1 2i ; ",
     ),
     (
         "merged usages are sums",
-        &[Act::Merge(&[(0, 6), (2, 3)]), Act::Merge(&[(0, 9), (1, 5)])],
-        "0 6i, 2 3i; 0 15i, 1 5i, 2 3i",
+        &[Act::Merge([(0, 6), (2, 3)]), Act::Merge([(0, 9), (1, 5)])],
+        "0 6i 2 3i ; 0 15i 1 5i 2 3i ; ",
     ),
     (
         "no usages add nothing",
-        &[Act::Merge(&[(1, 5)]), Act::Merge(&[])],
-        "1 5i; 1 5i",
+        &[Act::Merge([(0, 0), (1, 5)]), Act::Merge([(0, 0), (1, 0)])],
+        "1 5i ; 1 5i ; ",
     ),
     (
         "what is forgotten is noted anew",
@@ -46,40 +46,35 @@ const ROWS: [(&str, &[Act], &str); 4] = [
             Act::Clear,
             Act::Note(3, [0, 0, 0, 1]),
         ],
-        "2 1u1c; none; 3 1f",
+        "2 1u1c ; none ; 3 1f ; ",
     ),
 ];
 
 #[test]
 fn candidates_are_as_told(rt: HostRuntime) -> Result<(), Fail> {
     for (name, acts, wanted) in ROWS {
-        let told = tell_acts(rt.alloc(), acts)?;
+        let told = tell_acts(rt.alloc(), acts).text()?;
         assert_eq!(rt; told.as_str(), wanted, "{name}");
     }
     Ok(())
 }
 
-fn tell_acts(alloc: Global, acts: &[Act]) -> Result<String, Fail> {
-    let mut told = String::new(alloc);
+fn tell_acts(alloc: Global, acts: &[Act]) -> Told {
+    let mut told = Told::new(alloc);
     let mut candidate = CandidateHeadUsages::new(alloc);
     if !finds_all(&candidate) {
-        return Err("a new candidate has heads")?;
+        told.say("a new candidate has heads");
     }
     for act in acts {
-        if !told.is_empty() {
-            say(&mut told, "; ")?;
+        if carry_out(alloc, &mut candidate, *act).is_err() {
+            told.say("no memory ");
         }
-        carry_out(alloc, &mut candidate, *act)?;
-        tell(&mut told, &candidate)?;
+        tell(&mut told, &candidate);
     }
-    Ok(told)
+    told
 }
 
-fn carry_out(
-    alloc: Global,
-    candidate: &mut CandidateHeadUsages,
-    act: Act,
-) -> Result<(), NoMemory> {
+fn carry_out(alloc: Global, candidate: &mut CandidateHeadUsages, act: Act) -> Result<(), NoMemory> {
     match act {
         Act::Note(head, counts) => candidate.note_usages(StackDepth::new(head), usages_of(counts)),
         Act::Merge(heads) => candidate.merge_usages(of_heads(alloc, heads)?),
@@ -91,32 +86,30 @@ fn carry_out(
 }
 
 /// A candidate that used each of these heads so often, by inductive cycles.
-fn of_heads(alloc: Global, heads: &[(usize, u32)]) -> Result<CandidateHeadUsages, NoMemory> {
+fn of_heads(alloc: Global, heads: [(usize, u32); 2]) -> Result<CandidateHeadUsages, NoMemory> {
     let mut candidate = CandidateHeadUsages::new(alloc);
     for (head, count) in heads {
-        for _ in 0..*count {
-            candidate.note_usages(StackDepth::new(*head), usages_of([1, 0, 0, 0]))?;
+        for _ in 0..count {
+            candidate.note_usages(StackDepth::new(head), usages_of([1, 0, 0, 0]))?;
         }
     }
     Ok(candidate)
 }
 
 /// The heads with their usages, by rising depth.
-fn tell(told: &mut String, candidate: &CandidateHeadUsages) -> Result<(), Fail> {
-    if !finds_all(candidate) {
-        return Err("a head is not found as it stands in the list")?;
-    }
+fn tell(told: &mut Told, candidate: &CandidateHeadUsages) {
     if candidate.is_empty() {
-        say(told, "none")?;
+        told.say("none ");
     }
-    let mut separator = "";
     for (head, usages) in candidate.as_slice() {
-        say_number(told, separator, head.index())?;
-        say(told, " ")?;
-        tell_usages(told, *usages)?;
-        separator = ", ";
+        told.number("", head.index());
+        told.usages(" ", *usages);
+        told.say(" ");
     }
-    Ok(())
+    if !finds_all(candidate) {
+        told.say("found otherwise");
+    }
+    told.say("; ");
 }
 
 /// Whether each head is found with the usages that it has in the list, and of the first eight no other one is found.

@@ -1,6 +1,6 @@
 //! Tests of strongly connected components.
 
-use crate::told::{say, say_number};
+use crate::told::Told;
 use std::alloc::{AllocError, Global};
 use std::test::Fail;
 use strong_components::{components, stays_inside};
@@ -24,30 +24,40 @@ const ROWS: [(&str, usize, &[(usize, usize)], &str); 8] = [
         &[(0, 1), (1, 0), (1, 2), (2, 3), (3, 2), (3, 2), (4, 4)],
         " 1 1 0 0 2",
     ),
-    ("a step out of the graph", 2, &[(0, 1), (1, 2)], "a step leads out"),
+    (
+        "a step out of the graph",
+        2,
+        &[(0, 1), (1, 2)],
+        "a step leads out",
+    ),
 ];
 
 #[test]
 fn small_graphs_have_their_components(rt: HostRuntime) -> Result<(), Fail> {
     for (name, count, steps, wanted) in ROWS {
-        let told = tell(rt.alloc(), count, steps)?;
+        let mut told = Told::new(rt.alloc());
+        tell(rt.alloc(), &mut told, count, steps)?;
+        let told = told.text()?;
         assert_eq!(rt; told.as_str(), wanted, "{name}");
     }
     Ok(())
 }
 
 /// The numbers of the components.
-fn tell(alloc: Global, count: usize, steps: &[(usize, usize)]) -> Result<String, Fail> {
-    let mut told = String::new(alloc);
-    match numbers_of(alloc, count, steps)? {
-        Some(numbers) => {
-            for number in &numbers {
-                say_number(&mut told, " ", *number)?;
-            }
-        }
-        None => say(&mut told, "a step leads out")?,
+fn tell(
+    alloc: Global,
+    told: &mut Told,
+    count: usize,
+    steps: &[(usize, usize)],
+) -> Result<(), AllocError> {
+    let Some(numbers) = numbers_of(alloc, count, steps)? else {
+        told.say("a step leads out");
+        return Ok(());
+    };
+    for number in &numbers {
+        told.number(" ", *number);
     }
-    Ok(told)
+    Ok(())
 }
 
 /// The component numbers of a graph whose steps stay inside, and else none.

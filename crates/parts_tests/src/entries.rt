@@ -3,7 +3,7 @@ ghost use Rattle.std.specs.Prelude.{◌≡◌, ◌≢◌, ◌≤◌, [], All, If
 ghost use Rattle.parts_tests.specs.Below.{entries_at};
 
 use crate::heads::tell_head;
-use crate::told::{Counts, say, say_kind, say_number, say_outcome, usages_of};
+use crate::told::{Counts, Told, usages_of};
 use cycle_heads::depth::StackDepth;
 use cycle_heads::heads::CycleHeads;
 use cycle_heads::path::{PathKind, PathsToNested};
@@ -11,7 +11,6 @@ use delegate_parts::Outcome;
 use provisional_cache::{ProvisionalCache, ProvisionalCacheEntry};
 use search_context::context::{Cx, Delegate, NoMemory, NodeId};
 use std::alloc::Global;
-use std::test::Fail;
 
 /// The goal that has the entries.
 pub const GOAL: PathKind = PathKind::Unknown;
@@ -93,38 +92,33 @@ pub fn cache_of<X: Cx<Result = Outcome>, D: Delegate<Cx = X>>(
 
 /// The entries of a goal, in order: the result, the node, the kind of the path from the highest head, and the heads.
 pub fn tell_entries<X: Cx<Result = Outcome>, D: Delegate<Cx = X>>(
-    told: &mut String,
+    told: &mut Told,
     goal: X::Input,
     cache: &ProvisionalCache<D>,
-) -> Result<(), Fail> {
+) {
     if cache.is_empty() {
-        say(told, "empty")?;
+        told.say("empty");
     }
     let mut separator = "";
     for entry in cache.entries_of(goal) {
-        say_outcome(told, separator, entry.result)?;
-        tell_entry(told, entry)?;
+        told.say(separator);
+        tell_entry(told, entry);
         separator = ", ";
     }
-    Ok(())
 }
 
-/// What an entry has beside its result.
-fn tell_entry<X: Cx<Result = Outcome>>(
-    told: &mut String,
-    entry: &ProvisionalCacheEntry<X>,
-) -> Result<(), Fail> {
+fn tell_entry<X: Cx<Result = Outcome>>(told: &mut Told, entry: &ProvisionalCacheEntry<X>) {
+    told.outcome("", entry.result);
     if let Some(NodeId(number)) = entry.node {
-        say_number(told, " ", number)?;
+        told.number(" ", number);
     }
     if entry.encountered_overflow {
-        say(told, " and more")?;
+        told.say(" and more");
     }
-    say_kind(told, " over ", entry.path_from_head)?;
-    say(told, " from")?;
+    told.kind(" over ", entry.path_from_head);
+    told.say(" from");
     for (depth, head) in entry.heads.as_slice() {
-        say_number(told, " ", depth.index())?;
-        tell_head(told, *head)?;
+        told.number(" ", depth.index());
+        tell_head(told, " ", *head);
     }
-    Ok(())
 }

@@ -47,7 +47,7 @@ fn text_of<T: fmt::Display>(alloc: Global, shown: &T) -> Result<String, Fail> {
 }
 
 #[test]
-fn a_refused_growth_is_the_fault_of_memory(rt: HostRuntime) -> Result<(), Fail> {
+fn no_memory_is_the_fault_of_memory(rt: HostRuntime) -> Result<(), Fail> {
     assert_eq!(rt; KindFault::from(NoMemory), Fault::Memory);
     let told = text_of(rt.alloc(), &NoMemory)?;
     assert_eq!(rt; told.as_str(), "out of memory");

@@ -1,6 +1,6 @@
 //! Tests of the goals below a goal. A goal is a kind of path here.
 
-use crate::told::{KINDS, say, say_kind, tell_paths};
+use crate::told::{KINDS, Told};
 use cycle_heads::path::{PathKind, PathsToNested};
 use search_context::context::{Cx, NoMemory};
 use search_stack::nested_goals::NestedGoals;
@@ -25,12 +25,15 @@ enum Act {
 }
 
 const EMPTY: PathsToNested = PathsToNested::EMPTY;
+
 const INDUCTIVE: PathsToNested = PathsToNested::INDUCTIVE;
+
 const UNKNOWN: PathsToNested = PathsToNested::UNKNOWN;
+
 const COINDUCTIVE: PathsToNested = PathsToNested::COINDUCTIVE;
 
 /// What is done where there are no goals yet, and after each act the goals that it changed with the paths to them: those of
-/// the child in brackets.
+/// the child, or one's own.
 const ROWS: [(&str, &[Act], &str); 4] = [
     (
         "paths to a goal are joined",
@@ -39,7 +42,7 @@ const ROWS: [(&str, &[Act], &str); 4] = [
             Act::Own(PathKind::Unknown, EMPTY),
             Act::Own(PathKind::Unknown, UNKNOWN),
         ],
-        "[]() (u:e) (u:eu)",
+        "own:; own: u:e; own: u:eu; ",
     ),
     (
         "a goal is joined to itself again",
@@ -55,7 +58,8 @@ const ROWS: [(&str, &[Act], &str); 4] = [
             Act::Own(PathKind::Inductive, EMPTY),
             Act::Own(PathKind::Unknown, EMPTY),
         ],
-        "[u:e] [u:e] [u:ec] [u:ec] (u:ic) (u:eic) (i:e u:eic) (i:e u:eic)",
+        "child: u:e; child: u:e; child: u:ec; child: u:ec; own: u:ic; own: u:eic; own: i:e u:eic; \
+         own: i:e u:eic; ",
     ),
     (
         "a child adds its goals after the step",
@@ -66,7 +70,7 @@ const ROWS: [(&str, &[Act], &str); 4] = [
             Act::Own(PathKind::Coinductive, INDUCTIVE),
             Act::Extend(PathKind::Unknown),
         ],
-        "[i:e] [i:e u:c] (i:i) (i:i c:i) (i:iu u:c c:i)",
+        "child: i:e; child: i:e u:c; own: i:i; own: i:i c:i; own: i:iu u:c c:i; ",
     ),
     (
         "a child gives its goals after the step",
@@ -86,37 +90,36 @@ const ROWS: [(&str, &[Act], &str); 4] = [
             Act::Rise,
             Act::Take(PathKind::Unknown),
         ],
-        "[i:e] [i:e u:c] (i:i) (i:iu u:c) (i:iu u:c c:e) [f:i] [c:e f:i] (i:iu u:c c:ec f:c) \
-         [i:iu u:c c:ec f:c]() (i:iu u:c c:ic f:c) [i:iu u:c c:ic f:c]() (i:u u:c c:uc f:c)",
+        "child: i:e; child: i:e u:c; own: i:i; own: i:iu u:c; own: i:iu u:c c:e; child: f:i; \
+         child: c:e f:i; own: i:iu u:c c:ec f:c; own:; own: i:iu u:c c:ic f:c; own:; own: i:u u:c \
+         c:uc f:c; ",
     ),
 ];
 
 #[test]
 fn nested_goals_are_as_told(rt: HostRuntime) -> Result<(), Fail> {
     for (name, acts, wanted) in ROWS {
-        let told = tell_acts::<LoopsContext>(rt.alloc(), acts)?;
+        let told = tell_acts::<LoopsContext>(rt.alloc(), acts).text()?;
         assert_eq!(rt; told.as_str(), wanted, "{name}");
     }
     Ok(())
 }
 
-fn tell_acts<X: Cx<Input = PathKind>>(alloc: Global, acts: &[Act]) -> Result<String, Fail> {
-    let mut told = String::new(alloc);
+fn tell_acts<X: Cx<Input = PathKind>>(alloc: Global, acts: &[Act]) -> Told {
+    let mut told = Told::new(alloc);
     let mut goals = NestedGoals::<X>::new(alloc);
     let mut child = NestedGoals::<X>::new(alloc);
     for act in acts {
-        if !told.is_empty() {
-            say(&mut told, " ")?;
+        if carry_out(alloc, &mut goals, &mut child, *act).is_err() {
+            told.say("no memory ");
         }
-        carry_out(alloc, &mut goals, &mut child, *act)?;
-        if matches!(act, Act::Childs(_, _) | Act::Rise) {
-            tell(&mut told, "[", &child, "]")?;
-        }
-        if !matches!(act, Act::Childs(_, _)) {
-            tell(&mut told, "(", &goals, ")")?;
+        if matches!(act, Act::Childs(_, _)) {
+            tell(&mut told, "child:", &child);
+        } else {
+            tell(&mut told, "own:", &goals);
         }
     }
-    Ok(told)
+    told
 }
 
 fn carry_out<X: Cx<Input = PathKind>>(
@@ -129,65 +132,36 @@ fn carry_out<X: Cx<Input = PathKind>>(
         Act::Own(goal, paths) => goals.insert(goal, paths),
         Act::Childs(goal, paths) => child.insert(goal, paths),
         Act::Extend(step) => goals.extend_from_child(step, child),
-        Act::Take(step) => take(alloc, goals, child, step),
+        Act::Take(step) => {
+            goals.take_from_child(step, child)?;
+            // It is left open what the child is left with.
+            *child = NestedGoals::new(alloc);
+            Ok(())
+        }
         Act::Rise => {
-            *child = mem::replace(goals, NestedGoals::new(alloc));
+            mem::swap(goals, child);
+            *goals = NestedGoals::new(alloc);
             Ok(())
         }
     }
 }
 
-/// Takes the goals of the child, which is a new one afterwards, since it is left open what it is left with.
-fn take<X: Cx<Input = PathKind>>(
-    alloc: Global,
-    goals: &mut NestedGoals<X>,
-    child: &mut NestedGoals<X>,
-    step: PathKind,
-) -> Result<(), NoMemory> {
-    goals.take_from_child(step, child)?;
-    *child = NestedGoals::new(alloc);
-    Ok(())
-}
-
-/// The goals with the paths to them, between these brackets.
-fn tell<X: Cx<Input = PathKind>>(
-    told: &mut String,
-    opening: &str,
-    goals: &NestedGoals<X>,
-    closing: &str,
-) -> Result<(), Fail> {
-    say(told, opening)?;
+/// The word, and then the goals with the paths to them.
+fn tell<X: Cx<Input = PathKind>>(told: &mut Told, word: &str, goals: &NestedGoals<X>) {
+    told.say(word);
     let mut found = 0usize;
-    let mut separator = "";
     for goal in KINDS {
         if let Some(paths) = goals.get(goal) {
-            tell_goal(told, separator, goal, paths)?;
-            separator = " ";
+            told.kind(" ", goal);
+            told.paths(":", paths);
             found = found.saturating_add(1);
         }
         if goals.contains(goal) != goals.get(goal).is_some() {
-            return Err("a goal is there without paths, or has paths without being there")?;
+            told.say(" otherwise");
         }
     }
-    say(told, closing)?;
-    if goals.len() != found || goals.is_empty() != (found == 0) || walked(goals) != found {
-        return Err("there are other goals")?;
+    if goals.len() != found || goals.is_empty() != (found == 0) || goals.iter().count() != found {
+        told.say(" and others");
     }
-    Ok(())
-}
-
-/// How many goals a walk over them meets.
-fn walked<X: Cx<Input = PathKind>>(goals: &NestedGoals<X>) -> usize {
-    goals.iter().count()
-}
-
-fn tell_goal(
-    told: &mut String,
-    separator: &str,
-    goal: PathKind,
-    paths: PathsToNested,
-) -> Result<(), Fail> {
-    say_kind(told, separator, goal)?;
-    say(told, ":")?;
-    tell_paths(told, paths)
+    told.say("; ");
 }

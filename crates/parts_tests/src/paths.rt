@@ -1,6 +1,6 @@
 //! Tests of sets of paths.
 
-use crate::told::{letter, say, say_number};
+use crate::told::Told;
 use bitflags::Flags;
 use cycle_heads::path::{PathKind, PathsToNested};
 use std::alloc::Global;
@@ -25,14 +25,46 @@ enum Made {
 
 /// What comes about: the bits, and what five calls for a kind of path give, where a dot is an answer of none.
 const ROWS: [(&str, Made, &str); 12] = [
-    ("a step raises a weaker path", Made::ByStep(9, PathKind::Unknown), "12 uc..."),
-    ("and all of them", Made::ByStep(31, PathKind::Coinductive), "24 cf..."),
-    ("and the path of no step", Made::ByStep(1, PathKind::Inductive), "2 i...."),
-    ("no path stays none", Made::ByStep(0, PathKind::ForcedAmbiguity), "0 ....."),
-    ("bits without a flag stay", Made::ByStep(0b1010_0011, PathKind::Unknown), "164 u...."),
-    ("each path is followed by each", Made::ByPaths(3, 10), "10 ic..."),
-    ("the path of no step is passed over", Made::ByPaths(3, 1), "0 ....."),
-    ("kinds rise, without the path of no step", Made::OfBits(0b0101_0011), "83 if..."),
+    (
+        "a step raises a weaker path",
+        Made::ByStep(9, PathKind::Unknown),
+        "12 uc...",
+    ),
+    (
+        "and all of them",
+        Made::ByStep(31, PathKind::Coinductive),
+        "24 cf...",
+    ),
+    (
+        "and the path of no step",
+        Made::ByStep(1, PathKind::Inductive),
+        "2 i....",
+    ),
+    (
+        "no path stays none",
+        Made::ByStep(0, PathKind::ForcedAmbiguity),
+        "0 .....",
+    ),
+    (
+        "bits without a flag stay",
+        Made::ByStep(0b1010_0011, PathKind::Unknown),
+        "164 u....",
+    ),
+    (
+        "each path is followed by each",
+        Made::ByPaths(3, 10),
+        "10 ic...",
+    ),
+    (
+        "the path of no step is passed over",
+        Made::ByPaths(3, 1),
+        "0 .....",
+    ),
+    (
+        "kinds rise, without the path of no step",
+        Made::OfBits(0b0101_0011),
+        "83 if...",
+    ),
     ("flags have names", Made::Named("UNKNOWN"), "4 u...."),
     ("all flags", Made::Full, "31 iucf."),
     ("all flags are five bits", Made::OfFlags(31), "31 iucf."),
@@ -42,7 +74,7 @@ const ROWS: [(&str, Made, &str); 12] = [
 #[test]
 fn paths_are_as_told(rt: HostRuntime) -> Result<(), Fail> {
     for (name, made, wanted) in ROWS {
-        let told = tell(rt.alloc(), paths_of(made))?;
+        let told = tell(rt.alloc(), paths_of(made)).text()?;
         assert_eq!(rt; told.as_str(), wanted, "{name}");
     }
     Ok(())
@@ -63,21 +95,20 @@ fn of_bits(bits: u8) -> PathsToNested {
     PathsToNested::from_bits_retain(bits)
 }
 
-fn tell(alloc: Global, paths: Option<PathsToNested>) -> Result<String, Fail> {
-    let mut told = String::new(alloc);
+fn tell(alloc: Global, paths: Option<PathsToNested>) -> Told {
+    let mut told = Told::new(alloc);
     let Some(paths) = paths else {
-        say(&mut told, "none")?;
-        return Ok(told);
+        told.say("none");
+        return told;
     };
-    say_number(&mut told, "", usize::from(paths.bits()))?;
-    say(&mut told, " ")?;
+    told.number("", usize::from(paths.bits()));
+    told.say(" ");
     let mut kinds = paths.iter_paths();
     for _ in 0..5 {
-        let letter = match kinds.next() {
-            Some(kind) => letter(kind),
-            None => ".",
-        };
-        say(&mut told, letter)?;
+        match kinds.next() {
+            Some(kind) => told.kind("", kind),
+            None => told.say("."),
+        }
     }
-    Ok(told)
+    told
 }

@@ -3,11 +3,12 @@
 ghost use Rattle.std.specs.Prelude.{◌≡◌, ◌<◌, length, All, IfOk};
 
 use crate::entries::{GOAL, LOWER, TestEntry, USER, cache_of, tell_entries};
+use crate::told::Told;
 use cycle_heads::depth::StackDepth;
 use cycle_heads::path::{PathKind, PathsToNested};
 use cycle_heads::usages::HeadUsages;
 use delegate_parts::{ContextOf, Outcome};
-use provisional_cache::RebaseReason;
+use provisional_cache::{ProvisionalCache, RebaseReason};
 use search_context::context::{Cx, Delegate, NoMemory};
 use search_stack::depth::AvailableDepth;
 use search_stack::stack::{Stack, StackEntry};
@@ -146,13 +147,10 @@ const ROWS: [(&str, &[TestEntry], Option<Head>, [&str; 6]); 5] = [
 fn rebased_entries_are_as_told(rt: HostRuntime) -> Result<(), Fail> {
     for (name, entries, head, wanted) in ROWS {
         for (reason, wanted) in REASONS.into_iter().zip(wanted) {
-            let told = tell::<LoopsContext, LoopsDelegate>(
-                rt.alloc(),
-                ContextOf(Loops),
-                entries,
-                head,
-                reason,
-            )?;
+            let mut told = Told::new(rt.alloc());
+            let (cx, at) = (ContextOf(Loops), rt.alloc());
+            tell::<LoopsContext, LoopsDelegate>(at, &mut told, cx, entries, head, reason)?;
+            let told = told.text()?;
             assert_eq!(rt; told.as_str(), wanted, "{name}");
         }
     }
@@ -162,25 +160,44 @@ fn rebased_entries_are_as_told(rt: HostRuntime) -> Result<(), Fail> {
 /// What is left of the entries after the goal is done.
 fn tell<X, D>(
     alloc: Global,
+    told: &mut Told,
     cx: X,
     entries: &[TestEntry],
     head: Option<Head>,
     reason: Reason,
-) -> Result<String, Fail>
+) -> Result<(), NoMemory>
 where
     X: Cx<Input = PathKind, Result = Outcome, AmbiguityInfo = ()>,
     D: Delegate<Cx = X>,
 {
-    let mut told = String::new(alloc);
+    let (cache, is_done) = rebased::<X, D>(alloc, cx, entries, head, reason)?;
+    if !is_done {
+        told.say("no memory ");
+    }
+    tell_entries(told, GOAL, &cache);
+    Ok(())
+}
+
+/// A cache of the entries after the goal is done, and whether there was memory to rebase them.
+pub fn rebased<X, D>(
+    alloc: Global,
+    cx: X,
+    entries: &[TestEntry],
+    head: Option<Head>,
+    reason: Reason,
+) -> Result<(ProvisionalCache<D>, bool), NoMemory>
+where
+    X: Cx<Input = PathKind, Result = Outcome, AmbiguityInfo = ()>,
+    D: Delegate<Cx = X>,
+{
     let mut cache = cache_of::<X, D>(alloc, GOAL, entries)?;
     let stack = stack_of_one::<X>(alloc, PathKind::ForcedAmbiguity)?;
     let done = done_goal::<X>(alloc, PathKind::Inductive, head)?;
-    cache.rebase(cx, &done, &stack, reason_of(reason))?;
-    tell_entries(&mut told, GOAL, &cache)?;
-    Ok(told)
+    let is_done = cache.rebase(cx, &done, &stack, reason_of(reason)).is_ok();
+    Ok((cache, is_done))
 }
 
-pub fn reason_of<X: Cx<AmbiguityInfo = ()>>(reason: Reason) -> RebaseReason<X> {
+fn reason_of<X: Cx<AmbiguityInfo = ()>>(reason: Reason) -> RebaseReason<X> {
     match reason {
         Reason::NoCycleUsages => RebaseReason::NoCycleUsages,
         Reason::Ambiguity => RebaseReason::Ambiguity(()),
@@ -191,7 +208,7 @@ pub fn reason_of<X: Cx<AmbiguityInfo = ()>>(reason: Reason) -> RebaseReason<X> {
 }
 
 /// A stack with one goal.
-pub fn stack_of_one<X: Cx>(alloc: Global, goal: X::Input) -> Result<Stack<X>, NoMemory>
+fn stack_of_one<X: Cx>(alloc: Global, goal: X::Input) -> Result<Stack<X>, NoMemory>
     ensures { IfOk result (λ stack. length stack ≡ 1) }
 {
     let mut stack = Stack::<X>::new(alloc);
@@ -201,7 +218,7 @@ pub fn stack_of_one<X: Cx>(alloc: Global, goal: X::Input) -> Result<Stack<X>, No
 }
 
 /// The goal that is done, above the stack of one.
-pub fn done_goal<X: Cx>(
+fn done_goal<X: Cx>(
     alloc: Global,
     goal: X::Input,
     head: Option<Head>,
@@ -210,9 +227,7 @@ pub fn done_goal<X: Cx>(
 {
     let mut done = StackEntry::new(alloc, goal, PathKind::Inductive, AvailableDepth(3));
     if let Some((paths, usages)) = head {
-        done.state
-            .heads
-            .insert(StackDepth::new(0), paths, usages)?;
+        done.state.heads.insert(StackDepth::new(0), paths, usages)?;
     }
     Ok(done)
 }

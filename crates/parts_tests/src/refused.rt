@@ -2,8 +2,8 @@
 //! In a plain run nothing is refused, and each call succeeds at once; `tests/memory` refuses the requests in turn. A call
 //! that needs no memory then is one that has to succeed.
 
-use crate::entries::{GOAL, LOWER, USER, cache_of};
-use crate::rebasing::{COINDUCTIVE, REASONS, done_goal, reason_of, stack_of_one};
+use crate::entries::{GOAL, LOWER, USER};
+use crate::rebasing::{COINDUCTIVE, REASONS, rebased};
 use crate::stored::{Found, OfLoops, Storing};
 use crate::told::{KINDS, usages_of};
 use bitflags::Flags;
@@ -38,8 +38,14 @@ enum Call {
 
 const CALLS: [(&str, Call); 9] = [
     ("a refused nested goal changes nothing", Call::NestedGoal),
-    ("refused goals of a child change nothing", Call::GoalsOfAChild),
-    ("refused goals that a child gives change nothing", Call::GoalsThatAChildGives),
+    (
+        "refused goals of a child change nothing",
+        Call::GoalsOfAChild,
+    ),
+    (
+        "refused goals that a child gives change nothing",
+        Call::GoalsThatAChildGives,
+    ),
     ("a refused push changes nothing", Call::Push),
     ("a refused head changes nothing", Call::Head),
     ("refused usages change nothing", Call::Usages),
@@ -79,21 +85,29 @@ fn is_kept(alloc: Global, call: Call) -> Result<bool, NoMemory> {
 fn keeps_nested_goals<X: Cx<Input = PathKind>>(alloc: Global) -> Result<bool, NoMemory> {
     let mut goals = NestedGoals::<X>::new(alloc);
     for goal in KINDS {
-        let others = goals.len();
-        if goals.insert(goal, PathsToNested::EMPTY).is_err() {
-            if goals.len() != others || goals.contains(goal) {
-                return Ok(false);
-            }
-            goals.insert(goal, PathsToNested::EMPTY)?;
-        }
-        // The goal is known, so that its paths are joined without memory.
-        let is_joined = goals.insert(goal, PathsToNested::UNKNOWN).is_ok();
-        let both = PathsToNested::EMPTY.union(PathsToNested::UNKNOWN);
-        if !is_joined || goals.get(goal) != Some(both) {
+        if !keeps_nested_goal(&mut goals, goal)? {
             return Ok(false);
         }
     }
     Ok(true)
+}
+
+/// Inserts a new goal, and then the same once more.
+fn keeps_nested_goal<X: Cx<Input = PathKind>>(
+    goals: &mut NestedGoals<X>,
+    goal: PathKind,
+) -> Result<bool, NoMemory> {
+    let others = goals.len();
+    if goals.insert(goal, PathsToNested::EMPTY).is_err() {
+        if goals.len() != others || goals.contains(goal) {
+            return Ok(false);
+        }
+        goals.insert(goal, PathsToNested::EMPTY)?;
+    }
+    // The goal is known, so that its paths are joined without memory.
+    let is_joined = goals.insert(goal, PathsToNested::UNKNOWN).is_ok();
+    let both = PathsToNested::EMPTY.union(PathsToNested::UNKNOWN);
+    Ok(is_joined && goals.get(goal) == Some(both))
 }
 
 /// Some goals with the path of no step to each.
@@ -120,31 +134,49 @@ fn has_unknown<X: Cx<Input = PathKind>>(
 fn keeps_goals_of_a_child<X: Cx<Input = PathKind>>(alloc: Global) -> Result<bool, NoMemory> {
     let child = nested_goals_of::<X>(alloc, &KINDS)?;
     let mut goals = nested_goals_of::<X>(alloc, &[PathKind::Unknown])?;
+    extends(&mut goals, &child)
+}
+
+/// Joins the goals of a child to the unknown one.
+fn extends<X: Cx<Input = PathKind>>(
+    goals: &mut NestedGoals<X>,
+    child: &NestedGoals<X>,
+) -> Result<bool, NoMemory> {
     let step = PathKind::Coinductive;
-    if goals.extend_from_child(step, &child).is_err() {
-        if !has_unknown(&goals, 1, PathsToNested::EMPTY) {
+    if goals.extend_from_child(step, child).is_err() {
+        if !has_unknown(goals, 1, PathsToNested::EMPTY) {
             return Ok(false);
         }
-        goals.extend_from_child(step, &child)?;
+        goals.extend_from_child(step, child)?;
     }
     let both = PathsToNested::EMPTY.union(PathsToNested::COINDUCTIVE);
-    Ok(has_unknown(&goals, 4, both))
+    Ok(has_unknown(goals, 4, both))
 }
 
 fn keeps_given_goals<X: Cx<Input = PathKind>>(alloc: Global) -> Result<bool, NoMemory> {
-    let of_child = [PathKind::Inductive, PathKind::Coinductive];
     let mut goals = nested_goals_of::<X>(alloc, &[PathKind::Unknown])?;
-    let step = PathKind::Coinductive;
-    let mut child = nested_goals_of::<X>(alloc, &of_child)?;
-    if goals.take_from_child(step, &mut child).is_err() {
+    if !takes(alloc, &mut goals)? {
         if !has_unknown(&goals, 1, PathsToNested::EMPTY) {
             return Ok(false);
         }
-        let mut again = nested_goals_of::<X>(alloc, &of_child)?;
-        goals.take_from_child(step, &mut again)?;
+        takes(alloc, &mut goals)?;
     }
     let is_given = goals.get(PathKind::Inductive) == Some(PathsToNested::COINDUCTIVE);
     Ok(is_given && has_unknown(&goals, 3, PathsToNested::EMPTY))
+}
+
+/// Takes the two goals of a child, and says whether there was memory.
+fn takes<X: Cx<Input = PathKind>>(
+    alloc: Global,
+    goals: &mut NestedGoals<X>,
+) -> Result<bool, NoMemory> {
+    let of_child = [PathKind::Inductive, PathKind::Coinductive];
+    let mut child = nested_goals_of::<X>(alloc, &of_child)?;
+    Ok(
+        goals
+            .take_from_child(PathKind::Coinductive, &mut child)
+            .is_ok(),
+    )
 }
 
 fn keeps_stack<X: Cx<Input = PathKind>>(alloc: Global) -> Result<bool, NoMemory> {
@@ -257,11 +289,8 @@ where
     D: Delegate<Cx = X>,
 {
     for reason in REASONS {
-        let mut cache = cache_of::<X, D>(alloc, GOAL, &[LOWER, USER])?;
-        let stack = stack_of_one::<X>(alloc, PathKind::ForcedAmbiguity)?;
-        let done = done_goal::<X>(alloc, PathKind::Inductive, COINDUCTIVE)?;
-        let is_refused = cache.rebase(cx, &done, &stack, reason_of(reason)).is_err();
-        if cache.is_empty() != is_refused || cache.entries_of(GOAL).is_empty() != is_refused {
+        let (cache, is_done) = rebased::<X, D>(alloc, cx, &[LOWER, USER], COINDUCTIVE, reason)?;
+        if cache.is_empty() == is_done || cache.entries_of(GOAL).is_empty() == is_done {
             return Ok(false);
         }
     }
@@ -275,36 +304,48 @@ where
     D: Delegate<Cx = X>,
     S: Storing<D>,
 {
-    let goal = PathKind::Unknown;
     let mut cache = GlobalCache::<D>::new(alloc, cx);
     for depth in 0..40usize {
-        let found = Found::Overflow(Outcome::Maybe, depth, None);
-        let stored = storing.store(&mut cache, goal, found)?;
-        if stored == Err(Fault::Memory) {
-            if !has_below(&cache, goal, depth) {
-                return Ok(false);
-            }
-            let _ = storing.store(&mut cache, goal, found)?;
-        }
-        // What is stored there is replaced by an equal one without memory.
-        let stored = storing.store(&mut cache, goal, found)?;
-        if stored.is_err() || !has_below(&cache, goal, depth + 1) {
+        if !keeps_result(&mut cache, storing, depth)? {
             return Ok(false);
         }
     }
     Ok(true)
 }
 
+/// Stores a result where those of lower depths are stored.
+fn keeps_result<X, D, S>(
+    cache: &mut GlobalCache<D>,
+    storing: &S,
+    depth: usize,
+) -> Result<bool, NoMemory>
+where
+    X: Cx<Input = PathKind, Result = Outcome>,
+    D: Delegate<Cx = X>,
+    S: Storing<D>,
+{
+    let found = Found::Overflow(Outcome::Maybe, depth, None);
+    if storing.store(cache, GOAL, found)? == Err(Fault::Memory) {
+        if !has_below(cache, depth) {
+            return Ok(false);
+        }
+        let _ = storing.store(cache, GOAL, found)?;
+    }
+    // What is stored there is replaced by an equal one without memory.
+    let stored = storing.store(cache, GOAL, found)?;
+    Ok(stored.is_ok() && has_below(cache, depth.saturating_add(1)))
+}
+
 /// Whether the goal has a result at each depth below this one, and none at this one.
-fn has_below<X, D>(cache: &GlobalCache<D>, goal: PathKind, end: usize) -> bool
+fn has_below<X, D>(cache: &GlobalCache<D>, end: usize) -> bool
 where
     X: Cx<Input = PathKind, Result = Outcome>,
     D: Delegate<Cx = X>,
 {
     for depth in 0..end {
-        if cache.overflow_at(goal, depth) != Some(Outcome::Maybe) {
+        if cache.overflow_at(GOAL, depth) != Some(Outcome::Maybe) {
             return false;
         }
     }
-    cache.overflow_at(goal, end).is_none()
+    cache.overflow_at(GOAL, end).is_none()
 }

@@ -1,7 +1,7 @@
 //! Tests of which provisional entries are found, which are used, and which are cleared when a goal is rerun.
 
 use crate::entries::{GOAL, LOWER, TestEntry, USER, cache_of, tell_entries};
-use crate::told::usages_of;
+use crate::told::{Told, usages_of};
 use cycle_heads::depth::StackDepth;
 use cycle_heads::path::{PathKind, PathsToNested};
 use delegate_parts::Outcome;
@@ -207,29 +207,30 @@ const UNUSED: TestEntry = TestEntry {
 #[test]
 fn reruns_give_up_entries_as_told(rt: HostRuntime) -> Result<(), Fail> {
     for (name, entries, wanted) in RERUNS {
-        let told = left::<LoopsContext, LoopsDelegate>(rt.alloc(), entries)?;
+        let mut told = Told::new(rt.alloc());
+        tell_left::<LoopsContext, LoopsDelegate>(rt.alloc(), &mut told, entries)?;
+        let told = told.text()?;
         assert_eq!(rt; told.as_str(), wanted, "{name}");
     }
     Ok(())
 }
 
 /// The entries that are left when the second goal is rerun. Another goal has none, before and afterwards.
-fn left<X, D>(alloc: Global, entries: &[TestEntry]) -> Result<String, Fail>
+fn tell_left<X, D>(alloc: Global, told: &mut Told, entries: &[TestEntry]) -> Result<(), NoMemory>
 where
     X: Cx<Input = PathKind, Result = Outcome>,
     D: Delegate<Cx = X>,
 {
-    let mut told = String::new(alloc);
     let mut cache = cache_of::<X, D>(alloc, GOAL, entries)?;
     if cache.is_empty() != entries.is_empty() || has_other(&cache) {
-        return Err("a cache of other entries")?;
+        told.say("other entries, ");
     }
     cache.clear_for_rerun(StackDepth::new(1));
     if has_other(&cache) {
-        return Err("another goal has an entry")?;
+        told.say("another goal has one, ");
     }
-    tell_entries(&mut told, GOAL, &cache)?;
-    Ok(told)
+    tell_entries(told, GOAL, &cache);
+    Ok(())
 }
 
 /// Whether another goal has an entry.

@@ -1,6 +1,6 @@
 //! Tests of the goals under evaluation. A goal is a kind of path here, but in the deep stack.
 
-use crate::told::{KINDS, say, say_kind, say_number};
+use crate::told::{KINDS, Told};
 use cycle_heads::depth::StackDepth;
 use cycle_heads::path::PathKind;
 use delegate_parts::ContextOf;
@@ -63,109 +63,96 @@ const ROWS: [(&str, &[Act], &str); 5] = [
 #[test]
 fn stacks_are_as_told(rt: HostRuntime) -> Result<(), Fail> {
     for (name, acts, wanted) in ROWS {
-        let told = tell_acts::<LoopsContext>(rt.alloc(), acts)?;
+        let told = tell_acts::<LoopsContext>(rt.alloc(), acts).text()?;
         assert_eq!(rt; told.as_str(), wanted, "{name}");
     }
     Ok(())
 }
 
-fn tell_acts<X: Cx<Input = PathKind>>(alloc: Global, acts: &[Act]) -> Result<String, Fail> {
-    let mut told = String::new(alloc);
+fn tell_acts<X: Cx<Input = PathKind>>(alloc: Global, acts: &[Act]) -> Told {
+    let mut told = Told::new(alloc);
     let mut stack = Stack::<X>::new(alloc);
     for act in acts {
         match act {
-            Act::Push(goal, step) => push(alloc, &mut stack, *goal, *step)?,
-            Act::Pop => pop(&mut told, &mut stack)?,
+            Act::Push(goal, step) => push(alloc, &mut told, &mut stack, *goal, *step),
+            Act::Pop => pop(&mut told, &mut stack),
         }
     }
-    tell_found(&mut told, &stack)?;
-    tell_goals(&mut told, &stack)?;
-    tell_last(&mut told, &stack)?;
+    tell_goals(&mut told, &stack);
+    tell_last(&mut told, &stack);
     for place in 0..stack.len() {
-        tell_steps(&mut told, &stack, place)?;
+        tell_steps(&mut told, &stack, place);
     }
-    Ok(told)
+    told
 }
 
 fn push<X: Cx<Input = PathKind>>(
     alloc: Global,
+    told: &mut Told,
     stack: &mut Stack<X>,
     goal: PathKind,
     step: PathKind,
-) -> Result<(), Fail> {
+) {
     if stack.find(goal).is_some() {
-        return Err("the goal is on the stack")?;
+        told.say("twice ");
+        return;
     }
     let next = stack.next_index();
     let entry = StackEntry::new(alloc, goal, step, AvailableDepth(4));
-    let place = stack.push(entry)?;
-    if place != next || stack.len() != place.index().saturating_add(1) {
-        return Err("the goal has another place")?;
+    if stack.push(entry) != Ok(next) {
+        told.say("elsewhere ");
     }
-    Ok(())
 }
 
-fn pop<X: Cx<Input = PathKind>>(told: &mut String, stack: &mut Stack<X>) -> Result<(), Fail> {
+fn pop<X: Cx<Input = PathKind>>(told: &mut Told, stack: &mut Stack<X>) {
     if stack.is_empty() {
-        return Err("no goal to be popped")?;
+        told.say("no goal to be popped ");
+        return;
     }
     let popped = stack.pop();
-    say_kind(told, "popped ", popped.input())?;
-    say(told, ", ")
+    told.kind("popped ", popped.input());
+    told.say(", ");
 }
 
-/// Where each goal is found.
-fn tell_found<X: Cx<Input = PathKind>>(told: &mut String, stack: &Stack<X>) -> Result<(), Fail> {
-    say(told, "found:")?;
+/// Where each goal is found, how many there are, and all of them from below.
+fn tell_goals<X: Cx<Input = PathKind>>(told: &mut Told, stack: &Stack<X>) {
+    told.say("found:");
     for goal in KINDS {
         if let Some(place) = stack.find(goal) {
-            say_kind(told, " ", stack[place].input())?;
-            say_number(told, "", place.index())?;
+            told.kind(" ", stack[place].input());
+            told.number("", place.index());
         }
     }
-    Ok(())
-}
-
-/// How many goals there are, and these from below.
-fn tell_goals<X: Cx<Input = PathKind>>(told: &mut String, stack: &Stack<X>) -> Result<(), Fail> {
-    say_number(told, ", ", stack.len())?;
-    say(told, ":")?;
+    told.number(", ", stack.len());
+    told.say(":");
     for entry in stack.iter() {
-        say_kind(told, "", entry.input())?;
+        told.kind("", entry.input());
     }
-    Ok(())
 }
 
-fn tell_last<X: Cx<Input = PathKind>>(told: &mut String, stack: &Stack<X>) -> Result<(), Fail> {
+fn tell_last<X: Cx<Input = PathKind>>(told: &mut Told, stack: &Stack<X>) {
     if stack.is_empty() {
-        return Ok(());
+        return;
     }
     let last = stack.last();
-    say_kind(told, ", last ", last.input())?;
-    say_kind(told, " over ", last.step_kind_from_parent())?;
-    say_number(told, " at ", last.available_depth().0)?;
-    say(told, ",")
+    told.kind(", last ", last.input());
+    told.kind(" over ", last.step_kind_from_parent());
+    told.number(" at ", last.available_depth().0);
+    told.say(",");
 }
 
 /// The kinds of the steps above the place, and of paths from it.
-fn tell_steps<X: Cx<Input = PathKind>>(
-    told: &mut String,
-    stack: &Stack<X>,
-    place: usize,
-) -> Result<(), Fail> {
+fn tell_steps<X: Cx<Input = PathKind>>(told: &mut Told, stack: &Stack<X>, place: usize) {
     if place >= stack.len() {
-        return Err("no goal at the place")?;
+        return;
     }
     let head = StackDepth::new(place);
-    say(told, " ")?;
+    told.say(" ");
     for kind in stack.cycle_step_kinds(head) {
-        say_kind(told, "", kind)?;
+        told.kind("", kind);
     }
-    say(told, ":")?;
-    for step in [PathKind::Inductive, PathKind::Unknown] {
-        say_kind(told, "", stack.path_kind(step, head))?;
-    }
-    Ok(())
+    told.kind(":", stack.path_kind(PathKind::Inductive, head));
+    told.kind("", stack.path_kind(PathKind::Unknown, head));
 }
 
 #[test]
@@ -209,7 +196,11 @@ fn finds_while_it_falls<X: Cx<Input = Count>>(stack: &mut Stack<X>) -> bool {
 /// Whether of forty goals the first so many are found at their places, and no other one is.
 fn finds_the_first<X: Cx<Input = Count>>(stack: &Stack<X>, count: usize) -> bool {
     for place in 0..40usize {
-        let wanted = if place < count { Some(StackDepth::new(place)) } else { None };
+        let wanted = if place < count {
+            Some(StackDepth::new(place))
+        } else {
+            None
+        };
         if stack.find(goal_of(place)) != wanted {
             return false;
         }

@@ -4,7 +4,7 @@
 ghost use Rattle.std.specs.Prelude.{◌≡◌, [], IfOk};
 ghost use Rattle.parts_tests.specs.Below.{HasGraph, outcome_verdicts};
 
-use crate::told::{KINDS, say, say_kind, say_number, say_outcome, tell_paths};
+use crate::told::{KINDS, Told};
 use cycle_heads::heads::CycleHeads;
 use cycle_heads::path::{PathKind, PathsToNested};
 use delegate_parts::{ContextOf, Outcome};
@@ -146,9 +146,9 @@ const ROWS: [(&str, PathKind, &[Found], &str); 9] = [
             Found::Success(Outcome::Maybe, 0, None),
             Found::Success(Outcome::Overflow, 0, None),
         ],
-        "stored, f is maybe and not overflow, success maybe 0; \
-         0 maybe 0, 1 maybe 0, 2 maybe 0, 3 maybe 0, 4 maybe 0, 5 maybe 0; \
-         0 maybe 0, 1 maybe 0, 2 maybe 0, 3 maybe 0, 4 maybe 0, 5 maybe 0",
+        "stored, f is maybe and not overflow, success maybe 0, ; 0 maybe 0, 1 maybe 0, 2 maybe \
+         0, 3 maybe 0, 4 maybe 0, 5 maybe 0, ; 0 maybe 0, 1 maybe 0, 2 maybe 0, 3 maybe 0, 4 \
+         maybe 0, 5 maybe 0, ",
     ),
     (
         "an equal result replaces it afterwards",
@@ -158,8 +158,8 @@ const ROWS: [(&str, PathKind, &[Found], &str); 9] = [
             Found::Success(Outcome::Overflow, 0, None),
             Found::Success(Outcome::Maybe, 3, None),
         ],
-        "stored, f is maybe and not overflow, stored, success maybe 3; \
-         3 maybe 3, 4 maybe 3, 5 maybe 3; 3 maybe 3, 4 maybe 3, 5 maybe 3",
+        "stored, f is maybe and not overflow, stored, success maybe 3, ; 3 maybe 3, 4 maybe 3, \
+         5 maybe 3, ; 3 maybe 3, 4 maybe 3, 5 maybe 3, ",
     ),
     (
         "overflow results are used at their depth",
@@ -168,8 +168,8 @@ const ROWS: [(&str, PathKind, &[Found], &str); 9] = [
             Found::Overflow(Outcome::Maybe, 1, None),
             Found::Overflow(Outcome::Overflow, 3, None),
         ],
-        "stored, stored, at 1 maybe, at 3 overflow; \
-         1 maybe 1!, 3 overflow 3!; 1 maybe 1!, 3 overflow 3!",
+        "stored, stored, at 1 maybe, at 3 overflow, ; 1 maybe 1!, 3 overflow 3!, ; 1 maybe 1!, \
+         3 overflow 3!, ",
     ),
     (
         "an overflow result that differs is a conflict",
@@ -178,7 +178,7 @@ const ROWS: [(&str, PathKind, &[Found], &str); 9] = [
             Found::Overflow(Outcome::Maybe, 1, None),
             Found::Overflow(Outcome::Overflow, 1, None),
         ],
-        "stored, u is maybe and not overflow, at 1 maybe; 1 maybe 1!; 1 maybe 1!",
+        "stored, u is maybe and not overflow, at 1 maybe, ; 1 maybe 1!, ; 1 maybe 1!, ",
     ),
     (
         "a success is preferred where it is deep enough",
@@ -188,16 +188,16 @@ const ROWS: [(&str, PathKind, &[Found], &str); 9] = [
             Found::Overflow(Outcome::Overflow, 2, None),
             Found::Success(Outcome::Maybe, 2, None),
         ],
-        "stored, stored, stored, success maybe 2, at 1 overflow, at 2 overflow; \
-         1 overflow 1!, 2 maybe 2, 3 maybe 2, 4 maybe 2, 5 maybe 2; \
-         1 overflow 1!, 2 maybe 2, 3 maybe 2, 4 maybe 2, 5 maybe 2",
+        "stored, stored, stored, success maybe 2, at 1 overflow, at 2 overflow, ; 1 overflow \
+         1!, 2 maybe 2, 3 maybe 2, 4 maybe 2, 5 maybe 2, ; 1 overflow 1!, 2 maybe 2, 3 maybe 2, \
+         4 maybe 2, 5 maybe 2, ",
     ),
     (
         "a result whose goals are refused is not found",
         PathKind::Unknown,
         &[Found::Success(Outcome::Maybe, 1, Some(PathKind::Inductive))],
-        "stored, success maybe 1; 1 maybe 1 i:u, 2 maybe 1 i:u, 3 maybe 1 i:u, 4 maybe 1 i:u, \
-         5 maybe 1 i:u;",
+        "stored, success maybe 1, ; 1 maybe 1 i:u, 2 maybe 1 i:u, 3 maybe 1 i:u, 4 maybe 1 i:u, \
+         5 maybe 1 i:u, ; ",
     ),
     (
         "it gives way to one that met overflow",
@@ -206,8 +206,8 @@ const ROWS: [(&str, PathKind, &[Found], &str); 9] = [
             Found::Success(Outcome::Maybe, 1, Some(PathKind::Inductive)),
             Found::Overflow(Outcome::Overflow, 2, None),
         ],
-        "stored, stored, success maybe 1, at 2 overflow; 1 maybe 1 i:u, 2 maybe 1 i:u, \
-         3 maybe 1 i:u, 4 maybe 1 i:u, 5 maybe 1 i:u; 2 overflow 2!",
+        "stored, stored, success maybe 1, at 2 overflow, ; 1 maybe 1 i:u, 2 maybe 1 i:u, 3 \
+         maybe 1 i:u, 4 maybe 1 i:u, 5 maybe 1 i:u, ; 2 overflow 2!, ",
     ),
     (
         "a lookup lends the nested goals",
@@ -216,66 +216,60 @@ const ROWS: [(&str, PathKind, &[Found], &str); 9] = [
             Found::Overflow(Outcome::Maybe, 1, Some(PathKind::Inductive)),
             Found::Overflow(Outcome::Maybe, 4, Some(PathKind::Inductive)),
         ],
-        "stored, stored, at 1 maybe, at 4 maybe; 1 maybe 1! i:u, 4 maybe 4! i:u;",
+        "stored, stored, at 1 maybe, at 4 maybe, ; 1 maybe 1! i:u, 4 maybe 4! i:u, ; ",
     ),
     (
         "a definite result is found with its node",
         PathKind::Coinductive,
         &[Found::Success(Outcome::Yes, 1, None)],
-        "stored, success yes 1; 1 yes 1 node 0, 2 yes 1 node 0, 3 yes 1 node 0, 4 yes 1 node 0, \
-         5 yes 1 node 0; 1 yes 1 node 0, 2 yes 1 node 0, 3 yes 1 node 0, 4 yes 1 node 0, \
-         5 yes 1 node 0",
+        "stored, success yes 1, ; 1 yes 1 node 0, 2 yes 1 node 0, 3 yes 1 node 0, 4 yes 1 node \
+         0, 5 yes 1 node 0, ; 1 yes 1 node 0, 2 yes 1 node 0, 3 yes 1 node 0, 4 yes 1 node 0, 5 \
+         yes 1 node 0, ",
     ),
 ];
 
 #[test]
 fn stored_results_are_as_told(rt: HostRuntime) -> Result<(), Fail> {
     for (name, goal, found, wanted) in ROWS {
-        let cx = ContextOf(Loops);
-        let told = tell::<LoopsContext, LoopsDelegate, _>(rt.alloc(), cx, &OfLoops, goal, found)?;
+        let mut told = Told::new(rt.alloc());
+        let mut cache = GlobalCache::<LoopsDelegate>::new(rt.alloc(), ContextOf(Loops));
+        tell::<LoopsContext, LoopsDelegate, _>(&mut told, &mut cache, &OfLoops, goal, found)?;
+        let told = told.text()?;
         assert_eq!(rt; told.as_str(), wanted, "{name}");
     }
     Ok(())
 }
 
 fn tell<X, D, S>(
-    alloc: Global,
-    cx: X,
+    told: &mut Told,
+    cache: &mut GlobalCache<D>,
     storing: &S,
     goal: PathKind,
     results: &[Found],
-) -> Result<String, Fail>
+) -> Result<(), NoMemory>
 where
     X: Cx<Input = PathKind, Result = Outcome>,
     D: Delegate<Cx = X>,
     S: Storing<D>,
 {
-    let mut told = String::new(alloc);
-    let mut cache = GlobalCache::<D>::new(alloc, cx);
     for found in results {
-        let stored = storing.store(&mut cache, goal, *found)?;
-        tell_answer(&mut told, stored)?;
+        tell_answer(told, storing.store(cache, goal, *found)?);
     }
-    tell_stored(&mut told, &cache, goal)?;
-    say(&mut told, ";")?;
-    tell_hits(&mut told, &cache, goal, &Anything)?;
-    say(&mut told, ";")?;
-    tell_hits(&mut told, &cache, goal, &Leaves)?;
+    tell_stored(told, cache, goal);
+    tell_hits(told, cache, goal, &Anything);
+    tell_hits(told, cache, goal, &Leaves);
     for other in KINDS {
-        if other != goal && is_known(&cache, other) {
-            return Err("there is a result of another goal")?;
+        if other != goal && is_known(cache, other) {
+            told.say("and of another goal");
         }
     }
-    Ok(told)
+    Ok(())
 }
 
 /// What was answered where a result was stored.
-fn tell_answer(told: &mut String, stored: Stored) -> Result<(), Fail> {
-    if !told.is_empty() {
-        say(told, ", ")?;
-    }
+fn tell_answer(told: &mut Told, stored: Stored) {
     match stored {
-        Ok(()) => say(told, "stored")?,
+        Ok(()) => told.say("stored, "),
         Err(
             Fault::Conflict {
                 input,
@@ -283,79 +277,68 @@ fn tell_answer(told: &mut String, stored: Stored) -> Result<(), Fail> {
                 found,
             },
         ) => {
-            say_kind(told, "", input)?;
-            say_outcome(told, " is ", stored)?;
-            say_outcome(told, " and not ", found)?;
+            told.kind("", input);
+            told.outcome(" is ", stored);
+            told.outcome(" and not ", found);
+            told.say(", ");
         }
-        Err(_) => say(told, "another fault")?,
+        Err(_) => told.say("another fault, "),
     }
-    Ok(())
 }
 
 /// What is stored of the goal.
-fn tell_stored<X, D>(
-    told: &mut String,
-    cache: &GlobalCache<D>,
-    goal: PathKind,
-) -> Result<(), Fail>
+fn tell_stored<X, D>(told: &mut Told, cache: &GlobalCache<D>, goal: PathKind)
 where
     X: Cx<Input = PathKind, Result = Outcome>,
     D: Delegate<Cx = X>,
 {
     if let Some((outcome, depth)) = cache.success_of(goal) {
-        say_outcome(told, ", success ", outcome)?;
-        say_number(told, " ", depth)?;
+        told.outcome("success ", outcome);
+        told.number(" ", depth);
+        told.say(", ");
     }
     for depth in 0..=5usize {
         if let Some(outcome) = cache.overflow_at(goal, depth) {
-            say_number(told, ", at ", depth)?;
-            say_outcome(told, " ", outcome)?;
+            told.number("at ", depth);
+            told.outcome(" ", outcome);
+            told.say(", ");
         }
     }
-    Ok(())
 }
 
 /// What is found of the goal at each depth.
-fn tell_hits<X, D, T>(
-    told: &mut String,
-    cache: &GlobalCache<D>,
-    goal: PathKind,
-    test: &T,
-) -> Result<(), Fail>
+fn tell_hits<X, D, T>(told: &mut Told, cache: &GlobalCache<D>, goal: PathKind, test: &T)
 where
     X: Cx<Input = PathKind, Result = Outcome>,
     D: Delegate<Cx = X>,
     T: NestedTest<X>,
 {
-    let mut separator = " ";
+    told.say("; ");
     for depth in 0..=5usize {
         if let Some(hit) = cache.get(goal, AvailableDepth(depth), test) {
-            say_number(told, separator, depth)?;
-            tell_hit(told, &hit)?;
-            separator = ", ";
+            told.number("", depth);
+            tell_hit(told, &hit);
         }
     }
-    Ok(())
 }
 
-fn tell_hit<X>(told: &mut String, hit: &CacheData<'_, X>) -> Result<(), Fail>
+fn tell_hit<X>(told: &mut Told, hit: &CacheData<'_, X>)
 where
     X: Cx<Input = PathKind, Result = Outcome>,
 {
-    say_outcome(told, " ", hit.result)?;
-    say_number(told, " ", hit.required_depth)?;
+    told.outcome(" ", hit.result);
+    told.number(" ", hit.required_depth);
     if hit.encountered_overflow {
-        say(told, "!")?;
+        told.say("!");
     }
     if let Some(NodeId(number)) = hit.node {
-        say_number(told, " node ", number)?;
+        told.number(" node ", number);
     }
     for (goal, paths) in hit.nested_goals.iter() {
-        say_kind(told, " ", goal)?;
-        say(told, ":")?;
-        tell_paths(told, paths)?;
+        told.kind(" ", goal);
+        told.paths(":", paths);
     }
-    Ok(())
+    told.say(", ");
 }
 
 /// Whether there is any result of the goal.

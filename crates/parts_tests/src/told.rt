@@ -1,11 +1,12 @@
 //! What is told of paths and usages: a letter for each kind of path, and the counts before these.
 
 use bitflags::Flags;
+use cycle_heads::memory::NoMemory;
 use cycle_heads::path::{PathKind, PathsToNested};
 use cycle_heads::usages::HeadUsages;
 use delegate_parts::Outcome;
+use std::alloc::Global;
 use std::fmt::Write;
-use std::test::Fail;
 
 /// The kinds of paths. In these tests they are the goals, too.
 pub const KINDS: [PathKind; 4] = [
@@ -29,81 +30,101 @@ pub fn usages_of(counts: Counts) -> HeadUsages {
     }
 }
 
-/// The letter of a kind, or of the goal that is this kind.
-pub fn letter(kind: PathKind) -> &'static str {
-    match kind {
-        PathKind::Inductive => "i",
-        PathKind::Unknown => "u",
-        PathKind::Coinductive => "c",
-        PathKind::ForcedAmbiguity => "f",
+/// What is told of a row. Nothing is promised of it, since the run compares it, and no call fails, so that the proofs of
+/// those who tell have little to say.
+#[derive(Drop)]
+pub struct Told {
+    text: String,
+    /// Whether there was no memory for some of it.
+    is_cut: bool,
+}
+
+impl Told {
+    /// Nothing is told yet.
+    pub fn new(alloc: Global) -> Told {
+        Told {
+            text: String::new(alloc),
+            is_cut: false,
+        }
     }
-}
 
-/// Adds this to what is told. This and its like promise nothing of what is told, which the run compares, so that the proofs of
-/// their callers have little to say.
-pub fn say(told: &mut String, word: &str) -> Result<(), Fail> {
-    told.push_str(word)?;
-    Ok(())
-}
-
-/// Adds a word and a number.
-pub fn say_number(told: &mut String, word: &str, number: usize) -> Result<(), Fail> {
-    write!(told, "{word}{number}")?;
-    Ok(())
-}
-
-/// Adds a word and an outcome.
-pub fn say_outcome(told: &mut String, word: &str, outcome: Outcome) -> Result<(), Fail> {
-    write!(told, "{word}{outcome}")?;
-    Ok(())
-}
-
-/// Adds a word and the letter of a kind.
-pub fn say_kind(told: &mut String, word: &str, kind: PathKind) -> Result<(), Fail> {
-    say(told, word)?;
-    say(told, letter(kind))
-}
-
-/// The letters of the paths, where `e` is the path of no step; a dash where there are none.
-pub fn tell_paths(told: &mut String, paths: PathsToNested) -> Result<(), Fail> {
-    if paths == PathsToNested::empty() {
-        return say(told, "-");
+    /// All that was told, if there was memory for it.
+    pub fn text(self) -> Result<String, NoMemory> {
+        if self.is_cut {
+            return Err(NoMemory);
+        }
+        Ok(self.text)
     }
-    tell_path(told, paths, PathsToNested::EMPTY, "e")?;
-    tell_path(told, paths, PathsToNested::INDUCTIVE, "i")?;
-    tell_path(told, paths, PathsToNested::UNKNOWN, "u")?;
-    tell_path(told, paths, PathsToNested::COINDUCTIVE, "c")?;
-    tell_path(told, paths, PathsToNested::FORCED_AMBIGUITY, "f")
-}
 
-/// The letter of a path, if it is one of these.
-fn tell_path(
-    told: &mut String,
-    paths: PathsToNested,
-    path: PathsToNested,
-    letter: &str,
-) -> Result<(), Fail> {
-    if paths.contains(path) {
-        return say(told, letter);
+    /// Tells this word.
+    pub fn say(&mut self, word: &str) {
+        if self.text.push_str(word).is_err() {
+            self.is_cut = true;
+        }
     }
-    Ok(())
-}
 
-/// The counts that are not zero; a dash where all are.
-pub fn tell_usages(told: &mut String, usages: HeadUsages) -> Result<(), Fail> {
-    if usages == HeadUsages::default() {
-        return say(told, "-");
+    /// Tells a word and a number.
+    pub fn number(&mut self, word: &str, number: usize) {
+        if write!(self.text, "{word}{number}").is_err() {
+            self.is_cut = true;
+        }
     }
-    tell_count(told, usages.inductive, "i")?;
-    tell_count(told, usages.unknown, "u")?;
-    tell_count(told, usages.coinductive, "c")?;
-    tell_count(told, usages.forced_ambiguity, "f")
-}
 
-/// A count, unless it is zero.
-fn tell_count(told: &mut String, count: u32, letter: &str) -> Result<(), Fail> {
-    if count > 0 {
-        write!(told, "{count}{letter}")?;
+    /// Tells a word and an outcome.
+    pub fn outcome(&mut self, word: &str, outcome: Outcome) {
+        if write!(self.text, "{word}{outcome}").is_err() {
+            self.is_cut = true;
+        }
     }
-    Ok(())
+
+    /// Tells a word and the letter of a kind, or of the goal that is this kind.
+    pub fn kind(&mut self, word: &str, kind: PathKind) {
+        self.say(word);
+        self.say(match kind {
+            PathKind::Inductive => "i",
+            PathKind::Unknown => "u",
+            PathKind::Coinductive => "c",
+            PathKind::ForcedAmbiguity => "f",
+        });
+    }
+
+    /// Tells a word and the letters of the paths, where `e` is the path of no step; a dash where there are none.
+    pub fn paths(&mut self, word: &str, paths: PathsToNested) {
+        self.say(word);
+        if paths == PathsToNested::empty() {
+            self.say("-");
+        }
+        self.path(paths, PathsToNested::EMPTY, "e");
+        self.path(paths, PathsToNested::INDUCTIVE, "i");
+        self.path(paths, PathsToNested::UNKNOWN, "u");
+        self.path(paths, PathsToNested::COINDUCTIVE, "c");
+        self.path(paths, PathsToNested::FORCED_AMBIGUITY, "f");
+    }
+
+    /// Tells the letter of a path, if it is one of these.
+    fn path(&mut self, paths: PathsToNested, path: PathsToNested, letter: &str) {
+        if paths.contains(path) {
+            self.say(letter);
+        }
+    }
+
+    /// Tells a word and the counts that are not zero; a dash where all are.
+    pub fn usages(&mut self, word: &str, usages: HeadUsages) {
+        self.say(word);
+        if usages == HeadUsages::default() {
+            self.say("-");
+        }
+        self.count(usages.inductive, "i");
+        self.count(usages.unknown, "u");
+        self.count(usages.coinductive, "c");
+        self.count(usages.forced_ambiguity, "f");
+    }
+
+    /// Tells a count, unless it is zero.
+    fn count(&mut self, count: u32, letter: &str) {
+        if count > 0 {
+            self.number("", count as usize);
+            self.say(letter);
+        }
+    }
 }
