@@ -1,38 +1,55 @@
 //! Tests of the texts of faults.
+
+use cycle_heads::path::PathKind;
 use delegate_parts::Outcome;
-use search_parts::context::{Fault, NoMemory};
-use search_parts::path::PathKind;
+use search_context::context::{Fault, NoMemory};
+use std::alloc::Global;
+use std::fmt;
 use std::test::Fail;
+
+/// A fault of goals that are path kinds.
+type KindFault = Fault<PathKind, Outcome>;
+
+/// Faults with their texts.
+const ROWS: [(KindFault, &str); 5] = [
+    (Fault::Memory, "out of memory"),
+    (
+        Fault::Conflict {
+            input: PathKind::Inductive,
+            stored: Outcome::Yes,
+            found: Outcome::No,
+        },
+        "another result is stored",
+    ),
+    (
+        Fault::Validation {
+            input: PathKind::Inductive,
+            stored: Outcome::Yes,
+            found: Outcome::No,
+        },
+        "validation gave another result",
+    ),
+    (Fault::Protocol(2), "request out of order: 2"),
+    (Fault::Protocol(5), "request out of order: 5"),
+];
 
 #[test]
 fn faults_have_their_texts(rt: HostRuntime) -> Result<(), Fail> {
-    let input = PathKind::Inductive;
-    let [stored, found] = [Outcome::Yes, Outcome::No];
-    let faults: [(Fault<PathKind, Outcome>, &str); 4] = [
-        (Fault::from(NoMemory), "out of memory"),
-        (
-            Fault::Conflict {
-                input,
-                stored,
-                found,
-            },
-            "another result is stored",
-        ),
-        (
-            Fault::Validation {
-                input,
-                stored,
-                found,
-            },
-            "validation gave another result",
-        ),
-        (Fault::Protocol(2), "request out of order: 2"),
-    ];
-    for (fault, text) in faults {
-        let shown = format!(in rt.alloc(); "{fault}")?;
-        assert_eq!(rt; shown.as_str(), text);
+    for (fault, wanted) in ROWS {
+        let told = text_of(rt.alloc(), &fault)?;
+        assert_eq!(rt; told.as_str(), wanted);
     }
-    let shown = format!(in rt.alloc(); "{NoMemory}")?;
-    assert_eq!(rt; shown.as_str(), "out of memory");
+    Ok(())
+}
+
+fn text_of<T: fmt::Display>(alloc: Global, shown: &T) -> Result<String, Fail> {
+    Ok(format!(in alloc; "{shown}")?)
+}
+
+#[test]
+fn no_memory_is_the_fault_of_memory(rt: HostRuntime) -> Result<(), Fail> {
+    assert_eq!(rt; KindFault::from(NoMemory), Fault::Memory);
+    let told = text_of(rt.alloc(), &NoMemory)?;
+    assert_eq!(rt; told.as_str(), "out of memory");
     Ok(())
 }

@@ -1,121 +1,167 @@
-//! Tests of the goals below a goal.
-use bitflags::Flags;
-use search_parts::parts::NestedGoals;
-use search_parts::path::{PathKind, PathsToNested};
+//! Tests of the goals below a goal. A goal is a kind of path here.
+
+use crate::told::{KINDS, Told};
+use cycle_heads::path::{PathKind, PathsToNested};
+use search_context::context::{Cx, NoMemory};
+use search_stack::nested_goals::NestedGoals;
+use std::alloc::Global;
+use std::mem;
 use std::test::Fail;
 use test_delegates::loops::LoopsContext;
 
+/// What is done with the goals below a goal, and with those below a child of it.
+#[derive(Clone, Copy)]
+enum Act {
+    /// Paths are joined to one of the goals.
+    Own(PathKind, PathsToNested),
+    /// Paths are joined to one of the child's goals.
+    Childs(PathKind, PathsToNested),
+    /// The child's goals are joined, after a step to it.
+    Extend(PathKind),
+    /// The same, and the child is a new one afterwards.
+    Take(PathKind),
+    /// The goals become those of the child, and there are none beside these.
+    Rise,
+}
+
+const EMPTY: PathsToNested = PathsToNested::EMPTY;
+
+const INDUCTIVE: PathsToNested = PathsToNested::INDUCTIVE;
+
+const UNKNOWN: PathsToNested = PathsToNested::UNKNOWN;
+
+const COINDUCTIVE: PathsToNested = PathsToNested::COINDUCTIVE;
+
+/// What is done where there are no goals yet, and after each act the goals that it changed with the paths to them: those of
+/// the child, or one's own.
+const ROWS: [(&str, &[Act], &str); 4] = [
+    (
+        "paths to a goal are joined",
+        &[
+            Act::Rise,
+            Act::Own(PathKind::Unknown, EMPTY),
+            Act::Own(PathKind::Unknown, UNKNOWN),
+        ],
+        "own:; own: u:e; own: u:eu; ",
+    ),
+    (
+        "a goal is joined to itself again",
+        &[
+            Act::Childs(PathKind::Unknown, EMPTY),
+            Act::Childs(PathKind::Unknown, EMPTY),
+            Act::Childs(PathKind::Unknown, COINDUCTIVE),
+            Act::Childs(PathKind::Unknown, EMPTY),
+            // The step extends the path of no step, which then is there no more.
+            Act::Take(PathKind::Inductive),
+            Act::Own(PathKind::Unknown, EMPTY),
+            // It is joined to another goal in between.
+            Act::Own(PathKind::Inductive, EMPTY),
+            Act::Own(PathKind::Unknown, EMPTY),
+        ],
+        "child: u:e; child: u:e; child: u:ec; child: u:ec; own: u:ic; own: u:eic; own: i:e u:eic; \
+         own: i:e u:eic; ",
+    ),
+    (
+        "a child adds its goals after the step",
+        &[
+            Act::Childs(PathKind::Inductive, EMPTY),
+            Act::Childs(PathKind::Unknown, COINDUCTIVE),
+            Act::Own(PathKind::Inductive, INDUCTIVE),
+            Act::Own(PathKind::Coinductive, INDUCTIVE),
+            Act::Extend(PathKind::Unknown),
+        ],
+        "child: i:e; child: i:e u:c; own: i:i; own: i:i c:i; own: i:iu u:c c:i; ",
+    ),
+    (
+        "a child gives its goals after the step",
+        &[
+            Act::Childs(PathKind::Inductive, EMPTY),
+            Act::Childs(PathKind::Unknown, COINDUCTIVE),
+            Act::Own(PathKind::Inductive, INDUCTIVE),
+            Act::Take(PathKind::Unknown),
+            Act::Own(PathKind::Coinductive, EMPTY),
+            // A smaller child is walked.
+            Act::Childs(PathKind::ForcedAmbiguity, INDUCTIVE),
+            Act::Childs(PathKind::Coinductive, EMPTY),
+            Act::Take(PathKind::Coinductive),
+            // These goals are in turn those of a child, whose steps come one after the other.
+            Act::Rise,
+            Act::Take(PathKind::Inductive),
+            Act::Rise,
+            Act::Take(PathKind::Unknown),
+        ],
+        "child: i:e; child: i:e u:c; own: i:i; own: i:iu u:c; own: i:iu u:c c:e; child: f:i; \
+         child: c:e f:i; own: i:iu u:c c:ec f:c; own:; own: i:iu u:c c:ic f:c; own:; own: i:u u:c \
+         c:uc f:c; ",
+    ),
+];
+
 #[test]
-fn paths_to_a_goal_are_joined(rt: HostRuntime) -> Result<(), Fail> {
-    let goal = PathKind::Unknown;
-    let other = PathKind::Inductive;
-    let mut goals = NestedGoals::<LoopsContext>::new(rt.alloc());
-    assert!(rt; goals.is_empty());
-    goals.insert(goal, PathsToNested::EMPTY)?;
-    goals.insert(goal, PathsToNested::UNKNOWN)?;
-    let joined = PathsToNested::EMPTY.union(PathsToNested::UNKNOWN);
-    assert_eq!(rt; goals.get(goal), Some(joined));
-    assert!(rt; goals.contains(goal));
-    assert_eq!(rt; goals.get(other), None);
-    assert!(rt; !goals.contains(other));
-    assert_eq!(rt; goals.iter().count(), 1);
-    assert!(rt; !goals.is_empty());
+fn nested_goals_are_as_told(rt: HostRuntime) -> Result<(), Fail> {
+    for (name, acts, wanted) in ROWS {
+        let told = tell_acts::<LoopsContext>(rt.alloc(), acts).text()?;
+        assert_eq!(rt; told.as_str(), wanted, "{name}");
+    }
     Ok(())
 }
 
-#[test]
-fn a_goal_is_joined_to_itself_again(rt: HostRuntime) -> Result<(), Fail> {
-    let [own, other] = [PathKind::Unknown, PathKind::Inductive];
-    let mut child = NestedGoals::<LoopsContext>::new(rt.alloc());
-    child.insert(own, PathsToNested::EMPTY)?;
-    child.insert(own, PathsToNested::EMPTY)?;
-    assert_eq!(rt; child.get(own), Some(PathsToNested::EMPTY));
-    child.insert(own, PathsToNested::COINDUCTIVE)?;
-    child.insert(own, PathsToNested::EMPTY)?;
-    let joined = PathsToNested::EMPTY.union(PathsToNested::COINDUCTIVE);
-    assert_eq!(rt; child.get(own), Some(joined));
-
-    // The step extends the path of no step, which then is there no more.
-    let mut goals = NestedGoals::<LoopsContext>::new(rt.alloc());
-    goals.take_from_child(PathKind::Inductive, &mut child)?;
-    let extended = PathsToNested::INDUCTIVE.union(PathsToNested::COINDUCTIVE);
-    assert_eq!(rt; goals.get(own), Some(extended));
-    goals.insert(own, PathsToNested::EMPTY)?;
-    let joined = PathsToNested::EMPTY.union(extended);
-    assert_eq!(rt; goals.get(own), Some(joined));
-
-    // It is joined to another goal in between.
-    goals.insert(other, PathsToNested::EMPTY)?;
-    goals.insert(own, PathsToNested::EMPTY)?;
-    assert_eq!(rt; goals.get(other), Some(PathsToNested::EMPTY));
-    assert_eq!(rt; goals.get(own), Some(joined));
-    assert_eq!(rt; goals.iter().count(), 2);
-    Ok(())
+fn tell_acts<X: Cx<Input = PathKind>>(alloc: Global, acts: &[Act]) -> Told {
+    let mut told = Told::new(alloc);
+    let mut goals = NestedGoals::<X>::new(alloc);
+    let mut child = NestedGoals::<X>::new(alloc);
+    for act in acts {
+        if carry_out(alloc, &mut goals, &mut child, *act).is_err() {
+            told.say("no memory ");
+        }
+        if matches!(act, Act::Childs(_, _)) {
+            tell(&mut told, "child:", &child);
+        } else {
+            tell(&mut told, "own:", &goals);
+        }
+    }
+    told
 }
 
-#[test]
-fn a_child_adds_its_goals_after_the_step(rt: HostRuntime) -> Result<(), Fail> {
-    let [both, childs, own] = [
-        PathKind::Inductive,
-        PathKind::Unknown,
-        PathKind::Coinductive,
-    ];
-    let mut child = NestedGoals::<LoopsContext>::new(rt.alloc());
-    child.insert(both, PathsToNested::EMPTY)?;
-    child.insert(childs, PathsToNested::COINDUCTIVE)?;
-    let mut goals = NestedGoals::<LoopsContext>::new(rt.alloc());
-    goals.insert(both, PathsToNested::INDUCTIVE)?;
-    goals.insert(own, PathsToNested::INDUCTIVE)?;
-    goals.extend_from_child(PathKind::Unknown, &child)?;
-    let joined = PathsToNested::INDUCTIVE.union(PathsToNested::UNKNOWN);
-    assert_eq!(rt; goals.get(both), Some(joined));
-    assert_eq!(rt; goals.get(childs), Some(PathsToNested::COINDUCTIVE));
-    assert_eq!(rt; goals.get(own), Some(PathsToNested::INDUCTIVE));
-    Ok(())
+fn carry_out<X: Cx<Input = PathKind>>(
+    alloc: Global,
+    goals: &mut NestedGoals<X>,
+    child: &mut NestedGoals<X>,
+    act: Act,
+) -> Result<(), NoMemory> {
+    match act {
+        Act::Own(goal, paths) => goals.insert(goal, paths),
+        Act::Childs(goal, paths) => child.insert(goal, paths),
+        Act::Extend(step) => goals.extend_from_child(step, child),
+        Act::Take(step) => {
+            goals.take_from_child(step, child)?;
+            // It is left open what the child is left with.
+            *child = NestedGoals::new(alloc);
+            Ok(())
+        }
+        Act::Rise => {
+            mem::swap(goals, child);
+            *goals = NestedGoals::new(alloc);
+            Ok(())
+        }
+    }
 }
 
-#[test]
-fn a_child_gives_its_goals_after_the_step(rt: HostRuntime) -> Result<(), Fail> {
-    let [both, childs, later, own] = [
-        PathKind::Inductive,
-        PathKind::Unknown,
-        PathKind::ForcedAmbiguity,
-        PathKind::Coinductive,
-    ];
-    // The child has more goals, so the own one is put among them.
-    let mut child = NestedGoals::<LoopsContext>::new(rt.alloc());
-    child.insert(both, PathsToNested::EMPTY)?;
-    child.insert(childs, PathsToNested::COINDUCTIVE)?;
-    let mut goals = NestedGoals::<LoopsContext>::new(rt.alloc());
-    goals.insert(both, PathsToNested::INDUCTIVE)?;
-    goals.take_from_child(PathKind::Unknown, &mut child)?;
-    let joined = PathsToNested::INDUCTIVE.union(PathsToNested::UNKNOWN);
-    assert_eq!(rt; goals.get(both), Some(joined));
-    assert_eq!(rt; goals.get(childs), Some(PathsToNested::COINDUCTIVE));
-
-    // What is joined later is not extended by that step.
-    goals.insert(own, PathsToNested::EMPTY)?;
-    assert_eq!(rt; goals.get(own), Some(PathsToNested::EMPTY));
-
-    // A smaller child is walked.
-    let mut child = NestedGoals::<LoopsContext>::new(rt.alloc());
-    child.insert(later, PathsToNested::INDUCTIVE)?;
-    child.insert(own, PathsToNested::EMPTY)?;
-    goals.take_from_child(PathKind::Coinductive, &mut child)?;
-    let joined = PathsToNested::EMPTY.union(PathsToNested::COINDUCTIVE);
-    assert_eq!(rt; goals.get(own), Some(joined));
-    assert_eq!(rt; goals.get(later), Some(PathsToNested::COINDUCTIVE));
-
-    // And these goals are in turn those of a child, whose steps come one after the other.
-    let mut parent = NestedGoals::<LoopsContext>::new(rt.alloc());
-    parent.take_from_child(PathKind::Inductive, &mut goals)?;
-    assert_eq!(rt; parent.iter().count(), 4);
-    let joined = PathsToNested::INDUCTIVE.union(PathsToNested::COINDUCTIVE);
-    assert_eq!(rt; parent.get(own), Some(joined));
-    let mut root = NestedGoals::<LoopsContext>::new(rt.alloc());
-    root.take_from_child(PathKind::Unknown, &mut parent)?;
-    let joined = PathsToNested::UNKNOWN.union(PathsToNested::COINDUCTIVE);
-    assert_eq!(rt; root.get(own), Some(joined));
-    assert_eq!(rt; root.get(both), Some(PathsToNested::UNKNOWN));
-    Ok(())
+/// The word, and then the goals with the paths to them.
+fn tell<X: Cx<Input = PathKind>>(told: &mut Told, word: &str, goals: &NestedGoals<X>) {
+    told.say(word);
+    let mut found = 0usize;
+    for goal in KINDS {
+        if let Some(paths) = goals.get(goal) {
+            told.kind(" ", goal);
+            told.paths(":", paths);
+            found = found.saturating_add(1);
+        }
+        if goals.contains(goal) != goals.get(goal).is_some() {
+            told.say(" otherwise");
+        }
+    }
+    if goals.len() != found || goals.is_empty() != (found == 0) || goals.iter().count() != found {
+        told.say(" and others");
+    }
+    told.say("; ");
 }

@@ -1,188 +1,351 @@
 //! Tests of calls that are refused memory: they leave their values as they were, and succeed when they are called again.
 //! In a plain run nothing is refused, and each call succeeds at once; `tests/memory` refuses the requests in turn. A call
 //! that needs no memory then is one that has to succeed.
+
+use crate::entries::{GOAL, LOWER, USER};
+use crate::rebasing::{COINDUCTIVE, REASONS, rebased};
+use crate::stored::{Found, OfLoops, Storing};
+use crate::told::{KINDS, usages_of};
 use bitflags::Flags;
-use search_parts::context::NoMemory;
-use search_parts::parts::{
-    AvailableDepth, CandidateHeadUsages, CycleHeads, HeadUsages, NestedGoals, Stack, StackDepth,
-    StackEntry,
-};
-use search_parts::path::{PathKind, PathsToNested};
+use cycle_heads::candidates::CandidateHeadUsages;
+use cycle_heads::depth::StackDepth;
+use cycle_heads::heads::CycleHeads;
+use cycle_heads::path::{PathKind, PathsToNested};
+use cycle_heads::usages::HeadUsages;
+use delegate_parts::{ContextOf, Outcome};
+use global_cache::GlobalCache;
+use search_context::context::{Cx, Delegate, Fault, NoMemory};
+use search_stack::depth::AvailableDepth;
+use search_stack::nested_goals::NestedGoals;
+use search_stack::stack::{Stack, StackEntry};
 use std::alloc::Global;
 use std::test::Fail;
-use test_delegates::loops::LoopsContext;
+use test_delegates::loops::{Loops, LoopsContext, LoopsDelegate};
 
-/// The goals.
-const GOALS: [PathKind; 4] = [
-    PathKind::Inductive,
-    PathKind::Unknown,
-    PathKind::Coinductive,
-    PathKind::ForcedAmbiguity,
+/// What is called.
+#[derive(Clone, Copy)]
+enum Call {
+    NestedGoal,
+    GoalsOfAChild,
+    GoalsThatAChildGives,
+    Push,
+    Head,
+    Usages,
+    Candidate,
+    Rebase,
+    StoredResult,
+}
+
+const CALLS: [(&str, Call); 9] = [
+    ("a refused nested goal changes nothing", Call::NestedGoal),
+    (
+        "refused goals of a child change nothing",
+        Call::GoalsOfAChild,
+    ),
+    (
+        "refused goals that a child gives change nothing",
+        Call::GoalsThatAChildGives,
+    ),
+    ("a refused push changes nothing", Call::Push),
+    ("a refused head changes nothing", Call::Head),
+    ("refused usages change nothing", Call::Usages),
+    ("refused candidates change nothing", Call::Candidate),
+    ("a refused rebase leaves no entry", Call::Rebase),
+    ("a refused result changes nothing", Call::StoredResult),
 ];
+
+#[test]
+fn refused_calls_change_nothing(rt: HostRuntime) -> Result<(), Fail> {
+    for (name, call) in CALLS {
+        let is_kept = is_kept(rt.alloc(), call)?;
+        assert!(rt; is_kept, "{name}");
+    }
+    Ok(())
+}
+
+/// Whether all is kept where the calls are refused, and all is done in the end.
+fn is_kept(alloc: Global, call: Call) -> Result<bool, NoMemory> {
+    match call {
+        Call::NestedGoal => keeps_nested_goals::<LoopsContext>(alloc),
+        Call::GoalsOfAChild => keeps_goals_of_a_child::<LoopsContext>(alloc),
+        Call::GoalsThatAChildGives => keeps_given_goals::<LoopsContext>(alloc),
+        Call::Push => keeps_stack::<LoopsContext>(alloc),
+        Call::Head => keeps_heads(alloc),
+        Call::Usages => keeps_usages(alloc),
+        Call::Candidate => keeps_candidate(alloc),
+        Call::Rebase => {
+            rebases_or_empties::<LoopsContext, LoopsDelegate>(alloc, ContextOf(Loops))
+        }
+        Call::StoredResult => {
+            keeps_results::<LoopsContext, LoopsDelegate, OfLoops>(alloc, ContextOf(Loops), &OfLoops)
+        }
+    }
+}
+
+fn keeps_nested_goals<X: Cx<Input = PathKind>>(alloc: Global) -> Result<bool, NoMemory> {
+    let mut goals = NestedGoals::<X>::new(alloc);
+    for goal in KINDS {
+        if !keeps_nested_goal(&mut goals, goal)? {
+            return Ok(false);
+        }
+    }
+    Ok(true)
+}
+
+/// Inserts a new goal, and then the same once more.
+fn keeps_nested_goal<X: Cx<Input = PathKind>>(
+    goals: &mut NestedGoals<X>,
+    goal: PathKind,
+) -> Result<bool, NoMemory> {
+    let others = goals.len();
+    if goals.insert(goal, PathsToNested::EMPTY).is_err() {
+        if goals.len() != others || goals.contains(goal) {
+            return Ok(false);
+        }
+        goals.insert(goal, PathsToNested::EMPTY)?;
+    }
+    // The goal is known, so that its paths are joined without memory.
+    let is_joined = goals.insert(goal, PathsToNested::UNKNOWN).is_ok();
+    let both = PathsToNested::EMPTY.union(PathsToNested::UNKNOWN);
+    Ok(is_joined && goals.get(goal) == Some(both))
+}
+
+/// Some goals with the path of no step to each.
+fn nested_goals_of<X: Cx<Input = PathKind>>(
+    alloc: Global,
+    inputs: &[PathKind],
+) -> Result<NestedGoals<X>, NoMemory> {
+    let mut goals = NestedGoals::<X>::new(alloc);
+    for goal in inputs {
+        goals.insert(*goal, PathsToNested::EMPTY)?;
+    }
+    Ok(goals)
+}
+
+/// Whether there are so many goals, and these are the paths to the unknown one.
+fn has_unknown<X: Cx<Input = PathKind>>(
+    goals: &NestedGoals<X>,
+    count: usize,
+    paths: PathsToNested,
+) -> bool {
+    goals.iter().count() == count && goals.get(PathKind::Unknown) == Some(paths)
+}
+
+fn keeps_goals_of_a_child<X: Cx<Input = PathKind>>(alloc: Global) -> Result<bool, NoMemory> {
+    let child = nested_goals_of::<X>(alloc, &KINDS)?;
+    let mut goals = nested_goals_of::<X>(alloc, &[PathKind::Unknown])?;
+    extends(&mut goals, &child)
+}
+
+/// Joins the goals of a child to the unknown one.
+fn extends<X: Cx<Input = PathKind>>(
+    goals: &mut NestedGoals<X>,
+    child: &NestedGoals<X>,
+) -> Result<bool, NoMemory> {
+    let step = PathKind::Coinductive;
+    if goals.extend_from_child(step, child).is_err() {
+        if !has_unknown(goals, 1, PathsToNested::EMPTY) {
+            return Ok(false);
+        }
+        goals.extend_from_child(step, child)?;
+    }
+    let both = PathsToNested::EMPTY.union(PathsToNested::COINDUCTIVE);
+    Ok(has_unknown(goals, 4, both))
+}
+
+fn keeps_given_goals<X: Cx<Input = PathKind>>(alloc: Global) -> Result<bool, NoMemory> {
+    let mut goals = nested_goals_of::<X>(alloc, &[PathKind::Unknown])?;
+    if !takes(alloc, &mut goals)? {
+        if !has_unknown(&goals, 1, PathsToNested::EMPTY) {
+            return Ok(false);
+        }
+        takes(alloc, &mut goals)?;
+    }
+    let is_given = goals.get(PathKind::Inductive) == Some(PathsToNested::COINDUCTIVE);
+    Ok(is_given && has_unknown(&goals, 3, PathsToNested::EMPTY))
+}
+
+/// Takes the two goals of a child, and says whether there was memory.
+fn takes<X: Cx<Input = PathKind>>(
+    alloc: Global,
+    goals: &mut NestedGoals<X>,
+) -> Result<bool, NoMemory> {
+    let of_child = [PathKind::Inductive, PathKind::Coinductive];
+    let mut child = nested_goals_of::<X>(alloc, &of_child)?;
+    Ok(
+        goals
+            .take_from_child(PathKind::Coinductive, &mut child)
+            .is_ok(),
+    )
+}
+
+fn keeps_stack<X: Cx<Input = PathKind>>(alloc: Global) -> Result<bool, NoMemory> {
+    let mut stack = Stack::<X>::new(alloc);
+    for goal in KINDS {
+        let below = stack.len();
+        if !push(alloc, &mut stack, goal) {
+            if stack.len() != below || stack.find(goal).is_some() {
+                return Ok(false);
+            }
+            push(alloc, &mut stack, goal);
+        }
+        if stack.find(goal) != Some(StackDepth::new(below)) {
+            return Ok(false);
+        }
+    }
+    Ok(stack.len() == 4)
+}
+
+/// Pushes the goal, and says whether there was memory.
+fn push<X: Cx<Input = PathKind>>(alloc: Global, stack: &mut Stack<X>, goal: PathKind) -> bool {
+    if stack.find(goal).is_some() {
+        return false;
+    }
+    let entry = StackEntry::new(alloc, goal, goal, AvailableDepth(4));
+    stack.push(entry).is_ok()
+}
 
 /// How many heads there are.
 const HEADS: usize = 40;
 
-#[test]
-fn a_refused_nested_goal_changes_nothing(rt: HostRuntime) -> Result<(), Fail> {
-    let mut goals = NestedGoals::<LoopsContext>::new(rt.alloc());
-    for goal in GOALS {
-        let others = goals.iter().count();
-        if goals.insert(goal, PathsToNested::EMPTY).is_err() {
-            assert_eq!(rt; goals.iter().count(), others);
-            assert_eq!(rt; goals.get(goal), None);
-            goals.insert(goal, PathsToNested::EMPTY)?;
-        }
-        // The goal is known, so that its paths are joined without memory.
-        assert!(rt; goals.insert(goal, PathsToNested::UNKNOWN).is_ok());
-        let joined = PathsToNested::EMPTY.union(PathsToNested::UNKNOWN);
-        assert_eq!(rt; goals.get(goal), Some(joined));
-    }
-    Ok(())
-}
-
-#[test]
-fn refused_goals_of_a_child_change_nothing(rt: HostRuntime) -> Result<(), Fail> {
-    let mut child = NestedGoals::<LoopsContext>::new(rt.alloc());
-    for goal in GOALS {
-        child.insert(goal, PathsToNested::EMPTY)?;
-    }
-    let mut goals = NestedGoals::<LoopsContext>::new(rt.alloc());
-    goals.insert(PathKind::Unknown, PathsToNested::EMPTY)?;
-    if goals
-        .extend_from_child(PathKind::Coinductive, &child)
-        .is_err()
-    {
-        assert_eq!(rt; goals.iter().count(), 1);
-        assert_eq!(rt; goals.get(PathKind::Unknown), Some(PathsToNested::EMPTY));
-        goals.extend_from_child(PathKind::Coinductive, &child)?;
-    }
-    let joined = PathsToNested::EMPTY.union(PathsToNested::COINDUCTIVE);
-    assert_eq!(rt; goals.get(PathKind::Unknown), Some(joined));
-    assert_eq!(rt; goals.iter().count(), GOALS.len());
-    Ok(())
-}
-
-#[test]
-fn refused_goals_that_a_child_gives_change_nothing(rt: HostRuntime) -> Result<(), Fail> {
-    let mut goals = NestedGoals::<LoopsContext>::new(rt.alloc());
-    goals.insert(PathKind::Unknown, PathsToNested::EMPTY)?;
-    for _ in 0..2 {
-        let mut child = NestedGoals::<LoopsContext>::new(rt.alloc());
-        for goal in [PathKind::Inductive, PathKind::Coinductive] {
-            if child.insert(goal, PathsToNested::EMPTY).is_err() {
-                child.insert(goal, PathsToNested::EMPTY)?;
-            }
-        }
-        if goals
-            .take_from_child(PathKind::Coinductive, &mut child)
-            .is_ok()
-        {
-            break;
-        }
-        assert_eq!(rt; goals.iter().count(), 1);
-        assert_eq!(rt; goals.get(PathKind::Unknown), Some(PathsToNested::EMPTY));
-    }
-    assert_eq!(rt; goals.iter().count(), 3);
-    assert_eq!(rt;
-        goals.get(PathKind::Inductive),
-        Some(PathsToNested::COINDUCTIVE)
-    );
-    assert_eq!(rt; goals.get(PathKind::Unknown), Some(PathsToNested::EMPTY));
-    Ok(())
-}
-
-#[test]
-fn a_refused_push_changes_nothing(rt: HostRuntime) -> Result<(), Fail> {
-    let mut stack = Stack::<LoopsContext>::new(rt.alloc());
-    for goal in GOALS {
-        let below = stack.len();
-        for _ in 0..2 {
-            if stack.find(goal).is_none() {
-                let entry = StackEntry::new(rt.alloc(), goal, goal, AvailableDepth(4));
-                if stack.push(entry).is_err() {
-                    assert_eq!(rt; stack.len(), below);
-                    assert_eq!(rt; stack.find(goal), None);
-                }
-            }
-        }
-        assert_eq!(rt; stack.find(goal), Some(StackDepth::new(below)));
-    }
-    assert_eq!(rt; stack.len(), GOALS.len());
-    Ok(())
-}
-
-#[test]
-fn a_refused_head_changes_nothing(rt: HostRuntime) -> Result<(), Fail> {
-    let mut heads = CycleHeads::new(rt.alloc());
+fn keeps_heads(alloc: Global) -> Result<bool, NoMemory> {
+    let mut heads = CycleHeads::new(alloc);
     let usages = HeadUsages::default();
     for number in 0..HEADS {
         let head = StackDepth::new(number);
         let paths = PathsToNested::COINDUCTIVE;
         if heads.insert(head, paths, usages).is_err() {
-            assert_eq!(rt; heads.as_slice().len(), number);
+            if heads.as_slice().len() != number {
+                return Ok(false);
+            }
             heads.insert(head, paths, usages)?;
         }
-        assert!(rt; heads.insert(head, PathsToNested::INDUCTIVE, usages).is_ok());
-        assert_eq!(rt; heads.opt_highest_cycle_head_index(), Some(head));
+        let is_joined = heads.insert(head, PathsToNested::INDUCTIVE, usages).is_ok();
+        if !is_joined || heads.opt_highest_cycle_head_index() != Some(head) {
+            return Ok(false);
+        }
     }
-    Ok(())
+    Ok(heads.as_slice().len() == HEADS)
 }
 
-/// One usage by a coinductive cycle.
-fn once() -> HeadUsages {
-    HeadUsages {
-        coinductive: 1,
-        ..HeadUsages::default()
+fn keeps_usages(alloc: Global) -> Result<bool, NoMemory> {
+    let once = usages_of([0, 0, 1, 0]);
+    let mut noted = CandidateHeadUsages::new(alloc);
+    for number in 0..HEADS {
+        let head = StackDepth::new(number);
+        if noted.note_usages(head, once).is_err() {
+            if noted.as_slice().len() != number || noted.get(head).is_some() {
+                return Ok(false);
+            }
+            noted.note_usages(head, once)?;
+        }
+        let is_counted = noted.note_usages(head, once).is_ok();
+        if !is_counted || noted.get(head) != Some(usages_of([0, 0, 2, 0])) {
+            return Ok(false);
+        }
     }
+    Ok(noted.as_slice().len() == HEADS)
 }
 
-/// A candidate that used the heads of these numbers.
+/// A candidate that used the heads of these numbers once.
 fn candidate(alloc: Global, from: usize, to: usize) -> Result<CandidateHeadUsages, NoMemory> {
     let mut candidate = CandidateHeadUsages::new(alloc);
     for number in from..to {
-        candidate.note_usages(StackDepth::new(number), once())?;
+        candidate.note_usages(StackDepth::new(number), usages_of([0, 0, 1, 0]))?;
     }
     Ok(candidate)
 }
 
-#[test]
-fn refused_usages_change_nothing(rt: HostRuntime) -> Result<(), Fail> {
-    let mut noted = CandidateHeadUsages::new(rt.alloc());
-    for number in 0..HEADS {
-        let head = StackDepth::new(number);
-        if noted.note_usages(head, once()).is_err() {
-            assert_eq!(rt; noted.as_slice().len(), number);
-            assert_eq!(rt; noted.get(head), None);
-            noted.note_usages(head, once())?;
-        }
-        assert!(rt; noted.note_usages(head, once()).is_ok());
-        assert_eq!(rt; noted.get(head).map(|usages| usages.coinductive), Some(2));
-    }
-    Ok(())
-}
-
-#[test]
-fn refused_candidates_change_nothing(rt: HostRuntime) -> Result<(), Fail> {
+fn keeps_candidate(alloc: Global) -> Result<bool, NoMemory> {
     let half = HEADS / 2;
-    let mut merged = candidate(rt.alloc(), 0, half)?;
-    let first = candidate(rt.alloc(), 1, HEADS)?;
-    let again = candidate(rt.alloc(), 1, HEADS)?;
+    let mut merged = candidate(alloc, 0, half)?;
+    let first = candidate(alloc, 1, HEADS)?;
+    let again = candidate(alloc, 1, HEADS)?;
     if merged.merge_usages(first).is_err() {
-        assert_eq!(rt; merged.as_slice().len(), half);
-        for (_, usages) in merged.as_slice() {
-            assert_eq!(rt; usages.coinductive, 1);
+        if !has_twice(&merged, half, 0, 0) {
+            return Ok(false);
         }
         merged.merge_usages(again)?;
     }
-    assert_eq!(rt; merged.as_slice().len(), HEADS);
-    for (head, usages) in merged.as_slice() {
-        let count = if head.index() > 0 && head.index() < half {
-            2
-        } else {
-            1
-        };
-        assert_eq!(rt; usages.coinductive, count);
+    Ok(has_twice(&merged, HEADS, 1, half))
+}
+
+/// Whether the candidate used so many heads: those of these numbers twice, and all others once.
+fn has_twice(candidate: &CandidateHeadUsages, count: usize, from: usize, to: usize) -> bool {
+    for (head, usages) in candidate.as_slice() {
+        let is_within = head.index() >= from && head.index() < to;
+        let wanted = if is_within { 2 } else { 1 };
+        if usages.coinductive != wanted {
+            return false;
+        }
     }
-    Ok(())
+    candidate.as_slice().len() == count
+}
+
+/// Whether for each reason a rebase that is refused leaves an empty cache, and any other one an entry.
+fn rebases_or_empties<X, D>(alloc: Global, cx: X) -> Result<bool, NoMemory>
+where
+    X: Cx<Input = PathKind, Result = Outcome, AmbiguityInfo = ()>,
+    D: Delegate<Cx = X>,
+{
+    for reason in REASONS {
+        let (cache, is_done) = rebased::<X, D>(alloc, cx, &[LOWER, USER], COINDUCTIVE, reason)?;
+        if cache.is_empty() == is_done || cache.entries_of(GOAL).is_empty() == is_done {
+            return Ok(false);
+        }
+    }
+    Ok(true)
+}
+
+/// Stores forty results of a goal that met overflow at different depths, each of them twice.
+fn keeps_results<X, D, S>(alloc: Global, cx: X, storing: &S) -> Result<bool, NoMemory>
+where
+    X: Cx<Input = PathKind, Result = Outcome>,
+    D: Delegate<Cx = X>,
+    S: Storing<D>,
+{
+    let mut cache = GlobalCache::<D>::new(alloc, cx);
+    for depth in 0..40usize {
+        if !keeps_result(&mut cache, storing, depth)? {
+            return Ok(false);
+        }
+    }
+    Ok(true)
+}
+
+/// Stores a result where those of lower depths are stored.
+fn keeps_result<X, D, S>(
+    cache: &mut GlobalCache<D>,
+    storing: &S,
+    depth: usize,
+) -> Result<bool, NoMemory>
+where
+    X: Cx<Input = PathKind, Result = Outcome>,
+    D: Delegate<Cx = X>,
+    S: Storing<D>,
+{
+    let found = Found::Overflow(Outcome::Maybe, depth, None);
+    if storing.store(cache, GOAL, found)? == Err(Fault::Memory) {
+        if !has_below(cache, depth) {
+            return Ok(false);
+        }
+        let _ = storing.store(cache, GOAL, found)?;
+    }
+    // What is stored there is replaced by an equal one without memory.
+    let stored = storing.store(cache, GOAL, found)?;
+    Ok(stored.is_ok() && has_below(cache, depth.saturating_add(1)))
+}
+
+/// Whether the goal has a result at each depth below this one, and none at this one.
+fn has_below<X, D>(cache: &GlobalCache<D>, end: usize) -> bool
+where
+    X: Cx<Input = PathKind, Result = Outcome>,
+    D: Delegate<Cx = X>,
+{
+    for depth in 0..end {
+        if cache.overflow_at(GOAL, depth) != Some(Outcome::Maybe) {
+            return false;
+        }
+    }
+    cache.overflow_at(GOAL, end).is_none()
 }

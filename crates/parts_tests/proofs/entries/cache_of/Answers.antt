@@ -1,7 +1,7 @@
 use Rattle.std.proofs.Common.{rules}
 use Rattle.cycle_heads.specs.contracts.path.PathKindPartialEq.TheImpl.{eq-value as kinds}
-use Rattle.cache_tests.proofs.Within.{pushed_within}
-use Rattle.cache_tests.proofs.entries.cache_of.Goals as goal
+use Rattle.parts_tests.proofs.Within.{pushed_within}
+use Rattle.parts_tests.proofs.entries.cache_of.Goals as goal
 
 pub loop-answer-preserved : goal.loop-answer-preserved
 loop-answer-preserved c =

@@ -4,7 +4,7 @@ use Rattle.std.proofs.Common.{false, ◌≡◌, ℕ, zero, suc, max, List, [], �
 use Rattle.std.proofs.lemmas.Option.{slice_get-map}
 use Rattle.open_graphs.specs.Graph as theory
 use Rattle.open_graphs.proofs.Verdicts.{is_finished}
-use Rattle.cache_tests.specs.Below.{NodeId, Begin, Place, Success, WithOverflow, PathKind, CacheNode, HasGraph, rank_of, IsRanked, HasNoRank, verdict_of, shape_of, shapes_of, IsPlainAt, Outcome, outcome_verdicts}
+use Rattle.parts_tests.specs.Below.{NodeId, Begin, Place, Success, WithOverflow, PathKind, CacheNode, HasGraph, rank_of, IsRanked, HasNoRank, verdict_of, shape_of, shapes_of, IsPlainAt, Outcome, outcome_verdicts}
 use Rattle.test_delegates.specs.Words.{loop_run, loop_script}
 
 unranked : (n : ℕ) (goal : PathKind) → IsRanked loop_script n goal → ⊥

@@ -2,7 +2,7 @@
 use Rattle.std.proofs.Common.{◌≡◌, ℕ, List, [], ◌∷◌, ◌++◌, length, Some, None, option_map, slice_get, sym, ◌∙◌, ap, ap₂, subst}
 use Rattle.std.specs.Option.{IsSomeAnd}
 use Rattle.open_graphs.proofs.Lists.{get_end}
-use Rattle.cache_tests.specs.Below.{EndedRun, CacheNode, goal_if_open, open_node, open_goal, with_run, IsNodeOf, KeepsNodes}
+use Rattle.parts_tests.specs.Below.{EndedRun, CacheNode, goal_if_open, open_node, open_goal, with_run, IsNodeOf, KeepsNodes}
 use Rattle.global_cache.proofs.NodeLists.{others_are, KeepsGoals-ended}
 
 module _ {I R : Type 0} (nodes more : List (CacheNode I R)) (at : ℕ) (goal : I) (is_last : at ≡ length nodes) (is_opened : more ≡ nodes ++ open_node goal ∷ []) where

@@ -2,7 +2,7 @@
 use Rattle.std.proofs.Common.{◌≤◌, ◌≡◌, Bool, true, All, inl, inr, sym, subst}
 use Rattle.std.proofs.lemmas.Bool.{cases_Bool}
 use Rattle.std.proofs.lemmas.List.Elements.{All-push}
-use Rattle.cache_tests.specs.Below.{ProvisionalCacheEntry, entries_at, Lists, AppendsEntry}
+use Rattle.parts_tests.specs.Below.{ProvisionalCacheEntry, entries_at, Lists, AppendsEntry}
 
 module _ {X I R A T : Type 0} where
   -- each head is that of the first goal or that of the second
