@@ -1,9 +1,10 @@
 //! What is done with a cache over a table of rules, where stored results of some goals are validated, and what comes of it.
 
-use crate::journal::{Event, Journal};
-use crate::put::put_neither;
-use crate::validating::{Validating, Watched};
-use crate::watch::{Watch, Watches};
+use crate::asking::{ask, tell_stored};
+use crate::validation::journal::{Event, Journal};
+use crate::validation::put::put_neither;
+use crate::validation::validating::{Validating, Watched};
+use crate::validation::watch::{Watch, Watches};
 use delegate_parts::{Builder, Outcome};
 use rule_tables::delegate::Table;
 use rule_tables::{Goal, Rules, TableDelegate};
@@ -11,7 +12,6 @@ use search_graph::graph::SearchGraph;
 use search_parts::context::{Answer, Cx, Delegate, Fault};
 use search_parts::global_cache::GlobalCache;
 use search_parts::parts::{CycleHeads, EvaluationResult, NestedGoals};
-use search_parts::path::PathKind;
 use std::alloc::Global;
 use std::io::Write;
 use std::test::Fail;
@@ -125,10 +125,8 @@ where
         }
         Act::Ask(way, depth, name) => {
             let goal = goal_of(search.rules, name)?;
-            let mut builder = Builder::new(matches!(way, Way::Question | Way::Tree));
-            let answer = ask::<X, D>(alloc, cache, way, depth, goal, &mut builder)?;
+            let (answer, started) = answer_to::<X, D>(alloc, cache, way, depth, goal)?;
             tell_answer(search, answer, told)?;
-            let started = builder.started();
             write!(told, " after {started}")?;
             if answer.is_err() {
                 return tell_scopes(search, told);
@@ -136,6 +134,31 @@ where
             tell_journal(search, told)
         }
     }
+}
+
+/// What the goal comes to if it is asked this way, and how many frames that starts.
+fn answer_to<X, D>(
+    alloc: Global,
+    cache: &mut GlobalCache<D>,
+    way: Way,
+    depth: usize,
+    goal: Goal,
+) -> Result<(Result<Answer<Outcome>, Fault<Goal, Outcome>>, u64), Fail>
+where
+    X: Cx<Input = Goal, Result = Outcome>,
+    D: Delegate<Cx = X, ProofTreeBuilder = Builder>,
+{
+    let mut builder = Builder::new(matches!(way, Way::Question | Way::Tree));
+    let answer = match way {
+        Way::Question | Way::Recorded => {
+            let (answer, _) = ask::<X, D>(alloc, cache, depth, goal, &mut builder)?;
+            answer
+        }
+        Way::Tree | Way::RecordedTree => {
+            SearchGraph::<D>::evaluate_root_goal_for_proof_tree(cache, depth, goal, &mut builder)
+        }
+    };
+    Ok((answer, builder.started()))
 }
 
 /// Stores this outcome of the goal, as one that met overflow if there is a depth.
@@ -160,30 +183,6 @@ where
     };
     let mut builder = Builder::new(true);
     put_neither::<D>(cache, goal, evaluation_result, &mut builder)
-}
-
-/// What the goal comes to. On a graph of its own nothing may be left of it.
-pub fn ask<X, D>(
-    alloc: Global,
-    cache: &mut GlobalCache<D>,
-    way: Way,
-    depth: usize,
-    goal: X::Input,
-    builder: &mut Builder,
-) -> Result<Result<Answer<Outcome>, Fault<X::Input, Outcome>>, Fail>
-where
-    X: Cx<Result = Outcome>,
-    D: Delegate<Cx = X, ProofTreeBuilder = Builder>,
-{
-    if matches!(way, Way::Tree | Way::RecordedTree) {
-        return Ok(SearchGraph::<D>::evaluate_root_goal_for_proof_tree(cache, depth, goal, builder));
-    }
-    let mut graph = SearchGraph::<D>::new(alloc, depth);
-    let answer = graph.evaluate_goal(cache, goal, PathKind::Inductive, builder);
-    if !graph.is_empty() || graph.debug_current_depth() > 0 {
-        return Err("goals are left under evaluation")?;
-    }
-    Ok(answer)
 }
 
 fn tell_answer(
@@ -266,27 +265,4 @@ pub fn count<I: Copy>(journal: &Journal<I, Outcome>, event: Event<Outcome>) -> R
         }
     }
     Ok(count)
-}
-
-/// What is stored of the goals: successes with the depths that they require, and the results that met overflow.
-fn tell_stored<X, D>(cache: &GlobalCache<D>, rules: &Rules, told: &mut Vec<u8>) -> Result<(), Fail>
-where
-    X: Cx<Input = Goal, Result = Outcome>,
-    D: Delegate<Cx = X, ProofTreeBuilder = Builder>,
-{
-    write!(told, ", stored:")?;
-    for name in ["A", "B", "C"] {
-        let Some(goal) = rules.goal(name.as_bytes()) else {
-            continue;
-        };
-        if let Some((outcome, required_depth)) = cache.success_of(goal) {
-            write!(told, " {name} {outcome} {required_depth}")?;
-        }
-        for depth in 0..=4usize {
-            if let Some(outcome) = cache.overflow_at(goal, depth) {
-                write!(told, " {name} {outcome} at {depth}")?;
-            }
-        }
-    }
-    Ok(())
 }

@@ -1,11 +1,10 @@
 //! Graphs made by hand, and what the checker says of them.
 
-use graph_check::check_graph;
+use crate::checker::handed_out::is_accepted;
 use rule_tables::Outcome::{No, Yes};
-use rule_tables::delegate::Table;
-use rule_tables::{Builder, Goal, Outcome, Rules, TableDelegate};
+use rule_tables::{Goal, Outcome, Rules};
 use search_parts::context::Reply::{Answer, Begin, Noted};
-use search_parts::context::{Cx, Delegate, Edge, Node, ProofGraph, Reply, Verdict};
+use search_parts::context::{Edge, Node, Reply, Verdict};
 use search_parts::path::PathKind;
 use search_parts::path::PathKind::{Coinductive, ForcedAmbiguity, Inductive, Unknown};
 use std::alloc::Global;
@@ -29,7 +28,7 @@ const IGNORED: &[Reply<Outcome>] = &[Begin, Noted, Answer(Yes), Noted, Noted, No
 /// A table, the nodes, the verdict that they are to show of A, and whether they do.
 type Row = (&'static str, &'static [Drawn], Verdict, bool);
 
-const ONE_NODE: [Row; 16] = [
+const ROWS: [Row; 22] = [
     (
         "rule A = c:A",
         &[(ANSWERED_YES, &[(Coinductive, 0)], Yes)],
@@ -140,9 +139,7 @@ const ONE_NODE: [Row; 16] = [
         Verdict::Neither,
         false,
     ),
-];
-
-const OTHER_COUNTS: [Row; 6] = [
+    // No node shows nothing.
     ("rule A =", &[], Verdict::Yes, false),
     ("rule A =", &[], Verdict::No, false),
     ("rule A =", &[], Verdict::Neither, false),
@@ -187,63 +184,55 @@ const OTHER_COUNTS: [Row; 6] = [
 
 #[test]
 fn graphs_made_by_hand_are_told_apart(rt: HostRuntime) -> Result<(), Fail> {
-    for (text, nodes, verdict, wanted) in ONE_NODE {
-        let accepted = is_shown_by(rt.alloc(), text, nodes, verdict)?;
-        assert_eq!(rt; accepted, wanted, "{verdict:?} of {text}");
-    }
-    for (text, nodes, verdict, wanted) in OTHER_COUNTS {
-        let accepted = is_shown_by(rt.alloc(), text, nodes, verdict)?;
-        assert_eq!(rt; accepted, wanted, "{verdict:?} of {text}");
+    for (place, (text, drawn, verdict, wanted)) in ROWS.iter().enumerate() {
+        let accepted = is_shown_by(rt.alloc(), text, drawn, *verdict)?;
+        assert_eq!(rt; accepted, *wanted, "row {place}: {verdict:?} of {text}");
     }
     Ok(())
 }
 
 /// Whether the checker accepts the nodes as a graph that shows this of A.
-fn is_shown_by(alloc: Global, text: &str, nodes: &[Drawn], verdict: Verdict) -> Result<bool, Fail> {
+fn is_shown_by(alloc: Global, text: &str, drawn: &[Drawn], verdict: Verdict) -> Result<bool, Fail> {
     let rules = Rules::read(alloc, text.as_bytes())?;
     let goal = rules.goal(b"A").ok_or("no goal")?;
-    let cx = Table { lender: &rules };
-    checked::<Table<&Rules>, TableDelegate<'_, 8, 1>>(alloc, cx, goal, nodes, verdict)
+    let mut nodes = Vec::new(alloc);
+    for (replies, steps, outcome) in drawn {
+        nodes.push(node_of(alloc, goal, replies, steps, *outcome)?)?;
+    }
+    is_accepted(alloc, &rules, nodes, goal, verdict)
 }
 
-/// The same over a table of rules.
-fn checked<X, D>(
+/// A node of the goal, each of whose edges leads to that goal.
+fn node_of(
     alloc: Global,
-    cx: X,
     goal: Goal,
-    nodes: &[Drawn],
-    verdict: Verdict,
-) -> Result<bool, Fail>
-where
-    X: Cx<Input = Goal, Result = Outcome>,
-    D: Delegate<Cx = X, ProofTreeBuilder = Builder>,
-{
-    let mut graph: ProofGraph<X> = ProofGraph {
-        nodes: Vec::new(alloc),
-    };
-    for (replies, drawn, result) in nodes {
-        let mut edges = Vec::new(alloc);
-        for (kind, target) in *drawn {
-            edges.push(Edge {
-                kind: *kind,
-                input: goal,
-                target: *target,
-            })?;
-        }
-        graph.nodes.push(Node {
+    replies: &[Reply<Outcome>],
+    steps: &[(PathKind, usize)],
+    outcome: Outcome,
+) -> Result<Node<Goal, Outcome>, Fail> {
+    let mut edges = Vec::new(alloc);
+    for (kind, target) in steps {
+        edges.push(Edge {
+            kind: *kind,
             input: goal,
-            replies: replies.to_vec(alloc)?,
-            edges,
-            result: *result,
+            target: *target,
         })?;
     }
-    let mut builder = Builder::new(true);
-    Ok(check_graph::<D>(alloc, cx, &graph, goal, verdict, &mut builder)?)
+    Ok(Node {
+        input: goal,
+        replies: replies.to_vec(alloc)?,
+        edges,
+        result: outcome,
+    })
 }
 
 #[test]
 fn outcomes_are_sorted(rt: HostRuntime) {
-    assert_eq!(rt; Yes.verdict(), Verdict::Yes);
-    assert_eq!(rt; No.verdict(), Verdict::No);
-    assert_eq!(rt; Outcome::Overflow.verdict(), Verdict::Neither);
+    for (outcome, verdict) in [
+        (Yes, Verdict::Yes),
+        (No, Verdict::No),
+        (Outcome::Overflow, Verdict::Neither),
+    ] {
+        assert_eq!(rt; outcome.verdict(), verdict, "of {outcome}");
+    }
 }
