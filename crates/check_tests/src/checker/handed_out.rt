@@ -4,7 +4,7 @@ use crate::asking::ask;
 use rule_tables::delegate::Table;
 use rule_tables::{Builder, Goal, Outcome, Rules, TableDelegate};
 use search_graph::graph_check::check_graph;
-use search_parts::context::{Cx, Delegate, Edge, Node, ProofGraph, Reply, Verdict};
+use search_parts::context::{Cx, Delegate, Edge, Node, NodeId, ProofGraph, Reply, Verdict};
 use search_parts::global_cache::GlobalCache;
 use std::alloc::Global;
 use std::test::Fail;
@@ -39,19 +39,39 @@ where
     D: Delegate<Cx = X, ProofTreeBuilder = Builder>,
 {
     let mut cache = GlobalCache::<D>::new(alloc, cx);
+    graph_over::<X, D>(alloc, &mut cache, depth, goal)
+}
+
+fn graph_over<X, D>(
+    alloc: Global,
+    cache: &mut GlobalCache<D>,
+    depth: usize,
+    goal: Goal,
+) -> Result<HandedOut, Fail>
+where
+    X: Cx<Input = Goal, Result = Outcome>,
+    D: Delegate<Cx = X, ProofTreeBuilder = Builder>,
+{
     let mut builder = Builder::new(true);
-    let (answer, _) = ask::<X, D>(alloc, &mut cache, depth, goal, &mut builder)?;
+    let (answer, _) = ask::<X, D>(alloc, cache, depth, goal, &mut builder)?;
     let answer = answer?;
     let node = answer.node.ok_or("an answer that is not definite")?;
-    let graph = cache
-        .graph_of(node)?
-        .ok_or("no graph of a definite answer")?;
-    let ProofGraph { nodes } = graph;
     Ok(HandedOut {
         outcome: answer.result,
-        nodes,
+        nodes: nodes_of::<X, D>(cache, node)?,
         held: cache.held_nodes(),
     })
+}
+
+fn nodes_of<X, D>(cache: &GlobalCache<D>, node: NodeId) -> Result<Nodes, Fail>
+where
+    X: Cx<Input = Goal, Result = Outcome>,
+    D: Delegate<Cx = X>,
+{
+    match cache.graph_of(node)? {
+        Some(ProofGraph { nodes }) => Ok(nodes),
+        None => Err("no graph of a definite answer")?,
+    }
 }
 
 /// Whether the checker accepts the nodes as a graph that shows this of the goal.

@@ -102,12 +102,28 @@ fn changed(
     goals: &[Goal],
     chance: &mut Chance,
 ) -> Result<Nodes, Fail> {
-    let mut changed = Vec::new(alloc);
-    for node in nodes {
-        changed.push(copy_of(alloc, node)?)?;
-    }
-    for _ in 0..=chance.below(3) {
-        change(alloc, &mut changed, goals, chance)?;
-    }
+    let mut changed = copies_of(alloc, nodes)?;
+    change_some(alloc, &mut changed, goals, chance)?;
     Ok(changed)
+}
+
+fn copies_of(alloc: Global, nodes: &Nodes) -> Result<Nodes, Fail> {
+    let mut copies = Vec::new(alloc);
+    for node in nodes {
+        copies.push(copy_of(alloc, node)?)?;
+    }
+    Ok(copies)
+}
+
+fn change_some(
+    alloc: Global,
+    nodes: &mut Nodes,
+    goals: &[Goal],
+    chance: &mut Chance,
+) -> Result<(), Fail> {
+    let last = chance.below(3);
+    for _ in 0..=last {
+        change(alloc, nodes, goals, chance)?;
+    }
+    Ok(())
 }

@@ -113,19 +113,23 @@ fn is_ring_accepted(alloc: Global, ring: &Ring) -> Result<bool, Fail> {
 /// The rule of the ring's goal.
 fn rule_of(alloc: Global, ring: &Ring) -> Result<Vec<u8>, Fail> {
     let mut text = Vec::new(alloc);
-    write!(text, "rule A =")?;
+    text.extend_from_slice(b"rule A =")?;
     for _ in 0..ring.rounds {
-        for (kind, _) in ring.steps {
-            let kind = match kind {
-                PathKind::Inductive => 'i',
-                PathKind::Unknown => 'u',
-                PathKind::Coinductive => 'c',
-                PathKind::ForcedAmbiguity => 'f',
-            };
-            write!(text, " {kind}:A")?;
-        }
+        add_questions(&mut text, ring.steps)?;
     }
     Ok(text)
+}
+
+fn add_questions(text: &mut Vec<u8>, steps: &[(PathKind, usize)]) -> Result<(), Fail> {
+    for (kind, _) in steps {
+        text.extend_from_slice(match kind {
+            PathKind::Inductive => b" i:A",
+            PathKind::Unknown => b" u:A",
+            PathKind::Coinductive => b" c:A",
+            PathKind::ForcedAmbiguity => b" f:A",
+        })?;
+    }
+    Ok(())
 }
 
 /// The ring's node at this place.
@@ -137,14 +141,7 @@ fn node_of(
 ) -> Result<Node<Goal, Outcome>, Fail> {
     let mut edges = Vec::new(alloc);
     for _ in 0..ring.rounds {
-        for (kind, further) in ring.steps {
-            let target = place.saturating_add(*further).checked_rem(ring.nodes);
-            edges.push(Edge {
-                kind: *kind,
-                input: goal,
-                target: target.ok_or("no nodes")?,
-            })?;
-        }
+        add_edges(&mut edges, ring, goal, place)?;
     }
     edges.truncate(edges.len().saturating_sub(ring.left_out));
     Ok(Node {
@@ -153,6 +150,23 @@ fn node_of(
         edges,
         result: ring.outcome,
     })
+}
+
+fn add_edges(
+    edges: &mut Vec<Edge<Goal>>,
+    ring: &Ring,
+    goal: Goal,
+    place: usize,
+) -> Result<(), Fail> {
+    for (kind, further) in ring.steps {
+        let target = place.saturating_add(*further).checked_rem(ring.nodes);
+        edges.push(Edge {
+            kind: *kind,
+            input: goal,
+            target: target.unwrap_or(0),
+        })?;
+    }
+    Ok(())
 }
 
 /// The replies of a run with one candidate of so many questions, each of which was answered this.

@@ -131,13 +131,18 @@ fn text_of_chain(alloc: Global, goals: usize) -> Result<Vec<u8>, Fail> {
 fn text_of_all(alloc: Global, goals: usize) -> Result<Vec<u8>, Fail> {
     let mut text = Vec::new(alloc);
     for number in 0..goals {
-        for kind in ["c", "i"] {
-            write!(text, "rule g{number} =")?;
-            for asked in 0..goals {
-                write!(text, " {kind}:g{asked}")?;
-            }
-            write!(text, "\n")?;
-        }
+        add_rule(&mut text, number, 'c', goals)?;
+        add_rule(&mut text, number, 'i', goals)?;
     }
     Ok(text)
+}
+
+/// Adds a rule of the goal of this number, which asks all by steps of this kind.
+fn add_rule(text: &mut Vec<u8>, number: usize, kind: char, goals: usize) -> Result<(), Fail> {
+    write!(text, "rule g{number} =")?;
+    for asked in 0..goals {
+        write!(text, " {kind}:g{asked}")?;
+    }
+    text.push(b'\n')?;
+    Ok(())
 }

@@ -65,8 +65,20 @@ fn a_frame_that_is_refused_memory_ends_the_call(rt: HostRuntime) -> Result<(), F
 /// What A comes to where this call of its frames and those below is refused memory.
 fn tell(alloc: Global, text: &str, depth: usize, call: u64) -> Result<Vec<u8>, Fail> {
     let rules = Rules::read(alloc, text.as_bytes())?;
-    let cx = Table { lender: &rules };
-    tell_with::<Table<&Rules>, TableDelegate<'_, 8, 1>>(alloc, cx, &rules, depth, call)
+    let mut told = Vec::new(alloc);
+    tell_at_table(alloc, &rules, depth, call, &mut told)?;
+    Ok(told)
+}
+
+fn tell_at_table(
+    alloc: Global,
+    rules: &Rules,
+    depth: usize,
+    call: u64,
+    told: &mut Vec<u8>,
+) -> Result<(), Fail> {
+    let cx = Table { lender: rules };
+    tell_with::<Table<&Rules>, TableDelegate<'_, 8, 1>>(alloc, cx, rules, depth, call, told)
 }
 
 fn tell_with<X, D>(
@@ -75,20 +87,50 @@ fn tell_with<X, D>(
     rules: &Rules,
     depth: usize,
     call: u64,
-) -> Result<Vec<u8>, Fail>
+    told: &mut Vec<u8>,
+) -> Result<(), Fail>
 where
     X: Cx<Input = Goal, Result = Outcome>,
     D: Delegate<Cx = X, ProofTreeBuilder = Builder>,
 {
     let mut cache = GlobalCache::<Refusing<D>>::new(alloc, cx);
-    let mut told = Vec::new(alloc);
+    tell_over::<X, D>(alloc, &mut cache, rules, depth, call, told)
+}
+
+fn tell_over<X, D>(
+    alloc: Global,
+    cache: &mut GlobalCache<Refusing<D>>,
+    rules: &Rules,
+    depth: usize,
+    call: u64,
+    told: &mut Vec<u8>,
+) -> Result<(), Fail>
+where
+    X: Cx<Input = Goal, Result = Outcome>,
+    D: Delegate<Cx = X, ProofTreeBuilder = Builder>,
+{
     let goal = rules.goal(b"A").ok_or("no goal")?;
-    let _ = tell_answer::<X, D>(alloc, &mut cache, depth, goal, call, &mut told)?;
-    tell_stored::<X, Refusing<D>>(&cache, rules, &mut told)?;
-    write!(told, ", again: ")?;
-    let started = tell_answer::<X, D>(alloc, &mut cache, depth, goal, 0, &mut told)?;
+    let _ = tell_answer::<X, D>(alloc, cache, depth, goal, call, told)?;
+    tell_stored::<X, Refusing<D>>(cache, rules, told)?;
+    tell_again::<X, D>(alloc, cache, depth, goal, told)
+}
+
+/// Tells what the goal comes to when no call is refused, and how many frames that starts.
+fn tell_again<X, D>(
+    alloc: Global,
+    cache: &mut GlobalCache<Refusing<D>>,
+    depth: usize,
+    goal: Goal,
+    told: &mut Vec<u8>,
+) -> Result<(), Fail>
+where
+    X: Cx<Input = Goal, Result = Outcome>,
+    D: Delegate<Cx = X, ProofTreeBuilder = Builder>,
+{
+    told.write_all(b", again: ")?;
+    let started = tell_answer::<X, D>(alloc, cache, depth, goal, 0, told)?;
     write!(told, " {started}")?;
-    Ok(told)
+    Ok(())
 }
 
 /// Tells what the goal comes to where this call is refused, and says how many frames that starts.
@@ -141,8 +183,18 @@ fn calls_of_the_check(alloc: Global, text: &str) -> Result<u64, Fail> {
     let goal = rules.goal(b"A").ok_or("no goal")?;
     let graph = graph_for(alloc, &rules, 4, goal)?;
     let verdict = graph.outcome.verdict();
-    let cx = Table { lender: &rules };
-    refused_checks::<Table<&Rules>, TableDelegate<'_, 8, 1>>(alloc, cx, graph.nodes, goal, verdict)
+    refused_at_table(alloc, &rules, graph.nodes, goal, verdict)
+}
+
+fn refused_at_table(
+    alloc: Global,
+    rules: &Rules,
+    nodes: Nodes,
+    goal: Goal,
+    verdict: Verdict,
+) -> Result<u64, Fail> {
+    let cx = Table { lender: rules };
+    refused_checks::<Table<&Rules>, TableDelegate<'_, 8, 1>>(alloc, cx, nodes, goal, verdict)
 }
 
 fn refused_checks<X, D>(

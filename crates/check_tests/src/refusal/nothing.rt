@@ -74,18 +74,31 @@ where
     D: Delegate<Cx = X, ProofTreeBuilder = Builder>,
 {
     let mut cache = GlobalCache::<D>::new(alloc, cx);
+    see_over::<X, D>(alloc, &mut cache, depth, goal)
+}
+
+fn see_over<X, D>(
+    alloc: Global,
+    cache: &mut GlobalCache<D>,
+    depth: usize,
+    goal: Goal,
+) -> Result<Seen, Fail>
+where
+    X: Cx<Input = Goal, Result = Outcome>,
+    D: Delegate<Cx = X, ProofTreeBuilder = Builder>,
+{
     let mut builder = Builder::new(true);
-    let (first, _) = ask::<X, D>(alloc, &mut cache, depth, goal, &mut builder)?;
+    let (first, _) = ask::<X, D>(alloc, cache, depth, goal, &mut builder)?;
     let first = first?;
-    let mut builder = Builder::new(true);
-    let (second, is_limit_met) = ask::<X, D>(alloc, &mut cache, depth, goal, &mut builder)?;
+    let started_at_first = builder.started();
+    let (second, is_limit_met) = ask::<X, D>(alloc, cache, depth, goal, &mut builder)?;
     Ok(Seen {
         first: first.result,
         is_answered_the_same: second == Ok(first),
-        started: builder.started(),
+        started: builder.started().saturating_sub(started_at_first),
         is_limit_met,
-        stored: stored_of::<X, D>(&cache, depth, goal),
-        found: found_of::<X, D>(&cache, depth, goal),
+        stored: stored_of::<X, D>(cache, depth, goal),
+        found: found_of::<X, D>(cache, depth, goal),
     })
 }
 

@@ -64,15 +64,22 @@ where
     D: Delegate<Cx = X, ProofTreeBuilder = Builder>,
 {
     let mut cache = GlobalCache::<Validating<W, D>>::new(alloc, Watched { cx, watch });
-    put::<Watched<W, X>, Validating<W, D>>(alloc, &mut cache, goal, Outcome::Maybe, None)?;
+    fault_over::<Watched<W, X>, Validating<W, D>>(alloc, &mut cache, goal, seen)
+}
+
+fn fault_over<X, D>(
+    alloc: Global,
+    cache: &mut GlobalCache<D>,
+    goal: X::Input,
+    seen: &Watch<X::Input, Outcome>,
+) -> Result<Option<Fault<X::Input, Outcome>>, Fail>
+where
+    X: Cx<Result = Outcome>,
+    D: Delegate<Cx = X, ProofTreeBuilder = Builder>,
+{
+    put::<X, D>(alloc, cache, goal, Outcome::Maybe, None)?;
     seen.journal.clear();
     let mut builder = Builder::new(true);
-    let (answer, _) = ask::<Watched<W, X>, Validating<W, D>>(
-        alloc,
-        &mut cache,
-        4,
-        goal,
-        &mut builder,
-    )?;
+    let (answer, _) = ask::<X, D>(alloc, cache, 4, goal, &mut builder)?;
     Ok(answer.err())
 }
