@@ -1,18 +1,12 @@
-//! Tests of the checker of graphs, with tables of rules: graphs made by hand, graphs that were handed out and then
-//! changed at random, and large ones. Each answer is laid beside that of a plain check.
+//! Tests over tables of rules, in three parts: of the checker of graphs; of stored results that are validated; and of
+//! memory that is refused, to frames or to all that is called.
 #![tactic(auto)]
 
 #[cfg(test)]
-mod changes;
+mod asking;
 #[cfg(test)]
-mod handed_out;
+mod checker;
 #[cfg(test)]
-mod hostile;
+mod refusal;
 #[cfg(test)]
-mod large;
-#[cfg(test)]
-mod plain;
-#[cfg(test)]
-mod replayed;
-#[cfg(test)]
-mod rows;
+mod validation;

@@ -1,17 +1,16 @@
 //! What is done with a cache over a table of rules, where stored results of some goals are validated, and what comes of it.
 
-use crate::journal::{Event, Journal};
-use crate::put::put_neither;
-use crate::validating::{Validating, Watched};
-use crate::watch::{Watch, Watches};
+use crate::asking::{answer_of_root, ask, tell_stored};
+use crate::validation::journal::{Event, Journal};
+use crate::validation::put::put_neither;
+use crate::validation::validating::{Validating, Watched};
+use crate::validation::watch::{Watch, Watches};
 use delegate_parts::{Builder, Outcome};
 use rule_tables::delegate::Table;
 use rule_tables::{Goal, Rules, TableDelegate};
-use search_graph::graph::SearchGraph;
 use search_parts::context::{Answer, Cx, Delegate, Fault};
 use search_parts::global_cache::GlobalCache;
 use search_parts::parts::{CycleHeads, EvaluationResult, NestedGoals};
-use search_parts::path::PathKind;
 use std::alloc::Global;
 use std::io::Write;
 use std::test::Fail;
@@ -52,15 +51,36 @@ pub enum Way {
 /// After a fault it is only told how many scopes were entered and dropped, whatever the order.
 pub fn tell(alloc: Global, rules: &str, validated: &[&str], acts: &[Act]) -> Result<Vec<u8>, Fail> {
     let rules = &Rules::read(alloc, rules.as_bytes())?;
+    let watch = &Watch::new(alloc, goals_of(alloc, rules, validated)?);
+    let mut told = Vec::new(alloc);
+    tell_at_table(alloc, Search { rules, watch }, acts, &mut told)?;
+    Ok(told)
+}
+
+fn goals_of(alloc: Global, rules: &Rules, names: &[&str]) -> Result<Vec<Goal>, Fail> {
     let mut goals = Vec::new(alloc);
-    for name in validated {
+    for name in names {
         goals.push(goal_of(rules, name)?)?;
     }
-    let watch = &Watch::new(alloc, goals);
-    let cx = Table { lender: rules };
-    let search = Search { rules, watch };
+    Ok(goals)
+}
+
+fn tell_at_table(
+    alloc: Global,
+    search: Search<'_>,
+    acts: &[Act],
+    told: &mut Vec<u8>,
+) -> Result<(), Fail> {
+    let cx = Table {
+        lender: search.rules,
+    };
     tell_with::<&Watch<Goal, Outcome>, Table<&Rules>, TableDelegate<'_, 8, 1>>(
-        alloc, watch, cx, search, acts,
+        alloc,
+        search.watch,
+        cx,
+        search,
+        acts,
+        told,
     )
 }
 
@@ -81,21 +101,34 @@ fn tell_with<W, X, D>(
     cx: X,
     search: Search<'_>,
     acts: &[Act],
-) -> Result<Vec<u8>, Fail>
+    told: &mut Vec<u8>,
+) -> Result<(), Fail>
 where
     W: Watches<Goal, Outcome>,
     X: Cx<Input = Goal, Result = Outcome>,
     D: Delegate<Cx = X, ProofTreeBuilder = Builder>,
 {
     let mut cache = GlobalCache::<Validating<W, D>>::new(alloc, Watched { cx, watch });
-    let mut told = Vec::new(alloc);
+    tell_over::<Watched<W, X>, Validating<W, D>>(alloc, &mut cache, search, acts, told)
+}
+
+fn tell_over<X, D>(
+    alloc: Global,
+    cache: &mut GlobalCache<D>,
+    search: Search<'_>,
+    acts: &[Act],
+    told: &mut Vec<u8>,
+) -> Result<(), Fail>
+where
+    X: Cx<Input = Goal, Result = Outcome>,
+    D: Delegate<Cx = X, ProofTreeBuilder = Builder>,
+{
     for act in acts {
         search.watch.journal.clear();
         told.clear();
-        carry_out::<Watched<W, X>, Validating<W, D>>(alloc, &mut cache, search, *act, &mut told)?;
+        carry_out::<X, D>(alloc, cache, search, *act, told)?;
     }
-    tell_stored::<Watched<W, X>, Validating<W, D>>(&cache, search.rules, &mut told)?;
-    Ok(told)
+    tell_stored::<X, D>(cache, search.rules, told)
 }
 
 /// Does this with the cache. Where a goal is asked, what comes of it is told.
@@ -125,17 +158,35 @@ where
         }
         Act::Ask(way, depth, name) => {
             let goal = goal_of(search.rules, name)?;
-            let mut builder = Builder::new(matches!(way, Way::Question | Way::Tree));
-            let answer = ask::<X, D>(alloc, cache, way, depth, goal, &mut builder)?;
-            tell_answer(search, answer, told)?;
-            let started = builder.started();
-            write!(told, " after {started}")?;
-            if answer.is_err() {
-                return tell_scopes(search, told);
-            }
-            tell_journal(search, told)
+            let (answer, started) = answer_to::<X, D>(alloc, cache, way, depth, goal)?;
+            tell_answered(search, answer, started, told)
         }
     }
+}
+
+/// What the goal comes to if it is asked this way, and how many frames that starts.
+fn answer_to<X, D>(
+    alloc: Global,
+    cache: &mut GlobalCache<D>,
+    way: Way,
+    depth: usize,
+    goal: Goal,
+) -> Result<(Result<Answer<Outcome>, Fault<Goal, Outcome>>, u64), Fail>
+where
+    X: Cx<Input = Goal, Result = Outcome>,
+    D: Delegate<Cx = X, ProofTreeBuilder = Builder>,
+{
+    let mut builder = Builder::new(matches!(way, Way::Question | Way::Tree));
+    let answer = match way {
+        Way::Question | Way::Recorded => {
+            let (answer, _) = ask::<X, D>(alloc, cache, depth, goal, &mut builder)?;
+            answer
+        }
+        Way::Tree | Way::RecordedTree => {
+            answer_of_root::<X, D>(cache, depth, goal, &mut builder)
+        }
+    };
+    Ok((answer, builder.started()))
 }
 
 /// Stores this outcome of the goal, as one that met overflow if there is a depth.
@@ -162,28 +213,19 @@ where
     put_neither::<D>(cache, goal, evaluation_result, &mut builder)
 }
 
-/// What the goal comes to. On a graph of its own nothing may be left of it.
-pub fn ask<X, D>(
-    alloc: Global,
-    cache: &mut GlobalCache<D>,
-    way: Way,
-    depth: usize,
-    goal: X::Input,
-    builder: &mut Builder,
-) -> Result<Result<Answer<Outcome>, Fault<X::Input, Outcome>>, Fail>
-where
-    X: Cx<Result = Outcome>,
-    D: Delegate<Cx = X, ProofTreeBuilder = Builder>,
-{
-    if matches!(way, Way::Tree | Way::RecordedTree) {
-        return Ok(SearchGraph::<D>::evaluate_root_goal_for_proof_tree(cache, depth, goal, builder));
+/// What a goal came to, how many frames that started, and what happened meanwhile.
+fn tell_answered(
+    search: Search<'_>,
+    answer: Result<Answer<Outcome>, Fault<Goal, Outcome>>,
+    started: u64,
+    told: &mut Vec<u8>,
+) -> Result<(), Fail> {
+    tell_answer(search, answer, told)?;
+    write!(told, " after {started}")?;
+    if answer.is_err() {
+        return tell_scopes(search, told);
     }
-    let mut graph = SearchGraph::<D>::new(alloc, depth);
-    let answer = graph.evaluate_goal(cache, goal, PathKind::Inductive, builder);
-    if !graph.is_empty() || graph.debug_current_depth() > 0 {
-        return Err("goals are left under evaluation")?;
-    }
-    Ok(answer)
+    tell_journal(search, told)
 }
 
 fn tell_answer(
@@ -221,29 +263,29 @@ fn tell_journal(search: Search<'_>, told: &mut Vec<u8>) -> Result<(), Fail> {
     let journal = &search.watch.journal;
     for place in 0..journal.count() {
         let (goal, event) = journal.get(place).ok_or("no line")?;
-        write!(told, " ")?;
-        match event {
-            Event::ScopeIsEntered => {
-                write!(told, "[")?;
-                tell_name(search, goal, told)?;
-            }
-            Event::FrameStarts => {
-                write!(told, "(")?;
-                tell_name(search, goal, told)?;
-            }
-            Event::IsAnswered(outcome) => {
-                tell_name(search, goal, told)?;
-                write!(told, "={outcome}")?;
-            }
-            Event::FrameIsDropped => {
-                tell_name(search, goal, told)?;
-                write!(told, ")")?;
-            }
-            Event::ScopeIsDropped => {
-                tell_name(search, goal, told)?;
-                write!(told, "]")?;
-            }
-        }
+        tell_line(search, goal, event, told)?;
+    }
+    Ok(())
+}
+
+fn tell_line(
+    search: Search<'_>,
+    goal: Goal,
+    event: Event<Outcome>,
+    told: &mut Vec<u8>,
+) -> Result<(), Fail> {
+    let (before, after) = match event {
+        Event::ScopeIsEntered => (" [", ""),
+        Event::FrameStarts => (" (", ""),
+        Event::IsAnswered(_) => (" ", "="),
+        Event::FrameIsDropped => (" ", ")"),
+        Event::ScopeIsDropped => (" ", "]"),
+    };
+    told.write_all(before.as_bytes())?;
+    tell_name(search, goal, told)?;
+    told.write_all(after.as_bytes())?;
+    if let Event::IsAnswered(outcome) = event {
+        write!(told, "{outcome}")?;
     }
     Ok(())
 }
@@ -266,27 +308,4 @@ pub fn count<I: Copy>(journal: &Journal<I, Outcome>, event: Event<Outcome>) -> R
         }
     }
     Ok(count)
-}
-
-/// What is stored of the goals: successes with the depths that they require, and the results that met overflow.
-fn tell_stored<X, D>(cache: &GlobalCache<D>, rules: &Rules, told: &mut Vec<u8>) -> Result<(), Fail>
-where
-    X: Cx<Input = Goal, Result = Outcome>,
-    D: Delegate<Cx = X, ProofTreeBuilder = Builder>,
-{
-    write!(told, ", stored:")?;
-    for name in ["A", "B", "C"] {
-        let Some(goal) = rules.goal(name.as_bytes()) else {
-            continue;
-        };
-        if let Some((outcome, required_depth)) = cache.success_of(goal) {
-            write!(told, " {name} {outcome} {required_depth}")?;
-        }
-        for depth in 0..=4usize {
-            if let Some(outcome) = cache.overflow_at(goal, depth) {
-                write!(told, " {name} {outcome} at {depth}")?;
-            }
-        }
-    }
-    Ok(())
 }

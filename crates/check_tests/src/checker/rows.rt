@@ -1,11 +1,10 @@
 //! Graphs made by hand, and what the checker says of them.
 
-use graph_check::check_graph;
+use crate::checker::handed_out::{Nodes, is_accepted};
 use rule_tables::Outcome::{No, Yes};
-use rule_tables::delegate::Table;
-use rule_tables::{Builder, Goal, Outcome, Rules, TableDelegate};
+use rule_tables::{Goal, Outcome, Rules};
 use search_parts::context::Reply::{Answer, Begin, Noted};
-use search_parts::context::{Cx, Delegate, Edge, Node, ProofGraph, Reply, Verdict};
+use search_parts::context::{Edge, Node, Reply, Verdict};
 use search_parts::path::PathKind;
 use search_parts::path::PathKind::{Coinductive, ForcedAmbiguity, Inductive, Unknown};
 use std::alloc::Global;
@@ -26,60 +25,61 @@ const ANSWERED_NO: &[Reply<Outcome>] = &[Begin, Noted, Answer(No), Noted];
 /// A marked candidate of one question, one without questions, and the marked one ignored.
 const IGNORED: &[Reply<Outcome>] = &[Begin, Noted, Answer(Yes), Noted, Noted, Noted, Noted];
 
-/// A table, the nodes, the verdict that they are to show of A, and whether they do.
-type Row = (&'static str, &'static [Drawn], Verdict, bool);
+/// What the row shows, a table, the nodes, the verdict that they are to show of A, and whether they do.
+type Row = (&'static str, &'static str, &'static [Drawn], Verdict, bool);
 
-const ONE_NODE: [Row; 16] = [
+const ROWS: [Row; 22] = [
     (
+        "a coinductive cycle of a yes",
         "rule A = c:A",
         &[(ANSWERED_YES, &[(Coinductive, 0)], Yes)],
         Verdict::Yes,
         true,
     ),
-    // The other verdict.
     (
+        "the other verdict",
         "rule A = c:A",
         &[(ANSWERED_YES, &[(Coinductive, 0)], Yes)],
         Verdict::No,
         false,
     ),
-    // A target past the end.
     (
+        "a target past the end",
         "rule A = c:A",
         &[(ANSWERED_YES, &[(Coinductive, 1)], Yes)],
         Verdict::Yes,
         false,
     ),
-    // A missing edge.
     (
+        "a missing edge",
         "rule A = c:A",
         &[(ANSWERED_YES, &[], Yes)],
         Verdict::Yes,
         false,
     ),
-    // An edge too many.
     (
+        "an edge too many",
         "rule A = c:A",
         &[(ANSWERED_YES, &[(Coinductive, 0), (Coinductive, 0)], Yes)],
         Verdict::Yes,
         false,
     ),
-    // Another result than that of the replies.
     (
+        "another result than that of the replies",
         "rule A = c:A",
         &[(ANSWERED_YES, &[(Coinductive, 0)], No)],
         Verdict::Yes,
         false,
     ),
-    // A reply too few.
     (
+        "a reply too few",
         "rule A = c:A",
         &[(&[Begin, Noted, Answer(Yes)], &[(Coinductive, 0)], Yes)],
         Verdict::Yes,
         false,
     ),
-    // A reply too many.
     (
+        "a reply too many",
         "rule A = c:A",
         &[(
             &[Begin, Noted, Answer(Yes), Noted, Noted],
@@ -89,65 +89,74 @@ const ONE_NODE: [Row; 16] = [
         Verdict::Yes,
         false,
     ),
-    // Closed walks of each kind.
     (
+        "a walk of forced ambiguity",
         "rule A = f:A",
         &[(ANSWERED_YES, &[(ForcedAmbiguity, 0)], Yes)],
         Verdict::Yes,
         false,
     ),
     (
+        "an inductive walk",
         "rule A = i:A",
         &[(ANSWERED_YES, &[(Inductive, 0)], Yes)],
         Verdict::Yes,
         false,
     ),
     (
+        "an unknown walk",
         "rule A = u:A",
         &[(ANSWERED_YES, &[(Unknown, 0)], Yes)],
         Verdict::Yes,
         false,
     ),
     (
+        "an inductive walk of a no",
         "rule A = i:A",
         &[(ANSWERED_NO, &[(Inductive, 0)], No)],
         Verdict::No,
         true,
     ),
     (
+        "an unknown walk of a no",
         "rule A = u:A",
         &[(ANSWERED_NO, &[(Unknown, 0)], No)],
         Verdict::No,
         false,
     ),
-    // What is asked in an ignored candidate is no edge.
     (
+        "what is asked in an ignored candidate is no edge",
         "rule ~A = i:A\nrule A =",
         &[(IGNORED, &[], Yes)],
         Verdict::Yes,
         true,
     ),
     (
+        "an edge of an ignored candidate",
         "rule ~A = i:A\nrule A =",
         &[(IGNORED, &[(Inductive, 0)], Yes)],
         Verdict::Yes,
         false,
     ),
-    // No graph shows that neither is known.
     (
+        "no graph shows that neither is known",
         "rule A = c:A",
         &[(ANSWERED_YES, &[(Coinductive, 0)], Yes)],
         Verdict::Neither,
         false,
     ),
-];
-
-const OTHER_COUNTS: [Row; 6] = [
-    ("rule A =", &[], Verdict::Yes, false),
-    ("rule A =", &[], Verdict::No, false),
-    ("rule A =", &[], Verdict::Neither, false),
+    ("no node shows no yes", "rule A =", &[], Verdict::Yes, false),
+    ("no node shows no no", "rule A =", &[], Verdict::No, false),
+    (
+        "no node shows nothing of neither",
+        "rule A =",
+        &[],
+        Verdict::Neither,
+        false,
+    ),
     // A node counts, whether it is reached or not.
     (
+        "a node of another result that is not reached",
         "rule A = c:A",
         &[
             (ANSWERED_YES, &[(Coinductive, 0)], Yes),
@@ -157,6 +166,7 @@ const OTHER_COUNTS: [Row; 6] = [
         false,
     ),
     (
+        "a node that is not reached",
         "rule A = c:A",
         &[
             (ANSWERED_YES, &[(Coinductive, 0)], Yes),
@@ -165,8 +175,8 @@ const OTHER_COUNTS: [Row; 6] = [
         Verdict::Yes,
         true,
     ),
-    // A closed walk through two nodes is of the greatest kind on it.
     (
+        "a closed walk through two nodes is of the greatest kind on it",
         "rule A = i:A\nrule A = c:A",
         &[
             (
@@ -187,63 +197,54 @@ const OTHER_COUNTS: [Row; 6] = [
 
 #[test]
 fn graphs_made_by_hand_are_told_apart(rt: HostRuntime) -> Result<(), Fail> {
-    for (text, nodes, verdict, wanted) in ONE_NODE {
-        let accepted = is_shown_by(rt.alloc(), text, nodes, verdict)?;
-        assert_eq!(rt; accepted, wanted, "{verdict:?} of {text}");
-    }
-    for (text, nodes, verdict, wanted) in OTHER_COUNTS {
-        let accepted = is_shown_by(rt.alloc(), text, nodes, verdict)?;
-        assert_eq!(rt; accepted, wanted, "{verdict:?} of {text}");
+    for (name, text, drawn, verdict, wanted) in ROWS {
+        let accepted = is_shown_by(rt.alloc(), text, drawn, verdict)?;
+        assert_eq!(rt; accepted, wanted, "{name}");
     }
     Ok(())
 }
 
 /// Whether the checker accepts the nodes as a graph that shows this of A.
-fn is_shown_by(alloc: Global, text: &str, nodes: &[Drawn], verdict: Verdict) -> Result<bool, Fail> {
+fn is_shown_by(alloc: Global, text: &str, drawn: &[Drawn], verdict: Verdict) -> Result<bool, Fail> {
     let rules = Rules::read(alloc, text.as_bytes())?;
     let goal = rules.goal(b"A").ok_or("no goal")?;
-    let cx = Table { lender: &rules };
-    checked::<Table<&Rules>, TableDelegate<'_, 8, 1>>(alloc, cx, goal, nodes, verdict)
+    let nodes = nodes_of(alloc, goal, drawn)?;
+    is_accepted(alloc, &rules, nodes, goal, verdict)
 }
 
-/// The same over a table of rules.
-fn checked<X, D>(
-    alloc: Global,
-    cx: X,
-    goal: Goal,
-    nodes: &[Drawn],
-    verdict: Verdict,
-) -> Result<bool, Fail>
-where
-    X: Cx<Input = Goal, Result = Outcome>,
-    D: Delegate<Cx = X, ProofTreeBuilder = Builder>,
-{
-    let mut graph: ProofGraph<X> = ProofGraph {
-        nodes: Vec::new(alloc),
-    };
-    for (replies, drawn, result) in nodes {
-        let mut edges = Vec::new(alloc);
-        for (kind, target) in *drawn {
-            edges.push(Edge {
-                kind: *kind,
-                input: goal,
-                target: *target,
-            })?;
-        }
-        graph.nodes.push(Node {
+fn nodes_of(alloc: Global, goal: Goal, drawn: &[Drawn]) -> Result<Nodes, Fail> {
+    let mut nodes = Vec::new(alloc);
+    for node in drawn {
+        nodes.push(node_of(alloc, goal, node)?)?;
+    }
+    Ok(nodes)
+}
+
+fn node_of(alloc: Global, goal: Goal, drawn: &Drawn) -> Result<Node<Goal, Outcome>, Fail> {
+    let (replies, steps, outcome) = drawn;
+    let mut edges = Vec::new(alloc);
+    for (kind, target) in *steps {
+        edges.push(Edge {
+            kind: *kind,
             input: goal,
-            replies: replies.to_vec(alloc)?,
-            edges,
-            result: *result,
+            target: *target,
         })?;
     }
-    let mut builder = Builder::new(true);
-    Ok(check_graph::<D>(alloc, cx, &graph, goal, verdict, &mut builder)?)
+    Ok(Node {
+        input: goal,
+        replies: replies.to_vec(alloc)?,
+        edges,
+        result: *outcome,
+    })
 }
 
 #[test]
 fn outcomes_are_sorted(rt: HostRuntime) {
-    assert_eq!(rt; Yes.verdict(), Verdict::Yes);
-    assert_eq!(rt; No.verdict(), Verdict::No);
-    assert_eq!(rt; Outcome::Overflow.verdict(), Verdict::Neither);
+    for (outcome, verdict) in [
+        (Yes, Verdict::Yes),
+        (No, Verdict::No),
+        (Outcome::Overflow, Verdict::Neither),
+    ] {
+        assert_eq!(rt; outcome.verdict(), verdict, "of {outcome}");
+    }
 }

@@ -10,32 +10,24 @@ use search_parts::path::PathKind;
 use std::alloc::Global;
 use std::test::Fail;
 
-/// What a goal asks, without where the answer stands.
-#[derive(Clone, Copy, PartialEq, Eq)]
-struct Asked {
+/// A question of a candidate, and what it was answered.
+#[derive(Clone, Copy)]
+struct Answered {
+    is_marked: bool,
     kind: PathKind,
     goal: Goal,
+    outcome: Outcome,
 }
 
-/// A candidate that was tried: what it asked, and the answers.
-#[derive(Drop)]
+/// What the replies say of a goal's candidates.
+#[derive(Clone, Copy)]
 struct Tried {
-    is_marked: bool,
-    answers: Vec<(Asked, Outcome)>,
-}
-
-impl Tried {
-    fn holds(&self) -> bool {
-        self.answers
-            .iter()
-            .all(|(_, outcome)| *outcome == Outcome::Yes)
-    }
-
-    fn fails(&self) -> bool {
-        self.answers
-            .iter()
-            .any(|(_, outcome)| *outcome == Outcome::No)
-    }
+    some_holds: bool,
+    each_fails: bool,
+    /// Whether marked candidates no longer count: an unmarked one holds.
+    ignores_marked: bool,
+    /// How many candidates are marked.
+    marked: usize,
 }
 
 /// Whether the nodes are a graph of the goal, which shows that it comes to this outcome.
@@ -47,12 +39,14 @@ pub fn is_graph(
     outcome: Outcome,
 ) -> Result<bool, Fail> {
     let is_definite = matches!(outcome, Outcome::Yes | Outcome::No);
-    let is_rooted = nodes.first().is_some_and(|root| root.input == goal);
-    if !is_definite || !is_rooted || !nodes.iter().all(|node| leads_on(nodes, node)) {
+    let Some(root) = nodes.first() else {
+        return Ok(false);
+    };
+    if !is_definite || root.input != goal {
         return Ok(false);
     }
     for node in nodes {
-        if node.result != outcome || !is_run(alloc, rules, node)? {
+        if node.result != outcome || !leads_on(nodes, node) || !is_run(alloc, rules, node)? {
             return Ok(false);
         }
     }
@@ -61,59 +55,58 @@ pub fn is_graph(
 
 /// Whether each of the node's edges leads to a node of the goal that it asks.
 fn leads_on(nodes: &[Node<Goal, Outcome>], node: &Node<Goal, Outcome>) -> bool {
-    node.edges.iter().all(|edge| {
-        nodes
-            .get(edge.target)
-            .is_some_and(|target| target.input == edge.input)
-    })
+    for edge in &node.edges {
+        match nodes.get(edge.target) {
+            Some(target) if target.input == edge.input => {}
+            _ => return false,
+        }
+    }
+    true
 }
 
-/// Whether the replies are those of a run that comes to the node's result and rests on its edges.
+/// Whether the replies are those of a run that comes to the node's result and rests on its edges: to the begin, to each
+/// candidate, and to each one that is ignored.
 fn is_run(alloc: Global, rules: &Rules, node: &Node<Goal, Outcome>) -> Result<bool, Fail> {
-    let Some(tried) = tried_by(
-        alloc,
-        &rules.candidates(node.input),
-        node.replies.as_slice(),
-    )?
-    else {
+    let mut replies = Replies {
+        left: node.replies.as_slice(),
+    };
+    let mut answers = Vec::new(alloc);
+    let Some(tried) = replies.tried(&rules.candidates(node.input), &mut answers)? else {
         return Ok(false);
     };
-    let some_holds = tried.iter().any(|candidate| candidate.holds());
-    let each_fails = tried.iter().all(|candidate| candidate.fails());
-    let outcome = match (some_holds, each_fails) {
+    let ignored = if tried.ignores_marked {
+        tried.marked
+    } else {
+        0
+    };
+    let outcome = match (tried.some_holds, tried.each_fails) {
         (true, _) => Outcome::Yes,
         (false, true) => Outcome::No,
         (false, false) => Outcome::Maybe,
     };
-    if node.result != outcome {
-        return Ok(false);
-    }
-    let ignores = ignores_marked(tried.as_slice());
-    let mut asked = Vec::new(alloc);
-    for candidate in &tried {
-        if ignores && candidate.is_marked {
+    Ok(
+        node.result == outcome
+            && replies.are_noted(ignored)
+            && rests_on(answers.as_slice(), node, tried.ignores_marked),
+    )
+}
+
+/// Whether the node's edges are the questions that were answered its result, but for those of ignored candidates.
+fn rests_on(answers: &[Answered], node: &Node<Goal, Outcome>, ignores_marked: bool) -> bool {
+    let mut edges = node.edges.as_slice();
+    for answered in answers {
+        if answered.outcome != node.result || (ignores_marked && answered.is_marked) {
             continue;
         }
-        for (question, answer) in &candidate.answers {
-            if *answer == outcome {
-                asked.push(*question)?;
-            }
+        let Some((edge, rest)) = edges.split_first() else {
+            return false;
+        };
+        if edge.kind != answered.kind || edge.input != answered.goal {
+            return false;
         }
+        edges = rest;
     }
-    Ok(same_questions(asked.as_slice(), node.edges.as_slice()))
-}
-
-/// Whether marked candidates no longer count: an unmarked one holds.
-fn ignores_marked(tried: &[Tried]) -> bool {
-    tried
-        .iter()
-        .any(|candidate| !candidate.is_marked && candidate.holds())
-}
-
-fn same_questions(asked: &[Asked], edges: &[Edge<Goal>]) -> bool {
-    asked.len() == edges.len()
-        && asked.iter().zip(edges.iter()).all(|(question, edge)| question.kind == edge.kind
-            && question.goal == edge.input)
+    edges.is_empty()
 }
 
 /// The replies that were not looked at yet, the oldest first.
@@ -129,63 +122,74 @@ impl Replies<'_> {
         Some(*first)
     }
 
-    /// The answers to a candidate's questions, if these replies come next: to its begin, its questions and its end.
+    /// What the candidates came to, if these replies come next: to the begin, and to each candidate.
+    fn tried(
+        &mut self,
+        candidates: &Candidates<'_>,
+        answers: &mut Vec<Answered>,
+    ) -> Result<Option<Tried>, Fail> {
+        if self.next() != Some(Reply::Begin) {
+            return Ok(None);
+        }
+        let mut tried = Tried {
+            some_holds: false,
+            each_fails: true,
+            ignores_marked: false,
+            marked: 0,
+        };
+        for place in 0..candidates.count() {
+            let Some(candidate) = candidates.get(place) else {
+                return Ok(None);
+            };
+            let Some((holds, fails)) = self.answers_to(&candidate, answers)? else {
+                return Ok(None);
+            };
+            let is_marked = candidate.is_marked();
+            tried.some_holds |= holds;
+            tried.each_fails &= fails;
+            tried.ignores_marked |= holds && !is_marked;
+            tried.marked = tried.marked.saturating_add(usize::from(is_marked));
+        }
+        Ok(Some(tried))
+    }
+
+    /// Whether the candidate holds and whether it fails, if these replies come next: to its begin, its questions and its
+    /// end.
     fn answers_to(
         &mut self,
-        alloc: Global,
         candidate: &Candidate<'_>,
-    ) -> Result<Option<Tried>, Fail> {
+        answers: &mut Vec<Answered>,
+    ) -> Result<Option<(bool, bool)>, Fail> {
         if self.next() != Some(Reply::Noted) {
             return Ok(None);
         }
-        let mut answers = Vec::new(alloc);
+        let mut holds = true;
+        let mut fails = false;
         for question in candidate.questions() {
             let Some(Reply::Answer(outcome)) = self.next() else {
                 return Ok(None);
             };
-            let asked = Asked {
+            holds &= outcome == Outcome::Yes;
+            fails |= outcome == Outcome::No;
+            answers.push(Answered {
+                is_marked: candidate.is_marked(),
                 kind: question.kind,
                 goal: question.goal,
-            };
-            answers.push((asked, outcome))?;
+                outcome,
+            })?;
         }
-        if self.next() != Some(Reply::Noted) {
-            return Ok(None);
-        }
-        Ok(Some(Tried {
-            is_marked: candidate.is_marked(),
-            answers,
-        }))
+        Ok((self.next() == Some(Reply::Noted)).then_some((holds, fails)))
     }
-}
 
-/// The goal's candidates with what they were answered, if these replies are those of a run from its begin to its end:
-/// to the begin, to each candidate, and to each one that is ignored.
-fn tried_by(
-    alloc: Global,
-    candidates: &Candidates<'_>,
-    replies: &[Reply<Outcome>],
-) -> Result<Option<Vec<Tried>>, Fail> {
-    let mut replies = Replies { left: replies };
-    if replies.next() != Some(Reply::Begin) {
-        return Ok(None);
+    /// Whether so many replies are left, each to a note.
+    fn are_noted(&self, count: usize) -> bool {
+        for reply in self.left {
+            if *reply != Reply::Noted {
+                return false;
+            }
+        }
+        self.left.len() == count
     }
-    let mut tried = Vec::new(alloc);
-    for place in 0..candidates.count() {
-        let Some(candidate) = candidates.get(place) else {
-            return Ok(None);
-        };
-        let Some(answered) = replies.answers_to(alloc, &candidate)? else {
-            return Ok(None);
-        };
-        tried.push(answered)?;
-    }
-    let mut ignored = 0;
-    if ignores_marked(tried.as_slice()) {
-        ignored = tried.iter().filter(|candidate| candidate.is_marked).count();
-    }
-    let all_noted = replies.left.iter().all(|reply| *reply == Reply::Noted);
-    Ok((all_noted && replies.left.len() == ignored).then_some(tried))
 }
 
 /// Whether some closed walk is of another kind than the outcome's: coinductive for yes, inductive for no. Such a walk

@@ -1,7 +1,7 @@
 //! A delegate that has the stored results of some goals validated, and keeps a journal of that.
 
-use crate::journal::Event;
-use crate::watch::{NotesItsDrop, Watches};
+use crate::validation::journal::Event;
+use crate::validation::watch::{NotesItsDrop, Watches};
 use search_parts::context::{Cx, Delegate, NoMemory, Reply, Request, Verdict};
 use search_parts::path::PathKind;
 use std::marker::PhantomData;
@@ -69,8 +69,8 @@ pub struct Validating<W, D> {
 impl<W: Watches<<D::Cx as Cx>::Input, <D::Cx as Cx>::Result>, D: Delegate> Delegate
     for Validating<W, D> {
     ghost use Rattle.std.specs.Prelude.{◌≡◌, ◌<◌, IfOk, OnOk};
-    ghost use Rattle.validation_tests.specs.Below.{CanTake, Steps};
-    ghost use Rattle.validation_tests.specs.declared.validating.Watched.{Watched};
+    ghost use Rattle.check_tests.specs.Below.{CanTake, Steps};
+    ghost use Rattle.check_tests.specs.declared.validation.validating.Watched.{Watched};
 
     type Cx = Watched<W, D::Cx>;
 
@@ -235,6 +235,13 @@ impl<W: Watches<<D::Cx as Cx>::Input, <D::Cx as Cx>::Result>, D: Delegate> Deleg
     }
 
     // No frame is one of a run that is replayed: the journal has each frame.
+    fn start_replay(
+        _watched: Watched<W, D::Cx>,
+        _input: <D::Cx as Cx>::Input,
+    ) -> Option<WatchedFrame<W, D>> {
+        None
+    }
+
     fn step_replay(
         _watched: &mut WatchedFrame<W, D>,
         _reply: Reply<<D::Cx as Cx>::Result>,

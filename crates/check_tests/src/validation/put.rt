@@ -1,6 +1,6 @@
 //! Results that a caller puts into a cache, beside what the search stores there.
 ghost use Rattle.std.specs.Prelude.{◌≡◌, [], None, IfOk, IfSome};
-ghost use Rattle.validation_tests.specs.Asks.{CanAsk};
+ghost use Rattle.check_tests.specs.Asks.{CanAsk};
 
 use search_parts::context::{Cx, Delegate, NoMemory, Reply, Request, Verdict};
 use search_parts::global_cache::GlobalCache;

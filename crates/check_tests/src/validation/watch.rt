@@ -1,7 +1,7 @@
 //! Which goals have their stored results validated, and what is seen of that.
 ghost use Rattle.std.specs.Prelude.{◌≡◌, Bool};
 
-use crate::journal::{Event, Journal};
+use crate::validation::journal::{Event, Journal};
 use std::alloc::Global;
 use std::cell::Cell;
 

@@ -1,7 +1,7 @@
 -- Goals that can be asked below themselves have no rank, so each result that is neither yes nor no may be stored of them.
 use Rattle.std.proofs.Common.{Option, IfSome, ◌≡◌, ℕ, zero, suc, Bool, true, false, List, [], ◌∷◌, Some, sym, ap, ◌∙◌, subst}
-use Rattle.validation_tests.specs.Below.{Fits, CanTake, HasNoRank, IsPlainAt, IsRanked, Place, Success, WithOverflow, Begin, EnterCandidate, Evaluate, Noted, PathKind, Reply, Request}
-use Rattle.validation_tests.specs.Asks.{CanAsk}
+use Rattle.check_tests.specs.Below.{Fits, CanTake, HasNoRank, IsPlainAt, IsRanked, Place, Success, WithOverflow, Begin, EnterCandidate, Evaluate, Noted, PathKind, Reply, Request}
+use Rattle.check_tests.specs.Asks.{CanAsk}
 
 module _ {I R : Type 0} (scripts : I → List (Reply R) → Request I R) where
   unranked : (n : ℕ) (goal other : I) → CanAsk scripts goal other → CanAsk scripts other goal → IsRanked scripts n goal → ⊥

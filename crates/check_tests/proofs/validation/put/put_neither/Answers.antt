@@ -1,7 +1,7 @@
 use Rattle.std.proofs.Common.{sym, subst, ◌∙◌}
-use Rattle.validation_tests.specs.Asks.{CanAsk}
-use Rattle.validation_tests.proofs.Unranked.{is_plain, of_some}
-use Rattle.validation_tests.proofs.put.put_neither.Goals as goal
+use Rattle.check_tests.specs.Asks.{CanAsk}
+use Rattle.check_tests.proofs.Unranked.{is_plain, of_some}
+use Rattle.check_tests.proofs.validation.put.put_neither.Goals as goal
 
 pub insert-requires-clause-plain : goal.insert-requires-clause-plain
 insert-requires-clause-plain g c =

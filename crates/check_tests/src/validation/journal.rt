@@ -4,7 +4,7 @@ use std::alloc::Global;
 use std::cell::RefCell;
 
 /// What happens to a goal.
-#[derive(Clone, Copy, Debug, PartialEq, Eq)]
+#[derive(Clone, Copy, PartialEq, Eq)]
 pub enum Event<R> {
     FrameStarts,
     /// The goal's frame is answered this, and goes on.

@@ -1,7 +1,7 @@
 use Rattle.std.proofs.Common.{[], ◌∷◌, ◌∙◌, sym}
-use Rattle.validation_tests.specs.Below.{Begin}
-use Rattle.validation_tests.proofs.Unranked.{asks_at_once, asks_in_candidate, noted_fits}
-use Rattle.validation_tests.proofs.put.first_asked.Goals as goal
+use Rattle.check_tests.specs.Below.{Begin}
+use Rattle.check_tests.proofs.Unranked.{asks_at_once, asks_in_candidate, noted_fits}
+use Rattle.check_tests.proofs.validation.put.first_asked.Goals as goal
 
 pub returns-in-Evaluate : goal.returns-in-Evaluate
 returns-in-Evaluate g c =
