@@ -12,8 +12,8 @@ use std::test::Fail;
 enum Act {
     /// Usages of the head are noted.
     Note(usize, Counts),
-    /// The usages of another candidate are added, which used each of these heads so often.
-    Merge([(usize, u32); 2]),
+    /// The usages of another candidate are added, which used two heads so often.
+    Merge((usize, u32), (usize, u32)),
     /// All is forgotten.
     Clear,
 }
@@ -31,12 +31,12 @@ const ROWS: [(&str, &[Act], &str); 4] = [
     ),
     (
         "merged usages are sums",
-        &[Act::Merge([(0, 6), (2, 3)]), Act::Merge([(0, 9), (1, 5)])],
+        &[Act::Merge((0, 6), (2, 3)), Act::Merge((0, 9), (1, 5))],
         "0 6i 2 3i ; 0 15i 1 5i 2 3i ; ",
     ),
     (
         "no usages add nothing",
-        &[Act::Merge([(0, 0), (1, 5)]), Act::Merge([(0, 0), (1, 0)])],
+        &[Act::Merge((0, 0), (1, 5)), Act::Merge((0, 0), (1, 0))],
         "1 5i ; 1 5i ; ",
     ),
     (
@@ -77,7 +77,7 @@ fn tell_acts(alloc: Global, acts: &[Act]) -> Told {
 fn carry_out(alloc: Global, candidate: &mut CandidateHeadUsages, act: Act) -> Result<(), NoMemory> {
     match act {
         Act::Note(head, counts) => candidate.note_usages(StackDepth::new(head), usages_of(counts)),
-        Act::Merge(heads) => candidate.merge_usages(of_heads(alloc, heads)?),
+        Act::Merge(first, second) => candidate.merge_usages(of_heads(alloc, first, second)?),
         Act::Clear => {
             candidate.clear();
             Ok(())
@@ -85,15 +85,24 @@ fn carry_out(alloc: Global, candidate: &mut CandidateHeadUsages, act: Act) -> Re
     }
 }
 
-/// A candidate that used each of these heads so often, by inductive cycles.
-fn of_heads(alloc: Global, heads: [(usize, u32); 2]) -> Result<CandidateHeadUsages, NoMemory> {
+/// A candidate that used two heads so often.
+fn of_heads(
+    alloc: Global,
+    first: (usize, u32),
+    second: (usize, u32),
+) -> Result<CandidateHeadUsages, NoMemory> {
     let mut candidate = CandidateHeadUsages::new(alloc);
-    for (head, count) in heads {
-        for _ in 0..count {
-            candidate.note_usages(StackDepth::new(head), usages_of([1, 0, 0, 0]))?;
-        }
-    }
+    use_often(&mut candidate, first.0, first.1)?;
+    use_often(&mut candidate, second.0, second.1)?;
     Ok(candidate)
+}
+
+/// Notes so many usages of the head by inductive cycles.
+fn use_often(candidate: &mut CandidateHeadUsages, head: usize, count: u32) -> Result<(), NoMemory> {
+    for _ in 0..count {
+        candidate.note_usages(StackDepth::new(head), usages_of([1, 0, 0, 0]))?;
+    }
+    Ok(())
 }
 
 /// The heads with their usages, by rising depth.

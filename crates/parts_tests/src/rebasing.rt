@@ -8,7 +8,7 @@ use cycle_heads::depth::StackDepth;
 use cycle_heads::path::{PathKind, PathsToNested};
 use cycle_heads::usages::HeadUsages;
 use delegate_parts::{ContextOf, Outcome};
-use provisional_cache::{ProvisionalCache, RebaseReason};
+use provisional_cache::RebaseReason;
 use search_context::context::{Cx, Delegate, NoMemory};
 use search_stack::depth::AvailableDepth;
 use search_stack::stack::{Stack, StackEntry};
@@ -149,7 +149,10 @@ fn rebased_entries_are_as_told(rt: HostRuntime) -> Result<(), Fail> {
         for (reason, wanted) in REASONS.into_iter().zip(wanted) {
             let mut told = Told::new(rt.alloc());
             let (cx, at) = (ContextOf(Loops), rt.alloc());
-            tell::<LoopsContext, LoopsDelegate>(at, &mut told, cx, entries, head, reason)?;
+            let is_done = tell::<LoopsContext, LoopsDelegate>(
+                at, &mut told, cx, entries, head, reason,
+            )?;
+            assert!(rt; is_done, "{name}");
             let told = told.text()?;
             assert_eq!(rt; told.as_str(), wanted, "{name}");
         }
@@ -157,35 +160,15 @@ fn rebased_entries_are_as_told(rt: HostRuntime) -> Result<(), Fail> {
     Ok(())
 }
 
-/// What is left of the entries after the goal is done.
-fn tell<X, D>(
+/// Tells what is left of the entries after the goal is done, and answers whether there was memory to rebase them.
+pub fn tell<X, D>(
     alloc: Global,
     told: &mut Told,
     cx: X,
     entries: &[TestEntry],
     head: Option<Head>,
     reason: Reason,
-) -> Result<(), NoMemory>
-where
-    X: Cx<Input = PathKind, Result = Outcome, AmbiguityInfo = ()>,
-    D: Delegate<Cx = X>,
-{
-    let (cache, is_done) = rebased::<X, D>(alloc, cx, entries, head, reason)?;
-    if !is_done {
-        told.say("no memory ");
-    }
-    tell_entries(told, GOAL, &cache);
-    Ok(())
-}
-
-/// A cache of the entries after the goal is done, and whether there was memory to rebase them.
-pub fn rebased<X, D>(
-    alloc: Global,
-    cx: X,
-    entries: &[TestEntry],
-    head: Option<Head>,
-    reason: Reason,
-) -> Result<(ProvisionalCache<D>, bool), NoMemory>
+) -> Result<bool, NoMemory>
 where
     X: Cx<Input = PathKind, Result = Outcome, AmbiguityInfo = ()>,
     D: Delegate<Cx = X>,
@@ -194,7 +177,8 @@ where
     let stack = stack_of_one::<X>(alloc, PathKind::ForcedAmbiguity)?;
     let done = done_goal::<X>(alloc, PathKind::Inductive, head)?;
     let is_done = cache.rebase(cx, &done, &stack, reason_of(reason)).is_ok();
-    Ok((cache, is_done))
+    tell_entries(told, GOAL, &cache);
+    Ok(is_done)
 }
 
 fn reason_of<X: Cx<AmbiguityInfo = ()>>(reason: Reason) -> RebaseReason<X> {

@@ -3,9 +3,9 @@
 //! that needs no memory then is one that has to succeed.
 
 use crate::entries::{GOAL, LOWER, USER};
-use crate::rebasing::{COINDUCTIVE, REASONS, rebased};
+use crate::rebasing::{self, COINDUCTIVE, REASONS};
 use crate::stored::{Found, OfLoops, Storing};
-use crate::told::{KINDS, usages_of};
+use crate::told::{KINDS, Told, usages_of};
 use bitflags::Flags;
 use cycle_heads::candidates::CandidateHeadUsages;
 use cycle_heads::depth::StackDepth;
@@ -289,8 +289,11 @@ where
     D: Delegate<Cx = X>,
 {
     for reason in REASONS {
-        let (cache, is_done) = rebased::<X, D>(alloc, cx, &[LOWER, USER], COINDUCTIVE, reason)?;
-        if cache.is_empty() == is_done || cache.entries_of(GOAL).is_empty() == is_done {
+        let mut told = Told::new(alloc);
+        let head = COINDUCTIVE;
+        let is_done = rebasing::tell::<X, D>(alloc, &mut told, cx, &[LOWER, USER], head, reason)?;
+        let is_empty = told.text()?.as_str() == "empty";
+        if is_empty == is_done {
             return Ok(false);
         }
     }

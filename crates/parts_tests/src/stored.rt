@@ -232,17 +232,19 @@ const ROWS: [(&str, PathKind, &[Found], &str); 9] = [
 fn stored_results_are_as_told(rt: HostRuntime) -> Result<(), Fail> {
     for (name, goal, found, wanted) in ROWS {
         let mut told = Told::new(rt.alloc());
-        let mut cache = GlobalCache::<LoopsDelegate>::new(rt.alloc(), ContextOf(Loops));
-        tell::<LoopsContext, LoopsDelegate, _>(&mut told, &mut cache, &OfLoops, goal, found)?;
+        let (cx, at) = (ContextOf(Loops), rt.alloc());
+        tell::<LoopsContext, LoopsDelegate, _>(at, &mut told, cx, &OfLoops, goal, found)?;
         let told = told.text()?;
         assert_eq!(rt; told.as_str(), wanted, "{name}");
     }
     Ok(())
 }
 
+/// Tells what comes of these results in a cache of their own.
 fn tell<X, D, S>(
+    alloc: Global,
     told: &mut Told,
-    cache: &mut GlobalCache<D>,
+    cx: X,
     storing: &S,
     goal: PathKind,
     results: &[Found],
@@ -252,9 +254,20 @@ where
     D: Delegate<Cx = X>,
     S: Storing<D>,
 {
+    let mut cache = GlobalCache::<D>::new(alloc, cx);
     for found in results {
-        tell_answer(told, storing.store(cache, goal, *found)?);
+        tell_answer(told, storing.store(&mut cache, goal, *found)?);
     }
+    tell_all(told, &cache, goal);
+    Ok(())
+}
+
+/// Tells what is stored and found of the goal. Of any other one there may be nothing.
+fn tell_all<X, D>(told: &mut Told, cache: &GlobalCache<D>, goal: PathKind)
+where
+    X: Cx<Input = PathKind, Result = Outcome>,
+    D: Delegate<Cx = X>,
+{
     tell_stored(told, cache, goal);
     tell_hits(told, cache, goal, &Anything);
     tell_hits(told, cache, goal, &Leaves);
@@ -263,7 +276,6 @@ where
             told.say("and of another goal");
         }
     }
-    Ok(())
 }
 
 /// What was answered where a result was stored.
