@@ -4,7 +4,8 @@ use crate::checker::changes::change;
 use crate::checker::handed_out::{Nodes, copy_of, graph_for, is_accepted};
 use crate::checker::plain::is_graph;
 use chance::Chance;
-use rule_tables::{Goal, Rules};
+use rule_tables::{Goal, Outcome, Rules};
+use search_parts::context::Node;
 use std::alloc::Global;
 use std::process::Abort;
 use std::test::Fail;
@@ -74,7 +75,7 @@ fn counts_of(alloc: Global, text: &str, chance: &mut Chance) -> Result<Counts, F
         accepted: 0,
     };
     for _ in 0..CHANGED {
-        let nodes = changed(alloc, &graph.nodes, goals.as_slice(), chance)?;
+        let nodes = changed(alloc, graph.nodes.as_slice(), goals.as_slice(), chance)?;
         let is_graph = is_graph(alloc, &rules, nodes.as_slice(), goal, graph.outcome)?;
         if is_accepted(alloc, &rules, nodes, goal, verdict)? == is_graph {
             counts.agreed = counts.agreed.saturating_add(1);
@@ -98,7 +99,7 @@ fn goals_of(alloc: Global, rules: &Rules) -> Result<Vec<Goal>, Fail> {
 /// The nodes with one to three changes.
 fn changed(
     alloc: Global,
-    nodes: &Nodes,
+    nodes: &[Node<Goal, Outcome>],
     goals: &[Goal],
     chance: &mut Chance,
 ) -> Result<Nodes, Fail> {
@@ -107,7 +108,7 @@ fn changed(
     Ok(changed)
 }
 
-fn copies_of(alloc: Global, nodes: &Nodes) -> Result<Nodes, Fail> {
+fn copies_of(alloc: Global, nodes: &[Node<Goal, Outcome>]) -> Result<Nodes, Fail> {
     let mut copies = Vec::new(alloc);
     for node in nodes {
         copies.push(copy_of(alloc, node)?)?;

@@ -221,9 +221,9 @@ fn nodes_of(alloc: Global, goal: Goal, drawn: &[Drawn]) -> Result<Nodes, Fail> {
 }
 
 fn node_of(alloc: Global, goal: Goal, drawn: &Drawn) -> Result<Node<Goal, Outcome>, Fail> {
-    let (replies, steps, outcome) = drawn;
+    let (replies, steps, outcome) = *drawn;
     let mut edges = Vec::new(alloc);
-    for (kind, target) in *steps {
+    for (kind, target) in steps {
         edges.push(Edge {
             kind: *kind,
             input: goal,
@@ -234,7 +234,7 @@ fn node_of(alloc: Global, goal: Goal, drawn: &Drawn) -> Result<Node<Goal, Outcom
         input: goal,
         replies: replies.to_vec(alloc)?,
         edges,
-        result: *outcome,
+        result: outcome,
     })
 }
 
