@@ -205,8 +205,9 @@ fn push<X: Cx<Input = PathKind>>(alloc: Global, stack: &mut Stack<X>, goal: Path
     stack.push(entry).is_ok()
 }
 
-/// How many heads there are.
-const HEADS: usize = 40;
+/// How many heads there are: one more than a list has room for that doubles, so that a merge of all but the first with that
+/// one takes memory, too.
+const HEADS: usize = 33;
 
 fn keeps_heads(alloc: Global) -> Result<bool, NoMemory> {
     let mut heads = CycleHeads::new(alloc);

@@ -47,6 +47,3 @@ fn all_below(places: &[usize], limit: usize) -> bool
 pub fn steps_within_components_close()
     ensures { StepsWithinClose }
 {}
-
-#[cfg(test)]
-mod tests;
