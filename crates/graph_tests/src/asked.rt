@@ -34,14 +34,10 @@ impl Way {
             _ => Err("no way to ask")?,
         })
     }
-
-    fn builder(self) -> Builder {
-        Builder::new(matches!(self, Way::Question | Way::Tree))
-    }
 }
 
 /// What a question came to.
-#[derive(Clone, Copy, Debug)]
+#[derive(Clone, Copy)]
 pub struct Answered {
     pub answer: Answer<Outcome>,
     /// How many frames it started.
@@ -62,19 +58,59 @@ where
     X: Cx<Result = Outcome>,
     D: Delegate<Cx = X, ProofTreeBuilder = Builder>,
 {
+    match way {
+        Way::Question => ask_graph::<X, D>(alloc, cache, true, depth, goal),
+        Way::Recorded => ask_graph::<X, D>(alloc, cache, false, depth, goal),
+        Way::Tree => ask_for_tree::<X, D>(cache, true, depth, goal),
+        Way::RecordedTree => ask_for_tree::<X, D>(cache, false, depth, goal),
+    }
+}
+
+fn ask_graph<X, D>(
+    alloc: Global,
+    cache: &mut GlobalCache<D>,
+    noop: bool,
+    depth: usize,
+    goal: X::Input,
+) -> Result<Answered, Fault<X::Input, Outcome>>
+where
+    X: Cx<Result = Outcome>,
+    D: Delegate<Cx = X, ProofTreeBuilder = Builder>,
+{
     let mut graph = SearchGraph::<D>::new(alloc, depth);
-    let mut builder = way.builder();
-    let answer = match way {
-        Way::Question | Way::Recorded => {
-            evaluate::<X, D>(&mut graph, cache, goal, &mut builder)?
-        }
-        Way::Tree | Way::RecordedTree => work_out::<X, D>(cache, depth, goal, &mut builder)?,
-    };
-    Ok(Answered {
-        answer,
-        started: builder.started(),
-        limits_met: graph.limits_met(),
-    })
+    let mut builder = Builder::new(noop);
+    let came = evaluate::<X, D>(&mut graph, cache, goal, &mut builder);
+    answered_from::<X>(came, builder.started(), graph.limits_met())
+}
+
+fn ask_for_tree<X, D>(
+    cache: &mut GlobalCache<D>,
+    noop: bool,
+    depth: usize,
+    goal: X::Input,
+) -> Result<Answered, Fault<X::Input, Outcome>>
+where
+    X: Cx<Result = Outcome>,
+    D: Delegate<Cx = X, ProofTreeBuilder = Builder>,
+{
+    let mut builder = Builder::new(noop);
+    let came = work_out::<X, D>(cache, depth, goal, &mut builder);
+    answered_from::<X>(came, builder.started(), false)
+}
+
+fn answered_from<X: Cx<Result = Outcome>>(
+    came: Result<Answer<Outcome>, Fault<X::Input, Outcome>>,
+    started: u64,
+    limits_met: bool,
+) -> Result<Answered, Fault<X::Input, Outcome>> {
+    match came {
+        Ok(answer) => Ok(Answered {
+            answer,
+            started,
+            limits_met,
+        }),
+        Err(fault) => Err(fault),
+    }
 }
 
 /// Asks the goal on a graph.
@@ -105,29 +141,42 @@ where
     SearchGraph::<D>::evaluate_root_goal_for_proof_tree(cache, depth, goal, builder)
 }
 
-/// The graph of the node, if one is handed out that the checker accepts for the goal and the outcome.
-pub fn shown_graph<X, D>(
+/// Whether the answer is shown: a definite one has to name a node whose graph the checker accepts, and any other none.
+pub fn is_shown<X, D>(
+    alloc: Global,
+    cache: &GlobalCache<D>,
+    goal: X::Input,
+    answer: Answer<Outcome>,
+) -> Result<bool, NoMemory>
+where
+    X: Cx<Result = Outcome>,
+    D: Delegate<Cx = X, ProofTreeBuilder = Builder>,
+{
+    match answer.node {
+        Some(node) => has_accepted_graph::<X, D>(alloc, cache, goal, answer.result, node),
+        None => Ok(!is_definite(answer.result)),
+    }
+}
+
+/// Whether a graph of the node is handed out, and the checker accepts it for the goal and the outcome.
+fn has_accepted_graph<X, D>(
     alloc: Global,
     cache: &GlobalCache<D>,
     goal: X::Input,
     outcome: Outcome,
     node: NodeId,
-) -> Result<Option<ProofGraph<X>>, NoMemory>
+) -> Result<bool, NoMemory>
 where
     X: Cx<Result = Outcome>,
     D: Delegate<Cx = X, ProofTreeBuilder = Builder>,
 {
-    let Some(graph) = cache.graph_of(node)? else {
-        return Ok(None);
-    };
-    if accepts::<X, D>(alloc, cache.cx(), &graph, goal, outcome)? {
-        Ok(Some(graph))
-    } else {
-        Ok(None)
+    match cache.graph_of(node)? {
+        Some(graph) => accepts::<X, D>(alloc, cache.cx(), &graph, goal, outcome),
+        None => Ok(false),
     }
 }
 
-/// Whether the checker accepts the graph for the goal and the outcome.
+/// Whether the checker accepts the graph. For an outcome that is neither yes nor no it accepts none.
 fn accepts<X, D>(
     alloc: Global,
     cx: X,
@@ -141,25 +190,6 @@ where
 {
     let mut builder = Builder::new(true);
     check_graph::<D>(alloc, cx, graph, goal, outcome.verdict(), &mut builder)
-}
-
-/// Whether the answer is shown: a definite one has to name a node whose graph the checker accepts, and any other none.
-pub fn is_shown<X, D>(
-    alloc: Global,
-    cache: &GlobalCache<D>,
-    goal: X::Input,
-    answer: Answer<Outcome>,
-) -> Result<bool, NoMemory>
-where
-    X: Cx<Result = Outcome>,
-    D: Delegate<Cx = X, ProofTreeBuilder = Builder>,
-{
-    let outcome = answer.result;
-    let Some(node) = answer.node else {
-        return Ok(!is_definite(outcome));
-    };
-    let shown = shown_graph::<X, D>(alloc, cache, goal, outcome, node)?;
-    Ok(is_definite(outcome) && shown.is_some())
 }
 
 /// Whether the outcome is yes or no.

@@ -17,6 +17,12 @@ use std::test::Fail;
 /// The most depth at which results that met overflow are looked for.
 const MOST_DEPTH: usize = 8;
 
+/// The names of goals whose stored results are told.
+const NAMES: [&str; 26] = [
+    "A", "B", "C", "D", "E", "F", "G", "H", "I", "J", "K", "L", "M", "N", "O", "P", "Q", "R", "S",
+    "T", "U", "V", "W", "X", "Y", "Z",
+];
+
 /// A table, the ways in which its questions are asked, none of them for plain questions, and what is wanted of it.
 #[derive(Clone, Copy)]
 pub struct Case<'a> {
@@ -96,21 +102,36 @@ where
     D: Delegate<Cx = X, ProofTreeBuilder = Builder>,
 {
     let mut cache = GlobalCache::<D>::new(alloc, cx);
+    match answers_to::<X, D>(alloc, &mut cache, case.rules.questions(), case.ways)? {
+        Ok(answers) => lines_with::<X, D>(alloc, &cache, case, answers.as_slice()),
+        Err(flaw) => Ok(flaw.as_bytes().to_vec(alloc)?),
+    }
+}
+
+/// The lines of these answers.
+fn lines_with<X, D>(
+    alloc: Global,
+    cache: &GlobalCache<D>,
+    case: Case<'_>,
+    answers: &[Answered],
+) -> Result<Vec<u8>, Fail>
+where
+    X: Cx<Input = Goal, Result = Outcome>,
+    D: Delegate<Cx = X, ProofTreeBuilder = Builder>,
+{
     let mut lines = Vec::new(alloc);
-    let questions = case.rules.questions();
-    let answers = match answers_to::<X, D>(alloc, &mut cache, questions, case.ways)? {
-        Ok(answers) => answers,
-        Err(flaw) => {
-            lines.extend_from_slice(flaw.as_bytes())?;
-            return Ok(lines);
-        }
-    };
-    write_answers(&mut lines, case.rules, answers.as_slice())?;
+    write_answers(&mut lines, case.rules, answers)?;
     if case.ways.is_empty() {
-        write_lists::<X, D>(alloc, &mut lines, cx, questions, answers.as_slice())?;
+        write_lists::<X, D>(
+            alloc,
+            &mut lines,
+            cache.cx(),
+            case.rules.questions(),
+            answers,
+        )?;
     }
     for line in case.wanted.lines() {
-        write_section::<X, D>(alloc, &mut lines, &cache, case, answers.as_slice(), line)?;
+        write_section::<X, D>(alloc, &mut lines, cache, case, answers, line)?;
     }
     Ok(lines)
 }
@@ -120,12 +141,17 @@ fn write_answers(lines: &mut Vec<u8>, rules: &Rules, answers: &[Answered]) -> Re
     for ((_, goal), answered) in rules.questions().iter().zip(answers.iter()) {
         start_line(lines)?;
         lines.extend_from_slice(rules.name(*goal).ok_or("no name")?)?;
-        let outcome = answered.answer.result;
-        let started = answered.started;
-        write!(lines, " {outcome} {started}")?;
-        if answered.limits_met {
-            write!(lines, " limit")?;
-        }
+        write_answer(lines, *answered)?;
+    }
+    Ok(())
+}
+
+fn write_answer(lines: &mut Vec<u8>, answered: Answered) -> Result<(), Fail> {
+    let outcome = answered.answer.result;
+    let started = answered.started;
+    write!(lines, " {outcome} {started}")?;
+    if answered.limits_met {
+        write!(lines, " limit")?;
     }
     Ok(())
 }
@@ -204,9 +230,9 @@ where
     D: Delegate<Cx = X, ProofTreeBuilder = Builder>,
 {
     write!(lines, "\nstored")?;
-    for letter in b'A'..=b'Z' {
-        if let Some(goal) = rules.goal(&[letter]) {
-            write_stored_of::<X, D>(lines, cache, char::from(letter), goal)?;
+    for name in NAMES {
+        if let Some(goal) = rules.goal(name.as_bytes()) {
+            write_stored_of::<X, D>(lines, cache, name, goal)?;
         }
     }
     Ok(())
@@ -216,7 +242,7 @@ where
 fn write_stored_of<X, D>(
     lines: &mut Vec<u8>,
     cache: &GlobalCache<D>,
-    letter: char,
+    name: &str,
     goal: Goal,
 ) -> Result<(), Fail>
 where
@@ -224,11 +250,11 @@ where
     D: Delegate<Cx = X, ProofTreeBuilder = Builder>,
 {
     if let Some((outcome, required_depth)) = cache.success_of(goal) {
-        write!(lines, "\n{letter} {outcome} from {required_depth}")?;
+        write!(lines, "\n{name} {outcome} from {required_depth}")?;
     }
     for depth in 0..MOST_DEPTH {
         if let Some(outcome) = cache.overflow_at(goal, depth) {
-            write!(lines, "\n{letter} {outcome} at {depth}")?;
+            write!(lines, "\n{name} {outcome} at {depth}")?;
         }
     }
     Ok(())

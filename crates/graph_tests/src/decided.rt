@@ -20,7 +20,7 @@ use std::io::Write;
 use std::test::Fail;
 
 /// Which questions a script asks.
-#[derive(Clone, Copy, Debug)]
+#[derive(Clone, Copy)]
 enum Scripts {
     /// All of its goal's.
     AskAll,
@@ -29,7 +29,7 @@ enum Scripts {
 }
 
 /// What is drawn, and how it is asked.
-#[derive(Clone, Copy, Debug)]
+#[derive(Clone, Copy)]
 struct Draw {
     tables: usize,
     goals: usize,
@@ -38,7 +38,7 @@ struct Draw {
 }
 
 /// What tables came to.
-#[derive(Clone, Copy, Debug, Default)]
+#[derive(Clone, Copy, Default)]
 struct Tally {
     proved: usize,
     refuted: usize,
@@ -62,7 +62,12 @@ pub fn tell(alloc: Global, options: &str) -> Result<Vec<u8>, Fail> {
     if are_both_many && tally.frames > asked as u64 {
         write!(told, "decided")?;
     } else {
-        write!(told, "{tally:?}")?;
+        let Tally {
+            proved,
+            refuted,
+            frames,
+        } = tally;
+        write!(told, "{proved} proved {refuted} refuted {frames} frames")?;
     }
     Ok(told)
 }

@@ -10,7 +10,7 @@ use search_context::context::{NoMemory, Reply, Request};
 use std::marker::PhantomData;
 
 /// Where a frame stands between two steps.
-#[derive(Clone, Copy, Debug)]
+#[derive(Clone, Copy)]
 pub struct State {
     /// Whether the frame has begun.
     begun: bool,

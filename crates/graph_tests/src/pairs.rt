@@ -4,7 +4,7 @@
 //! neither, with the provisional cache and without it, and how many of the tables without unknown steps are decided, each
 //! counted once with that cache and once without it. Nothing is wrong with any answer, and no goal is both yes and no.
 
-use crate::asked::{Way, ask, is_definite};
+use crate::asked::{Answered, Way, ask, is_definite};
 use crate::lists::{answers_to, lists_have};
 use crate::plain_graph::ShownGraph;
 use delegate_parts::{Builder, Outcome};
@@ -23,7 +23,7 @@ const QUESTIONS: [&str; 8] = ["i:A", "i:B", "c:A", "c:B", "u:A", "u:B", "f:A", "
 const PAIRS: usize = 64;
 
 /// What a goal makes of its two questions.
-#[derive(Clone, Copy, Debug, PartialEq, Eq)]
+#[derive(Clone, Copy)]
 enum Body {
     /// Two candidates of a question each.
     Alternatives,
@@ -38,7 +38,7 @@ const ASKED: [(usize, &[u8]); 5] = [(0, b"A"), (4, b"A"), (4, b"B"), (1, b"B"), 
 const ASKED_ANEW: [(usize, &[u8]); 2] = [(4, b"B"), (4, b"A")];
 
 /// How many questions came to each result, and how many tables were decided.
-#[derive(Clone, Copy, Debug, Default)]
+#[derive(Clone, Copy, Default)]
 struct Counts {
     yes: u32,
     no: u32,
@@ -216,26 +216,59 @@ where
     D: Delegate<Cx = X, ProofTreeBuilder = Builder>,
 {
     let mut cache = GlobalCache::<D>::new(alloc, cx);
+    let questions = goals_of(alloc, rules, asked)?;
+    match answers_to::<X, D>(alloc, &mut cache, questions.as_slice(), "")? {
+        Ok(answers) => {
+            let answers = answers.as_slice();
+            if !lists_have::<X, D>(alloc, cx, questions.as_slice(), 0, answers)? {
+                return Ok(Some("another answer in a list"));
+            }
+            note_answers(questions.as_slice(), answers, counts);
+            flaw_of_answers::<X, D>(alloc, &cache, rules, questions.as_slice(), answers, said)
+        }
+        Err(flaw) => Ok(Some(flaw)),
+    }
+}
+
+fn goals_of(
+    alloc: Global,
+    rules: &Rules,
+    asked: &[(usize, &[u8])],
+) -> Result<Vec<(usize, Goal)>, Fail> {
     let mut questions = Vec::new(alloc);
     for (depth, name) in asked {
         questions.push((*depth, rules.goal(name).ok_or("no goal")?))?;
     }
-    let answers = match answers_to::<X, D>(alloc, &mut cache, questions.as_slice(), "")? {
-        Ok(answers) => answers,
-        Err(flaw) => return Ok(Some(flaw)),
-    };
-    if !lists_have::<X, D>(alloc, cx, questions.as_slice(), 0, answers.as_slice())? {
-        return Ok(Some("another answer in a list"));
-    }
-    for ((depth, goal), answered) in questions.iter().zip(answers.iter()) {
-        let outcome = answered.answer.result;
+    Ok(questions)
+}
+
+/// Counts the answers at depth 4.
+fn note_answers(questions: &[(usize, Goal)], answers: &[Answered], counts: &mut Counts) {
+    for ((depth, _), answered) in questions.iter().zip(answers.iter()) {
         if *depth == 4 {
-            counts.note(outcome);
+            counts.note(answered.answer.result);
         }
-        if said.contradicts(*goal, outcome)? {
+    }
+}
+
+/// What is wrong with the answers: a goal that was answered otherwise before, or a graph.
+fn flaw_of_answers<X, D>(
+    alloc: Global,
+    cache: &GlobalCache<D>,
+    rules: &Rules,
+    questions: &[(usize, Goal)],
+    answers: &[Answered],
+    said: &mut Said,
+) -> Result<Option<&'static str>, Fail>
+where
+    X: Cx<Input = Goal, Result = Outcome>,
+    D: Delegate<Cx = X, ProofTreeBuilder = Builder>,
+{
+    for ((_, goal), answered) in questions.iter().zip(answers.iter()) {
+        if said.contradicts(*goal, answered.answer.result)? {
             return Ok(Some("yes and no"));
         }
-        let flaw = flaw_of_graph::<X, D>(alloc, &cache, rules, *goal, answered.answer)?;
+        let flaw = flaw_of_graph::<X, D>(alloc, cache, rules, *goal, answered.answer)?;
         if flaw.is_some() {
             return Ok(flaw);
         }
@@ -285,12 +318,23 @@ where
     D: Delegate<Cx = X, ProofTreeBuilder = Builder>,
 {
     let mut cache = GlobalCache::<D>::new(alloc, cx);
-    for name in [b"A", b"B"] {
-        let goal = rules.goal(name).ok_or("no goal")?;
-        let answered = ask::<X, D>(alloc, &mut cache, Way::Question, 4, goal)?;
-        if !is_definite(answered.answer.result) || answered.limits_met {
-            return Ok(false);
-        }
-    }
-    Ok(true)
+    Ok(
+        is_decided::<X, D>(alloc, &mut cache, rules, b"A")?
+            && is_decided::<X, D>(alloc, &mut cache, rules, b"B")?,
+    )
+}
+
+fn is_decided<X, D>(
+    alloc: Global,
+    cache: &mut GlobalCache<D>,
+    rules: &Rules,
+    name: &[u8],
+) -> Result<bool, Fail>
+where
+    X: Cx<Input = Goal, Result = Outcome>,
+    D: Delegate<Cx = X, ProofTreeBuilder = Builder>,
+{
+    let goal = rules.goal(name).ok_or("no goal")?;
+    let answered = ask::<X, D>(alloc, cache, Way::Question, 4, goal)?;
+    Ok(is_definite(answered.answer.result) && !answered.limits_met)
 }

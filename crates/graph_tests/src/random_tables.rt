@@ -6,14 +6,14 @@ use std::io::Write;
 use std::test::Fail;
 
 /// A question of a candidate.
-#[derive(Clone, Copy, Debug)]
+#[derive(Clone, Copy)]
 pub struct Question {
     pub is_coinductive: bool,
     pub goal: usize,
 }
 
 /// One way in which a goal may hold: where all its questions do.
-#[derive(Debug, Drop)]
+#[derive(Drop)]
 pub struct Candidate {
     /// Whether it is ignored where one without a mark holds, which changes no answer.
     pub is_marked: bool,
@@ -24,7 +24,7 @@ pub struct Candidate {
 pub type Candidates = Vec<Candidate>;
 
 /// By which kinds the goals of a table ask each other.
-#[derive(Clone, Copy, Debug)]
+#[derive(Clone, Copy)]
 pub enum Kinds {
     /// Goals that reach each other ask each other by one kind.
     OneInACycle,
@@ -34,7 +34,7 @@ pub enum Kinds {
 
 /// A goal's place in the order of questions: where cycles are of one kind, it asks goals on its own level by the level's kind,
 /// those on lower levels by either, and none on a higher one.
-#[derive(Clone, Copy, Debug)]
+#[derive(Clone, Copy)]
 struct Level {
     number: usize,
     is_coinductive: bool,

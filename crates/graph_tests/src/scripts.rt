@@ -6,7 +6,7 @@
 //! the frames that it started, the nodes of its graph, or after a fault how many nodes are held, and the successes that are
 //! stored then. A node has its goal, its replies, and its edges with the places that they lead to.
 
-use crate::asked::{evaluate, shown_graph};
+use crate::asked::{evaluate, is_shown};
 use crate::drawn::{draw_replies, kind_of, letter_of, start_line};
 use delegate_parts::{Builder, ContextOf, Outcome};
 use search_graph::graph::SearchGraph;
@@ -111,10 +111,16 @@ where
     X: Cx<Input = Goal, Result = Outcome>,
     D: Delegate<Cx = X, ProofTreeBuilder = Builder>,
 {
+    if !is_shown::<X, D>(alloc, cache, goal, answer)? {
+        return Err("no graph that the checker accepts")?;
+    }
     let node = answer.node.ok_or("no node")?;
-    let shown = shown_graph::<X, D>(alloc, cache, goal, answer.result, node)?;
-    let graph = shown.ok_or("no graph that the checker accepts")?;
-    for node in &graph.nodes {
+    let graph = cache.graph_of(node)?.ok_or("no graph")?;
+    tell_nodes(told, graph.nodes.as_slice())
+}
+
+fn tell_nodes(told: &mut Vec<u8>, nodes: &[Node<Goal, Outcome>]) -> Result<(), Fail> {
+    for node in nodes {
         tell_node(told, node)?;
     }
     Ok(())
