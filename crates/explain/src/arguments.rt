@@ -66,36 +66,55 @@ fn task_of(matches: &ArgMatches<'_>) -> Task {
 }
 
 fn command<'a>(alloc: Global) -> Result<Command<'a>, Error> {
-    let depth = Arg::new(alloc, "depth")
+    let command = Command::new(alloc, "explain")
+        .about("Reads rules and questions, and shows why each answer holds")
+        .arg(depth(alloc))?
+        .arg(dot(alloc))?;
+    Ok(
+        command
+            .arg(json(alloc)?)?
+            .arg(check(alloc)?)?
+            .arg(file(alloc))?,
+    )
+}
+
+fn depth<'a>(alloc: Global) -> Arg<'a> {
+    Arg::new(alloc, "depth")
         .long("depth")
         .value_name("N")
         .help("Leaves out goals more than N steps below the question's, in text")
         .value_parser(value_parser!(usize))
-        .default_value(DEPTH);
-    let dot = Arg::new(alloc, "dot")
+        .default_value(DEPTH)
+}
+
+fn dot<'a>(alloc: Global) -> Arg<'a> {
+    Arg::new(alloc, "dot")
         .long("dot")
         .help("Writes the graphs in Graphviz's language")
-        .action(ArgAction::SetTrue);
+        .action(ArgAction::SetTrue)
+}
+
+fn json<'a>(alloc: Global) -> Result<Arg<'a>, Error> {
     let json = Arg::new(alloc, "json")
         .long("json")
         .help("Writes the graphs as data")
         .action(ArgAction::SetTrue)
         .conflicts_with("dot")?;
+    Ok(json)
+}
+
+fn check<'a>(alloc: Global) -> Result<Arg<'a>, Error> {
     let check = Arg::new(alloc, "check")
         .long("check")
         .help("Checks graphs that --json wrote")
         .action(ArgAction::SetTrue)
         .conflicts_with("dot")?
         .conflicts_with("json")?;
-    let file = Arg::new(alloc, "file").value_name("FILE").help(
+    Ok(check)
+}
+
+fn file<'a>(alloc: Global) -> Arg<'a> {
+    Arg::new(alloc, "file").value_name("FILE").help(
         "The rules and questions, or with --check the data; without it standard input is read",
-    );
-    let command = Command::new(alloc, "explain")
-        .about("Reads rules and questions, and shows why each answer holds")
-        .arg(depth)?
-        .arg(dot)?
-        .arg(json)?
-        .arg(check)?
-        .arg(file)?;
-    Ok(command)
+    )
 }
