@@ -1,7 +1,7 @@
 //! Goals that are asked on a graph of their own, and what is stored of the goals of a table.
 
+use asked_tables::calls::{evaluate, is_idle, new_graph};
 use rule_tables::{Goal, Outcome, Rules};
-use search_graph::graph::SearchGraph;
 use search_parts::context::{Answer, Cx, Delegate, Fault};
 use search_parts::global_cache::GlobalCache;
 use search_parts::path::PathKind;
@@ -21,49 +21,12 @@ where
     X: Cx,
     D: Delegate<Cx = X>,
 {
-    let mut graph = SearchGraph::<D>::new(alloc, depth);
-    let answer = answer_on::<X, D>(&mut graph, cache, goal, builder);
-    if is_left::<X, D>(&graph) {
+    let mut graph = new_graph::<X, D>(alloc, depth);
+    let answer = evaluate::<X, D>(&mut graph, cache, goal, PathKind::Inductive, builder);
+    if !is_idle::<X, D>(&graph) {
         return Err("goals are left under evaluation")?;
     }
     Ok((answer, graph.limits_met()))
-}
-
-/// What the goal comes to. It has no contract, so that none has to be looked at above.
-fn answer_on<X, D>(
-    graph: &mut SearchGraph<D>,
-    cache: &mut GlobalCache<D>,
-    goal: X::Input,
-    builder: &mut D::ProofTreeBuilder,
-) -> Result<Answer<X::Result>, Fault<X::Input, X::Result>>
-where
-    X: Cx,
-    D: Delegate<Cx = X>,
-{
-    graph.evaluate_goal(cache, goal, PathKind::Inductive, builder)
-}
-
-/// Whether goals are under evaluation.
-fn is_left<X, D>(graph: &SearchGraph<D>) -> bool
-where
-    X: Cx,
-    D: Delegate<Cx = X>,
-{
-    !graph.is_empty() || graph.debug_current_depth() > 0
-}
-
-/// What the goal comes to as the root of a proof tree.
-pub fn answer_of_root<X, D>(
-    cache: &mut GlobalCache<D>,
-    depth: usize,
-    goal: X::Input,
-    builder: &mut D::ProofTreeBuilder,
-) -> Result<Answer<X::Result>, Fault<X::Input, X::Result>>
-where
-    X: Cx,
-    D: Delegate<Cx = X>,
-{
-    SearchGraph::<D>::evaluate_root_goal_for_proof_tree(cache, depth, goal, builder)
 }
 
 /// Tells what is stored of A, B and C: successes with the depths that they require, and the results that met overflow.

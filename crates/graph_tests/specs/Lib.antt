@@ -1,4 +1,1 @@
-pub mod Below
-pub mod Early
-pub mod EarlyLaws
 pub mod Letters

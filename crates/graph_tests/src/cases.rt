@@ -1,10 +1,11 @@
 //! Runs over tables of rules, in the format of `vectors/README.md` with its options and sections.
 
-use crate::asked::Answered;
 use crate::drawn::{start_line, write_graph};
 use crate::idle::write_idle;
-use crate::lists::{answers_to, lists_have};
 use crate::trees::{write_record, write_tree};
+use asked_tables::asked::Answered;
+use asked_tables::calls::new_cache;
+use asked_tables::lists::{answers_to, lists_have};
 use delegate_parts::{Builder, Outcome};
 use rule_tables::delegate::Table;
 use rule_tables::{Goal, Rules, TableDelegate};
@@ -101,7 +102,7 @@ where
     X: Cx<Input = Goal, Result = Outcome>,
     D: Delegate<Cx = X, ProofTreeBuilder = Builder>,
 {
-    let mut cache = GlobalCache::<D>::new(alloc, cx);
+    let mut cache = new_cache::<X, D>(alloc, cx);
     match answers_to::<X, D>(alloc, &mut cache, case.rules.questions(), case.ways)? {
         Ok(answers) => lines_with::<X, D>(alloc, &cache, case, answers.as_slice()),
         Err(flaw) => Ok(flaw.as_bytes().to_vec(alloc)?),

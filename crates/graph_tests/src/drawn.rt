@@ -4,6 +4,7 @@
 //! its edges lead to follow in the edges' order, each with one more space in front. Where an edge leads back to a node
 //! above, its line says how many edges up that stands. An answer without a node is its result alone.
 
+use asked_tables::letters::letter_of;
 use delegate_parts::{Builder, Outcome};
 use rule_tables::{Goal, Rules};
 use search_parts::context::{Answer, Cx, Delegate, Edge, Node, Reply};
@@ -67,23 +68,34 @@ fn draw_graph(
             return Ok(());
         };
         above.truncate(depth);
-        let node = nodes.get(edge.target).ok_or("no node")?;
-        draw_node(drawn, rules, depth, edge, node)?;
-        match place_of(above.as_slice(), edge.target) {
-            Some(at) => {
-                let up = depth.saturating_sub(at);
-                write!(drawn, " {up} up")?;
-            }
-            None => {
-                draw_replies(drawn, node.replies.as_slice())?;
-                above.push(edge.target)?;
-                for next in node.edges.iter().rev() {
-                    left.push((depth.saturating_add(1), *next))?;
-                }
-            }
-        }
+        draw_edge(drawn, nodes, rules, (depth, edge), &mut above, &mut left)?;
     }
     Err("more nodes than expected")?
+}
+
+/// The line of the node that the edge leads to at its depth. The edges of a node that does not stand above are left to draw.
+fn draw_edge(
+    drawn: &mut Vec<u8>,
+    nodes: &[Node<Goal, Outcome>],
+    rules: &Rules,
+    drawn_next: (usize, Edge<Goal>),
+    above: &mut Vec<usize>,
+    left: &mut Vec<(usize, Edge<Goal>)>,
+) -> Result<(), Fail> {
+    let (depth, edge) = drawn_next;
+    let node = nodes.get(edge.target).ok_or("no node")?;
+    draw_node(drawn, rules, depth, edge, node)?;
+    if let Some(at) = place_of(above.as_slice(), edge.target) {
+        let up = depth.saturating_sub(at);
+        write!(drawn, " {up} up")?;
+        return Ok(());
+    }
+    draw_replies(drawn, node.replies.as_slice())?;
+    above.push(edge.target)?;
+    for next in node.edges.iter().rev() {
+        left.push((depth.saturating_add(1), *next))?;
+    }
+    Ok(())
 }
 
 /// Where the list has this element.
@@ -141,25 +153,4 @@ fn draw_result(
     drawn.extend_from_slice(rules.name(goal).ok_or("no name")?)?;
     write!(drawn, " {outcome}")?;
     Ok(())
-}
-
-/// The letter of a kind in a question.
-pub fn letter_of(kind: PathKind) -> &'static str {
-    match kind {
-        PathKind::Inductive => "i",
-        PathKind::Unknown => "u",
-        PathKind::Coinductive => "c",
-        PathKind::ForcedAmbiguity => "f",
-    }
-}
-
-/// The kind of this letter.
-pub fn kind_of(letter: &str) -> Result<PathKind, Fail> {
-    Ok(match letter {
-        "i" => PathKind::Inductive,
-        "u" => PathKind::Unknown,
-        "c" => PathKind::Coinductive,
-        "f" => PathKind::ForcedAmbiguity,
-        _ => Err("no kind")?,
-    })
 }

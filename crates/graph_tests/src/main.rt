@@ -8,28 +8,17 @@
 //! | `case` | a table of rules, with the options of the search (`cases`). The first are worked out by hand, each named for what it shows. The others are runs of rustc's own search graph at other limits of runs, with the provisional cache and without it: their tables are those of a random generator, and each is answered otherwise at another of these limits, or at the other setting of the provisional cache |
 //! | `chain` | the same of a chain of many goals, of which the run has the length, and the depth at which the first is asked |
 //! | `scripts` | requests in any order (`scripts`) |
-//! | `pairs` | all tables of two goals that ask two questions each (`pairs`) |
-//! | `graph` | a graph made by hand, for the plain check of those (`flaws`) |
-//! | `drawn` | tables drawn at random, beside a solver that works out from the definition alone which goals have a proof graph (`decided`) |
 //! | `switches` | a table in which one goal needs as many runs as one likes, by rules whose scripts stop early (`switches`) |
 #![tactic(auto)]
 
-mod asked;
 mod cases;
-mod decided;
 mod drawn;
-mod early;
-mod flaws;
 mod idle;
-mod lists;
-mod pairs;
-mod plain_graph;
-mod random_tables;
 mod scripts;
-mod solved;
 mod switches;
 mod trees;
 
+use asked_tables::runs::Run;
 use std::alloc::Global;
 use std::io;
 use std::test::Fail;
@@ -39,7 +28,7 @@ fn main(rt: HostRuntime) -> Result<(), Fail> {
     let mut passed = 0u32;
     let mut failed = 0u32;
     for run in text.trim_end().split("\n\n") {
-        if is_answered(rt.alloc(), run)? {
+        if is_answered(rt.alloc(), Run::read(run)?)? {
             passed = passed.saturating_add(1);
         } else {
             failed = failed.saturating_add(1);
@@ -54,33 +43,17 @@ fn main(rt: HostRuntime) -> Result<(), Fail> {
 }
 
 /// Whether the run comes to what stands in it.
-fn is_answered(alloc: Global, run: &str) -> Result<bool, Fail> {
-    let (asked, wanted) = run
-        .split_once("\nexpect 0\n")
-        .ok_or("a run without answers")?;
-    let (head, input) = asked.split_once('\n').unwrap_or((asked, ""));
-    let (sort, named) = head.split_once(' ').ok_or("a run without a name")?;
-    let (_, options) = named.split_once(' ').unwrap_or((named, ""));
-    let told = tell(alloc, sort, options, input, wanted)?;
-    Ok(told.as_slice() == wanted.as_bytes())
+fn is_answered(alloc: Global, run: Run<'_>) -> Result<bool, Fail> {
+    Ok(tell(alloc, run)?.as_slice() == run.wanted.as_bytes())
 }
 
-/// What a run of this sort comes to.
-fn tell(
-    alloc: Global,
-    sort: &str,
-    options: &str,
-    input: &str,
-    wanted: &str,
-) -> Result<Vec<u8>, Fail> {
-    match sort {
-        "case" => cases::tell(alloc, options, input.as_bytes(), wanted),
-        "chain" => cases::tell_chain(alloc, options, input, wanted),
-        "scripts" => scripts::tell(alloc, options, input),
-        "pairs" => pairs::tell(alloc, options),
-        "graph" => flaws::tell(alloc, input),
-        "drawn" => decided::tell(alloc, options),
-        "switches" => switches::tell(alloc, options),
+/// What the run comes to.
+fn tell(alloc: Global, run: Run<'_>) -> Result<Vec<u8>, Fail> {
+    match run.sort {
+        "case" => cases::tell(alloc, run.options, run.input.as_bytes(), run.wanted),
+        "chain" => cases::tell_chain(alloc, run.options, run.input, run.wanted),
+        "scripts" => scripts::tell(alloc, run.options, run.input),
+        "switches" => switches::tell(alloc, run.options),
         _ => Err("a run of another sort")?,
     }
 }

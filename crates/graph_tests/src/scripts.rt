@@ -6,12 +6,15 @@
 //! the frames that it started, the nodes of its graph, or after a fault how many nodes are held, and the successes that are
 //! stored then. A node has its goal, its replies, and its edges with the places that they lead to.
 
-use crate::asked::{evaluate, is_shown};
-use crate::drawn::{draw_replies, kind_of, letter_of, start_line};
+use crate::drawn::{draw_replies, start_line};
+use asked_tables::asked::is_shown;
+use asked_tables::calls::{evaluate, is_idle, new_cache, new_graph};
+use asked_tables::letters::{kind_of, letter_of};
 use delegate_parts::{Builder, ContextOf, Outcome};
 use search_graph::graph::SearchGraph;
 use search_parts::context::{Answer, Cx, Delegate, Fault, Node};
 use search_parts::global_cache::GlobalCache;
+use search_parts::path::PathKind;
 use std::alloc::Global;
 use std::io::Write;
 use std::test::Fail;
@@ -42,8 +45,8 @@ where
     X: Cx<Input = Goal, Result = Outcome>,
     D: Delegate<Cx = X, ProofTreeBuilder = Builder>,
 {
-    let mut cache = GlobalCache::<D>::new(alloc, cx);
-    let mut graph = SearchGraph::<D>::new(alloc, depth);
+    let mut cache = new_cache::<X, D>(alloc, cx);
+    let mut graph = new_graph::<X, D>(alloc, depth);
     let mut told = Vec::new(alloc);
     for name in names.split(' ') {
         start_line(&mut told)?;
@@ -69,22 +72,32 @@ where
 {
     let goal = goal_of(name)?;
     let mut builder = Builder::new(true);
-    let came = evaluate::<X, D>(graph, cache, goal, &mut builder);
+    let came = evaluate::<X, D>(graph, cache, goal, PathKind::Inductive, &mut builder);
     tell_came(told, name, came, builder.started())?;
     if came.is_err() {
         let held = cache.held_nodes();
         write!(told, " holding {held}")?;
     }
-    if !graph.is_empty() || graph.debug_current_depth() > 0 {
+    tell_graph_left::<X, D>(told, graph)?;
+    match came {
+        Ok(answer) => tell_graph::<X, D>(alloc, told, cache, goal, answer),
+        Err(_) => Ok(()),
+    }
+}
+
+/// Whether the call left goals under evaluation on the graph, and whether it met a limit.
+fn tell_graph_left<X, D>(told: &mut Vec<u8>, graph: &SearchGraph<D>) -> Result<(), Fail>
+where
+    X: Cx<Input = Goal, Result = Outcome>,
+    D: Delegate<Cx = X, ProofTreeBuilder = Builder>,
+{
+    if !is_idle::<X, D>(graph) {
         write!(told, " open")?;
     }
     if graph.limits_met() {
         write!(told, " limit")?;
     }
-    match came {
-        Ok(answer) => tell_graph::<X, D>(alloc, told, cache, goal, answer),
-        Err(_) => Ok(()),
-    }
+    Ok(())
 }
 
 fn tell_came(told: &mut Vec<u8>, name: &str, came: Came, started: u64) -> Result<(), Fail> {

@@ -3,7 +3,7 @@ ghost use Rattle.std.specs.Prelude.{OnOk};
 ghost use Rattle.std.specs.Io.KnownBytes.{Appends};
 ghost use Rattle.graph_tests.specs.Letters.{letter_of};
 
-use crate::asked::work_out;
+use asked_tables::calls::{new_cache, work_out};
 use delegate_parts::{Builder, Outcome};
 use proof_trees::{Recorder, Recording, Words, write_entries};
 use rule_tables::delegate::Table;
@@ -67,7 +67,7 @@ where
     X: Cx<Input = Goal, Result = Outcome>,
     D: Delegate<Cx = X, ProofTreeBuilder = Builder>,
 {
-    let mut cache = GlobalCache::<Recording<D>>::new(alloc, cx);
+    let mut cache = new_cache::<X, Recording<D>>(alloc, cx);
     let mut recorder = Recorder::new(alloc, Builder::new(true), is_recording);
     let _answer = work_out::<X, Recording<D>>(&mut cache, depth, goal, &mut recorder)?;
     Ok(recorder)

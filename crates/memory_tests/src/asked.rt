@@ -2,11 +2,12 @@
 
 use crate::failed::{Failed, ensure};
 use crate::stored::Stored;
+use asked_tables::calls::{
+    evaluate, evaluate_list, has_accepted_graph, is_idle, new_cache, new_graph,
+};
 use delegate_parts::{Builder, Outcome};
-use graph_check::check_graph;
 use rule_tables::{Goal, Rules};
-use search_graph::graph::SearchGraph;
-use search_parts::context::{Answer, Cx, Delegate, Fault, NoMemory, NodeId};
+use search_parts::context::{Answer, Cx, Delegate, Fault, NoMemory};
 use search_parts::global_cache::GlobalCache;
 use search_parts::path::PathKind;
 use std::alloc::{AllocError, Global};
@@ -56,7 +57,7 @@ where
     X: Cx<Input = Goal, Result = Outcome>,
     D: Delegate<Cx = X, ProofTreeBuilder = Builder>,
 {
-    let mut cache = GlobalCache::<D>::new(alloc, cx);
+    let mut cache = new_cache::<X, D>(alloc, cx);
     let mut answers = Vec::with_capacity(alloc, queries.len())?;
     for query in queries {
         stored.look::<X, D>(&cache)?;
@@ -80,16 +81,18 @@ where
     D: Delegate<Cx = X, ProofTreeBuilder = Builder>,
 {
     let (depth, goal, step) = query;
-    let mut graph = SearchGraph::<D>::new(alloc, depth);
+    let mut graph = new_graph::<X, D>(alloc, depth);
     let mut builder = Builder::new(true);
-    match graph.evaluate_goal(cache, goal, step, &mut builder) {
+    match evaluate::<X, D>(&mut graph, cache, goal, step, &mut builder) {
         Ok(answer) => return Ok(answer),
         Err(fault) => ensure(fault == Fault::Memory, "a fault of another cause")?,
     }
-    let is_left = graph.is_empty() && graph.debug_current_depth() == 0;
-    ensure(is_left, "goals under evaluation after a fault")?;
+    ensure(
+        is_idle::<X, D>(&graph),
+        "goals under evaluation after a fault",
+    )?;
     ensure(stored.is_kept::<X, D>(cache), "a stored result is lost")?;
-    graph.evaluate_goal(cache, goal, step, &mut builder).map_err(|_| Failed::Wrong(
+    evaluate::<X, D>(&mut graph, cache, goal, step, &mut builder).map_err(|_| Failed::Wrong(
         "a question is not answered when it is asked again",
     ))
 }
@@ -112,33 +115,17 @@ where
         return Ok(());
     };
     let mut builder = Builder::new(true);
-    let shown = match shows::<X, D>(alloc, cache, goal, answer.result, node, &mut builder) {
+    let verdict = answer.result.verdict();
+    let shown = match has_accepted_graph::<X, D>(alloc, cache, goal, verdict, node, &mut builder) {
         Ok(is_shown) => Ok(is_shown),
-        Err(NoMemory) => shows::<X, D>(alloc, cache, goal, answer.result, node, &mut builder),
+        Err(NoMemory) => {
+            has_accepted_graph::<X, D>(alloc, cache, goal, verdict, node, &mut builder)
+        }
     };
     let is_shown = shown.map_err(|_| Failed::Wrong(
         "a graph is not checked when it is asked for again",
     ))?;
     ensure(is_shown, "no graph that the checker accepts")
-}
-
-/// Whether the node's graph is handed out and shows the outcome.
-pub fn shows<X, D>(
-    alloc: Global,
-    cache: &GlobalCache<D>,
-    goal: Goal,
-    outcome: Outcome,
-    node: NodeId,
-    inspect: &mut D::ProofTreeBuilder,
-) -> Result<bool, NoMemory>
-where
-    X: Cx<Input = Goal, Result = Outcome>,
-    D: Delegate<Cx = X>,
-{
-    let Some(graph) = cache.graph_of(node)? else {
-        return Ok(false);
-    };
-    check_graph::<D>(alloc, cache.cx(), &graph, goal, outcome.verdict(), inspect)
 }
 
 /// Asks the queries as a list, which has to come to these answers but where one is refused memory. A list that is refused
@@ -154,17 +141,25 @@ where
     X: Cx<Input = Goal, Result = Outcome>,
     D: Delegate<Cx = X, ProofTreeBuilder = Builder>,
 {
-    let mut cache = GlobalCache::<D>::new(alloc, cx);
+    let mut cache = new_cache::<X, D>(alloc, cx);
     let mut builder = Builder::new(true);
     let mut answers = Vec::new(alloc);
-    if SearchGraph::<D>::evaluate_list(&mut cache, queries, &mut builder, &mut answers).is_err() {
+    if evaluate_list::<X, D>(&mut cache, queries, &mut builder, &mut answers).is_err() {
         stored.look::<X, D>(&cache)?;
         let is_left = answers.is_empty() && builder.started() == 0 && stored.is_empty();
         ensure(is_left, "a refused list changes something")?;
-        SearchGraph::<D>::evaluate_list(&mut cache, queries, &mut builder, &mut answers).map_err(
-            |_| Failed::Wrong("a list is not answered when it is asked again"),
-        )?;
+        evaluate_list::<X, D>(&mut cache, queries, &mut builder, &mut answers).map_err(|_| {
+            Failed::Wrong("a list is not answered when it is asked again")
+        })?;
     }
+    ensure_same(answers.as_slice(), wanted)
+}
+
+/// Asks that the list's answers are these, but where one was refused memory.
+fn ensure_same(
+    answers: &[Result<Answer<Outcome>, Fault<Goal, Outcome>>],
+    wanted: &[Outcome],
+) -> Result<(), Failed> {
     ensure(answers.len() == wanted.len(), "another number of answers")?;
     let mut refused = 0u32;
     for (answer, outcome) in answers.iter().zip(wanted) {

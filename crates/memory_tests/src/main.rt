@@ -37,33 +37,58 @@ fn main(rt: HostRuntime) -> Result<(), Fail> {
     let mut input = room(rt.alloc())?;
     rt.stdin().read_to_end(&mut input)?;
     for run in input.as_slice().split(|byte| *byte == BETWEEN) {
-        let (head, text) = head_of(run);
-        if let Some(words) = head.strip_prefix(b"soak ") {
-            soak_for(&rt, words)?;
-            continue;
-        }
-        if let Some(words) = head.strip_prefix(b"alike ") {
-            let mut out = BufWriter::new(rt.alloc(), io::writer(&rt))?;
-            write_alike(&mut out, number_in(words)?)?;
-            out.flush()?;
-            continue;
-        }
-        let found = match answers_in(rt.alloc(), head, text) {
-            // What the check itself takes was refused. It is the one request that is.
-            Err(Failed::Memory) => answers_in(rt.alloc(), head, text),
-            found => found,
-        };
-        match found {
-            Ok(answers) => {
-                for answer in &answers {
-                    print!(rt; "{answer} ")?;
-                }
-                println!(rt; ".")?;
-            }
-            Err(Failed::Malformed) => println!(rt; "malformed")?,
-            Err(Failed::Wrong(otherwise)) => println!(rt; "wrong: {otherwise}")?,
-            Err(Failed::Memory) => println!(rt; "wrong: refused twice")?,
-        }
+        answer_input(&rt, run)?;
+    }
+    Ok(())
+}
+
+/// Answers one of the inputs.
+fn answer_input(rt: &HostRuntime, run: &[u8]) -> Result<(), Fail> {
+    let (head, text) = head_of(run);
+    if let Some(words) = head.strip_prefix(b"soak ") {
+        return soak_for(rt, words);
+    }
+    if let Some(words) = head.strip_prefix(b"alike ") {
+        return print_alike(rt, number_in(words)?);
+    }
+    tell_answers(rt, answers_at_last(rt.alloc(), head, text))
+}
+
+fn print_alike(rt: &HostRuntime, seed: u64) -> Result<(), Fail> {
+    let mut out = BufWriter::new(rt.alloc(), io::writer(rt))?;
+    write_alike(&mut out, seed)?;
+    out.flush()?;
+    Ok(())
+}
+
+/// What the questions come to, again where what the check itself takes was refused: it is the one request that is.
+fn answers_at_last(alloc: Global, head: &[u8], text: &[u8]) -> Result<Vec<Outcome>, Failed> {
+    match answers_in(alloc, head, text) {
+        Err(Failed::Memory) => answers_in(alloc, head, text),
+        found => found,
+    }
+}
+
+fn tell_answers(rt: &impl Print, found: Result<Vec<Outcome>, Failed>) -> Result<(), Fail> {
+    match found {
+        Ok(answers) => tell_each(rt, answers.as_slice()),
+        Err(failed) => tell_failed(rt, failed),
+    }
+}
+
+fn tell_each(rt: &impl Print, answers: &[Outcome]) -> Result<(), Fail> {
+    for answer in answers {
+        print!(rt; "{answer} ")?;
+    }
+    println!(rt; ".")?;
+    Ok(())
+}
+
+fn tell_failed(rt: &impl Print, failed: Failed) -> Result<(), Fail> {
+    match failed {
+        Failed::Malformed => println!(rt; "malformed")?,
+        Failed::Wrong(otherwise) => println!(rt; "wrong: {otherwise}")?,
+        Failed::Memory => println!(rt; "wrong: refused twice")?,
     }
     Ok(())
 }
@@ -76,8 +101,14 @@ fn soak_for(rt: &(impl AllocGlobal + Clock + Print), words: &[u8]) -> Result<(),
         .position(|byte| *byte == b' ')
         .ok_or("no seed")?;
     let (seconds, seed) = words.split_at_checked(end).ok_or("no seed")?;
-    let seconds = number_in(seconds)?;
-    let mut chance = Chance::new(number_in(seed)?);
+    soak_from(rt, number_in(seconds)?, Chance::new(number_in(seed)?))
+}
+
+fn soak_from(
+    rt: &(impl AllocGlobal + Clock + Print),
+    seconds: u64,
+    mut chance: Chance,
+) -> Result<(), Fail> {
     let mut tally = Tally::default();
     let start = Instant::now(rt)?;
     let mut told = 0u64;
@@ -86,20 +117,25 @@ fn soak_for(rt: &(impl AllocGlobal + Clock + Print), words: &[u8]) -> Result<(),
         let now = start.elapsed(rt)?.as_secs();
         if now > told {
             told = now;
-            let Tally {
-                questions,
-                checked,
-                refused,
-                frames,
-            } = tally;
-            println!(rt;
-                "{now} s: {table} tables, {questions} questions, {frames} frames; {checked} answers checked, {refused} refused"
-            )?;
+            tell_tally(rt, now, table, tally)?;
         }
         if now >= seconds {
             break;
         }
     }
+    Ok(())
+}
+
+fn tell_tally(rt: &impl Print, now: u64, table: u64, tally: Tally) -> Result<(), Fail> {
+    let Tally {
+        questions,
+        checked,
+        refused,
+        frames,
+    } = tally;
+    println!(rt;
+        "{now} s: {table} tables, {questions} questions, {frames} frames; {checked} answers checked, {refused} refused"
+    )?;
     Ok(())
 }
 

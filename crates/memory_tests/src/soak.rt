@@ -1,12 +1,12 @@
 //! Random tables for as long as one likes, with frames that are refused memory now and then.
 
-use crate::asked::shows;
 use crate::failed::{Failed, ensure};
+use asked_tables::asked::is_definite;
+use asked_tables::calls::{evaluate, has_accepted_graph, new_cache, new_graph};
 use chance::Chance;
 use delegate_parts::{Builder, Outcome};
 use rule_tables::delegate::Table;
 use rule_tables::{Goal, Rules, TableDelegate};
-use search_graph::graph::SearchGraph;
 use search_parts::context::{Answer, Cx, Delegate, Fault, NoMemory};
 use search_parts::global_cache::GlobalCache;
 use search_parts::path::PathKind;
@@ -89,32 +89,55 @@ where
     X: Cx<Input = Goal, Result = Outcome>,
     D: Delegate<Cx = X, ProofTreeBuilder = Refusals<Builder>>,
 {
-    let mut cache = GlobalCache::<D>::new(alloc, cx);
+    let mut cache = new_cache::<X, D>(alloc, cx);
+    let mut known = known_of(alloc, rules)?;
+    for _ in 0..QUESTIONS {
+        if !ask_one::<X, D>(alloc, &mut cache, known.as_mut_slice(), chance, tally)? {
+            break;
+        }
+    }
+    Ok(())
+}
+
+/// The goals of the table's questions, of which nothing is known.
+fn known_of(alloc: Global, rules: &Rules) -> Result<Vec<(Goal, Outcome)>, Failed> {
     let mut known = Vec::new(alloc);
     for (_, goal) in rules.questions() {
         known.push((*goal, Outcome::Maybe))?;
     }
-    for _ in 0..QUESTIONS {
-        let depth = chance.below(DEPTHS);
-        let place = chance.below(known.len());
-        let call = if chance.once_in(4) {
-            chance.below(50)
-        } else {
-            0
-        };
-        let Some((goal, before)) = known.get(place).copied() else {
-            break;
-        };
-        let outcome = ask::<X, D>(alloc, &mut cache, depth, goal, call, tally)?;
-        if matches!(outcome, Outcome::Yes | Outcome::No) {
-            let is_other = matches!(before, Outcome::Yes | Outcome::No) && before != outcome;
-            ensure(!is_other, "a goal is a yes and a no")?;
-            if let Some(slot) = known.get_mut(place) {
-                *slot = (goal, outcome);
-            }
-        }
+    Ok(known)
+}
+
+/// Asks one of these goals, which may be no yes and no. Answers whether there is one.
+fn ask_one<X, D>(
+    alloc: Global,
+    cache: &mut GlobalCache<D>,
+    known: &mut [(Goal, Outcome)],
+    chance: &mut Chance,
+    tally: &mut Tally,
+) -> Result<bool, Failed>
+where
+    X: Cx<Input = Goal, Result = Outcome>,
+    D: Delegate<Cx = X, ProofTreeBuilder = Refusals<Builder>>,
+{
+    let depth = chance.below(DEPTHS);
+    let place = chance.below(known.len());
+    let call = if chance.once_in(4) {
+        chance.below(50)
+    } else {
+        0
+    };
+    let Some(slot) = known.get_mut(place) else {
+        return Ok(false);
+    };
+    let (goal, before) = *slot;
+    let outcome = ask::<X, D>(alloc, cache, depth, goal, call, tally)?;
+    if is_definite(outcome) {
+        let is_other = is_definite(before) && before != outcome;
+        ensure(!is_other, "a goal is a yes and a no")?;
+        *slot = (goal, outcome);
     }
-    Ok(())
+    Ok(true)
 }
 
 /// What the goal comes to; maybe where a call of its frames is refused memory.
@@ -130,12 +153,12 @@ where
     X: Cx<Input = Goal, Result = Outcome>,
     D: Delegate<Cx = X, ProofTreeBuilder = Refusals<Builder>>,
 {
-    let mut graph = SearchGraph::<D>::new(alloc, depth);
+    let mut graph = new_graph::<X, D>(alloc, depth);
     let mut refusals = Refusals {
         builder: Builder::new(true),
         call: call as u64,
     };
-    let answer = graph.evaluate_goal(cache, goal, PathKind::Inductive, &mut refusals);
+    let answer = evaluate::<X, D>(&mut graph, cache, goal, PathKind::Inductive, &mut refusals);
     tally.questions = tally.questions.saturating_add(1);
     tally.frames = tally.frames.saturating_add(refusals.builder.started());
     match answer {
@@ -166,12 +189,12 @@ where
     X: Cx<Input = Goal, Result = Outcome>,
     D: Delegate<Cx = X>,
 {
-    let is_definite = matches!(answer.result, Outcome::Yes | Outcome::No);
-    ensure(answer.node.is_some() == is_definite, "a node is missing")?;
+    let has_node = answer.node.is_some();
+    ensure(has_node == is_definite(answer.result), "a node is missing")?;
     let Some(node) = answer.node else {
         return Ok(());
     };
-    match shows::<X, D>(alloc, cache, goal, answer.result, node, inspect) {
+    match has_accepted_graph::<X, D>(alloc, cache, goal, answer.result.verdict(), node, inspect) {
         Ok(is_shown) => {
             tally.checked = tally.checked.saturating_add(1);
             ensure(is_shown, "no graph that the checker accepts")

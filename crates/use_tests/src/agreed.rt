@@ -1,10 +1,9 @@
 //! The search beside the plain fixpoint, and the checker beside both.
 
 use crate::plain::{Pairs, pairs_below};
+use asked_tables::calls::{evaluate, has_accepted_graph, new_cache, new_graph};
 use delegate_parts::{Builder, Outcome};
-use graph_check::check_graph;
 use question_lists::{ContextOf, Listed, ListsContext};
-use search_graph::graph::SearchGraph;
 use search_parts::context::{Cx, Delegate, Verdict};
 use search_parts::global_cache::GlobalCache;
 use search_parts::path::PathKind;
@@ -35,7 +34,7 @@ where
     X: Cx<Input = Pair, Result = Outcome>,
     D: Delegate<Cx = X, ProofTreeBuilder = Builder>,
 {
-    let mut cache = GlobalCache::<D>::new(alloc, cx);
+    let mut cache = new_cache::<X, D>(alloc, cx);
     for (left, right, is_below) in asked {
         let pair = Pair {
             left: *left,
@@ -59,16 +58,13 @@ where
     X: Cx<Input = Pair, Result = Outcome>,
     D: Delegate<Cx = X, ProofTreeBuilder = Builder>,
 {
-    let mut graph = SearchGraph::<D>::new(alloc, 1000);
+    let mut graph = new_graph::<X, D>(alloc, 1000);
     let mut builder = Builder::new(true);
-    let answer = graph.evaluate_goal(cache, pair, PathKind::Coinductive, &mut builder)?;
+    let answer = evaluate::<X, D>(&mut graph, cache, pair, PathKind::Coinductive, &mut builder)?;
     let verdict = answer.result.verdict();
     let root = answer.node.ok_or("no node of a definite answer")?;
-    let shown = cache
-        .graph_of(root)?
-        .ok_or("no graph of a definite answer")?;
-    if !check_graph::<D>(alloc, cache.cx(), &shown, pair, verdict, &mut builder)? {
-        return Err("the checker refuses the graph")?;
+    if !has_accepted_graph::<X, D>(alloc, cache, pair, verdict, root, &mut builder)? {
+        return Err("no graph that the checker accepts")?;
     }
     Ok(verdict)
 }

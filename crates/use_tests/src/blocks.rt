@@ -31,16 +31,22 @@ const ASKED: [Asked; 9] = [
 
 #[test]
 fn a_write_is_found_on_any_way_back(rt: HostRuntime) -> Result<(), Fail> {
-    let mut program = Program::new(rt.alloc());
-    for (writes, predecessors) in BLOCKS {
-        let is_found = add(rt.alloc(), &mut program, writes, predecessors)?;
-        assert!(rt; is_found, "a block that writes {writes:?}");
-    }
+    let mut program = program_of_blocks(&rt)?;
     let missing = add(rt.alloc(), &mut program, &[], &[4, 5]);
     assert_eq!(rt; missing, Err(AddFault::Missing));
     let otherwise = answered_otherwise::<&Program>(rt.alloc(), &program, &ASKED)?;
     assert_eq!(rt; otherwise, None);
     Ok(())
+}
+
+/// The blocks, each of which is found as it was added.
+fn program_of_blocks(rt: &(impl Abort + AllocGlobal)) -> Result<Program, AddFault> {
+    let mut program = Program::new(rt.alloc());
+    for (writes, predecessors) in BLOCKS {
+        let is_found = add(rt.alloc(), &mut program, writes, predecessors)?;
+        assert!(rt; is_found, "a block that writes {writes:?}");
+    }
+    Ok(program)
 }
 
 /// Adds a block with these writes and predecessors. Is it found as it was added?

@@ -72,24 +72,40 @@ fn expect_texts(
     let mut tally = Tally::default();
     for _ in 0..texts {
         let text = random_text(rt.alloc(), &mut chance, size)?;
-        match TypeTable::read(rt.alloc(), text.as_slice()) {
-            Ok(table) => {
-                let pairs = agreed(rt.alloc(), table.types(), size)?;
-                assert!(rt; (0..size).all(|number| pairs.has(number, number)));
-                tally.answered = tally.answered.saturating_add(1);
-                tally.below = tally.below.saturating_add(pairs.count());
-            }
-            Err(ReadFault::Unguarded(_)) => {}
-            Err(fault) => return Err(fault)?,
+        if let Some(below) = below_in(rt.alloc(), text.as_slice(), size)? {
+            tally.answered = tally.answered.saturating_add(1);
+            tally.below = tally.below.saturating_add(below);
         }
     }
+    expect_tally(rt, tally, texts, size);
+    Ok(())
+}
+
+/// How many pairs of the text's types are below. Nothing is said of a text that has a union of itself.
+fn below_in(alloc: Global, text: &[u8], size: usize) -> Result<Option<usize>, Fail> {
+    match TypeTable::read(alloc, text) {
+        Ok(table) => Ok(Some(below_of(alloc, &table, size)?)),
+        Err(ReadFault::Unguarded(_)) => Ok(None),
+        Err(fault) => Err(fault)?,
+    }
+}
+
+/// How many pairs are below.
+fn below_of(alloc: Global, table: &TypeTable, size: usize) -> Result<usize, Fail> {
+    let pairs = agreed(alloc, table.types(), size)?;
+    if !(0..size).all(|number| pairs.has(number, number)) {
+        return Err("a type is not below itself")?;
+    }
+    Ok(pairs.count())
+}
+
+fn expect_tally(rt: &impl Abort, tally: Tally, texts: usize, size: usize) {
     let own = tally.answered.saturating_mul(size);
     assert!(rt; tally.answered > texts / 2, "{tally:?}");
     assert!(rt;
         tally.below > own && tally.below < own.saturating_mul(size),
         "{tally:?}"
     );
-    Ok(())
 }
 
 #[test]

@@ -76,18 +76,24 @@ fn try_text(alloc: Global, first: &str, second: &str, tally: &mut Tally) -> Resu
     let leads_back = names_within(first, "A")
         || names_within(second, "B")
         || names_within(first, "B") && names_within(second, "A");
-    match TypeTable::read(alloc, text.as_slice()) {
-        Err(ReadFault::Unguarded(_)) if leads_back => {
-            tally.unguarded = tally.unguarded.saturating_add(1);
-        }
-        Ok(table) if !leads_back => {
-            let below = agreed(alloc, table.types(), table.count())?.count();
+    match below_in(alloc, text.as_slice())? {
+        None if leads_back => tally.unguarded = tally.unguarded.saturating_add(1),
+        Some(below) if !leads_back => {
             tally.below = tally.below.saturating_add(below);
             tally.answered = tally.answered.saturating_add(1);
         }
         _ => return Err("read otherwise")?,
     }
     Ok(())
+}
+
+/// How many pairs of the text's types are below. Nothing is said of a text that has a union of itself.
+fn below_in(alloc: Global, text: &[u8]) -> Result<Option<usize>, Fail> {
+    match TypeTable::read(alloc, text) {
+        Ok(table) => Ok(Some(agreed(alloc, table.types(), table.count())?.count())),
+        Err(ReadFault::Unguarded(_)) => Ok(None),
+        Err(fault) => Err(fault)?,
+    }
 }
 
 /// Whether the right side is a union with an alternative of this name.

@@ -1,6 +1,8 @@
 //! Cases of the textbook, worked out by hand.
 
 use crate::agreed::agreed;
+use crate::plain::Pairs;
+use std::alloc::Global;
 use std::process::Abort;
 use std::test::Fail;
 use type_texts::TypeTable;
@@ -199,16 +201,25 @@ fn types_are_answered_as_in_the_textbook(rt: HostRuntime) -> Result<(), Fail> {
 /// The pairs are answered so, and all pairs as by the plain fixpoint.
 fn expect_case(rt: &(impl Abort + AllocGlobal), case: Case) -> Result<(), Fail> {
     let (declared, wanted) = case;
-    let mut text = Vec::new(rt.alloc());
-    text.extend_from_slice(FIRST.as_bytes())?;
-    text.extend_from_slice(declared.as_bytes())?;
-    let table = TypeTable::read(rt.alloc(), text.as_slice())?;
+    let table = table_with(rt.alloc(), declared)?;
     let pairs = agreed(rt.alloc(), table.types(), table.count())?;
     for (left, right, is_below) in wanted {
-        let is_there = pairs.has(number_of(&table, left)?, number_of(&table, right)?);
+        let is_there = has(&table, &pairs, left, right)?;
         assert_eq!(rt; is_there, *is_below, "{left} < {right} in {declared}");
     }
     Ok(())
+}
+
+/// The types that each case has, and these.
+fn table_with(alloc: Global, declared: &str) -> Result<TypeTable, Fail> {
+    let mut text = Vec::new(alloc);
+    text.extend_from_slice(FIRST.as_bytes())?;
+    text.extend_from_slice(declared.as_bytes())?;
+    Ok(TypeTable::read(alloc, text.as_slice())?)
+}
+
+fn has(table: &TypeTable, pairs: &Pairs, left: &str, right: &str) -> Result<bool, Fail> {
+    Ok(pairs.has(number_of(table, left)?, number_of(table, right)?))
 }
 
 /// The number of the type of this name.

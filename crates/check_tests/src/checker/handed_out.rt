@@ -1,9 +1,9 @@
 //! Graphs that a search handed out over a table of rules, and the checker's word on any graph.
 
 use crate::asking::ask;
+use asked_tables::calls::{accepts, new_cache};
 use rule_tables::delegate::Table;
 use rule_tables::{Builder, Goal, Outcome, Rules, TableDelegate};
-use search_graph::graph_check::check_graph;
 use search_parts::context::{Cx, Delegate, Edge, Node, NodeId, ProofGraph, Reply, Verdict};
 use search_parts::global_cache::GlobalCache;
 use std::alloc::Global;
@@ -38,7 +38,7 @@ where
     X: Cx<Input = Goal, Result = Outcome>,
     D: Delegate<Cx = X, ProofTreeBuilder = Builder>,
 {
-    let mut cache = GlobalCache::<D>::new(alloc, cx);
+    let mut cache = new_cache::<X, D>(alloc, cx);
     graph_over::<X, D>(alloc, &mut cache, depth, goal)
 }
 
@@ -99,7 +99,7 @@ where
 {
     let graph: ProofGraph<X> = ProofGraph { nodes };
     let mut builder = Builder::new(true);
-    Ok(check_graph::<D>(alloc, cx, &graph, goal, verdict, &mut builder)?)
+    Ok(accepts::<X, D>(alloc, cx, &graph, goal, verdict, &mut builder)?)
 }
 
 /// A copy of the node.

@@ -1,7 +1,7 @@
 //! Graphs that were handed out, changed at random: the checker says of each what the plain check says.
 
 use crate::checker::changes::change;
-use crate::checker::handed_out::{Nodes, copy_of, graph_for, is_accepted};
+use crate::checker::handed_out::{HandedOut, Nodes, copy_of, graph_for, is_accepted};
 use crate::checker::plain::is_graph;
 use chance::Chance;
 use rule_tables::{Goal, Outcome, Rules};
@@ -32,6 +32,16 @@ const CHANGED: u32 = 25_000;
 struct Counts {
     agreed: u32,
     accepted: u32,
+}
+
+impl Counts {
+    /// Counts a changed graph, which both accept or refuse where they agree on it.
+    fn note(&mut self, agreed: Option<bool>) {
+        if let Some(is_graph) = agreed {
+            self.agreed = self.agreed.saturating_add(1);
+            self.accepted = self.accepted.saturating_add(u32::from(is_graph));
+        }
+    }
 }
 
 #[test]
@@ -67,22 +77,40 @@ fn accepted_of(rt: &(impl Abort + AllocGlobal), seed: u64) -> Result<u32, Fail> 
 fn counts_of(alloc: Global, text: &str, chance: &mut Chance) -> Result<Counts, Fail> {
     let rules = Rules::read(alloc, text.as_bytes())?;
     let goal = rules.goal(b"A").ok_or("no goal")?;
-    let goals = goals_of(alloc, &rules)?;
     let graph = graph_for(alloc, &rules, 6, goal)?;
-    let verdict = graph.outcome.verdict();
+    counts_of_changes(alloc, &rules, goal, &graph, chance)
+}
+
+fn counts_of_changes(
+    alloc: Global,
+    rules: &Rules,
+    goal: Goal,
+    graph: &HandedOut,
+    chance: &mut Chance,
+) -> Result<Counts, Fail> {
+    let goals = goals_of(alloc, rules)?;
     let mut counts = Counts {
         agreed: 0,
         accepted: 0,
     };
     for _ in 0..CHANGED {
         let nodes = changed(alloc, graph.nodes.as_slice(), goals.as_slice(), chance)?;
-        let is_graph = is_graph(alloc, &rules, nodes.as_slice(), goal, graph.outcome)?;
-        if is_accepted(alloc, &rules, nodes, goal, verdict)? == is_graph {
-            counts.agreed = counts.agreed.saturating_add(1);
-            counts.accepted = counts.accepted.saturating_add(u32::from(is_graph));
-        }
+        counts.note(is_agreed(alloc, rules, nodes, goal, graph.outcome)?);
     }
     Ok(counts)
+}
+
+/// Whether the nodes are a graph that shows the outcome, if the checker and the plain check say the same.
+fn is_agreed(
+    alloc: Global,
+    rules: &Rules,
+    nodes: Nodes,
+    goal: Goal,
+    outcome: Outcome,
+) -> Result<Option<bool>, Fail> {
+    let is_graph = is_graph(alloc, rules, nodes.as_slice(), goal, outcome)?;
+    let is_accepted = is_accepted(alloc, rules, nodes, goal, outcome.verdict())?;
+    Ok((is_accepted == is_graph).then_some(is_graph))
 }
 
 /// The goals of the table.

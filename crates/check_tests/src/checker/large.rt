@@ -1,6 +1,6 @@
 //! Large graphs made by a rule, which take time in proportion to their size and no native stack.
 
-use crate::checker::handed_out::is_accepted;
+use crate::checker::handed_out::{Nodes, is_accepted};
 use rule_tables::{Goal, Outcome, Rules};
 use search_parts::context::{Edge, Node, Reply};
 use search_parts::path::PathKind;
@@ -103,11 +103,17 @@ fn is_ring_accepted(alloc: Global, ring: &Ring) -> Result<bool, Fail> {
     let text = rule_of(alloc, ring)?;
     let rules = Rules::read(alloc, text.as_slice())?;
     let goal = rules.goal(b"A").ok_or("no goal")?;
+    let nodes = nodes_of(alloc, ring, goal)?;
+    is_accepted(alloc, &rules, nodes, goal, ring.outcome.verdict())
+}
+
+/// The nodes of the ring.
+fn nodes_of(alloc: Global, ring: &Ring, goal: Goal) -> Result<Nodes, Fail> {
     let mut nodes = Vec::new(alloc);
     for place in 0..ring.nodes {
         nodes.push(node_of(alloc, ring, goal, place)?)?;
     }
-    is_accepted(alloc, &rules, nodes, goal, ring.outcome.verdict())
+    Ok(nodes)
 }
 
 /// The rule of the ring's goal.

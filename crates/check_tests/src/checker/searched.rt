@@ -1,7 +1,7 @@
 //! Graphs that long searches hand out: what they rest on, and that the checker accepts them.
 
-use crate::checker::handed_out::{Nodes, graph_for, is_accepted};
-use rule_tables::{Outcome, Rules};
+use crate::checker::handed_out::{HandedOut, Nodes, graph_for, is_accepted};
+use rule_tables::{Goal, Outcome, Rules};
 use search_parts::path::PathKind;
 use std::alloc::Global;
 use std::io::Write;
@@ -89,15 +89,23 @@ fn found_for(alloc: Global, shape: Shape, goals: usize, depth: usize) -> Result<
         Shape::Chain => text_of_chain(alloc, goals)?,
         Shape::AllAskAll => text_of_all(alloc, goals)?,
     };
-    let rules = Rules::read(alloc, text.as_slice())?;
+    found_in(alloc, text.as_slice(), depth)
+}
+
+fn found_in(alloc: Global, text: &[u8], depth: usize) -> Result<Found, Fail> {
+    let rules = Rules::read(alloc, text)?;
     let goal = rules.goal(b"g0").ok_or("no goal")?;
     let graph = graph_for(alloc, &rules, depth, goal)?;
+    found_of(alloc, &rules, goal, graph)
+}
+
+fn found_of(alloc: Global, rules: &Rules, goal: Goal, graph: HandedOut) -> Result<Found, Fail> {
     let nodes = graph.nodes.len();
     let (coinductive, others) = questions_of_first(&graph.nodes)?;
     let verdict = graph.outcome.verdict();
     Ok(Found {
         outcome: graph.outcome,
-        is_shown: is_accepted(alloc, &rules, graph.nodes, goal, verdict)?,
+        is_shown: is_accepted(alloc, rules, graph.nodes, goal, verdict)?,
         nodes,
         held: graph.held,
         coinductive,

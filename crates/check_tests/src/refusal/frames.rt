@@ -2,8 +2,8 @@
 
 use crate::asking::{ask, tell_stored};
 use crate::checker::handed_out::{Nodes, graph_for};
+use asked_tables::calls::accepts;
 use delegate_parts::{Builder, Outcome};
-use graph_check::check_graph;
 use rule_tables::delegate::Table;
 use rule_tables::{Goal, Rules, TableDelegate};
 use search_parts::context::{Cx, Delegate, NoMemory, ProofGraph, Verdict};
@@ -214,7 +214,7 @@ where
             builder: Builder::new(true),
             call,
         };
-        match check_graph::<Refusing<D>>(alloc, cx, &graph, goal, verdict, &mut refusals) {
+        match accepts::<X, Refusing<D>>(alloc, cx, &graph, goal, verdict, &mut refusals) {
             Err(NoMemory) => {}
             Ok(true) => return Ok(call.saturating_sub(1)),
             Ok(false) => return Err("the checker refuses the graph")?,

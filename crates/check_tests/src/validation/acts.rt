@@ -1,10 +1,11 @@
 //! What is done with a cache over a table of rules, where stored results of some goals are validated, and what comes of it.
 
-use crate::asking::{answer_of_root, ask, tell_stored};
+use crate::asking::{ask, tell_stored};
 use crate::validation::journal::{Event, Journal};
 use crate::validation::put::put_neither;
 use crate::validation::validating::{Validating, Watched};
 use crate::validation::watch::{Watch, Watches};
+use asked_tables::calls::work_out;
 use delegate_parts::{Builder, Outcome};
 use rule_tables::delegate::Table;
 use rule_tables::{Goal, Rules, TableDelegate};
@@ -182,9 +183,7 @@ where
             let (answer, _) = ask::<X, D>(alloc, cache, depth, goal, &mut builder)?;
             answer
         }
-        Way::Tree | Way::RecordedTree => {
-            answer_of_root::<X, D>(cache, depth, goal, &mut builder)
-        }
+        Way::Tree | Way::RecordedTree => { work_out::<X, D>(cache, depth, goal, &mut builder) }
     };
     Ok((answer, builder.started()))
 }

@@ -1,10 +1,10 @@
 //! Questions over tables, one after the other, and the same as lists.
 
 use crate::asked::{Answered, Way, ask, is_shown};
+use crate::calls::{evaluate_list, new_cache};
 use delegate_parts::{Builder, Outcome};
 use rule_tables::Goal;
-use search_graph::graph::SearchGraph;
-use search_parts::context::{Answer, Cx, Delegate, Fault, NoMemory};
+use search_parts::context::{Answer, Cx, Delegate, Fault};
 use search_parts::global_cache::GlobalCache;
 use search_parts::path::PathKind;
 use std::alloc::Global;
@@ -53,30 +53,17 @@ where
         queries.push((*depth, *goal, PathKind::Inductive))?;
     }
     let (first, others) = queries.split_at_checked(first).ok_or("no question")?;
-    let mut cache = GlobalCache::<D>::new(alloc, cx);
+    let mut cache = new_cache::<X, D>(alloc, cx);
     let mut builder = Builder::new(true);
     let mut given = Vec::new(alloc);
     for list in [first, others, &[]] {
-        ask_list::<X, D>(&mut cache, list, &mut builder, &mut given)?;
+        evaluate_list::<X, D>(&mut cache, list, &mut builder, &mut given)?;
     }
     are_same(given.as_slice(), builder.started(), answers)
 }
 
 /// What a question of a list comes to.
 type Given = Result<Answer<Outcome>, Fault<Goal, Outcome>>;
-
-fn ask_list<X, D>(
-    cache: &mut GlobalCache<D>,
-    list: &[(usize, Goal, PathKind)],
-    builder: &mut Builder,
-    given: &mut Vec<Given>,
-) -> Result<(), NoMemory>
-where
-    X: Cx<Input = Goal, Result = Outcome>,
-    D: Delegate<Cx = X, ProofTreeBuilder = Builder>,
-{
-    SearchGraph::<D>::evaluate_list(cache, list, builder, given)
-}
 
 /// Whether the lists gave these answers, and started as many frames.
 fn are_same(given: &[Given], started: u64, answers: &[Answered]) -> Result<bool, Fail> {

@@ -1,10 +1,8 @@
-//! Goals that are asked, whatever they are. What a search promises of an answer is not handed on, so that the code above is
-//! proved without it.
+//! Goals that are asked, whatever they are.
 
+use crate::calls::{evaluate, has_accepted_graph, new_graph, work_out};
 use delegate_parts::{Builder, Outcome};
-use graph_check::check_graph;
-use search_graph::graph::SearchGraph;
-use search_parts::context::{Answer, Cx, Delegate, Fault, NoMemory, NodeId, ProofGraph};
+use search_parts::context::{Answer, Cx, Delegate, Fault, NoMemory};
 use search_parts::global_cache::GlobalCache;
 use search_parts::path::PathKind;
 use std::alloc::Global;
@@ -77,9 +75,9 @@ where
     X: Cx<Result = Outcome>,
     D: Delegate<Cx = X, ProofTreeBuilder = Builder>,
 {
-    let mut graph = SearchGraph::<D>::new(alloc, depth);
+    let mut graph = new_graph::<X, D>(alloc, depth);
     let mut builder = Builder::new(noop);
-    let came = evaluate::<X, D>(&mut graph, cache, goal, &mut builder);
+    let came = evaluate::<X, D>(&mut graph, cache, goal, PathKind::Inductive, &mut builder);
     answered_from::<X>(came, builder.started(), graph.limits_met())
 }
 
@@ -113,34 +111,6 @@ fn answered_from<X: Cx<Result = Outcome>>(
     }
 }
 
-/// Asks the goal on a graph.
-pub fn evaluate<X, D>(
-    graph: &mut SearchGraph<D>,
-    cache: &mut GlobalCache<D>,
-    goal: X::Input,
-    builder: &mut Builder,
-) -> Result<Answer<Outcome>, Fault<X::Input, Outcome>>
-where
-    X: Cx<Result = Outcome>,
-    D: Delegate<Cx = X, ProofTreeBuilder = Builder>,
-{
-    graph.evaluate_goal(cache, goal, PathKind::Inductive, builder)
-}
-
-/// Works the goal out for a proof tree.
-pub fn work_out<X, D>(
-    cache: &mut GlobalCache<D>,
-    depth: usize,
-    goal: X::Input,
-    builder: &mut D::ProofTreeBuilder,
-) -> Result<Answer<Outcome>, Fault<X::Input, Outcome>>
-where
-    X: Cx<Result = Outcome>,
-    D: Delegate<Cx = X>,
-{
-    SearchGraph::<D>::evaluate_root_goal_for_proof_tree(cache, depth, goal, builder)
-}
-
 /// Whether the answer is shown: a definite one has to name a node whose graph the checker accepts, and any other none.
 pub fn is_shown<X, D>(
     alloc: Global,
@@ -152,44 +122,18 @@ where
     X: Cx<Result = Outcome>,
     D: Delegate<Cx = X, ProofTreeBuilder = Builder>,
 {
-    match answer.node {
-        Some(node) => has_accepted_graph::<X, D>(alloc, cache, goal, answer.result, node),
-        None => Ok(!is_definite(answer.result)),
-    }
-}
-
-/// Whether a graph of the node is handed out, and the checker accepts it for the goal and the outcome.
-fn has_accepted_graph<X, D>(
-    alloc: Global,
-    cache: &GlobalCache<D>,
-    goal: X::Input,
-    outcome: Outcome,
-    node: NodeId,
-) -> Result<bool, NoMemory>
-where
-    X: Cx<Result = Outcome>,
-    D: Delegate<Cx = X, ProofTreeBuilder = Builder>,
-{
-    match cache.graph_of(node)? {
-        Some(graph) => accepts::<X, D>(alloc, cache.cx(), &graph, goal, outcome),
-        None => Ok(false),
-    }
-}
-
-/// Whether the checker accepts the graph. For an outcome that is neither yes nor no it accepts none.
-fn accepts<X, D>(
-    alloc: Global,
-    cx: X,
-    graph: &ProofGraph<X>,
-    goal: X::Input,
-    outcome: Outcome,
-) -> Result<bool, NoMemory>
-where
-    X: Cx<Result = Outcome>,
-    D: Delegate<Cx = X, ProofTreeBuilder = Builder>,
-{
+    let Some(node) = answer.node else {
+        return Ok(!is_definite(answer.result));
+    };
     let mut builder = Builder::new(true);
-    check_graph::<D>(alloc, cx, graph, goal, outcome.verdict(), &mut builder)
+    has_accepted_graph::<X, D>(
+        alloc,
+        cache,
+        goal,
+        answer.result.verdict(),
+        node,
+        &mut builder,
+    )
 }
 
 /// Whether the outcome is yes or no.

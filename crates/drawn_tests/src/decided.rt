@@ -5,10 +5,11 @@
 //! (`early`). Where both kinds may stand in a cycle, the provisional cache is not used. Each goal of each table is answered as
 //! the solver says, no limit is met, many goals are proved, many are refuted, and some are run twice.
 
-use crate::asked::{Way, ask};
-use crate::early::EarlyDelegate;
 use crate::random_tables::{Kinds, random_goals, text_of};
 use crate::solved::have_proofs;
+use asked_tables::asked::{Way, ask};
+use asked_tables::calls::new_cache;
+use asked_tables::early::EarlyDelegate;
 use chance::Chance;
 use delegate_parts::{Builder, Outcome};
 use rule_tables::delegate::Table;
@@ -101,16 +102,39 @@ fn is_next_decided(
     let drawn = random_goals(alloc, chance, draw.goals, draw.kinds)?;
     let proved = have_proofs(alloc, drawn.as_slice())?;
     let text = text_of(alloc, drawn.as_slice())?;
-    let rules = &Rules::read(alloc, text.as_slice())?;
-    let flaw = match draw.kinds {
-        Kinds::OneInACycle => flaw_with::<1>(alloc, rules, draw.scripts, proved.as_slice(), tally)?,
-        Kinds::Both => flaw_with::<0>(alloc, rules, draw.scripts, proved.as_slice(), tally)?,
-    };
+    is_decided(alloc, told, text.as_slice(), proved.as_slice(), draw, tally)
+}
+
+/// Whether the table of this text is decided, the same way.
+fn is_decided(
+    alloc: Global,
+    told: &mut Vec<u8>,
+    text: &[u8],
+    proved: &[bool],
+    draw: Draw,
+    tally: &mut Tally,
+) -> Result<bool, Fail> {
+    let flaw = flaw_of_text(alloc, text, proved, draw, tally)?;
     if let Some(flaw) = flaw {
         write!(told, "{flaw}\n")?;
-        told.extend_from_slice(text.as_slice())?;
+        told.extend_from_slice(text)?;
     }
     Ok(flaw.is_none())
+}
+
+/// What is wrong with the answers to the questions of this text.
+fn flaw_of_text(
+    alloc: Global,
+    text: &[u8],
+    proved: &[bool],
+    draw: Draw,
+    tally: &mut Tally,
+) -> Result<Option<&'static str>, Fail> {
+    let rules = Rules::read(alloc, text)?;
+    match draw.kinds {
+        Kinds::OneInACycle => flaw_with::<1>(alloc, &rules, draw.scripts, proved, tally),
+        Kinds::Both => flaw_with::<0>(alloc, &rules, draw.scripts, proved, tally),
+    }
 }
 
 /// What is wrong with the answers of a search over these rules, without the provisional cache where `PROVISIONAL` is 0.
@@ -145,7 +169,7 @@ where
     X: Cx<Input = Goal, Result = Outcome>,
     D: Delegate<Cx = X, ProofTreeBuilder = Builder>,
 {
-    let mut cache = GlobalCache::<D>::new(alloc, cx);
+    let mut cache = new_cache::<X, D>(alloc, cx);
     for ((depth, goal), is_proved) in rules.questions().iter().zip(proved) {
         let answered = ask::<X, D>(alloc, &mut cache, Way::Question, *depth, *goal)?;
         if answered.limits_met {

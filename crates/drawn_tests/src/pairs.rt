@@ -4,9 +4,10 @@
 //! neither, with the provisional cache and without it, and how many of the tables without unknown steps are decided, each
 //! counted once with that cache and once without it. Nothing is wrong with any answer, and no goal is both yes and no.
 
-use crate::asked::{Answered, Way, ask, is_definite};
-use crate::lists::{answers_to, lists_have};
 use crate::plain_graph::ShownGraph;
+use asked_tables::asked::{Answered, Way, ask, is_definite};
+use asked_tables::calls::new_cache;
+use asked_tables::lists::{answers_to, lists_have};
 use delegate_parts::{Builder, Outcome};
 use rule_tables::delegate::Table;
 use rule_tables::{Goal, Rules, TableDelegate};
@@ -55,6 +56,20 @@ impl Counts {
         };
         *count = count.saturating_add(1);
     }
+
+    fn write(self, told: &mut Vec<u8>) -> Result<(), Fail> {
+        let Counts {
+            yes,
+            no,
+            neither,
+            decided,
+        } = self;
+        write!(
+            told,
+            "{yes} yes {no} no {neither} neither {decided} decided"
+        )?;
+        Ok(())
+    }
 }
 
 /// What the questions of one table came to, over all its caches.
@@ -90,16 +105,7 @@ pub fn tell(alloc: Global, bodies: &str) -> Result<Vec<u8>, Fail> {
             write!(told, "table {table}: {flaw}\n")?;
         }
     }
-    let Counts {
-        yes,
-        no,
-        neither,
-        decided,
-    } = counts;
-    write!(
-        told,
-        "{yes} yes {no} no {neither} neither {decided} decided"
-    )?;
+    counts.write(&mut told)?;
     Ok(told)
 }
 
@@ -120,7 +126,20 @@ fn flaw_of(
     counts: &mut Counts,
 ) -> Result<Option<&'static str>, Fail> {
     let text = text_of(alloc, first, second, table)?;
-    let rules = &Rules::read(alloc, text.as_slice())?;
+    let rules = Rules::read(alloc, text.as_slice())?;
+    if !has_unknown_step(table / PAIRS) && !has_unknown_step(table % PAIRS) {
+        note_decided::<1>(alloc, &rules, counts)?;
+        note_decided::<0>(alloc, &rules, counts)?;
+    }
+    flaw_of_rules(alloc, &rules, counts)
+}
+
+/// The same with the provisional cache, and without it.
+fn flaw_of_rules(
+    alloc: Global,
+    rules: &Rules,
+    counts: &mut Counts,
+) -> Result<Option<&'static str>, Fail> {
     let mut said = Said {
         definite: Vec::new(alloc),
     };
@@ -128,15 +147,7 @@ fn flaw_of(
     if flaw.is_some() {
         return Ok(flaw);
     }
-    let flaw = flaw_with::<0>(alloc, rules, &mut said, counts)?;
-    if flaw.is_some() {
-        return Ok(flaw);
-    }
-    if !has_unknown_step(table / PAIRS) && !has_unknown_step(table % PAIRS) {
-        note_decided::<1>(alloc, rules, counts)?;
-        note_decided::<0>(alloc, rules, counts)?;
-    }
-    Ok(None)
+    flaw_with::<0>(alloc, rules, &mut said, counts)
 }
 
 /// The two questions of a pair.
@@ -215,16 +226,17 @@ where
     X: Cx<Input = Goal, Result = Outcome>,
     D: Delegate<Cx = X, ProofTreeBuilder = Builder>,
 {
-    let mut cache = GlobalCache::<D>::new(alloc, cx);
+    let mut cache = new_cache::<X, D>(alloc, cx);
     let questions = goals_of(alloc, rules, asked)?;
-    match answers_to::<X, D>(alloc, &mut cache, questions.as_slice(), "")? {
+    let questions = questions.as_slice();
+    match answers_to::<X, D>(alloc, &mut cache, questions, "")? {
         Ok(answers) => {
             let answers = answers.as_slice();
-            if !lists_have::<X, D>(alloc, cx, questions.as_slice(), 0, answers)? {
+            note_answers(questions, answers, counts);
+            if !lists_have::<X, D>(alloc, cx, questions, 0, answers)? {
                 return Ok(Some("another answer in a list"));
             }
-            note_answers(questions.as_slice(), answers, counts);
-            flaw_of_answers::<X, D>(alloc, &cache, rules, questions.as_slice(), answers, said)
+            flaw_of_answers::<X, D>(alloc, &cache, rules, questions, answers, said)
         }
         Err(flaw) => Ok(Some(flaw)),
     }
@@ -317,7 +329,7 @@ where
     X: Cx<Input = Goal, Result = Outcome>,
     D: Delegate<Cx = X, ProofTreeBuilder = Builder>,
 {
-    let mut cache = GlobalCache::<D>::new(alloc, cx);
+    let mut cache = new_cache::<X, D>(alloc, cx);
     Ok(
         is_decided::<X, D>(alloc, &mut cache, rules, b"A")?
             && is_decided::<X, D>(alloc, &mut cache, rules, b"B")?,

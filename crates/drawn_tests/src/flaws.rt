@@ -3,8 +3,8 @@
 //! A run has a table and then a line `shown`: the result of all nodes, the nodes' goals in the order of their places, and the
 //! edges, each with its place, its question and the place that it leads to. It says what is wrong with that as a graph of A.
 
-use crate::drawn::kind_of;
 use crate::plain_graph::{ShownEdge, ShownGraph, ShownNode};
+use asked_tables::letters::kind_of;
 use delegate_parts::Outcome;
 use rule_tables::Rules;
 use std::alloc::Global;
@@ -13,12 +13,20 @@ use std::test::Fail;
 /// What is wrong with the graph.
 pub fn tell(alloc: Global, run: &str) -> Result<Vec<u8>, Fail> {
     let (table, shown) = run.split_once("\nshown ").ok_or("no graph")?;
-    let (outcome, shown) = shown.split_once(' ').ok_or("no result")?;
-    let rules = Rules::read(alloc, table.as_bytes())?;
-    let outcome = outcome_of(outcome)?;
-    let graph = graph_of(alloc, &rules, outcome, shown)?;
-    let flaw = graph.flaw(&rules, rules.goal(b"A").ok_or("no goal")?, outcome)?;
+    let flaw = flaw_of(alloc, table.as_bytes(), shown)?;
     Ok(flaw.unwrap_or("nothing").as_bytes().to_vec(alloc)?)
+}
+
+fn flaw_of(alloc: Global, table: &[u8], shown: &str) -> Result<Option<&'static str>, Fail> {
+    let rules = Rules::read(alloc, table)?;
+    flaw_of_shown(alloc, &rules, shown)
+}
+
+fn flaw_of_shown(alloc: Global, rules: &Rules, shown: &str) -> Result<Option<&'static str>, Fail> {
+    let (outcome, shown) = shown.split_once(' ').ok_or("no result")?;
+    let outcome = outcome_of(outcome)?;
+    let goal = rules.goal(b"A").ok_or("no goal")?;
+    graph_of(alloc, rules, outcome, shown)?.flaw(rules, goal, outcome)
 }
 
 fn outcome_of(word: &str) -> Result<Outcome, Fail> {
@@ -40,19 +48,34 @@ fn graph_of(
         nodes: Vec::new(alloc),
         edges: Vec::new(alloc),
     };
-    let mut words = shown.split(' ');
-    for (place, name) in words.next().ok_or("no goals")?.bytes().enumerate() {
+    let (names, edges) = shown.split_once(' ').unwrap_or((shown, ""));
+    add_nodes(&mut graph.nodes, rules, outcome, names)?;
+    add_edges(&mut graph.edges, rules, edges)?;
+    Ok(graph)
+}
+
+fn add_nodes(
+    nodes: &mut Vec<ShownNode>,
+    rules: &Rules,
+    outcome: Outcome,
+    names: &str,
+) -> Result<(), Fail> {
+    for (place, name) in names.bytes().enumerate() {
         let goal = rules.goal(&[name]).ok_or("no goal")?;
-        graph.nodes.push(ShownNode {
+        nodes.push(ShownNode {
             place,
             goal,
             outcome,
         })?;
     }
-    for word in words {
-        graph.edges.push(edge_of(rules, word)?)?;
+    Ok(())
+}
+
+fn add_edges(edges: &mut Vec<ShownEdge>, rules: &Rules, words: &str) -> Result<(), Fail> {
+    for word in words.split_terminator(' ') {
+        edges.push(edge_of(rules, word)?)?;
     }
-    Ok(graph)
+    Ok(())
 }
 
 /// The edge of this word.

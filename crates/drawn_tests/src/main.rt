@@ -1,0 +1,58 @@
+//! Tests of the search over very many tables. The program reads runs, and says of how many the search answers what stands in
+//! them.
+//!
+//! A run ends with an empty line. It begins with a line that has its sort, its name and its options, and its answers follow a
+//! line `expect 0`. The sorts are:
+//!
+//! | Sort | The run |
+//! |---|---|
+//! | `pairs` | all tables of two goals that ask two questions each (`pairs`) |
+//! | `graph` | a graph made by hand, for the plain check of those (`flaws`) |
+//! | `drawn` | tables drawn at random, beside a solver that works out from the definition alone which goals have a proof graph (`decided`) |
+#![tactic(auto)]
+
+mod decided;
+mod flaws;
+mod pairs;
+mod plain_graph;
+mod random_tables;
+mod solved;
+
+use asked_tables::runs::Run;
+use std::alloc::Global;
+use std::io;
+use std::test::Fail;
+
+fn main(rt: HostRuntime) -> Result<(), Fail> {
+    let text = io::read_to_string(rt.alloc(), rt.stdin())?;
+    let mut passed = 0u32;
+    let mut failed = 0u32;
+    for run in text.trim_end().split("\n\n") {
+        if is_answered(rt.alloc(), Run::read(run)?)? {
+            passed = passed.saturating_add(1);
+        } else {
+            failed = failed.saturating_add(1);
+            println!(rt; "failed: {run}\n")?;
+        }
+    }
+    println!(rt; "{passed} passed, {failed} failed")?;
+    if failed > 0 || passed == 0 {
+        return Err("a run is answered otherwise")?;
+    }
+    Ok(())
+}
+
+/// Whether the run comes to what stands in it.
+fn is_answered(alloc: Global, run: Run<'_>) -> Result<bool, Fail> {
+    Ok(tell(alloc, run)?.as_slice() == run.wanted.as_bytes())
+}
+
+/// What the run comes to.
+fn tell(alloc: Global, run: Run<'_>) -> Result<Vec<u8>, Fail> {
+    match run.sort {
+        "pairs" => pairs::tell(alloc, run.options),
+        "graph" => flaws::tell(alloc, run.input),
+        "drawn" => decided::tell(alloc, run.options),
+        _ => Err("a run of another sort")?,
+    }
+}
