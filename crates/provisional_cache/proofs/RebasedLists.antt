@@ -9,7 +9,7 @@ use Rattle.std.specs.Cmp.{IsEquivalence}
 use Rattle.std.specs.Global.{Vec}
 use Rattle.std.specs.List.{cons_option, filter_map, FoldsTo, IsDistinct}
 use Rattle.std.specs.Map.{lookup, keys_of}
-use Rattle.std.specs.Map.Calls.{RetainsPairs}
+use Rattle.std.specs.Map.Calls.{CallableOnEachPair, RetainsPairs, SomeCallAtPair}
 use Rattle.std.specs.Option.{option_map, unwrap_or, IfSome}
 use Rattle.provisional_cache.specs.Words.{entries_at, IsLeft, lists_of}
 use Rattle.provisional_cache.proofs.ProvisionalLists.{list_found}
@@ -57,6 +57,13 @@ same_closure R f keeps (x ∷ xs) g (j, call, later) = same_closure R f keeps xs
 pub at_entry : {A : Type 0} (P : A → Type 0) (before after : List A) (x : A) (all : List A) → all ≡ before ++ x ∷ after → All P all → P x
 at_entry P [] after x all is holds = All-head P x after (subst (All P) is holds)
 at_entry P (b ∷ before) after x all is holds = at_entry P before after x (before ++ x ∷ after) refl (All-tail P b (before ++ x ∷ after) (subst (All P) is holds))
+
+-- so where no call changes the closure, it may be called on each in turn if it may be called on each
+pub callable_on_each : {F I V : Type 0} (T : F → I → V → Bool → V → F → Type 0) (may : F → I → V → Type 0) (f : F) (entries : List (I × V))
+    → ((x : I × V) (g : F) → SomeCallAtPair T f x g → g ≡ f) → All (λ e. may f e.0 e.1) entries → CallableOnEachPair T may f entries
+callable_on_each T may f entries keeps all = record {
+  at = λ before after g k v is ran. subst (λ h. may h k v) (sym (same_closure (SomeCallAtPair T) f keeps before g ran)) (at_entry (λ e. may f e.0 e.1) before after (k, v) entries is all);
+}
 
 module _ {I E F : Type 0} (T : F → I → Vec E → Bool → Vec E → F → Type 0) (becomes : I → E → Option E) (f : F) (calls : (k : I) (v : Vec E) (b : Bool) (w : Vec E) (f' : F) → T f k v b w f' → IsLeft b w.items (filter_map (becomes k) v.items) × (f' ≡ f)) where
   module _ {same : I → I → Bool} (laws : IsEquivalence same) (by_value : (x y : I) → IsTrue (same x y) → x ≡ y) where
