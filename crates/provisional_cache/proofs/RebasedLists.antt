@@ -1,5 +1,5 @@
 -- Lists that are changed where they stand, of which some elements are given up, and a map of such lists.
-use Rattle.std.proofs.Common.{arith, ◌≡◌, ◌≢◌, ℕ, ◌+◌, ◌<◌, Bool, true, false, cond, IsTrue, List, [], ◌∷◌, ◌++◌, length, take, drop, get_or, slice_set, All, Option, Some, None, refl, sym, ap, ◌∙◌, subst, append_assoc}
+use Rattle.std.proofs.Common.{arith, ◌≡◌, ◌≢◌, ℕ, ◌+◌, ◌<◌, ◌==◌, Bool, true, false, cond, IsTrue, List, [], ◌∷◌, ◌++◌, length, take, drop, get_or, slice_set, All, Option, Some, None, refl, sym, ap, ◌∙◌, subst, append_assoc}
 use Rattle.std.proofs.lemmas.List.{drop_more, drop-set-lt, take_more_set}
 use Rattle.std.proofs.lemmas.List.Elements.{All-head, All-rest, All-tail, filter_map-append}
 use Rattle.std.proofs.lemmas.Map.{lookup-none}
@@ -11,6 +11,7 @@ use Rattle.std.specs.List.{cons_option, filter_map, FoldsTo, IsDistinct}
 use Rattle.std.specs.Map.{lookup, keys_of}
 use Rattle.std.specs.Map.Calls.{CallableOnEachPair, RetainsPairs, SomeCallAtPair}
 use Rattle.std.specs.Option.{option_map, unwrap_or, IfSome}
+use Rattle.std.specs.Vec.{vec_len}
 use Rattle.provisional_cache.specs.Words.{entries_at, IsLeft, lists_of}
 use Rattle.provisional_cache.proofs.ProvisionalLists.{list_found}
 
@@ -39,6 +40,14 @@ module _ {X Y : Type 0} (left becomes : X → Option Y) (xs : List X) (i : ℕ) 
 
   pub others_can : (P : X → Type 0) → All P (drop i xs) → All P (drop (i + 1) (slice_set xs i y))
   others_can P all = subst (All P) (sym rest_same) (All-rest P (get_or xs i d) (drop (i + 1) xs) (drop i xs) (drop_more xs i d within) all)
+
+-- a list of which this was asked, and wasn't so, has an element
+pub has_element : {E : Type 0} (list : Vec E) → false ≡ (vec_len list == 0) → list.items ≢ []
+has_element list is none =
+    let ok = list.ok in
+    let none_left : vec_len list ≡ 0 = omega (arith, ap length none) in
+    let empty : (vec_len list == 0) ≡ true = ap (λ n. n == 0) none_left in
+    cc
 
 -- each list that is left has an element
 pub left_have : {I E : Type 0} (test : I → Bool) (kept : List (I × Vec E)) → All (λ e. e.1.items ≢ []) kept → IfSome (lookup test (lists_of kept)) (λ list. list ≢ [])
