@@ -19,10 +19,10 @@ loop-reply-preserved g c =
     let kept = c.loop-reply.invariant in
     let at = read_at c.deref-reply-items.ensures.value c.loop-reply-test.true c.reply-item.is in
     let fits = c.fits.ensures.0 c.if-not-fits.false in
-    let stepped = c.in_ok-request.ensures.request c.args.cx c.args.node.now.input (reverse (take c.loop-reply.reply-index c.args.node.now.replies.items)) kept.stands (fitting_next at kept.replays fits) in
+    let stepped = c.in_ok-request.ensures.request c.args.cx c.args.node.now.input (reverse (take c.loop-reply.reply-index c.args.node.now.replies.items)) kept.stands (fitting_next {test = has_sort (verdicts g.D.Cx.Cx) c.args.sort} {script = g.D.Delegate.script c.args.cx c.args.node.now.input} at kept.replays fits) in
     record {
       replays =
-          replays_more at kept.replays fits c.is_answer_of_sort.result c.in_ok-receive.ensures c.is_answer_of_sort.ensures stepped.0
+          replays_more {test = has_sort (verdicts g.D.Cx.Cx) c.args.sort} {script = g.D.Delegate.script c.args.cx c.args.node.now.input} at kept.replays fits c.is_answer_of_sort.result c.in_ok-receive.ensures c.is_answer_of_sort.ensures stepped.0
           c.is_in_order.result c.is_in_order.ensures c.if-not-is_in_order.false c.note_request.new.self c.note_request.ensures;
       stands = rw (taken_last c.args.node.now.replies.items c.loop-reply.reply-index c.reply-item.result at) stepped.1;
       starts = subst (λ n. n ≤ g.D.Delegate.starts c.args.inspect.now + 1) (sym c.step.ensures.same_starts) kept.starts;
@@ -33,7 +33,7 @@ pub returns-then-not-fits-clause-exact : goal.returns-then-not-fits-clause-exact
 returns-then-not-fits-clause-exact g c =
     let at = read_at c.deref-reply-items.ensures.value c.loop-reply-test.true c.reply-item.is in (
       λ never. cc,
-      λ run. absurd (stops_unfit at c.loop-reply.invariant.replays (λ fits. let says = c.fits.ensures.1 fits in cc) (run_is_legal run)),
+      λ run. absurd (stops_unfit {test = has_sort (verdicts g.D.Cx.Cx) c.args.sort} {script = g.D.Delegate.script c.args.cx c.args.node.now.input} at c.loop-reply.invariant.replays (λ fits. let says = c.fits.ensures.1 fits in cc) (run_is_legal {test = has_sort (verdicts g.D.Cx.Cx) c.args.sort} {script = g.D.Delegate.script c.args.cx c.args.node.now.input} run)),
     )
 
 pub returns-then-not-is_in_order-clause-exact : goal.returns-then-not-is_in_order-clause-exact
@@ -41,11 +41,11 @@ returns-then-not-is_in_order-clause-exact g c =
     let kept = c.loop-reply.invariant in
     let at = read_at c.deref-reply-items.ensures.value c.loop-reply-test.true c.reply-item.is in
     let fits = c.fits.ensures.0 c.if-not-fits.false in
-    let stepped = c.in_ok-request.ensures.request c.args.cx c.args.node.now.input (reverse (take c.loop-reply.reply-index c.args.node.now.replies.items)) kept.stands (fitting_next at kept.replays fits) in (
+    let stepped = c.in_ok-request.ensures.request c.args.cx c.args.node.now.input (reverse (take c.loop-reply.reply-index c.args.node.now.replies.items)) kept.stands (fitting_next {test = has_sort (verdicts g.D.Cx.Cx) c.args.sort} {script = g.D.Delegate.script c.args.cx c.args.node.now.input} at kept.replays fits) in (
       λ never. cc,
       λ run.
-          absurd (stops_disorderly at kept.replays fits c.is_answer_of_sort.result c.in_ok-receive.ensures c.is_answer_of_sort.ensures stepped.0
-          c.is_in_order.result c.is_in_order.ensures c.if-not-is_in_order.true (run_is_legal run)),
+          absurd (stops_disorderly {test = has_sort (verdicts g.D.Cx.Cx) c.args.sort} {script = g.D.Delegate.script c.args.cx c.args.node.now.input} at kept.replays fits c.is_answer_of_sort.result c.in_ok-receive.ensures c.is_answer_of_sort.ensures stepped.0
+          c.is_in_order.result c.is_in_order.ensures c.if-not-is_in_order.true (run_is_legal {test = has_sort (verdicts g.D.Cx.Cx) c.args.sort} {script = g.D.Delegate.script c.args.cx c.args.node.now.input} run)),
     )
 
 pub returns-clause-exact : goal.returns-clause-exact
@@ -58,12 +58,12 @@ returns-clause-exact g c =
       | then-is_done w ↦ (
         λ holds.
             let edges = w.has_edges.ensures.0 (sym w.result-is ∙ holds) in
-            is_run_if node c.loop-reply.reply-index all kept sort (c.is_done.ensures.0 w.if-is_done.true) (rw (← w.deref.ensures.value) edges),
-        λ run. w.result-is ∙ w.has_edges.ensures.1 (rw w.deref.ensures.value (run_has_edges node c.loop-reply.reply-index all kept run)),
+            is_run_if {test = has_sort (verdicts g.D.Cx.Cx) c.args.sort} {script = g.D.Delegate.script c.args.cx c.args.node.now.input} node c.loop-reply.reply-index all kept sort (c.is_done.ensures.0 w.if-is_done.true) (rw (← w.deref.ensures.value) edges),
+        λ run. w.result-is ∙ w.has_edges.ensures.1 (rw w.deref.ensures.value (run_has_edges {test = has_sort (verdicts g.D.Cx.Cx) c.args.sort} {script = g.D.Delegate.script c.args.cx c.args.node.now.input} node c.loop-reply.reply-index all kept run)),
       )
       | else-is_done w ↦ (
         λ holds. cc,
-        λ run. w.result-is ∙ c.is_done.ensures.1 (run_is_done node c.loop-reply.reply-index all kept run),
+        λ run. w.result-is ∙ c.is_done.ensures.1 (run_is_done {test = has_sort (verdicts g.D.Cx.Cx) c.args.sort} {script = g.D.Delegate.script c.args.cx c.args.node.now.input} node c.loop-reply.reply-index all kept run),
       )
     ]
 
