@@ -58,12 +58,12 @@ left_have {I} {E} test (e ∷ es) all =
     elim (test e.0) as Q [ true ↦ All-head P e es all | false ↦ left_have test es (All-tail P e es all) ]
 
 -- where no call changes the closure, it stays the same
-pub same_closure : {F A : Type 0} (R : F → A → F → Type 0) (f : F) → ((x : A) (g : F) → R f x g → g ≡ f) → (xs : List A) (g : F) → FoldsTo R f xs g → g ≡ f
+same_closure : {F A : Type 0} (R : F → A → F → Type 0) (f : F) → ((x : A) (g : F) → R f x g → g ≡ f) → (xs : List A) (g : F) → FoldsTo R f xs g → g ≡ f
 same_closure R f keeps [] g ran = sym ran
 same_closure R f keeps (x ∷ xs) g (j, call, later) = same_closure R f keeps xs g (subst (λ h. FoldsTo R h xs g) (keeps x j call) later)
 
 -- what holds of each entry of a map holds of one that stands in it
-pub at_entry : {A : Type 0} (P : A → Type 0) (before after : List A) (x : A) (all : List A) → all ≡ before ++ x ∷ after → All P all → P x
+at_entry : {A : Type 0} (P : A → Type 0) (before after : List A) (x : A) (all : List A) → all ≡ before ++ x ∷ after → All P all → P x
 at_entry P [] after x all is holds = All-head P x after (subst (All P) is holds)
 at_entry P (b ∷ before) after x all is holds = at_entry P before after x (before ++ x ∷ after) refl (All-tail P b (before ++ x ∷ after) (subst (All P) is holds))
 

@@ -1,4 +1,4 @@
-use Rattle.std.proofs.Common.{◌≡◌, ◌+◌, ◌<◌, ◌∙◌, All, drop, get_or, length, sym, ap, subst, arith}
+use Rattle.std.proofs.Common.{◌≡◌, ◌+◌, ◌∙◌, drop, get_or, sym, ap, arith}
 use Rattle.std.proofs.Math.ListN.{drop_of_length-le}
 use Rattle.cycle_heads.proofs.HeadLists.{next_entry, no_head}
 use Rattle.provisional_cache.proofs.CycleKinds.{keep_from, keeps_from_head, first_fails, first_passes}
