@@ -3,7 +3,6 @@ use Rattle.provisional_cache.specs.Below.{has_usages}
 use Rattle.provisional_cache.specs.Words.{changed_by, left_of}
 use Rattle.cycle_heads.proofs.Counts.{used_by_test}
 use Rattle.provisional_cache.proofs.RebasedEntries.{at_place, is_other, is_unused, is_used, not_at_place}
-use Rattle.provisional_cache.proofs.ReusedEntries.{has_some}
 use Rattle.provisional_cache.proofs.rebasing.rebase_entry.Goals as goal
 
 pub returns-then-is_empty : goal.returns-then-is_empty
@@ -13,9 +12,6 @@ returns-then-is_empty g c =
     let unused : has_usages head.1.usages ≡ false = sym (used_by_test head.1.usages c.is_empty.result c.is_empty.ensures) ∙ ap not c.if-is_empty.true in
     let becomes = is_unused c.args.stack.now c.args.done.now (changed_by c.args.entry_change.now) c.args.entry.now head c.highest_cycle_head.ensures.last at unused in
     subst (λ v. OnOk c.rebase_unused.result (left_of c.rebase_unused.new.entry ≡ v)) (sym becomes) c.rebase_unused.ensures
-
-pub highest_cycle_head-requires : goal.highest_cycle_head-requires
-highest_cycle_head-requires g c = has_some c.args.entry.now.heads c.requires.can.some
 
 pub returns-then-ne : goal.returns-then-ne
 returns-then-ne g c =
