@@ -1,7 +1,8 @@
 -- Elements of lists by their place, and lists around it.
-use Rattle.std.proofs.Common.{◌≡◌, ℕ, ◌+◌, ◌<◌, List, ◌∷◌, [], ◌++◌, length, reverse, take, drop, get_or, sym, ap, ◌∙◌, add-one, take-append-drop}
+use Rattle.std.proofs.Common.{◌≡◌, ℕ, Result, Ok, Err, IfOk, ◌+◌, ◌<◌, List, ◌∷◌, [], ◌++◌, length, reverse, take, drop, get_or, sym, ap, ◌∙◌, add-one, take-append-drop}
 use Rattle.std.proofs.Math.Seq.{take-suc}
 use Rattle.std.proofs.lemmas.List.{reverse-append}
+use Rattle.std.specs.Result.{IsErr}
 
 -- the element at a place of the list
 pub record IsAt {A : Type 0} (xs : List A) (i : ℕ) (x : A) : Type 0 where
@@ -26,3 +27,8 @@ module _ {A : Type 0} (xs : List A) (i : ℕ) (x : A) (at : IsAt xs i x) where
       ap reverse (sym (take-append-drop (i + 1) xs))
       ∙ reverse-append (take (i + 1) xs) (drop (i + 1) xs)
       ∙ ap (λ l. reverse (drop (i + 1) xs) ++ l) taken_last
+
+-- nothing is said of the value of a call that was refused
+pub none_ok : {T E : Type 0} (r : Result T E) (P : T → Type 0) → IsErr r → IfOk r P
+none_ok (Ok x) P err = cc
+none_ok (Err e) P err = tt

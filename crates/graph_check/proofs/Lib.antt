@@ -6,3 +6,4 @@ pub mod ClosedWalks
 pub mod InnerEdges
 pub mod Places
 pub mod ValidGraphs
+pub mod StepLists

@@ -47,7 +47,10 @@ module _ {I R : Type 0} {test : R → Bool} {script : List (Reply R) → Request
     pub fitting_next : IsFitting script (reply ∷ reverse (take i replies))
     fitting_next = (fits_next, h.legal.is_fitting)
 
-    module _ {q : Replayed I R} {request : Request I R} (after : q ≡ replied p p.request (is_answer test reply)) (request_is : request ≡ script (reply ∷ reverse (take i replies))) where
+    module _ {q : Replayed I R} {request : Request I R} (is_of_sort : Bool) (received : q ≡ replied p p.request is_of_sort) (sort_is : is_of_sort ≡ is_answer test reply) (request_is : request ≡ script (reply ∷ reverse (take i replies))) where
+      after : q ≡ replied p p.request (is_answer test reply)
+      after = received ∙ ap (λ b. replied p p.request b) sort_is
+
       agrees_next : IsReplayOf test q (progress_after script (reply ∷ reverse (take i replies)))
       agrees_next =
           let before = agrees_replied test p (progress_after script (reverse (take i replies))) h.agrees (request_after script (reverse (take i replies))) reply (last_in_order script (reverse (take i replies)) h.legal.is_in_order) fits_next in
@@ -57,23 +60,26 @@ module _ {I R : Type 0} {test : R → Bool} {script : List (Reply R) → Request
       same_fault = ap (λ r. order_fault (progress_after script (reply ∷ reverse (take i replies))) (Some r)) request_is
 
       -- a request that follows it out of order ends the replay too,
-      pub stops_disorderly : is_orderly q request ≡ false → IsLegal script (reverse replies) → ⊥
-      stops_disorderly disorderly legal =
+      pub stops_disorderly : (in_order : Bool) → in_order ≡ is_orderly q request → in_order ≡ false → IsLegal script (reverse replies) → ⊥
+      stops_disorderly in_order tells other legal =
+          let disorderly = sym tells ∙ other in
           let orderly = subst (IsInOrder script) (reversed_around replies i reply at) legal.is_in_order in
           some_fault test q (progress_after script (reply ∷ reverse (take i replies))) agrees_next request disorderly
           (same_fault ∙ in_order_before script reply (reverse (take i replies)) (reverse (drop (i + 1) replies)) orderly)
 
       -- and after any other it goes on
-      pub replays_more : is_orderly q request ≡ true → Replays test script (requested q request) (reverse (take (i + 1) replies))
-      replays_more orderly =
+      pub replays_more : (in_order : Bool) → in_order ≡ is_orderly q request → in_order ≡ true → (new : Replayed I R) → new ≡ requested q request → Replays test script new (reverse (take (i + 1) replies))
+      replays_more in_order tells is new noted =
+          let orderly = sym tells ∙ is in
           let now = agrees_next in
           let none = no_fault test q (progress_after script (reply ∷ reverse (take i replies))) now request orderly in
-          subst (Replays test script (requested q request)) (sym (taken_last replies i reply at))
+          subst (λ record_now. Replays test script record_now (reverse (take (i + 1) replies))) (sym noted)
+          (subst (Replays test script (requested q request)) (sym (taken_last replies i reply at))
           (record {
             legal = record { is_fitting = fitting_next; is_in_order = (sym same_fault ∙ none, h.legal.is_in_order) };
             request_is = ap Some request_is;
             agrees = record { open_is = now.open_is; finished_are = now.finished_are; ignored_are = now.ignored_are; asked_are = now.asked_are };
-          })
+          }))
 
 module _ {I R : Type 0} {test : R → Bool} {script : List (Reply R) → Request I R} {p : Replayed I R} (n : Node I R) (i : ℕ) (all : length n.replies.items ≤ i) (h : Replays test script p (reverse (take i n.replies.items))) where
   replays_all : Replays test script p (reverse n.replies.items)

@@ -6,12 +6,18 @@ use Rattle.std.specs.Global.{Vec}
 use Rattle.std.specs.List.{cons_option}
 use Rattle.std.specs.Map.{lookup}
 use Rattle.std.specs.Option.{unwrap_or, IfSome}
+use Rattle.std.specs.Result.{IsErr}
 use Rattle.provisional_cache.specs.Words.{ProvisionalCacheEntry, Lists, lists_of, entries_at, nodes_in, nodes_of}
 use Rattle.search_context.specs.declared.context.NodeId.{NodeId}
 
 -- what was in a list is still in it after others were appended
 pub kept_by_append : {A : Type 0} (old new more : List A) → new ≡ old ++ more → (x : A) → Contains old x → Contains new x
 kept_by_append old new more is x within = subst (λ list. Contains list x) (sym is) (Contains-append_left old more x within)
+
+-- nothing is said of a call that was refused
+pub where_ok : {T E : Type 0} (r : Result T E) (P : Type 0) → IsErr r → OnOk r P
+where_ok (Ok x) P err = cc
+where_ok (Err e) P err = tt
 
 -- the nodes of the first list are appended, and those of the others are left
 pub appends_first : {A : Type 0} (whole old new first rest left : List A) → left ≡ first ++ rest → new ≡ old ++ first → old ++ left ≡ whole → new ++ rest ≡ whole

@@ -7,3 +7,4 @@ pub mod RebasedLists
 pub mod RebasedEntryLists
 pub mod ConcernedLists
 pub mod EntryNodes
+pub mod ReusedEntries

@@ -1,9 +1,10 @@
 -- What an entry becomes, case by case, and which entries are left.
-use Rattle.std.proofs.Common.{arith, ◌≡◌, ◌-◌, ◌<◌, ◌↔◌, ℕ, zero, suc, Bool, true, false, not, cond, if◌then◌else◌, IsTrue, length, List, [], ◌∷◌, Option, Some, None, refl, sym, ap, ◌∙◌, subst, eq-eqb}
+use Rattle.std.proofs.Common.{arith, ◌≡◌, ◌-◌, ◌<◌, ◌↔◌, ℕ, zero, suc, Bool, true, false, not, cond, nat_eq, if◌then◌else◌, IsTrue, length, List, [], ◌∷◌, Option, Some, None, refl, sym, ap, ◌∙◌, subst, eq-eqb}
+use Rattle.std.proofs.lemmas.Bool.Decides.{nat_tests}
 use Rattle.std.specs.List.{cons_option, filter, filter_map, slice_get}
 use Rattle.std.specs.Option.{is_some, option_map}
 use Rattle.provisional_cache.specs.Below.{StackDepth, CycleHead, HeadUsages, Heads, highest, has_usages, StackEntry}
-use Rattle.provisional_cache.specs.Words.{ProvisionalCacheEntry, left_of, rebased, rebased_unused}
+use Rattle.provisional_cache.specs.Words.{ProvisionalCacheEntry, left_of, rebased, rebased_unused, rebased_used}
 
 some_at : (heads : Heads) (i : ℕ) → i < length heads → is_some (slice_get heads i) ≡ true
 some_at [] i within = absurd (omega arith)
@@ -16,10 +17,25 @@ has_highest [] none is = ap not (is.1 refl)
 has_highest (h ∷ hs) true is = absurd (let none : h ∷ hs ≡ [] = is.0 refl in cc)
 has_highest (h ∷ hs) false is = sym (some_at (h ∷ hs) (length (h ∷ hs) - 1) (omega arith))
 
+-- what a test of two places tells
+pub at_place : (differs : Bool) (place top count : ℕ) → differs ≡ not (nat_eq place top) → top ≡ count → differs ≡ false → place ≡ count
+at_place differs place top count tells is same = grind (arith, nat_tests)
+
+pub not_at_place : (differs : Bool) (place top count : ℕ) → differs ≡ not (nat_eq place top) → top ≡ count → differs ≡ true → nat_eq place count ≡ false
+not_at_place differs place top count tells is other = grind (arith, nat_tests)
+
 module _ {X I R A T : Type 0} where
+  -- an entry whose highest head is another one stays
+  pub is_other : (stack : List (StackEntry X I R A T)) (done : StackEntry X I R A T) (change_entry : HeadUsages → ProvisionalCacheEntry X I R A T → Option (ProvisionalCacheEntry X I R A T)) (entry : ProvisionalCacheEntry X I R A T) (head : StackDepth × CycleHead)
+      → highest entry.heads ≡ Some head → nat_eq head.0.0 (length stack) ≡ false → left_of entry ≡ rebased stack done change_entry entry
+  is_other stack done change_entry entry head top other = rw (top, other) refl
+
   module _ (stack : List (StackEntry X I R A T)) (done : StackEntry X I R A T) (change_entry : HeadUsages → ProvisionalCacheEntry X I R A T → Option (ProvisionalCacheEntry X I R A T)) (entry : ProvisionalCacheEntry X I R A T) (head : StackDepth × CycleHead) (top : highest entry.heads ≡ Some head) (at : head.0.0 ≡ length stack) where
     pub is_unused : has_usages head.1.usages ≡ false → rebased stack done change_entry entry ≡ rebased_unused stack done entry
     is_unused none = rw (top, eq-eqb head.0.0 (length stack) at, none) refl
+
+    pub is_used : has_usages head.1.usages ≡ true → rebased stack done change_entry entry ≡ rebased_used stack done change_entry entry head.1
+    is_used some = rw (top, eq-eqb head.0.0 (length stack) at, some) refl
 
   -- the entries that are left of a list
   pub only_left : (entries : List (ProvisionalCacheEntry X I R A T)) → filter (λ entry. is_some (left_of entry)) entries ≡ filter_map left_of entries

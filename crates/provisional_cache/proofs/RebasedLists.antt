@@ -1,5 +1,5 @@
 -- Lists that are changed where they stand, of which some elements are given up, and a map of such lists.
-use Rattle.std.proofs.Common.{arith, ◌≡◌, ◌≢◌, ℕ, ◌+◌, ◌<◌, Bool, true, false, cond, IsTrue, List, [], ◌∷◌, ◌++◌, length, take, drop, get_or, slice_set, All, Option, Some, None, refl, sym, ap, ◌∙◌, subst, append_assoc}
+use Rattle.std.proofs.Common.{arith, ◌≡◌, ◌≢◌, ℕ, ◌+◌, ◌<◌, ◌==◌, Bool, true, false, cond, IsTrue, List, [], ◌∷◌, ◌++◌, length, take, drop, get_or, slice_set, All, Option, Some, None, refl, sym, ap, ◌∙◌, subst, append_assoc}
 use Rattle.std.proofs.lemmas.List.{drop_more, drop-set-lt, take_more_set}
 use Rattle.std.proofs.lemmas.List.Elements.{All-head, All-rest, All-tail, filter_map-append}
 use Rattle.std.proofs.lemmas.Map.{lookup-none}
@@ -9,8 +9,9 @@ use Rattle.std.specs.Cmp.{IsEquivalence}
 use Rattle.std.specs.Global.{Vec}
 use Rattle.std.specs.List.{cons_option, filter_map, FoldsTo, IsDistinct}
 use Rattle.std.specs.Map.{lookup, keys_of}
-use Rattle.std.specs.Map.Calls.{RetainsPairs}
+use Rattle.std.specs.Map.Calls.{CallableOnEachPair, RetainsPairs, SomeCallAtPair}
 use Rattle.std.specs.Option.{option_map, unwrap_or, IfSome}
+use Rattle.std.specs.Vec.{vec_len}
 use Rattle.provisional_cache.specs.Words.{entries_at, IsLeft, lists_of}
 use Rattle.provisional_cache.proofs.ProvisionalLists.{list_found}
 
@@ -40,6 +41,14 @@ module _ {X Y : Type 0} (left becomes : X → Option Y) (xs : List X) (i : ℕ) 
   pub others_can : (P : X → Type 0) → All P (drop i xs) → All P (drop (i + 1) (slice_set xs i y))
   others_can P all = subst (All P) (sym rest_same) (All-rest P (get_or xs i d) (drop (i + 1) xs) (drop i xs) (drop_more xs i d within) all)
 
+-- a list of which this was asked, and wasn't so, has an element
+pub has_element : {E : Type 0} (list : Vec E) → false ≡ (vec_len list == 0) → list.items ≢ []
+has_element list is none =
+    let ok = list.ok in
+    let none_left : vec_len list ≡ 0 = omega (arith, ap length none) in
+    let empty : (vec_len list == 0) ≡ true = ap (λ n. n == 0) none_left in
+    cc
+
 -- each list that is left has an element
 pub left_have : {I E : Type 0} (test : I → Bool) (kept : List (I × Vec E)) → All (λ e. e.1.items ≢ []) kept → IfSome (lookup test (lists_of kept)) (λ list. list ≢ [])
 left_have test [] all = tt
@@ -49,14 +58,21 @@ left_have {I} {E} test (e ∷ es) all =
     elim (test e.0) as Q [ true ↦ All-head P e es all | false ↦ left_have test es (All-tail P e es all) ]
 
 -- where no call changes the closure, it stays the same
-pub same_closure : {F A : Type 0} (R : F → A → F → Type 0) (f : F) → ((x : A) (g : F) → R f x g → g ≡ f) → (xs : List A) (g : F) → FoldsTo R f xs g → g ≡ f
+same_closure : {F A : Type 0} (R : F → A → F → Type 0) (f : F) → ((x : A) (g : F) → R f x g → g ≡ f) → (xs : List A) (g : F) → FoldsTo R f xs g → g ≡ f
 same_closure R f keeps [] g ran = sym ran
 same_closure R f keeps (x ∷ xs) g (j, call, later) = same_closure R f keeps xs g (subst (λ h. FoldsTo R h xs g) (keeps x j call) later)
 
 -- what holds of each entry of a map holds of one that stands in it
-pub at_entry : {A : Type 0} (P : A → Type 0) (before after : List A) (x : A) (all : List A) → all ≡ before ++ x ∷ after → All P all → P x
+at_entry : {A : Type 0} (P : A → Type 0) (before after : List A) (x : A) (all : List A) → all ≡ before ++ x ∷ after → All P all → P x
 at_entry P [] after x all is holds = All-head P x after (subst (All P) is holds)
 at_entry P (b ∷ before) after x all is holds = at_entry P before after x (before ++ x ∷ after) refl (All-tail P b (before ++ x ∷ after) (subst (All P) is holds))
+
+-- so where no call changes the closure, it may be called on each in turn if it may be called on each
+pub callable_on_each : {F I V : Type 0} (T : F → I → V → Bool → V → F → Type 0) (may : F → I → V → Type 0) (f : F) (entries : List (I × V))
+    → ((x : I × V) (g : F) → SomeCallAtPair T f x g → g ≡ f) → All (λ e. may f e.0 e.1) entries → CallableOnEachPair T may f entries
+callable_on_each T may f entries keeps all = record {
+  at = λ before after g k v is ran. subst (λ h. may h k v) (sym (same_closure (SomeCallAtPair T) f keeps before g ran)) (at_entry (λ e. may f e.0 e.1) before after (k, v) entries is all);
+}
 
 module _ {I E F : Type 0} (T : F → I → Vec E → Bool → Vec E → F → Type 0) (becomes : I → E → Option E) (f : F) (calls : (k : I) (v : Vec E) (b : Bool) (w : Vec E) (f' : F) → T f k v b w f' → IsLeft b w.items (filter_map (becomes k) v.items) × (f' ≡ f)) where
   module _ {same : I → I → Bool} (laws : IsEquivalence same) (by_value : (x y : I) → IsTrue (same x y) → x ≡ y) where

@@ -39,7 +39,7 @@ pub(super) fn change_lists<I: Eq + Hash + Copy, E: Drop, R: ListRule<I, E>>(
 {
     lists.retain(
         |input, items|
-            requires { R.accepts rule.now items.old.items }
+            requires there { R.accepts rule.now items.old.items }
         { rule.change_list(*input, items) },
     );
     if has_empty_list(lists) {

@@ -289,7 +289,7 @@ fn lead_from_new_head<X: Cx>(
     done: &StackEntry<X>,
     stack: &Stack<X>,
 )
-    requires { IfSome (highest entry.old.heads) (λ head. head.0.0 < length stack.now) }
+    requires there { IfSome (highest entry.old.heads) (λ head. head.0.0 < length stack.now) }
     ensures { left_of entry.new ≡ from_new_head stack.now done.now entry.old }
 {
     let Some(head) = entry.heads.opt_highest_cycle_head_index() else {

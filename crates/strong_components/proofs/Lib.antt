@@ -12,3 +12,4 @@ pub mod Closing
 pub mod ClosingPlaces
 pub mod Idle
 pub mod Numbers
+pub mod Starting

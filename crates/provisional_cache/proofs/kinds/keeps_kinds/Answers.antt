@@ -1,12 +1,8 @@
-use Rattle.std.proofs.Common.{◌≡◌, ◌+◌, ◌<◌, ◌∙◌, All, drop, get_or, length, sym, ap, subst, arith}
+use Rattle.std.proofs.Common.{◌≡◌, ◌+◌, ◌∙◌, drop, get_or, sym, ap, arith}
 use Rattle.std.proofs.Math.ListN.{drop_of_length-le}
 use Rattle.cycle_heads.proofs.HeadLists.{next_entry, no_head}
 use Rattle.provisional_cache.proofs.CycleKinds.{keep_from, keeps_from_head, first_fails, first_passes}
 use Rattle.provisional_cache.proofs.kinds.keeps_kinds.Goals as goal
-
-pub path_kind-from_head-requires : goal.path_kind-from_head-requires
-path_kind-from_head-requires g c =
-    subst (All (λ head. head.0.0 < length c.args.stack.now)) (sym c.as_slice-depth-items.ensures.heads) c.requires c.loop-depth.depth-index no_head c.loop-depth-test.true
 
 pub returns-then-not-keeps_kinds_from : goal.returns-then-not-keeps_kinds_from
 returns-then-not-keeps_kinds_from g c =

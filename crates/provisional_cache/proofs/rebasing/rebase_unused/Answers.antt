@@ -8,4 +8,4 @@ lead_from_new_head-requires g c =
     let own = c.remove_highest_cycle_head.new.self in
     let taken = c.remove_highest_cycle_head.ensures in
     let below = below_highest c.args.entry.now.heads own c.remove_highest_cycle_head.result n taken.last taken.below c.requires.can.within in
-    rw c.in_ok-insert_unused.ensures (highest_within n _ (all_with_unused n c.args.done.now.state.heads own c.requires.on_stack below))
+    record { there = rw c.in_ok-insert_unused.ensures (highest_within n _ (all_with_unused n c.args.done.now.state.heads own c.requires.on_stack below)) }
