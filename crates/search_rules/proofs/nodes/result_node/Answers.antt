@@ -1,6 +1,6 @@
 use Rattle.search_rules.specs.Below.{verdicts}
 use Rattle.search_rules.proofs.justified.Finishing.{again, definite_result, left_open}
-use Rattle.search_rules.proofs.records.LeanRuns.{came_to, ends_by, node_by, placed_by}
+use Rattle.search_rules.proofs.records.LeanRuns.{ends_by, node_by, placed_by}
 use Rattle.search_rules.proofs.records.Verdicts.{fails_at}
 use Rattle.search_rules.proofs.nodes.result_node.Goals as goal
 
@@ -10,11 +10,6 @@ returns-in-Neither-clause-has_node g c = left_open (verdicts g.D.Cx.Cx) c.args.c
 pub returns-then-says_again-clause-has_node : goal.returns-then-says_again-clause-has_node
 returns-then-says_again-clause-has_node g c =
     again (verdicts g.D.Cx.Cx) c.args.cache.now.nodes c.args.state.now.provisional_result c.args.own_node c.args.state.now.node c.args.progress.now c.args.outcome c.sort-verdict.result c.sort-verdict.ensures.yes c.sort-verdict.ensures.no c.in_default.not-Neither (c.says_again.ensures.0 c.if-says_again.true)
-
-pub record_for_node-by-requires : goal.record_for_node-by-requires
-record_for_node-by-requires g c =
-    came_to (verdicts g.D.Cx.Cx) (g.D.Delegate.script c.args.cache.now.cx) c.args.cache.now.nodes c.args.own_node c.args.input c.requires.of_goal c.args.progress.now c.args.outcome
-    (c.requires.ends (definite_result (verdicts g.D.Cx.Cx) c.args.cache.now.nodes c.args.state.now.provisional_result c.args.own_node c.args.state.now.node c.args.progress.now c.args.outcome c.sort-verdict.result c.sort-verdict.ensures.yes c.sort-verdict.ensures.no c.in_default.not-Neither))
 
 pub finish_by-requires-clause-ends : goal.finish_by-requires-clause-ends
 finish_by-requires-clause-ends g c = ends_by (verdicts g.D.Cx.Cx) (g.D.Delegate.script c.args.cache.now.cx) c.args.cache.now.nodes c.args.own_node c.args.input c.requires.of_goal c.args.progress.now c.args.outcome c.sort-verdict.result c.record_for_node-by.result.now c.record_for_node-by.ensures

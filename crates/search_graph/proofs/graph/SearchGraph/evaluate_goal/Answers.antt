@@ -9,16 +9,7 @@ use Rattle.search_rules.proofs.answers.Shown.{yes_is_proved, no_is_refuted, neit
 use Rattle.search_rules.proofs.moves.Questions.{if_err_and, same_err}
 use Rattle.search_graph.proofs.graph.SearchGraph.evaluate_goal.Goals as goal
 use Rattle.search_graph.specs.Below.{Decides, IsCaused, IsMemoryOrOrder, verdicts}
-use Rattle.search_moves.specs.Drafts.{HasNoDrafts}
 use Rattle.search_rules.proofs.records.EarlierNodes.{nodes_of_earlier}
-
-pub evaluate-outcome-requires : goal.evaluate-outcome-requires
-evaluate-outcome-requires g c = record {
-  outset = record {
-    new = rw c.begin.ensures.begins (record { no_goals = refl; no_entries = refl; fits = c.begin.ensures.fits });
-    no_drafts = subst (λ e. HasNoDrafts c.args.cache.now.nodes e.drafts) (sym c.begin.ensures.begins) c.begin.ensures.drafts;
-  };
-}
 
 -- ---- an answer
 

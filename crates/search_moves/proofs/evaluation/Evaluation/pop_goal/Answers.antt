@@ -1,4 +1,4 @@
-use Rattle.std.proofs.Common.{List, Some, [], ◌∷◌, length, map, reverse, All, ◌≡◌, ◌+◌, ◌<◌, ◌≤◌, ◌^◌, refl, sym, ap, subst, ◌∙◌, arith}
+use Rattle.std.proofs.Common.{List, Some, [], ◌∷◌, length, map, reverse, All, ◌≡◌, ◌<◌, ◌≤◌, refl, sym, ap, subst, ◌∙◌}
 use Rattle.std.specs.Option.{IfSome}
 use Rattle.search_moves.specs.Below.{ChangesNewest, fates_of, HaveExpected, IfCompared, IsExpected, IsPlainValue, highest, StackEntry, ProvisionalCacheEntry, entries_at, EvaluationResult, HasGraph, place_of, KeepsResults, IsPlainAt, KeepsFinished, IsPlainTo, verdicts, AreJustified, HaveTallies, AreReady, HasReason, IsNewestUnranked, RebasesNewest, final_answer, AreFree, ComesTo, IsNewestPlainTo, IsNewestStored, IsStored, NewestComesTo, NewestIsPlain, StoresAnswer, StoresNewest, GivesAnswer, GivesNested, LeavesNested, runs_of, IsJustifiedNext, HasNewestNode, HasResultNode, KeepsBut, node_given}
 use Rattle.search_moves.specs.Words.{Fails, Pops}
@@ -13,7 +13,7 @@ use Rattle.search_rules.proofs.rebasing.Lists.{entries_rebased, highest_stays}
 use Rattle.search_rules.proofs.moves.DoneGoals.{given_free, given_justified, given_leaves, gives_node, newest_stored}
 use Rattle.search_rules.proofs.justified.Finishing.{neither_is, rebases}
 use Rattle.search_rules.proofs.moves.Questions.{if_err_and}
-use Rattle.search_rules.proofs.moves.FinishedRuns.{headless_graph, required_fits, taken_run_ends, taken_run_open, taken_run_placed}
+use Rattle.search_rules.proofs.moves.FinishedRuns.{headless_graph, taken_run_ends, taken_run_open, taken_run_placed}
 use Rattle.open_goals.specs.declared.goals.Fate.TheVariants as becomes
 use Rattle.search_rules.proofs.moves.Fates.{newest_changes}
 use Rattle.search_rules.specs.Fates.{Untouched}
@@ -31,13 +31,6 @@ result_node-requires-clause-ends g c = λ definite.
 pub result_node-requires-clause-placed : goal.result_node-requires-clause-placed
 result_node-requires-clause-placed g c = λ definite.
     taken_run_placed (verdicts g.D.Cx.Cx) c.args.cache.now.nodes c.args.cache.now.nodes c.args.self.now.goals c.pop-entry.result.entry c.pop-entry.result.run c.pop-entry.new.self c.pop-entry.ensures c.requires.may.right.justified
-
-pub give_answer-requires : goal.give_answer-requires
-give_answer-requires g c = record {
-  fits = λ some.
-      subst (λ (a : EvaluationResult _ _ _ _ _). a.required_depth + 1 < 2 ^ 64) (sym c.finalize-answer.ensures)
-      (required_fits (verdicts g.D.Cx.Cx) c.args.cache.now.nodes c.result_node.new.cache.nodes c.args.self.now.goals c.pop-entry.result.entry c.pop-entry.result.run c.pop-entry.new.self c.pop-entry.ensures c.requires.may.leaves (λ none. omega (arith, some, none)));
-}
 
 -- ---- the heads of the entry and of the entries are on the stack
 

@@ -1,12 +1,6 @@
-use Rattle.std.proofs.Common.{rules, ◌≡◌, ◌∷◌, ◌∙◌, false, sym, ap, subst}
+use Rattle.std.proofs.Common.{rules, ◌∷◌, ◌∙◌, ap}
 use Rattle.search_moves.specs.Below.{fates_of}
-use Rattle.std.specs.List.{list_any}
 use Rattle.search_moves.proofs.evaluation.Evaluation.push_goal.Goals as goal
-
-pub push-requires : goal.push-requires
-push-requires g c = record {
-  absent = subst (λ e. list_any (λ s. g.D.Cx.Input.PartialEq.eq e.input s.0.input) c.args.self.now.goals ≡ false) (sym c.new-entry.ensures) c.requires;
-}
 
 pub returns-clause-pushed : goal.returns-clause-pushed
 returns-clause-pushed g c = record {
