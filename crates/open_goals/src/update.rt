@@ -19,7 +19,7 @@ pub fn note_depth<X: Cx>(
     required_depth: usize,
     encountered_overflow: bool,
 )
-    requires { required_depth + 1 < 2 ^ 64 }
+    requires fits { required_depth + 1 < 2 ^ 64 }
     ensures { state.new ≡ with_depth state.old required_depth encountered_overflow }
 {
     state.required_depth = state.required_depth.max(required_depth + 1);
