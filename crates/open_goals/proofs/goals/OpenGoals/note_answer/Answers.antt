@@ -8,13 +8,13 @@ pub overflow_sub-len : goal.overflow_sub-len
 overflow_sub-len g c = omega (arith, c.len.ensures, some_entries c.self.inside.stack c.self.inside.runs.items _ c.self.invariant c.self.view_is c.requires.some)
 
 pub last-requires : goal.last-requires
-last-requires g c = some_entries c.self.inside.stack c.self.inside.runs.items _ c.self.invariant c.self.view_is c.requires.some
+last-requires g c = record { some = some_entries c.self.inside.stack c.self.inside.runs.items _ c.self.invariant c.self.view_is c.requires.some }
 
 pub last_mut-state-requires : goal.last_mut-state-requires
-last_mut-state-requires g c = some_entries c.self.inside.stack c.self.inside.runs.items _ c.self.invariant c.self.view_is c.requires.some
+last_mut-state-requires g c = record { some = some_entries c.self.inside.stack c.self.inside.runs.items _ c.self.invariant c.self.view_is c.requires.some }
 
 pub note_depth-requires : goal.note_depth-requires
-note_depth-requires g c = c.requires.fits
+note_depth-requires g c = record { fits = c.requires.fits }
 
 pub invariant_of-self : goal.invariant_of-self
 invariant_of-self g c = length-change_last _ _ ∙ c.self.invariant
