@@ -1,4 +1,4 @@
-use Rattle.std.proofs.Common.{◌-◌, ◌∙◌, [], sym, arith, length-set}
+use Rattle.std.proofs.Common.{◌-◌, ◌∙◌, sym, arith, length-set}
 use Rattle.open_goals.proofs.Changes.{some_runs}
 use Rattle.open_goals.proofs.CandidateMoves.{some_goal, is_finished, taken_counts, taken_ignored}
 use Rattle.open_goals.proofs.goals.OpenGoals.ignore_candidate.Goals as goal
