@@ -18,6 +18,11 @@ pub some_counted : {X F I R A T : Type 0} (candidate : UsagesByHead) (view : Lis
 some_counted candidate [] can = absurd can
 some_counted candidate (s ∷ below) can = omega arith
 
+-- and so where one of its candidates can be ignored
+pub some_goal : {X F I R A T : Type 0} (number : ℕ) (view : List (OpenGoal X F I R A T)) → CanIgnoreNewest number view → 0 < length view
+some_goal number [] can = absurd can
+some_goal number (s ∷ below) can = omega arith
+
 module _ {X F I R A T : Type 0} (es : List (StackEntry X I R A T)) (fs : List (Run X F I R A T)) (view : List (OpenGoal X F I R A T)) (same : length es ≡ length fs) (is : paired [] es fs ≡ view) where
   module _ (some : 0 < length view) (w x : EntryState X I R A T) (w_is : (d : StackEntry X I R A T) → w ≡ (get_or es (length es - 1) d).state) where
     -- a candidate of the newest goal is open
@@ -52,10 +57,6 @@ module _ {X F I R A T : Type 0} (es : List (StackEntry X I R A T)) (fs : List (R
             is = n.is;
             ignores = subst (λ p. Ignores p candidate n.entry.state x) place (subst (λ (s : EntryState X I R A T). Ignores parent candidate s x) (sym n.state_is) ignores);
           }
-
-  some_goal : (number : ℕ) (v : List (OpenGoal X F I R A T)) → CanIgnoreNewest number v → 0 < length v
-  some_goal number [] can = absurd can
-  some_goal number (s ∷ below) can = omega arith
 
   module _ (number n : ℕ) (run : Run X F I R A T) (at : n ≡ length fs - 1) (run_is : run ≡ get_or fs n run) (can : CanIgnoreNewest number view) where
     top : LastPair [] es fs n run

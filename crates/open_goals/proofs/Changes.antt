@@ -7,7 +7,10 @@ use Rattle.open_goals.proofs.Pairs.{last_pair, LastPair, length_of_view}
 use Rattle.open_goals.specs.OpenGoal.{OpenGoal}
 
 module _ {E F : Type 0} (es : List E) (fs : List F) (view : List (E × F)) (same : length es ≡ length fs) (is : paired [] es fs ≡ view) (some : 0 < length view) where
-  some_runs : 0 < length fs
+  pub some_entries : 0 < length es
+  some_entries = omega (arith, (length_of_view es fs view same is).0, some)
+
+  pub some_runs : 0 < length fs
   some_runs = omega (arith, (length_of_view es fs view same is).1, some)
 
   last : LastPair [] es fs (length fs - 1) (some_element fs some_runs)

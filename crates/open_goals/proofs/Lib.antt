@@ -7,3 +7,4 @@ pub mod CandidateMoves
 pub mod OldestFirst
 pub mod Steps
 pub mod Nodes
+pub mod Edges

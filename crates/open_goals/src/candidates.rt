@@ -43,7 +43,7 @@ impl FinishedCandidates {
 
     /// Takes what the candidate of this number used, so that nothing is recorded of it any more.
     pub fn take(&mut self, number: usize) -> CandidateHeadUsages
-        requires { number < length self.old }
+        requires there { number < length self.old }
         ensures taken { slice_get self.old number ≡ Some result }
         ensures left { self.new ≡ slice_set self.old number [] }
     {

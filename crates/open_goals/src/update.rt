@@ -19,7 +19,7 @@ pub fn note_depth<X: Cx>(
     required_depth: usize,
     encountered_overflow: bool,
 )
-    requires { required_depth + 1 < 2 ^ 64 }
+    requires fits { required_depth + 1 < 2 ^ 64 }
     ensures { state.new ≡ with_depth state.old required_depth encountered_overflow }
 {
     state.required_depth = state.required_depth.max(required_depth + 1);
@@ -129,7 +129,7 @@ pub fn ignore_usages<X: Cx>(
     parent: StackDepth,
     candidate: &CandidateHeadUsages,
 )
-    requires { CanIgnore parent candidate.now state.old }
+    requires can { CanIgnore parent candidate.now state.old }
     ensures { Ignores parent candidate.now state.old state.new }
 {
     for (head, usages) in candidate.as_slice() {
@@ -144,7 +144,7 @@ fn ignore_head<X: Cx>(
     head: StackDepth,
     usages: HeadUsages,
 )
-    requires { IsSomeAnd (usages_at parent state.old head) (λ counts. Covers counts usages) }
+    requires counted { IsSomeAnd (usages_at parent state.old head) (λ counts. Covers counts usages) }
     ensures { state.new ≡ without_head parent head usages state.old }
 {
     if head == parent {

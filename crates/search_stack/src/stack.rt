@@ -175,7 +175,7 @@ impl<X: Cx> Stack<X> {
 
     /// The last entry.
     pub fn last(&self) -> &StackEntry<X>
-        requires { 0 < length self.now }
+        requires some { 0 < length self.now }
         ensures { result.now ≡ slice_index_or self.now (length self.now - 1) result.now }
     {
         &self.entries[self.entries.len() - 1]
@@ -183,7 +183,7 @@ impl<X: Cx> Stack<X> {
 
     /// Appends an entry whose input isn't on the stack. A refusal leaves the stack as it was.
     pub fn push(&mut self, entry: StackEntry<X>) -> Result<StackDepth, NoMemory>
-        requires { position_of X.Input.eq entry.input self.old ≡ None }
+        requires absent { position_of X.Input.eq entry.input self.old ≡ None }
         ensures ok { IfOk result (λ d. (d.0 ≡ length self.old)
             × (self.new ≡ self.old ++ entry ∷ [])) }
         ensures err { OnErr result (self.new ≡ self.old) }
@@ -203,7 +203,7 @@ impl<X: Cx> Stack<X> {
 
     /// Pops the last entry. It takes no memory, and a large stack that empties gives some back.
     pub fn pop(&mut self) -> StackEntry<X>
-        requires { 0 < length self.old }
+        requires some { 0 < length self.old }
         ensures { self.old ≡ self.new ++ result ∷ [] }
     {
         self.give_room_back();
@@ -241,7 +241,7 @@ impl<X: Cx> Stack<X> {
 
     /// What may change of the last entry. Its input is not lent, so that it is found as before.
     pub fn last_mut(&mut self) -> &mut EntryState<X>
-        requires { 0 < length self.old }
+        requires some { 0 < length self.old }
         ensures* writes_back { sem 𝓛 (LendsLastState
             X.row X.Input.row X.Result.row X.AmbiguityInfo.row X.DepNodeIndex.row X.Cx
             X.Input.PartialEq X.Input.Hash.own X.Result.PartialEq
@@ -255,7 +255,7 @@ impl<X: Cx> Stack<X> {
 
     /// The place of the last entry, and what may change of it. Ports `Stack::last_mut_with_index`.
     pub fn last_mut_with_index(&mut self) -> (StackDepth, &mut EntryState<X>)
-        requires { 0 < length self.old }
+        requires some { 0 < length self.old }
         ensures* writes_back { sem 𝓛 (LendsLastState
             X.row X.Input.row X.Result.row X.AmbiguityInfo.row X.DepNodeIndex.row X.Cx
             X.Input.PartialEq X.Input.Hash.own X.Result.PartialEq

@@ -60,7 +60,7 @@ impl<X: Cx, F: Drop, S: Drop> OpenGoals<X, F, S> {
         candidate: CandidateHeadUsages,
         spare: &mut SpareMemory<X::Input, X::Result>,
     ) -> Result<(), NoMemory>
-        requires { 0 < length self.old }
+        requires some { 0 < length self.old }
         ensures { OnOk result (self.new ≡ change_newest (records_candidate candidate) self.old) }
     {
         let last = self.runs.len() - 1;
@@ -72,7 +72,7 @@ impl<X: Cx, F: Drop, S: Drop> OpenGoals<X, F, S> {
 
     /// Takes away what the newest goal's finished candidate of this number used.
     fn ignore_candidate(&mut self, number: usize)
-        requires { CanIgnoreNewest number self.old }
+        requires can { CanIgnoreNewest number self.old }
         ensures { IgnoresNewest number self.old self.new }
     {
         let last = self.runs.len() - 1;
@@ -82,7 +82,7 @@ impl<X: Cx, F: Drop, S: Drop> OpenGoals<X, F, S> {
 
     /// Takes away what a candidate of the newest goal used.
     pub fn ignore_usages(&mut self, candidate: &CandidateHeadUsages)
-        requires { CanIgnoreUsages candidate.now self.old }
+        requires can { CanIgnoreUsages candidate.now self.old }
         ensures { IgnoresUsages candidate.now self.old self.new }
     {
         let parent = StackDepth::new(self.stack.len() - 1);

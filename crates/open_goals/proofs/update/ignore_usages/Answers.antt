@@ -6,17 +6,19 @@ use Rattle.open_goals.proofs.IgnoredHeads.{left_at, head_ignored, usages_ignored
 use Rattle.open_goals.proofs.update.ignore_usages.Goals as goal
 
 pub ignore_head-requires : goal.ignore_head-requires
-ignore_head-requires g c =
-    let items = c.as_slice-head-items.result.now in
-    let index = c.loop-head.head-index in
-    let head = (get_or items index no_counts).0 in
-    let usages = (get_or items index no_counts).1 in
-    let rest = drop (index + 1) items in
-    let more = next_entry items index no_counts c.loop-head-test.true in
-    let i = c.loop-head.invariant in
-    let all = subst IsRising (sym c.as_slice-head-items.ensures.usages) c.as_slice-head-items.ensures.rising in
-    let once = absent_later head usages rest (subst IsRising more (rising_from items index all)) in
-    first_counts c.args.parent head usages rest once c.loop-head.state (subst (λ l. CanIgnore c.args.parent l c.loop-head.state) more i.4)
+ignore_head-requires g c = record {
+  counted =
+      let items = c.as_slice-head-items.result.now in
+      let index = c.loop-head.head-index in
+      let head = (get_or items index no_counts).0 in
+      let usages = (get_or items index no_counts).1 in
+      let rest = drop (index + 1) items in
+      let more = next_entry items index no_counts c.loop-head-test.true in
+      let i = c.loop-head.invariant in
+      let all = subst IsRising (sym c.as_slice-head-items.ensures.usages) c.as_slice-head-items.ensures.rising in
+      let once = absent_later head usages rest (subst IsRising more (rising_from items index all)) in
+      first_counts c.args.parent head usages rest once c.loop-head.state (subst (λ l. CanIgnore c.args.parent l c.loop-head.state) more i.4);
+}
 
 pub loop-head-preserved : goal.loop-head-preserved
 loop-head-preserved g c =

@@ -1,7 +1,10 @@
 use Rattle.std.proofs.Common.{◌∙◌, [], Some, ap}
 use Rattle.search_stack.proofs.LastState.{length-change_last}
-use Rattle.open_goals.proofs.Changes.{state_changed}
+use Rattle.open_goals.proofs.Changes.{some_entries, state_changed}
 use Rattle.open_goals.proofs.goals.OpenGoals.enter_candidate.Goals as goal
+
+pub last_mut-requires : goal.last_mut-requires
+last_mut-requires g c = record { some = some_entries c.self.inside.stack c.self.inside.runs.items _ c.self.invariant c.self.view_is c.requires.some }
 
 pub invariant_of-self : goal.invariant_of-self
 invariant_of-self g c = length-change_last _ _ ∙ c.self.invariant

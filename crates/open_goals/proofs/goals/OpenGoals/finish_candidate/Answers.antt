@@ -1,8 +1,11 @@
 use Rattle.std.proofs.Common.{◌∙◌, None, IsSome, sym, ap, subst}
 use Rattle.search_stack.proofs.LastState.{length-change_last}
-use Rattle.open_goals.proofs.Changes.{state_changed}
+use Rattle.open_goals.proofs.Changes.{some_entries, state_changed}
 use Rattle.open_goals.proofs.CandidateMoves.{open_candidate, candidate_used}
 use Rattle.open_goals.proofs.goals.OpenGoals.finish_candidate.Goals as goal
+
+pub last_mut-requires : goal.last_mut-requires
+last_mut-requires g c = record { some = some_entries c.self.inside.stack c.self.inside.runs.items _ c.self.invariant c.self.view_is c.requires.some }
 
 pub unwrap-requires : goal.unwrap-requires
 unwrap-requires g c =

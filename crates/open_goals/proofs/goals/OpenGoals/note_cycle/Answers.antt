@@ -1,11 +1,20 @@
-use Rattle.std.proofs.Common.{◌-◌, ◌∙◌, ◌∷◌, [], false, OnOk, refl, ap, subst}
+use Rattle.std.proofs.Common.{◌-◌, ◌∙◌, ◌∷◌, [], false, OnOk, refl, ap, subst, arith}
 use Rattle.search_stack.proofs.LastState.{length-change_last}
 use Rattle.open_goals.specs.Below.{change_last, JoinsPaths}
 use Rattle.open_goals.specs.Words.{paired, AnswersNewest}
-use Rattle.open_goals.proofs.Changes.{newest_answered}
+use Rattle.open_goals.proofs.Changes.{some_entries, newest_answered}
 use Rattle.open_goals.proofs.NestedGoals.{head_joined, nested_answered}
 use Rattle.open_goals.proofs.TakenHeads.{one_taken}
 use Rattle.open_goals.proofs.goals.OpenGoals.note_cycle.Goals as goal
+
+pub overflow_sub-len : goal.overflow_sub-len
+overflow_sub-len g c = omega (arith, c.len.ensures, some_entries c.self.inside.stack c.self.inside.runs.items _ c.self.invariant c.self.view_is c.requires)
+
+pub last-requires : goal.last-requires
+last-requires g c = record { some = some_entries c.self.inside.stack c.self.inside.runs.items _ c.self.invariant c.self.view_is c.requires }
+
+pub last_mut-state-requires : goal.last_mut-state-requires
+last_mut-state-requires g c = record { some = some_entries c.self.inside.stack c.self.inside.runs.items _ c.self.invariant c.self.view_is c.requires }
 
 pub invariant_of-self : goal.invariant_of-self
 invariant_of-self g c = length-change_last _ _ ∙ c.self.invariant

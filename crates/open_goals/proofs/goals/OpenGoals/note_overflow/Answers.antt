@@ -1,8 +1,15 @@
 use Rattle.std.proofs.Common.{◌∙◌, OnOk, refl, subst}
 use Rattle.open_goals.specs.Below.{JoinsPaths, path_of_no_step}
 use Rattle.search_stack.proofs.LastState.{length-change_last}
+use Rattle.open_goals.proofs.Changes.{some_entries}
 use Rattle.open_goals.proofs.NestedGoals.{overflow_noted}
 use Rattle.open_goals.proofs.goals.OpenGoals.note_overflow.Goals as goal
+
+pub last-requires : goal.last-requires
+last-requires g c = record { some = some_entries c.self.inside.stack c.self.inside.runs.items _ c.self.invariant c.self.view_is c.requires }
+
+pub last_mut-state-requires : goal.last_mut-state-requires
+last_mut-state-requires g c = record { some = some_entries c.self.inside.stack c.self.inside.runs.items _ c.self.invariant c.self.view_is c.requires }
 
 pub invariant_of-self : goal.invariant_of-self
 invariant_of-self g c = length-change_last _ _ ∙ c.self.invariant

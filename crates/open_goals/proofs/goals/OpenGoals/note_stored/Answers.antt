@@ -2,8 +2,18 @@ use Rattle.std.proofs.Common.{◌∙◌, OnOk, subst}
 use Rattle.search_stack.proofs.LastState.{length-change_last}
 use Rattle.open_goals.specs.Below.{hit_of}
 use Rattle.open_goals.specs.Words.{TakesNestedGoals}
+use Rattle.open_goals.proofs.Changes.{some_entries}
 use Rattle.open_goals.proofs.NestedGoals.{stored_taken}
 use Rattle.open_goals.proofs.goals.OpenGoals.note_stored.Goals as goal
+
+pub last-requires : goal.last-requires
+last-requires g c = record { some = some_entries c.self.inside.stack c.self.inside.runs.items _ c.self.invariant c.self.view_is c.requires.some }
+
+pub last_mut-state-requires : goal.last_mut-state-requires
+last_mut-state-requires g c = record { some = some_entries c.self.inside.stack c.self.inside.runs.items _ c.self.invariant c.self.view_is c.requires.some }
+
+pub note_depth-requires : goal.note_depth-requires
+note_depth-requires g c = record { fits = c.requires.fits }
 
 pub invariant_of-self : goal.invariant_of-self
 invariant_of-self g c = length-change_last _ _ ∙ c.self.invariant

@@ -18,7 +18,7 @@ invariant_of-self-2 g c =
     let last : AreLastSteps c.push_reserved-2.new.self.items (map (λ e. e.step_kind_from_parent) c.push_reserved.new.self.items) =
     rw (more, c.push_reserved-2.ensures.items, c.in_ok-reserve-2.ensures.items) (AreLastSteps-push c.self.inside.steps.items kinds c.with_step-steps.result kind after c.self.invariant.1) in (
       IsIndex-push g.X.Input.PartialEq.eq g.met.X.Input.Eq.laws g.met.X.Cx.same_input _ _ (map (λ e. e.input) c.self.inside.entries.items) _ c.args.entry.input c.len-depth.result
-          c.self.invariant.0 (rw c.self.view_is c.requires) (grind (arith, common_steps)) (grind (arith, common_steps, map-append)) (λ q. c.in_ok-insert.ensures.updates.0 q),
+          c.self.invariant.0 (rw c.self.view_is c.requires.absent) (grind (arith, common_steps)) (grind (arith, common_steps, map-append)) (λ q. c.in_ok-insert.ensures.updates.0 q),
       last,
     )
 
