@@ -8,7 +8,7 @@ use search_parts::context::{NoMemory, Reply, Request};
 use search_parts::path::PathKind;
 
 /// A number as a goal.
-#[derive(Clone, Copy, PartialEq, Eq, Hash)]
+#[derive(Clone, Copy, Debug, PartialEq, Eq, Hash)]
 pub struct Count(pub u32);
 
 /// What two answers come to: yes if both are yes, no if one is no, and else maybe.

@@ -7,7 +7,7 @@ use search_parts::context::{NoMemory, Reply, Request};
 use search_parts::path::PathKind;
 
 /// A goal: the place of its script.
-#[derive(Clone, Copy, PartialEq, Eq, Hash)]
+#[derive(Clone, Copy, Debug, PartialEq, Eq, Hash)]
 pub struct Goal(pub usize);
 
 /// A line of a script: what its goal requests there.
