@@ -1,5 +1,5 @@
 -- What a recorder has recorded, and what each call adds.
-use Rattle.std.specs.Prelude.{◌≡◌, Bool, true, false, if◌then◌else◌, List, [], ◌∷◌, ◌++◌, Option, None, Some}
+use Rattle.std.specs.Prelude.{◌≡◌, Bool, if◌then◌else◌, List, [], ◌∷◌, ◌++◌, Option, None, Some}
 use Rattle.proof_trees.specs.declared.entry.Entry.{Entry}
 use Rattle.proof_trees.specs.declared.recorder.Recorder.{Recorder}
 use Rattle.proof_trees.specs.declared.run_record.Place.{Place}

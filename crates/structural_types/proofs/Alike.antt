@@ -1,5 +1,5 @@
 -- Numbers of one form are below the same types, and above the same. So are two numbers that are not declared.
-use Rattle.std.proofs.Common.{◌≡◌, ℕ, ◌≤◌, ◌<◌, ◌==◌, if◌then◌else◌, inl, inr, List, ◌++◌, map, length, min, slice_get, Contains, refl, sym, ap, ◌∙◌, subst, arith}
+use Rattle.std.proofs.Common.{◌≡◌, ℕ, ◌≤◌, ◌<◌, ◌==◌, ◌↔◌, if◌then◌else◌, inl, inr, Bool, true, Result, Ok, Err, IfOk, List, ◌++◌, map, length, min, slice_get, Contains, refl, sym, ap, ◌∙◌, subst, arith}
 use Rattle.std.proofs.lemmas.Bool.{cases_Bool, eqb-true, eq-eqb}
 use Rattle.std.proofs.lemmas.List.Elements.{Contains-append_left, Contains-append_right, Contains-append_cases}
 use Rattle.std.proofs.lemmas.Option.{slice_get_cases, slice_get_past}
@@ -102,3 +102,12 @@ none_beyond forms x = elim (slice_get_cases forms x).1 [
       let same : min x (length forms) ≡ length forms = min-eq_right past in
       w.1 ∙ sym (ap (slice_get forms) same ∙ slice_get_past forms (length forms) (omega arith))
 ]
+
+-- whether a type is below another is known of two numbers where it is of the least of each and the number of types
+pub known_of_all : {F : Type 0} (forms : List Form) (l r m n : ℕ) (result : Result Bool F) → m ≡ min l (length forms) → n ≡ min r (length forms)
+    → IfOk result (λ answer. (answer ≡ true) ↔ IsBelow forms m n) → IfOk result (λ answer. (answer ≡ true) ↔ IsBelow forms l r)
+known_of_all forms l r m n (Ok answer) left right known =
+    let at_left : slice_get forms l ≡ slice_get forms m = none_beyond forms l ∙ sym (ap (slice_get forms) left) in
+    let at_right : slice_get forms r ≡ slice_get forms n = none_beyond forms r ∙ sym (ap (slice_get forms) right) in
+    (λ is. below_alike forms m l n r (sym at_left) (sym at_right) (known.0 is), λ below. known.1 (below_alike forms l m r n at_left at_right below))
+known_of_all forms l r m n (Err fault) left right known = tt

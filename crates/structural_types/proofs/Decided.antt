@@ -1,5 +1,5 @@
 -- A proof graph of a pair gives a simulation, and a refutation graph leaves none.
-use Rattle.std.proofs.Common.{◌≡◌, true, ℕ, ◌⊎◌, inl, inr, List, map, slice_get, Contains, Option, None, Some, refl, sym, ap, ap₂, ◌∙◌, subst}
+use Rattle.std.proofs.Common.{◌≡◌, ℕ, ◌⊎◌, inl, inr, List, map, slice_get, Contains, Option, None, Some, refl, sym, ap, ap₂, ◌∙◌, subst}
 use Rattle.std.specs.Option.{IsSomeAnd}
 use Rattle.search_context.proofs.Graphs.{Contains-map, Contains-mapped, goal_node, HasEdge-from}
 use Rattle.structural_types.specs.Below.{Coinductive, Edge, GraphNode, HasEdge, HasGoal, IsProofGraph, IsRefutationGraph, question_of, Question, Needs, All, Any, Proves, Refutes}
@@ -7,7 +7,7 @@ use Rattle.search_context.specs.declared.context.NodeId.{NodeId}
 use Rattle.search_context.specs.Decisive.{IsDecidedKind, IsDecisive}
 use Rattle.search_context.specs.Verdicts.{IsDefinite}
 use Rattle.delegate_parts.specs.declared.outcome.Outcome.TheVariants.{Maybe, No, Overflow, Yes}
-use Rattle.structural_types.specs.Below.{HasOneOfEach, Outcome, is_no, is_yes, outcome_verdicts}
+use Rattle.structural_types.specs.Below.{HasOneOfEach, Outcome, outcome_verdicts}
 use Rattle.question_lists.proofs.Ranked.{decisive, scripts}
 use Rattle.structural_types.specs.Subtypes.{Form, IsBelow, IsSimulation, IsSupportedPair}
 use Rattle.structural_types.specs.Rule.{asks, needs_of, pair, pairs_of, questions_of}
@@ -105,7 +105,7 @@ module _ (forms : List Form) where
       let w = Contains-map asks (pairs_of forms goal) q h in subst (λ x. IsDecidedKind x.kind) w.2 tt)
 
 -- a definite outcome is yes or no
-pub yes_or_no : (r : Outcome) → IsDefinite outcome_verdicts r → (is_yes r ≡ true) ⊎ (is_no r ≡ true)
+pub yes_or_no : (r : Outcome) → IsDefinite outcome_verdicts r → (r ≡ Yes) ⊎ (r ≡ No)
 yes_or_no Yes h = inl refl
 yes_or_no No h = inr refl
 yes_or_no Maybe h = absurd (h refl)

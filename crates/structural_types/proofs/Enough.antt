@@ -1,15 +1,16 @@
 -- Two runs of each pair are enough.
-use Rattle.std.proofs.Common.{◌≡◌, ◌⊎◌, ℕ, ◌≤◌, Bool, true, false, List, length, inl, inr, refl, sym, subst}
+use Rattle.std.proofs.Common.{◌≡◌, ℕ, ◌≤◌, Bool, true, false, List, length, Some, Result, inl, inr, sym, ◌∙◌, subst}
 use Rattle.std.proofs.Math.Logic.{∥∥₁_elim}
-use Rattle.search_context.specs.declared.context.Fault.{Fault}
-use Rattle.search_context.specs.declared.context.Fault.TheVariants.{Conflict, Memory}
-use Rattle.search_graph.specs.Settled.{TwoRunsAreEnough}
-use Rattle.search_rules.specs.Claims.{BreaksOrder, IsMemoryOrOrder, WantsMemory}
-use Rattle.question_lists.proofs.Ranked.{scripts}
+use Rattle.std.proofs.lemmas.Bool.{true≢false}
+use Rattle.search_context.specs.Run.{fault_after, IsFitting, IsOrderly}
+use Rattle.search_context.specs.declared.context.Fault.TheVariants.{Conflict}
+use Rattle.search_context.specs.declared.context.Reply.{Reply}
+use Rattle.search_rules.specs.Claims.{BreaksOrder, OtherResult, OtherThanStored, OutOfMemory, OutOfOrder, WantsMemory}
+use Rattle.question_lists.proofs.Ranked.{orderly, scripts}
 use Rattle.search_rules.specs.OneKind.{AsksByOneKind}
-use Rattle.structural_types.specs.Below.{AreDefinite, AreSettled, Cache, CxOf, DelegateOf, HasOneOfEach, IsDecisive, IsEnclosed, Outcome, outcome_verdicts, StoredReachNested, verdicts}
+use Rattle.structural_types.specs.Below.{Answer, AreDefinite, AreSettled, Cache, CxOf, DelegateOf, Fault, HasOneOfEach, IsCaused, IsDecisive, IsEnclosed, IsMemoryOrOrder, Memory, Outcome, outcome_verdicts, StoredReachNested, TwoRunsAreEnough, verdicts}
 use Rattle.structural_types.specs.Pairs.{askable}
-use Rattle.structural_types.specs.Deciding.{KeepsDeciding}
+use Rattle.structural_types.specs.Deciding.{EndsDecided, KeepsDeciding}
 use Rattle.structural_types.specs.Rule.{needs_of, pair, questions_of}
 use Rattle.structural_types.specs.Subtypes.{Form, forms_of}
 use Rattle.structural_types.specs.declared.delegate.Pair.{Pair}
@@ -22,6 +23,11 @@ pub enclosed_at : (types : Types) (depth l r : ℕ) → depth ≡ 18446744073709
     IsEnclosed (scripts (needs_of (forms_of types)) (questions_of (forms_of types))) (askable (forms_of types)) depth (pair l r)
 enclosed_at types depth l r deep left right =
     subst (λ d. IsEnclosed (scripts (needs_of (forms_of types)) (questions_of (forms_of types))) (askable (forms_of types)) d (pair l r)) (sym deep) (enclosed types l r left right)
+
+-- a conflict is neither want of memory nor a request out of order
+no_conflict : (goal : Pair) (stored found : Outcome) (fault : Fault Pair Outcome) → fault ≡ Conflict goal stored found → IsMemoryOrOrder fault → ⊥
+no_conflict goal stored found fault is (WantsMemory e) = absurd cc
+no_conflict goal stored found fault is (BreaksOrder number e) = absurd cc
 
 module _ {D C V P F A T : Type 0} (G : DelegateOf D C V P F Pair Outcome A T) (X : CxOf C Pair Outcome A T) (same : Pair → Pair → Bool) (types : Types) (cache : Cache C Pair Outcome A T) where
   -- so it is for a delegate that has the scripts and the verdicts of pairs, and a cache that is kept ready
@@ -50,22 +56,33 @@ module _ {D C V P F A T : Type 0} (G : DelegateOf D C V P F Pair Outcome A T) (X
     };
   }
 
+  -- and what such a call leaves is ready again
+  pub stays_ready : (result : Result (Answer Outcome) (Fault Pair Outcome)) (new : Cache C Pair Outcome A T)
+      → verdicts X ≡ outcome_verdicts → G.script cache.cx ≡ scripts (needs_of (forms_of types)) (questions_of (forms_of types)) → G.ENABLE_PROVISIONAL_CACHE ≡ true
+      → EndsDecided G X same (askable (forms_of types)) cache.cx result new → KeepsDeciding same (forms_of types) new
+  stays_ready result new says script provisional ends = record {
+    definite = subst (λ v. AreDefinite v same new.results) says ends.definite;
+    no_overflow = ends.no_overflow;
+    settled = subst (λ v. AreSettled v same new.nodes new.results (askable (forms_of types))) says ends.settled;
+    reached = elim ends.suit [
+      | inl off ↦ absurd (true≢false (sym provisional ∙ off))
+      | inr reached ↦ subst (λ s. StoredReachNested s same (askable (forms_of types)) new.results) script reached
+    ];
+  }
+
+  -- The only fault of such a call is want of memory: no request of a pair's script is out of order, and no conflict is left.
+  pub only_memory : (fault : Fault Pair Outcome) → G.script cache.cx ≡ scripts (needs_of (forms_of types)) (questions_of (forms_of types)) → ((asked : Pair) → G.scoped cache.cx asked ≡ false)
+      → IsCaused G X same cache fault → ∥ IsMemoryOrOrder fault ∥₁ → fault ≡ Memory
+  only_memory fault script unscoped (OutOfMemory is) either = is
+  only_memory fault script unscoped (OutOfOrder goal replies number fitting after is) either = absurd (in_order goal replies number fitting after)
+    where
+      in_order : (goal : Pair) (replies : List (Reply Outcome)) (number : ℕ) → IsFitting (G.script cache.cx goal) replies → fault_after (G.script cache.cx goal) replies ≡ Some number → ⊥
+      in_order goal replies number fitting after =
+          let none = subst (λ s. IsOrderly (s goal)) (sym script) (orderly (needs_of (forms_of types)) (questions_of (forms_of types)) goal) replies fitting in absurd cc
+  only_memory fault script unscoped (OtherResult goal stored found conflict is) either =
+      absurd (∥∥₁_elim either (λ a b. absurd a) (no_conflict goal stored found fault is))
+  only_memory fault script unscoped (OtherThanStored goal stored found scoped conflict is) either = absurd (true≢false (sym scoped ∙ unscoped goal))
+
 -- the cache is ready for the same types in other words
 pub ready_for : {C A T : Type 0} (same : Pair → Pair → Bool) (forms others : List Form) (cache : Cache C Pair Outcome A T) → others ≡ forms → KeepsDeciding same forms cache → KeepsDeciding same others cache
 ready_for same forms others cache are ready = subst (λ fs. KeepsDeciding same fs cache) (sym are) ready
-
--- a pair came to another answer than the one that is stored of it
-abbrev pub IsConflict : Fault Pair Outcome → Type 0
-IsConflict (Conflict asked stored found) = Unit {0}
-IsConflict fault = ⊥
-
--- a conflict is neither want of memory nor a request out of order
-pub only_memory : (fault : Fault Pair Outcome) → (fault ≡ Memory) ⊎ IsConflict fault → ∥ IsMemoryOrOrder fault ∥₁ → fault ≡ Memory
-only_memory fault (inl is) caused = is
-only_memory (Conflict asked stored found) (inr conflict) caused = absurd (∥∥₁_elim caused (λ a b. absurd a) never)
-  where
-    never : IsMemoryOrOrder (Conflict asked stored found) → ⊥
-    never (WantsMemory is) = cc
-    never (BreaksOrder number is) = cc
-only_memory Memory (inr conflict) caused = refl
-only_memory fault (inr conflict) caused = absurd conflict

@@ -13,10 +13,14 @@ pub use Rattle.search_context.specs.Graph.{GraphNode, HasEdge, HasGoal, IsProofG
 pub use Rattle.search_context.specs.Rank.{AsksOnly}
 pub use Rattle.search_context.specs.declared.context.Edge.{Edge}
 pub use Rattle.search_context.specs.Decisive.{IsDecisive}
-pub use Rattle.search_context.specs.Verdicts.{verdicts}
+pub use Rattle.search_context.specs.Verdicts.{IsDefinite, verdicts}
 pub use Rattle.search_context.specs.declared.context.Cx.{Ghosts as CxOf}
 pub use Rattle.search_context.specs.declared.context.Delegate.{Ghosts as DelegateOf}
 pub use Rattle.search_context.specs.declared.context.Fault.TheVariants.{Memory}
-pub use Rattle.search_rules.specs.Kinds.{StoredReachNested}
+pub use Rattle.search_context.specs.declared.context.Answer.{Answer}
+pub use Rattle.search_context.specs.declared.context.Fault.{Fault}
+pub use Rattle.search_graph.specs.Settled.{TwoRunsAreEnough}
+pub use Rattle.search_rules.specs.Claims.{IsCaused, IsMemoryOrOrder, IsProved, IsRefuted}
+pub use Rattle.search_rules.specs.Kinds.{StoredReachNested, StoredSuit}
 pub use Rattle.search_rules.specs.Results.{AreDefinite, HaveNoOverflowOf}
 pub use Rattle.search_rules.specs.Settled.{AreSettled, HasOneOfEach}

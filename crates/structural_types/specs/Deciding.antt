@@ -1,6 +1,6 @@
 -- What is kept true of the stored answers from one question to the next.
-use Rattle.std.specs.Prelude.{Bool, Contains, List}
-use Rattle.structural_types.specs.Below.{AreDefinite, AreSettled, Cache, HaveNoOverflowOf, Outcome, outcome_verdicts, script_of, StoredReachNested}
+use Rattle.std.specs.Prelude.{Bool, Contains, List, Result, IfOk, IfErr}
+use Rattle.structural_types.specs.Below.{Answer, AreDefinite, AreSettled, Cache, CxOf, DelegateOf, Fault, HaveNoOverflowOf, IsDefinite, IsMemoryOrOrder, Outcome, outcome_verdicts, script_of, StoredReachNested, StoredSuit, verdicts}
 use Rattle.structural_types.specs.Rule.{needs_of, questions_of}
 use Rattle.structural_types.specs.Pairs.{askable}
 use Rattle.structural_types.specs.Subtypes.{Form}
@@ -13,3 +13,13 @@ pub record KeepsDeciding {C A T : Type 0} (same : Pair → Pair → Bool) (forms
   pub no_overflow : HaveNoOverflowOf (Contains (askable forms)) same cache.results
   pub settled : AreSettled outcome_verdicts same cache.nodes cache.results (askable forms)
   pub reached : StoredReachNested (λ pair. script_of (needs_of forms pair) (questions_of forms pair)) same (askable forms) cache.results
+
+-- How a call ends that two runs of each goal are enough for: with a yes or a no, or for want of memory or by a request out of order. The
+-- stored answers stay yes or no, and settled, and those of the goals without overflow.
+pub record EndsDecided {D C V P F I R A T : Type 0} (G : DelegateOf D C V P F I R A T) (X : CxOf C I R A T) (same : I → I → Bool) (goals : List I) (cx : C) (result : Result (Answer R) (Fault I R)) (new : Cache C I R A T) : Type 0 where
+  pub answer : IfOk result (λ answer. IsDefinite (verdicts X) answer.result)
+  pub fault : IfErr result IsMemoryOrOrder
+  pub definite : AreDefinite (verdicts X) same new.results
+  pub no_overflow : HaveNoOverflowOf (Contains goals) same new.results
+  pub settled : AreSettled (verdicts X) same new.nodes new.results goals
+  pub suit : StoredSuit G.ENABLE_PROVISIONAL_CACHE (G.script cx) same goals new.results

@@ -1,9 +1,9 @@
 //! Whether a type is below another, in words of types alone.
-ghost use Rattle.std.specs.Prelude.{◌≡◌, ◌↔◌, true, IfErr, IfOk};
+ghost use Rattle.std.specs.Prelude.{◌≡◌, ◌≤◌, ◌↔◌, true, IfErr, IfOk, List, length};
 ghost use Rattle.structural_types.specs.Subtypes.{IsBelow, forms_of};
 ghost use Rattle.structural_types.specs.Asked.{declared_in};
-ghost use Rattle.structural_types.specs.Below.{Memory};
-ghost use Rattle.structural_types.specs.Deciding.{KeepsDeciding};
+ghost use Rattle.structural_types.specs.Below.{IsCaused, IsProved, IsRefuted, Memory, TwoRunsAreEnough};
+ghost use Rattle.structural_types.specs.Deciding.{EndsDecided, KeepsDeciding};
 
 use crate::delegate::{LendsTypes, Pair, PairsOf, TypesDelegate};
 use crate::subtyping::Subtyping;
@@ -11,7 +11,7 @@ use delegate_parts::{Builder, ContextOf, Outcome};
 use question_lists::Listed;
 use search_graph::graph::SearchGraph;
 use search_graph::law::nothing_is_settled;
-use search_parts::context::Fault;
+use search_parts::context::{Answer, Cx, Delegate, Fault};
 use search_parts::global_cache::GlobalCache;
 use search_parts::path::PathKind;
 use std::alloc::Global;
@@ -25,6 +25,64 @@ fn empty_cache<T: LendsTypes>(alloc: Global, types: T) -> GlobalCache<TypesDeleg
     GlobalCache::new(alloc, ContextOf(Listed(PairsOf { lender: types })))
 }
 
+// A graph without goals. It is renewed before it is asked.
+fn empty_graph<T: LendsTypes>(alloc: Global) -> SearchGraph<TypesDelegate<T>> {
+    SearchGraph::new(alloc, usize::MAX)
+}
+
+// How many types are declared.
+fn declared_count<T: LendsTypes>(cache: &GlobalCache<TypesDelegate<T>>) -> usize
+    ensures { result ≡ length (forms_of (T.types_of cache.now.cx.0.0.lender)) }
+{
+    cache.cx().0.0.lender.types().count()
+}
+
+// Evaluates a goal with all the depth that there is: no more goals can be nested.
+fn evaluated<D: Delegate>(
+    cache: &mut GlobalCache<D>,
+    graph: &mut SearchGraph<D>,
+    goal: <D::Cx as Cx>::Input,
+    inspect: &mut D::ProofTreeBuilder,
+) -> Result<Answer<<D::Cx as Cx>::Result>, Fault<<D::Cx as Cx>::Input, <D::Cx as Cx>::Result>>
+    ensures yes { IfOk result (λ answer. D.Cx.is_yes answer.result ≡ true →
+        IsProved D.Cx.Cx cache.new goal answer.node) }
+    ensures no { IfOk result (λ answer. D.Cx.is_no answer.result ≡ true →
+        IsRefuted D.Cx.Cx cache.new goal answer.node) }
+    ensures decided { (goals : List D.Cx.Input) →
+        TwoRunsAreEnough D.Delegate D.Cx.Cx D.Cx.Input.eq goals cache.old 18446744073709551615 goal
+        (D.noop inspect.old) →
+        EndsDecided D.Delegate D.Cx.Cx D.Cx.Input.eq goals cache.old.cx result cache.new }
+    ensures faults { IfErr result (IsCaused D.Delegate D.Cx.Cx D.Cx.Input.eq cache.new) }
+    ensures same_context { cache.new.cx ≡ cache.old.cx }
+{
+    graph.renew(usize::MAX);
+    graph.evaluate_goal(cache, goal, PathKind::Coinductive, inspect)
+}
+
+// Whether the left type of the pair is below its right one.
+fn asked<T: LendsTypes>(
+    cache: &mut GlobalCache<TypesDelegate<T>>,
+    graph: &mut SearchGraph<TypesDelegate<T>>,
+    pair: Pair,
+) -> Result<bool, Fault<Pair, Outcome>>
+    requires left { pair.left ≤ length (forms_of (T.types_of cache.old.cx.0.0.lender)) }
+    requires right { pair.right ≤ length (forms_of (T.types_of cache.old.cx.0.0.lender)) }
+    requires ready { ∥ KeepsDeciding ⟦<Pair as PartialEq>⟧.eq
+        (forms_of (T.types_of cache.old.cx.0.0.lender)) cache.old ∥₁ }
+    ensures exact { IfOk result (λ answer. (answer ≡ true)
+        ↔ IsBelow (forms_of (T.types_of cache.old.cx.0.0.lender)) pair.left pair.right) }
+    ensures faults { IfErr result (λ fault. fault ≡ Memory) }
+    ensures same_context { cache.new.cx ≡ cache.old.cx }
+    ensures ready { ∥ KeepsDeciding ⟦<Pair as PartialEq>⟧.eq
+        (forms_of (T.types_of cache.old.cx.0.0.lender)) cache.new ∥₁ }
+{
+    let mut builder = Builder::new(true);
+    match evaluated(cache, graph, pair, &mut builder) {
+        Ok(answer) => Ok(matches!(answer.result, Outcome::Yes)),
+        Err(fault) => Err(fault),
+    }
+}
+
 impl<T: LendsTypes> Subtyping<T> {
     /// Questions about these types. It takes no memory yet.
     pub fn new(alloc: Global, types: T) -> Subtyping<T>
@@ -32,7 +90,7 @@ impl<T: LendsTypes> Subtyping<T> {
     {
         Subtyping {
             cache: empty_cache(alloc, types),
-            graph: SearchGraph::new(alloc, usize::MAX),
+            graph: empty_graph(alloc),
         }
     }
 
@@ -48,20 +106,11 @@ impl<T: LendsTypes> Subtyping<T> {
         ensures same_types { declared_in T.types_of self.new ≡ declared_in T.types_of self.old }
     {
         // all numbers that are not declared are alike
-        let undeclared = self.cache.cx().0.0.lender.types().count();
+        let undeclared = declared_count(&self.cache);
         let pair = Pair {
             left: left.min(undeclared),
             right: right.min(undeclared),
         };
-        // no more pairs than this can be nested, and none is in itself
-        self.graph.renew(usize::MAX);
-        let mut builder = Builder::new(true);
-        match self
-            .graph
-            .evaluate_goal(&mut self.cache, pair, PathKind::Coinductive, &mut builder)
-        {
-            Ok(answer) => Ok(answer.result == Outcome::Yes),
-            Err(fault) => Err(fault),
-        }
+        asked(&mut self.cache, &mut self.graph, pair)
     }
 }

@@ -23,7 +23,7 @@ fn both(one: Outcome, other: Outcome) -> Outcome
 }
 
 /// Goals that count down.
-#[derive(Clone, Copy, Debug)]
+#[derive(Clone, Copy)]
 pub struct Countdown {
     /// Whether a goal asks the number below it twice.
     pub asks_twice: bool,
@@ -51,7 +51,7 @@ impl Goals for Countdown {
 }
 
 /// How far a frame has come.
-#[derive(Clone, Copy, Debug, PartialEq, Eq)]
+#[derive(Clone, Copy, PartialEq, Eq)]
 pub enum Stage {
     New,
     Once,
@@ -74,7 +74,7 @@ impl Stage {
 }
 
 /// A frame of a goal.
-#[derive(Debug, Drop)]
+#[derive(Drop)]
 pub struct Frame {
     asks_twice: bool,
     goal: Count,

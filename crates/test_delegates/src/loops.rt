@@ -11,7 +11,7 @@ use search_parts::path::PathKind;
 use std::alloc::Global;
 
 /// Goals that ask themselves.
-#[derive(Clone, Copy, Debug)]
+#[derive(Clone, Copy)]
 pub struct Loops;
 
 /// Their context.
@@ -40,7 +40,7 @@ impl Goals for Loops {
 }
 
 /// How far a frame has come.
-#[derive(Clone, Copy, Debug, PartialEq, Eq)]
+#[derive(Clone, Copy, PartialEq, Eq)]
 pub enum Stage {
     New,
     Asked,
@@ -61,7 +61,7 @@ impl Stage {
 }
 
 /// A frame of a goal.
-#[derive(Debug, Drop)]
+#[derive(Drop)]
 pub struct Frame {
     goal: PathKind,
     stage: Stage,

@@ -11,7 +11,7 @@ use search_parts::path::PathKind;
 pub struct Goal(pub usize);
 
 /// A line of a script: what its goal requests there.
-#[derive(Clone, Copy, Debug, PartialEq, Eq)]
+#[derive(Clone, Copy, PartialEq, Eq)]
 pub enum Line {
     Evaluate(PathKind, Goal),
     EnterCandidate,
@@ -38,7 +38,7 @@ impl Line {
 }
 
 /// The scripts of three goals. A script ends after its last line, and any other goal has no lines.
-#[derive(Clone, Copy, Debug)]
+#[derive(Clone, Copy)]
 pub struct Scripts {
     pub lines: [[Line; 5]; 3],
 }
@@ -77,7 +77,7 @@ impl Goals for Scripts {
 }
 
 /// A frame of a goal.
-#[derive(Debug, Drop)]
+#[derive(Drop)]
 pub struct Frame {
     scripts: Scripts,
     goal: Goal,

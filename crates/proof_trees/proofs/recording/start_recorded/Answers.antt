@@ -1,6 +1,5 @@
-use Rattle.std.proofs.Common.{[], ap, refl, subst, sym, ◌∙◌, ◌≤◌, ◌+◌}
+use Rattle.std.proofs.Common.{[], ap, refl, sym, ◌∙◌}
 use Rattle.std.proofs.lemmas.List.{append-nil}
-use Rattle.proof_trees.specs.Below.{CountsOne}
 use Rattle.proof_trees.proofs.recording.start_recorded.Goals as goal
 
 pub returns-in_err-frame-clause-at_least : goal.returns-in_err-frame-clause-at_least

@@ -2,9 +2,6 @@ use Rattle.std.proofs.Common.{ap, ◌∙◌}
 use Rattle.proof_trees.proofs.Noted.{IsPrefix-trans, two_noted}
 use Rattle.proof_trees.proofs.recording.step_recorded.Goals as goal
 
-pub step-requires : goal.step-requires
-step-requires g c = record { can = c.requires.can }
-
 pub returns-in_err-note_reply-clause-same_starts : goal.returns-in_err-note_reply-clause-same_starts
 returns-in_err-note_reply-clause-same_starts g c = ap g.D.Delegate.starts c.note_reply.ensures.keeps.inner
 
