@@ -35,12 +35,17 @@ pub struct Case<'a> {
 /// What the table's questions come to, with the sections that are wanted.
 pub fn tell(alloc: Global, options: &str, table: &[u8], wanted: &str) -> Result<Vec<u8>, Fail> {
     let (options, ways) = options.split_once(" asked ").unwrap_or((options, ""));
-    let rules = &Rules::read(alloc, table)?;
+    let rules = Rules::read(alloc, table)?;
     let case = Case {
-        rules,
+        rules: &rules,
         ways,
         wanted,
     };
+    tell_case(alloc, options, case)
+}
+
+/// What the case comes to with these options.
+fn tell_case(alloc: Global, options: &str, case: Case<'_>) -> Result<Vec<u8>, Fail> {
     match options {
         "limit 0" => tell_with::<0, 1>(alloc, case),
         "limit 1" => tell_with::<1, 1>(alloc, case),
@@ -87,7 +92,7 @@ fn tell_both(alloc: Global, case: Case<'_>) -> Result<Vec<u8>, Fail> {
     Ok(told)
 }
 
-/// What a case comes to with these options.
+/// What a case comes to with so many runs, and without the provisional cache where `PROVISIONAL` is 0.
 fn tell_with<const LIMIT: usize, const PROVISIONAL: usize>(
     alloc: Global,
     case: Case<'_>,

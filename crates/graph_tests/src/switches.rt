@@ -27,7 +27,12 @@ rule D =
 pub fn tell(alloc: Global, options: &str) -> Result<Vec<u8>, Fail> {
     let (switches, options) = options.split_once(' ').ok_or("no options")?;
     let text = text_of_family(alloc, switches.parse::<usize>()?)?;
-    let rules = &Rules::read(alloc, text.as_slice())?;
+    let rules = Rules::read(alloc, text.as_slice())?;
+    tell_rules(alloc, options, &rules)
+}
+
+/// What the first goal of the rules comes to with these options.
+fn tell_rules(alloc: Global, options: &str, rules: &Rules) -> Result<Vec<u8>, Fail> {
     match options {
         "limit 2" => tell_with::<2, 1>(alloc, rules),
         "limit 3" => tell_with::<3, 1>(alloc, rules),

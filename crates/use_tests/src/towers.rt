@@ -43,11 +43,20 @@ const TOWERS: [(Ground, usize, u64, Option<u64>); 11] = [
 #[test]
 fn towers_take_so_many_runs(rt: HostRuntime) -> Result<(), Fail> {
     for (ground, storeys, with, without) in TOWERS {
-        let table = towers(rt.alloc(), storeys, ground)?;
-        let runs = runs_of_towers(rt.alloc(), &table, without.is_some())?;
+        let runs = runs_on(rt.alloc(), ground, storeys, without.is_some())?;
         assert_eq!(rt; runs, (with, without), "{storeys} storeys on {ground:?}");
     }
     Ok(())
+}
+
+fn runs_on(
+    alloc: Global,
+    ground: Ground,
+    storeys: usize,
+    is_tried_without: bool,
+) -> Result<(u64, Option<u64>), Fail> {
+    let table = towers(alloc, storeys, ground)?;
+    runs_of_towers(alloc, &table, is_tried_without)
 }
 
 /// Two towers of so many storeys.
