@@ -8,7 +8,7 @@ use shown_graphs::Form;
 use std::alloc::Global;
 
 /// What the program is to do.
-#[derive(Clone, Copy, Debug, PartialEq, Eq)]
+#[derive(Clone, Copy)]
 pub(crate) enum Task {
     /// Show answers in this form.
     Explain(Form),
@@ -17,7 +17,7 @@ pub(crate) enum Task {
 }
 
 /// A task, and the path of the file that is read for it. Where there is none, standard input is read.
-#[derive(Clone, Copy, Debug)]
+#[derive(Clone, Copy)]
 pub(crate) struct Order<'a> {
     pub(crate) task: Task,
     pub(crate) file: Option<&'a str>,

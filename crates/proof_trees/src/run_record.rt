@@ -6,7 +6,7 @@ use cycle_heads::path::PathKind;
 use search_context::context::{Reply, Request};
 
 /// Where a run stands in the tree.
-#[derive(Clone, Copy, Debug, PartialEq, Eq)]
+#[derive(Clone, Copy)]
 pub(crate) struct Place {
     pub(crate) level: usize,
     /// The kind of the step by which its goal was asked.
@@ -31,7 +31,7 @@ impl Place {
 }
 
 /// A run that goes on.
-#[derive(Clone, Copy, Debug, PartialEq, Eq)]
+#[derive(Clone, Copy)]
 pub(crate) struct RunRecord<I, R> {
     goal: I,
     place: Place,

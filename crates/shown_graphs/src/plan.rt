@@ -10,7 +10,7 @@ use search_context::context::{Edge, NoMemory, Node};
 use std::alloc::Global;
 
 /// One line of the text of a graph.
-#[derive(Clone, Copy, Debug, PartialEq, Eq)]
+#[derive(Clone, Copy)]
 pub(crate) enum Line {
     /// A node, with what it rests on below it.
     Shown {
@@ -33,7 +33,7 @@ pub(crate) enum Line {
 }
 
 // What is known of a node.
-#[derive(Clone, Copy, Debug, PartialEq, Eq)]
+#[derive(Clone, Copy)]
 enum Mark {
     Unseen,
     // Its lines are not at their end yet.
@@ -42,7 +42,7 @@ enum Mark {
 }
 
 // A node that is being shown, and its edges that have no line yet.
-#[derive(Clone, Copy, Debug)]
+#[derive(Clone, Copy)]
 struct Open<'a> {
     place: usize,
     rest: &'a [Edge<Goal>],

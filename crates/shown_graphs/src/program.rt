@@ -22,7 +22,7 @@ use std::io::{Read, Write};
 use thiserror::Error;
 
 /// Why the program ended early.
-#[derive(Clone, Copy, Debug, PartialEq, Eq, Error)]
+#[derive(Clone, Copy, Debug, Error)]
 pub(crate) enum Stop {
     #[error("line {0}: bad line")]
     BadLine(usize),

@@ -16,7 +16,7 @@ use search_context::path::PathKind;
 use std::alloc::Global;
 
 /// Why a question was answered neither yes nor no.
-#[derive(Clone, Copy, Debug, PartialEq, Eq)]
+#[derive(Clone, Copy)]
 pub(crate) enum Cause {
     /// The goal that asks it had no depth left. Where some goal had its most runs before, it may be the asked one, whose
     /// result was stored.
@@ -30,7 +30,7 @@ pub(crate) enum Cause {
 }
 
 /// A question that was answered neither yes nor no, without a question below it that was.
-#[derive(Clone, Copy, Debug, PartialEq, Eq)]
+#[derive(Clone, Copy)]
 pub(crate) struct Cut {
     /// The goal that asked it.
     pub(crate) by: Goal,
@@ -40,7 +40,7 @@ pub(crate) struct Cut {
 }
 
 /// Why the goal that was asked from outside came to neither yes nor no.
-#[derive(Clone, Copy, Debug, PartialEq, Eq)]
+#[derive(Clone, Copy)]
 pub(crate) enum Reason {
     /// A question was cut off.
     Cut(Cut),
@@ -51,7 +51,7 @@ pub(crate) enum Reason {
 }
 
 // A goal under evaluation, and the kind of the step by which it was asked.
-#[derive(Clone, Copy, Debug)]
+#[derive(Clone, Copy)]
 struct Level {
     goal: Goal,
     kind: PathKind,

@@ -45,7 +45,7 @@ pub struct PairsOf<T> {
 pub type TypesDelegate<T> = ListsDelegate<PairsOf<T>, 8, 1>;
 
 /// How a pair is decided, by the forms of its types.
-#[derive(Clone, Copy, Debug, PartialEq, Eq)]
+#[derive(Clone, Copy)]
 pub(crate) enum Case {
     /// The left one is below the right one, whatever their parts are.
     Holds,

@@ -18,7 +18,7 @@ use thiserror::Error;
 use type_texts::{ReadFault, TypeTable};
 
 /// Why the program ended early.
-#[derive(Clone, Copy, Debug, PartialEq, Eq, Error)]
+#[derive(Clone, Copy, Debug, Error)]
 enum Stop {
     #[error("{0}")]
     Text(ReadFault),

@@ -11,7 +11,7 @@ use std::alloc::{AllocError, AllocFailed, Global};
 use structural_types::{Field, Form, Pair};
 
 /// Why what a line says was not entered.
-#[derive(Clone, Copy, Debug, PartialEq, Eq)]
+#[derive(Clone, Copy)]
 pub(crate) enum EntryFault {
     /// A type that it names is not declared.
     Undeclared,

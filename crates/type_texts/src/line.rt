@@ -25,7 +25,7 @@ pub(crate) enum Line<'a> {
 }
 
 /// Why a line was not read.
-#[derive(Clone, Copy, Debug, PartialEq, Eq)]
+#[derive(Clone, Copy)]
 pub(crate) enum LineFault {
     Malformed,
     Memory,

@@ -85,7 +85,7 @@ where
 }
 
 /// What is said of a claim.
-#[derive(Clone, Copy, Debug, PartialEq, Eq)]
+#[derive(Clone, Copy)]
 pub(crate) enum Said {
     Accepted,
     Refused,

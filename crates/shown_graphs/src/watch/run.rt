@@ -5,7 +5,7 @@ use rule_tables::Goal;
 use search_context::path::PathKind;
 
 /// A question that waits for its answer.
-#[derive(Clone, Copy, Debug)]
+#[derive(Clone, Copy)]
 pub(super) struct Question {
     pub(super) kind: PathKind,
     pub(super) goal: Goal,
@@ -15,7 +15,7 @@ pub(super) struct Question {
 
 /// A run, as far as it has gone: why it comes to neither yes nor no, if it does. A run does so where one of its candidates
 /// has an answer that is neither, and none that is no.
-#[derive(Clone, Copy, Debug)]
+#[derive(Clone, Copy)]
 pub(crate) struct RunWatch {
     goal: Goal,
     question: Option<Question>,

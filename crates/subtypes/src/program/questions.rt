@@ -27,7 +27,7 @@ const ENOUGH: usize = 8000;
 const ROOM: usize = 8192;
 
 /// What a question came to.
-#[derive(Debug, Drop)]
+#[derive(Drop)]
 pub(super) struct Told {
     /// Whether the left type is below the right one.
     pub(super) is_below: bool,

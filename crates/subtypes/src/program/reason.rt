@@ -11,7 +11,7 @@ use structural_types::{Field, Form, LendsTypes, Pair, Subtyping, Types};
 use type_texts::TypeTable;
 
 /// A step from a pair to one of its parts.
-#[derive(Clone, Copy, Debug, PartialEq, Eq)]
+#[derive(Clone, Copy)]
 pub(super) enum Step {
     /// To an alternative of the left type, which leaves no trace in the text.
     Alternative,
@@ -21,7 +21,7 @@ pub(super) enum Step {
 }
 
 /// How a pair fails by itself.
-#[derive(Clone, Copy, Debug, PartialEq, Eq)]
+#[derive(Clone, Copy)]
 pub(super) enum End {
     /// Its types have other forms.
     Apart,
@@ -32,7 +32,7 @@ pub(super) enum End {
 }
 
 /// A pair of which the left type is not below the right one, and the step by which it was found.
-#[derive(Clone, Copy, Debug, PartialEq, Eq)]
+#[derive(Clone, Copy)]
 struct Found {
     pair: Pair,
     from: usize,

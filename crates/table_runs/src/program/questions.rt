@@ -27,7 +27,7 @@ const ENOUGH: usize = 8000;
 const ROOM: usize = 8192;
 
 /// What is checked of the answers.
-#[derive(Clone, Copy, Debug, PartialEq, Eq)]
+#[derive(Clone, Copy)]
 pub(super) enum Checks {
     /// The graph of each definite one.
     EachGraph,
@@ -35,7 +35,7 @@ pub(super) enum Checks {
 }
 
 /// What came of checking an answer's graph.
-#[derive(Clone, Copy, Debug, PartialEq, Eq)]
+#[derive(Clone, Copy, PartialEq, Eq)]
 pub(super) enum Check {
     /// The answer has no graph, or graphs are not checked.
     None,
@@ -61,7 +61,7 @@ impl fmt::Display for Check {
 }
 
 /// What a question came to.
-#[derive(Clone, Copy, Debug, PartialEq, Eq)]
+#[derive(Clone, Copy)]
 pub(super) struct Told {
     pub(super) outcome: Outcome,
     /// How many frames the question started.
