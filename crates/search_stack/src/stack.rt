@@ -1,5 +1,6 @@
 //! The goals under evaluation, from the first one up.
-ghost use Rattle.std.specs.Prelude.{◌≡◌, ℕ, ◌+◌, ◌-◌, ◌^◌, ◌<◌, List, [], ◌∷◌, ◌++◌, length, IfOk, OnErr, IfSome, is_some, IsTrue, ◌↔◌, None, false, slice_index_or, map};
+ghost use Rattle.std.specs.Prelude.{◌≡◌, ℕ, ◌+◌, ◌-◌, ◌^◌, ◌<◌, List, [], ◌∷◌, ◌++◌, length, IfOk, OnOk, OnErr, IfSome, Some, is_some, IsTrue, ◌↔◌, None, false, slice_index_or, map, vec_len, vec_capacity};
+ghost use Rattle.std.specs.HashMap.{Updates};
 ghost use Rattle.std.specs.Option.{option_map};
 ghost use Rattle.std.specs.Slice.Iter.{iter_rest};
 ghost use Rattle.search_stack.specs.Words.{position_of, TellsKinds};
@@ -15,6 +16,7 @@ use cycle_heads::usages::HeadUsages;
 use search_context::context::{Cx, NoMemory, NodeId};
 use std::alloc::Global;
 use std::collections::HashMap;
+use std::hash::Hash;
 use std::marker::Model;
 use std::ops::Index;
 use std::slice;
@@ -192,10 +194,12 @@ impl<X: Cx> Stack<X> {
         let steps = self
             .last_steps()
             .with_step(entry.step_kind_from_parent, below);
-        self.entries.reserve(1)?;
-        self.steps.reserve(1)?;
-        let depth = self.entries.len();
-        self.depths.insert(entry.input, depth)?;
+        let depth = note_place(
+            &mut self.entries,
+            &mut self.steps,
+            &mut self.depths,
+            entry.input,
+        )?;
         self.entries.push_reserved(entry);
         self.steps.push_reserved(steps);
         Ok(StackDepth::new(depth))
@@ -231,6 +235,30 @@ impl<X: Cx> Stack<X> {
             None => LastSteps::new(),
         }
     }
+}
+
+/// Notes where the next input will stand, and makes room for its entry. A refusal leaves all as it was. It knows
+/// nothing of the entries, so that these need not be followed past each way out.
+fn note_place<E, S, I: Eq + Hash + Copy>(
+    entries: &mut Vec<E>,
+    steps: &mut Vec<S>,
+    depths: &mut HashMap<I, usize>,
+    input: I,
+) -> Result<usize, NoMemory>
+    ensures place { IfOk result (λ depth. depth ≡ length entries.old.items) }
+    ensures noted { OnOk result
+        (Updates I.eq depths.old depths.new input (Some (length entries.old.items))) }
+    ensures entries { entries.new.items ≡ entries.old.items }
+    ensures steps { steps.new.items ≡ steps.old.items }
+    ensures room { OnOk result (vec_len entries.new < vec_capacity entries.new) }
+    ensures room_for_step { OnOk result (vec_len steps.new < vec_capacity steps.new) }
+    ensures err { OnErr result (depths.new.entries ≡ depths.old.entries) }
+{
+    entries.reserve(1)?;
+    steps.reserve(1)?;
+    let depth = entries.len();
+    depths.insert(input, depth)?;
+    Ok(depth)
 }
 
 impl<X: Cx> Stack<X> {
