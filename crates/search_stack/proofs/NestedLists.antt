@@ -1,5 +1,5 @@
 -- Lists of goals with the paths to them.
-use Rattle.std.proofs.Common.{◌≡◌, ℕ, ◌+◌, ◌≤◌, length, arith, Bool, true, false, [], ◌∷◌, cond, Option, Some, None, refl, sym, ap, ◌∙◌, subst, inl, inr}
+use Rattle.std.proofs.Common.{◌≡◌, ℕ, ◌+◌, ◌≤◌, length, arith, Bool, true, false, List, [], ◌∷◌, cond, Option, Some, None, refl, sym, ap, ◌∙◌, subst, inl, inr}
 use Rattle.std.proofs.lemmas.Bool.{cases_Bool}
 use Rattle.std.proofs.lemmas.Nat.{or_comm}
 use Rattle.std.proofs.lemmas.Map.Keys.{IsDistinct-head, IsDistinct-tail}
@@ -35,6 +35,10 @@ joined-joined (Some paths) more = refl
 pub joined-None : (paths : Option PathsToNested) → joined_paths paths None ≡ paths
 joined-None None = refl
 joined-None (Some paths) = refl
+
+pub no_goals : {E : Type 0} (goals : List E) → length goals ≤ 0 → goals ≡ []
+no_goals [] none = refl
+no_goals (goal ∷ goals) none = absurd (omega (arith, none))
 
 -- goals that are the same are found alike
 pub same_test : {I : Type 0} {same : I → I → Bool} → IsEquivalence same → (x y : I) → same x y ≡ true → same x ≡ same y

@@ -8,7 +8,7 @@ ghost use Rattle.search_stack.specs.Below.{extended};
 ghost use Rattle.search_stack.specs.Words.{after_step, paths_at, JoinsEach, JoinsPaths};
 
 use crate::mapped_goals::after_step;
-use crate::noted_goals::NotedGoals;
+use crate::noted_goals::{Iter, NotedGoals};
 use bitflags::Flags;
 use cycle_heads::path::{PathKind, PathsToNested};
 use search_context::context::NoMemory;
@@ -52,11 +52,8 @@ impl<I: Eq + Hash + Copy> GoalList<I> {
     ) -> Result<GoalList<I>, NoMemory>
         ensures { IfOk result (λ list. list ≡ goals.now) }
     {
-        let mut list = Vec::with_capacity(alloc, goals.len())?;
-        for goal in goals.iter() {
-            list.push(goal)?;
-        }
-        Ok(GoalList { goals: list })
+        let goals = listed(alloc, goals.len(), goals.iter())?;
+        Ok(GoalList { goals })
     }
 
     /// How many goals there are.
@@ -122,6 +119,22 @@ impl<I: Eq + Hash + Copy> GoalList<I> {
     {
         self.goals.iter()
     }
+}
+
+/// A list of so many goals, with no room for more.
+fn listed<I: Copy>(
+    alloc: Global,
+    count: usize,
+    goals: Iter<'_, I>,
+) -> Result<Vec<(I, PathsToNested)>, NoMemory>
+    requires count { count ≡ length goals }
+    ensures { IfOk result (λ list. list.items ≡ goals.entry) }
+{
+    let mut list = Vec::with_capacity(alloc, count)?;
+    for goal in goals {
+        list.push_reserved(goal);
+    }
+    Ok(list)
 }
 
 /// Extends the paths to each goal by the step.
