@@ -168,31 +168,29 @@ fn join_all<I: Eq + Hash + Copy>(
     goals.reserve(more.len())?;
     for (input, paths) in more.iter() {
         // There is room for each of them.
-        join_listed(goals, input, after_step(step, paths))?;
+        join_listed(goals, input, after_step(step, paths));
     }
     Ok(())
 }
 
-/// Joins paths to a goal. Where there is room for one more, it isn't refused.
+/// Joins paths to a goal where there is room for one more.
 #[inline(never)]
 fn join_listed<I: Eq + Copy>(
     goals: &mut Vec<(I, PathsToNested)>,
     input: I,
     paths: PathsToNested,
-) -> Result<(), NoMemory>
-    requires { IsDistinct I.eq (keys_of goals.old.items) }
-    ensures ok { OnOk result (JoinsPaths I.eq goals.old.items goals.new.items input paths) }
+)
+    requires distinct { IsDistinct I.eq (keys_of goals.old.items) }
+    requires room { vec_len goals.old < vec_capacity goals.old }
+    ensures joins { JoinsPaths I.eq goals.old.items goals.new.items input paths }
     ensures distinct { IsDistinct I.eq (keys_of goals.new.items) }
-    ensures err { OnErr result (goals.new.items ≡ goals.old.items) }
-    ensures known { IsSome (paths_at I.eq goals.old.items input) → IsOk result }
-    ensures room { vec_len goals.old < vec_capacity goals.old → IsOk result }
     ensures left { vec_capacity goals.old - vec_len goals.old
         ≤ (vec_capacity goals.new - vec_len goals.new) + 1 }
 {
-    if !join_known(goals, input, paths) {
-        goals.push((input, paths))?;
+    if join_known(goals, input, paths) {
+        return;
     }
-    Ok(())
+    goals.push_reserved((input, paths));
 }
 
 /// Joins paths to a goal, where it is there. The answer is whether it is.

@@ -199,7 +199,7 @@ impl<X: Cx> Stack<X> {
             steps,
         )?;
         self.entries.push_reserved(entry);
-        Ok(StackDepth::new(depth))
+        Ok(depth)
     }
 
     /// Where the last steps of the stack will be with one more step.
@@ -249,8 +249,8 @@ fn note_place<E, S: Copy, I: Eq + Hash + Copy>(
     depths: &mut HashMap<I, usize>,
     input: I,
     step: S,
-) -> Result<usize, NoMemory>
-    ensures place { IfOk result (λ depth. depth ≡ length entries.old.items) }
+) -> Result<StackDepth, NoMemory>
+    ensures place { IfOk result (λ depth. depth.0 ≡ length entries.old.items) }
     ensures noted { OnOk result
         (Updates I.eq depths.old depths.new input (Some (length entries.old.items))) }
     ensures entries { entries.new.items ≡ entries.old.items }
@@ -264,7 +264,7 @@ fn note_place<E, S: Copy, I: Eq + Hash + Copy>(
     let depth = entries.len();
     depths.insert(input, depth)?;
     steps.push_reserved(step);
-    Ok(depth)
+    Ok(StackDepth::new(depth))
 }
 
 impl<X: Cx> Stack<X> {
@@ -333,7 +333,7 @@ impl<X: Cx> Stack<X> {
         ensures { result ≡ step_kinds_above self.now head.0 }
     {
         CycleStepKinds {
-            above: past(self.entries.as_slice(), head.index()),
+            above: past(self.entries.as_slice(), head.index()).iter(),
         }
     }
 
@@ -359,16 +359,17 @@ fn past<E>(entries: &[E], place: usize) -> &[E]
 /// The kinds of the steps above a goal on the stack, from below.
 #[derive(Drop)]
 pub struct CycleStepKinds<'a, X: Cx> {
-    above: &'a [StackEntry<X>],
+    above: slice::Iter<'a, StackEntry<X>>,
 }
 
 impl<'a, X: Cx> Model for CycleStepKinds<'a, X> {
     ghost use Rattle.std.specs.Prelude.{List, map};
+    ghost use Rattle.std.specs.Slice.Iter.{iter_rest};
     ghost use Rattle.search_stack.specs.Below.{PathKind};
 
     ghost Value = { List PathKind };
 
-    ghost view = { λ s. map (λ e. e.step_kind_from_parent) s.above.now };
+    ghost view = { λ s. map (λ e. e.step_kind_from_parent) (iter_rest s.above) };
 }
 
 impl<'a, X: Cx> Iterator for CycleStepKinds<'a, X> {
@@ -381,8 +382,6 @@ impl<'a, X: Cx> Iterator for CycleStepKinds<'a, X> {
     ghost remaining = { item_count (λ kinds. kinds) };
 
     fn next(&mut self) -> Option<PathKind> {
-        let (first, above) = self.above.split_first()?;
-        self.above = above;
-        Some(first.step_kind_from_parent)
+        Some(self.above.next()?.step_kind_from_parent)
     }
 }

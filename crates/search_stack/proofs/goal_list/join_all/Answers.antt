@@ -22,7 +22,7 @@ loop-input-preserved g c =
       IsJoining-more g.met.I.Eq.laws (after_step c.args.step) c.reserve.new.self.items goals.items c.join_listed.new.goals.items
           c.into_iter-input-iterator.result c.loop-input.input-iterator c.next.new.self c.in-Some.input c.in-Some.paths
           c.after_step.result (vec_capacity goals - vec_len goals) (vec_capacity c.join_listed.new.goals - vec_len c.join_listed.new.goals) first c.after_step.ensures
-          c.in_ok-join_listed.ensures.ok c.join_listed.ensures.left
+          c.join_listed.ensures.joins c.join_listed.ensures.left
           c.loop-input.invariant.0,
       c.join_listed.ensures.distinct,
     )
@@ -38,3 +38,9 @@ returns-clause-ok g c = λ input.
     IsJoining-end (after_step c.args.step) c.args.goals.now.items c.reserve.new.self.items goals.items c.args.more.now
     c.into_iter-input-iterator.result c.loop-input.input-iterator (vec_capacity goals - vec_len goals) none c.loop-input.invariant.0
     input own child
+
+pub join_listed-requires : goal.join_listed-requires
+join_listed-requires g c = record {
+  distinct = c.loop-input.invariant.1;
+  room = omega (arith, ap length c.in-Some.ensures.steps, c.loop-input.invariant.0.fits);
+}

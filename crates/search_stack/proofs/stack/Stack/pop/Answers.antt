@@ -28,6 +28,3 @@ invariant_of-self g c =
 
 pub last-requires : goal.last-requires
 last-requires g c = record { some = rw c.give_room_back.ensures c.requires.some }
-
-pub unwrap-requires : goal.unwrap-requires
-unwrap-requires g c = c.pop-2.ensures.variant.1 (omega (arith, c.self.inside.entries.ok.0, ap length c.self.view_is, ap length c.give_room_back.ensures, c.requires.some))
