@@ -1,10 +1,12 @@
 -- Where the last step of each kind is tells the kinds of the steps above any goal.
-use Rattle.std.proofs.Common.{◌≡◌, ℕ, ◌+◌, ◌-◌, ◌<◌, ◌≤◌, nat_lt, Bool, true, false, List, [], ◌∷◌, ◌++◌, length, take, drop, map, refl, sym, ap, ◌∙◌, inl, inr, arith}
+use Rattle.std.proofs.Common.{◌≡◌, ℕ, ◌+◌, ◌-◌, ◌<◌, ◌≤◌, nat_lt, Bool, true, false, List, [], ◌∷◌, ◌++◌, length, take, drop, get_or, map, Some, refl, sym, ap, ◌∙◌, inl, inr, arith}
 use Rattle.std.proofs.lemmas.Bool.{cases_lt}
 use Rattle.std.proofs.lemmas.Bool.Decides.{nat_tests}
 use Rattle.std.proofs.lemmas.List.{drop-append-le, drop-map, take-append-le, take_all, get_or_append_left, get_or-take, length-take-le}
 use Rattle.std.proofs.Math.ListN.{length-append}
 use Rattle.std.proofs.Math.Seq.{get_or-append_seam}
+use Rattle.std.proofs.lemmas.Option.{get_or_from_slice_get}
+use Rattle.std.specs.List.{slice_get}
 use Rattle.search_stack.specs.Below.{PathKind, Inductive, Unknown, Coinductive, ForcedAmbiguity, greater_kind, greatest_kind}
 use Rattle.search_stack.specs.declared.steps.LastSteps.{LastSteps}
 use Rattle.search_stack.specs.Words.{StackEntry, step_kinds_above, AreLastSteps, kind_by, kind_past, TellsKinds, with_step}
@@ -103,6 +105,17 @@ TellsKinds-step steps kinds kind below size tells count within =
 
 pub AreLastSteps-empty : AreLastSteps [] []
 AreLastSteps-empty = record { each = refl; tells = λ place d within. absurd (omega (arith, within)) }
+
+-- the last entry tells the kinds of all
+pub last_tells : (all : List LastSteps) (kinds : List PathKind) (last : LastSteps) → Some last ≡ slice_get all (length all - 1) → AreLastSteps all kinds → TellsKinds last kinds
+last_tells [] kinds last found are = absurd cc
+last_tells (x ∷ rest) kinds last found are =
+    let all = x ∷ rest in
+    let place = length all - 1 in
+    let inside : place < length all = omega arith in
+    let here : get_or all place last ≡ last = get_or_from_slice_get all place last last (sym found) in
+    let whole : take (place + 1) kinds ≡ kinds = take_all (place + 1) kinds (omega (arith, are.each)) in
+    rw (here, whole) at (are.tells place last inside)
 
 -- one entry more
 pub AreLastSteps-push : (all : List LastSteps) (kinds : List PathKind) (steps : LastSteps) (kind : PathKind)

@@ -1,11 +1,11 @@
 -- Lists of goals with the paths to them.
-use Rattle.std.proofs.Common.{◌≡◌, ℕ, ◌+◌, ◌≤◌, length, arith, Bool, true, false, [], ◌∷◌, cond, Option, Some, None, refl, sym, ap, ◌∙◌, subst, inl, inr}
+use Rattle.std.proofs.Common.{◌≡◌, ℕ, ◌+◌, ◌≤◌, length, arith, Bool, true, false, List, [], ◌∷◌, cond, Option, Some, None, refl, sym, ap, ◌∙◌, subst, inl, inr}
 use Rattle.std.proofs.lemmas.Bool.{cases_Bool}
 use Rattle.std.proofs.lemmas.Nat.{or_comm}
 use Rattle.std.proofs.lemmas.Map.Keys.{IsDistinct-head, IsDistinct-tail}
 use Rattle.std.specs.Cmp.{IsEquivalence}
 use Rattle.std.specs.List.{AllByRecursion, IsDistinct}
-use Rattle.std.specs.Map.{keys_of}
+use Rattle.std.specs.Map.{keys_of, lookup}
 use Rattle.std.specs.Option.{option_map}
 use Rattle.search_stack.specs.Below.{PathKind, PathsToNested, extended}
 use Rattle.search_stack.specs.Words.{after_step, NestedPaths, paths_at, joined_paths, JoinsPaths}
@@ -36,6 +36,14 @@ pub joined-None : (paths : Option PathsToNested) → joined_paths paths None ≡
 joined-None None = refl
 joined-None (Some paths) = refl
 
+pub no_goals : {E : Type 0} (goals : List E) → length goals ≤ 0 → goals ≡ []
+no_goals [] none = refl
+no_goals (goal ∷ goals) none = absurd (omega (arith, none))
+
+-- goals that are the same are found alike
+pub same_test : {I : Type 0} {same : I → I → Bool} → IsEquivalence same → (x y : I) → same x y ≡ true → same x ≡ same y
+same_test laws x y is = λ i z. laws.congr x y z is i
+
 module _ {I : Type 0} (same : I → I → Bool) where
   absent_apart : (goals : NestedPaths I) (input : I) → AllByRecursion (λ other. same input other ≡ false) (keys_of goals)
       → paths_at same goals input ≡ None
@@ -51,7 +59,7 @@ module _ {I : Type 0} (same : I → I → Bool) where
       → IsDistinct same (keys_of ((input, paths) ∷ rest)) → IsDistinct same (keys_of rest)
   distinct_later input paths rest distinct = IsDistinct-tail same input (keys_of rest) distinct
 
-  module _ (laws : IsEquivalence same) (by_value : (x y : I) → same x y ≡ true → x ≡ y) where
+  module _ (laws : IsEquivalence same) where
     -- one goal less is left to be joined
     pub joined-rest : (old new rest : NestedPaths I) (input : I) (paths : PathsToNested) (f : PathsToNested → PathsToNested)
         → IsDistinct same (keys_of ((input, paths) ∷ rest)) → JoinsPaths same old new input (f paths) → (other : I)
@@ -59,7 +67,7 @@ module _ {I : Type 0} (same : I → I → Bool) where
         ≡ joined_paths (paths_at same old other) (option_map f (paths_at same ((input, paths) ∷ rest) other))
     joined-rest old new rest input paths f distinct joins other = elim (cases_Bool (same other input)) [
       | inl here ↦
-          subst (λ o. joined_paths (paths_at same new o) (option_map f (paths_at same rest o)) ≡ joined_paths (paths_at same old o) (option_map f (paths_at same ((input, paths) ∷ rest) o))) (sym (by_value other input here))
+          subst (λ test. joined_paths (lookup test new) (option_map f (lookup test rest)) ≡ joined_paths (lookup test old) (option_map f (lookup test ((input, paths) ∷ rest)))) (sym (same_test laws other input here))
           (ap (λ p. joined_paths p (option_map f (paths_at same rest input))) joins.here
           ∙ ap (λ p. joined_paths (joined_paths (paths_at same old input) (Some (f paths))) (option_map f p)) (absent_later input paths rest distinct)
           ∙ joined-joined (paths_at same old input) (f paths)
@@ -81,17 +89,17 @@ pub IsJoining-start : {I : Type 0} {same : I → I → Bool} (f : PathsToNested 
     → length all ≤ room → IsDistinct same (keys_of all) → IsJoining same f start start all all room
 IsJoining-start f start all room fits distinct = record { agrees = λ input. refl; fits = fits; distinct = distinct }
 
-pub IsJoining-more : {I : Type 0} {same : I → I → Bool} (laws : IsEquivalence same) (by_value : (x y : I) → same x y ≡ true → x ≡ y)
+pub IsJoining-more : {I : Type 0} {same : I → I → Bool} (laws : IsEquivalence same)
     (f : PathsToNested → PathsToNested) (start goals new all left rest : NestedPaths I) (input : I) (paths after : PathsToNested) (room more : ℕ)
     → left ≡ (input, paths) ∷ rest → after ≡ f paths → JoinsPaths same goals new input after → room ≤ more + 1
     → IsJoining same f start goals all left room → IsJoining same f start new all rest more
-IsJoining-more {same = same} laws by_value f start goals new all left rest input paths after room more first stepped joins_after fewer so_far =
+IsJoining-more {same = same} laws f start goals new all left rest input paths after room more first stepped joins_after fewer so_far =
     let joins = subst (JoinsPaths same goals new input) stepped joins_after in
     let distinct = subst (λ l. IsDistinct same (keys_of l)) first so_far.distinct in
     let size : length left ≡ length rest + 1 = ap length first ∙ omega arith in
     record {
       agrees = λ other.
-          joined-rest same laws by_value goals new rest input paths f distinct joins other
+          joined-rest same laws goals new rest input paths f distinct joins other
           ∙ ap (λ l. joined_paths (paths_at same goals other) (option_map f (paths_at same l other))) (sym first)
           ∙ so_far.agrees other;
       fits = omega (arith, so_far.fits);

@@ -4,9 +4,12 @@ use Rattle.std.proofs.lemmas.Bool.{cases_Bool, eqb-true}
 use Rattle.std.proofs.lemmas.Nat.Bits.{bit_at_or, same_from_bits}
 use Rattle.std.specs.Int.{bit_at}
 use Rattle.std.specs.Int.RustNames.{bit_or}
-use Rattle.std.specs.Option.{option_eq}
+use Rattle.std.specs.Cmp.{IsEquivalence}
+use Rattle.std.specs.Map.{lookup}
+use Rattle.std.specs.Option.{option_eq, option_map}
 use Rattle.search_stack.specs.Below.{PathsToNested, path_of_no_step}
-use Rattle.search_stack.specs.Words.{HasNoStep, HasOwn, joined_paths, JoinsPaths, NestedPaths, paths_at}
+use Rattle.search_stack.specs.Words.{HasNoStep, HasOwn, joined_paths, JoinsEach, JoinsPaths, NestedPaths, paths_at}
+use Rattle.search_stack.proofs.NestedLists.{same_test}
 
 max_swapped : (a b c : ℕ) → max (max a b) c ≡ max (max a c) b
 max_swapped a b c = omega arith
@@ -44,17 +47,7 @@ no_step-joined (Some paths) = λ i. Some (record { 0 = or_twice paths.0 1 i })
 pub is_no_step : (paths : PathsToNested) → (paths.0 == 1) ≡ true → paths ≡ path_of_no_step
 is_no_step paths is = λ i. record { 0 = eqb-true _ _ is i }
 
-module _ {I : Type 0} (same : I → I → Bool) where
-  -- the test of the own goal
-  pub is_own : (by_value : (x y : I) → same x y ≡ true → x ≡ y) (own : Option I) (input : I) → option_eq same own (Some input) ≡ true → own ≡ Some input
-  is_own by_value None input is = absurd cc
-  is_own by_value (Some own) input is = ap Some (by_value own input is)
-
-  -- it is there where the paths to each goal are the same
-  pub own-same : (new old : NestedPaths I) (own : Option I) → ((input : I) → paths_at same new input ≡ paths_at same old input) → HasOwn same old own → HasOwn same new own
-  own-same new old None kept there = tt
-  own-same new old (Some own) kept there = subst HasNoStep (sym (kept own)) there
-
+module _ {I : Type 0} (same : I → I → Bool) (laws : IsEquivalence same) where
   -- the goal to which the path of no step was joined is the own one
   pub own-new : (old new : NestedPaths I) (input : I) (paths : PathsToNested) (own : Option I)
       → paths ≡ path_of_no_step → own ≡ Some input → JoinsPaths same old new input paths → HasOwn same new own
@@ -62,22 +55,33 @@ module _ {I : Type 0} (same : I → I → Bool) where
       subst (HasOwn same new) (sym is_own)
       (subst HasNoStep (sym (joins.here ∙ ap (λ p. joined_paths (paths_at same old input) (Some p)) is)) (no_step-joined (paths_at same old input)))
 
+  -- it is there at each goal that is the same as the own one
+  own_there : (goals : NestedPaths I) (input : I) (own : Option I) → option_eq same own (Some input) ≡ true → HasOwn same goals own → HasNoStep (paths_at same goals input)
+  own_there goals input None is there = absurd cc
+  own_there goals input (Some own) is there = subst (λ test. HasNoStep (lookup test goals)) (same_test laws own input is) there
+
   -- the path of no step to the own goal is joined already
   pub joins-own : (goals : NestedPaths I) (input : I) (paths : PathsToNested) (own : Option I)
-      → paths ≡ path_of_no_step → own ≡ Some input → HasOwn same goals own → JoinsPaths same goals goals input paths
+      → paths ≡ path_of_no_step → option_eq same own (Some input) ≡ true → HasOwn same goals own → JoinsPaths same goals goals input paths
   joins-own goals input paths own is is_own there = record {
-    here = sym (ap (λ p. joined_paths (paths_at same goals input) (Some p)) is ∙ subst (HasOwn same goals) is_own there);
+    here = sym (ap (λ p. joined_paths (paths_at same goals input) (Some p)) is ∙ own_there goals input own is_own there);
     others = λ other apart. refl;
   }
 
+  -- it is there after goals were joined
+  pub own-each : (f : PathsToNested → PathsToNested) (old more new : NestedPaths I) (own : Option I) → JoinsEach same f old more new → HasOwn same old own → HasOwn same new own
+  own-each f old more new None joins there = tt
+  own-each f old more new (Some own) joins there =
+      subst HasNoStep (sym (joins own)) (no_step-more (paths_at same old own) (option_map f (paths_at same more own)) there)
+
   -- it is there after paths were joined to any goal
-  pub own-joined : (by_value : (x y : I) → same x y ≡ true → x ≡ y) (old new : NestedPaths I) (input : I) (paths : PathsToNested) (own : Option I)
+  pub own-joined : (old new : NestedPaths I) (input : I) (paths : PathsToNested) (own : Option I)
       → JoinsPaths same old new input paths → HasOwn same old own → HasOwn same new own
-  own-joined by_value old new input paths None joins there = tt
-  own-joined by_value old new input paths (Some own) joins there = elim (cases_Bool (same input own)) [
+  own-joined old new input paths None joins there = tt
+  own-joined old new input paths (Some own) joins there = elim (cases_Bool (same input own)) [
     | inl here ↦
-        let is : input ≡ own = by_value input own here in
-        subst (λ o. HasNoStep (paths_at same new o)) is
-        (subst HasNoStep (sym joins.here) (no_step-more (paths_at same old input) (Some paths) (subst (λ o. HasNoStep (paths_at same old o)) (sym is) there)))
+        let is : same input ≡ same own = same_test laws input own here in
+        subst (λ test. HasNoStep (lookup test new)) is
+        (subst HasNoStep (sym joins.here) (no_step-more (paths_at same old input) (Some paths) (subst (λ test. HasNoStep (lookup test old)) (sym is) there)))
     | inr apart ↦ subst HasNoStep (sym (joins.others own apart)) there
   ]

@@ -3,6 +3,7 @@ use Rattle.std.proofs.Common.{◌≡◌, ◌+◌, ◌≤◌, nat_lt, Bool, true,
 use Rattle.std.proofs.lemmas.Bool.{cases_Bool}
 use Rattle.std.proofs.lemmas.Bool.Decides.{nat_tests}
 use Rattle.std.proofs.lemmas.Map.Made.{lookup-map_values}
+use Rattle.std.specs.Cmp.{IsEquivalence}
 use Rattle.std.specs.Map.{lookup}
 use Rattle.std.specs.Option.{option_map, IfSome}
 use Rattle.cycle_heads.proofs.PathLaws.{extended-twice}
@@ -12,6 +13,7 @@ use Rattle.search_stack.specs.declared.raises.Raises.{Raises}
 use Rattle.search_stack.specs.Words.{AreNoted, joined_paths, JoinsPaths, NestedPaths, kind_past, noted_now, paths_at, paths_noted, paths_now, raised, with_step}
 use Rattle.search_stack.proofs.Cycles.{least-greater}
 use Rattle.search_stack.proofs.LastSteps.{past-joined}
+use Rattle.search_stack.proofs.NestedLists.{same_test}
 
 -- what is noted now has not been extended
 pub now-noted : (raises : Raises) (paths : PathsToNested) → paths_now raises (noted_now raises paths) ≡ paths
@@ -53,6 +55,20 @@ module _ {I : Type 0} (same : I → I → Bool) where
   AreNoted-same raises new old kept are = record {
     none_past = are.none_past;
     each = λ input. subst (λ noted. IfSome noted (λ paths. paths.raises ≤ raises.count)) (sym (kept input)) (are.each input);
+  }
+
+  -- what is noted now at one more goal was noted after each raise
+  pub noted-joined : (laws : IsEquivalence same) (raises : Raises) (old new : List (I × NotedPaths)) (input : I) (noted : NotedPaths) → noted.raises ≡ raises.count
+      → lookup (same input) new ≡ Some noted → ((other : I) → same input other ≡ false → lookup (same other) new ≡ lookup (same other) old)
+      → AreNoted same raises old → AreNoted same raises new
+  noted-joined laws raises old new input noted is found others are = record {
+    none_past = are.none_past;
+    each = λ other. elim (cases_Bool (same input other)) [
+      | inl here ↦
+          subst (λ noted. IfSome noted (λ paths. paths.raises ≤ raises.count)) (sym (ap (λ test. lookup test new) (sym (same_test laws input other here)) ∙ found))
+          (omega (arith, is))
+      | inr apart ↦ subst (λ noted. IfSome noted (λ paths. paths.raises ≤ raises.count)) (sym (others other apart)) (are.each other)
+    ];
   }
 
   raised_at : (raises : Raises) (step : PathKind) (noted : Option NotedPaths) → kind_past raises.steps raises.count ≡ Inductive

@@ -1,7 +1,13 @@
 -- What is read of a stack is read of its last entry.
 use Rattle.std.proofs.Common.{◌≡◌, ◌≢◌, ℕ, zero, suc, ◌-◌, ◌/◌, ◌<◌, true, false, List, [], ◌∷◌, length, get_or, Some, None, refl, sym, ap, ◌∙◌, arith}
+use Rattle.std.proofs.lemmas.Bool.{false≢true}
 use Rattle.std.proofs.lemmas.Bool.Decides.{nat_tests}
 use Rattle.search_stack.specs.Words.{StackEntry, depth_below, allowed_depth}
+
+-- a list that is not told to be empty
+pub nonempty : {E : Type 0} (xs : List E) → (xs ≡ [] → false ≡ true) → 0 < length xs
+nonempty [] empty = absurd (false≢true (empty refl))
+nonempty (x ∷ xs) empty = omega arith
 
 module _ {X I R A T : Type 0} where
   last_allows : (divisor root n : ℕ) (e : StackEntry X I R A T) (entries : List (StackEntry X I R A T)) → suc n ≡ length entries → allowed_depth divisor root entries ≡ depth_below divisor (get_or entries n e)

@@ -1,5 +1,6 @@
 -- The goals below a goal, with the paths to each.
 use Rattle.std.specs.Prelude.{◌≡◌, Bool, false, List, [], Option, Some, None, IfSome}
+use Rattle.std.specs.Global.{Box}
 use Rattle.std.specs.Map.{lookup}
 use Rattle.std.specs.Option.{option_map}
 use Rattle.search_stack.specs.Below.{PathKind, PathsToNested, extended, path_of_no_step, union}
@@ -12,6 +13,10 @@ NestedPaths I = List (I × PathsToNested)
 abbrev pub goals_in : {I : Type 0} → Option (NestedPaths I) → NestedPaths I
 goals_in None = []
 goals_in (Some goals) = goals
+
+-- the goals that are held in a box once there are any
+abbrev pub held : {I : Type 0} → Option (Box (NestedPaths I)) → NestedPaths I
+held goals = goals_in (option_map (λ b. b.value) goals)
 
 -- the paths to a goal
 abbrev pub paths_at : {I : Type 0} → (I → I → Bool) → NestedPaths I → I → Option PathsToNested

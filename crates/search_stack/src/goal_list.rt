@@ -3,38 +3,41 @@ ghost use Rattle.std.specs.Prelude.{◌≡◌, ◌+◌, ◌-◌, ◌^◌, ◌<�
 ghost use Rattle.std.specs.List.{IsDistinct, position};
 ghost use Rattle.std.specs.Map.{keys_of};
 ghost use Rattle.std.specs.Option.{option_map};
+ghost use Rattle.std.specs.Slice.Iter.{iter_rest};
 ghost use Rattle.search_stack.specs.Below.{extended};
 ghost use Rattle.search_stack.specs.Words.{after_step, paths_at, JoinsEach, JoinsPaths};
 
 use crate::mapped_goals::after_step;
-use crate::noted_goals::NotedGoals;
+use crate::noted_goals::{Iter, NotedGoals};
 use bitflags::Flags;
 use cycle_heads::path::{PathKind, PathsToNested};
-use search_context::context::{Cx, NoMemory};
+use search_context::context::NoMemory;
 use std::alloc::Global;
+use std::hash::Hash;
 use std::marker::Model;
+use std::slice;
 
 /// Goals with the paths to each, which are looked at one after the other.
 #[derive(Drop)]
-pub(super) struct GoalList<X: Cx> {
-    goals: Vec<(X::Input, PathsToNested)>,
+pub(super) struct GoalList<I: Eq + Hash + Copy> {
+    goals: Vec<(I, PathsToNested)>,
 }
 
-impl<X: Cx> Model for GoalList<X> {
+impl<I: Eq + Hash + Copy> Model for GoalList<I> {
     ghost use Rattle.std.specs.List.{IsDistinct};
     ghost use Rattle.std.specs.Map.{keys_of};
     ghost use Rattle.search_stack.specs.Nested.{NestedPaths};
 
-    ghost Value = { NestedPaths X.Input };
+    ghost Value = { NestedPaths I };
 
     ghost view = { λ g. g.goals.items };
 
-    ghost invariant = { λ g. IsDistinct X.Input.eq (keys_of g.goals.items) };
+    ghost invariant = { λ g. IsDistinct I.eq (keys_of g.goals.items) };
 }
 
-impl<X: Cx> GoalList<X> {
+impl<I: Eq + Hash + Copy> GoalList<I> {
     /// No goals.
-    pub(super) fn new(alloc: Global) -> GoalList<X>
+    pub(super) fn new(alloc: Global) -> GoalList<I>
         ensures { result ≡ [] }
     {
         GoalList {
@@ -45,15 +48,12 @@ impl<X: Cx> GoalList<X> {
     /// The same goals, with no room for more.
     pub(super) fn without_room(
         alloc: Global,
-        goals: &NotedGoals<X>,
-    ) -> Result<GoalList<X>, NoMemory>
+        goals: &NotedGoals<I>,
+    ) -> Result<GoalList<I>, NoMemory>
         ensures { IfOk result (λ list. list ≡ goals.now) }
     {
-        let mut list = Vec::with_capacity(alloc, goals.len())?;
-        for goal in goals.iter() {
-            list.push(goal)?;
-        }
-        Ok(GoalList { goals: list })
+        let goals = listed(alloc, goals.len(), goals.iter())?;
+        Ok(GoalList { goals })
     }
 
     /// How many goals there are.
@@ -64,26 +64,26 @@ impl<X: Cx> GoalList<X> {
     }
 
     /// The paths to the goal, where it is there.
-    pub(super) fn get(&self, input: X::Input) -> Option<PathsToNested>
-        ensures { result ≡ paths_at X.Input.eq self.now input }
+    pub(super) fn get(&self, input: I) -> Option<PathsToNested>
+        ensures { result ≡ paths_at I.eq self.now input }
     {
         let place = place_of(self.goals.as_slice(), input)?;
         Some(self.goals[place].1)
     }
 
     /// Joins paths to the goal, where it is there. The answer is whether it is.
-    pub(super) fn join_known(&mut self, input: X::Input, paths: PathsToNested) -> bool
-        ensures known { IsTrue result → JoinsPaths X.Input.eq self.old self.new input paths }
+    pub(super) fn join_known(&mut self, input: I, paths: PathsToNested) -> bool
+        ensures known { IsTrue result → JoinsPaths I.eq self.old self.new input paths }
         ensures not { result ≡ false → self.new ≡ self.old }
-        ensures absent { result ≡ false → paths_at X.Input.eq self.old input ≡ None }
+        ensures absent { result ≡ false → paths_at I.eq self.old input ≡ None }
     {
         join_known(&mut self.goals, input, paths)
     }
 
     /// Puts in a goal that isn't there, with the paths to it. A refusal changes nothing.
-    pub(super) fn push(&mut self, input: X::Input, paths: PathsToNested) -> Result<(), NoMemory>
-        requires { paths_at X.Input.eq self.old input ≡ None }
-        ensures ok { OnOk result (JoinsPaths X.Input.eq self.old self.new input paths) }
+    pub(super) fn push(&mut self, input: I, paths: PathsToNested) -> Result<(), NoMemory>
+        requires { paths_at I.eq self.old input ≡ None }
+        ensures ok { OnOk result (JoinsPaths I.eq self.old self.new input paths) }
         ensures err { OnErr result (self.new ≡ self.old) }
     {
         self.goals.push((input, paths))?;
@@ -92,8 +92,8 @@ impl<X: Cx> GoalList<X> {
 
     /// Extends the paths to each goal by the step.
     pub(super) fn raise(&mut self, step: PathKind)
-        ensures { (input : X.Input) → paths_at X.Input.eq self.new input
-            ≡ option_map (λ paths. extended paths step) (paths_at X.Input.eq self.old input) }
+        ensures { (input : I) → paths_at I.eq self.new input
+            ≡ option_map (λ paths. extended paths step) (paths_at I.eq self.old input) }
     {
         raise_each(self.goals.as_mut_slice(), step);
     }
@@ -102,30 +102,39 @@ impl<X: Cx> GoalList<X> {
     pub(super) fn join_each(
         &mut self,
         step: Option<PathKind>,
-        more: &NotedGoals<X>,
+        more: &NotedGoals<I>,
     ) -> Result<(), NoMemory>
         ensures ok { OnOk result
-            (JoinsEach X.Input.eq (after_step step) self.old more.now self.new) }
+            (JoinsEach I.eq (after_step step) self.old more.now self.new) }
         ensures err { OnErr result (self.new ≡ self.old) }
     {
-        self.goals.reserve(more.len())?;
-        for (input, paths) in more.iter() {
-            // There is room for each of them.
-            join_listed(&mut self.goals, input, after_step(step, paths))?;
-        }
-        Ok(())
+        join_all(&mut self.goals, step, more)
     }
 
     /// The goals with the paths to them, in an order that is left open.
-    pub(super) fn iter(&self) -> Iter<'_, X>
-        ensures goals { result ≡ self.now }
-        ensures distinct { IsDistinct X.Input.eq (keys_of self.now) }
+    pub(super) fn iter(&self) -> slice::Iter<'_, (I, PathsToNested)>
+        ensures goals { iter_rest result ≡ self.now }
+        ensures distinct { IsDistinct I.eq (keys_of self.now) }
         ensures fits { length self.now < 2 ^ 63 }
     {
-        Iter {
-            left: self.goals.as_slice(),
-        }
+        self.goals.iter()
     }
+}
+
+/// A list of so many goals, with no room for more.
+fn listed<I: Copy>(
+    alloc: Global,
+    count: usize,
+    goals: Iter<'_, I>,
+) -> Result<Vec<(I, PathsToNested)>, NoMemory>
+    requires count { count ≡ length goals }
+    ensures { IfOk result (λ list. list.items ≡ goals.entry) }
+{
+    let mut list = Vec::with_capacity(alloc, count)?;
+    for goal in goals {
+        list.push_reserved(goal);
+    }
+    Ok(list)
 }
 
 /// Extends the paths to each goal by the step.
@@ -144,26 +153,44 @@ fn place_of<I: Eq + Copy>(goals: &[(I, PathsToNested)], input: I) -> Option<usiz
     goals.iter().position(|goal| input == goal.0)
 }
 
-/// Joins paths to a goal. Where there is room for one more, it isn't refused.
+/// Joins each goal of others by its paths after the step, if there is one.
+fn join_all<I: Eq + Hash + Copy>(
+    goals: &mut Vec<(I, PathsToNested)>,
+    step: Option<PathKind>,
+    more: &NotedGoals<I>,
+) -> Result<(), NoMemory>
+    requires { IsDistinct I.eq (keys_of goals.old.items) }
+    ensures ok { OnOk result
+        (JoinsEach I.eq (after_step step) goals.old.items more.now goals.new.items) }
+    ensures distinct { IsDistinct I.eq (keys_of goals.new.items) }
+    ensures err { OnErr result (goals.new.items ≡ goals.old.items) }
+{
+    goals.reserve(more.len())?;
+    for (input, paths) in more.iter() {
+        // There is room for each of them.
+        join_listed(goals, input, after_step(step, paths));
+    }
+    Ok(())
+}
+
+/// Joins paths to a goal where there is room for one more.
 #[inline(never)]
 fn join_listed<I: Eq + Copy>(
     goals: &mut Vec<(I, PathsToNested)>,
     input: I,
     paths: PathsToNested,
-) -> Result<(), NoMemory>
-    requires { IsDistinct I.eq (keys_of goals.old.items) }
-    ensures ok { OnOk result (JoinsPaths I.eq goals.old.items goals.new.items input paths) }
+)
+    requires distinct { IsDistinct I.eq (keys_of goals.old.items) }
+    requires room { vec_len goals.old < vec_capacity goals.old }
+    ensures joins { JoinsPaths I.eq goals.old.items goals.new.items input paths }
     ensures distinct { IsDistinct I.eq (keys_of goals.new.items) }
-    ensures err { OnErr result (goals.new.items ≡ goals.old.items) }
-    ensures known { IsSome (paths_at I.eq goals.old.items input) → IsOk result }
-    ensures room { vec_len goals.old < vec_capacity goals.old → IsOk result }
     ensures left { vec_capacity goals.old - vec_len goals.old
         ≤ (vec_capacity goals.new - vec_len goals.new) + 1 }
 {
-    if !join_known(goals, input, paths) {
-        goals.push((input, paths))?;
+    if join_known(goals, input, paths) {
+        return;
     }
-    Ok(())
+    goals.push_reserved((input, paths));
 }
 
 /// Joins paths to a goal, where it is there. The answer is whether it is.
@@ -185,34 +212,4 @@ fn join_known<I: Eq + Copy>(
     let known = &mut goals[place];
     known.1 = known.1.union(paths);
     true
-}
-
-/// The goals of a list, with the paths to each.
-#[derive(Drop)]
-pub(super) struct Iter<'a, X: Cx> {
-    left: &'a [(X::Input, PathsToNested)],
-}
-
-impl<'a, X: Cx> Model for Iter<'a, X> {
-    ghost use Rattle.search_stack.specs.Nested.{NestedPaths};
-
-    ghost Value = { NestedPaths X.Input };
-
-    ghost view = { λ s. s.left.now };
-}
-
-impl<'a, X: Cx> Iterator for Iter<'a, X> {
-    ghost use Rattle.std.specs.Iterator.{YieldsFirst, item_count};
-
-    type Item = (X::Input, PathsToNested);
-
-    ghost next_gives = { YieldsFirst (λ goals. goals) };
-
-    ghost remaining = { item_count (λ goals. goals) };
-
-    fn next(&mut self) -> Option<(X::Input, PathsToNested)> {
-        let (first, left) = self.left.split_first()?;
-        self.left = left;
-        Some(*first)
-    }
 }

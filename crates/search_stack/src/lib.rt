@@ -13,6 +13,7 @@
 
 pub mod depth;
 mod goal_list;
+mod held;
 mod mapped_goals;
 pub mod nested_goals;
 mod noted_goals;

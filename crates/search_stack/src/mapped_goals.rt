@@ -11,7 +11,7 @@ use crate::noted_goals::NotedGoals;
 use crate::raises::{NotedPaths, Raises};
 use bitflags::Flags;
 use cycle_heads::path::{PathKind, PathsToNested};
-use search_context::context::{Cx, NoMemory};
+use search_context::context::NoMemory;
 use std::alloc::Global;
 use std::collections::{HashMap, hash_map};
 use std::hash::Hash;
@@ -19,29 +19,36 @@ use std::marker::Model;
 
 /// Goals with the paths to each. All paths are extended by a step in one go, which is noted beside the map.
 #[derive(Drop)]
-pub(super) struct MappedGoals<X: Cx> {
-    noted: HashMap<X::Input, NotedPaths>,
+pub(super) struct MappedGoals<I: Eq + Hash + Copy> {
+    noted: HashMap<I, NotedPaths>,
     raises: Raises,
     /// The goal to which the path of no step was joined last, as long as that was not extended. It is most often
     /// joined to the same goal again, which then needs no look-up.
-    own: Option<X::Input>,
+    own: Option<I>,
 }
 
-impl<X: Cx> Model for MappedGoals<X> {
+/// The goals that are still to come, and the raises that tell the paths to them.
+#[derive(Drop)]
+pub(super) struct Left<'a, I: Copy> {
+    pub(super) noted: hash_map::Iter<'a, I, NotedPaths>,
+    pub(super) raises: Raises,
+}
+
+impl<I: Eq + Hash + Copy> Model for MappedGoals<I> {
     ghost use Rattle.search_stack.specs.Nested.{HasOwn, NestedPaths};
     ghost use Rattle.search_stack.specs.Raises.{paths_noted, AreNoted};
 
-    ghost Value = { NestedPaths X.Input };
+    ghost Value = { NestedPaths I };
 
     ghost view = { λ g. paths_noted g.raises g.noted.entries };
 
-    ghost invariant = { λ g. AreNoted X.Input.eq g.raises g.noted.entries
-        × HasOwn X.Input.eq (paths_noted g.raises g.noted.entries) g.own };
+    ghost invariant = { λ g. AreNoted I.eq g.raises g.noted.entries
+        × HasOwn I.eq (paths_noted g.raises g.noted.entries) g.own };
 }
 
-impl<X: Cx> MappedGoals<X> {
+impl<I: Eq + Hash + Copy> MappedGoals<I> {
     /// No goals.
-    pub(super) fn new(alloc: Global) -> MappedGoals<X>
+    pub(super) fn new(alloc: Global) -> MappedGoals<I>
         ensures { result ≡ [] }
     {
         MappedGoals {
@@ -59,8 +66,8 @@ impl<X: Cx> MappedGoals<X> {
     }
 
     /// The paths to the goal, where it is there.
-    pub(super) fn get(&self, input: X::Input) -> Option<PathsToNested>
-        ensures { result ≡ paths_at X.Input.eq self.now input }
+    pub(super) fn get(&self, input: I) -> Option<PathsToNested>
+        ensures { result ≡ paths_at I.eq self.now input }
     {
         let noted = self.noted.get(&input)?;
         Some(self.raises.paths_now(*noted))
@@ -70,10 +77,10 @@ impl<X: Cx> MappedGoals<X> {
     /// refusal changes nothing. It stays out of `NotedGoals::insert`, which most often finds the goal
     /// in a list and would be slower by the room that this takes.
     #[inline(never)]
-    pub(super) fn insert(&mut self, input: X::Input, paths: PathsToNested) -> Result<(), NoMemory>
-        ensures ok { OnOk result (JoinsPaths X.Input.eq self.old self.new input paths) }
+    pub(super) fn insert(&mut self, input: I, paths: PathsToNested) -> Result<(), NoMemory>
+        ensures ok { OnOk result (JoinsPaths I.eq self.old self.new input paths) }
         ensures err { OnErr result (self.new ≡ self.old) }
-        ensures known { IsSome (paths_at X.Input.eq self.old input) → IsOk result }
+        ensures known { IsSome (paths_at I.eq self.old input) → IsOk result }
     {
         if paths == PathsToNested::EMPTY && self.own == Some(input) {
             return Ok(());
@@ -87,8 +94,8 @@ impl<X: Cx> MappedGoals<X> {
 
     /// Extends the paths to each goal by the step, in one go. It may say that it can't, and changes nothing then.
     pub(super) fn raise(&mut self, step: PathKind) -> bool
-        ensures raised { IsTrue result → (input : X.Input) → paths_at X.Input.eq self.new input
-            ≡ option_map (λ paths. extended paths step) (paths_at X.Input.eq self.old input) }
+        ensures raised { IsTrue result → (input : I) → paths_at I.eq self.new input
+            ≡ option_map (λ paths. extended paths step) (paths_at I.eq self.old input) }
         ensures not { result ≡ false → self.new ≡ self.old }
     {
         let Some(raises) = self.raises.with_step(step) else {
@@ -103,33 +110,24 @@ impl<X: Cx> MappedGoals<X> {
     pub(super) fn join_each(
         &mut self,
         step: Option<PathKind>,
-        more: &NotedGoals<X>,
+        more: &NotedGoals<I>,
     ) -> Result<(), NoMemory>
         ensures ok { OnOk result
-            (JoinsEach X.Input.eq (after_step step) self.old more.now self.new) }
+            (JoinsEach I.eq (after_step step) self.old more.now self.new) }
         ensures err { OnErr result (self.new ≡ self.old) }
         ensures none { more.now ≡ [] → IsOk result }
     {
-        self.noted.reserve(more.len())?;
-        for (input, paths) in more.iter() {
-            // There is room for each of them.
-            join_paths(
-                &mut self.noted,
-                &self.raises,
-                input,
-                after_step(step, paths),
-            )?;
-        }
+        join_all(&mut self.noted, &self.raises, step, more)?;
         Ok(())
     }
 
     /// The goals with the paths to them, in an order that is left open.
-    pub(super) fn iter(&self) -> Iter<'_, X>
-        ensures goals { result ≡ self.now }
-        ensures distinct { IsDistinct X.Input.eq (keys_of self.now) }
+    pub(super) fn iter(&self) -> Left<'_, I>
+        ensures goals { paths_noted result.raises result.noted ≡ self.now }
+        ensures distinct { IsDistinct I.eq (keys_of self.now) }
         ensures fits { length self.now < 2 ^ 63 }
     {
-        Iter {
+        Left {
             noted: self.noted.iter(),
             raises: self.raises,
         }
@@ -144,6 +142,28 @@ pub(super) fn after_step(step: Option<PathKind>, paths: PathsToNested) -> PathsT
         Some(step) => paths.extend_with(step),
         None => paths,
     }
+}
+
+/// Joins each goal of others by its paths after the step, if there is one.
+fn join_all<I: Eq + Hash + Copy>(
+    goals: &mut HashMap<I, NotedPaths>,
+    raises: &Raises,
+    step: Option<PathKind>,
+    more: &NotedGoals<I>,
+) -> Result<(), NoMemory>
+    requires { AreNoted I.eq raises.now goals.old.entries }
+    ensures ok { OnOk result (JoinsEach I.eq (after_step step) (paths_noted raises.now goals.old.entries)
+        more.now (paths_noted raises.now goals.new.entries)) }
+    ensures noted { AreNoted I.eq raises.now goals.new.entries }
+    ensures err { OnErr result (goals.new.entries ≡ goals.old.entries) }
+    ensures none { more.now ≡ [] → IsOk result }
+{
+    goals.reserve(more.len())?;
+    for (input, paths) in more.iter() {
+        // There is room for each of them.
+        join_paths(goals, raises, input, after_step(step, paths))?;
+    }
+    Ok(())
 }
 
 /// Joins paths to a goal. Where there is room for one more, it isn't refused.
@@ -169,35 +189,4 @@ fn join_paths<I: Eq + Hash + Copy>(
     }
     goals.insert(input, raises.note(paths))?;
     Ok(())
-}
-
-/// The goals of a map, with the paths to each.
-#[derive(Drop)]
-pub(super) struct Iter<'a, X: Cx> {
-    noted: hash_map::Iter<'a, X::Input, NotedPaths>,
-    raises: Raises,
-}
-
-impl<'a, X: Cx> Model for Iter<'a, X> {
-    ghost use Rattle.search_stack.specs.Nested.{NestedPaths};
-    ghost use Rattle.search_stack.specs.Raises.{paths_noted};
-
-    ghost Value = { NestedPaths X.Input };
-
-    ghost view = { λ s. paths_noted s.raises s.noted };
-}
-
-impl<'a, X: Cx> Iterator for Iter<'a, X> {
-    ghost use Rattle.std.specs.Iterator.{YieldsFirst, item_count};
-
-    type Item = (X::Input, PathsToNested);
-
-    ghost next_gives = { YieldsFirst (λ goals. goals) };
-
-    ghost remaining = { item_count (λ goals. goals) };
-
-    fn next(&mut self) -> Option<(X::Input, PathsToNested)> {
-        let (input, noted) = self.noted.next()?;
-        Some((*input, self.raises.paths_now(*noted)))
-    }
 }

@@ -6,12 +6,12 @@ ghost use Rattle.std.specs.Map.{keys_of};
 ghost use Rattle.search_stack.specs.Below.{extended};
 ghost use Rattle.search_stack.specs.Words.{after_step, paths_at, JoinsEach, JoinsPaths};
 
+use crate::held;
 use crate::noted_goals::{self, NotedGoals};
 use cycle_heads::path::{PathKind, PathsToNested};
 use search_context::context::{Cx, NoMemory};
 use std::alloc::Global;
 use std::marker::Model;
-use std::mem;
 
 /// The nested goals of a goal, with the paths to each. Ports `NestedGoals`.
 ///
@@ -24,17 +24,16 @@ use std::mem;
 /// cycle of n goals moves at most n times the logarithm of n of them, and not the square of n.
 #[derive(Drop)]
 pub struct NestedGoals<X: Cx> {
-    goals: Option<Box<NotedGoals<X>>>,
+    goals: Option<Box<NotedGoals<X::Input>>>,
     alloc: Global,
 }
 
 impl<X: Cx> Model for NestedGoals<X> {
-    ghost use Rattle.std.specs.Option.{option_map};
-    ghost use Rattle.search_stack.specs.Nested.{NestedPaths, goals_in};
+    ghost use Rattle.search_stack.specs.Nested.{NestedPaths, held};
 
     ghost Value = { NestedPaths X.Input };
 
-    ghost view = { λ g. goals_in (option_map (λ b. b.value) g.goals) };
+    ghost view = { λ g. held g.goals };
 }
 
 impl<X: Cx> NestedGoals<X> {
@@ -56,10 +55,7 @@ impl<X: Cx> NestedGoals<X> {
     pub fn len(&self) -> usize
         ensures { result ≡ length self.now }
     {
-        match &self.goals {
-            Some(goals) => goals.len(),
-            None => 0,
-        }
+        held::len(&self.goals)
     }
 
     /// Whether the goal is there. Ports `NestedGoals::contains`.
@@ -86,31 +82,7 @@ impl<X: Cx> NestedGoals<X> {
         ensures err { OnErr result (self.new ≡ self.old) }
         ensures known { IsSome (paths_at X.Input.eq self.old input) → IsOk result }
     {
-        match &mut self.goals {
-            Some(goals) => goals.insert(input, paths),
-            None => self.insert_first(input, paths),
-        }
-    }
-
-    /// Holds this goal alone, with these paths, instead of those so far. It stays out of `insert`, which seldom
-    /// makes a map and would be slower by the room that this takes.
-    #[inline(never)]
-    fn insert_first(&mut self, input: X::Input, paths: PathsToNested) -> Result<(), NoMemory>
-        ensures ok { OnOk result (JoinsPaths X.Input.eq [] self.new input paths) }
-        ensures err { OnErr result (self.new ≡ self.old) }
-    {
-        let mut goals = NotedGoals::new(self.alloc);
-        goals.insert(input, paths)?;
-        self.hold(goals)
-    }
-
-    /// Holds these goals instead of those so far.
-    fn hold(&mut self, goals: NotedGoals<X>) -> Result<(), NoMemory>
-        ensures ok { OnOk result (self.new ≡ goals) }
-        ensures err { OnErr result (self.new ≡ self.old) }
-    {
-        self.goals = Some(Box::new(self.alloc, goals)?);
-        Ok(())
+        held::insert(&mut self.goals, self.alloc, input, paths)
     }
 
     /// Joins the goals of a child that was asked over the step: each path to one of them is that of
@@ -126,7 +98,7 @@ impl<X: Cx> NestedGoals<X> {
         ensures err { OnErr result (self.new ≡ self.old) }
         ensures none { nested.now ≡ [] → IsOk result }
     {
-        self.join_each(Some(step), nested)
+        held::join_each(&mut self.goals, self.alloc, Some(step), &nested.goals)
     }
 
     /// The same where the child's goals are needed no more. It walks the smaller of the two maps; what it leaves to
@@ -141,44 +113,7 @@ impl<X: Cx> NestedGoals<X> {
         ensures err { OnErr result (self.new ≡ self.old) }
         ensures none { nested.old ≡ [] → IsOk result }
     {
-        if self.len() < nested.len() && nested.raise(step) {
-            nested.join_each(None, self)?;
-            mem::swap(self, nested);
-            return Ok(());
-        }
-        self.join_each(Some(step), nested)
-    }
-
-    /// Extends the paths to each goal by the step, in one go. It may say that it can't, and changes nothing then.
-    fn raise(&mut self, step: PathKind) -> bool
-        ensures raised { IsTrue result → (input : X.Input) → paths_at X.Input.eq self.new input
-            ≡ option_map (λ paths. extended paths step) (paths_at X.Input.eq self.old input) }
-        ensures not { result ≡ false → self.new ≡ self.old }
-    {
-        match &mut self.goals {
-            Some(goals) => goals.raise(step),
-            None => true,
-        }
-    }
-
-    /// Joins each goal of another map by its paths after the step, if there is one.
-    #[inline(never)]
-    fn join_each(&mut self, step: Option<PathKind>, more: &NestedGoals<X>) -> Result<(), NoMemory>
-        ensures ok { OnOk result
-            (JoinsEach X.Input.eq (after_step step) self.old more.now self.new) }
-        ensures err { OnErr result (self.new ≡ self.old) }
-        ensures none { more.now ≡ [] → IsOk result }
-    {
-        let more = match &more.goals {
-            Some(more) if more.len() > 0 => more,
-            _ => return Ok(()),
-        };
-        if let Some(goals) = &mut self.goals {
-            return goals.join_each(step, more);
-        }
-        let mut goals = NotedGoals::new(self.alloc);
-        goals.join_each(step, more)?;
-        self.hold(goals)
+        held::take_each(&mut self.goals, self.alloc, step, &mut nested.goals)
     }
 
     /// Gives back the memory that is needed only where goals are added.
@@ -207,7 +142,7 @@ impl<X: Cx> NestedGoals<X> {
 /// The goals of a map, with the paths to each.
 #[derive(Drop)]
 pub struct Iter<'a, X: Cx> {
-    goals: Option<noted_goals::Iter<'a, X>>,
+    goals: Option<noted_goals::Iter<'a, X::Input>>,
 }
 
 impl<'a, X: Cx> Model for Iter<'a, X> {

@@ -6,43 +6,45 @@ ghost use Rattle.std.specs.Map.{keys_of};
 ghost use Rattle.search_stack.specs.Below.{extended};
 ghost use Rattle.search_stack.specs.Words.{after_step, paths_at, JoinsEach, JoinsPaths};
 
-use crate::goal_list::{self, GoalList};
+use crate::goal_list::GoalList;
 use crate::mapped_goals::{self, MappedGoals};
 use cycle_heads::path::{PathKind, PathsToNested};
-use search_context::context::{Cx, NoMemory};
+use search_context::context::NoMemory;
 use std::alloc::Global;
+use std::hash::Hash;
 use std::marker::Model;
+use std::slice;
 
 /// How many goals may stand in a list that grows. So many are compared about as fast as one is found by its hash.
 const MOST_LISTED: usize = 16;
 
 /// Goals with the paths to each.
 #[derive(Drop)]
-pub(super) struct NotedGoals<X: Cx> {
-    goals: Goals<X>,
+pub(super) struct NotedGoals<I: Eq + Hash + Copy> {
+    goals: Goals<I>,
     alloc: Global,
 }
 
 /// Where the goals are. What is read alone, as a stored result is, stands in a list however many they are.
 #[derive(Drop)]
-enum Goals<X: Cx> {
-    Few(GoalList<X>),
-    Many(Box<MappedGoals<X>>),
+enum Goals<I: Eq + Hash + Copy> {
+    Few(GoalList<I>),
+    Many(Box<MappedGoals<I>>),
 }
 
-impl<X: Cx> Model for NotedGoals<X> {
+impl<I: Eq + Hash + Copy> Model for NotedGoals<I> {
     ghost use Rattle.search_stack.specs.Nested.{NestedPaths};
 
-    ghost Value = { NestedPaths X.Input };
+    ghost Value = { NestedPaths I };
 
     ghost use Rattle.search_stack.specs.Kept.{goals_of};
 
     ghost view = { λ g. goals_of g.goals };
 }
 
-impl<X: Cx> NotedGoals<X> {
+impl<I: Eq + Hash + Copy> NotedGoals<I> {
     /// No goals.
-    pub(super) fn new(alloc: Global) -> NotedGoals<X>
+    pub(super) fn new(alloc: Global) -> NotedGoals<I>
         ensures { result ≡ [] }
     {
         NotedGoals {
@@ -62,8 +64,8 @@ impl<X: Cx> NotedGoals<X> {
     }
 
     /// The paths to the goal, where it is there.
-    pub(super) fn get(&self, input: X::Input) -> Option<PathsToNested>
-        ensures { result ≡ paths_at X.Input.eq self.now input }
+    pub(super) fn get(&self, input: I) -> Option<PathsToNested>
+        ensures { result ≡ paths_at I.eq self.now input }
     {
         match &self.goals {
             Goals::Few(goals) => goals.get(input),
@@ -73,10 +75,10 @@ impl<X: Cx> NotedGoals<X> {
 
     /// Joins paths to the goal, which becomes one of the goals. Only a new goal takes memory, and a
     /// refusal changes nothing.
-    pub(super) fn insert(&mut self, input: X::Input, paths: PathsToNested) -> Result<(), NoMemory>
-        ensures ok { OnOk result (JoinsPaths X.Input.eq self.old self.new input paths) }
+    pub(super) fn insert(&mut self, input: I, paths: PathsToNested) -> Result<(), NoMemory>
+        ensures ok { OnOk result (JoinsPaths I.eq self.old self.new input paths) }
         ensures err { OnErr result (self.new ≡ self.old) }
-        ensures known { IsSome (paths_at X.Input.eq self.old input) → IsOk result }
+        ensures known { IsSome (paths_at I.eq self.old input) → IsOk result }
     {
         match &mut self.goals {
             Goals::Many(goals) => goals.insert(input, paths),
@@ -91,9 +93,9 @@ impl<X: Cx> NotedGoals<X> {
 
     /// Puts in a goal that is new. It stays out of `insert`, which most often finds the goal in the list.
     #[inline(never)]
-    fn insert_new(&mut self, input: X::Input, paths: PathsToNested) -> Result<(), NoMemory>
-        requires { paths_at X.Input.eq self.old input ≡ None }
-        ensures ok { OnOk result (JoinsPaths X.Input.eq self.old self.new input paths) }
+    fn insert_new(&mut self, input: I, paths: PathsToNested) -> Result<(), NoMemory>
+        requires { paths_at I.eq self.old input ≡ None }
+        ensures ok { OnOk result (JoinsPaths I.eq self.old self.new input paths) }
         ensures err { OnErr result (self.new ≡ self.old) }
     {
         match &mut self.goals {
@@ -104,8 +106,8 @@ impl<X: Cx> NotedGoals<X> {
 
     /// Puts a goal that is new into a map with those so far.
     #[inline(never)]
-    fn insert_past_list(&mut self, input: X::Input, paths: PathsToNested) -> Result<(), NoMemory>
-        ensures ok { OnOk result (JoinsPaths X.Input.eq self.old self.new input paths) }
+    fn insert_past_list(&mut self, input: I, paths: PathsToNested) -> Result<(), NoMemory>
+        ensures ok { OnOk result (JoinsPaths I.eq self.old self.new input paths) }
         ensures err { OnErr result (self.new ≡ self.old) }
     {
         let mut goals = self.mapped()?;
@@ -114,9 +116,9 @@ impl<X: Cx> NotedGoals<X> {
     }
 
     /// A map of these goals.
-    fn mapped(&self) -> Result<MappedGoals<X>, NoMemory>
-        ensures { IfOk result (λ goals. (input : X.Input) → paths_at X.Input.eq goals input
-            ≡ paths_at X.Input.eq self.now input) }
+    fn mapped(&self) -> Result<MappedGoals<I>, NoMemory>
+        ensures { IfOk result (λ goals. (input : I) → paths_at I.eq goals input
+            ≡ paths_at I.eq self.now input) }
     {
         let mut goals = MappedGoals::new(self.alloc);
         goals.join_each(None, self)?;
@@ -124,7 +126,7 @@ impl<X: Cx> NotedGoals<X> {
     }
 
     /// Holds these goals instead of those so far.
-    fn hold(&mut self, goals: MappedGoals<X>) -> Result<(), NoMemory>
+    fn hold(&mut self, goals: MappedGoals<I>) -> Result<(), NoMemory>
         ensures ok { OnOk result (self.new ≡ goals) }
         ensures err { OnErr result (self.new ≡ self.old) }
     {
@@ -134,8 +136,8 @@ impl<X: Cx> NotedGoals<X> {
 
     /// Extends the paths to each goal by the step. It may say that it can't, and changes nothing then.
     pub(super) fn raise(&mut self, step: PathKind) -> bool
-        ensures raised { IsTrue result → (input : X.Input) → paths_at X.Input.eq self.new input
-            ≡ option_map (λ paths. extended paths step) (paths_at X.Input.eq self.old input) }
+        ensures raised { IsTrue result → (input : I) → paths_at I.eq self.new input
+            ≡ option_map (λ paths. extended paths step) (paths_at I.eq self.old input) }
         ensures not { result ≡ false → self.new ≡ self.old }
     {
         match &mut self.goals {
@@ -151,10 +153,10 @@ impl<X: Cx> NotedGoals<X> {
     pub(super) fn join_each(
         &mut self,
         step: Option<PathKind>,
-        more: &NotedGoals<X>,
+        more: &NotedGoals<I>,
     ) -> Result<(), NoMemory>
         ensures ok { OnOk result
-            (JoinsEach X.Input.eq (after_step step) self.old more.now self.new) }
+            (JoinsEach I.eq (after_step step) self.old more.now self.new) }
         ensures err { OnErr result (self.new ≡ self.old) }
     {
         match &mut self.goals {
@@ -172,10 +174,10 @@ impl<X: Cx> NotedGoals<X> {
     fn join_past_list(
         &mut self,
         step: Option<PathKind>,
-        more: &NotedGoals<X>,
+        more: &NotedGoals<I>,
     ) -> Result<(), NoMemory>
         ensures ok { OnOk result
-            (JoinsEach X.Input.eq (after_step step) self.old more.now self.new) }
+            (JoinsEach I.eq (after_step step) self.old more.now self.new) }
         ensures err { OnErr result (self.new ≡ self.old) }
     {
         let mut goals = self.mapped()?;
@@ -196,55 +198,58 @@ impl<X: Cx> NotedGoals<X> {
     }
 
     /// The goals with the paths to them, in an order that is left open.
-    pub(super) fn iter(&self) -> Iter<'_, X>
+    pub(super) fn iter(&self) -> Iter<'_, I>
         ensures goals { result ≡ self.now }
-        ensures distinct { IsDistinct X.Input.eq (keys_of self.now) }
+        ensures distinct { IsDistinct I.eq (keys_of self.now) }
         ensures fits { length self.now < 2 ^ 63 }
     {
-        let goals = match &self.goals {
+        let left = match &self.goals {
             Goals::Few(goals) => GoalsLeft::Few(goals.iter()),
             Goals::Many(goals) => GoalsLeft::Many(goals.iter()),
         };
-        Iter { goals }
+        Iter { left }
     }
 }
 
 /// The goals with the paths to each.
 #[derive(Drop)]
-pub(super) struct Iter<'a, X: Cx> {
-    goals: GoalsLeft<'a, X>,
+pub(super) struct Iter<'a, I: Copy> {
+    left: GoalsLeft<'a, I>,
 }
 
 /// Those that are still to come.
 #[derive(Drop)]
-enum GoalsLeft<'a, X: Cx> {
-    Few(goal_list::Iter<'a, X>),
-    Many(mapped_goals::Iter<'a, X>),
+enum GoalsLeft<'a, I: Copy> {
+    Few(slice::Iter<'a, (I, PathsToNested)>),
+    Many(mapped_goals::Left<'a, I>),
 }
 
-impl<'a, X: Cx> Model for Iter<'a, X> {
+impl<'a, I: Copy> Model for Iter<'a, I> {
     ghost use Rattle.search_stack.specs.Nested.{NestedPaths};
 
-    ghost Value = { NestedPaths X.Input };
+    ghost Value = { NestedPaths I };
 
     ghost use Rattle.search_stack.specs.Kept.{goals_left};
 
-    ghost view = { λ s. goals_left s.goals };
+    ghost view = { λ s. goals_left s.left };
 }
 
-impl<'a, X: Cx> Iterator for Iter<'a, X> {
+impl<'a, I: Copy> Iterator for Iter<'a, I> {
     ghost use Rattle.std.specs.Iterator.{YieldsFirst, item_count};
 
-    type Item = (X::Input, PathsToNested);
+    type Item = (I, PathsToNested);
 
     ghost next_gives = { YieldsFirst (λ goals. goals) };
 
     ghost remaining = { item_count (λ goals. goals) };
 
-    fn next(&mut self) -> Option<(X::Input, PathsToNested)> {
-        match &mut self.goals {
-            GoalsLeft::Few(goals) => goals.next(),
-            GoalsLeft::Many(goals) => goals.next(),
+    fn next(&mut self) -> Option<(I, PathsToNested)> {
+        match &mut self.left {
+            GoalsLeft::Few(goals) => Some(*goals.next()?),
+            GoalsLeft::Many(goals) => {
+                let (input, noted) = goals.noted.next()?;
+                Some((*input, goals.raises.paths_now(*noted)))
+            }
         }
     }
 }

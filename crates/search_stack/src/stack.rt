@@ -1,5 +1,6 @@
 //! The goals under evaluation, from the first one up.
-ghost use Rattle.std.specs.Prelude.{◌≡◌, ℕ, ◌+◌, ◌-◌, ◌^◌, ◌<◌, List, [], ◌∷◌, ◌++◌, length, IfOk, OnErr, IfSome, is_some, IsTrue, ◌↔◌, None, false, slice_index_or, map};
+ghost use Rattle.std.specs.Prelude.{◌≡◌, ℕ, ◌+◌, ◌-◌, ◌^◌, ◌<◌, List, [], ◌∷◌, ◌++◌, length, IfOk, OnOk, OnErr, IfSome, Some, is_some, IsTrue, ◌↔◌, None, false, slice_index_or, drop, map, vec_len, vec_capacity};
+ghost use Rattle.std.specs.HashMap.{Updates};
 ghost use Rattle.std.specs.Option.{option_map};
 ghost use Rattle.std.specs.Slice.Iter.{iter_rest};
 ghost use Rattle.search_stack.specs.Words.{position_of, TellsKinds};
@@ -15,6 +16,7 @@ use cycle_heads::usages::HeadUsages;
 use search_context::context::{Cx, NoMemory, NodeId};
 use std::alloc::Global;
 use std::collections::HashMap;
+use std::hash::Hash;
 use std::marker::Model;
 use std::ops::Index;
 use std::slice;
@@ -188,17 +190,24 @@ impl<X: Cx> Stack<X> {
             × (self.new ≡ self.old ++ entry ∷ [])) }
         ensures err { OnErr result (self.new ≡ self.old) }
     {
-        let below = self.steps.len();
-        let steps = self
-            .last_steps()
-            .with_step(entry.step_kind_from_parent, below);
-        self.entries.reserve(1)?;
-        self.steps.reserve(1)?;
-        let depth = self.entries.len();
-        self.depths.insert(entry.input, depth)?;
+        let steps = self.steps_with(entry.step_kind_from_parent);
+        let depth = note_place(
+            &mut self.entries,
+            &mut self.steps,
+            &mut self.depths,
+            entry.input,
+            steps,
+        )?;
         self.entries.push_reserved(entry);
-        self.steps.push_reserved(steps);
-        Ok(StackDepth::new(depth))
+        Ok(depth)
+    }
+
+    /// Where the last steps of the stack will be with one more step.
+    fn steps_with(&self, kind: PathKind) -> LastSteps
+        ensures { TellsKinds result (map (λ e. e.step_kind_from_parent) self.now ++ kind ∷ []) }
+    {
+        let below = self.steps.len();
+        self.last_steps().with_step(kind, below)
     }
 
     /// Pops the last entry. It takes no memory, and a large stack that empties gives some back.
@@ -231,6 +240,31 @@ impl<X: Cx> Stack<X> {
             None => LastSteps::new(),
         }
     }
+}
+
+/// Notes where the next input will stand, and its step, and makes room for its entry. A refusal leaves all as it was.
+fn note_place<E, S: Copy, I: Eq + Hash + Copy>(
+    entries: &mut Vec<E>,
+    steps: &mut Vec<S>,
+    depths: &mut HashMap<I, usize>,
+    input: I,
+    step: S,
+) -> Result<StackDepth, NoMemory>
+    ensures place { IfOk result (λ depth. depth.0 ≡ length entries.old.items) }
+    ensures noted { OnOk result
+        (Updates I.eq depths.old depths.new input (Some (length entries.old.items))) }
+    ensures entries { entries.new.items ≡ entries.old.items }
+    ensures room { OnOk result (vec_len entries.new < vec_capacity entries.new) }
+    ensures step { OnOk result (steps.new.items ≡ steps.old.items ++ step ∷ []) }
+    ensures no_step { OnErr result (steps.new.items ≡ steps.old.items) }
+    ensures err { OnErr result (depths.new.entries ≡ depths.old.entries) }
+{
+    entries.reserve(1)?;
+    steps.reserve(1)?;
+    let depth = entries.len();
+    depths.insert(input, depth)?;
+    steps.push_reserved(step);
+    Ok(StackDepth::new(depth))
 }
 
 impl<X: Cx> Stack<X> {
@@ -299,7 +333,7 @@ impl<X: Cx> Stack<X> {
         ensures { result ≡ step_kinds_above self.now head.0 }
     {
         CycleStepKinds {
-            above: &self.entries[head.index() + 1..],
+            above: past(self.entries.as_slice(), head.index()).iter(),
         }
     }
 
@@ -314,19 +348,28 @@ impl<X: Cx> Stack<X> {
     }
 }
 
+/// The entries past the one at that place.
+fn past<E>(entries: &[E], place: usize) -> &[E]
+    requires { place < length entries.now }
+    ensures { result.now ≡ drop (place + 1) entries.now }
+{
+    &entries[place + 1..]
+}
+
 /// The kinds of the steps above a goal on the stack, from below.
 #[derive(Drop)]
 pub struct CycleStepKinds<'a, X: Cx> {
-    above: &'a [StackEntry<X>],
+    above: slice::Iter<'a, StackEntry<X>>,
 }
 
 impl<'a, X: Cx> Model for CycleStepKinds<'a, X> {
     ghost use Rattle.std.specs.Prelude.{List, map};
+    ghost use Rattle.std.specs.Slice.Iter.{iter_rest};
     ghost use Rattle.search_stack.specs.Below.{PathKind};
 
     ghost Value = { List PathKind };
 
-    ghost view = { λ s. map (λ e. e.step_kind_from_parent) s.above.now };
+    ghost view = { λ s. map (λ e. e.step_kind_from_parent) (iter_rest s.above) };
 }
 
 impl<'a, X: Cx> Iterator for CycleStepKinds<'a, X> {
@@ -339,8 +382,6 @@ impl<'a, X: Cx> Iterator for CycleStepKinds<'a, X> {
     ghost remaining = { item_count (λ kinds. kinds) };
 
     fn next(&mut self) -> Option<PathKind> {
-        let (first, above) = self.above.split_first()?;
-        self.above = above;
-        Some(first.step_kind_from_parent)
+        Some(self.above.next()?.step_kind_from_parent)
     }
 }

@@ -14,7 +14,7 @@ whole size new rest is = take-append-le size new rest (omega (arith, is)) ∙ ta
 
 pub invariant_of-self : goal.invariant_of-self
 invariant_of-self g c =
-    let same = g.X.Input.PartialEq.eq in
+    let same = g.I.PartialEq.eq in
     let new = c.raise_each.new.goals in
     let items = c.self.inside.goals.items in
     let raised : new ≡ map (λ goal. (goal.0, extended goal.1 c.args.step)) items = c.raise_each.ensures ∙ ap (map (λ goal. (goal.0, extended goal.1 c.args.step))) c.as_mut_slice.ensures.value in
@@ -23,7 +23,7 @@ invariant_of-self g c =
 
 pub returns : goal.returns
 returns g c = λ input.
-    let same = g.X.Input.PartialEq.eq in
+    let same = g.I.PartialEq.eq in
     let new = c.raise_each.new.goals in
     let items = c.self.inside.goals.items in
     let raised : new ≡ map (λ goal. (goal.0, extended goal.1 c.args.step)) items = c.raise_each.ensures ∙ ap (map (λ goal. (goal.0, extended goal.1 c.args.step))) c.as_mut_slice.ensures.value in

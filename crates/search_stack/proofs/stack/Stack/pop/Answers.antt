@@ -21,7 +21,10 @@ invariant_of-self g c =
     let parts : all ≡ rest ++ c.unwrap.result ∷ [] = grind (arith, common_steps) in
     let last : c.last.result.now ≡ c.unwrap.result = last_of all rest c.unwrap.result c.last.result.now parts (rw (← c.self.view_is) at c.last.ensures) in (
       IsIndex-pop g.X.Input.PartialEq.eq g.met.X.Input.Eq.laws g.met.X.Cx.same_input _ _ _ (map (λ e. e.input) c.self.inside.entries.items) c.unwrap.result.input
-          c.self.invariant.0 (grind (arith, common_steps, map-append)) (λ q. rw (← last) (c.remove.ensures.updates.0 q)),
+          c.self.invariant.0 (ap (map (λ e. e.input)) parts ∙ map-append (λ e. e.input) rest (c.unwrap.result ∷ [])) (λ q. rw (← last) (c.remove.ensures.updates.0 q)),
       AreLastSteps-pop _ (map (λ e. e.step_kind_from_parent) c.self.inside.entries.items) _ c.unwrap.result.step_kind_from_parent _ _
-          (grind (arith, common_steps, map-append)) (grind (arith, common_steps)) c.pop.ensures.rest c.self.invariant.1,
+          (ap (map (λ e. e.step_kind_from_parent)) parts ∙ map-append (λ e. e.step_kind_from_parent) rest (c.unwrap.result ∷ [])) c.self.inside.steps.ok.0 c.pop.ensures.rest c.self.invariant.1,
     )
+
+pub last-requires : goal.last-requires
+last-requires g c = record { some = rw c.give_room_back.ensures c.requires.some }
