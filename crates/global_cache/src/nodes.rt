@@ -61,10 +61,7 @@ impl<D: Delegate> GlobalCache<D> {
             IsRun (verdicts D.Cx.Cx) (D.script self.now.cx n.now.input) self.now.nodes
             (run_of n.now)) }
     {
-        match self.nodes.get(node.0)? {
-            Slot::Open(_) => None,
-            Slot::Finished(finished) => Some(finished),
-        }
+        self.nodes.finished(node.0)
     }
 
     /// The number that the next node gets. It counts all nodes that ever were opened, also those that
