@@ -140,7 +140,7 @@ impl<I: Copy, R: Drop> NodeList<I, R> {
         edges: Vec<Edge<I>>,
         outcome: R,
     )
-        requires { IsSome (open_goal self.old number) }
+        requires is_open { IsSome (open_goal self.old number) }
         ensures { self.new ≡ with_run self.old number
             (ended_run replies.items edges.items outcome) }
     {
