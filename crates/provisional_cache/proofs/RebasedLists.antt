@@ -1,5 +1,6 @@
 -- Lists that are changed where they stand, of which some elements are given up, and a map of such lists.
-use Rattle.std.proofs.Common.{arith, ◌≡◌, ◌≢◌, ℕ, ◌+◌, ◌<◌, ◌==◌, Bool, true, false, cond, IsTrue, List, [], ◌∷◌, ◌++◌, length, take, drop, get_or, slice_set, All, Option, Some, None, refl, sym, ap, ◌∙◌, subst, append_assoc}
+use Rattle.std.proofs.Common.{arith, ◌≡◌, ◌≢◌, ℕ, ◌+◌, ◌<◌, ◌==◌, Bool, true, false, cond, not, IsTrue, ◌↔◌, List, [], ◌∷◌, ◌++◌, length, take, drop, get_or, slice_set, All, Option, Some, None, refl, sym, ap, ◌∙◌, subst, append_assoc}
+use Rattle.std.proofs.lemmas.Bool.{eqb-true}
 use Rattle.std.proofs.lemmas.List.{drop_more, drop-set-lt, take_more_set}
 use Rattle.std.proofs.lemmas.List.Elements.{All-head, All-rest, All-tail, filter_map-append}
 use Rattle.std.proofs.lemmas.Map.{lookup-none}
@@ -48,6 +49,18 @@ has_element list is none =
     let none_left : vec_len list ≡ 0 = omega (arith, ap length none) in
     let empty : (vec_len list == 0) ≡ true = ap (λ n. n == 0) none_left in
     cc
+
+no_element : {E : Type 0} (list : List E) → length list ≡ 0 → list ≡ []
+no_element [] none = refl
+no_element (e ∷ es) none = absurd (omega arith)
+
+-- so whether it has one is known
+pub tells_element : {E : Type 0} (list : Vec E) (is_empty : Bool) → is_empty ≡ (vec_len list == 0) → IsTrue (not is_empty) ↔ (list.items ≢ [])
+tells_element list true is =
+    let ok = list.ok in
+    let none : vec_len list ≡ 0 = eqb-true (vec_len list) 0 (sym is) in
+    (λ no. absurd cc, λ some. absurd (some (no_element list.items (omega (arith, none)))))
+tells_element list false is = (λ _. has_element list is, λ _. refl)
 
 -- each list that is left has an element
 pub left_have : {I E : Type 0} (test : I → Bool) (kept : List (I × Vec E)) → All (λ e. e.1.items ≢ []) kept → IfSome (lookup test (lists_of kept)) (λ list. list ≢ [])
