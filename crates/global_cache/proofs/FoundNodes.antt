@@ -20,6 +20,10 @@ found_place numbers number place is =
 pub last_place : (numbers more : List ℕ) (number place : ℕ) → more ≡ numbers ++ number ∷ [] → place ≡ length numbers → slice_get more place ≡ Some number
 last_place numbers more number place is last = ap₂ slice_get is last ∙ get_end numbers number
 
+-- nothing is found
+pub Finds-nothing : (numbers targets : List ℕ) → Finds numbers numbers targets
+Finds-nothing numbers targets = record { stays = λ at n h. h; only = λ at n h. inl h }
+
 -- one number is found
 pub Finds-push : (numbers more : List ℕ) (number : ℕ) → more ≡ numbers ++ number ∷ [] → Finds numbers more (number ∷ [])
 Finds-push numbers more number is = record {
@@ -56,6 +60,10 @@ same_originals numbers more stays (e ∷ edges) inside =
     ap₂ (λ t rest. record { kind = e.kind; input = e.input; target = t } ∷ rest)
     (same_number numbers more e.target stays (inside zero e refl))
     (same_originals numbers more stays edges (λ i f h. inside (suc i) f h))
+
+-- no edge is placed yet
+pub none_placed : {I : Type 0} (numbers : List ℕ) (placed : List (Edge I)) → placed ≡ [] → ArePlaced numbers [] placed
+none_placed numbers placed none = subst (ArePlaced numbers []) (sym none) (record { same = refl; inside = λ i e there. absurd cc })
 
 -- one more edge is placed
 pub ArePlaced-push : {I : Type 0} (numbers more : List ℕ) (edges placed : List (Edge I)) (e : Edge I) (target : ℕ) → ((i n : ℕ) → slice_get numbers i ≡ Some n → slice_get more i ≡ Some n) → slice_get more target ≡ Some e.target → ArePlaced numbers edges placed → ArePlaced more (edges ++ e ∷ []) (placed ++ record { kind = e.kind; input = e.input; target = target } ∷ [])

@@ -1,5 +1,5 @@
 -- Marking what is reached: one number after the other, and then what the marked nodes lead to.
-use Rattle.std.proofs.Common.{◌≡◌, ◌⊎◌, ℕ, zero, suc, ◌+◌, ◌<◌, ◌≤◌, Bool, true, false, List, [], ◌∷◌, ◌++◌, map, None, Option, Some, drop, length, get_or, replicate, take, slice_get, slice_set, Contains, refl, sym, ◌∙◌, ap, subst, inl, inr, arith, length-append}
+use Rattle.std.proofs.Common.{◌≡◌, ◌⊎◌, ℕ, zero, suc, ◌+◌, ◌<◌, ◌≤◌, Bool, true, false, List, [], ◌∷◌, ◌++◌, map, None, Option, Some, Result, Ok, Err, OnOk, drop, length, get_or, replicate, take, slice_get, slice_set, Contains, refl, sym, ◌∙◌, ap, subst, inl, inr, arith, length-append}
 use Rattle.std.specs.List.{refill}
 use Rattle.std.proofs.Math.ListN.{length-set}
 use Rattle.std.proofs.Math.Seq.{take-append_seam}
@@ -321,6 +321,11 @@ module _ {I R : Type 0} (held : List (Held I R)) where
 
         pub followed_marks : length old ≡ length held → MarksFrom held number old marked
         followed_marks each = record { each = f.each ∙ sym each; stays = f.stays; here = f.here; found = f.found }
+
+-- what is so where a call was not refused for two things that are so there
+pub when_ok : {E P Q S : Type 0} (r : Result (Unit {0}) E) → (P → Q → S) → OnOk r P → OnOk r Q → OnOk r S
+when_ok (Ok _) both p q = both p q
+when_ok (Err _) both p q = tt
 
 -- ---- one root after the other
 

@@ -1,9 +1,10 @@
 -- The cache's list of nodes in the words of its clauses: what a call of the list makes of the cache.
 use Rattle.std.proofs.Common.{◌≡◌, ℕ, Bool, List, [], ◌∷◌, ◌++◌, Option, None, Some, Result, Ok, Err, is_ok, IsSome, slice_get, refl, sym, ◌∙◌, ap, subst}
 use Rattle.std.specs.Prelude.{IfOk, IfSome, OnErr}
-use Rattle.std.specs.Option.{IsSomeAnd}
+use Rattle.std.specs.Option.{IsSomeAnd, option_map}
 use Rattle.global_cache.specs.Below.{Node, Request, Reply, Verdicts}
-use Rattle.global_cache.specs.Words.{Slot, Finished, StoredResult, EndedRun, CacheNode, Cache, open_goal, open_node, with_run, IsRun, AreRuns, Store, run_of, ended_node, node_of}
+use Rattle.global_cache.specs.Words.{StoredResult, EndedRun, CacheNode, Cache, finished_node, open_goal, open_node, with_run, IsRun, AreRuns, Store, run_of, ended_node}
+use Rattle.global_cache.proofs.Finished.{found_finished}
 use Rattle.global_cache.proofs.NodeLists.{appended}
 
 -- an open node is appended, or none is
@@ -45,8 +46,10 @@ module _ {X I R A T : Type 0} (cx : X) (nodes : List (CacheNode I R)) (results :
       pub cache_ended : record { cx = cx; nodes = more; results = results } ≡ record cache { nodes = with_run cache.nodes k run }
       cache_ended = λ i. record { cx = (view i).cx; nodes = nodes_ended i; results = (view i).results }
 
-  -- a finished slot is a run of its goal
-  pub finished_is_run : (says : Verdicts R) (scripts : X → I → List (Reply R) → Request I R) (at : ℕ) (n : Node I R) (slot : Slot I R) → AreRuns says (scripts cx) nodes → slice_get nodes at ≡ Some (node_of slot) → slot ≡ Finished n → IsRun says (scripts cache.cx n.input) cache.nodes (run_of n)
-  finished_is_run says scripts at n slot runs there is =
-      subst (λ c. IsRun says (scripts c.cx n.input) c.nodes (run_of n)) view
-      (runs at (ended_node n) (run_of n) (there ∙ ap (λ s. Some (node_of s)) is) refl)
+  -- a finished node that is lent is a run of its goal
+  pub lent_is_run : {A : Type 0} (now : A → Node I R) (says : Verdicts R) (scripts : X → I → List (Reply R) → Request I R) (at : ℕ) (lent : Option A)
+      → AreRuns says (scripts cx) nodes → option_map (λ n. ended_node (now n)) lent ≡ finished_node nodes at → IfSome lent (λ n. IsRun says (scripts cache.cx (now n).input) cache.nodes (run_of (now n)))
+  lent_is_run now says scripts at None runs is = tt
+  lent_is_run now says scripts at (Some n) runs is =
+      subst (λ c. IsRun says (scripts c.cx (now n).input) c.nodes (run_of (now n))) view
+      (runs at (ended_node (now n)) (run_of (now n)) (found_finished (slice_get nodes at) (ended_node (now n)) (sym is)) refl)

@@ -1,6 +1,6 @@
 -- What holds of every cache still holds when an open node is appended, when the run of an open node ends, and when a result
 -- is stored. What a look-up gives is worth as much.
-use Rattle.std.proofs.Common.{◌≡◌, Bool, true, List, ℕ, Option, Result, Ok, Err, sym, subst, subst₂}
+use Rattle.std.proofs.Common.{◌≡◌, Bool, true, List, [], ◌∷◌, ℕ, Option, Result, Ok, Err, sym, subst, subst₂}
 use Rattle.std.specs.Prelude.{OnOk, OnErr}
 use Rattle.std.specs.Option.{IsSomeAnd, IfSome, option_map}
 use Rattle.global_cache.specs.Below.{Request, Reply, EvaluationResult, NestedPaths, NodeId, Verdicts}
@@ -8,6 +8,13 @@ use Rattle.global_cache.specs.Words.{CacheData, Place, StoredResult, EndedRun, C
 use Rattle.global_cache.proofs.Collecting.{AreRuns-collected, AreSoundResults-collected}
 use Rattle.global_cache.proofs.NodeLists.{appended, AreRuns-appended, AreRuns-ended, KeepsGoals-appended, Grown-appended, KeepsGoals-ended, Grown-ended}
 use Rattle.global_cache.proofs.Stored.{AreSoundResults-grown, AreSoundResults-stored, IsWorth, result_is_worth}
+
+-- a cache without nodes and results
+pub IsSoundCache-empty : {X I R A T : Type 0} (same : I → I → Bool) (says : Verdicts R) (scripts : X → I → List (Reply R) → Request I R) (cx : X) (nodes : List (CacheNode I R)) (results : Store I (StoredResult X I R A T))
+    → nodes ≡ [] → results ≡ [] → IsSoundCache same says scripts (record { cx = cx; nodes = nodes; results = results })
+IsSoundCache-empty same says scripts cx [] [] no_node no_result = record { runs = λ at n run there. absurd cc; results = λ input place s there. absurd cc }
+IsSoundCache-empty same says scripts cx (n ∷ nodes) results no_node no_result = absurd cc
+IsSoundCache-empty same says scripts cx [] (r ∷ results) no_node no_result = absurd cc
 
 module _ {X I R A T : Type 0} (same : I → I → Bool) (says : Verdicts R) (scripts : X → I → List (Reply R) → Request I R) (cache : Cache X I R A T) (sound : IsSoundCache same says scripts cache) where
   pub IsSoundCache-appended : (grew : Bool) (goal : I) → IsSoundCache same says scripts (record cache { nodes = appended grew cache.nodes goal })

@@ -2,7 +2,7 @@
 ghost use Rattle.std.specs.Prelude.{◌≡◌, ◌≤◌, Bool, true, false, ◌∷◌, [], IfSome};
 ghost use Rattle.std.specs.Option.{option_copied, option_map};
 ghost use Rattle.global_cache.specs.Definite.{HasGraph};
-ghost use Rattle.global_cache.specs.Hits.{first_accepted, hit_at, overflows, successes, usable};
+ghost use Rattle.global_cache.specs.Hits.{first_accepted, hit_at, successes, usable};
 ghost use Rattle.search_stack.specs.Hit.{hit_of};
 ghost use Rattle.search_stack.specs.Nested.{NestedPaths};
 ghost use Rattle.search_context.specs.Rank.{IsBelowRank, IsPlain};
@@ -72,7 +72,7 @@ fn usable_result<'a, X: Cx, T: NestedTest<X>>(
         return Some(hit);
     }
     let overflow = results.overflow_at(input, available.0);
-    use_overflow(overflow, available, test)
+    overflow?.used_at(available.0, true, test)
 }
 
 // The success, where it may be used at the available depth.
@@ -90,19 +90,6 @@ fn use_success<'a, X: Cx, T: NestedTest<X>>(
         return None;
     }
     stored.used_at(stored.required_depth, false, test)
-}
-
-// The result that met overflow at the available depth, where it may be used.
-fn use_overflow<'a, X: Cx, T: NestedTest<X>>(
-    overflow: Option<&'a StoredResult<X>>,
-    available: AvailableDepth,
-    test: &T,
-) -> Option<CacheData<'a, X>>
-    ensures { option_map hit_of result
-        ≡ first_accepted (T.accepts test.now)
-        (overflows available.0 (option_copied overflow.entry)) }
-{
-    overflow?.used_at(available.0, true, test)
 }
 
 impl<X: Cx> StoredResult<X> {

@@ -6,6 +6,7 @@ ghost use Rattle.global_cache.specs.Words.{HasGraph, Finds, IsCopyFrom, IsWhole,
 
 use crate::GlobalCache;
 use crate::found::Found;
+use crate::node_list::NodeList;
 use search_context::context::{Cx, Delegate, NoMemory, Node, NodeId, ProofGraph};
 use std::alloc::Global;
 
@@ -56,18 +57,29 @@ impl<D: Delegate> GlobalCache<D> {
             (IsWhole self.now.nodes root.0 → ⊥)
             (λ nodes. IsCopyFrom self.now.nodes root.0 nodes.items)) }
     {
-        let alloc = self.nodes.allocator();
-        let mut found = Found::new(alloc);
-        found.place_of(root.0)?;
-        let mut nodes = Vec::new(alloc);
-        while let Some(number) = found.number_at(nodes.len()) {
-            let Some(finished) = self.node(NodeId(number)) else {
-                return Ok(None);
-            };
-            nodes.push(copied(alloc, &mut found, finished)?)?;
-        }
-        Ok(Some(nodes))
+        copied_nodes(&self.nodes, root)
     }
+}
+
+// What is reached from a node of the list, if all of that is finished.
+fn copied_nodes<I: Copy, R: Copy>(
+    nodes: &NodeList<I, R>,
+    root: NodeId,
+) -> Result<Option<Vec<Node<I, R>>>, NoMemory>
+    ensures { IfOk result (λ copy. MatchOption copy (IsWhole nodes.now root.0 → ⊥)
+        (λ copy. IsCopyFrom nodes.now root.0 copy.items)) }
+{
+    let alloc = nodes.allocator();
+    let mut found = Found::new(alloc);
+    found.place_of(root.0)?;
+    let mut copy = Vec::new(alloc);
+    while let Some(number) = found.number_at(copy.len()) {
+        let Some(finished) = nodes.finished(number) else {
+            return Ok(None);
+        };
+        copy.push(copied(alloc, &mut found, finished)?)?;
+    }
+    Ok(Some(copy))
 }
 
 // A copy of the node, whose edges lead to the places of their targets.

@@ -124,6 +124,30 @@ impl Marks {
         }
         Ok(())
     }
+
+    // Marks all that is reached from the roots, and from the last one, if there is one, where nothing is marked yet.
+    fn mark_all<I, R>(
+        &mut self,
+        held: &[Held<I, R>],
+        roots: &[NodeId],
+        last: Option<NodeId>,
+    ) -> Result<(), NoMemory>
+        requires rising { IsRising held.now }
+        requires none { AreNone (length held.now) self.old.marked.items self.old.waiting.items }
+        ensures { OnOk result (AreMarked held.now (map (λ r. r.0) (with_root last roots.now))
+            self.new.marked.items) }
+    {
+        // Roots are looked for from the end on, since most of them are new. Each is followed at once: what it leads
+        // to stands near it most of the time.
+        let end = held.len().saturating_sub(1);
+        for root in roots {
+            self.mark_from(held, end, root.0)?;
+        }
+        match last {
+            Some(root) => self.mark_from(held, end, root.0),
+            None => Ok(()),
+        }
+    }
 }
 
 // Of each of these nodes, whether it is reached by their edges from one of the roots, or from the last one, if there is
@@ -139,15 +163,7 @@ pub(super) fn marked_from<I, R>(
         AreMarked held.now (map (λ r. r.0) (with_root last roots.now)) marked.items) }
 {
     let mut marks = Marks::new(alloc, held.len())?;
-    // Roots are looked for from the end on, since most of them are new. Each is followed at once: what it leads to stands
-    // near it most of the time.
-    let end = held.len().saturating_sub(1);
-    for root in roots {
-        marks.mark_from(held, end, root.0)?;
-    }
-    if let Some(root) = last {
-        marks.mark_from(held, end, root.0)?;
-    }
+    marks.mark_all(held, roots, last)?;
     let Marks {
         marked,
         waiting: _,

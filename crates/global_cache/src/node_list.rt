@@ -1,6 +1,7 @@
 //! The list of numbered nodes, of which only those are held that were not let go.
 ghost use Rattle.std.specs.Prelude.{◌≡◌, ◌∷◌, ◌++◌, ◌<◌, ℕ, Bool, [], length, count_by, slice_get, Some, IfOk, IsSome, MatchOption, OnOk, OnErr};
-ghost use Rattle.global_cache.specs.Words.{open_node as new_node, open_goal, with_run, ended_run, node_of, is_held, with_root, AreLive, Collected, IsGone, StayBefore};
+ghost use Rattle.std.specs.Option.{option_map};
+ghost use Rattle.global_cache.specs.Words.{open_node as new_node, open_goal, finished_node, with_run, ended_node, ended_run, node_of, is_held, with_root, AreLive, Collected, IsGone, StayBefore};
 
 use crate::held::{place_from, place_of};
 use crate::marking::{keep_from, marked_from};
@@ -121,6 +122,16 @@ impl<I: Copy, R: Drop> NodeList<I, R> {
         Some(&held.slot)
     }
 
+    /// The node, if it is held and its run has ended.
+    pub(super) fn finished(&self, number: usize) -> Option<&Node<I, R>>
+        ensures { option_map (λ n. ended_node n.now) result ≡ finished_node self.now number }
+    {
+        match self.get(number)? {
+            Slot::Open(_) => None,
+            Slot::Finished(node) => Some(node),
+        }
+    }
+
     /// Ends the run of an open node. It takes no memory.
     pub(super) fn finish(
         &mut self,
@@ -129,7 +140,7 @@ impl<I: Copy, R: Drop> NodeList<I, R> {
         edges: Vec<Edge<I>>,
         outcome: R,
     )
-        requires { IsSome (open_goal self.old number) }
+        requires is_open { IsSome (open_goal self.old number) }
         ensures { self.new ≡ with_run self.old number
             (ended_run replies.items edges.items outcome) }
     {

@@ -2,7 +2,7 @@
 ghost use Rattle.std.specs.Prelude.{◌≡◌, ◌∷◌, ◌++◌, [], count_by, length, IfOk, OnErr, IfSome, IsSome};
 ghost use Rattle.std.specs.Option.{is_some, option_map};
 ghost use Rattle.global_cache.specs.Below.{verdicts};
-ghost use Rattle.global_cache.specs.Words.{open_node as new_node, open_goal, finished_node, with_run, IsRun, KeepsNodes, KeepsFinished, KeepsGoals, HasGrown, ended_run, node_of, run_of, ended_node, is_held};
+ghost use Rattle.global_cache.specs.Words.{open_node as new_node, open_goal, finished_node, with_run, IsRun, KeepsNodes, KeepsFinished, KeepsGoals, HasGrown, ended_run, run_of, ended_node, is_held};
 
 use crate::GlobalCache;
 use crate::node_list::Slot;
@@ -61,10 +61,7 @@ impl<D: Delegate> GlobalCache<D> {
             IsRun (verdicts D.Cx.Cx) (D.script self.now.cx n.now.input) self.now.nodes
             (run_of n.now)) }
     {
-        match self.nodes.get(node.0)? {
-            Slot::Open(_) => None,
-            Slot::Finished(finished) => Some(finished),
-        }
+        self.nodes.finished(node.0)
     }
 
     /// The number that the next node gets. It counts all nodes that ever were opened, also those that

@@ -1,12 +1,14 @@
 //! The map of the stored results, by goal and place.
-ghost use Rattle.std.specs.Prelude.{◌≡◌, [], OnOk, OnErr};
+ghost use Rattle.std.specs.Prelude.{◌≡◌, [], None, OnOk, OnErr, Some};
+ghost use Rattle.std.specs.HashMap.{get, Updates};
 ghost use Rattle.std.specs.Option.{option_copied};
 ghost use Rattle.global_cache.specs.Words.{WithOverflow, stored_at, AnswersStoring, KeepsResults, Puts};
 
 use crate::results::{Place, StoredResult};
-use search_context::context::{Cx, Fault};
+use search_context::context::{Cx, Fault, NoMemory};
 use std::alloc::Global;
 use std::collections::HashMap;
+use std::hash::Hash;
 use std::marker::Model;
 
 /// The stored results, by goal and place.
@@ -74,12 +76,12 @@ impl<X: Cx> ResultStore<X> {
         if let Err(conflict) = self.agrees(input, place, &found) {
             return Err(conflict);
         }
-        match self.results.insert((input, place), found) {
-            Ok(_) => {
+        match insert_entry(&mut self.results, (input, place), found) {
+            Ok(()) => {
                 self.has_overflow |= place.is_of_overflow();
                 Ok(())
             }
-            Err(_) => Err(Fault::Memory),
+            Err(NoMemory) => Err(Fault::Memory),
         }
     }
 
@@ -109,4 +111,18 @@ impl<X: Cx> ResultStore<X> {
             None => Ok(()),
         }
     }
+}
+
+// Puts the value at the key. Only where the key is new, memory can be refused.
+fn insert_entry<K: Eq + Hash + Drop, V: Drop>(
+    map: &mut HashMap<K, V>,
+    key: K,
+    value: V,
+) -> Result<(), NoMemory>
+    ensures updates { OnOk result (Updates K.eq map.old map.new key (Some value)) }
+    ensures err { OnErr result (map.new.entries ≡ map.old.entries) }
+    ensures absent { OnErr result (get K.eq map.old key ≡ None) }
+{
+    map.insert(key, value)?;
+    Ok(())
 }

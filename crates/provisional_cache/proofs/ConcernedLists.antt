@@ -1,6 +1,7 @@
 -- Entries that aren't concerned by a goal that is done stay as they are.
-use Rattle.std.proofs.Common.{◌≡◌, ℕ, nat_eq, Bool, true, false, cond, ◌||◌, length, List, [], ◌∷◌, Option, Some, None, refl, sym, ap, ◌∙◌}
+use Rattle.std.proofs.Common.{◌≡◌, ℕ, ◌+◌, ◌<◌, nat_eq, Bool, true, false, cond, ◌||◌, drop, get_or, length, List, [], ◌∷◌, Option, Some, None, refl, sym, ap, ◌∙◌}
 use Rattle.std.proofs.lemmas.Bool.{or_parts}
+use Rattle.std.proofs.lemmas.List.{drop_more}
 use Rattle.std.specs.List.{cons_option, filter_map, list_any}
 use Rattle.std.specs.Map.{lookup}
 use Rattle.std.specs.Option.{option_map, unwrap_or}
@@ -49,3 +50,14 @@ module _ {L : Type 0} (test : L → Bool) (first : L) (rest left : List L) (is :
   -- where it doesn't, the others tell
   pub others_tell : test first ≡ false → list_any test rest ≡ found
   others_tell apart = sym (ap (λ b. b || list_any test rest) apart) ∙ ap (list_any test) (sym is) ∙ so_far
+
+-- the same where the list is gone through by its places
+module _ {L : Type 0} (test : L → Bool) (xs : List L) (i : ℕ) (x : L) (within : i < length xs) (is : x ≡ get_or xs i x) (so_far : list_any test (drop i xs) ≡ list_any test xs) where
+  starts : drop i xs ≡ x ∷ drop (i + 1) xs
+  starts = drop_more xs i x within ∙ ap (λ y. y ∷ drop (i + 1) xs) (sym is)
+
+  pub here_passes : test x ≡ true → true ≡ list_any test xs
+  here_passes passes = first_passes test x (drop (i + 1) xs) (drop i xs) starts (list_any test xs) so_far (sym passes)
+
+  pub later_tell : test x ≡ false → list_any test (drop (i + 1) xs) ≡ list_any test xs
+  later_tell apart = others_tell test x (drop (i + 1) xs) (drop i xs) starts (list_any test xs) so_far apart

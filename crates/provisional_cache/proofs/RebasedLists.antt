@@ -1,6 +1,8 @@
 -- Lists that are changed where they stand, of which some elements are given up, and a map of such lists.
-use Rattle.std.proofs.Common.{arith, ◌≡◌, ◌≢◌, ℕ, ◌+◌, ◌<◌, ◌==◌, Bool, true, false, cond, IsTrue, List, [], ◌∷◌, ◌++◌, length, take, drop, get_or, slice_set, All, Option, Some, None, refl, sym, ap, ◌∙◌, subst, append_assoc}
-use Rattle.std.proofs.lemmas.List.{drop_more, drop-set-lt, take_more_set}
+use Rattle.std.proofs.Common.{arith, ◌≡◌, ◌≢◌, ℕ, ◌+◌, ◌<◌, ◌≤◌, ◌==◌, Bool, true, false, cond, not, IsTrue, ◌↔◌, List, [], ◌∷◌, ◌++◌, length, take, drop, get_or, slice_set, All, Option, Some, None, refl, sym, ap, ◌∙◌, subst, append_assoc}
+use Rattle.std.proofs.lemmas.Bool.{eqb-true}
+use Rattle.std.proofs.Math.ListN.{drop_of_length-le}
+use Rattle.std.proofs.lemmas.List.{append-nil, drop_more, drop-set-lt, take_all, take_more_set}
 use Rattle.std.proofs.lemmas.List.Elements.{All-head, All-rest, All-tail, filter_map-append}
 use Rattle.std.proofs.lemmas.Map.{lookup-none}
 use Rattle.std.proofs.lemmas.Map.Entries.{none_past_head}
@@ -48,6 +50,28 @@ has_element list is none =
     let none_left : vec_len list ≡ 0 = omega (arith, ap length none) in
     let empty : (vec_len list == 0) ≡ true = ap (λ n. n == 0) none_left in
     cc
+
+-- all elements have become what they are to be
+pub all_become : {X Y : Type 0} (left becomes : X → Option Y) (xs : List X) (i : ℕ) (all : List Y) → length xs ≤ i
+    → filter_map left (take i xs) ++ filter_map becomes (drop i xs) ≡ all → filter_map left xs ≡ all
+all_become left becomes xs i all end so_far =
+    let done = filter_map left (take i xs) in
+    ap (filter_map left) (sym (take_all i xs end))
+    ∙ sym (append-nil done)
+    ∙ ap (λ l. done ++ filter_map becomes l) (sym (drop_of_length-le xs {i = i} end))
+    ∙ so_far
+
+no_element : {E : Type 0} (list : List E) → length list ≡ 0 → list ≡ []
+no_element [] none = refl
+no_element (e ∷ es) none = absurd (omega arith)
+
+-- so whether it has one is known
+pub tells_element : {E : Type 0} (list : Vec E) (is_empty : Bool) → is_empty ≡ (vec_len list == 0) → IsTrue (not is_empty) ↔ (list.items ≢ [])
+tells_element list true is =
+    let ok = list.ok in
+    let none : vec_len list ≡ 0 = eqb-true (vec_len list) 0 (sym is) in
+    (λ no. absurd cc, λ some. absurd (some (no_element list.items (omega (arith, none)))))
+tells_element list false is = (λ _. has_element list is, λ _. refl)
 
 -- each list that is left has an element
 pub left_have : {I E : Type 0} (test : I → Bool) (kept : List (I × Vec E)) → All (λ e. e.1.items ≢ []) kept → IfSome (lookup test (lists_of kept)) (λ list. list ≢ [])

@@ -1,7 +1,9 @@
 //! A map of lists that is changed where it stands.
 ghost use Rattle.std.specs.Prelude.{◌≡◌, ◌≢◌, [], List, Option, false, All, IfSome, IsTrue, OnErr, OnOk};
 ghost use Rattle.std.specs.List.{filter_map};
+ghost use Rattle.std.specs.HashMap.{IsUnique};
 ghost use Rattle.std.specs.Map.{lookup};
+ghost use Rattle.std.specs.Map.Calls.{CallableOnEachPair, CalledAtPair, RetainsPairs, TakesPair};
 ghost use Rattle.provisional_cache.specs.Words.{entries_at, lists_of, IsLeft};
 
 use search_context::context::NoMemory;
@@ -37,7 +39,8 @@ pub(super) fn change_lists<I: Eq + Hash + Copy, E: Drop, R: ListRule<I, E>>(
         → IfSome (lookup (I.eq input) (lists_of lists.new.entries)) (λ items. items ≢ [])) }
     ensures err { OnErr result (lists_of lists.new.entries ≡ []) }
 {
-    lists.retain(
+    retain_lists(
+        lists,
         |input, items|
             requires there { R.accepts rule.now items.old.items }
         { rule.change_list(*input, items) },
@@ -47,6 +50,18 @@ pub(super) fn change_lists<I: Eq + Hash + Copy, E: Drop, R: ListRule<I, E>>(
         return Err(NoMemory);
     }
     Ok(())
+}
+
+// `retain`, by a closure that calls leave as it is. What is asked of the closure has a name here.
+fn retain_lists<I: Eq + Hash + Copy, V: Drop, F: FnMut(&I, &mut V) -> bool>(
+    lists: &mut HashMap<I, V>,
+    keep: F,
+)
+    requires callable { CallableOnEachPair (CalledAtPair F.FnMut) (TakesPair F.FnMut) keep lists.old.entries }
+    ensures filtered { RetainsPairs (CalledAtPair F.FnMut) keep lists.old.entries lists.new.entries }
+    ensures was_unique { IsUnique I.eq lists.old }
+{
+    lists.retain(keep);
 }
 
 // Whether a list has no element.

@@ -33,7 +33,12 @@ pub(super) fn concerns_list<X: Cx>(entries: &[ProvisionalCacheEntry<X>], depth: 
     ensures { result ≡ list_any (λ entry.
         highest_passes (λ at _. nat_eq at depth.0) entry.heads) entries.now }
 {
-    entries.iter().any(|entry| concerns_entry(entry, depth))
+    for entry in entries {
+        if concerns_entry(entry, depth) {
+            return true;
+        }
+    }
+    false
 }
 
 // Whether the highest head of the entry is at the depth.

@@ -8,7 +8,9 @@ use Rattle.global_cache.proofs.Sound.{IsSoundCache-ended}
 use Rattle.global_cache.proofs.GlobalCache.finish_node.Goals as goal
 
 pub finish-requires : goal.finish-requires
-finish-requires g c = open_there c.self.inside.cx c.self.inside.nodes c.self.inside.results c.args.self.now c.self.view_is c.args.node.0 (record { replies = c.args.replies.items; edges = c.args.edges.items; outcome = c.args.outcome }) c.requires.is_open
+finish-requires g c = record {
+  is_open = open_there c.self.inside.cx c.self.inside.nodes c.self.inside.results c.args.self.now c.self.view_is c.args.node.0 (record { replies = c.args.replies.items; edges = c.args.edges.items; outcome = c.args.outcome }) c.requires.is_open;
+}
 
 pub invariant_of-self : goal.invariant_of-self
 invariant_of-self g c =

@@ -1,4 +1,4 @@
-use Rattle.std.proofs.Common.{None, sym, ap, ◌∙◌}
+use Rattle.std.proofs.Common.{None, Some, sym, ap, ◌∙◌}
 use Rattle.std.specs.Option.{option_copied, option_map}
 use Rattle.global_cache.specs.Words.{hit_of}
 use Rattle.global_cache.proofs.Hits.{finds_success, looks_up}
@@ -11,5 +11,5 @@ returns-in-Some g c =
 
 pub returns : goal.returns
 returns g c =
-    looks_up (g.T.NestedTest.accepts c.args.test.now) g.X.Input.PartialEq.eq c.args.results.now c.args.input c.args.available.0 (option_copied c.at-success.result) (option_copied c.overflow_at-overflow.result) None (option_map hit_of c.use_overflow.result)
-    c.at-success.ensures c.overflow_at-overflow.ensures (sym (ap (option_map hit_of) c.in_default.is) ∙ c.use_success.ensures) c.use_overflow.ensures
+    looks_up (g.T.NestedTest.accepts c.args.test.now) g.X.Input.PartialEq.eq c.args.results.now c.args.input c.args.available.0 (option_copied c.at-success.result) (Some c.in_ok-overflow.field-0.now) None (option_map hit_of c.used_at.result)
+    c.at-success.ensures c.in_ok-overflow.ensures (sym (ap (option_map hit_of) c.in_default.is) ∙ c.use_success.ensures) c.used_at.ensures

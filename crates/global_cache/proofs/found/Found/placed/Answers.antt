@@ -1,5 +1,7 @@
-use Rattle.std.proofs.Common.{map}
-use Rattle.global_cache.proofs.FoundNodes.{target_of, Finds-then, next_placed}
+use Rattle.std.proofs.Common.{map, subst}
+use Rattle.global_cache.specs.Words.{ArePlaced}
+use Rattle.global_cache.proofs.FoundNodes.{target_of, Finds-nothing, Finds-then, next_placed, none_placed}
+use Rattle.global_cache.proofs.MarkedNodes.{take_all}
 use Rattle.global_cache.proofs.found.Found.placed.Goals as goal
 
 pub returns-in_err-target-clause-finds : goal.returns-in_err-target-clause-finds
@@ -21,4 +23,16 @@ loop-edge-preserved g c = record {
   finds =
       Finds-then c.args.self.now c.loop-edge.self c.place_of.new.self (map (λ e. e.target) c.args.edges.now) c.edge-item.result.target
       (target_of c.args.edges.now c.loop-edge.edge-index c.edge-item.result c.loop-edge-test.true c.edge-item.is) c.loop-edge.invariant.finds c.place_of.ensures.finds;
+}
+
+pub returns : goal.returns
+returns g c = record {
+  placed = subst (λ edges. ArePlaced c.loop-edge.self edges c.loop-edge.placed.items) (take_all c.args.edges.now c.loop-edge.edge-index c.loop-edge-test.false) c.loop-edge.invariant.placed;
+  finds = c.loop-edge.invariant.finds;
+}
+
+pub loop-edge-init : goal.loop-edge-init
+loop-edge-init g c = record {
+  placed = none_placed c.args.self.now c.in_ok-placed.placed.items c.in_ok-placed.ensures.items;
+  finds = Finds-nothing c.args.self.now (map (λ e. e.target) c.args.edges.now);
 }

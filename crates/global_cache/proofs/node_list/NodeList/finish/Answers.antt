@@ -4,7 +4,7 @@ use Rattle.global_cache.proofs.node_list.NodeList.finish.Goals as goal
 
 pub unwrap-place-requires : goal.unwrap-place-requires
 unwrap-place-requires g c =
-    found_place c.self.inside.first_goal c.self.inside.held.items c.self.inside.next c.args.self.now c.self.invariant c.self.view_is c.args.number c.deref.result.now c.deref.ensures.value c.place_of.result c.place_of.ensures c.requires
+    found_place c.self.inside.first_goal c.self.inside.held.items c.self.inside.next c.args.self.now c.self.invariant c.self.view_is c.args.number c.deref.result.now c.deref.ensures.value c.place_of.result c.place_of.ensures c.requires.is_open
 
 pub index-requires : goal.index-requires
 index-requires g c =
@@ -24,4 +24,4 @@ invariant_of-self g c =
 pub returns : goal.returns
 returns g c =
     let has = place_found c.self.inside.held.items c.args.number c.deref.result.now c.deref.ensures.value c.place_of.result c.place_of.ensures c.unwrap-place.result c.unwrap-place.ensures in
-    ended_is c.self.inside.first_goal c.self.inside.held.items c.self.inside.next c.args.self.now c.self.invariant c.self.view_is c.args.number c.unwrap-place.result has c.index.result.now c.index.ensures _ c.input-input.ensures c.requires
+    ended_is c.self.inside.first_goal c.self.inside.held.items c.self.inside.next c.args.self.now c.self.invariant c.self.view_is c.args.number c.unwrap-place.result has c.index.result.now c.index.ensures _ c.input-input.ensures c.requires.is_open

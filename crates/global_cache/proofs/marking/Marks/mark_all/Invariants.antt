@@ -1,10 +1,10 @@
 use Rattle.std.proofs.Common.{◌≡◌, length, take}
 use Rattle.global_cache.specs.Words.{with_root}
 use Rattle.global_cache.proofs.MarkedNodes.{AreFollowed, numbers_of}
-use Rattle.global_cache.proofs.marking.marked_from.Given as goal
+use Rattle.global_cache.proofs.marking.Marks.mark_all.Given as goal
 
 abbrev pub invariant-loop-root : goal.invariant-loop-root
 invariant-loop-root g l = record {
-  followed : AreFollowed l.held (numbers_of (with_root l.last l.roots)) (numbers_of (take l.root-index l.roots)) l.marks.marked.items;
-  none_waits : length l.marks.waiting.items ≡ 0;
+  followed : AreFollowed l.held (numbers_of (with_root l.last l.roots)) (numbers_of (take l.root-index l.roots)) l.self.marked.items;
+  none_waits : length l.self.waiting.items ≡ 0;
 }
