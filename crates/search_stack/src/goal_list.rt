@@ -175,11 +175,7 @@ fn join_all<I: Eq + Hash + Copy>(
 
 /// Joins paths to a goal where there is room for one more.
 #[inline(never)]
-fn join_listed<I: Eq + Copy>(
-    goals: &mut Vec<(I, PathsToNested)>,
-    input: I,
-    paths: PathsToNested,
-)
+fn join_listed<I: Eq + Copy>(goals: &mut Vec<(I, PathsToNested)>, input: I, paths: PathsToNested)
     requires distinct { IsDistinct I.eq (keys_of goals.old.items) }
     requires room { vec_len goals.old < vec_capacity goals.old }
     ensures joins { JoinsPaths I.eq goals.old.items goals.new.items input paths }
