@@ -1,5 +1,5 @@
 //! A list of goals with the paths to each.
-ghost use Rattle.std.specs.Prelude.{◌≡◌, ◌+◌, ◌-◌, ◌^◌, ◌<◌, ◌≤◌, [], length, map, vec_len, vec_capacity, false, IsTrue, None, IsSome, IsOk, IfOk, OnOk, OnErr};
+ghost use Rattle.std.specs.Prelude.{◌≡◌, ◌+◌, ◌-◌, ◌^◌, ◌<◌, ◌≤◌, [], length, map, vec_len, vec_capacity, false, IsTrue, None, IfOk, OnOk, OnErr};
 ghost use Rattle.std.specs.List.{IsDistinct, position};
 ghost use Rattle.std.specs.Map.{keys_of};
 ghost use Rattle.std.specs.Option.{option_map};
