@@ -1,5 +1,5 @@
 //! A list of goals with the paths to each.
-ghost use Rattle.std.specs.Prelude.{◌≡◌, ◌+◌, ◌-◌, ◌^◌, ◌<◌, ◌≤◌, [], length, map, vec_len, vec_capacity, false, IsTrue, None, IsSome, IsOk, IfOk, OnOk, OnErr};
+ghost use Rattle.std.specs.Prelude.{◌≡◌, ◌+◌, ◌-◌, ◌^◌, ◌<◌, ◌≤◌, [], length, map, vec_len, vec_capacity, false, IsTrue, None, IfOk, OnOk, OnErr};
 ghost use Rattle.std.specs.List.{IsDistinct, position};
 ghost use Rattle.std.specs.Map.{keys_of};
 ghost use Rattle.std.specs.Option.{option_map};
@@ -175,11 +175,7 @@ fn join_all<I: Eq + Hash + Copy>(
 
 /// Joins paths to a goal where there is room for one more.
 #[inline(never)]
-fn join_listed<I: Eq + Copy>(
-    goals: &mut Vec<(I, PathsToNested)>,
-    input: I,
-    paths: PathsToNested,
-)
+fn join_listed<I: Eq + Copy>(goals: &mut Vec<(I, PathsToNested)>, input: I, paths: PathsToNested)
     requires distinct { IsDistinct I.eq (keys_of goals.old.items) }
     requires room { vec_len goals.old < vec_capacity goals.old }
     ensures joins { JoinsPaths I.eq goals.old.items goals.new.items input paths }

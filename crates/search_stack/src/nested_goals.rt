@@ -1,10 +1,9 @@
 //! The goals that were asked below a goal.
-ghost use Rattle.std.specs.Prelude.{◌≡◌, ◌↔◌, ◌^◌, ◌<◌, [], length, false, IsTrue, IsSome, is_some, IsOk, OnOk, OnErr};
-ghost use Rattle.std.specs.Option.{option_map};
+ghost use Rattle.std.specs.Prelude.{◌≡◌, ◌↔◌, ◌^◌, ◌<◌, [], length, IsTrue, IsSome, is_some, IsOk, OnOk, OnErr};
 ghost use Rattle.std.specs.List.{IsDistinct};
 ghost use Rattle.std.specs.Map.{keys_of};
 ghost use Rattle.search_stack.specs.Below.{extended};
-ghost use Rattle.search_stack.specs.Words.{after_step, paths_at, JoinsEach, JoinsPaths};
+ghost use Rattle.search_stack.specs.Words.{paths_at, JoinsEach, JoinsPaths};
 
 use crate::held;
 use crate::noted_goals::{self, NotedGoals};

@@ -1,5 +1,4 @@
-use Rattle.std.proofs.Common.{sym, subst}
-use Rattle.search_stack.specs.Words.{after_step, paths_noted, JoinsEach}
+use Rattle.search_stack.specs.Words.{after_step, paths_noted}
 use Rattle.search_stack.proofs.OwnGoal.{own-each}
 use Rattle.search_stack.proofs.mapped_goals.MappedGoals.join_each.Goals as goal
 

@@ -1,4 +1,4 @@
-use Rattle.std.proofs.Common.{◌≡◌, length, map, ap, ◌∙◌, arith}
+use Rattle.std.proofs.Common.{◌≡◌, length, map, arith}
 use Rattle.std.proofs.lemmas.Grind.{common_steps}
 use Rattle.search_stack.proofs.LastSteps.{TellsKinds-step}
 use Rattle.search_stack.proofs.stack.Stack.steps_with.Goals as goal
