@@ -175,18 +175,13 @@ impl<X: Cx, F: Drop, S: Drop> OpenGoals<X, F, S> {
         requires { 0 < length self.old }
         ensures { self.old ≡ (result.entry, result.run) ∷ self.new }
     {
-        self.give_room_back();
+        give_room_back(&mut self.runs);
+        let goals = self.runs.len();
         Popped {
-            scope: self.take_scope(),
+            scope: scopes::take(&mut self.scopes, goals),
             run: self.runs.pop().unwrap(),
             entry: self.stack.pop(),
         }
-    }
-
-    fn give_room_back(&mut self)
-        ensures { self.new ≡ self.old }
-    {
-        give_room_back(&mut self.runs);
     }
 
     /// Holds the scope, if there is one, for the newest goal. Where that is refused, the scope is dropped at once.
@@ -195,14 +190,6 @@ impl<X: Cx, F: Drop, S: Drop> OpenGoals<X, F, S> {
     {
         let goals = self.runs.len();
         scopes::hold(&mut self.scopes, goals, scope)
-    }
-
-    /// Takes the scope that is held for the newest goal, if there is one.
-    fn take_scope(&mut self) -> Option<S>
-        ensures { self.new ≡ self.old }
-    {
-        let goals = self.runs.len();
-        scopes::take(&mut self.scopes, goals)
     }
 
     /// A question of the newest goal was refused. Where memory is, a part of that may be noted.
