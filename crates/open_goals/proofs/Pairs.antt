@@ -1,5 +1,5 @@
 -- Two lists of one length, side by side, from their ends.
-use Rattle.std.proofs.Common.{◌≡◌, ℕ, zero, suc, get_or, slice_set, ◌+◌, List, [], ◌∷◌, ◌++◌, length, map, Bool, true, false, ◌||◌, Option, Some, None, is_some, refl, sym, ap, ap₂, ◌∙◌, zero-add, arith}
+use Rattle.std.proofs.Common.{◌≡◌, ℕ, zero, suc, get_or, slice_set, ◌+◌, List, [], ◌∷◌, ◌++◌, length, map, Bool, true, false, ◌||◌, Option, Some, None, Result, Ok, Err, OnOk, OnErr, is_some, refl, sym, ap, ap₂, ◌∙◌, zero-add, arith}
 use Rattle.std.specs.List.{position, list_any}
 use Rattle.std.proofs.lemmas.Bool.Decides.{nat_tests}
 use Rattle.std.proofs.Math.Bool.{or-false}
@@ -64,6 +64,13 @@ module _ {E F : Type 0} where
   pushed_paired es es' fs fs' e f view same is first second =
       let longer : length es' ≡ length fs' = omega (arith, same, ap length first, ap length second, length-append es (e ∷ []), length-append fs (f ∷ [])) in
       (longer, ap₂ (paired []) first second ∙ paired_push [] es fs e f same ∙ ap (λ l. (e, f) ∷ l) is)
+
+  -- both are pushed, or none
+  pub pushed_or_kept : {V R : Type 0} (r : Result V R) (es es' : List E) (fs fs' : List F) (e : E) (f : F) (view : List (E × F)) → length es ≡ length fs → paired [] es fs ≡ view → OnOk r ((es' ≡ es ++ e ∷ []) × (fs' ≡ fs ++ f ∷ [])) → OnErr r ((es' ≡ es) × (fs' ≡ fs)) → (length es' ≡ length fs') × OnOk r (paired [] es' fs' ≡ (e, f) ∷ view) × OnErr r (paired [] es' fs' ≡ view)
+  pushed_or_kept (Ok v) es es' fs fs' e f view same is pushed kept =
+      let both = pushed_paired es es' fs fs' e f view same is pushed.0 pushed.1 in
+      (both.0, both.1, tt)
+  pushed_or_kept (Err x) es es' fs fs' e f view same is pushed kept = (ap length kept.0 ∙ same ∙ sym (ap length kept.1), tt, ap₂ (paired []) kept.0 kept.1 ∙ is)
 
 -- what stands last in two lists of one length, and what the pairs are after either last element is changed
 pub record LastPair {E F : Type 0} (below : List (E × F)) (es : List E) (fs : List F) (n : ℕ) (d : F) : Type 0 where

@@ -1,7 +1,7 @@
 -- One step of the newest goal's frame.
-use Rattle.std.proofs.Common.{◌≡◌, ℕ, ◌-◌, ◌<◌, List, [], ◌∷◌, length, get_or, slice_set, Option, Some, None, refl, sym, ap, ◌∙◌, subst, arith}
-use Rattle.open_goals.specs.Below.{DelegateOf, CxOf, Request, StackEntry, CanTake, Steps, Verdict, Fault, Protocol, verdicts}
-use Rattle.open_goals.specs.Words.{Run, Received, received, requested, fault_of, paired, CanStep, IsVerdict, HasStepped, IsStepFault, OutOfOrder}
+use Rattle.std.proofs.Common.{◌≡◌, ℕ, ◌-◌, ◌<◌, List, [], ◌∷◌, length, get_or, slice_set, Option, Some, None, Result, Ok, Err, IfOk, IfErr, refl, sym, ap, ◌∙◌, subst, arith}
+use Rattle.open_goals.specs.Below.{DelegateOf, CxOf, Request, StackEntry, CanTake, Fault}
+use Rattle.open_goals.specs.Words.{Run, Received, paired, CanStep, HasStepped, IsRunFault, IsStepFault, NoMemoryLeft, OutOfOrder, RunOutOfMemory, RunOutOfOrder, RunSteps}
 use Rattle.open_goals.proofs.Pairs.{last_pair, length_of_view}
 use Rattle.open_goals.specs.OpenGoal.{OpenGoal}
 
@@ -18,28 +18,31 @@ module _ {D C V P F I R A T : Type 0} (G : DelegateOf D C V P F I R A T) (X : Cx
         let there : CanStep G X cx given.reply ((last.entry, run) ∷ last.rest) = subst (λ (x : Run C F I R A T). CanStep G X cx given.reply ((last.entry, x) ∷ last.rest)) (sym run_is) shown in
         record { cx = cx; goal = last.entry.input; replies = there.0; stood = there.1; is_fitting = there.2 }
 
-    module _ (n : ℕ) (run : Run C F I R A T) (at : n ≡ length fs - 1) (run_is : run ≡ get_or fs n run) (verdict : Verdict) (is_verdict : IsVerdict (verdicts X) given.reply verdict) (request : Request I R) (frame : F) (steps : Steps G.stands G.script run.frame given.reply request frame) where
-      -- the last run took the reply, and requested
-      pub last_stepped : (after : Run C F I R A T) → after ≡ record run { frame = frame; progress = requested (received run.progress given.reply verdict given.node) request } → fault_of (received run.progress given.reply verdict given.node) request ≡ None → G.left frame < G.left run.frame → HasStepped G X cx given request view (paired [] es (slice_set fs n after))
-      last_stepped after after_is orderly falls =
+    module _ (n : ℕ) (run : Run C F I R A T) (at : n ≡ length fs - 1) (run_is : run ≡ get_or fs n run) (after : Run C F I R A T) where
+      -- the last run stepped
+      pub last_stepped : (r : Result (Request I R) (Fault I R)) → IfOk r (λ request. RunSteps G X cx given request run after) → IfOk r (λ request. HasStepped G X cx given request view (paired [] es (slice_set fs n after)))
+      last_stepped (Err fault) stepped = tt
+      last_stepped (Ok request) stepped =
           let last = last_pair [] es fs n run same (omega (arith, some_run)) in
           record {
             entry = last.entry;
             run = run;
-            frame = frame;
-            verdict = verdict;
+            frame = stepped.frame;
+            verdict = stepped.verdict;
             below = last.rest;
             was = sym is ∙ last.is ∙ ap (λ (x : Run C F I R A T). (last.entry, x) ∷ last.rest) (sym run_is);
-            is = last.after_set after ∙ ap (λ (x : Run C F I R A T). (last.entry, x) ∷ last.rest) after_is;
-            is_verdict = is_verdict;
-            in_order = orderly;
-            falls = falls;
-            steps = steps;
+            is = last.after_set after ∙ ap (λ (x : Run C F I R A T). (last.entry, x) ∷ last.rest) stepped.is;
+            is_verdict = stepped.is_verdict;
+            in_order = stepped.in_order;
+            falls = stepped.falls;
+            steps = stepped.steps;
           }
 
-      -- or requested out of order
-      pub last_out_of_order : (number : ℕ) (fault : Fault I R) → fault_of (received run.progress given.reply verdict given.node) request ≡ Some number → fault ≡ Protocol number → IsStepFault G X cx given view fault
-      last_out_of_order number fault disorderly fault_is =
+      -- or could not
+      pub last_failed : (r : Result (Request I R) (Fault I R)) → IfErr r (λ fault. IsRunFault G X cx given run fault) → IfErr r (λ fault. IsStepFault G X cx given view fault)
+      last_failed (Ok request) failed = tt
+      last_failed (Err fault) (RunOutOfMemory memory) = NoMemoryLeft memory
+      last_failed (Err fault) (RunOutOfOrder frame verdict request number is_verdict steps disorderly fault_is) =
           let last = last_pair [] es fs n run same (omega (arith, some_run)) in
           OutOfOrder last.entry run frame verdict last.rest request number
           (sym is ∙ last.is ∙ ap (λ (x : Run C F I R A T). (last.entry, x) ∷ last.rest) (sym run_is)) is_verdict steps disorderly fault_is

@@ -1,12 +1,13 @@
 //! The goals under evaluation, each with the run of its frame.
-ghost use Rattle.std.specs.Prelude.{◌≡◌, ℕ, ◌+◌, ◌^◌, ◌<◌, List, [], ◌∷◌, length, false, Some, None, OnOk, OnErr, IfOk, IfErr, IfSome, is_some, map, reverse};
+ghost use Rattle.std.specs.Prelude.{◌≡◌, ℕ, ◌+◌, ◌^◌, ◌<◌, List, [], ◌∷◌, ◌++◌, length, false, Some, None, OnOk, OnErr, IfOk, IfErr, IfSome, is_some, map, reverse};
 ghost use Rattle.std.specs.List.{list_any};
 ghost use Rattle.std.specs.Option.{option_map};
-ghost use Rattle.open_goals.specs.Below.{position_of, verdicts};
-ghost use Rattle.open_goals.specs.Words.{CanStep, IsVerdict, HasStepped, IsStepFault, no_record};
+ghost use Rattle.open_goals.specs.Below.{CanTake, position_of, verdicts};
+ghost use Rattle.open_goals.specs.Words.{CanStep, IsVerdict, HasStepped, IsRunFault, IsStepFault, RunSteps, no_record};
 
 mod candidates;
 mod nodes;
+mod scopes;
 
 use crate::candidates::FinishedCandidates;
 use crate::progress::Progress;
@@ -17,6 +18,7 @@ use crate::update::{
 use cycle_heads::heads::CycleHeads;
 use cycle_heads::path::{PathKind, PathsToNested};
 use cycle_heads::usages::HeadUsages;
+use scopes::HeldScope;
 use search_context::context::{
     Answer, Cx, Delegate, Fault, NoMemory, NodeId, Reply, Request, Verdict,
 };
@@ -89,21 +91,12 @@ pub struct Popped<X: Cx, F: Drop, S: Drop> {
     pub scope: Option<S>,
 }
 
-/// A scope in which the result of a goal is compared with what is stored.
-#[derive(Drop)]
-struct HeldScope<S: Drop> {
-    /// How many goals there were when the goal was the newest one.
-    goals: usize,
-    scope: S,
-}
-
 /// The goals under evaluation with their runs. Clauses see them with the newest first.
 #[derive(Drop)]
 pub struct OpenGoals<X: Cx, F: Drop, S: Drop> {
     stack: Stack<X>,
     runs: Vec<Run<X, F>>,
-    /// The scopes that are held, each for its goal. No clause sees them: nothing depends on a scope but when it is
-    /// dropped.
+    /// The scopes that are held, each for its goal.
     scopes: Vec<HeldScope<S>>,
 }
 
@@ -174,10 +167,7 @@ impl<X: Cx, F: Drop, S: Drop> OpenGoals<X, F, S> {
         ensures ok { OnOk result (self.new ≡ (entry, run) ∷ self.old) }
         ensures err { OnErr result (self.new ≡ self.old) }
     {
-        self.runs.reserve(1)?;
-        self.stack.push(entry)?;
-        self.runs.push_reserved(run);
-        Ok(())
+        push_both(&mut self.stack, &mut self.runs, entry, run)
     }
 
     /// Pops the newest goal. Where there were very many, memory is given back.
@@ -185,41 +175,21 @@ impl<X: Cx, F: Drop, S: Drop> OpenGoals<X, F, S> {
         requires { 0 < length self.old }
         ensures { self.old ≡ (result.entry, result.run) ∷ self.new }
     {
-        self.give_room_back();
+        give_room_back(&mut self.runs);
+        let goals = self.runs.len();
         Popped {
-            scope: self.take_scope(),
+            scope: scopes::take(&mut self.scopes, goals),
             run: self.runs.pop().unwrap(),
             entry: self.stack.pop(),
         }
-    }
-
-    fn give_room_back(&mut self)
-        ensures { self.new ≡ self.old }
-    {
-        give_room_back(&mut self.runs);
     }
 
     /// Holds the scope, if there is one, for the newest goal. Where that is refused, the scope is dropped at once.
     pub fn hold(&mut self, scope: Option<S>) -> Result<(), NoMemory>
         ensures { self.new ≡ self.old }
     {
-        if let Some(scope) = scope {
-            let goals = self.runs.len();
-            self.scopes.push(HeldScope { goals, scope })?;
-        }
-        Ok(())
-    }
-
-    /// Takes the scope that is held for the newest goal, if there is one.
-    fn take_scope(&mut self) -> Option<S>
-        ensures { self.new ≡ self.old }
-    {
-        let newest = self.runs.len();
-        if self.scopes.last()?.goals != newest {
-            return None;
-        }
-        let held = self.scopes.pop()?;
-        Some(held.scope)
+        let goals = self.runs.len();
+        scopes::hold(&mut self.scopes, goals, scope)
     }
 
     /// A question of the newest goal was refused. Where memory is, a part of that may be noted.
@@ -395,6 +365,24 @@ impl<X: Cx, F: Drop, S: Drop> OpenGoals<X, F, S> {
     }
 }
 
+/// Adds a goal and its run. It knows nothing of runs, so that one which is refused is dropped as any value is.
+fn push_both<X: Cx, R: Drop>(
+    stack: &mut Stack<X>,
+    runs: &mut Vec<R>,
+    entry: StackEntry<X>,
+    run: R,
+) -> Result<(), NoMemory>
+    requires absent { position_of X.Input.eq entry.input stack.old ≡ None }
+    ensures ok { OnOk result ((stack.new ≡ stack.old ++ entry ∷ [])
+        × (runs.new.items ≡ runs.old.items ++ run ∷ [])) }
+    ensures err { OnErr result ((stack.new ≡ stack.old) × (runs.new.items ≡ runs.old.items)) }
+{
+    runs.reserve(1)?;
+    stack.push(entry)?;
+    runs.push_reserved(run);
+    Ok(())
+}
+
 /// Gives the newest frame its reply, and answers its request. `Fault::Protocol` where that is out of order.
 /// After a fault the goals may only be cleared.
 pub fn step<D: Delegate>(
@@ -416,9 +404,31 @@ pub fn step<D: Delegate>(
     ensures same_starts { D.starts inspect.new ≡ D.starts inspect.old }
     ensures same_noop { D.noop inspect.new ≡ D.noop inspect.old }
 {
-    let verdict = sort_of(cx, received.reply);
     let last = goals.runs.len() - 1;
-    let run = &mut goals.runs[last];
+    step_run::<D>(&mut goals.runs[last], cx, received, spare, inspect)
+}
+
+/// Gives the frame of a run its reply, and answers its request.
+#[inline(always)]
+fn step_run<D: Delegate>(
+    run: &mut Run<D::Cx, D::Frame>,
+    cx: D::Cx,
+    received: Received<<D::Cx as Cx>::Result>,
+    spare: &mut SpareMemory<<D::Cx as Cx>::Input, <D::Cx as Cx>::Result>,
+    inspect: &mut D::ProofTreeBuilder,
+) -> Result<
+    Request<<D::Cx as Cx>::Input, <D::Cx as Cx>::Result>,
+    Fault<<D::Cx as Cx>::Input, <D::Cx as Cx>::Result>,
+>
+    requires can_take { CanTake D.stands D.script run.old.frame received.reply }
+    ensures stepped { IfOk result (λ request.
+        RunSteps D.Delegate D.Cx.Cx cx received request run.old run.new) }
+    ensures fault { IfErr result (λ fault.
+        IsRunFault D.Delegate D.Cx.Cx cx received run.old fault) }
+    ensures same_starts { D.starts inspect.new ≡ D.starts inspect.old }
+    ensures same_noop { D.noop inspect.new ≡ D.noop inspect.old }
+{
+    let verdict = sort_of(cx, received.reply);
     spare.lend_lists(&mut run.progress, received.reply);
     run.progress
         .receive(received.reply, verdict, received.node)?;

@@ -7,3 +7,4 @@ pub mod Adding
 pub mod Lines
 pub mod Stops
 pub mod Groups
+pub mod Rows

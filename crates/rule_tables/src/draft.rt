@@ -12,7 +12,7 @@ use std::alloc::Global;
 mod groups;
 
 /// A rule, with its goal.
-#[derive(Clone, Copy, Debug)]
+#[derive(Clone, Copy)]
 pub(crate) struct DraftRule {
     goal: Goal,
     row: Row,

@@ -10,7 +10,7 @@ use search_context::path::PathKind;
 use std::marker::Model;
 
 /// The last request. What else it has stands in other fields of its state.
-#[derive(Clone, Copy, Debug)]
+#[derive(Clone, Copy)]
 enum Made {
     /// None, before the first reply.
     Nothing,
@@ -22,7 +22,7 @@ enum Made {
 }
 
 /// Where a frame stands between two steps. A deep stack has very many frames, so the fields leave no gaps between them.
-#[derive(Debug, Drop)]
+#[derive(Drop)]
 pub struct State {
     /// The candidate that is open or comes next.
     candidate: u32,

@@ -1,6 +1,6 @@
 //! Goals and their rules.
 ghost use Rattle.std.specs.Prelude.{◌≡◌, ◌<◌, ◌≤◌, ◌^◌, length};
-ghost use Rattle.rule_tables.specs.Starts.{AreStarts};
+ghost use Rattle.rule_tables.specs.Starts.{AreStarts, rows_at};
 
 use crate::candidates::{Candidates, Row};
 use line_texts::Names;
@@ -57,8 +57,7 @@ pub struct Rules {
 impl Rules {
     ghost use Rattle.std.specs.Prelude.{◌≡◌, ◌↔◌, Some};
     ghost use Rattle.std.specs.Option.{option_copied};
-    ghost use Rattle.rule_tables.specs.Rules.{number_of, name_of, candidates_of, questions_of};
-    ghost use Rattle.rule_tables.specs.Starts.{rows_at};
+    ghost use Rattle.rule_tables.specs.Rules.{name_of, candidates_of, questions_of};
 
     /// A table of these parts.
     pub(crate) fn new(
@@ -112,16 +111,19 @@ impl Rules {
     pub fn candidates(&self, goal: Goal) -> Candidates<'_>
         ensures { result ≡ candidates_of self.now goal }
     {
-        Candidates::new(self.rows_of(goal), self.askings.as_slice())
+        let rows = rows_at(self.starts.as_slice(), self.rows.as_slice(), goal.0);
+        Candidates::new(rows, self.askings.as_slice())
     }
+}
 
-    fn rows_of(&self, goal: Goal) -> &[Row]
-        ensures { result.now ≡ rows_at self.now.starts.items self.now.rows.items (number_of goal) }
-    {
-        let place = goal.place();
-        let Some(end) = self.starts.get(place + 1) else {
-            return &[];
-        };
-        &self.rows[self.starts[place] as usize..*end as usize]
-    }
+// The rows between where those of the goal with this number start and where those of the next one do.
+fn rows_at<'a>(starts: &[u32], rows: &'a [Row], number: u32) -> &'a [Row]
+    requires ordered { AreStarts starts.now (length rows.now) }
+    ensures { result.now ≡ rows_at starts.now rows.now number }
+{
+    let place = number as usize;
+    let Some(end) = starts.get(place + 1) else {
+        return &[];
+    };
+    &rows[starts[place] as usize..*end as usize]
 }

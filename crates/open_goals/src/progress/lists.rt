@@ -185,10 +185,13 @@ impl<I: Copy, R: Copy> Lists<I, R> {
 
     /// How many edges a result of this verdict rests on.
     fn edge_count(&self, verdict: Verdict) -> usize {
-        self.answers
-            .iter()
-            .filter(|packed| self.is_rested_on(&packed.unpacked(), verdict))
-            .count()
+        let mut count = 0;
+        for packed in &self.answers {
+            if self.is_rested_on(&packed.unpacked(), verdict) {
+                count += 1;
+            }
+        }
+        count
     }
 
     /// Whether a result of this verdict rests on the answer.
@@ -244,12 +247,18 @@ impl<I: Copy, R: Copy> Lists<I, R> {
 
     /// Whether there are answers of this verdict to questions of this kind, and to others, also in ignored candidates.
     pub(super) fn mixes_kinds(&self, kind: PathKind, verdict: Verdict) -> bool {
-        let mut of_verdict = self.answers.iter().filter(|it| it.verdict == verdict);
-        let Some(first) = of_verdict.next() else {
-            return false;
-        };
-        let first_is_of_kind = first.kind == kind;
-        of_verdict.any(|it| (it.kind == kind) != first_is_of_kind)
+        let mut of_kind = false;
+        let mut of_others = false;
+        for answer in &self.answers {
+            if answer.verdict == verdict {
+                of_kind |= answer.kind == kind;
+                of_others |= answer.kind != kind;
+            }
+            if of_kind && of_others {
+                return true;
+            }
+        }
+        false
     }
 
     /// The replies so far, the oldest first.

@@ -1,5 +1,5 @@
 //! The rows of rules, put goal by goal.
-ghost use Rattle.std.specs.Prelude.{◌≡◌, ◌<◌, ◌^◌, ◌++◌, List, length, map, All, IfOk, OnOk};
+ghost use Rattle.std.specs.Prelude.{◌≡◌, ◌<◌, ◌^◌, ◌++◌, List, [], length, map, All, IfOk, OnOk};
 ghost use Rattle.rule_tables.specs.DraftRule.{IsKnown};
 ghost use Rattle.rule_tables.specs.Groups.{AreGroups, AreLinked, IsChain, row_of};
 ghost use Rattle.rule_tables.specs.declared.draft.DraftRule.{DraftRule};
@@ -32,18 +32,35 @@ pub(crate) fn grouped(
     let links = linked(alloc, rules, goals)?;
     let mut rows = Vec::with_capacity(alloc, rules.len())?;
     let mut starts = Vec::with_capacity(alloc, links.firsts.len() + 1)?;
+    group(rules, &links, &mut rows, &mut starts)?;
+    Ok((rows, starts))
+}
+
+// Puts the rows into lists that are empty, and owns nothing that a refusal would drop.
+fn group(
+    rules: &[DraftRule],
+    links: &Links,
+    rows: &mut Vec<Row>,
+    starts: &mut Vec<u32>,
+) -> Result<(), NoMemory>
+    requires linked { AreLinked rules.now (length rules.now) (length links.now.firsts.items)
+        links.now.firsts.items links.now.nexts.items }
+    requires no_rows { rows.old.items ≡ [] }
+    requires no_starts { starts.old.items ≡ [] }
+    ensures { OnOk result (AreGroups rules.now (length links.now.firsts.items) starts.new.items
+        rows.new.items) }
+{
     starts.push(0)?;
     for first in &links.firsts {
-        push_chain(rules, links.nexts.as_slice(), *first, &mut rows)?;
+        push_chain(rules, links.nexts.as_slice(), *first, rows)?;
         if rows.len() > u32::MAX as usize {
             return Err(NoMemory);
         }
         starts.push(rows.len() as u32)?;
     }
-    Ok((rows, starts))
+    Ok(())
 }
 
-// Goes through the rules from the last one to the first, so that each comes before those of its goal that are linked.
 fn linked(alloc: Global, rules: &[DraftRule], goals: usize) -> Result<Links, NoMemory>
     requires known { All (IsKnown goals) rules.now }
     ensures { IfOk result (λ links.
@@ -54,12 +71,25 @@ fn linked(alloc: Global, rules: &[DraftRule], goals: usize) -> Result<Links, NoM
     }
     let mut firsts = Vec::from_elem(alloc, 0u32, goals)?;
     let mut nexts = Vec::with_capacity(alloc, rules.len())?;
+    link(rules, &mut firsts, &mut nexts)?;
+    Ok(Links { firsts, nexts })
+}
+
+// Goes through the rules from the last one to the first, so that each comes before those of its goal that are linked.
+fn link(rules: &[DraftRule], firsts: &mut Vec<u32>, nexts: &mut Vec<u32>) -> Result<(), NoMemory>
+    requires few { length rules.now < 2 ^ 32 }
+    requires known { All (IsKnown (length firsts.old.items)) rules.now }
+    requires unlinked { AreLinked rules.now 0 (length firsts.old.items) firsts.old.items
+        nexts.old.items }
+    ensures { OnOk result (AreLinked rules.now (length rules.now) (length firsts.old.items)
+        firsts.new.items nexts.new.items) }
+{
     for behind in 0..rules.len() {
         let place = rules[rules.len() - 1 - behind].goal.place();
         nexts.push(firsts[place])?;
         firsts[place] = behind as u32 + 1;
     }
-    Ok(Links { firsts, nexts })
+    Ok(())
 }
 
 // The rows of a goal's rules, from its first one on.

@@ -32,7 +32,7 @@ pub enum Line<'a> {
 }
 
 /// Why a line was not read.
-#[derive(Clone, Copy, Debug, PartialEq, Eq)]
+#[derive(Clone, Copy)]
 pub enum LineFault {
     Malformed,
     Memory,
@@ -90,7 +90,9 @@ fn rule_of<'a>(alloc: Global, mut words: Words<'a>) -> Result<Line<'a>, LineFaul
     ensures malformed { result ≡ Err LineFault.Malformed → (s : Statement) →
         Say (codes "rule" ∷ words_left words.entry) s → ⊥ }
 {
-    let head = words.next().ok_or(LineFault::Malformed)?;
+    let Some(head) = words.next() else {
+        return Err(LineFault::Malformed);
+    };
     let Some(b"=") = words.next() else {
         return Err(LineFault::Malformed);
     };
@@ -135,9 +137,15 @@ fn ask_of<'a>(mut words: Words<'a>) -> Result<Line<'a>, LineFault>
     ensures malformed { result ≡ Err LineFault.Malformed → (s : Statement) →
         Say (codes "ask" ∷ words_left words.entry) s → ⊥ }
 {
-    let digits = words.next().ok_or(LineFault::Malformed)?;
-    let name = words.next().ok_or(LineFault::Malformed)?;
-    let depth = depth_of(digits).ok_or(LineFault::Malformed)?;
+    let Some(digits) = words.next() else {
+        return Err(LineFault::Malformed);
+    };
+    let Some(name) = words.next() else {
+        return Err(LineFault::Malformed);
+    };
+    let Some(depth) = depth_of(digits) else {
+        return Err(LineFault::Malformed);
+    };
     if is_name(name) && words.next().is_none() {
         Ok(Line::Ask { depth, name })
     } else {

@@ -1,7 +1,10 @@
 use Rattle.std.proofs.Common.{[], ◌∙◌, ap}
 use Rattle.open_goals.specs.Words.{paired}
-use Rattle.open_goals.proofs.Nodes.{goals_on_ok}
+use Rattle.open_goals.proofs.Nodes.{goals_on_ok, kept_through}
 use Rattle.open_goals.proofs.goals.OpenGoals.push_nodes.Goals as goal
+
+pub returns-clause-kept : goal.returns-clause-kept
+returns-clause-kept g c = kept_through c.args.nodes.now.items c.push_cycle_nodes.new.nodes.items c.push_run_nodes.new.nodes.items c.push_cycle_nodes.ensures.kept c.push_run_nodes.ensures.kept
 
 pub returns-clause-nodes : goal.returns-clause-nodes
 returns-clause-nodes g c =

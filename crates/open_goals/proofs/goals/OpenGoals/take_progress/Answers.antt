@@ -1,4 +1,4 @@
-use Rattle.std.proofs.Common.{◌-◌, ◌∙◌, Some, ap, sym, arith}
+use Rattle.std.proofs.Common.{◌-◌, ◌∙◌, Some, ap, sym, arith, length-set}
 use Rattle.open_goals.specs.Words.{no_record}
 use Rattle.open_goals.proofs.Changes.{some_runs, newest_run, run_changed}
 use Rattle.open_goals.proofs.goals.OpenGoals.take_progress.Goals as goal
@@ -8,6 +8,9 @@ overflow_sub-last g c = omega (arith, c.len-last.ensures, some_runs c.self.insid
 
 pub index_mut-requires : goal.index_mut-requires
 index_mut-requires g c = omega (arith, c.len-last.ensures, some_runs c.self.inside.stack c.self.inside.runs.items _ c.self.invariant c.self.view_is c.requires.some)
+
+pub invariant_of-self : goal.invariant_of-self
+invariant_of-self g c = c.self.invariant ∙ sym (length-set c.self.inside.runs.items (c.len-last.result - 1) _)
 
 pub returns-clause-taken : goal.returns-clause-taken
 returns-clause-taken g c =

@@ -1,17 +1,21 @@
-use Rattle.std.proofs.Common.{◌≡◌, arith, length, refl, rules, subst}
+use Rattle.std.proofs.Common.{◌≡◌, All, length, rules, subst, sym}
+use Rattle.rule_tables.specs.DraftRule.{IsKnown}
 use Rattle.rule_tables.specs.Groups.{AreLinked}
-use Rattle.rule_tables.proofs.Groups.{linked_none, linked_more}
+use Rattle.rule_tables.proofs.Groups.{linked_none}
 use Rattle.rule_tables.proofs.draft.groups.linked.Goals as goal
 
-pub loop-behind-init : goal.loop-behind-init
-loop-behind-init c = linked_none c.args.rules.now c.args.goals c.in_ok-firsts.firsts.items c.in_ok-nexts.nexts.items (c.in_ok-firsts.ensures.items_if_clones_equal (λ y e. e)) (search rules) c.in_ok-nexts.ensures.items
+pub link-requires-clause-known : goal.link-requires-clause-known
+link-requires-clause-known c =
+    let count : length c.in_ok-firsts.firsts.items ≡ c.args.goals = search rules in
+    subst (λ n. All (IsKnown n) c.args.rules.now) (sym count) c.requires.known
 
-pub loop-behind-preserved : goal.loop-behind-preserved
-loop-behind-preserved c =
-    linked_more c.args.rules.now c.loop-behind.behind c.args.goals c.loop-behind.firsts.items c.loop-behind.nexts.items _ _ _ c.place-place.result c.index.result.now
-    c.loop-behind.invariant c.loop-behind-test.true c.place-place.ensures (search rules) c.index.ensures c.in_ok-push.ensures.items refl
+pub link-requires-clause-unlinked : goal.link-requires-clause-unlinked
+link-requires-clause-unlinked c =
+    let count : length c.in_ok-firsts.firsts.items ≡ c.args.goals = search rules in
+    subst (λ n. AreLinked c.args.rules.now 0 n c.in_ok-firsts.firsts.items c.in_ok-nexts.nexts.items) (sym count)
+    (linked_none c.args.rules.now c.args.goals c.in_ok-firsts.firsts.items c.in_ok-nexts.nexts.items (c.in_ok-firsts.ensures.items_if_clones_equal (λ y e. e)) count c.in_ok-nexts.ensures.items)
 
 pub returns : goal.returns
 returns c =
-    let end : c.loop-behind.behind ≡ length c.args.rules.now = omega (arith, c.loop-behind-test.false, c.loop-behind.auto.behind-end) in
-    subst (λ n. AreLinked c.args.rules.now n c.args.goals c.loop-behind.firsts.items c.loop-behind.nexts.items) end c.loop-behind.invariant
+    let count : length c.in_ok-firsts.firsts.items ≡ c.args.goals = search rules in
+    subst (λ n. AreLinked c.args.rules.now (length c.args.rules.now) n c.link.new.firsts.items c.link.new.nexts.items) count c.in_ok-link.ensures
