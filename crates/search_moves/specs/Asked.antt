@@ -13,6 +13,25 @@ use Rattle.search_rules.specs.Moves.{ClosesCycle, Pushes}
 abbrev pub question_depth : {D C V P F I R A T : Type 0} → DelegateOf D C V P F I R A T → Evaluation D C V P F I R A T → Option ℕ
 question_depth G e = option_and_then (λ s. depth_below G.DIVIDE_AVAILABLE_DEPTH_ON_OVERFLOW s.0) (newest e.goals)
 
+-- ---- what the newest goal is told, and has noted of that
+
+module _ {C F I R A T : Type 0} (same : I → I → Bool) where
+  -- its question was refused with this result
+  pub record IsAnsweredAtLimit (refused : R) (received : Received R) (old new : List (OpenGoal C F I R A T)) : Type 0 where
+    pub is : received ≡ record { reply = reply.Answer refused; node = None }
+    pub noted : NotesOverflow same old new
+
+  -- the provisional entry answered it
+  pub record IsAnsweredByEntry (step : PathKind) (entry : ProvisionalCacheEntry C I R A T) (received : Received R) (old new : List (OpenGoal C F I R A T)) : Type 0 where
+    pub is : received ≡ record { reply = reply.Answer entry.result; node = entry.node }
+    pub takes : AnswersNewest step 0 entry.encountered_overflow entry.heads old new
+    pub nested : NestsItself same old new
+
+  -- the stored result answered it
+  pub record IsAnsweredByHit (step : PathKind) (hit : Hit I R T) (received : Received R) (old new : List (OpenGoal C F I R A T)) : Type 0 where
+    pub is : received ≡ record { reply = reply.Answer hit.result; node = hit.node }
+    pub takes : TakesStored same step hit old new
+
 module _ {D C V P F I R A T : Type 0} (G : DelegateOf D C V P F I R A T) (X : CxOf C I R A T) (same : I → I → Bool) (cx : C) (kind : PathKind) (goal : I) where
   -- where the newest goal asks
   abbrev pub asking : Evaluation D C V P F I R A T → Asking C I R A T

@@ -6,7 +6,7 @@ use Rattle.search_context.specs.declared.context.Answer.{Answer}
 use Rattle.search_rules.specs.Calls.{Call, CallMeetsNone}
 use Rattle.search_rules.specs.Claims.{IsRemembered}
 use Rattle.search_rules.specs.Evaluating.{IsWaiting, HasAsked, CallGoesOn, HasEnded, HasStopped, Leads, KeepsStore, KeepsAnswers}
-use Rattle.search_rules.specs.Fates.{fates_of, HaveExpected, IsNewestToStore}
+use Rattle.search_rules.specs.Fates.{fates_of, IsNewestToStore}
 use Rattle.search_rules.specs.Free.{AreFree}
 use Rattle.search_rules.specs.Justified.{AreJustified, NewestAsks, IsFit}
 use Rattle.search_rules.specs.Provisional.{AreReady}

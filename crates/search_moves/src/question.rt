@@ -1,10 +1,11 @@
 //! What a question comes to: it is refused, or answered by a provisional entry, a stored result or a goal that is
 //! under evaluation already, or its goal is pushed.
-ghost use Rattle.std.specs.Prelude.{◌≡◌, ◌<◌, ◌||◌, ◌∷◌, ℕ, false, List, length, map, reverse, unwrap_or, IfOk, OnOk, OnErr, Some};
+ghost use Rattle.std.specs.Prelude.{◌≡◌, ◌<◌, ◌||◌, ◌∷◌, ◌+◌, ◌^◌, ◌≤◌, ℕ, false, List, length, map, reverse, unwrap_or, IfOk, IfSome, OnOk, OnErr, Some, None};
 ghost use Rattle.std.specs.List.{list_any, position};
-ghost use Rattle.std.specs.Option.{is_none, option_map, option_and_then};
-ghost use Rattle.search_moves.specs.Below.{depth_below, KeepsBuilder, CacheNode, KeepsNodes, Lists, Store, ProvisionalCacheEntry, Evaluate, StoredResult, Memory, newest, Call, AreFree, ClosesCycle, Pushes, NewestAsks, AreJustified, IsFit, AreReady, runs_of, fates_of, HaveExpected};
-ghost use Rattle.search_moves.specs.Words.{HasRequest, Requests, IsRightFor, GoesOnWith, StopsWith, KeepsCache, StartsFrame, AskingLeadsTo, question_depth};
+ghost use Rattle.std.specs.Option.{is_none, option_copied, option_map, option_and_then};
+ghost use Rattle.search_moves.specs.Below.{depth_below, KeepsBuilder, CacheNode, KeepsNodes, Lists, Store, ProvisionalCacheEntry, Evaluate, StoredResult, Memory, newest, Call, AreFree, ClosesCycle, Pushes, NewestAsks, AreJustified, IsFit, AreReady, runs_of, fates_of, HaveExpected, Begin, hit_of, AreOnStack, usable_entry, is_applicable, first_accepted, usable, IsFated};
+ghost use Rattle.search_rules.specs.Words.{Consults, IsUsable};
+ghost use Rattle.search_moves.specs.Words.{HasRequest, Requests, IsRightFor, GoesOnWith, StopsWith, KeepsCache, StartsFrame, AskingLeadsTo, IsAnsweredAtLimit, IsAnsweredByEntry, IsAnsweredByHit, question_depth};
 
 use crate::evaluation::Evaluation;
 use cycle_heads::path::PathKind;
@@ -12,9 +13,11 @@ use global_cache::GlobalCache;
 use open_goals::candidates::FinishedCandidates;
 use open_goals::goals::{Fate, OpenGoals, Received, Run};
 use open_goals::progress::Progress;
+use provisional_cache::{ProvisionalCache, ProvisionalCacheEntry};
 use search_context::context::{Cx, Delegate, NoMemory, NodeId, Reply};
 use search_rules::look_up::{Consulted, consult, look_up_entry};
 use search_stack::depth::{AvailableDepth, StackDepth};
+use search_stack::result::CacheData;
 use search_stack::stack::StackEntry;
 
 impl<D: Delegate> Evaluation<D> {
@@ -47,46 +50,59 @@ impl<D: Delegate> Evaluation<D> {
         ensures same_drafts { self.new.drafts ≡ self.old.drafts }
         ensures builder { KeepsBuilder D.starts D.noop inspect.old inspect.new }
     {
-        let cx = cache.cx();
         // A question is refused before anything is looked up: whether a search is too deep must not depend on
         // what the cache happens to hold.
         let Some(depth) = self.allowed_depth() else {
             // The limit is noted first, so that it is noted too where memory is out.
             self.limits_met = true;
-            self.goals.note_overflow()?;
-            let answer = D::stack_overflow_result(cx, input);
-            return Ok(Received::without_node(Reply::Answer(answer)));
+            return refuse::<D>(&mut self.goals, cache.cx(), input);
         };
-        let stack = self.goals.stack();
+        self.ask_at(cache, kind, input, depth, inspect)
+    }
+
+    /// Answers the newest goal's question, which gets this depth, or pushes the asked goal.
+    fn ask_at(
+        &mut self,
+        cache: &mut GlobalCache<D>,
+        kind: PathKind,
+        input: <D::Cx as Cx>::Input,
+        depth: AvailableDepth,
+        inspect: &mut D::ProofTreeBuilder,
+    ) -> Result<Received<<D::Cx as Cx>::Result>, NoMemory>
+        requires some { 0 < length self.old.goals }
+        requires gets { Some depth.0 ≡ question_depth D.Delegate self.old }
+        requires fits { depth.0 + 1 < 2 ^ 64 }
+        requires on_stack { AreOnStack D.Cx.Input.eq (reverse (map (λ s. s.0) self.old.goals))
+            self.old.provisional }
+        ensures asked { IfOk result (λ received.
+            AskingLeadsTo D.Delegate D.Cx.Cx D.Cx.Input.eq cache.old.cx kind input (D.noop inspect.old)
+            cache.old self.old (D.starts inspect.old) received
+            cache.new self.new (D.starts inspect.new)) }
+        ensures rest { self.new ≡ record self.old { goals = self.new.goals } }
+        ensures cache { cache.new ≡ record cache.old { nodes = cache.new.nodes } }
+        ensures kept { KeepsNodes cache.old.nodes cache.new.nodes }
+        ensures builder { KeepsBuilder D.starts D.noop inspect.old inspect.new }
+        ensures at_most { D.starts inspect.new ≤ D.starts inspect.old + 1 }
+    {
+        let cx = cache.cx();
         // Entries come before stored results, so that the test of a stored result's nested goals need not think
         // of a goal that has both.
-        if let Some(entry) = look_up_entry::<D>(&self.provisional, stack, kind, input) {
-            let overflow = entry.encountered_overflow;
-            self.goals.note_provisional(kind, &entry.heads, overflow)?;
-            return Ok(Received {
-                reply: Reply::Answer(entry.result),
-                node: entry.node,
-            });
+        if let Some(entry) = entry_for::<D>(&self.provisional, &self.goals, kind, input) {
+            return answer_by_entry(&mut self.goals, kind, entry);
         }
-        let stack = self.goals.stack();
         let Consulted {
             stored,
             fate,
             scope,
-        } = consult::<D>(cache, &self.provisional, stack, kind, input, depth, inspect);
+        } = consult_for::<D>(cache, &self.provisional, &self.goals, kind, input, depth, inspect);
         if let Some(stored) = stored {
-            self.goals.note_stored(kind, &stored)?;
-            return Ok(Received {
-                reply: Reply::Answer(stored.result),
-                node: stored.node,
-            });
+            return answer_by_stored(&mut self.goals, kind, &stored);
         }
         if let Some(head) = self.goals.find(input) {
             return self.answer_cycle(cx, kind, input, head);
         }
         self.push_goal(cache, kind, input, depth, fate, inspect)?;
-        self.goals.hold(scope)?;
-        Ok(Received::without_node(Reply::Begin))
+        begin_in_scope(&mut self.goals, scope)
     }
 
     /// Answers the newest goal's question of a goal that is under evaluation at `head`, by its provisional
@@ -188,4 +204,109 @@ fn cycle_result<D: Delegate>(
         Some(earlier) => earlier,
         None => D::initial_provisional_result(cx, kind, input),
     }
+}
+
+/// Refuses the question of this goal, which the newest one asks.
+fn refuse<D: Delegate>(
+    goals: &mut OpenGoals<D::Cx, D::Frame, D::ValidationScope>,
+    cx: D::Cx,
+    input: <D::Cx as Cx>::Input,
+) -> Result<Received<<D::Cx as Cx>::Result>, NoMemory>
+    requires some { 0 < length goals.old }
+    ensures refuses { IfOk result (λ received.
+        IsAnsweredAtLimit D.Cx.Input.eq (D.stack_overflow cx input) received goals.old goals.new) }
+{
+    goals.note_overflow()?;
+    let answer = D::stack_overflow_result(cx, input);
+    Ok(Received::without_node(Reply::Answer(answer)))
+}
+
+/// The provisional entry that answers the question of this goal, which the newest one asks over the step.
+fn entry_for<'a, D: Delegate>(
+    provisional: &'a ProvisionalCache<D>,
+    goals: &OpenGoals<D::Cx, D::Frame, D::ValidationScope>,
+    step: PathKind,
+    input: <D::Cx as Cx>::Input,
+) -> Option<&'a ProvisionalCacheEntry<D::Cx>>
+    requires on_stack { AreOnStack D.Cx.Input.eq (reverse (map (λ s. s.0) goals.now)) provisional.now }
+    ensures found { option_copied result ≡ usable_entry D.Cx.Input.eq D.ENABLE_PROVISIONAL_CACHE
+        (record { stack = reverse (map (λ s. s.0) goals.now); entries = provisional.now; step = step })
+        input }
+{
+    look_up_entry::<D>(provisional, goals.stack(), step, input)
+}
+
+/// What the global cache has to say to the question of this goal, which the newest one asks over the step.
+fn consult_for<'a, D: Delegate>(
+    cache: &'a GlobalCache<D>,
+    provisional: &ProvisionalCache<D>,
+    goals: &OpenGoals<D::Cx, D::Frame, D::ValidationScope>,
+    step: PathKind,
+    input: <D::Cx as Cx>::Input,
+    depth: AvailableDepth,
+    inspect: &mut D::ProofTreeBuilder,
+) -> Consulted<'a, D>
+    requires on_stack { AreOnStack D.Cx.Input.eq (reverse (map (λ s. s.0) goals.now)) provisional.now }
+    ensures consults { Consults (D.noop inspect.old) (D.scoped cache.now.cx input) (first_accepted
+        (is_applicable D.Cx.Input.eq
+        (record { stack = reverse (map (λ s. s.0) goals.now); entries = provisional.now; step = step }))
+        (usable D.Cx.Input.eq cache.now.results input depth.0))
+        (option_map hit_of result.stored) result.fate }
+    ensures fated { IsFated (D.scoped cache.now.cx) (D.script cache.now.cx) D.Cx.Input.eq
+        cache.now.results (D.noop inspect.old)
+        (record { goal = input; depth = depth.0; fate = result.fate }) }
+    ensures usable { IfSome result.stored (λ stored.
+        IsUsable D.Cx.Input.eq (D.script cache.now.cx) cache.now.results input depth.0
+        (hit_of stored)) }
+    ensures builder { KeepsBuilder D.starts D.noop inspect.old inspect.new }
+    ensures same_starts { D.starts inspect.new ≡ D.starts inspect.old }
+{
+    consult::<D>(cache, provisional, goals.stack(), step, input, depth, inspect)
+}
+
+/// Answers the newest goal's question, asked over the step, by a provisional entry.
+fn answer_by_entry<X: Cx, F: Drop, S: Drop>(
+    goals: &mut OpenGoals<X, F, S>,
+    step: PathKind,
+    entry: &ProvisionalCacheEntry<X>,
+) -> Result<Received<X::Result>, NoMemory>
+    requires some { 0 < length goals.old }
+    ensures answered { IfOk result (λ received.
+        IsAnsweredByEntry X.Input.eq step entry.now received goals.old goals.new) }
+{
+    goals.note_provisional(step, &entry.heads, entry.encountered_overflow)?;
+    Ok(Received {
+        reply: Reply::Answer(entry.result),
+        node: entry.node,
+    })
+}
+
+/// Answers the newest goal's question, asked over the step, by a stored result.
+fn answer_by_stored<X: Cx, F: Drop, S: Drop>(
+    goals: &mut OpenGoals<X, F, S>,
+    step: PathKind,
+    stored: &CacheData<'_, X>,
+) -> Result<Received<X::Result>, NoMemory>
+    requires some { 0 < length goals.old }
+    requires fits { stored.now.required_depth + 1 < 2 ^ 64 }
+    ensures answered { IfOk result (λ received.
+        IsAnsweredByHit X.Input.eq step (hit_of stored.now) received goals.old goals.new) }
+{
+    goals.note_stored(step, stored)?;
+    Ok(Received {
+        reply: Reply::Answer(stored.result),
+        node: stored.node,
+    })
+}
+
+/// The newest goal begins. The scope is held until it is done.
+fn begin_in_scope<X: Cx, F: Drop, S: Drop>(
+    goals: &mut OpenGoals<X, F, S>,
+    scope: Option<S>,
+) -> Result<Received<X::Result>, NoMemory>
+    ensures begins { IfOk result (λ received. received ≡ record { reply = Begin; node = None }) }
+    ensures same { goals.new ≡ goals.old }
+{
+    goals.hold(scope)?;
+    Ok(Received::without_node(Reply::Begin))
 }

@@ -79,10 +79,13 @@ impl<'a, D: Delegate> OverStack<'a, D> {
     fn meets_entry(&self, goal: <D::Cx as Cx>::Input, paths: PathsToNested) -> bool
         ensures { result ≡ meets_entry D.Cx.Input.eq self.now goal paths }
     {
-        self.provisional
-            .entries_of(goal)
-            .iter()
-            .any(|entry| self.could_be_used(entry, paths))
+        let entries = self.provisional.entries_of(goal);
+        for entry in entries {
+            if self.could_be_used(entry, paths) {
+                return true;
+            }
+        }
+        false
     }
 
     /// Whether the entry could be used at the end of one of these paths. One that met overflow is not used there.
