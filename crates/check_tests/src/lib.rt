@@ -1,12 +1,22 @@
-//! Tests over tables of rules, in three parts: of the checker of graphs; of stored results that are validated; and of
-//! memory that is refused, to frames or to all that is called.
+//! What tests over tables of rules share, and two sorts of tests: of the checker, on graphs that were changed at random and
+//! on large ones; and of what needs no memory.
+//!
+//! | Module | Has |
+//! |---|---|
+//! | `asking`, `handed_out` | goals that are asked, and the graphs that are handed out for them |
+//! | `validating`, `watch`, `journal` | a delegate around any other one, which has stored results validated and keeps a journal |
+//! | `checker` | tests of the checker |
+//! | `nothing` | tests of what needs no memory: `tests/memory` refuses its requests, and finds out that way that there are none |
+//!
+//! The other tests stand in `tests/sources/checks`, where they are run without a proof.
 #![tactic(auto)]
 
-#[cfg(test)]
-mod asking;
+pub mod asking;
 #[cfg(test)]
 mod checker;
+pub mod handed_out;
+pub mod journal;
 #[cfg(test)]
-mod refusal;
-#[cfg(test)]
-mod validation;
+mod nothing;
+pub mod validating;
+pub mod watch;

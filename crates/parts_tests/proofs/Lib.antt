@@ -1,3 +1,2 @@
 mod Within
 mod StoredLoops
-pub mod OpenNodes

@@ -2,7 +2,6 @@
 ghost use Rattle.std.specs.Prelude.{◌≡◌, ◌≢◌, ◌≤◌, [], All, IfOk};
 ghost use Rattle.parts_tests.specs.Below.{entries_at};
 
-use crate::heads::tell_head;
 use crate::told::{Counts, Told, usages_of};
 use cycle_heads::depth::StackDepth;
 use cycle_heads::heads::CycleHeads;
@@ -119,6 +118,6 @@ fn tell_entry<X: Cx<Result = Outcome>>(told: &mut Told, entry: &ProvisionalCache
     told.say(" from");
     for (depth, head) in entry.heads.as_slice() {
         told.number(" ", depth.index());
-        tell_head(told, " ", *head);
+        told.head(" ", *head);
     }
 }

@@ -1,6 +1,7 @@
 //! What is told of paths and usages: a letter for each kind of path, and the counts before these.
 
 use bitflags::Flags;
+use cycle_heads::heads::CycleHead;
 use cycle_heads::memory::NoMemory;
 use cycle_heads::path::{PathKind, PathsToNested};
 use cycle_heads::usages::HeadUsages;
@@ -118,6 +119,12 @@ impl Told {
         self.count(usages.unknown, "u");
         self.count(usages.coinductive, "c");
         self.count(usages.forced_ambiguity, "f");
+    }
+
+    /// Tells a word, the paths to a head, and how often it was used.
+    pub fn head(&mut self, word: &str, head: CycleHead) {
+        self.paths(word, head.paths_to_head);
+        self.usages(" ", head.usages);
     }
 
     /// Tells a count, unless it is zero.

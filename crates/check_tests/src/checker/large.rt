@@ -1,6 +1,6 @@
 //! Large graphs made by a rule, which take time in proportion to their size and no native stack.
 
-use crate::checker::handed_out::{Nodes, is_accepted};
+use crate::handed_out::{Nodes, is_accepted};
 use rule_tables::{Goal, Outcome, Rules};
 use search_parts::context::{Edge, Node, Reply};
 use search_parts::path::PathKind;

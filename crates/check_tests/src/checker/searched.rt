@@ -1,6 +1,6 @@
 //! Graphs that long searches hand out: what they rest on, and that the checker accepts them.
 
-use crate::checker::handed_out::{HandedOut, Nodes, graph_for, is_accepted};
+use crate::handed_out::{HandedOut, Nodes, graph_for, is_accepted};
 use rule_tables::{Goal, Outcome, Rules};
 use search_parts::path::PathKind;
 use std::alloc::Global;

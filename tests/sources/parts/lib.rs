@@ -1,0 +1,29 @@
+//! Tests of what stands below the search, by tables: each row has a name, what is done, and what is left then, told as text.
+//!
+//! | Module | Has tests of |
+//! |---|---|
+//! | `paths`, `usages`, `heads`, `candidates` | what cycles are recorded by |
+//! | `nested_goals`, `stack`, `depths`, `results` | the goals under evaluation |
+//! | `reuse`, `rebasing` | the provisional cache: which entries are used, cleared and rebased |
+//! | `stored`, `nodes` | the global cache: stored results, nodes, and graphs that are handed out |
+//! | `components` | strongly connected components |
+//! | `random` | numbers that look random |
+//! | `faults` | the texts of faults |
+//!
+//! How things are told, the entries and what stores results are those of the library `parts_tests`.
+
+mod candidates;
+mod components;
+mod depths;
+mod faults;
+mod heads;
+mod nested_goals;
+mod nodes;
+mod paths;
+mod random;
+mod rebasing;
+mod results;
+mod reuse;
+mod stack;
+mod stored;
+mod usages;
