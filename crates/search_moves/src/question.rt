@@ -94,7 +94,15 @@ impl<D: Delegate> Evaluation<D> {
             stored,
             fate,
             scope,
-        } = consult_for::<D>(cache, &self.provisional, &self.goals, kind, input, depth, inspect);
+        } = consult_for::<D>(
+            cache,
+            &self.provisional,
+            &self.goals,
+            kind,
+            input,
+            depth,
+            inspect,
+        );
         if let Some(stored) = stored {
             return answer_by_stored(&mut self.goals, kind, &stored);
         }
@@ -261,7 +269,15 @@ fn consult_for<'a, D: Delegate>(
     ensures builder { KeepsBuilder D.starts D.noop inspect.old inspect.new }
     ensures same_starts { D.starts inspect.new ≡ D.starts inspect.old }
 {
-    consult::<D>(cache, provisional, goals.stack(), step, input, depth, inspect)
+    consult::<D>(
+        cache,
+        provisional,
+        goals.stack(),
+        step,
+        input,
+        depth,
+        inspect,
+    )
 }
 
 /// Answers the newest goal's question, asked over the step, by a provisional entry.

@@ -223,66 +223,16 @@ impl<'cache, 'run, D: Delegate> Replayed<'cache, 'run, D> {
         ensures guided { IsGuided self.now.own_node.0 self.now.told.now self.now.verdict
             place.new.guide }
     {
-        let known = self.next_answer(&mut place.answer, kind, input)?;
+        let known = next_answer::<D::Cx>(self.told, &mut place.answer, kind, input)?;
         if kind != kind_of_cycles(self.verdict) || !self.told.is_rested_on(&known, self.verdict) {
             return None;
         }
-        let result = self.latest_result(place)?;
+        let result = latest_result(self.cache.cx(), self.told, place)?;
         let node = self.lead(place, kind, input, NodeId(known.edge.target));
         Some(Received {
             reply: Reply::Answer(result),
             node: Some(node),
         })
-    }
-
-    /// The next answer on record to this question from this place on, if it is near. The answer after it comes next.
-    fn next_answer(
-        &self,
-        place: &mut usize,
-        kind: PathKind,
-        input: <D::Cx as Cx>::Input,
-    ) -> Option<DefiniteAnswer<<D::Cx as Cx>::Input>>
-        ensures on_record { IfSome result (Contains self.now.told.now.answers) }
-        ensures asks { IfSome result (λ known.
-            known.edge ≡ edge_to kind input (record { 0 = known.edge.target })) }
-    {
-        let end = self.told.answer_count().min(place.saturating_add(NEAR));
-        for at in *place..end {
-            let known = self.told.answer(at)?;
-            if asks::<D::Cx>(&known.edge, kind, input) {
-                *place = at + 1;
-                return Some(known);
-            }
-        }
-        None
-    }
-
-    /// The result of the answer that was passed last. The results of those that were not given again are passed with it, so
-    /// that each reply is passed once in a replay.
-    fn latest_result(&self, place: &mut Place) -> Option<<D::Cx as Cx>::Result>
-        ensures { place.new.guide ≡ place.old.guide }
-    {
-        let mut result = None;
-        for _ in place.results..place.answer {
-            result = self.next_result(&mut place.reply);
-        }
-        place.results = place.answer;
-        result
-    }
-
-    /// The next definite result among the replies from this place on, which is then the one behind it.
-    fn next_result(&self, place: &mut usize) -> Option<<D::Cx as Cx>::Result> {
-        let cx = self.cache.cx();
-        let replies = self.told.listed_replies();
-        for at in *place..replies.len() {
-            if let Reply::Answer(result) = replies[at] {
-                if cx.sort(result) != Verdict::Neither {
-                    *place = at + 1;
-                    return Some(result);
-                }
-            }
-        }
-        None
     }
 
     /// The node to which the edge of this question leads, which `node` answered. Where the goal of an earlier answer
@@ -337,16 +287,82 @@ impl<'cache, 'run, D: Delegate> Replayed<'cache, 'run, D> {
         if !has_verdict(self.cache.cx(), known.result, self.verdict) {
             return None;
         }
-        let end = known.edges.len().min(passed.saturating_add(NEAR));
-        for at in *passed..end {
-            let edge = &known.edges[at];
-            if asks::<D::Cx>(edge, kind, input) {
-                *passed = at + 1;
-                return Some(NodeId(edge.target));
+        next_edge::<D::Cx>(known.edges.as_slice(), passed, kind, input)
+    }
+}
+
+/// The next answer on record to this question from this place on, if it is near. The answer after it comes next.
+fn next_answer<X: Cx>(
+    told: &Progress<X::Input, X::Result>,
+    place: &mut usize,
+    kind: PathKind,
+    input: X::Input,
+) -> Option<DefiniteAnswer<X::Input>>
+    ensures on_record { IfSome result (Contains told.now.answers) }
+    ensures asks { IfSome result (λ known.
+        known.edge ≡ edge_to kind input (record { 0 = known.edge.target })) }
+{
+    let end = told.answer_count().min(place.saturating_add(NEAR));
+    for at in *place..end {
+        let known = told.answer(at)?;
+        if asks::<X>(&known.edge, kind, input) {
+            *place = at + 1;
+            return Some(known);
+        }
+    }
+    None
+}
+
+/// The result of the answer that was passed last. The results of those that were not given again are passed with it, so
+/// that each reply is passed once in a replay.
+fn latest_result<X: Cx>(
+    cx: X,
+    told: &Progress<X::Input, X::Result>,
+    place: &mut Place,
+) -> Option<X::Result>
+    ensures { place.new.guide ≡ place.old.guide }
+{
+    let replies = told.listed_replies();
+    let mut result = None;
+    for _ in place.results..place.answer {
+        result = next_result(cx, replies, &mut place.reply);
+    }
+    place.results = place.answer;
+    result
+}
+
+/// The next definite result among the replies from this place on, which is then the one behind it.
+fn next_result<X: Cx>(cx: X, replies: &[Reply<X::Result>], place: &mut usize) -> Option<X::Result> {
+    for at in *place..replies.len() {
+        if let Reply::Answer(result) = replies[at] {
+            if cx.sort(result) != Verdict::Neither {
+                *place = at + 1;
+                return Some(result);
             }
         }
-        None
     }
+    None
+}
+
+/// The node to which an edge leads that asks this question, among those from this place on that are near. The edge after it
+/// comes next.
+fn next_edge<X: Cx>(
+    edges: &[Edge<X::Input>],
+    passed: &mut usize,
+    kind: PathKind,
+    input: X::Input,
+) -> Option<NodeId>
+    ensures { IfSome result (λ further. Contains edges.now (edge_to kind input further)) }
+{
+    let end = edges.len().min(passed.saturating_add(NEAR));
+    for at in *passed..end {
+        let edge = &edges[at];
+        if asks::<X>(edge, kind, input) {
+            *passed = at + 1;
+            return Some(NodeId(edge.target));
+        }
+    }
+    None
 }
 
 /// The kind that the cycles of a graph have which shows this verdict.

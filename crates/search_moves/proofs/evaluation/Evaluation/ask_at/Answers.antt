@@ -1,6 +1,6 @@
 use Rattle.std.proofs.Common.{arith, ◌≡◌, ◌≤◌, ◌+◌, ◌∷◌, Option, None, Some, option_map, is_some, true, sym, ap, ◌∙◌, subst}
 use Rattle.std.specs.Option.{IfSome, option_copied}
-use Rattle.search_moves.specs.Below.{Begin, CountsOne, fates_of, answered_by, fate_for, IsFated, first_accepted, usable, hit_of, AreOnStack, is_applicable, usable_entry, ClosesCycle}
+use Rattle.search_moves.specs.Below.{Begin, CountsOne, fates_of, IsFated, hit_of, ClosesCycle}
 use Rattle.search_moves.specs.Words.{AskingLeadsTo, ByEntry, ByStored, OverCycle, Pushed}
 use Rattle.search_rules.proofs.moves.Questions.{if_ok_then}
 use Rattle.search_moves.proofs.evaluation.Evaluation.ask_at.Goals as goal

@@ -1,5 +1,5 @@
 use Rattle.std.proofs.Common.{◌≡◌}
-use Rattle.search_rules.proofs.lean.Replayed.latest_result.Given as goal
+use Rattle.search_rules.proofs.lean.latest_result.Given as goal
 
 -- the guide stays
 abbrev pub invariant-loop : goal.invariant-loop
