@@ -1,7 +1,6 @@
 -- What the crates below have, from one place.
 pub use Rattle.cycle_heads.specs.Path.{rank_of}
 pub use Rattle.cycle_heads.specs.declared.path.PathKind.{PathKind}
-pub use Rattle.cycle_heads.specs.declared.path.PathKind.TheVariants.{Coinductive}
 pub use Rattle.delegate_parts.specs.Outcome.{outcome_verdicts}
 pub use Rattle.delegate_parts.specs.declared.outcome.Outcome.{Outcome}
 pub use Rattle.search_context.specs.Rank.{HasNoRank, IsRanked}
@@ -10,7 +9,7 @@ pub use Rattle.search_context.specs.declared.context.NodeId.{NodeId}
 pub use Rattle.search_context.specs.declared.context.Reply.TheVariants.{Begin}
 pub use Rattle.provisional_cache.specs.Provisional.{AppendsEntry, entries_at, Lists}
 pub use Rattle.provisional_cache.specs.declared.ProvisionalCacheEntry.{ProvisionalCacheEntry}
-pub use Rattle.global_cache.specs.Cache.{CacheNode, EndedRun, goal_if_open, IsNodeOf, KeepsNodes, open_goal, open_node, with_run}
+pub use Rattle.global_cache.specs.Cache.{CacheNode}
 pub use Rattle.global_cache.specs.Definite.{HasGraph}
 pub use Rattle.global_cache.specs.Shapes.{shape_of, shapes_of}
 pub use Rattle.global_cache.specs.Store.{place_of}
