@@ -1,11 +1,12 @@
 -- What heads record once paths and usages were joined to one of them, in the words of the theory of open graphs.
 use Rattle.std.proofs.Common.{◌≡◌, ◌≢◌, ℕ, zero, suc, min, max, IsTrue, Option, Some, None, refl, sym, ap, ◌∙◌, subst, arith}
 use Rattle.std.proofs.lemmas.Bool.{or_right}
-use Rattle.cycle_heads.specs.Words.{PathKind, Inductive, Unknown, Coinductive, ForcedAmbiguity, PathsToNested, CycleHead, HeadUsages, rank_of, greater_kind, extended, has_kind, joined_head, has_rank, count_at, head_shape, count_of, sticking_sum, with_nested}
+use Rattle.cycle_heads.specs.Words.{CycleHead, HeadUsages, joined_head, has_rank, count_at, head_shape, count_of, sticking_sum, with_nested}
+use Rattle.path_kinds.specs.Words.{PathKind, Inductive, Unknown, Coinductive, ForcedAmbiguity, PathsToNested, rank_of, greater_kind, extended, has_kind}
 use Rattle.cycle_heads.proofs.Counts.{count_of-usages_by}
-use Rattle.cycle_heads.proofs.PathLaws.{has_kind-union}
-use Rattle.cycle_heads.proofs.PathMembers.{extended-has}
-use Rattle.cycle_heads.proofs.PathRanks.{each_kind, greater_rank}
+use Rattle.path_kinds.proofs.PathLaws.{has_kind-union}
+use Rattle.path_kinds.proofs.PathMembers.{extended-has}
+use Rattle.path_kinds.proofs.PathRanks.{each_kind, greater_rank}
 
 -- ---- kinds and their ranks
 

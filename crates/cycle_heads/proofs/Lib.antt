@@ -1,7 +1,3 @@
-pub mod PathRanks
-pub mod PathSets
-pub mod PathLaws
-pub mod PathMembers
 pub mod Counts
 pub mod HeadLists
 pub mod Places

@@ -1,12 +1,12 @@
 -- The heads of an answer as the theory of open graphs sees them: by depth, with the kinds of paths and cycles as their ranks.
 use Rattle.std.specs.Prelude.{ℕ, zero, suc, Bool, false, Option, None, Some}
 use Rattle.open_graphs.specs.Use as theory
-use Rattle.cycle_heads.specs.declared.path.PathKind.TheVariants.{Inductive, Unknown, Coinductive, ForcedAmbiguity}
-use Rattle.cycle_heads.specs.declared.path.PathsToNested.{PathsToNested}
+use Rattle.path_kinds.specs.declared.path.PathKind.TheVariants.{Inductive, Unknown, Coinductive, ForcedAmbiguity}
+use Rattle.path_kinds.specs.declared.path.PathsToNested.{PathsToNested}
 use Rattle.cycle_heads.specs.declared.heads.CycleHead.{CycleHead}
 use Rattle.cycle_heads.specs.declared.usages.HeadUsages.{HeadUsages}
 use Rattle.cycle_heads.specs.Heads.{Heads, at_depth}
-use Rattle.cycle_heads.specs.Paths.{has_kind}
+use Rattle.path_kinds.specs.Paths.{has_kind}
 use Rattle.cycle_heads.specs.Usages.{count_of}
 
 -- whether paths of the kind with this rank are in the set

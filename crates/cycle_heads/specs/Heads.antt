@@ -8,8 +8,8 @@ use Rattle.std.specs.BTreeMap.{insert_entry, is_at}
 use Rattle.cycle_heads.specs.declared.depth.StackDepth.{StackDepth}
 use Rattle.cycle_heads.specs.declared.heads.CycleHead.{CycleHead}
 use Rattle.cycle_heads.specs.declared.usages.HeadUsages.{HeadUsages}
-use Rattle.cycle_heads.specs.declared.path.PathsToNested.{PathsToNested}
-use Rattle.cycle_heads.specs.Paths.{union}
+use Rattle.path_kinds.specs.declared.path.PathsToNested.{PathsToNested}
+use Rattle.path_kinds.specs.Paths.{union}
 use Rattle.cycle_heads.specs.Usages.{with_nested}
 
 -- the heads of an answer, by depth

@@ -1,5 +1,3 @@
-pub mod Path
-pub mod Paths
 pub mod Usages
 pub mod Heads
 pub mod Places

@@ -1,9 +1,9 @@
 -- How often a goal on the stack was used, by the kind of the cycle.
 use Rattle.std.specs.Prelude.{ℕ, ◌+◌, ◌-◌, ◌^◌, ◌==◌, ◌&&◌, Bool, not, min, if◌then◌else◌}
-use Rattle.cycle_heads.specs.declared.path.PathKind.{PathKind}
-use Rattle.cycle_heads.specs.declared.path.PathKind.TheVariants.{Inductive, Unknown, Coinductive, ForcedAmbiguity}
+use Rattle.path_kinds.specs.declared.path.PathKind.{PathKind}
+use Rattle.path_kinds.specs.declared.path.PathKind.TheVariants.{Inductive, Unknown, Coinductive, ForcedAmbiguity}
 use Rattle.cycle_heads.specs.declared.usages.HeadUsages.{HeadUsages}
-use Rattle.cycle_heads.specs.Path.{rank_of}
+use Rattle.path_kinds.specs.Path.{rank_of}
 
 -- the count of usages by cycles of the kind
 abbrev pub count_of : HeadUsages → PathKind → ℕ

@@ -3,16 +3,9 @@ pub use Rattle.cycle_heads.specs.Candidates.{merged, sum_with, UsagesByHead, wit
 pub use Rattle.cycle_heads.specs.HeadShapes.{count_at, has_rank, head_shape}
 pub use Rattle.cycle_heads.specs.Heads.{at_depth, depth_cmp, Heads, highest, IsRising, joined_head, lowest, replace_head}
 pub use Rattle.cycle_heads.specs.Heads.{with_head}
-pub use Rattle.cycle_heads.specs.Path.{greater_kind, rank_of}
 pub use Rattle.cycle_heads.specs.Places.{AreBelow, place_of}
-pub use Rattle.cycle_heads.specs.Paths.{extended_by_each, has_empty, has_kind, kinds_after, kinds_in, no_paths, paths_of}
-pub use Rattle.cycle_heads.specs.Paths.{union, union_of, unnamed_in}
-unfoldable pub use Rattle.cycle_heads.specs.Paths.{extended}
 pub use Rattle.cycle_heads.specs.Usages.{count_of, count_without, has_usages, no_usages, other_usages, sticking_sum}
 pub use Rattle.cycle_heads.specs.Usages.{usages_by, with_nested, with_usage, with_usages, without_usages}
 pub use Rattle.cycle_heads.specs.declared.depth.StackDepth.{StackDepth}
 pub use Rattle.cycle_heads.specs.declared.heads.CycleHead.{CycleHead}
-pub use Rattle.cycle_heads.specs.declared.path.PathKind.{PathKind}
-pub use Rattle.cycle_heads.specs.declared.path.PathKind.TheVariants.{Coinductive, ForcedAmbiguity, Inductive, Unknown}
-pub use Rattle.cycle_heads.specs.declared.path.PathsToNested.{PathsToNested}
 pub use Rattle.cycle_heads.specs.declared.usages.HeadUsages.{HeadUsages}

@@ -5,8 +5,8 @@ ghost use Rattle.std.specs.BTreeMap.{insert_entry};
 
 use crate::by_depth::{at_place, place_near, place_of};
 use crate::depth::StackDepth;
-use crate::memory::NoMemory;
 use crate::usages::HeadUsages;
+use path_kinds::memory::NoMemory;
 use smallvec::SmallVec;
 use std::alloc::Global;
 use std::marker::Model;

@@ -1,14 +1,15 @@
 //! The goals on the stack that an answer rests on.
 ghost use Rattle.std.specs.Prelude.{◌≡◌, ◌≢◌, ◌<◌, ◌≤◌, ◌↔◌, [], ◌∷◌, ◌++◌, length, All, IsTrue, IsSome, IsSomeAnd, IsOk, IfSome, Ok, Err, OnOk, OnErr, Some};
 ghost use Rattle.std.specs.Option.{option_map};
-ghost use Rattle.cycle_heads.specs.Words.{StackDepth, CycleHead, HeadUsages, PathKind, PathsToNested, at_depth, highest, joined_head, lowest, place_of, replace_head, with_head, Heads, IsRising, count_of, without_usages};
+ghost use Rattle.cycle_heads.specs.Words.{StackDepth, CycleHead, HeadUsages, at_depth, highest, joined_head, lowest, place_of, replace_head, with_head, Heads, IsRising, count_of, without_usages};
+ghost use Rattle.path_kinds.specs.Words.{PathKind, PathsToNested};
 
+use bitflags::Flags;
 use crate::by_depth::{at_place, place_near, place_of};
 use crate::depth::StackDepth;
-use crate::memory::NoMemory;
-use crate::path::PathsToNested;
 use crate::usages::HeadUsages;
-use bitflags::Flags;
+use path_kinds::memory::NoMemory;
+use path_kinds::path::PathsToNested;
 use smallvec::SmallVec;
 use std::alloc::Global;
 use std::marker::Model;

@@ -1,8 +1,9 @@
 //! How often, and by cycles of which kinds, a goal on the stack was used.
 ghost use Rattle.std.specs.Prelude.{◌≡◌, ◌≢◌, ◌≤◌, ◌↔◌, IsTrue};
-ghost use Rattle.cycle_heads.specs.Words.{PathKind, count_of, count_without, other_usages, with_nested, with_usage, with_usages, without_usages};
+ghost use Rattle.cycle_heads.specs.Words.{count_of, count_without, other_usages, with_nested, with_usage, with_usages, without_usages};
+ghost use Rattle.path_kinds.specs.Words.{PathKind};
 
-use crate::path::PathKind;
+use path_kinds::path::PathKind;
 
 /// How often a goal on the stack was used, counted by the kind of the cycle. A count sticks at
 /// `u32::MAX` and is never subtracted from then. Ports `HeadUsages`.

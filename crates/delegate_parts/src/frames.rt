@@ -6,8 +6,8 @@ use crate::NoScope;
 use crate::builder::Builder;
 use crate::goals::Outcomes;
 use crate::outcome::Outcome;
-use cycle_heads::memory::NoMemory;
-use cycle_heads::path::PathKind;
+use path_kinds::memory::NoMemory;
+use path_kinds::path::PathKind;
 use search_context::context::{Cx, Delegate, Reply, Request};
 use std::marker::PhantomData;
 

@@ -1,7 +1,7 @@
 //! The results of a goal, and what a search asks of them.
 ghost use Rattle.std.specs.Prelude.{◌≡◌, ◌↔◌, IsTrue};
 
-use cycle_heads::path::PathKind;
+use path_kinds::path::PathKind;
 use search_context::context::Verdict;
 use std::fmt;
 

@@ -1,5 +1,5 @@
 -- What the crates below have, from one place.
-pub use Rattle.cycle_heads.specs.declared.path.PathKind.{PathKind}
+pub use Rattle.path_kinds.specs.declared.path.PathKind.{PathKind}
 pub use Rattle.search_context.specs.Delegate.{CountsOne}
 pub use Rattle.search_context.specs.Rank.{AsksOnly, HasNoRank, IsBelowRank, IsPlain, IsPlainTo}
 pub use Rattle.search_context.specs.Rank.{IsPlainValue}

@@ -10,7 +10,7 @@ use Rattle.global_cache.specs.Below.{Walk, stay, go, cycle_kind, PathKind, Induc
 use Rattle.global_cache.specs.Words.{EndedRun, CacheNode, IsNodeOf, IsRun, AreRuns, graph_node_of, graph_nodes_of, IsWhole, edge_shape, shape_of, shapes_of}
 use Rattle.open_graphs.proofs.Verdicts.{edges_of}
 use Rattle.search_context.specs.Graph.{IsGraph}
-use Rattle.cycle_heads.proofs.PathRanks.{same_kind, greater_rank}
+use Rattle.path_kinds.proofs.PathRanks.{same_kind, greater_rank}
 use Rattle.search_context.proofs.Rules.{KeepsRule}
 use Rattle.global_cache.proofs.NodeLists.{node_at}
 

@@ -1,8 +1,8 @@
 -- What the crates below have, from one place.
 pub use Rattle.open_graphs.specs.Graph.{cycle_kind, go, Grown, IsClosedGraph, Neither, stay, Walk}
-pub use Rattle.cycle_heads.specs.Path.{rank_of}
-pub use Rattle.cycle_heads.specs.declared.path.PathKind.{PathKind}
-pub use Rattle.cycle_heads.specs.declared.path.PathKind.TheVariants.{Coinductive, Inductive}
+pub use Rattle.path_kinds.specs.Path.{rank_of}
+pub use Rattle.path_kinds.specs.declared.path.PathKind.{PathKind}
+pub use Rattle.path_kinds.specs.declared.path.PathKind.TheVariants.{Coinductive, Inductive}
 pub use Rattle.search_context.specs.Graph.{GraphNode, HasEdge, HasGoal, IsCopy, IsProofGraph, IsReached}
 pub use Rattle.search_context.specs.Graph.{IsRefutationGraph, IsWalk, original_edge, question_of, walk_kind}
 pub use Rattle.search_context.specs.Question.{Question}
@@ -17,5 +17,5 @@ pub use Rattle.search_context.specs.declared.context.Node.{Node}
 pub use Rattle.search_context.specs.declared.context.NodeId.{NodeId}
 pub use Rattle.search_context.specs.declared.context.Reply.{Reply}
 pub use Rattle.search_context.specs.declared.context.Request.{Request}
-pub use Rattle.search_stack.specs.Nested.{NestedPaths}
+pub use Rattle.goal_paths.specs.Nested.{NestedPaths}
 pub use Rattle.search_stack.specs.declared.result.EvaluationResult.{EvaluationResult}

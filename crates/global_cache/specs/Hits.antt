@@ -4,7 +4,7 @@ use Rattle.std.specs.List.{find}
 use Rattle.global_cache.specs.declared.results.Place.TheVariants.{Success, WithOverflow}
 use Rattle.global_cache.specs.declared.results.StoredResult.{StoredResult}
 use Rattle.search_stack.specs.Hit.{Hit}
-use Rattle.search_stack.specs.Nested.{NestedPaths}
+use Rattle.goal_paths.specs.Nested.{NestedPaths}
 use Rattle.global_cache.specs.Store.{Store, stored_at}
 
 module _ {X I R A T : Type 0} where

@@ -19,7 +19,7 @@ pub(super) struct Found {
 impl Model for Found {
     ghost use Rattle.std.specs.Prelude.{ℕ, List, nat_eq};
     ghost use Rattle.std.specs.HashMap as hash;
-    ghost use Rattle.search_stack.specs.StackIndex.{IsIndex};
+    ghost use Rattle.goal_paths.specs.StackIndex.{IsIndex};
 
     ghost Value = { List ℕ };
 

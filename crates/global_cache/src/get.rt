@@ -4,7 +4,7 @@ ghost use Rattle.std.specs.Option.{option_copied, option_map};
 ghost use Rattle.global_cache.specs.Definite.{HasGraph};
 ghost use Rattle.global_cache.specs.Hits.{first_accepted, hit_at, successes, usable};
 ghost use Rattle.search_stack.specs.Hit.{hit_of};
-ghost use Rattle.search_stack.specs.Nested.{NestedPaths};
+ghost use Rattle.goal_paths.specs.Nested.{NestedPaths};
 ghost use Rattle.search_context.specs.Rank.{IsBelowRank, IsPlain};
 ghost use Rattle.search_context.specs.Verdicts.{verdicts};
 

@@ -10,7 +10,7 @@ use Rattle.graph_check.specs.Below.{PathKind, Inductive, ForcedAmbiguity, rank_o
 use Rattle.strong_components.proofs.Walks.{falls_along, reaches-trans}
 use Rattle.search_context.proofs.Copies.{HasEdge-within}
 use Rattle.search_context.proofs.Graphs.{Contains-filtered, Contains-map, Contains-mapped, filtered_member, HasGoal-within}
-use Rattle.cycle_heads.proofs.PathRanks.{each_kind, greater_rank, same_kind}
+use Rattle.path_kinds.proofs.PathRanks.{each_kind, greater_rank, same_kind}
 use Rattle.graph_check.specs.Words.{IsBetween, IsGreater, IsLesser, HasCycle, HasInnerEdge, steps_over, targets_over}
 
 module _ {I : Type 0} (nodes : List (GraphNode I)) (most : PathKind) where

@@ -1,9 +1,9 @@
 -- What the crates below have, from one place.
 pub use Rattle.strong_components.specs.Components.{AreComponents, HasStep, Reaches, StaysInside, successor_lists}
 pub use Rattle.strong_components.specs.Components.Reaches.{go, stay}
-pub use Rattle.cycle_heads.specs.declared.path.PathKind.TheVariants.{Coinductive, ForcedAmbiguity, Inductive}
-pub use Rattle.cycle_heads.specs.declared.path.PathKind.{PathKind}
-pub use Rattle.cycle_heads.specs.Path.{rank_of}
+pub use Rattle.path_kinds.specs.declared.path.PathKind.TheVariants.{Coinductive, ForcedAmbiguity, Inductive}
+pub use Rattle.path_kinds.specs.declared.path.PathKind.{PathKind}
+pub use Rattle.path_kinds.specs.Path.{rank_of}
 pub use Rattle.search_context.specs.Graph.{GraphNode, HasEdge, HasGoal, IsGraph, IsProofGraph, IsRefutationGraph, IsWalk}
 pub use Rattle.search_context.specs.Graph.{question_of, walk_kind}
 pub use Rattle.search_context.specs.Question.{Question}

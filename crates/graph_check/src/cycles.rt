@@ -4,7 +4,7 @@ ghost use Rattle.std.specs.List.{list_any};
 ghost use Rattle.graph_check.specs.Below.{rank_of, AreClosed, CyclesHaveKind, goal_nodes_of, successor_lists};
 ghost use Rattle.graph_check.specs.Words.{HasCycle, HasInnerEdge, IsBetween, IsGreater, IsLesser, leads_to, steps_over, targets_over};
 
-use cycle_heads::path::PathKind;
+use path_kinds::path::PathKind;
 use search_context::context::{Edge, NoMemory, Node};
 use std::alloc::{AllocError, Global};
 use strong_components::components;

@@ -19,8 +19,8 @@ mod cycles;
 mod replay;
 mod targets;
 
-use cycle_heads::path::PathKind;
 use cycles::cycles_have_kind;
+use path_kinds::path::PathKind;
 use replay::is_run;
 use search_context::context::{Cx, Delegate, NoMemory, Node, ProofGraph, Verdict};
 use std::alloc::Global;

@@ -1,12 +1,12 @@
 -- What the crates below have, from one place.
 pub use Rattle.cycle_heads.specs.Candidates.{UsagesByHead, with_noted}
 pub use Rattle.cycle_heads.specs.Heads.{at_depth, Heads, IsRising, joined_head, replace_head, with_head}
-pub use Rattle.cycle_heads.specs.Paths.{path_of_no_step, paths_of}
-unfoldable pub use Rattle.cycle_heads.specs.Paths.{extended}
+pub use Rattle.path_kinds.specs.Paths.{path_of_no_step, paths_of}
+unfoldable pub use Rattle.path_kinds.specs.Paths.{extended}
 pub use Rattle.cycle_heads.specs.Usages.{count_of, no_usages, with_nested, with_usage, without_usages}
 pub use Rattle.cycle_heads.specs.declared.depth.StackDepth.{StackDepth}
 pub use Rattle.cycle_heads.specs.declared.heads.CycleHead.{CycleHead}
-pub use Rattle.cycle_heads.specs.declared.path.PathKind.{PathKind}
+pub use Rattle.path_kinds.specs.declared.path.PathKind.{PathKind}
 pub use Rattle.cycle_heads.specs.declared.usages.HeadUsages.{HeadUsages}
 pub use Rattle.search_context.specs.Delegate.{CanTake, Steps}
 pub use Rattle.search_context.specs.Graph.{question_of}
@@ -28,7 +28,7 @@ pub use Rattle.search_context.specs.declared.context.Request.TheVariants.{Ignore
 pub use Rattle.search_context.specs.declared.context.Verdict.{Verdict}
 pub use Rattle.search_context.specs.declared.context.Verdict.TheVariants.{Neither, No, Yes}
 pub use Rattle.search_stack.specs.Lent.{change_last}
-pub use Rattle.search_stack.specs.Nested.{joined_paths, JoinsPaths, NestedPaths, paths_at}
+pub use Rattle.goal_paths.specs.Nested.{joined_paths, JoinsPaths, NestedPaths, paths_at}
 pub use Rattle.search_stack.specs.Stack.{allowed_depth, depth_below, fresh_entry, position_of}
 pub use Rattle.search_stack.specs.declared.depth.AvailableDepth.{AvailableDepth}
 pub use Rattle.search_stack.specs.declared.stack.EntryState.{EntryState}

@@ -16,8 +16,8 @@ use crate::update::{
     cycle_head, note_depth, note_head, note_heads, note_nested_goals, take_nested_goals,
 };
 use cycle_heads::heads::CycleHeads;
-use cycle_heads::path::{PathKind, PathsToNested};
 use cycle_heads::usages::HeadUsages;
+use path_kinds::path::{PathKind, PathsToNested};
 use scopes::HeldScope;
 use search_context::context::{
     Answer, Cx, Delegate, Fault, NoMemory, NodeId, Reply, Request, Verdict,

@@ -6,7 +6,7 @@ ghost use Rattle.open_goals.specs.Words.{HasTarget, begun, edges_of, fault_of, g
 
 mod lists;
 
-use cycle_heads::path::PathKind;
+use path_kinds::path::PathKind;
 pub(crate) use lists::Lists;
 use search_context::context::{Edge, NoMemory, NodeId, Reply, Request, Verdict};
 use std::alloc::Global;

@@ -5,8 +5,8 @@ ghost use Rattle.std.specs.Option.{IsSomeAnd};
 
 use cycle_heads::candidates::CandidateHeadUsages;
 use cycle_heads::heads::{CycleHead, CycleHeads};
-use cycle_heads::path::{PathKind, PathsToNested};
 use cycle_heads::usages::HeadUsages;
+use path_kinds::path::{PathKind, PathsToNested};
 use search_context::context::{Cx, NoMemory};
 use search_stack::depth::StackDepth;
 use search_stack::nested_goals::NestedGoals;

@@ -1,6 +1,6 @@
 -- What the crates below have, from one place.
-pub use Rattle.cycle_heads.specs.Path.{rank_of}
-pub use Rattle.cycle_heads.specs.declared.path.PathKind.{PathKind}
+pub use Rattle.path_kinds.specs.Path.{rank_of}
+pub use Rattle.path_kinds.specs.declared.path.PathKind.{PathKind}
 pub use Rattle.delegate_parts.specs.Outcome.{outcome_verdicts}
 pub use Rattle.delegate_parts.specs.declared.outcome.Outcome.{Outcome}
 pub use Rattle.search_context.specs.Rank.{HasNoRank, IsRanked}

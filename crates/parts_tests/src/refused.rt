@@ -2,18 +2,18 @@
 //! In a plain run nothing is refused, and each call succeeds at once; `tests/memory` refuses the requests in turn. A call
 //! that needs no memory then is one that has to succeed.
 
+use bitflags::Flags;
 use crate::entries::{GOAL, LOWER, USER};
 use crate::rebasing::{self, COINDUCTIVE, REASONS};
 use crate::stored::{Found, OfLoops, Storing};
 use crate::told::{KINDS, Told, usages_of};
-use bitflags::Flags;
 use cycle_heads::candidates::CandidateHeadUsages;
 use cycle_heads::depth::StackDepth;
 use cycle_heads::heads::CycleHeads;
-use cycle_heads::path::{PathKind, PathsToNested};
 use cycle_heads::usages::HeadUsages;
 use delegate_parts::{ContextOf, Outcome};
 use global_cache::GlobalCache;
+use path_kinds::path::{PathKind, PathsToNested};
 use search_context::context::{Cx, Delegate, Fault, NoMemory};
 use search_stack::depth::AvailableDepth;
 use search_stack::nested_goals::NestedGoals;

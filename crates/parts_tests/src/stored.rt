@@ -5,9 +5,9 @@ ghost use Rattle.std.specs.Prelude.{◌≡◌, [], IfOk};
 ghost use Rattle.parts_tests.specs.Below.{HasGraph, outcome_verdicts};
 
 use cycle_heads::heads::CycleHeads;
-use cycle_heads::path::{PathKind, PathsToNested};
 use delegate_parts::Outcome;
 use global_cache::{GlobalCache, NestedTest};
+use path_kinds::path::{PathKind, PathsToNested};
 use search_context::context::{Cx, Delegate, Fault, NoMemory, NodeId};
 use search_stack::nested_goals::NestedGoals;
 use search_stack::result::EvaluationResult;

@@ -2,10 +2,10 @@
 
 use bitflags::Flags;
 use cycle_heads::heads::CycleHead;
-use cycle_heads::memory::NoMemory;
-use cycle_heads::path::{PathKind, PathsToNested};
 use cycle_heads::usages::HeadUsages;
 use delegate_parts::Outcome;
+use path_kinds::memory::NoMemory;
+use path_kinds::path::{PathKind, PathsToNested};
 use std::alloc::Global;
 use std::fmt::Write;
 

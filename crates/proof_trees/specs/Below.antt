@@ -1,6 +1,6 @@
 -- What the crates below have, from one place.
-pub use Rattle.cycle_heads.specs.declared.memory.NoMemory.{NoMemory}
-pub use Rattle.cycle_heads.specs.declared.path.PathKind.{PathKind}
+pub use Rattle.path_kinds.specs.declared.memory.NoMemory.{NoMemory}
+pub use Rattle.path_kinds.specs.declared.path.PathKind.{PathKind}
 pub use Rattle.search_context.specs.Delegate.{CanTake, CountsOne, Steps}
 pub use Rattle.search_context.specs.declared.context.Reply.{Reply}
 pub use Rattle.search_context.specs.declared.context.Reply.TheVariants.{Answer}

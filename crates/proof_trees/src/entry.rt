@@ -1,6 +1,6 @@
 //! The entries of a proof tree.
 
-use cycle_heads::path::PathKind;
+use path_kinds::path::PathKind;
 
 /// One entry of a tree. A tree is a list of entries in the order in which things happened: an entry is a part of the
 /// last one before it that has a smaller level. So a tree of any depth is written and dropped without recursion.

@@ -4,7 +4,7 @@ ghost use Rattle.proof_trees.specs.Below.{NoMemory};
 
 use crate::entry::Entry;
 use crate::run_record::{Place, RunRecord};
-use cycle_heads::memory::NoMemory;
+use path_kinds::memory::NoMemory;
 use search_context::context::{Reply, Request};
 use std::alloc::Global;
 

@@ -6,8 +6,8 @@ ghost use Rattle.proof_trees.specs.Recorder.{and_entry, entries_of, inner_of, Is
 
 use crate::recorder::Recorder;
 use crate::run_record::RunRecord;
-use cycle_heads::memory::NoMemory;
-use cycle_heads::path::PathKind;
+use path_kinds::memory::NoMemory;
+use path_kinds::path::PathKind;
 use search_context::context::{Cx, Delegate, Reply, Request};
 use std::marker::PhantomData;
 

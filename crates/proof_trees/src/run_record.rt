@@ -2,7 +2,7 @@
 ghost use Rattle.std.specs.Prelude.{◌≡◌};
 
 use crate::entry::{Entry, Part};
-use cycle_heads::path::PathKind;
+use path_kinds::path::PathKind;
 use search_context::context::{Reply, Request};
 
 /// Where a run stands in the tree.

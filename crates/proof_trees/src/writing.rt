@@ -4,7 +4,7 @@ ghost use Rattle.std.specs.Io.KnownBytes.{Appends};
 ghost use Rattle.proof_trees.specs.Text.{asked_words, deep_indentation, indentation, line_of, part_words, question_words, text_of};
 
 use crate::entry::{Entry, Part};
-use cycle_heads::path::PathKind;
+use path_kinds::path::PathKind;
 use std::io;
 use std::io::Write;
 

@@ -6,8 +6,8 @@ use Rattle.std.specs.List.{find}
 use Rattle.std.specs.Option.{option_map, unwrap_or}
 use denote.Enum.Bare.{sameb}
 use denote.Enum.Declared.{tag_of}
-use Rattle.cycle_heads.specs.contracts.path.PathKind.{the_type}
-use Rattle.cycle_heads.specs.declared.path.PathKind.TheVariants.{Inductive, Unknown, Coinductive, ForcedAmbiguity}
+use Rattle.path_kinds.specs.contracts.path.PathKind.{the_type}
+use Rattle.path_kinds.specs.declared.path.PathKind.TheVariants.{Inductive, Unknown, Coinductive, ForcedAmbiguity}
 use Rattle.search_stack.specs.Cycle.{path_kind_from}
 use Rattle.provisional_cache.specs.Below.{CycleHead, PathKind, StackDepth, StackEntry, highest, rank_of}
 use Rattle.provisional_cache.specs.Reuse.{asking_heads}

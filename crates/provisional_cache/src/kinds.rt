@@ -4,7 +4,7 @@ ghost use Rattle.std.specs.List.{list_all};
 ghost use Rattle.provisional_cache.specs.Below.{kinds_in};
 ghost use Rattle.provisional_cache.specs.Words.{keeps_kind, keeps_kinds};
 
-use cycle_heads::path::{PathKind, PathsToNested};
+use path_kinds::path::{PathKind, PathsToNested};
 use search_context::context::Cx;
 use search_stack::stack::{Stack, StackEntry};
 

@@ -24,7 +24,7 @@ mod rebasing;
 
 use cycle_heads::depth::StackDepth;
 use cycle_heads::heads::CycleHeads;
-use cycle_heads::path::PathKind;
+use path_kinds::path::PathKind;
 use search_context::context::{Cx, Delegate, NoMemory, NodeId};
 use search_stack::stack::{Stack, StackEntry};
 use std::alloc::Global;

@@ -8,7 +8,7 @@ ghost use Rattle.provisional_cache.specs.Words.{has_head_up_to, may_be_used};
 use crate::ProvisionalCacheEntry;
 use cycle_heads::depth::StackDepth;
 use cycle_heads::heads::CycleHeads;
-use cycle_heads::path::PathKind;
+use path_kinds::path::PathKind;
 use search_context::context::Cx;
 use search_stack::stack::Stack;
 

@@ -1,5 +1,5 @@
 -- What the crates below have, from one place.
-pub use Rattle.cycle_heads.specs.declared.path.PathKind.TheVariants.{Inductive}
+pub use Rattle.path_kinds.specs.declared.path.PathKind.TheVariants.{Inductive}
 pub use Rattle.delegate_parts.specs.declared.outcome.Outcome.{Outcome}
 pub use Rattle.delegate_parts.specs.declared.outcome.Outcome.TheVariants.{No, Yes}
 pub use Rattle.question_lists.specs.declared.needs.Needs.{Needs}

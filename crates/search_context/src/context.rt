@@ -5,7 +5,7 @@ ghost use Rattle.search_context.specs.Run.{EndsIn, progress_after, questions_ans
 ghost use Rattle.search_context.specs.Delegate.{IsNeither, IsCycleResult, CanTake, Steps, CountsOne};
 
 use crate::path::PathKind;
-pub use cycle_heads::memory::NoMemory;
+pub use path_kinds::memory::NoMemory;
 use std::hash::Hash;
 use thiserror::Error;
 

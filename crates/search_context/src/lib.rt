@@ -14,4 +14,4 @@
 pub mod context;
 pub mod law;
 
-pub use cycle_heads::path;
+pub use path_kinds::path;

@@ -5,7 +5,7 @@ pub use Rattle.cycle_heads.specs.Heads.{at_depth}
 pub use Rattle.cycle_heads.specs.Usages.{count_of, count_without, no_usages}
 pub use Rattle.cycle_heads.specs.declared.depth.StackDepth.{StackDepth}
 pub use Rattle.cycle_heads.specs.declared.heads.CycleHead.{CycleHead}
-pub use Rattle.cycle_heads.specs.declared.path.PathKind.{PathKind}
+pub use Rattle.path_kinds.specs.declared.path.PathKind.{PathKind}
 pub use Rattle.cycle_heads.specs.declared.usages.HeadUsages.{HeadUsages}
 pub use Rattle.search_context.specs.Decisive.{IsDecisive}
 pub use Rattle.search_context.specs.Delegate.{CountsOne, KeepsBuilder}

@@ -12,9 +12,9 @@ mod list;
 mod proof_tree;
 
 use cycle_heads::candidates::CandidateHeadUsages;
-use cycle_heads::path::PathKind;
 use evaluate::evaluate;
 use global_cache::GlobalCache;
+use path_kinds::path::PathKind;
 use search_context::context::{Answer, Cx, Delegate, Fault};
 use search_moves::drafts::Drafts;
 use search_moves::evaluation::Evaluation;

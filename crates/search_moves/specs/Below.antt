@@ -3,7 +3,7 @@ pub use Rattle.cycle_heads.specs.Heads.{highest}
 pub use Rattle.cycle_heads.specs.Usages.{has_usages, other_usages}
 pub use Rattle.cycle_heads.specs.declared.depth.StackDepth.{StackDepth}
 pub use Rattle.cycle_heads.specs.declared.heads.CycleHead.{CycleHead}
-pub use Rattle.cycle_heads.specs.declared.path.PathKind.{PathKind}
+pub use Rattle.path_kinds.specs.declared.path.PathKind.{PathKind}
 pub use Rattle.cycle_heads.specs.declared.usages.HeadUsages.{HeadUsages}
 pub use Rattle.search_context.specs.Delegate.{CountsOne, IsCycleResult, IsNeither, KeepsBuilder}
 pub use Rattle.search_context.specs.Rank.{IsPlainTo, IsPlainValue}

@@ -5,9 +5,9 @@ ghost use Rattle.search_moves.specs.Drafts.{KeepsNoted};
 ghost use Rattle.search_moves.specs.Words.{ChangesCache, Fails, MayPop, Pops};
 
 use crate::evaluation::Evaluation;
-use cycle_heads::path::PathKind;
 use global_cache::GlobalCache;
 use open_goals::goals::{Next, OpenGoals, Popped, Received, Run};
+use path_kinds::path::PathKind;
 use provisional_cache::RebaseReason;
 use search_context::context::{Answer, Cx, Delegate, Fault, NoMemory, Reply};
 use search_rules::nodes::result_node;

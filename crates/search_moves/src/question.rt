@@ -8,11 +8,11 @@ ghost use Rattle.search_rules.specs.Words.{Consults, IsUsable};
 ghost use Rattle.search_moves.specs.Words.{HasRequest, Requests, IsRightFor, GoesOnWith, StopsWith, KeepsCache, StartsFrame, AskingLeadsTo, IsAnsweredAtLimit, IsAnsweredByEntry, IsAnsweredByHit, question_depth};
 
 use crate::evaluation::Evaluation;
-use cycle_heads::path::PathKind;
 use global_cache::GlobalCache;
 use open_goals::candidates::FinishedCandidates;
 use open_goals::goals::{Fate, OpenGoals, Received, Run};
 use open_goals::progress::Progress;
+use path_kinds::path::PathKind;
 use provisional_cache::{ProvisionalCache, ProvisionalCacheEntry};
 use search_context::context::{Cx, Delegate, NoMemory, NodeId, Reply};
 use search_rules::look_up::{Consulted, consult, look_up_entry};

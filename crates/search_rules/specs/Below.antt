@@ -14,16 +14,16 @@ pub use Rattle.open_graphs.specs.Use.{HeadsWithin, Includes, IncludesBelow, Prov
 pub use Rattle.cycle_heads.specs.Candidates.{UsagesByHead}
 pub use Rattle.cycle_heads.specs.HeadShapes.{count_at, has_rank, head_shape, heads_shape}
 pub use Rattle.cycle_heads.specs.Heads.{at_depth, depth_cmp, Heads, highest, IsRising, joined_head, with_head}
-pub use Rattle.cycle_heads.specs.Path.{greater_kind, greatest_kind, is_coinductive, is_inductive, rank_of}
-unfoldable pub use Rattle.cycle_heads.specs.Paths.{extended}
-pub use Rattle.cycle_heads.specs.Paths.{extended_by_each, has_kind, kinds_in, path_of_no_step, paths_of, union}
+pub use Rattle.path_kinds.specs.Path.{greater_kind, greatest_kind, is_coinductive, is_inductive, rank_of}
+unfoldable pub use Rattle.path_kinds.specs.Paths.{extended}
+pub use Rattle.path_kinds.specs.Paths.{extended_by_each, has_kind, kinds_in, path_of_no_step, paths_of, union}
 pub use Rattle.cycle_heads.specs.Usages.{count_of, has_usages, no_usages, other_usages, sticking_sum, usages_by}
 pub use Rattle.cycle_heads.specs.Usages.{with_nested, with_usage}
 pub use Rattle.cycle_heads.specs.declared.depth.StackDepth.{StackDepth}
 pub use Rattle.cycle_heads.specs.declared.heads.CycleHead.{CycleHead}
-pub use Rattle.cycle_heads.specs.declared.path.PathKind.{PathKind}
-pub use Rattle.cycle_heads.specs.declared.path.PathKind.TheVariants.{Coinductive, ForcedAmbiguity, Inductive, Unknown}
-pub use Rattle.cycle_heads.specs.declared.path.PathsToNested.{PathsToNested}
+pub use Rattle.path_kinds.specs.declared.path.PathKind.{PathKind}
+pub use Rattle.path_kinds.specs.declared.path.PathKind.TheVariants.{Coinductive, ForcedAmbiguity, Inductive, Unknown}
+pub use Rattle.path_kinds.specs.declared.path.PathsToNested.{PathsToNested}
 pub use Rattle.cycle_heads.specs.declared.usages.HeadUsages.{HeadUsages}
 pub use Rattle.search_context.specs.Decisive.{AreDecided, IsDecidedKind, IsDecidedReply, IsDecisive}
 pub use Rattle.search_context.specs.Delegate.{CountsOne, IsCycleResult, IsNeither, Steps}
@@ -50,7 +50,7 @@ pub use Rattle.search_context.specs.declared.context.Request.TheVariants.{Finish
 pub use Rattle.search_context.specs.declared.context.Verdict.{Verdict}
 pub use Rattle.search_context.specs.declared.context.Verdict.TheVariants.{Neither, No, Yes}
 pub use Rattle.search_stack.specs.Cycle.{path_kind_from}
-pub use Rattle.search_stack.specs.Nested.{NestedPaths, paths_at}
+pub use Rattle.goal_paths.specs.Nested.{NestedPaths, paths_at}
 pub use Rattle.search_stack.specs.Stack.{depth_below}
 pub use Rattle.search_stack.specs.declared.depth.AvailableDepth.{AvailableDepth}
 pub use Rattle.search_stack.specs.declared.result.EvaluationResult.{EvaluationResult}

@@ -1,7 +1,7 @@
 -- What is kept of the kinds of questions while goals are under evaluation: the stack is a walk of questions, what a goal rests on it
 -- reaches, and the paths on record are those of walks of questions.
 use Rattle.std.specs.Prelude.{◌≡◌, ◌⊎◌, ℕ, Bool, true, false, All, Contains, IsSome, length, List, [], ◌∷◌, Some}
-use Rattle.cycle_heads.specs.Paths.{has_empty}
+use Rattle.path_kinds.specs.Paths.{has_empty}
 use Rattle.search_rules.specs.Below.{at_depth, entries_at, has_kind, Heads, Lists, NestedPaths, paths_at, PathKind, PathsToNested, ProvisionalCacheEntry, Reply, Request, StackDepth, Store, OpenGoal, stored_at, StoredResult, Success}
 use Rattle.search_rules.specs.OneKind.{MayAsk, AsksByOneKind, MayLeadTo, MayReach}
 

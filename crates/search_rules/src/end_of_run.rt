@@ -4,8 +4,8 @@ ghost use Rattle.search_rules.specs.declared.end_of_run.Unstable.TheVariants.{Ag
 ghost use Rattle.search_rules.specs.EndOfRun.{ReachedFixpoint};
 ghost use Rattle.search_rules.specs.Words.{IsReason, IsEndOfRun, IsStable};
 
-use cycle_heads::path::PathKind;
 use cycle_heads::usages::HeadUsages;
+use path_kinds::path::PathKind;
 use provisional_cache::RebaseReason;
 use search_context::context::{Cx, Delegate};
 use search_stack::stack::EntryState;

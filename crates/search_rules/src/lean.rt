@@ -6,10 +6,10 @@ ghost use Rattle.search_rules.specs.Justified.{verdict_shape};
 ghost use Rattle.search_rules.specs.Lean.{IsAnsweredAgain, IsBackedQuestion, IsGuided, IsLeanRun, IsRecordFor, LeadsTo};
 ghost use Rattle.search_rules.specs.Runs.{CameTo};
 
-use cycle_heads::path::PathKind;
 use global_cache::GlobalCache;
 use open_goals::goals::{Received, sort_of};
 use open_goals::progress::{DefiniteAnswer, Progress};
+use path_kinds::path::PathKind;
 use search_context::context::{Cx, Delegate, Edge, NodeId, Reply, Request, Verdict};
 use std::alloc::Global;
 use std::marker::Model;

@@ -7,9 +7,9 @@ ghost use Rattle.search_context.specs.Delegate.{KeepsBuilder};
 ghost use Rattle.search_rules.specs.Words.{usable_entry, could_be_used, Consults, is_applicable, is_compared, meets_entry, AreOnStack, IsFated, IsUsable};
 
 use bitflags::Flags;
-use cycle_heads::path::{PathKind, PathsToNested};
 use global_cache::{GlobalCache, NestedTest};
 use open_goals::goals::Fate;
+use path_kinds::path::{PathKind, PathsToNested};
 use provisional_cache::{ProvisionalCache, ProvisionalCacheEntry};
 use search_context::context::{Cx, Delegate};
 use search_stack::depth::AvailableDepth;

@@ -1,20 +1,12 @@
--- The greatest kind of the steps of a cycle, where one step is added.
-use Rattle.std.proofs.Common.{◌≡◌, List, [], ◌∷◌, ◌++◌, sym, ap, ◌∙◌, arith}
+-- The kind of a path from a goal on the stack.
+use Rattle.std.proofs.Common.{◌≡◌, ℕ, ◌+◌, List, ◌∷◌, drop, map, ap, ◌∙◌}
+use Rattle.std.proofs.lemmas.List.{drop-map}
 use Rattle.search_stack.specs.Below.{PathKind, greater_kind, greatest_kind}
-use Rattle.cycle_heads.proofs.PathRanks.{same_kind, greater_rank}
+use Rattle.search_stack.specs.Words.{StackEntry, step_kinds_above}
 
--- the greater of three kinds in either grouping
-greater-assoc : (j k l : PathKind) → greater_kind (greater_kind j k) l ≡ greater_kind j (greater_kind k l)
-greater-assoc j k l = same_kind _ _ (omega (arith, greater_rank (greater_kind j k) l, greater_rank j k, greater_rank j (greater_kind k l), greater_rank k l))
-
--- the least kind changes nothing
-greater-least : (k : PathKind) → greater_kind k (greatest_kind []) ≡ k
-greater-least k = same_kind _ _ (omega (arith, greater_rank k (greatest_kind [])))
-
-pub least-greater : (k : PathKind) → greater_kind (greatest_kind []) k ≡ k
-least-greater k = same_kind _ _ (omega (arith, greater_rank (greatest_kind []) k))
-
--- one more kind at the end
-pub greatest-push : (kinds : List PathKind) (k : PathKind) → greatest_kind (kinds ++ k ∷ []) ≡ greater_kind (greatest_kind kinds) k
-greatest-push [] k = greater-least k ∙ sym (least-greater k)
-greatest-push (l ∷ kinds) k = ap (greater_kind l) (greatest-push kinds k) ∙ sym (greater-assoc l (greatest_kind kinds) k)
+-- the kind of a path over one more step, by those of the steps past the head
+pub kind_past-step : {X I R A T : Type 0} (stack : List (StackEntry X I R A T)) (head : ℕ) (step past path : PathKind) {told : PathKind}
+    → path ≡ greater_kind step past → past ≡ told → told ≡ greatest_kind (drop (head + 1) (map (λ e. e.step_kind_from_parent) stack))
+    → path ≡ greatest_kind (step ∷ step_kinds_above stack head)
+kind_past-step stack head step past path joined is tells =
+    joined ∙ ap (greater_kind step) (is ∙ tells ∙ ap greatest_kind (drop-map (λ e. e.step_kind_from_parent) (head + 1) stack))

@@ -2,7 +2,7 @@
 use Rattle.std.specs.Prelude.{ℕ, Bool, Option}
 use Rattle.search_context.specs.declared.context.NodeId.{NodeId}
 use Rattle.search_stack.specs.declared.result.CacheData.{CacheData}
-use Rattle.search_stack.specs.Nested.{NestedPaths}
+use Rattle.goal_paths.specs.Nested.{NestedPaths}
 
 -- a result with what is known of it
 pub record Hit (I R T : Type 0) : Type 0 where

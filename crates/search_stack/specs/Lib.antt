@@ -1,11 +1,6 @@
-pub mod Nested
-pub mod StackIndex
 pub mod Stack
 pub mod Hit
 pub mod Lent
 pub mod Cycle
-pub mod Steps
-pub mod Raises
-pub mod Kept
 pub mod Below
 pub mod Words

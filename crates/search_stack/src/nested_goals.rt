@@ -3,11 +3,11 @@ ghost use Rattle.std.specs.Prelude.{◌≡◌, ◌↔◌, ◌^◌, ◌<◌, [], 
 ghost use Rattle.std.specs.List.{IsDistinct};
 ghost use Rattle.std.specs.Map.{keys_of};
 ghost use Rattle.search_stack.specs.Below.{extended};
-ghost use Rattle.search_stack.specs.Words.{paths_at, JoinsEach, JoinsPaths};
+ghost use Rattle.goal_paths.specs.Words.{paths_at, JoinsEach, JoinsPaths};
 
-use crate::held;
-use crate::noted_goals::{self, NotedGoals};
-use cycle_heads::path::{PathKind, PathsToNested};
+use goal_paths::held;
+use goal_paths::noted_goals::{self, NotedGoals};
+use path_kinds::path::{PathKind, PathsToNested};
 use search_context::context::{Cx, NoMemory};
 use std::alloc::Global;
 use std::marker::Model;
@@ -28,7 +28,7 @@ pub struct NestedGoals<X: Cx> {
 }
 
 impl<X: Cx> Model for NestedGoals<X> {
-    ghost use Rattle.search_stack.specs.Nested.{NestedPaths, held};
+    ghost use Rattle.goal_paths.specs.Nested.{NestedPaths, held};
 
     ghost Value = { NestedPaths X.Input };
 
@@ -145,7 +145,7 @@ pub struct Iter<'a, X: Cx> {
 }
 
 impl<'a, X: Cx> Model for Iter<'a, X> {
-    ghost use Rattle.search_stack.specs.Nested.{NestedPaths, goals_in};
+    ghost use Rattle.goal_paths.specs.Nested.{NestedPaths, goals_in};
 
     ghost Value = { NestedPaths X.Input };
 

@@ -3,16 +3,17 @@ ghost use Rattle.std.specs.Prelude.{◌≡◌, ℕ, ◌+◌, ◌-◌, ◌^◌, �
 ghost use Rattle.std.specs.HashMap.{Updates};
 ghost use Rattle.std.specs.Option.{option_map};
 ghost use Rattle.std.specs.Slice.Iter.{iter_rest};
-ghost use Rattle.search_stack.specs.Words.{position_of, TellsKinds};
+ghost use Rattle.search_stack.specs.Words.{position_of};
+ghost use Rattle.goal_paths.specs.Words.{TellsKinds};
 
 use crate::depth::{AvailableDepth, StackDepth};
 use crate::nested_goals::NestedGoals;
 use crate::room::give_room_back;
-use crate::steps::LastSteps;
 use cycle_heads::candidates::CandidateHeadUsages;
 use cycle_heads::heads::CycleHeads;
-use cycle_heads::path::PathKind;
 use cycle_heads::usages::HeadUsages;
+use goal_paths::steps::LastSteps;
+use path_kinds::path::PathKind;
 use search_context::context::{Cx, NoMemory, NodeId};
 use std::alloc::Global;
 use std::collections::HashMap;
@@ -119,8 +120,8 @@ impl<X: Cx> Model for Stack<X> {
     ghost use Rattle.std.specs.Prelude.{List, map};
     ghost use Rattle.std.specs.HashMap as hash;
     ghost use Rattle.search_stack.specs.declared.stack.StackEntry.{StackEntry};
-    ghost use Rattle.search_stack.specs.StackIndex.{IsIndex};
-    ghost use Rattle.search_stack.specs.Steps.{AreLastSteps};
+    ghost use Rattle.goal_paths.specs.StackIndex.{IsIndex};
+    ghost use Rattle.goal_paths.specs.Steps.{AreLastSteps};
 
     ghost Value = { List (StackEntry X X.Input X.Result X.AmbiguityInfo X.DepNodeIndex) };
 

@@ -1,5 +1,5 @@
 -- What the crates below have, from one place.
-pub use Rattle.cycle_heads.specs.declared.path.PathKind.TheVariants.{Coinductive}
+pub use Rattle.path_kinds.specs.declared.path.PathKind.TheVariants.{Coinductive}
 pub use Rattle.delegate_parts.specs.Outcome.{outcome_verdicts}
 pub use Rattle.question_lists.specs.Needs.{Proves, Refutes}
 pub use Rattle.question_lists.specs.declared.needs.Needs.{Needs}

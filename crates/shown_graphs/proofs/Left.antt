@@ -3,7 +3,7 @@ use Rattle.std.proofs.Common.{◌≡◌, All, codes, List, ◌∷◌, ℕ}
 use Rattle.std.specs.Prelude.{⊤}
 use Rattle.json.specs.Token.{Token, begin_object, end_array, end_object, key}
 use Rattle.search_context.specs.declared.context.Edge.{Edge}
-use Rattle.cycle_heads.specs.declared.path.PathKind.{PathKind}
+use Rattle.path_kinds.specs.declared.path.PathKind.{PathKind}
 use Rattle.shown_graphs.proofs.Arrays.{array_tail}
 use Rattle.shown_graphs.proofs.Readback.{after_replies, edge_parts, node_parts, reply_parts}
 use Rattle.shown_graphs.specs.Below.{Goal, Outcome, Reply}

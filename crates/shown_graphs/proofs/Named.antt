@@ -20,8 +20,8 @@ use Rattle.search_context.specs.Valid.{goal_node_of, goal_nodes_of, IsRunOfSort,
 use Rattle.search_context.specs.declared.context.Edge.{Edge}
 use Rattle.shown_graphs.proofs.Lists.{AllByRecursion-append}
 use Rattle.shown_graphs.specs.Checked.{AreReached, IsRightlyShown, IsShownGraph}
-use Rattle.cycle_heads.specs.declared.path.PathKind.{PathKind}
-use Rattle.cycle_heads.specs.declared.path.PathKind.TheVariants.{Coinductive, Inductive}
+use Rattle.path_kinds.specs.declared.path.PathKind.{PathKind}
+use Rattle.path_kinds.specs.declared.path.PathKind.TheVariants.{Coinductive, Inductive}
 use Rattle.shown_graphs.specs.Below.{candidates_of, Goal, Maybe, names_of, No, Node, number_of, Outcome, Overflow, questions_of, Reply, Request, Rules, Verdicts, Yes}
 use Rattle.shown_graphs.specs.Data.{goal_text, IsClaim, IsNamed, IsNode, IsTarget, plain_node, PlainClaim}
 use Rattle.shown_graphs.specs.Shown.{WereAsked, claims_of}

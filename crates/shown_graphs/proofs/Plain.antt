@@ -10,8 +10,8 @@ use Rattle.std.proofs.lemmas.List.Splits.{slice_split-cons_no, slice_split-cons_
 use Rattle.std.proofs.lemmas.Str.{IsUtf8-from_ascii}
 use Rattle.line_texts.specs.Lines.{IsName, is_name_byte, words_of}
 use Rattle.rule_tables.specs.Grammar.{Ask, head_word, IsAsk, IsQuestion, IsRule, letter_of, NamedQuestion, Nothing, Rule, Says, Statement}
-use Rattle.cycle_heads.specs.declared.path.PathKind.{PathKind}
-use Rattle.cycle_heads.specs.declared.path.PathKind.TheVariants.{Coinductive, ForcedAmbiguity, Inductive, Unknown}
+use Rattle.path_kinds.specs.declared.path.PathKind.{PathKind}
+use Rattle.path_kinds.specs.declared.path.PathKind.TheVariants.{Coinductive, ForcedAmbiguity, Inductive, Unknown}
 use Rattle.shown_graphs.specs.Rules.{if_something}
 
 -- an ASCII byte that ends no line

@@ -10,8 +10,8 @@ use Rattle.std.proofs.lemmas.Option.{get_or_from_slice_get, slice_get-map, slice
 use Rattle.std.proofs.lemmas.Str.{IsUtf8-append, IsUtf8-from_ascii}
 use Rattle.std.specs.Str.{IsUtf8}
 use Rattle.open_graphs.proofs.Lists.{mapped_some}
-use Rattle.cycle_heads.specs.declared.path.PathKind.{PathKind}
-use Rattle.cycle_heads.specs.declared.path.PathKind.TheVariants.{Coinductive, Inductive}
+use Rattle.path_kinds.specs.declared.path.PathKind.{PathKind}
+use Rattle.path_kinds.specs.declared.path.PathKind.TheVariants.{Coinductive, Inductive}
 use Rattle.search_context.specs.Graph.{GraphNode, HasGoal, question_of}
 use Rattle.search_context.specs.Run.{EndsIn, progress_after, questions_answered}
 use Rattle.search_context.specs.Valid.{AreClosed, CyclesHaveKind, goal_nodes_of, IsRunOfSort, IsValid, IsValidFor}

@@ -5,8 +5,8 @@ use Rattle.std.proofs.lemmas.List.Elements.{All-head}
 use Rattle.line_texts.specs.Lines.{IsName, is_name_byte}
 use Rattle.shown_graphs.proofs.Lists.{zip_one}
 use Rattle.rule_tables.specs.Grammar.{Ask, head_word, IsAsk, IsQuestion, IsRule, letter_of, NamedQuestion, Nothing, Rule, Say, Statement}
-use Rattle.cycle_heads.specs.declared.path.PathKind.{PathKind}
-use Rattle.cycle_heads.specs.declared.path.PathKind.TheVariants.{Coinductive, ForcedAmbiguity, Inductive, Unknown}
+use Rattle.path_kinds.specs.declared.path.PathKind.{PathKind}
+use Rattle.path_kinds.specs.declared.path.PathKind.TheVariants.{Coinductive, ForcedAmbiguity, Inductive, Unknown}
 
 kind_of : ℕ → PathKind
 kind_of letter = cond (nat_eq letter 105) Inductive (cond (nat_eq letter 117) Unknown (cond (nat_eq letter 99) Coinductive ForcedAmbiguity))

@@ -6,8 +6,8 @@ use Rattle.json.specs.Token.{Token, begin_object, end_object, begin_array, end_a
 use Rattle.json.specs.Written.{Written}
 use Rattle.search_context.specs.declared.context.Edge.{Edge}
 use Rattle.search_context.specs.declared.context.Reply.TheVariants.{Answer, Begin, Noted}
-use Rattle.cycle_heads.specs.declared.path.PathKind.{PathKind}
-use Rattle.cycle_heads.specs.declared.path.PathKind.TheVariants.{Coinductive, ForcedAmbiguity, Inductive, Unknown}
+use Rattle.path_kinds.specs.declared.path.PathKind.{PathKind}
+use Rattle.path_kinds.specs.declared.path.PathKind.TheVariants.{Coinductive, ForcedAmbiguity, Inductive, Unknown}
 use Rattle.shown_graphs.specs.Below.{Goal, Node, number_of, Outcome, Reply, word_of}
 use Rattle.shown_graphs.specs.declared.reading.Claim.{Claim}
 use Rattle.shown_graphs.specs.declared.reading.source.Source.{Source}

@@ -1,7 +1,7 @@
 //! How goals and kinds of steps are written.
 ghost use Rattle.std.specs.Prelude.{◌≡◌, ◌≢◌, IfNone, IfSome};
 ghost use Rattle.std.specs.Str.{IsUtf8};
-ghost use Rattle.cycle_heads.specs.declared.path.PathKind.{PathKind as SpecKind};
+ghost use Rattle.path_kinds.specs.declared.path.PathKind.{PathKind as SpecKind};
 ghost use Rattle.shown_graphs.specs.Below.{names_of};
 ghost use Rattle.shown_graphs.specs.Data.{goal_text, letter_of};
 

@@ -1,5 +1,5 @@
 -- What the crates below have, from one place.
-pub use Rattle.cycle_heads.specs.declared.path.PathKind.TheVariants.{Coinductive}
+pub use Rattle.path_kinds.specs.declared.path.PathKind.TheVariants.{Coinductive}
 pub use Rattle.delegate_parts.specs.Outcome.{is_no, is_yes, outcome_verdicts}
 pub use Rattle.delegate_parts.specs.declared.outcome.Outcome.{Outcome}
 pub use Rattle.evaluations.specs.Enclosed.{IsEnclosed, NoQuestionLeadsOut}

@@ -1,6 +1,6 @@
 -- What the crates below have, from one place.
-pub use Rattle.cycle_heads.specs.declared.memory.NoMemory.{NoMemory}
-pub use Rattle.cycle_heads.specs.declared.path.PathKind.TheVariants.{Coinductive, Inductive}
+pub use Rattle.path_kinds.specs.declared.memory.NoMemory.{NoMemory}
+pub use Rattle.path_kinds.specs.declared.path.PathKind.TheVariants.{Coinductive, Inductive}
 pub use Rattle.delegate_parts.specs.Builder.{is_noop_of, started_in}
 pub use Rattle.delegate_parts.specs.Outcome.{word_of}
 pub use Rattle.delegate_parts.specs.declared.builder.Builder.{Builder}

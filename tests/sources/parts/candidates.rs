@@ -2,8 +2,8 @@
 
 use cycle_heads::candidates::CandidateHeadUsages;
 use cycle_heads::depth::StackDepth;
-use cycle_heads::memory::NoMemory;
 use parts_tests::told::{Counts, Told, usages_of};
+use path_kinds::memory::NoMemory;
 use std::alloc::Global;
 use std::test::Fail;
 

@@ -1,6 +1,6 @@
 //! Tests of the depth that a question gets, and of the depth that a stored result needs.
 
-use cycle_heads::path::PathKind;
+use path_kinds::path::PathKind;
 use search_context::context::{Cx, Delegate, NoMemory};
 use search_stack::depth::AvailableDepth;
 use search_stack::stack::{Stack, StackEntry};

@@ -1,7 +1,7 @@
 //! Tests of the texts of faults.
 
-use cycle_heads::path::PathKind;
 use delegate_parts::Outcome;
+use path_kinds::path::PathKind;
 use search_context::context::{Fault, NoMemory};
 use std::alloc::Global;
 use std::fmt;

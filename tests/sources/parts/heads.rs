@@ -2,10 +2,10 @@
 
 use cycle_heads::depth::StackDepth;
 use cycle_heads::heads::CycleHeads;
-use cycle_heads::memory::NoMemory;
-use cycle_heads::path::PathsToNested;
 use cycle_heads::usages::HeadUsages;
 use parts_tests::told::{Counts, Told, usages_of};
+use path_kinds::memory::NoMemory;
+use path_kinds::path::PathsToNested;
 use std::alloc::Global;
 use std::test::Fail;
 

@@ -1,7 +1,7 @@
 //! Tests of the goals below a goal. A goal is a kind of path here.
 
-use cycle_heads::path::{PathKind, PathsToNested};
 use parts_tests::told::{KINDS, Told};
+use path_kinds::path::{PathKind, PathsToNested};
 use search_context::context::{Cx, NoMemory};
 use search_stack::nested_goals::NestedGoals;
 use std::alloc::Global;

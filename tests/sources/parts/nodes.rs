@@ -1,9 +1,9 @@
 //! Tests of the nodes of a cache, and of the graphs that are handed out. The goals ask themselves.
 
-use cycle_heads::path::PathKind;
 use delegate_parts::{ContextOf, Outcome};
 use global_cache::GlobalCache;
 use parts_tests::told::Told;
+use path_kinds::path::PathKind;
 use search_context::context::{Cx, Delegate, NoMemory, Node, NodeId, Reply};
 use std::alloc::Global;
 use std::test::Fail;

@@ -1,8 +1,8 @@
 //! Tests of sets of paths.
 
 use bitflags::Flags;
-use cycle_heads::path::{PathKind, PathsToNested};
 use parts_tests::told::Told;
+use path_kinds::path::{PathKind, PathsToNested};
 use std::alloc::Global;
 use std::test::Fail;
 

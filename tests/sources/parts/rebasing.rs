@@ -1,11 +1,11 @@
 //! Tests of how provisional entries are rebased when a goal that they rest on is popped.
 
-use cycle_heads::path::{PathKind, PathsToNested};
 use cycle_heads::usages::HeadUsages;
 use delegate_parts::{ContextOf, Outcome};
 use parts_tests::entries::{LOWER, TestEntry, USER};
 use parts_tests::rebasing::{COINDUCTIVE, Head, REASONS, tell};
 use parts_tests::told::Told;
+use path_kinds::path::{PathKind, PathsToNested};
 use std::test::Fail;
 use test_delegates::loops::{Loops, LoopsContext, LoopsDelegate};
 

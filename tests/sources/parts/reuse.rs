@@ -1,10 +1,10 @@
 //! Tests of which provisional entries are found, which are used, and which are cleared when a goal is rerun.
 
 use cycle_heads::depth::StackDepth;
-use cycle_heads::path::{PathKind, PathsToNested};
 use delegate_parts::Outcome;
 use parts_tests::entries::{GOAL, LOWER, TestEntry, USER, cache_of, tell_entries};
 use parts_tests::told::{Told, usages_of};
+use path_kinds::path::{PathKind, PathsToNested};
 use provisional_cache::ProvisionalCache;
 use search_context::context::{Cx, Delegate, NoMemory};
 use search_stack::depth::AvailableDepth;

@@ -1,9 +1,9 @@
 //! Tests of the goals under evaluation. A goal is a kind of path here, but in the deep stack.
 
 use cycle_heads::depth::StackDepth;
-use cycle_heads::path::PathKind;
 use delegate_parts::ContextOf;
 use parts_tests::told::{KINDS, Told};
+use path_kinds::path::PathKind;
 use search_context::context::{Cx, NoMemory};
 use search_stack::depth::AvailableDepth;
 use search_stack::room::give_room_back;

@@ -1,10 +1,10 @@
 //! Tests of the results that a cache stores, of goals that ask themselves.
 
-use cycle_heads::path::PathKind;
 use delegate_parts::{ContextOf, Outcome};
 use global_cache::{CacheData, GlobalCache, NestedTest};
 use parts_tests::stored::{Anything, Found, Leaves, OfLoops, Stored, Storing};
 use parts_tests::told::{KINDS, Told};
+use path_kinds::path::PathKind;
 use search_context::context::{Cx, Delegate, Fault, NoMemory, NodeId};
 use search_stack::depth::AvailableDepth;
 use std::alloc::Global;

@@ -1,8 +1,8 @@
 //! Tests of counts of usages.
 
-use cycle_heads::path::PathKind;
 use cycle_heads::usages::HeadUsages;
 use parts_tests::told::{Counts, KINDS, Told, usages_of};
+use path_kinds::path::PathKind;
 use std::alloc::Global;
 use std::test::Fail;
 

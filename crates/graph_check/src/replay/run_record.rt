@@ -3,7 +3,7 @@ ghost use Rattle.std.specs.Prelude.{◌≡◌, ◌↔◌, IsTrue, OnOk, true, ma
 ghost use Rattle.graph_check.specs.Below.{question_of, Fits, counted_by, ignored_by};
 ghost use Rattle.graph_check.specs.Words.{nothing_replayed, replied, requested, is_orderly, question_asked, questions_counted};
 
-use cycle_heads::path::PathKind;
+use path_kinds::path::PathKind;
 use search_context::context::{Cx, Edge, NoMemory, Reply, Request};
 use std::alloc::Global;
 use std::marker::Model;

@@ -5,7 +5,7 @@ ghost use Rattle.open_goals.specs.Below.{NodeId, ignored_by};
 ghost use Rattle.open_goals.specs.Words.{HasTarget, begun, edges_of, going_on, no_record, received, rests_on};
 
 use crate::progress::{Beginning, DefiniteAnswer};
-use cycle_heads::path::PathKind;
+use path_kinds::path::PathKind;
 use search_context::context::{Edge, NoMemory, NodeId, Reply, Request, Verdict};
 use std::alloc::Global;
 use std::marker::Model;

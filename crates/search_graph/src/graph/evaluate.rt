@@ -9,9 +9,9 @@ ghost use Rattle.search_moves.specs.Drafts.{KeepsNoted, LeavesReached};
 ghost use Rattle.search_moves.specs.Storing.{HasLastingCause};
 ghost use Rattle.search_rules.specs.Lone.{IsLone};
 
-use cycle_heads::path::PathKind;
 use global_cache::GlobalCache;
 use open_goals::goals::{Fate, Next, Received, step};
+use path_kinds::path::PathKind;
 use search_context::context::{Answer, Cx, Delegate, Fault, Reply, Request};
 use search_moves::evaluation::Evaluation;
 use search_rules::look_up::{Consulted, consult};

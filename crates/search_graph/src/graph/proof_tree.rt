@@ -1,19 +1,19 @@
 //! A goal that is worked out whatever is stored of it, so that a builder sees all of it.
 ghost use Rattle.search_moves.specs.Drafts.{LeavesReached};
 ghost use Rattle.std.specs.Prelude.{◌≡◌, ◌≢◌, ◌≤◌, ◌+◌, length, ◌∷◌, ℕ, true, false, max, [], None, IfOk, IfErr, IfSome};
-ghost use Rattle.cycle_heads.specs.declared.path.PathKind.TheVariants.{Inductive};
+ghost use Rattle.path_kinds.specs.declared.path.PathKind.TheVariants.{Inductive};
 ghost use Rattle.search_graph.specs.Below.{frames_within, HasGraph, IsCaused, IsPlainTo, IsPlainValue, IsProved, IsRefuted, IsWhole, KeepsFinished, KeepsNodes, KeepsResults, KeepsWhole, Memory, Place, StoresWithin, stored_at, verdicts};
 ghost use Rattle.search_graph.specs.Lists.{HasLimits};
 
-use super::SearchGraph;
-use super::evaluate::work_out;
-use cycle_heads::path::PathKind;
 use global_cache::GlobalCache;
 use open_goals::goals::Fate;
+use path_kinds::path::PathKind;
 use search_context::context::{Answer, Cx, Delegate, Fault};
 use search_moves::drafts::Drafts;
 use search_moves::evaluation::Evaluation;
 use search_stack::depth::AvailableDepth;
+use super::SearchGraph;
+use super::evaluate::work_out;
 
 impl<D: Delegate> SearchGraph<D> {
     /// The answer to a goal that is worked out at once, on a new graph of this depth: no stored result of the goal is

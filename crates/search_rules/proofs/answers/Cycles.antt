@@ -15,7 +15,7 @@ use Rattle.open_graphs.proofs.Asked.{cycle_is_answered}
 use Rattle.open_graphs.proofs.Lists.{get_cases}
 use Rattle.cycle_heads.proofs.HeadLists.{at_depth-first, at_depth-rest}
 use Rattle.cycle_heads.proofs.HeadShapes.{IsIn, in_head}
-use Rattle.cycle_heads.proofs.PathRanks.{greater_rank}
+use Rattle.path_kinds.proofs.PathRanks.{greater_rank}
 use Rattle.search_rules.specs.Words.{AreJustified, AreSupported, asked_now, cycles_node, frame_of, frames_of, heads_of, IsFit, LieBelow, MayAnswer, NewestAsks, OpenRun, run_of, runs_of, tally_of}
 use Rattle.search_rules.proofs.justified.Finishing.{heads_come}
 use Rattle.search_rules.proofs.justified.Justified.{stack_length}

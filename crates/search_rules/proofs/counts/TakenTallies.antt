@@ -7,7 +7,7 @@ use Rattle.search_rules.specs.Below.{TakesIn, Includes, StackDepth, PathKind, Cy
 use Rattle.open_graphs.proofs.Lists.{get_end}
 use Rattle.cycle_heads.proofs.Counts.{count_of-usages_by}
 use Rattle.cycle_heads.proofs.HeadShapes.{IsIn, joined_after}
-use Rattle.cycle_heads.proofs.PathLaws.{has_kind-union}
+use Rattle.path_kinds.proofs.PathLaws.{has_kind-union}
 use Rattle.search_rules.specs.Words.{IsCovered, IsTallied, LieBelow, candidate_at, candidates_count, counted, head_with, heads_of, spare, tally_of, usages_of}
 use Rattle.search_rules.proofs.counts.Tallies.{Carries, KeepsPaths, carried, counted_by_place, counted_head, counts_by_rank, covered_still, covers_less, covers_some, none_counted, of_kind, spare_is, usages_in}
 

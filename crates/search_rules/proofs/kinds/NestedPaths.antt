@@ -3,14 +3,14 @@ use Rattle.std.proofs.Common.{◌≡◌, ℕ, zero, suc, ◌+◌, ◌*◌, ◌/�
 use Rattle.std.specs.Int.RustNames.{bit_and, bit_or}
 use Rattle.std.proofs.lemmas.Bool.{cases_Bool, or_left}
 use Rattle.std.proofs.lemmas.Nat.{and_block, and_le_r, or_mod}
-use Rattle.cycle_heads.specs.Paths.{has_empty}
-use Rattle.cycle_heads.proofs.PathLaws.{extended-kinds, has_kind-union}
-use Rattle.cycle_heads.proofs.PathMembers.{extended-has}
-use Rattle.cycle_heads.proofs.PathRanks.{each_kind}
+use Rattle.path_kinds.specs.Paths.{has_empty}
+use Rattle.path_kinds.proofs.PathLaws.{extended-kinds, has_kind-union}
+use Rattle.path_kinds.proofs.PathMembers.{extended-has}
+use Rattle.path_kinds.proofs.PathRanks.{each_kind}
 use Rattle.open_goals.specs.NestedGoals.{Joined, Nothing, TakesHeadGoal, TakesNestedGoals}
 use Rattle.search_rules.specs.Below.{extended, greater_kind, has_kind, Inductive, kinds_in, NestedPaths, path_of_no_step, paths_at, paths_of, PathKind, PathsToNested, Reply, Request, union}
 use Rattle.search_rules.specs.Words.{first, IsReachedBy, last, MayAsk, MayLeadTo, ReachesNested}
-use Rattle.search_stack.specs.Nested.{joined_paths, JoinsPaths}
+use Rattle.goal_paths.specs.Nested.{joined_paths, JoinsPaths}
 use Rattle.search_rules.proofs.kinds.Questions.{greater_least}
 
 -- ---- sets of paths

@@ -1,6 +1,6 @@
 -- Walks of questions and their kinds.
 use Rattle.std.proofs.Common.{◌≡◌, List, sym, ap₂, ◌∙◌, subst, arith}
-use Rattle.cycle_heads.proofs.PathRanks.{greater_rank, same_kind}
+use Rattle.path_kinds.proofs.PathRanks.{greater_rank, same_kind}
 use Rattle.search_rules.specs.Below.{greater_kind, Inductive, PathKind, Reply, Request}
 use Rattle.search_rules.specs.Words.{AskedByKind, AsksByOneKind, first, here, last, MayAsk, MayLeadTo, MayReach, on}
 

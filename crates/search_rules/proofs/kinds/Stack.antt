@@ -5,7 +5,7 @@ use Rattle.std.proofs.lemmas.List.{drop-append-le, drop_all, length-map, length-
 use Rattle.open_graphs.proofs.Lists.{get_cases}
 use Rattle.search_rules.specs.Below.{greater_kind, greatest_kind, path_kind_from, PathKind, Reply, Request, StackEntry, OpenGoal}
 use Rattle.search_rules.specs.Words.{AreLinked, AsksNewest, here, IsGoalAt, last, MayLeadTo, MayReach}
-use Rattle.search_stack.proofs.Cycles.{greatest-push}
+use Rattle.goal_paths.proofs.Cycles.{greatest-push}
 use Rattle.search_rules.proofs.kinds.Questions.{greater_least, greater_swapped, leads_on, leads_reaches}
 
 module _ {X F I R A T : Type 0} where

@@ -5,8 +5,8 @@ use Rattle.std.specs.List.{find, list_all, list_any}
 use Rattle.std.proofs.lemmas.Bool.{and_parts, false≢true}
 use Rattle.std.proofs.lemmas.List.Elements.{All-head}
 use Rattle.std.proofs.lemmas.Map.Views.{Contains-from_lookup}
-use Rattle.cycle_heads.proofs.PathLaws.{first_or_later}
-use Rattle.cycle_heads.proofs.PathMembers.{extended-has}
+use Rattle.path_kinds.proofs.PathLaws.{first_or_later}
+use Rattle.path_kinds.proofs.PathMembers.{extended-has}
 use Rattle.search_rules.specs.Below.{CycleHead, entries_at, extended, has_kind, has_head_up_to, asking_heads, highest, IsRising, Lists, may_be_used, NestedPaths, path_kind_from, paths_at, PathKind, PathsToNested, ProvisionalCacheEntry, rank_of, Reply, Request, StackDepth, StackEntry, OpenGoal}
 use Rattle.search_rules.specs.Words.{AreLinked, AsksNewest, EntryIsLinked, here, IsJoinedTo, IsReachedBy, KeepsKinds, MayLeadTo, MayReach, ReachesNested}
 use Rattle.search_rules.specs.LookUp.{Asking, could_be_used, is_applicable, meets_entry, usable_entry}

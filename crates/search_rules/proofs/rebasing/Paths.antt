@@ -9,9 +9,9 @@ use Rattle.search_rules.specs.Below.{Entry, path_kind, PassesPathTest, IsZero, I
 use Rattle.open_graphs.specs.Use as uses
 use Rattle.cycle_heads.proofs.Counts.{none_of_others, used_by_test}
 use Rattle.cycle_heads.proofs.HeadShapes.{count_at-of, path_of_rank}
-use Rattle.cycle_heads.proofs.PathLaws.{first_or_later}
-use Rattle.cycle_heads.proofs.PathMembers.{kinds_in-has}
-use Rattle.cycle_heads.proofs.PathRanks.{greater_rank}
+use Rattle.path_kinds.proofs.PathLaws.{first_or_later}
+use Rattle.path_kinds.proofs.PathMembers.{kinds_in-has}
+use Rattle.path_kinds.proofs.PathRanks.{greater_rank}
 use Rattle.search_rules.specs.Words.{reason_shape}
 use Rattle.search_rules.proofs.rebasing.HeadOrder.{at_here, at_later, same_depth}
 

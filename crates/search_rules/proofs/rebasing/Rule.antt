@@ -5,7 +5,7 @@ use Rattle.std.proofs.lemmas.List.{length-map, length-reverse}
 use Rattle.std.proofs.lemmas.List.Elements.{All-head, All-tail}
 use Rattle.open_graphs.specs.Graph as theory
 use Rattle.search_rules.specs.Below.{Entry, path_kind, stack_of, AreDepths, HasResult, InsertsEmpty, InsertsHeads, IsTakenOut, IsTrueReason, IsRebasable, IsLeftHead, RebasedBy, Stays, NotNeeded, Needed, StackDepth, PathsToNested, CycleHead, HeadUsages, Heads, at_depth, highest, IsRising, head_shape, heads_shape, rank_of, extended_by_each, path_of_no_step, has_usages, no_usages, OpenGoal, StackEntry, ProvisionalCacheEntry, RebaseReason, CanBeRebased, but_highest, from_head, keeps_kinds, rebased, changed_for, with_used, with_unused, verdict_of, Verdicts}
-use Rattle.cycle_heads.proofs.PathRanks.{greater_rank}
+use Rattle.path_kinds.proofs.PathRanks.{greater_rank}
 use Rattle.search_rules.specs.Words.{frame_of, frames_of, depths_of, highest_depth, entry_shape, reason_shape, run_of, runs_of, LieBelow}
 use Rattle.search_rules.proofs.answers.Cycles.{path_kind_is}
 use Rattle.search_rules.proofs.rebasing.HeadOrder.{Ascends, ascends, at_later, at_most_highest, highest_there, no_highest}

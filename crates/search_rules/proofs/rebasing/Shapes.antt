@@ -6,9 +6,9 @@ use Rattle.search_rules.specs.Below.{IsInserted, IsJoined, InsertsHeads, Inserts
 use Rattle.cycle_heads.proofs.Counts.{count_of-usages_by}
 use Rattle.cycle_heads.proofs.HeadLists.{at_depth-insert_same, at_depth-insert_other}
 use Rattle.cycle_heads.proofs.HeadShapes.{has_rank-of, path_of_rank}
-use Rattle.cycle_heads.proofs.PathLaws.{has_kind-union}
-use Rattle.cycle_heads.proofs.PathMembers.{extended-has, extended_by_each-kinds}
-use Rattle.cycle_heads.proofs.PathRanks.{greater_rank}
+use Rattle.path_kinds.proofs.PathLaws.{has_kind-union}
+use Rattle.path_kinds.proofs.PathMembers.{extended-has, extended_by_each-kinds}
+use Rattle.path_kinds.proofs.PathRanks.{greater_rank}
 use Rattle.search_rules.specs.Words.{depths_of, LieBelow}
 use Rattle.search_rules.proofs.rebasing.HeadOrder.{Ascends, at_here, at_later, highest_gone, highest_there, insert_ascends, left_ascends, others_stay, same_depth}
 

@@ -7,7 +7,7 @@ use Rattle.std.proofs.lemmas.List.Elements.{All-cons, All-head, All-nil, All-tai
 use Rattle.std.proofs.lemmas.Bool.Decides.{nat_tests}
 use Rattle.std.specs.Option.{IsSomeAnd}
 use Rattle.search_rules.specs.Below.{Success, WithOverflow, StoredResult, OpenGoal, EvaluationResult, Store, stored_at, place_of, stored_from, PathsToNested, NestedPaths, paths_at, PathKind, AvailableDepth, CacheNode, Heads, Hit, first_accepted, usable, Request, Evaluate, EnterCandidate, FinishCandidate, Ignore, Done, Next, NodeId, DelegateOf, CxOf, Stood, IsAllowed, AreSeen, AnswersNewest, NestsAnswer, NestsHead, TakesStored, NotesCandidate, HasStepped, Received, EntryState, with_depth, with_nested_goals, rerun_with, with_no_record, received_by, requested}
-use Rattle.search_stack.specs.Nested.{joined_paths, JoinsPaths}
+use Rattle.goal_paths.specs.Nested.{joined_paths, JoinsPaths}
 use Rattle.global_cache.specs.Hits.{hit_at, successes, overflows}
 use Rattle.global_cache.proofs.Stores.{put_cases}
 use Rattle.open_goals.specs.NestedGoals.{NestsItself, Nothing, Joined, TakesNestedGoals}

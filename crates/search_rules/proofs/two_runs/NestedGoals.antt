@@ -3,7 +3,7 @@ use Rattle.std.proofs.Common.{◌≡◌, ◌||◌, Bool, true, false, [], Option
 use Rattle.std.proofs.lemmas.Bool.{cases_Bool, false≢true}
 use Rattle.open_goals.specs.NestedGoals.{Joined, Nothing, TakesHeadGoal, TakesNestedGoals}
 use Rattle.search_rules.specs.Below.{extended, Heads, NestedPaths, path_of_no_step, paths_at, PathKind, PathsToNested, some_heads}
-use Rattle.search_stack.specs.Nested.{joined_paths, JoinsPaths}
+use Rattle.goal_paths.specs.Nested.{joined_paths, JoinsPaths}
 
 joined_some : (o : Option PathsToNested) (more : PathsToNested) → IsSome (joined_paths o (Some more))
 joined_some None more = refl

@@ -11,7 +11,7 @@ use Rattle.open_goals.specs.declared.goals.Fate.TheVariants as becomes
 use Rattle.open_graphs.specs.Graph as theory
 use Rattle.open_graphs.specs.Stack.{IsLeaf}
 use Rattle.open_goals.specs.NestedGoals.{NestsItself, TakesHeadGoal, TakesNestedGoals}
-use Rattle.search_stack.specs.Nested.{JoinsPaths}
+use Rattle.goal_paths.specs.Nested.{JoinsPaths}
 use Rattle.search_rules.specs.Below.{Answer, AnswersNewest, at_depth, AvailableDepth, CacheNode, entries_at, EntryState, first_accepted, first_entry, Heads, Hit, is_in_cycle, IsDefinite, IsNodeOf, Lists, NestedPaths, NestsAnswer, NestsHead, no_heads, no_record, NodeId, path_of_no_step, PathKind, paths_at, ProvisionalCacheEntry, Reply, Request, Run, shapes_of, stack_of, StackDepth, OpenGoal, StackEntry, Store, stored_at, StoredResult, Success, TakesStored, usable, Use, verdict_of, Verdicts, with_depth, with_nested_goals, WithOverflow}
 use Rattle.global_cache.specs.Hits.{hit_at, overflows, successes}
 use Rattle.search_rules.specs.Free.{IsFree}

@@ -1,4 +1,4 @@
-use Rattle.cycle_heads.specs.declared.path.PathKind.TheVariants.{Inductive}
+use Rattle.path_kinds.specs.declared.path.PathKind.TheVariants.{Inductive}
 use Rattle.open_graphs.specs.Graph.{No}
 use Rattle.search_parts.specs.Below.{verdicts}
 use Rattle.global_cache.proofs.Bridge.{graph_by_rule, no_sort}

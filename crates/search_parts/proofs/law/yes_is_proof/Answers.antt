@@ -1,4 +1,4 @@
-use Rattle.cycle_heads.specs.declared.path.PathKind.TheVariants.{Coinductive}
+use Rattle.path_kinds.specs.declared.path.PathKind.TheVariants.{Coinductive}
 use Rattle.open_graphs.specs.Graph.{Yes}
 use Rattle.search_parts.specs.Below.{verdicts}
 use Rattle.global_cache.proofs.Bridge.{graph_by_rule, yes_sort}

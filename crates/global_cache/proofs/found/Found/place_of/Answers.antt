@@ -2,7 +2,7 @@ use Rattle.std.proofs.Common.{nat_eq, arith, sym, ◌∙◌}
 use Rattle.std.specs.Cmp.{nat_eq_equiv}
 use Rattle.std.proofs.lemmas.Grind.{common_steps}
 use Rattle.std.proofs.lemmas.Map.Views.{exact_unsigned_eq}
-use Rattle.search_stack.proofs.StackIndex.{IsIndex-push}
+use Rattle.goal_paths.proofs.StackIndex.{IsIndex-push}
 use Rattle.global_cache.proofs.FoundNodes.{found_place, last_place, Finds-push}
 use Rattle.global_cache.proofs.found.Found.place_of.Goals as goal
 

@@ -2,7 +2,7 @@ use Rattle.search_moves.specs.Drafts.{HasNoDrafts}
 use Rattle.std.proofs.Common.{ap, refl, subst, sym}
 use Rattle.global_cache.proofs.Definites.{definite_is_whole}
 use Rattle.global_cache.proofs.Whole.{whole_stays}
-use Rattle.cycle_heads.specs.declared.path.PathKind.TheVariants.{Inductive}
+use Rattle.path_kinds.specs.declared.path.PathKind.TheVariants.{Inductive}
 use Rattle.search_graph.specs.Below.{verdicts}
 use Rattle.search_graph.proofs.promises.WorkedOut.{worked_depths, worked_limits, worked_out, worked_plain, worked_plain_faults, worked_within}
 use Rattle.search_rules.proofs.answers.Shown.{yes_is_proved, no_is_refuted, neither_is_none}

@@ -2,7 +2,7 @@ use Rattle.std.proofs.Common.{ap, subst, sym, ◌∙◌}
 use Rattle.std.specs.List.{IsDistinct}
 use Rattle.std.specs.Map.{keys_of}
 use Rattle.std.specs.Option.{option_map}
-use Rattle.search_stack.specs.Words.{goals_in}
+use Rattle.goal_paths.specs.Words.{goals_in}
 use Rattle.search_stack.proofs.nested_goals.NestedGoals.iter.Goals as goal
 use Rattle.search_stack.proofs.nested_goals.NestedGoals.iter.Goals.{in-Some, in-None}
 

@@ -1,7 +1,7 @@
 use Rattle.std.proofs.Common.{◌≡◌, ◌-◌, length, map, Some, ap, subst, ◌∙◌, arith}
 use Rattle.std.specs.List.{slice_get}
-use Rattle.search_stack.specs.Words.{TellsKinds}
-use Rattle.search_stack.proofs.LastSteps.{last_tells}
+use Rattle.goal_paths.specs.Words.{TellsKinds}
+use Rattle.goal_paths.proofs.LastSteps.{last_tells}
 use Rattle.search_stack.proofs.stack.Stack.last_steps.Goals as goal
 
 pub returns-in-Some-clause-tells : goal.returns-in-Some-clause-tells

@@ -1,6 +1,6 @@
 use Rattle.std.proofs.Common.{refl}
-use Rattle.search_stack.proofs.LastSteps.{AreLastSteps-empty}
-use Rattle.search_stack.proofs.StackIndex.{IsIndex-empty}
+use Rattle.goal_paths.proofs.LastSteps.{AreLastSteps-empty}
+use Rattle.goal_paths.proofs.StackIndex.{IsIndex-empty}
 use Rattle.search_stack.proofs.stack.Stack.new.Goals as goal
 
 pub invariant_of-result : goal.invariant_of-result

@@ -2,8 +2,8 @@ use Rattle.std.proofs.Common.{◌≡◌, ◌-◌, ◌+◌, List, [], ◌∷◌, 
 use Rattle.std.proofs.Math.Seq.{get_or-append_seam}
 use Rattle.std.proofs.lemmas.List.{map-append}
 use Rattle.std.proofs.lemmas.Grind.{common_steps}
-use Rattle.search_stack.proofs.LastSteps.{AreLastSteps-pop}
-use Rattle.search_stack.proofs.StackIndex.{IsIndex-pop}
+use Rattle.goal_paths.proofs.LastSteps.{AreLastSteps-pop}
+use Rattle.goal_paths.proofs.StackIndex.{IsIndex-pop}
 use Rattle.search_stack.proofs.stack.Stack.pop.Goals as goal
 
 -- what stands at the last place is the last one

@@ -1,8 +1,8 @@
 use Rattle.std.proofs.Common.{◌≡◌, ◌++◌, [], ◌∷◌, length, map, sym, ap, ◌∙◌}
 use Rattle.std.proofs.lemmas.List.{length-map, map-append}
-use Rattle.search_stack.specs.Words.{AreLastSteps, TellsKinds}
-use Rattle.search_stack.proofs.LastSteps.{AreLastSteps-push}
-use Rattle.search_stack.proofs.StackIndex.{IsIndex-push}
+use Rattle.goal_paths.specs.Words.{AreLastSteps, TellsKinds}
+use Rattle.goal_paths.proofs.LastSteps.{AreLastSteps-push}
+use Rattle.goal_paths.proofs.StackIndex.{IsIndex-push}
 use Rattle.search_stack.proofs.stack.Stack.push.Goals as goal
 
 -- the new input is found at the old length, and each other one where it was; and the new step is the last of its kind

@@ -1,6 +1,6 @@
 use Rattle.std.proofs.Common.{◌≡◌, length, map, arith}
 use Rattle.std.proofs.lemmas.Grind.{common_steps}
-use Rattle.search_stack.proofs.LastSteps.{TellsKinds-step}
+use Rattle.goal_paths.proofs.LastSteps.{TellsKinds-step}
 use Rattle.search_stack.proofs.stack.Stack.steps_with.Goals as goal
 
 -- the new step is the last of its kind

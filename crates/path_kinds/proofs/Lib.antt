@@ -1,0 +1,4 @@
+pub mod PathRanks
+pub mod PathSets
+pub mod PathLaws
+pub mod PathMembers

@@ -1,7 +1,0 @@
-use Rattle.std.specs.List.{IsDistinct}
-use Rattle.search_stack.proofs.goal_list.GoalList.new.Goals as goal
-
--- no two goals of none are the same
-pub invariant_of-result : goal.invariant_of-result
-unfolding IsDistinct
-invariant_of-result g c = rw c.new.ensures.items tt
