@@ -3,7 +3,7 @@ use Rattle.std.proofs.Common.{◌≡◌, ◌≢◌, ◌≤◌, ◌↔◌, ℕ, �
 use Rattle.std.proofs.lemmas.Grind.{common_steps}
 use Rattle.std.proofs.lemmas.Bool.Decides.{eqb_tells, same_from_decides}
 use Rattle.cycle_heads.specs.Words.{HeadUsages, count_of, usages_by, other_usages, no_usages, has_usages}
-use Rattle.path_kinds.specs.Words.{PathKind, Inductive, Unknown, Coinductive, ForcedAmbiguity, rank_of}
+use Rattle.cycle_heads.specs.Below.{PathKind, Inductive, Unknown, Coinductive, ForcedAmbiguity, rank_of}
 use Rattle.path_kinds.proofs.PathRanks.{each_kind, same_kind}
 
 abbrev pub HasNone : HeadUsages → Type 0

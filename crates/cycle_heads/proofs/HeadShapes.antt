@@ -2,7 +2,7 @@
 use Rattle.std.proofs.Common.{◌≡◌, ◌≢◌, ℕ, zero, suc, min, max, IsTrue, Option, Some, None, refl, sym, ap, ◌∙◌, subst, arith}
 use Rattle.std.proofs.lemmas.Bool.{or_right}
 use Rattle.cycle_heads.specs.Words.{CycleHead, HeadUsages, joined_head, has_rank, count_at, head_shape, count_of, sticking_sum, with_nested}
-use Rattle.path_kinds.specs.Words.{PathKind, Inductive, Unknown, Coinductive, ForcedAmbiguity, PathsToNested, rank_of, greater_kind, extended, has_kind}
+use Rattle.cycle_heads.specs.Below.{PathKind, Inductive, Unknown, Coinductive, ForcedAmbiguity, PathsToNested, rank_of, greater_kind, extended, has_kind}
 use Rattle.cycle_heads.proofs.Counts.{count_of-usages_by}
 use Rattle.path_kinds.proofs.PathLaws.{has_kind-union}
 use Rattle.path_kinds.proofs.PathMembers.{extended-has}

@@ -1,3 +1,4 @@
+pub mod Below
 pub mod Usages
 pub mod Heads
 pub mod Places

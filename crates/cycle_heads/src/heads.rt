@@ -2,12 +2,12 @@
 ghost use Rattle.std.specs.Prelude.{◌≡◌, ◌≢◌, ◌<◌, ◌≤◌, ◌↔◌, [], ◌∷◌, ◌++◌, length, All, IsTrue, IsSome, IsSomeAnd, IsOk, IfSome, Ok, Err, OnOk, OnErr, Some};
 ghost use Rattle.std.specs.Option.{option_map};
 ghost use Rattle.cycle_heads.specs.Words.{StackDepth, CycleHead, HeadUsages, at_depth, highest, joined_head, lowest, place_of, replace_head, with_head, Heads, IsRising, count_of, without_usages};
-ghost use Rattle.path_kinds.specs.Words.{PathKind, PathsToNested};
+ghost use Rattle.cycle_heads.specs.Below.{PathKind, PathsToNested};
 
-use bitflags::Flags;
 use crate::by_depth::{at_place, place_near, place_of};
 use crate::depth::StackDepth;
 use crate::usages::HeadUsages;
+use bitflags::Flags;
 use path_kinds::memory::NoMemory;
 use path_kinds::path::PathsToNested;
 use smallvec::SmallVec;

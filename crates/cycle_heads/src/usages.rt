@@ -1,7 +1,7 @@
 //! How often, and by cycles of which kinds, a goal on the stack was used.
 ghost use Rattle.std.specs.Prelude.{◌≡◌, ◌≢◌, ◌≤◌, ◌↔◌, IsTrue};
 ghost use Rattle.cycle_heads.specs.Words.{count_of, count_without, other_usages, with_nested, with_usage, with_usages, without_usages};
-ghost use Rattle.path_kinds.specs.Words.{PathKind};
+ghost use Rattle.cycle_heads.specs.Below.{PathKind};
 
 use path_kinds::path::PathKind;
 

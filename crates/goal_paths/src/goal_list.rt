@@ -7,9 +7,9 @@ ghost use Rattle.std.specs.Slice.Iter.{iter_rest};
 ghost use Rattle.goal_paths.specs.Below.{extended};
 ghost use Rattle.goal_paths.specs.Words.{after_step, paths_at, JoinsEach, JoinsPaths};
 
-use bitflags::Flags;
 use crate::mapped_goals::after_step;
 use crate::noted_goals::{Iter, NotedGoals};
+use bitflags::Flags;
 use path_kinds::memory::NoMemory;
 use path_kinds::path::{PathKind, PathsToNested};
 use std::alloc::Global;

@@ -7,9 +7,9 @@ ghost use Rattle.std.specs.Map.{keys_of};
 ghost use Rattle.goal_paths.specs.Below.{extended};
 ghost use Rattle.goal_paths.specs.Words.{after_step, paths_at, paths_noted, AreNoted, JoinsEach, JoinsPaths};
 
-use bitflags::Flags;
 use crate::noted_goals::NotedGoals;
 use crate::raises::{NotedPaths, Raises};
+use bitflags::Flags;
 use path_kinds::memory::NoMemory;
 use path_kinds::path::{PathKind, PathsToNested};
 use std::alloc::Global;

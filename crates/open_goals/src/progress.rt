@@ -6,8 +6,8 @@ ghost use Rattle.open_goals.specs.Words.{HasTarget, begun, edges_of, fault_of, g
 
 mod lists;
 
-use path_kinds::path::PathKind;
 pub(crate) use lists::Lists;
+use path_kinds::path::PathKind;
 use search_context::context::{Edge, NoMemory, NodeId, Reply, Request, Verdict};
 use std::alloc::Global;
 use std::marker::Model;

@@ -2,11 +2,11 @@
 //! In a plain run nothing is refused, and each call succeeds at once; `tests/memory` refuses the requests in turn. A call
 //! that needs no memory then is one that has to succeed.
 
-use bitflags::Flags;
 use crate::entries::{GOAL, LOWER, USER};
 use crate::rebasing::{self, COINDUCTIVE, REASONS};
 use crate::stored::{Found, OfLoops, Storing};
 use crate::told::{KINDS, Told, usages_of};
+use bitflags::Flags;
 use cycle_heads::candidates::CandidateHeadUsages;
 use cycle_heads::depth::StackDepth;
 use cycle_heads::heads::CycleHeads;

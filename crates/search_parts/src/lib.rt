@@ -6,6 +6,6 @@
 pub mod law;
 pub mod parts;
 
-pub use path_kinds::path;
 pub use global_cache;
+pub use path_kinds::path;
 pub use search_context::context;

@@ -6,11 +6,11 @@ ghost use Rattle.search_graph.specs.Calls.{KeepsAll};
 ghost use Rattle.search_graph.specs.Lists.{AppendsEach, HasLimits, IsAnsweredQuery};
 ghost use Rattle.search_graph.specs.Settled.{TakesTwoRuns};
 
+use super::SearchGraph;
 use global_cache::GlobalCache;
 use path_kinds::path::PathKind;
 use search_context::context::{Answer, Cx, Delegate, Fault, NoMemory};
 use std::alloc::Global;
-use super::SearchGraph;
 
 impl<D: Delegate> SearchGraph<D> {
     /// Answers each query, in order, and appends its answer. A query is a root depth, a goal, and the kind of

@@ -5,6 +5,8 @@ ghost use Rattle.path_kinds.specs.declared.path.PathKind.TheVariants.{Inductive}
 ghost use Rattle.search_graph.specs.Below.{frames_within, HasGraph, IsCaused, IsPlainTo, IsPlainValue, IsProved, IsRefuted, IsWhole, KeepsFinished, KeepsNodes, KeepsResults, KeepsWhole, Memory, Place, StoresWithin, stored_at, verdicts};
 ghost use Rattle.search_graph.specs.Lists.{HasLimits};
 
+use super::SearchGraph;
+use super::evaluate::work_out;
 use global_cache::GlobalCache;
 use open_goals::goals::Fate;
 use path_kinds::path::PathKind;
@@ -12,8 +14,6 @@ use search_context::context::{Answer, Cx, Delegate, Fault};
 use search_moves::drafts::Drafts;
 use search_moves::evaluation::Evaluation;
 use search_stack::depth::AvailableDepth;
-use super::SearchGraph;
-use super::evaluate::work_out;
 
 impl<D: Delegate> SearchGraph<D> {
     /// The answer to a goal that is worked out at once, on a new graph of this depth: no stored result of the goal is

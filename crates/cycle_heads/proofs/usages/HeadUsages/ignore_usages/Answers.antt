@@ -1,4 +1,4 @@
-use Rattle.path_kinds.specs.Words.{Inductive, Unknown, Coinductive, ForcedAmbiguity}
+use Rattle.cycle_heads.specs.Below.{Inductive, Unknown, Coinductive, ForcedAmbiguity}
 use Rattle.cycle_heads.proofs.usages.HeadUsages.ignore_usages.Goals as goal
 
 pub subtract-self-requires : goal.subtract-self-requires
