@@ -1,1 +1,3 @@
+pub mod LastState
+pub mod StackReads
 pub mod Cycles
