@@ -1,4 +1,4 @@
-//! A delegate that has stored results validated, which tests of `tests/sources/searches` share, and tests of what needs no memory.
+//! A delegate that has stored results validated, for tests of `tests/sources/searches`, and tests of what needs no memory.
 //!
 //! | Module | Has |
 //! |---|---|
