@@ -1,20 +1,15 @@
-//! What tests over tables of rules share, and two sorts of tests: of the checker, on graphs that were changed at random and
-//! on large ones; and of what needs no memory.
+//! A delegate that has stored results validated, for tests of `tests/sources/searches`, and tests of what needs no memory.
 //!
 //! | Module | Has |
 //! |---|---|
-//! | `asking`, `handed_out` | goals that are asked, and the graphs that are handed out for them |
+//! | `asking` | goals that are asked on a graph of their own |
 //! | `validating`, `watch`, `journal` | a delegate around any other one, which has stored results validated and keeps a journal |
-//! | `checker` | tests of the checker |
 //! | `nothing` | tests of what needs no memory: `tests/memory` refuses its requests, and finds out that way that there are none |
 //!
-//! The other tests stand in `tests/sources/checks`, where they are run without a proof.
+//! The other tests stand in `tests/sources/searches`, where they are run without a proof.
 #![tactic(auto)]
 
 pub mod asking;
-#[cfg(test)]
-mod checker;
-pub mod handed_out;
 pub mod journal;
 #[cfg(test)]
 mod nothing;

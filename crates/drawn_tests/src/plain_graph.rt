@@ -1,8 +1,8 @@
 //! The graph that an answer names, read node by node, and a plain check of it by the table's rules alone.
 //!
 //! It looks at goals and edges, and never at replies: whatever a run was told, its edges have to show its goal. The plain
-//! check of `check_tests` plays each run again by its replies, as the checker does, and has to agree with it on any list of
-//! nodes. Only the search for closed walks is alike, and neither check has a part of the other, on purpose.
+//! check of `tests/sources/searches` plays each run again by its replies, as the checker does, and has to agree with it on any
+//! list of nodes. Only the search for closed walks is alike, and neither check has a part of the other, on purpose.
 
 use delegate_parts::Outcome;
 use rule_tables::rules::Asking;

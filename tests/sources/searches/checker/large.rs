@@ -1,4 +1,5 @@
-//! Large graphs made by a rule, which take time in proportion to their size and no native stack.
+//! Large graphs made by a rule. That time is linear in their size, and that they take no native stack, `tests/explain` shows of
+//! the same graphs a hundred times as large.
 
 use crate::handed_out::{Nodes, is_accepted};
 use rule_tables::{Goal, Outcome, Rules};
@@ -9,10 +10,10 @@ use std::io::Write;
 use std::test::Fail;
 
 /// How many nodes the largest graph has.
-const NODES: usize = 200_000;
+const NODES: usize = 2_000;
 
 /// How many edges one node has.
-const EDGES: usize = 100_000;
+const EDGES: usize = 1_000;
 
 /// Nodes of a goal, each of which asks that goal by steps of these kinds. Each step leads further by its own number of
 /// places, round and round.
@@ -33,7 +34,7 @@ const RINGS: [Ring; 6] = [
     Ring {
         name: "coinductive cycles of a yes",
         nodes: NODES,
-        steps: &[(PathKind::Coinductive, 1), (PathKind::Coinductive, 70_001)],
+        steps: &[(PathKind::Coinductive, 1), (PathKind::Coinductive, 701)],
         rounds: 1,
         left_out: 0,
         outcome: Outcome::Yes,
@@ -63,7 +64,7 @@ const RINGS: [Ring; 6] = [
     Ring {
         name: "an inductive cycle beside coinductive ones",
         nodes: NODES,
-        steps: &[(PathKind::Coinductive, 1), (PathKind::Inductive, 70_001)],
+        steps: &[(PathKind::Coinductive, 1), (PathKind::Inductive, 701)],
         rounds: 1,
         left_out: 0,
         outcome: Outcome::Yes,

@@ -1,7 +1,7 @@
 //! Graphs that a search handed out over a table of rules, and the checker's word on any graph.
 
-use crate::asking::ask;
 use asked_tables::calls::{accepts, new_cache};
+use check_tests::asking::ask;
 use rule_tables::delegate::Table;
 use rule_tables::{Builder, Goal, Outcome, Rules, TableDelegate};
 use search_parts::context::{Cx, Delegate, Edge, Node, NodeId, ProofGraph, Reply, Verdict};

@@ -1,7 +1,7 @@
 //! The search beside the plain definition, on all tables of two small types and on random tables.
 
-use crate::agreed::{agreed, answered_otherwise};
-use crate::sides::{Side, declare_all};
+use crate::uses::agreed::{agreed, answered_otherwise};
+use crate::uses::sides::{Side, declare_all};
 use chance::Chance;
 use std::alloc::Global;
 use std::process::Abort;
@@ -125,12 +125,7 @@ fn try_tables(alloc: Global, seed: u64, tables: usize, size: usize) -> Result<()
 }
 
 /// Seeds, how many tables are drawn of each, and of how many types.
-const DRAWN: [(u64, usize, usize); 4] = [
-    (20261124, 2000, 3),
-    (4, 1000, 4),
-    (6, 400, 6),
-    (8, 200, 8),
-];
+const DRAWN: [(u64, usize, usize); 4] = [(20261124, 50, 3), (4, 25, 4), (6, 10, 6), (8, 5, 8)];
 
 #[test]
 fn random_tables_are_answered_plainly(rt: HostRuntime) -> Result<(), Fail> {

@@ -1,6 +1,6 @@
 //! All texts of two types with small right sides.
 
-use crate::agreed::agreed;
+use crate::uses::agreed::agreed;
 use std::alloc::Global;
 use std::io::Write;
 use std::process::Abort;

@@ -25,7 +25,7 @@ const TABLES: [&str; 10] = [
 ];
 
 /// How many changed graphs of each table are laid before both.
-const CHANGED: u32 = 25_000;
+const CHANGED: u32 = 250;
 
 /// Of how many changed graphs both said the same, and how many of these they accepted.
 #[derive(Clone, Copy)]
@@ -48,11 +48,8 @@ impl Counts {
 fn changed_graphs_are_told_from_graphs(rt: HostRuntime) -> Result<(), Fail> {
     for seed in 1..=4 {
         let accepted = accepted_of(&rt, seed)?;
-        // Both accept some of a quarter of a million, and refuse some.
-        assert!(rt;
-            accepted > 1000 && accepted < 200_000,
-            "seed {seed}: {accepted}"
-        );
+        // Both accept some of 2,500, and refuse some.
+        assert!(rt; accepted > 10 && accepted < 2000, "seed {seed}: {accepted}");
     }
     Ok(())
 }

@@ -1,6 +1,6 @@
 //! Texts drawn at random.
 
-use crate::agreed::agreed;
+use crate::uses::agreed::agreed;
 use chance::Chance;
 use std::alloc::Global;
 use std::io::Write;
@@ -110,15 +110,15 @@ fn expect_tally(rt: &impl Abort, tally: Tally, texts: usize, size: usize) {
 
 #[test]
 fn texts_of_three_types_are_answered_plainly(rt: HostRuntime) -> Result<(), Fail> {
-    expect_texts(&rt, 3, 50_000, 3)
+    expect_texts(&rt, 3, 250, 3)
 }
 
 #[test]
 fn texts_of_five_types_are_answered_plainly(rt: HostRuntime) -> Result<(), Fail> {
-    expect_texts(&rt, 5, 30_000, 5)
+    expect_texts(&rt, 5, 150, 5)
 }
 
 #[test]
 fn texts_of_eight_types_are_answered_plainly(rt: HostRuntime) -> Result<(), Fail> {
-    expect_texts(&rt, 8, 20_000, 8)
+    expect_texts(&rt, 8, 100, 8)
 }

@@ -1,4 +1,5 @@
-//! Graphs that long searches hand out: what they rest on, and that the checker accepts them.
+//! Graphs that long searches hand out: what they rest on, and that the checker accepts them. `tests/limits` has a chain of
+//! 100,000 goals, whose graph is checked, too.
 
 use crate::handed_out::{HandedOut, Nodes, graph_for, is_accepted};
 use rule_tables::{Goal, Outcome, Rules};
@@ -32,7 +33,7 @@ struct Found {
 }
 
 /// What the first one of so many goals comes to at this depth.
-const ROWS: [(Shape, usize, usize, Found); 3] = [
+const ROWS: [(Shape, usize, usize, Found); 2] = [
     (
         Shape::Chain,
         1_000,
@@ -46,30 +47,17 @@ const ROWS: [(Shape, usize, usize, Found); 3] = [
             others: 1,
         },
     ),
-    (
-        Shape::Chain,
-        100_000,
-        100_000,
-        Found {
-            outcome: Outcome::Yes,
-            is_shown: true,
-            nodes: 100_000,
-            held: 100_000,
-            coinductive: 0,
-            others: 1,
-        },
-    ),
     // The search is so long that runs are replayed. In the end the answer rests on coinductive questions alone.
     (
         Shape::AllAskAll,
-        8,
+        7,
         100,
         Found {
             outcome: Outcome::Yes,
             is_shown: true,
-            nodes: 114,
-            held: 114,
-            coinductive: 8,
+            nodes: 113,
+            held: 113,
+            coinductive: 7,
             others: 0,
         },
     ),

@@ -1,9 +1,9 @@
 //! Tests of frames that are refused memory, by each call of a frame in turn.
 
+use crate::handed_out::{Nodes, graph_for};
 use crate::stored::tell_stored;
 use asked_tables::calls::accepts;
 use check_tests::asking::ask;
-use check_tests::handed_out::{Nodes, graph_for};
 use delegate_parts::{Builder, Outcome};
 use rule_tables::delegate::Table;
 use rule_tables::{Goal, Rules, TableDelegate};

@@ -1,0 +1,18 @@
+//! Tests of searches: over tables of rules, and of the uses of the library.
+//!
+//! | Module | Has tests of |
+//! |---|---|
+//! | `checker` | the checker, on graphs made by hand, changed at random, made by a rule, and handed out by long searches |
+//! | `validation` | stored results that are validated |
+//! | `frames` | frames that are refused memory |
+//! | `uses` | games, blocks that a write may reach, shapes, and subtypes |
+//!
+//! `stored` tells what is stored of a table's goals, and `handed_out` has the graphs that are handed out for them, and the
+//! checker's word on any graph.
+
+mod checker;
+mod frames;
+mod handed_out;
+mod stored;
+mod uses;
+mod validation;
