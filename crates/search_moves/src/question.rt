@@ -10,10 +10,11 @@ ghost use Rattle.search_moves.specs.Words.{HasRequest, Requests, IsRightFor, Goe
 use crate::evaluation::Evaluation;
 use cycle_heads::path::PathKind;
 use global_cache::GlobalCache;
-use open_goals::candidates::FinishedCandidates;
-use open_goals::goals::{Fate, OpenGoals, Received, Run};
-use open_goals::progress::Progress;
+use open_goals::goals::OpenGoals;
 use provisional_cache::{ProvisionalCache, ProvisionalCacheEntry};
+use run_records::candidates::FinishedCandidates;
+use run_records::progress::Progress;
+use run_records::runs::{Fate, Received, Run};
 use search_context::context::{Cx, Delegate, NoMemory, NodeId, Reply};
 use search_rules::look_up::{Consulted, consult, look_up_entry};
 use search_stack::depth::{AvailableDepth, StackDepth};

@@ -9,8 +9,8 @@ ghost use Rattle.search_rules.specs.Words.{usable_entry, could_be_used, Consults
 use bitflags::Flags;
 use cycle_heads::path::{PathKind, PathsToNested};
 use global_cache::{GlobalCache, NestedTest};
-use open_goals::goals::Fate;
 use provisional_cache::{ProvisionalCache, ProvisionalCacheEntry};
+use run_records::runs::Fate;
 use search_context::context::{Cx, Delegate};
 use search_stack::depth::AvailableDepth;
 use search_stack::nested_goals::NestedGoals;

@@ -9,7 +9,7 @@ use super::SearchGraph;
 use super::evaluate::work_out;
 use cycle_heads::path::PathKind;
 use global_cache::GlobalCache;
-use open_goals::goals::Fate;
+use run_records::runs::Fate;
 use search_context::context::{Answer, Cx, Delegate, Fault};
 use search_moves::drafts::Drafts;
 use search_moves::evaluation::Evaluation;
