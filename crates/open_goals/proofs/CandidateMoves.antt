@@ -2,8 +2,8 @@
 use Rattle.std.proofs.Common.{◌≡◌, ℕ, ◌-◌, ◌<◌, List, [], ◌∷◌, length, get_or, slice_get, slice_set, Option, Some, None, IsSome, IfSome, is_some, true, refl, sym, ap, ◌∙◌, subst, arith}
 use Rattle.std.specs.Option.{IsSomeAnd}
 use Rattle.std.proofs.lemmas.Option.{slice_get_within}
-use Rattle.open_goals.specs.Below.{change_last, StackEntry, EntryState, StackDepth, UsagesByHead}
-use Rattle.open_goals.specs.Words.{Run, paired, newest, CanIgnore, CanIgnoreUsages, CanIgnoreNewest, Ignores, IgnoresUsages, IgnoresNewest}
+use Rattle.open_goals.specs.Below.{change_last, StackEntry, EntryState, StackDepth, UsagesByHead, Run}
+use Rattle.open_goals.specs.Words.{paired, newest, CanIgnore, CanIgnoreUsages, CanIgnoreNewest, Ignores, IgnoresUsages, IgnoresNewest}
 use Rattle.open_goals.proofs.Pairs.{last_pair, LastPair, length_of_view}
 use Rattle.open_goals.proofs.Changes.{newest_state}
 use Rattle.open_goals.specs.OpenGoal.{OpenGoal}

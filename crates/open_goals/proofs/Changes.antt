@@ -1,8 +1,8 @@
 -- What is read of the newest goal, and what the goals are once it was changed.
 use Rattle.std.proofs.Common.{◌≡◌, ℕ, ◌-◌, ◌<◌, List, [], ◌∷◌, length, get_or, slice_set, Bool, Option, Some, None, IfSome, Result, Ok, Err, OnOk, option_map, sym, ap, ◌∙◌, subst, arith}
-use Rattle.open_goals.specs.Below.{change_last, StackEntry, EntryState, PathKind, StackDepth, Heads, NestedPaths}
+use Rattle.open_goals.specs.Below.{change_last, StackEntry, EntryState, PathKind, StackDepth, Heads, NestedPaths, Run}
 use Rattle.search_stack.proofs.LastState.{some_element}
-use Rattle.open_goals.specs.Words.{Run, with_depth, with_nested_goals, TakesHeads, AnswersNewest, paired, newest, change_newest}
+use Rattle.open_goals.specs.Words.{with_depth, with_nested_goals, TakesHeads, AnswersNewest, paired, newest, change_newest}
 use Rattle.open_goals.proofs.Pairs.{last_pair, LastPair, length_of_view}
 use Rattle.open_goals.specs.OpenGoal.{OpenGoal}
 

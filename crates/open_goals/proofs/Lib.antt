@@ -7,4 +7,3 @@ pub mod CandidateMoves
 pub mod OldestFirst
 pub mod Steps
 pub mod Nodes
-pub mod Edges

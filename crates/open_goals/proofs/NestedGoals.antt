@@ -1,8 +1,8 @@
 -- The goals below the newest goal, and a stored result that it takes over.
 use Rattle.std.proofs.Common.{◌≡◌, ℕ, ◌-◌, ◌<◌, Bool, true, false, List, [], ◌∷◌, length, get_or, Result, Ok, Err, OnOk, sym, ap, ◌∙◌, subst}
 use Rattle.std.specs.Option.{option_map}
-use Rattle.open_goals.specs.Below.{PathKind, StackDepth, Heads, StackEntry, EntryState, change_last, Hit, NestedPaths, joined_paths, paths_at, JoinsPaths, extended, path_of_no_step, paths_of}
-use Rattle.open_goals.specs.Words.{Run, with_depth, with_nested_goals, ChangesNested, TakesHeads, TakesHeadGoal, TakesNestedGoals, Joined, NotesOverflow, TakesStored, paired}
+use Rattle.open_goals.specs.Below.{PathKind, StackDepth, Heads, StackEntry, EntryState, change_last, Hit, NestedPaths, joined_paths, paths_at, JoinsPaths, extended, path_of_no_step, paths_of, Run}
+use Rattle.open_goals.specs.Words.{with_depth, with_nested_goals, ChangesNested, TakesHeads, TakesHeadGoal, TakesNestedGoals, Joined, NotesOverflow, TakesStored, paired}
 use Rattle.open_goals.proofs.Changes.{NewestState, newest_state}
 use Rattle.open_goals.specs.OpenGoal.{OpenGoal}
 

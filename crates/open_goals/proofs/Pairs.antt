@@ -7,16 +7,13 @@ use Rattle.std.proofs.lemmas.List.{length-append}
 use Rattle.std.proofs.lemmas.List.Sums.{prefix_len-le-length}
 use Rattle.open_goals.specs.Words.{paired}
 use Rattle.open_goals.specs.Below.{change_last}
+use Rattle.run_records.proofs.Options.{is_none}
 
 turned : (a b c : Bool) → (b || (a || c)) ≡ ((a || b) || c)
 turned true true c = refl
 turned true false c = refl
 turned false true c = refl
 turned false false c = refl
-
-pub is_none : {A : Type 0} (o : Option A) → is_some o ≡ false → o ≡ None
-is_none None absent = refl
-is_none (Some x) absent = cc
 
 module _ {E F : Type 0} where
   pub length-paired : (below : List (E × F)) (es : List E) (fs : List F) → length es ≡ length fs → length (paired below es fs) ≡ length below + length fs

@@ -1,7 +1,7 @@
 -- One step of the newest goal's frame.
 use Rattle.std.proofs.Common.{◌≡◌, ℕ, ◌-◌, ◌<◌, List, [], ◌∷◌, length, get_or, slice_set, Option, Some, None, Result, Ok, Err, IfOk, IfErr, refl, sym, ap, ◌∙◌, subst, arith}
-use Rattle.open_goals.specs.Below.{DelegateOf, CxOf, Request, StackEntry, CanTake, Fault}
-use Rattle.open_goals.specs.Words.{Run, Received, paired, CanStep, HasStepped, IsRunFault, IsStepFault, NoMemoryLeft, OutOfOrder, RunOutOfMemory, RunOutOfOrder, RunSteps}
+use Rattle.open_goals.specs.Below.{DelegateOf, CxOf, Request, StackEntry, CanTake, Fault, Run, Received, IsRunFault, RunOutOfMemory, RunOutOfOrder, RunSteps}
+use Rattle.open_goals.specs.Words.{paired, CanStep, HasStepped, IsStepFault, NoMemoryLeft, OutOfOrder}
 use Rattle.open_goals.proofs.Pairs.{last_pair, length_of_view}
 use Rattle.open_goals.specs.OpenGoal.{OpenGoal}
 
@@ -46,7 +46,3 @@ module _ {D C V P F I R A T : Type 0} (G : DelegateOf D C V P F I R A T) (X : Cx
           let last = last_pair [] es fs n run same (omega (arith, some_run)) in
           OutOfOrder last.entry run frame verdict last.rest request number
           (sym is ∙ last.is ∙ ap (λ (x : Run C F I R A T). (last.entry, x) ∷ last.rest) (sym run_is)) is_verdict steps disorderly fault_is
-
-pub none_is : {A : Type 0} (o : Option A) → ((x : A) → o ≡ Some x → ⊥) → o ≡ None
-none_is None never = refl
-none_is (Some x) never = absurd (never x refl)

@@ -1,9 +1,7 @@
 -- What becomes of the newest goal under evaluation and its run.
 use Rattle.std.specs.Prelude.{◌≡◌, ℕ, ◌+◌, Bool, ◌||◌, List, [], ◌∷◌, length, Option}
-use Rattle.open_goals.specs.Below.{NodeId, PathKind, EntryState, StackEntry, Heads}
-use Rattle.open_goals.specs.declared.goals.Run.{Run}
+use Rattle.open_goals.specs.Below.{NodeId, PathKind, EntryState, StackEntry, Heads, Run, no_record}
 use Rattle.open_goals.specs.Entries.{TakesAnswer, rerun_under}
-use Rattle.open_goals.specs.Progress.{no_record}
 use Rattle.open_goals.specs.OpenGoal.{OpenGoal}
 
 module _ {X F I R A T : Type 0} where

@@ -5,7 +5,6 @@ pub mod NestedGoals
 pub mod Items
 pub mod Candidates
 pub mod Steps
-pub mod Progress
 pub mod Nodes
 pub mod Below
 pub mod Words

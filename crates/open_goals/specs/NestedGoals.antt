@@ -1,8 +1,7 @@
 -- The goals below a goal that is under evaluation, and what of an answer changes them besides its heads.
 use Rattle.std.specs.Prelude.{◌≡◌, ◌≢◌, Bool, List, [], ◌∷◌}
 use Rattle.std.specs.Option.{option_map}
-use Rattle.open_goals.specs.Below.{EvaluationResult, PathKind, StackEntry, Hit, NestedPaths, joined_paths, paths_at, JoinsPaths, extended, path_of_no_step, paths_of}
-use Rattle.open_goals.specs.declared.goals.Run.{Run}
+use Rattle.open_goals.specs.Below.{EvaluationResult, PathKind, StackEntry, Hit, NestedPaths, joined_paths, paths_at, JoinsPaths, extended, path_of_no_step, paths_of, Run}
 use Rattle.open_goals.specs.Entries.{overflowed, with_depth, with_nested_goals}
 use Rattle.open_goals.specs.OpenGoal.{OpenGoal}
 

@@ -1,9 +1,7 @@
 -- The nodes to which a goal under evaluation leads.
 use Rattle.std.specs.Prelude.{All, Contains, List}
 use Rattle.std.specs.Option.{IfSome}
-use Rattle.open_goals.specs.Below.{NodeId, StackEntry}
-use Rattle.open_goals.specs.declared.goals.Run.{Run}
-use Rattle.open_goals.specs.declared.progress.DefiniteAnswer.{DefiniteAnswer}
+use Rattle.open_goals.specs.Below.{NodeId, StackEntry, Run, DefiniteAnswer}
 use Rattle.open_goals.specs.OpenGoal.{OpenGoal}
 
 -- its run's own, the one to which the answers of its cycles lead, and those of its run's definite answers, also of those in ignored candidates
@@ -15,12 +13,3 @@ pub record HasNodes {X F I R A T : Type 0} (nodes : List NodeId) (s : OpenGoal X
 -- the one to which the answers of its cycles lead
 abbrev pub HasCycleNode : {X I R A T : Type 0} → List NodeId → StackEntry X I R A T → Type 0
 HasCycleNode nodes entry = IfSome entry.state.node (Contains nodes)
-
--- the one to which a definite answer leads
-abbrev pub HasTarget : {I : Type 0} → List NodeId → DefiniteAnswer I → Type 0
-HasTarget nodes answer = Contains nodes (record { 0 = answer.edge.target })
-
--- those of a run: its own, and those of its definite answers
-pub record HasRunNodes {X F I R A T : Type 0} (nodes : List NodeId) (run : Run X F I R A T) : Type 0 where
-  pub own : Contains nodes run.node
-  pub answers : All (HasTarget nodes) run.progress.answers

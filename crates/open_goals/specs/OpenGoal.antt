@@ -1,6 +1,5 @@
 -- A goal under evaluation.
-use Rattle.open_goals.specs.Below.{StackEntry}
-use Rattle.open_goals.specs.declared.goals.Run.{Run}
+use Rattle.open_goals.specs.Below.{StackEntry, Run}
 
 -- its entry on the stack, and its run
 abbrev pub OpenGoal : Type 0 → Type 0 → Type 0 → Type 0 → Type 0 → Type 0 → Type 0

@@ -1,16 +1,7 @@
 -- The goals under evaluation with their runs, and the step of the newest one's frame.
-use Rattle.std.specs.Prelude.{◌≡◌, ℕ, ◌<◌, ◌↔◌, IsTrue, List, [], ◌∷◌, None, Some}
-use Rattle.open_goals.specs.Below.{DelegateOf, CxOf, Request, Reply, Begin, Answer, Noted, Fault, Memory, Protocol, Verdict, Yes, No, Neither, StackEntry, IsFitting, Steps, Verdicts, verdicts}
-use Rattle.open_goals.specs.Progress.{RunRecord, received, requested, fault_of, Records}
-use Rattle.open_goals.specs.declared.goals.Received.{Received}
-use Rattle.open_goals.specs.declared.goals.Run.{Run}
+use Rattle.std.specs.Prelude.{◌≡◌, ℕ, ◌<◌, List, [], ◌∷◌, None, Some}
+use Rattle.open_goals.specs.Below.{DelegateOf, CxOf, Request, Reply, Fault, Memory, Protocol, Verdict, StackEntry, IsFitting, Steps, verdicts, requested, fault_of, received_by, IsVerdict, Records, Received, Run}
 use Rattle.open_goals.specs.OpenGoal.{OpenGoal}
-
--- the verdict is that of the answer, if the reply is one
-abbrev pub IsVerdict : {R : Type 0} → Verdicts R → Reply R → Verdict → Type 0
-IsVerdict says Begin verdict = verdict ≡ Neither
-IsVerdict says Noted verdict = verdict ≡ Neither
-IsVerdict says (Answer r) verdict = ((verdict ≡ Yes) ↔ IsTrue (says.is_yes r)) × ((verdict ≡ No) ↔ IsTrue (says.is_no r))
 
 module _ {D C V P F I R A T : Type 0} (G : DelegateOf D C V P F I R A T) (X : CxOf C I R A T) (cx : C) where
   -- a goal under evaluation with its run
@@ -26,28 +17,6 @@ module _ {D C V P F I R A T : Type 0} (G : DelegateOf D C V P F I R A T) (X : Cx
   CanStep reply [] = Unit {0}
   CanStep reply (s ∷ below) = (replies : List (Reply R)) × G.stands s.1.frame cx s.0.input replies × IsFitting (G.script cx s.0.input) (reply ∷ replies)
 
-  -- the run with the reply on record
-  abbrev pub received_by : Run C F I R A T → Received R → Verdict → RunRecord I R
-  received_by run given verdict = received run.progress given.reply verdict given.node
-
-  -- the run's frame took the reply and requested, in order, and both are on record
-  pub record RunSteps (given : Received R) (request : Request I R) (old new : Run C F I R A T) : Type 0 where
-    pub frame : F
-    pub verdict : Verdict
-    pub is : new ≡ record old { frame = frame; progress = requested (received_by old given verdict) request }
-    pub is_verdict : IsVerdict (verdicts X) given.reply verdict
-    pub in_order : fault_of (received_by old given verdict) request ≡ None
-    pub falls : G.left frame < G.left old.frame
-    pub steps : Steps G.stands G.script old.frame given.reply request frame
-
-  -- it could not take the reply for want of memory, or requested out of order
-  pub data IsRunFault (given : Received R) (old : Run C F I R A T) (fault : Fault I R) : Type 0 where
-    RunOutOfMemory : fault ≡ Memory → IsRunFault given old fault
-    RunOutOfOrder :
-        (frame : F) (verdict : Verdict) (request : Request I R) (number : ℕ)
-        → IsVerdict (verdicts X) given.reply verdict → Steps G.stands G.script old.frame given.reply request frame
-        → fault_of (received_by old given verdict) request ≡ Some number → fault ≡ Protocol number → IsRunFault given old fault
-
   -- the newest item's frame took the reply and requested, in order, and both are on record
   pub record HasStepped (given : Received R) (request : Request I R) (old new : List Item) : Type 0 where
     pub entry : StackEntry C I R A T
@@ -56,9 +25,9 @@ module _ {D C V P F I R A T : Type 0} (G : DelegateOf D C V P F I R A T) (X : Cx
     pub verdict : Verdict
     pub below : List Item
     pub was : old ≡ (entry, run) ∷ below
-    pub is : new ≡ (entry, record run { frame = frame; progress = requested (received_by run given verdict) request }) ∷ below
+    pub is : new ≡ (entry, record run { frame = frame; progress = requested (received_by G X cx run given verdict) request }) ∷ below
     pub is_verdict : IsVerdict (verdicts X) given.reply verdict
-    pub in_order : fault_of (received_by run given verdict) request ≡ None
+    pub in_order : fault_of (received_by G X cx run given verdict) request ≡ None
     pub falls : G.left frame < G.left run.frame
     pub steps : Steps G.stands G.script run.frame given.reply request frame
 
@@ -68,4 +37,4 @@ module _ {D C V P F I R A T : Type 0} (G : DelegateOf D C V P F I R A T) (X : Cx
     OutOfOrder :
         (entry : StackEntry C I R A T) (run : Run C F I R A T) (frame : F) (verdict : Verdict) (below : List Item) (request : Request I R) (number : ℕ)
         → old ≡ (entry, run) ∷ below → IsVerdict (verdicts X) given.reply verdict → Steps G.stands G.script run.frame given.reply request frame
-        → fault_of (received_by run given verdict) request ≡ Some number → fault ≡ Protocol number → IsStepFault given old fault
+        → fault_of (received_by G X cx run given verdict) request ≡ Some number → fault ≡ Protocol number → IsStepFault given old fault

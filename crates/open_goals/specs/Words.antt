@@ -8,9 +8,5 @@ pub use Rattle.open_goals.specs.Items.{AnswersNewest, rerun_with}
 pub use Rattle.open_goals.specs.NestedGoals.{ChangesNested, Joined, LeavesAnswer, NotesOverflow, TakesHeadGoal, TakesNestedGoals, TakesStored}
 pub use Rattle.open_goals.specs.Newest.{change_newest, newest, paired}
 pub use Rattle.open_goals.specs.OpenGoal.{OpenGoal}
-pub use Rattle.open_goals.specs.Nodes.{HasCycleNode, HasNodes, HasRunNodes, HasTarget}
-pub use Rattle.open_goals.specs.Progress.{answers_with, begun, done_in, edges_of, fault_of, going_on, is_in_candidate, no_record, received, replies_of, requested}
-pub use Rattle.open_goals.specs.Progress.{rests_on}
-pub use Rattle.open_goals.specs.Steps.{CanStep, HasStepped, IsRunFault, IsStepFault, IsVerdict, NoMemoryLeft, OutOfOrder, RunOutOfMemory, RunOutOfOrder, RunSteps}
-pub use Rattle.open_goals.specs.declared.goals.Received.{Received}
-pub use Rattle.open_goals.specs.declared.goals.Run.{Run}
+pub use Rattle.open_goals.specs.Nodes.{HasCycleNode, HasNodes}
+pub use Rattle.open_goals.specs.Steps.{CanStep, HasStepped, IsStepFault, NoMemoryLeft, OutOfOrder}

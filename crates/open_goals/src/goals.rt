@@ -2,26 +2,24 @@
 ghost use Rattle.std.specs.Prelude.{◌≡◌, ℕ, ◌+◌, ◌^◌, ◌<◌, List, [], ◌∷◌, ◌++◌, length, false, Some, None, OnOk, OnErr, IfOk, IfErr, IfSome, is_some, map, reverse};
 ghost use Rattle.std.specs.List.{list_any};
 ghost use Rattle.std.specs.Option.{option_map};
-ghost use Rattle.open_goals.specs.Below.{CanTake, position_of, verdicts};
-ghost use Rattle.open_goals.specs.Words.{CanStep, IsVerdict, HasStepped, IsRunFault, IsStepFault, RunSteps, no_record};
+ghost use Rattle.open_goals.specs.Below.{CanTake, position_of, verdicts, IsVerdict, IsRunFault, RunSteps, no_record};
+ghost use Rattle.open_goals.specs.Words.{CanStep, HasStepped, IsStepFault};
 
 mod candidates;
 mod nodes;
 mod scopes;
 
-use crate::candidates::FinishedCandidates;
-use crate::progress::Progress;
-use crate::spare::SpareMemory;
 use crate::update::{
     cycle_head, note_depth, note_head, note_heads, note_nested_goals, take_nested_goals,
 };
 use cycle_heads::heads::CycleHeads;
 use cycle_heads::usages::HeadUsages;
 use path_kinds::path::{PathKind, PathsToNested};
+use run_records::progress::Progress;
+use run_records::runs::{Received, Run, step_run};
+use run_records::spare::SpareMemory;
 use scopes::HeldScope;
-use search_context::context::{
-    Answer, Cx, Delegate, Fault, NoMemory, NodeId, Reply, Request, Verdict,
-};
+use search_context::context::{Answer, Cx, Delegate, Fault, NoMemory, NodeId, Request};
 use search_stack::depth::StackDepth;
 use search_stack::result::{CacheData, EvaluationResult};
 use search_stack::room::give_room_back;
@@ -30,22 +28,6 @@ use std::alloc::Global;
 use std::marker::Model;
 use std::mem;
 
-/// A reply for the newest frame, and a node, which counts for a definite answer alone.
-#[derive(Clone, Copy)]
-pub struct Received<R> {
-    pub reply: Reply<R>,
-    pub node: Option<NodeId>,
-}
-
-impl<R> Received<R> {
-    /// A reply that is no definite answer.
-    pub fn without_node(reply: Reply<R>) -> Received<R>
-        ensures { result ≡ record { reply = reply; node = None } }
-    {
-        Received { reply, node: None }
-    }
-}
-
 /// What comes after a request of the newest goal's frame.
 #[derive(Clone, Copy)]
 pub enum Next<R> {
@@ -53,34 +35,6 @@ pub enum Next<R> {
     Step(Received<R>),
     /// No goal is left, and this is the answer to the last one.
     Finished(Answer<R>),
-}
-
-/// What becomes of the result of a goal that is done and rests on no other goal.
-#[derive(Clone, Copy)]
-pub enum Fate<R> {
-    /// It is stored in the global cache.
-    Stored,
-    /// It is not stored: a tree of the goal is recorded.
-    NotStored,
-    /// It is compared with this result, which is stored of the goal already.
-    Compared(R),
-}
-
-/// One run of a goal: the frame that works it out, the node that stands for it, and what it has done. A deep stack has very
-/// many, so the small fields stand together.
-#[derive(Drop)]
-pub struct Run<X: Cx, F: Drop> {
-    pub frame: F,
-    pub node: NodeId,
-    pub progress: Progress<X::Input, X::Result>,
-    /// How many runs of the goal have ended before this one.
-    pub finished_runs: usize,
-    /// What its finished candidates used of the goals on the stack.
-    pub candidates: FinishedCandidates,
-    /// Whether a question was refused below the goal in a run before this one.
-    pub met_overflow_before: bool,
-    /// What becomes of the goal's result. All its runs have the same one.
-    pub fate: Fate<X::Result>,
 }
 
 /// A goal that was popped, with its run and the scope that was held for it.
@@ -406,47 +360,4 @@ pub fn step<D: Delegate>(
 {
     let last = goals.runs.len() - 1;
     step_run::<D>(&mut goals.runs[last], cx, received, spare, inspect)
-}
-
-/// Gives the frame of a run its reply, and answers its request.
-#[inline(always)]
-fn step_run<D: Delegate>(
-    run: &mut Run<D::Cx, D::Frame>,
-    cx: D::Cx,
-    received: Received<<D::Cx as Cx>::Result>,
-    spare: &mut SpareMemory<<D::Cx as Cx>::Input, <D::Cx as Cx>::Result>,
-    inspect: &mut D::ProofTreeBuilder,
-) -> Result<
-    Request<<D::Cx as Cx>::Input, <D::Cx as Cx>::Result>,
-    Fault<<D::Cx as Cx>::Input, <D::Cx as Cx>::Result>,
->
-    requires can_take { CanTake D.stands D.script run.old.frame received.reply }
-    ensures stepped { IfOk result (λ request.
-        RunSteps D.Delegate D.Cx.Cx cx received request run.old run.new) }
-    ensures fault { IfErr result (λ fault.
-        IsRunFault D.Delegate D.Cx.Cx cx received run.old fault) }
-    ensures same_starts { D.starts inspect.new ≡ D.starts inspect.old }
-    ensures same_noop { D.noop inspect.new ≡ D.noop inspect.old }
-{
-    let verdict = sort_of(cx, received.reply);
-    spare.lend_lists(&mut run.progress, received.reply);
-    run.progress
-        .receive(received.reply, verdict, received.node)?;
-    let request = D::step(&mut run.frame, received.reply, inspect)?;
-    if let Some(number) = run.progress.order_fault(request) {
-        return Err(Fault::Protocol(number));
-    }
-    run.progress.note_request(request);
-    Ok(request)
-}
-
-/// The verdict of an answer; any other reply says neither yes nor no.
-pub fn sort_of<X: Cx>(cx: X, reply: Reply<X::Result>) -> Verdict
-    ensures { IsVerdict (verdicts X.Cx) reply result }
-{
-    match reply {
-        Reply::Answer(outcome) => cx.sort(outcome),
-        Reply::Begin => Verdict::Neither,
-        Reply::Noted => Verdict::Neither,
-    }
 }

@@ -6,13 +6,10 @@
 //! |---|---|
 //! | `OpenGoal`, `Newest`, `Items` | a goal with its run, the goals with the newest first, and what becomes of the newest one |
 //! | `Entries`, `NestedGoals` | what changes of its entry, and of the goals that are recorded below it |
-//! | `Steps`, `Progress` | the step of a frame, and what a run has done so far |
+//! | `Steps` | the step of the newest goal's frame |
 //! | `Nodes` | the nodes to which a goal leads |
 //! | `Candidates` | a candidate is opened, finished or ignored |
 #![tactic(auto)]
 
-pub mod candidates;
 pub mod goals;
-pub mod progress;
-pub mod spare;
 pub mod update;

@@ -44,13 +44,14 @@ pub use Rattle.open_goals.specs.Candidates.{CanIgnore, CanNote, Covers, enters, 
 pub use Rattle.open_goals.specs.Candidates.{less_head, less_usages, NotesCandidate}
 pub use Rattle.open_goals.specs.Entries.{is_in_cycle}
 pub use Rattle.open_goals.specs.Newest.{change_newest}
-pub use Rattle.open_goals.specs.Progress.{answered, IsReplySorted, received, requested}
-pub use Rattle.open_goals.specs.Progress.{RunRecord}
-pub use Rattle.open_goals.specs.Steps.{CanStep, HasStepped, IsStepFault, NoMemoryLeft, received_by, Stood}
+pub use Rattle.run_records.specs.Progress.{answered, IsReplySorted, received, requested}
+pub use Rattle.run_records.specs.Progress.{RunRecord}
+pub use Rattle.open_goals.specs.Steps.{CanStep, HasStepped, IsStepFault, NoMemoryLeft, Stood}
+pub use Rattle.run_records.specs.Steps.{received_by}
 pub use Rattle.open_goals.specs.declared.goals.Next.{Next}
 pub use Rattle.open_goals.specs.declared.goals.Next.TheVariants.{Finished, Step}
-pub use Rattle.open_goals.specs.declared.goals.Received.{Received}
-pub use Rattle.open_goals.specs.declared.goals.Run.{Run}
+pub use Rattle.run_records.specs.declared.runs.Received.{Received}
+pub use Rattle.run_records.specs.declared.runs.Run.{Run}
 pub use Rattle.open_goals.specs.OpenGoal.{OpenGoal}
 pub use Rattle.search_moves.specs.Evaluations.{Awaits, ChangesCache, EndsWith, HasReply, HasRequest, IsNew, IsRight, IsRightFor}
 pub use Rattle.search_moves.specs.Evaluations.{IsRememberedWhere, IsRightNext, KeepsCache, LeadsTo, Requests, StopsWith}

@@ -1,8 +1,8 @@
 -- What a move, and the whole of an evaluation, comes to in whatever call it is made.
 use Rattle.std.specs.Prelude.{◌≡◌, ◌≢◌, ℕ, Bool, false, List, None, Result, IfOk, IfErr}
 use Rattle.search_graph.specs.Below.{Awaits, Begins, Cache, CacheNode, Call, CxOf, DelegateOf, EndsWith, Fated, Fault, fates_of, HasGraph, IsCaused, KeepsFinished, KeepsNodes, KeepsResults, LeadsTo, Memory, MovesFates, Next, Place, Received, StayFrom, OpenGoal, Store, stored_at, StopsWith, verdicts, work_left}
-use Rattle.open_goals.specs.declared.goals.Fate.{Fate}
-use Rattle.open_goals.specs.declared.goals.Fate.TheVariants as becomes
+use Rattle.run_records.specs.declared.runs.Fate.{Fate}
+use Rattle.run_records.specs.declared.runs.Fate.TheVariants as becomes
 use Rattle.search_context.specs.declared.context.Answer.{Answer}
 use Rattle.search_moves.specs.Drafts.{LeavesReached}
 use Rattle.search_moves.specs.declared.evaluation.Evaluation.{Evaluation}

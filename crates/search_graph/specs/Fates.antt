@@ -1,7 +1,7 @@
 -- What becomes of the goals' results, and which stored results stay, while a goal is worked out.
 use Rattle.std.specs.Prelude.{◌≡◌, Bool, false, List}
-use Rattle.open_goals.specs.declared.goals.Fate.{Fate}
-use Rattle.open_goals.specs.declared.goals.Fate.TheVariants as becomes
+use Rattle.run_records.specs.declared.runs.Fate.{Fate}
+use Rattle.run_records.specs.declared.runs.Fate.TheVariants as becomes
 use Rattle.search_graph.specs.Below.{fates_of, HasOldest, HaveExpected, NoneStored, Place, Reply, Request, Store, OpenGoal, stored_at, StoredResult}
 
 -- The first goal has this fate, and the goals have what they are to be compared with. With a builder that records nothing is stored; and

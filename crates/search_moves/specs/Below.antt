@@ -44,8 +44,8 @@ pub use Rattle.open_goals.specs.Newest.{change_newest, newest}
 pub use Rattle.open_goals.specs.Steps.{Stood}
 pub use Rattle.open_goals.specs.declared.goals.Next.{Next}
 pub use Rattle.open_goals.specs.declared.goals.Next.TheVariants.{Step}
-pub use Rattle.open_goals.specs.declared.goals.Received.{Received}
-pub use Rattle.open_goals.specs.declared.goals.Run.{Run}
+pub use Rattle.run_records.specs.declared.runs.Received.{Received}
+pub use Rattle.run_records.specs.declared.runs.Run.{Run}
 pub use Rattle.open_goals.specs.OpenGoal.{OpenGoal}
 pub use Rattle.search_rules.specs.Calls.{bound, Call, CallMeetsNone, IsCounted, limits}
 pub use Rattle.search_rules.specs.Claims.{ComesTo, IsRemembered}

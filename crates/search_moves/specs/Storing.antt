@@ -5,8 +5,8 @@ use Rattle.search_moves.specs.Below.{DelegateOf, CxOf, Cache, CacheNode, Evaluat
 use Rattle.search_moves.specs.Drafts.{KeepsNoted}
 use Rattle.search_moves.specs.declared.drafts.Drafts.{Drafts}
 use Rattle.search_moves.specs.declared.evaluation.Evaluation.{Evaluation}
-use Rattle.open_goals.specs.declared.goals.Fate.{Fate}
-use Rattle.open_goals.specs.declared.goals.Fate.TheVariants as becomes
+use Rattle.run_records.specs.declared.runs.Fate.{Fate}
+use Rattle.run_records.specs.declared.runs.Fate.TheVariants as becomes
 use Rattle.search_rules.specs.Claims.{ComesTo, IfDiffers, IsCaused}
 use Rattle.search_rules.specs.Fates.{ChangesNewest}
 use Rattle.search_rules.specs.Live.{AreLiveResults}

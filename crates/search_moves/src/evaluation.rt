@@ -4,11 +4,11 @@ ghost use Rattle.search_moves.specs.Drafts.{HasNoDrafts};
 
 use crate::drafts::Drafts;
 use global_cache::GlobalCache;
+use lean_runs::lean::LeanRuns;
 use open_goals::goals::OpenGoals;
-use open_goals::spare::SpareMemory;
 use provisional_cache::ProvisionalCache;
+use run_records::spare::SpareMemory;
 use search_context::context::{Cx, Delegate};
-use search_rules::lean::LeanRuns;
 use search_stack::depth::AvailableDepth;
 use std::alloc::Global;
 

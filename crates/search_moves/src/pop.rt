@@ -6,9 +6,10 @@ ghost use Rattle.search_moves.specs.Words.{ChangesCache, Fails, MayPop, Pops};
 
 use crate::evaluation::Evaluation;
 use global_cache::GlobalCache;
-use open_goals::goals::{Next, OpenGoals, Popped, Received, Run};
+use open_goals::goals::{Next, OpenGoals, Popped};
 use path_kinds::path::PathKind;
 use provisional_cache::RebaseReason;
+use run_records::runs::{Received, Run};
 use search_context::context::{Answer, Cx, Delegate, Fault, NoMemory, Reply};
 use search_rules::nodes::result_node;
 use search_rules::rebase::rebase_entries;

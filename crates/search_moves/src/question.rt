@@ -9,11 +9,12 @@ ghost use Rattle.search_moves.specs.Words.{HasRequest, Requests, IsRightFor, Goe
 
 use crate::evaluation::Evaluation;
 use global_cache::GlobalCache;
-use open_goals::candidates::FinishedCandidates;
-use open_goals::goals::{Fate, OpenGoals, Received, Run};
-use open_goals::progress::Progress;
+use open_goals::goals::OpenGoals;
 use path_kinds::path::PathKind;
 use provisional_cache::{ProvisionalCache, ProvisionalCacheEntry};
+use run_records::candidates::FinishedCandidates;
+use run_records::progress::Progress;
+use run_records::runs::{Fate, Received, Run};
 use search_context::context::{Cx, Delegate, NoMemory, NodeId, Reply};
 use search_rules::look_up::{Consulted, consult, look_up_entry};
 use search_stack::depth::{AvailableDepth, StackDepth};

@@ -5,7 +5,7 @@ ghost use Rattle.search_moves.specs.Words.{MayRunAgain, RunsAgain, StartsFrame};
 
 use crate::evaluation::Evaluation;
 use global_cache::GlobalCache;
-use open_goals::progress::Progress;
+use run_records::progress::Progress;
 use search_context::context::{Cx, Delegate, NoMemory};
 use search_rules::nodes::result_node;
 use search_stack::depth::StackDepth;

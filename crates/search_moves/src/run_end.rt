@@ -5,8 +5,9 @@ ghost use Rattle.search_moves.specs.Words.{ChangesCache, HasRequest, Moves, IsRi
 
 use crate::evaluation::Evaluation;
 use global_cache::GlobalCache;
-use open_goals::goals::{Next, Received};
+use open_goals::goals::Next;
 use provisional_cache::RebaseReason;
+use run_records::runs::Received;
 use search_context::context::{Cx, Delegate, Fault, Reply};
 use search_rules::end_of_run::{Unstable, end_of_run};
 

@@ -8,9 +8,9 @@ ghost use Rattle.search_moves.specs.Words.{ChangesResults, Fails, IsStorable, Ma
 use crate::drafts::Drafts;
 use crate::evaluation::Evaluation;
 use global_cache::GlobalCache;
-use open_goals::goals::Fate;
 use path_kinds::path::PathKind;
 use provisional_cache::{ProvisionalCache, ProvisionalCacheEntry};
+use run_records::runs::Fate;
 use search_context::context::{Cx, Delegate, Fault, NoMemory};
 use search_stack::depth::StackDepth;
 use search_stack::result::EvaluationResult;

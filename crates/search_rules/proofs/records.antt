@@ -1,6 +1,3 @@
--- What the record of a run says.
-pub mod Verdicts
-pub mod ProgressLaws
-pub mod ProgressEdges
-pub mod LeanRuns
+-- The nodes of runs.
+pub mod LeanNodes
 pub mod EarlierNodes

@@ -31,9 +31,8 @@ pub use Rattle.search_context.specs.Graph.{GraphNode, IsProofGraph, IsRefutation
 pub use Rattle.search_context.specs.Question.{Overlap, Question}
 unfoldable pub use Rattle.search_context.specs.Rank.{frames_within}
 pub use Rattle.search_context.specs.Rank.{HasNoRank, IsBelowRank, IsPlain, IsPlainTo, IsPlainValue}
-pub use Rattle.search_context.specs.Run.{Asked, counted_by, EndsIn, fault_after, Fits, is_counted, is_ignored, IsFitting}
-pub use Rattle.search_context.specs.Run.{IsInOrder}
-pub use Rattle.search_context.specs.Run.{open_candidate, order_fault, Progress, progress_after, progress_with}
+pub use Rattle.search_context.specs.Run.{counted_by, EndsIn, fault_after, Fits, IsFitting}
+pub use Rattle.search_context.specs.Run.{order_fault, progress_after}
 pub use Rattle.search_context.specs.Run.{questions_answered, request_after}
 pub use Rattle.search_context.specs.Verdicts.{IsDefinite, verdict_of, Verdicts, verdicts}
 pub use Rattle.search_context.specs.declared.context.Cx.{Ghosts as CxOf}
@@ -91,15 +90,19 @@ pub use Rattle.open_goals.specs.Entries.{TakesAnswer, TakesHeads, usages_over, w
 pub use Rattle.open_goals.specs.Items.{AnswersNewest, rerun_with, with_no_record}
 pub use Rattle.open_goals.specs.NestedGoals.{NestsAnswer, NestsHead, NotesOverflow, TakesStored}
 pub use Rattle.open_goals.specs.Newest.{change_newest, newest}
-pub use Rattle.open_goals.specs.Progress.{acted, Agrees, answered, answers_after, answers_with, asked_in, asked_of}
-pub use Rattle.open_goals.specs.Progress.{asked_with, edge_to, edges_of, fault_of, is_same_verdict}
-pub use Rattle.open_goals.specs.Progress.{IsEdgeOfAnswer, IsReplySorted, IsSortedAs, KeepsAnswer, no_record}
-pub use Rattle.open_goals.specs.Progress.{open_number, received, Records, requested, RunRecord}
-pub use Rattle.open_goals.specs.Steps.{CanStep, HasStepped, IsStepFault, IsVerdict, Item, NoMemoryLeft, OutOfOrder}
-pub use Rattle.open_goals.specs.Steps.{received_by, Stood}
+pub use Rattle.run_records.specs.Progress.{acted, answered, CameTo}
+pub use Rattle.run_records.specs.Progress.{edge_to, edges_of, fault_of}
+pub use Rattle.run_records.specs.Progress.{IsReplySorted, KeepsAnswer, no_record}
+pub use Rattle.run_records.specs.Progress.{open_number, received, requested, RunRecord}
+pub use Rattle.open_goals.specs.Steps.{CanStep, HasStepped, IsStepFault, Item, NoMemoryLeft, OutOfOrder}
+pub use Rattle.run_records.specs.Steps.{IsVerdict}
+pub use Rattle.run_records.specs.Steps.{received_by}
+pub use Rattle.open_goals.specs.Steps.{Stood}
 pub use Rattle.open_goals.specs.declared.goals.Next.{Next}
 pub use Rattle.open_goals.specs.declared.goals.Next.TheVariants.{Finished, Step}
-pub use Rattle.open_goals.specs.declared.goals.Received.{Received}
-pub use Rattle.open_goals.specs.declared.goals.Run.{Run}
-pub use Rattle.open_goals.specs.declared.progress.DefiniteAnswer.{DefiniteAnswer}
+pub use Rattle.run_records.specs.declared.runs.Received.{Received}
+pub use Rattle.run_records.specs.declared.runs.Run.{Run}
+pub use Rattle.run_records.specs.declared.progress.DefiniteAnswer.{DefiniteAnswer}
 pub use Rattle.open_goals.specs.OpenGoal.{OpenGoal}
+pub use Rattle.lean_runs.specs.Backed.{Beyond, IsBacked, OfAnswer, verdict_shape}
+pub use Rattle.lean_runs.specs.Lean.{IsBackedEdge, IsRecordFor}

@@ -3,8 +3,8 @@ use Rattle.std.specs.Prelude.{◌≡◌, ℕ, ◌≤◌, Bool, true, false, List
 use Rattle.std.specs.List.{list_any}
 use Rattle.std.specs.Option.{option_map}
 use Rattle.search_rules.specs.Below.{Hit, IsPlainTo, IsPlainValue, Place, Reply, Request, Store, OpenGoal, stored_at, StoredResult}
-use Rattle.open_goals.specs.declared.goals.Fate.{Fate}
-use Rattle.open_goals.specs.declared.goals.Fate.TheVariants as becomes
+use Rattle.run_records.specs.declared.runs.Fate.{Fate}
+use Rattle.run_records.specs.declared.runs.Fate.TheVariants as becomes
 
 -- The stored result answers the goal, unless the builder records, or the goal is in a scope.
 abbrev pub answered_by : {H : Type 0} → (noop in_scope : Bool) → Option H → Option H

@@ -3,7 +3,7 @@
 use Rattle.std.specs.Prelude.{◌≡◌, ◌≢◌, ◌<◌, ◌≤◌, ℕ, Bool, true, if◌then◌else◌, List, [], ◌∷◌, length, map, is_some, Option, None, Some, slice_get}
 use Rattle.std.specs.Option.{IsSomeAnd, option_map}
 use Rattle.open_graphs.specs.Graph as theory
-use Rattle.search_rules.specs.Below.{IsAnsweredEdge, RunningGoal, stack_of, IsSoundState, PathKind, Verdict, Yes, No, Neither, Request, Evaluate, Reply, Answer, NodeId, Edge, heads_shape, rank_of, CacheNode, open_goal, IsNodeOf, verdict_of, edge_shape, shapes_of, DefiniteAnswer, counted_by, Verdicts}
+use Rattle.search_rules.specs.Below.{IsAnsweredEdge, RunningGoal, stack_of, IsSoundState, PathKind, Request, Evaluate, Reply, Answer, NodeId, Edge, heads_shape, rank_of, CacheNode, open_goal, IsNodeOf, verdict_of, edge_shape, shapes_of, DefiniteAnswer, counted_by, Verdicts, IsBacked, verdict_shape}
 use Rattle.search_rules.specs.Tallies.{Tally, IsTallied, spare_heads, heads_of}
 
 -- A goal under evaluation: the step by which it was asked; the node of its present run, and the one to which the answers of its
@@ -20,12 +20,6 @@ pub record OpenRun (I R : Type 0) : Type 0 where
   pub ignored : List Bool
   pub request : Option (Request I R)
   pub answers : List (DefiniteAnswer I)
-
--- a verdict in the theory's words
-abbrev pub verdict_shape : Verdict → theory.Verdict
-verdict_shape Yes = theory.Yes
-verdict_shape No = theory.No
-verdict_shape Neither = theory.Neither
 
 -- the place of the node to which the answers of a goal's cycles lead
 abbrev pub cycles_node : {I R : Type 0} → OpenRun I R → ℕ
@@ -55,21 +49,6 @@ AreOpen nodes (o ∷ below) = (open_goal nodes o.own ≡ Some o.goal) × AreOpen
 abbrev pub LeadToGoals : {I R : Type 0} → List (CacheNode I R) → List (DefiniteAnswer I) → Type 0
 LeadToGoals nodes answers =
     (i : ℕ) (a : DefiniteAnswer _) → slice_get answers i ≡ Some a → IsNodeOf nodes a.edge.target a.edge.input
-
--- The edge may stand in the node of a run that had these answers: it is that of one of them which has the verdict and is outside
--- ignored candidates. Or it leads one step further than such a one, where both steps are of the kind of the verdict's cycles, from a
--- node that was written after the run's own.
-pub data IsBacked {I R : Type 0} (says : Verdicts R) (nodes : List (CacheNode I R)) (own : ℕ) (answers : List (DefiniteAnswer I)) (ignored : List Bool) (verdict : theory.Verdict) (e : Edge I) : Type 0 where
-  OfAnswer :
-      (j : ℕ) (a : DefiniteAnswer I)
-      → slice_get answers j ≡ Some a → verdict_shape a.verdict ≡ verdict → counted_by ignored a.candidate ≡ true → a.edge ≡ e
-      → IsBacked says nodes own answers ignored verdict e
-  Beyond :
-      (j : ℕ) (a : DefiniteAnswer I)
-      → slice_get answers j ≡ Some a → verdict_shape a.verdict ≡ verdict → counted_by ignored a.candidate ≡ true
-      → own < a.edge.target → rank_of a.edge.kind ≡ theory.cycle_kind verdict → rank_of e.kind ≡ theory.cycle_kind verdict
-      → theory.HasShapeEdge (shapes_of says nodes) verdict a.edge.target (theory.cycle_kind verdict) e.target → IsNodeOf nodes e.target e.input
-      → IsBacked says nodes own answers ignored verdict e
 
 -- the same for all of these edges
 abbrev pub AreEdges : {I R : Type 0} → Verdicts R → List (CacheNode I R) → ℕ → List (DefiniteAnswer I) → List Bool → theory.Verdict → List (Edge I) → Type 0

@@ -13,7 +13,6 @@ pub mod Tallies
 pub mod Justified
 pub mod Free
 pub mod Runs
-pub mod Lean
 pub mod EndOfRun
 pub mod EntryShapes
 pub mod Provisional

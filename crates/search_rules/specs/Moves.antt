@@ -1,6 +1,6 @@
 -- The moves that push a goal, answer it over a cycle, run it again, and pop it.
 use Rattle.std.specs.Prelude.{◌≡◌, ◌+◌, ◌<◌, ◌≤◌, ◌^◌, ◌||◌, Bool, false, List, [], ◌∷◌, ◌++◌, length, map, reverse, Option, Some, slice_get, unwrap_or}
-use Rattle.open_goals.specs.declared.goals.Fate.{Fate}
+use Rattle.run_records.specs.declared.runs.Fate.{Fate}
 use Rattle.search_rules.specs.Below.{DelegateOf, CxOf, Received, CacheNode, open_node, Answer, NodeId, PathKind, AvailableDepth, StackDepth, EvaluationResult, OpenGoal, StackEntry, path_kind_from, cycle_head, first_entry, AnswersNewest, NestedPaths, NestsAnswer, NestsHead, rerun_with, with_no_record, no_record, Item, Run, Next, Step, Finished}
 
 module _ {D C V P F I R A T : Type 0} (G : DelegateOf D C V P F I R A T) (X : CxOf C I R A T) (cx : C) where

@@ -1,7 +1,7 @@
 -- The stored results, as calls rely on them and change them.
 use Rattle.std.specs.Prelude.{◌≡◌, ◌≤◌, ◌⊎◌, ℕ, Bool, true, ◌||◌, if◌then◌else◌, List, [], ◌∷◌, Option, None, Some, IsSomeAnd}
 use Rattle.search_rules.specs.Below.{NodeId, Place, Success, WithOverflow, StoredResult, Request, Reply, EvaluationResult, OpenGoal, IsDefinite, Store, stored_at, place_of, stored_from, Puts, IsPlainTo, IsPlainAt, Verdicts}
-use Rattle.open_goals.specs.declared.goals.Fate.TheVariants as becomes
+use Rattle.run_records.specs.declared.runs.Fate.TheVariants as becomes
 use Rattle.search_rules.specs.Claims.{ComesTo}
 
 -- no result is stored that met overflow

@@ -3,7 +3,7 @@ use Rattle.std.specs.Prelude.{◌≡◌, ◌≢◌, ◌<◌, ◌≤◌, ℕ, Lis
 use Rattle.std.specs.Option.{option_map, option_or}
 use Rattle.open_graphs.specs.Graph as theory
 use Rattle.search_context.specs.declared.context.Answer.{Answer}
-use Rattle.search_rules.specs.Below.{NodeId, Request, Done, Reply, OpenGoal, IsFitting, request_after, EndedRun, CacheNode, open_goal, open_node, rerun_with, with_no_record, with_run, verdict_of, Next, Step, Finished, RunRecord, Records, acted, HasGraph, Verdicts}
+use Rattle.search_rules.specs.Below.{NodeId, Request, Done, Reply, OpenGoal, EndedRun, CacheNode, open_goal, open_node, rerun_with, with_no_record, with_run, verdict_of, Next, Step, Finished, RunRecord, acted, HasGraph, Verdicts, CameTo}
 use Rattle.search_rules.specs.Tallies.{tally_of}
 use Rattle.search_rules.specs.Justified.{OpenRun, AreJustified, IsFit, AreEdges}
 
@@ -64,13 +64,6 @@ module _ {X F I R A T : Type 0} where
   IsJustifiedNext says nodes old goals (Step given) = AreJustified says nodes (runs_of goals) × IsFit says nodes (runs_of goals) given.reply given.node
   IsJustifiedNext says nodes [] goals (Finished answer) = ⊥
   IsJustifiedNext says nodes (s ∷ below) goals (Finished answer) = HasGraph says nodes s.0.input answer.result answer.node
-
--- the record is that of a run that came to this result
-pub record CameTo {I R : Type 0} (says : Verdicts R) (script : List (Reply R) → Request I R) (p : RunRecord I R) (r : R) : Type 0 where
-  pub replies : List (Reply R)
-  pub is_fitting : IsFitting script replies
-  pub is_done : request_after script replies ≡ Some (Done r)
-  pub on_record : Records says script p replies
 
 -- the newest goal's run came to this result
 abbrev pub EndsNewest : {X F I R A T : Type 0} → Verdicts R → (I → List (Reply R) → Request I R) → List (OpenGoal X F I R A T) → R → Type 0

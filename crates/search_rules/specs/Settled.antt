@@ -1,13 +1,13 @@
 -- Where two runs of a goal are enough, and what holds then of the answers of the goals under evaluation and of the stored results.
 use Rattle.std.specs.Prelude.{◌≡◌, ◌≢◌, ◌<◌, ◌≤◌, ◌⊎◌, ℕ, Bool, true, false, Contains, IsSome, List, [], ◌∷◌, map, None, Option, slice_get, Some}
 use Rattle.std.specs.Option.{IfSome, IsSomeAnd}
-use Rattle.open_goals.specs.declared.goals.Fate.TheVariants as becomes
+use Rattle.run_records.specs.declared.runs.Fate.TheVariants as becomes
 use Rattle.open_graphs.specs.Graph as theory
 use Rattle.open_graphs.specs.Stack.{IsLeaf}
 use Rattle.open_graphs.specs.Use as theory_use
-use Rattle.search_rules.specs.Below.{Answer, CacheNode, CxOf, DefiniteAnswer, DelegateOf, Entry, counted_by, is_in_cycle, IsDecisive, IsDefinite, IsEnclosed, IsNodeOf, Lists, NestedPaths, NodeId, paths_at, ProvisionalCacheEntry, Reply, shapes_of, stack_of, Store, OpenGoal, stored_at, StoredResult, Success, verdict_of, Verdicts, verdicts}
+use Rattle.search_rules.specs.Below.{Answer, CacheNode, CxOf, DefiniteAnswer, DelegateOf, Entry, counted_by, is_in_cycle, IsDecisive, IsDefinite, IsEnclosed, IsNodeOf, Lists, NestedPaths, NodeId, paths_at, ProvisionalCacheEntry, Reply, shapes_of, stack_of, Store, OpenGoal, stored_at, StoredResult, Success, verdict_of, Verdicts, verdicts, verdict_shape}
 use Rattle.search_rules.specs.Calls.{Call}
-use Rattle.search_rules.specs.Justified.{cycles_node, frames_of, OpenRun, verdict_shape}
+use Rattle.search_rules.specs.Justified.{cycles_node, frames_of, OpenRun}
 use Rattle.search_rules.specs.Kinds.{EntriesSuit}
 use Rattle.search_rules.specs.Leads.{WalksToGoals}
 use Rattle.search_rules.specs.Lone.{IsLone, LoneRequire, NoneIsLone}

@@ -9,7 +9,7 @@ pub use Rattle.search_rules.specs.Claims.{IsProved, IsRefuted, IsShown, WantsMem
 pub use Rattle.search_rules.specs.Claims.{OtherResult, OtherThanStored, OutOfMemory, OutOfOrder}
 pub use Rattle.search_rules.specs.Justified.{AreCharged, AreEdges, AreJustified, AreOpen, AreSupported, asked_now}
 pub use Rattle.search_rules.specs.Justified.{cycles_node, frame_of, frames_of, HasTally, HaveTallies, IsFit, LeadToGoals, MayAnswer}
-pub use Rattle.search_rules.specs.Justified.{NewestAsks, OpenRun, verdict_shape}
+pub use Rattle.search_rules.specs.Justified.{NewestAsks, OpenRun}
 pub use Rattle.search_rules.specs.EntryShapes.{depths_of, entry_shape, highest_depth, HoldsOver, reason_shape}
 pub use Rattle.search_rules.specs.LookUp.{AreOnStack, Asking, could_be_used, is_applicable, IsUsable, meets_entry}
 pub use Rattle.search_rules.specs.LookUp.{usable_entry, UsesStored}

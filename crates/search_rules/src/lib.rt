@@ -12,7 +12,6 @@
 //! | `Moves` | a goal is pushed, closes a cycle, is run again, and popped |
 //! | `Tallies` | what goals count of their heads, and which part of that their candidates count |
 //! | `EndOfRun`, `Runs` | what becomes of a goal whose run has ended, and of its node |
-//! | `Lean` | runs that are replayed, and which edges may stand in the node of a run |
 //! | `Justified`, `Free` | why each definite answer is right; answers that rest on no goal under evaluation |
 //! | `EntryShapes`, `Provisional` | provisional entries: why each may be used, and what becomes of them |
 //! | `Apart` | provisional entries are of goals that are not worked out meanwhile |
@@ -29,7 +28,6 @@
 #![tactic(auto)]
 
 pub mod end_of_run;
-pub mod lean;
 pub mod look_up;
 pub mod nodes;
 pub mod rebase;

@@ -8,9 +8,9 @@ ghost use Rattle.search_rules.specs.Words.{usable_entry, could_be_used, Consults
 
 use bitflags::Flags;
 use global_cache::{GlobalCache, NestedTest};
-use open_goals::goals::Fate;
 use path_kinds::path::{PathKind, PathsToNested};
 use provisional_cache::{ProvisionalCache, ProvisionalCacheEntry};
+use run_records::runs::Fate;
 use search_context::context::{Cx, Delegate};
 use search_stack::depth::AvailableDepth;
 use search_stack::nested_goals::NestedGoals;

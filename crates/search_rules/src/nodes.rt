@@ -2,12 +2,12 @@
 ghost use Rattle.std.specs.Prelude.{◌≡◌, ◌↔◌, IsTrue, IfOk, OnOk, Some};
 ghost use Rattle.std.specs.Option.{option_map};
 ghost use Rattle.global_cache.specs.Cache.{ended_run};
-ghost use Rattle.search_rules.specs.Below.{KeepsFinished, IsDefinite, edges_of, open_goal, verdict_of, verdicts, with_run};
-ghost use Rattle.search_rules.specs.Words.{verdict_shape, EndsRun, HasResultNode, KeepsBut, LeadToGoals};
+ghost use Rattle.search_rules.specs.Below.{KeepsFinished, IsDefinite, edges_of, open_goal, verdict_of, verdicts, with_run, verdict_shape};
+ghost use Rattle.search_rules.specs.Words.{EndsRun, HasResultNode, KeepsBut, LeadToGoals};
 
-use crate::lean::{LeanRuns, Replayed};
 use global_cache::GlobalCache;
-use open_goals::progress::Progress;
+use lean_runs::lean::{LeanRuns, Replayed};
+use run_records::progress::Progress;
 use search_context::context::{Cx, Delegate, NoMemory, NodeId, Verdict};
 use search_stack::stack::EntryState;
 

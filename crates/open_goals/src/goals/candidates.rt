@@ -4,9 +4,9 @@ ghost use Rattle.std.specs.Option.{option_map};
 ghost use Rattle.open_goals.specs.Words.{enters, records_candidate, leaves, CanIgnoreNewest, CanIgnoreUsages, CanNote, IgnoresNewest, IgnoresUsages, NotesCandidate, newest, change_newest};
 
 use crate::goals::OpenGoals;
-use crate::spare::SpareMemory;
 use crate::update;
 use cycle_heads::candidates::CandidateHeadUsages;
+use run_records::spare::SpareMemory;
 use search_context::context::{Cx, NoMemory, Request};
 use search_stack::depth::StackDepth;
 

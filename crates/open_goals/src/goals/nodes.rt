@@ -1,9 +1,10 @@
 //! The nodes to which the goals lead.
 ghost use Rattle.std.specs.Prelude.{All, Contains, OnOk};
-ghost use Rattle.open_goals.specs.Below.{NodeId};
-ghost use Rattle.open_goals.specs.Words.{HasCycleNode, HasNodes, HasRunNodes};
+ghost use Rattle.open_goals.specs.Below.{NodeId, HasRunNodes};
+ghost use Rattle.open_goals.specs.Words.{HasCycleNode, HasNodes};
 
-use crate::goals::{OpenGoals, Run};
+use crate::goals::OpenGoals;
+use run_records::runs::push_run_nodes;
 use search_context::context::{Cx, NoMemory, NodeId};
 use search_stack::depth::StackDepth;
 use search_stack::stack::Stack;
@@ -33,21 +34,6 @@ fn push_cycle_nodes<X: Cx>(stack: &Stack<X>, nodes: &mut Vec<NodeId>) -> Result<
         if let Some(node) = stack[StackDepth::new(place)].state.node {
             nodes.push(node)?;
         }
-    }
-    Ok(())
-}
-
-/// Appends the runs' own nodes and those of their definite answers.
-fn push_run_nodes<X: Cx, F: Drop>(
-    runs: &[Run<X, F>],
-    nodes: &mut Vec<NodeId>,
-) -> Result<(), NoMemory>
-    ensures kept { (n : NodeId) → Contains nodes.old.items n → Contains nodes.new.items n }
-    ensures runs { OnOk result (All (HasRunNodes nodes.new.items) runs.now) }
-{
-    for run in runs {
-        nodes.push(run.node)?;
-        run.progress.push_targets(nodes)?;
     }
     Ok(())
 }

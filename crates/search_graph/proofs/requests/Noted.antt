@@ -4,7 +4,7 @@ use Rattle.std.specs.Option.{IfSome, IsSomeAnd}
 use Rattle.std.proofs.lemmas.Bool.Decides.{nat_tests}
 use Rattle.std.proofs.lemmas.List.{get_or-set_same, get_or-set_other, length-map, length-set}
 use Rattle.std.proofs.lemmas.Option.{slice_get-get_or}
-use Rattle.open_goals.proofs.Pairs.{is_none}
+use Rattle.run_records.proofs.Options.{is_none}
 use Rattle.search_graph.specs.Below.{DelegateOf, CxOf, NodeId, Request, Evaluate, EnterCandidate, FinishCandidate, Ignore, Done, Noted, Verdict, Neither, StoredResult, EntryState, OpenGoal, StackEntry, CacheNode, IsReplyTo, Store, UsagesByHead, Received, Run, enters, finishes, CanIgnore, CanNote, IgnoresNewest, Ignores, NotesCandidate, is_in_cycle, IsDefinite, change_newest, RunRecord, answered, counted_by, ignored_by, received, requested, HasStepped, Stood, Verdicts, verdicts, AreFree, AreJustified, bound, Call, CallGoesOn, HasAsked, IsCounted, IsDecided, IsFit, IsTallied, limits, OpenRun, run_of, runs_of, seen, Tally, tally_of}
 use Rattle.evaluations.specs.Frames.{Frame}
 use Rattle.evaluations.proofs.Mirrors.{noted_waits}

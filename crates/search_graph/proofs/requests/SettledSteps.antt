@@ -5,11 +5,12 @@ use Rattle.std.specs.List.{list_any}
 use Rattle.std.specs.Option.{is_none, IsSomeAnd}
 use Rattle.std.proofs.lemmas.Bool.{or_from}
 use Rattle.std.proofs.lemmas.Bool.Decides.{nat_tests}
-use Rattle.open_goals.specs.declared.goals.Fate.{Fate}
-use Rattle.open_goals.specs.declared.goals.Fate.TheVariants as becomes
+use Rattle.run_records.specs.declared.runs.Fate.{Fate}
+use Rattle.run_records.specs.declared.runs.Fate.TheVariants as becomes
 use Rattle.search_graph.specs.Below.{AreSoundResults, AvailableDepth, Begin, Cache, CacheNode, Call, change_newest, counted_by, CxOf, DelegateOf, enters, EntryState, EnterCandidate, Evaluate, fates_of, finishes, FinishCandidate, first_accepted, HasStepped, Ignore, is_in_cycle, IsNew, ignored_by, Neither, NodeId, Noted, NotesCandidate, OpenRun, Outset, PathKind, Pushes, received, Received, Reply, Request, requested, Requests, Run, run_of, RunRecord, runs_of, OpenGoal, StackEntry, Store, StoredResult, Tally, tally_of, usable, Verdict, Verdicts, verdicts}
 use Rattle.search_rules.specs.Below.{Answer, at_depth, DefiniteAnswer, edge_to, IsVerdict, KeepsAnswer, Lists, NestedPaths, No, open_number, paths_at, ProvisionalCacheEntry, stack_of, StackDepth, verdict_of, Yes}
-use Rattle.search_rules.specs.Justified.{cycles_node, frames_of, verdict_shape}
+use Rattle.search_rules.specs.Justified.{cycles_node, frames_of}
+use Rattle.lean_runs.specs.Backed.{verdict_shape}
 use Rattle.search_moves.specs.Asked.{question_depth}
 use Rattle.search_moves.specs.Settled.{IsSettledStore, EntriesSuitCall, Settles}
 use Rattle.search_moves.specs.declared.evaluation.Evaluation.{Evaluation}
@@ -21,8 +22,9 @@ use Rattle.search_rules.proofs.answers.Kept.{ignored_counts}
 use Rattle.search_rules.proofs.two_runs.OffStack.{aside_leads, GoesOn, off_answered, off_kept}
 use Rattle.search_rules.proofs.two_runs.OlderEntries.{all_stay, Follows}
 use Rattle.search_rules.proofs.two_runs.SettledGoals.{begin_stays_off}
-use Rattle.search_rules.proofs.justified.Replies.{in_theory_definite, unanswered, verdict_is}
-use Rattle.search_rules.proofs.records.ProgressLaws.{answers_received}
+use Rattle.lean_runs.proofs.Verdicts.{in_theory_definite, verdict_is}
+use Rattle.search_rules.proofs.justified.Replies.{unanswered}
+use Rattle.run_records.proofs.ProgressLaws.{answers_received}
 use Rattle.search_rules.proofs.moves.Questions.{enclosed_refuses_none}
 use Rattle.search_graph.proofs.turns.Beginning.{new_right}
 use Rattle.search_graph.proofs.requests.Noted.{acted_same, counted_before, counted_longer, ignores_here, ignoring_run, may_ignore}

@@ -1,8 +1,8 @@
 -- What becomes of the goals' results, and which stored results stay, after each move.
 use Rattle.std.proofs.Common.{◌≡◌, Bool, false, List, ◌∷◌, [], refl, sym, ap, ◌∙◌, subst}
 use Rattle.global_cache.specs.Store.{KeepsResults}
-use Rattle.open_goals.specs.declared.goals.Fate.{Fate}
-use Rattle.open_goals.specs.declared.goals.Fate.TheVariants as becomes
+use Rattle.run_records.specs.declared.runs.Fate.{Fate}
+use Rattle.run_records.specs.declared.runs.Fate.TheVariants as becomes
 use Rattle.search_graph.specs.Below.{ChangesNewest, fates_of, HasOldest, HaveExpected, IsFated, IsNewestToStore, MovesFates, NoneStored, Place, Reply, Request, Store, OpenGoal, stored_at, StoredResult}
 use Rattle.search_graph.specs.Fates.{KeepsFates}
 use Rattle.search_rules.proofs.moves.Fates.{expected_kept, expected_moves, none_stored_moves, oldest_moves, spared_stays, unstored_stay}

@@ -1,6 +1,6 @@
 //! The evaluation of a goal: one loop over the goals under evaluation.
 ghost use Rattle.std.specs.Prelude.{◌≡◌, ◌≢◌, true, false, length, IfOk, IfErr, IfSome, None, OnOk, Ok};
-ghost use Rattle.open_goals.specs.declared.goals.Fate.TheVariants.{Stored};
+ghost use Rattle.run_records.specs.declared.runs.Fate.TheVariants.{Stored};
 ghost use Rattle.search_graph.specs.Below.{ChangesCache, IsCaused, IsFated, Memory, first_accepted, usable, KeepsBuilder, KeepsCache, IsRightNext, HasReply, HaveExpected, fates_of};
 ghost use Rattle.search_graph.specs.Calls.{Advances, Evaluates, IsGrounded, MovesGoals, Spares};
 ghost use Rattle.search_graph.specs.Settled.{EndsSettled, StaysSettled};
@@ -10,8 +10,9 @@ ghost use Rattle.search_moves.specs.Storing.{HasLastingCause};
 ghost use Rattle.search_rules.specs.Lone.{IsLone};
 
 use global_cache::GlobalCache;
-use open_goals::goals::{Fate, Next, Received, step};
+use open_goals::goals::{Next, step};
 use path_kinds::path::PathKind;
+use run_records::runs::{Fate, Received};
 use search_context::context::{Answer, Cx, Delegate, Fault, Reply, Request};
 use search_moves::evaluation::Evaluation;
 use search_rules::look_up::{Consulted, consult};

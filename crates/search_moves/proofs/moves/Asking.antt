@@ -6,7 +6,8 @@ use Rattle.std.proofs.lemmas.Option.{get_or_from_slice_get, slice_get_within}
 use Rattle.search_moves.specs.Below.{DelegateOf, CxOf, Evaluate, Received, Answer, Begin, Cache, IsNeither, IsCycleResult, CacheNode, AvailableDepth, first_entry, open_node, PathKind, OpenGoal, StackEntry, Memory, path_kind_from, IsDefinite, verdicts, AreFree, AreJustified, AreReady, bound, Call, CallMeetsNone, depth_below, first_run, HasAsked, HasStopped, IsCounted, KeepsStore, IsFit, IsReady, limits, newest, NewestAsks, Pushes, runs_of, seen, Stood}
 use Rattle.search_moves.specs.declared.evaluation.Evaluation.{Evaluation}
 use Rattle.search_moves.specs.Words.{AskingLeadsTo, asking, ByEntry, ByStored, GoesOnWith, IsRight, IsRightFor, OverCycle, Pushed, question_depth, Refused, Requests, StopsWith}
-use Rattle.search_rules.proofs.justified.Finishing.{answered_newest_is_justified, begin_fits, neither_fits, neither_is, overflow_noted_is_justified, pushed_goal_is_justified, stored_taken_same}
+use Rattle.search_rules.proofs.justified.Finishing.{answered_newest_is_justified, begin_fits, neither_fits, overflow_noted_is_justified, pushed_goal_is_justified, stored_taken_same}
+use Rattle.lean_runs.proofs.Verdicts.{neither_is}
 use Rattle.search_rules.proofs.moves.Questions.{ask_in_cycle, ask_provisional, ask_pushes, ask_refused, ask_stops, ask_stored, enclosed_refuses_none, refused_at}
 use Rattle.search_rules.proofs.moves.Moves.{not_among}
 use Rattle.evaluations.proofs.Mirrors.{waits_stops}

@@ -8,7 +8,7 @@ use Rattle.provisional_cache.specs.declared.RebaseReason.TheVariants as why
 use Rattle.provisional_cache.proofs.RebasedEntryLists.{All-filter_map}
 use Rattle.search_rules.specs.EndOfRun.{Unused}
 use Rattle.search_rules.proofs.moves.DoneRuns.{calm_of, limited_keeps, put_keeps}
-use Rattle.search_rules.proofs.justified.Finishing.{neither_is}
+use Rattle.lean_runs.proofs.Verdicts.{neither_is}
 use Rattle.search_rules.proofs.moves.Moves.{done_definite, met_none_before}
 use Rattle.search_rules.proofs.rebasing.Cases.{HasNewHead, is_rebased, IsRebased, NotUsed, Still, Used}
 

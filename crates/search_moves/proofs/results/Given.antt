@@ -1,6 +1,6 @@
 -- What is stored of an answer that was given to the goal that asked for it.
 use Rattle.std.proofs.Common.{◌≡◌, Bool, sym, ap, subst, ◌∙◌}
-use Rattle.open_goals.specs.declared.goals.Fate.{Fate}
+use Rattle.run_records.specs.declared.runs.Fate.{Fate}
 use Rattle.search_rules.specs.Results.{NotStored, Put}
 use Rattle.search_moves.specs.Storing.{IsStorable, PutsAnswer, Stores}
 use Rattle.search_moves.specs.declared.evaluation.Evaluation.{Evaluation}

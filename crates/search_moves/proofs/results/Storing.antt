@@ -4,8 +4,8 @@ use Rattle.cycle_heads.specs.Heads.{Heads}
 use Rattle.cycle_heads.specs.declared.depth.StackDepth.{StackDepth}
 use Rattle.cycle_heads.specs.declared.heads.CycleHead.{CycleHead}
 use Rattle.provisional_cache.specs.Provisional.{AppendsEntry}
-use Rattle.open_goals.specs.declared.goals.Fate.{Fate}
-use Rattle.open_goals.specs.declared.goals.Fate.TheVariants as becomes
+use Rattle.run_records.specs.declared.runs.Fate.{Fate}
+use Rattle.run_records.specs.declared.runs.Fate.TheVariants as becomes
 use Rattle.global_cache.proofs.Stores.{KeepsResults-same}
 use Rattle.search_rules.specs.Fates.{Untouched}
 use Rattle.search_rules.specs.Results.{NotStored}

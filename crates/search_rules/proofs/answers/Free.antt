@@ -1,5 +1,5 @@
 -- Answers that rest on no goal under evaluation, and stored results, all of which are such, through each move of the goals.
-use Rattle.open_goals.specs.declared.goals.Fate.{Fate}
+use Rattle.run_records.specs.declared.runs.Fate.{Fate}
 use Rattle.std.proofs.Common.{◌≡◌, ℕ, Bool, true, false, List, [], ◌∷◌, ◌++◌, length, Option, None, Some, inl, inr, refl, sym, ap, ap₂, ◌∙◌, subst}
 use Rattle.std.specs.Option.{IsSomeAnd, option_or}
 use Rattle.open_graphs.specs.Graph as theory

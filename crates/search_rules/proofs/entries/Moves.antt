@@ -1,5 +1,5 @@
 -- The provisional entries stay ready while a goal is pushed, and whatever the newest goal notes.
-use Rattle.open_goals.specs.declared.goals.Fate.{Fate}
+use Rattle.run_records.specs.declared.runs.Fate.{Fate}
 use Rattle.std.proofs.Common.{◌≡◌, ℕ, Bool, false, List, [], ◌∷◌, ◌++◌, length, subst}
 use Rattle.search_rules.specs.Below.{PathKind, Heads, DelegateOf, CxOf, NodeId, Request, Reply, AvailableDepth, OpenGoal, ProvisionalCacheEntry, CacheNode, open_node, Hit, Lists, Received, NotesCandidate, first_entry, AnswersNewest, TakesStored, NotesOverflow, no_record, HasStepped, Verdicts, verdicts}
 use Rattle.search_rules.specs.Words.{AreJustified, AreReady, runs_of}

@@ -5,7 +5,8 @@ use Rattle.std.proofs.lemmas.List.Elements.{All-append, All-cons, All-head, All-
 use Rattle.open_graphs.specs.Graph as theory
 use Rattle.search_rules.specs.Below.{CxOf, DelegateOf, IsNeither, verdicts, IsRising, NodeId, Request, Reply, OpenGoal, StackEntry, ProvisionalCacheEntry, RebaseReason, CacheNode, Lists, entries_at, rebased, changed_for, verdict_of, Next, Verdicts}
 use Rattle.search_rules.specs.Words.{AreJustified, GivesAnswer, AreReady, HasReason, IsLeftOver, IsNewestUnranked, IsReady, LeavesReady, final_answer, entries_for, rebased_for, run_of, runs_of}
-use Rattle.search_rules.proofs.justified.Finishing.{neither_is, rebases}
+use Rattle.lean_runs.proofs.Verdicts.{neither_is}
+use Rattle.search_rules.proofs.justified.Finishing.{rebases}
 use Rattle.search_rules.proofs.justified.Justified.{EndsWithNode}
 use Rattle.search_rules.proofs.entries.LeftOver.{left_over_ready}
 use Rattle.search_rules.proofs.entries.Popped.{IsLeft, lower, own_pushed, rebased_is_left, unused_is_left}

@@ -1,26 +1,18 @@
 -- A run that is done, and its node.
-use Rattle.open_goals.specs.declared.goals.Fate.{Fate}
-use Rattle.std.proofs.Common.{◌≡◌, ◌≢◌, ℕ, suc, Bool, true, false, IsTrue, if◌then◌else◌, ◌↔◌, List, [], ◌∷◌, map, ◌++◌, length, is_some, Contains, Option, None, Some, option_map, slice_get, refl, sym, ap, ◌∙◌, subst}
+use Rattle.run_records.specs.declared.runs.Fate.{Fate}
+use Rattle.std.proofs.Common.{◌≡◌, ◌≢◌, ℕ, suc, Bool, true, false, IsTrue, ◌↔◌, List, [], ◌∷◌, map, ◌++◌, length, is_some, Option, None, Some, option_map, slice_get, refl, sym, ap, ◌∙◌, subst, if◌then◌else◌}
 use Rattle.std.specs.Option.{IsSomeAnd}
 use Rattle.std.proofs.lemmas.List.{length-map}
-use Rattle.std.proofs.lemmas.Option.{slice_get_within, get_or_from_slice_get, slice_get-get_or}
 use Rattle.open_graphs.specs.Graph as theory
-use Rattle.search_rules.specs.Below.{PathKind, Verdict, Yes, No, Neither, Edge, NodeId, Request, Reply, Begin, Answer, Noted, AvailableDepth, OpenGoal, StackEntry, IsNeither, question_of, EndsIn, progress_after, questions_answered, CacheNode, open_node, open_goal, with_run, IsNodeOf, IsRun, verdict_of, Run, DefiniteAnswer, NotesOverflow, TakesStored, Hit, first_entry, usages_over, with_depth, with_nested_goals, TakesAnswer, AnswersNewest, RunRecord, acted, answered, no_record, edges_of, counted_by, IsDefinite, Heads, at_depth, heads_shape, rank_of, UsagesByHead, StackDepth, EntryState, Evaluate, TakesIn, Verdicts}
-use Rattle.search_rules.specs.Words.{tally_of, heads_of, IsTallied, LieBelow, OpenRun, verdict_shape, AreEdges, NewestAsks, HasTally, AreJustified, LeadToGoals, MayAnswer, IsFit, asked_now, run_of, runs_of, EndsNewest, EndsRun, HasResultNode, Ended, LeftOpen}
+use Rattle.search_rules.specs.Below.{PathKind, Verdict, Yes, No, Neither, Edge, NodeId, Request, Reply, Begin, Answer, Noted, AvailableDepth, OpenGoal, StackEntry, IsNeither, question_of, EndsIn, progress_after, questions_answered, CacheNode, open_node, open_goal, with_run, IsNodeOf, IsRun, verdict_of, Run, DefiniteAnswer, NotesOverflow, TakesStored, Hit, first_entry, usages_over, with_depth, with_nested_goals, TakesAnswer, AnswersNewest, RunRecord, acted, answered, no_record, edges_of, counted_by, IsDefinite, Heads, at_depth, heads_shape, rank_of, UsagesByHead, StackDepth, EntryState, Evaluate, TakesIn, Verdicts, verdict_shape}
+use Rattle.search_rules.specs.Words.{tally_of, heads_of, IsTallied, LieBelow, OpenRun, AreEdges, NewestAsks, HasTally, AreJustified, LeadToGoals, MayAnswer, IsFit, asked_now, run_of, runs_of, EndsNewest, EndsRun, HasResultNode, Ended, LeftOpen}
 use Rattle.search_rules.proofs.counts.TakenTallies.{taken_tallied, taken_keeps, taken_comes_in}
 use Rattle.search_rules.specs.Runs.{Again}
 use Rattle.search_rules.proofs.justified.Justified.{EndsWithNode, pushed_is_justified, recounted_is_justified, again_ends, neither_ends, anew_ends}
-use Rattle.search_rules.proofs.records.ProgressEdges.{yes_edges_are, no_edges_are, edge_is_of_answer}
-use Rattle.search_rules.proofs.justified.Replies.{verdict_is, in_theory_definite}
-use Rattle.search_rules.proofs.records.Verdicts.{fails_unless}
-
--- ---- places in a list
-
-pub contains_at : {A : Type 0} (xs : List A) (i : ℕ) (x : A) → slice_get xs i ≡ Some x → Contains xs x
-contains_at xs i x at = (i, slice_get_within xs i x at, get_or_from_slice_get xs i x x at)
-
-pub place_among : {A : Type 0} (xs : List A) (x : A) → Contains xs x → (j : ℕ) × (slice_get xs j ≡ Some x)
-place_among xs x has = (has.0, slice_get-get_or xs has.0 x has.1 ∙ ap Some has.2)
+use Rattle.run_records.proofs.ProgressEdges.{yes_edges_are, no_edges_are, edge_is_of_answer}
+use Rattle.lean_runs.proofs.Places.{contains_at, place_among}
+use Rattle.lean_runs.proofs.Verdicts.{verdict_is, in_theory_definite, neither_at, neither_is}
+use Rattle.run_records.proofs.Verdicts.{fails_unless}
 
 -- ---- goals that are pushed, or only change their entries
 
@@ -91,14 +83,6 @@ module _ {X F I R A T : Type 0} (says : Verdicts R) (nodes : List (CacheNode I R
       subst (λ c. TakesIn (length a.below) (rank_of step) (heads_shape answer) (heads_of (tally_of a.state a.run.candidates) c))
       (candidate_now a.entry.state.candidate_usages (run_of (a.entry, a.run)).is_open (length a.run.candidates) (length (run_of (a.entry, a.run)).ignored) was.open_is was.finished_are)
       (taken_comes_in (record { 0 = length a.below }) step answer (with_nested_goals (with_depth a.entry.state required overflow) a.state.nested_goals) a.state a.run.candidates a.takes lower (was_tallied h))
-
-neither_at : (y n : Bool) → y ≡ false → n ≡ false → (if y then theory.Yes else if n then theory.No else theory.Neither) ≡ theory.Neither
-neither_at true n not_yes not_no = absurd cc
-neither_at false true not_yes not_no = absurd cc
-neither_at false false not_yes not_no = refl
-
-pub neither_is : {R : Type 0} (says : Verdicts R) (r : R) → IsNeither says.is_yes says.is_no r → verdict_of says r ≡ theory.Neither
-neither_is says r h = neither_at (says.is_yes r) (says.is_no r) h.not_yes h.not_no
 
 -- a reply that is no definite answer fits
 other_fits : {I R : Type 0} (says : Verdicts R) (nodes : List (CacheNode I R)) (goals : List (OpenRun I R)) (reply : Reply R) (target : Option NodeId) → ((r : R) → reply ≡ Answer r → verdict_of says r ≡ theory.Neither) → IsFit says nodes goals reply target

@@ -3,7 +3,7 @@ use Rattle.std.proofs.Common.{◌≡◌, ◌≢◌, ◌<◌, ◌≤◌, ◌⊎�
 use Rattle.std.specs.Option.{IsSomeAnd, option_or}
 use Rattle.std.proofs.lemmas.List.{map-append, map-set, length-map}
 use Rattle.open_graphs.specs.Graph as theory
-use Rattle.search_rules.specs.Below.{Entry, path_kind, IsClosedGraph, Use, Includes, IncludesBelow, UsesNo, RunningGoal, ProvisionalEntry, Final, stack_of, in_first_run, in_next_run, answering, OwnsOther, IsSoundState, TakesIn, Answered, Again, Anew, Without, IsAnsweredEdge, AllAnswered, PathKind, Edge, Request, NodeId, heads_shape, no_usages, rank_of, EndedRun, CacheNode, goal_if_open, open_node, open_goal, with_run, IsNodeOf, KeepsNodes, KeepsGoals, verdict_of, edge_shape, shape_of, shapes_of, DefiniteAnswer, HasGraph, counted_by, Verdicts}
+use Rattle.search_rules.specs.Below.{Entry, path_kind, IsClosedGraph, Use, Includes, IncludesBelow, UsesNo, RunningGoal, ProvisionalEntry, Final, stack_of, in_first_run, in_next_run, answering, OwnsOther, IsSoundState, TakesIn, Answered, Again, Anew, Without, IsAnsweredEdge, AllAnswered, PathKind, Edge, Request, NodeId, heads_shape, no_usages, rank_of, EndedRun, CacheNode, goal_if_open, open_node, open_goal, with_run, IsNodeOf, KeepsNodes, KeepsGoals, verdict_of, edge_shape, shape_of, shapes_of, DefiniteAnswer, HasGraph, counted_by, Verdicts, Beyond, IsBacked, OfAnswer, verdict_shape}
 use Rattle.open_graphs.specs.Use as theory_use
 use Rattle.open_graphs.proofs.Lists.{get_cases, get_end, get_set_other}
 use Rattle.open_graphs.proofs.Verdicts.{same as same_verdicts}
@@ -14,11 +14,11 @@ use Rattle.open_graphs.proofs.Closed.{closed_is_graph}
 use Rattle.open_graphs.proofs.Keep.{append_grows, growth_keeps_use, heads_keep_use, leaf_cases}
 use Rattle.open_graphs.specs.Stack.{IsLeaf}
 use Rattle.std.proofs.lemmas.Option.{slice_get_within}
-use Rattle.search_rules.specs.Justified.{Beyond, IsBacked, LeadUpTo, OfAnswer}
+use Rattle.search_rules.specs.Justified.{LeadUpTo}
 use Rattle.search_rules.proofs.justified.Beyond.{answered_beyond}
 use Rattle.global_cache.proofs.Definites.{IsSomeAnd-weaker}
 use Rattle.global_cache.proofs.NodeLists.{KeepsNodes-appended, KeepsGoals-appended, before, with_run-is, KeepsGoals-ended}
-use Rattle.search_rules.specs.Words.{OpenRun, verdict_shape, cycles_node, frame_of, frames_of, AreOpen, AreEdges, NewestAsks, HasTally, AreCharged, AreSupported, AreJustified, asked_now, MayAnswer, Tally, IsTallied, heads_of, spare_heads, SaysAgain}
+use Rattle.search_rules.specs.Words.{OpenRun, cycles_node, frame_of, frames_of, AreOpen, AreEdges, NewestAsks, HasTally, AreCharged, AreSupported, AreJustified, asked_now, MayAnswer, Tally, IsTallied, heads_of, spare_heads, SaysAgain}
 use Rattle.search_rules.proofs.counts.Tallies.{charge_within, fresh_tallied, rerun_keeps, rerun_tallied, spare_within}
 
 -- ---- open nodes

@@ -1,13 +1,14 @@
 -- A reply that fits is sorted as the record wants it, and keeps the goals justified.
-use Rattle.std.proofs.Common.{◌≡◌, ◌≢◌, ℕ, Bool, true, false, IsTrue, if◌then◌else◌, ◌↔◌, List, [], ◌∷◌, length, Option, None, Some, IsSome, refl, sym, ap, ◌∙◌, subst, inl, inr}
+use Rattle.std.proofs.Common.{◌≡◌, ◌≢◌, ℕ, Bool, true, false, IsTrue, List, [], ◌∷◌, length, Option, None, Some, IsSome, refl, sym, ap, ◌∙◌, subst, inl, inr, if◌then◌else◌}
 use Rattle.std.specs.Option.{IsSomeAnd}
 use Rattle.open_graphs.specs.Graph as theory
-use Rattle.global_cache.proofs.Definites.{no_verdict, yes_verdict}
-use Rattle.search_rules.specs.Below.{DelegateOf, CxOf, PathKind, Verdict, Yes, No, Neither, NodeId, Request, Evaluate, Reply, Answer, OpenGoal, StackEntry, CacheNode, verdict_of, Fits, IsFitting, request_after, Run, Received, DefiniteAnswer, RunRecord, received, answered, IsReplySorted, KeepsAnswer, open_number, edge_to, IsVerdict, Verdicts, verdicts}
-use Rattle.search_rules.specs.Words.{verdict_shape, AreJustified, MayAnswer, IsFit, run_of, runs_of, Call, IsWaiting}
+use Rattle.global_cache.proofs.Definites.{yes_verdict}
+use Rattle.search_rules.specs.Below.{DelegateOf, CxOf, PathKind, Verdict, Yes, No, Neither, NodeId, Request, Evaluate, Reply, Answer, OpenGoal, StackEntry, CacheNode, verdict_of, Fits, IsFitting, request_after, Run, Received, DefiniteAnswer, RunRecord, received, answered, IsReplySorted, KeepsAnswer, open_number, edge_to, IsVerdict, verdicts, verdict_shape}
+use Rattle.search_rules.specs.Words.{AreJustified, MayAnswer, IsFit, run_of, runs_of, Call, IsWaiting}
+use Rattle.lean_runs.proofs.Verdicts.{in_theory_definite, verdict_is}
 use Rattle.search_rules.proofs.justified.Justified.{answered_is_justified}
 use Rattle.search_rules.proofs.moves.Moves.{can_step_record}
-use Rattle.search_rules.proofs.records.ProgressLaws.{answers_received}
+use Rattle.run_records.proofs.ProgressLaws.{answers_received}
 
 -- ---- verdicts
 
@@ -18,12 +19,6 @@ no_definite_at : (y n : Bool) → IsTrue n → (if y then theory.Yes else if n t
 no_definite_at true n is e = cc
 no_definite_at false true is e = cc
 no_definite_at false false is e = cc
-
--- the verdict of an answer in the theory's words
-pub verdict_is : {R : Type 0} (says : Verdicts R) (r : R) (v : Verdict) → ((v ≡ Yes) ↔ IsTrue (says.is_yes r)) → ((v ≡ No) ↔ IsTrue (says.is_no r)) → v ≢ Neither → verdict_shape v ≡ verdict_of says r
-verdict_is says r Yes holds fails d = sym (yes_verdict (says.is_yes r) (says.is_no r) (holds.0 refl))
-verdict_is says r No holds fails d = sym (no_verdict (says.is_yes r) (says.is_no r) (λ y. let e : No ≡ Yes = holds.1 y in absurd cc) (fails.0 refl))
-verdict_is says r Neither holds fails d = absurd (d refl)
 
 is_some_of : {A : Type 0} (o : Option A) (P : A → Type 0) → IsSomeAnd o P → IsSome o
 is_some_of None P h = absurd h
@@ -38,11 +33,6 @@ question_of_answer request r fits = absurd fits
 pub unanswered : {I R : Type 0} (p : RunRecord I R) (request : Option (Request I R)) (target : Option NodeId) → (answered p request Neither target).answers ≡ p.answers
 unanswered p (Some (Evaluate kind goal)) target = refl
 unanswered p request target = refl
-
-pub in_theory_definite : (v : Verdict) → v ≢ Neither → verdict_shape v ≢ theory.Neither
-in_theory_definite Yes d e = cc
-in_theory_definite No d e = cc
-in_theory_definite Neither d e = d refl
 
 module _ {D C V P F I R A T : Type 0} (G : DelegateOf D C V P F I R A T) (X : CxOf C I R A T) (cx : C) (nodes : List (CacheNode I R)) where
   abbrev Goals : Type 0

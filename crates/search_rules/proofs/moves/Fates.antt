@@ -2,8 +2,8 @@
 use Rattle.std.proofs.Common.{◌≡◌, ◌||◌, ℕ, Bool, true, false, List, [], ◌∷◌, Option, None, Some, refl, sym, ap, ◌∙◌, subst}
 use Rattle.std.specs.List.{list_any}
 use Rattle.std.specs.Option.{IsSomeAnd, option_map}
-use Rattle.open_goals.specs.declared.goals.Fate.{Fate}
-use Rattle.open_goals.specs.declared.goals.Fate.TheVariants as becomes
+use Rattle.run_records.specs.declared.runs.Fate.{Fate}
+use Rattle.run_records.specs.declared.runs.Fate.TheVariants as becomes
 use Rattle.search_rules.specs.Below.{AnswersNewest, Reply, CxOf, DelegateOf, Done, EnterCandidate, Evaluate, FinishCandidate, HasStepped, Heads, Hit, Ignore, Next, NotesCandidate, NotesOverflow, PathKind, Place, Received, Request, Store, OpenGoal, stored_at, TakesStored, change_newest, enters, finishes, EvaluationResult, StoredResult}
 use Rattle.global_cache.specs.Store.{KeepsResults}
 use Rattle.search_rules.specs.Fates.{Stay, Push, Pop, Untouched, OfNewest}

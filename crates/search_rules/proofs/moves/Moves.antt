@@ -9,7 +9,7 @@ use Rattle.evaluations.proofs.Mirrors.{step_requests, can_take, refused_waits, a
 use Rattle.evaluations.proofs.Evaluations.{evaluation_stops, fitting_meets_no_limit}
 use Rattle.evaluations.proofs.Plains.{unranked_is_safe}
 use Rattle.search_rules.specs.Words.{EndsNewest, Call, runs, limits, bound, IsCounted, CallMeetsNone, CallIsEnclosed, HadNoOverflow, KeepsLimits, AllDecided, Decidedly, IfDiffers, seen, IsWaiting, work_left, HasAsked, CallGoesOn, HasStopped, Leads, first_run, Pushes, Reruns, CanLeave, NewestLeaves, ClosesCycle}
-use Rattle.search_rules.proofs.records.ProgressLaws.{records_new, records_received, fault_is}
+use Rattle.run_records.proofs.ProgressLaws.{records_new, records_received, fault_is}
 use Rattle.search_rules.proofs.moves.DecidedGoals.{below_decided, changed_decided, cycle_decided, newest_decided, pushed_decided, replied_decided}
 
 or_none : (a b : Bool) → (a || b) ≡ false → b ≡ false

@@ -7,9 +7,9 @@ use Rattle.open_graphs.proofs.Runs.{answered_grows}
 use Rattle.open_graphs.proofs.States.{verdict_cases}
 use Rattle.global_cache.proofs.NodeLists.{AreRuns-ended}
 use Rattle.search_context.proofs.Rules.{KeepsRule}
-use Rattle.search_rules.specs.Below.{AreRuns, CacheNode, edges_of, EndedRun, entries_at, HeadUsages, heads_shape, IsDefinite, IsNodeOf, Lists, Neither, No, NodeId, Overlap, path_kind, PathKind, ProvisionalCacheEntry, Question, rank_of, RebaseReason, Reply, Request, shapes_of, stack_of, Store, OpenGoal, StoredResult, Use, Verdict, verdict_of, Verdicts, with_run, Yes}
+use Rattle.search_rules.specs.Below.{AreRuns, CacheNode, edges_of, EndedRun, entries_at, HeadUsages, heads_shape, IsDefinite, IsNodeOf, Lists, Neither, No, NodeId, Overlap, path_kind, PathKind, ProvisionalCacheEntry, Question, rank_of, RebaseReason, Reply, Request, shapes_of, stack_of, Store, OpenGoal, StoredResult, Use, Verdict, verdict_of, Verdicts, with_run, Yes, verdict_shape}
 use Rattle.search_rules.specs.EndOfRun.{IsEndOfRun, Limited, Repeats, Stable, Unused}
-use Rattle.search_rules.specs.Justified.{AreJustified, cycles_node, frame_of, frames_of, LeadToGoals, OpenRun, verdict_shape}
+use Rattle.search_rules.specs.Justified.{AreJustified, cycles_node, frame_of, frames_of, LeadToGoals, OpenRun}
 use Rattle.search_rules.specs.Runs.{EndsNewest, EndsRun, HasResultNode, run_of, runs_of}
 use Rattle.search_rules.specs.Words.{AreSettledGoals, HasEntry, HasOneOfEach, IsBehind, IsOff, IsStop, StandApart, WalksToGoals}
 use Rattle.search_rules.specs.Provisional.{AreReady}
@@ -18,10 +18,11 @@ use Rattle.search_rules.specs.declared.end_of_run.Unstable.TheVariants.{Again, A
 use Rattle.search_rules.proofs.two_runs.OffStack.{behind_leads, own_no_older, result_leads}
 use Rattle.search_rules.proofs.two_runs.OlderEntries.{all_stay, follows_itself, known_entry, same_entry, same_node}
 use Rattle.search_rules.proofs.two_runs.OneOfBoth.{HaveDistinctGoals, off_at, one_goal, one_of_both}
-use Rattle.search_rules.proofs.records.LeanRuns.{node_by, told_for_itself}
-use Rattle.search_rules.proofs.justified.Finishing.{answers_placed, ends_run, neither_is, open_for_run, rebases}
+use Rattle.search_rules.proofs.records.LeanNodes.{node_by}
+use Rattle.lean_runs.proofs.LeanRuns.{told_for_itself}
+use Rattle.search_rules.proofs.justified.Finishing.{answers_placed, ends_run, open_for_run, rebases}
+use Rattle.lean_runs.proofs.Verdicts.{neither_is, verdict_is}
 use Rattle.search_rules.proofs.justified.Justified.{below_is_justified, EndsWithNode, no_answers, popped}
-use Rattle.search_rules.proofs.justified.Replies.{verdict_is}
 
 -- the verdict of a result that is not both yes and no
 record IsSorted (y n : Bool) : Type 0 where

@@ -3,10 +3,10 @@ use Rattle.std.proofs.Common.{◌≡◌, ◌<◌, ◌≤◌, ℕ, Bool, false, t
 use Rattle.std.specs.Option.{IfSome}
 use Rattle.open_graphs.specs.Graph as theory
 use Rattle.open_graphs.proofs.Lists.{get_cases, mapped_some}
-use Rattle.search_rules.specs.Below.{CacheNode, counted_by, DefiniteAnswer, is_in_cycle, IsDefinite, KeepsGoals, Lists, NestedPaths, NodeId, PathKind, paths_at, ProvisionalCacheEntry, shapes_of, Entry, stack_of, Store, OpenGoal, StoredResult, verdict_of, Verdicts}
-use Rattle.open_goals.specs.declared.goals.Fate.TheVariants as becomes
+use Rattle.search_rules.specs.Below.{CacheNode, counted_by, DefiniteAnswer, is_in_cycle, IsDefinite, KeepsGoals, Lists, NestedPaths, NodeId, PathKind, paths_at, ProvisionalCacheEntry, shapes_of, Entry, stack_of, Store, OpenGoal, StoredResult, verdict_of, Verdicts, verdict_shape}
+use Rattle.run_records.specs.declared.runs.Fate.TheVariants as becomes
 use Rattle.search_rules.specs.Words.{AreSettledGoals, HasNoOlder, HasSuchGoal, IsAside, IsBehind, IsKnown, IsLone, IsOff, IsSettledGoal, IsStop, StandApart, StaysOff, WalksTo, WalksToGoals}
-use Rattle.search_rules.specs.Justified.{AreJustified, cycles_node, frame_of, frames_of, OpenRun, verdict_shape}
+use Rattle.search_rules.specs.Justified.{AreJustified, cycles_node, frame_of, frames_of, OpenRun}
 use Rattle.search_rules.specs.Runs.{run_of, runs_of}
 use Rattle.search_rules.specs.Tallies.{Tally}
 use Rattle.search_rules.proofs.two_runs.Leading.{goals_later}

@@ -16,7 +16,7 @@ use Rattle.search_rules.specs.Justified.{cycles_node, frame_of, frames_of, HaveT
 use Rattle.search_rules.specs.Words.{AreSettledGoals, BeganBefore, HasEntry, HasNoOlder, IsStop}
 use Rattle.search_rules.specs.Provisional.{AreReady, IsHead, IsReady}
 use Rattle.search_rules.specs.Runs.{run_of, runs_of}
-use Rattle.search_rules.proofs.justified.Finishing.{place_among}
+use Rattle.lean_runs.proofs.Places.{place_among}
 
 -- the entries with these nodes stay, and no other ones come
 pub record StaySame {X I R A T : Type 0} (same : I → I → Bool) (Within : ℕ → Type 0) (old new : Lists I (ProvisionalCacheEntry X I R A T)) : Type 0 where

@@ -6,8 +6,8 @@ use Rattle.std.proofs.lemmas.Bool.{and_parts, cases_lt, false≢true, or_parts}
 use Rattle.std.proofs.lemmas.List.{length-map}
 use Rattle.std.proofs.lemmas.List.Elements.{All-contains}
 use Rattle.std.proofs.lemmas.List.Sorted.{IsPermutation-reverse, list_any-IsPermutation}
-use Rattle.open_goals.specs.declared.goals.Fate.{Fate}
-use Rattle.open_goals.specs.declared.goals.Fate.TheVariants as becomes
+use Rattle.run_records.specs.declared.runs.Fate.{Fate}
+use Rattle.run_records.specs.declared.runs.Fate.TheVariants as becomes
 use Rattle.open_graphs.specs.Graph as theory
 use Rattle.open_graphs.specs.Stack.{IsLeaf}
 use Rattle.open_goals.specs.NestedGoals.{NestsItself, TakesHeadGoal, TakesNestedGoals}

@@ -1,7 +1,7 @@
 use Rattle.std.proofs.Common.{sym, ◌∙◌}
 use Rattle.search_rules.specs.Words.{WithoutUsages, Ambiguous}
 use Rattle.search_rules.proofs.moves.EndOfRunLaws.{fixpoint_reason, used_somehow}
-use Rattle.search_rules.proofs.records.Verdicts.{fails_at}
+use Rattle.run_records.proofs.Verdicts.{fails_at}
 use Rattle.search_rules.proofs.end_of_run.stable_reason.Goals as goal
 
 pub returns-then-reached_fixpoint-clause-reason : goal.returns-then-reached_fixpoint-clause-reason

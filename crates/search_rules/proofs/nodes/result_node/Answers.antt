@@ -1,7 +1,7 @@
 use Rattle.search_rules.specs.Below.{verdicts}
 use Rattle.search_rules.proofs.justified.Finishing.{again, definite_result, left_open}
-use Rattle.search_rules.proofs.records.LeanRuns.{ends_by, node_by, placed_by}
-use Rattle.search_rules.proofs.records.Verdicts.{fails_at}
+use Rattle.search_rules.proofs.records.LeanNodes.{ends_by, node_by, placed_by}
+use Rattle.run_records.proofs.Verdicts.{fails_at}
 use Rattle.search_rules.proofs.nodes.result_node.Goals as goal
 
 pub returns-in-Neither-clause-has_node : goal.returns-in-Neither-clause-has_node

@@ -1,5 +1,5 @@
 use Rattle.std.proofs.Common.{◌-◌, ◌∙◌, Some, ap, sym, arith, length-set}
-use Rattle.open_goals.specs.Words.{no_record}
+use Rattle.open_goals.specs.Below.{no_record}
 use Rattle.open_goals.proofs.Changes.{some_runs, newest_run, run_changed}
 use Rattle.open_goals.proofs.goals.OpenGoals.take_progress.Goals as goal
 

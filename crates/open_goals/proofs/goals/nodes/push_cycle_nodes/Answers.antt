@@ -1,6 +1,7 @@
 use Rattle.std.proofs.Common.{arith, ◌+◌, ◌∙◌, ap, get_or, take, All}
 use Rattle.open_goals.specs.Words.{HasCycleNode}
-use Rattle.open_goals.proofs.Nodes.{all_passed, cycle_passed, cycle_pushed, Kept, kept_by_same, kept_through}
+use Rattle.run_records.proofs.Nodes.{all_passed, Kept, kept_by_same, kept_through}
+use Rattle.open_goals.proofs.Nodes.{cycle_passed, cycle_pushed}
 use Rattle.open_goals.proofs.goals.nodes.push_cycle_nodes.Goals as goal
 use Rattle.open_goals.proofs.goals.nodes.push_cycle_nodes.Goals.{in-Some+in_ok-push, in_default}
 

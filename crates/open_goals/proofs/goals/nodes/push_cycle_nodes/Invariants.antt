@@ -1,6 +1,6 @@
 use Rattle.std.proofs.Common.{All, take}
 use Rattle.open_goals.specs.Words.{HasCycleNode}
-use Rattle.open_goals.proofs.Nodes.{Kept}
+use Rattle.run_records.proofs.Nodes.{Kept}
 use Rattle.open_goals.proofs.goals.nodes.push_cycle_nodes.Given as goal
 
 -- what was there is kept, and the nodes of the goals so far are there

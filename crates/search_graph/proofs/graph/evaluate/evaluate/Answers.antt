@@ -1,6 +1,6 @@
 use Rattle.std.proofs.Common.{◌≡◌, ◌∙◌, Bool, true, false, Option, Some, option_map, refl, sym, subst, ap, ap₂}
 use Rattle.std.specs.Option.{IfSome, IsSomeAnd}
-use Rattle.open_goals.specs.declared.goals.Fate.TheVariants as becomes
+use Rattle.run_records.specs.declared.runs.Fate.TheVariants as becomes
 use Rattle.search_context.proofs.Builders.{builder_goes_on}
 use Rattle.search_graph.specs.Below.{Begins, Call, EndsWith, Hit, hit_of, IsFated, IsRemembered, usable}
 use Rattle.search_rules.specs.Words.{answered_by, CallNeedsTwoRuns, fate_for}

@@ -1,5 +1,5 @@
 use Rattle.std.proofs.Common.{◌≡◌, length}
-use Rattle.open_goals.specs.declared.goals.Fate.TheVariants as becomes
+use Rattle.run_records.specs.declared.runs.Fate.TheVariants as becomes
 use Rattle.search_moves.specs.Settled.{IsSettledStore, Settles}
 use Rattle.search_rules.specs.Words.{CallNeedsTwoRuns, IsLone}
 use Rattle.search_graph.specs.Below.{AreFrom, Awaits, Begins, Call, IsRightFor, KeepsBuilder, KeepsCache, work_left}

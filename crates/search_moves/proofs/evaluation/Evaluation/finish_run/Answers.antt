@@ -3,7 +3,8 @@ use Rattle.search_moves.proofs.moves.Said.{done_keeps, end_leaves, limited_keeps
 use Rattle.std.proofs.Common.{rules, Err, Ok, Some, ◌≡◌, true, refl, sym, ap, ap₂, subst, ◌∙◌}
 use Rattle.search_moves.specs.Below.{Again, AtLimit, IsEndOfRun, IsFit, Memory, Overflow, runs_of, Step, verdict_of, verdicts, CallGoesOn, KeepsAnswers, KeepsStore}
 use Rattle.search_moves.specs.Words.{HadMostRuns, IsDone, IsRunAgain, LeadsTo, Pops, StopsWith}
-use Rattle.search_rules.proofs.justified.Finishing.{begin_fits, neither_is}
+use Rattle.search_rules.proofs.justified.Finishing.{begin_fits}
+use Rattle.lean_runs.proofs.Verdicts.{neither_is}
 use Rattle.search_rules.proofs.moves.Moves.{asked_stopped_by, can_leave, ends_newest, failed_rerun_stopped, leave_leads, limited_leads, limited_stopped, met_none_before, rerun_goes_on}
 use Rattle.search_rules.proofs.moves.Questions.{if_err_and, if_ok_then, no_ok}
 use Rattle.search_rules.proofs.moves.DoneRuns.{differs_definite, limit_comes, limited_keeps, limited_plain, memory_alone, newest_comes, newest_plain, put_keeps, stopped_by, stopped_by_both, stopped_each}

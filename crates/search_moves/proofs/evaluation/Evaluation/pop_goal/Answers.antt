@@ -11,10 +11,11 @@ use Rattle.search_rules.proofs.entries.Ready.{are_within, heads_on_stack, on_sta
 use Rattle.search_rules.proofs.entries.Pops.{rebased_ready}
 use Rattle.search_rules.proofs.rebasing.Lists.{entries_rebased, highest_stays}
 use Rattle.search_rules.proofs.moves.DoneGoals.{given_free, given_justified, given_leaves, gives_node, newest_stored}
-use Rattle.search_rules.proofs.justified.Finishing.{neither_is, rebases}
+use Rattle.lean_runs.proofs.Verdicts.{neither_is}
+use Rattle.search_rules.proofs.justified.Finishing.{rebases}
 use Rattle.search_rules.proofs.moves.Questions.{if_err_and}
 use Rattle.search_rules.proofs.moves.FinishedRuns.{headless_graph, taken_run_ends, taken_run_open, taken_run_placed}
-use Rattle.open_goals.specs.declared.goals.Fate.TheVariants as becomes
+use Rattle.run_records.specs.declared.runs.Fate.TheVariants as becomes
 use Rattle.search_rules.proofs.moves.Fates.{newest_changes}
 use Rattle.search_rules.specs.Fates.{Untouched}
 use Rattle.search_moves.proofs.evaluation.Evaluation.pop_goal.Goals as goal

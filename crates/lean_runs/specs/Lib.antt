@@ -1,0 +1,4 @@
+pub mod Backed
+pub mod Lean
+pub mod Below
+pub mod Words

@@ -1,0 +1,5 @@
+pub mod Progress
+pub mod Nodes
+pub mod Steps
+pub mod Below
+pub mod Words
