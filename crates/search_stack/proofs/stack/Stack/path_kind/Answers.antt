@@ -1,7 +1,7 @@
 use Rattle.std.proofs.Common.{ℕ, ◌+◌, ◌≤◌, length, map, arith}
 use Rattle.std.proofs.lemmas.Grind.{common_steps}
 use Rattle.std.proofs.lemmas.List.{length-map}
-use Rattle.goal_paths.proofs.Cycles.{kind_past-step}
+use Rattle.search_stack.proofs.Cycles.{kind_past-step}
 use Rattle.search_stack.proofs.stack.Stack.path_kind.Goals as goal
 
 -- the entries past the head are those above it
